@@ -1,0 +1,109 @@
+//! What a request asks for.
+
+ghost use Rattle.std.specs.Prelude.{◌≡◌, ◌≢◌, ◌+◌, ◌<◌, ◌≤◌, [], ◌∷◌, ◌++◌, length, All, slice_get, Some};
+
+use crate::pair::Pair;
+use std::marker::Model;
+
+/// The most pairs of a request.
+pub const MAX_PAIRS: usize = 16;
+
+const NO_PAIR: Pair = Pair {
+    resource: 0,
+    amount: 0,
+};
+
+/// Amounts of up to 16 resources, no resource twice, in the order in which they were named.
+#[derive(Clone, Copy)]
+pub struct Bundle {
+    len: usize,
+    pairs: [Pair; MAX_PAIRS],
+}
+
+impl Model for Bundle {
+    ghost use Rattle.std.specs.Prelude.{List};
+    ghost use Rattle.pb_base.specs.declared.pair.Pair.{Pair};
+
+    ghost Value = { List Pair };
+
+    ghost use Rattle.pb_base.specs.Padding.{pairs_in, IsPadded, unpadded, unpadded-pairs_in};
+
+    ghost view = { pairs_in };
+
+    ghost invariant = { IsPadded };
+
+    ghost inverse = { unpadded };
+
+    ghost inverse_ok = { unpadded-pairs_in };
+}
+
+impl Bundle {
+    ghost use Rattle.pb_base.specs.Bundle.{IsDistinct};
+
+    /// One amount of one resource.
+    pub fn one(resource: u8, amount: u32) -> Self
+        ensures { result ≡ record { resource = resource; amount = amount } ∷ [] }
+    {
+        let mut pairs = [NO_PAIR; MAX_PAIRS];
+        pairs[0] = Pair { resource, amount };
+        Bundle { len: 1, pairs }
+    }
+
+    /// Adds a resource that is not there yet.
+    pub fn push(&mut self, pair: Pair)
+        requires room { length self.old < MAX_PAIRS }
+        requires new { All (λ p. p.resource ≢ pair.resource) self.old }
+        ensures { self.new ≡ self.old ++ pair ∷ [] }
+    {
+        self.pairs[self.len] = pair;
+        self.len += 1;
+    }
+
+    /// The number of pairs, from 1 to 16.
+    pub fn len(&self) -> usize
+        ensures len { result ≡ length self.now }
+        ensures some { 0 < result }
+        ensures few { result ≤ MAX_PAIRS }
+        ensures distinct { IsDistinct self.now }
+    {
+        self.len
+    }
+
+    /// The pair at a place, counted from 0.
+    pub fn get(&self, i: usize) -> Pair
+        requires { i < length self.now }
+        ensures { slice_get self.now i ≡ Some result }
+    {
+        let pairs = &self.pairs;
+        pairs[i]
+    }
+}
+
+#[cfg(test)]
+mod tests {
+    use super::*;
+
+    #[test]
+    fn pairs_in_their_order(rt: HostRuntime) {
+        let mut bundle = Bundle::one(3, 40);
+        bundle.push(Pair {
+            resource: 1,
+            amount: 7,
+        });
+        assert_eq!(rt; bundle.len(), 2);
+        assert_eq!(rt;
+            bundle.get(0),
+            Pair {
+                resource: 3,
+                amount: 40
+            }
+        );
+        assert_eq!(rt;
+            bundle.get(1),
+            Pair {
+                resource: 1,
+                amount: 7
+            }
+        );
+    }
+}

@@ -1,0 +1,191 @@
+//! Where bytes come from and where they go.
+
+ghost use Rattle.std.specs.Prelude.{◌≡◌, ◌≤◌, ◌<◌, ℕ, List, [], Option, take, length, ◌⊎◌};
+ghost use Rattle.std.specs.Prelude.{IfErr, IfOk, IfSome, OnOk, OnErr, ◌^◌};
+ghost use Rattle.pb_base.specs.Device.{appended, dropped, one_more_failure, AddsPrefix, GivesNext};
+
+pub mod faulty;
+pub mod memory;
+pub mod standard;
+
+pub use faulty::{FaultyInput, FaultyOutput};
+pub use memory::{MemoryInput, MemoryOutput};
+pub use standard::{StandardInput, StandardOutput};
+use std::alloc::Global;
+
+/// A device refused a read or a write.
+#[derive(Debug, Drop, thiserror::Error)]
+#[error("a read or a write failed")]
+pub struct DeviceFault;
+
+/// A source of bytes.
+pub trait Input {
+    /// The bytes still to come, where they are known.
+    ghost rest: { Self → Option (List ℕ) };
+
+    /// How many reads have failed.
+    ghost failures: { Self → ℕ };
+
+    /// Reads the next bytes into the front of `buf`, and says how many. It is 0 only at the end or
+    /// for an empty `buf`.
+    fn read(&mut self, buf: &mut [u8]) -> Result<usize, DeviceFault>
+        ensures bound { IfOk result (λ n. n ≤ length buf.new) }
+        ensures given { IfOk result (λ n. GivesNext (rest self.old) buf.new n) }
+        ensures taken { IfOk result (λ n. rest self.new ≡ dropped (rest self.old) n) }
+        ensures end { IfOk result (λ n. n ≡ 0 →
+            (buf.new ≡ []) ⊎ IfSome (rest self.old) (λ bytes. bytes ≡ [])) }
+        ensures counted { OnOk result (failures self.new ≡ failures self.old) }
+        ensures fault { OnErr result ((rest self.new ≡ rest self.old)
+            × (failures self.new ≡ one_more_failure (failures self.old))) };
+}
+
+/// A sink of bytes.
+pub trait Output {
+    /// The bytes written so far, where they are known.
+    ghost written: { Self → Option (List ℕ) };
+
+    /// How many writes have failed.
+    ghost failures: { Self → ℕ };
+
+    /// Takes some first bytes, and says how many: at least 1 where there are any.
+    fn write(&mut self, bytes: &[u8]) -> Result<usize, DeviceFault>
+        ensures bound { IfOk result (λ n. n ≤ length bytes.now) }
+        ensures some { IfOk result (λ n. 0 < length bytes.now → 0 < n) }
+        ensures taken { IfOk result (λ n. written self.new ≡ appended (written self.old) (take n bytes.now)) }
+        ensures counted { OnOk result (failures self.new ≡ failures self.old) }
+        ensures fault { OnErr result ((written self.new ≡ written self.old)
+            × (failures self.new ≡ one_more_failure (failures self.old))) };
+}
+
+/// Writes all the bytes. After a fault some first part of them is written.
+pub fn write_all<O: Output>(output: &mut O, bytes: &[u8]) -> Result<(), DeviceFault>
+    ensures ok { OnOk result (O.written output.new ≡ appended (O.written output.old) bytes.now) }
+    ensures counted { OnOk result (O.failures output.new ≡ O.failures output.old) }
+    ensures prefix { OnErr result (AddsPrefix (O.written output.old) (O.written output.new) bytes.now) }
+    ensures fault { OnErr result (O.failures output.new ≡ one_more_failure (O.failures output.old)) }
+{
+    let mut rest = bytes;
+    while !rest.is_empty() {
+        let count = output.write(rest)?;
+        rest = rest.split_at(count).1;
+    }
+    Ok(())
+}
+
+/// Why an input could not be read whole.
+#[derive(Debug, Drop, thiserror::Error)]
+pub enum ReadFault {
+    /// A read was refused.
+    #[error("a read failed")]
+    Device,
+    /// More bytes are there than the limit.
+    #[error("the input is too long")]
+    TooLong,
+    /// The bytes find no room.
+    #[error("out of memory")]
+    Memory,
+}
+
+/// Reads all that is left of the input, up to `limit` bytes. After an error the bytes that were read are
+/// lost, and the input stands behind them.
+pub fn read_whole<I: Input>(
+    alloc: Global,
+    input: &mut I,
+    limit: usize,
+) -> Result<Vec<u8>, ReadFault>
+    requires { limit < 2 ^ 32 }
+    ensures bytes { IfOk result (λ r. IfSome (I.rest input.old) (λ bytes. r.items ≡ bytes)) }
+    ensures fits { IfOk result (λ r. length r.items ≤ limit) }
+    ensures counted { OnOk result (I.failures input.new ≡ I.failures input.old) }
+    ensures long { IfErr result (λ e. e ≡ ReadFault.TooLong →
+        IfSome (I.rest input.old) (λ bytes. limit < length bytes)) }
+    ensures fault { IfErr result (λ e. e ≡ ReadFault.Device →
+        I.failures input.new ≡ one_more_failure (I.failures input.old)) }
+{
+    let mut bytes = Vec::new(alloc);
+    let mut block = [0; 4096];
+    loop {
+        let Ok(count) = input.read(&mut block) else {
+            return Err(ReadFault::Device);
+        };
+        if count == 0 {
+            return Ok(bytes);
+        }
+        let Ok(()) = bytes.extend_from_slice(&block[..count]) else {
+            return Err(ReadFault::Memory);
+        };
+        if limit < bytes.len() {
+            return Err(ReadFault::TooLong);
+        }
+    }
+}
+
+#[cfg(test)]
+mod tests {
+    use super::*;
+    use std::test::Fail;
+
+    #[test]
+    fn reads_up_to_a_limit(rt: HostRuntime) -> Result<(), Fail> {
+        let text = b"some text";
+        let read = read_whole(rt.alloc(), &mut MemoryInput::new(text), 9)?;
+        assert_eq!(rt; read.as_slice(), text.as_slice());
+        let too_long = read_whole(rt.alloc(), &mut MemoryInput::new(text), 8);
+        assert!(rt; matches!(too_long, Err(ReadFault::TooLong)));
+        Ok(())
+    }
+
+    #[test]
+    fn reads_up_to_a_fault(rt: HostRuntime) -> Result<(), Fail> {
+        let mut input = FaultyInput::new(b"some text", 2, 3);
+        let fault = read_whole(rt.alloc(), &mut input, 9);
+        assert!(rt; matches!(fault, Err(ReadFault::Device)));
+        assert_eq!(rt; input.failures(), 1);
+        let rest = read_whole(rt.alloc(), &mut input, 9)?;
+        assert_eq!(rt; rest.as_slice(), b"ext".as_slice());
+        assert_eq!(rt; input.failures(), 1);
+        Ok(())
+    }
+
+    #[test]
+    fn writes_byte_by_byte(rt: HostRuntime) -> Result<(), Fail> {
+        let mut output = FaultyOutput::new(rt.alloc(), 9, 100, 1)?;
+        write_all(&mut output, b"some text")?;
+        assert_eq!(rt; output.as_slice(), b"some text".as_slice());
+        assert_eq!(rt; output.failures(), 0);
+        Ok(())
+    }
+
+    #[test]
+    fn writes_up_to_a_fault(rt: HostRuntime) -> Result<(), Fail> {
+        let mut output = FaultyOutput::new(rt.alloc(), 9, 2, 3)?;
+        assert!(rt; write_all(&mut output, b"some text").is_err());
+        assert_eq!(rt; output.as_slice(), b"some t".as_slice());
+        assert_eq!(rt; output.failures(), 1);
+        write_all(&mut output, b"ext")?;
+        assert_eq!(rt; output.as_slice(), b"some text".as_slice());
+        assert!(rt; write_all(&mut output, b"more").is_err());
+        assert_eq!(rt; output.failures(), 2);
+        Ok(())
+    }
+
+    #[test]
+    fn writes_while_there_is_room(rt: HostRuntime) -> Result<(), Fail> {
+        let mut output = MemoryOutput::new(rt.alloc(), 6)?;
+        assert!(rt; write_all(&mut output, b"some text").is_err());
+        assert_eq!(rt; output.as_slice(), b"some t".as_slice());
+        assert_eq!(rt; output.failures(), 1);
+        Ok(())
+    }
+
+    #[test]
+    fn standard_devices(rt: HostRuntime) -> Result<(), Fail> {
+        let mut input = StandardInput::new(rt.stdin());
+        assert_eq!(rt; input.read(&mut [])?, 0);
+        assert_eq!(rt; input.failures(), 0);
+        let mut output = StandardOutput::new(rt.stdout());
+        write_all(&mut output, b"standard output\n")?;
+        assert_eq!(rt; output.failures(), 0);
+        Ok(())
+    }
+}

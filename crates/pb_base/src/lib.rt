@@ -1,0 +1,33 @@
+//! What all crates share: picks, bundles, events and their lines, arithmetic, capital and claims, input and
+//! output, and the definitions of the banker and of runs.
+#![tactic(auto)]
+
+pub mod arithmetic;
+pub mod bundle;
+pub mod capital;
+pub mod claims;
+pub mod device;
+pub mod event;
+pub mod laws;
+pub mod lines;
+pub mod memory;
+pub mod names;
+pub mod operators;
+pub mod pair;
+pub mod pick;
+
+pub use arithmetic::{apply, apply_unary};
+pub use bundle::Bundle;
+pub use capital::Capital;
+pub use claims::Claims;
+pub use device::{
+    DeviceFault, FaultyInput, FaultyOutput, Input, MemoryInput, MemoryOutput, Output, ReadFault,
+    StandardInput, StandardOutput, read_whole, write_all,
+};
+pub use event::Event;
+pub use lines::event_line;
+pub use memory::NoMemory;
+pub use names::Names;
+pub use operators::{BinaryOp, FaultKind, UnaryOp};
+pub use pair::Pair;
+pub use pick::Pick;

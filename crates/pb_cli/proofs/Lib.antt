@@ -1,0 +1,5 @@
+pub mod AnswerLemmas
+pub mod PageLemmas
+pub mod ReadLemmas
+pub mod RunLemmas
+pub mod TextLemmas

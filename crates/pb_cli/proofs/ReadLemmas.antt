@@ -1,0 +1,69 @@
+-- What clap's answers say of the rows that it matched, and of this command line.
+use Rattle.std.proofs.Common.{◌≡◌, ◌<◌, ◌^◌, ℕ, List, [], Option, Some, None, Result, Ok, Err, refl, sym, ap, subst, ◌∙◌, true, option_map, inl, inr, IfNone}
+use Rattle.std.specs.Str.Parse.{IsNumeral, digits_value, without_leading_plus}
+use Rattle.clap.specs.Words.{HasKind, IsAmong, Kinds, ReadsOne, Row, Text, is_simple, is_simple_and_free, kind_of, one_text, rows_of}
+use Rattle.clap.specs.declared.error.Error.{Error}
+use Rattle.clap.specs.declared.error.kind.ErrorKind.TheVariants.{OutOfMemory}
+use Rattle.clap.proofs.OnLiterals.{clap_on_literals}
+use Rattle.pb_cli.specs.CommandLine.{command_line, run_command}
+use Rattle.clap.specs.declared.parser.matches.Found.{Found}
+use Rattle.clap.proofs.WalkLemmas.{one_text-rows}
+use Rattle.pb_cli.specs.Read.{BlamesWords, HasNumber, HasRunNumbers, IsReadFromMatches}
+use Rattle.pb_cli.specs.declared.options.Options.{Options}
+use Rattle.pb_cli.specs.declared.options.Options.TheVariants.{Run}
+use Rattle.pb_cli.specs.declared.options.RunOptions.{RunOptions}
+use Rattle.pb_cli.specs.declared.options.WordsFault.{WordsFault}
+use Rattle.pb_cli.specs.declared.options.WordsFault.TheVariants.{Words, Memory}
+
+pub number_read : {E : Type 0} (gives : Text → Result ℕ E → Type 0) (f : Found) (id : Text) (n : ℕ)
+    → ((t : Text) → gives t (Ok n) → IsNumeral 10 (without_leading_plus t) × (n ≡ digits_value 10 (without_leading_plus t)))
+    → (one_text f id ≡ None → Some n ≡ None)
+    → ((t : Text) → one_text f id ≡ Some t → ReadsOne gives t (Some n))
+    → HasNumber (rows_of f) id n
+number_read gives f id n reads none value = go (one_text f id) refl where
+  go : (o : Option Text) → one_text f id ≡ o → HasNumber (rows_of f) id n
+  go None is = absurd (cc (none is))
+  go (Some t) is = let read = reads t (value t is) in (t, sym (one_text-rows f id) ∙ is, read.0, read.1)
+
+-- where clap reads no number, the rows have none that fits
+pub no_number : {E : Type 0} (gives : Text → Result ℕ E → Type 0) (f : Found) (id : Text) (n : ℕ)
+    → ((t : Text) (e : E) → gives t (Err e) → IsNumeral 10 (without_leading_plus t) × (digits_value 10 (without_leading_plus t) < 2 ^ 64) → ⊥)
+    → ((t : Text) → one_text f id ≡ Some t → ReadsOne gives t None)
+    → HasNumber (rows_of f) id n → n < 2 ^ 64 → ⊥
+no_number gives f id n refused value (t, is, numeral, value_is) fits =
+    let read = value t (one_text-rows f id ∙ is) in
+    refused t read.0 read.1 (numeral, subst (λ m. m < 2 ^ 64) value_is fits)
+
+-- the rows have one number for an option
+pub one_number : (rows : List Row) (id : Text) (m n : ℕ) → HasNumber rows id m → HasNumber rows id n → m ≡ n
+one_number rows id m n (t, is_t, numeral_t, m_is) (u, is_u, numeral_u, n_is) =
+    let same : t ≡ u = cc (is_t, is_u) in
+    m_is ∙ ap (λ text. digits_value 10 (without_leading_plus text)) same ∙ sym n_is
+
+-- where the rows of the subcommand have no numbers of `run`, nothing is read from them
+pub no_run_numbers : (m : Option (Text × List Row)) (rows : List Row) → Some rows ≡ option_map (λ p. p.1) m
+    → ((o : RunOptions) → HasRunNumbers rows o → ⊥) → (o : Options) → IsReadFromMatches m o → ⊥
+no_run_numbers m rows is none (Run o) (name, found, entered, says) =
+    let same : found ≡ rows = cc (is ∙ ap (option_map (λ p. p.1)) entered) in
+    none o (subst (λ (r : List Row). HasRunNumbers r o) same says.1)
+
+-- an error of clap's that is no want of memory comes only where the words have a fault
+pub clap_refused : (kinds : Kinds) (e : Error) (fault : WordsFault) → HasKind kinds e → (kind_of e ≡ OutOfMemory → fault ≡ Memory)
+    → BlamesWords fault → kinds ≡ [] → ⊥
+clap_refused kinds e (Words text) (inl is) memory blames none = absurd (cc (memory is))
+clap_refused kinds e (Words text) (inr is) memory blames none = subst (IsAmong (kind_of e)) none is
+clap_refused kinds e Memory is memory blames none = blames
+
+-- the matches of this command line are a function of the words
+pub is_simple_command_line : is_simple command_line ≡ true
+unfolding command_line run_command clap_on_literals
+is_simple_command_line = refl
+
+pub is_free_command_line : is_simple_and_free command_line ≡ true
+unfolding command_line run_command clap_on_literals
+is_free_command_line = refl
+
+-- a fact that holds anyway holds where there is no value
+pub IfNone-of : {X P : Type 0} (o : Option X) → P → IfNone o P
+IfNone-of None p = p
+IfNone-of (Some x) p = tt

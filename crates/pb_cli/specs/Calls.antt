@@ -1,0 +1,42 @@
+-- What a call of the program writes, with its words and its input.
+use Rattle.std.specs.Prelude.{◌⊎◌, ℕ, List, Option}
+use Rattle.std.specs.Borrow.{Bor}
+use Rattle.clap.specs.Words.{Text}
+use Rattle.pb_cli.specs.declared.options.Options.{Options}
+use Rattle.pb_cli.specs.declared.options.Options.TheVariants as option
+use Rattle.pb_cli.specs.declared.options.WordsFault.{WordsFault}
+use Rattle.pb_cli.specs.declared.options.WordsFault.TheVariants as fault
+use Rattle.pb_cli.specs.declared.status.Status.{Status}
+use Rattle.pb_cli.specs.declared.status.Status.TheVariants.{Words, Memory}
+use Rattle.pb_cli.specs.Answers.{Says, Tells, memory_line}
+use Rattle.pb_cli.specs.Runs.{SaysOf}
+use Rattle.pb_cli.specs.Read.{WordsSay}
+
+-- what a command may say of an input
+abbrev pub CommandSays : Options → List ℕ → List ℕ → Status → Type 0
+CommandSays (option.Run numbers) bytes = SaysOf numbers.steps bytes
+
+-- the text and the status where words were not read
+abbrev pub fault_text : WordsFault → List ℕ
+fault_text (fault.Words text) = text.bytes.items
+fault_text fault.Memory = memory_line
+
+abbrev pub fault_status : WordsFault → Status
+fault_status (fault.Words text) = Words
+fault_status fault.Memory = Memory
+
+-- the words say a command, which tells what it may
+abbrev pub CommandWrites : List (Bor Text) → List ℕ → Option (List ℕ) → Option (List ℕ) → Status → Type 0
+CommandWrites words bytes old new status =
+    (o : Options) × WordsSay words o × Tells (CommandSays o bytes) old new status
+
+-- the words say nothing, and some text of theirs is written
+abbrev pub RefusesWords : List (Bor Text) → Option (List ℕ) → Option (List ℕ) → Status → Type 0
+RefusesWords words old new status =
+    ((o : Options) → WordsSay words o → ⊥) × ((text : List ℕ) × Says old new text Words status)
+
+-- one of these, or memory wants
+abbrev pub CallWrites : List (Bor Text) → List ℕ → Option (List ℕ) → Option (List ℕ) → Status → Type 0
+CallWrites words bytes old new status =
+    CommandWrites words bytes old new status
+    ⊎ (RefusesWords words old new status ⊎ Says old new memory_line Memory status)

@@ -1,0 +1,33 @@
+-- The command line, as clap's rules: the subcommands with their options, ranges and defaults.
+use Rattle.std.specs.Prelude.{◌≡◌, ℕ, false, [], ◌∷◌, Some, codes, true}
+use Rattle.clap.specs.Words.{App, Rule, Text, app_of, new_app, new_rule, with_rule, with_subcommand}
+use Rattle.clap.specs.declared.builder.command.Command.{Command}
+use Rattle.clap.specs.declared.builder.command.Command.TheViews.{out-Command}
+use Rattle.clap.specs.declared.builder.value_parser.ValueParser.TheVariants as vp
+
+-- `--NAME NUMBER` with a number from least to most, and the number where the option is not given
+abbrev pub number_rule_or : Text → ℕ → ℕ → Text → Rule
+number_rule_or name least most default = record (new_rule name) {
+  long = Some name;
+  parser = Some (vp.Unsigned least most);
+  defaults = default ∷ [];
+}
+
+unfoldable pub run_command : App
+run_command =
+    with_rule (new_app (codes "run")) (number_rule_or (codes "steps") 0 10000000 (codes "1000000"))
+
+abbrev pub with_command : App → App → App
+with_command a sub = with_subcommand a sub.top
+
+-- a command that wants a subcommand
+abbrev pub that_wants_command : App → App
+that_wants_command a = record a { top = record a.top { subcommand_required = true } }
+
+-- the whole command line
+unfoldable pub command_line : App
+command_line = with_command (that_wants_command (new_app (codes "parbegin"))) run_command
+
+-- a command of this form, none of whose options a subcommand inherits
+abbrev pub IsCommand : App → Command → Type 0
+IsCommand a c = (app_of c ≡ a) × ((out-Command c).has_globals ≡ false)

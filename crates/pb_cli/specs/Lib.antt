@@ -1,0 +1,7 @@
+pub mod Answers
+pub mod Calls
+pub mod CommandLine
+pub mod Read
+pub mod Refusals
+pub mod Runs
+pub mod Steps

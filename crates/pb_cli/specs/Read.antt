@@ -1,0 +1,40 @@
+-- What the words of a call say: the command and the numbers that clap matches, where it takes the words.
+use Rattle.std.specs.Prelude.{◌≡◌, ◌≤◌, ℕ, List, [], Option, Some, ⊤, codes, map}
+use Rattle.std.specs.Str.Parse.{IsNumeral, digits_value, without_leading_plus}
+use Rattle.clap.specs.Words.{Row, Text, fault_of, one_of, subcommand_of}
+use Rattle.std.specs.Borrow.{Bor}
+use Rattle.pb_cli.specs.CommandLine.{command_line}
+use Rattle.pb_cli.specs.declared.options.Options.{Options}
+use Rattle.pb_cli.specs.declared.options.Options.TheVariants as option
+use Rattle.pb_cli.specs.declared.options.RunOptions.{RunOptions}
+use Rattle.pb_cli.specs.declared.options.WordsFault.{WordsFault}
+use Rattle.pb_cli.specs.declared.options.WordsFault.TheVariants as fault
+
+-- the option was matched with a text that spells this number, given or by default
+abbrev pub HasNumber : List Row → Text → ℕ → Type 0
+HasNumber rows id n = (t : Text) × (one_of id rows ≡ Some t)
+    × IsNumeral 10 (without_leading_plus t) × (n ≡ digits_value 10 (without_leading_plus t))
+
+abbrev pub HasNumberIn : List Row → Text → ℕ → ℕ → ℕ → Type 0
+HasNumberIn rows id least most n = HasNumber rows id n × (least ≤ n) × (n ≤ most)
+
+abbrev pub HasRunNumbers : List Row → RunOptions → Type 0
+HasRunNumbers rows o = HasNumber rows (codes "steps") o.steps
+
+-- the options are those of this subcommand with these matches
+abbrev pub IsReadFrom : Text → List Row → Options → Type 0
+IsReadFrom name rows (option.Run o) = (name ≡ codes "run") × HasRunNumbers rows o
+
+-- the same, where the parse entered a subcommand
+abbrev pub IsReadFromMatches : Option (Text × List Row) → Options → Type 0
+IsReadFromMatches m o = (name : Text) × (rows : List Row) × (m ≡ Some (name, rows)) × IsReadFrom name rows o
+
+-- clap takes the words, of which the first is the program's own name, and matches these options
+abbrev pub WordsSay : List (Bor Text) → Options → Type 0
+WordsSay words o = let texts : List Text = map (λ w. w.now) words in
+    (fault_of command_line texts ≡ []) × IsReadFromMatches (subcommand_of command_line texts) o
+
+-- the words are at fault, and not memory
+abbrev pub BlamesWords : WordsFault → Type 0
+BlamesWords (fault.Words text) = ⊤
+BlamesWords fault.Memory = ⊥

@@ -1,0 +1,82 @@
+//! The whole program, over any words, input and output.
+ghost use Rattle.std.specs.Prelude.{◌≡◌, IfSome};
+ghost use Rattle.pb_cli.specs.Answers.{Says};
+ghost use Rattle.pb_cli.specs.Calls.{fault_status, fault_text, CallWrites};
+
+use crate::options::{Options, RunOptions, WordsFault};
+use crate::page::Page;
+use crate::read::options;
+use crate::run::run_engine;
+use crate::status::Status;
+use pb_base::device::{Input, Output};
+use std::alloc::Global;
+
+/// Reads the words of a call, of which the first is the program's own name, and does what they say.
+pub fn answer<I: Input, O: Output>(
+    alloc: Global,
+    words: &[&str],
+    input: &mut I,
+    output: &mut O,
+) -> Status
+    ensures { IfSome (I.rest input.old) (λ bytes. CallWrites words.now bytes (O.written output.old) (O.written output.new) result) }
+{
+    match options(alloc, words) {
+        Ok(command) => run_engine(alloc, run_options(command), input, output),
+        Err(fault) => refuse(alloc, output, &fault),
+    }
+}
+
+// The numbers of the one command that there is.
+fn run_options(command: Options) -> RunOptions
+    ensures { command ≡ Options.Run result }
+{
+    match command {
+        Options::Run(RunOptions { steps }) => RunOptions { steps },
+    }
+}
+
+// Writes the text of a fault, and answers its status.
+fn refuse<O: Output>(alloc: Global, output: &mut O, fault: &WordsFault) -> Status
+    ensures { Says (O.written output.old) (O.written output.new) (fault_text fault.now) (fault_status fault.now) result }
+{
+    let mut page = Page::new(alloc);
+    let WordsFault::Words(text) = fault else {
+        return page.finish_with(output, b"memory", Status::Memory);
+    };
+    match page.say(output, text.as_bytes()) {
+        Ok(()) => page.finish(output, Status::Words),
+        Err(_) => Status::Device,
+    }
+}
+
+#[cfg(test)]
+mod tests {
+    use super::*;
+    use pb_base::device::{MemoryInput, MemoryOutput};
+    use std::test::Fail;
+
+    #[test]
+    fn does_what_the_words_say(rt: HostRuntime) -> Result<(), Fail> {
+        let alloc = rt.alloc();
+        let mut input = MemoryInput::new(b"process p begin print 1 end");
+        let mut output = MemoryOutput::new(alloc, 64)?;
+        let words = ["parbegin", "run", "--steps", "1"];
+        let status = answer(alloc, words.as_slice(), &mut input, &mut output);
+        assert_eq!(rt; status, Status::Limit);
+        assert_eq!(rt; output.as_slice(), b"limit 1\n".as_slice());
+        Ok(())
+    }
+
+    #[test]
+    fn refuses_words(rt: HostRuntime) -> Result<(), Fail> {
+        let alloc = rt.alloc();
+        let mut input = MemoryInput::new(b"");
+        let mut output = MemoryOutput::new(alloc, 1_024)?;
+        let words = ["parbegin", "fly"];
+        let status = answer(alloc, words.as_slice(), &mut input, &mut output);
+        assert_eq!(rt; status, Status::Words);
+        assert!(rt; output.as_slice().starts_with(b"error: "));
+        assert!(rt; output.as_slice().ends_with(b"\n"));
+        Ok(())
+    }
+}

@@ -1,0 +1,71 @@
+//! The command line as clap reads it.
+ghost use Rattle.std.specs.Prelude.{◌≡◌, IfOk, false};
+ghost use Rattle.clap.specs.Words.{app_of, rule_of, with_rule};
+ghost use Rattle.clap.specs.declared.builder.command.Command.TheViews.{out-Command};
+ghost use Rattle.pb_cli.specs.CommandLine.{number_rule_or, run_command, that_wants_command, IsCommand};
+ghost use Rattle.pb_cli.specs.CommandLine.{command_line as whole, with_command};
+
+use clap::builder::ValueParser;
+use clap::{Arg, Command};
+use std::alloc::{AllocError, Global};
+
+fn number_option_or<'a>(
+    alloc: Global,
+    name: &'a str,
+    least: u64,
+    most: u64,
+    default: &'a str,
+) -> Arg<'a>
+    ensures rule { rule_of result ≡ number_rule_or name.entry.now least most default.entry.now }
+    ensures own { result.global ≡ false }
+{
+    Arg::new(alloc, name)
+        .long(name)
+        .value_parser(ValueParser::unsigned(least, most))
+        .default_value(default)
+}
+
+// Adds an argument, which no subcommand inherits.
+fn with_option<'a>(command: Command<'a>, option: Arg<'a>) -> Result<Command<'a>, AllocError>
+    requires { option.global ≡ false }
+    ensures app { IfOk result (λ c. app_of c ≡ with_rule (app_of command.entry) (rule_of option.entry)) }
+    ensures own { IfOk result (λ c. (out-Command c).has_globals ≡ (out-Command command.entry).has_globals) }
+{
+    command.arg(option)
+}
+
+// Adds a subcommand, none of whose arguments its own subcommands inherit.
+fn with_subcommand<'a>(
+    command: Command<'a>,
+    subcommand: Command<'a>,
+) -> Result<Command<'a>, AllocError>
+    requires { (out-Command subcommand).has_globals ≡ false }
+    ensures { IfOk result (λ c. app_of c ≡ with_command (app_of command.entry) (app_of subcommand.entry)) }
+{
+    command.subcommand(subcommand)
+}
+
+#[tactic(auto, unfolding(crate::specs::CommandLine::run_command))]
+fn run_texts<'a>(alloc: Global) -> Result<Command<'a>, AllocError>
+    ensures { IfOk result (IsCommand run_command) }
+{
+    let steps = number_option_or(alloc, "steps", 0, 10_000_000, "1000000");
+    let steps = steps.help("The number of picks at which the run stops");
+    let run = Command::new(alloc, "run").about("Runs the program on standard input");
+    with_option(run, steps)
+}
+
+fn wanting_command<'a>(command: Command<'a>) -> Command<'a>
+    ensures { app_of result ≡ that_wants_command (app_of command.entry) }
+{
+    command.subcommand_required(true)
+}
+
+// The whole command line.
+#[tactic(auto, unfolding(crate::specs::CommandLine::command_line))]
+pub fn command_line<'a>(alloc: Global) -> Result<Command<'a>, AllocError>
+    ensures { IfOk result (λ c. app_of c ≡ whole) }
+{
+    let command = wanting_command(Command::new(alloc, "parbegin").bin_name("parbegin")?);
+    with_subcommand(command, run_texts(alloc)?)
+}

@@ -1,0 +1,26 @@
+//! The words of a call, read.
+ghost use Rattle.std.specs.Prelude.{◌≤◌};
+
+/// The numbers of `run`.
+#[derive(Clone, Copy, Debug, PartialEq, Eq)]
+pub struct RunOptions {
+    /// After how many picks the run stops.
+    pub steps: u64,
+    pub ghost steps_fit: { steps ≤ 10000000 },
+}
+
+/// A command with its numbers.
+#[derive(Clone, Copy)]
+pub enum Options {
+    Run(RunOptions),
+}
+
+/// Why words were refused.
+#[derive(Debug, Drop, thiserror::Error)]
+pub enum WordsFault {
+    /// The text of the help that was asked for, or of the mistake.
+    #[error("{0}")]
+    Words(String),
+    #[error("out of memory")]
+    Memory,
+}

@@ -1,0 +1,140 @@
+//! Reads the words of a call.
+ghost use Rattle.std.specs.Prelude.{◌≡◌, IfErr, IfNone, IfOk, IfSome, ℕ};
+ghost use Rattle.clap.specs.Words.{found_of, kind_of, rows_of, subcommand_rows_of};
+ghost use Rattle.pb_cli.specs.Read.{BlamesWords, HasNumberIn, HasRunNumbers, IsReadFromMatches, WordsSay};
+ghost use Rattle.pb_cli.specs.declared.options.Options.{Options as AnyOptions};
+ghost use Rattle.pb_cli.specs.declared.options.RunOptions.{RunOptions as AnyRunOptions};
+
+use crate::command_line::command_line;
+use crate::options::{Options, RunOptions, WordsFault};
+use clap::error::ErrorKind;
+use clap::{ArgMatches, Error};
+use std::alloc::Global;
+
+// The number of an option, where it was matched with one from `least` to `most`.
+fn number(matches: &ArgMatches<'_>, id: &str, least: u64, most: u64) -> Option<u64>
+    ensures some { IfSome result (HasNumberIn (rows_of (found_of matches.now)) id.now least most) }
+    ensures none { IfNone result ((n : ℕ) → HasNumberIn (rows_of (found_of matches.now)) id.now least most n → ⊥) }
+{
+    let number = matches.get_one::<u64>(id)?;
+    if number < least || most < number {
+        return None;
+    }
+    Some(number)
+}
+
+fn run_options(matches: &ArgMatches<'_>) -> Option<RunOptions>
+    ensures some { IfSome result (HasRunNumbers (rows_of (found_of matches.now))) }
+    ensures none { IfNone result ((o : AnyRunOptions) → HasRunNumbers (rows_of (found_of matches.now)) o → ⊥) }
+{
+    let steps = number(matches, "steps", 0, 10_000_000)?;
+    Some(RunOptions { steps })
+}
+
+// The options that the matches of the words name.
+fn read_matches(matches: &ArgMatches<'_>) -> Option<Options>
+    ensures some { IfSome result (IsReadFromMatches (subcommand_rows_of matches.now)) }
+    ensures none { IfNone result ((o : AnyOptions) → IsReadFromMatches (subcommand_rows_of matches.now) o → ⊥) }
+{
+    let (name, inner) = matches.subcommand()?;
+    match name {
+        "run" => Some(Options::Run(run_options(inner)?)),
+        _ => None,
+    }
+}
+
+/// Reads the words of a call, of which the first is the program's own name. The words are refused only
+/// where they name no command with its numbers.
+pub fn options(alloc: Global, words: &[&str]) -> Result<Options, WordsFault>
+    ensures read { IfOk result (WordsSay words.now) }
+    ensures refused { IfErr result (λ e. BlamesWords e → (o : AnyOptions) → WordsSay words.now o → ⊥) }
+{
+    let Ok(command) = command_line(alloc) else {
+        return Err(WordsFault::Memory);
+    };
+    let matches = match command.try_get_matches_from(words) {
+        Ok(matches) => matches,
+        Err(error) => return Err(words_fault(alloc, &error)),
+    };
+    match read_matches(&matches) {
+        Some(options) => Ok(options),
+        None => Err(WordsFault::Words(String::new(alloc))),
+    }
+}
+
+fn words_fault(alloc: Global, error: &Error) -> WordsFault
+    ensures { kind_of error.now ≡ ErrorKind.OutOfMemory → result ≡ WordsFault.Memory }
+{
+    if error.kind() == ErrorKind::OutOfMemory {
+        return WordsFault::Memory;
+    }
+    match format!(in alloc; "{error}") {
+        Ok(text) => WordsFault::Words(text),
+        Err(_) => WordsFault::Memory,
+    }
+}
+
+#[cfg(test)]
+mod tests {
+    use super::*;
+    use std::test::Fail;
+
+    fn steps_of(alloc: Global, words: &[&str]) -> Option<u64> {
+        match options(alloc, words) {
+            Ok(Options::Run(RunOptions { steps })) => Some(steps),
+            Err(_) => None,
+        }
+    }
+
+    #[test]
+    fn reads_run(rt: HostRuntime) {
+        let alloc = rt.alloc();
+        assert_eq!(rt;
+            steps_of(alloc, &["parbegin", "run", "--steps", "3"]),
+            Some(3)
+        );
+        assert_eq!(rt; steps_of(alloc, &["parbegin", "run", "--steps=3"]), Some(3));
+        assert_eq!(rt; steps_of(alloc, &["parbegin", "run"]), Some(1_000_000));
+        assert_eq!(rt;
+            steps_of(alloc, &["parbegin", "run", "--steps", "0"]),
+            Some(0)
+        );
+        assert_eq!(rt;
+            steps_of(alloc, &["parbegin", "run", "--steps", "10000000"]),
+            Some(10_000_000)
+        );
+    }
+
+    #[test]
+    fn refuses(rt: HostRuntime) {
+        let alloc = rt.alloc();
+        assert_eq!(rt;
+            steps_of(alloc, &["parbegin", "run", "--steps", "10000001"]),
+            None
+        );
+        assert_eq!(rt;
+            steps_of(alloc, &["parbegin", "run", "--steps", "three"]),
+            None
+        );
+        assert_eq!(rt;
+            steps_of(alloc, &["parbegin", "run", "--steps", "3", "--steps", "3"]),
+            None
+        );
+        assert_eq!(rt; steps_of(alloc, &["parbegin", "run", "text"]), None);
+        assert_eq!(rt; steps_of(alloc, &["parbegin", "fly"]), None);
+        assert_eq!(rt; steps_of(alloc, &["parbegin", "help"]), None);
+        assert_eq!(rt; steps_of(alloc, &["parbegin"]), None);
+    }
+
+    #[test]
+    fn names_itself(rt: HostRuntime) -> Result<(), Fail> {
+        let Err(WordsFault::Words(text)) = options(rt.alloc(), &["out/pb_cli", "fly"]) else {
+            panic!(rt; "the words were taken");
+        };
+        assert!(rt;
+            text.as_str().contains("Usage: parbegin <COMMAND>"),
+            "{text}"
+        );
+        Ok(())
+    }
+}

@@ -1,0 +1,5 @@
+use Rattle.pb_codegen.proofs.Back.{implements}
+use Rattle.pb_codegen.proofs.laws.same_events.Goals as goal
+
+pub returns : goal.returns
+returns c = implements

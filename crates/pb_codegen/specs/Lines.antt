@@ -1,0 +1,50 @@
+-- The source line of each place of the code: that of the item with which the arm's list begins there.
+use Rattle.std.specs.Prelude.{ℕ, suc, List, [], ◌∷◌, ◌++◌, length, map, replicate, Option, Some, None}
+use Rattle.pb_names.specs.Program.{Stmt, Set, Write, If, While, HoldDo, Parbegin, Block, Skip, Then, Process, Program, arms_of}
+use Rattle.pb_code.specs.Whole.{ProcessLabels}
+use Rattle.pb_codegen.specs.Generate.{expr_code}
+
+abbrev pub stmt_line : Stmt → ℕ
+stmt_line (Set line x e) = line
+stmt_line (Write line e) = line
+stmt_line (If line e a b) = line
+stmt_line (While line e body) = line
+stmt_line (HoldDo line bundle body) = line
+stmt_line (Parbegin line first arms) = line
+
+-- the line of a block's first statement, or of what follows
+abbrev pub line_of : Block → Option ℕ → Option ℕ
+line_of Skip after = after
+line_of (Then s block) after = Some (stmt_line s)
+
+-- the lines of the places of a statement, where what follows it has a given line
+abbrev mutual
+  pub stmt_lines : Stmt → Option ℕ → List (Option ℕ)
+  stmt_lines (Set line x e) after = replicate (suc (length (expr_code e))) (Some line)
+  stmt_lines (Write line e) after = replicate (suc (length (expr_code e))) (Some line)
+  stmt_lines (If line e a b) after =
+      replicate (suc (length (expr_code e))) (Some line) ++ (block_lines a after ++ (after ∷ block_lines b after))
+  stmt_lines (While line e body) after =
+      replicate (suc (length (expr_code e))) (Some line) ++ (block_lines body (Some line) ++ (Some line ∷ []))
+  stmt_lines (HoldDo line bundle body) after = Some line ∷ (block_lines body (Some line) ++ (Some line ∷ []))
+  stmt_lines (Parbegin line first arms) after = Some line ∷ Some line ∷ []
+
+  pub block_lines : Block → Option ℕ → List (Option ℕ)
+  block_lines Skip after = []
+  block_lines (Then s block) after = stmt_lines s (line_of block after) ++ block_lines block after
+
+abbrev pub arms_lines : List Block → List (Option ℕ)
+arms_lines [] = []
+arms_lines (arm ∷ arms) = (block_lines arm None ++ (None ∷ [])) ++ arms_lines arms
+
+-- the line of each place of a process's code
+abbrev pub process_lines : Process → List (Option ℕ)
+process_lines process = arms_lines (arms_of process)
+
+-- the labels of a process's code: a line for each place, where it has one, and the names of the integers
+abbrev pub process_labels : Process → ProcessLabels
+process_labels process = record { lines = process_lines process; integers = process.integers }
+
+-- the labels of a program's code
+abbrev pub program_labels : Program → List ProcessLabels
+program_labels program = map process_labels program.processes

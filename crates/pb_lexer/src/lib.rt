@@ -1,0 +1,16 @@
+//! From the bytes of a text to its tokens: names, numbers, symbols and reserved words, each the longest that
+//! begins where it stands, with blanks and comments between them.
+#![tactic(auto)]
+
+pub mod error;
+pub mod laws;
+pub mod lexer;
+mod scan;
+#[cfg(test)]
+mod tests;
+pub mod token;
+mod words;
+
+pub use error::LexFault;
+pub use lexer::lex;
+pub use token::{Kind, Mark, Token};

@@ -1,0 +1,141 @@
+//! Tokens, and how to read one.
+
+ghost use Rattle.std.specs.Prelude.{◌≡◌};
+ghost use Rattle.pb_lexer.specs.Tokens.{lexeme, token};
+
+/// A symbol or a reserved word. Its spelling stands above it.
+#[derive(Clone, Copy, Debug, PartialEq, Eq)]
+pub enum Mark {
+    /// `:=`
+    Assign,
+    /// `;`
+    Semicolon,
+    /// `,`
+    Comma,
+    /// `(`
+    Open,
+    /// `)`
+    Close,
+    /// `+`
+    Plus,
+    /// `-`
+    Minus,
+    /// `*`
+    Star,
+    /// `=`
+    Equal,
+    /// `<>`
+    NotEqual,
+    /// `<`
+    Less,
+    /// `<=`
+    AtMost,
+    /// `>`
+    Greater,
+    /// `>=`
+    AtLeast,
+    /// `and`
+    And,
+    /// `begin`
+    Begin,
+    /// `div`
+    Div,
+    /// `do`
+    Do,
+    /// `else`
+    Else,
+    /// `end`
+    End,
+    /// `fi`
+    Fi,
+    /// `hold`
+    Hold,
+    /// `if`
+    If,
+    /// `integer`
+    Integer,
+    /// `mod`
+    Mod,
+    /// `not`
+    Not,
+    /// `od`
+    Od,
+    /// `of`
+    Of,
+    /// `or`
+    Or,
+    /// `parbegin`
+    Parbegin,
+    /// `parend`
+    Parend,
+    /// `print`
+    Print,
+    /// `process`
+    Process,
+    /// `resource`
+    Resource,
+    /// `skip`
+    Skip,
+    /// `then`
+    Then,
+    /// `while`
+    While,
+}
+
+/// What a token is.
+#[derive(Clone, Copy, Debug, PartialEq, Eq)]
+pub enum Kind {
+    /// A letter, then letters, digits or `_`, up to 32 bytes, that is no reserved word.
+    Name,
+    /// Decimal digits, and the number that they say, from 0 to 9223372036854775807.
+    Number(i64),
+    /// A symbol or a reserved word.
+    Mark(Mark),
+}
+
+/// A token of a text, with its place and its line. Only `lex` makes tokens.
+#[derive(Clone, Copy, Debug)]
+pub struct Token<'t> {
+    pub(crate) kind: Kind,
+    pub(crate) text: &'t [u8],
+    pub(crate) start: usize,
+    pub(crate) end: usize,
+    pub(crate) line: u32,
+}
+
+impl<'t> Token<'t> {
+    /// What the token is.
+    pub fn kind(&self) -> Kind
+        ensures { lexeme result (token self.now).text ≡ (token self.now).lexeme }
+    {
+        self.kind
+    }
+
+    /// The bytes of the token, a slice of the text that it was cut from.
+    pub fn text(&self) -> &'t [u8]
+        ensures { result.now ≡ (token self.now).text }
+    {
+        self.text
+    }
+
+    /// The place of its first byte: an offset into the text, from 0.
+    pub fn start(&self) -> usize
+        ensures { result ≡ (token self.now).start }
+    {
+        self.start
+    }
+
+    /// The place after its last byte, up to 65,536.
+    pub fn end(&self) -> usize
+        ensures { result ≡ (token self.now).end }
+    {
+        self.end
+    }
+
+    /// The line of its first byte, from 1: one more than the line feeds before it.
+    pub fn line(&self) -> u32
+        ensures { result ≡ (token self.now).line }
+    {
+        self.line
+    }
+}

@@ -1,0 +1,6 @@
+pub mod Acts
+pub mod Going
+pub mod Operands
+pub mod Ready
+pub mod Steps
+pub mod Views

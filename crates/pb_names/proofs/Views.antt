@@ -1,0 +1,65 @@
+-- The view of each kind of node of a numbered program.
+use Rattle.std.proofs.Common.{◌≡◌, ℕ, ℤ, Vec, Box, rules, ap, sym, ◌∙◌, refl}
+use Rattle.std.proofs.lemmas.Simd.{map-map}
+use Rattle.pb_base.specs.Steppers.{Bundle}
+use Rattle.pb_base.specs.declared.operators.UnaryOp.{UnaryOp}
+use Rattle.pb_base.specs.declared.operators.BinaryOp.{BinaryOp}
+use Rattle.pb_names.specs.Program as plain
+use Rattle.pb_names.specs.Program.{Set, Write, HoldDo}
+use Rattle.pb_names.specs.View.{expr_view, stmt_view, block_view, arm_view, arms_view, arms_from, block_of}
+use Rattle.pb_names.specs.View.{stmt_step}
+use Rattle.pb_names.specs.declared.resolved.Expr.{Expr, Number, Variable, Unary, Binary}
+use Rattle.pb_names.specs.declared.resolved.Expr.{the_lemmas as expr_lemmas}
+use Rattle.pb_names.specs.declared.resolved.Stmt.{Stmt, Assign, Print, If, While, Hold, Parbegin}
+use Rattle.pb_names.specs.declared.resolved.Stmt.{fold-roll-Stmt, the_lemmas}
+use Rattle.pb_names.specs.declared.resolved.Stmt.TheOpen.{Stmt-F}
+use Rattle.pb_names.specs.declared.resolved.Stmt.TheVariants.{rolls-Parbegin}
+
+pub view-Number : (A : Type 0) (value : ℤ) → expr_view {A = A} (Number value) ≡ plain.Number value
+view-Number A value = search (rules, expr_lemmas)
+
+pub view-Variable : (A : Type 0) (x : ℕ) → expr_view {A = A} (Variable x) ≡ plain.Variable x
+view-Variable A x = search (rules, expr_lemmas)
+
+pub view-Unary : {A : Type 0} (op : UnaryOp) (e : Box (Expr A) A)
+    → expr_view (Unary op e) ≡ plain.Unary op (expr_view e.value)
+view-Unary op e = search (rules, expr_lemmas)
+
+pub view-Binary : {A : Type 0} (op : BinaryOp) (a b : Box (Expr A) A)
+    → expr_view (Binary op a b) ≡ plain.Binary op (expr_view a.value) (expr_view b.value)
+view-Binary op a b = search (rules, expr_lemmas)
+
+pub view-Assign : {A : Type 0} (line x : ℕ) (e : Expr A) → stmt_view (Assign line x e) ≡ Set line x (expr_view e)
+view-Assign line x e = search (rules, the_lemmas)
+
+pub view-Print : {A : Type 0} (line : ℕ) (e : Expr A) → stmt_view (Print line e) ≡ Write line (expr_view e)
+view-Print line e = search (rules, the_lemmas)
+
+pub view-If : {A : Type 0} (line : ℕ) (e : Expr A) (on_true on_false : Vec (Stmt A) A)
+    → stmt_view (If line e on_true on_false)
+    ≡ plain.If line (expr_view e) (block_view on_true.items) (block_view on_false.items)
+view-If line e on_true on_false = search (rules, the_lemmas)
+
+pub view-While : {A : Type 0} (line : ℕ) (e : Expr A) (body : Vec (Stmt A) A)
+    → stmt_view (While line e body) ≡ plain.While line (expr_view e) (block_view body.items)
+view-While line e body = search (rules, the_lemmas)
+
+pub view-Hold : {A : Type 0} (line : ℕ) (bundle : Bundle) (body : Vec (Stmt A) A)
+    → stmt_view (Hold line bundle body) ≡ HoldDo line bundle (block_view body.items)
+view-Hold line bundle body = search (rules, the_lemmas)
+
+pub view-Parbegin : {A : Type 0} (line first : ℕ) (arms : Vec (Vec (Stmt A) A) A)
+    → stmt_view (Parbegin line first arms) ≡ plain.Parbegin line first (arms_view arms.items)
+unfolding arm_view
+view-Parbegin {A} line first arms =
+    ap stmt_view (sym (rolls-Parbegin line first arms))
+    ∙ fold-roll-Stmt A plain.Stmt stmt_step (Stmt-F.Parbegin line first arms)
+    ∙ ap (λ r. plain.Parbegin line first (arms_from r)) (map-map (λ arm. block_of arm.items) _ arms.items)
+
+pub view-arm : {A : Type 0} (arm : Vec (Stmt A) A) → arm_view arm ≡ block_view arm.items
+unfolding arm_view
+view-arm arm = refl
+
+pub ruleset expr_views = (view-Number, view-Variable, view-Unary, view-Binary)
+
+pub ruleset stmt_views = (view-Assign, view-Print, view-If, view-While, view-Hold, view-Parbegin, view-arm)

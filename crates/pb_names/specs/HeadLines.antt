@@ -1,0 +1,23 @@
+-- The line at which an arm of a run stands: that of its first item.
+use Rattle.std.specs.Prelude.{ℕ, List, [], ◌∷◌, Option, Some, None}
+use Rattle.pb_names.specs.Source.{Item, Assign, Print, Choice, Loop, Hold, GiveBack, Parallel, Arm, Doing}
+use Rattle.pb_names.specs.Source.{Waiting, Ended}
+
+abbrev pub item_line : Item → ℕ
+item_line (Assign line x e) = line
+item_line (Print line e) = line
+item_line (Choice line e a b) = line
+item_line (Loop line test e body) = line
+item_line (Hold line bundle body) = line
+item_line (GiveBack line bundle) = line
+item_line (Parallel line first arms) = line
+
+abbrev pub first_line : List Item → Option ℕ
+first_line [] = None
+first_line (item ∷ items) = Some (item_line item)
+
+-- the line of an arm's first item; none where its list is empty
+abbrev pub head_line : Arm → Option ℕ
+head_line (Doing items) = first_line items
+head_line (Waiting line first arms rest) = Some line
+head_line Ended = None

@@ -1,0 +1,10 @@
+pub mod Claims
+pub mod Faults
+pub mod HeadLines
+pub mod Meaning
+pub mod Program
+pub mod Resolves
+pub mod Search
+pub mod Source
+pub mod Straight
+pub mod View

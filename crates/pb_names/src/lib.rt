@@ -1,0 +1,14 @@
+//! Programs after names became numbers, what they do, and how a syntax tree becomes one.
+#![tactic(auto)]
+
+mod causes;
+pub mod fault;
+pub mod numbering;
+pub mod resolved;
+
+pub use fault::{Kind, NameFault};
+pub use numbering::resolve;
+pub use resolved::{Expr, Process, Resolved, Resource, Stmt};
+
+#[cfg(test)]
+mod tests;

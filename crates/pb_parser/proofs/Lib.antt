@@ -1,0 +1,10 @@
+pub mod Vectors
+pub mod Chains
+pub mod Marks
+pub mod Signs
+pub mod Expressions
+pub mod StatementLaws
+pub mod Loops
+pub mod ProgramLaws
+pub mod NestingLaws
+pub mod Wholes

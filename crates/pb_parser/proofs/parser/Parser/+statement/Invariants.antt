@@ -1,0 +1,58 @@
+use Rattle.std.proofs.Common.{length, ◌+◌, ◌*◌}
+use Rattle.pb_lexer.specs.declared.token.Mark.TheVariants as mark
+use Rattle.pb_lexer.specs.Tokens.{tokens}
+use Rattle.pb_tree.specs.View.{stmts_view, arms_view}
+use Rattle.pb_parser.specs.Lists.{append, append_arms}
+use Rattle.pb_parser.specs.StatementReader.{between, statement, list, an_arm, arms, onto}
+use Rattle.pb_parser.proofs.Chains.{InChain}
+use Rattle.pb_parser.proofs.parser.Parser.+statement.Given as goal
+
+-- Eight for each statement that may still begin in another, and less for each step towards the next.
+abbrev pub decreases-statement : goal.decreases-statement
+decreases-statement g l = 8 * l.depth
+
+abbrev pub decreases-list : goal.decreases-list
+decreases-list g l = 8 * l.depth + 1
+
+abbrev pub decreases-body : goal.decreases-body
+decreases-body g l = 8 * l.depth + 2
+
+abbrev pub decreases-arms : goal.decreases-arms
+decreases-arms g l = 8 * l.depth + 1
+
+abbrev pub decreases-otherwise : goal.decreases-otherwise
+decreases-otherwise g l = 8 * l.depth + 3
+
+abbrev pub decreases-choice : goal.decreases-choice
+decreases-choice g l = 8 * l.depth + 4
+
+abbrev pub decreases-looping : goal.decreases-looping
+decreases-looping g l = 8 * l.depth + 4
+
+abbrev pub decreases-holding : goal.decreases-holding
+decreases-holding g l = 8 * l.depth + 4
+
+abbrev pub decreases-forking : goal.decreases-forking
+decreases-forking g l = 8 * l.depth + 4
+
+abbrev pub decreases-inner : goal.decreases-inner
+decreases-inner g l = 8 * l.depth + 4
+
+abbrev pub decreases-after_first : goal.decreases-after_first
+decreases-after_first g l = 8 * l.depth + 5
+
+abbrev pub invariant-list-loop-self : goal.invariant-list-loop-self
+invariant-list-loop-self g l =
+    InChain (between mark.Semicolon append) (statement l.depth) (stmts_view l.out.items) (tokens l.self.rest.now)
+    (onto (stmts_view l.fn.out.items) (list (statement l.depth) (tokens l.fn.self.rest.now)))
+
+abbrev pub decreases-list-loop-self : goal.decreases-list-loop-self
+decreases-list-loop-self g l = length (tokens l.self.rest.now)
+
+abbrev pub invariant-arms-loop-self : goal.invariant-arms-loop-self
+invariant-arms-loop-self g l =
+    InChain (between mark.Semicolon append_arms) (an_arm (statement l.depth)) (arms_view l.found.items) (tokens l.self.rest.now)
+    (arms (statement l.depth) (tokens l.fn.self.rest.now))
+
+abbrev pub decreases-arms-loop-self : goal.decreases-arms-loop-self
+decreases-arms-loop-self g l = length (tokens l.self.rest.now)

@@ -1,0 +1,31 @@
+-- The limits of a tree, and what each fault says. A reader must believe 200 and 16,384.
+use Rattle.std.specs.Prelude.{◌<◌, ◌≤◌, List}
+use Rattle.pb_lexer.specs.Tokens.{Token}
+use Rattle.pb_tree.specs.Syntax.{ProgramSyntax}
+use Rattle.pb_tree.specs.Measure.{program_height, program_nodes}
+use Rattle.pb_parser.specs.declared.fault.ParseFault.{ParseFault}
+use Rattle.pb_parser.specs.declared.fault.ParseFault.TheVariants as fault
+use Rattle.pb_parser.specs.Programs.{ReadsProgram}
+
+-- the tree is within the limits
+pub record KeepsLimits (p : ProgramSyntax) : Type 0 where
+  pub height : program_height p ≤ 200
+  pub nodes : program_nodes p ≤ 16384
+
+-- the tokens are a program that is too high
+abbrev pub IsTooHigh : List Token → Type 0
+IsTooHigh ts = (p : ProgramSyntax) × (ReadsProgram ts p) × (200 < program_height p)
+
+-- the tokens are a program that is not too high, and has too many nodes
+abbrev pub IsTooLarge : List Token → Type 0
+IsTooLarge ts =
+    (p : ProgramSyntax) × (ReadsProgram ts p) × (program_height p ≤ 200) × (16384 < program_nodes p)
+
+-- the tokens are no program
+abbrev pub IsNoProgram : List Token → Type 0
+IsNoProgram ts = (p : ProgramSyntax) → ReadsProgram ts p → ⊥
+
+-- the fault says that the tokens are no program
+abbrev pub IsSyntax : ParseFault → Type 0
+IsSyntax (fault.Syntax at) = Unit {0}
+IsSyntax _ = ⊥

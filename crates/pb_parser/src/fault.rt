@@ -1,0 +1,43 @@
+//! Why tokens are no program, or one over a limit.
+
+ghost use Rattle.std.specs.Prelude.{◌≡◌};
+ghost use Rattle.pb_parser.specs.declared.fault.ParseFault.TheVariants.{NoMemory};
+
+use std::alloc::{AllocError, AllocFailed};
+
+/// Why no tree was made of some tokens. A place is an offset into the text, from 0.
+#[derive(Clone, Copy, Debug, PartialEq, Eq, thiserror::Error)]
+pub enum ParseFault {
+    /// The tokens are no program. At this place begins the first token with which the tokens so far
+    /// begin none; where
+    /// they only end too early, the last token ends there (0 if there is none).
+    #[error("syntax error at {0}")]
+    Syntax(usize),
+    /// The tokens open more than 256 brackets and statements in one another, or have more than 256 signs
+    /// in a row, or
+    /// their tree is higher than 200.
+    #[error("nested too deep")]
+    TooDeep,
+    /// The tree has more than 16,384 nodes.
+    #[error("tree too large")]
+    TooLarge,
+    /// The tree did not find memory.
+    #[error("out of memory")]
+    NoMemory,
+}
+
+impl From<AllocError> for ParseFault {
+    ghost from_gives = { λ _ e. e ≡ NoMemory };
+
+    fn from(_e: AllocError) -> ParseFault {
+        ParseFault::NoMemory
+    }
+}
+
+impl<T: Drop> From<AllocFailed<T>> for ParseFault {
+    ghost from_gives = { λ _ e. e ≡ NoMemory };
+
+    fn from(_e: AllocFailed<T>) -> ParseFault {
+        ParseFault::NoMemory
+    }
+}

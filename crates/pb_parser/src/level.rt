@@ -1,0 +1,20 @@
+//! The levels of expressions.
+
+/// The levels of expressions, from the loosest to the tightest.
+#[derive(Clone, Copy, Debug, PartialEq, Eq)]
+pub enum Level {
+    /// Conjunctions joined by `or`.
+    Disjunction,
+    /// Negations joined by `and`.
+    Conjunction,
+    /// A comparison behind any number of `not`.
+    Negation,
+    /// One sum, or two joined by a relation.
+    Comparison,
+    /// Terms joined by `+` and `-`.
+    Sum,
+    /// Factors joined by `*`, `div` and `mod`.
+    Term,
+    /// A number, a name or an expression in brackets, behind any number of `-`.
+    Factor,
+}

@@ -1,0 +1,17 @@
+//! The grammar: from the tokens of a text to the tree of its program.
+#![tactic(auto)]
+
+mod build;
+pub mod fault;
+pub mod laws;
+pub mod level;
+mod nesting;
+mod operators;
+mod parser;
+mod programs;
+mod statements;
+#[cfg(test)]
+mod tests;
+
+pub use fault::ParseFault;
+pub use programs::parse;

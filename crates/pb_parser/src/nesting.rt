@@ -1,0 +1,75 @@
+//! How deep tokens nest, whatever the grammar says of them.
+
+ghost use Rattle.std.specs.Prelude.{◌≡◌, ◌↔◌, ℕ, ◌<◌, ◌^◌, ◌+◌, List, IsTrue, MatchBool};
+ghost use Rattle.pb_lexer.specs.Tokens as spec_tokens;
+ghost use Rattle.pb_parser.specs.Nesting as nesting;
+ghost use Rattle.pb_parser.specs.Nesting.{OpensTooMany, SignsTooMany, NestsTooDeep};
+
+use pb_lexer::token::{Kind, Mark, Token};
+
+const MOST_OPEN: usize = 256;
+
+const MOST_SIGNS: usize = 256;
+
+/// How many stand open behind a token of the kind.
+fn open_after(count: usize, kind: Kind) -> usize
+    requires { count < 2 ^ 63 }
+    ensures { (text : List ℕ) → result ≡ nesting.open_after count (spec_tokens.lexeme kind text) }
+{
+    match kind {
+        Kind::Mark(
+            Mark::Open | Mark::Begin | Mark::If | Mark::While | Mark::Hold | Mark::Parbegin,
+        ) => count + 1,
+        Kind::Mark(Mark::Close | Mark::End | Mark::Fi | Mark::Od | Mark::Parend) => {
+            count.saturating_sub(1)
+        }
+        _ => count,
+    }
+}
+
+/// How many signs stand in a row up to a token of the kind, where so many stood before it.
+fn signs_after(count: usize, kind: Kind) -> usize
+    requires { count < 2 ^ 63 }
+    ensures { (text : List ℕ)
+        → MatchBool (nesting.is_sign (spec_tokens.lexeme kind text)) (result ≡ count + 1) (result ≡ 0) }
+{
+    match kind {
+        Kind::Mark(Mark::Minus | Mark::Not) => count + 1,
+        _ => 0,
+    }
+}
+
+/// Whether more than 256 brackets and statements stand open somewhere.
+fn opens_too_many(tokens: &[Token<'_>]) -> bool
+    ensures { IsTrue result ↔ OpensTooMany (spec_tokens.tokens tokens.now) }
+{
+    let mut count = 0;
+    for token in tokens {
+        count = open_after(count, token.kind());
+        if count > MOST_OPEN {
+            return true;
+        }
+    }
+    false
+}
+
+/// Whether more than 256 signs stand in a row somewhere.
+fn signs_too_many(tokens: &[Token<'_>]) -> bool
+    ensures { IsTrue result ↔ SignsTooMany (spec_tokens.tokens tokens.now) }
+{
+    let mut count = 0;
+    for token in tokens {
+        count = signs_after(count, token.kind());
+        if count > MOST_SIGNS {
+            return true;
+        }
+    }
+    false
+}
+
+/// Whether the tokens nest too deep.
+pub(crate) fn nests_too_deep(tokens: &[Token<'_>]) -> bool
+    ensures { IsTrue result ↔ NestsTooDeep (spec_tokens.tokens tokens.now) }
+{
+    opens_too_many(tokens) || signs_too_many(tokens)
+}

@@ -1,0 +1,279 @@
+//! Recursive descent with one token of look-ahead: the place in the tokens, and expressions.
+
+ghost use Rattle.std.specs.Prelude.{◌≡◌, ℕ, List, [], ◌∷◌, MatchOption, ◌<◌};
+ghost use Rattle.pb_lexer.specs.Tokens.{token, tokens};
+ghost use Rattle.pb_lexer.specs.Tokens as spec_tokens;
+ghost use Rattle.pb_tree.specs.Syntax.{ExprSyntax};
+ghost use Rattle.pb_tree.specs.View.{expr_view, name_view, number_view};
+ghost use Rattle.pb_parser.specs.Reader as reader;
+ghost use Rattle.pb_parser.specs.ExpressionReader as reads;
+ghost use Rattle.pb_parser.specs.StatementReader as parts;
+ghost use Rattle.pb_parser.specs.Promises.{Begins, Gives, TakesOperator, TakesMark};
+
+use crate::build;
+use crate::fault::ParseFault;
+use crate::level::Level;
+use crate::operators::{is_mark, operator};
+use pb_base::{BinaryOp, UnaryOp};
+use pb_lexer::token::{Kind, Mark, Token};
+use pb_tree::{Expr, Name, Number};
+use std::alloc::Allocator;
+
+/// The tokens that are left, and where the last one that was taken ends.
+#[derive(Drop)]
+pub(crate) struct Parser<'a, 't, A: Allocator + Clone> {
+    pub(crate) alloc: A,
+    pub(crate) rest: &'a [Token<'t>],
+    pub(crate) end: usize,
+}
+
+impl<'a, 't, A: Allocator + Clone> Parser<'a, 't, A> {
+    /// The next token is not in the grammar here.
+    pub(crate) fn fault(&self) -> ParseFault
+        ensures { (at : ℕ) × (result ≡ ParseFault.Syntax at) }
+    {
+        match self.rest {
+            [next, ..] => ParseFault::Syntax(next.start()),
+            [] => ParseFault::Syntax(self.end),
+        }
+    }
+
+    #[tactic(auto, using(crate::proofs::Marks::front_read))]
+    pub(crate) fn peek(&self) -> Option<Token<'t>>
+        ensures { MatchOption result
+            (tokens self.now.rest.now ≡ []) (λ t. Begins (tokens self.now.rest.now) (token t)) }
+    {
+        match self.rest {
+            [next, ..] => Some(*next),
+            [] => None,
+        }
+    }
+
+    pub(crate) fn advance(&mut self)
+        ensures { (t : spec_tokens.Token) (after : List spec_tokens.Token)
+            → tokens self.old.rest.now ≡ t ∷ after → tokens self.new.rest.now ≡ after }
+    {
+        if let [next, after @ ..] = self.rest {
+            self.end = next.end();
+            self.rest = after;
+        }
+    }
+
+    /// Takes the next token where it is the mark.
+    pub(crate) fn eat(&mut self, mark: Mark) -> bool
+        ensures { TakesMark mark result (tokens self.old.rest.now) (tokens self.new.rest.now) }
+    {
+        if let Some(next) = self.peek() {
+            if is_mark(mark, next.kind()) {
+                self.advance();
+                return true;
+            }
+        }
+        false
+    }
+
+    pub(crate) fn expect(&mut self, mark: Mark) -> Result<(), ParseFault>
+        ensures { Gives (λ _. tt) result
+            (reader.expect mark (tokens self.old.rest.now)) (tokens self.new.rest.now) }
+    {
+        if self.eat(mark) {
+            Ok(())
+        } else {
+            Err(self.fault())
+        }
+    }
+
+    /// No token is left.
+    pub(crate) fn end(&self) -> Result<(), ParseFault>
+        ensures { Gives (λ _. tt) result
+            (reader.ended (tokens self.now.rest.now)) (tokens self.now.rest.now) }
+    {
+        match self.peek() {
+            None => Ok(()),
+            Some(_) => Err(self.fault()),
+        }
+    }
+
+    /// Takes the next token where it is an operator of the level.
+    #[tactic(auto, unfolding(crate::specs::ExpressionReader::joins))]
+    pub(crate) fn operator(&mut self, level: Level) -> Option<BinaryOp>
+        ensures { TakesOperator level result (tokens self.old.rest.now) (tokens self.new.rest.now) }
+    {
+        let Some(next) = self.peek() else {
+            return None;
+        };
+        let Some(op) = operator(level, next.kind()) else {
+            return None;
+        };
+        self.advance();
+        Some(op)
+    }
+
+    /// How many times the mark comes next; all of them are taken.
+    pub(crate) fn count(&mut self, mark: Mark) -> usize
+        ensures signs { (op : UnaryOp) (part : reader.Part ExprSyntax) →
+            reads.signed mark op part (tokens self.old.rest.now)
+            ≡ reads.signs result op (part (tokens self.new.rest.now)) }
+    {
+        let mut taken = 0;
+        while self.eat(mark) {
+            taken += 1;
+        }
+        taken
+    }
+
+    pub(crate) fn name(&mut self) -> Result<Name<A>, ParseFault>
+        ensures { Gives name_view result
+            (parts.a_name (tokens self.old.rest.now)) (tokens self.new.rest.now) }
+    {
+        let Some(next) = self.peek() else {
+            return Err(self.fault());
+        };
+        match next.kind() {
+            Kind::Name => {
+                let name = build::name(&self.alloc, next.text(), next.start())?;
+                self.advance();
+                Ok(name)
+            }
+            _ => Err(self.fault()),
+        }
+    }
+
+    pub(crate) fn number(&mut self) -> Result<Number, ParseFault>
+        ensures { Gives number_view result
+            (parts.a_number (tokens self.old.rest.now)) (tokens self.new.rest.now) }
+    {
+        let Some(next) = self.peek() else {
+            return Err(self.fault());
+        };
+        match next.kind() {
+            Kind::Number(value) => {
+                self.advance();
+                Ok(Number {
+                    value,
+                    at: next.start(),
+                })
+            }
+            _ => Err(self.fault()),
+        }
+    }
+
+    /// An expression with fewer than `depth` open brackets.
+    #[cycle(expression)]
+    pub(crate) fn expression(&mut self, depth: usize) -> Result<Expr<A>, ParseFault>
+        ensures { Gives expr_view result
+            (reads.expression depth (tokens self.old.rest.now)) (tokens self.new.rest.now) }
+    {
+        if depth == 0 {
+            return Err(self.fault());
+        }
+        self.level(depth - 1, Level::Disjunction)
+    }
+
+    #[cycle(expression)]
+    #[tactic(auto, unfolding(crate::specs::ExpressionReader::disjunction, crate::specs::ExpressionReader::conjunction, crate::specs::ExpressionReader::sum, crate::specs::ExpressionReader::term))]
+    fn level(&mut self, depth: usize, level: Level) -> Result<Expr<A>, ParseFault>
+        ensures { Gives expr_view result
+            (reads.of_level (reads.expression depth) level (tokens self.old.rest.now))
+            (tokens self.new.rest.now) }
+    {
+        match level {
+            Level::Disjunction => self.chain(depth, Level::Disjunction, Level::Conjunction),
+            Level::Conjunction => self.chain(depth, Level::Conjunction, Level::Negation),
+            Level::Negation => self.negation(depth),
+            Level::Comparison => self.comparison(depth),
+            Level::Sum => self.chain(depth, Level::Sum, Level::Term),
+            Level::Term => self.chain(depth, Level::Term, Level::Factor),
+            Level::Factor => self.factor(depth),
+        }
+    }
+
+    /// Parts joined by the operators of a level, grouped to the left.
+    #[cycle(expression)]
+    fn chain(&mut self, depth: usize, level: Level, part: Level) -> Result<Expr<A>, ParseFault>
+        requires { reads.looseness part < reads.looseness level }
+        ensures { Gives expr_view result
+            (reader.chain (reads.joins level)
+            (reads.of_level (reads.expression depth) part) (tokens self.old.rest.now))
+            (tokens self.new.rest.now) }
+    {
+        let mut left = self.level(depth, part)?;
+        while let Some(op) = self.operator(level) {
+            let right = self.level(depth, part)?;
+            left = build::binary(&self.alloc, op, left, right)?;
+        }
+        Ok(left)
+    }
+
+    #[cycle(expression)]
+    #[tactic(auto, unfolding(crate::specs::ExpressionReader::negation))]
+    fn negation(&mut self, depth: usize) -> Result<Expr<A>, ParseFault>
+        ensures { Gives expr_view result
+            (reads.negation (reads.expression depth) (tokens self.old.rest.now))
+            (tokens self.new.rest.now) }
+    {
+        let count = self.count(Mark::Not);
+        let operand = self.comparison(depth)?;
+        build::signed(&self.alloc, UnaryOp::Not, count, operand)
+    }
+
+    /// A sum, or two with a relation between them.
+    #[cycle(expression)]
+    #[tactic(auto, unfolding(crate::specs::ExpressionReader::comparison, crate::specs::ExpressionReader::related))]
+    fn comparison(&mut self, depth: usize) -> Result<Expr<A>, ParseFault>
+        ensures { Gives expr_view result
+            (reads.comparison (reads.expression depth) (tokens self.old.rest.now))
+            (tokens self.new.rest.now) }
+    {
+        let left = self.level(depth, Level::Sum)?;
+        let Some(op) = self.operator(Level::Comparison) else {
+            return Ok(left);
+        };
+        let right = self.level(depth, Level::Sum)?;
+        build::binary(&self.alloc, op, left, right)
+    }
+
+    #[cycle(expression)]
+    #[tactic(auto, unfolding(crate::specs::ExpressionReader::factor))]
+    fn factor(&mut self, depth: usize) -> Result<Expr<A>, ParseFault>
+        ensures { Gives expr_view result
+            (reads.factor (reads.expression depth) (tokens self.old.rest.now))
+            (tokens self.new.rest.now) }
+    {
+        let count = self.count(Mark::Minus);
+        let operand = self.primary(depth)?;
+        build::signed(&self.alloc, UnaryOp::Negate, count, operand)
+    }
+
+    /// A number, a name or an expression in brackets.
+    #[cycle(expression)]
+    #[tactic(auto, unfolding(crate::specs::ExpressionReader::primary))]
+    fn primary(&mut self, depth: usize) -> Result<Expr<A>, ParseFault>
+        ensures { Gives expr_view result
+            (reads.primary (reads.expression depth) (tokens self.old.rest.now))
+            (tokens self.new.rest.now) }
+    {
+        let Some(next) = self.peek() else {
+            return Err(self.fault());
+        };
+        match next.kind() {
+            Kind::Number(value) => {
+                self.advance();
+                let at = next.start();
+                Ok(Expr::Number(Number { value, at }))
+            }
+            Kind::Name => {
+                let name = build::name(&self.alloc, next.text(), next.start())?;
+                self.advance();
+                Ok(Expr::Variable(name))
+            }
+            Kind::Mark(Mark::Open) => {
+                self.advance();
+                let inner = self.expression(depth)?;
+                self.expect(Mark::Close)?;
+                Ok(inner)
+            }
+            Kind::Mark(_) => Err(self.fault()),
+        }
+    }
+}

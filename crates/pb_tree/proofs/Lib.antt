@@ -1,0 +1,8 @@
+pub mod Bounds
+pub mod Copies
+pub mod Equal
+pub mod Lists
+pub mod Shapes
+pub mod Smaller
+pub mod Sums
+pub mod Views

@@ -1,0 +1,9 @@
+use Rattle.std.proofs.Common.{arith}
+use Rattle.pb_tree.specs.View.{resource_view}
+use Rattle.pb_tree.proofs.Copies.{copied_more}
+use Rattle.pb_tree.proofs.program.copy_resources.Goals as goal
+
+pub loop-item-preserved : goal.loop-item-preserved
+loop-item-preserved g c =
+    copied_more resource_view resource_view _ _ _ _ _ _ c.loop-item.invariant (omega arith) c.item-item.is
+    c.in_ok-push.ensures.items (grind arith)

@@ -1,0 +1,15 @@
+use Rattle.std.proofs.Common.{arith}
+use Rattle.pb_tree.specs.View.{demand_view}
+use Rattle.pb_tree.proofs.Equal.{same_read}
+use Rattle.pb_tree.proofs.stmt.same_demands.Goals as goal
+
+pub returns-then-not-same : goal.returns-then-not-same
+returns-then-not-same g c = (
+  λ never. absurd (cc),
+  λ e.
+      let yes = c.same.ensures.1 (
+      same_read demand_view demand_view _ _ _ _ _ _ e c.deref-demand-items.ensures.value
+      (omega arith) (omega arith) c.demand-item.is c.index.ensures
+      ) in
+      grind arith,
+)

@@ -1,0 +1,123 @@
+//! Names, numbers and expressions.
+
+ghost use Rattle.std.specs.Prelude.{◌≡◌, ◌↔◌, IfOk, IsTrue};
+
+use pb_base::{BinaryOp, NoMemory, UnaryOp};
+use std::alloc::Allocator;
+
+/// A name, and where it stands in the text.
+#[derive(Drop)]
+pub struct Name<A: Allocator> {
+    /// Its bytes.
+    pub text: Vec<u8, A>,
+    /// The byte offset of its first byte, from 0.
+    pub at: usize,
+}
+
+/// A number, and where it stands in the text.
+#[derive(Clone, Copy, Debug, PartialEq, Eq)]
+pub struct Number {
+    /// Its value.
+    pub value: i64,
+    /// The byte offset of its first byte, from 0.
+    pub at: usize,
+}
+
+/// An expression, whose parts lie in memory of `A`. Brackets leave no trace.
+#[derive(Drop)]
+pub enum Expr<A: Allocator> {
+    /// A number.
+    Number(Number),
+    /// A variable, by its name.
+    Variable(Name<A>),
+    /// An operator on one operand.
+    Unary(UnaryOp, Box<Expr<A>, A>),
+    /// An operator on a left and a right operand.
+    Binary(BinaryOp, Box<Expr<A>, A>, Box<Expr<A>, A>),
+}
+
+impl<A: Allocator> Name<A> {
+    ghost use Rattle.pb_tree.specs.View.{name_view};
+
+    /// The same name in memory of `alloc`. The error comes only where that memory is refused.
+    pub fn copy_into<B: Allocator + Clone>(&self, alloc: &B) -> Result<Name<B>, NoMemory>
+        ensures { IfOk result (λ name. name_view name ≡ name_view self.now) }
+    {
+        Ok(Name {
+            text: Vec::from_slice(alloc.clone()?, &self.text)?,
+            at: self.at,
+        })
+    }
+
+    /// Whether the other name has the same bytes and the same place.
+    pub fn same<B: Allocator>(&self, other: &Name<B>) -> bool
+        ensures { IsTrue result ↔ (name_view self.now ≡ name_view other.now) }
+    {
+        self.at == other.at && self.text.as_slice() == other.text.as_slice()
+    }
+}
+
+impl<A: Allocator> Expr<A> {
+    ghost use Rattle.pb_tree.specs.Measure.{saturated, expr_nodes, expr_height};
+    ghost use Rattle.pb_tree.specs.View.{expr_view};
+
+    /// The same expression in memory of `alloc`. The error comes only where that memory is refused.
+    pub fn copy_into<B: Allocator + Clone>(&self, alloc: &B) -> Result<Expr<B>, NoMemory>
+        ensures { IfOk result (λ expr. expr_view expr ≡ expr_view self.now) }
+    {
+        match self {
+            Expr::Number(number) => Ok(Expr::Number(*number)),
+            Expr::Variable(name) => Ok(Expr::Variable(name.copy_into(alloc)?)),
+            Expr::Unary(op, operand) => {
+                let operand = operand.copy_into(alloc)?;
+                Ok(Expr::Unary(*op, Box::new(alloc.clone()?, operand)?))
+            }
+            Expr::Binary(op, left, right) => {
+                let left = left.copy_into(alloc)?;
+                let right = right.copy_into(alloc)?;
+                let left = Box::new(alloc.clone()?, left)?;
+                Ok(Expr::Binary(*op, left, Box::new(alloc.clone()?, right)?))
+            }
+        }
+    }
+
+    /// Whether the other expression is the same, places included, in whatever memory it lies.
+    pub fn same<B: Allocator>(&self, other: &Expr<B>) -> bool
+        ensures { IsTrue result ↔ (expr_view self.now ≡ expr_view other.now) }
+    {
+        match (self, other) {
+            (Expr::Number(a), Expr::Number(b)) => a == b,
+            (Expr::Variable(a), Expr::Variable(b)) => a.same(b),
+            (Expr::Unary(op, a), Expr::Unary(other_op, b)) => op == other_op && a.same(b),
+            (Expr::Binary(op, a1, a2), Expr::Binary(other_op, b1, b2)) => {
+                op == other_op && a1.same(b1) && a2.same(b2)
+            }
+            _ => false,
+        }
+    }
+
+    /// The number of its nodes, itself included, or the greatest `u64` if there are more.
+    pub fn nodes(&self) -> u64
+        ensures { result ≡ saturated (expr_nodes (expr_view self.now)) }
+    {
+        match self {
+            Expr::Number(_) | Expr::Variable(_) => 1,
+            Expr::Unary(_, operand) => operand.nodes().saturating_add(1),
+            Expr::Binary(_, left, right) => {
+                left.nodes().saturating_add(right.nodes()).saturating_add(1)
+            }
+        }
+    }
+
+    /// Its height: 1 of a number or a name, of an operator one more than of its highest operand. It stays at
+    /// the greatest `u64`.
+    pub fn height(&self) -> u64
+        ensures { result ≡ saturated (expr_height (expr_view self.now)) }
+    {
+        match self {
+            Expr::Number(_) | Expr::Variable(_) => 1,
+            Expr::Unary(_, operand) => operand.height().saturating_add(1),
+            Expr::Binary(_, left, right) => { left.height().max(right.height()).saturating_add(1) }
+        }
+    }
+}
