@@ -75,6 +75,7 @@ fn refuse<O: Output>(alloc: Global, fault: &CompileFault, output: &mut O) -> Sta
 mod tests {
     use super::*;
     use pb_base::device::{MemoryInput, MemoryOutput};
+    use std::process::Abort;
     use std::test::Fail;
 
     #[test]
@@ -94,7 +95,12 @@ mod tests {
         Ok(())
     }
 
-    fn check(rt: &HostRuntime, text: &[u8], status: Status, said: &[u8]) -> Result<(), Fail> {
+    fn check(
+        rt: &(impl Abort + AllocGlobal),
+        text: &[u8],
+        status: Status,
+        said: &[u8],
+    ) -> Result<(), Fail> {
         let alloc = rt.alloc();
         let mut input = MemoryInput::new(text);
         let mut output = MemoryOutput::new(alloc, 256)?;
