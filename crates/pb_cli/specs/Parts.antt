@@ -1,12 +1,14 @@
 -- The parts of an input, which lines `%%` part.
 use Rattle.std.specs.Prelude.{◌≡◌, ◌+◌, ◌-◌, ◌<◌, ◌⊎◌, ℕ, List, [], ◌∷◌, Some, drop, take, slice_get}
 
--- a line of the two bytes `%%`, ended by a line feed or by the end of the text, begins at this place
+-- a line of the two bytes `%%`, which a line feed or the end of the text ends
+abbrev pub IsMark : List ℕ → Type 0
+IsMark text = (text ≡ 37 ∷ 37 ∷ []) ⊎ ((after : List ℕ) × (text ≡ 37 ∷ 37 ∷ 10 ∷ after))
+
+-- such a line begins at this place
 pub record IsMarkAt (text : List ℕ) (at : ℕ) : Type 0 where
   pub begins : (at ≡ 0) ⊎ (slice_get text (at - 1) ≡ Some 10)
-  pub first : slice_get text at ≡ Some 37
-  pub second : slice_get text (at + 1) ≡ Some 37
-  pub ends : (drop (at + 2) text ≡ []) ⊎ (slice_get text (at + 2) ≡ Some 10)
+  pub marks : IsMark (drop at text)
 
 abbrev pub HasNoMarkBelow : List ℕ → ℕ → Type 0
 HasNoMarkBelow text n = (at : ℕ) → at < n → ¬ IsMarkAt text at

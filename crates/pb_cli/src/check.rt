@@ -1,5 +1,5 @@
 //! The command `check`, over any input and output.
-ghost use Rattle.std.specs.Prelude.{◌≡◌, ◌≢◌, ◌⊎◌, ◌<◌, ◌≤◌, IfErr, IfSome, OnOk};
+ghost use Rattle.std.specs.Prelude.{◌≡◌, ◌≢◌, ◌⊎◌, ℕ, List, IfErr, IfSome, OnOk};
 ghost use Rattle.pb_base.specs.Device.{one_more_failure};
 ghost use Rattle.pb_codegen.specs.Compiled.{IsRefused};
 ghost use Rattle.pb_cli.specs.Answers.{Tells};
@@ -170,6 +170,8 @@ pub fn check_engine<I: Input, O: Output>(
 #[cfg(test)]
 mod tests {
     use super::*;
+    ghost use Rattle.std.specs.Prelude.{◌≡◌, ◌≤◌, ℕ, Some};
+
     use pb_base::device::{MemoryInput, MemoryOutput};
     use std::process::Abort;
     use std::test::Fail;
@@ -181,7 +183,8 @@ mod tests {
         status: Status,
         said: &[u8],
     ) -> Result<(), Fail>
-        requires { IfSome heap (λ size. (1024 ≤ size) × (size ≤ 16777216)) }
+        requires suffices { (size : ℕ) → heap ≡ Some size → 1024 ≤ size }
+        requires fits { (size : ℕ) → heap ≡ Some size → size ≤ 16777216 }
     {
         let alloc = rt.alloc();
         let mut input = MemoryInput::new(text);

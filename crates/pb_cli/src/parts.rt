@@ -1,15 +1,23 @@
 //! Inputs of several parts, which lines `%%` part.
 ghost use Rattle.std.specs.Prelude.{◌≡◌, ◌+◌, ◌<◌, ◌↔◌, ℕ, IfSome, IfNone, IsTrue, drop, length, take};
-ghost use Rattle.pb_cli.specs.Parts.{HasNoMarkBelow, IsCutAt, IsMarkAt};
+ghost use Rattle.pb_cli.specs.Parts.{HasNoMarkBelow, IsCutAt, IsMark, IsMarkAt};
 
-// Whether a line of the two bytes `%%` begins at a place.
+// Whether a text begins with a line of the two bytes `%%`.
+fn is_mark(text: &[u8]) -> bool
+    ensures { IsTrue result ↔ IsMark text.now }
+{
+    matches!(text, [b'%', b'%'] | [b'%', b'%', b'\n', ..])
+}
+
+// Whether such a line begins at a place.
 fn is_mark_at(text: &[u8], at: usize) -> bool
     requires { at < length text.now }
     ensures { IsTrue result ↔ IsMarkAt text.now at }
 {
-    let begins = at == 0 || text[at - 1] == b'\n';
-    let ends = at + 2 >= text.len() || text[at + 2] == b'\n';
-    begins && ends && text[at] == b'%' && at + 1 < text.len() && text[at + 1] == b'%'
+    if at > 0 && text[at - 1] != b'\n' {
+        return false;
+    }
+    is_mark(&text[at..])
 }
 
 // The place of the first line `%%`.

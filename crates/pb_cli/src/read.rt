@@ -1,6 +1,6 @@
 //! Reads the words of a call.
-ghost use Rattle.std.specs.Prelude.{◌≡◌, IfErr, IfNone, IfOk, IfSome, ℕ};
-ghost use Rattle.clap.specs.Words.{found_of, kind_of, rows_of, subcommand_rows_of};
+ghost use Rattle.std.specs.Prelude.{◌≡◌, ◌↔◌, IfErr, IfNone, IfOk, IfSome, IsTrue, None, ℕ};
+ghost use Rattle.clap.specs.Words.{found_of, kind_of, one_of, rows_of, subcommand_rows_of};
 ghost use Rattle.pb_cli.specs.Read.{BlamesWords, HasCheckNumbers, HasNumberIn, HasRunNumbers, IsReadFromMatches, WordsSay};
 ghost use Rattle.pb_cli.specs.declared.options.Options.{Options as AnyOptions};
 ghost use Rattle.pb_cli.specs.declared.options.CheckOptions.{CheckOptions as AnyCheckOptions};
@@ -24,11 +24,22 @@ fn number(matches: &ArgMatches<'_>, id: &str, least: u64, most: u64) -> Option<u
     Some(number)
 }
 
+// Whether an option was matched with no text.
+fn is_absent(matches: &ArgMatches<'_>, id: &str) -> bool
+    ensures { IsTrue result ↔ (one_of id.now (rows_of (found_of matches.now)) ≡ None) }
+{
+    match matches.try_get_one::<u64>(id) {
+        Ok(None) => true,
+        Ok(Some(_)) => false,
+        Err(_) => false,
+    }
+}
+
 fn check_options(matches: &ArgMatches<'_>) -> Option<CheckOptions>
     ensures some { IfSome result (HasCheckNumbers (rows_of (found_of matches.now))) }
     ensures none { IfNone result ((o : AnyCheckOptions) → HasCheckNumbers (rows_of (found_of matches.now)) o → ⊥) }
 {
-    if !matches.contains_id("heap") {
+    if is_absent(matches, "heap") {
         return Some(CheckOptions { heap: None });
     }
     let size = number(matches, "heap", 1_024, 16_777_216)?;
