@@ -62,7 +62,7 @@ pub named : (v : VerifiedCode) (m : Machine) (pick : Pick) (event : Event) (afte
 named v m pick event after names verified of moves same =
     subst (λ n. HasNames n event) (sym same) (events_have_names v verified (machine_view m) of.reached pick event after moves)
 
-leaves_all : (w : Option (List ℕ)) (page : List ℕ) → Leaves w w page page
+pub leaves_all : (w : Option (List ℕ)) (page : List ℕ) → Leaves w w page page
 leaves_all None page = ([], refl, refl)
 leaves_all (Some held) page = ([], refl, ap Some (sym (append-nil held)))
 

@@ -76,7 +76,7 @@ pub text_is_too_long : (steps : ℕ) (bytes page : List ℕ) (old new : Option (
 text_is_too_long steps bytes page old new answered long empty says =
     (line (codes "refused input"), Refused, too_long long, Says-first old new page (line (codes "refused input")) Refused answered empty says)
 
-said_nothing : (w : Option (List ℕ)) → Says w w [] Device Device
+pub said_nothing : (w : Option (List ℕ)) → Says w w [] Device Device
 said_nothing None = inl (refl, refl)
 said_nothing (Some held) = inl (ap Some (sym (append-nil held)), refl)
 

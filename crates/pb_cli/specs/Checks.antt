@@ -1,5 +1,5 @@
 -- What `check` says of an input, and with which status.
-use Rattle.std.specs.Prelude.{◌≡◌, ◌++◌, ◌<◌, ◌||◌, ℕ, Bool, true, false, List, [], ◌∷◌, Option, codes, length}
+use Rattle.std.specs.Prelude.{◌≡◌, ◌++◌, ◌<◌, ◌||◌, ◌⊎◌, ℕ, Bool, true, false, List, [], ◌∷◌, Option, codes, length}
 use Rattle.pb_lexer.specs.Cutting.{AreTokensOf}
 use Rattle.pb_lexer.specs.Tokens.{Token}
 use Rattle.pb_tree.specs.Syntax.{ProgramSyntax}
@@ -39,9 +39,13 @@ pub data AnswersTo : List (List ℕ) → List ℕ → Bool → Type 0 where
       → AnswersTo texts said refused → AnswerTo text answer is
       → AnswersTo (texts ++ text ∷ []) (said ++ answer) (refused || is)
 
--- so many parts of an input were looked at, and this is left of it
+-- the parts of the rest of an input follow these parts of it
 abbrev pub IsLeft : List ℕ → List (List ℕ) → List ℕ → Type 0
 IsLeft bytes done rest = (parts : List (List ℕ)) → AreParts rest parts → AreParts bytes (done ++ parts)
+
+-- the first parts of an input: all of them, or those before what is left
+abbrev pub AreFirstParts : List ℕ → List (List ℕ) → Type 0
+AreFirstParts bytes done = AreParts bytes done ⊎ ((rest : List ℕ) × IsLeft bytes done rest)
 
 abbrev pub check_status : Bool → Status
 check_status true = Refused
@@ -53,10 +57,12 @@ pub data SaysOfChecks (bytes : List ℕ) : List ℕ → Status → Type 0 where
   too_long : 4194304 < length bytes → SaysOfChecks bytes (line (codes "refused input")) Refused
   answered : (parts : List (List ℕ)) (said : List ℕ) (refused : Bool) → AreParts bytes parts → AnswersTo parts said refused
       → SaysOfChecks bytes said (check_status refused)
-  out_of_memory : (done : List (List ℕ)) (rest said : List ℕ) (refused : Bool) → IsLeft bytes done rest
+  out_of_memory : (done : List (List ℕ)) (said : List ℕ) (refused : Bool) → AreFirstParts bytes done
       → AnswersTo done said refused → SaysOfChecks bytes (said ++ memory_line) Memory
-  cut_off : (done : List (List ℕ)) (rest said : List ℕ) (refused : Bool) → IsLeft bytes done rest
+  cut_off : (done : List (List ℕ)) (said : List ℕ) (refused : Bool) → AreFirstParts bytes done
       → AnswersTo done said refused → SaysOfChecks bytes said Device
+  no_memory : SaysOfChecks bytes memory_line Memory
+  nothing : SaysOfChecks bytes [] Device
 
 -- ---- one text
 

@@ -3,7 +3,7 @@ ghost use Rattle.std.specs.Prelude.{◌≡◌, ◌≢◌, ◌⊎◌, ℕ, List, 
 ghost use Rattle.pb_base.specs.Device.{one_more_failure};
 ghost use Rattle.pb_codegen.specs.Compiled.{IsRefused};
 ghost use Rattle.pb_cli.specs.Answers.{Tells};
-ghost use Rattle.pb_cli.specs.Checks.{IsProgramText, SaysOfChecks, TellsAnswer};
+ghost use Rattle.pb_cli.specs.Checks.{IsProgramText, SaysOfChecks, TellsAnswer, check_status};
 
 use crate::options::CheckOptions;
 use crate::page::Page;
@@ -99,13 +99,26 @@ fn tell_answer<O: Output>(
     ensures counted { result ≢ Told.Broken → O.failures output.new ≡ O.failures output.old }
     ensures fault { result ≡ Told.Broken → O.failures output.new ≡ one_more_failure (O.failures output.old) }
 {
-    match answer {
-        Ok(()) => match page.say_line(output, b"ok") {
+    let Err(fault) = answer else {
+        return match page.say_line(output, b"ok") {
             Ok(()) => Told::Answered(false),
             Err(_) => Told::Broken,
-        },
-        Err(CompileFault::Memory) => Told::OutOfMemory,
-        Err(fault) => tell_refusal(alloc, &fault, page, output),
+        };
+    };
+    if let CompileFault::Memory = fault {
+        return Told::OutOfMemory;
+    }
+    tell_refusal(alloc, &fault, page, output)
+}
+
+// The status of a call that came to its end.
+fn status_of(refused: bool) -> Status
+    ensures { result ≡ check_status refused }
+{
+    if refused {
+        Status::Refused
+    } else {
+        Status::Done
     }
 }
 
@@ -122,19 +135,12 @@ fn check_parts<O: Output>(alloc: Global, heap: Option<u64>, bytes: &[u8], output
         let cut = first_part(rest);
         let answer = look_within(alloc, heap, &mut arena, cut.part);
         match tell_answer(alloc, cut.part, answer, &mut page, output) {
-            Told::Answered(is_refusal) => refused = refused || is_refusal,
+            Told::Answered(is_refusal) => refused |= is_refusal,
             Told::OutOfMemory => return page.finish_with(output, b"memory", Status::Memory),
             Told::Broken => return Status::Device,
         }
         let Some(more) = cut.rest else {
-            return page.finish(
-                output,
-                if refused {
-                    Status::Refused
-                } else {
-                    Status::Done
-                },
-            );
+            return page.finish(output, status_of(refused));
         };
         rest = more;
     }
@@ -169,9 +175,9 @@ pub fn check_engine<I: Input, O: Output>(
 
 #[cfg(test)]
 mod tests {
-    use super::*;
     ghost use Rattle.std.specs.Prelude.{◌≡◌, ◌≤◌, ℕ, Some};
 
+    use super::*;
     use pb_base::device::{MemoryInput, MemoryOutput};
     use std::process::Abort;
     use std::test::Fail;
