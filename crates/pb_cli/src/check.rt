@@ -1,5 +1,5 @@
 //! The command `check`, over any input and output.
-ghost use Rattle.std.specs.Prelude.{◌≡◌, ◌≢◌, ◌⊎◌, ℕ, List, IfErr, IfSome, OnOk};
+ghost use Rattle.std.specs.Prelude.{◌≡◌, ◌≢◌, ◌≤◌, ◌⊎◌, ℕ, List, IfErr, IfSome, OnOk, Some};
 ghost use Rattle.pb_base.specs.Device.{one_more_failure};
 ghost use Rattle.pb_codegen.specs.Compiled.{IsRefused};
 ghost use Rattle.pb_cli.specs.Answers.{Tells};
@@ -175,8 +175,6 @@ pub fn check_engine<I: Input, O: Output>(
 
 #[cfg(test)]
 mod tests {
-    ghost use Rattle.std.specs.Prelude.{◌≡◌, ◌≤◌, ℕ, Some};
-
     use super::*;
     use pb_base::device::{MemoryInput, MemoryOutput};
     use std::process::Abort;
