@@ -1,12 +1,12 @@
 -- Texts that are looked at one after another, and their answers.
-use Rattle.std.proofs.Common.{◌≡◌, ℕ, ◌+◌, ◌-◌, ◌<◌, ◌≤◌, Bool, true, false, List, [], ◌∷◌, ◌++◌, length, drop, take, Option, Some, None, IfSome, IfNone, refl, sym, ap, ◌∙◌, subst, inl, inr, arith, append_assoc, append-nil, codes, ◌||◌}
+use Rattle.std.proofs.Common.{◌≡◌, ℕ, ◌+◌, ◌-◌, ◌<◌, ◌≤◌, Bool, true, false, List, [], ◌∷◌, ◌++◌, length, drop, Option, Some, None, IfSome, IfNone, refl, sym, ap, ◌∙◌, subst, inl, inr, arith, append_assoc, append-nil, codes, ◌||◌}
 use Rattle.std.proofs.lemmas.List.{length-drop}
 use Rattle.pb_base.specs.Device.{AddsPrefix}
 use Rattle.pb_codegen.specs.Compiled.{IsRefused}
 use Rattle.pb_codegen.specs.declared.fault.CompileFault.{CompileFault}
 use Rattle.pb_codegen.specs.declared.fault.CompileFault.TheVariants.{Memory as OutOfMemory}
 use Rattle.pb_cli.specs.Answers.{line, memory_line, Leaves, Says, Tells}
-use Rattle.pb_cli.specs.Checks.{IsProgramText, AnswerTo, well, ill, AnswersTo, none, then, IsLeft, AreFirstParts, check_status, SaysOfChecks, too_long, answered, out_of_memory, cut_off, no_memory, nothing, TellsAnswer, AreTold}
+use Rattle.pb_cli.specs.Checks.{ill, AnswersTo, none, then, IsLeft, AreFirstParts, check_status, SaysOfChecks, too_long, answered, out_of_memory, cut_off, no_memory, nothing, TellsAnswer, AreTold}
 use Rattle.pb_cli.specs.Parts.{IsMark, IsMarkAt, IsCutAt, AreParts, last, more}
 use Rattle.pb_cli.specs.Refusals.{refusal_line}
 use Rattle.pb_cli.specs.Steps.{Spoken}

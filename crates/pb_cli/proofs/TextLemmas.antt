@@ -1,5 +1,5 @@
 -- From what is said of code, or of a fault, to what is said of a text.
-use Rattle.std.proofs.Common.{◌≡◌, ℕ, ◌<◌, ◌≤◌, List, [], ◌++◌, length, Option, Some, None, refl, sym, ap, subst, inl, arith, append-nil, codes}
+use Rattle.std.proofs.Common.{◌≡◌, ℕ, ◌<◌, List, [], ◌++◌, length, Option, Some, None, refl, sym, ap, subst, inl, arith, append-nil, codes}
 use Rattle.pb_base.specs.declared.event.Event.{Event}
 use Rattle.pb_code.specs.Whole.{Code, ProcessLabels, CodeCan}
 use Rattle.pb_codegen.specs.Compiled.{IsCompiled, IsRefused}

@@ -1,4 +1,4 @@
-use Rattle.std.proofs.Common.{◌≡◌, ◌∙◌, Ok, Err, None, Some, ap, refl}
+use Rattle.std.proofs.Common.{◌∙◌, Ok, ap, refl}
 use Rattle.std.specs.Str.Parse.{ParsesUnsigned, ExplainsUnsignedError, HasUnsignedDigitsIfOk}
 use Rattle.clap.specs.Words.{found_of}
 use Rattle.pb_cli.proofs.ReadLemmas.{no_text, some_text}
