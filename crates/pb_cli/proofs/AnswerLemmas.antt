@@ -1,12 +1,10 @@
 -- From what was said to what a command writes.
-use Rattle.std.proofs.Common.{◌≡◌, ℕ, List, Option, Some, None, IfSome, inl, inr, refl, sym, subst}
-use Rattle.pb_base.specs.Device.{appended}
+use Rattle.std.proofs.Common.{ℕ, List, Option, Some, None, IfSome, inl, inr}
 use Rattle.std.specs.Borrow.{Bor}
 use Rattle.pb_cli.specs.declared.options.Options.{Options}
 use Rattle.pb_cli.specs.declared.options.WordsFault.{WordsFault}
 use Rattle.pb_cli.specs.declared.options.WordsFault.TheVariants as fault
 use Rattle.pb_cli.specs.declared.status.Status.{Status}
-use Rattle.pb_cli.specs.declared.status.Status.TheVariants.{Done, Refused, Words, Limit, Fault, Memory, Device}
 use Rattle.pb_cli.specs.Answers.{Says}
 use Rattle.pb_cli.specs.Calls.{CallWrites, fault_status, fault_text}
 use Rattle.pb_cli.specs.Read.{BlamesWords, WordsSay}

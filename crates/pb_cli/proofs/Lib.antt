@@ -1,4 +1,5 @@
 pub mod AnswerLemmas
+pub mod CheckLemmas
 pub mod PageLemmas
 pub mod ReadLemmas
 pub mod RunLemmas

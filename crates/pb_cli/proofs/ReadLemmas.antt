@@ -1,16 +1,17 @@
 -- What clap's answers say of the rows that it matched, and of this command line.
-use Rattle.std.proofs.Common.{◌≡◌, ◌<◌, ◌^◌, ℕ, List, [], Option, Some, None, Result, Ok, Err, refl, sym, ap, subst, ◌∙◌, true, option_map, inl, inr, IfNone}
+use Rattle.std.proofs.Common.{◌≡◌, ◌<◌, ◌^◌, ℕ, List, [], Option, Some, None, Result, Ok, Err, refl, sym, ap, subst, ◌∙◌, true, option_map, inl, inr, IfNone, codes}
 use Rattle.std.specs.Str.Parse.{IsNumeral, digits_value, without_leading_plus}
-use Rattle.clap.specs.Words.{HasKind, IsAmong, Kinds, ReadsOne, Row, Text, is_simple, is_simple_and_free, kind_of, one_text, rows_of}
+use Rattle.clap.specs.Words.{HasKind, IsAmong, Kinds, ReadsOne, Row, Text, TriesOne, is_simple, is_simple_and_free, kind_of, one_of, one_text, rows_of}
 use Rattle.clap.specs.declared.error.Error.{Error}
 use Rattle.clap.specs.declared.error.kind.ErrorKind.TheVariants.{OutOfMemory}
 use Rattle.clap.proofs.OnLiterals.{clap_on_literals}
-use Rattle.pb_cli.specs.CommandLine.{command_line, run_command}
+use Rattle.pb_cli.specs.CommandLine.{command_line, check_command, run_command}
 use Rattle.clap.specs.declared.parser.matches.Found.{Found}
 use Rattle.clap.proofs.WalkLemmas.{one_text-rows}
-use Rattle.pb_cli.specs.Read.{BlamesWords, HasNumber, HasRunNumbers, IsReadFromMatches}
+use Rattle.pb_cli.specs.Read.{BlamesWords, HasCheckNumbers, HasNumber, HasNumberIn, HasOptionalNumber, HasRunNumbers, IsReadFrom, IsReadFromMatches}
 use Rattle.pb_cli.specs.declared.options.Options.{Options}
-use Rattle.pb_cli.specs.declared.options.Options.TheVariants.{Run}
+use Rattle.pb_cli.specs.declared.options.Options.TheVariants.{Check, Run}
+use Rattle.pb_cli.specs.declared.options.CheckOptions.{CheckOptions}
 use Rattle.pb_cli.specs.declared.options.RunOptions.{RunOptions}
 use Rattle.pb_cli.specs.declared.options.WordsFault.{WordsFault}
 use Rattle.pb_cli.specs.declared.options.WordsFault.TheVariants.{Words, Memory}
@@ -40,12 +41,44 @@ one_number rows id m n (t, is_t, numeral_t, m_is) (u, is_u, numeral_u, n_is) =
     let same : t ≡ u = cc (is_t, is_u) in
     m_is ∙ ap (λ text. digits_value 10 (without_leading_plus text)) same ∙ sym n_is
 
--- where the rows of the subcommand have no numbers of `run`, nothing is read from them
-pub no_run_numbers : (m : Option (Text × List Row)) (rows : List Row) → Some rows ≡ option_map (λ p. p.1) m
-    → ((o : RunOptions) → HasRunNumbers rows o → ⊥) → (o : Options) → IsReadFromMatches m o → ⊥
-no_run_numbers m rows is none (Run o) (name, found, entered, says) =
+-- where nothing is read from the name and the rows of the subcommand that was entered, nothing is read from the matches
+pub nothing_read : (m : Option (Text × List Row)) (name : Text) (rows : List Row) → Some name ≡ option_map (λ p. p.0) m
+    → Some rows ≡ option_map (λ p. p.1) m → ((o : Options) → IsReadFrom name rows o → ⊥) → (o : Options) → IsReadFromMatches m o → ⊥
+nothing_read m name rows named is none o (other, found, entered, says) =
+    let same_name : other ≡ name = cc (named ∙ ap (option_map (λ p. p.0)) entered) in
     let same : found ≡ rows = cc (is ∙ ap (option_map (λ p. p.1)) entered) in
-    none o (subst (λ (r : List Row). HasRunNumbers r o) same says.1)
+    none o (subst (λ (n : Text). IsReadFrom n rows o) same_name (subst (λ (r : List Row). IsReadFrom other r o) same says))
+
+pub no_check : (rows : List Row) → ((o : CheckOptions) → HasCheckNumbers rows o → ⊥) → (o : Options) → IsReadFrom (codes "check") rows o → ⊥
+no_check rows none (Check o) says = none o says.1
+no_check rows none (Run o) says = let w : codes "check" ≡ codes "run" = says.0 in cc
+
+pub no_run : (rows : List Row) → ((o : RunOptions) → HasRunNumbers rows o → ⊥) → (o : Options) → IsReadFrom (codes "run") rows o → ⊥
+no_run rows none (Check o) says = let w : codes "run" ≡ codes "check" = says.0 in cc
+no_run rows none (Run o) says = none o says.1
+
+-- where neither is read, nothing is
+pub no_check_numbers : (rows : List Row) → ((n : ℕ) → HasNumberIn rows (codes "heap") 1024 16777216 n → ⊥)
+    → (one_of (codes "heap") rows ≡ None → ⊥) → (o : CheckOptions) → HasCheckNumbers rows o → ⊥
+no_check_numbers rows none given o says = go o.heap refl says
+  where
+    go : (heap : Option ℕ) → o.heap ≡ heap → HasOptionalNumber rows (codes "heap") heap → ⊥
+    go None is h = given h
+    go (Some n) is h = none n (h, o.heap_suffices n is, o.heap_fits n is)
+
+-- where nothing is read of an option, the rows have no text for it
+pub no_text : {E : Type 0} (gives : Text → Result ℕ E → Type 0) (f : Found) (id : Text) (read : Result (Option ℕ) E) → read ≡ Ok None
+    → ((t : Text) → one_text f id ≡ Some t → TriesOne gives t read) → one_of id (rows_of f) ≡ None
+no_text gives f id read is value = sym (one_text-rows f id) ∙ go (one_text f id) refl
+  where
+    go : (o : Option Text) → one_text f id ≡ o → one_text f id ≡ None
+    go None none = none
+    go (Some t) some = elim (subst (TriesOne gives t) is (value t some)) [ ]
+
+-- where something is read of it, they have
+pub some_text : {E : Type 0} (f : Found) (id : Text) (read : Result (Option ℕ) E) → (one_text f id ≡ None → read ≡ Ok None)
+    → (read ≡ Ok None → ⊥) → one_of id (rows_of f) ≡ None → ⊥
+some_text f id read none something absent = something (none (one_text-rows f id ∙ absent))
 
 -- an error of clap's that is no want of memory comes only where the words have a fault
 pub clap_refused : (kinds : Kinds) (e : Error) (fault : WordsFault) → HasKind kinds e → (kind_of e ≡ OutOfMemory → fault ≡ Memory)
@@ -56,11 +89,11 @@ clap_refused kinds e Memory is memory blames none = blames
 
 -- the matches of this command line are a function of the words
 pub is_simple_command_line : is_simple command_line ≡ true
-unfolding command_line run_command clap_on_literals
+unfolding command_line check_command run_command clap_on_literals
 is_simple_command_line = refl
 
 pub is_free_command_line : is_simple_and_free command_line ≡ true
-unfolding command_line run_command clap_on_literals
+unfolding command_line check_command run_command clap_on_literals
 is_free_command_line = refl
 
 -- a fact that holds anyway holds where there is no value

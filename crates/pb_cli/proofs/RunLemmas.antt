@@ -1,5 +1,5 @@
 -- A run that is told, step after step.
-use Rattle.std.proofs.Common.{◌≡◌, ◌≢◌, ℕ, zero, suc, ◌+◌, ◌<◌, ◌≤◌, Bool, true, false, List, [], ◌∷◌, ◌++◌, length, Option, Some, None, option_to_list, refl, sym, ap, ◌∙◌, subst, inl, inr, arith, append_assoc, append-nil, length-append, codes}
+use Rattle.std.proofs.Common.{◌≡◌, ℕ, ◌+◌, ◌<◌, ◌≤◌, List, [], ◌∷◌, ◌++◌, length, Option, Some, None, option_to_list, refl, sym, ap, ◌∙◌, subst, inl, inr, arith, append-nil, length-append, codes}
 use Rattle.std.proofs.lemmas.Grind.{flat_map-append}
 use Rattle.std.proofs.lemmas.List.{length-map}
 use Rattle.std.proofs.lemmas.Bool.{cases_lt}
@@ -7,21 +7,21 @@ use Rattle.std.specs.Prelude.{slice_get}
 use Rattle.std.specs.Fmt.{decimal}
 use Rattle.pb_base.specs.declared.event.Event.{Event}
 use Rattle.pb_base.specs.declared.pick.Pick.{Pick}
-use Rattle.pb_base.specs.Device.{appended, AddsPrefix}
+use Rattle.pb_base.specs.Device.{AddsPrefix}
 use Rattle.pb_base.specs.Lines.{NameTable, HasNames, line_of}
-use Rattle.pb_base.specs.Steppers.{State, Makes, event_of}
-use Rattle.pb_code.specs.Code.{CodeProcess, code_step, code_over}
+use Rattle.pb_base.specs.Steppers.{State, Makes}
+use Rattle.pb_code.specs.Code.{CodeProcess, code_step}
 use Rattle.pb_code.specs.Reached.{CodeMoves, CodeStays}
 use Rattle.pb_code.specs.Verified.{VerifiedCode, IsVerified}
 use Rattle.pb_code.specs.Whole.{Code, bank_of, code_opening}
 use Rattle.pb_machine.specs.Going.{IsLive}
-use Rattle.pb_machine.specs.Views.{proc_view, machine_view, IsMachineOf}
+use Rattle.pb_machine.specs.Views.{machine_view, IsMachineOf}
 use Rattle.pb_machine.specs.declared.machine.Machine.{Machine}
 use Rattle.pb_machine.proofs.Going.{bodies_are_live, live_arms_step, events_have_names}
 use Rattle.pb_machine.proofs.Machines.{as_many}
 use Rattle.pb_machine.proofs.Reaching.{makes_more}
 use Rattle.pb_cli.specs.Answers.{line, memory_line, Leaves, Says, Tells}
-use Rattle.pb_cli.specs.Runs.{event_lines, Run, IsDone, HasFault, SaysOfRun, done, faulted, at_limit, out_of_memory, cut_off, SaysOfCode}
+use Rattle.pb_cli.specs.Runs.{event_lines, Run, IsDone, done, faulted, at_limit, out_of_memory, cut_off, SaysOfCode}
 use Rattle.pb_cli.specs.Steps.{IsNext, shown, Spoken, TellsEvent, TellsStep, IsTold, SaysOfEnd, all_done, some_fault, used_up}
 use Rattle.pb_cli.specs.declared.status.Status.{Status}
 use Rattle.pb_cli.specs.declared.status.Status.TheVariants.{Done, Fault, Limit, Memory, Device}
@@ -62,7 +62,7 @@ pub named : (v : VerifiedCode) (m : Machine) (pick : Pick) (event : Event) (afte
 named v m pick event after names verified of moves same =
     subst (λ n. HasNames n event) (sym same) (events_have_names v verified (machine_view m) of.reached pick event after moves)
 
-leaves_all : (w : Option (List ℕ)) (page : List ℕ) → Leaves w w page page
+pub leaves_all : (w : Option (List ℕ)) (page : List ℕ) → Leaves w w page page
 leaves_all None page = ([], refl, refl)
 leaves_all (Some held) page = ([], refl, ap Some (sym (append-nil held)))
 

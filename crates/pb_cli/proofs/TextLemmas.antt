@@ -1,5 +1,5 @@
 -- From what is said of code, or of a fault, to what is said of a text.
-use Rattle.std.proofs.Common.{◌≡◌, ℕ, ◌<◌, ◌≤◌, List, [], ◌++◌, length, Option, Some, None, refl, sym, ap, subst, inl, arith, append-nil, codes}
+use Rattle.std.proofs.Common.{◌≡◌, ℕ, ◌<◌, List, [], ◌++◌, length, Option, Some, None, refl, sym, ap, subst, inl, arith, append-nil, codes}
 use Rattle.pb_base.specs.declared.event.Event.{Event}
 use Rattle.pb_code.specs.Whole.{Code, ProcessLabels, CodeCan}
 use Rattle.pb_codegen.specs.Compiled.{IsCompiled, IsRefused}
@@ -76,7 +76,7 @@ pub text_is_too_long : (steps : ℕ) (bytes page : List ℕ) (old new : Option (
 text_is_too_long steps bytes page old new answered long empty says =
     (line (codes "refused input"), Refused, too_long long, Says-first old new page (line (codes "refused input")) Refused answered empty says)
 
-said_nothing : (w : Option (List ℕ)) → Says w w [] Device Device
+pub said_nothing : (w : Option (List ℕ)) → Says w w [] Device Device
 said_nothing None = inl (refl, refl)
 said_nothing (Some held) = inl (ap Some (sym (append-nil held)), refl)
 

@@ -1,12 +1,9 @@
 -- What a command writes, and its status: lines, of which want of memory or a fault of a device may cut
 -- off the rest.
-use Rattle.std.specs.Prelude.{◌≡◌, ◌++◌, ◌⊎◌, ℕ, List, [], ◌∷◌, Option, take, codes, length, nat_lt}
-use Rattle.std.specs.Prelude.{if◌then◌else◌}
-use Rattle.std.specs.Fmt.{decimal}
-use Rattle.std.specs.List.{flat_map}
+use Rattle.std.specs.Prelude.{◌≡◌, ◌++◌, ◌⊎◌, ℕ, List, [], ◌∷◌, Option, codes}
 use Rattle.pb_base.specs.Device.{appended, AddsPrefix}
 use Rattle.pb_cli.specs.declared.status.Status.{Status}
-use Rattle.pb_cli.specs.declared.status.Status.TheVariants.{Refused, Limit, Memory, Device}
+use Rattle.pb_cli.specs.declared.status.Status.TheVariants.{Device}
 
 -- a line of text ends in a line feed
 abbrev pub line : List ℕ → List ℕ

@@ -9,11 +9,13 @@ use Rattle.pb_cli.specs.declared.options.WordsFault.TheVariants as fault
 use Rattle.pb_cli.specs.declared.status.Status.{Status}
 use Rattle.pb_cli.specs.declared.status.Status.TheVariants.{Words, Memory}
 use Rattle.pb_cli.specs.Answers.{Says, Tells, memory_line}
+use Rattle.pb_cli.specs.Checks.{SaysOfChecks}
 use Rattle.pb_cli.specs.Runs.{SaysOf}
 use Rattle.pb_cli.specs.Read.{WordsSay}
 
 -- what a command may say of an input
 abbrev pub CommandSays : Options → List ℕ → List ℕ → Status → Type 0
+CommandSays (option.Check numbers) bytes = SaysOfChecks bytes
 CommandSays (option.Run numbers) bytes = SaysOf numbers.steps bytes
 
 -- the text and the status where words were not read

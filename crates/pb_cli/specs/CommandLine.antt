@@ -5,13 +5,20 @@ use Rattle.clap.specs.declared.builder.command.Command.{Command}
 use Rattle.clap.specs.declared.builder.command.Command.TheViews.{out-Command}
 use Rattle.clap.specs.declared.builder.value_parser.ValueParser.TheVariants as vp
 
--- `--NAME NUMBER` with a number from least to most, and the number where the option is not given
-abbrev pub number_rule_or : Text → ℕ → ℕ → Text → Rule
-number_rule_or name least most default = record (new_rule name) {
+-- `--NAME NUMBER` with a number from least to most
+abbrev pub number_rule : Text → ℕ → ℕ → Rule
+number_rule name least most = record (new_rule name) {
   long = Some name;
   parser = Some (vp.Unsigned least most);
-  defaults = default ∷ [];
 }
+
+-- the same, and the number where the option is not given
+abbrev pub number_rule_or : Text → ℕ → ℕ → Text → Rule
+number_rule_or name least most default =
+    record (number_rule name least most) { defaults = default ∷ [] }
+
+unfoldable pub check_command : App
+check_command = with_rule (new_app (codes "check")) (number_rule (codes "heap") 1024 16777216)
 
 unfoldable pub run_command : App
 run_command =
@@ -26,7 +33,8 @@ that_wants_command a = record a { top = record a.top { subcommand_required = tru
 
 -- the whole command line
 unfoldable pub command_line : App
-command_line = with_command (that_wants_command (new_app (codes "parbegin"))) run_command
+command_line =
+    with_command (with_command (that_wants_command (new_app (codes "parbegin"))) check_command) run_command
 
 -- a command of this form, none of whose options a subcommand inherits
 abbrev pub IsCommand : App → Command → Type 0

@@ -1,6 +1,8 @@
 pub mod Answers
 pub mod Calls
+pub mod Checks
 pub mod CommandLine
+pub mod Parts
 pub mod Read
 pub mod Refusals
 pub mod Runs

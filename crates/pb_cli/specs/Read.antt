@@ -1,11 +1,12 @@
 -- What the words of a call say: the command and the numbers that clap matches, where it takes the words.
-use Rattle.std.specs.Prelude.{◌≡◌, ◌≤◌, ℕ, List, [], Option, Some, ⊤, codes, map}
+use Rattle.std.specs.Prelude.{◌≡◌, ◌≤◌, ℕ, List, [], Option, Some, None, ⊤, codes, map}
 use Rattle.std.specs.Str.Parse.{IsNumeral, digits_value, without_leading_plus}
 use Rattle.clap.specs.Words.{Row, Text, fault_of, one_of, subcommand_of}
 use Rattle.std.specs.Borrow.{Bor}
 use Rattle.pb_cli.specs.CommandLine.{command_line}
 use Rattle.pb_cli.specs.declared.options.Options.{Options}
 use Rattle.pb_cli.specs.declared.options.Options.TheVariants as option
+use Rattle.pb_cli.specs.declared.options.CheckOptions.{CheckOptions}
 use Rattle.pb_cli.specs.declared.options.RunOptions.{RunOptions}
 use Rattle.pb_cli.specs.declared.options.WordsFault.{WordsFault}
 use Rattle.pb_cli.specs.declared.options.WordsFault.TheVariants as fault
@@ -21,8 +22,17 @@ HasNumberIn rows id least most n = HasNumber rows id n × (least ≤ n) × (n �
 abbrev pub HasRunNumbers : List Row → RunOptions → Type 0
 HasRunNumbers rows o = HasNumber rows (codes "steps") o.steps
 
+-- the number of an option that need not be given
+abbrev pub HasOptionalNumber : List Row → Text → Option ℕ → Type 0
+HasOptionalNumber rows id (Some n) = HasNumber rows id n
+HasOptionalNumber rows id None = one_of id rows ≡ None
+
+abbrev pub HasCheckNumbers : List Row → CheckOptions → Type 0
+HasCheckNumbers rows o = HasOptionalNumber rows (codes "heap") o.heap
+
 -- the options are those of this subcommand with these matches
 abbrev pub IsReadFrom : Text → List Row → Options → Type 0
+IsReadFrom name rows (option.Check o) = (name ≡ codes "check") × HasCheckNumbers rows o
 IsReadFrom name rows (option.Run o) = (name ≡ codes "run") × HasRunNumbers rows o
 
 -- the same, where the parse entered a subcommand

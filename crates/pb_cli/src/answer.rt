@@ -3,7 +3,8 @@ ghost use Rattle.std.specs.Prelude.{◌≡◌, IfSome};
 ghost use Rattle.pb_cli.specs.Answers.{Says};
 ghost use Rattle.pb_cli.specs.Calls.{fault_status, fault_text, CallWrites};
 
-use crate::options::{Options, RunOptions, WordsFault};
+use crate::check::check_engine;
+use crate::options::{Options, WordsFault};
 use crate::page::Page;
 use crate::read::options;
 use crate::run::run_engine;
@@ -21,17 +22,9 @@ pub fn answer<I: Input, O: Output>(
     ensures { IfSome (I.rest input.old) (λ bytes. CallWrites words.now bytes (O.written output.old) (O.written output.new) result) }
 {
     match options(alloc, words) {
-        Ok(command) => run_engine(alloc, run_options(command), input, output),
+        Ok(Options::Check(numbers)) => check_engine(alloc, numbers, input, output),
+        Ok(Options::Run(numbers)) => run_engine(alloc, numbers, input, output),
         Err(fault) => refuse(alloc, output, &fault),
-    }
-}
-
-// The numbers of the one command that there is.
-fn run_options(command: Options) -> RunOptions
-    ensures { command ≡ Options.Run result }
-{
-    match command {
-        Options::Run(RunOptions { steps }) => RunOptions { steps },
     }
 }
 

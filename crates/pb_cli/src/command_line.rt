@@ -2,12 +2,21 @@
 ghost use Rattle.std.specs.Prelude.{◌≡◌, IfOk, false};
 ghost use Rattle.clap.specs.Words.{app_of, rule_of, with_rule};
 ghost use Rattle.clap.specs.declared.builder.command.Command.TheViews.{out-Command};
-ghost use Rattle.pb_cli.specs.CommandLine.{number_rule_or, run_command, that_wants_command, IsCommand};
+ghost use Rattle.pb_cli.specs.CommandLine.{check_command, number_rule, number_rule_or, run_command, that_wants_command, IsCommand};
 ghost use Rattle.pb_cli.specs.CommandLine.{command_line as whole, with_command};
 
 use clap::builder::ValueParser;
 use clap::{Arg, Command};
 use std::alloc::{AllocError, Global};
+
+fn number_option<'a>(alloc: Global, name: &'a str, least: u64, most: u64) -> Arg<'a>
+    ensures rule { rule_of result ≡ number_rule name.entry.now least most }
+    ensures own { result.global ≡ false }
+{
+    Arg::new(alloc, name)
+        .long(name)
+        .value_parser(ValueParser::unsigned(least, most))
+}
 
 fn number_option_or<'a>(
     alloc: Global,
@@ -19,10 +28,7 @@ fn number_option_or<'a>(
     ensures rule { rule_of result ≡ number_rule_or name.entry.now least most default.entry.now }
     ensures own { result.global ≡ false }
 {
-    Arg::new(alloc, name)
-        .long(name)
-        .value_parser(ValueParser::unsigned(least, most))
-        .default_value(default)
+    number_option(alloc, name, least, most).default_value(default)
 }
 
 // Adds an argument, which no subcommand inherits.
@@ -43,6 +49,18 @@ fn with_subcommand<'a>(
     ensures { IfOk result (λ c. app_of c ≡ with_command (app_of command.entry) (app_of subcommand.entry)) }
 {
     command.subcommand(subcommand)
+}
+
+#[tactic(auto, unfolding(crate::specs::CommandLine::check_command))]
+fn check_texts<'a>(alloc: Global) -> Result<Command<'a>, AllocError>
+    ensures { IfOk result (IsCommand check_command) }
+{
+    let heap = number_option(alloc, "heap", 1_024, 16_777_216);
+    let heap = heap.help("The bytes of a heap for the trees of each text");
+    let check = Command::new(alloc, "check").about(
+        "Says of each text on standard input whether it is a program",
+    );
+    with_option(check, heap)
 }
 
 #[tactic(auto, unfolding(crate::specs::CommandLine::run_command))]
@@ -67,5 +85,6 @@ pub fn command_line<'a>(alloc: Global) -> Result<Command<'a>, AllocError>
     ensures { IfOk result (λ c. app_of c ≡ whole) }
 {
     let command = wanting_command(Command::new(alloc, "parbegin").bin_name("parbegin")?);
+    let command = with_subcommand(command, check_texts(alloc)?)?;
     with_subcommand(command, run_texts(alloc)?)
 }

@@ -2,9 +2,11 @@
 #![tactic(auto)]
 
 mod answer;
+mod check;
 mod command_line;
 mod options;
 mod page;
+mod parts;
 mod read;
 mod refusal;
 mod run;

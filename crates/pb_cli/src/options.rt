@@ -1,5 +1,14 @@
 //! The words of a call, read.
-ghost use Rattle.std.specs.Prelude.{◌≤◌};
+ghost use Rattle.std.specs.Prelude.{◌≡◌, ◌≤◌, ℕ, Some};
+
+/// The number of `check`.
+#[derive(Clone, Copy, Debug, PartialEq, Eq)]
+pub struct CheckOptions {
+    /// The size of the heap for the trees of each text, in bytes, if they are to lie in one.
+    pub heap: Option<u64>,
+    pub ghost heap_suffices: { (size : ℕ) → heap ≡ Some size → 1024 ≤ size },
+    pub ghost heap_fits: { (size : ℕ) → heap ≡ Some size → size ≤ 16777216 },
+}
 
 /// The numbers of `run`.
 #[derive(Clone, Copy, Debug, PartialEq, Eq)]
@@ -10,8 +19,9 @@ pub struct RunOptions {
 }
 
 /// A command with its numbers.
-#[derive(Clone, Copy)]
+#[derive(Clone, Copy, Debug, PartialEq, Eq)]
 pub enum Options {
+    Check(CheckOptions),
     Run(RunOptions),
 }
 

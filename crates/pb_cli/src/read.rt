@@ -1,12 +1,13 @@
 //! Reads the words of a call.
-ghost use Rattle.std.specs.Prelude.{◌≡◌, IfErr, IfNone, IfOk, IfSome, ℕ};
-ghost use Rattle.clap.specs.Words.{found_of, kind_of, rows_of, subcommand_rows_of};
-ghost use Rattle.pb_cli.specs.Read.{BlamesWords, HasNumberIn, HasRunNumbers, IsReadFromMatches, WordsSay};
+ghost use Rattle.std.specs.Prelude.{◌≡◌, ◌↔◌, IfErr, IfNone, IfOk, IfSome, IsTrue, None, ℕ};
+ghost use Rattle.clap.specs.Words.{found_of, kind_of, one_of, rows_of, subcommand_rows_of};
+ghost use Rattle.pb_cli.specs.Read.{BlamesWords, HasCheckNumbers, HasNumberIn, HasRunNumbers, IsReadFromMatches, WordsSay};
 ghost use Rattle.pb_cli.specs.declared.options.Options.{Options as AnyOptions};
+ghost use Rattle.pb_cli.specs.declared.options.CheckOptions.{CheckOptions as AnyCheckOptions};
 ghost use Rattle.pb_cli.specs.declared.options.RunOptions.{RunOptions as AnyRunOptions};
 
 use crate::command_line::command_line;
-use crate::options::{Options, RunOptions, WordsFault};
+use crate::options::{CheckOptions, Options, RunOptions, WordsFault};
 use clap::error::ErrorKind;
 use clap::{ArgMatches, Error};
 use std::alloc::Global;
@@ -21,6 +22,28 @@ fn number(matches: &ArgMatches<'_>, id: &str, least: u64, most: u64) -> Option<u
         return None;
     }
     Some(number)
+}
+
+// Whether an option was matched with no text.
+fn is_absent(matches: &ArgMatches<'_>, id: &str) -> bool
+    ensures { IsTrue result ↔ (one_of id.now (rows_of (found_of matches.now)) ≡ None) }
+{
+    match matches.try_get_one::<u64>(id) {
+        Ok(None) => true,
+        Ok(Some(_)) => false,
+        Err(_) => false,
+    }
+}
+
+fn check_options(matches: &ArgMatches<'_>) -> Option<CheckOptions>
+    ensures some { IfSome result (HasCheckNumbers (rows_of (found_of matches.now))) }
+    ensures none { IfNone result ((o : AnyCheckOptions) → HasCheckNumbers (rows_of (found_of matches.now)) o → ⊥) }
+{
+    if is_absent(matches, "heap") {
+        return Some(CheckOptions { heap: None });
+    }
+    let size = number(matches, "heap", 1_024, 16_777_216)?;
+    Some(CheckOptions { heap: Some(size) })
 }
 
 fn run_options(matches: &ArgMatches<'_>) -> Option<RunOptions>
@@ -38,6 +61,7 @@ fn read_matches(matches: &ArgMatches<'_>) -> Option<Options>
 {
     let (name, inner) = matches.subcommand()?;
     match name {
+        "check" => Some(Options::Check(check_options(inner)?)),
         "run" => Some(Options::Run(run_options(inner)?)),
         _ => None,
     }
@@ -82,7 +106,7 @@ mod tests {
     fn steps_of(alloc: Global, words: &[&str]) -> Option<u64> {
         match options(alloc, words) {
             Ok(Options::Run(RunOptions { steps })) => Some(steps),
-            Err(_) => None,
+            _ => None,
         }
     }
 
@@ -103,6 +127,18 @@ mod tests {
             steps_of(alloc, &["parbegin", "run", "--steps", "10000000"]),
             Some(10_000_000)
         );
+    }
+
+    #[test]
+    fn reads_check(rt: HostRuntime) -> Result<(), Fail> {
+        let alloc = rt.alloc();
+        let plain = options(alloc, &["parbegin", "check"])?;
+        assert_eq!(rt; plain, Options::Check(CheckOptions { heap: None }));
+        let heap = options(alloc, &["parbegin", "check", "--heap", "1024"])?;
+        assert_eq!(rt; heap, Options::Check(CheckOptions { heap: Some(1_024) }));
+        assert!(rt; options(alloc, &["parbegin", "check", "--heap", "1023"]).is_err());
+        assert!(rt; options(alloc, &["parbegin", "check", "--heap", "16777217"]).is_err());
+        Ok(())
     }
 
     #[test]

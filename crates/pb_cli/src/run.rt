@@ -75,6 +75,7 @@ fn refuse<O: Output>(alloc: Global, fault: &CompileFault, output: &mut O) -> Sta
 mod tests {
     use super::*;
     use pb_base::device::{MemoryInput, MemoryOutput};
+    use pb_code::Instr;
     use std::process::Abort;
     use std::test::Fail;
 
@@ -125,6 +126,36 @@ mod tests {
             Status::Fault,
             b"edges.0 print -9223372036854775808\nedges.0 print 0\nedges.0 print -3\nedges.0 print -1\nedges.0 print 1\nedges.0 fault overflow\ndone\n",
         )
+    }
+
+    #[test]
+    fn compiles_to_code_with_lines(rt: HostRuntime) -> Result<(), Fail> {
+        let alloc = rt.alloc();
+        let text = b"process p begin integer x;\nx := 7;\nprint x mod -2 end";
+        let Ok(compiled) = compile(alloc, alloc, text.as_slice()) else {
+            panic!(rt; "the text was refused");
+        };
+        let Some(process) = compiled.verified().code().processes.first() else {
+            panic!(rt; "the process is not there");
+        };
+        let instrs = [
+            Instr::Push(7),
+            Instr::Store(0),
+            Instr::Load(0),
+            Instr::Push(2),
+            Instr::Neg,
+            Instr::Mod,
+            Instr::Print,
+            Instr::End,
+        ];
+        assert_eq!(rt; process.instrs.as_slice(), instrs.as_slice());
+        let Some(labels) = compiled.labels().processes.first() else {
+            panic!(rt; "the labels are not there");
+        };
+        let [two, three] = [Some(2), Some(3)];
+        let lines = [two, two, three, three, three, three, three, None];
+        assert_eq!(rt; labels.lines.as_slice(), lines.as_slice());
+        Ok(())
     }
 
     #[test]

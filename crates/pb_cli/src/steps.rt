@@ -119,6 +119,7 @@ fn tell_limit<O: Output>(mut page: Page, output: &mut O, steps: u64) -> Status
 }
 
 // Says the last line of a run that stands here.
+#[tactic(auto, using(crate::specs::Steps::all_done, crate::specs::Steps::some_fault, crate::specs::Steps::used_up))]
 fn tell_end<O: Output>(page: Page, output: &mut O, machine: &Machine, steps: u64) -> Status
     ensures text { Tells (SaysOfEnd (machine_view machine.now) steps page) (O.written output.old) (O.written output.new) result }
     ensures fault { result ≡ Status.Device → O.failures output.new ≡ one_more_failure (O.failures output.old) }

@@ -1,13 +1,18 @@
 use Rattle.std.proofs.Common.{inl, subst}
-use Rattle.pb_cli.specs.declared.options.Options.TheVariants.{Run}
+use Rattle.pb_cli.specs.declared.options.Options.TheVariants.{Check, Run}
 use Rattle.pb_cli.specs.Read.{WordsSay}
 use Rattle.pb_cli.proofs.AnswerLemmas.{CallWrites-refused, IfSome-of, IfSome-weaker}
 use Rattle.pb_cli.proofs.answer.answer.Goals as goal
 
-pub returns-in-Ok : goal.returns-in-Ok
-returns-in-Ok g c =
-    let read = subst (WordsSay c.args.words.now) c.run_options.ensures c.in-Ok.ensures.read in
-    IfSome-weaker (g.I.Input.rest c.args.input.now) _ _ (λ bytes writes. inl (Run c.run_options.result, read, writes)) c.run_engine.ensures.text
+pub returns-in-Ok-Check : goal.returns-in-Ok-Check
+returns-in-Ok-Check g c =
+    let read = subst (WordsSay c.args.words.now) c.in-Ok-Check.field-0-is c.in-Ok-Check.ensures.read in
+    IfSome-weaker (g.I.Input.rest c.args.input.now) _ _ (λ bytes writes. inl (Check c.in-Ok-Check.numbers, read, writes)) c.check_engine.ensures.text
+
+pub returns-in-Ok-Run : goal.returns-in-Ok-Run
+returns-in-Ok-Run g c =
+    let read = subst (WordsSay c.args.words.now) c.in-Ok-Run.field-0-is c.in-Ok-Run.ensures.read in
+    IfSome-weaker (g.I.Input.rest c.args.input.now) _ _ (λ bytes writes. inl (Run c.in-Ok-Run.numbers, read, writes)) c.run_engine.ensures.text
 
 pub returns-in-Err : goal.returns-in-Err
 returns-in-Err g c =

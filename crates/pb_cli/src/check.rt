@@ -1,0 +1,239 @@
+//! The command `check`, over any input and output.
+ghost use Rattle.std.specs.Prelude.{◌≡◌, ◌≢◌, ◌≤◌, ◌⊎◌, ℕ, List, IfErr, IfSome, OnOk, Some};
+ghost use Rattle.pb_base.specs.Device.{one_more_failure};
+ghost use Rattle.pb_codegen.specs.Compiled.{IsRefused};
+ghost use Rattle.pb_cli.specs.Answers.{Tells};
+ghost use Rattle.pb_cli.specs.Checks.{IsProgramText, SaysOfChecks, TellsAnswer, check_status};
+
+use crate::options::CheckOptions;
+use crate::page::Page;
+use crate::parts::first_part;
+use crate::refusal::refusal_text;
+use crate::status::Status;
+use bumpalo::Bump;
+use linked_list_allocator::LocalHeap;
+use pb_base::device::{Input, Output, ReadFault, read_whole};
+use pb_codegen::CompileFault;
+use pb_lexer::lex;
+use pb_parser::parse;
+use std::alloc::{Allocator, Global};
+
+// The greatest length of an input, in bytes.
+const LONGEST_INPUT: usize = 4_194_304;
+
+// What came of telling the answer to one text.
+#[derive(Clone, Copy)]
+enum Told {
+    // It was told, and the text was refused or not.
+    Answered(bool),
+    // There is no memory to look at the text, or for its line.
+    OutOfMemory,
+    // A write failed.
+    Broken,
+}
+
+// Looks at one text, whose trees lie in the memory of `trees`.
+fn look<A: Allocator + Clone>(alloc: Global, trees: A, text: &[u8]) -> Result<(), CompileFault>
+    ensures accepted { OnOk result (IsProgramText text.now) }
+    ensures refused { IfErr result (λ fault. IsRefused text.now fault) }
+{
+    let tokens = lex(alloc, text)?;
+    parse(trees, tokens.as_slice())?;
+    Ok(())
+}
+
+// Looks at one text, whose trees lie in a new heap of this size, or else in the arena, which is given up afterwards.
+fn look_within(
+    alloc: Global,
+    heap: Option<u64>,
+    arena: &mut Bump,
+    text: &[u8],
+) -> Result<(), CompileFault>
+    ensures accepted { OnOk result (IsProgramText text.now) }
+    ensures refused { IfErr result (λ fault. IsRefused text.now fault) }
+{
+    if let Some(size) = heap {
+        let heap = LocalHeap::new(alloc, size as usize)?;
+        return look(alloc, &heap, text);
+    }
+    let answer = look(alloc, &*arena, text);
+    if arena.reset().is_err() {
+        *arena = Bump::new(alloc);
+    }
+    answer
+}
+
+// Says the line of a refusal.
+fn tell_refusal<O: Output>(
+    alloc: Global,
+    fault: &CompileFault,
+    page: &mut Page,
+    output: &mut O,
+) -> Told
+    ensures told { (text : List ℕ) → (fault.now ≡ CompileFault.Memory → ⊥) → IsRefused text fault.now → TellsAnswer text
+        (record { written = O.written output.old; page = page.old }) (record { written = O.written output.new; page = page.new }) result }
+    ensures counted { result ≢ Told.Broken → O.failures output.new ≡ O.failures output.old }
+    ensures fault { result ≡ Told.Broken → O.failures output.new ≡ one_more_failure (O.failures output.old) }
+{
+    let Ok(text) = refusal_text(alloc, fault) else {
+        return Told::OutOfMemory;
+    };
+    match page.say_line(output, text.as_slice()) {
+        Ok(()) => Told::Answered(true),
+        Err(_) => Told::Broken,
+    }
+}
+
+// Says the answer to one text.
+fn tell_answer<O: Output>(
+    alloc: Global,
+    text: &[u8],
+    answer: Result<(), CompileFault>,
+    page: &mut Page,
+    output: &mut O,
+) -> Told
+    requires accepted { OnOk answer (IsProgramText text.now) }
+    requires refused { IfErr answer (λ fault. IsRefused text.now fault) }
+    ensures told { TellsAnswer text.now
+        (record { written = O.written output.old; page = page.old }) (record { written = O.written output.new; page = page.new }) result }
+    ensures counted { result ≢ Told.Broken → O.failures output.new ≡ O.failures output.old }
+    ensures fault { result ≡ Told.Broken → O.failures output.new ≡ one_more_failure (O.failures output.old) }
+{
+    let Err(fault) = answer else {
+        return match page.say_line(output, b"ok") {
+            Ok(()) => Told::Answered(false),
+            Err(_) => Told::Broken,
+        };
+    };
+    if let CompileFault::Memory = fault {
+        return Told::OutOfMemory;
+    }
+    tell_refusal(alloc, &fault, page, output)
+}
+
+// The status of a call that came to its end.
+fn status_of(refused: bool) -> Status
+    ensures { result ≡ check_status refused }
+{
+    if refused {
+        Status::Refused
+    } else {
+        Status::Done
+    }
+}
+
+// Answers each part of the input in turn.
+fn check_parts<O: Output>(alloc: Global, heap: Option<u64>, bytes: &[u8], output: &mut O) -> Status
+    ensures text { Tells (SaysOfChecks bytes.now) (O.written output.old) (O.written output.new) result }
+    ensures fault { result ≡ Status.Device → O.failures output.new ≡ one_more_failure (O.failures output.old) }
+{
+    let mut page = Page::new(alloc);
+    let mut arena = Bump::new(alloc);
+    let mut refused = false;
+    let mut rest = bytes;
+    loop {
+        let cut = first_part(rest);
+        let answer = look_within(alloc, heap, &mut arena, cut.part);
+        match tell_answer(alloc, cut.part, answer, &mut page, output) {
+            Told::Answered(is_refusal) => refused |= is_refusal,
+            Told::OutOfMemory => return page.finish_with(output, b"memory", Status::Memory),
+            Told::Broken => return Status::Device,
+        }
+        let Some(more) = cut.rest else {
+            return page.finish(output, status_of(refused));
+        };
+        rest = more;
+    }
+}
+
+/// Checks the texts that the input holds, which lines `%%` part: writes `ok` for a text that is a program, and its
+/// refusal line for one that is not.
+///
+/// The trees of a text lie in an arena that is given up behind it, or in a new heap of the size that is given. After a
+/// read that failed nothing is written; after a write that failed, a first part of what was being said.
+pub fn check_engine<I: Input, O: Output>(
+    alloc: Global,
+    options: CheckOptions,
+    input: &mut I,
+    output: &mut O,
+) -> Status
+    ensures text { IfSome (I.rest input.old) (λ bytes.
+        Tells (SaysOfChecks bytes) (O.written output.old) (O.written output.new) result) }
+    ensures fault { result ≡ Status.Device
+        → ((I.failures input.new ≡ one_more_failure (I.failures input.old)) × (O.written output.new ≡ O.written output.old))
+        ⊎ (O.failures output.new ≡ one_more_failure (O.failures output.old)) }
+{
+    match read_whole(alloc, input, LONGEST_INPUT) {
+        Ok(bytes) => check_parts(alloc, options.heap, bytes.as_slice(), output),
+        Err(ReadFault::Device) => Status::Device,
+        Err(ReadFault::TooLong) => {
+            Page::new(alloc).finish_with(output, b"refused input", Status::Refused)
+        }
+        Err(ReadFault::Memory) => Page::new(alloc).finish_with(output, b"memory", Status::Memory),
+    }
+}
+
+#[cfg(test)]
+mod tests {
+    use super::*;
+    use pb_base::device::{MemoryInput, MemoryOutput};
+    use std::process::Abort;
+    use std::test::Fail;
+
+    fn check(
+        rt: &(impl Abort + AllocGlobal),
+        heap: Option<u64>,
+        text: &[u8],
+        status: Status,
+        said: &[u8],
+    ) -> Result<(), Fail>
+        requires suffices { (size : ℕ) → heap ≡ Some size → 1024 ≤ size }
+        requires fits { (size : ℕ) → heap ≡ Some size → size ≤ 16777216 }
+    {
+        let alloc = rt.alloc();
+        let mut input = MemoryInput::new(text);
+        let mut output = MemoryOutput::new(alloc, 256)?;
+        let answered = check_engine(alloc, CheckOptions { heap }, &mut input, &mut output);
+        assert_eq!(rt; answered, status);
+        assert_eq!(rt; output.as_slice(), said);
+        Ok(())
+    }
+
+    #[test]
+    fn answers_each_part(rt: HostRuntime) -> Result<(), Fail> {
+        let one = b"process p begin print 1 end";
+        check(&rt, None, one, Status::Done, b"ok\n")?;
+        check(
+            &rt,
+            None,
+            b"process p begin print 1 end\n%%\n",
+            Status::Refused,
+            b"ok\nrefused P1 at 0\n",
+        )?;
+        check(
+            &rt,
+            Some(1_024),
+            b"%%\nprocess p begin skip end\n%%\r\n%%\nprocess p begin while 1 do skip od end%%",
+            Status::Refused,
+            b"refused P1 at 0\nrefused L2 at 25\nrefused L2 at 38\n",
+        )
+    }
+
+    #[test]
+    fn a_heap_may_be_too_small(rt: HostRuntime) -> Result<(), Fail> {
+        let alloc = rt.alloc();
+        let mut text = Vec::from_slice(alloc, b"process p begin print 1")?;
+        for _ in 1..1_000 {
+            text.extend_from_slice(b"; print 1")?;
+        }
+        text.extend_from_slice(b" end")?;
+        check(
+            &rt,
+            Some(1_024),
+            text.as_slice(),
+            Status::Memory,
+            b"memory\n",
+        )?;
+        check(&rt, Some(1_048_576), text.as_slice(), Status::Done, b"ok\n")
+    }
+}
