@@ -26,9 +26,10 @@ pub fn decide(
     ensures state { state_of accounts.new ≡ state_after (state_of accounts.old) p bundle.now result }
     ensures sound { IsSound accounts.new }
     ensures finishes { Finishes (state_of accounts.new) (take accounts.new.processes order.new) }
-    ensures kept_order { KeepsOrder (state_of accounts.old) p bundle.now (take accounts.old.processes order.old) result
-        (take accounts.new.processes order.new) }
-    ensures looked { Looked (state_of accounts.old) p bundle.now (take accounts.old.processes order.old) looked.new }
+    ensures kept_order { KeepsOrder (state_of accounts.old) p bundle.now
+        (take accounts.old.processes order.old) result (take accounts.new.processes order.new) }
+    ensures looked { Looked (state_of accounts.old) p bundle.now
+        (take accounts.old.processes order.old) looked.new }
 {
     *looked = 0;
     if !accounts.is_within_claim(p, bundle) {
