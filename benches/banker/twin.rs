@@ -1,5 +1,6 @@
 //! The banker of pb_banker in plain Rust: the same tables, the same search, with no proof.
 //! Takes the kind of request, the numbers of processes and resources and how often to ask, and says how long it took.
+//! Its inner calls are inlined by force: without that rustc leaves them as calls, and they take twice as long.
 use std::hint::black_box;
 use std::time::Instant;
 
@@ -75,6 +76,7 @@ impl Banker {
         banker
     }
 
+    #[inline(always)]
     fn fits(&self, p: usize, available: &Row) -> bool {
         let claims = &self.claims[p];
         let loans = &self.loans[p];
@@ -86,6 +88,7 @@ impl Banker {
         true
     }
 
+    #[inline(always)]
     fn return_loans(&self, p: usize, available: &mut Row) {
         let loans = &self.loans[p];
         for r in 0..self.resources {
@@ -93,6 +96,7 @@ impl Banker {
         }
     }
 
+    #[inline(always)]
     fn first_fitting(&self, waiting: &[bool; MAX_PROCESSES], available: &Row, looked: &mut u32) -> Option<usize> {
         for p in 0..self.processes {
             if waiting[p] {
