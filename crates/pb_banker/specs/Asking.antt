@@ -25,9 +25,10 @@ pub record KeepsOrder (s : BankerState) (p : ℕ) (pairs : List Pair) (kept_orde
   pub kept : Finishes (with_loan s p pairs) kept_order → next ≡ kept_order
   pub found : answer ≡ Granted → ¬ Finishes (with_loan s p pairs) kept_order → IsLeastFirst (with_loan s p pairs) next
 
--- how many processes were compared with what is available: none where claim or cash refuse, each at most once
--- where the kept order still finishes, and P + P (P + 1) / 2 of P processes at most
+-- how many processes were compared with what is available: none where claim or cash refuse, each once where else
+-- the kept order still finishes, and P + P (P + 1) / 2 of P processes at most
 pub record Looked (s : BankerState) (p : ℕ) (pairs : List Pair) (kept_order : List ℕ) (looked : ℕ) : Type 0 where
   pub refused_first : ¬ (IsWithinClaim s p pairs × IsWithinCash s pairs) → looked ≡ 0
   pub kept : Finishes (with_loan s p pairs) kept_order → looked ≤ processes s
+  pub walked : IsWithinClaim s p pairs → IsWithinCash s pairs → Finishes (with_loan s p pairs) kept_order → looked ≡ processes s
   pub most : 2 * looked ≤ 2 * processes s + processes s * (processes s + 1)
