@@ -49,7 +49,6 @@ fn all_pairs_or_none(rt: HostRuntime) -> Result<(), Fail> {
     let capital = Capital::new(rt.alloc(), &[1, 2])?;
     let claims = Claims::new(rt.alloc(), &[&[1, 2], &[1, 2]])?;
     let mut banker = Banker::new(rt.alloc(), &capital, &claims)?;
-    let fresh = banker.copy(rt.alloc())?;
     let mut both = Bundle::one(0, 1);
     both.push(Pair {
         resource: 1,
@@ -59,9 +58,19 @@ fn all_pairs_or_none(rt: HostRuntime) -> Result<(), Fail> {
     assert_eq!(rt; banker.ask(1, &both), Answer::NotNow);
     assert_eq!(rt; banker.loan(1, 0), 0);
     assert_eq!(rt; banker.cash(0), 1);
+    Ok(())
+}
+
+#[test]
+fn given_back(rt: HostRuntime) -> Result<(), Fail> {
+    let capital = Capital::new(rt.alloc(), &[1, 2])?;
+    let claims = Claims::new(rt.alloc(), &[&[1, 2], &[1, 2]])?;
+    let mut banker = Banker::new(rt.alloc(), &capital, &claims)?;
+    let fresh = banker.copy(rt.alloc())?;
+    assert_eq!(rt; banker.ask(0, &Bundle::one(1, 2)), Answer::Granted);
+    assert_eq!(rt; banker.cash(1), 0);
     banker.give(0, &Bundle::one(1, 1));
-    assert_eq!(rt; banker.ask(1, &both), Answer::Granted);
-    assert_eq!(rt; banker.loan(1, 1), 2);
+    assert_eq!(rt; banker.loan(0, 1), 1);
     assert_eq!(rt; fresh.cash(1), 2);
     assert_eq!(rt; fresh.claim(1, 1), 2);
     assert_eq!(rt; fresh.processes(), 2);
