@@ -17,17 +17,24 @@ use crate::answer::answer;
 use crate::page::Page;
 use crate::status::Status;
 use pb_base::device::{StandardInput, StandardOutput};
+use std::alloc::AllocError;
 use std::env;
+use std::io::ErrorKind;
 use std::process::ExitCode;
 
 fn start(rt: &HostRuntime) -> Status {
     let alloc = rt.alloc();
     let mut input = StandardInput::new(rt.stdin());
     let mut output = StandardOutput::new(rt.stdout());
-    let Ok(words) = env::args(rt) else {
-        return Status::Words;
+    let words = match env::args(rt) {
+        Ok(words) => words.collect::<Vec<String>>(alloc),
+        Err(error) if error.kind() == ErrorKind::OutOfMemory => Err(AllocError),
+        Err(_) => {
+            let text = b"error: the words of the call are no UTF-8";
+            return Page::new(alloc).finish_with(&mut output, text, Status::Words);
+        }
     };
-    let Ok(words) = words.collect::<Vec<String>>(alloc) else {
+    let Ok(words) = words else {
         return Page::new(alloc).finish_with(&mut output, b"memory", Status::Memory);
     };
     let texts = words.iter().map(|word| word.as_str());
