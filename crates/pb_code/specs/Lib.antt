@@ -1,6 +1,13 @@
 pub mod Annotation
 pub mod Code
+pub mod Instructions
+pub mod Lines
+pub mod Objects
+pub mod Ranges
 pub mod Reached
+pub mod Reading
+pub mod Rows
 pub mod Verified
 pub mod View
 pub mod Whole
+pub mod Words

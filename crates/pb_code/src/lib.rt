@@ -1,12 +1,21 @@
-//! Code: the instructions of a program, and the definitions of what they do.
+//! Code: the instructions of a program, the definitions of what they do, and the text of objects.
 #![tactic(auto)]
 
 pub mod code;
+pub mod fault;
+mod format;
 pub mod instr;
+mod instr_reader;
 pub mod labels;
+mod line_reader;
+mod place_reader;
+mod reader;
+mod rows;
 pub mod verified;
+mod words;
 
 pub use code::{Code, ProcessCode};
+pub use fault::ObjectFault;
 pub use instr::Instr;
 pub use labels::{Labels, ProcessLabels};
 pub use verified::Verified;

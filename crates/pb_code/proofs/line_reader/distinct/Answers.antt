@@ -1,0 +1,31 @@
+use Rattle.std.proofs.Common.{◌≡◌, ◌∙◌, ◌+◌, ◌++◌, ◌∷◌, [], sym, ap, map, take, drop, get_or, refl, Bool, true, false, cond, List, Option, Some, None, length}
+use Rattle.std.proofs.lemmas.List.{map_push, take_more, take_all}
+
+use Rattle.pb_code.specs.Words.{Word, is_among}
+use Rattle.pb_code.proofs.Turns.{from_here, from_end, not_new, new_one, none_new}
+use Rattle.pb_code.proofs.line_reader.distinct.Goals as goal
+
+abbrev given : List Word → Bool → Option (List Word)
+given words b = cond b (Some words) None
+
+pub returns-then-has_name : goal.returns-then-has_name
+returns-then-has_name c =
+    let old = sym c.has_name.ensures ∙ c.if-has_name.true in
+    let no = c.loop-word.invariant.same
+        ∙ not_new _ _ _ _ (from_here (λ w. w.now) c.args.words.now c.loop-word.word-index _ c.loop-word-test.true) (rw c.deref.ensures.value at old) in
+    sym (ap (given (map (λ w. w.now) c.args.words.now)) no)
+
+pub loop-word-preserved : goal.loop-word-preserved
+loop-word-preserved c =
+    let new = sym c.has_name.ensures ∙ c.if-has_name.false in
+    let next = c.loop-word.invariant.same
+        ∙ new_one _ _ _ _ (from_here (λ w. w.now) c.args.words.now c.loop-word.word-index _ c.loop-word-test.true) (rw c.deref.ensures.value at new) in
+    let h = c.in_ok-to_vec in
+    ?
+
+pub returns : goal.returns
+returns c =
+    let yes = c.loop-word.invariant.same ∙ none_new _ _ (from_end (λ w. w.now) c.args.words.now c.loop-word.word-index c.loop-word-test.false) in
+    let all : map (λ n. n.items) c.loop-word.names.items ≡ map (λ w. w.now) c.args.words.now =
+        c.loop-word.invariant.copied ∙ ap (map (λ w. w.now)) (take_all c.loop-word.word-index c.args.words.now c.loop-word-test.false) in
+    ap (λ (l : List Word). Some l) all ∙ sym (ap (given (map (λ w. w.now) c.args.words.now)) yes)
