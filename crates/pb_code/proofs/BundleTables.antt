@@ -1,6 +1,6 @@
 -- Instructions that name bundles, while more bundles come behind.
 use Rattle.std.proofs.Common.{◌≡◌, ℕ, zero, suc, ◌+◌, ◌<◌, ◌≤◌, List, [], ◌∷◌, ◌++◌, length, get_or, map, refl, sym, ap, subst, ◌∙◌, arith, All}
-use Rattle.std.proofs.lemmas.List.{length-append}
+use Rattle.std.proofs.lemmas.List.{length-append, get_or_append_left}
 use Rattle.std.proofs.lemmas.List.Elements.{All-push}
 use Rattle.pb_base.specs.declared.pair.Pair.{Pair}
 use Rattle.pb_code.specs.declared.instr.Instr.{Instr as Given}
@@ -10,7 +10,7 @@ use Rattle.pb_code.specs.View.{instr_view}
 use Rattle.pb_code.specs.Rows.{IsPlain, NamesBelow, Extends}
 
 get_before : (xs more : List (List Pair)) (k : ℕ) → k < length xs → get_or (xs ++ more) k [] ≡ get_or xs k []
-get_before xs more k lt = ?
+get_before xs more k lt = get_or_append_left xs more [] k lt
 
 -- a plain instruction is the same with any bundles
 pub plain_same : (xs ys : List (List Pair)) (i : Given) → IsPlain i → instr_view xs i ≡ instr_view ys i

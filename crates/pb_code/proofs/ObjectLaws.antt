@@ -56,6 +56,10 @@ name_part earlier = line_is (process_name (map (λ p. p.name) earlier)) process_
 pub integers_part : (format : Format) → IsPart (line (integers format)) (λ names. line_text (integers_words format names)) (AreIntegers format)
 integers_part format = line_is (integers format) (integers_words format) (AreIntegers format) (integers_is format)
 
+pub few_integers : (format : Format) (names : List Word) → AreIntegers format names → length names ≤ 64
+few_integers One names good = good.1
+few_integers Two names good = good.2
+
 claims_part : (m : ℕ) → IsPart (line (claims m)) (λ ns. line_text (claims_words ns)) (AreClaims m)
 claims_part m = line_is (claims m) claims_words (AreClaims m) (claims_is m)
 

@@ -1,6 +1,6 @@
 -- One turn of a loop over words.
 use Rattle.std.proofs.Common.{◌≡◌, ℕ, zero, suc, ◌+◌, ◌<◌, ◌≤◌, Bool, true, false, cond, not, ◌&&◌, List, [], ◌∷◌, ◌++◌, length, get_or, take, drop, map, refl, sym, ap, ◌∙◌, arith, Option, Some, None}
-use Rattle.std.proofs.lemmas.List.{drop_more, append-nil}
+use Rattle.std.proofs.lemmas.List.{drop_more, take_more, map_push, append-nil}
 use Rattle.std.proofs.Math.ListN.{drop_of_length-le}
 use Rattle.pb_code.specs.declared.words.Verdict.{Verdict}
 use Rattle.pb_code.specs.declared.words.Verdict.TheVariants.{Malformed, Beyond, Read}
@@ -13,6 +13,10 @@ from_here f xs i d lt = ap (map f) (drop_more xs i d lt)
 
 pub from_end : {A : Type 0} (f : A → Word) (xs : List A) (i : ℕ) → length xs ≤ i → map f (drop i xs) ≡ []
 from_end f xs i le = ap (map f) (drop_of_length-le xs le)
+
+-- the words up to the next one are those up to here and this one
+pub up_to_here : {A : Type 0} (f : A → Word) (xs : List A) (i : ℕ) (d : A) → i < length xs → map f (take (i + 1) xs) ≡ map f (take i xs) ++ f (get_or xs i d) ∷ []
+up_to_here f xs i d lt = ap (map f) (take_more xs i d lt) ∙ map_push f (take i xs) (get_or xs i d)
 
 -- ---- numbers
 

@@ -14,7 +14,7 @@ use crate::fault::{Fault, ReadError};
 use crate::format::Format;
 use crate::instr_reader::alone;
 use crate::rows::{ProcessRow, ResourceRow};
-use crate::words::{Verdict, is, is_name, is_numeral, judge, number, same, saturated, words_of};
+use crate::words::{Verdict, copy_of, is, is_name, is_numeral, judge, number, same, saturated, words_of};
 use itoa::Buffer;
 use std::alloc::{AllocError, Global};
 
@@ -102,7 +102,7 @@ fn resource(
                 Verdict::Malformed => Ok(Verdict::Malformed),
                 Verdict::Beyond => Ok(Verdict::Beyond),
                 Verdict::Read(capital) => {
-                    let name = name.to_vec(alloc)?;
+                    let name = copy_of(alloc, name)?;
                     Ok(Verdict::Read(ResourceRow {
                         name,
                         capital: capital as u32,
@@ -166,7 +166,7 @@ pub(crate) fn name_at<'t>(
     let (words, rest) = words_of(alloc, text)?;
     match process_name(earlier, &words) {
         None => Err(ReadError::Fault(Fault::Malformed(text.len()))),
-        Some(name) => Ok((name.to_vec(alloc)?, rest)),
+        Some(name) => Ok((copy_of(alloc, name)?, rest)),
     }
 }
 
@@ -223,7 +223,7 @@ fn distinct(alloc: Global, words: &[&[u8]]) -> Result<Option<Vec<Vec<u8>>>, Allo
         if has_name(&names, word) {
             return Ok(None);
         }
-        names.push(word.to_vec(alloc)?)?;
+        names.push(copy_of(alloc, word)?)?;
     }
     Ok(Some(names))
 }

@@ -66,6 +66,13 @@ pub(crate) fn is(word: &[u8], text: &str) -> bool
     word == text.as_bytes()
 }
 
+/// A copy of the word.
+pub(crate) fn copy_of(alloc: Global, word: &[u8]) -> Result<Vec<u8>, AllocError>
+    ensures { IfOk result (λ copy. copy.items ≡ word.now) }
+{
+    word.to_vec(alloc)
+}
+
 /// Whether two words are the same.
 pub(crate) fn same(a: &[u8], b: &[u8]) -> bool
     ensures { result ≡ bytes_eq a.now b.now }

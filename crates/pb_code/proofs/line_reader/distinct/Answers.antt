@@ -1,8 +1,8 @@
 use Rattle.std.proofs.Common.{◌≡◌, ◌∙◌, ◌+◌, ◌++◌, ◌∷◌, [], sym, ap, map, take, drop, get_or, refl, Bool, true, false, cond, List, Option, Some, None, length}
-use Rattle.std.proofs.lemmas.List.{map_push, take_more, take_all}
+use Rattle.std.proofs.lemmas.List.{map_push, take_all}
 
 use Rattle.pb_code.specs.Words.{Word, is_among}
-use Rattle.pb_code.proofs.Turns.{from_here, from_end, not_new, new_one, none_new}
+use Rattle.pb_code.proofs.Turns.{from_here, from_end, up_to_here, not_new, new_one, none_new}
 use Rattle.pb_code.proofs.line_reader.distinct.Goals as goal
 
 abbrev given : List Word → Bool → Option (List Word)
@@ -20,8 +20,17 @@ loop-word-preserved c =
     let new = sym c.has_name.ensures ∙ c.if-has_name.false in
     let next = c.loop-word.invariant.same
         ∙ new_one _ _ _ _ (from_here (λ w. w.now) c.args.words.now c.loop-word.word-index _ c.loop-word-test.true) (rw c.deref.ensures.value at new) in
-    let h = c.in_ok-to_vec in
-    ?
+    let word = c.in_ok-copy_of.ensures in
+    let pushed : map (λ n. n.items) c.push.new.self.items ≡ map (λ n. n.items) c.loop-word.names.items ++ c.in_ok-copy_of.field-0.items ∷ [] =
+        rw c.in_ok-push.ensures.items (map_push _ c.loop-word.names.items c.in_ok-copy_of.field-0) in
+    record {
+      same = rw (pushed, word) next;
+      copied =
+        pushed
+        ∙ ap (λ (l : List Word). l ++ c.in_ok-copy_of.field-0.items ∷ []) c.loop-word.invariant.copied
+        ∙ ap (λ (w : Word). map (λ w. w.now) (take c.loop-word.word-index c.args.words.now) ++ w ∷ []) word
+        ∙ sym (up_to_here (λ w. w.now) c.args.words.now c.loop-word.word-index _ c.loop-word-test.true);
+    }
 
 pub returns : goal.returns
 returns c =
