@@ -1,4 +1,5 @@
 pub mod Annotation
+pub mod Answers
 pub mod Code
 pub mod Instructions
 pub mod Lines

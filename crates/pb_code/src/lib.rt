@@ -1,6 +1,7 @@
 //! Code: the instructions of a program, the definitions of what they do, and the text of objects.
 #![tactic(auto)]
 
+mod assemble;
 pub mod code;
 pub mod fault;
 mod format;
@@ -8,6 +9,7 @@ pub mod instr;
 mod instr_reader;
 pub mod labels;
 mod line_reader;
+pub mod object;
 mod place_reader;
 mod reader;
 mod rows;
@@ -18,4 +20,5 @@ pub use code::{Code, ProcessCode};
 pub use fault::ObjectFault;
 pub use instr::Instr;
 pub use labels::{Labels, ProcessLabels};
+pub use object::{read_any, read_object};
 pub use verified::Verified;
