@@ -155,7 +155,7 @@ small_processes : (f : Format) → most_processes f < 2 ^ 64
 small_processes One = omega arith
 small_processes Two = omega arith
 
-format_part : IsPart (line heading) (λ f. line_text (codes "PBO" ∷ digit_of f ∷ [])) (λ f. Unit {0})
+pub format_part : IsPart (line heading) (λ f. line_text (codes "PBO" ∷ digit_of f ∷ [])) (λ f. Unit {0})
 format_part = line_is heading (λ f. codes "PBO" ∷ digit_of f ∷ []) (λ f. Unit {0}) heading_is
 
 object_takes : (bytes : List ℕ) (o : Object) (rest : List ℕ) → object_at bytes ≡ Ok (o, rest) → (bytes ≡ spelling o ++ rest) × IsObject o
