@@ -8,6 +8,7 @@ mod format;
 pub mod instr;
 mod instr_reader;
 pub mod labels;
+pub mod laws;
 mod line_reader;
 pub mod object;
 mod place_reader;
