@@ -14,6 +14,8 @@ pub mod object;
 mod place_reader;
 mod reader;
 mod rows;
+#[cfg(test)]
+mod tests;
 pub mod verified;
 mod words;
 
