@@ -7,6 +7,7 @@ pub mod fault;
 mod format;
 pub mod instr;
 mod instr_reader;
+mod instr_writer;
 pub mod labels;
 pub mod laws;
 mod line_reader;
@@ -18,6 +19,7 @@ mod rows;
 mod tests;
 pub mod verified;
 mod words;
+mod writer;
 
 pub use code::{Code, ProcessCode};
 pub use fault::ObjectFault;
