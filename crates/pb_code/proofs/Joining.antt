@@ -1,13 +1,17 @@
 -- Words with single spaces between them, one word more at the end.
-use Rattle.std.proofs.Common.{◌≡◌, ℕ, suc, ◌+◌, ◌<◌, List, [], ◌∷◌, ◌++◌, length, take, get_or, refl, sym, ap, ◌∙◌, append_assoc, codes}
+use Rattle.std.proofs.Common.{◌≡◌, ℕ, suc, ◌+◌, ◌<◌, List, [], ◌∷◌, ◌++◌, length, take, get_or, map, refl, sym, ap, ◌∙◌, append_assoc, codes, arith}
 use Rattle.std.specs.Fmt.{decimal, signed_decimal}
-use Rattle.std.specs.List.{join_with_byte}
-use Rattle.std.proofs.lemmas.List.{take_more}
+use Rattle.std.specs.List.{join_with_byte, flat_map}
+use Rattle.std.proofs.lemmas.List.{take_more, map_push, length-map, length-take-le, append-nil}
+use Rattle.std.proofs.lemmas.List.Concat.{flat_map-cons}
 use Rattle.pb_base.specs.declared.pair.Pair.{Pair}
 use Rattle.pb_base.specs.declared.operators.UnaryOp.TheVariants as unary
 use Rattle.pb_base.specs.declared.operators.BinaryOp.TheVariants as binary
 use Rattle.pb_code.specs.Code.{Instr, Push, Load, Store, Compute1, Compute2, Jump, JumpIfZero, PrintTop, Take, Give, Fork, Join, End}
+use Rattle.pb_code.specs.Rows.{side_by_side}
 use Rattle.pb_code.specs.Words.{Word}
+use Rattle.pb_code.proofs.Sides.{side_push}
+use Rattle.pb_code.proofs.Turns.{up_to_here}
 use Rattle.pb_code.specs.Instructions.{pair_words, instr_words}
 
 pub join_push : (k : Word) (ws : List Word) (w : Word) → join_with_byte 32 (k ∷ (ws ++ w ∷ [])) ≡ join_with_byte 32 (k ∷ ws) ++ 32 ∷ w
@@ -72,3 +76,36 @@ more_pairs old so_far new k ps i p lt is e f =
     f ∙ ap (λ (t : List ℕ). (t ++ (32 ∷ decimal p.resource)) ++ 32 ∷ decimal p.amount) e
     ∙ regroup old (join_with_byte 32 (k ∷ pair_words (take i ps))) (32 ∷ decimal p.resource) (32 ∷ decimal p.amount)
     ∙ ap (λ (t : List ℕ). old ++ t) (sym (joined ∙ here))
+
+-- the bytes so far and one word more
+pub more_mapped : {A : Type 0} (f : A → Word) (old so_far new : List ℕ) (k : Word) (front : List Word) (xs : List A) (i : ℕ) (d : A) → i < length xs
+    → so_far ≡ old ++ join_with_byte 32 (k ∷ (front ++ map f (take i xs))) → new ≡ so_far ++ 32 ∷ f (get_or xs i d)
+    → new ≡ old ++ join_with_byte 32 (k ∷ (front ++ map f (take (i + 1) xs)))
+more_mapped f old so_far new k front xs i d lt e h =
+    let w = f (get_or xs i d) in
+    let words : front ++ map f (take (i + 1) xs) ≡ (front ++ map f (take i xs)) ++ w ∷ [] =
+        ap (λ (ws : List Word). front ++ ws) (up_to_here f xs i d lt) ∙ sym (append_assoc front (map f (take i xs)) (w ∷ [])) in
+    h ∙ ap (λ (t : List ℕ). t ++ 32 ∷ w) e ∙ append_assoc old (join_with_byte 32 (k ∷ (front ++ map f (take i xs)))) (32 ∷ w)
+    ∙ ap (λ (t : List ℕ). old ++ t) (sym (ap (λ (ws : List Word). join_with_byte 32 (k ∷ ws)) words ∙ join_push k (front ++ map f (take i xs)) w))
+
+flat_push : {X : Type 0} (text : X → List ℕ) (xs : List X) (x : X) → flat_map text (xs ++ x ∷ []) ≡ flat_map text xs ++ text x
+flat_push text [] x = flat_map-cons text x [] ∙ append-nil (text x)
+flat_push text (y ∷ xs) x =
+    flat_map-cons text y (xs ++ x ∷ []) ∙ ap (λ (t : List ℕ). text y ++ t) (flat_push text xs x)
+    ∙ sym (append_assoc (text y) (flat_map text xs) (text x)) ∙ ap (λ (t : List ℕ). t ++ text x) (sym (flat_map-cons text y xs))
+
+-- the bytes so far and one place more
+pub more_places : {A B C : Type 0} (text : A × C → List ℕ) (view : B → C) (old so_far new : List ℕ) (ls : List A) (is : List B) (i : ℕ) (d : A) (e : B) → i < length ls → length ls ≡ length is
+    → so_far ≡ old ++ flat_map text (side_by_side (take i ls) (map view (take i is))) → new ≡ so_far ++ text (get_or ls i d, view (get_or is i e))
+    → new ≡ old ++ flat_map text (side_by_side (take (i + 1) ls) (map view (take (i + 1) is)))
+more_places {A} {B} {C} text view old so_far new ls is i d e lt even f h =
+    let x = get_or ls i d in
+    let y = view (get_or is i e) in
+    let front = side_by_side (take i ls) (map view (take i is)) in
+    let lefts = take_more ls i d lt in
+    let rights : map view (take (i + 1) is) ≡ map view (take i is) ++ y ∷ [] = ap (map view) (take_more is i e (omega (arith, even))) ∙ map_push view (take i is) (get_or is i e) in
+    let same : length (take i ls) ≡ length (map view (take i is)) =
+        length-take-le i ls (omega arith) ∙ sym (length-map (take i is) view ∙ length-take-le i is (omega (arith, even))) in
+    let rows : side_by_side (take (i + 1) ls) (map view (take (i + 1) is)) ≡ front ++ (x, y) ∷ [] = rw (lefts, rights) (side_push (take i ls) (map view (take i is)) x y same) in
+    h ∙ ap (λ (t : List ℕ). t ++ text (x, y)) f ∙ append_assoc old (flat_map text front) (text (x, y))
+    ∙ ap (λ (t : List ℕ). old ++ t) (sym (ap (flat_map text) rows ∙ flat_push text front (x, y)))

@@ -51,6 +51,23 @@ fn put_name(out: &mut Vec<u8>, name: &[u8]) -> Result<(), NoMemory>
     Ok(())
 }
 
+/// One word more of a line.
+fn put_word(out: &mut Vec<u8>, word: &[u8]) -> Result<(), NoMemory>
+    ensures { OnOk result (out.new.items ≡ out.old.items ++ 32 ∷ word.now) }
+{
+    out.push(b' ')?;
+    out.extend_from_slice(word)?;
+    Ok(())
+}
+
+/// One number more of a line.
+fn put_claim(out: &mut Vec<u8>, claim: u64) -> Result<(), NoMemory>
+    ensures { OnOk result (out.new.items ≡ out.old.items ++ 32 ∷ decimal claim) }
+{
+    out.push(b' ')?;
+    put_number(out, claim)
+}
+
 /// The names of integers.
 fn put_integers(out: &mut Vec<u8>, names: &[Vec<u8>]) -> Result<(), NoMemory>
     ensures { OnOk result (out.new.items
@@ -59,8 +76,7 @@ fn put_integers(out: &mut Vec<u8>, names: &[Vec<u8>]) -> Result<(), NoMemory>
     out.extend_from_slice(b"vars ")?;
     put_number(out, names.len() as u64)?;
     for name in names {
-        out.push(b' ')?;
-        out.extend_from_slice(name)?;
+        put_word(out, name)?;
     }
     out.push(b'\n')?;
     Ok(())
@@ -75,8 +91,7 @@ fn put_claims(out: &mut Vec<u8>, claims: &Claims, p: usize) -> Result<(), NoMemo
 {
     out.extend_from_slice(b"claims")?;
     for r in 0..claims.resources() {
-        out.push(b' ')?;
-        put_number(out, claims.get(p, r))?;
+        put_claim(out, claims.get(p, r))?;
     }
     out.push(b'\n')?;
     Ok(())
@@ -117,4 +132,44 @@ fn put_lined_places(
         put_lined_place(out, &code.bundles, lines[i], code.instrs[i])?;
     }
     Ok(())
+}
+
+// ---- processes
+
+/// Of a process, how many arms it has, its claims, its entries, and how many places it has.
+fn put_middle(
+    out: &mut Vec<u8>,
+    code: &ProcessCode,
+    claims: &Claims,
+    p: usize,
+) -> Result<(), NoMemory>
+    requires process { p < length claims.now }
+    requires width { length (slice_index_or claims.now p []) ≡ width_of claims.now }
+    ensures { OnOk result (out.new.items ≡ out.old.items
+        ++ (line_text (spec.counted_words (codes "arms") (length code.now.entries.items))
+        ++ (line_text (spec.claims_words (slice_index_or claims.now p []))
+        ++ (flat_map (λ e. line_text (spec.counted_words (codes "arm") e)) code.now.entries.items
+        ++ line_text (spec.counted_words (codes "code") (length code.now.instrs.items)))))) }
+{
+    put_counted(out, "arms", code.entries.len() as u64)?;
+    put_claims(out, claims, p)?;
+    put_entries(out, &code.entries)?;
+    put_counted(out, "code", code.instrs.len() as u64)
+}
+
+/// A process in the first format.
+fn put_process(out: &mut Vec<u8>, code: &Code, p: usize) -> Result<(), NoMemory>
+    requires process { p < length code.now.processes.items }
+    requires name { p < length code.now.names.processes.items }
+    requires claims { p < length code.now.claims }
+    requires width { length (slice_index_or code.now.claims p []) ≡ width_of code.now.claims }
+    ensures { (row : ProcessRow) → IsRowOf (code_view code.now) p row
+        → (map (λ place. place.1) row.places) ≡ map (λ place. place.1) row.places
+        → OnOk result (out.new.items ≡ out.old.items ++ spec.process_text One row) }
+{
+    let body = &code.processes[p];
+    put_name(out, &code.names.processes[p])?;
+    put_counted(out, "vars", body.integers as u64)?;
+    put_middle(out, body, &code.claims, p)?;
+    put_places(out, body)
 }
