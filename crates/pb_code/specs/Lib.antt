@@ -12,3 +12,4 @@ pub mod Verified
 pub mod View
 pub mod Whole
 pub mod Words
+pub mod Writing

@@ -11,6 +11,8 @@ ghost use Rattle.pb_code.specs.Instructions.{instr_words, place_words};
 ghost use Rattle.pb_code.specs.Lines.{line_text};
 ghost use Rattle.pb_code.specs.Objects as spec;
 ghost use Rattle.pb_code.specs.Rows.{side_by_side};
+ghost use Rattle.pb_code.specs.Objects.{ProcessRow, ResourceRow};
+ghost use Rattle.pb_code.specs.Writing.{IsRowOf, IsLabelsOf};
 ghost use Rattle.pb_code.specs.View.{instr_view, code_view, labels_view, process_view, process_labels_view};
 
 use crate::code::{Code, ProcessCode};
@@ -164,12 +166,39 @@ fn put_process(out: &mut Vec<u8>, code: &Code, p: usize) -> Result<(), NoMemory>
     requires claims { p < length code.now.claims }
     requires width { length (slice_index_or code.now.claims p []) ≡ width_of code.now.claims }
     ensures { (row : ProcessRow) → IsRowOf (code_view code.now) p row
-        → (map (λ place. place.1) row.places) ≡ map (λ place. place.1) row.places
         → OnOk result (out.new.items ≡ out.old.items ++ spec.process_text One row) }
 {
     let body = &code.processes[p];
     put_name(out, &code.names.processes[p])?;
     put_counted(out, "vars", body.integers as u64)?;
     put_middle(out, body, &code.claims, p)?;
-    put_places(out, body)
+    put_places(out, body)?;
+    Ok(())
+}
+
+/// A process in the second format.
+fn put_labelled_process(
+    out: &mut Vec<u8>,
+    code: &Code,
+    labels: &Labels,
+    p: usize,
+) -> Result<(), NoMemory>
+    requires process { p < length code.now.processes.items }
+    requires name { p < length code.now.names.processes.items }
+    requires labels { p < length labels.now.processes.items }
+    requires claims { p < length code.now.claims }
+    requires width { length (slice_index_or code.now.claims p []) ≡ width_of code.now.claims }
+    requires row { (row : ProcessRow) × IsRowOf (code_view code.now) p row
+        × IsLabelsOf (labels_view labels.now) p row }
+    ensures { (row : ProcessRow) → IsRowOf (code_view code.now) p row
+        → IsLabelsOf (labels_view labels.now) p row
+        → OnOk result (out.new.items ≡ out.old.items ++ spec.process_text Two row) }
+{
+    let body = &code.processes[p];
+    let label = &labels.processes[p];
+    put_name(out, &code.names.processes[p])?;
+    put_integers(out, &label.integers)?;
+    put_middle(out, body, &code.claims, p)?;
+    put_lined_places(out, body, &label.lines)?;
+    Ok(())
 }

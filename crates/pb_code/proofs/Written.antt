@@ -1,0 +1,102 @@
+-- What is written is what the rows spell.
+use Rattle.std.proofs.Common.{◌≡◌, ℕ, suc, ◌+◌, ◌<◌, ◌≤◌, List, [], ◌∷◌, ◌++◌, length, take, get_or, map, refl, sym, ap, subst, ◌∙◌, append_assoc, codes, arith, Option, Some, None, slice_get}
+use Rattle.std.specs.Fmt.{decimal}
+use Rattle.std.specs.List.{flat_map}
+use Rattle.std.proofs.lemmas.List.{length-map, take_more, get_or-map}
+use Rattle.std.proofs.lemmas.List.Concat.{flat_map-cons}
+use Rattle.std.proofs.lemmas.Option.{get_or_from_slice_get}
+use Rattle.pb_code.specs.declared.format.Format.{Format}
+use Rattle.pb_code.specs.declared.format.Format.TheVariants.{One, Two}
+use Rattle.pb_code.specs.Code.{Instr, ProcessCode}
+use Rattle.pb_code.specs.Whole.{Code, ProcessLabels}
+use Rattle.pb_code.specs.Words.{Word}
+use Rattle.pb_code.specs.Lines.{line_text}
+use Rattle.pb_code.specs.Instructions.{instr_words, place_words}
+use Rattle.pb_code.specs.Objects.{ProcessRow, process_code, process_labels, counted_words, process_words, integers_words, claims_words, process_text}
+use Rattle.pb_code.specs.Rows.{side_by_side}
+use Rattle.pb_code.specs.Writing.{IsRowOf, IsLabelsOf}
+use Rattle.pb_code.proofs.Sides.{side_left}
+
+-- the element of a mapped list
+pub mapped_at : {A B : Type 0} (f : A → B) (xs : List A) (p : ℕ) (d : A) (y : B) → p < length xs → slice_get (map f xs) p ≡ Some y → f (get_or xs p d) ≡ y
+mapped_at {A} {B} f xs p d y lt h =
+    sym (get_or-map f xs p d (f d) lt) ∙ get_or_from_slice_get (map f xs) p y (f d) h
+
+pub named_at : {A : Type 0} (f : A → List ℕ) (xs : List A) (p : ℕ) (x : A) → p < length xs → x ≡ get_or xs p x → f x ≡ get_or (map f xs) p []
+named_at {A} f xs p x lt is = ap f is ∙ sym (get_or-map f xs p x [] lt)
+
+pub viewed_at : {A B : Type 0} (f : A → B) (xs : List A) (p : ℕ) (x : A) (y : B) → p < length xs → x ≡ get_or xs p x → slice_get (map f xs) p ≡ Some y → f x ≡ y
+viewed_at {A} {B} f xs p x y lt is h = ap f is ∙ mapped_at f xs p x y lt h
+
+texts_of_map : {X Y : Type 0} (f : X → Y) (text : Y → List ℕ) (xs : List X) → flat_map text (map f xs) ≡ flat_map (λ x. text (f x)) xs
+texts_of_map f text [] = refl
+texts_of_map f text (x ∷ xs) = flat_map-cons text (f x) (map f xs) ∙ ap (λ (t : List ℕ). text (f x) ++ t) (texts_of_map f text xs) ∙ sym (flat_map-cons (λ x. text (f x)) x xs)
+
+sides_of : {A B : Type 0} (xs : List (A × B)) → side_by_side (map (λ p. p.0) xs) (map (λ p. p.1) xs) ≡ xs
+sides_of [] = refl
+sides_of {A} {B} (x ∷ xs) = ap (λ (l : List (A × B)). x ∷ l) (sides_of xs)
+
+regroup : (old a b c d e f g : List ℕ) → (((old ++ a) ++ b) ++ (c ++ (d ++ (e ++ f)))) ++ g ≡ old ++ (a ++ (b ++ (c ++ (d ++ (e ++ (f ++ g))))))
+regroup old a b c d e f g = simp append_assoc
+
+-- the parts between the integers and the places
+abbrev pub between : List ℕ → List ℕ → ℕ → List ℕ
+between entries claims count =
+    line_text (counted_words (codes "arms") (length entries)) ++ (line_text (claims_words claims)
+      ++ (flat_map (λ e. line_text (counted_words (codes "arm") e)) entries ++ line_text (counted_words (codes "code") count)))
+
+middle : (b2 : List ℕ) (entries es claims cs : List ℕ) (n m : ℕ) → entries ≡ es → claims ≡ cs → n ≡ m → b2 ++ between entries claims n ≡ b2 ++ between es cs m
+middle b2 entries es claims cs n m e1 e2 e3 =
+    ap (λ (l : List ℕ). b2 ++ between l claims n) e1 ∙ ap (λ (l : List ℕ). b2 ++ between es l n) e2 ∙ ap (λ (k : ℕ). b2 ++ between es cs k) e3
+
+-- four parts written one after the other
+in_order : (old b1 b2 b3 new a b c d e f g : List ℕ) → b1 ≡ old ++ a → b2 ≡ b1 ++ b → b3 ≡ b2 ++ (c ++ (d ++ (e ++ f))) → new ≡ b3 ++ g
+    → new ≡ old ++ (a ++ (b ++ (c ++ (d ++ (e ++ (f ++ g))))))
+in_order old b1 b2 b3 new a b c d e f g h1 h2 h3 h4 =
+    h4 ∙ ap (λ (t : List ℕ). t ++ g) (h3 ∙ ap (λ (t : List ℕ). t ++ (c ++ (d ++ (e ++ f)))) (h2 ∙ ap (λ (t : List ℕ). t ++ b) h1)) ∙ regroup old a b c d e f g
+
+pub one_written : (old b1 b2 b3 new : List ℕ) (name : Word) (count : ℕ) (entries : List ℕ) (claims : List ℕ) (instrs : List Instr) (row : ProcessRow)
+    → name ≡ row.name → claims ≡ row.claims → record { integers = count; entries = entries; instrs = instrs } ≡ process_code row
+    → b1 ≡ old ++ line_text (process_words name) → b2 ≡ b1 ++ line_text (counted_words (codes "vars") count)
+    → b3 ≡ b2 ++ (line_text (counted_words (codes "arms") (length entries)) ++ (line_text (claims_words claims)
+          ++ (flat_map (λ e. line_text (counted_words (codes "arm") e)) entries ++ line_text (counted_words (codes "code") (length instrs)))))
+    → new ≡ b3 ++ flat_map (λ i. line_text (instr_words i)) instrs
+    → new ≡ old ++ process_text One row
+unfolding process_text
+one_written old b1 b2 b3 new name count entries claims instrs row is_name is_claims is_code h1 h2 h3 h4 =
+    let integers : count ≡ length row.integers = ap (λ (c : ProcessCode). c.integers) is_code in
+    let arms : entries ≡ row.entries = ap (λ (c : ProcessCode). c.entries) is_code in
+    let code : instrs ≡ map (λ place. place.1) row.places = ap (λ (c : ProcessCode). c.instrs) is_code in
+    let count_is : length instrs ≡ length row.places = ap (λ (l : List Instr). length l) code ∙ length-map row.places (λ place. place.1) in
+    let places : flat_map (λ i. line_text (instr_words i)) instrs ≡ flat_map (λ place. line_text (place_words One place)) row.places =
+        ap (flat_map (λ i. line_text (instr_words i))) code ∙ texts_of_map (λ place. place.1) (λ i. line_text (instr_words i)) row.places in
+    in_order old b1 b2 b3 new _ _ (line_text (counted_words (codes "arms") (length row.entries))) (line_text (claims_words row.claims))
+      (flat_map (λ e. line_text (counted_words (codes "arm") e)) row.entries) (line_text (counted_words (codes "code") (length row.places))) _
+      (h1 ∙ ap (λ (w : Word). old ++ line_text (process_words w)) is_name)
+      (h2 ∙ ap (λ (n : ℕ). b1 ++ line_text (counted_words (codes "vars") n)) integers)
+      (h3 ∙ middle b2 entries row.entries claims row.claims (length instrs) (length row.places) arms is_claims count_is)
+      (h4 ∙ ap (λ (t : List ℕ). b3 ++ t) places)
+
+pub two_written : (old b1 b2 b3 new : List ℕ) (name : Word) (names : List Word) (lines : List (Option ℕ)) (count : ℕ) (entries : List ℕ) (claims : List ℕ) (instrs : List Instr) (row : ProcessRow)
+    → name ≡ row.name → claims ≡ row.claims → record { integers = count; entries = entries; instrs = instrs } ≡ process_code row
+    → record { lines = lines; integers = names } ≡ process_labels row
+    → b1 ≡ old ++ line_text (process_words name) → b2 ≡ b1 ++ line_text (integers_words Two names)
+    → b3 ≡ b2 ++ (line_text (counted_words (codes "arms") (length entries)) ++ (line_text (claims_words claims)
+          ++ (flat_map (λ e. line_text (counted_words (codes "arm") e)) entries ++ line_text (counted_words (codes "code") (length instrs)))))
+    → new ≡ b3 ++ flat_map (λ p. line_text (place_words Two p)) (side_by_side lines instrs)
+    → new ≡ old ++ process_text Two row
+unfolding process_text
+two_written old b1 b2 b3 new name names lines count entries claims instrs row is_name is_claims is_code is_labels h1 h2 h3 h4 =
+    let integers : names ≡ row.integers = ap (λ (l : ProcessLabels). l.integers) is_labels in
+    let numbers : lines ≡ map (λ place. place.0) row.places = ap (λ (l : ProcessLabels). l.lines) is_labels in
+    let arms : entries ≡ row.entries = ap (λ (c : ProcessCode). c.entries) is_code in
+    let code : instrs ≡ map (λ place. place.1) row.places = ap (λ (c : ProcessCode). c.instrs) is_code in
+    let count_is : length instrs ≡ length row.places = ap (λ (l : List Instr). length l) code ∙ length-map row.places (λ place. place.1) in
+    let sides : side_by_side lines instrs ≡ row.places =
+        ap (λ (l : List (Option ℕ)). side_by_side l instrs) numbers ∙ ap (side_by_side (map (λ place. place.0) row.places)) code ∙ sides_of row.places in
+    in_order old b1 b2 b3 new _ _ (line_text (counted_words (codes "arms") (length row.entries))) (line_text (claims_words row.claims))
+      (flat_map (λ e. line_text (counted_words (codes "arm") e)) row.entries) (line_text (counted_words (codes "code") (length row.places))) _
+      (h1 ∙ ap (λ (w : Word). old ++ line_text (process_words w)) is_name)
+      (h2 ∙ ap (λ (l : List Word). b1 ++ line_text (integers_words Two l)) integers)
+      (h3 ∙ middle b2 entries row.entries claims row.claims (length instrs) (length row.places) arms is_claims count_is)
+      (h4 ∙ ap (λ (l : List (Option ℕ × Instr)). b3 ++ flat_map (λ p. line_text (place_words Two p)) l) sides)
