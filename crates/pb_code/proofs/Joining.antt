@@ -88,7 +88,7 @@ more_mapped f old so_far new k front xs i d lt e h =
     h ∙ ap (λ (t : List ℕ). t ++ 32 ∷ w) e ∙ append_assoc old (join_with_byte 32 (k ∷ (front ++ map f (take i xs)))) (32 ∷ w)
     ∙ ap (λ (t : List ℕ). old ++ t) (sym (ap (λ (ws : List Word). join_with_byte 32 (k ∷ ws)) words ∙ join_push k (front ++ map f (take i xs)) w))
 
-flat_push : {X : Type 0} (text : X → List ℕ) (xs : List X) (x : X) → flat_map text (xs ++ x ∷ []) ≡ flat_map text xs ++ text x
+pub flat_push : {X : Type 0} (text : X → List ℕ) (xs : List X) (x : X) → flat_map text (xs ++ x ∷ []) ≡ flat_map text xs ++ text x
 flat_push text [] x = flat_map-cons text x [] ∙ append-nil (text x)
 flat_push text (y ∷ xs) x =
     flat_map-cons text y (xs ++ x ∷ []) ∙ ap (λ (t : List ℕ). text y ++ t) (flat_push text xs x)

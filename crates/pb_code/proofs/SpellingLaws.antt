@@ -39,7 +39,7 @@ by_sides {A} {B} ((a, b) ∷ xs) ((a', b') ∷ ys) e f =
     let others : xs ≡ ys = by_sides xs ys lefts rights in
     cc
 
-resource_is : (x y : ResourceRow) → x.name ≡ y.name → x.capital ≡ y.capital → x ≡ y
+pub resource_is : (x y : ResourceRow) → x.name ≡ y.name → x.capital ≡ y.capital → x ≡ y
 resource_is x y e f =
     ap (λ (n : Word). record { name = n; capital = x.capital }) e ∙ ap (λ (c : ℕ). record { name = y.name; capital = c }) f
 

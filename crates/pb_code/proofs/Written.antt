@@ -12,10 +12,12 @@ use Rattle.pb_code.specs.Whole.{Code, ProcessLabels}
 use Rattle.pb_code.specs.Words.{Word}
 use Rattle.pb_code.specs.Lines.{line_text}
 use Rattle.pb_code.specs.Instructions.{instr_words, place_words}
-use Rattle.pb_code.specs.Objects.{ProcessRow, process_code, process_labels, counted_words, process_words, integers_words, claims_words, process_text}
+use Rattle.pb_code.specs.Objects.{ResourceRow, ProcessRow, Object, code_of, labels_of, resource_words, digit_of, spelling, process_code, process_labels, counted_words, process_words, integers_words, claims_words, process_text}
 use Rattle.pb_code.specs.Rows.{side_by_side}
 use Rattle.pb_code.specs.Writing.{IsRowOf, IsLabelsOf}
 use Rattle.pb_code.proofs.Sides.{side_left}
+use Rattle.pb_code.proofs.Joining.{flat_push}
+use Rattle.pb_code.proofs.SpellingLaws.{resource_is}
 
 -- the element of a mapped list
 pub mapped_at : {A B : Type 0} (f : A → B) (xs : List A) (p : ℕ) (d : A) (y : B) → p < length xs → slice_get (map f xs) p ≡ Some y → f (get_or xs p d) ≡ y
@@ -100,3 +102,54 @@ two_written old b1 b2 b3 new name names lines count entries claims instrs row is
       (h2 ∙ ap (λ (l : List Word). b1 ++ line_text (integers_words Two l)) integers)
       (h3 ∙ middle b2 entries row.entries claims row.claims (length instrs) (length row.places) arms is_claims count_is)
       (h4 ∙ ap (λ (l : List (Option ℕ × Instr)). b3 ++ flat_map (λ p. line_text (place_words Two p)) l) sides)
+
+-- ---- objects
+
+-- all lines before the first process
+abbrev pub opening : Format → Object → List ℕ
+opening format o =
+    line_text (codes "PBO" ∷ digit_of format ∷ [])
+    ++ (line_text (counted_words (codes "resources") (length o.resources))
+    ++ (flat_map (λ r. line_text (resource_words r)) o.resources
+    ++ line_text (counted_words (codes "processes") (length o.processes))))
+
+abbrev pub processes_text : Format → List ProcessRow → List ℕ
+processes_text format ps = flat_map (λ p. process_text format p) ps
+
+apart : (a b c d e : List ℕ) → a ++ (b ++ (c ++ (d ++ e))) ≡ (a ++ (b ++ (c ++ d))) ++ e
+apart a b c d e = simp append_assoc
+
+pub spelling_is : (o : Object) → spelling o ≡ opening o.format o ++ processes_text o.format o.processes
+unfolding spelling
+spelling_is o =
+    apart (line_text (codes "PBO" ∷ digit_of o.format ∷ [])) (line_text (counted_words (codes "resources") (length o.resources))) (flat_map (λ r. line_text (resource_words r)) o.resources)
+      (line_text (counted_words (codes "processes") (length o.processes))) (processes_text o.format o.processes)
+
+-- the texts so far and one more
+pub more_texts : {X : Type 0} (text : X → List ℕ) (xs : List X) (i : ℕ) (d : X) → i < length xs → flat_map text (take (i + 1) xs) ≡ flat_map text (take i xs) ++ text (get_or xs i d)
+more_texts text xs i d lt = ap (flat_map text) (take_more xs i d lt) ∙ flat_push text (take i xs) (get_or xs i d)
+
+pub next_text : {X : Type 0} (text : X → List ℕ) (xs : List X) (i : ℕ) (d : X) (old so_far new : List ℕ) → i < length xs
+    → so_far ≡ old ++ flat_map text (take i xs) → new ≡ so_far ++ text (get_or xs i d) → new ≡ old ++ flat_map text (take (i + 1) xs)
+next_text text xs i d old so_far new lt e h =
+    h ∙ ap (λ (t : List ℕ). t ++ text (get_or xs i d)) e ∙ append_assoc old (flat_map text (take i xs)) (text (get_or xs i d))
+    ∙ ap (λ (t : List ℕ). old ++ t) (sym (more_texts text xs i d lt))
+
+pub names_line : {A : Type 0} (f : A → Word) (b : List ℕ) (xs ys : List A) → xs ≡ ys → b ++ line_text (integers_words Two (map f xs)) ≡ b ++ line_text (integers_words Two (map f ys))
+names_line {A} f b xs ys e = ap (λ (l : List A). b ++ line_text (integers_words Two (map f l))) e
+
+-- the resource at a place, by its columns
+pub resource_at : {A : Type 0} (rows : List ResourceRow) (f : A → Word) (names : List A) (capital : List ℕ) (i : ℕ) (x : A) (n : ℕ)
+    → map (λ r. r.name) rows ≡ map f names → map (λ r. r.capital) rows ≡ capital → i < length names → x ≡ get_or names i x → n ≡ get_or capital i 0
+    → (i < length rows) × (get_or rows i (record { name = f x; capital = n }) ≡ record { name = f x; capital = n })
+resource_at {A} rows f names capital i x n is_names is_capital lt here amount =
+    let d : ResourceRow = record { name = f x; capital = n } in
+    let name_of : ResourceRow → Word = λ r. r.name in
+    let capital_of : ResourceRow → ℕ = λ r. r.capital in
+    let count : length rows ≡ length names = sym (length-map rows name_of) ∙ ap (λ (l : List Word). length l) is_names ∙ length-map names f in
+    let below : i < length rows = omega (arith, count) in
+    let name : name_of (get_or rows i d) ≡ f x =
+        sym (get_or-map name_of rows i d (f x) below) ∙ ap (λ (l : List Word). get_or l i (f x)) is_names ∙ get_or-map f names i x (f x) lt ∙ ap f (sym here) in
+    let cash : capital_of (get_or rows i d) ≡ n =
+        sym (get_or-map capital_of rows i d 0 below) ∙ ap (λ (l : List ℕ). get_or l i 0) is_capital ∙ sym amount in
+    (below, resource_is (get_or rows i d) d name cash)

@@ -202,3 +202,64 @@ fn put_labelled_process(
     put_lined_places(out, body, &label.lines)?;
     Ok(())
 }
+
+// ---- objects
+
+fn put_resources(out: &mut Vec<u8>, names: &[Vec<u8>], capital: &Capital) -> Result<(), NoMemory>
+    requires { length names.now ≡ length capital.now }
+    ensures { (rows : List ResourceRow) → map (λ r. r.name) rows ≡ map (λ name. name.items) names.now
+        → map (λ r. r.capital) rows ≡ capital.now
+        → OnOk result (out.new.items ≡ out.old.items ++ flat_map (λ r. line_text (spec.resource_words r)) rows) }
+{
+    for r in 0..names.len() {
+        put_resource(out, &names[r], capital.get(r))?;
+    }
+    Ok(())
+}
+
+/// All lines before the first process.
+fn put_opening(out: &mut Vec<u8>, digit: &str, code: &Code) -> Result<(), NoMemory>
+    requires { length code.now.names.resources.items ≡ length code.now.capital }
+    ensures { (rows : List ResourceRow)
+        → map (λ r. r.name) rows ≡ map (λ name. name.items) code.now.names.resources.items
+        → map (λ r. r.capital) rows ≡ code.now.capital
+        → OnOk result (out.new.items ≡ out.old.items
+            ++ (line_text (codes "PBO" ∷ digit.now ∷ [])
+            ++ (line_text (spec.counted_words (codes "resources") (length rows))
+            ++ (flat_map (λ r. line_text (spec.resource_words r)) rows
+            ++ line_text (spec.counted_words (codes "processes") (length code.now.processes.items)))))) }
+{
+    out.extend_from_slice(b"PBO ")?;
+    out.extend_from_slice(digit.as_bytes())?;
+    out.push(b'\n')?;
+    put_counted(out, "resources", code.names.resources.len() as u64)?;
+    put_resources(out, &code.names.resources, &code.capital)?;
+    put_counted(out, "processes", code.processes.len() as u64)?;
+    Ok(())
+}
+
+/// The text of the code in the first format. The error comes only where memory is refused.
+pub fn write_object(alloc: Global, code: &Code) -> Result<Vec<u8>, NoMemory>
+    requires { HasTextOne (code_view code.now) }
+    ensures { IfOk result (λ text. SpellsOne (code_view code.now) text.items) }
+{
+    let mut out = Vec::new(alloc);
+    put_opening(&mut out, "1", code)?;
+    for p in 0..code.processes.len() {
+        put_process(&mut out, code, p)?;
+    }
+    Ok(out)
+}
+
+/// The text of the code and its labels in the second format. The error comes only where memory is refused.
+pub fn write_object2(alloc: Global, code: &Code, labels: &Labels) -> Result<Vec<u8>, NoMemory>
+    requires { HasText Two (code_view code.now) (labels_view labels.now) }
+    ensures { IfOk result (λ text. Spells Two (code_view code.now) (labels_view labels.now) text.items) }
+{
+    let mut out = Vec::new(alloc);
+    put_opening(&mut out, "2", code)?;
+    for p in 0..code.processes.len() {
+        put_labelled_process(&mut out, code, labels, p)?;
+    }
+    Ok(out)
+}
