@@ -63,11 +63,11 @@ rows_labels (p ∷ ps) h =
 
 -- ---- ranges of columns
 
-each_all : {X : Type 0} (Good : List X → X → Type 0) (P : X → Type 0) → ((e : List X) (x : X) → Good e x → P x) → (earlier xs : List X) → Each Good earlier xs → AllByRecursion P xs
+pub each_all : {X : Type 0} (Good : List X → X → Type 0) (P : X → Type 0) → ((e : List X) (x : X) → Good e x → P x) → (earlier xs : List X) → Each Good earlier xs → AllByRecursion P xs
 each_all Good P is earlier [] h = tt
 each_all Good P is earlier (x ∷ xs) h = (is earlier x h.0, each_all Good P is (earlier ++ x ∷ []) xs h.1)
 
-all_map : {A B : Type 0} (P : B → Type 0) (f : A → B) (xs : List A) → AllByRecursion (λ x. P (f x)) xs → AllByRecursion P (map f xs)
+pub all_map : {A B : Type 0} (P : B → Type 0) (f : A → B) (xs : List A) → AllByRecursion (λ x. P (f x)) xs → AllByRecursion P (map f xs)
 all_map P f [] h = tt
 all_map P f (x ∷ xs) h = (h.0, all_map P f xs h.1)
 

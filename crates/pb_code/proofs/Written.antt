@@ -2,9 +2,10 @@
 use Rattle.std.proofs.Common.{◌≡◌, ℕ, suc, ◌+◌, ◌<◌, ◌≤◌, List, [], ◌∷◌, ◌++◌, length, take, get_or, map, refl, sym, ap, subst, ◌∙◌, append_assoc, codes, arith, Option, Some, None, slice_get}
 use Rattle.std.specs.Fmt.{decimal}
 use Rattle.std.specs.List.{flat_map}
-use Rattle.std.proofs.lemmas.List.{length-map, take_more, get_or-map}
+use Rattle.std.proofs.lemmas.List.{length-map, take_more, take_all, get_or-map}
+use Rattle.std.proofs.lemmas.List.Elements.{All-from_recursion}
 use Rattle.std.proofs.lemmas.List.Concat.{flat_map-cons}
-use Rattle.std.proofs.lemmas.Option.{get_or_from_slice_get}
+use Rattle.std.proofs.lemmas.Option.{get_or_from_slice_get, slice_get-get_or}
 use Rattle.pb_code.specs.declared.format.Format.{Format}
 use Rattle.pb_code.specs.declared.format.Format.TheVariants.{One, Two}
 use Rattle.pb_code.specs.Code.{Instr, ProcessCode}
@@ -16,6 +17,9 @@ use Rattle.pb_code.specs.Objects.{ResourceRow, ProcessRow, Object, code_of, labe
 use Rattle.pb_code.specs.Rows.{side_by_side}
 use Rattle.pb_code.specs.Writing.{IsRowOf, IsLabelsOf}
 use Rattle.pb_code.proofs.Sides.{side_left}
+use Rattle.pb_base.specs.Tables.{width_of}
+use Rattle.pb_code.specs.Ranges.{IsObject, IsProcess}
+use Rattle.pb_code.proofs.Columns.{each_all, all_map, width_is}
 use Rattle.pb_code.proofs.Joining.{flat_push}
 use Rattle.pb_code.proofs.SpellingLaws.{resource_is}
 
@@ -153,3 +157,54 @@ resource_at {A} rows f names capital i x n is_names is_capital lt here amount =
     let cash : capital_of (get_or rows i d) ≡ n =
         sym (get_or-map capital_of rows i d 0 below) ∙ ap (λ (l : List ℕ). get_or l i 0) is_capital ∙ sym amount in
     (below, resource_is (get_or rows i d) d name cash)
+
+four : (old a b c d : List ℕ) → (((old ++ a) ++ b) ++ c) ++ d ≡ old ++ (a ++ (b ++ (c ++ d)))
+four old a b c d = simp append_assoc
+
+viewed : {A B : Type 0} (f : A → B) (xs : List A) (p : ℕ) (d : A) → p < length xs → slice_get (map f xs) p ≡ Some (f (get_or xs p d))
+viewed {A} {B} f xs p d lt = slice_get-get_or (map f xs) p (f d) (simp length-map lt) ∙ ap (λ (y : B). Some y) (get_or-map f xs p d (f d) lt)
+
+pub in_four : (old b1 b2 b3 new a b c d : List ℕ) → b1 ≡ old ++ a → b2 ≡ b1 ++ b → b3 ≡ b2 ++ c → new ≡ b3 ++ d → new ≡ old ++ (a ++ (b ++ (c ++ d)))
+in_four old b1 b2 b3 new a b c d h1 h2 h3 h4 =
+    h4 ∙ ap (λ (t : List ℕ). t ++ d) (h3 ∙ ap (λ (t : List ℕ). t ++ c) (h2 ∙ ap (λ (t : List ℕ). t ++ b) h1)) ∙ four old a b c d
+
+-- ---- the rows of an object, by the code that it says
+
+abbrev pub empty : ProcessRow
+empty = record { name = []; integers = []; claims = []; entries = []; places = [] }
+
+pub row_of : (o : Object) (whole : Code) (p : ℕ) → whole ≡ code_of o → p < length o.processes → IsRowOf whole p (get_or o.processes p empty)
+row_of o whole p is lt =
+    let row = get_or o.processes p empty in
+    let name_of : ProcessRow → Word = λ r. r.name in
+    let claims_of : ProcessRow → List ℕ = λ r. r.claims in
+    record {
+      name = ap (λ (c : Code). get_or c.names.processes p []) is ∙ get_or-map name_of o.processes p empty [] lt;
+      claims = ap (λ (c : Code). get_or c.claims p []) is ∙ get_or-map claims_of o.processes p empty [] lt;
+      code = ap (λ (c : Code). slice_get c.processes p) is ∙ viewed process_code o.processes p empty lt;
+    }
+
+pub labels_at : (o : Object) (labels : List ProcessLabels) (p : ℕ) → labels ≡ labels_of o → p < length o.processes → IsLabelsOf labels p (get_or o.processes p empty)
+labels_at o labels p is lt = ap (λ (l : List ProcessLabels). slice_get l p) is ∙ viewed process_labels o.processes p empty lt
+
+pub width_at : (o : Object) (whole : Code) (p : ℕ) → IsObject o → whole ≡ code_of o → p < length o.processes → length (get_or whole.claims p []) ≡ width_of whole.claims
+width_at o whole p good is lt =
+    let claims_of : ProcessRow → List ℕ = λ r. r.claims in
+    let m = length o.resources in
+    let all = each_all (IsProcess o.format m) (λ r. length r.claims ≡ m) (λ e r h. h.claims.0) [] o.processes good.processes in
+    let column = all_map (λ row. length row ≡ m) claims_of o.processes all in
+    let some : 0 < length (map claims_of o.processes) = simp length-map (let s = good.some_processes in omega arith) in
+    let below : p < length (map claims_of o.processes) = simp length-map lt in
+    let wide : width_of (map claims_of o.processes) ≡ m = width_is (map claims_of o.processes) m some column in
+    let here : length (get_or (map claims_of o.processes) p []) ≡ m = All-from_recursion (λ row. length row ≡ m) (map claims_of o.processes) column p [] below in
+    subst (λ (t : List (List ℕ)). length (get_or t p []) ≡ width_of t) (sym (ap (λ (c : Code). c.claims) is)) (here ∙ sym wide)
+
+pub finished : (format : Format) (o : Object) (out : List ℕ) (p : ℕ) → o.format ≡ format → length o.processes ≤ p
+    → out ≡ opening format o ++ processes_text format (take p o.processes) → out ≡ spelling o
+finished format o out p is le e =
+    e ∙ ap (λ (ps : List ProcessRow). opening format o ++ processes_text format ps) (take_all p o.processes le)
+    ∙ ap (λ (f : Format). opening f o ++ processes_text f o.processes) (sym is) ∙ sym (spelling_is o)
+
+pub count_of : {A : Type 0} (f : A → ProcessCode) (xs : List A) (o : Object) (whole : Code) → whole ≡ code_of o → whole.processes ≡ map f xs → length xs ≡ length o.processes
+count_of f xs o whole is e =
+    sym (length-map xs f) ∙ ap (λ (l : List ProcessCode). length l) (sym e ∙ ap (λ (c : Code). c.processes) is) ∙ length-map o.processes process_code

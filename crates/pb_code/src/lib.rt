@@ -27,3 +27,4 @@ pub use instr::Instr;
 pub use labels::{Labels, ProcessLabels};
 pub use object::{read_any, read_object};
 pub use verified::Verified;
+pub use writer::{write_object, write_object2};

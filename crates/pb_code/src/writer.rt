@@ -217,6 +217,15 @@ fn put_resources(out: &mut Vec<u8>, names: &[Vec<u8>], capital: &Capital) -> Res
     Ok(())
 }
 
+fn put_heading(out: &mut Vec<u8>, digit: &str) -> Result<(), NoMemory>
+    ensures { OnOk result (out.new.items ≡ out.old.items ++ line_text (codes "PBO" ∷ digit.now ∷ [])) }
+{
+    out.extend_from_slice(b"PBO ")?;
+    out.extend_from_slice(digit.as_bytes())?;
+    out.push(b'\n')?;
+    Ok(())
+}
+
 /// All lines before the first process.
 fn put_opening(out: &mut Vec<u8>, digit: &str, code: &Code) -> Result<(), NoMemory>
     requires { length code.now.names.resources.items ≡ length code.now.capital }
@@ -229,9 +238,7 @@ fn put_opening(out: &mut Vec<u8>, digit: &str, code: &Code) -> Result<(), NoMemo
             ++ (flat_map (λ r. line_text (spec.resource_words r)) rows
             ++ line_text (spec.counted_words (codes "processes") (length code.now.processes.items)))))) }
 {
-    out.extend_from_slice(b"PBO ")?;
-    out.extend_from_slice(digit.as_bytes())?;
-    out.push(b'\n')?;
+    put_heading(out, digit)?;
     put_counted(out, "resources", code.names.resources.len() as u64)?;
     put_resources(out, &code.names.resources, &code.capital)?;
     put_counted(out, "processes", code.processes.len() as u64)?;
