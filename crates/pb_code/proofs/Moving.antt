@@ -46,13 +46,17 @@ false_from : (b : Bool) → (b ≡ true → ⊥) → b ≡ false
 false_from true h = absurd (h refl)
 false_from false h = refl
 
+still_false : (b p q : Bool) → (b || p) ≡ false → (p ≡ false → q ≡ false) → (b || q) ≡ false
+still_false true p q h next = absurd cc
+still_false false p q h next = next h
+
+still_true : (b p q : Bool) → (not b && p) ≡ true → (p ≡ true → q ≡ true) → (not b && q) ≡ true
+still_true true p q h next = absurd cc
+still_true false p q h next = next h
+
 among_push : (xs : List Word) (x w : Word) → is_among xs w ≡ false → bytes_eq w x ≡ false → is_among (xs ++ x ∷ []) w ≡ false
 among_push [] x w h k = rw k refl
-among_push (y ∷ xs) x w h k = among_by (bytes_eq w y) xs x w h k
-
-among_by : (b : Bool) (xs : List Word) (x w : Word) → (b || is_among xs w) ≡ false → bytes_eq w x ≡ false → (b || is_among (xs ++ x ∷ []) w) ≡ false
-among_by true xs x w h k = absurd cc
-among_by false xs x w h k = among_push xs x w h k
+among_push (y ∷ xs) x w h k = still_false (bytes_eq w y) (is_among xs w) (is_among (xs ++ x ∷ []) w) h (λ n. among_push xs x w n k)
 
 not_among : (k n : ℕ) → k ≤ n → n < 64 → is_among (plain_names k) (118 ∷ decimal n) ≡ false
 unfolding plain_names
@@ -66,13 +70,11 @@ not_among (suc k) n le small =
 
 new_push : (e xs : List Word) (x : Word) → are_new e xs ≡ true → is_among (e ++ xs) x ≡ false → are_new e (xs ++ x ∷ []) ≡ true
 new_push e [] x h k =
-    let at : is_among e x ≡ false = ap (λ (l : List Word). is_among l x) (sym (append-nil e)) ∙ k in
-    rw at refl
-new_push e (y ∷ xs) x h k = new_by (is_among e y) e y xs x h k
-
-new_by : (b : Bool) (e : List Word) (y : Word) (xs : List Word) (x : Word) → (not b && are_new (e ++ y ∷ []) xs) ≡ true → is_among (e ++ y ∷ xs) x ≡ false → (not b && are_new (e ++ y ∷ []) (xs ++ x ∷ [])) ≡ true
-new_by true e y xs x h k = absurd cc
-new_by false e y xs x h k = new_push (e ++ y ∷ []) xs x h (ap (λ (l : List Word). is_among l x) (append_assoc e (y ∷ []) xs) ∙ k)
+    let other : is_among e x ≡ false = ap (λ (l : List Word). is_among l x) (sym (append-nil e)) ∙ k in
+    rw other refl
+new_push e (y ∷ xs) x h k =
+    still_true (is_among e y) (are_new (e ++ y ∷ []) xs) (are_new (e ++ y ∷ []) (xs ++ x ∷ [])) h
+      (λ n. new_push (e ++ y ∷ []) xs x n (ap (λ (l : List Word). is_among l x) (append_assoc e (y ∷ []) xs) ∙ k))
 
 plain_are_new : (n : ℕ) → n ≤ 64 → are_new [] (plain_names n) ≡ true
 unfolding plain_names

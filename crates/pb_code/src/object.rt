@@ -4,7 +4,8 @@
 ghost use Rattle.std.specs.Prelude.{◌≡◌, ◌≤◌, All, IfOk, IfErr, List, length};
 ghost use Rattle.pb_code.specs.declared.format.Format.{Format as Formats};
 ghost use Rattle.pb_code.specs.declared.fault.ObjectFault.TheVariants.{NoMemory};
-ghost use Rattle.pb_code.specs.Answers.{Spells, SpellsOne, AnswersRows, IsAnswer, IsFaultOf, IsAnswerOne, IsFaultOfOne, is_two};
+ghost use Rattle.pb_code.specs.declared.format.Format.TheVariants.{Two};
+ghost use Rattle.pb_code.specs.Answers.{Spells, SpellsOne, HasText, HasTextOne, AnswersRows, IsAnswer, IsFaultOf, IsAnswerOne, IsFaultOfOne, is_two};
 ghost use Rattle.pb_code.specs.Lines.{line};
 ghost use Rattle.pb_code.specs.Reading.{heading};
 ghost use Rattle.pb_code.specs.Rows.{IsRow};
@@ -55,6 +56,8 @@ pub fn read_any(alloc: Global, text: &[u8]) -> Result<(Code, Labels), ObjectFaul
     // The text spells what is answered.
     ensures found { IfOk result (λ x. (format : Formats)
         × Spells format (code_view x.0) (labels_view x.1) text.now) }
+    // What is answered has a text in the second format.
+    ensures writable { IfOk result (λ x. HasText Two (code_view x.0) (labels_view x.1)) }
     // What a text spells is answered.
     ensures only { (format : Formats) (code : PlainCode) (labels : List PlainLabels)
         → Spells format code labels text.now → length text.now ≤ MAX_TEXT → IsAnswer code labels result }
@@ -83,6 +86,8 @@ fn begins_two(alloc: Global, text: &[u8]) -> Result<bool, ObjectFault>
 pub fn read_object(alloc: Global, text: &[u8]) -> Result<Code, ObjectFault>
     // The text spells the code that is answered.
     ensures found { IfOk result (λ code. SpellsOne (code_view code) text.now) }
+    // It has a text in the first format.
+    ensures writable { IfOk result (λ code. HasTextOne (code_view code)) }
     // The code that a text spells is answered.
     ensures only { (code : PlainCode) → SpellsOne code text.now → length text.now ≤ MAX_TEXT
         → IsAnswerOne code result }

@@ -20,5 +20,10 @@ pub returns-clause-found : goal.returns-clause-found
 returns-clause-found c =
     one_found c.args.text.now (code_view c.in_ok-code.code) _ (sym c.in_ok-begins_two.ensures.two ∙ c.if-branch.false) c.in_ok-code.ensures.found
 
+pub returns-clause-writable : goal.returns-clause-writable
+returns-clause-writable c =
+    let s = one_found c.args.text.now (code_view c.in_ok-code.code) _ (sym c.in_ok-begins_two.ensures.two ∙ c.if-branch.false) c.in_ok-code.ensures.found in
+    (s.0, (s.1.0, s.1.1))
+
 pub returns-clause-only : goal.returns-clause-only
 returns-clause-only c = λ code s few. (c.in_ok-code.ensures.only One code s.0 s.1 few).0
