@@ -1,5 +1,5 @@
 -- Bundles: what is read is what is spelled.
-use Rattle.std.proofs.Common.{◌≡◌, ◌≢◌, ℕ, zero, suc, ◌+◌, ◌-◌, ◌*◌, ◌^◌, ◌<◌, ◌≤◌, Bool, true, false, cond, not, ◌&&◌, ◌||◌, ltb, List, [], ◌∷◌, ◌++◌, length, refl, sym, ap, subst, ◌∙◌, arith}
+use Rattle.std.proofs.Common.{◌≡◌, ◌≢◌, ℕ, ◌+◌, ◌*◌, ◌^◌, ◌<◌, ◌≤◌, Bool, true, false, cond, ◌&&◌, ltb, List, [], ◌∷◌, length, refl, sym, ap, subst, ◌∙◌, arith}
 use Rattle.std.specs.Str.{bytes_eq}
 use Rattle.std.specs.Str.Parse.{digits_value}
 use Rattle.std.specs.Fmt.{decimal}
@@ -9,10 +9,9 @@ use Rattle.std.proofs.lemmas.Slice.Eq.{bytes_eq-Decides}
 use Rattle.std.proofs.lemmas.Fmt.{digits_value-decimal}
 use Rattle.pb_base.specs.declared.pair.Pair.{Pair}
 use Rattle.pb_code.specs.declared.words.Verdict.{Verdict}
-use Rattle.pb_code.specs.declared.words.Verdict.TheVariants.{Malformed, Beyond, Read}
+use Rattle.pb_code.specs.declared.words.Verdict.TheVariants.{Malformed, Read}
 use Rattle.pb_code.specs.declared.format.Format.{Format}
-use Rattle.pb_code.specs.declared.format.Format.TheVariants.{One, Two}
-use Rattle.pb_code.specs.Words.{Word, paired, mapped, number}
+use Rattle.pb_code.specs.Words.{Word, paired, mapped}
 use Rattle.pb_code.specs.Instructions.{names_resource, pair_of, pairs_of, most_pairs, bundle_of, pair_words}
 use Rattle.pb_code.specs.Ranges.{IsPair, ArePairs, IsBundle}
 use Rattle.pb_code.proofs.Numbers.{own, both_true, none_of, number_again}
@@ -34,9 +33,10 @@ length_pair_words (p ∷ ps) = (let e = length_pair_words ps in omega (arith, e)
 apart_from : (n : ℕ) (ps : List Pair) → names_resource (pair_words ps) (decimal n) ≡ false → AllByRecursion (λ q. q.resource ≢ n) ps
 apart_from n [] h = tt
 apart_from n (q ∷ ps) h =
-    let s = none_of (bytes_eq (decimal q.resource) (decimal n)) (names_resource (pair_words ps) (decimal n)) h in
-    ((λ same. let is : bytes_eq (decimal q.resource) (decimal n) ≡ true = (bytes_eq-Decides (decimal q.resource) (decimal n)).1 (ap decimal same) in let other = s.0 in cc),
-     apart_from n ps s.1)
+    let s = none_of (bytes_eq (decimal q.resource) (decimal n)) (names_resource (pair_words ps) (decimal n)) h in (
+      (λ same. let is : bytes_eq (decimal q.resource) (decimal n) ≡ true = (bytes_eq-Decides (decimal q.resource) (decimal n)).1 (ap decimal same) in let other = s.0 in cc),
+      apart_from n ps s.1,
+    )
 
 false_from : (b : Bool) → (b ≡ true → ⊥) → b ≡ false
 false_from true h = absurd (h refl)
@@ -46,7 +46,7 @@ apart_to : (n : ℕ) (ps : List Pair) → n ≤ 15 → ArePairs ps → AllByRecu
 apart_to n [] small good h = refl
 apart_to n (q ∷ ps) small good h =
     let other : bytes_eq (decimal q.resource) (decimal n) ≡ false =
-        false_from _ (λ is. h.0 (decimal_same q.resource n (let r = good.0.resource in omega arith) (omega arith) ((bytes_eq-Decides (decimal q.resource) (decimal n)).0 is))) in
+    false_from _ (λ is. h.0 (decimal_same q.resource n (let r = good.0.resource in omega arith) (omega arith) ((bytes_eq-Decides (decimal q.resource) (decimal n)).0 is))) in
     rw (other, apart_to n ps small good.2 h.1) refl
 
 -- ---- pairs
@@ -69,10 +69,11 @@ pairs_takes (r ∷ k ∷ ws) ps e =
     let first = pair_takes r k m.0.0 q.0 in
     let others = pairs_takes ws m.0.1 q.1 in
     let apart : names_resource (pair_words m.0.1) (decimal m.0.0.resource) ≡ false =
-        sym (ap (λ (l : List Word). names_resource l (decimal m.0.0.resource)) others.0) ∙ sym (ap (names_resource ws) first.0) ∙ g.0 in
-    subst (λ (l : List Pair). (r ∷ k ∷ ws ≡ pair_words l) × ArePairs l) m.2
-      ((let a = first.0 in let b = first.1 in let d = others.0 in cc),
-       (record { resource = first.2; some = first.3; amount = first.4 }, apart_from m.0.0.resource m.0.1 apart, others.1))
+    sym (ap (λ (l : List Word). names_resource l (decimal m.0.0.resource)) others.0) ∙ sym (ap (names_resource ws) first.0) ∙ g.0 in
+    subst (λ (l : List Pair). (r ∷ k ∷ ws ≡ pair_words l) × ArePairs l) m.2 (
+      (let a = first.0 in let b = first.1 in let d = others.0 in cc),
+      (record { resource = first.2; some = first.3; amount = first.4 }, apart_from m.0.0.resource m.0.1 apart, others.1),
+    )
 
 pair_again : (p : Pair) → IsPair p → pair_of (decimal p.resource) (decimal p.amount) ≡ Read p
 pair_again p good = rw (number_again 0 15 p.resource (omega arith) (omega arith) good.resource, number_again 1 1000000 p.amount (omega arith) good.some good.amount) refl

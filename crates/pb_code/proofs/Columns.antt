@@ -1,16 +1,15 @@
 -- Columns of rows.
-use Rattle.std.proofs.Common.{◌≡◌, ℕ, suc, ◌+◌, ◌<◌, ◌≤◌, List, [], ◌∷◌, ◌++◌, length, get_or, map, refl, sym, ap, subst, ◌∙◌, arith, All, Option}
+use Rattle.std.proofs.Common.{◌≡◌, ℕ, suc, ◌<◌, ◌≤◌, List, [], ◌∷◌, ◌++◌, length, map, refl, sym, ap, subst, ◌∙◌, arith, All, Option}
 use Rattle.std.specs.List.{AllByRecursion}
 use Rattle.std.proofs.lemmas.List.{map_push, length-map}
 use Rattle.std.proofs.lemmas.List.Elements.{All-from_recursion}
 use Rattle.std.proofs.lemmas.Simd.{map-map}
-use Rattle.pb_base.specs.Lines.{NameTable}
 use Rattle.pb_base.specs.Tables.{HasWidth, width_of}
 use Rattle.pb_code.specs.Code.{Instr, ProcessCode}
 use Rattle.pb_code.specs.Whole.{Code, ProcessLabels}
 use Rattle.pb_code.specs.View.{instr_view, process_view, process_labels_view}
-use Rattle.pb_code.specs.Objects.{ResourceRow, ProcessRow, Object, process_code, process_labels}
-use Rattle.pb_code.specs.Ranges.{Each, IsResource, IsProcess, IsObject, most_processes}
+use Rattle.pb_code.specs.Objects.{ResourceRow, ProcessRow, process_code, process_labels}
+use Rattle.pb_code.specs.Ranges.{Each, IsResource, IsProcess, most_processes}
 use Rattle.pb_code.specs.Rows.{process_row, resource_row, IsRow}
 use Rattle.pb_code.specs.declared.rows.ResourceRow.{ResourceRow as GivenResource}
 use Rattle.pb_code.specs.declared.rows.ProcessRow.{ProcessRow as GivenProcess}
@@ -35,9 +34,9 @@ row_code : (p : GivenProcess) → IsRow p → process_view p.code ≡ process_co
 row_code p fit =
     let even : length p.labels.lines.items ≡ length (map (instr_view p.code.bundles.items) p.code.instrs.items) = fit.lines ∙ sym (length-map p.code.instrs.items (instr_view p.code.bundles.items)) in
     one_code p.code.integers p.code.entries.items (map (instr_view p.code.bundles.items) p.code.instrs.items) _ _
-      (fit.integers ∙ sym (length-map p.labels.integers.items (λ name. name.items)))
-      (sym (side_right p.labels.lines.items (map (instr_view p.code.bundles.items) p.code.instrs.items) even))
-      (process_view p.code) refl
+    (fit.integers ∙ sym (length-map p.labels.integers.items (λ name. name.items)))
+    (sym (side_right p.labels.lines.items (map (instr_view p.code.bundles.items) p.code.instrs.items) even))
+    (process_view p.code) refl
 
 one_labels : (lines others : List (Option ℕ)) (integers : List (List ℕ)) → lines ≡ others
     → (the : ProcessLabels) → the ≡ record { lines = lines; integers = integers } → the ≡ record { lines = others; integers = integers }
@@ -47,7 +46,7 @@ row_labels : (p : GivenProcess) → IsRow p → process_labels_view p.labels ≡
 row_labels p fit =
     let even : length p.labels.lines.items ≡ length (map (instr_view p.code.bundles.items) p.code.instrs.items) = fit.lines ∙ sym (length-map p.code.instrs.items (instr_view p.code.bundles.items)) in
     one_labels p.labels.lines.items _ (map (λ name. name.items) p.labels.integers.items)
-      (sym (side_left p.labels.lines.items (map (instr_view p.code.bundles.items) p.code.instrs.items) even)) (process_labels_view p.labels) refl
+    (sym (side_left p.labels.lines.items (map (instr_view p.code.bundles.items) p.code.instrs.items) even)) (process_labels_view p.labels) refl
 
 pub rows_codes : (ps : List GivenProcess) → All IsRow ps → map process_view (map (λ p. p.code) ps) ≡ map process_code (map process_row ps)
 rows_codes [] h = refl

@@ -1,6 +1,6 @@
 -- What reading finds is what the text spells.
-use Rattle.std.proofs.Common.{◌≡◌, ℕ, ◌<◌, ◌≤◌, Bool, true, false, cond, ltb, List, [], ◌∷◌, ◌++◌, append_assoc, codes, length, map, Result, Ok, Err, refl, sym, ap, subst, ◌∙◌, arith}
-use Rattle.std.proofs.lemmas.Bool.{ltb-false, le-ltb}
+use Rattle.std.proofs.Common.{◌≡◌, ℕ, ◌≤◌, Bool, true, false, cond, ltb, List, length, Result, Ok, Err, refl, sym, ap, ◌∙◌}
+use Rattle.std.proofs.lemmas.Bool.{le-ltb}
 use Rattle.pb_code.specs.declared.fault.Fault.{Fault}
 use Rattle.pb_code.specs.declared.fault.Fault.TheVariants.{Malformed, Beyond}
 use Rattle.pb_code.specs.declared.fault.ObjectFault.{ObjectFault}
@@ -12,14 +12,12 @@ use Rattle.pb_code.specs.declared.code.Code.{Code as GivenCode}
 use Rattle.pb_code.specs.declared.labels.Labels.{Labels}
 use Rattle.pb_code.specs.Whole.{Code, ProcessLabels}
 use Rattle.pb_code.specs.View.{code_view, labels_view}
-use Rattle.std.specs.List.{flat_map}
-use Rattle.pb_code.specs.Lines.{line, line_text}
-use Rattle.pb_code.specs.Objects.{Object, code_of, labels_of, digit_of, counted_words, resource_words, process_text, spelling}
+use Rattle.pb_code.specs.Lines.{line}
+use Rattle.pb_code.specs.Objects.{Object, code_of, labels_of, spelling}
 use Rattle.pb_code.specs.Ranges.{IsObject}
-use Rattle.pb_code.specs.Reading.{heading, object_at, all_of, placed, answer_of}
+use Rattle.pb_code.specs.Reading.{heading, all_of, placed, answer_of}
 use Rattle.pb_code.specs.Rows.{object_row}
-use Rattle.pb_code.specs.Answers.{IsObjectOf, Spells, SpellsOne, AnswersRows, IsFaultOf, IsAnswer, IsAnswerOne, IsFaultOfOne, answer_one, is_two, is_format_two}
-use Rattle.pb_code.proofs.LineLemmas.{bind_ok, ok_is}
+use Rattle.pb_code.specs.Answers.{Spells, SpellsOne, AnswersRows, IsAnswer, IsAnswerOne, is_two, is_format_two}
 use Rattle.pb_code.proofs.ObjectLaws.{all_takes, all_again, format_part}
 
 abbrev fine : Object → Result Object ObjectFault

@@ -1,5 +1,5 @@
 -- Instruction lines: what is read is what is spelled.
-use Rattle.std.proofs.Common.{◌≡◌, ◌≢◌, ℕ, zero, suc, ◌+◌, ◌-◌, ◌^◌, ◌<◌, ◌≤◌, Bool, true, false, cond, not, eqb, ltb, ◌⊎◌, List, [], ◌∷◌, ◌++◌, length, get_or, refl, sym, ap, subst, ◌∙◌, arith, rules, inl, inr, codes, ℤ, pos, negsuc, Option, Some, None}
+use Rattle.std.proofs.Common.{◌≡◌, ℕ, zero, suc, ◌-◌, ◌^◌, ◌<◌, ◌≤◌, Bool, true, false, cond, eqb, List, [], ◌∷◌, length, get_or, refl, sym, ap, subst, ◌∙◌, arith, codes, ℤ, pos, negsuc, Option, Some, None}
 use Rattle.std.specs.List.{list_all}
 use Rattle.std.specs.Char.{is_ascii_digit}
 use Rattle.std.specs.Str.{bytes_eq}
@@ -8,9 +8,8 @@ use Rattle.std.proofs.lemmas.Bool.{eqb-true}
 use Rattle.std.proofs.lemmas.Bool.Decides.{nat_tests}
 use Rattle.std.proofs.lemmas.Slice.Eq.{bytes_eq-Decides}
 use Rattle.std.proofs.lemmas.Fmt.{digits_decimal, decimal_nonempty, first_decimal}
-use Rattle.pb_base.specs.declared.pair.Pair.{Pair}
 use Rattle.pb_code.specs.declared.words.Verdict.{Verdict}
-use Rattle.pb_code.specs.declared.words.Verdict.TheVariants.{Malformed, Beyond, Read}
+use Rattle.pb_code.specs.declared.words.Verdict.TheVariants.{Malformed, Read}
 use Rattle.pb_code.specs.declared.format.Format.{Format}
 use Rattle.pb_code.specs.declared.format.Format.TheVariants.{One, Two}
 use Rattle.pb_base.specs.declared.operators.UnaryOp.TheVariants as unary
@@ -20,12 +19,12 @@ use Rattle.pb_code.specs.declared.instr.Instr.TheVariants as given
 use Rattle.pb_code.specs.Code.{Instr, Push, Load, Store, Compute1, Compute2, Jump, JumpIfZero, PrintTop, Take, Give, Fork, Join, End}
 use Rattle.pb_code.specs.View.{instr_view}
 use Rattle.pb_code.specs.Rows.{IsPlain}
-use Rattle.pb_code.specs.Words.{Word, paired, mapped, number}
-use Rattle.pb_code.specs.Instructions.{select, alone, two, signed, bare, push_of, most_pairs, bundle_of, operation, comparison, plain, instr_of, instr, instr_words, pair_words, line_of, line_number, place, place_words}
-use Rattle.pb_code.specs.Ranges.{IsBundle, IsSigned, AreArms, IsInstr, IsLine, IsPlace}
+use Rattle.pb_code.specs.Words.{Word, mapped, number}
+use Rattle.pb_code.specs.Instructions.{alone, two, signed, bare, push_of, bundle_of, operation, comparison, plain, instr_of, instr, instr_words, line_of, line_number, place, place_words}
+use Rattle.pb_code.specs.Ranges.{IsSigned, AreArms, IsInstr, IsLine, IsPlace}
 use Rattle.pb_code.proofs.Numbers.{own, both_true, number_takes, number_again}
-use Rattle.pb_code.proofs.LineLemmas.{is_inner, AreWords, all_mono}
-use Rattle.pb_code.proofs.Verdicts.{mapped_read, paired_read, select_or, only_read, guard_read}
+use Rattle.pb_code.proofs.LineLemmas.{is_inner, AreWords}
+use Rattle.pb_code.proofs.Verdicts.{mapped_read, paired_read, select_or}
 use Rattle.pb_code.proofs.LineForms.{decimal_clean}
 use Rattle.pb_code.proofs.BundleForms.{bundle_takes, bundle_again, bundle_clean}
 use Rattle.pb_code.proofs.Parts.{AreLine, IsForm}
@@ -156,11 +155,11 @@ signed_again (pos n) good =
 signed_again (negsuc n) good =
     let small : suc n < 2 ^ 64 = omega (arith, good) in
     let no : bytes_eq (decimal (suc n)) (codes "0") ≡ false =
-        false_from _ (λ h.
-          let e : decimal (suc n) ≡ codes "0" = (bytes_eq-Decides (decimal (suc n)) (codes "0")).0 h in
-          let first : 48 < get_or (decimal (suc n)) 0 0 = first_decimal (suc n) (omega arith) small in
-          let zero : get_or (decimal (suc n)) 0 0 ≡ 48 = ap (λ (w : Word). get_or w 0 0) e in
-          omega arith) in
+    false_from _ (λ h.
+    let e : decimal (suc n) ≡ codes "0" = (bytes_eq-Decides (decimal (suc n)) (codes "0")).0 h in
+    let first : 48 < get_or (decimal (suc n)) 0 0 = first_decimal (suc n) (omega arith) small in
+    let zero : get_or (decimal (suc n)) 0 0 ≡ 48 = ap (λ (w : Word). get_or w 0 0) e in
+    omega arith) in
     let one : suc n - 1 ≡ n = omega arith in
     rw (no, number_again 1 (2 ^ 63) (suc n) (omega arith) (omega arith) (omega (arith, good)), one) refl
 

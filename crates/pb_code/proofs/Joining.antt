@@ -1,6 +1,6 @@
 -- Words with single spaces between them, one word more at the end.
-use Rattle.std.proofs.Common.{◌≡◌, ℕ, suc, ◌+◌, ◌<◌, List, [], ◌∷◌, ◌++◌, length, take, get_or, map, refl, sym, ap, ◌∙◌, append_assoc, codes, arith}
-use Rattle.std.specs.Fmt.{decimal, signed_decimal}
+use Rattle.std.proofs.Common.{◌≡◌, ℕ, ◌+◌, ◌<◌, List, [], ◌∷◌, ◌++◌, length, take, get_or, map, refl, sym, ap, ◌∙◌, append_assoc, arith}
+use Rattle.std.specs.Fmt.{decimal}
 use Rattle.std.specs.List.{join_with_byte, flat_map}
 use Rattle.std.proofs.lemmas.List.{take_more, map_push, length-map, length-take-le, append-nil}
 use Rattle.std.proofs.lemmas.List.Concat.{flat_map-cons}
@@ -26,7 +26,7 @@ pair_words_push (q ∷ ps) p = ap (λ (ws : List Word). decimal q.resource ∷ d
 -- one pair more
 pub join_pair : (k : Word) (ps : List Pair) (i : ℕ) (d : Pair) → i < length ps
     → join_with_byte 32 (k ∷ pair_words (take (i + 1) ps))
-      ≡ (join_with_byte 32 (k ∷ pair_words (take i ps)) ++ 32 ∷ decimal (get_or ps i d).resource) ++ 32 ∷ decimal (get_or ps i d).amount
+    ≡ (join_with_byte 32 (k ∷ pair_words (take i ps)) ++ 32 ∷ decimal (get_or ps i d).resource) ++ 32 ∷ decimal (get_or ps i d).amount
 join_pair k ps i d lt =
     let p = get_or ps i d in
     ap (λ (qs : List Pair). join_with_byte 32 (k ∷ pair_words qs)) (take_more ps i d lt)
@@ -84,7 +84,7 @@ pub more_mapped : {A : Type 0} (f : A → Word) (old so_far new : List ℕ) (k :
 more_mapped f old so_far new k front xs i d lt e h =
     let w = f (get_or xs i d) in
     let words : front ++ map f (take (i + 1) xs) ≡ (front ++ map f (take i xs)) ++ w ∷ [] =
-        ap (λ (ws : List Word). front ++ ws) (up_to_here f xs i d lt) ∙ sym (append_assoc front (map f (take i xs)) (w ∷ [])) in
+    ap (λ (ws : List Word). front ++ ws) (up_to_here f xs i d lt) ∙ sym (append_assoc front (map f (take i xs)) (w ∷ [])) in
     h ∙ ap (λ (t : List ℕ). t ++ 32 ∷ w) e ∙ append_assoc old (join_with_byte 32 (k ∷ (front ++ map f (take i xs)))) (32 ∷ w)
     ∙ ap (λ (t : List ℕ). old ++ t) (sym (ap (λ (ws : List Word). join_with_byte 32 (k ∷ ws)) words ∙ join_push k (front ++ map f (take i xs)) w))
 
@@ -105,7 +105,7 @@ more_places {A} {B} {C} text view old so_far new ls is i d e lt even f h =
     let lefts = take_more ls i d lt in
     let rights : map view (take (i + 1) is) ≡ map view (take i is) ++ y ∷ [] = ap (map view) (take_more is i e (omega (arith, even))) ∙ map_push view (take i is) (get_or is i e) in
     let same : length (take i ls) ≡ length (map view (take i is)) =
-        length-take-le i ls (omega arith) ∙ sym (length-map (take i is) view ∙ length-take-le i is (omega (arith, even))) in
+    length-take-le i ls (omega arith) ∙ sym (length-map (take i is) view ∙ length-take-le i is (omega (arith, even))) in
     let rows : side_by_side (take (i + 1) ls) (map view (take (i + 1) is)) ≡ front ++ (x, y) ∷ [] = rw (lefts, rights) (side_push (take i ls) (map view (take i is)) x y same) in
     h ∙ ap (λ (t : List ℕ). t ++ text (x, y)) f ∙ append_assoc old (flat_map text front) (text (x, y))
     ∙ ap (λ (t : List ℕ). old ++ t) (sym (ap (flat_map text) rows ∙ flat_push text front (x, y)))

@@ -1,21 +1,18 @@
 -- What each kind of line that is no place reads is what it spells.
-use Rattle.std.proofs.Common.{◌≡◌, ◌≢◌, ℕ, zero, suc, ◌+◌, ◌-◌, ◌^◌, ◌<◌, ◌≤◌, Bool, true, false, cond, not, ◌&&◌, ◌||◌, eqb, ltb, leb, ◌⊎◌, List, [], ◌∷◌, ◌++◌, length, get_or, refl, sym, ap, subst, ◌∙◌, arith, rules, inl, inr, map, codes}
+use Rattle.std.proofs.Common.{◌≡◌, ℕ, zero, suc, ◌^◌, ◌<◌, ◌≤◌, Bool, true, false, cond, not, ◌&&◌, eqb, ltb, List, [], ◌∷◌, length, refl, sym, ap, subst, ◌∙◌, arith, map, codes}
 use Rattle.std.specs.List.{list_all, AllByRecursion}
 use Rattle.std.specs.Char.{is_ascii_digit}
-use Rattle.std.specs.Str.{bytes_eq}
 use Rattle.std.specs.Fmt.{decimal}
 use Rattle.std.proofs.lemmas.Bool.Decides.{nat_tests}
-use Rattle.std.proofs.lemmas.Slice.Eq.{bytes_eq-Decides}
 use Rattle.std.specs.Str.Parse.{digits_value}
 use Rattle.std.proofs.lemmas.Bool.{eqb-true, ltb-false, le-ltb}
 use Rattle.std.proofs.lemmas.List.{length-append, length-map}
 use Rattle.std.proofs.lemmas.Fmt.{digits_decimal, decimal-digits_value, digits_value-decimal}
-use Rattle.pb_code.specs.declared.words.Verdict.{Verdict}
 use Rattle.pb_code.specs.declared.words.Verdict.TheVariants.{Malformed, Beyond, Read}
 use Rattle.pb_code.specs.declared.format.Format.{Format}
 use Rattle.pb_code.specs.declared.format.Format.TheVariants.{One, Two}
 use Rattle.pb_code.specs.Words.{Word, paired, mapped, number, numbers, is_numeral, is_letter, is_name_byte, reserved_words, is_name, is_among, is_new_name, are_new}
-use Rattle.pb_code.specs.Instructions.{select, alone}
+use Rattle.pb_code.specs.Instructions.{select}
 use Rattle.pb_code.specs.Objects.{ResourceRow, counted_words, resource_words, process_words, digit_of, integers_words, claims_words}
 use Rattle.pb_code.specs.Ranges.{IsResource, AreIntegers, AreClaims, plain_names}
 use Rattle.pb_code.specs.Reading.{counted, resource, process_name, heading, says_number, named_integers, integers, claims}
@@ -73,9 +70,9 @@ heading_takes (k ∷ []) f e = absurd cc
 heading_takes (k ∷ d ∷ []) f e =
     let o = only_read k (codes "PBO") (select d (codes "1") (Read One) (select d (codes "2") (Read Two) Malformed)) f e in
     let digit : d ≡ digit_of f =
-        select_or d (codes "1") (Read One) (select d (codes "2") (Read Two) Malformed) f o.1
-          (λ h g. let is : One ≡ f = cc in h ∙ ap digit_of is)
-          (λ g. let p = only_read d (codes "2") (Read Two) f g in let g' = p.1 in let is : Two ≡ f = cc in p.0 ∙ ap digit_of is) in
+    select_or d (codes "1") (Read One) (select d (codes "2") (Read Two) Malformed) f o.1
+    (λ h g. let is : One ≡ f = cc in h ∙ ap digit_of is)
+    (λ g. let p = only_read d (codes "2") (Read Two) f g in let g' = p.1 in let is : Two ≡ f = cc in p.0 ∙ ap digit_of is) in
     let a = o.0 in cc
 heading_takes (k ∷ d ∷ w ∷ ws) f e = absurd cc
 
@@ -183,7 +180,7 @@ named_takes count names found e =
     let few : length names ≤ 64 = ltb-false _ _ f.0 in
     let word : count ≡ decimal (length names) = says_takes count (length names) (omega arith) s.0 in
     subst (λ (l : List Word). (count ∷ names ≡ decimal (length l) ∷ l) × AreIntegers Two l) f.2
-      (ap (λ (w : Word). w ∷ names) word, (all_from is_name names s.1, f.1, few))
+    (ap (λ (w : Word). w ∷ names) word, (all_from is_name names s.1, f.1, few))
 
 integers_takes : (format : Format) (ws names : List Word) → integers format ws ≡ Read names → (ws ≡ integers_words format names) × AreIntegers format names
 integers_takes One ws names e =
@@ -202,7 +199,7 @@ integers_again : (format : Format) (names : List Word) → AreIntegers format na
 unfolding named_integers
 integers_again One names good =
     rw (select_same (codes "vars") (number 0 64 (decimal (length names))) Malformed, number_again 0 64 (length names) (omega arith) (omega arith) (let h = good.1 in omega arith))
-      (ap (λ (l : List Word). Read l) (sym good.0))
+    (ap (λ (l : List Word). Read l) (sym good.0))
 integers_again Two names good =
     let few : ltb 64 (length names) ≡ false = le-ltb _ _ good.2 in
     rw (says_again (length names) (let h = good.2 in omega arith), all_to is_name names good.0, few, good.1) refl
@@ -227,7 +224,7 @@ numbers_takes high small (w ∷ ws) ns e =
     let first = number_takes 0 high w m.0.0 small q.0 in
     let others = numbers_takes high small ws m.0.1 q.1 in
     subst (λ (l : List ℕ). (w ∷ ws ≡ map decimal l) × AllByRecursion (λ n. n ≤ high) l) m.2
-      ((let a = first.0 in let b = others.0 in cc), (first.2, others.1))
+    ((let a = first.0 in let b = others.0 in cc), (first.2, others.1))
 
 numbers_again : (high : ℕ) → high < 2 ^ 64 → (ns : List ℕ) → AllByRecursion (λ n. n ≤ high) ns → numbers 0 high (map decimal ns) ≡ Read ns
 numbers_again high small [] good = refl

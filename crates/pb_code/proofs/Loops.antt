@@ -4,7 +4,7 @@ use Rattle.std.specs.List.{list_any, list_all}
 use Rattle.pb_code.specs.declared.fault.Fault.{Fault}
 use Rattle.pb_code.specs.declared.fault.ReadError.{ReadError}
 use Rattle.pb_code.specs.declared.fault.ReadError.TheVariants as errors
-use Rattle.pb_code.specs.Lines.{◌>>=◌, Fails, many}
+use Rattle.pb_code.specs.Lines.{Fails, many}
 
 pub any_map : {A B : Type 0} (p : B → Bool) (f : A → B) (xs : List A) → list_any p (map f xs) ≡ list_any (λ x. p (f x)) xs
 any_map p f [] = refl

@@ -1,5 +1,5 @@
 -- What the first format says has a text in the second format too.
-use Rattle.std.proofs.Common.{◌≡◌, ◌≢◌, ℕ, zero, suc, ◌+◌, ◌*◌, ◌^◌, ◌<◌, ◌≤◌, Bool, true, false, cond, not, ◌&&◌, ◌||◌, eqb, ltb, List, [], ◌∷◌, ◌++◌, length, map, refl, sym, ap, subst, ◌∙◌, append_assoc, arith, Option, Some, None, codes}
+use Rattle.std.proofs.Common.{◌≡◌, ℕ, zero, suc, ◌<◌, ◌≤◌, Bool, true, false, not, ◌&&◌, ◌||◌, ltb, List, [], ◌∷◌, ◌++◌, length, refl, sym, ap, subst, ◌∙◌, append_assoc, arith, Option}
 use Rattle.std.specs.Char.{is_ascii_digit}
 use Rattle.std.specs.Str.{bytes_eq}
 use Rattle.std.specs.Fmt.{decimal}
@@ -12,12 +12,12 @@ use Rattle.std.proofs.lemmas.Fmt.{digits_decimal, length-decimal-le}
 use Rattle.pb_base.specs.declared.pair.Pair.{Pair}
 use Rattle.pb_code.specs.declared.format.Format.{Format}
 use Rattle.pb_code.specs.declared.format.Format.TheVariants.{One, Two}
-use Rattle.pb_code.specs.Code.{Instr, Push, Load, Store, Compute1, Compute2, Jump, JumpIfZero, PrintTop, Take, Give, Fork, Join, End}
+use Rattle.pb_code.specs.Code.{Instr, Take, Give}
 use Rattle.pb_code.specs.Whole.{Code, ProcessLabels}
 use Rattle.pb_code.specs.Words.{Word, is_name_byte, is_name, reserved_words, is_among, are_new}
 use Rattle.pb_code.specs.Objects.{ProcessRow, Object, code_of, labels_of}
-use Rattle.pb_code.specs.Ranges.{Each, IsBundle, IsInstr, IsLine, IsPlace, plain_names, AreIntegers, IsProcess, IsObject, most_processes}
-use Rattle.pb_code.specs.Answers.{IsObjectOf, HasText}
+use Rattle.pb_code.specs.Ranges.{Each, IsBundle, IsInstr, IsLine, IsPlace, plain_names, AreIntegers, IsProcess, IsObject}
+use Rattle.pb_code.specs.Answers.{HasText}
 use Rattle.pb_code.proofs.Numbers.{own}
 use Rattle.pb_code.proofs.LineLemmas.{all_mono}
 use Rattle.pb_code.proofs.BundleForms.{decimal_same}
@@ -63,9 +63,9 @@ unfolding plain_names
 not_among zero n le small = refl
 not_among (suc k) n le small =
     let other : bytes_eq (118 ∷ decimal n) (118 ∷ decimal k) ≡ false =
-        false_from _ (λ h. let same : 118 ∷ decimal n ≡ 118 ∷ decimal k = (bytes_eq-Decides (118 ∷ decimal n) (118 ∷ decimal k)).0 h in
-          let digits : decimal n ≡ decimal k = cc in
-          let e : n ≡ k = decimal_same n k (omega arith) (omega arith) digits in omega (arith, e)) in
+    false_from _ (λ h. let same : 118 ∷ decimal n ≡ 118 ∷ decimal k = (bytes_eq-Decides (118 ∷ decimal n) (118 ∷ decimal k)).0 h in
+    let digits : decimal n ≡ decimal k = cc in
+    let e : n ≡ k = decimal_same n k (omega arith) (omega arith) digits in omega (arith, e)) in
     among_push (plain_names k) (118 ∷ decimal k) (118 ∷ decimal n) (not_among k n (omega arith) small) other
 
 new_push : (e xs : List Word) (x : Word) → are_new e xs ≡ true → is_among (e ++ xs) x ≡ false → are_new e (xs ++ x ∷ []) ≡ true
@@ -74,7 +74,7 @@ new_push e [] x h k =
     rw other refl
 new_push e (y ∷ xs) x h k =
     still_true (is_among e y) (are_new (e ++ y ∷ []) xs) (are_new (e ++ y ∷ []) (xs ++ x ∷ [])) h
-      (λ n. new_push (e ++ y ∷ []) xs x n (ap (λ (l : List Word). is_among l x) (append_assoc e (y ∷ []) xs) ∙ k))
+    (λ n. new_push (e ++ y ∷ []) xs x n (ap (λ (l : List Word). is_among l x) (append_assoc e (y ∷ []) xs) ∙ k))
 
 plain_are_new : (n : ℕ) → n ≤ 64 → are_new [] (plain_names n) ≡ true
 unfolding plain_names
@@ -83,9 +83,11 @@ plain_are_new (suc n) small = new_push [] (plain_names n) (118 ∷ decimal n) (p
 
 integers_moved : (format : Format) (names : List Word) → AreIntegers format names → AreIntegers Two names
 integers_moved One names good =
-    let n = length names in
-    (subst (λ (l : List Word). AllByRecursion (λ w. is_name w ≡ true) l) (sym good.0) (plain_are_names n good.1),
-     ap (are_new []) good.0 ∙ plain_are_new n good.1, good.1)
+    let n = length names in (
+      subst (λ (l : List Word). AllByRecursion (λ w. is_name w ≡ true) l) (sym good.0) (plain_are_names n good.1),
+      ap (are_new []) good.0 ∙ plain_are_new n good.1,
+      good.1,
+    )
 integers_moved Two names good = good
 
 bundle_moved : (ps : List Pair) → IsBundle 1 ps → IsBundle 16 ps
@@ -106,8 +108,15 @@ places_moved format e (p ∷ ps) h = (place_moved format p h.0, places_moved for
 
 process_moved : (format : Format) (m : ℕ) (e : List ProcessRow) (p : ProcessRow) → IsProcess format m e p → IsProcess Two m e p
 process_moved format m e p h = record {
-  name = h.name; integers = integers_moved format p.integers h.integers; some_arms = h.some_arms; few_arms = h.few_arms; claims = h.claims; entries = h.entries;
-  some_places = h.some_places; few_places = h.few_places; places = places_moved format [] p.places h.places;
+  name = h.name;
+  integers = integers_moved format p.integers h.integers;
+  some_arms = h.some_arms;
+  few_arms = h.few_arms;
+  claims = h.claims;
+  entries = h.entries;
+  some_places = h.some_places;
+  few_places = h.few_places;
+  places = places_moved format [] p.places h.places;
 }
 
 processes_moved : (format : Format) (m : ℕ) (e ps : List ProcessRow) → Each (IsProcess format m) e ps → Each (IsProcess Two m) e ps
@@ -116,9 +125,12 @@ processes_moved format m e (p ∷ ps) h = (process_moved format m e p h.0, proce
 
 pub has_text : (o : Object) (code : Code) (labels : List ProcessLabels) → IsObject o → code ≡ code_of o → labels ≡ labels_of o → HasText Two code labels
 has_text o code labels h is_code is_labels =
-    let most : length o.processes ≤ 64 = (let a = h.few_processes in let b = few_processes o.format in omega arith) in
-    (record { format = Two; resources = o.resources; processes = o.processes },
-     record {
-       good = record { few_resources = h.few_resources; resources = h.resources; some_processes = h.some_processes; few_processes = most; processes = processes_moved o.format (length o.resources) [] o.processes h.processes };
-       is_format = refl; says_code = is_code; says_labels = is_labels;
-     })
+    let most : length o.processes ≤ 64 = (let a = h.few_processes in let b = few_processes o.format in omega arith) in (
+      record { format = Two; resources = o.resources; processes = o.processes },
+      record {
+        good = record { few_resources = h.few_resources; resources = h.resources; some_processes = h.some_processes; few_processes = most; processes = processes_moved o.format (length o.resources) [] o.processes h.processes };
+        is_format = refl;
+        says_code = is_code;
+        says_labels = is_labels;
+      },
+    )

@@ -1,9 +1,9 @@
 -- A number that is read is the number that was written, and what was written is read again.
-use Rattle.std.proofs.Common.{◌≡◌, ℕ, zero, suc, ◌+◌, ◌-◌, ◌*◌, ◌^◌, ◌<◌, ◌≤◌, ◌≢◌, Bool, true, false, cond, not, ◌&&◌, ◌||◌, eqb, ltb, List, [], ◌∷◌, ◌++◌, length, get_or, min, refl, sym, ap, subst, ◌∙◌, arith, rules, inl, inr, take}
+use Rattle.std.proofs.Common.{◌≡◌, ℕ, ◌+◌, ◌*◌, ◌^◌, ◌<◌, ◌≤◌, Bool, true, false, cond, not, ◌&&◌, ◌||◌, eqb, ltb, List, [], ◌∷◌, length, get_or, refl, sym, ap, subst, ◌∙◌, arith, rules, inl, inr, take}
 use Rattle.std.specs.List.{list_all}
 use Rattle.std.specs.Char.{is_ascii_digit, digit_value}
 use Rattle.std.specs.Fmt.{decimal}
-use Rattle.std.specs.Str.Parse.{digits_value, AllDigits}
+use Rattle.std.specs.Str.Parse.{digits_value}
 use Rattle.std.proofs.lemmas.Str.{digit_value_digit}
 use Rattle.std.proofs.lemmas.Str.Parse.{IsNumeralModel, numerals_by_value, digit_at}
 use Rattle.std.proofs.lemmas.Int.Digits.{digits_value_more}
@@ -74,10 +74,10 @@ number_takes low high w n small e =
 pub is_numeral_decimal : (n : ℕ) → n < 2 ^ 64 → is_numeral (decimal n) ≡ true
 is_numeral_decimal n small =
     is_numeral_from (decimal n) (digits_decimal own n small) (decimal_nonempty n small) (λ h.
-      elim (cases_lt 0 n) [
-        | inl lt ↦ absurd (omega (arith, first_decimal n lt small, h))
-        | inr le ↦ (let z : n ≡ 0 = omega arith in let d : decimal n ≡ 48 ∷ [] = ap decimal z ∙ decimal_digit 0 (omega arith) in ap (λ (w : Word). length w) d)
-      ])
+    elim (cases_lt 0 n) [
+      | inl lt ↦ absurd (omega (arith, first_decimal n lt small, h))
+      | inr le ↦ (let z : n ≡ 0 = omega arith in let d : decimal n ≡ 48 ∷ [] = ap decimal z ∙ decimal_digit 0 (omega arith) in ap (λ (w : Word). length w) d)
+    ])
 
 pub number_again : (low high n : ℕ) → high < 2 ^ 64 → low ≤ n → n ≤ high → number low high (decimal n) ≡ Read n
 unfolding number

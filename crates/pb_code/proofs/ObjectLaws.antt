@@ -1,22 +1,20 @@
 -- What is read of an object is what it spells, and what is spelled is read, whatever follows.
-use Rattle.std.proofs.Common.{◌≡◌, ℕ, zero, suc, ◌+◌, ◌^◌, ◌<◌, ◌≤◌, Bool, true, false, cond, eqb, List, [], ◌∷◌, ◌++◌, length, Result, Ok, Err, refl, sym, ap, subst, ◌∙◌, append_assoc, arith, codes, map, Option}
+use Rattle.std.proofs.Common.{◌≡◌, ℕ, ◌^◌, ◌<◌, ◌≤◌, Bool, true, false, cond, eqb, List, [], ◌∷◌, ◌++◌, length, Ok, Err, refl, sym, ap, subst, ◌∙◌, append_assoc, arith, codes, map}
 use Rattle.std.specs.List.{flat_map, list_all}
-use Rattle.std.specs.Fmt.{decimal}
 use Rattle.std.proofs.lemmas.Bool.{eqb-true}
 use Rattle.std.proofs.lemmas.List.{append-nil, nil_from_length}
 use Rattle.pb_code.specs.declared.fault.Fault.{Fault}
-use Rattle.pb_code.specs.declared.fault.Fault.TheVariants.{Malformed, Beyond}
+use Rattle.pb_code.specs.declared.fault.Fault.TheVariants.{Malformed}
 use Rattle.pb_code.specs.declared.format.Format.{Format}
 use Rattle.pb_code.specs.declared.format.Format.TheVariants.{One, Two}
-use Rattle.pb_code.specs.Code.{Instr}
 use Rattle.pb_code.specs.Words.{Word, is_new_name}
-use Rattle.pb_code.specs.Lines.{line_text, line, many, ◌>>=◌}
+use Rattle.pb_code.specs.Lines.{line_text, line, many}
 use Rattle.pb_code.specs.Instructions.{place, place_words}
-use Rattle.pb_code.specs.Objects.{ResourceRow, ProcessRow, Object, counted_words, resource_words, process_words, integers_words, claims_words, digit_of, process_text, spelling}
+use Rattle.pb_code.specs.Objects.{ProcessRow, Object, counted_words, resource_words, process_words, integers_words, claims_words, digit_of, process_text, spelling}
 use Rattle.pb_code.specs.Ranges.{Each, IsPlace, IsResource, IsEntry, IsProcess, IsObject, AreIntegers, AreClaims, most_processes}
 use Rattle.pb_code.specs.Reading.{counted, resource, process_name, heading, integers, claims, resource_at, entry_at, place_at, process_at, process_after, object_at, all_of}
 use Rattle.pb_code.proofs.LineLemmas.{bind_ok, ok_is, is_inner}
-use Rattle.pb_code.proofs.Parts.{IsForm, IsPart, line_is, many_is}
+use Rattle.pb_code.proofs.Parts.{IsPart, line_is, many_is}
 use Rattle.pb_code.proofs.LineForms.{counted_is, heading_is, resource_is, name_is, integers_is, claims_is}
 use Rattle.pb_code.proofs.InstrForms.{place_is}
 
@@ -73,7 +71,7 @@ joined_seven : (x1 x2 x3 x4 x5 x6 x7 bytes b1 b2 b3 b4 b5 b6 rest : List ℕ)
     → bytes ≡ (x1 ++ (x2 ++ (x3 ++ (x4 ++ (x5 ++ (x6 ++ x7)))))) ++ rest
 joined_seven x1 x2 x3 x4 x5 x6 x7 bytes b1 b2 b3 b4 b5 b6 rest e1 e2 e3 e4 e5 e6 e7 =
     e1 ∙ ap (λ (t : List ℕ). x1 ++ t) (e2 ∙ ap (λ (t : List ℕ). x2 ++ t) (e3 ∙ ap (λ (t : List ℕ). x3 ++ t) (e4 ∙ ap (λ (t : List ℕ). x4 ++ t)
-      (e5 ∙ ap (λ (t : List ℕ). x5 ++ t) (e6 ∙ ap (λ (t : List ℕ). x6 ++ t) e7)))))
+    (e5 ∙ ap (λ (t : List ℕ). x5 ++ t) (e6 ∙ ap (λ (t : List ℕ). x6 ++ t) e7)))))
     ∙ sym (seven x1 x2 x3 x4 x5 x6 x7 rest)
 
 process_takes : (format : Format) (m : ℕ) (earlier : List ProcessRow) (bytes : List ℕ) (p : ProcessRow) (rest : List ℕ) → process_at format m earlier bytes ≡ Ok (p, rest)
@@ -98,16 +96,16 @@ process_takes format m earlier bytes p rest e =
     let arms : line_text (counted_words (codes "arms") d.0.0) ≡ line_text (counted_words (codes "arms") (length g.0.0)) = ap (λ (n : ℕ). line_text (counted_words (codes "arms") n)) (sym tg.1.0) in
     let code : line_text (counted_words (codes "code") h.0.0) ≡ line_text (counted_words (codes "code") (length i.0.0)) = ap (λ (n : ℕ). line_text (counted_words (codes "code") n)) (sym ti.1.0) in
     let e1 =
-        joined_seven
-          (line_text (process_words a.0.0))
-          (line_text (integers_words format b.0.0))
-          (line_text (counted_words (codes "arms") (length g.0.0)))
-          (line_text (claims_words f.0.0))
-          (flat_map (λ e. line_text (counted_words (codes "arm") e)) g.0.0)
-          (line_text (counted_words (codes "code") (length i.0.0)))
-          (flat_map (λ i. line_text (place_words format i)) i.0.0)
-          bytes a.0.1 b.0.1 d.0.1 f.0.1 g.0.1 h.0.1 i.0.1
-          ta.0 tb.0 (td.0 ∙ ap (λ (t : List ℕ). t ++ d.0.1) arms) tf.0 tg.0 (th.0 ∙ ap (λ (t : List ℕ). t ++ h.0.1) code) ti.0 in
+    joined_seven
+    (line_text (process_words a.0.0))
+    (line_text (integers_words format b.0.0))
+    (line_text (counted_words (codes "arms") (length g.0.0)))
+    (line_text (claims_words f.0.0))
+    (flat_map (λ e. line_text (counted_words (codes "arm") e)) g.0.0)
+    (line_text (counted_words (codes "code") (length i.0.0)))
+    (flat_map (λ i. line_text (place_words format i)) i.0.0)
+    bytes a.0.1 b.0.1 d.0.1 f.0.1 g.0.1 h.0.1 i.0.1
+    ta.0 tb.0 (td.0 ∙ ap (λ (t : List ℕ). t ++ d.0.1) arms) tf.0 tg.0 (th.0 ∙ ap (λ (t : List ℕ). t ++ h.0.1) code) ti.0 in
     let good : IsProcess format m earlier made = record {
       name = ta.1;
       integers = tb.1;
@@ -135,13 +133,14 @@ process_again format m earlier p rest good =
     let regrouped = seven x1 x2 x3 x4 x5 x6 x7 rest in
     ap (process_at format m earlier) regrouped
     ∙ rw (
-        (name_part earlier).again p.name (x2 ++ (x3 ++ (x4 ++ (x5 ++ (x6 ++ (x7 ++ rest)))))) good.name,
-        (integers_part format).again p.integers (x3 ++ (x4 ++ (x5 ++ (x6 ++ (x7 ++ rest))))) good.integers,
-        (counted_part (codes "arms") 1 64 (omega arith) refl).again (length p.entries) (x4 ++ (x5 ++ (x6 ++ (x7 ++ rest)))) (good.some_arms, good.few_arms),
-        (claims_part m).again p.claims (x5 ++ (x6 ++ (x7 ++ rest))) good.claims,
-        (entries_part (length p.entries)).again p.entries (x6 ++ (x7 ++ rest)) (refl, good.entries),
-        (counted_part (codes "code") 1 40000 (omega arith) refl).again (length p.places) (x7 ++ rest) (good.some_places, good.few_places),
-        (places_part format (length p.places)).again p.places rest (refl, good.places)) refl
+      (name_part earlier).again p.name (x2 ++ (x3 ++ (x4 ++ (x5 ++ (x6 ++ (x7 ++ rest)))))) good.name,
+      (integers_part format).again p.integers (x3 ++ (x4 ++ (x5 ++ (x6 ++ (x7 ++ rest))))) good.integers,
+      (counted_part (codes "arms") 1 64 (omega arith) refl).again (length p.entries) (x4 ++ (x5 ++ (x6 ++ (x7 ++ rest)))) (good.some_arms, good.few_arms),
+      (claims_part m).again p.claims (x5 ++ (x6 ++ (x7 ++ rest))) good.claims,
+      (entries_part (length p.entries)).again p.entries (x6 ++ (x7 ++ rest)) (refl, good.entries),
+      (counted_part (codes "code") 1 40000 (omega arith) refl).again (length p.places) (x7 ++ rest) (good.some_places, good.few_places),
+      (places_part format (length p.places)).again p.places rest (refl, good.places),
+    ) refl
 
 pub process_part : (format : Format) (m : ℕ) (earlier : List ProcessRow) → IsPart (process_at format m earlier) (process_text format) (IsProcess format m earlier)
 process_part format m earlier = record { takes = process_takes format m earlier; again = process_again format m earlier }
@@ -175,14 +174,14 @@ object_takes bytes o rest e =
     let resources : line_text (counted_words (codes "resources") b.0.0) ≡ line_text (counted_words (codes "resources") (length c.0.0)) = ap (λ (n : ℕ). line_text (counted_words (codes "resources") n)) (sym tc.1.0) in
     let processes : line_text (counted_words (codes "processes") d.0.0) ≡ line_text (counted_words (codes "processes") (length g.0.0)) = ap (λ (n : ℕ). line_text (counted_words (codes "processes") n)) (sym tg.1.0) in
     let e1 =
-        joined
-          (line_text (codes "PBO" ∷ digit_of a.0.0 ∷ []))
-          (line_text (counted_words (codes "resources") (length c.0.0)))
-          (flat_map (λ r. line_text (resource_words r)) c.0.0)
-          (line_text (counted_words (codes "processes") (length g.0.0)))
-          (flat_map (λ p. process_text a.0.0 p) g.0.0)
-          bytes a.0.1 b.0.1 c.0.1 d.0.1 g.0.1
-          ta.0 (tb.0 ∙ ap (λ (t : List ℕ). t ++ b.0.1) resources) tc.0 (td.0 ∙ ap (λ (t : List ℕ). t ++ d.0.1) processes) tg.0 in
+    joined
+    (line_text (codes "PBO" ∷ digit_of a.0.0 ∷ []))
+    (line_text (counted_words (codes "resources") (length c.0.0)))
+    (flat_map (λ r. line_text (resource_words r)) c.0.0)
+    (line_text (counted_words (codes "processes") (length g.0.0)))
+    (flat_map (λ p. process_text a.0.0 p) g.0.0)
+    bytes a.0.1 b.0.1 c.0.1 d.0.1 g.0.1
+    ta.0 (tb.0 ∙ ap (λ (t : List ℕ). t ++ b.0.1) resources) tc.0 (td.0 ∙ ap (λ (t : List ℕ). t ++ d.0.1) processes) tg.0 in
     let good : IsObject made = record {
       few_resources = (let n = tc.1.0 in let l = tb.1.1 in omega arith);
       resources = tc.1.1;
@@ -202,11 +201,12 @@ object_again o rest good =
     let x5 = flat_map (λ p. process_text o.format p) o.processes in
     ap object_at (five x1 x2 x3 x4 x5 rest)
     ∙ rw (
-        format_part.again o.format (x2 ++ (x3 ++ (x4 ++ (x5 ++ rest)))) tt,
-        (counted_part (codes "resources") 0 16 (omega arith) refl).again (length o.resources) (x3 ++ (x4 ++ (x5 ++ rest))) (omega arith, good.few_resources),
-        (resources_part (length o.resources)).again o.resources (x4 ++ (x5 ++ rest)) (refl, good.resources),
-        (counted_part (codes "processes") 1 (most_processes o.format) (small_processes o.format) refl).again (length o.processes) (x5 ++ rest) (good.some_processes, good.few_processes),
-        (processes_part o.format (length o.resources) (length o.processes)).again o.processes rest (refl, good.processes)) refl
+      format_part.again o.format (x2 ++ (x3 ++ (x4 ++ (x5 ++ rest)))) tt,
+      (counted_part (codes "resources") 0 16 (omega arith) refl).again (length o.resources) (x3 ++ (x4 ++ (x5 ++ rest))) (omega arith, good.few_resources),
+      (resources_part (length o.resources)).again o.resources (x4 ++ (x5 ++ rest)) (refl, good.resources),
+      (counted_part (codes "processes") 1 (most_processes o.format) (small_processes o.format) refl).again (length o.processes) (x5 ++ rest) (good.some_processes, good.few_processes),
+      (processes_part o.format (length o.resources) (length o.processes)).again o.processes rest (refl, good.processes),
+    ) refl
 
 pub object_part : IsPart object_at spelling IsObject
 object_part = record { takes = object_takes; again = object_again }

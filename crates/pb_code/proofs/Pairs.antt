@@ -1,5 +1,5 @@
 -- Pairs of words, one after the other.
-use Rattle.std.proofs.Common.{◌≡◌, ℕ, zero, suc, ◌+◌, ◌-◌, ◌*◌, ◌^◌, ◌<◌, ◌≤◌, ◌≢◌, Bool, true, false, cond, not, ◌||◌, ◌&&◌, append_assoc, List, [], ◌∷◌, ◌++◌, length, get_or, take, drop, map, refl, sym, ap, subst, ◌∙◌, arith, All, Option, Some, None}
+use Rattle.std.proofs.Common.{◌≡◌, ℕ, ◌+◌, ◌-◌, ◌<◌, ◌≤◌, ◌≢◌, Bool, true, false, ◌||◌, append_assoc, List, [], ◌∷◌, ◌++◌, length, get_or, take, drop, map, refl, sym, ap, subst, ◌∙◌, arith, All}
 use Rattle.std.specs.Str.{bytes_eq}
 use Rattle.std.specs.Fmt.{decimal}
 use Rattle.std.proofs.lemmas.List.{take_rest, append-nil}
@@ -122,12 +122,12 @@ pair_takes r k p e =
     let first = number_takes 0 15 r m.0.0 (omega arith) q.0 in
     let second = number_takes 1 1000000 k m.0.1 (omega arith) q.1 in
     subst (λ (x : Pair). (r ≡ decimal x.resource) × (k ≡ decimal x.amount) × (x.resource ≤ 15) × (1 ≤ x.amount) × (x.amount ≤ 1000000)) m.2
-      (first.0, second.0, first.2, second.1, second.2)
+    (first.0, second.0, first.2, second.1, second.2)
 
 apart_one : (r k : Word) (rest ws : List Word) (q : Pair) → rest ≡ r ∷ k ∷ ws → IsApart rest q → (bytes_eq r (decimal q.resource) ≡ false) × IsApart ws q
 apart_one r k rest ws q e h =
     let both : (bytes_eq r (decimal q.resource) || names_resource ws (decimal q.resource)) ≡ false =
-        sym (ap (λ (l : List Word). names_resource l (decimal q.resource)) e) ∙ h in
+    sym (ap (λ (l : List Word). names_resource l (decimal q.resource)) e) ∙ h in
     none_of (bytes_eq r (decimal q.resource)) (names_resource ws (decimal q.resource)) both
 
 pub apart_after : (r k : Word) (rest ws : List Word) (bundle : List Pair) → rest ≡ r ∷ k ∷ ws → All (IsApart rest) bundle → All (IsApart ws) bundle

@@ -1,12 +1,11 @@
 -- A part of the text that is read is the part that was written, and what was written is read again.
-use Rattle.std.proofs.Common.{◌≡◌, ℕ, zero, suc, ◌+◌, ◌-◌, ◌^◌, ◌<◌, ◌≤◌, Bool, true, false, cond, List, [], ◌∷◌, ◌++◌, length, Result, Ok, Err, refl, sym, ap, subst, ◌∙◌, append_assoc, arith}
+use Rattle.std.proofs.Common.{◌≡◌, ℕ, zero, suc, List, [], ◌∷◌, ◌++◌, length, Result, Ok, refl, sym, ap, subst, ◌∙◌, append_assoc}
 use Rattle.std.specs.List.{flat_map}
 use Rattle.std.proofs.lemmas.List.{append-nil}
 use Rattle.std.proofs.lemmas.List.Concat.{flat_map-cons}
 use Rattle.pb_code.specs.declared.words.Verdict.{Verdict}
 use Rattle.pb_code.specs.declared.words.Verdict.TheVariants as verdict
 use Rattle.pb_code.specs.declared.fault.Fault.{Fault}
-use Rattle.pb_code.specs.declared.fault.Fault.TheVariants.{Malformed, Beyond}
 use Rattle.pb_code.specs.Words.{Word}
 use Rattle.pb_code.specs.Lines.{line_text, ◌>>=◌, first_line, judged, line, many}
 use Rattle.pb_code.specs.Ranges.{Each}
@@ -41,11 +40,11 @@ pub line_is : {X : Type 0} (form : List Word → Verdict X) (words : X → List 
 unfolding line
 line_is form words Good f = record {
   takes = λ bytes x rest e.
-    let a = bind_ok (first_line bytes) (λ ws. judged (length bytes) (form ws.0) >>= λ y. Ok (y, ws.1)) (x, rest) e in
-    let b = bind_ok (judged (length bytes) (form a.0.0)) (λ y. Ok (y, a.0.1)) (x, rest) a.2 in
-    let said = f.takes a.0.0 b.0 (judged_ok (length bytes) (form a.0.0) b.0 b.1) in
-    let whole : bytes ≡ line_text (words b.0) ++ a.0.1 = first_line_takes bytes a.0 a.1 ∙ ap (λ (ws : List Word). line_text ws ++ a.0.1) said.0 in
-    subst (λ (y : _ × List ℕ). (bytes ≡ line_text (words y.0) ++ y.1) × Good y.0) (ok_is (b.0, a.0.1) (x, rest) b.2) (whole, said.1);
+      let a = bind_ok (first_line bytes) (λ ws. judged (length bytes) (form ws.0) >>= λ y. Ok (y, ws.1)) (x, rest) e in
+      let b = bind_ok (judged (length bytes) (form a.0.0)) (λ y. Ok (y, a.0.1)) (x, rest) a.2 in
+      let said = f.takes a.0.0 b.0 (judged_ok (length bytes) (form a.0.0) b.0 b.1) in
+      let whole : bytes ≡ line_text (words b.0) ++ a.0.1 = first_line_takes bytes a.0 a.1 ∙ ap (λ (ws : List Word). line_text ws ++ a.0.1) said.0 in
+      subst (λ (y : _ × List ℕ). (bytes ≡ line_text (words y.0) ++ y.1) × Good y.0) (ok_is (b.0, a.0.1) (x, rest) b.2) (whole, said.1);
   again = λ x rest good. rw (first_again (words x) rest (f.clean x good), f.again x good) refl;
 }
 
@@ -89,7 +88,7 @@ pub many_is : {X : Type 0} (part : List X → List ℕ → Result (X × List ℕ
     → (n : ℕ) → IsPart (many part [] n) (flat_map text) (λ xs. (length xs ≡ n) × Each Good [] xs)
 many_is {X} part text Good is n = record {
   takes = λ bytes ys rest e.
-    let t = many_takes part text Good is n [] bytes ys rest e in
-    subst (λ (zs : List X). (bytes ≡ flat_map text zs ++ rest) × ((length zs ≡ n) × Each Good [] zs)) (sym t.all) (t.parts, (t.count, t.good));
+      let t = many_takes part text Good is n [] bytes ys rest e in
+      subst (λ (zs : List X). (bytes ≡ flat_map text zs ++ rest) × ((length zs ≡ n) × Each Good [] zs)) (sym t.all) (t.parts, (t.count, t.good));
   again = λ xs rest good. subst (λ (k : ℕ). many part [] k (flat_map text xs ++ rest) ≡ Ok (xs, rest)) good.0 (many_again part text Good is xs [] rest good.1);
 }

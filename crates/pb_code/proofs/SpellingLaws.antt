@@ -1,13 +1,13 @@
 -- What is spelled alike is alike, and what is alike is spelled alike.
-use Rattle.std.proofs.Common.{◌≡◌, ℕ, suc, ◌+◌, ◌<◌, ◌≤◌, List, [], ◌∷◌, ◌++◌, length, map, refl, sym, ap, subst, ◌∙◌, arith, Option, Some, None, Result, Ok}
-use Rattle.std.proofs.lemmas.List.{append-nil, length-map}
+use Rattle.std.proofs.Common.{◌≡◌, ℕ, ◌≤◌, List, [], ◌∷◌, ◌++◌, length, map, refl, sym, ap, subst, ◌∙◌, Option, Ok}
+use Rattle.std.proofs.lemmas.List.{append-nil}
 use Rattle.pb_code.specs.declared.format.Format.{Format}
-use Rattle.pb_code.specs.declared.format.Format.TheVariants.{One, Two}
+use Rattle.pb_code.specs.declared.format.Format.TheVariants.{One}
 use Rattle.pb_code.specs.Code.{Instr, ProcessCode}
 use Rattle.pb_code.specs.Whole.{Code, ProcessLabels}
 use Rattle.pb_code.specs.Words.{Word}
 use Rattle.pb_code.specs.Objects.{ResourceRow, ProcessRow, Object, process_code, process_labels, code_of, labels_of, spelling}
-use Rattle.pb_code.specs.Ranges.{Each, IsPlace, IsProcess, IsObject, plain_names}
+use Rattle.pb_code.specs.Ranges.{Each, IsPlace, IsProcess, plain_names}
 use Rattle.pb_code.specs.Reading.{answer_of}
 use Rattle.pb_code.specs.Answers.{IsObjectOf, Spells, SpellsOne}
 use Rattle.pb_code.proofs.ObjectLaws.{alike}
@@ -79,15 +79,15 @@ by_processes [] (q ∷ qs) e f g h = absurd cc
 by_processes (p ∷ ps) [] e f g h = absurd cc
 by_processes (p ∷ ps) (q ∷ qs) e f g h =
     cons_is p q ps qs
-      (process_is p q (cons_head _ _ _ _ e) (cons_head _ _ _ _ f) (cons_head _ _ _ _ g) (cons_head _ _ _ _ h))
-      (by_processes ps qs (cons_tail _ _ _ _ e) (cons_tail _ _ _ _ f) (cons_tail _ _ _ _ g) (cons_tail _ _ _ _ h))
+    (process_is p q (cons_head _ _ _ _ e) (cons_head _ _ _ _ f) (cons_head _ _ _ _ g) (cons_head _ _ _ _ h))
+    (by_processes ps qs (cons_tail _ _ _ _ e) (cons_tail _ _ _ _ f) (cons_tail _ _ _ _ g) (cons_tail _ _ _ _ h))
 
 -- an object is known by its format, its code and its labels
 pub by_code : (a b : Object) → a.format ≡ b.format → code_of a ≡ code_of b → labels_of a ≡ labels_of b → a ≡ b
 by_code a b format code labels =
     let resources : a.resources ≡ b.resources = by_resources a.resources b.resources (ap (λ (c : Code). c.names.resources) code) (ap (λ (c : Code). c.capital) code) in
     let processes : a.processes ≡ b.processes =
-        by_processes a.processes b.processes (ap (λ (c : Code). c.names.processes) code) (ap (λ (c : Code). c.claims) code) (ap (λ (c : Code). c.processes) code) labels in
+    by_processes a.processes b.processes (ap (λ (c : Code). c.names.processes) code) (ap (λ (c : Code). c.claims) code) (ap (λ (c : Code). c.processes) code) labels in
     ap (λ (f : Format). record { format = f; resources = a.resources; processes = a.processes }) format
     ∙ ap (λ (rs : List ResourceRow). record { format = b.format; resources = rs; processes = a.processes }) resources
     ∙ ap (λ (ps : List ProcessRow). record { format = b.format; resources = b.resources; processes = ps }) processes
@@ -123,7 +123,7 @@ one_labels m n e g [] (q ∷ qs) h k same = absurd cc
 one_labels m n e g (p ∷ ps) [] h k same = absurd cc
 one_labels m n e g (p ∷ ps) (q ∷ qs) h k same =
     cons_is (process_labels p) (process_labels q) _ _
-      (one_label m n e g p q h.0 k.0 (cons_head _ _ _ _ same)) (one_labels m n (e ++ p ∷ []) (g ++ q ∷ []) ps qs h.1 k.1 (cons_tail _ _ _ _ same))
+    (one_label m n e g p q h.0 k.0 (cons_head _ _ _ _ same)) (one_labels m n (e ++ p ∷ []) (g ++ q ∷ []) ps qs h.1 k.1 (cons_tail _ _ _ _ same))
 
 abbrev Processes : Format → ℕ → List ProcessRow → Type 0
 Processes format m ps = Each (IsProcess format m) [] ps
@@ -134,9 +134,9 @@ same_first c x y s t =
     let b = t.1.0 in
     let code : code_of a ≡ code_of b = sym s.1.1.says_code ∙ t.1.1.says_code in
     let labels : labels_of a ≡ labels_of b =
-        one_labels (length a.resources) (length b.resources) [] [] a.processes b.processes
-          (subst (λ (f : Format). Processes f (length a.resources) a.processes) s.1.1.is_format s.1.1.good.processes)
-          (subst (λ (f : Format). Processes f (length b.resources) b.processes) t.1.1.is_format t.1.1.good.processes)
-          (ap (λ (c : Code). c.processes) code) in
+    one_labels (length a.resources) (length b.resources) [] [] a.processes b.processes
+    (subst (λ (f : Format). Processes f (length a.resources) a.processes) s.1.1.is_format s.1.1.good.processes)
+    (subst (λ (f : Format). Processes f (length b.resources) b.processes) t.1.1.is_format t.1.1.good.processes)
+    (ap (λ (c : Code). c.processes) code) in
     let same : a ≡ b = by_code a b (s.1.1.is_format ∙ sym t.1.1.is_format) code labels in
     s.1.2 ∙ ap spelling same ∙ sym t.1.2

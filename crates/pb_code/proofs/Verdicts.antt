@@ -1,5 +1,5 @@
 -- Verdicts that were read, part by part.
-use Rattle.std.proofs.Common.{◌≡◌, ℕ, Bool, true, false, cond, List, [], ◌∷◌, refl, sym, ap, subst, ◌∙◌}
+use Rattle.std.proofs.Common.{◌≡◌, Bool, true, false, cond, refl, ap}
 use Rattle.std.specs.Str.{bytes_eq}
 use Rattle.std.proofs.lemmas.Slice.Eq.{bytes_eq-Decides}
 use Rattle.pb_code.specs.declared.words.Verdict.{Verdict}
@@ -45,4 +45,3 @@ select_same key it others = rw ((bytes_eq-Decides key key).1 refl) refl
 pub guard_read : {A : Type 0} (b : Bool) (v : Verdict A) (x : A) → cond b v Malformed ≡ Read x → (b ≡ true) × (v ≡ Read x)
 guard_read true v x e = (refl, e)
 guard_read false v x e = absurd cc
-

@@ -1,6 +1,5 @@
 -- What is written is what the rows spell.
-use Rattle.std.proofs.Common.{◌≡◌, ℕ, suc, ◌+◌, ◌<◌, ◌≤◌, List, [], ◌∷◌, ◌++◌, length, take, get_or, map, refl, sym, ap, subst, ◌∙◌, append_assoc, codes, arith, Option, Some, None, slice_get}
-use Rattle.std.specs.Fmt.{decimal}
+use Rattle.std.proofs.Common.{◌≡◌, ℕ, ◌+◌, ◌<◌, ◌≤◌, List, [], ◌∷◌, ◌++◌, length, take, get_or, map, refl, sym, ap, subst, ◌∙◌, append_assoc, codes, arith, Option, Some, slice_get}
 use Rattle.std.specs.List.{flat_map}
 use Rattle.std.proofs.lemmas.List.{length-map, take_more, take_all, get_or-map}
 use Rattle.std.proofs.lemmas.List.Elements.{All-from_recursion}
@@ -16,7 +15,6 @@ use Rattle.pb_code.specs.Instructions.{instr_words, place_words}
 use Rattle.pb_code.specs.Objects.{ResourceRow, ProcessRow, Object, code_of, labels_of, resource_words, digit_of, spelling, process_code, process_labels, counted_words, process_words, integers_words, claims_words, process_text}
 use Rattle.pb_code.specs.Rows.{side_by_side}
 use Rattle.pb_code.specs.Writing.{IsRowOf, IsLabelsOf}
-use Rattle.pb_code.proofs.Sides.{side_left}
 use Rattle.pb_base.specs.Tables.{width_of}
 use Rattle.pb_code.specs.Ranges.{IsObject, IsProcess}
 use Rattle.pb_code.proofs.Columns.{each_all, all_map, width_is}
@@ -49,7 +47,7 @@ regroup old a b c d e f g = simp append_assoc
 abbrev pub between : List ℕ → List ℕ → ℕ → List ℕ
 between entries claims count =
     line_text (counted_words (codes "arms") (length entries)) ++ (line_text (claims_words claims)
-      ++ (flat_map (λ e. line_text (counted_words (codes "arm") e)) entries ++ line_text (counted_words (codes "code") count)))
+    ++ (flat_map (λ e. line_text (counted_words (codes "arm") e)) entries ++ line_text (counted_words (codes "code") count)))
 
 middle : (b2 : List ℕ) (entries es claims cs : List ℕ) (n m : ℕ) → entries ≡ es → claims ≡ cs → n ≡ m → b2 ++ between entries claims n ≡ b2 ++ between es cs m
 middle b2 entries es claims cs n m e1 e2 e3 =
@@ -65,7 +63,7 @@ pub one_written : (old b1 b2 b3 new : List ℕ) (name : Word) (count : ℕ) (ent
     → name ≡ row.name → claims ≡ row.claims → record { integers = count; entries = entries; instrs = instrs } ≡ process_code row
     → b1 ≡ old ++ line_text (process_words name) → b2 ≡ b1 ++ line_text (counted_words (codes "vars") count)
     → b3 ≡ b2 ++ (line_text (counted_words (codes "arms") (length entries)) ++ (line_text (claims_words claims)
-          ++ (flat_map (λ e. line_text (counted_words (codes "arm") e)) entries ++ line_text (counted_words (codes "code") (length instrs)))))
+    ++ (flat_map (λ e. line_text (counted_words (codes "arm") e)) entries ++ line_text (counted_words (codes "code") (length instrs)))))
     → new ≡ b3 ++ flat_map (λ i. line_text (instr_words i)) instrs
     → new ≡ old ++ process_text One row
 unfolding process_text
@@ -75,20 +73,20 @@ one_written old b1 b2 b3 new name count entries claims instrs row is_name is_cla
     let code : instrs ≡ map (λ place. place.1) row.places = ap (λ (c : ProcessCode). c.instrs) is_code in
     let count_is : length instrs ≡ length row.places = ap (λ (l : List Instr). length l) code ∙ length-map row.places (λ place. place.1) in
     let places : flat_map (λ i. line_text (instr_words i)) instrs ≡ flat_map (λ place. line_text (place_words One place)) row.places =
-        ap (flat_map (λ i. line_text (instr_words i))) code ∙ texts_of_map (λ place. place.1) (λ i. line_text (instr_words i)) row.places in
+    ap (flat_map (λ i. line_text (instr_words i))) code ∙ texts_of_map (λ place. place.1) (λ i. line_text (instr_words i)) row.places in
     in_order old b1 b2 b3 new _ _ (line_text (counted_words (codes "arms") (length row.entries))) (line_text (claims_words row.claims))
-      (flat_map (λ e. line_text (counted_words (codes "arm") e)) row.entries) (line_text (counted_words (codes "code") (length row.places))) _
-      (h1 ∙ ap (λ (w : Word). old ++ line_text (process_words w)) is_name)
-      (h2 ∙ ap (λ (n : ℕ). b1 ++ line_text (counted_words (codes "vars") n)) integers)
-      (h3 ∙ middle b2 entries row.entries claims row.claims (length instrs) (length row.places) arms is_claims count_is)
-      (h4 ∙ ap (λ (t : List ℕ). b3 ++ t) places)
+    (flat_map (λ e. line_text (counted_words (codes "arm") e)) row.entries) (line_text (counted_words (codes "code") (length row.places))) _
+    (h1 ∙ ap (λ (w : Word). old ++ line_text (process_words w)) is_name)
+    (h2 ∙ ap (λ (n : ℕ). b1 ++ line_text (counted_words (codes "vars") n)) integers)
+    (h3 ∙ middle b2 entries row.entries claims row.claims (length instrs) (length row.places) arms is_claims count_is)
+    (h4 ∙ ap (λ (t : List ℕ). b3 ++ t) places)
 
 pub two_written : (old b1 b2 b3 new : List ℕ) (name : Word) (names : List Word) (lines : List (Option ℕ)) (count : ℕ) (entries : List ℕ) (claims : List ℕ) (instrs : List Instr) (row : ProcessRow)
     → name ≡ row.name → claims ≡ row.claims → record { integers = count; entries = entries; instrs = instrs } ≡ process_code row
     → record { lines = lines; integers = names } ≡ process_labels row
     → b1 ≡ old ++ line_text (process_words name) → b2 ≡ b1 ++ line_text (integers_words Two names)
     → b3 ≡ b2 ++ (line_text (counted_words (codes "arms") (length entries)) ++ (line_text (claims_words claims)
-          ++ (flat_map (λ e. line_text (counted_words (codes "arm") e)) entries ++ line_text (counted_words (codes "code") (length instrs)))))
+    ++ (flat_map (λ e. line_text (counted_words (codes "arm") e)) entries ++ line_text (counted_words (codes "code") (length instrs)))))
     → new ≡ b3 ++ flat_map (λ p. line_text (place_words Two p)) (side_by_side lines instrs)
     → new ≡ old ++ process_text Two row
 unfolding process_text
@@ -99,13 +97,13 @@ two_written old b1 b2 b3 new name names lines count entries claims instrs row is
     let code : instrs ≡ map (λ place. place.1) row.places = ap (λ (c : ProcessCode). c.instrs) is_code in
     let count_is : length instrs ≡ length row.places = ap (λ (l : List Instr). length l) code ∙ length-map row.places (λ place. place.1) in
     let sides : side_by_side lines instrs ≡ row.places =
-        ap (λ (l : List (Option ℕ)). side_by_side l instrs) numbers ∙ ap (side_by_side (map (λ place. place.0) row.places)) code ∙ sides_of row.places in
+    ap (λ (l : List (Option ℕ)). side_by_side l instrs) numbers ∙ ap (side_by_side (map (λ place. place.0) row.places)) code ∙ sides_of row.places in
     in_order old b1 b2 b3 new _ _ (line_text (counted_words (codes "arms") (length row.entries))) (line_text (claims_words row.claims))
-      (flat_map (λ e. line_text (counted_words (codes "arm") e)) row.entries) (line_text (counted_words (codes "code") (length row.places))) _
-      (h1 ∙ ap (λ (w : Word). old ++ line_text (process_words w)) is_name)
-      (h2 ∙ ap (λ (l : List Word). b1 ++ line_text (integers_words Two l)) integers)
-      (h3 ∙ middle b2 entries row.entries claims row.claims (length instrs) (length row.places) arms is_claims count_is)
-      (h4 ∙ ap (λ (l : List (Option ℕ × Instr)). b3 ++ flat_map (λ p. line_text (place_words Two p)) l) sides)
+    (flat_map (λ e. line_text (counted_words (codes "arm") e)) row.entries) (line_text (counted_words (codes "code") (length row.places))) _
+    (h1 ∙ ap (λ (w : Word). old ++ line_text (process_words w)) is_name)
+    (h2 ∙ ap (λ (l : List Word). b1 ++ line_text (integers_words Two l)) integers)
+    (h3 ∙ middle b2 entries row.entries claims row.claims (length instrs) (length row.places) arms is_claims count_is)
+    (h4 ∙ ap (λ (l : List (Option ℕ × Instr)). b3 ++ flat_map (λ p. line_text (place_words Two p)) l) sides)
 
 -- ---- objects
 
@@ -127,7 +125,7 @@ pub spelling_is : (o : Object) → spelling o ≡ opening o.format o ++ processe
 unfolding spelling
 spelling_is o =
     apart (line_text (codes "PBO" ∷ digit_of o.format ∷ [])) (line_text (counted_words (codes "resources") (length o.resources))) (flat_map (λ r. line_text (resource_words r)) o.resources)
-      (line_text (counted_words (codes "processes") (length o.processes))) (processes_text o.format o.processes)
+    (line_text (counted_words (codes "processes") (length o.processes))) (processes_text o.format o.processes)
 
 -- the texts so far and one more
 pub more_texts : {X : Type 0} (text : X → List ℕ) (xs : List X) (i : ℕ) (d : X) → i < length xs → flat_map text (take (i + 1) xs) ≡ flat_map text (take i xs) ++ text (get_or xs i d)
@@ -153,9 +151,9 @@ resource_at {A} rows f names capital i x n is_names is_capital lt here amount =
     let count : length rows ≡ length names = sym (length-map rows name_of) ∙ ap (λ (l : List Word). length l) is_names ∙ length-map names f in
     let below : i < length rows = omega (arith, count) in
     let name : name_of (get_or rows i d) ≡ f x =
-        sym (get_or-map name_of rows i d (f x) below) ∙ ap (λ (l : List Word). get_or l i (f x)) is_names ∙ get_or-map f names i x (f x) lt ∙ ap f (sym here) in
+    sym (get_or-map name_of rows i d (f x) below) ∙ ap (λ (l : List Word). get_or l i (f x)) is_names ∙ get_or-map f names i x (f x) lt ∙ ap f (sym here) in
     let cash : capital_of (get_or rows i d) ≡ n =
-        sym (get_or-map capital_of rows i d 0 below) ∙ ap (λ (l : List ℕ). get_or l i 0) is_capital ∙ sym amount in
+    sym (get_or-map capital_of rows i d 0 below) ∙ ap (λ (l : List ℕ). get_or l i 0) is_capital ∙ sym amount in
     (below, resource_is (get_or rows i d) d name cash)
 
 four : (old a b c d : List ℕ) → (((old ++ a) ++ b) ++ c) ++ d ≡ old ++ (a ++ (b ++ (c ++ d)))

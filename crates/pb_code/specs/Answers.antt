@@ -1,7 +1,6 @@
 -- Which bytes spell which code, and what reading answers.
-use Rattle.std.specs.Prelude.{◌≡◌, ℕ, ◌≤◌, Bool, true, false, cond, nat_lt, if◌then◌else◌, List, length, Option, Result, Ok, Err, ⊤}
+use Rattle.std.specs.Prelude.{◌≡◌, ℕ, Bool, true, false, nat_lt, if◌then◌else◌, List, length, Result, Ok, Err, ⊤}
 use Rattle.pb_code.specs.declared.fault.Fault.{Fault}
-use Rattle.pb_code.specs.declared.fault.ReadError.{ReadError}
 use Rattle.pb_code.specs.declared.fault.ObjectFault.{ObjectFault}
 use Rattle.pb_code.specs.declared.fault.ObjectFault.TheVariants.{NotObject, Limit, NoMemory}
 use Rattle.pb_code.specs.declared.format.Format.{Format}

@@ -1,12 +1,12 @@
 -- The line of an instruction: its words, and the instruction that words say.
-use Rattle.std.specs.Prelude.{ℕ, zero, suc, ◌+◌, ◌-◌, ◌*◌, ◌^◌, Bool, true, false, cond, not, ◌&&◌, ◌||◌, nat_lt, ◌==◌, if◌then◌else◌, List, [], ◌∷◌, ◌++◌, length, codes, ℤ, pos, negsuc, Option, Some, None, ⊤}
+use Rattle.std.specs.Prelude.{ℕ, zero, suc, ◌+◌, ◌-◌, ◌*◌, ◌^◌, Bool, false, cond, ◌&&◌, ◌||◌, nat_lt, ◌==◌, if◌then◌else◌, List, [], ◌∷◌, length, codes, ℤ, pos, negsuc, Option, Some, None}
 use Rattle.std.specs.Str.{bytes_eq}
 use Rattle.std.specs.Fmt.{decimal, signed_decimal}
 use Rattle.pb_base.specs.declared.pair.Pair.{Pair}
 use Rattle.pb_base.specs.declared.operators.UnaryOp.TheVariants as unary
 use Rattle.pb_base.specs.declared.operators.BinaryOp.TheVariants as binary
 use Rattle.pb_code.specs.declared.words.Verdict.{Verdict}
-use Rattle.pb_code.specs.declared.words.Verdict.TheVariants.{Malformed, Beyond, Read}
+use Rattle.pb_code.specs.declared.words.Verdict.TheVariants.{Malformed, Read}
 use Rattle.pb_code.specs.declared.format.Format.{Format}
 use Rattle.pb_code.specs.declared.format.Format.TheVariants.{One, Two}
 use Rattle.pb_code.specs.declared.instr.Instr.{Instr as Given}
@@ -78,7 +78,7 @@ unfoldable pub signed : Word → Verdict ℤ
 signed [] = Malformed
 signed (b ∷ ds) =
     if b == 45 then
-      if bytes_eq ds (codes "0") then Malformed else mapped (λ n. negsuc (n - 1)) (number 1 (2 ^ 63) ds)
+    if bytes_eq ds (codes "0") then Malformed else mapped (λ n. negsuc (n - 1)) (number 1 (2 ^ 63) ds)
     else mapped pos (number 0 (2 ^ 63 - 1) (b ∷ ds))
 
 -- an instruction with no words after its keyword

@@ -1,5 +1,5 @@
 -- A line, and what follows it.
-use Rattle.std.specs.Prelude.{◌≡◌, ℕ, zero, suc, ◌+◌, Bool, true, false, cond, ◌==◌, List, [], ◌∷◌, ◌++◌, length, take, drop, Option, Some, None, Result, Ok, Err}
+use Rattle.std.specs.Prelude.{◌≡◌, ℕ, zero, suc, ◌==◌, List, [], ◌∷◌, ◌++◌, length, take, drop, Option, Some, None, Result, Ok, Err}
 use Rattle.std.specs.List.{slice_split, join_with_byte, position}
 use Rattle.pb_code.specs.declared.words.Verdict.{Verdict}
 use Rattle.pb_code.specs.declared.words.Verdict.TheVariants as verdict

@@ -1,6 +1,5 @@
 -- Reading an object from left to right, up to the first faulty line.
-use Rattle.std.specs.Prelude.{◌≡◌, ℕ, zero, suc, ◌<◌, ◌≤◌, ◌-◌, Bool, true, false, cond, not, ◌&&◌, ◌||◌, nat_lt, ◌==◌, if◌then◌else◌, List, [], ◌∷◌, ◌++◌, length, map, codes, Option, Result, Ok, Err}
-use Rattle.std.specs.Str.{bytes_eq}
+use Rattle.std.specs.Prelude.{ℕ, ◌-◌, Bool, cond, ◌&&◌, nat_lt, ◌==◌, if◌then◌else◌, List, [], ◌∷◌, length, map, codes, Option, Result, Ok, Err}
 use Rattle.std.specs.Str.Parse.{digits_value}
 use Rattle.std.specs.List.{list_all}
 use Rattle.pb_code.specs.declared.words.Verdict.{Verdict}
@@ -25,8 +24,8 @@ heading [] = verdict.Malformed
 heading (k ∷ []) = verdict.Malformed
 heading (k ∷ d ∷ []) =
     select k (codes "PBO")
-      (select d (codes "1") (verdict.Read One) (select d (codes "2") (verdict.Read Two) verdict.Malformed))
-      verdict.Malformed
+    (select d (codes "1") (verdict.Read One) (select d (codes "2") (verdict.Read Two) verdict.Malformed))
+    verdict.Malformed
 heading (k ∷ d ∷ w ∷ ws) = verdict.Malformed
 
 -- a keyword and a number
@@ -40,10 +39,10 @@ resource earlier (k ∷ []) = verdict.Malformed
 resource earlier (k ∷ name ∷ []) = verdict.Malformed
 resource earlier (k ∷ name ∷ capital ∷ []) =
     select k (codes "resource")
-      (cond (is_new_name (map (λ r. r.name) earlier) name)
-        (mapped (λ c. record { name = name; capital = c }) (number 0 1000000 capital))
-        verdict.Malformed)
-      verdict.Malformed
+    (cond (is_new_name (map (λ r. r.name) earlier) name)
+    (mapped (λ c. record { name = name; capital = c }) (number 0 1000000 capital))
+    verdict.Malformed)
+    verdict.Malformed
 resource earlier (k ∷ name ∷ capital ∷ w ∷ ws) = verdict.Malformed
 
 abbrev pub process_name : List Word → List Word → Verdict Word
@@ -61,8 +60,8 @@ says_number word n = is_numeral word && (digits_value 10 word == n)
 unfoldable pub named_integers : Word → List Word → Verdict (List Word)
 named_integers count names =
     cond (says_number count (length names) && list_all is_name names)
-      (cond (nat_lt 64 (length names)) verdict.Beyond (cond (are_new [] names) (verdict.Read names) verdict.Malformed))
-      verdict.Malformed
+    (cond (nat_lt 64 (length names)) verdict.Beyond (cond (are_new [] names) (verdict.Read names) verdict.Malformed))
+    verdict.Malformed
 
 abbrev pub integers : Format → List Word → Verdict (List Word)
 integers One ws = mapped plain_names (counted (codes "vars") 0 64 ws)

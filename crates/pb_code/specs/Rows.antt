@@ -1,7 +1,6 @@
 -- What contracts see of the lines that were read.
-use Rattle.std.specs.Prelude.{◌≡◌, ◌<◌, ℕ, Bool, true, false, List, [], ◌∷◌, ◌++◌, length, map, All, Option, Some, None, ⊤}
+use Rattle.std.specs.Prelude.{◌≡◌, ◌<◌, ℕ, List, [], ◌∷◌, ◌++◌, length, map, Option, Some, None, ⊤}
 use Rattle.pb_base.specs.declared.pair.Pair.{Pair}
-use Rattle.pb_code.specs.declared.format.Format.{Format}
 use Rattle.pb_code.specs.declared.words.Verdict.{Verdict}
 use Rattle.pb_code.specs.declared.words.Verdict.TheVariants as verdict
 use Rattle.pb_code.specs.declared.instr.Instr.{Instr as Given}

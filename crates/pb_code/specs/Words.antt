@@ -1,5 +1,5 @@
 -- Words of a line: numbers and names.
-use Rattle.std.specs.Prelude.{ℕ, ◌<◌, ◌≤◌, Bool, true, false, cond, not, ◌&&◌, ◌||◌, nat_lt, ◌==◌, if◌then◌else◌, List, [], ◌∷◌, ◌++◌, length, codes, ⊤}
+use Rattle.std.specs.Prelude.{ℕ, ◌≤◌, Bool, true, false, not, ◌&&◌, ◌||◌, nat_lt, ◌==◌, if◌then◌else◌, List, [], ◌∷◌, ◌++◌, length, codes, ⊤}
 use Rattle.std.specs.Str.{bytes_eq}
 use Rattle.std.specs.Char.{is_ascii_digit}
 use Rattle.std.specs.Str.Parse.{digits_value}
@@ -37,7 +37,7 @@ is_numeral (d ∷ ds) = list_all is_ascii_digit (d ∷ ds) && (not (d == 48) || 
 unfoldable pub number : ℕ → ℕ → Word → Verdict ℕ
 number low high word =
     if is_numeral word then
-      if nat_lt (digits_value 10 word) low || nat_lt high (digits_value 10 word) then Beyond else Read (digits_value 10 word)
+    if nat_lt (digits_value 10 word) low || nat_lt high (digits_value 10 word) then Beyond else Read (digits_value 10 word)
     else Malformed
 
 -- numbers from low to high, one after the other

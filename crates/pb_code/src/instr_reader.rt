@@ -5,7 +5,7 @@ ghost use Rattle.pb_code.specs.Instructions as spec;
 ghost use Rattle.pb_code.specs.Words.{number, IsWithin, AreWithin};
 
 use crate::instr::Instr;
-use crate::words::{is, number, Verdict};
+use crate::words::{Verdict, is, number};
 
 fn bare(instr: Instr, words: &[&[u8]]) -> Verdict<Instr>
     ensures { result ≡ spec.bare instr (map (λ w. w.now) words.now) }
@@ -129,14 +129,23 @@ fn push(words: &[&[u8]]) -> Verdict<Instr>
 }
 
 /// Two numbers that must stand alone.
-fn two(low: u64, high: u64, low_second: u64, high_second: u64, words: &[&[u8]]) -> Verdict<(u64, u64)>
+fn two(
+    low: u64,
+    high: u64,
+    low_second: u64,
+    high_second: u64,
+    words: &[&[u8]],
+) -> Verdict<(u64, u64)>
     requires first { high < 2 ^ 64 - 1 }
     requires second { high_second < 2 ^ 64 - 1 }
     ensures numbers { result ≡ spec.two low high low_second high_second (map (λ w. w.now) words.now) }
     ensures range { AreWithin low high low_second high_second result }
 {
     match words {
-        [first, second] => match (number(low, high, first), number(low_second, high_second, second)) {
+        [first, second] => match (
+            number(low, high, first),
+            number(low_second, high_second, second),
+        ) {
             (Verdict::Malformed, _) => Verdict::Malformed,
             (_, Verdict::Malformed) => Verdict::Malformed,
             (Verdict::Read(a), Verdict::Read(b)) => Verdict::Read((a, b)),
@@ -183,13 +192,19 @@ pub(crate) fn plain(keyword: &[u8], words: &[&[u8]]) -> Verdict<Instr>
         match two(1, 63, 1, 16, words) {
             Verdict::Malformed => Verdict::Malformed,
             Verdict::Beyond => Verdict::Beyond,
-            Verdict::Read((first, count)) => Verdict::Read(Instr::Fork { first: first as u8, count: count as u8 }),
+            Verdict::Read((first, count)) => Verdict::Read(Instr::Fork {
+                first: first as u8,
+                count: count as u8,
+            }),
         }
     } else if is(keyword, "join") {
         match two(1, 63, 1, 16, words) {
             Verdict::Malformed => Verdict::Malformed,
             Verdict::Beyond => Verdict::Beyond,
-            Verdict::Read((first, count)) => Verdict::Read(Instr::Join { first: first as u8, count: count as u8 }),
+            Verdict::Read((first, count)) => Verdict::Read(Instr::Join {
+                first: first as u8,
+                count: count as u8,
+            }),
         }
     } else if is(keyword, "end") {
         bare(Instr::End, words)
@@ -197,4 +212,3 @@ pub(crate) fn plain(keyword: &[u8], words: &[&[u8]]) -> Verdict<Instr>
         comparison(keyword, words)
     }
 }
-

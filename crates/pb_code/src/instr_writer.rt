@@ -101,11 +101,7 @@ fn put_bundle_at(
 }
 
 /// The words of an instruction, with single spaces between them.
-pub(crate) fn put_instr(
-    out: &mut Vec<u8>,
-    bundles: &[Bundle],
-    instr: Instr,
-) -> Result<(), NoMemory>
+pub(crate) fn put_instr(out: &mut Vec<u8>, bundles: &[Bundle], instr: Instr) -> Result<(), NoMemory>
     ensures { OnOk result (out.new.items
         ≡ out.old.items ++ join_with_byte 32 (instr_words (instr_view bundles.now instr))) }
 {
@@ -140,11 +136,7 @@ pub(crate) fn put_instr(
 }
 
 /// The line of a place in the first format.
-pub(crate) fn put_place(
-    out: &mut Vec<u8>,
-    bundles: &[Bundle],
-    instr: Instr,
-) -> Result<(), NoMemory>
+pub(crate) fn put_place(out: &mut Vec<u8>, bundles: &[Bundle], instr: Instr) -> Result<(), NoMemory>
     ensures { OnOk result (out.new.items
         ≡ out.old.items ++ line_text (instr_words (instr_view bundles.now instr))) }
 {

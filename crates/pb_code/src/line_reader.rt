@@ -14,7 +14,9 @@ use crate::fault::{Fault, ReadError};
 use crate::format::Format;
 use crate::instr_reader::alone;
 use crate::rows::{ProcessRow, ResourceRow};
-use crate::words::{Verdict, copy_of, is, is_name, is_numeral, judge, number, same, saturated, words_of};
+use crate::words::{
+    Verdict, copy_of, is, is_name, is_numeral, judge, number, same, saturated, words_of,
+};
 use itoa::Buffer;
 use std::alloc::{AllocError, Global};
 
@@ -308,11 +310,7 @@ fn amounts(alloc: Global, words: &[&[u8]]) -> Result<Verdict<Vec<u64>>, AllocErr
     Ok(Verdict::Read(amounts))
 }
 
-fn claims(
-    alloc: Global,
-    resources: usize,
-    words: &[&[u8]],
-) -> Result<Verdict<Vec<u64>>, AllocError>
+fn claims(alloc: Global, resources: usize, words: &[&[u8]]) -> Result<Verdict<Vec<u64>>, AllocError>
     ensures { IfOk result (λ v. mapped (λ amounts. amounts.items) v
         ≡ spec.claims resources (map (λ w. w.now) words.now)) }
 {

@@ -102,7 +102,9 @@ pub(crate) fn saturated(digits: &[u8]) -> u64
 {
     let mut number: u64 = 0;
     for digit in digits {
-        number = number.saturating_mul(10).saturating_add((*digit - b'0') as u64);
+        number = number
+            .saturating_mul(10)
+            .saturating_add((*digit - b'0') as u64);
     }
     number
 }

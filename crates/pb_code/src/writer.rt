@@ -233,10 +233,10 @@ fn put_opening(out: &mut Vec<u8>, digit: &str, code: &Code) -> Result<(), NoMemo
         → map (λ r. r.name) rows ≡ map (λ name. name.items) code.now.names.resources.items
         → map (λ r. r.capital) rows ≡ code.now.capital
         → OnOk result (out.new.items ≡ out.old.items
-            ++ (line_text (codes "PBO" ∷ digit.now ∷ [])
-            ++ (line_text (spec.counted_words (codes "resources") (length rows))
-            ++ (flat_map (λ r. line_text (spec.resource_words r)) rows
-            ++ line_text (spec.counted_words (codes "processes") (length code.now.processes.items)))))) }
+        ++ (line_text (codes "PBO" ∷ digit.now ∷ [])
+        ++ (line_text (spec.counted_words (codes "resources") (length rows))
+        ++ (flat_map (λ r. line_text (spec.resource_words r)) rows
+        ++ line_text (spec.counted_words (codes "processes") (length code.now.processes.items)))))) }
 {
     put_heading(out, digit)?;
     put_counted(out, "resources", code.names.resources.len() as u64)?;

@@ -1,4 +1,4 @@
-use Rattle.std.proofs.Common.{◌≡◌, ◌∙◌, sym, map, drop, get_or, refl}
+use Rattle.std.proofs.Common.{◌∙◌, sym}
 use Rattle.pb_code.proofs.Turns.{from_here, from_end, bad_number, beyond_number, more_number, no_numbers, all_read}
 use Rattle.pb_code.proofs.line_reader.amounts.Goals as goal
 use Rattle.pb_code.proofs.line_reader.amounts.Goals.{in-Beyond, in-Read+in_ok-push-in-Read}
@@ -6,17 +6,17 @@ use Rattle.pb_code.proofs.line_reader.amounts.Goals.{in-Beyond, in-Read+in_ok-pu
 pub returns-in-Malformed : goal.returns-in-Malformed
 returns-in-Malformed c =
     sym (bad_number c.loop-word.beyond c.loop-word.amounts.items _ 1000000 _ _ _
-      (from_here (λ w. w.now) c.args.words.now c.loop-word.word-index _ c.loop-word-test.true) c.loop-word.invariant (sym c.number.ensures.number ∙ c.in-Malformed.is))
+    (from_here (λ w. w.now) c.args.words.now c.loop-word.word-index _ c.loop-word-test.true) c.loop-word.invariant (sym c.number.ensures.number ∙ c.in-Malformed.is))
 
 pub loop-word-preserved : goal.loop-word-preserved
 loop-word-preserved c =
     elim c.match-number.branch [
       | in-Beyond w ↦
           rw (w.amounts-is, w.beyond-is) (beyond_number c.loop-word.beyond c.loop-word.amounts.items _ 1000000 _ _ _
-            (from_here (λ w. w.now) c.args.words.now c.loop-word.word-index _ c.loop-word-test.true) c.loop-word.invariant (sym c.number.ensures.number ∙ w.in-Beyond.is))
+          (from_here (λ w. w.now) c.args.words.now c.loop-word.word-index _ c.loop-word-test.true) c.loop-word.invariant (sym c.number.ensures.number ∙ w.in-Beyond.is))
       | in-Read+in_ok-push-in-Read w ↦
           rw (w.amounts-is, w.beyond-is, w.in_ok-push-in-Read.ensures.items) (more_number c.loop-word.beyond c.loop-word.amounts.items _ 1000000 _ _ _ _
-            (from_here (λ w. w.now) c.args.words.now c.loop-word.word-index _ c.loop-word-test.true) c.loop-word.invariant (sym c.number.ensures.number ∙ w.in-Read.is))
+          (from_here (λ w. w.now) c.args.words.now c.loop-word.word-index _ c.loop-word-test.true) c.loop-word.invariant (sym c.number.ensures.number ∙ w.in-Read.is))
     ]
 
 pub returns-then-beyond : goal.returns-then-beyond

@@ -1,4 +1,3 @@
-use Rattle.std.proofs.Common.{◌≡◌}
 use Rattle.std.proofs.lemmas.Result.{err_from_is_err_and}
 use Rattle.pb_code.specs.Rows.{object_row}
 use Rattle.pb_code.specs.View.{code_view, labels_view}
@@ -17,12 +16,12 @@ assemble-requires-clause-good c = (answer_takes c.args.text.now (object_row c.in
 pub returns-clause-found : goal.returns-clause-found
 returns-clause-found c =
     rows_spelled c.args.text.now c.in_ok-rows.rows (code_view c.in_ok-object.object.0) (labels_view c.in_ok-object.object.1) c.in_ok-rows.ensures.rows
-      c.in_ok-object.ensures.code c.in_ok-object.ensures.labels
+    c.in_ok-object.ensures.code c.in_ok-object.ensures.labels
 
 pub returns-clause-writable : goal.returns-clause-writable
 returns-clause-writable c =
     has_text (object_row c.in_ok-rows.rows) (code_view c.in_ok-object.object.0) (labels_view c.in_ok-object.object.1)
-      (answer_takes c.args.text.now (object_row c.in_ok-rows.rows) c.in_ok-rows.ensures.rows).0 c.in_ok-object.ensures.code c.in_ok-object.ensures.labels
+    (answer_takes c.args.text.now (object_row c.in_ok-rows.rows) c.in_ok-rows.ensures.rows).0 c.in_ok-object.ensures.code c.in_ok-object.ensures.labels
 
 pub returns-clause-only : goal.returns-clause-only
 returns-clause-only c =

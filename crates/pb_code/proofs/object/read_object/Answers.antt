@@ -1,7 +1,7 @@
-use Rattle.std.proofs.Common.{◌≡◌, ◌∙◌, sym}
+use Rattle.std.proofs.Common.{◌∙◌, sym}
 use Rattle.std.proofs.lemmas.Result.{err_from_is_err_and}
 use Rattle.pb_code.specs.declared.format.Format.TheVariants.{One}
-use Rattle.pb_code.specs.View.{code_view, labels_view}
+use Rattle.pb_code.specs.View.{code_view}
 use Rattle.pb_code.proofs.Found.{one_heading, one_found, err_one}
 use Rattle.pb_code.proofs.object.read_object.Goals as goal
 

@@ -1,31 +1,30 @@
-use Rattle.std.proofs.Common.{◌≡◌, ◌≢◌, ◌≤◌, ◌<◌, ◌+◌, ◌*◌, ◌++◌, ◌∷◌, [], arith, ◌/◌, eqb, length, map, sym, subst, ap, ◌∙◌, All, false, true, Bool, List, ℕ, refl, get_or}
+use Rattle.std.proofs.Common.{◌≡◌, ◌≤◌, ◌<◌, ◌+◌, ◌*◌, ◌∷◌, [], arith, ◌/◌, eqb, length, map, sym, ◌∙◌, false, true, Bool, List, ℕ, refl}
 use Rattle.std.proofs.lemmas.List.{length-map, length-append}
 use Rattle.std.proofs.lemmas.Bool.{eqb-true}
 use Rattle.pb_base.specs.declared.pair.Pair.{Pair}
 use Rattle.pb_code.specs.declared.words.Verdict.{Verdict}
 use Rattle.pb_code.specs.declared.words.Verdict.TheVariants.{Beyond, Read}
-use Rattle.pb_code.specs.Instructions.{pairs_of, pair_of, names_resource}
 use Rattle.pb_code.specs.Rows.{bundle_so_far}
-use Rattle.pb_code.proofs.Pairs.{front_two, after_two, IsApart, gathered, twice, next_pair, bad_pair, beyond_pair, more_pair, odd_end, even_end, full_end, apart_after, apart_new, apart_more}
+use Rattle.pb_code.proofs.Pairs.{front_two, after_two, gathered, twice, next_pair, bad_pair, beyond_pair, more_pair, odd_end, even_end, full_end, apart_after, apart_new, apart_more}
 use Rattle.pb_code.proofs.place_reader.pairs.Goals as goal
 use Rattle.pb_code.proofs.place_reader.pairs.Goals.{in-Beyond, in-Read}
 
 pub returns-then-names_resource : goal.returns-then-names_resource
 returns-then-names_resource c =
     sym (twice c.loop.beyond (bundle_so_far c.loop.bundle) _ _ _ (map (λ w. w.now) c.loop.rest.now) _
-      (front_two (λ w. w.now) c.loop.rest.now _ c.in-len2-up.len_at_least) c.loop.invariant.read (sym c.names_resource.ensures ∙ c.if-names_resource.true))
+    (front_two (λ w. w.now) c.loop.rest.now _ c.in-len2-up.len_at_least) c.loop.invariant.read (sym c.names_resource.ensures ∙ c.if-names_resource.true))
 
 pub returns-in-Malformed : goal.returns-in-Malformed
 returns-in-Malformed c =
     let next =
-        next_pair c.loop.beyond (bundle_so_far c.loop.bundle) _ _ _ (map (λ w. w.now) c.loop.rest.now) _
-          (front_two (λ w. w.now) c.loop.rest.now _ c.in-len2-up.len_at_least) c.loop.invariant.read (sym c.names_resource.ensures ∙ c.if-names_resource.false) in
+    next_pair c.loop.beyond (bundle_so_far c.loop.bundle) _ _ _ (map (λ w. w.now) c.loop.rest.now) _
+    (front_two (λ w. w.now) c.loop.rest.now _ c.in-len2-up.len_at_least) c.loop.invariant.read (sym c.names_resource.ensures ∙ c.if-names_resource.false) in
     sym (bad_pair c.loop.beyond (bundle_so_far c.loop.bundle) _ _ _ _ next (sym c.pair.ensures ∙ c.in-Malformed.is))
 
 pub with_pair-requires-clause-new : goal.with_pair-requires-clause-new
 with_pair-requires-clause-new c =
     apart_new _ _ (map (λ w. w.now) c.loop.rest.now) _ (bundle_so_far c.loop.bundle) c.in-Read.pair
-      (front_two (λ w. w.now) c.loop.rest.now _ c.in-len2-up.len_at_least) c.loop.invariant.apart (sym c.pair.ensures ∙ c.in-Read.is)
+    (front_two (λ w. w.now) c.loop.rest.now _ c.in-len2-up.len_at_least) c.loop.invariant.apart (sym c.pair.ensures ∙ c.in-Read.is)
 
 -- an odd number of words has one left at the end, an even number none
 odd_left : (rest words counter : ℕ) → rest + 2 * counter ≡ words → words / 2 ≤ counter → rest < 2
@@ -38,8 +37,8 @@ empty_length (x ∷ xs) h = omega arith
 pub returns-then-not-is_empty : goal.returns-then-not-is_empty
 returns-then-not-is_empty c =
     sym (odd_end c.loop.beyond (bundle_so_far c.loop.bundle) _ (map (λ w. w.now) c.loop.rest.now) c.loop.invariant.read
-      (simp length-map (odd_left (length c.loop.rest.now) (length c.args.words.now) c.loop.counter c.loop.invariant.left c.loop-test.false))
-      (simp length-map (empty_length c.loop.rest.now (sym c.is_empty.ensures ∙ c.if-not-is_empty.true))))
+    (simp length-map (odd_left (length c.loop.rest.now) (length c.args.words.now) c.loop.counter c.loop.invariant.left c.loop-test.false))
+    (simp length-map (empty_length c.loop.rest.now (sym c.is_empty.ensures ∙ c.if-not-is_empty.true))))
 
 pub returns-then-beyond : goal.returns-then-beyond
 returns-then-beyond c =
@@ -67,7 +66,7 @@ returns-in-None c =
     let empty : length (bundle_so_far c.loop.bundle) ≡ 0 = rw c.in-None.is refl in
     let left = c.loop.invariant.left in
     sym (none_beyond c.loop.beyond (bundle_so_far c.loop.bundle) _ c.loop.counter (length c.args.words.now) at_end empty c.loop.invariant.full
-      c.loop-test.false (omega (arith, left, none)) c.requires.some)
+    c.loop-test.false (omega (arith, left, none)) c.requires.some)
 
 pub loop-preserved : goal.loop-preserved
 loop-preserved c =

@@ -10,5 +10,5 @@ invariant-loop l = record {
   left : length l.rest + 2 * l.counter ≡ length l.words;
   room : length (bundle_so_far l.bundle) ≤ l.counter;
   full : l.beyond ≡ false → length (bundle_so_far l.bundle) ≡ l.counter;
-  apart : All (IsApart (map (λ w. w.now) l.rest)) (bundle_so_far l.bundle)
+  apart : All (IsApart (map (λ w. w.now) l.rest)) (bundle_so_far l.bundle);
 }

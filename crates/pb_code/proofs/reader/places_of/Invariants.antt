@@ -10,5 +10,5 @@ invariant-loop l = record {
   read : many (place_at l.format) (side_by_side l.lines.items (map (instr_view l.bundles.items) l.instrs.items)) (l.count - l.counter) l.rest ≡ many (place_at l.format) [] l.count l.text;
   even : length l.lines.items ≡ length l.instrs.items;
   names : All (NamesBelow (length l.bundles.items)) l.instrs.items;
-  few : length l.bundles.items ≤ l.counter
+  few : length l.bundles.items ≤ l.counter;
 }

@@ -7,5 +7,5 @@ use Rattle.pb_code.proofs.reader.processes_of.Given as goal
 abbrev pub invariant-loop : goal.invariant-loop
 invariant-loop l = record {
   read : many (process_at l.format l.resources) (map process_row l.processes.items) (l.count - l.counter) l.rest ≡ many (process_at l.format l.resources) [] l.count l.text;
-  fit : All IsRow l.processes.items
+  fit : All IsRow l.processes.items;
 }

@@ -1,4 +1,4 @@
-use Rattle.std.proofs.Common.{◌≡◌, ◌<◌, ◌∷◌, [], codes, length, arith, slice_index_or}
+use Rattle.std.proofs.Common.{◌<◌, [], codes, length, arith, slice_index_or}
 use Rattle.std.specs.Fmt.{decimal}
 use Rattle.pb_code.proofs.Joining.{more_mapped}
 use Rattle.pb_code.proofs.writer.put_claims.Goals as goal

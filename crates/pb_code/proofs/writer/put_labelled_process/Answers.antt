@@ -3,10 +3,9 @@ use Rattle.std.proofs.lemmas.List.{length-map}
 use Rattle.pb_code.specs.declared.format.Format.TheVariants.{Two}
 use Rattle.pb_code.specs.Code.{Instr, ProcessCode}
 use Rattle.pb_code.specs.Whole.{ProcessLabels}
-use Rattle.pb_code.specs.Words.{Word}
 use Rattle.pb_code.specs.Instructions.{place_words}
 use Rattle.pb_code.specs.Lines.{line_text}
-use Rattle.pb_code.specs.Objects.{process_code, process_labels, integers_words}
+use Rattle.pb_code.specs.Objects.{process_code, process_labels}
 use Rattle.pb_code.specs.Rows.{side_by_side}
 use Rattle.std.specs.List.{flat_map}
 use Rattle.pb_code.specs.View.{process_view, process_labels_view, instr_view}
@@ -41,7 +40,7 @@ returns c = λ row is are.
     let names = c.in_ok-put_integers.ensures ∙ names_line (λ name. name.items) c.put_name.new.out.items _ _ c.deref-2.ensures.value in
     let middle = c.in_ok-put_middle.ensures ∙ ap (λ (n : ℕ). c.put_integers.new.out.items ++ between body.entries.items claims n) count in
     let places = c.in_ok-put_lined_places.ensures
-        ∙ ap (λ (l : List (Option ℕ)). c.put_middle.new.out.items ++ flat_map (λ p. line_text (place_words Two p)) (side_by_side l instrs)) c.deref-3.ensures.value in
+    ∙ ap (λ (l : List (Option ℕ)). c.put_middle.new.out.items ++ flat_map (λ p. line_text (place_words Two p)) (side_by_side l instrs)) c.deref-3.ensures.value in
     two_written c.args.out.now.items c.put_name.new.out.items c.put_integers.new.out.items c.put_middle.new.out.items c.put_lined_places.new.out.items
-      c.deref.result.now (map (λ name. name.items) label.integers.items) label.lines.items body.integers body.entries.items claims instrs row
-      name is.claims whole labels c.in_ok-put_name.ensures names middle places
+    c.deref.result.now (map (λ name. name.items) label.integers.items) label.lines.items body.integers body.entries.items claims instrs row
+    name is.claims whole labels c.in_ok-put_name.ensures names middle places

@@ -10,4 +10,4 @@ use Rattle.pb_code.proofs.writer.put_lined_places.Given as goal
 abbrev pub invariant-loop-i : goal.invariant-loop-i
 invariant-loop-i l =
     l.out.items ≡ l.fn.out.items
-      ++ flat_map (λ p. line_text (place_words Two p)) (side_by_side (take l.i l.lines) (map (instr_view l.code.bundles.items) (take l.i l.code.instrs.items)))
+    ++ flat_map (λ p. line_text (place_words Two p)) (side_by_side (take l.i l.lines) (map (instr_view l.code.bundles.items) (take l.i l.code.instrs.items)))

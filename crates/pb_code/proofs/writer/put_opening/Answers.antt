@@ -1,4 +1,4 @@
-use Rattle.std.proofs.Common.{◌≡◌, ◌++◌, ◌∷◌, [], ◌∙◌, ap, sym, map, ℕ, length, List, codes, arith, rules}
+use Rattle.std.proofs.Common.{◌≡◌, ◌++◌, ◌∙◌, ap, sym, map, ℕ, length, List, codes, arith}
 use Rattle.std.specs.List.{flat_map}
 use Rattle.std.proofs.lemmas.List.{length-map}
 use Rattle.pb_code.specs.Lines.{line_text}
@@ -18,5 +18,5 @@ returns c = λ rows names capital.
     let last = c.in_ok-put_counted-2.ensures ∙ ap (λ (n : ℕ). c.put_resources.new.out.items ++ line_text (counted_words (codes "processes") n)) second in
     let resources = c.in_ok-put_resources.ensures rows (names ∙ ap (map (λ name. name.items)) (sym c.deref.ensures.value)) capital in
     in_four c.args.out.now.items c.put_heading.new.out.items c.put_counted.new.out.items c.put_resources.new.out.items _ _
-      (line_text (counted_words (codes "resources") (length rows))) (flat_map (λ r. line_text (resource_words r)) rows) _
-      c.in_ok-put_heading.ensures counted resources last
+    (line_text (counted_words (codes "resources") (length rows))) (flat_map (λ r. line_text (resource_words r)) rows) _
+    c.in_ok-put_heading.ensures counted resources last

@@ -1,4 +1,4 @@
-use Rattle.std.proofs.Common.{◌≡◌, ◌++◌, ◌∙◌, ap, sym, map, ℕ, length, slice_index_or, []}
+use Rattle.std.proofs.Common.{◌++◌, ◌∙◌, ap, sym, map, ℕ, slice_index_or, []}
 use Rattle.std.proofs.lemmas.List.{length-map}
 use Rattle.pb_code.specs.Objects.{process_code}
 use Rattle.pb_code.specs.View.{process_view, instr_view}
@@ -16,5 +16,5 @@ returns c = λ row is.
     let count = sym (length-map body.instrs.items (instr_view body.bundles.items)) in
     let middle = c.in_ok-put_middle.ensures ∙ ap (λ (n : ℕ). c.put_counted.new.out.items ++ between body.entries.items claims n) count in
     one_written c.args.out.now.items c.put_name.new.out.items c.put_counted.new.out.items c.put_middle.new.out.items c.put_places.new.out.items
-      c.deref.result.now body.integers body.entries.items claims (map (instr_view body.bundles.items) body.instrs.items) row
-      name is.claims whole c.in_ok-put_name.ensures c.in_ok-put_counted.ensures middle c.in_ok-put_places.ensures
+    c.deref.result.now body.integers body.entries.items claims (map (instr_view body.bundles.items) body.instrs.items) row
+    name is.claims whole c.in_ok-put_name.ensures c.in_ok-put_counted.ensures middle c.in_ok-put_places.ensures

@@ -1,4 +1,4 @@
-use Rattle.std.proofs.Common.{◌≡◌, ◌≤◌, ◌++◌, ◌∙◌, ap, sym, map, ℕ, length, List, arith, take}
+use Rattle.std.proofs.Common.{◌≡◌, ◌++◌, ◌∙◌, ap, sym, ℕ, length, List, arith, take}
 use Rattle.std.specs.List.{flat_map}
 use Rattle.std.proofs.lemmas.List.{length-map, take_all}
 use Rattle.pb_code.specs.Lines.{line_text}
@@ -11,10 +11,10 @@ pub loop-r-preserved : goal.loop-r-preserved
 loop-r-preserved c = λ rows names capital.
     let text : ResourceRow → List ℕ = λ r. line_text (resource_words r) in
     let at = resource_at rows (λ name. name.items) c.args.names.now c.args.capital.now c.loop-r.r c.index-names-r.result c.get.result names capital c.loop-r-test.true
-      c.index-names-r.is c.get.ensures in
+    c.index-names-r.is c.get.ensures in
     let written = rw c.deref.ensures.value at c.in_ok-put_resource.ensures in
     next_text text rows c.loop-r.r _ c.args.out.now.items c.loop-r.out.items _ at.0 (c.loop-r.invariant rows names capital)
-      (written ∙ ap (λ (row : ResourceRow). c.loop-r.out.items ++ text row) (sym at.1))
+    (written ∙ ap (λ (row : ResourceRow). c.loop-r.out.items ++ text row) (sym at.1))
 
 pub returns : goal.returns
 returns c = λ rows names capital.

@@ -1,4 +1,4 @@
-use Rattle.std.proofs.Common.{◌≡◌, ◌<◌, ◌≤◌, ◌++◌, ◌∙◌, refl, ap, sym, map, length, get_or, arith}
+use Rattle.std.proofs.Common.{◌<◌, ◌≤◌, refl, length, get_or, arith}
 use Rattle.pb_code.specs.declared.format.Format.TheVariants.{One}
 use Rattle.pb_code.specs.Objects.{process_text}
 use Rattle.pb_code.specs.View.{code_view, process_view}
@@ -22,7 +22,7 @@ loop-p-preserved c = λ o is.
     let lt : c.loop-p.p < length o.processes = (let t = c.loop-p-test.true in omega (arith, count, end)) in
     let row = get_or o.processes c.loop-p.p empty in
     next_text (process_text One) o.processes c.loop-p.p empty (opening One o) c.loop-p.out.items _ lt (c.loop-p.invariant o is)
-      (c.in_ok-put_process.ensures row (row_of o (code_view code) c.loop-p.p is lt))
+    (c.in_ok-put_process.ensures row (row_of o (code_view code) c.loop-p.p is lt))
 
 pub returns : goal.returns
 returns c =

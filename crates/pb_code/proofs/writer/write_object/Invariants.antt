@@ -1,4 +1,4 @@
-use Rattle.std.proofs.Common.{◌≡◌, ◌++◌, take, map, List}
+use Rattle.std.proofs.Common.{◌≡◌, ◌++◌, take}
 use Rattle.pb_code.specs.declared.format.Format.TheVariants.{One}
 use Rattle.pb_code.specs.Objects.{Object, code_of}
 use Rattle.pb_code.specs.View.{code_view}

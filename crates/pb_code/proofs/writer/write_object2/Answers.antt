@@ -1,4 +1,4 @@
-use Rattle.std.proofs.Common.{◌≡◌, ◌<◌, ◌≤◌, ◌++◌, ◌∙◌, refl, ap, sym, map, length, get_or, arith}
+use Rattle.std.proofs.Common.{◌<◌, ◌≤◌, refl, length, get_or, arith}
 use Rattle.pb_code.specs.declared.format.Format.TheVariants.{Two}
 use Rattle.pb_code.specs.Objects.{process_text}
 use Rattle.pb_code.specs.View.{code_view, labels_view, process_view}
@@ -32,7 +32,7 @@ loop-p-preserved c = λ o is are.
     let lt : c.loop-p.p < length o.processes = (let t = c.loop-p-test.true in omega (arith, count, end)) in
     let row = get_or o.processes c.loop-p.p empty in
     next_text (process_text Two) o.processes c.loop-p.p empty (opening Two o) c.loop-p.out.items _ lt (c.loop-p.invariant o is are)
-      (c.in_ok-put_labelled_process.ensures row (row_of o (code_view code) c.loop-p.p is lt) (labels_at o (labels_view c.args.labels.now) c.loop-p.p are lt))
+    (c.in_ok-put_labelled_process.ensures row (row_of o (code_view code) c.loop-p.p is lt) (labels_at o (labels_view c.args.labels.now) c.loop-p.p are lt))
 
 pub returns : goal.returns
 returns c =
