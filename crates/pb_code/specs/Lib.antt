@@ -1,6 +1,15 @@
 pub mod Annotation
+pub mod Answers
 pub mod Code
+pub mod Instructions
+pub mod Lines
+pub mod Objects
+pub mod Ranges
 pub mod Reached
+pub mod Reading
+pub mod Rows
 pub mod Verified
 pub mod View
 pub mod Whole
+pub mod Words
+pub mod Writing

@@ -1,0 +1,188 @@
+//! Lines, their words, and what a word says.
+
+ghost use Rattle.std.specs.Prelude.{◌≡◌, ◌<◌, ◌^◌, ◌-◌, ◌==◌, length, map, IfOk, codes, min, true};
+ghost use Rattle.std.specs.Str.{bytes_eq};
+ghost use Rattle.std.specs.Str.Parse.{digits_value};
+ghost use Rattle.pb_code.specs.Lines.{Gives, first_line, judged};
+ghost use Rattle.pb_code.specs.Words as spec;
+ghost use Rattle.std.specs.List.{position, slice_split, list_all};
+ghost use Rattle.std.specs.Char.{is_ascii_digit};
+
+use crate::fault::{Fault, ReadError};
+use std::alloc::{AllocError, Global};
+
+/// What a line or a part of it says.
+#[derive(Clone, Copy, Debug, PartialEq, Eq)]
+pub(crate) enum Verdict<T> {
+    /// It is not of the form.
+    Malformed,
+    /// It is of the form, with a number out of range.
+    Beyond,
+    Read(T),
+}
+
+fn line_end(text: &[u8]) -> Option<usize>
+    ensures { result ≡ position (λ b. b == 10) text.now }
+{
+    text.iter().position(|b| *b == b'\n')
+}
+
+fn split_words(alloc: Global, line: &[u8]) -> Result<Vec<&[u8]>, AllocError>
+    ensures { IfOk result (λ words. map (λ w. w.now) words.items ≡ slice_split (λ b. b == 32) line.now) }
+{
+    line.split(|b| *b == b' ').collect(alloc)
+}
+
+/// The words of the first line, and what follows its end.
+#[tactic(auto, unfolding(crate::specs::Lines::first_line))]
+pub(crate) fn words_of(alloc: Global, text: &[u8]) -> Result<(Vec<&[u8]>, &[u8]), ReadError>
+    ensures { Gives (λ x. (map (λ w. w.now) x.0.items, x.1.now)) result (first_line text.now) }
+{
+    match line_end(text) {
+        None => Err(ReadError::Fault(Fault::Malformed(text.len()))),
+        Some(end) => {
+            let (line, rest) = text.split_at(end);
+            let words = split_words(alloc, line)?;
+            Ok((words, &rest[1..]))
+        }
+    }
+}
+
+/// What the line is read as, where the text from its start on has `left` bytes.
+pub(crate) fn judge<T>(left: usize, verdict: Verdict<T>) -> Result<T, ReadError>
+    ensures { Gives (λ x. x) result (judged left verdict) }
+{
+    match verdict {
+        Verdict::Malformed => Err(ReadError::Fault(Fault::Malformed(left))),
+        Verdict::Beyond => Err(ReadError::Fault(Fault::Beyond(left))),
+        Verdict::Read(x) => Ok(x),
+    }
+}
+
+/// Whether the word is this text.
+pub(crate) fn is(word: &[u8], text: &str) -> bool
+    ensures { result ≡ bytes_eq word.now text.now }
+{
+    word == text.as_bytes()
+}
+
+/// A copy of the word.
+pub(crate) fn copy_of(alloc: Global, word: &[u8]) -> Result<Vec<u8>, AllocError>
+    ensures { IfOk result (λ copy. copy.items ≡ word.now) }
+{
+    word.to_vec(alloc)
+}
+
+/// Whether two words are the same.
+pub(crate) fn same(a: &[u8], b: &[u8]) -> bool
+    ensures { result ≡ bytes_eq a.now b.now }
+{
+    a == b
+}
+
+fn are_digits(word: &[u8]) -> bool
+    ensures { result ≡ list_all is_ascii_digit word.now }
+{
+    word.iter().all(|b| b.is_ascii_digit())
+}
+
+pub(crate) fn is_numeral(word: &[u8]) -> bool
+    ensures { result ≡ spec.is_numeral word.now }
+{
+    match word {
+        [] => false,
+        [first, rest @ ..] => are_digits(word) && (*first != b'0' || rest.is_empty()),
+    }
+}
+
+/// The number that digits write, or `u64::MAX` where it is larger.
+pub(crate) fn saturated(digits: &[u8]) -> u64
+    requires { list_all is_ascii_digit digits.now ≡ true }
+    ensures { result ≡ min (digits_value 10 digits.now) (2 ^ 64 - 1) }
+{
+    let mut number: u64 = 0;
+    for digit in digits {
+        number = number
+            .saturating_mul(10)
+            .saturating_add((*digit - b'0') as u64);
+    }
+    number
+}
+
+/// A number from `low` to `high`.
+#[tactic(auto, unfolding(crate::specs::Words::number))]
+pub(crate) fn number(low: u64, high: u64, word: &[u8]) -> Verdict<u64>
+    requires { high < 2 ^ 64 - 1 }
+    ensures number { result ≡ spec.number low high word.now }
+    ensures range { spec.IsWithin low high result }
+{
+    if !is_numeral(word) {
+        return Verdict::Malformed;
+    }
+    let number = saturated(word);
+    if number < low || high < number {
+        return Verdict::Beyond;
+    }
+    Verdict::Read(number)
+}
+
+fn is_letter(b: u8) -> bool
+    ensures { result ≡ spec.is_letter b }
+{
+    (64 < b && b < 91) || (96 < b && b < 123)
+}
+
+fn is_name_byte(b: u8) -> bool
+    ensures { result ≡ spec.is_name_byte b }
+{
+    is_letter(b) || (47 < b && b < 58) || b == b'_'
+}
+
+fn are_name_bytes(word: &[u8]) -> bool
+    ensures { result ≡ list_all spec.is_name_byte word.now }
+{
+    word.iter().all(|b| is_name_byte(*b))
+}
+
+/// Whether the word means something else than a name.
+#[tactic(auto, unfolding(crate::specs::Words::reserved_words))]
+fn is_reserved(word: &[u8]) -> bool
+    ensures { result ≡ spec.is_among spec.reserved_words word.now }
+{
+    is(word, "and")
+        || is(word, "begin")
+        || is(word, "div")
+        || is(word, "do")
+        || is(word, "else")
+        || is(word, "end")
+        || is(word, "fi")
+        || is(word, "hold")
+        || is(word, "if")
+        || is(word, "integer")
+        || is(word, "mod")
+        || is(word, "not")
+        || is(word, "od")
+        || is(word, "of")
+        || is(word, "or")
+        || is(word, "parbegin")
+        || is(word, "parend")
+        || is(word, "print")
+        || is(word, "process")
+        || is(word, "resource")
+        || is(word, "skip")
+        || is(word, "then")
+        || is(word, "while")
+}
+
+/// Whether the word may name a process, a resource or an integer.
+#[tactic(auto, unfolding(crate::specs::Words::is_name))]
+pub(crate) fn is_name(word: &[u8]) -> bool
+    ensures { result ≡ spec.is_name word.now }
+{
+    match word {
+        [] => false,
+        [first, rest @ ..] => {
+            is_letter(*first) && are_name_bytes(rest) && rest.len() < 32 && !is_reserved(word)
+        }
+    }
+}
