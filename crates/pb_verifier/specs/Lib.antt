@@ -1,0 +1,4 @@
+pub mod Faults
+pub mod Limits
+pub mod Places
+pub mod Verified
