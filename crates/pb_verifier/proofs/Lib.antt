@@ -1,6 +1,9 @@
+pub mod Arming
 pub mod Bridging
 pub mod Chains
 pub mod Each
+pub mod Forking
+pub mod Limiting
 pub mod Noting
 pub mod Searching
 pub mod Spreading

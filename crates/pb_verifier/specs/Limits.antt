@@ -1,5 +1,6 @@
 -- Code whose counts, numbers and names are within their limits.
-use Rattle.std.specs.Prelude.{◌≡◌, ◌≢◌, ◌≤◌, ◌<◌, ◌⊎◌, ℕ, List, [], ◌∷◌, length, slice_get, slice_index, Some, All, AllPairs, Contains, codes, ⊤}
+use Rattle.std.specs.Prelude.{◌≡◌, ◌≢◌, ◌≤◌, ◌<◌, ℕ, Bool, true, ◌||◌, ◌==◌, List, [], ◌∷◌, length, slice_get, slice_index, Some, All, EachIndex, AllPairs, Contains, codes, ⊤}
+use Rattle.std.specs.Char.{is_ascii_alphabetic, is_ascii_digit}
 use Rattle.pb_base.specs.Bundle.{IsDistinct}
 use Rattle.pb_base.specs.Steppers.{Bundle}
 use Rattle.pb_base.specs.Tables.{HasWidth}
@@ -17,13 +18,9 @@ EachProcess code Holds = (p : ℕ) (process : ProcessCode) → slice_get code.pr
 
 -- ---- names
 
--- a byte is a letter of ASCII
-abbrev pub IsLetter : ℕ → Type 0
-IsLetter b = ((65 ≤ b) × (b ≤ 90)) ⊎ ((97 ≤ b) × (b ≤ 122))
-
 -- a byte is a letter, a digit or `_`
-abbrev pub IsNameByte : ℕ → Type 0
-IsNameByte b = IsLetter b ⊎ (((48 ≤ b) × (b ≤ 57)) ⊎ (b ≡ 95))
+abbrev pub is_name_byte : ℕ → Bool
+is_name_byte b = is_ascii_alphabetic b || is_ascii_digit b || b == 95
 
 -- the words of the language that are no names
 abbrev pub reserved_words : List (List ℕ)
@@ -35,8 +32,8 @@ reserved_words =
 -- 1 to 32 letters, digits and `_`, a letter first, and no reserved word
 pub record IsName (name : List ℕ) : Type 0 where
   pub size : IsUpTo 32 (length name)
-  pub begins : IsLetter (slice_index name 0)
-  pub bytes : All IsNameByte name
+  pub begins : is_ascii_alphabetic (slice_index name 0) ≡ true
+  pub bytes : EachIndex name (λ k. is_name_byte (slice_index name k) ≡ true)
   pub free : ¬ Contains reserved_words name
 
 -- so many names, no two of them the same

@@ -1,6 +1,7 @@
 //! The bundles that the instructions of a process name.
 
-ghost use Rattle.std.specs.Prelude.{◌≡◌, ◌<◌, length, slice_get, Some};
+ghost use Rattle.std.specs.Prelude.{◌≡◌, ◌<◌, ◌≤◌, length, slice_get, Some};
+ghost use Rattle.pb_base.specs.Bundle.{IsDistinct};
 ghost use Rattle.pb_verifier.specs.Given.{bundle_of};
 
 use pb_base::Pair;
@@ -8,7 +9,9 @@ use pb_code::ProcessCode;
 
 /// The number of pairs of a bundle, 0 where there is no such bundle.
 pub fn pairs(code: &ProcessCode, bundle: u16) -> usize
-    ensures { result ≡ length (bundle_of code.now bundle) }
+    ensures len { result ≡ length (bundle_of code.now bundle) }
+    ensures few { result ≤ 16 }
+    ensures distinct { IsDistinct (bundle_of code.now bundle) }
 {
     match code.bundles.get(bundle as usize) {
         Some(bundle) => bundle.len(),
