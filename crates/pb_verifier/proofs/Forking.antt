@@ -1,7 +1,7 @@
 -- Forks and joins that fit.
-use Rattle.std.proofs.Common.{◌≡◌, ◌⊎◌, ◌↔◌, inl, inr, ℕ, zero, suc, ◌+◌, ◌-◌, ◌<◌, ◌≤◌, Bool, true, false, List, length, get_or, Option, Some, None, refl, sym, ap, ◌∙◌, subst, arith}
+use Rattle.std.proofs.Common.{◌≡◌, ◌⊎◌, ◌↔◌, inl, inr, ℕ, zero, suc, ◌+◌, ◌-◌, ◌<◌, ◌≤◌, Bool, true, false, List, length, get_or, replicate, Option, Some, None, refl, sym, ap, ◌∙◌, subst, arith}
 use Rattle.std.specs.Prelude.{slice_get}
-use Rattle.std.proofs.lemmas.List.{get_or_default, get_or_past}
+use Rattle.std.proofs.lemmas.List.{get_or_default, get_or_past, get_or-replicate, length-replicate}
 use Rattle.std.proofs.lemmas.Option.{slice_get_within}
 use Rattle.std.proofs.lemmas.Bool.{cases_lt}
 use Rattle.pb_base.specs.Steppers.{Bundle}
@@ -87,7 +87,7 @@ module _ (code : ProcessCode) where
   arm_of h some place u =
       let last : (arms code - 1) + 1 ≡ arms code = omega arith in
       let e : arm_end code (arms code - 1) ≡ length code.instrs = get_or_past code.entries ((arms code - 1) + 1) (length code.instrs) (omega arith) in
-      cover (rise_of h) (arms code - 1) place (omega arith) (omega arith)
+      cover (rise_of code h) (arms code - 1) place (omega arith) (omega arith)
 
   pub forks_there : HasArms code → 1 ≤ arms code → ((a : ℕ) → a < arms code → ForksLater code a) → (place first count : ℕ) → InstrAt code place (Fork first count) → first + count ≤ arms code
   forks_there h some later place first count read =
@@ -246,3 +246,29 @@ module _ (code : ProcessCode) where
       let by_fork : (place : ℕ) × (first : ℕ) × (count : ℕ) × InstrAt code place (Fork first count) × IsAmong first count b = h.named b v w in
       let x : by_fork.0 < length code.instrs = slice_get_within code.instrs by_fork.0 (Fork by_fork.1 by_fork.2) by_fork.3 in
       (m.marked b (omega arith)).1 (by_fork.0, by_fork.1, by_fork.2, omega arith, by_fork.3, by_fork.4)
+
+  pub later_more : (arm begin n : ℕ) (x : Instr) → InstrAt code n x
+      → ((p first count : ℕ) → begin ≤ p → p < n → InstrAt code p (Fork first count) → (arm < first) × (first + count ≤ arms code))
+      → ((first count : ℕ) → x ≡ Fork first count → (arm < first) × (first + count ≤ arms code))
+      → (p first count : ℕ) → begin ≤ p → p < n + 1 → InstrAt code p (Fork first count) → (arm < first) × (first + count ≤ arms code)
+  later_more arm begin n x read before here p first count u v at = go (cases_lt p n)
+    where
+      go : (p < n) ⊎ (n ≤ p) → (arm < first) × (first + count ≤ arms code)
+      go (inl w) = before p first count u w at
+      go (inr w) =
+          let same : n ≡ p = omega arith in
+          here first count (same_read code.instrs p x (Fork first count) (ap (slice_get code.instrs) (sym same) ∙ read) at)
+
+-- a fork that is given names these arms
+pub forked_by : (bundles : List Bundle) (i : Given) (f n : ℕ) (P : ℕ → ℕ → Type 0) → i ≡ given.Fork f n → P f n ↔ ((first count : ℕ) → instr_view bundles i ≡ Fork first count → P first count)
+forked_by bundles i f n P is = (λ h first count e. go h first count (sym (ap (instr_view bundles) is) ∙ e), λ all. all f n (ap (instr_view bundles) is))
+  where
+    go : P f n → (first count : ℕ) → Fork f n ≡ Fork first count → P first count
+    go h first count e = let a : f ≡ first = cc in let b : n ≡ count = cc in subst (λ (x : ℕ). P x count) a (subst (λ (x : ℕ). P f x) b h)
+
+pub none_marked : (n b : ℕ) → get_or (replicate n false) b false ≡ false
+none_marked n b = go (cases_lt b n)
+  where
+    go : (b < n) ⊎ (n ≤ b) → get_or (replicate n false) b false ≡ false
+    go (inl u) = get_or-replicate n b false false u
+    go (inr u) = get_or_past (replicate n false) b false (let l : length (replicate n false) ≡ n = length-replicate n false in omega arith)

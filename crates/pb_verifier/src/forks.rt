@@ -96,7 +96,8 @@ fn is_paired(code: &ProcessCode, place: usize, instr: Instr) -> bool
 
 /// Marks the arms from one on, as long as none of them is marked, and answers whether none was.
 fn mark(marks: &mut [bool], first: usize, end: usize) -> bool
-    requires { end ≤ length marks.old }
+    requires rise { first ≤ end }
+    requires inside { end ≤ length marks.old }
     ensures free { (result ≡ true)
         ↔ ((b : ℕ) → first ≤ b → b < end → slice_index_or marks.old b false ≡ false) }
     ensures marked { result ≡ true → (b : ℕ) → b < length marks.old

@@ -10,6 +10,7 @@ mod forks;
 mod holdings;
 mod limits;
 mod places;
+mod range;
 mod reach;
 
 pub use fault::VerifyFault;
