@@ -1,8 +1,10 @@
 -- What holds of each element of a list, found out from the first on.
-use Rattle.std.proofs.Common.{◌≡◌, ◌⊎◌, inl, inr, ℕ, ◌+◌, ◌<◌, ◌≤◌, List, length, get_or, map, Option, Some, None, Result, Ok, Err, refl, sym, ap, ◌∙◌, subst, arith}
+use Rattle.std.proofs.Common.{◌≡◌, ◌⊎◌, inl, inr, ℕ, ◌+◌, ◌<◌, ◌≤◌, List, [], ◌∷◌, ◌++◌, length, get_or, map, Option, Some, None, Result, Ok, Err, refl, sym, ap, ◌∙◌, subst, arith}
 use Rattle.std.specs.Prelude.{slice_get, IfOk, IfSome, IfNone}
 use Rattle.std.proofs.lemmas.Option.{slice_get_within, slice_get_read}
 use Rattle.std.proofs.lemmas.Bool.{cases_lt}
+use Rattle.std.proofs.lemmas.List.{get_or_append_left}
+use Rattle.std.proofs.Math.Seq.{get_or-append_seam}
 
 -- what holds of the first n elements
 abbrev pub EachBelow : {A : Type 0} → List A → ℕ → (ℕ → A → Type 0) → Type 0
@@ -35,3 +37,18 @@ pub none_weaker : {T E : Type 0} (r : Result (Option T) E) {P Q : Type 0} → (P
 none_weaker (Ok (Some t)) h p = tt
 none_weaker (Ok None) h p = h p
 none_weaker (Err e) h p = tt
+
+-- a list with one more element
+pub push_more : (xs : List ℕ) (x n : ℕ) (Holds : ℕ → ℕ → Type 0) → length xs ≡ n → ((k : ℕ) → k < n → Holds k (get_or xs k 0)) → Holds n x
+    → (k : ℕ) → k < n + 1 → Holds k (get_or (xs ++ x ∷ []) k 0)
+push_more xs x n Holds l before here k u = go (cases_lt k n)
+  where
+    go : (k < n) ⊎ (n ≤ k) → Holds k (get_or (xs ++ x ∷ []) k 0)
+    go (inl v) = subst (Holds k) (sym (get_or_append_left xs (x ∷ []) 0 k (omega arith))) (before k v)
+    go (inr v) =
+        let e : n ≡ k = omega arith in
+        subst (λ (m : ℕ). Holds m (get_or (xs ++ x ∷ []) m 0)) (l ∙ e) (subst (Holds (length xs)) (sym (get_or-append_seam xs x [] 0)) (subst (λ (m : ℕ). Holds m x) (sym l) here))
+
+pub ok_both : {T E : Type 0} (r : Result T E) {P Q R : T → Type 0} → ((t : T) → P t → Q t → R t) → IfOk r P → IfOk r Q → IfOk r R
+ok_both (Ok t) h p q = h t p q
+ok_both (Err e) h p q = tt

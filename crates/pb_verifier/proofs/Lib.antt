@@ -1,10 +1,17 @@
+pub mod Amounting
 pub mod Arming
 pub mod Bridging
 pub mod Chains
 pub mod Each
+pub mod Ending
 pub mod Forking
+pub mod Greatest
+pub mod Inside
+pub mod Judging
 pub mod Limiting
 pub mod Noting
+pub mod Lying
+pub mod Peaking
 pub mod Searching
 pub mod Spreading
 pub mod Steps

@@ -1,8 +1,11 @@
 //! The search for reached places.
 
-ghost use Rattle.std.specs.Prelude.{◌≡◌, ◌↔◌, ◌<◌, ◌+◌, ℕ, length, Contains, IfOk, IfSome, slice_set, true};
+ghost use Rattle.std.specs.Prelude.{◌≡◌, ◌↔◌, ◌<◌, ◌+◌, ◌≤◌, ℕ, length, Contains, IfOk, IfSome, slice_set, true};
+ghost use Rattle.pb_code.specs.View.{process_view};
+ghost use Rattle.pb_verifier.specs.Faults.{HasArms};
 ghost use Rattle.pb_verifier.specs.Flow.{followers, goes_on, target_of, IsGrown, IsReached, StaysInside, with_marks, with_place, with_places};
-ghost use Rattle.pb_verifier.specs.Given.{instrs_of, plain};
+ghost use Rattle.pb_verifier.specs.Given.{IsOrderOf, instrs_of, plain};
+ghost use Rattle.pb_verifier.specs.Places.{arms};
 
 use crate::places::{falls_through, instr_at, target};
 use pb_base::NoMemory;
@@ -50,7 +53,7 @@ fn visit_followers(
 }
 
 /// The reached places, each after one that leads to it.
-pub fn reached(
+fn reached(
     alloc: Global,
     entries: &[u16],
     code: &ProcessCode,
@@ -73,4 +76,14 @@ pub fn reached(
         next += 1;
     }
     Ok(order)
+}
+
+/// The reached places of a process, each after one that leads to it.
+pub fn reached_places(alloc: Global, code: &ProcessCode) -> Result<Vec<u16>, NoMemory>
+    requires arms { HasArms (process_view code.now) }
+    requires some { 1 ≤ arms (process_view code.now) }
+    requires few { length (instrs_of code.now) ≤ 40000 }
+    ensures { IfOk result (λ order. IsOrderOf code.now order.items) }
+{
+    reached(alloc, &code.entries, code)
 }
