@@ -1,6 +1,6 @@
 //! The check of whole code.
 
-ghost use Rattle.std.specs.Prelude.{◌≡◌, ◌⊎◌, ◌<◌, ◌≤◌, IfErr, IfOk, map};
+ghost use Rattle.std.specs.Prelude.{◌≡◌, ◌↔◌, ◌⊎◌, ◌<◌, ◌≤◌, IfErr, IfOk, map, true};
 ghost use Rattle.pb_code.specs.View.{code_view};
 ghost use Rattle.pb_verifier.specs.Process.{IsEarlier};
 ghost use Rattle.pb_verifier.specs.Verified.{AreArmDepths, IsAnnotated, IsRefusedFor, turn_of};
@@ -30,6 +30,13 @@ fn earlier(found: Option<VerifyFault>, fault: VerifyFault) -> VerifyFault
     }
 }
 
+/// Whether this is want of memory.
+fn is_memory(fault: VerifyFault) -> bool
+    ensures { (result ≡ true) ↔ (fault ≡ VerifyFault.NoMemory) }
+{
+    matches!(fault, VerifyFault::NoMemory)
+}
+
 /// The greatest depth of each arm of each process, or the first fault.
 fn check(alloc: Global, code: &Code) -> Result<Vec<Vec<u16>>, VerifyFault>
     ensures annotated { IfOk result (λ _. IsAnnotated (code_view code.now)) }
@@ -52,8 +59,12 @@ fn check(alloc: Global, code: &Code) -> Result<Vec<Vec<u16>>, VerifyFault>
                     return Err(VerifyFault::NoMemory);
                 };
             }
-            Err(VerifyFault::NoMemory) => return Err(VerifyFault::NoMemory),
-            Err(fault) => found = Some(earlier(found, fault)),
+            Err(fault) => {
+                if is_memory(fault) {
+                    return Err(fault);
+                }
+                found = Some(earlier(found, fault));
+            }
         }
     }
     match found {

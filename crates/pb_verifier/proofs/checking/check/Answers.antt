@@ -1,12 +1,13 @@
-use Rattle.std.proofs.Common.{◌≡◌, ◌+◌, ◌<◌, ◌≤◌, ℕ, List, [], ◌∷◌, ◌++◌, Option, Some, None, Vec, Global, map, length, refl, sym, ap, ◌∙◌, subst, arith}
+use Rattle.std.proofs.Common.{◌≡◌, ◌+◌, ◌<◌, ◌≤◌, ℕ, List, [], ◌∷◌, ◌++◌, Option, Some, None, map, length, true, false, refl, sym, ap, ◌∙◌, subst, arith}
 use Rattle.std.specs.Prelude.{slice_get}
 use Rattle.std.proofs.lemmas.List.{length-map, map-append}
 use Rattle.pb_code.specs.View.{code_view, process_view}
 use Rattle.pb_verifier.specs.declared.fault.VerifyFault.{VerifyFault}
+use Rattle.pb_verifier.specs.declared.fault.VerifyFault.TheVariants.{NoMemory}
 use Rattle.pb_verifier.proofs.Judging.{IsFoundBefore, IsFirstBefore, AreSound, annotated_all, depths_all, found_fault, found_sound, refused_first}
 use Rattle.pb_verifier.proofs.Limiting.{read_mapped}
 use Rattle.pb_verifier.proofs.checking.check.Goals as goal
-use Rattle.pb_verifier.proofs.checking.check.Goals.{in-Ok+in-Ok-push, in-Err}
+use Rattle.pb_verifier.proofs.checking.check.Goals.{in-Ok+in-Ok-push, in-Err+else-is_memory}
 
 pub check_process-requires-clause-small : goal.check_process-requires-clause-small
 check_process-requires-clause-small c =
@@ -18,20 +19,19 @@ pub loop-p-preserved : goal.loop-p-preserved
 loop-p-preserved c =
     let n = c.len-p-end.ensures in
     let read = read_mapped process_view c.args.code.now.processes.items c.loop-p.p c.index.result.now (omega arith) c.index.ensures in
-    let row_items : Vec ℕ Global → List ℕ = λ row. row.items in
     elim c.match-check_process.branch [
       | in-Ok+in-Ok-push w ↦
-          let rows = ap (λ v. map (λ row. row.items) v.items) w.depths-is in
-          let pushed = w.in-Ok-push.ensures.items in
-          let f = w.found-is in
-          let sound = w.in-Ok.ensures.sound in
-          ?
-      | in-Err w ↦
-          let f = w.found-is in
-          let e = w.earlier.ensures in
-          let refused = w.in-Err.ensures.refused in
-          let m = w.in-Err.not-Err-NoMemory in
-          ?
+          let rows : map (λ row. row.items) c.match-check_process.depths.items ≡ map (λ row. row.items) c.loop-p.depths.items ++ w.in-Ok.row.items ∷ [] =
+              ap (λ v. map (λ row. row.items) v.items) w.depths-is ∙ ap (map (λ row. row.items)) w.in-Ok-push.ensures.items ∙ map-append (λ row. row.items) c.loop-p.depths.items (w.in-Ok.row ∷ [])
+          in
+          subst (λ (xs : List (List ℕ)). IsFoundBefore (code_view c.args.code.now) (c.loop-p.p + 1) c.match-check_process.found xs) (sym rows)
+          (subst (λ (f : Option VerifyFault). IsFoundBefore (code_view c.args.code.now) (c.loop-p.p + 1) f (map (λ row. row.items) c.loop-p.depths.items ++ w.in-Ok.row.items ∷ [])) (sym w.found-is)
+          (found_sound (code_view c.args.code.now) c.loop-p.p c.loop-p.found (map (λ row. row.items) c.loop-p.depths.items) (process_view c.index.result.now) w.in-Ok.row.items read c.loop-p.invariant w.in-Ok.ensures.sound))
+      | in-Err+else-is_memory w ↦
+          let some : w.in-Err.fault ≡ NoMemory → ⊥ = λ memory. let wrong : false ≡ true = w.if-is_memory.ensures.1 memory in cc in
+          subst (λ (f : Option VerifyFault). IsFoundBefore (code_view c.args.code.now) (c.loop-p.p + 1) f (map (λ row. row.items) c.match-check_process.depths.items)) (sym w.found-is)
+          (found_fault (code_view c.args.code.now) c.loop-p.p c.loop-p.found (map (λ row. row.items) c.loop-p.depths.items) (map (λ row. row.items) c.match-check_process.depths.items) (process_view c.index.result.now) w.in-Err.fault w.earlier.result read
+          c.loop-p.invariant (w.in-Err.ensures.refused some) w.earlier.ensures)
     ]
 
 pub returns-in-Some-clause-refused : goal.returns-in-Some-clause-refused
