@@ -24,3 +24,6 @@ pub mod verified;
 pub use fault::VerifyFault;
 pub use verified::Verified;
 pub use checking::verify;
+
+#[cfg(test)]
+mod tests;
