@@ -118,17 +118,19 @@ fn the_verified_code_and_its_depths(rt: HostRuntime) -> Result<(), Fail> {
     Ok(())
 }
 
+/// The fault of code that is refused, and the number of processes in what is handed back.
+fn refusal(alloc: Global, code: Code) -> Option<(VerifyFault, usize)> {
+    match verify(alloc, code) {
+        Ok(_) => None,
+        Err((code, fault)) => Some((fault, code.processes.len())),
+    }
+}
+
 #[test]
 fn the_code_is_handed_back(rt: HostRuntime) -> Result<(), Fail> {
     let alloc = rt.alloc();
     let code = one_process(alloc, 0, &[0], &[Instr::Jump(2), Instr::End], 4, 0)?;
-    match verify(alloc, code) {
-        Ok(_) => assert!(rt; false),
-        Err((code, fault)) => {
-            assert_eq!(rt; fault, VerifyFault::WrongArms);
-            assert_eq!(rt; code.processes.len(), 1);
-        }
-    }
+    assert_eq!(rt; refusal(alloc, code), Some((VerifyFault::WrongArms, 1)));
     Ok(())
 }
 
