@@ -1,5 +1,7 @@
 pub mod Amounting
 pub mod Arming
+pub mod Banking
+pub mod Behaved
 pub mod Bridging
 pub mod Chains
 pub mod Each
@@ -7,6 +9,7 @@ pub mod Ending
 pub mod Finding
 pub mod Forking
 pub mod Greatest
+pub mod Holding
 pub mod Inside
 pub mod Judging
 pub mod Limiting
@@ -16,6 +19,7 @@ pub mod Order
 pub mod Peaking
 pub mod Searching
 pub mod Spreading
+pub mod States
 pub mod Steps
 pub mod Sums
 pub mod Threads

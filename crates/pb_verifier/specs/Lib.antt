@@ -1,5 +1,6 @@
 pub mod Amounts
 pub mod Arms
+pub mod Behaviour
 pub mod Ends
 pub mod Faults
 pub mod Flow

@@ -12,6 +12,7 @@ mod facts;
 pub mod fault;
 mod forks;
 mod holdings;
+pub mod laws;
 mod limits;
 mod peaks;
 mod places;
