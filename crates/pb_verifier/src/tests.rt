@@ -114,6 +114,7 @@ fn the_verified_code_and_its_depths(rt: HostRuntime) -> Result<(), Fail> {
     };
     assert_eq!(rt; verified.code().processes.len(), 1);
     assert_eq!(rt; verified.names().processes.len(), 1);
+    assert_eq!(rt; verified.arms(0), 1);
     assert_eq!(rt; verified.depth(0, 0), 2);
     Ok(())
 }

@@ -52,6 +52,14 @@ impl Verified {
         &self.code.names
     }
 
+    /// The number of arms of a process.
+    pub fn arms(&self, process: usize) -> usize
+        requires { process < length self.now.depths }
+        ensures { result ≡ length (slice_index_or self.now.depths process []) }
+    {
+        self.depths[process].len()
+    }
+
     /// The greatest number of operands at a reached place of an arm of a process, at most 256.
     pub fn depth(&self, process: usize, arm: usize) -> u16
         requires process { process < length self.now.depths }
