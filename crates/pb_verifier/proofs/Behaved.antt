@@ -1,0 +1,39 @@
+-- Verified code behaves.
+use Rattle.std.proofs.Common.{◌≡◌, ◌≤◌, ◌<◌, ℕ, [], arith, ap}
+use Rattle.pb_base.specs.Steppers.{Bundle}
+use Rattle.pb_code.specs.Whole.{Code}
+use Rattle.pb_verifier.specs.declared.fault.VerifyFault.TheVariants.{OutOfLimits, WrongArms, WrongForks}
+use Rattle.pb_verifier.specs.Behaviour.{IsWellBehaved, PeaksDecide}
+use Rattle.pb_verifier.specs.Faults.{HasArms, HasForks, TurnsHoldings, in_holdings}
+use Rattle.pb_verifier.specs.Verified.{IsAnnotated}
+use Rattle.pb_verifier.proofs.Banking.{asks_within_claims, kept_reached, not_stuck}
+use Rattle.pb_verifier.proofs.Finding.{can_step}
+use Rattle.pb_verifier.proofs.Greatest.{least, one_holdings, spread_once}
+use Rattle.pb_verifier.proofs.States.{checked, passes_tests}
+
+pub behaved : (code : Code) → IsAnnotated code → IsWellBehaved code
+behaved code annotated = record {
+  passes_tests = λ s reached. passes_tests code annotated s (kept_reached code annotated s reached).good;
+  asks_within = λ s reached. asks_within_claims code annotated s (kept_reached code annotated s reached).good;
+  safe = λ s reached. (kept_reached code annotated s reached).safe;
+  some_arm_steps = λ s reached p process state at here going.
+      can_step process (checked code annotated p process at) state ((kept_reached code annotated s reached).good.fit p process state at here) going;
+  not_stuck = λ s reached. not_stuck code annotated s (kept_reached code annotated s reached);
+}
+
+pub peaks_decide : (code : Code) → PeaksDecide code
+peaks_decide code free p r claim process held peak at holdings peaks =
+    let lie : HasArms process = free WrongArms (omega arith) p process at in
+    let fork : HasForks process = free WrongForks (omega arith) p process at in
+    let some = ((free OutOfLimits (omega arith)).each p process at).some_arms.0 in (
+      λ fits. let w = fits held holdings in let l = least process lie fork some held r peak w.0 peaks.1 w.1 in let c = w.2 in omega (arith, l, c),
+      λ most held' holdings'. (
+        peak,
+        λ a place i here reached instr.
+            let same = spread_once process TurnsHoldings [] held' held one_holdings holdings' holdings place reached in
+            let u = peaks.0 a place i here reached instr in
+            let e = ap (in_holdings r) same in
+            omega (arith, u, e),
+        most,
+      ),
+    )

@@ -1,0 +1,168 @@
+-- A step of the spread over a table.
+use Rattle.std.proofs.Common.{◌≡◌, ◌≢◌, ◌⊎◌, ◌↔◌, inl, inr, ℕ, zero, suc, ◌+◌, ◌-◌, ◌<◌, ◌≤◌, List, [], ◌∷◌, ◌++◌, length, get_or, set, Option, Some, None, refl, sym, ap, ◌∙◌, subst, arith, get_or-set_same, get_or-set_other}
+use Rattle.std.specs.Prelude.{Contains, slice_get, option_map}
+use Rattle.std.proofs.lemmas.List.{get_or_default, get_or_append_left}
+use Rattle.std.proofs.Math.Seq.{get_or-append_right}
+use Rattle.std.proofs.lemmas.List.Elements.{Contains-get_or}
+use Rattle.std.proofs.lemmas.Bool.{cases_eq, cases_lt}
+use Rattle.pb_code.specs.Code.{Instr}
+use Rattle.pb_verifier.specs.Flow.{followers, IsGrown, IsReached, reached_entry, reached_next, StaysInside, LeadsBelow}
+use Rattle.pb_verifier.specs.Spread.{Rules, IsAnnotation, CanBeAnnotated, fact_at, notes_of, AllReadable, AgreesAt, with_notes}
+use Rattle.pb_verifier.proofs.Searching.{reached_inside, leads_below}
+use Rattle.pb_verifier.proofs.Spreading.{IsSpread, Extended, spread_noted, refuted_fit, next_agrees, spread_step}
+use Rattle.pb_verifier.proofs.Noting.{Noted, note_all}
+
+-- the order of the reached places
+pub record IsOrder (entries : List ℕ) (instrs : List Instr) (order : List ℕ) : Type 0 where
+  pub inside : StaysInside entries instrs
+  pub reached : (p : ℕ) → Contains order p ↔ IsReached entries instrs p
+  pub grown : IsGrown entries instrs order
+
+module _ (entries : List ℕ) (instrs : List Instr) (order : List ℕ) (h : IsOrder entries instrs order) where
+  pub order_inside : (k : ℕ) → k < length order → get_or order k 0 < length instrs
+  order_inside k u = reached_inside entries instrs h.inside (get_or order k 0) ((h.reached (get_or order k 0)).0 (Contains-get_or order k 0 u))
+
+  pub order_next : (k : ℕ) → k < length order → (i : Instr) → slice_get instrs (get_or order k 0) ≡ Some i → (q : ℕ) → Contains (followers i (get_or order k 0)) q → Contains order q
+  order_next k u i read q c = (h.reached q).1 (reached_next (get_or order k 0) q ((h.reached (get_or order k 0)).0 (Contains-get_or order k 0 u)) (i, read, c))
+
+module _ {F M : Type 0} (value : List (Option F) → F → M) (IsReadable : List (Option F) → F → Type 0) (rules : Rules M) (entries : List ℕ) (instrs : List Instr) (order : List ℕ) where
+  pub record IsTable (done : ℕ) (table : List (Option F)) : Type 0 where
+    pub sized : length table ≡ length instrs
+    pub readable : AllReadable (IsReadable table) table
+    pub spread : IsSpread rules entries instrs order done (notes_of (value table) table)
+
+  -- the place at hand, its instruction and what is known there
+  pub record IsHere (done : ℕ) (table : List (Option F)) (i : Instr) (f : F) : Type 0 where
+    pub ordered : IsOrder entries instrs order
+    pub kept : IsTable done table
+    pub within : done < length order
+    pub read : slice_get instrs (get_or order done 0) ≡ Some i
+    pub here : fact_at table (get_or order done 0) ≡ Some f
+
+  pub table_noted : (done : ℕ) (table : List (Option F)) → IsOrder entries instrs order → IsTable done table → done < length order → (f : F) × (fact_at table (get_or order done 0) ≡ Some f)
+  table_noted done table o t u =
+      let n : (m : M) × (notes_of (value table) table (get_or order done 0) ≡ Some m) = spread_noted rules entries instrs order done (notes_of (value table) table) t.spread o.grown u in
+      go (fact_at table (get_or order done 0)) refl n.1
+    where
+      go : {m : M} (x : Option F) → fact_at table (get_or order done 0) ≡ x → notes_of (value table) table (get_or order done 0) ≡ Some m → (f : F) × (fact_at table (get_or order done 0) ≡ Some f)
+      go None e n = let e' = ap (option_map (value table)) (sym e) ∙ n in cc
+      go (Some f) e n = (f, e)
+
+  module _ (done : ℕ) (table : List (Option F)) (i : Instr) (f : F) (h : IsHere done table i f) where
+    pub here_inside : get_or order done 0 < length instrs
+    here_inside = order_inside entries instrs order h.ordered done h.within
+
+    pub here_read : slice_get instrs (get_or order done 0) ≡ Some i
+    here_read = h.read
+
+    pub here_leads : (n : ℕ) → n ≡ length table → LeadsBelow i (get_or order done 0) n
+    here_leads n l = leads_below entries instrs (get_or order done 0) n i h.ordered.inside here_inside here_read (l ∙ h.kept.sized)
+
+    pub here_readable : IsReadable table f
+    here_readable = h.kept.readable (get_or order done 0) f h.here
+
+    here_noted : notes_of (value table) table (get_or order done 0) ≡ Some (value table f)
+    here_noted = ap (option_map (value table)) h.here
+
+    pub here_misfit : ¬ rules.Fits i (value table f) → ¬ CanBeAnnotated rules entries instrs
+    here_misfit wrong = refuted_fit rules entries instrs order done (notes_of (value table) table) h.kept.spread (get_or order done 0) (value table f) i here_noted here_read wrong
+
+    -- a fact for the places that follow
+    module _ (next : F) (means : value table next ≡ rules.after i (value table f)) where
+      pub here_agrees : CanBeAnnotated rules entries instrs → (q : ℕ) → Contains (followers i (get_or order done 0)) q → AgreesAt (value table) table next q
+      here_agrees a q c found e =
+          next_agrees rules entries instrs order done (notes_of (value table) table) h.kept.spread (get_or order done 0) (value table f) i here_noted here_read a q (value table found) c
+          (ap (option_map (value table)) e) ∙ sym means
+
+      pub here_done : ((table : List (Option F)) (p : ℕ) (new fact : F) → fact_at table p ≡ None → IsReadable table fact
+          → IsReadable (set table p (Some new)) fact × (value (set table p (Some new)) fact ≡ value table fact))
+          → rules.Fits i (value table f) → IsReadable table next → ((q : ℕ) → Contains (followers i (get_or order done 0)) q → AgreesAt (value table) table next q)
+          → IsTable (done + 1) (with_notes table next (followers i (get_or order done 0)))
+      here_done keeps fits readable agree =
+          let inside : (q : ℕ) → Contains (followers i (get_or order done 0)) q → q < length table = λ q c.
+          let u : q < length instrs = h.ordered.inside.next (get_or order done 0) q (i, here_read, c) in
+          let l : length table ≡ length instrs = h.kept.sized in
+          omega arith
+          in
+          let n : Noted value IsReadable keeps table next (followers i (get_or order done 0)) (with_notes table next (followers i (get_or order done 0))) =
+          note_all value IsReadable keeps table next (followers i (get_or order done 0)) h.kept.readable readable (λ q c. (inside q c, agree q c))
+          in
+          record {
+            sized = n.sized ∙ h.kept.sized;
+            readable = n.readable;
+            spread = spread_step rules entries instrs order done (notes_of (value table) table) (notes_of (value (with_notes table next (followers i (get_or order done 0)))) (with_notes table next (followers i (get_or order done 0))))
+                h.kept.spread (value table f) i here_noted here_read fits
+                (subst (λ (v : M). Extended (notes_of (value table) table) (followers i (get_or order done 0)) v (notes_of (value (with_notes table next (followers i (get_or order done 0)))) (with_notes table next (followers i (get_or order done 0))))) means n.extended)
+                (order_next entries instrs order h.ordered done h.within i here_read);
+          }
+
+  -- at the start only entries have a fact
+  pub table_start : (table : List (Option F)) (first : F) → IsOrder entries instrs order → length table ≡ length instrs → ((k : ℕ) → k < length entries → fact_at table (get_or entries k 0) ≡ Some first)
+      → ((p : ℕ) (f : F) → fact_at table p ≡ Some f → Contains entries p × (f ≡ first)) → IsReadable table first → value table first ≡ rules.start → IsTable 0 table
+  table_start table first o l started only readable means = record {
+    sized = l;
+    readable = λ p f e. subst (IsReadable table) (sym (only p f e).1) readable;
+    spread = record {
+      starts = λ p c. starts p c;
+      flows = λ k u. absurd (omega arith);
+      within = λ p m e. within p m (noted_at' p m e);
+      least = λ other a p m e. least other a p m (noted_at' p m e);
+    };
+  }
+    where
+      starts : (p : ℕ) → Contains entries p → notes_of (value table) table p ≡ Some rules.start
+      starts p c =
+          let here : get_or entries c.0 0 ≡ p = get_or_default entries c.0 0 p c.1 ∙ c.2 in
+          subst (λ (x : ℕ). notes_of (value table) table x ≡ Some rules.start) here (ap (option_map (value table)) (started c.0 c.1) ∙ ap Some means)
+
+      noted_at' : (p : ℕ) (m : M) → notes_of (value table) table p ≡ Some m → (f : F) × (fact_at table p ≡ Some f) × (value table f ≡ m)
+      noted_at' p m e = go (fact_at table p) refl
+        where
+          go : (x : Option F) → fact_at table p ≡ x → (f : F) × (fact_at table p ≡ Some f) × (value table f ≡ m)
+          go None u = let e' : option_map (value table) None ≡ Some m = ap (option_map (value table)) (sym u) ∙ e in cc
+          go (Some f) u =
+              let e' : Some (value table f) ≡ Some m = ap (option_map (value table)) (sym u) ∙ e in
+              let e'' : value table f ≡ m = cc in
+              (f, u, e'')
+
+      within : (p : ℕ) (m : M) → (f : F) × (fact_at table p ≡ Some f) × (value table f ≡ m) → Contains order p
+      within p m (f, u, e) = (o.reached p).1 (reached_entry p (only p f u).0)
+
+      least : (other : ℕ → Option M) → IsAnnotation rules entries instrs other → (p : ℕ) (m : M) → (f : F) × (fact_at table p ≡ Some f) × (value table f ≡ m) → other p ≡ Some m
+      least other a p m (f, u, e) = a.starts p (only p f u).0 ∙ ap Some (sym means ∙ ap (value table) (sym (only p f u).1) ∙ e)
+
+-- ---- filling the table
+
+pub empty_more : {F : Type 0} (table : List (Option F)) → ((p : ℕ) → fact_at table p ≡ None) → (p : ℕ) → fact_at (table ++ None ∷ []) p ≡ None
+empty_more {F = F} table empty p = go (cases_lt p (length table))
+  where
+    last : (k : ℕ) → fact_at {F = F} (None ∷ []) k ≡ None
+    last zero = refl
+    last (suc k) = refl
+
+    go : (p < length table) ⊎ (length table ≤ p) → fact_at (table ++ None ∷ []) p ≡ None
+    go (inl u) = get_or_append_left table (None ∷ []) None p u ∙ empty p
+    go (inr u) = get_or-append_right table (None ∷ []) p None u ∙ last (p - length table)
+
+pub started_more : {F : Type 0} (table : List (Option F)) (entries : List ℕ) (n : ℕ) (first : F) → get_or entries n 0 < length table → ((k : ℕ) → k < n → fact_at table (get_or entries k 0) ≡ Some first)
+    → (k : ℕ) → k < n + 1 → fact_at (set table (get_or entries n 0) (Some first)) (get_or entries k 0) ≡ Some first
+started_more table entries n first w h k u = go (cases_eq (get_or entries k 0) (get_or entries n 0)) (cases_lt k n)
+  where
+    go : (get_or entries k 0 ≡ get_or entries n 0) ⊎ (get_or entries k 0 ≢ get_or entries n 0) → (k < n) ⊎ (n ≤ k) → fact_at (set table (get_or entries n 0) (Some first)) (get_or entries k 0) ≡ Some first
+    go (inl same) _ = ap (fact_at (set table (get_or entries n 0) (Some first))) same ∙ get_or-set_same table (get_or entries n 0) (Some first) None w
+    go (inr other) (inl v) = get_or-set_other table (get_or entries n 0) (get_or entries k 0) (Some first) None other ∙ h k v
+    go (inr other) (inr v) = let e : k ≡ n = omega arith in absurd (other (ap (λ (x : ℕ). get_or entries x 0) e))
+
+pub only_more : {F : Type 0} (table : List (Option F)) (entries : List ℕ) (n : ℕ) (first : F) → get_or entries n 0 < length table → n < length entries → ((p : ℕ) (f : F) → fact_at table p ≡ Some f → Contains entries p × (f ≡ first))
+    → (p : ℕ) (f : F) → fact_at (set table (get_or entries n 0) (Some first)) p ≡ Some f → Contains entries p × (f ≡ first)
+only_more {F = F} table entries n first w v h p f e = go (cases_eq p (get_or entries n 0))
+  where
+    go : (p ≡ get_or entries n 0) ⊎ (p ≢ get_or entries n 0) → Contains entries p × (f ≡ first)
+    go (inl same) =
+        let both : Some f ≡ Some first = sym e ∙ ap (fact_at (set table (get_or entries n 0) (Some first))) same ∙ get_or-set_same table (get_or entries n 0) (Some first) None w in
+        let f' : f ≡ first = cc in
+        (subst (λ (x : ℕ). Contains entries x) (sym same) (Contains-get_or entries n 0 v), f')
+    go (inr other) = h p f (sym (get_or-set_other table (get_or entries n 0) p (Some first) None other) ∙ e)
+
+pub found_here : {F : Type 0} (table : List (Option F)) (p : ℕ) (r : Option F) (f : F) → p < length table → r ≡ get_or table p r → r ≡ Some f → fact_at table p ≡ Some f
+found_here table p r f u e is = get_or_default table p None r u ∙ sym e ∙ is

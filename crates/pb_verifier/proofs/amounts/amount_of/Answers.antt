@@ -1,0 +1,15 @@
+use Rattle.std.proofs.Common.{◌≡◌, ◌+◌, ◌*◌, ◌≤◌, cond, take, arith}
+use Rattle.std.specs.Prelude.{◌==◌}
+use Rattle.pb_base.specs.Bundle.{amount_in}
+use Rattle.pb_verifier.specs.Given.{bundle_of}
+use Rattle.pb_verifier.proofs.Amounting.{amount_more}
+use Rattle.pb_verifier.proofs.amounts.amount_of.Goals as goal
+
+pub loop-i-preserved : goal.loop-i-preserved
+loop-i-preserved c =
+    let more = amount_more (bundle_of c.args.code.now c.args.bundle) c.loop-i.i c.args.resource c.pair_at.result c.pair_at.ensures in
+    let s = c.share.ensures in
+    let f = c.from-amount.ensures in
+    let v = c.loop-i.invariant.value in
+    let w = c.loop-i.invariant.small in
+    record { value = omega arith; small = omega arith }

@@ -1,0 +1,5 @@
+use Rattle.pb_verifier.proofs.Behaved.{peaks_decide}
+use Rattle.pb_verifier.proofs.laws.greatest_amounts_decide.Goals as goal
+
+pub returns : goal.returns
+returns c = peaks_decide

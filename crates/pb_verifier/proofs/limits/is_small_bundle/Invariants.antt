@@ -1,0 +1,8 @@
+use Rattle.std.proofs.Common.{◌<◌, ℕ}
+use Rattle.pb_verifier.specs.Given.{bundle_of}
+use Rattle.pb_verifier.specs.Limits.{IsUpTo}
+use Rattle.pb_verifier.proofs.Each.{EachBelow}
+use Rattle.pb_verifier.proofs.limits.is_small_bundle.Given as goal
+
+abbrev pub invariant-loop-i : goal.invariant-loop-i
+invariant-loop-i l = EachBelow (bundle_of l.code l.bundle) l.i (λ _ pair. (pair.resource < 16) × IsUpTo 1000000 pair.amount)

@@ -1,0 +1,8 @@
+use Rattle.std.proofs.Common.{map}
+use Rattle.pb_code.specs.View.{process_view}
+use Rattle.pb_verifier.specs.Limits.{IsSmallProcess}
+use Rattle.pb_verifier.proofs.Each.{EachBelow}
+use Rattle.pb_verifier.proofs.limits.keeps_limits.Given as goal
+
+abbrev pub invariant-loop-process : goal.invariant-loop-process
+invariant-loop-process l = EachBelow (map process_view l.code.processes.items) l.process-index (λ _ process. IsSmallProcess process)

@@ -1,0 +1,7 @@
+use Rattle.std.proofs.Common.{◌<◌}
+use Rattle.pb_verifier.specs.Given.{bundle_of}
+use Rattle.pb_verifier.proofs.Each.{EachBelow}
+use Rattle.pb_verifier.proofs.range.names_resources.Given as goal
+
+abbrev pub invariant-loop-i : goal.invariant-loop-i
+invariant-loop-i l = EachBelow (bundle_of l.code l.bundle) l.i (λ _ pair. pair.resource < l.resources)

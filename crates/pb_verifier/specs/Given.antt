@@ -1,0 +1,29 @@
+-- The plain instructions of a process as it is given.
+use Rattle.std.specs.Prelude.{◌≡◌, ◌↔◌, ℕ, List, [], map, slice_get, slice_index_or, Some, Contains}
+use Rattle.pb_base.specs.Steppers.{Bundle}
+use Rattle.pb_code.specs.declared.code.ProcessCode.{ProcessCode as GivenProcess}
+use Rattle.pb_code.specs.declared.instr.Instr.{Instr as Given}
+use Rattle.pb_code.specs.Code.{Instr, Take}
+use Rattle.pb_code.specs.View.{instr_view}
+use Rattle.pb_verifier.specs.Flow.{IsGrown, IsReached, StaysInside}
+
+-- an instruction of this process, with its bundle in place of the bundle's number
+abbrev pub plain : GivenProcess → Given → Instr
+plain code i = instr_view code.bundles.items i
+
+abbrev pub instrs_of : GivenProcess → List Instr
+instrs_of code = map (instr_view code.bundles.items) code.instrs.items
+
+-- the bundle with a number, empty where there is none
+abbrev pub bundle_of : GivenProcess → ℕ → Bundle
+bundle_of code k = slice_index_or code.bundles.items k []
+
+-- a take stands at a place
+abbrev pub IsTakeAt : List Instr → ℕ → Type 0
+IsTakeAt instrs p = (bundle : Bundle) × (slice_get instrs p ≡ Some (Take bundle))
+
+-- the reached places of a process, each after one that leads to it
+pub record IsOrderOf (code : GivenProcess) (order : List ℕ) : Type 0 where
+  pub inside : StaysInside code.entries.items (instrs_of code)
+  pub reached : (p : ℕ) → Contains order p ↔ IsReached code.entries.items (instrs_of code) p
+  pub grown : IsGrown code.entries.items (instrs_of code) order

@@ -1,0 +1,13 @@
+pub mod Amounts
+pub mod Arms
+pub mod Behaviour
+pub mod Ends
+pub mod Faults
+pub mod Flow
+pub mod Given
+pub mod Holdings
+pub mod Limits
+pub mod Places
+pub mod Process
+pub mod Spread
+pub mod Verified

@@ -1,0 +1,83 @@
+-- Code whose counts, numbers and names are within their limits.
+use Rattle.std.specs.Prelude.{◌≡◌, ◌≢◌, ◌≤◌, ◌<◌, ℕ, Bool, true, ◌||◌, ◌==◌, List, [], ◌∷◌, length, slice_get, slice_index, Some, All, EachIndex, AllPairs, Contains, codes, ⊤}
+use Rattle.std.specs.Char.{is_ascii_alphabetic, is_ascii_digit}
+use Rattle.pb_base.specs.Bundle.{IsDistinct}
+use Rattle.pb_base.specs.Steppers.{Bundle}
+use Rattle.pb_base.specs.Tables.{HasWidth}
+use Rattle.pb_base.specs.Banker.{cell}
+use Rattle.pb_code.specs.Code.{Instr, Push, Load, Store, Compute1, Compute2, Jump, JumpIfZero, PrintTop, Take, Give, Fork, Join, End, ProcessCode}
+use Rattle.pb_code.specs.Whole.{Code}
+use Rattle.pb_verifier.specs.Places.{InstrAt, arms}
+
+abbrev pub IsUpTo : ℕ → ℕ → Type 0
+IsUpTo most n = (1 ≤ n) × (n ≤ most)
+
+-- what holds for the code of each process
+abbrev pub EachProcess : Code → (ProcessCode → Type 0) → Type 0
+EachProcess code Holds = (p : ℕ) (process : ProcessCode) → slice_get code.processes p ≡ Some process → Holds process
+
+-- ---- names
+
+-- a byte is a letter, a digit or `_`
+abbrev pub is_name_byte : ℕ → Bool
+is_name_byte b = is_ascii_alphabetic b || is_ascii_digit b || b == 95
+
+-- the words of the language that are no names
+abbrev pub reserved_words : List (List ℕ)
+reserved_words =
+    codes "and" ∷ codes "begin" ∷ codes "div" ∷ codes "do" ∷ codes "else" ∷ codes "end" ∷ codes "fi" ∷ codes "hold" ∷ codes "if"
+    ∷ codes "integer" ∷ codes "mod" ∷ codes "not" ∷ codes "od" ∷ codes "of" ∷ codes "or" ∷ codes "parbegin" ∷ codes "parend"
+    ∷ codes "print" ∷ codes "process" ∷ codes "resource" ∷ codes "skip" ∷ codes "then" ∷ codes "while" ∷ []
+
+-- 1 to 32 letters, digits and `_`, a letter first, and no reserved word
+pub record IsName (name : List ℕ) : Type 0 where
+  pub size : IsUpTo 32 (length name)
+  pub begins : is_ascii_alphabetic (slice_index name 0) ≡ true
+  pub bytes : EachIndex name (λ k. is_name_byte (slice_index name k) ≡ true)
+  pub free : ¬ Contains reserved_words name
+
+-- so many names, no two of them the same
+pub record AreNames (count : ℕ) (names : List (List ℕ)) : Type 0 where
+  pub all : length names ≡ count
+  pub formed : All IsName names
+  pub apart : AllPairs (λ a b. a ≢ b) names
+
+-- ---- the code of one process
+
+-- amounts from 1 to 1,000,000 of 1 to 16 resources, none twice
+pub record IsSmallBundle (bundle : Bundle) : Type 0 where
+  pub size : IsUpTo 16 (length bundle)
+  pub amounts : All (λ pair. (pair.resource < 16) × IsUpTo 1000000 pair.amount) bundle
+  pub distinct : IsDistinct bundle
+
+-- the numbers of an instruction; any number of 64 bits may be pushed
+abbrev pub HasSmallNumbers : Instr → Type 0
+HasSmallNumbers (Load x) = x < 64
+HasSmallNumbers (Store x) = x < 64
+HasSmallNumbers (Jump target) = target < 40000
+HasSmallNumbers (JumpIfZero target) = target < 40000
+HasSmallNumbers (Take bundle) = IsSmallBundle bundle
+HasSmallNumbers (Give bundle) = IsSmallBundle bundle
+HasSmallNumbers (Fork first count) = IsUpTo 63 first × IsUpTo 16 count
+HasSmallNumbers (Join first count) = IsUpTo 63 first × IsUpTo 16 count
+HasSmallNumbers i = ⊤
+
+pub record IsSmallProcess (code : ProcessCode) : Type 0 where
+  pub integers : code.integers ≤ 64
+  pub some_arms : IsUpTo 64 (arms code)
+  pub entries : All (λ place. place < 40000) code.entries
+  pub some_places : IsUpTo 40000 (length code.instrs)
+  pub numbers : (place : ℕ) (i : Instr) → InstrAt code place i → HasSmallNumbers i
+
+-- ---- the whole code
+
+pub record KeepsLimits (code : Code) : Type 0 where
+  pub some_processes : IsUpTo 64 (length code.processes)
+  pub few_resources : length code.capital ≤ 16
+  pub capital : All (λ amount. amount ≤ 1000000) code.capital
+  pub process_names : AreNames (length code.processes) code.names.processes
+  pub resource_names : AreNames (length code.capital) code.names.resources
+  pub rows : length code.claims ≡ length code.processes
+  pub width : HasWidth (length code.capital) code.claims
+  pub claims : (p r : ℕ) → p < length code.processes → r < length code.capital → cell code.claims p r ≤ 1000000
+  pub each : EachProcess code IsSmallProcess

@@ -1,0 +1,91 @@
+//! The check of whole code.
+
+ghost use Rattle.std.specs.Prelude.{◌≡◌, ◌↔◌, ◌⊎◌, ◌<◌, ◌≤◌, IfErr, IfOk, map, true};
+ghost use Rattle.pb_code.specs.View.{code_view};
+ghost use Rattle.pb_verifier.specs.Process.{IsEarlier};
+ghost use Rattle.pb_verifier.specs.Verified.{AreArmDepths, IsAnnotated, IsRefusedFor, turn_of};
+
+use crate::fault::VerifyFault;
+use crate::limits::keeps_limits;
+use crate::process::check_process;
+use crate::range::fit_capital;
+use crate::verified::Verified;
+use pb_code::Code;
+use std::alloc::Global;
+
+/// The place of a fault in the order in which they are looked for.
+fn turn(fault: VerifyFault) -> u8
+    ensures { result ≡ turn_of fault }
+{
+    fault as u8
+}
+
+/// The one of two faults that is looked for first.
+fn earlier(found: Option<VerifyFault>, fault: VerifyFault) -> VerifyFault
+    ensures { IsEarlier found fault result }
+{
+    match found {
+        Some(found) if turn(found) <= turn(fault) => found,
+        _ => fault,
+    }
+}
+
+/// Whether this is want of memory.
+fn is_memory(fault: VerifyFault) -> bool
+    ensures { (result ≡ true) ↔ (fault ≡ VerifyFault.NoMemory) }
+{
+    matches!(fault, VerifyFault::NoMemory)
+}
+
+/// The greatest depth of each arm of each process, or the first fault.
+fn check(alloc: Global, code: &Code) -> Result<Vec<Vec<u16>>, VerifyFault>
+    ensures annotated { IfOk result (λ _. IsAnnotated (code_view code.now)) }
+    ensures depths { IfOk result (λ depths.
+        AreArmDepths (code_view code.now).processes (map (λ row. row.items) depths.items)) }
+    ensures refused { IfErr result (IsRefusedFor (code_view code.now)) }
+{
+    if !keeps_limits(code) {
+        return Err(VerifyFault::OutOfLimits);
+    }
+    if !fit_capital(code) {
+        return Err(VerifyFault::OverCapital);
+    }
+    let mut depths = Vec::new(alloc);
+    let mut found = None;
+    for p in 0..code.processes.len() {
+        match check_process(alloc, &code.processes[p], &code.claims, p) {
+            Ok(row) => {
+                let Ok(()) = depths.push(row) else {
+                    return Err(VerifyFault::NoMemory);
+                };
+            }
+            Err(fault) => {
+                if is_memory(fault) {
+                    return Err(fault);
+                }
+                found = Some(earlier(found, fault));
+            }
+        }
+    }
+    match found {
+        Some(fault) => Err(fault),
+        None => Ok(depths),
+    }
+}
+
+/// Verified code, exactly where none of the faults is in it; else the code unchanged and its first fault, in
+/// the order of `VerifyFault`, each looked for over all processes before the next. `NoMemory` comes only where
+/// a growth was refused, and may come before a fault is found. Takes time and memory linear in the size of
+/// the code.
+pub fn verify(alloc: Global, code: Code) -> Result<Verified, (Code, VerifyFault)>
+    ensures code { IfOk result (λ verified. verified.code ≡ code_view code) }
+    ensures annotated { IfOk result (λ verified. IsAnnotated verified.code) }
+    ensures depths { IfOk result (λ verified. AreArmDepths verified.code.processes verified.depths) }
+    ensures handed_back { IfErr result (λ refusal. refusal.0 ≡ code) }
+    ensures refused { IfErr result (λ refusal. IsRefusedFor (code_view code) refusal.1) }
+{
+    match check(alloc, &code) {
+        Ok(depths) => Ok(Verified::new(code, depths)),
+        Err(fault) => Err((code, fault)),
+    }
+}

@@ -1,0 +1,163 @@
+//! What is held at each place.
+
+ghost use Rattle.std.specs.Prelude.{◌≡◌, ◌↔◌, ◌<◌, ◌≤◌, ℕ, List, [], Option, Some, None, Contains, IfOk, IfSome, IfNone, slice_get, slice_index_or, true, length, IsSome};
+ghost use Rattle.pb_base.specs.Steppers.{Bundle};
+ghost use Rattle.pb_code.specs.Code.{Take};
+ghost use Rattle.pb_code.specs.View.{process_view};
+ghost use Rattle.pb_verifier.specs.Faults.{AreHoldings, TurnsHoldings};
+ghost use Rattle.pb_verifier.specs.Given.{IsOrderOf, IsTakeAt, bundle_of, instrs_of};
+ghost use Rattle.pb_verifier.specs.Spread.{HoldFits, IsTableOf, fact_at, held_after, notes_of};
+ghost use Rattle.pb_verifier.specs.Holdings.{CanBeRead, IsChain, held, held_by};
+
+use crate::bundles::{pair_at, pairs};
+use crate::facts::{Fact, spread};
+use pb_base::NoMemory;
+use pb_code::{Instr, ProcessCode};
+use std::alloc::Global;
+
+/// The most bundles that one arm holds.
+pub const MAX_HOLDS: u16 = 256;
+
+/// A list of bundles: how many there are, and where the last was taken.
+#[derive(Clone, Copy)]
+pub struct Holding {
+    pub count: u16,
+    pub last: u16,
+}
+
+/// Whether two numbers name the same bundle, or both none.
+fn same_bundle(code: &ProcessCode, one: u16, two: u16) -> bool
+    ensures { (result ≡ true) ↔ (bundle_of code.now one ≡ bundle_of code.now two) }
+{
+    if one == two {
+        return true;
+    }
+    if pairs(code, one) != pairs(code, two) {
+        return false;
+    }
+    for i in 0..pairs(code, one) {
+        if pair_at(code, one, i) != pair_at(code, two, i) {
+            return false;
+        }
+    }
+    true
+}
+
+/// The number of the bundle that the take at a place takes.
+fn taken_at(code: &ProcessCode, place: u16) -> u16
+    requires { IsTakeAt (instrs_of code.now) place }
+    ensures { slice_get (instrs_of code.now) place
+        ≡ Some (Take (bundle_of code.now result)) }
+{
+    match code.instrs[place as usize] {
+        Instr::Take(bundle) => bundle,
+        _ => unreachable!(),
+    }
+}
+
+/// What was held before the take at a place.
+fn before(table: &[Option<Holding>], place: u16) -> Holding
+    requires { IsSome (fact_at table.now place) }
+    ensures { fact_at table.now place ≡ Some result }
+{
+    match table[place as usize] {
+        Some(holding) => holding,
+        None => unreachable!(),
+    }
+}
+
+/// Whether two lists of bundles of one length are equal.
+fn same_holds(
+    code: &ProcessCode,
+    table: &[Option<Holding>],
+    count: u16,
+    one: u16,
+    two: u16,
+) -> bool
+    requires one { IsChain (instrs_of code.now) table.now count one }
+    requires two { IsChain (instrs_of code.now) table.now count two }
+    ensures { (result ≡ true)
+        ↔ (held (instrs_of code.now) table.now count one
+        ≡ held (instrs_of code.now) table.now count two) }
+{
+    let mut left = count;
+    let mut a = one;
+    let mut b = two;
+    while left > 0 {
+        if a == b {
+            return true;
+        }
+        if !same_bundle(code, taken_at(code, a), taken_at(code, b)) {
+            return false;
+        }
+        a = before(table, a).last;
+        b = before(table, b).last;
+        left -= 1;
+    }
+    true
+}
+
+impl Fact for Holding {
+    ghost use Rattle.pb_verifier.specs.Holdings.{chain_keeps, none_held};
+
+    ghost Value = { List Bundle };
+
+    ghost IsFirst = { λ first. first.count ≡ 0 };
+
+    ghost start = { λ _. [] };
+
+    ghost Fits = { HoldFits };
+
+    ghost after = { held_after };
+
+    ghost value = { held_by };
+
+    ghost IsReadable = { CanBeRead };
+
+    fn fits(self, code: &ProcessCode, _table: &[Option<Self>], instr: Instr) -> bool {
+        match instr {
+            Instr::Take(_) => self.count < MAX_HOLDS,
+            Instr::Give(given) => {
+                self.count > 0 && same_bundle(code, taken_at(code, self.last), given)
+            }
+            _ => true,
+        }
+    }
+
+    fn next(self, _code: &ProcessCode, table: &[Option<Self>], place: u16, instr: Instr) -> Self {
+        match instr {
+            Instr::Take(_) => Holding {
+                count: self.count + 1,
+                last: place,
+            },
+            Instr::Give(_) => before(table, self.last),
+            _ => self,
+        }
+    }
+
+    fn same(self, other: Self, code: &ProcessCode, table: &[Option<Self>]) -> bool {
+        self.count == other.count && same_holds(code, table, self.count, self.last, other.last)
+    }
+
+    ghost firsts = { λ first zero instrs table. none_held instrs table first.count first.last zero };
+
+    ghost keeps = { λ instrs table p new fact none h.
+        let k = chain_keeps instrs table p new none fact.count fact.last h.0 in ((k.0, h.1), k.1) };
+}
+
+/// What is held at each reached place, or none where there are no such lists.
+pub fn holdings(
+    alloc: Global,
+    code: &ProcessCode,
+    order: &[u16],
+) -> Result<Option<Vec<Option<Holding>>>, NoMemory>
+    requires { IsOrderOf code.now order.now }
+    ensures yes { IfOk result (λ answer. IfSome answer (λ table.
+        IsTableOf (process_view code.now) TurnsHoldings [] (notes_of (held_by (instrs_of code.now) table.items) table.items))) }
+    ensures long { IfOk result (λ answer. IfSome answer
+        (λ table. length table.items ≡ length (instrs_of code.now))) }
+    ensures no { IfOk result (λ answer. IfNone answer
+        (¬ ((facts : ℕ → List Bundle) × AreHoldings (process_view code.now) facts))) }
+{
+    spread(alloc, &code.entries, code, order, Holding { count: 0, last: 0 })
+}

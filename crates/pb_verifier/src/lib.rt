@@ -1,0 +1,30 @@
+//! The check that makes code safe to run: depths, holdings and peaks of all that it can reach.
+#![tactic(auto)]
+
+mod amounts;
+mod arms;
+mod bundles;
+mod checking;
+mod deepest;
+mod depths;
+mod ends;
+mod facts;
+pub mod fault;
+mod forks;
+mod holdings;
+pub mod laws;
+mod limits;
+mod peaks;
+mod places;
+mod process;
+mod range;
+mod reach;
+pub mod verified;
+
+
+pub use fault::VerifyFault;
+pub use verified::Verified;
+pub use checking::verify;
+
+#[cfg(test)]
+mod tests;

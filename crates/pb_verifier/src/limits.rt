@@ -1,0 +1,240 @@
+//! Whether counts, names and numbers are within their limits.
+
+ghost use Rattle.std.specs.Prelude.{◌≡◌, ◌≢◌, ◌↔◌, ◌<◌, ◌≤◌, ℕ, [], AllPairs, All, Contains, length, map, slice_index_or, true};
+ghost use Rattle.pb_base.specs.Lines.{names_view};
+ghost use Rattle.pb_base.specs.Banker.{cell};
+ghost use Rattle.pb_base.specs.Tables.{HasWidth};
+ghost use Rattle.pb_code.specs.View.{code_view, process_view};
+ghost use Rattle.pb_verifier.specs.Given.{bundle_of, instrs_of, plain};
+ghost use Rattle.pb_verifier.specs.Limits.{AreNames, HasSmallNumbers, IsName, IsSmallBundle, IsSmallProcess, KeepsLimits, reserved_words};
+
+use crate::bundles::{pair_at, pairs};
+use crate::places::{instr_at, places};
+use pb_base::capital::MAX_RESOURCES;
+use pb_base::claims::MAX_PROCESSES;
+use pb_base::Claims;
+use pb_code::{Code, Instr, ProcessCode};
+
+/// The most bytes of a name.
+pub const MAX_NAME: usize = 32;
+
+/// The most places of a process.
+pub const MAX_PLACES: usize = 40_000;
+
+/// The most arms of a process.
+pub const MAX_ARMS: usize = 64;
+
+/// The most integers of a process.
+pub const MAX_INTEGERS: u8 = 64;
+
+/// The greatest amount in a bundle, and the greatest claim.
+pub const MAX_AMOUNT: u32 = 1_000_000;
+
+/// How many reserved words there are.
+const RESERVED: usize = 23;
+
+/// A reserved word.
+fn reserved(k: usize) -> &'static [u8]
+    requires { k < RESERVED }
+    ensures { result.now ≡ slice_index_or reserved_words k [] }
+{
+    match k {
+        0 => b"and",
+        1 => b"begin",
+        2 => b"div",
+        3 => b"do",
+        4 => b"else",
+        5 => b"end",
+        6 => b"fi",
+        7 => b"hold",
+        8 => b"if",
+        9 => b"integer",
+        10 => b"mod",
+        11 => b"not",
+        12 => b"od",
+        13 => b"of",
+        14 => b"or",
+        15 => b"parbegin",
+        16 => b"parend",
+        17 => b"print",
+        18 => b"process",
+        19 => b"resource",
+        20 => b"skip",
+        21 => b"then",
+        _ => b"while",
+    }
+}
+
+/// Whether a word is reserved.
+fn is_reserved(name: &[u8]) -> bool
+    ensures { (result ≡ true) ↔ Contains reserved_words name.now }
+{
+    for k in 0..RESERVED {
+        if reserved(k) == name {
+            return true;
+        }
+    }
+    false
+}
+
+/// Whether a name has the form of one.
+fn is_name(name: &[u8]) -> bool
+    ensures { (result ≡ true) ↔ IsName name.now }
+{
+    if name.is_empty() || name.len() > MAX_NAME {
+        return false;
+    }
+    if !name[0].is_ascii_alphabetic() {
+        return false;
+    }
+    for byte in name {
+        if !byte.is_ascii_alphanumeric() && *byte != b'_' {
+            return false;
+        }
+    }
+    !is_reserved(name)
+}
+
+/// Whether a name differs from all after it.
+fn is_new(names: &[Vec<u8>], k: usize) -> bool
+    requires { k < length names.now }
+    ensures { (result ≡ true)
+        ↔ ((j : ℕ) → k < j → j < length names.now
+        → slice_index_or (map (λ name. name.items) names.now) k []
+        ≢ slice_index_or (map (λ name. name.items) names.now) j []) }
+{
+    for j in k + 1..names.len() {
+        if names[k].as_slice() == names[j].as_slice() {
+            return false;
+        }
+    }
+    true
+}
+
+/// Whether these are so many names, no two of them the same.
+fn are_names(count: usize, names: &[Vec<u8>]) -> bool
+    ensures { (result ≡ true) ↔ AreNames count (map (λ name. name.items) names.now) }
+{
+    if names.len() != count {
+        return false;
+    }
+    for k in 0..names.len() {
+        if !is_name(&names[k]) {
+            return false;
+        }
+        if !is_new(names, k) {
+            return false;
+        }
+    }
+    true
+}
+
+/// Whether a bundle is there and its numbers are within their limits.
+fn is_small_bundle(code: &ProcessCode, bundle: u16) -> bool
+    ensures { (result ≡ true) ↔ IsSmallBundle (bundle_of code.now bundle) }
+{
+    if pairs(code, bundle) == 0 {
+        return false;
+    }
+    for i in 0..pairs(code, bundle) {
+        let pair = pair_at(code, bundle, i);
+        if pair.resource as usize >= MAX_RESOURCES {
+            return false;
+        }
+        if pair.amount == 0 || pair.amount > MAX_AMOUNT {
+            return false;
+        }
+    }
+    true
+}
+
+/// Whether the arms that a fork or a join names can be arms.
+fn are_small_arms(first: u8, count: u8) -> bool
+    ensures { (result ≡ true) ↔ ((1 ≤ first) × (first ≤ 63)) × ((1 ≤ count) × (count ≤ 16)) }
+{
+    first >= 1 && first <= 63 && count >= 1 && count <= 16
+}
+
+/// Whether the numbers of an instruction are within their limits.
+fn has_small_numbers(code: &ProcessCode, instr: Instr) -> bool
+    ensures { (result ≡ true) ↔ HasSmallNumbers (plain code.now instr) }
+{
+    match instr {
+        Instr::Load(x) | Instr::Store(x) => x < MAX_INTEGERS,
+        Instr::Jump(target) | Instr::JumpIfZero(target) => (target as usize) < MAX_PLACES,
+        Instr::Take(bundle) | Instr::Give(bundle) => is_small_bundle(code, bundle),
+        Instr::Fork { first, count } | Instr::Join { first, count } => are_small_arms(first, count),
+        _ => true,
+    }
+}
+
+/// Whether the counts and numbers of a process are within their limits.
+fn is_small_process(code: &ProcessCode) -> bool
+    ensures { (result ≡ true) ↔ IsSmallProcess (process_view code.now) }
+{
+    if code.integers > MAX_INTEGERS {
+        return false;
+    }
+    if code.entries.is_empty() || code.entries.len() > MAX_ARMS {
+        return false;
+    }
+    for arm in 0..code.entries.len() {
+        if code.entries[arm] as usize >= MAX_PLACES {
+            return false;
+        }
+    }
+    if places(code) == 0 || places(code) > MAX_PLACES {
+        return false;
+    }
+    for place in 0..places(code) {
+        if !has_small_numbers(code, instr_at(code, place)) {
+            return false;
+        }
+    }
+    true
+}
+
+/// Whether each process has a claim of up to 1,000,000 on each resource.
+fn are_small_claims(claims: &Claims, processes: usize, resources: usize) -> bool
+    ensures { (result ≡ true)
+        ↔ (length claims.now ≡ processes) × HasWidth resources claims.now
+        × ((p r : ℕ) → p < processes → r < resources → cell claims.now p r ≤ 1000000) }
+{
+    if claims.processes() != processes || claims.resources() != resources {
+        return false;
+    }
+    for p in 0..processes {
+        for r in 0..resources {
+            if claims.get(p, r) > u64::from(MAX_AMOUNT) {
+                return false;
+            }
+        }
+    }
+    true
+}
+
+/// Whether all counts, numbers and names are within their limits.
+pub fn keeps_limits(code: &Code) -> bool
+    ensures { (result ≡ true) ↔ KeepsLimits (code_view code.now) }
+{
+    let processes = code.processes.len();
+    let resources = code.capital.resources();
+    if processes == 0 || processes > MAX_PROCESSES {
+        return false;
+    }
+    if !are_names(processes, &code.names.processes) {
+        return false;
+    }
+    if !are_names(resources, &code.names.resources) {
+        return false;
+    }
+    if !are_small_claims(&code.claims, processes, resources) {
+        return false;
+    }
+    for process in &code.processes {
+        if !is_small_process(process) {
+            return false;
+        }
+    }
+    true
+}

@@ -1,0 +1,72 @@
+//! Code that is safe to run.
+
+ghost use Rattle.std.specs.Prelude.{◌≡◌, ◌<◌, length, slice_index, slice_index_or, map, []};
+ghost use Rattle.pb_base.specs.Lines.{names_view};
+ghost use Rattle.pb_code.specs.View.{code_view};
+ghost use Rattle.pb_verifier.specs.Verified.{IsVerified};
+
+use pb_base::Names;
+use pb_code::Code;
+use std::marker::Model;
+
+/// Code that was verified: none of the faults of `VerifyFault` is in it. Only `verify` makes one.
+#[derive(Drop)]
+pub struct Verified {
+    code: Code,
+    depths: Vec<Vec<u16>>,
+}
+
+impl Model for Verified {
+    ghost use Rattle.std.specs.Prelude.{map};
+    ghost use Rattle.pb_verifier.specs.Verified.{VerifiedCode, IsVerified};
+    ghost use Rattle.pb_code.specs.View.{code_view};
+
+    ghost Value = { VerifiedCode };
+
+    ghost view = { λ v. record { code = code_view v.code; depths = map (λ row. row.items) v.depths.items } };
+
+    ghost invariant = { λ v. IsVerified (record { code = code_view v.code; depths = map (λ row. row.items) v.depths.items }) };
+}
+
+impl Verified {
+    /// The code with a row for each process, which has the greatest depth of each of its arms.
+    pub(crate) fn new(code: Code, depths: Vec<Vec<u16>>) -> Verified
+        requires { IsVerified (record { code = code_view code; depths = map (λ row. row.items) depths.items }) }
+        ensures { result ≡ record { code = code_view code; depths = map (λ row. row.items) depths.items } }
+    {
+        Verified { code, depths }
+    }
+
+    /// The code that was handed in.
+    pub fn code(&self) -> &Code
+        ensures code { code_view result.now ≡ self.now.code }
+        ensures verified { IsVerified self.now }
+    {
+        &self.code
+    }
+
+    /// The names of its processes and resources.
+    pub fn names(&self) -> &Names
+        ensures { names_view result.now ≡ self.now.code.names }
+    {
+        &self.code.names
+    }
+
+    /// The number of arms of a process.
+    pub fn arms(&self, process: usize) -> usize
+        requires { process < length self.now.depths }
+        ensures { result ≡ length (slice_index_or self.now.depths process []) }
+    {
+        self.depths[process].len()
+    }
+
+    /// The greatest number of operands at a reached place of an arm of a process, at most 256.
+    pub fn depth(&self, process: usize, arm: usize) -> u16
+        requires process { process < length self.now.depths }
+        requires arm { arm < length (slice_index_or self.now.depths process []) }
+        ensures { result ≡ slice_index (slice_index_or self.now.depths process []) arm }
+    {
+        let row = &self.depths[process];
+        row[arm]
+    }
+}
