@@ -2,7 +2,7 @@
 use Rattle.std.proofs.Common.{◌≡◌, ℕ, zero, suc, ◌≤◌, ◌<◌, List, [], ◌∷◌, length, Option, Some, None, refl, ◌∙◌, subst, arith}
 use Rattle.pb_lexer.specs.Tokens.{Token}
 use Rattle.pb_parser.specs.Reader.{Answer, Refused, Found, Part, Join, Stops, and_then, chain_by, chain_from, chain}
-use Rattle.pb_parser.specs.Promises.{Fails}
+use Rattle.pb_parser.specs.Making.{Fails}
 use Rattle.pb_parser.specs.declared.fault.ParseFault.{ParseFault}
 use Rattle.pb_parser.specs.declared.fault.ParseFault.TheVariants as fault
 
@@ -101,8 +101,17 @@ chain_fails join part a f t ts mid target x e j p =
 
 -- ---- the error of a part
 
-pub fails_through : {X Y : Type 0} {part : Answer X} {whole : Answer Y} (e : ParseFault) → Fails e part → (part ≡ Refused → whole ≡ Refused) → Fails e whole
-fails_through (fault.Syntax at) h f = f h
-fails_through fault.TooDeep h f = h
-fails_through fault.TooLarge h f = h
-fails_through fault.NoMemory h f = tt
+pub fails_through : {X Y : Type 0} {part : Answer X} {whole : Answer Y} (wants : Type 0) (e : ParseFault) → Fails wants e part → (part ≡ Refused → whole ≡ Refused)
+    → Fails wants e whole
+fails_through wants (fault.Syntax at) h f = f h
+fails_through wants fault.TooDeep h f = h
+fails_through wants fault.TooLarge h f = h
+fails_through wants fault.NoMemory h f = h
+
+-- the same, where the part takes no memory
+pub fails_through_plain : {X Y : Type 0} {part : Answer X} {whole : Answer Y} (wants : Type 0) (e : ParseFault) → Fails ⊥ e part
+    → (part ≡ Refused → whole ≡ Refused) → Fails wants e whole
+fails_through_plain wants (fault.Syntax at) h f = f h
+fails_through_plain wants fault.TooDeep h f = h
+fails_through_plain wants fault.TooLarge h f = h
+fails_through_plain wants fault.NoMemory h f = absurd h

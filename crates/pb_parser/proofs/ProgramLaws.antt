@@ -13,7 +13,6 @@ use Rattle.pb_parser.proofs.Marks.{mark_is, is_mark_same, either, expects, expec
 use Rattle.pb_parser.proofs.Chains.{found_value, found_rest, goes_on, chain_keeps, InChain, chain_enters, chain_more, chain_leaves, chain_refused}
 use Rattle.pb_parser.proofs.Expressions.{ends_mark}
 use Rattle.pb_parser.proofs.StatementLaws.{joins_between, stops_at, marked, then_marked, joined_between, name_found, number_found, list_reach, list_ends, list_shorter, list_sound, statement_sound}
-use Rattle.pb_parser.proofs.Loops.{items_enter}
 use Rattle.pb_tree.specs.Syntax.{NameSyntax, NumberSyntax, StmtsSyntax, ResourceSyntax, ProcessSyntax, ProgramSyntax}
 use Rattle.pb_parser.specs.Grammar.{Is, name_at, number_at}
 use Rattle.pb_parser.specs.Lists.{append}
@@ -256,45 +255,3 @@ program_sound d ts rest p q =
     let z = goes_on (ended y.1) _ y.3 in
     let ps : ReadsProcesses x.1 y.0 [] = subst (ReadsProcesses x.1 y.0) (all_taken y.1 z.1 z.2) (processes_sound d x.1 y.1 y.0 y.2) in
     subst (ReadsProgram ts) (found_value z.3) (g.program (resources_sound ts x.1 x.0 x.2) ps)
-
--- ---- the parser's three loops
-
-pub names_enter : {G : Type 0} (view : G → NameSyntax) (ts rest : List Token) (old new : List G) (x : G) → old ≡ [] → new ≡ old ++ (x ∷ []) → a_name ts ≡ Found (view x) rest
-    → InChain (between mark.Comma concat) one_name (map view new) rest (names ts)
-unfolding names one_name
-names_enter view ts rest old new x none e p = items_enter view mark.Comma one_name ts rest old new x none e (rw p refl)
-
-pub name_part : {G : Type 0} (view : G → NameSyntax) (ts rest : List Token) (x : G) → a_name ts ≡ Found (view x) rest → one_name ts ≡ Found (view x ∷ []) rest
-unfolding one_name
-name_part view ts rest x p = rw p refl
-
-pub name_refused : (ts : List Token) → a_name ts ≡ Refused → one_name ts ≡ Refused
-unfolding one_name
-name_refused ts p = rw p refl
-
-pub names_refused : (ts : List Token) → a_name ts ≡ Refused → names ts ≡ Refused
-unfolding names
-names_refused ts p = chain_refused (between mark.Comma concat) one_name ts (name_refused ts p)
-
-pub resources_enter : {G : Type 0} (view : G → ResourceSyntax) (ts : List Token) (found : List G) → found ≡ [] → InChain (between mark.Resource concat) a_resource (map view found) ts (resources ts)
-unfolding resources
-resources_enter view ts found none = rw none (record { turns = length ts; room = omega arith; same = refl })
-
-pub processes_enter : {G : Type 0} (view : G → ProcessSyntax) (d : ℕ) (ts us rest : List Token) (old new : List G) (x : G) → old ≡ [] → new ≡ old ++ (x ∷ []) → expect mark.Process ts ≡ Found tt us
-    → a_process d us ≡ Found (view x ∷ []) rest → InChain (between mark.Process concat) (a_process d) (map view new) rest (processes d ts)
-unfolding processes
-processes_enter view d ts us rest old new x none e first p = let inside = items_enter view mark.Process (a_process d) us rest old new x none e p in rw first inside
-
-pub processes_refused : (d : ℕ) (ts : List Token) → expect mark.Process ts ≡ Refused → processes d ts ≡ Refused
-unfolding processes
-processes_refused d ts p = rw p refl
-
-pub processes_fail : (d : ℕ) (ts us : List Token) → expect mark.Process ts ≡ Found tt us → a_process d us ≡ Refused → processes d ts ≡ Refused
-unfolding processes
-processes_fail d ts us first p = rw first (chain_refused (between mark.Process concat) (a_process d) us p)
-
--- a process that does not end
-pub process_open : (d : ℕ) (ts us vs ws ys : List Token) (x : NameSyntax) (xs : List NameSyntax) (a : StmtsSyntax) → a_name ts ≡ Found x us
-    → expect mark.Begin us ≡ Found tt vs → integers vs ≡ Found xs ws → list (statement d) ws ≡ Found a ys → expect mark.End ys ≡ Refused → a_process d ts ≡ Refused
-unfolding a_process
-process_open d ts us vs ws ys x xs a p q r s f = rw (p, q, r, s, f) refl
