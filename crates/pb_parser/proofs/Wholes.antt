@@ -1,7 +1,7 @@
 -- What the parser of whole programs answers.
 use Rattle.std.proofs.Common.{◌≡◌, ◌↔◌, ℕ, ◌<◌, ◌≤◌, ◌⊎◌, inl, inr, List, [], ◌∷◌, length, Result, Ok, Err, false, IsTrue, refl, sym, ap, ◌∙◌, subst, arith}
 use Rattle.std.proofs.lemmas.List.{length-map}
-use Rattle.std.specs.Prelude.{IfOk}
+use Rattle.std.specs.Prelude.{IfOk, IfErr}
 use Rattle.pb_lexer.specs.declared.token.Token.{Token as Given}
 use Rattle.pb_lexer.specs.Tokens.{Token, token, tokens}
 use Rattle.pb_tree.specs.declared.program.Program.{Program}
@@ -10,7 +10,7 @@ use Rattle.pb_tree.specs.Syntax.{ProgramSyntax}
 use Rattle.pb_tree.specs.View.{program_view}
 use Rattle.pb_parser.specs.declared.fault.ParseFault.{ParseFault}
 use Rattle.pb_parser.specs.declared.fault.ParseFault.TheVariants as fault
-use Rattle.pb_parser.specs.Limits.{KeepsLimits, IsTooHigh, IsTooLarge, IsNoProgram, IsWithinLimits}
+use Rattle.pb_parser.specs.Limits.{KeepsLimits, IsTooHigh, IsTooLarge, IsNoProgram, IsWithinLimits, IsSyntax}
 use Rattle.pb_parser.specs.Nesting.{NestsTooDeep}
 use Rattle.pb_parser.specs.Programs.{ReadsProgram}
 use Rattle.pb_parser.specs.Reader.{Refused, Found, ended}
@@ -48,7 +48,7 @@ pub record Judged {A : Type 0} (ts : List Token) (r : Result (Program A) ParseFa
   pub too_deep : (r ≡ Err fault.TooDeep) ↔ (NestsTooDeep ts ⊎ IsTooHigh ts)
   pub syntax : ((at : ℕ) × (r ≡ Err (fault.Syntax at))) ↔ ((¬ NestsTooDeep ts) × IsNoProgram ts)
   pub too_large : (r ≡ Err fault.TooLarge) ↔ ((¬ NestsTooDeep ts) × IsTooLarge ts)
-  pub memory : r ≡ Err fault.NoMemory → (¬ NestsTooDeep ts) × IsWithinLimits ts
+  pub memory : r ≡ Err fault.NoMemory → IsWithinLimits ts
 
 pub judged_nested : {A : Type 0} (ts : List Token) → NestsTooDeep ts → Judged {A = A} ts (Err fault.TooDeep)
 judged_nested ts nests = record {
@@ -164,3 +164,12 @@ is_large m h n is over = let e = is.is_large in omega arith
 
 pub not_large : (m : Measure) (h n : ℕ) → IsMeasure m h n → m.nodes ≤ 16384 → n ≤ 16384
 not_large m h n is within = let e = is.is_large in omega arith
+
+-- ---- the same, clause by clause
+
+pub syntax_of : {A : Type 0} (ts : List Token) (r : Result (Program A) ParseFault) → Judged ts r → IfErr r (λ e. IsSyntax e → IsNoProgram ts)
+syntax_of ts (Ok q) j = tt
+syntax_of ts (Err (fault.Syntax at)) j = λ _. (j.syntax.0 (at, refl)).1
+syntax_of ts (Err fault.TooDeep) j = λ is. absurd is
+syntax_of ts (Err fault.TooLarge) j = λ is. absurd is
+syntax_of ts (Err fault.NoMemory) j = λ is. absurd is

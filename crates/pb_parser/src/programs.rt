@@ -1,9 +1,9 @@
 //! Declarations and programs.
 
-ghost use Rattle.std.specs.Prelude.{◌≡◌, ◌↔◌, ℕ, [], ◌∷◌, ◌⊎◌, IfOk};
+ghost use Rattle.std.specs.Prelude.{◌≡◌, ℕ, [], ◌∷◌, ◌⊎◌, IfOk, IfErr};
 ghost use Rattle.pb_lexer.specs.Tokens as spec_tokens;
 ghost use Rattle.pb_tree.specs.View.{number_view, program_view};
-ghost use Rattle.pb_parser.specs.Limits.{KeepsLimits, IsTooHigh, IsTooLarge, IsNoProgram, IsWithinLimits};
+ghost use Rattle.pb_parser.specs.Limits.{KeepsLimits, IsTooHigh, IsTooLarge, IsNoProgram, IsWithinLimits, IsSyntax};
 ghost use Rattle.pb_parser.specs.Nesting.{NestsTooDeep};
 ghost use Rattle.pb_parser.specs.Programs.{ReadsProgram};
 ghost use Rattle.pb_parser.specs.ProgramReader as reads;
@@ -164,16 +164,21 @@ fn read<B: Builder>(build: B, tokens: &[Token<'_>], depth: usize) -> Result<B::P
 pub fn parse<A: Allocator + Clone>(alloc: A, tokens: &[Token<'_>]) -> Result<Program<A>, ParseFault>
     ensures found { IfOk result (λ p. ReadsProgram (spec_tokens.tokens tokens.now) (program_view p)) }
     ensures limits { IfOk result (λ p. KeepsLimits (program_view p)) }
-    // Tokens that nest too deep are refused for that, whatever else they are.
-    ensures too_deep { (result ≡ Err ParseFault.TooDeep)
-        ↔ (NestsTooDeep (spec_tokens.tokens tokens.now) ⊎ IsTooHigh (spec_tokens.tokens tokens.now)) }
-    ensures syntax { ((at : ℕ) × (result ≡ Err (ParseFault.Syntax at)))
-        ↔ ((¬ NestsTooDeep (spec_tokens.tokens tokens.now)) × IsNoProgram (spec_tokens.tokens tokens.now)) }
-    ensures too_large { (result ≡ Err ParseFault.TooLarge)
-        ↔ ((¬ NestsTooDeep (spec_tokens.tokens tokens.now)) × IsTooLarge (spec_tokens.tokens tokens.now)) }
-    // Memory is asked for only where none of these is the answer.
-    ensures memory { result ≡ Err ParseFault.NoMemory
-        → (¬ NestsTooDeep (spec_tokens.tokens tokens.now)) × IsWithinLimits (spec_tokens.tokens tokens.now) }
+    // Tokens that nest too deep are always refused for that.
+    ensures nested { NestsTooDeep (spec_tokens.tokens tokens.now) → result ≡ Err ParseFault.TooDeep }
+    // Each refusal has its cause,
+    ensures syntax { IfErr result (λ fault. IsSyntax fault → IsNoProgram (spec_tokens.tokens tokens.now)) }
+    ensures too_deep { result ≡ Err ParseFault.TooDeep
+        → NestsTooDeep (spec_tokens.tokens tokens.now) ⊎ IsTooHigh (spec_tokens.tokens tokens.now) }
+    ensures too_large { result ≡ Err ParseFault.TooLarge → IsTooLarge (spec_tokens.tokens tokens.now) }
+    // and each cause is answered, whatever memory there is.
+    ensures no_program { (¬ NestsTooDeep (spec_tokens.tokens tokens.now)) → IsNoProgram (spec_tokens.tokens tokens.now)
+        → (at : ℕ) × (result ≡ Err (ParseFault.Syntax at)) }
+    ensures high { IsTooHigh (spec_tokens.tokens tokens.now) → result ≡ Err ParseFault.TooDeep }
+    ensures large { (¬ NestsTooDeep (spec_tokens.tokens tokens.now)) → IsTooLarge (spec_tokens.tokens tokens.now)
+        → result ≡ Err ParseFault.TooLarge }
+    // Memory can want only for a program within the limits.
+    ensures memory { result ≡ Err ParseFault.NoMemory → IsWithinLimits (spec_tokens.tokens tokens.now) }
 {
     if nests_too_deep(tokens) {
         return Err(ParseFault::TooDeep);
