@@ -1,5 +1,5 @@
 -- What the reading of expressions gives is what the grammar reads, and nothing else.
-use Rattle.std.proofs.Common.{◌≡◌, ℕ, ℤ, zero, suc, ◌≤◌, ◌<◌, List, [], ◌∷◌, length, Option, Some, None, Bool, true, false, refl, sym, ◌∙◌, subst, inl, inr, arith}
+use Rattle.std.proofs.Common.{◌≡◌, ℕ, ℤ, zero, suc, ◌+◌, max, ◌≤◌, ◌<◌, List, [], ◌∷◌, length, Option, Some, None, Bool, true, false, refl, sym, ◌∙◌, subst, inl, inr, arith}
 use Rattle.pb_lexer.specs.declared.token.Mark.{Mark}
 use Rattle.pb_lexer.specs.declared.token.Mark.TheVariants as mark
 use Rattle.pb_base.specs.declared.operators.UnaryOp.{UnaryOp}
@@ -45,7 +45,7 @@ home (Fixed mark.Div) = 6
 home (Fixed mark.Mod) = 6
 home _ = 0
 
-home_is : (l : Level) (k : Lexeme) (op : BinaryOp) → operator l k ≡ Some op → home k ≡ rank l
+pub home_is : (l : Level) (k : Lexeme) (op : BinaryOp) → operator l k ≡ Some op → home k ≡ rank l
 home_is level.Disjunction (Fixed mark.Or) op e = refl
 home_is level.Conjunction (Fixed mark.And) op e = refl
 home_is level.Comparison (Fixed mark.Equal) op e = refl
@@ -106,9 +106,22 @@ shorter (g.number is) = omega arith
 shorter (g.variable is) = omega arith
 shorter (g.group is to r) = let x = shorter r in omega arith
 
+-- ---- how deep an expression nests
+
+-- how many brackets of an expression stand in one another
+abbrev pub brackets : {l : Level} {ts rest : List Token} {e : ExprSyntax} → Reads l ts e rest → ℕ
+brackets (g.tight r) = brackets r
+brackets (g.chain c op a b) = max (brackets a) (brackets b)
+brackets (g.negation is r) = brackets r
+brackets (g.comparison op a b) = max (brackets a) (brackets b)
+brackets (g.minus is r) = brackets r
+brackets (g.number is) = 0
+brackets (g.variable is) = 0
+brackets (g.group is to r) = 1 + brackets r
+
 -- ---- what the grammar reads, the function reads
 
-rank_pos : (l : Level) → 0 < rank l
+pub rank_pos : (l : Level) → 0 < rank l
 rank_pos level.Disjunction = omega arith
 rank_pos level.Conjunction = omega arith
 rank_pos level.Negation = omega arith
@@ -314,15 +327,14 @@ unfolding expression
 opens d ts = refl
 
 -- The tokens that the grammar reads, up to where the parts of a chain end, are what the function has read when it comes there.
-reaches : {l : Level} {ts rest : List Token} {e : ExprSyntax} → Reads l ts e rest → (d : ℕ) → length ts ≤ suc d → Ends (within l) rest → Comes d l ts e rest
+reaches : {l : Level} {ts rest : List Token} {e : ExprSyntax} (r : Reads l ts e rest) → (d : ℕ) → brackets r ≤ d → Ends (within l) rest → Comes d l ts e rest
 unfolding after
 reaches (g.tight {l = l} {ts = ts} {rest = rest} {e = e} r) d room ends =
     let near = ends_looser (within l) (tighter l) (within_tighter l) rest ends in
     let p = settle (tighter l) d ts rest e (reaches r d room (ends_looser (tighter l) (within (tighter l)) (rank_within (tighter l)) rest near)) near in
     at_once l d ts rest e (lift l d ts rest e p ends)
 reaches (g.chain {l = l} {ts = ts} {mid = mid} {rest = rest} {t = t} {op = op} {a = a} {b = b} c is left right) d room ends =
-    let x = reaches left d room (ends_part c t op mid is) in
-    let less = shorter left in
+    let x = reaches left d (omega arith) (ends_part c t op mid is) in
     let near = chains_within c rest ends in
     let p = settle (tighter l) d mid rest b (reaches right d (omega arith) (ends_looser (tighter l) (within (tighter l)) (rank_within (tighter l)) rest near)) near in
     more c d x.0 a b op t ts mid rest is x.1 x.2 p (shorter right)
@@ -330,10 +342,9 @@ reaches (g.negation {ts = ts} {rest = rest} {t = t} {e = e} is r) d room ends =
     let p = settle level.Negation d ts rest e (reaches r d (omega arith) ends) ends in
     at_once level.Negation d (t ∷ ts) rest _ (negation_read (expression d) t ts rest e is p)
 reaches (g.comparison {ts = ts} {mid = mid} {rest = rest} {t = t} {op = op} {a = a} {b = b} is left right) d room ends =
-    let less = shorter left in
     let far : Ends level.Sum (t ∷ mid) = ends_operator level.Comparison level.Sum t.lexeme op is (omega arith) in
     let near = ends_looser level.Comparison level.Sum (omega arith) rest ends in
-    let p = settle level.Sum d ts (t ∷ mid) a (reaches left d room (ends_looser level.Sum level.Term (omega arith) (t ∷ mid) far)) far in
+    let p = settle level.Sum d ts (t ∷ mid) a (reaches left d (omega arith) (ends_looser level.Sum level.Term (omega arith) (t ∷ mid) far)) far in
     let q = settle level.Sum d mid rest b (reaches right d (omega arith) (ends_looser level.Sum level.Term (omega arith) rest near)) near in
     at_once level.Comparison d ts rest _ (comparison_read (expression d) op t ts mid rest a b is p q)
 reaches (g.minus {ts = ts} {rest = rest} {t = t} {e = e} is r) d room ends =
@@ -341,7 +352,7 @@ reaches (g.minus {ts = ts} {rest = rest} {t = t} {e = e} is r) d room ends =
     at_once level.Factor d (t ∷ ts) rest _ (minus_read (expression d) t ts rest e is p)
 reaches (g.number {rest = rest} {t = t} {n = n} is) d room ends = at_once level.Factor d (t ∷ rest) rest _ (primary_read (expression d) (t ∷ rest) rest _ (number_read (expression d) t rest n is))
 reaches (g.variable {rest = rest} {t = t} {x = x} is) d room ends = at_once level.Factor d (t ∷ rest) rest _ (primary_read (expression d) (t ∷ rest) rest _ (variable_read (expression d) t rest x is))
-reaches (g.group is to r) zero room ends = let less = shorter r in absurd (omega arith)
+reaches (g.group is to r) zero room ends = absurd (omega arith)
 reaches (g.group {ts = ts} {rest = rest} {t = t} {u = u} {e = e} is to r) (suc d) room ends =
     let near = ends_mark level.Disjunction u (Fixed mark.Close) rest to refl in
     let p = settle level.Disjunction d ts (u ∷ rest) e (reaches r d (omega arith) (ends_looser level.Disjunction level.Conjunction (omega arith) (u ∷ rest) near)) near in
@@ -349,11 +360,11 @@ reaches (g.group {ts = ts} {rest = rest} {t = t} {u = u} {e = e} is to r) (suc d
 
 -- ---- the laws
 
-pub expression_complete : {ts rest : List Token} {e : ExprSyntax} → Reads level.Disjunction ts e rest → (d : ℕ) → length ts ≤ d → Ends level.Disjunction rest
+pub expression_complete : {ts rest : List Token} {e : ExprSyntax} (r : Reads level.Disjunction ts e rest) → (d : ℕ) → brackets r < d → Ends level.Disjunction rest
     → expression d ts ≡ Found e rest
-expression_complete r zero room ends = let less = shorter r in absurd (omega arith)
+expression_complete r zero room ends = absurd (omega arith)
 expression_complete {ts = ts} {rest = rest} {e = e} r (suc d) room ends =
-    opens d ts ∙ settle level.Disjunction d ts rest e (reaches r d room (ends_looser level.Disjunction level.Conjunction (omega arith) rest ends)) ends
+    opens d ts ∙ settle level.Disjunction d ts rest e (reaches r d (omega arith) (ends_looser level.Disjunction level.Conjunction (omega arith) rest ends)) ends
 
 -- ---- what the function reads, the grammar reads
 

@@ -8,5 +8,6 @@ pub mod StatementLaws
 pub mod Loops
 pub mod Steps
 pub mod ProgramLaws
+pub mod Depths
 pub mod NestingLaws
 pub mod Wholes

@@ -1,15 +1,12 @@
 -- The steps of the parser's loops over names, demands, statements, arms and processes.
-use Rattle.std.proofs.Common.{◌≡◌, ℕ, zero, suc, ◌<◌, List, [], ◌∷◌, ◌++◌, length, Some, None, Bool, true, false, refl, sym, ap, ◌∙◌, subst, arith, append_assoc}
+use Rattle.std.proofs.Common.{◌≡◌, ℕ, zero, suc, ◌<◌, List, [], ◌∷◌, length, Some, None, Bool, true, false, refl, sym, ap, ◌∙◌, subst, arith, append_assoc}
 use Rattle.pb_lexer.specs.declared.token.Mark.{Mark}
-use Rattle.pb_lexer.specs.declared.token.Mark.TheVariants as mark
-use Rattle.pb_lexer.specs.declared.token.Kind.{Kind}
-use Rattle.pb_lexer.specs.declared.token.Kind.TheVariants as kind
 use Rattle.pb_base.specs.declared.operators.BinaryOp.{BinaryOp}
-use Rattle.pb_lexer.specs.Tokens.{Token, lexeme}
+use Rattle.pb_lexer.specs.Tokens.{Token}
 use Rattle.pb_tree.specs.Syntax as tree
 use Rattle.pb_tree.specs.Syntax.{ExprSyntax, StmtsSyntax, ArmsSyntax, DemandSyntax, no_stmt, stmt_then, no_arm, arm_then}
 use Rattle.pb_parser.specs.declared.level.Level.{Level}
-use Rattle.pb_parser.specs.Reader.{Answer, Refused, Found, Part, Join, Stops, and_then, is_mark, expect, expect_by, chain_from, chain}
+use Rattle.pb_parser.specs.Reader.{Answer, Refused, Found, Part, Join, Stops, is_mark, expect, expect_by, chain_from, chain}
 use Rattle.pb_parser.specs.Making.{Finds, Adds}
 use Rattle.pb_parser.specs.Promises.{TakesMark, TakesOperator}
 use Rattle.pb_parser.specs.ExpressionReader.{joins}

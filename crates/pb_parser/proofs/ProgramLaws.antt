@@ -1,5 +1,5 @@
 -- What the reading of programs gives is what the grammar reads, and nothing else.
-use Rattle.std.proofs.Common.{◌≡◌, ℕ, ℤ, zero, suc, ◌≤◌, ◌<◌, List, [], ◌∷◌, ◌++◌, length, map, Bool, true, false, refl, sym, ap, ◌∙◌, subst, inl, inr, arith}
+use Rattle.std.proofs.Common.{◌≡◌, ℕ, ℤ, zero, suc, max, ◌≤◌, ◌<◌, List, [], ◌∷◌, length, Bool, true, false, refl, sym, ap, ◌∙◌, subst, inl, inr, arith}
 use Rattle.pb_lexer.specs.declared.token.Mark.TheVariants as mark
 use Rattle.pb_parser.specs.declared.level.Level.TheVariants as level
 use Rattle.pb_lexer.specs.Tokens.{Name, Number, Fixed, Token}
@@ -12,7 +12,7 @@ use Rattle.pb_parser.specs.ProgramReader.{one_name, names, a_resource, resources
 use Rattle.pb_parser.proofs.Marks.{mark_is, is_mark_same, either, expects, expected}
 use Rattle.pb_parser.proofs.Chains.{found_value, found_rest, goes_on, chain_keeps, InChain, chain_enters, chain_more, chain_leaves, chain_refused}
 use Rattle.pb_parser.proofs.Expressions.{ends_mark}
-use Rattle.pb_parser.proofs.StatementLaws.{joins_between, stops_at, marked, then_marked, joined_between, name_found, number_found, list_reach, list_ends, list_shorter, list_sound, statement_sound}
+use Rattle.pb_parser.proofs.StatementLaws.{joins_between, stops_at, marked, then_marked, joined_between, name_found, number_found, list_reach, list_ends, list_shorter, list_depth, list_sound, statement_sound}
 use Rattle.pb_tree.specs.Syntax.{NameSyntax, NumberSyntax, StmtsSyntax, ResourceSyntax, ProcessSyntax, ProgramSyntax}
 use Rattle.pb_parser.specs.Grammar.{Is, name_at, number_at}
 use Rattle.pb_parser.specs.Lists.{append}
@@ -86,18 +86,30 @@ process_of d t u y ts us rest x xs a is b p q end =
     let m = marked mark.End (list (statement d) us) a y rest q end in
     rw (is, e, p, m) refl
 
-process_read : (d : ℕ) {ts rest : List Token} {p : ProcessSyntax} → ReadsProcess ts p rest → length ts ≤ d → a_process d ts ≡ Found (p ∷ []) rest
+-- how many readings stand in one another in a process, in processes and in a program
+
+abbrev pub process_depth : {ts rest : List Token} {p : ProcessSyntax} → ReadsProcess ts p rest → ℕ
+process_depth (g.plain x b l e) = list_depth l
+process_depth (g.integers x b i ns s l e) = list_depth l
+
+abbrev pub processes_depth : {ts rest : List Token} {ps : List ProcessSyntax} → ReadsProcesses ts ps rest → ℕ
+processes_depth (g.one_process is r) = process_depth r
+processes_depth (g.more_processes l is r) = max (processes_depth l) (process_depth r)
+
+abbrev pub program_depth : {ts : List Token} {p : ProgramSyntax} → ReadsProgram ts p → ℕ
+program_depth (g.program rs ps) = processes_depth ps
+
+process_read : (d : ℕ) {ts rest : List Token} {p : ProcessSyntax} (r : ReadsProcess ts p rest) → process_depth r ≤ d → a_process d ts ≡ Found (p ∷ []) rest
 unfolding is_mark
 process_read d (g.plain {t = t} {u = u} {v = v} {ts = ts} {rest = rest} {x = x} {a = a} is b l end) room =
     let q = list_ends d mark.End v ts rest a (list_reach d l (omega arith) (ends_mark level.Disjunction v (Fixed mark.End) rest end refl)) end refl in
     process_of d t u v ts ts rest x [] a is b (no_integers d ts (v ∷ rest) a q) q end
 process_read d (g.integers {t = t} {u = u} {v = v} {w = w} {y = y} {ts = ts} {us = us} {rest = rest} {x = x} {xs = xs} {a = a} is b i ns semi l end) room =
-    let less = names_shorter ns in
     let n = chain_leaves (between mark.Comma concat) one_name xs (w ∷ us) _ (names_reach ns) (stops_at mark.Comma mark.Semicolon concat w us semi refl) in
     let q = list_ends d mark.End y us rest a (list_reach d l (omega arith) (ends_mark level.Disjunction y (Fixed mark.End) rest end refl)) end refl in
     process_of d t u y (v ∷ ts) us rest x xs a is b (some_integers v w ts us xs i n semi) q end
 
-processes_reach : (d : ℕ) {ts rest : List Token} {ps : List ProcessSyntax} → ReadsProcesses ts ps rest → length ts ≤ d
+processes_reach : (d : ℕ) {ts rest : List Token} {ps : List ProcessSyntax} (r : ReadsProcesses ts ps rest) → processes_depth r ≤ d
     → InChain (between mark.Process concat) (a_process d) ps rest (processes d ts)
 unfolding processes
 processes_reach d (g.one_process {t = t} {ts = ts} {rest = rest} {p = p} is r) room =
@@ -105,29 +117,25 @@ processes_reach d (g.one_process {t = t} {ts = ts} {rest = rest} {p = p} is r) r
     let inside = chain_enters (between mark.Process concat) (a_process d) (p ∷ []) ts rest (process_read d r (omega arith)) in
     rw e inside
 processes_reach d (g.more_processes {ts = ts} {mid = mid} {rest = rest} {t = t} {ps = ps} {p = p} l is r) room =
-    let x = processes_shorter l in
-    chain_more (between mark.Process concat) (a_process d) ps (p ∷ []) concat t (t ∷ mid) mid rest (processes d ts) (processes_reach d l room) refl
+    chain_more (between mark.Process concat) (a_process d) ps (p ∷ []) concat t (t ∷ mid) mid rest (processes d ts) (processes_reach d l (omega arith)) refl
     (joins_between mark.Process concat t is) (process_read d r (omega arith)) (process_shorter r)
-  where
-    processes_shorter : {ts rest : List Token} {ps : List ProcessSyntax} → ReadsProcesses ts ps rest → length rest < length ts
-    processes_shorter (g.one_process is r) = let x = process_shorter r in omega arith
-    processes_shorter (g.more_processes l is r) = let x = processes_shorter l in let y = process_shorter r in omega arith
 
 resources_stop : {ts rest : List Token} {ps : List ProcessSyntax} → ReadsProcesses ts ps rest → Stops (between mark.Resource (concat {X = ResourceSyntax})) ts
 unfolding is_mark
 resources_stop (g.one_process {t = t} {ts = ts} is r) = stops_at mark.Resource mark.Process concat t ts is refl
 resources_stop (g.more_processes l is r) = resources_stop l
 
-pub program_complete : (d : ℕ) {ts : List Token} {p : ProgramSyntax} → ReadsProgram ts p → length ts ≤ d → program d ts ≡ Found p []
+pub program_complete : (d : ℕ) {ts : List Token} {p : ProgramSyntax} (r : ReadsProgram ts p) → program_depth r ≤ d → program d ts ≡ Found p []
 unfolding program
 program_complete d (g.program {ts = ts} {mid = mid} {rs = rs} {ps = ps} a b) room =
-    let x = resources_shorter a in
     let r = chain_leaves (between mark.Resource concat) a_resource rs mid _ (resources_reach a) (resources_stop b) in
     let s = chain_leaves (between mark.Process concat) (a_process d) ps [] _ (processes_reach d b (omega arith)) tt in
     rw (r, s) refl
 
 pub one_program : {ts : List Token} {a b : ProgramSyntax} → ReadsProgram ts a → ReadsProgram ts b → a ≡ b
-one_program {ts = ts} x y = found_value (sym (program_complete (length ts) x (omega arith)) ∙ program_complete (length ts) y (omega arith))
+one_program x y =
+    let d = max (program_depth x) (program_depth y) in
+    found_value (sym (program_complete d x (omega arith)) ∙ program_complete d y (omega arith))
 
 -- ---- what the function reads, the grammar reads
 

@@ -1,5 +1,5 @@
 -- What the reading of statements gives is what the grammar reads, and nothing else.
-use Rattle.std.proofs.Common.{◌≡◌, ℕ, ℤ, zero, suc, ◌≤◌, ◌<◌, List, [], ◌∷◌, length, Some, Bool, true, false, refl, sym, ap, ◌∙◌, subst, arith}
+use Rattle.std.proofs.Common.{◌≡◌, ℕ, ℤ, zero, suc, ◌+◌, max, ◌≤◌, ◌<◌, List, [], ◌∷◌, length, Some, Bool, true, false, refl, sym, ap, ◌∙◌, subst, arith}
 use Rattle.pb_lexer.specs.declared.token.Mark.{Mark}
 use Rattle.pb_lexer.specs.declared.token.Mark.TheVariants as mark
 use Rattle.pb_parser.specs.declared.level.Level.TheVariants as level
@@ -12,7 +12,7 @@ use Rattle.pb_parser.specs.ExpressionReader.{expression}
 use Rattle.pb_parser.specs.StatementReader.{then_mark, joined_if, between, name_by, a_name, number_by, a_number, a_pair, concat, pairs, list, an_arm, arms, otherwise, otherwise_by, statement_by, statement}
 use Rattle.pb_parser.proofs.Marks.{mark_is, is_mark_same, expects, expected}
 use Rattle.pb_parser.proofs.Chains.{found_value, found_rest, goes_on, chain_keeps, InChain, chain_enters, chain_more, chain_leaves}
-use Rattle.pb_parser.proofs.Expressions.{Ends, ends_mark, shorter, expression_complete, expression_sound}
+use Rattle.pb_parser.proofs.Expressions.{Ends, ends_mark, shorter, brackets, expression_complete, expression_sound}
 use Rattle.pb_tree.specs.Syntax.{ExprSyntax, NameSyntax, NumberSyntax, StmtsSyntax, ArmsSyntax, DemandSyntax}
 use Rattle.pb_parser.specs.Grammar.{Is, name_at, number_at}
 use Rattle.pb_parser.specs.Lists.{single, append, append_arms}
@@ -84,6 +84,40 @@ mutual
   pub arms_shorter : {ts rest : List Token} {a : ArmsSyntax} → ReadsArms ts a rest → length rest < length ts
   arms_shorter (g.first_arm r) = stmt_shorter r
   arms_shorter (g.next_arm l is r) = let x = arms_shorter l in let y = stmt_shorter r in omega arith
+
+-- ---- how deep statements nest
+
+abbrev mutual
+  -- how many readings stand in one another in a statement: itself, statements inside, expressions and their brackets
+  pub stmt_depth : {ts rest : List Token} {a : StmtsSyntax} → ReadsStmt ts a rest → ℕ
+  stmt_depth (g.skip is) = 1
+  stmt_depth (g.assign is to e) = 2 + brackets e
+  stmt_depth (g.print is e) = 2 + brackets e
+  stmt_depth (g.choice is e th a fi) = 1 + max (1 + brackets e) (list_depth a)
+  stmt_depth (g.choices is e th a el b fi) = 1 + max (1 + brackets e) (max (list_depth a) (list_depth b))
+  stmt_depth (g.loop is e dw a od) = 1 + max (1 + brackets e) (list_depth a)
+  stmt_depth (g.hold is ps dw a od) = 1 + list_depth a
+  stmt_depth (g.fork is a end) = 1 + arms_depth a
+  stmt_depth (g.inner is a end) = 1 + list_depth a
+
+  pub list_depth : {ts rest : List Token} {a : StmtsSyntax} → ReadsList ts a rest → ℕ
+  list_depth (g.first r) = stmt_depth r
+  list_depth (g.next l is r) = max (list_depth l) (stmt_depth r)
+
+  pub arms_depth : {ts rest : List Token} {a : ArmsSyntax} → ReadsArms ts a rest → ℕ
+  arms_depth (g.first_arm r) = stmt_depth r
+  arms_depth (g.next_arm l is r) = max (arms_depth l) (stmt_depth r)
+
+some_depth : {ts rest : List Token} {a : StmtsSyntax} (r : ReadsStmt ts a rest) → 0 < stmt_depth r
+some_depth (g.skip is) = omega arith
+some_depth (g.assign is to e) = omega arith
+some_depth (g.print is e) = omega arith
+some_depth (g.choice is e th a fi) = omega arith
+some_depth (g.choices is e th a el b fi) = omega arith
+some_depth (g.loop is e dw a od) = omega arith
+some_depth (g.hold is ps dw a od) = omega arith
+some_depth (g.fork is a end) = omega arith
+some_depth (g.inner is a end) = omega arith
 
 -- ---- one statement, from its parts
 
@@ -172,31 +206,26 @@ arms_enter d ts rest a p = chain_enters _ (an_arm (statement d)) (tree.arm_then 
 mutual
   unfolding is_mark
 
-  pub stmt_read : (d : ℕ) {ts rest : List Token} {a : StmtsSyntax} → ReadsStmt ts a rest → length ts ≤ d → Ends level.Disjunction rest → statement d ts ≡ Found a rest
-  stmt_read zero r room ends = let x = stmt_shorter r in absurd (omega arith)
+  pub stmt_read : (d : ℕ) {ts rest : List Token} {a : StmtsSyntax} (r : ReadsStmt ts a rest) → stmt_depth r ≤ d → Ends level.Disjunction rest → statement d ts ≡ Found a rest
+  stmt_read zero r room ends = let x = some_depth r in absurd (omega arith)
   stmt_read (suc d) (g.skip {t = t} {rest = rest} is) room ends = skip_read d t rest is
   stmt_read (suc d) (g.assign {t = t} {u = u} {ts = ts} {rest = rest} {x = x} {e = e} is to r) room ends =
       assign_read d t u ts rest x e is to (expression_complete r d (omega arith) ends)
   stmt_read (suc d) (g.print {t = t} {ts = ts} {rest = rest} {e = e} is r) room ends = print_read d t ts rest e is (expression_complete r d (omega arith) ends)
   stmt_read (suc d) (g.choice {t = t} {u = u} {v = v} {ts = ts} {us = us} {rest = rest} {e = e} {a = a} is r th l fi) room ends =
-      let less = shorter r in
       let p = expression_complete r d (omega arith) (ends_mark level.Disjunction u (Fixed mark.Then) us th refl) in
       let q = list_reach d l (omega arith) (ends_mark level.Disjunction v (Fixed mark.Fi) rest fi refl) in
       choice_read d t u v ts us rest e a is p th (list_ends d mark.Fi v us rest a q fi refl) fi
   stmt_read (suc d) (g.choices {t = t} {u = u} {v = v} {w = w} {ts = ts} {us = us} {vs = vs} {rest = rest} {e = e} {a = a} {b = b} is r th l el m fi) room ends =
-      let less = shorter r in
-      let lesser = list_shorter l in
       let p = expression_complete r d (omega arith) (ends_mark level.Disjunction u (Fixed mark.Then) us th refl) in
       let q = list_reach d l (omega arith) (ends_mark level.Disjunction v (Fixed mark.Else) vs el refl) in
       let s = list_reach d m (omega arith) (ends_mark level.Disjunction w (Fixed mark.Fi) rest fi refl) in
       choices_read d t u v w ts us vs rest e a b is p th (list_ends d mark.Else v us vs a q el refl) el (list_ends d mark.Fi w vs rest b s fi refl) fi
   stmt_read (suc d) (g.loop {t = t} {u = u} {v = v} {ts = ts} {us = us} {rest = rest} {e = e} {a = a} is r th l od) room ends =
-      let less = shorter r in
       let p = expression_complete r d (omega arith) (ends_mark level.Disjunction u (Fixed mark.Do) us th refl) in
       let q = list_reach d l (omega arith) (ends_mark level.Disjunction v (Fixed mark.Od) rest od refl) in
       loop_read d t u v ts us rest e a is p th (list_ends d mark.Od v us rest a q od refl) od
   stmt_read (suc d) (g.hold {t = t} {u = u} {v = v} {ts = ts} {us = us} {rest = rest} {ps = ps} {a = a} is r th l od) room ends =
-      let less = pairs_shorter r in
       let p = pairs_read r (stops_at mark.Comma mark.Do concat u us th refl) in
       let q = list_reach d l (omega arith) (ends_mark level.Disjunction v (Fixed mark.Od) rest od refl) in
       hold_read d t u v ts us rest ps a is p th (list_ends d mark.Od v us rest a q od refl) od
@@ -207,20 +236,18 @@ mutual
       let q = list_reach d l (omega arith) (ends_mark level.Disjunction u (Fixed mark.End) rest end refl) in
       inner_read d t u ts rest a is (list_ends d mark.End u ts rest a q end refl) end
 
-  pub list_reach : (d : ℕ) {ts rest : List Token} {a : StmtsSyntax} → ReadsList ts a rest → length ts ≤ d → Ends level.Disjunction rest
+  pub list_reach : (d : ℕ) {ts rest : List Token} {a : StmtsSyntax} (r : ReadsList ts a rest) → list_depth r ≤ d → Ends level.Disjunction rest
       → InChain (between mark.Semicolon append) (statement d) a rest (list (statement d) ts)
   list_reach d (g.first {ts = ts} {rest = rest} {a = a} r) room ends = list_enters d ts rest a (stmt_read d r room ends)
   list_reach d (g.next {ts = ts} {mid = mid} {rest = rest} {t = t} {a = a} {b = b} l is r) room ends =
-      let less = list_shorter l in
-      let x = list_reach d l room (ends_mark level.Disjunction t (Fixed mark.Semicolon) mid is refl) in
+      let x = list_reach d l (omega arith) (ends_mark level.Disjunction t (Fixed mark.Semicolon) mid is refl) in
       chain_more _ (statement d) a b append t (t ∷ mid) mid rest _ x refl (joins_between mark.Semicolon append t is) (stmt_read d r (omega arith) ends) (stmt_shorter r)
 
-  pub arms_reach : (d : ℕ) {ts rest : List Token} {a : ArmsSyntax} → ReadsArms ts a rest → length ts ≤ d → Ends level.Disjunction rest
+  pub arms_reach : (d : ℕ) {ts rest : List Token} {a : ArmsSyntax} (r : ReadsArms ts a rest) → arms_depth r ≤ d → Ends level.Disjunction rest
       → InChain (between mark.Semicolon append_arms) (an_arm (statement d)) a rest (arms (statement d) ts)
   arms_reach d (g.first_arm {ts = ts} {rest = rest} {a = a} r) room ends = arms_enter d ts rest a (stmt_read d r room ends)
   arms_reach d (g.next_arm {ts = ts} {mid = mid} {rest = rest} {t = t} {a = a} {b = b} l is r) room ends =
-      let less = arms_shorter l in
-      let x = arms_reach d l room (ends_mark level.Disjunction t (Fixed mark.Semicolon) mid is refl) in
+      let x = arms_reach d l (omega arith) (ends_mark level.Disjunction t (Fixed mark.Semicolon) mid is refl) in
       chain_more _ (an_arm (statement d)) a (tree.arm_then b tree.no_arm) append_arms t (t ∷ mid) mid rest _ x refl (joins_between mark.Semicolon append_arms t is)
       (arm_read (statement d) mid rest b (stmt_read d r (omega arith) ends)) (stmt_shorter r)
 

@@ -1,5 +1,5 @@
 -- The parts of the parser that take their parts one after the other.
-use Rattle.std.proofs.Common.{◌≡◌, ℕ, List, [], ◌∷◌, length, Some, None, refl, sym, ap, ◌∙◌}
+use Rattle.std.proofs.Common.{◌≡◌, ℕ, List, [], ◌∷◌, Some, refl}
 use Rattle.pb_base.specs.declared.operators.BinaryOp.{BinaryOp}
 use Rattle.pb_lexer.specs.declared.token.Mark.TheVariants as mark
 use Rattle.pb_lexer.specs.Tokens.{Token}
@@ -7,9 +7,9 @@ use Rattle.pb_tree.specs.Syntax as tree
 use Rattle.pb_tree.specs.Syntax.{NameSyntax, ExprSyntax, StmtsSyntax, ArmsSyntax, DemandSyntax, ResourceSyntax, ProcessSyntax, ProgramSyntax}
 use Rattle.pb_parser.specs.declared.level.Level.TheVariants as level
 use Rattle.pb_parser.specs.Lists.{append, append_arms, single, single_arm}
-use Rattle.pb_parser.specs.Reader.{Answer, Refused, Found, Part, Stops, expect, ended, chain}
+use Rattle.pb_parser.specs.Reader.{Refused, Found, Part, Stops, expect, ended}
 use Rattle.pb_parser.specs.ExpressionReader.{joins, sum, comparison, related, expression}
-use Rattle.pb_parser.specs.StatementReader.{between, concat, a_name, pairs, a_pair, list, arms, otherwise, choice, looping, holding, forking, statement, an_arm}
+use Rattle.pb_parser.specs.StatementReader.{between, concat, a_name, pairs, a_pair, list, arms, otherwise, choice, looping, holding, statement, an_arm}
 use Rattle.pb_parser.specs.ProgramReader.{one_name, names, a_resource, resources, integers, a_process, processes, program}
 use Rattle.pb_parser.proofs.Chains.{chain_refused}
 use Rattle.pb_parser.proofs.StatementLaws.{arm_read}

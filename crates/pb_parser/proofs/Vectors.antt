@@ -1,5 +1,5 @@
 -- The plain trees that a `Vec` stands for, after one more.
-use Rattle.std.proofs.Common.{◌≡◌, ℕ, List, [], ◌∷◌, ◌++◌, Vec, map, refl, sym, ap, ◌∙◌}
+use Rattle.std.proofs.Common.{◌≡◌, ℕ, List, [], ◌∷◌, ◌++◌, Vec, map, refl, ap, ◌∙◌}
 use Rattle.pb_tree.specs.declared.expr.Expr.{Expr}
 use Rattle.pb_tree.specs.declared.expr.Name.{Name}
 use Rattle.pb_tree.specs.declared.stmt.Demand.{Demand}

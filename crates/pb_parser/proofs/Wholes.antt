@@ -1,9 +1,7 @@
 -- What the parser of whole programs answers.
-use Rattle.std.proofs.Common.{◌≡◌, ◌↔◌, ℕ, ◌<◌, ◌≤◌, ◌⊎◌, inl, inr, List, [], ◌∷◌, length, Result, Ok, Err, false, IsTrue, refl, sym, ap, ◌∙◌, subst, arith}
-use Rattle.std.proofs.lemmas.List.{length-map}
+use Rattle.std.proofs.Common.{◌≡◌, ◌↔◌, ℕ, ◌<◌, ◌≤◌, ◌⊎◌, inl, inr, List, [], ◌∷◌, Result, Ok, Err, false, IsTrue, refl, sym, ap, ◌∙◌, subst, arith}
 use Rattle.std.specs.Prelude.{IfOk, IfErr}
-use Rattle.pb_lexer.specs.declared.token.Token.{Token as Given}
-use Rattle.pb_lexer.specs.Tokens.{Token, token, tokens}
+use Rattle.pb_lexer.specs.Tokens.{Token}
 use Rattle.pb_tree.specs.declared.program.Program.{Program}
 use Rattle.pb_tree.specs.Measure.{program_height, program_nodes}
 use Rattle.pb_tree.specs.Syntax.{ProgramSyntax}
@@ -17,8 +15,9 @@ use Rattle.pb_parser.specs.Reader.{Refused, Found, ended}
 use Rattle.pb_parser.specs.ProgramReader.{resources, processes, program}
 use Rattle.pb_parser.specs.declared.measure.Measure.{Measure}
 use Rattle.pb_parser.specs.Measured.{IsMeasure}
-use Rattle.pb_parser.specs.Making.{Fails, Finds, Makes}
+use Rattle.pb_parser.specs.Making.{Fails, Makes}
 use Rattle.pb_parser.proofs.Chains.{goes_on, found_rest}
+use Rattle.pb_parser.proofs.Depths.{within_depth}
 use Rattle.pb_parser.proofs.ProgramLaws.{program_complete, program_sound, one_program}
 
 -- ---- a program takes all tokens
@@ -60,15 +59,12 @@ judged_nested ts nests = record {
   memory = λ e. cc;
 }
 
-none_reads : (given : List Given) → program (length given) (tokens given) ≡ Refused → IsNoProgram (tokens given)
-none_reads given none p reads =
-    let same = length-map given token in
-    let found = program_complete (length given) reads (omega arith) in cc
+none_reads : (ts : List Token) → (NestsTooDeep ts → ⊥) → program 257 ts ≡ Refused → IsNoProgram ts
+none_reads ts shallow none p reads = let found = program_complete 257 reads (within_depth reads shallow) in cc
 
-pub judged_refused : {A : Type 0} (given : List Given) (e : ParseFault) → (NestsTooDeep (tokens given) → ⊥) → Fails ⊥ e (program (length given) (tokens given))
-    → Judged {A = A} (tokens given) (Err e)
-judged_refused given (fault.Syntax at) shallow fails =
-    let none = none_reads given fails in
+pub judged_refused : {A : Type 0} (ts : List Token) (e : ParseFault) → (NestsTooDeep ts → ⊥) → Fails ⊥ e (program 257 ts) → Judged {A = A} ts (Err e)
+judged_refused ts (fault.Syntax at) shallow fails =
+    let none = none_reads ts shallow fails in
     record {
       found = tt;
       limits = tt;
@@ -77,9 +73,9 @@ judged_refused given (fault.Syntax at) shallow fails =
       too_large = (λ e. cc, λ s. absurd (none s.1.0 s.1.1));
       memory = λ e. cc;
     }
-judged_refused given fault.TooDeep shallow fails = absurd fails
-judged_refused given fault.TooLarge shallow fails = absurd fails
-judged_refused given fault.NoMemory shallow fails = absurd fails
+judged_refused ts fault.TooDeep shallow fails = absurd fails
+judged_refused ts fault.TooLarge shallow fails = absurd fails
+judged_refused ts fault.NoMemory shallow fails = absurd fails
 
 pub judged_high : {A : Type 0} (ts : List Token) (p : ProgramSyntax) → (NestsTooDeep ts → ⊥) → ReadsProgram ts p → 200 < program_height p → Judged {A = A} ts (Err fault.TooDeep)
 judged_high ts p shallow reads high = record {

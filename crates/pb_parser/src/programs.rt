@@ -25,6 +25,9 @@ const HIGHEST: u64 = 200;
 
 const MOST_NODES: u64 = 16_384;
 
+/// So many parts of a program stand in one another, where at most 256 brackets and statements stand open.
+const DEPTH: usize = 257;
+
 /// A name, and how much there is of the resource that it declares.
 #[derive(Clone, Copy)]
 struct Declared<'t> {
@@ -144,16 +147,17 @@ impl<'a, 't, B: Builder> Parser<'a, 't, B> {
     }
 }
 
-/// What the builder makes of the tokens, with at most `depth` brackets and statements in one another.
-fn read<B: Builder>(build: B, tokens: &[Token<'_>], depth: usize) -> Result<B::Program, ParseFault>
-    ensures { Makes B.wants B.is_program result (reads.program depth (spec_tokens.tokens tokens.now)) [] }
+/// What the builder makes of the tokens.
+fn read<B: Builder>(build: B, tokens: &[Token<'_>]) -> Result<B::Program, ParseFault>
+    ensures { Makes B.wants B.is_program result
+        (reads.program DEPTH (spec_tokens.tokens tokens.now)) [] }
 {
     let mut parser = Parser {
         build,
         rest: tokens,
         end: 0,
     };
-    parser.program(depth)
+    parser.program(DEPTH)
 }
 
 /// The program that the tokens are.
@@ -183,13 +187,12 @@ pub fn parse<A: Allocator + Clone>(alloc: A, tokens: &[Token<'_>]) -> Result<Pro
     if nests_too_deep(tokens) {
         return Err(ParseFault::TooDeep);
     }
-    let depth = tokens.len();
-    let measure = read(Measures, tokens, depth)?;
+    let measure = read(Measures, tokens)?;
     if measure.height > HIGHEST {
         return Err(ParseFault::TooDeep);
     }
     if measure.nodes > MOST_NODES {
         return Err(ParseFault::TooLarge);
     }
-    read(Trees { alloc }, tokens, depth)
+    read(Trees { alloc }, tokens)
 }

@@ -1,4 +1,4 @@
-use Rattle.std.proofs.Common.{◌≡◌, ap, sym, subst, ◌∙◌, Err, inl, inr}
+use Rattle.std.proofs.Common.{ap, sym, subst, ◌∙◌, Err, inl, inr}
 use Rattle.std.proofs.lemmas.Result.{err_from_is_err_and}
 use Rattle.pb_lexer.specs.Tokens.{tokens}
 use Rattle.pb_parser.specs.declared.fault.ParseFault.TheVariants as fault
@@ -10,7 +10,7 @@ pub returns-in_err-measure : goal.returns-in_err-measure
 returns-in_err-measure g c =
     let p = err_from_is_err_and c.from_residual.result c.from_residual.ensures.1 in
     let shallow = not_nested (tokens c.args.tokens.now) c.if-nests_too_deep.ensures in
-    let j = subst (λ r. Judged (tokens c.args.tokens.now) r) (sym (p.1 ∙ ap Err p.2)) (judged_refused c.args.tokens.now _ shallow c.in_err-measure.ensures) in
+    let j = subst (λ r. Judged (tokens c.args.tokens.now) r) (sym (p.1 ∙ ap Err p.2)) (judged_refused (tokens c.args.tokens.now) _ shallow c.in_err-measure.ensures) in
     record {
       found = j.found;
       limits = j.limits;

@@ -1,9 +1,8 @@
-use Rattle.std.proofs.Common.{length, suc, ◌-◌, subst, ◌≡◌, ap, sym, arith, refl, ◌∙◌, ◌∷◌}
+use Rattle.std.proofs.Common.{length, suc, ◌-◌, subst, ◌≡◌, ap, sym, arith}
 use Rattle.std.proofs.lemmas.Result.{err_from_is_err_and}
 use Rattle.pb_base.specs.declared.operators.UnaryOp.TheVariants as sign
-use Rattle.pb_lexer.specs.Tokens.{token, tokens}
-use Rattle.pb_tree.specs.Syntax as tree
-use Rattle.pb_parser.specs.ExpressionReader.{expression, negation, factor, primary}
+use Rattle.pb_lexer.specs.Tokens.{tokens}
+use Rattle.pb_parser.specs.ExpressionReader.{expression, negation, factor}
 use Rattle.pb_parser.specs.Making.{Makes}
 use Rattle.pb_parser.proofs.Chains.{chain_refused, fails_through}
 use Rattle.pb_parser.proofs.Loops.{loop_enters, operator_more, operator_fails, operator_leaves}

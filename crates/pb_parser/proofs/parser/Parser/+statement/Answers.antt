@@ -4,8 +4,7 @@ use Rattle.pb_lexer.specs.declared.token.Mark.TheVariants as mark
 use Rattle.pb_lexer.specs.Tokens.{token, tokens}
 use Rattle.pb_tree.specs.Syntax.{no_stmt, no_arm}
 use Rattle.pb_parser.specs.Lists.{append, append_arms, single_arm}
-use Rattle.pb_parser.specs.Making.{Makes, Adds}
-use Rattle.pb_parser.specs.StatementReader.{statement, statement_by, an_arm, list}
+use Rattle.pb_parser.specs.StatementReader.{statement, statement_by, an_arm}
 use Rattle.pb_parser.proofs.Chains.{fails_through, fails_through_plain}
 use Rattle.pb_parser.proofs.Loops.{loop_more, loop_fails, loop_leaves, adds_more, stmts_assoc, append_empty, arm_refused, statement_shorter, statement_first, statement_none, statement_zero}
 use Rattle.pb_parser.proofs.Steps.{choice_steps, choice_open, looping_steps, holding_steps, list_enter, list_refused, arm_found, arms_enter, arms_refused}

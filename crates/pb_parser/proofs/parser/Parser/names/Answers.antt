@@ -1,7 +1,6 @@
-use Rattle.std.proofs.Common.{[], ◌∷◌, length, ap, arith}
+use Rattle.std.proofs.Common.{[], length, ap, arith}
 use Rattle.std.proofs.lemmas.Result.{err_from_is_err_and}
 use Rattle.pb_lexer.specs.declared.token.Mark.TheVariants as mark
-use Rattle.pb_parser.specs.Promises.{name_of}
 use Rattle.pb_parser.specs.StatementReader.{concat}
 use Rattle.pb_parser.specs.ProgramReader.{one_name}
 use Rattle.pb_parser.proofs.Chains.{fails_through_plain}

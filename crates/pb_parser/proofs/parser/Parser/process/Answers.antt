@@ -1,4 +1,3 @@
-use Rattle.std.proofs.Common.{refl}
 use Rattle.std.proofs.lemmas.Result.{err_from_is_err_and}
 use Rattle.pb_parser.proofs.Chains.{fails_through_plain}
 use Rattle.pb_parser.proofs.Steps.{process_open, process_steps}
