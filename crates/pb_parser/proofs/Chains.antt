@@ -71,12 +71,14 @@ pub chain_refused : {X : Type 0} (join : Join X) (part : Part X) (ts : List Toke
 unfolding chain
 chain_refused join part ts p = rw p refl
 
-pub chain_leaves : {X : Type 0} (join : Join X) (part : Part X) (a : X) (ts : List Token) (target : Answer X) → InChain join part a ts target → Stops join ts
+pub chain_leaves : {X : Type 0} (join : Join X) (part : Part X) (a : X) (ts : List Token) (target : Answer X)
+    → InChain join part a ts target → Stops join ts
     → target ≡ Found a ts
 chain_leaves join part a ts target x stop = x.same ∙ chain_stops join part x.turns a ts stop x.room
 
 turns_more : {X : Type 0} (join : Join X) (part : Part X) (n : ℕ) (a b : X) (f : X → X → X) (t : Token) (mid rest : List Token) (target : Answer X)
-    → length (t ∷ mid) ≤ n → target ≡ chain_from join part n a (t ∷ mid) → join t.lexeme ≡ Some f → part mid ≡ Found b rest → length rest < length mid
+    → length (t ∷ mid) ≤ n → target ≡ chain_from join part n a (t ∷ mid) → join t.lexeme ≡ Some f → part mid ≡ Found b rest
+    → length rest < length mid
     → InChain join part (f a b) rest target
 turns_more join part zero a b f t mid rest target room same j p less = absurd (omega arith)
 turns_more join part (suc n) a b f t mid rest target room same j p less =
@@ -101,7 +103,8 @@ chain_fails join part a f t ts mid target x e j p =
 
 -- ---- the error of a part
 
-pub fails_through : {X Y : Type 0} {part : Answer X} {whole : Answer Y} (wants : Type 0) (e : ParseFault) → Fails wants e part → (part ≡ Refused → whole ≡ Refused)
+pub fails_through : {X Y : Type 0} {part : Answer X} {whole : Answer Y} (wants : Type 0) (e : ParseFault) → Fails wants e part
+    → (part ≡ Refused → whole ≡ Refused)
     → Fails wants e whole
 fails_through wants (fault.Syntax at) h f = f h
 fails_through wants fault.TooDeep h f = h

@@ -30,10 +30,12 @@ on n k t ts h e = subst (λ x. (x ≤ 256) × Shallow x ts) e h
 past : (n : ℕ) (t : Token) (ts : List Token) (x : Lexeme) → Shallow n (t ∷ ts) → t.lexeme ≡ x → open_after n x ≡ n → Shallow n ts
 past n t ts x h is flat = (on n n t ts h (ap (open_after n) is ∙ flat)).1
 
-opening : (n : ℕ) (t : Token) (ts : List Token) (x : Lexeme) → Shallow n (t ∷ ts) → t.lexeme ≡ x → open_after n x ≡ n + 1 → (n + 1 ≤ 256) × Shallow (n + 1) ts
+opening : (n : ℕ) (t : Token) (ts : List Token) (x : Lexeme) → Shallow n (t ∷ ts) → t.lexeme ≡ x → open_after n x ≡ n + 1
+    → (n + 1 ≤ 256) × Shallow (n + 1) ts
 opening n t ts x h is opens = on n (n + 1) t ts h (ap (open_after n) is ∙ opens)
 
-closing : (n : ℕ) (t : Token) (ts : List Token) (x : Lexeme) → Shallow (n + 1) (t ∷ ts) → t.lexeme ≡ x → open_after (n + 1) x ≡ n + 1 - 1 → Shallow n ts
+closing : (n : ℕ) (t : Token) (ts : List Token) (x : Lexeme) → Shallow (n + 1) (t ∷ ts) → t.lexeme ≡ x
+    → open_after (n + 1) x ≡ n + 1 - 1 → Shallow n ts
 closing n t ts x h is closes =
     let back : n + 1 - 1 ≡ n = omega arith in
     (on (n + 1) n t ts h (ap (open_after (n + 1)) is ∙ closes ∙ back)).1
@@ -58,7 +60,8 @@ operator_flat l _ op n h = refl
 
 -- ---- expressions
 
-expr_shallow : {l : Level} {ts rest : List Token} {x : ExprSyntax} (r : Reads l ts x rest) (n : ℕ) → n ≤ 256 → Shallow n ts → (n + brackets r ≤ 256) × Shallow n rest
+expr_shallow : {l : Level} {ts rest : List Token} {x : ExprSyntax} (r : Reads l ts x rest) (n : ℕ) → n ≤ 256 → Shallow n ts
+    → (n + brackets r ≤ 256) × Shallow n rest
 expr_shallow (expr.tight r) n low h = expr_shallow r n low h
 expr_shallow (expr.chain {l = l} {mid = mid} {t = t} {op = op} c is a b) n low h =
     let x = expr_shallow a n low h in
@@ -90,7 +93,8 @@ pairs_shallow (stmt.one r) n h = pair_shallow r n h
 pairs_shallow (stmt.more {mid = mid} {t = t} l is r) n h = pair_shallow r n (past n t mid (Fixed mark.Comma) (pairs_shallow l n h) is refl)
 
 mutual
-  stmt_shallow : {ts rest : List Token} {a : StmtsSyntax} (r : ReadsStmt ts a rest) (n : ℕ) → n ≤ 256 → Shallow n ts → (n + stmt_depth r ≤ 258) × Shallow n rest
+  stmt_shallow : {ts rest : List Token} {a : StmtsSyntax} (r : ReadsStmt ts a rest) (n : ℕ) → n ≤ 256 → Shallow n ts
+      → (n + stmt_depth r ≤ 258) × Shallow n rest
   stmt_shallow (stmt.skip {t = t} {rest = rest} is) n low h = (omega arith, past n t rest (Fixed mark.Skip) h is refl)
   stmt_shallow (stmt.assign {t = t} {u = u} {ts = ts} {x = x} is to r) n low h =
       let i = past n t (u ∷ ts) (Name x) h is refl in
@@ -129,14 +133,16 @@ mutual
       let y = list_shallow a (n + 1) o.0 o.1 in
       (omega arith, closing n u rest (Fixed mark.End) y.1 end refl)
 
-  list_shallow : {ts rest : List Token} {a : StmtsSyntax} (r : ReadsList ts a rest) (n : ℕ) → n ≤ 256 → Shallow n ts → (n + list_depth r ≤ 258) × Shallow n rest
+  list_shallow : {ts rest : List Token} {a : StmtsSyntax} (r : ReadsList ts a rest) (n : ℕ) → n ≤ 256 → Shallow n ts
+      → (n + list_depth r ≤ 258) × Shallow n rest
   list_shallow (stmt.first r) n low h = stmt_shallow r n low h
   list_shallow (stmt.next {mid = mid} {t = t} l is r) n low h =
       let x = list_shallow l n low h in
       let y = stmt_shallow r n low (past n t mid (Fixed mark.Semicolon) x.1 is refl) in
       (omega arith, y.1)
 
-  arms_shallow : {ts rest : List Token} {a : ArmsSyntax} (r : ReadsArms ts a rest) (n : ℕ) → n ≤ 256 → Shallow n ts → (n + arms_depth r ≤ 258) × Shallow n rest
+  arms_shallow : {ts rest : List Token} {a : ArmsSyntax} (r : ReadsArms ts a rest) (n : ℕ) → n ≤ 256 → Shallow n ts
+      → (n + arms_depth r ≤ 258) × Shallow n rest
   arms_shallow (stmt.first_arm r) n low h = stmt_shallow r n low h
   arms_shallow (stmt.next_arm {mid = mid} {t = t} l is r) n low h =
       let x = arms_shallow l n low h in
@@ -161,7 +167,8 @@ resources_shallow : {ts rest : List Token} {rs : List ResourceSyntax} → ReadsR
 resources_shallow prog.none n h = h
 resources_shallow (prog.another {mid = mid} {t = t} l is r) n h = resource_shallow r n (past n t mid (Fixed mark.Resource) (resources_shallow l n h) is refl)
 
-process_shallow : {ts rest : List Token} {x : ProcessSyntax} (r : ReadsProcess ts x rest) → Shallow 0 ts → (process_depth r ≤ 257) × Shallow 0 rest
+process_shallow : {ts rest : List Token} {x : ProcessSyntax} (r : ReadsProcess ts x rest) → Shallow 0 ts
+    → (process_depth r ≤ 257) × Shallow 0 rest
 process_shallow (prog.plain {t = t} {u = u} {v = v} {ts = ts} {rest = rest} {x = x} is b l end) h =
     let o = opening 0 u ts (Fixed mark.Begin) (past 0 t (u ∷ ts) (Name x) h is refl) b refl in
     let y = list_shallow l 1 o.0 o.1 in
@@ -172,7 +179,8 @@ process_shallow (prog.integers {t = t} {u = u} {v = v} {w = w} {y = y} {ts = ts}
     let z = list_shallow l 1 o.0 (past 1 w us (Fixed mark.Semicolon) k semi refl) in
     (omega arith, closing 0 y rest (Fixed mark.End) z.1 end refl)
 
-processes_shallow : {ts rest : List Token} {ps : List ProcessSyntax} (r : ReadsProcesses ts ps rest) → Shallow 0 ts → (processes_depth r ≤ 257) × Shallow 0 rest
+processes_shallow : {ts rest : List Token} {ps : List ProcessSyntax} (r : ReadsProcesses ts ps rest) → Shallow 0 ts
+    → (processes_depth r ≤ 257) × Shallow 0 rest
 processes_shallow (prog.one_process {t = t} {ts = ts} is r) h = process_shallow r (past 0 t ts (Fixed mark.Process) h is refl)
 processes_shallow (prog.more_processes {mid = mid} {t = t} l is r) h =
     let x = processes_shallow l h in
@@ -184,7 +192,8 @@ program_shallow (prog.program rs ps) h = (processes_shallow ps (resources_shallo
 
 -- ---- tokens that do not nest too deep
 
-shallow_unless : (n : ℕ) (ts : List Token) → ((before after : List Token) → ts ≡ before ++ after → fold (λ k t. open_after k t.lexeme) n before ≤ 256) → Shallow n ts
+shallow_unless : (n : ℕ) (ts : List Token)
+    → ((before after : List Token) → ts ≡ before ++ after → fold (λ k t. open_after k t.lexeme) n before ≤ 256) → Shallow n ts
 shallow_unless n [] h = tt
 shallow_unless n (t ∷ ts) h = (h (t ∷ []) ts refl, shallow_unless (open_after n t.lexeme) ts (λ before after e. h (t ∷ before) after (ap (λ r. t ∷ r) e)))
 

@@ -36,7 +36,8 @@ pub record InLoop {Y : Type 0} (P : Y → Type 0) (join : Join Y) (part : Part Y
   pub same : P syntax
   pub chain : InChain join part syntax ts target
 
-pub loop_enters : {Y : Type 0} {P : Y → Type 0} (join : Join Y) (part : Part Y) (ts rest : List Token) (b : Y) → part ts ≡ Found b rest → P b
+pub loop_enters : {Y : Type 0} {P : Y → Type 0} (join : Join Y) (part : Part Y) (ts rest : List Token) (b : Y) → part ts ≡ Found b rest
+    → P b
     → InLoop P join part rest (chain join part ts)
 loop_enters join part ts rest b p h = record { syntax = b; same = h; chain = chain_enters join part b ts rest p }
 
@@ -90,7 +91,8 @@ operator_leaves l part ts after target x taken = record {
 
 -- ---- one part behind another
 
-pub adds_more : {X Y : Type 0} (is : X → Y → Type 0) (join : Y → Y → Y) → ((a b c : Y) → join (join a b) c ≡ join a (join b c)) → (x y z : X) (a b : Y)
+pub adds_more : {X Y : Type 0} (is : X → Y → Type 0) (join : Y → Y → Y) → ((a b c : Y) → join (join a b) c ≡ join a (join b c))
+    → (x y z : X) (a b : Y)
     → Adds is join x y a → Adds is join y z b → Adds is join x z (join a b)
 adds_more is join assoc x y z a b first second before h = subst (is z) (assoc before a b) (second (join before a) (first before h))
 
@@ -125,7 +127,8 @@ a_pair_shorter ts rest ps p = pair_shorter (pair_sound ts rest ps p).2
 
 -- ---- one statement
 
-pub statement_first : (d : ℕ) (t : Token) (ts mid : List Token) → ts ≡ t ∷ mid → statement (suc d) ts ≡ statement_by d (statement d) t t.lexeme mid
+pub statement_first : (d : ℕ) (t : Token) (ts mid : List Token) → ts ≡ t ∷ mid
+    → statement (suc d) ts ≡ statement_by d (statement d) t t.lexeme mid
 unfolding statement
 statement_first d t ts mid e = rw e refl
 

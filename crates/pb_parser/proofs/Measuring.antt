@@ -27,19 +27,23 @@ arms_many : (a : ArmsSyntax) (s : StmtsSyntax) → arms_nodes (append_arms a (si
 arms_many no_arm s = omega arith
 arms_many (arm_then x a) s = omega (arith, arms_many a s)
 
-processes_high : (ps : List ProcessSyntax) (p : ProcessSyntax) → processes_height (concat ps (p ∷ [])) ≡ max (processes_height ps) (stmts_height p.body)
+processes_high : (ps : List ProcessSyntax) (p : ProcessSyntax)
+    → processes_height (concat ps (p ∷ [])) ≡ max (processes_height ps) (stmts_height p.body)
 processes_high [] p = omega arith
 processes_high (q ∷ ps) p = omega (arith, processes_high ps p)
 
-processes_many : (ps : List ProcessSyntax) (p : ProcessSyntax) → processes_nodes (concat ps (p ∷ [])) ≡ processes_nodes ps + (1 + stmts_nodes p.body)
+processes_many : (ps : List ProcessSyntax) (p : ProcessSyntax)
+    → processes_nodes (concat ps (p ∷ [])) ≡ processes_nodes ps + (1 + stmts_nodes p.body)
 processes_many [] p = omega arith
 processes_many (q ∷ ps) p = omega (arith, processes_many ps p)
 
-pub stmt_measured : (m : Measure) (a : StmtsSyntax) (s : StmtSyntax) → IsMeasure m (max (stmts_height a) (stmt_height s)) (stmts_nodes a + stmt_nodes s)
+pub stmt_measured : (m : Measure) (a : StmtsSyntax) (s : StmtSyntax)
+    → IsMeasure m (max (stmts_height a) (stmt_height s)) (stmts_nodes a + stmt_nodes s)
     → IsMeasure m (stmts_height (append a (single s))) (stmts_nodes (append a (single s)))
 stmt_measured m a s is = as_measured m _ _ _ _ (stmts_high a s) (stmts_many a s) is
 
-pub arm_measured : (m : Measure) (a : ArmsSyntax) (s : StmtsSyntax) → IsMeasure m (max (arms_height a) (stmts_height s)) (arms_nodes a + stmts_nodes s)
+pub arm_measured : (m : Measure) (a : ArmsSyntax) (s : StmtsSyntax)
+    → IsMeasure m (max (arms_height a) (stmts_height s)) (arms_nodes a + stmts_nodes s)
     → IsMeasure m (arms_height (append_arms a (single_arm s))) (arms_nodes (append_arms a (single_arm s)))
 arm_measured m a s is = as_measured m _ _ _ _ (arms_high a s) (arms_many a s) is
 

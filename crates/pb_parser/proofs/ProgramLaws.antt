@@ -23,7 +23,8 @@ name_read : (t : Token) (rest : List Token) (x : List ℕ) → t.lexeme ≡ Name
 unfolding one_name
 name_read t rest x is = rw is refl
 
-names_reach : {ts rest : List Token} {xs : List NameSyntax} → ReadsNames ts xs rest → InChain (between mark.Comma concat) one_name xs rest (names ts)
+names_reach : {ts rest : List Token} {xs : List NameSyntax} → ReadsNames ts xs rest
+    → InChain (between mark.Comma concat) one_name xs rest (names ts)
 unfolding names
 names_reach (g.one {t = t} {rest = rest} {x = x} is) = chain_enters (between mark.Comma concat) one_name _ (t ∷ rest) rest (name_read t rest x is)
 names_reach (g.more {ts = ts} {rest = rest} {t = t} {u = u} {xs = xs} {x = x} l is nm) =
@@ -44,7 +45,8 @@ resource_read (g.resource {t = t} {u = u} {v = v} {w = w} {rest = rest} x eq n s
     let f = expects mark.Semicolon w rest semi in
     rw (x, e, n, f) refl
 
-resources_reach : {ts rest : List Token} {rs : List ResourceSyntax} → ReadsResources ts rs rest → InChain (between mark.Resource concat) a_resource rs rest (resources ts)
+resources_reach : {ts rest : List Token} {rs : List ResourceSyntax} → ReadsResources ts rs rest
+    → InChain (between mark.Resource concat) a_resource rs rest (resources ts)
 unfolding resources
 resources_reach (g.none {ts = ts}) = record { turns = length ts; room = omega arith; same = refl }
 resources_reach (g.another {ts = ts} {mid = mid} {rest = rest} {t = t} {rs = rs} {r = r} l is x) =
@@ -72,12 +74,14 @@ no_integers d (t ∷ ts) rest a p = elim (either (is_mark mark.Integer t.lexeme)
   | inr other ↦ rw other refl
 ]
 
-some_integers : (v w : Token) (ts us : List Token) (xs : List NameSyntax) → Is v mark.Integer → names ts ≡ Found xs (w ∷ us) → Is w mark.Semicolon
+some_integers : (v w : Token) (ts us : List Token) (xs : List NameSyntax) → Is v mark.Integer → names ts ≡ Found xs (w ∷ us)
+    → Is w mark.Semicolon
     → integers (v ∷ ts) ≡ Found xs us
 unfolding integers
 some_integers v w ts us xs is p semi = let e = is_mark_same mark.Integer v.lexeme is in rw e (marked mark.Semicolon (names ts) xs w us p semi)
 
-process_of : (d : ℕ) (t u y : Token) (ts us rest : List Token) (x : List ℕ) (xs : List NameSyntax) (a : StmtsSyntax) → t.lexeme ≡ Name x → Is u mark.Begin
+process_of : (d : ℕ) (t u y : Token) (ts us rest : List Token) (x : List ℕ) (xs : List NameSyntax) (a : StmtsSyntax)
+    → t.lexeme ≡ Name x → Is u mark.Begin
     → integers ts ≡ Found xs us → list (statement d) us ≡ Found a (y ∷ rest) → Is y mark.End
     → a_process d (t ∷ u ∷ ts) ≡ Found (record { name = name_at t x; integers = xs; body = a } ∷ []) rest
 unfolding a_process
@@ -99,7 +103,8 @@ processes_depth (g.more_processes l is r) = max (processes_depth l) (process_dep
 abbrev pub program_depth : {ts : List Token} {p : ProgramSyntax} → ReadsProgram ts p → ℕ
 program_depth (g.program rs ps) = processes_depth ps
 
-process_read : (d : ℕ) {ts rest : List Token} {p : ProcessSyntax} (r : ReadsProcess ts p rest) → process_depth r ≤ d → a_process d ts ≡ Found (p ∷ []) rest
+process_read : (d : ℕ) {ts rest : List Token} {p : ProcessSyntax} (r : ReadsProcess ts p rest) → process_depth r ≤ d
+    → a_process d ts ≡ Found (p ∷ []) rest
 unfolding is_mark
 process_read d (g.plain {t = t} {u = u} {v = v} {ts = ts} {rest = rest} {x = x} {a = a} is b l end) room =
     let q = list_ends d mark.End v ts rest a (list_reach d l (omega arith) (ends_mark level.Disjunction v (Fixed mark.End) rest end refl)) end refl in
@@ -120,12 +125,14 @@ processes_reach d (g.more_processes {ts = ts} {mid = mid} {rest = rest} {t = t} 
     chain_more (between mark.Process concat) (a_process d) ps (p ∷ []) concat t (t ∷ mid) mid rest (processes d ts) (processes_reach d l (omega arith)) refl
     (joins_between mark.Process concat t is) (process_read d r (omega arith)) (process_shorter r)
 
-resources_stop : {ts rest : List Token} {ps : List ProcessSyntax} → ReadsProcesses ts ps rest → Stops (between mark.Resource (concat {X = ResourceSyntax})) ts
+resources_stop : {ts rest : List Token} {ps : List ProcessSyntax} → ReadsProcesses ts ps rest
+    → Stops (between mark.Resource (concat {X = ResourceSyntax})) ts
 unfolding is_mark
 resources_stop (g.one_process {t = t} {ts = ts} is r) = stops_at mark.Resource mark.Process concat t ts is refl
 resources_stop (g.more_processes l is r) = resources_stop l
 
-pub program_complete : (d : ℕ) {ts : List Token} {p : ProgramSyntax} (r : ReadsProgram ts p) → program_depth r ≤ d → program d ts ≡ Found p []
+pub program_complete : (d : ℕ) {ts : List Token} {p : ProgramSyntax} (r : ReadsProgram ts p) → program_depth r ≤ d
+    → program d ts ≡ Found p []
 unfolding program
 program_complete d (g.program {ts = ts} {mid = mid} {rs = rs} {ps = ps} a b) room =
     let r = chain_leaves (between mark.Resource concat) a_resource rs mid _ (resources_reach a) (resources_stop b) in
@@ -150,7 +157,8 @@ one_name_sound ts rest xs p =
 pub one_name_shorter : (ts rest : List Token) (xs : List NameSyntax) → one_name ts ≡ Found xs rest → length rest < length ts
 one_name_shorter ts rest xs p = let x = one_name_sound ts rest xs p in let e = ap length x.4 in omega arith
 
-first_name : (ts rest : List Token) (t : Token) (x : List ℕ) (xs : List NameSyntax) → t.lexeme ≡ Name x → xs ≡ name_at t x ∷ [] → ts ≡ t ∷ rest
+first_name : (ts rest : List Token) (t : Token) (x : List ℕ) (xs : List NameSyntax) → t.lexeme ≡ Name x → xs ≡ name_at t x ∷ []
+    → ts ≡ t ∷ rest
     → ReadsNames ts xs rest
 first_name ts rest t x xs is same e = rw (e, same) (g.one is)
 
@@ -167,12 +175,15 @@ names_sound ts rest xs p =
     rw (o.1, s.3) (g.more before o.0 s.2))
     (length y.1) y.0 y.1 xs rest (first_name ts y.1 f.0 f.1 y.0 f.2 f.3 f.4) y.3
 
-resource_rule : (t u v w : Token) (ts us vs ws rest : List Token) (text : List ℕ) (value : ℤ) (x : NameSyntax) (n : NumberSyntax) → t.lexeme ≡ Name text
-    → x ≡ name_at t text → ts ≡ t ∷ us → us ≡ u ∷ vs → Is u mark.Equal → v.lexeme ≡ Number value → n ≡ number_at v value → vs ≡ v ∷ ws → ws ≡ w ∷ rest
+resource_rule : (t u v w : Token) (ts us vs ws rest : List Token) (text : List ℕ) (value : ℤ) (x : NameSyntax) (n : NumberSyntax)
+    → t.lexeme ≡ Name text
+    → x ≡ name_at t text → ts ≡ t ∷ us → us ≡ u ∷ vs → Is u mark.Equal → v.lexeme ≡ Number value → n ≡ number_at v value → vs ≡ v ∷ ws
+    → ws ≡ w ∷ rest
     → Is w mark.Semicolon → ReadsResource ts (record { name = x; capital = n }) rest
 resource_rule t u v w ts us vs ws rest text value x n is called a b eq nm same c e semi = rw (a, b, c, e, called, same) (g.resource is eq nm semi)
 
-pub resource_sound : (ts rest : List Token) (rs : List ResourceSyntax) → a_resource ts ≡ Found rs rest → (r : ResourceSyntax) × (rs ≡ r ∷ []) × (ReadsResource ts r rest)
+pub resource_sound : (ts rest : List Token) (rs : List ResourceSyntax) → a_resource ts ≡ Found rs rest
+    → (r : ResourceSyntax) × (rs ≡ r ∷ []) × (ReadsResource ts r rest)
 unfolding a_resource
 resource_sound ts rest rs p =
     let x = goes_on (then_mark mark.Equal (a_name ts)) _ p in
@@ -198,7 +209,8 @@ resources_sound ts rest rs p =
     (length ts) [] ts rs rest g.none p
 
 process_rule : (d : ℕ) (t u y : Token) (ts us vs ws rest : List Token) (text : List ℕ) (x : NameSyntax) (xs : List NameSyntax) (a : StmtsSyntax) → t.lexeme ≡ Name text
-    → x ≡ name_at t text → ts ≡ t ∷ us → us ≡ u ∷ vs → Is u mark.Begin → integers vs ≡ Found xs ws → ReadsList ws a (y ∷ rest) → Is y mark.End
+    → x ≡ name_at t text → ts ≡ t ∷ us → us ≡ u ∷ vs → Is u mark.Begin → integers vs ≡ Found xs ws → ReadsList ws a (y ∷ rest)
+    → Is y mark.End
     → ReadsProcess ts (record { name = x; integers = xs; body = a }) rest
 unfolding integers
 process_rule d t u y ts us [] ws rest text x xs a is called e f b p l end =
@@ -206,7 +218,8 @@ process_rule d t u y ts us [] ws rest text x xs a is called e f b p l end =
     let none = list_shorter after in absurd (omega arith)
 process_rule d t u y ts us (v ∷ vs) ws rest text x xs a is called e f b p l end = rw (e, f, called) (go (is_mark mark.Integer v.lexeme) refl p)
   where
-    go : (some : Bool) → is_mark mark.Integer v.lexeme ≡ some → integers_by some (then_mark mark.Semicolon (names vs)) (v ∷ vs) ≡ Found xs ws
+    go : (some : Bool) → is_mark mark.Integer v.lexeme ≡ some
+        → integers_by some (then_mark mark.Semicolon (names vs)) (v ∷ vs) ≡ Found xs ws
         → ReadsProcess (t ∷ u ∷ v ∷ vs) (record { name = name_at t text; integers = xs; body = a }) rest
     go true some p =
         let m = then_marked mark.Semicolon (names vs) xs ws p in
@@ -216,7 +229,8 @@ process_rule d t u y ts us (v ∷ vs) ws rest text x xs a is called e f b p l en
         subst (λ r. ReadsProcess (t ∷ u ∷ v ∷ vs) (record { name = name_at t text; integers = r; body = a }) rest) (found_value p)
         (g.plain is b after end)
 
-pub process_sound : (d : ℕ) (ts rest : List Token) (ps : List ProcessSyntax) → a_process d ts ≡ Found ps rest → (p : ProcessSyntax) × (ps ≡ p ∷ []) × (ReadsProcess ts p rest)
+pub process_sound : (d : ℕ) (ts rest : List Token) (ps : List ProcessSyntax) → a_process d ts ≡ Found ps rest
+    → (p : ProcessSyntax) × (ps ≡ p ∷ []) × (ReadsProcess ts p rest)
 unfolding a_process
 process_sound d ts rest ps p =
     let x = goes_on (then_mark mark.Begin (a_name ts)) _ p in
@@ -232,7 +246,8 @@ process_sound d ts rest ps p =
 pub a_process_shorter : (d : ℕ) (ts rest : List Token) (ps : List ProcessSyntax) → a_process d ts ≡ Found ps rest → length rest < length ts
 a_process_shorter d ts rest ps p = process_shorter (process_sound d ts rest ps p).2
 
-first_process : (ts us rest : List Token) (t : Token) (ps : List ProcessSyntax) (p : ProcessSyntax) → ts ≡ t ∷ us → Is t mark.Process → ps ≡ p ∷ [] → ReadsProcess us p rest
+first_process : (ts us rest : List Token) (t : Token) (ps : List ProcessSyntax) (p : ProcessSyntax) → ts ≡ t ∷ us → Is t mark.Process
+    → ps ≡ p ∷ [] → ReadsProcess us p rest
     → ReadsProcesses ts ps rest
 first_process ts us rest t ps p e is same r = rw (e, same) (g.one_process is r)
 

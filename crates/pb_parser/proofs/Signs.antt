@@ -44,11 +44,13 @@ refused : (n : ℕ) (op : UnaryOp) → signs n op Refused ≡ Refused
 refused zero op = refl
 refused (suc n) op = refused n op
 
-pub signs_refused : (n : ℕ) (op : UnaryOp) (answer whole : Answer ExprSyntax) → whole ≡ signs n op answer → answer ≡ Refused → whole ≡ Refused
+pub signs_refused : (n : ℕ) (op : UnaryOp) (answer whole : Answer ExprSyntax) → whole ≡ signs n op answer → answer ≡ Refused
+    → whole ≡ Refused
 signs_refused n op answer whole same none = same ∙ ap (signs n op) none ∙ refused n op
 
 -- no operator is left
-pub signs_over : (op : UnaryOp) (count turn : ℕ) (answer whole : Answer ExprSyntax) → count ≤ turn → whole ≡ signs (count - turn) op answer → whole ≡ answer
+pub signs_over : (op : UnaryOp) (count turn : ℕ) (answer whole : Answer ExprSyntax) → count ≤ turn
+    → whole ≡ signs (count - turn) op answer → whole ≡ answer
 signs_over op count turn answer whole over same = let none : count - turn ≡ 0 = omega arith in same ∙ ap (λ n. signs n op answer) none
 
 -- what was made of the operand behind its signs was made of the whole
@@ -65,10 +67,12 @@ pub record InSigns {E : Type 0} (is : E → ExprSyntax → Type 0) (x : E) (n le
   pub made : is x syntax
   pub same : (rest : List Token) → signs n op (Found e rest) ≡ signs left op (Found syntax rest)
 
-pub signs_begin : {E : Type 0} {is : E → ExprSyntax → Type 0} (x : E) (n : ℕ) (op : UnaryOp) (e : ExprSyntax) → is x e → InSigns is x n (n - 0) op e
+pub signs_begin : {E : Type 0} {is : E → ExprSyntax → Type 0} (x : E) (n : ℕ) (op : UnaryOp) (e : ExprSyntax) → is x e
+    → InSigns is x n (n - 0) op e
 signs_begin x n op e h = record { syntax = e; made = h; same = λ rest. let z : n ≡ n - 0 = omega arith in ap (λ k. signs k op (Found e rest)) z }
 
-pub signs_step : {E : Type 0} {is : E → ExprSyntax → Type 0} (x y : E) (n turn : ℕ) (op : UnaryOp) (e : ExprSyntax) → turn < n → InSigns is x n (n - turn) op e
+pub signs_step : {E : Type 0} {is : E → ExprSyntax → Type 0} (x y : E) (n turn : ℕ) (op : UnaryOp) (e : ExprSyntax) → turn < n
+    → InSigns is x n (n - turn) op e
     → ((a : ExprSyntax) → is x a → is y (tree.unary op a)) → InSigns is y n (n - (turn + 1)) op e
 signs_step x y n turn op e below s put = record {
   syntax = tree.unary op s.syntax;
@@ -76,7 +80,8 @@ signs_step x y n turn op e below s put = record {
   same = λ rest. one_sign op n turn below s.syntax (tree.unary op s.syntax) rest (signs n op (Found e rest)) (s.same rest) refl;
 }
 
-pub signs_end : {E : Type 0} {is : E → ExprSyntax → Type 0} (x : E) (n turn : ℕ) (op : UnaryOp) (e : ExprSyntax) → n ≤ turn → InSigns is x n (n - turn) op e
+pub signs_end : {E : Type 0} {is : E → ExprSyntax → Type 0} (x : E) (n turn : ℕ) (op : UnaryOp) (e : ExprSyntax) → n ≤ turn
+    → InSigns is x n (n - turn) op e
     → (rest : List Token) → Finds is x (signs n op (Found e rest)) rest
 signs_end x n turn op e over s rest = record {
   syntax = s.syntax;

@@ -17,14 +17,17 @@ use Rattle.pb_parser.proofs.Loops.{InLoop, loop_enters, loop_begins, arm_refused
 
 -- ---- expressions
 
-pub comparison_alone : (inner : Part ExprSyntax) (ts mid after : List Token) (a : ExprSyntax) → sum inner ts ≡ Found a mid → after ≡ mid → Stops (joins level.Comparison) mid
+pub comparison_alone : (inner : Part ExprSyntax) (ts mid after : List Token) (a : ExprSyntax) → sum inner ts ≡ Found a mid
+    → after ≡ mid → Stops (joins level.Comparison) mid
     → comparison inner ts ≡ Found a after
 unfolding comparison related
 comparison_alone inner ts [] after a p e stop = rw (p, e) refl
 comparison_alone inner ts (t ∷ mid) after a p e stop = rw (p, stop, e) refl
 
-pub comparison_both : (inner : Part ExprSyntax) (t : Token) (ts mid us rest : List Token) (op : BinaryOp) (a b : ExprSyntax) → sum inner ts ≡ Found a mid → mid ≡ t ∷ us
-    → joins level.Comparison t.lexeme ≡ Some (tree.binary op) → sum inner us ≡ Found b rest → comparison inner ts ≡ Found (tree.binary op a b) rest
+pub comparison_both : (inner : Part ExprSyntax) (t : Token) (ts mid us rest : List Token) (op : BinaryOp) (a b : ExprSyntax)
+    → sum inner ts ≡ Found a mid → mid ≡ t ∷ us
+    → joins level.Comparison t.lexeme ≡ Some (tree.binary op) → sum inner us ≡ Found b rest
+    → comparison inner ts ≡ Found (tree.binary op a b) rest
 unfolding comparison related
 comparison_both inner t ts mid us rest op a b p e j q = rw (p, e, j, q) refl
 
@@ -68,10 +71,12 @@ pub list_refused : (d : ℕ) (ts : List Token) → statement d ts ≡ Refused �
 unfolding list
 list_refused d ts p = chain_refused (between mark.Semicolon append) (statement d) ts p
 
-pub arm_found : (d : ℕ) (ts rest : List Token) (a : StmtsSyntax) → statement d ts ≡ Found a rest → an_arm (statement d) ts ≡ Found (single_arm a) rest
+pub arm_found : (d : ℕ) (ts rest : List Token) (a : StmtsSyntax) → statement d ts ≡ Found a rest
+    → an_arm (statement d) ts ≡ Found (single_arm a) rest
 arm_found d ts rest a p = arm_read (statement d) ts rest a p
 
-pub arms_enter : {P : ArmsSyntax → Type 0} (d : ℕ) (ts rest : List Token) (a : StmtsSyntax) → statement d ts ≡ Found a rest → P (single_arm a)
+pub arms_enter : {P : ArmsSyntax → Type 0} (d : ℕ) (ts rest : List Token) (a : StmtsSyntax) → statement d ts ≡ Found a rest
+    → P (single_arm a)
     → InLoop P (between mark.Semicolon append_arms) (an_arm (statement d)) rest (arms (statement d) ts)
 unfolding arms
 arms_enter d ts rest a p h = loop_enters (between mark.Semicolon append_arms) (an_arm (statement d)) ts rest (single_arm a) (arm_found d ts rest a p) h
@@ -99,11 +104,13 @@ pub names_enter : {P : List NameSyntax → Type 0} (ts rest : List Token) (n : N
 unfolding names
 names_enter ts rest n p h = loop_enters (between mark.Comma concat) one_name ts rest (n ∷ []) (name_found ts rest n p) h
 
-pub resources_enter : {P : List ResourceSyntax → Type 0} (ts : List Token) → P [] → InLoop P (between mark.Resource concat) a_resource ts (resources ts)
+pub resources_enter : {P : List ResourceSyntax → Type 0} (ts : List Token) → P []
+    → InLoop P (between mark.Resource concat) a_resource ts (resources ts)
 unfolding resources
 resources_enter ts h = loop_begins (between mark.Resource concat) a_resource [] ts h
 
-pub processes_enter : {P : List ProcessSyntax → Type 0} (d : ℕ) (ts us rest : List Token) (ps : List ProcessSyntax) → expect mark.Process ts ≡ Found tt us
+pub processes_enter : {P : List ProcessSyntax → Type 0} (d : ℕ) (ts us rest : List Token) (ps : List ProcessSyntax)
+    → expect mark.Process ts ≡ Found tt us
     → a_process d us ≡ Found ps rest → P ps → InLoop P (between mark.Process concat) (a_process d) rest (processes d ts)
 unfolding processes
 processes_enter d ts us rest ps e p h = rw e (loop_enters (between mark.Process concat) (a_process d) us rest ps p h)
@@ -112,23 +119,28 @@ pub processes_refused : (d : ℕ) (ts : List Token) → expect mark.Process ts �
 unfolding processes
 processes_refused d ts p = rw p refl
 
-pub processes_fail : (d : ℕ) (ts us : List Token) → expect mark.Process ts ≡ Found tt us → a_process d us ≡ Refused → processes d ts ≡ Refused
+pub processes_fail : (d : ℕ) (ts us : List Token) → expect mark.Process ts ≡ Found tt us → a_process d us ≡ Refused
+    → processes d ts ≡ Refused
 unfolding processes
 processes_fail d ts us first p = rw first (chain_refused (between mark.Process concat) (a_process d) us p)
 
-pub process_steps : (d : ℕ) (ts us vs ws ys rest : List Token) (x : NameSyntax) (xs : List NameSyntax) (a : StmtsSyntax) → a_name ts ≡ Found x us
-    → expect mark.Begin us ≡ Found tt vs → integers vs ≡ Found xs ws → list (statement d) ws ≡ Found a ys → expect mark.End ys ≡ Found tt rest
+pub process_steps : (d : ℕ) (ts us vs ws ys rest : List Token) (x : NameSyntax) (xs : List NameSyntax) (a : StmtsSyntax)
+    → a_name ts ≡ Found x us
+    → expect mark.Begin us ≡ Found tt vs → integers vs ≡ Found xs ws → list (statement d) ws ≡ Found a ys
+    → expect mark.End ys ≡ Found tt rest
     → a_process d ts ≡ Found (record { name = x; integers = xs; body = a } ∷ []) rest
 unfolding a_process
 process_steps d ts us vs ws ys rest x xs a p q r s f = rw (p, q, r, s, f) refl
 
 -- a process that does not end
 pub process_open : (d : ℕ) (ts us vs ws ys : List Token) (x : NameSyntax) (xs : List NameSyntax) (a : StmtsSyntax) → a_name ts ≡ Found x us
-    → expect mark.Begin us ≡ Found tt vs → integers vs ≡ Found xs ws → list (statement d) ws ≡ Found a ys → expect mark.End ys ≡ Refused → a_process d ts ≡ Refused
+    → expect mark.Begin us ≡ Found tt vs → integers vs ≡ Found xs ws → list (statement d) ws ≡ Found a ys
+    → expect mark.End ys ≡ Refused → a_process d ts ≡ Refused
 unfolding a_process
 process_open d ts us vs ws ys x xs a p q r s f = rw (p, q, r, s, f) refl
 
-pub program_steps : (d : ℕ) (ts us vs : List Token) (rs : List ResourceSyntax) (ps : List ProcessSyntax) → resources ts ≡ Found rs us → processes d us ≡ Found ps vs
+pub program_steps : (d : ℕ) (ts us vs : List Token) (rs : List ResourceSyntax) (ps : List ProcessSyntax) → resources ts ≡ Found rs us
+    → processes d us ≡ Found ps vs
     → ended vs ≡ Found tt vs → program d ts ≡ Found (record { resources = rs; processes = ps }) vs
 unfolding program
 program_steps d ts us vs rs ps p q r = rw (p, q, r) refl

@@ -62,7 +62,8 @@ judged_nested ts nests = record {
 none_reads : (ts : List Token) → (NestsTooDeep ts → ⊥) → program 257 ts ≡ Refused → IsNoProgram ts
 none_reads ts shallow none p reads = let found = program_complete 257 reads (within_depth reads shallow) in cc
 
-pub judged_refused : {A : Type 0} (ts : List Token) (e : ParseFault) → (NestsTooDeep ts → ⊥) → Fails ⊥ e (program 257 ts) → Judged {A = A} ts (Err e)
+pub judged_refused : {A : Type 0} (ts : List Token) (e : ParseFault) → (NestsTooDeep ts → ⊥) → Fails ⊥ e (program 257 ts)
+    → Judged {A = A} ts (Err e)
 judged_refused ts (fault.Syntax at) shallow fails =
     let none = none_reads ts shallow fails in
     record {
@@ -77,7 +78,8 @@ judged_refused ts fault.TooDeep shallow fails = absurd fails
 judged_refused ts fault.TooLarge shallow fails = absurd fails
 judged_refused ts fault.NoMemory shallow fails = absurd fails
 
-pub judged_high : {A : Type 0} (ts : List Token) (p : ProgramSyntax) → (NestsTooDeep ts → ⊥) → ReadsProgram ts p → 200 < program_height p → Judged {A = A} ts (Err fault.TooDeep)
+pub judged_high : {A : Type 0} (ts : List Token) (p : ProgramSyntax) → (NestsTooDeep ts → ⊥) → ReadsProgram ts p
+    → 200 < program_height p → Judged {A = A} ts (Err fault.TooDeep)
 judged_high ts p shallow reads high = record {
   found = tt;
   limits = tt;
@@ -87,7 +89,8 @@ judged_high ts p shallow reads high = record {
   memory = λ e. cc;
 }
 
-pub judged_large : {A : Type 0} (ts : List Token) (p : ProgramSyntax) → (NestsTooDeep ts → ⊥) → ReadsProgram ts p → program_height p ≤ 200 → 16384 < program_nodes p
+pub judged_large : {A : Type 0} (ts : List Token) (p : ProgramSyntax) → (NestsTooDeep ts → ⊥) → ReadsProgram ts p
+    → program_height p ≤ 200 → 16384 < program_nodes p
     → Judged {A = A} ts (Err fault.TooLarge)
 judged_large ts p shallow reads low large = record {
   found = tt;
@@ -104,7 +107,8 @@ judged_large ts p shallow reads low large = record {
   memory = λ e. cc;
 }
 
-pub judged_made : {A : Type 0} (ts : List Token) (d : ℕ) (r : Result (Program A) ParseFault) (p : ProgramSyntax) → (NestsTooDeep ts → ⊥) → program d ts ≡ Found p [] → KeepsLimits p
+pub judged_made : {A : Type 0} (ts : List Token) (d : ℕ) (r : Result (Program A) ParseFault) (p : ProgramSyntax)
+    → (NestsTooDeep ts → ⊥) → program d ts ≡ Found p [] → KeepsLimits p
     → Makes (Unit {0}) (λ x y. program_view x ≡ y) r (program d ts) [] → Judged ts r
 judged_made ts d (Ok q) p shallow found keeps made =
     let reads = program_sound d ts [] made.syntax made.found in
@@ -163,7 +167,8 @@ not_large m h n is within = let e = is.is_large in omega arith
 
 -- ---- the same, clause by clause
 
-pub syntax_of : {A : Type 0} (ts : List Token) (r : Result (Program A) ParseFault) → Judged ts r → IfErr r (λ e. IsSyntax e → IsNoProgram ts)
+pub syntax_of : {A : Type 0} (ts : List Token) (r : Result (Program A) ParseFault) → Judged ts r
+    → IfErr r (λ e. IsSyntax e → IsNoProgram ts)
 syntax_of ts (Ok q) j = tt
 syntax_of ts (Err (fault.Syntax at)) j = λ _. (j.syntax.0 (at, refl)).1
 syntax_of ts (Err fault.TooDeep) j = λ is. absurd is

@@ -14,14 +14,15 @@ Fails wants fault.TooLarge answer = ⊥
 Fails wants fault.NoMemory answer = wants
 
 -- the answer is some syntax of which `x` was made
-pub record Finds {X Y : Type 0} (is : X → Y → Type 0) (x : X) (answer : Answer Y) (rest : List Token) : Type 0 where
+pub record Finds {X Y : Type 0} (is : X → Y → Type 0) (x : X) (answer : Answer Y) (rest : List Token)
+    : Type 0 where
   pub syntax : Y
   pub found : answer ≡ Found syntax rest
   pub same : is x syntax
 
 -- the result was made of the answer, unless memory runs out
-abbrev pub Makes : {X Y : Type 0} → (wants : Type 0) → (X → Y → Type 0) → Result X ParseFault → Answer Y → List Token
-    → Type 0
+abbrev pub Makes : {X Y : Type 0} → (wants : Type 0) → (X → Y → Type 0) → Result X ParseFault → Answer Y
+    → List Token → Type 0
 Makes wants is (Ok x) answer rest = Finds is x answer rest
 Makes wants is (Err e) answer rest = Fails wants e answer
 

@@ -31,8 +31,8 @@ abbrev pub name_of : Given → NameSyntax
 name_of t = name_at (token t) (token t).text
 
 -- what was made of the operand behind n prefix operators, unless memory runs out
-abbrev pub Signs : {E : Type 0} → (wants : Type 0) → (E → ExprSyntax → Type 0) → Result E ParseFault → ℕ → UnaryOp
-    → E → Type 0
+abbrev pub Signs : {E : Type 0} → (wants : Type 0) → (E → ExprSyntax → Type 0) → Result E ParseFault → ℕ
+    → UnaryOp → E → Type 0
 Signs wants is (Ok x) n op operand = (e : ExprSyntax) → is operand e
     → (rest : List Token) → Finds is x (signs n op (Found e rest)) rest
 Signs wants is (Err e) n op operand = (e ≡ fault.NoMemory) × wants

@@ -90,7 +90,8 @@ pub(crate) trait Builder: Drop {
         at: usize,
         value: Self::Expr,
     ) -> Result<(), NoMemory>
-        ensures made { (e : ExprSyntax) → is_expr value e → IfOk result (λ _. Adds is_stmts append out.old out.new
+        ensures made { (e : ExprSyntax) → is_expr value e
+            → IfOk result (λ _. Adds is_stmts append out.old out.new
             (single (tree.assign line (record { text = text.now; at = at }) e))) }
         ensures fault { IfErr result (λ _. wants) };
 
@@ -109,7 +110,8 @@ pub(crate) trait Builder: Drop {
         on_true: Self::Stmts,
         on_false: Self::Stmts,
     ) -> Result<(), NoMemory>
-        ensures made { (e : ExprSyntax) (a b : StmtsSyntax) → is_expr test e → is_stmts on_true a → is_stmts on_false b
+        ensures made { (e : ExprSyntax) (a b : StmtsSyntax)
+            → is_expr test e → is_stmts on_true a → is_stmts on_false b
             → IfOk result (λ _. Adds is_stmts append out.old out.new (single (tree.if_else line e a b))) }
         ensures fault { IfErr result (λ _. wants) };
 
@@ -178,7 +180,8 @@ pub(crate) trait Builder: Drop {
 
     /// One more name.
     fn add_name(&self, out: &mut Self::Names, text: &[u8], at: usize) -> Result<(), NoMemory>
-        ensures made { IfOk result (λ _. Adds is_names concat out.old out.new (record { text = text.now; at = at } ∷ [])) }
+        ensures made { IfOk result (λ _. Adds is_names concat out.old out.new
+            (record { text = text.now; at = at } ∷ [])) }
         ensures fault { IfErr result (λ _. wants) };
 
     /// No resource.

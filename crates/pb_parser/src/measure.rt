@@ -23,7 +23,8 @@ impl Measure {
 
     /// Of two trees beside one another.
     pub(crate) fn beside(self, other: Measure) -> Measure
-        ensures { (h n k m : ℕ) → IsMeasure self h n → IsMeasure other k m → IsMeasure result (max h k) (n + m) }
+        ensures { (h n k m : ℕ) → IsMeasure self h n → IsMeasure other k m
+            → IsMeasure result (max h k) (n + m) }
     {
         Measure {
             height: self.height.max(other.height),

@@ -1,7 +1,8 @@
 //! A builder that makes no tree: it says how high the tree would be, and how many nodes it would have.
 
 ghost use Rattle.std.specs.Prelude.{◌≡◌};
-ghost use Rattle.pb_tree.specs.Measure.{expr_height, expr_nodes, stmts_height, stmts_nodes, arms_height, arms_nodes};
+ghost use Rattle.pb_tree.specs.Measure.{expr_height, expr_nodes, stmts_height, stmts_nodes, arms_height};
+ghost use Rattle.pb_tree.specs.Measure.{arms_nodes};
 ghost use Rattle.pb_tree.specs.Measure.{processes_height, processes_nodes, program_height, program_nodes};
 ghost use Rattle.pb_parser.specs.Measured.{IsMeasure};
 

@@ -181,6 +181,7 @@ impl<'a, 't, B: Builder> Parser<'a, 't, B> {
         self.level(depth - 1, Level::Disjunction)
     }
 
+    #[inline(always)]
     #[cycle(expression)]
     #[tactic(auto, unfolding(crate::specs::ExpressionReader::disjunction, crate::specs::ExpressionReader::conjunction, crate::specs::ExpressionReader::sum, crate::specs::ExpressionReader::term))]
     fn level(&mut self, depth: usize, level: Level) -> Result<B::Expr, ParseFault>

@@ -3,7 +3,8 @@
 ghost use Rattle.std.specs.Prelude.{◌≡◌, ℕ, [], ◌∷◌, ◌⊎◌, IfOk, IfErr};
 ghost use Rattle.pb_lexer.specs.Tokens as spec_tokens;
 ghost use Rattle.pb_tree.specs.View.{number_view, program_view};
-ghost use Rattle.pb_parser.specs.Limits.{KeepsLimits, IsTooHigh, IsTooLarge, IsNoProgram, IsWithinLimits, IsSyntax};
+ghost use Rattle.pb_parser.specs.Limits.{KeepsLimits, IsTooHigh, IsTooLarge, IsNoProgram, IsWithinLimits};
+ghost use Rattle.pb_parser.specs.Limits.{IsSyntax};
 ghost use Rattle.pb_parser.specs.Nesting.{NestsTooDeep};
 ghost use Rattle.pb_parser.specs.Programs.{ReadsProgram};
 ghost use Rattle.pb_parser.specs.ProgramReader as reads;
@@ -176,11 +177,11 @@ pub fn parse<A: Allocator + Clone>(alloc: A, tokens: &[Token<'_>]) -> Result<Pro
         → NestsTooDeep (spec_tokens.tokens tokens.now) ⊎ IsTooHigh (spec_tokens.tokens tokens.now) }
     ensures too_large { result ≡ Err ParseFault.TooLarge → IsTooLarge (spec_tokens.tokens tokens.now) }
     // and each cause is answered, whatever memory there is.
-    ensures no_program { (¬ NestsTooDeep (spec_tokens.tokens tokens.now)) → IsNoProgram (spec_tokens.tokens tokens.now)
-        → (at : ℕ) × (result ≡ Err (ParseFault.Syntax at)) }
+    ensures no_program { (¬ NestsTooDeep (spec_tokens.tokens tokens.now))
+        → IsNoProgram (spec_tokens.tokens tokens.now) → (at : ℕ) × (result ≡ Err (ParseFault.Syntax at)) }
     ensures high { IsTooHigh (spec_tokens.tokens tokens.now) → result ≡ Err ParseFault.TooDeep }
-    ensures large { (¬ NestsTooDeep (spec_tokens.tokens tokens.now)) → IsTooLarge (spec_tokens.tokens tokens.now)
-        → result ≡ Err ParseFault.TooLarge }
+    ensures large { (¬ NestsTooDeep (spec_tokens.tokens tokens.now))
+        → IsTooLarge (spec_tokens.tokens tokens.now) → result ≡ Err ParseFault.TooLarge }
     // Memory can want only for a program within the limits.
     ensures memory { result ≡ Err ParseFault.NoMemory → IsWithinLimits (spec_tokens.tokens tokens.now) }
 {
