@@ -2,7 +2,7 @@
 use Rattle.std.proofs.Common.{◌≡◌, ℕ, zero, suc, ◌≤◌, ◌<◌, List, [], ◌∷◌, length, Option, Some, None, refl, ◌∙◌, subst, arith}
 use Rattle.pb_lexer.specs.Tokens.{Token}
 use Rattle.pb_parser.specs.Reader.{Answer, Refused, Found, Part, Join, Stops, and_then, chain_by, chain_from, chain}
-use Rattle.pb_parser.specs.Promises.{Fails}
+use Rattle.pb_parser.specs.Making.{Fails}
 use Rattle.pb_parser.specs.declared.fault.ParseFault.{ParseFault}
 use Rattle.pb_parser.specs.declared.fault.ParseFault.TheVariants as fault
 
@@ -71,12 +71,14 @@ pub chain_refused : {X : Type 0} (join : Join X) (part : Part X) (ts : List Toke
 unfolding chain
 chain_refused join part ts p = rw p refl
 
-pub chain_leaves : {X : Type 0} (join : Join X) (part : Part X) (a : X) (ts : List Token) (target : Answer X) → InChain join part a ts target → Stops join ts
+pub chain_leaves : {X : Type 0} (join : Join X) (part : Part X) (a : X) (ts : List Token) (target : Answer X)
+    → InChain join part a ts target → Stops join ts
     → target ≡ Found a ts
 chain_leaves join part a ts target x stop = x.same ∙ chain_stops join part x.turns a ts stop x.room
 
 turns_more : {X : Type 0} (join : Join X) (part : Part X) (n : ℕ) (a b : X) (f : X → X → X) (t : Token) (mid rest : List Token) (target : Answer X)
-    → length (t ∷ mid) ≤ n → target ≡ chain_from join part n a (t ∷ mid) → join t.lexeme ≡ Some f → part mid ≡ Found b rest → length rest < length mid
+    → length (t ∷ mid) ≤ n → target ≡ chain_from join part n a (t ∷ mid) → join t.lexeme ≡ Some f → part mid ≡ Found b rest
+    → length rest < length mid
     → InChain join part (f a b) rest target
 turns_more join part zero a b f t mid rest target room same j p less = absurd (omega arith)
 turns_more join part (suc n) a b f t mid rest target room same j p less =
@@ -101,8 +103,18 @@ chain_fails join part a f t ts mid target x e j p =
 
 -- ---- the error of a part
 
-pub fails_through : {X Y : Type 0} {part : Answer X} {whole : Answer Y} (e : ParseFault) → Fails e part → (part ≡ Refused → whole ≡ Refused) → Fails e whole
-fails_through (fault.Syntax at) h f = f h
-fails_through fault.TooDeep h f = h
-fails_through fault.TooLarge h f = h
-fails_through fault.NoMemory h f = tt
+pub fails_through : {X Y : Type 0} {part : Answer X} {whole : Answer Y} (wants : Type 0) (e : ParseFault) → Fails wants e part
+    → (part ≡ Refused → whole ≡ Refused)
+    → Fails wants e whole
+fails_through wants (fault.Syntax at) h f = f h
+fails_through wants fault.TooDeep h f = h
+fails_through wants fault.TooLarge h f = h
+fails_through wants fault.NoMemory h f = h
+
+-- the same, where the part takes no memory
+pub fails_through_plain : {X Y : Type 0} {part : Answer X} {whole : Answer Y} (wants : Type 0) (e : ParseFault) → Fails ⊥ e part
+    → (part ≡ Refused → whole ≡ Refused) → Fails wants e whole
+fails_through_plain wants (fault.Syntax at) h f = f h
+fails_through_plain wants fault.TooDeep h f = h
+fails_through_plain wants fault.TooLarge h f = h
+fails_through_plain wants fault.NoMemory h f = absurd h

@@ -1,5 +1,5 @@
 -- What the reading of expressions gives is what the grammar reads, and nothing else.
-use Rattle.std.proofs.Common.{◌≡◌, ℕ, ℤ, zero, suc, ◌≤◌, ◌<◌, List, [], ◌∷◌, length, Option, Some, None, Bool, true, false, refl, sym, ◌∙◌, subst, inl, inr, arith}
+use Rattle.std.proofs.Common.{◌≡◌, ℕ, ℤ, zero, suc, ◌+◌, max, ◌≤◌, ◌<◌, List, [], ◌∷◌, length, Option, Some, None, Bool, true, false, refl, sym, ◌∙◌, subst, inl, inr, arith}
 use Rattle.pb_lexer.specs.declared.token.Mark.{Mark}
 use Rattle.pb_lexer.specs.declared.token.Mark.TheVariants as mark
 use Rattle.pb_base.specs.declared.operators.UnaryOp.{UnaryOp}
@@ -45,7 +45,7 @@ home (Fixed mark.Div) = 6
 home (Fixed mark.Mod) = 6
 home _ = 0
 
-home_is : (l : Level) (k : Lexeme) (op : BinaryOp) → operator l k ≡ Some op → home k ≡ rank l
+pub home_is : (l : Level) (k : Lexeme) (op : BinaryOp) → operator l k ≡ Some op → home k ≡ rank l
 home_is level.Disjunction (Fixed mark.Or) op e = refl
 home_is level.Conjunction (Fixed mark.And) op e = refl
 home_is level.Comparison (Fixed mark.Equal) op e = refl
@@ -106,9 +106,22 @@ shorter (g.number is) = omega arith
 shorter (g.variable is) = omega arith
 shorter (g.group is to r) = let x = shorter r in omega arith
 
+-- ---- how deep an expression nests
+
+-- how many brackets of an expression stand in one another
+abbrev pub brackets : {l : Level} {ts rest : List Token} {e : ExprSyntax} → Reads l ts e rest → ℕ
+brackets (g.tight r) = brackets r
+brackets (g.chain c op a b) = max (brackets a) (brackets b)
+brackets (g.negation is r) = brackets r
+brackets (g.comparison op a b) = max (brackets a) (brackets b)
+brackets (g.minus is r) = brackets r
+brackets (g.number is) = 0
+brackets (g.variable is) = 0
+brackets (g.group is to r) = 1 + brackets r
+
 -- ---- what the grammar reads, the function reads
 
-rank_pos : (l : Level) → 0 < rank l
+pub rank_pos : (l : Level) → 0 < rank l
 rank_pos level.Disjunction = omega arith
 rank_pos level.Conjunction = omega arith
 rank_pos level.Negation = omega arith
@@ -187,7 +200,8 @@ finish level.Negation d n e rest h room = refl
 finish level.Comparison d n e rest h room = refl
 finish level.Factor d n e rest h room = refl
 
-turn : {l : Level} → Chains l → (d n : ℕ) (a b : ExprSyntax) (op : BinaryOp) (t : Token) (mid rest : List Token) → operator l t.lexeme ≡ Some op
+turn : {l : Level} → Chains l → (d n : ℕ) (a b : ExprSyntax) (op : BinaryOp) (t : Token) (mid rest : List Token)
+    → operator l t.lexeme ≡ Some op
     → of_level (expression d) (tighter l) mid ≡ Found b rest → after d l (suc n) a (t ∷ mid) ≡ after d l n (tree.binary op a b) rest
 unfolding after
 turn g.disjunctions d n a b op t mid rest e p = chain_turns _ _ n a b (tree.binary op) t mid rest (joins_some level.Disjunction t.lexeme op e) p
@@ -217,7 +231,8 @@ signed_other m op part (t ∷ ts) rest e p none = elim (either (is_mark m t.lexe
   | inr other ↦ rw other p
 ]
 
-signed_read : (m : Mark) (op : UnaryOp) (part : Part ExprSyntax) (t : Token) (ts rest : List Token) (e : ExprSyntax) → t.lexeme ≡ Fixed m → signed m op part ts ≡ Found e rest
+signed_read : (m : Mark) (op : UnaryOp) (part : Part ExprSyntax) (t : Token) (ts rest : List Token) (e : ExprSyntax)
+    → t.lexeme ≡ Fixed m → signed m op part ts ≡ Found e rest
     → signed m op part (t ∷ ts) ≡ Found (tree.unary op e) rest
 unfolding signed
 signed_read m op part t ts rest e is p = let x = is_mark_same m t.lexeme is in rw (x, p) refl
@@ -226,25 +241,30 @@ no_minus : (inner : Part ExprSyntax) (t : Token) (ts : List Token) → is_mark m
 unfolding primary
 no_minus inner t ts h = rw (mark_is mark.Minus t.lexeme h) refl
 
-primary_read : (inner : Part ExprSyntax) (ts rest : List Token) (e : ExprSyntax) → primary inner ts ≡ Found e rest → factor inner ts ≡ Found e rest
+primary_read : (inner : Part ExprSyntax) (ts rest : List Token) (e : ExprSyntax) → primary inner ts ≡ Found e rest
+    → factor inner ts ≡ Found e rest
 unfolding factor
 primary_read inner ts rest e p = signed_other mark.Minus sign.Negate (primary inner) ts rest e p (no_minus inner)
 
-negation_other : (inner : Part ExprSyntax) (ts rest : List Token) (e : ExprSyntax) → comparison inner ts ≡ Found e rest → negation inner ts ≡ Found e rest
+negation_other : (inner : Part ExprSyntax) (ts rest : List Token) (e : ExprSyntax) → comparison inner ts ≡ Found e rest
+    → negation inner ts ≡ Found e rest
 unfolding negation
 negation_other inner ts rest e p = signed_other mark.Not sign.Not (comparison inner) ts rest e p (no_not inner)
 
-related_none : (part : Part ExprSyntax) (a : ExprSyntax) (rest : List Token) → Ends level.Comparison rest → related part a rest ≡ Found a rest
+related_none : (part : Part ExprSyntax) (a : ExprSyntax) (rest : List Token) → Ends level.Comparison rest
+    → related part a rest ≡ Found a rest
 unfolding related
 related_none part a [] h = refl
 related_none part a (t ∷ ts) h = let e = joins_none level.Comparison t.lexeme (h level.Comparison (omega arith)) in rw e refl
 
-related_some : (part : Part ExprSyntax) (a b : ExprSyntax) (op : BinaryOp) (t : Token) (ts rest : List Token) → operator level.Comparison t.lexeme ≡ Some op
+related_some : (part : Part ExprSyntax) (a b : ExprSyntax) (op : BinaryOp) (t : Token) (ts rest : List Token)
+    → operator level.Comparison t.lexeme ≡ Some op
     → part ts ≡ Found b rest → related part a (t ∷ ts) ≡ Found (tree.binary op a b) rest
 unfolding related
 related_some part a b op t ts rest e p = let j = joins_some level.Comparison t.lexeme op e in rw (j, p) refl
 
-lift : (l : Level) (d : ℕ) (ts rest : List Token) (e : ExprSyntax) → of_level (expression d) (tighter l) ts ≡ Found e rest → Ends (within l) rest
+lift : (l : Level) (d : ℕ) (ts rest : List Token) (e : ExprSyntax) → of_level (expression d) (tighter l) ts ≡ Found e rest
+    → Ends (within l) rest
     → of_level (expression d) l ts ≡ after d l (length rest) e rest
 unfolding after disjunction conjunction sum term comparison
 lift level.Disjunction d ts rest e p h = chain_begins _ _ e ts rest p
@@ -256,7 +276,8 @@ lift level.Comparison d ts rest e p h = rw p (related_none (sum (expression d)) 
 lift level.Factor d ts rest e p h = p
 
 -- an operator of a level ends the parts of its chains
-ends_part : {l : Level} → Chains l → (t : Token) (op : BinaryOp) (mid : List Token) → operator l t.lexeme ≡ Some op → Ends (within l) (t ∷ mid)
+ends_part : {l : Level} → Chains l → (t : Token) (op : BinaryOp) (mid : List Token) → operator l t.lexeme ≡ Some op
+    → Ends (within l) (t ∷ mid)
 ends_part g.disjunctions t op mid e = ends_operator level.Disjunction level.Conjunction t.lexeme op e (omega arith)
 ends_part g.conjunctions t op mid e = ends_operator level.Conjunction level.Negation t.lexeme op e (omega arith)
 ends_part g.sums t op mid e = ends_operator level.Sum level.Term t.lexeme op e (omega arith)
@@ -271,26 +292,31 @@ settle : (l : Level) (d : ℕ) (ts rest : List Token) (e : ExprSyntax) → Comes
 settle l d ts rest e x ends = x.2 ∙ finish l d x.0 e rest ends x.1
 
 -- what was read is all, where a level gives nothing to come
-at_once : (l : Level) (d : ℕ) (ts rest : List Token) (e : ExprSyntax) → of_level (expression d) l ts ≡ after d l (length rest) e rest → Comes d l ts e rest
+at_once : (l : Level) (d : ℕ) (ts rest : List Token) (e : ExprSyntax) → of_level (expression d) l ts ≡ after d l (length rest) e rest
+    → Comes d l ts e rest
 at_once l d ts rest e p = (length rest, omega arith, p)
 
-more : {l : Level} (c : Chains l) (d n : ℕ) (a b : ExprSyntax) (op : BinaryOp) (t : Token) (ts mid rest : List Token) → operator l t.lexeme ≡ Some op
+more : {l : Level} (c : Chains l) (d n : ℕ) (a b : ExprSyntax) (op : BinaryOp) (t : Token) (ts mid rest : List Token)
+    → operator l t.lexeme ≡ Some op
     → length (t ∷ mid) ≤ n → of_level (expression d) l ts ≡ after d l n a (t ∷ mid)
     → of_level (expression d) (tighter l) mid ≡ Found b rest → length rest < length mid → Comes d l ts (tree.binary op a b) rest
 more c d zero a b op t ts mid rest e room x p less = absurd (omega arith)
 more c d (suc n) a b op t ts mid rest e room x p less = (n, omega arith, x ∙ turn c d n a b op t mid rest e p)
 
-minus_read : (inner : Part ExprSyntax) (t : Token) (ts rest : List Token) (e : ExprSyntax) → t.lexeme ≡ Fixed mark.Minus → factor inner ts ≡ Found e rest
+minus_read : (inner : Part ExprSyntax) (t : Token) (ts rest : List Token) (e : ExprSyntax) → t.lexeme ≡ Fixed mark.Minus
+    → factor inner ts ≡ Found e rest
     → factor inner (t ∷ ts) ≡ Found (tree.unary sign.Negate e) rest
 unfolding factor
 minus_read inner t ts rest e is p = signed_read mark.Minus sign.Negate (primary inner) t ts rest e is p
 
-negation_read : (inner : Part ExprSyntax) (t : Token) (ts rest : List Token) (e : ExprSyntax) → t.lexeme ≡ Fixed mark.Not → negation inner ts ≡ Found e rest
+negation_read : (inner : Part ExprSyntax) (t : Token) (ts rest : List Token) (e : ExprSyntax) → t.lexeme ≡ Fixed mark.Not
+    → negation inner ts ≡ Found e rest
     → negation inner (t ∷ ts) ≡ Found (tree.unary sign.Not e) rest
 unfolding negation
 negation_read inner t ts rest e is p = signed_read mark.Not sign.Not (comparison inner) t ts rest e is p
 
-number_read : (inner : Part ExprSyntax) (t : Token) (ts : List Token) (n : ℤ) → t.lexeme ≡ Number n → primary inner (t ∷ ts) ≡ Found (tree.number (number_at t n)) ts
+number_read : (inner : Part ExprSyntax) (t : Token) (ts : List Token) (n : ℤ) → t.lexeme ≡ Number n
+    → primary inner (t ∷ ts) ≡ Found (tree.number (number_at t n)) ts
 unfolding primary
 number_read inner t ts n is = rw is refl
 
@@ -299,12 +325,14 @@ variable_read : (inner : Part ExprSyntax) (t : Token) (ts : List Token) (x : Lis
 unfolding primary
 variable_read inner t ts x is = rw is refl
 
-group_read : (inner : Part ExprSyntax) (t u : Token) (ts rest : List Token) (e : ExprSyntax) → t.lexeme ≡ Fixed mark.Open → u.lexeme ≡ Fixed mark.Close
+group_read : (inner : Part ExprSyntax) (t u : Token) (ts rest : List Token) (e : ExprSyntax) → t.lexeme ≡ Fixed mark.Open
+    → u.lexeme ≡ Fixed mark.Close
     → inner ts ≡ Found e (u ∷ rest) → primary inner (t ∷ ts) ≡ Found e rest
 unfolding primary
 group_read inner t u ts rest e is to p = let x = is_mark_same mark.Close u.lexeme to in rw (is, p, x) refl
 
-comparison_read : (inner : Part ExprSyntax) (op : BinaryOp) (t : Token) (ts mid rest : List Token) (a b : ExprSyntax) → operator level.Comparison t.lexeme ≡ Some op
+comparison_read : (inner : Part ExprSyntax) (op : BinaryOp) (t : Token) (ts mid rest : List Token) (a b : ExprSyntax)
+    → operator level.Comparison t.lexeme ≡ Some op
     → sum inner ts ≡ Found a (t ∷ mid) → sum inner mid ≡ Found b rest → comparison inner ts ≡ Found (tree.binary op a b) rest
 unfolding comparison
 comparison_read inner op t ts mid rest a b e p q = rw p (related_some (sum inner) a b op t mid rest e q)
@@ -314,15 +342,15 @@ unfolding expression
 opens d ts = refl
 
 -- The tokens that the grammar reads, up to where the parts of a chain end, are what the function has read when it comes there.
-reaches : {l : Level} {ts rest : List Token} {e : ExprSyntax} → Reads l ts e rest → (d : ℕ) → length ts ≤ suc d → Ends (within l) rest → Comes d l ts e rest
+reaches : {l : Level} {ts rest : List Token} {e : ExprSyntax} (r : Reads l ts e rest) → (d : ℕ) → brackets r ≤ d → Ends (within l) rest
+    → Comes d l ts e rest
 unfolding after
 reaches (g.tight {l = l} {ts = ts} {rest = rest} {e = e} r) d room ends =
     let near = ends_looser (within l) (tighter l) (within_tighter l) rest ends in
     let p = settle (tighter l) d ts rest e (reaches r d room (ends_looser (tighter l) (within (tighter l)) (rank_within (tighter l)) rest near)) near in
     at_once l d ts rest e (lift l d ts rest e p ends)
 reaches (g.chain {l = l} {ts = ts} {mid = mid} {rest = rest} {t = t} {op = op} {a = a} {b = b} c is left right) d room ends =
-    let x = reaches left d room (ends_part c t op mid is) in
-    let less = shorter left in
+    let x = reaches left d (omega arith) (ends_part c t op mid is) in
     let near = chains_within c rest ends in
     let p = settle (tighter l) d mid rest b (reaches right d (omega arith) (ends_looser (tighter l) (within (tighter l)) (rank_within (tighter l)) rest near)) near in
     more c d x.0 a b op t ts mid rest is x.1 x.2 p (shorter right)
@@ -330,10 +358,9 @@ reaches (g.negation {ts = ts} {rest = rest} {t = t} {e = e} is r) d room ends =
     let p = settle level.Negation d ts rest e (reaches r d (omega arith) ends) ends in
     at_once level.Negation d (t ∷ ts) rest _ (negation_read (expression d) t ts rest e is p)
 reaches (g.comparison {ts = ts} {mid = mid} {rest = rest} {t = t} {op = op} {a = a} {b = b} is left right) d room ends =
-    let less = shorter left in
     let far : Ends level.Sum (t ∷ mid) = ends_operator level.Comparison level.Sum t.lexeme op is (omega arith) in
     let near = ends_looser level.Comparison level.Sum (omega arith) rest ends in
-    let p = settle level.Sum d ts (t ∷ mid) a (reaches left d room (ends_looser level.Sum level.Term (omega arith) (t ∷ mid) far)) far in
+    let p = settle level.Sum d ts (t ∷ mid) a (reaches left d (omega arith) (ends_looser level.Sum level.Term (omega arith) (t ∷ mid) far)) far in
     let q = settle level.Sum d mid rest b (reaches right d (omega arith) (ends_looser level.Sum level.Term (omega arith) rest near)) near in
     at_once level.Comparison d ts rest _ (comparison_read (expression d) op t ts mid rest a b is p q)
 reaches (g.minus {ts = ts} {rest = rest} {t = t} {e = e} is r) d room ends =
@@ -341,7 +368,7 @@ reaches (g.minus {ts = ts} {rest = rest} {t = t} {e = e} is r) d room ends =
     at_once level.Factor d (t ∷ ts) rest _ (minus_read (expression d) t ts rest e is p)
 reaches (g.number {rest = rest} {t = t} {n = n} is) d room ends = at_once level.Factor d (t ∷ rest) rest _ (primary_read (expression d) (t ∷ rest) rest _ (number_read (expression d) t rest n is))
 reaches (g.variable {rest = rest} {t = t} {x = x} is) d room ends = at_once level.Factor d (t ∷ rest) rest _ (primary_read (expression d) (t ∷ rest) rest _ (variable_read (expression d) t rest x is))
-reaches (g.group is to r) zero room ends = let less = shorter r in absurd (omega arith)
+reaches (g.group is to r) zero room ends = absurd (omega arith)
 reaches (g.group {ts = ts} {rest = rest} {t = t} {u = u} {e = e} is to r) (suc d) room ends =
     let near = ends_mark level.Disjunction u (Fixed mark.Close) rest to refl in
     let p = settle level.Disjunction d ts (u ∷ rest) e (reaches r d (omega arith) (ends_looser level.Disjunction level.Conjunction (omega arith) (u ∷ rest) near)) near in
@@ -349,18 +376,20 @@ reaches (g.group {ts = ts} {rest = rest} {t = t} {u = u} {e = e} is to r) (suc d
 
 -- ---- the laws
 
-pub expression_complete : {ts rest : List Token} {e : ExprSyntax} → Reads level.Disjunction ts e rest → (d : ℕ) → length ts ≤ d → Ends level.Disjunction rest
+pub expression_complete : {ts rest : List Token} {e : ExprSyntax} (r : Reads level.Disjunction ts e rest) → (d : ℕ) → brackets r < d
+    → Ends level.Disjunction rest
     → expression d ts ≡ Found e rest
-expression_complete r zero room ends = let less = shorter r in absurd (omega arith)
+expression_complete r zero room ends = absurd (omega arith)
 expression_complete {ts = ts} {rest = rest} {e = e} r (suc d) room ends =
-    opens d ts ∙ settle level.Disjunction d ts rest e (reaches r d room (ends_looser level.Disjunction level.Conjunction (omega arith) rest ends)) ends
+    opens d ts ∙ settle level.Disjunction d ts rest e (reaches r d (omega arith) (ends_looser level.Disjunction level.Conjunction (omega arith) rest ends)) ends
 
 -- ---- what the function reads, the grammar reads
 
 abbrev Sound : Level → Part ExprSyntax → Type 0
 Sound l part = (ts rest : List Token) (e : ExprSyntax) → part ts ≡ Found e rest → Reads l ts e rest
 
-joined : (l : Level) (k : Lexeme) (f : ExprSyntax → ExprSyntax → ExprSyntax) → joins l k ≡ Some f → (op : BinaryOp) × (operator l k ≡ Some op) × (f ≡ tree.binary op)
+joined : (l : Level) (k : Lexeme) (f : ExprSyntax → ExprSyntax → ExprSyntax) → joins l k ≡ Some f
+    → (op : BinaryOp) × (operator l k ≡ Some op) × (f ≡ tree.binary op)
 unfolding joins
 joined l k f e = go (operator l k) refl e
   where
@@ -379,7 +408,8 @@ chain_sound {l = l} c part sound ts rest e p =
 becomes : {l : Level} {ts r rest : List Token} {a e : ExprSyntax} → Found a r ≡ Found e rest → Reads l ts a r → Reads l ts e rest
 becomes {l = l} {ts = ts} {rest = rest} {a = a} p h = subst (λ x. Reads l ts x rest) (found_value p) (subst (λ x. Reads l ts a x) (found_rest p) h)
 
-primary_cases : (inner : Part ExprSyntax) → Sound level.Disjunction inner → (t : Token) (ts rest : List Token) (e : ExprSyntax) (k : Lexeme) → t.lexeme ≡ k
+primary_cases : (inner : Part ExprSyntax) → Sound level.Disjunction inner
+    → (t : Token) (ts rest : List Token) (e : ExprSyntax) (k : Lexeme) → t.lexeme ≡ k
     → primary_by inner t k ts ≡ Found e rest → Reads level.Factor (t ∷ ts) e rest
 primary_cases inner sound t ts rest e (Number n) is p = becomes p (g.number is)
 primary_cases inner sound t ts rest e (Name x) is p = becomes p (g.variable is)
@@ -429,7 +459,8 @@ unfolding related
 related_sound part sound ts [] rest a e reads p = becomes p (g.tight reads)
 related_sound part sound ts (t ∷ mid) rest a e reads p = go (joins level.Comparison t.lexeme) refl p
   where
-    go : (j : Option (ExprSyntax → ExprSyntax → ExprSyntax)) → joins level.Comparison t.lexeme ≡ j → related_by part a (t ∷ mid) j mid ≡ Found e rest → Reads level.Comparison ts e rest
+    go : (j : Option (ExprSyntax → ExprSyntax → ExprSyntax)) → joins level.Comparison t.lexeme ≡ j
+        → related_by part a (t ∷ mid) j mid ≡ Found e rest → Reads level.Comparison ts e rest
     go None is p = becomes p (g.tight reads)
     go (Some f) is p =
         let x = goes_on (part mid) _ p in
@@ -470,5 +501,6 @@ level_sound d level.Sum = sum_sound (expression d) (expression_sound d)
 level_sound d level.Term = term_sound (expression d) (expression_sound d)
 level_sound d level.Factor = factor_sound (expression d) (expression_sound d)
 
-pub level_shorter : (d : ℕ) (l : Level) (ts rest : List Token) (e : ExprSyntax) → of_level (expression d) l ts ≡ Found e rest → length rest < length ts
+pub level_shorter : (d : ℕ) (l : Level) (ts rest : List Token) (e : ExprSyntax) → of_level (expression d) l ts ≡ Found e rest
+    → length rest < length ts
 level_shorter d l ts rest e p = shorter (level_sound d l ts rest e p)

@@ -1,10 +1,13 @@
 pub mod Vectors
+pub mod Measuring
 pub mod Chains
 pub mod Marks
 pub mod Signs
 pub mod Expressions
 pub mod StatementLaws
 pub mod Loops
+pub mod Steps
 pub mod ProgramLaws
+pub mod Depths
 pub mod NestingLaws
 pub mod Wholes

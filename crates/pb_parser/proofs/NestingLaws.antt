@@ -53,7 +53,8 @@ pub record InOpens (all ts : List Token) (count : ℕ) : Type 0 where
   pub later : OpensTooMany all → OpensFrom count ts
   pub back : OpensFrom count ts → OpensTooMany all
 
-opens-preserved : (count now : ℕ) (t : Token) (all ts us : List Token) → InOpens all ts count → ts ≡ t ∷ us → now ≡ open_after count t.lexeme
+opens-preserved : (count now : ℕ) (t : Token) (all ts us : List Token) → InOpens all ts count → ts ≡ t ∷ us
+    → now ≡ open_after count t.lexeme
     → now ≤ 256 → InOpens all us now
 opens-preserved count now t all ts us inside e step small = record {
   small = small;
@@ -154,7 +155,8 @@ signs-none count all ts inside e x = let y : SignsFrom count [] = subst (SignsFr
 
 -- ---- the tokens that are left
 
-pub tokens-next : (given : List Given) (i : ℕ) (d : Given) → i < length given → tokens (drop i given) ≡ token (get_or given i d) ∷ tokens (drop (i + 1) given)
+pub tokens-next : (given : List Given) (i : ℕ) (d : Given) → i < length given
+    → tokens (drop i given) ≡ token (get_or given i d) ∷ tokens (drop (i + 1) given)
 tokens-next given i d below = rw add-one (ap tokens (drop-cons given i d below))
 
 pub tokens-end : (given : List Given) (i : ℕ) → length given ≤ i → tokens (drop i given) ≡ []
@@ -166,7 +168,8 @@ tokens-end given i over = ap tokens (drop_of_length-le given over)
 abbrev pub IsKind : List Given → ℕ → Given → Kind → Type 0
 IsKind given i d k = lexeme k (token (get_or given i d)).text ≡ (token (get_or given i d)).lexeme
 
-opens-counted : (given : List Given) (i : ℕ) (d : Given) (count now : ℕ) (k : Kind) → IsKind given i d k → ((text : List ℕ) → now ≡ open_after count (lexeme k text))
+opens-counted : (given : List Given) (i : ℕ) (d : Given) (count now : ℕ) (k : Kind) → IsKind given i d k
+    → ((text : List ℕ) → now ≡ open_after count (lexeme k text))
     → now ≡ open_after count (token (get_or given i d)).lexeme
 opens-counted given i d count now k kind counts = counts (token (get_or given i d)).text ∙ ap (open_after count) kind
 
@@ -188,13 +191,15 @@ signs-counted given i d count now k kind counts =
     subst (λ x. MatchBool (is_sign x) (now ≡ count + 1) (now ≡ 0)) kind (counts (token (get_or given i d)).text)
 
 pub signs-preserved_at : (given : List Given) (i : ℕ) (d : Given) (count now : ℕ) (k : Kind) → i < length given → IsKind given i d k
-    → ((text : List ℕ) → MatchBool (is_sign (lexeme k text)) (now ≡ count + 1) (now ≡ 0)) → InSigns (tokens given) (tokens (drop i given)) count → now ≤ 256
+    → ((text : List ℕ) → MatchBool (is_sign (lexeme k text)) (now ≡ count + 1) (now ≡ 0))
+    → InSigns (tokens given) (tokens (drop i given)) count → now ≤ 256
     → InSigns (tokens given) (tokens (drop (i + 1) given)) now
 signs-preserved_at given i d count now k below kind counts inside small =
     signs-preserved count now _ _ _ _ inside (tokens-next given i d below) (signs-counted given i d count now k kind counts) small
 
 pub signs-found_at : (given : List Given) (i : ℕ) (d : Given) (count now : ℕ) (k : Kind) → i < length given → IsKind given i d k
-    → ((text : List ℕ) → MatchBool (is_sign (lexeme k text)) (now ≡ count + 1) (now ≡ 0)) → InSigns (tokens given) (tokens (drop i given)) count → 256 < now
+    → ((text : List ℕ) → MatchBool (is_sign (lexeme k text)) (now ≡ count + 1) (now ≡ 0))
+    → InSigns (tokens given) (tokens (drop i given)) count → 256 < now
     → SignsTooMany (tokens given)
 signs-found_at given i d count now k below kind counts inside many =
     signs-found count now _ _ _ _ inside (tokens-next given i d below) (signs-counted given i d count now k kind counts) many

@@ -1,5 +1,5 @@
 -- What the reading of programs gives is what the grammar reads, and nothing else.
-use Rattle.std.proofs.Common.{◌≡◌, ℕ, ℤ, zero, suc, ◌≤◌, ◌<◌, List, [], ◌∷◌, ◌++◌, length, map, Bool, true, false, refl, sym, ap, ◌∙◌, subst, inl, inr, arith}
+use Rattle.std.proofs.Common.{◌≡◌, ℕ, ℤ, zero, suc, max, ◌≤◌, ◌<◌, List, [], ◌∷◌, length, Bool, true, false, refl, sym, ap, ◌∙◌, subst, inl, inr, arith}
 use Rattle.pb_lexer.specs.declared.token.Mark.TheVariants as mark
 use Rattle.pb_parser.specs.declared.level.Level.TheVariants as level
 use Rattle.pb_lexer.specs.Tokens.{Name, Number, Fixed, Token}
@@ -12,8 +12,7 @@ use Rattle.pb_parser.specs.ProgramReader.{one_name, names, a_resource, resources
 use Rattle.pb_parser.proofs.Marks.{mark_is, is_mark_same, either, expects, expected}
 use Rattle.pb_parser.proofs.Chains.{found_value, found_rest, goes_on, chain_keeps, InChain, chain_enters, chain_more, chain_leaves, chain_refused}
 use Rattle.pb_parser.proofs.Expressions.{ends_mark}
-use Rattle.pb_parser.proofs.StatementLaws.{joins_between, stops_at, marked, then_marked, joined_between, name_found, number_found, list_reach, list_ends, list_shorter, list_sound, statement_sound}
-use Rattle.pb_parser.proofs.Loops.{items_enter}
+use Rattle.pb_parser.proofs.StatementLaws.{joins_between, stops_at, marked, then_marked, joined_between, name_found, number_found, list_reach, list_ends, list_shorter, list_depth, list_sound, statement_sound}
 use Rattle.pb_tree.specs.Syntax.{NameSyntax, NumberSyntax, StmtsSyntax, ResourceSyntax, ProcessSyntax, ProgramSyntax}
 use Rattle.pb_parser.specs.Grammar.{Is, name_at, number_at}
 use Rattle.pb_parser.specs.Lists.{append}
@@ -24,7 +23,8 @@ name_read : (t : Token) (rest : List Token) (x : List ℕ) → t.lexeme ≡ Name
 unfolding one_name
 name_read t rest x is = rw is refl
 
-names_reach : {ts rest : List Token} {xs : List NameSyntax} → ReadsNames ts xs rest → InChain (between mark.Comma concat) one_name xs rest (names ts)
+names_reach : {ts rest : List Token} {xs : List NameSyntax} → ReadsNames ts xs rest
+    → InChain (between mark.Comma concat) one_name xs rest (names ts)
 unfolding names
 names_reach (g.one {t = t} {rest = rest} {x = x} is) = chain_enters (between mark.Comma concat) one_name _ (t ∷ rest) rest (name_read t rest x is)
 names_reach (g.more {ts = ts} {rest = rest} {t = t} {u = u} {xs = xs} {x = x} l is nm) =
@@ -45,7 +45,8 @@ resource_read (g.resource {t = t} {u = u} {v = v} {w = w} {rest = rest} x eq n s
     let f = expects mark.Semicolon w rest semi in
     rw (x, e, n, f) refl
 
-resources_reach : {ts rest : List Token} {rs : List ResourceSyntax} → ReadsResources ts rs rest → InChain (between mark.Resource concat) a_resource rs rest (resources ts)
+resources_reach : {ts rest : List Token} {rs : List ResourceSyntax} → ReadsResources ts rs rest
+    → InChain (between mark.Resource concat) a_resource rs rest (resources ts)
 unfolding resources
 resources_reach (g.none {ts = ts}) = record { turns = length ts; room = omega arith; same = refl }
 resources_reach (g.another {ts = ts} {mid = mid} {rest = rest} {t = t} {rs = rs} {r = r} l is x) =
@@ -73,12 +74,14 @@ no_integers d (t ∷ ts) rest a p = elim (either (is_mark mark.Integer t.lexeme)
   | inr other ↦ rw other refl
 ]
 
-some_integers : (v w : Token) (ts us : List Token) (xs : List NameSyntax) → Is v mark.Integer → names ts ≡ Found xs (w ∷ us) → Is w mark.Semicolon
+some_integers : (v w : Token) (ts us : List Token) (xs : List NameSyntax) → Is v mark.Integer → names ts ≡ Found xs (w ∷ us)
+    → Is w mark.Semicolon
     → integers (v ∷ ts) ≡ Found xs us
 unfolding integers
 some_integers v w ts us xs is p semi = let e = is_mark_same mark.Integer v.lexeme is in rw e (marked mark.Semicolon (names ts) xs w us p semi)
 
-process_of : (d : ℕ) (t u y : Token) (ts us rest : List Token) (x : List ℕ) (xs : List NameSyntax) (a : StmtsSyntax) → t.lexeme ≡ Name x → Is u mark.Begin
+process_of : (d : ℕ) (t u y : Token) (ts us rest : List Token) (x : List ℕ) (xs : List NameSyntax) (a : StmtsSyntax)
+    → t.lexeme ≡ Name x → Is u mark.Begin
     → integers ts ≡ Found xs us → list (statement d) us ≡ Found a (y ∷ rest) → Is y mark.End
     → a_process d (t ∷ u ∷ ts) ≡ Found (record { name = name_at t x; integers = xs; body = a } ∷ []) rest
 unfolding a_process
@@ -87,18 +90,31 @@ process_of d t u y ts us rest x xs a is b p q end =
     let m = marked mark.End (list (statement d) us) a y rest q end in
     rw (is, e, p, m) refl
 
-process_read : (d : ℕ) {ts rest : List Token} {p : ProcessSyntax} → ReadsProcess ts p rest → length ts ≤ d → a_process d ts ≡ Found (p ∷ []) rest
+-- how many readings stand in one another in a process, in processes and in a program
+
+abbrev pub process_depth : {ts rest : List Token} {p : ProcessSyntax} → ReadsProcess ts p rest → ℕ
+process_depth (g.plain x b l e) = list_depth l
+process_depth (g.integers x b i ns s l e) = list_depth l
+
+abbrev pub processes_depth : {ts rest : List Token} {ps : List ProcessSyntax} → ReadsProcesses ts ps rest → ℕ
+processes_depth (g.one_process is r) = process_depth r
+processes_depth (g.more_processes l is r) = max (processes_depth l) (process_depth r)
+
+abbrev pub program_depth : {ts : List Token} {p : ProgramSyntax} → ReadsProgram ts p → ℕ
+program_depth (g.program rs ps) = processes_depth ps
+
+process_read : (d : ℕ) {ts rest : List Token} {p : ProcessSyntax} (r : ReadsProcess ts p rest) → process_depth r ≤ d
+    → a_process d ts ≡ Found (p ∷ []) rest
 unfolding is_mark
 process_read d (g.plain {t = t} {u = u} {v = v} {ts = ts} {rest = rest} {x = x} {a = a} is b l end) room =
     let q = list_ends d mark.End v ts rest a (list_reach d l (omega arith) (ends_mark level.Disjunction v (Fixed mark.End) rest end refl)) end refl in
     process_of d t u v ts ts rest x [] a is b (no_integers d ts (v ∷ rest) a q) q end
 process_read d (g.integers {t = t} {u = u} {v = v} {w = w} {y = y} {ts = ts} {us = us} {rest = rest} {x = x} {xs = xs} {a = a} is b i ns semi l end) room =
-    let less = names_shorter ns in
     let n = chain_leaves (between mark.Comma concat) one_name xs (w ∷ us) _ (names_reach ns) (stops_at mark.Comma mark.Semicolon concat w us semi refl) in
     let q = list_ends d mark.End y us rest a (list_reach d l (omega arith) (ends_mark level.Disjunction y (Fixed mark.End) rest end refl)) end refl in
     process_of d t u y (v ∷ ts) us rest x xs a is b (some_integers v w ts us xs i n semi) q end
 
-processes_reach : (d : ℕ) {ts rest : List Token} {ps : List ProcessSyntax} → ReadsProcesses ts ps rest → length ts ≤ d
+processes_reach : (d : ℕ) {ts rest : List Token} {ps : List ProcessSyntax} (r : ReadsProcesses ts ps rest) → processes_depth r ≤ d
     → InChain (between mark.Process concat) (a_process d) ps rest (processes d ts)
 unfolding processes
 processes_reach d (g.one_process {t = t} {ts = ts} {rest = rest} {p = p} is r) room =
@@ -106,29 +122,27 @@ processes_reach d (g.one_process {t = t} {ts = ts} {rest = rest} {p = p} is r) r
     let inside = chain_enters (between mark.Process concat) (a_process d) (p ∷ []) ts rest (process_read d r (omega arith)) in
     rw e inside
 processes_reach d (g.more_processes {ts = ts} {mid = mid} {rest = rest} {t = t} {ps = ps} {p = p} l is r) room =
-    let x = processes_shorter l in
-    chain_more (between mark.Process concat) (a_process d) ps (p ∷ []) concat t (t ∷ mid) mid rest (processes d ts) (processes_reach d l room) refl
+    chain_more (between mark.Process concat) (a_process d) ps (p ∷ []) concat t (t ∷ mid) mid rest (processes d ts) (processes_reach d l (omega arith)) refl
     (joins_between mark.Process concat t is) (process_read d r (omega arith)) (process_shorter r)
-  where
-    processes_shorter : {ts rest : List Token} {ps : List ProcessSyntax} → ReadsProcesses ts ps rest → length rest < length ts
-    processes_shorter (g.one_process is r) = let x = process_shorter r in omega arith
-    processes_shorter (g.more_processes l is r) = let x = processes_shorter l in let y = process_shorter r in omega arith
 
-resources_stop : {ts rest : List Token} {ps : List ProcessSyntax} → ReadsProcesses ts ps rest → Stops (between mark.Resource (concat {X = ResourceSyntax})) ts
+resources_stop : {ts rest : List Token} {ps : List ProcessSyntax} → ReadsProcesses ts ps rest
+    → Stops (between mark.Resource (concat {X = ResourceSyntax})) ts
 unfolding is_mark
 resources_stop (g.one_process {t = t} {ts = ts} is r) = stops_at mark.Resource mark.Process concat t ts is refl
 resources_stop (g.more_processes l is r) = resources_stop l
 
-pub program_complete : (d : ℕ) {ts : List Token} {p : ProgramSyntax} → ReadsProgram ts p → length ts ≤ d → program d ts ≡ Found p []
+pub program_complete : (d : ℕ) {ts : List Token} {p : ProgramSyntax} (r : ReadsProgram ts p) → program_depth r ≤ d
+    → program d ts ≡ Found p []
 unfolding program
 program_complete d (g.program {ts = ts} {mid = mid} {rs = rs} {ps = ps} a b) room =
-    let x = resources_shorter a in
     let r = chain_leaves (between mark.Resource concat) a_resource rs mid _ (resources_reach a) (resources_stop b) in
     let s = chain_leaves (between mark.Process concat) (a_process d) ps [] _ (processes_reach d b (omega arith)) tt in
     rw (r, s) refl
 
 pub one_program : {ts : List Token} {a b : ProgramSyntax} → ReadsProgram ts a → ReadsProgram ts b → a ≡ b
-one_program {ts = ts} x y = found_value (sym (program_complete (length ts) x (omega arith)) ∙ program_complete (length ts) y (omega arith))
+one_program x y =
+    let d = max (program_depth x) (program_depth y) in
+    found_value (sym (program_complete d x (omega arith)) ∙ program_complete d y (omega arith))
 
 -- ---- what the function reads, the grammar reads
 
@@ -143,7 +157,8 @@ one_name_sound ts rest xs p =
 pub one_name_shorter : (ts rest : List Token) (xs : List NameSyntax) → one_name ts ≡ Found xs rest → length rest < length ts
 one_name_shorter ts rest xs p = let x = one_name_sound ts rest xs p in let e = ap length x.4 in omega arith
 
-first_name : (ts rest : List Token) (t : Token) (x : List ℕ) (xs : List NameSyntax) → t.lexeme ≡ Name x → xs ≡ name_at t x ∷ [] → ts ≡ t ∷ rest
+first_name : (ts rest : List Token) (t : Token) (x : List ℕ) (xs : List NameSyntax) → t.lexeme ≡ Name x → xs ≡ name_at t x ∷ []
+    → ts ≡ t ∷ rest
     → ReadsNames ts xs rest
 first_name ts rest t x xs is same e = rw (e, same) (g.one is)
 
@@ -160,12 +175,15 @@ names_sound ts rest xs p =
     rw (o.1, s.3) (g.more before o.0 s.2))
     (length y.1) y.0 y.1 xs rest (first_name ts y.1 f.0 f.1 y.0 f.2 f.3 f.4) y.3
 
-resource_rule : (t u v w : Token) (ts us vs ws rest : List Token) (text : List ℕ) (value : ℤ) (x : NameSyntax) (n : NumberSyntax) → t.lexeme ≡ Name text
-    → x ≡ name_at t text → ts ≡ t ∷ us → us ≡ u ∷ vs → Is u mark.Equal → v.lexeme ≡ Number value → n ≡ number_at v value → vs ≡ v ∷ ws → ws ≡ w ∷ rest
+resource_rule : (t u v w : Token) (ts us vs ws rest : List Token) (text : List ℕ) (value : ℤ) (x : NameSyntax) (n : NumberSyntax)
+    → t.lexeme ≡ Name text
+    → x ≡ name_at t text → ts ≡ t ∷ us → us ≡ u ∷ vs → Is u mark.Equal → v.lexeme ≡ Number value → n ≡ number_at v value → vs ≡ v ∷ ws
+    → ws ≡ w ∷ rest
     → Is w mark.Semicolon → ReadsResource ts (record { name = x; capital = n }) rest
 resource_rule t u v w ts us vs ws rest text value x n is called a b eq nm same c e semi = rw (a, b, c, e, called, same) (g.resource is eq nm semi)
 
-pub resource_sound : (ts rest : List Token) (rs : List ResourceSyntax) → a_resource ts ≡ Found rs rest → (r : ResourceSyntax) × (rs ≡ r ∷ []) × (ReadsResource ts r rest)
+pub resource_sound : (ts rest : List Token) (rs : List ResourceSyntax) → a_resource ts ≡ Found rs rest
+    → (r : ResourceSyntax) × (rs ≡ r ∷ []) × (ReadsResource ts r rest)
 unfolding a_resource
 resource_sound ts rest rs p =
     let x = goes_on (then_mark mark.Equal (a_name ts)) _ p in
@@ -191,7 +209,8 @@ resources_sound ts rest rs p =
     (length ts) [] ts rs rest g.none p
 
 process_rule : (d : ℕ) (t u y : Token) (ts us vs ws rest : List Token) (text : List ℕ) (x : NameSyntax) (xs : List NameSyntax) (a : StmtsSyntax) → t.lexeme ≡ Name text
-    → x ≡ name_at t text → ts ≡ t ∷ us → us ≡ u ∷ vs → Is u mark.Begin → integers vs ≡ Found xs ws → ReadsList ws a (y ∷ rest) → Is y mark.End
+    → x ≡ name_at t text → ts ≡ t ∷ us → us ≡ u ∷ vs → Is u mark.Begin → integers vs ≡ Found xs ws → ReadsList ws a (y ∷ rest)
+    → Is y mark.End
     → ReadsProcess ts (record { name = x; integers = xs; body = a }) rest
 unfolding integers
 process_rule d t u y ts us [] ws rest text x xs a is called e f b p l end =
@@ -199,7 +218,8 @@ process_rule d t u y ts us [] ws rest text x xs a is called e f b p l end =
     let none = list_shorter after in absurd (omega arith)
 process_rule d t u y ts us (v ∷ vs) ws rest text x xs a is called e f b p l end = rw (e, f, called) (go (is_mark mark.Integer v.lexeme) refl p)
   where
-    go : (some : Bool) → is_mark mark.Integer v.lexeme ≡ some → integers_by some (then_mark mark.Semicolon (names vs)) (v ∷ vs) ≡ Found xs ws
+    go : (some : Bool) → is_mark mark.Integer v.lexeme ≡ some
+        → integers_by some (then_mark mark.Semicolon (names vs)) (v ∷ vs) ≡ Found xs ws
         → ReadsProcess (t ∷ u ∷ v ∷ vs) (record { name = name_at t text; integers = xs; body = a }) rest
     go true some p =
         let m = then_marked mark.Semicolon (names vs) xs ws p in
@@ -209,7 +229,8 @@ process_rule d t u y ts us (v ∷ vs) ws rest text x xs a is called e f b p l en
         subst (λ r. ReadsProcess (t ∷ u ∷ v ∷ vs) (record { name = name_at t text; integers = r; body = a }) rest) (found_value p)
         (g.plain is b after end)
 
-pub process_sound : (d : ℕ) (ts rest : List Token) (ps : List ProcessSyntax) → a_process d ts ≡ Found ps rest → (p : ProcessSyntax) × (ps ≡ p ∷ []) × (ReadsProcess ts p rest)
+pub process_sound : (d : ℕ) (ts rest : List Token) (ps : List ProcessSyntax) → a_process d ts ≡ Found ps rest
+    → (p : ProcessSyntax) × (ps ≡ p ∷ []) × (ReadsProcess ts p rest)
 unfolding a_process
 process_sound d ts rest ps p =
     let x = goes_on (then_mark mark.Begin (a_name ts)) _ p in
@@ -225,7 +246,8 @@ process_sound d ts rest ps p =
 pub a_process_shorter : (d : ℕ) (ts rest : List Token) (ps : List ProcessSyntax) → a_process d ts ≡ Found ps rest → length rest < length ts
 a_process_shorter d ts rest ps p = process_shorter (process_sound d ts rest ps p).2
 
-first_process : (ts us rest : List Token) (t : Token) (ps : List ProcessSyntax) (p : ProcessSyntax) → ts ≡ t ∷ us → Is t mark.Process → ps ≡ p ∷ [] → ReadsProcess us p rest
+first_process : (ts us rest : List Token) (t : Token) (ps : List ProcessSyntax) (p : ProcessSyntax) → ts ≡ t ∷ us → Is t mark.Process
+    → ps ≡ p ∷ [] → ReadsProcess us p rest
     → ReadsProcesses ts ps rest
 first_process ts us rest t ps p e is same r = rw (e, same) (g.one_process is r)
 
@@ -256,45 +278,3 @@ program_sound d ts rest p q =
     let z = goes_on (ended y.1) _ y.3 in
     let ps : ReadsProcesses x.1 y.0 [] = subst (ReadsProcesses x.1 y.0) (all_taken y.1 z.1 z.2) (processes_sound d x.1 y.1 y.0 y.2) in
     subst (ReadsProgram ts) (found_value z.3) (g.program (resources_sound ts x.1 x.0 x.2) ps)
-
--- ---- the parser's three loops
-
-pub names_enter : {G : Type 0} (view : G → NameSyntax) (ts rest : List Token) (old new : List G) (x : G) → old ≡ [] → new ≡ old ++ (x ∷ []) → a_name ts ≡ Found (view x) rest
-    → InChain (between mark.Comma concat) one_name (map view new) rest (names ts)
-unfolding names one_name
-names_enter view ts rest old new x none e p = items_enter view mark.Comma one_name ts rest old new x none e (rw p refl)
-
-pub name_part : {G : Type 0} (view : G → NameSyntax) (ts rest : List Token) (x : G) → a_name ts ≡ Found (view x) rest → one_name ts ≡ Found (view x ∷ []) rest
-unfolding one_name
-name_part view ts rest x p = rw p refl
-
-pub name_refused : (ts : List Token) → a_name ts ≡ Refused → one_name ts ≡ Refused
-unfolding one_name
-name_refused ts p = rw p refl
-
-pub names_refused : (ts : List Token) → a_name ts ≡ Refused → names ts ≡ Refused
-unfolding names
-names_refused ts p = chain_refused (between mark.Comma concat) one_name ts (name_refused ts p)
-
-pub resources_enter : {G : Type 0} (view : G → ResourceSyntax) (ts : List Token) (found : List G) → found ≡ [] → InChain (between mark.Resource concat) a_resource (map view found) ts (resources ts)
-unfolding resources
-resources_enter view ts found none = rw none (record { turns = length ts; room = omega arith; same = refl })
-
-pub processes_enter : {G : Type 0} (view : G → ProcessSyntax) (d : ℕ) (ts us rest : List Token) (old new : List G) (x : G) → old ≡ [] → new ≡ old ++ (x ∷ []) → expect mark.Process ts ≡ Found tt us
-    → a_process d us ≡ Found (view x ∷ []) rest → InChain (between mark.Process concat) (a_process d) (map view new) rest (processes d ts)
-unfolding processes
-processes_enter view d ts us rest old new x none e first p = let inside = items_enter view mark.Process (a_process d) us rest old new x none e p in rw first inside
-
-pub processes_refused : (d : ℕ) (ts : List Token) → expect mark.Process ts ≡ Refused → processes d ts ≡ Refused
-unfolding processes
-processes_refused d ts p = rw p refl
-
-pub processes_fail : (d : ℕ) (ts us : List Token) → expect mark.Process ts ≡ Found tt us → a_process d us ≡ Refused → processes d ts ≡ Refused
-unfolding processes
-processes_fail d ts us first p = rw first (chain_refused (between mark.Process concat) (a_process d) us p)
-
--- a process that does not end
-pub process_open : (d : ℕ) (ts us vs ws ys : List Token) (x : NameSyntax) (xs : List NameSyntax) (a : StmtsSyntax) → a_name ts ≡ Found x us
-    → expect mark.Begin us ≡ Found tt vs → integers vs ≡ Found xs ws → list (statement d) ws ≡ Found a ys → expect mark.End ys ≡ Refused → a_process d ts ≡ Refused
-unfolding a_process
-process_open d ts us vs ws ys x xs a p q r s f = rw (p, q, r, s, f) refl

@@ -1,45 +1,176 @@
 -- What the parser of whole programs answers.
-use Rattle.std.proofs.Common.{◌≡◌, List, length, Result, Ok, Err, sym, subst, arith}
-use Rattle.std.proofs.lemmas.List.{length-map}
-use Rattle.std.specs.Prelude.{IfOk}
-use Rattle.pb_lexer.specs.declared.token.Token.{Token as Given}
-use Rattle.pb_lexer.specs.Tokens.{Token, token, tokens}
+use Rattle.std.proofs.Common.{◌≡◌, ◌↔◌, ℕ, ◌<◌, ◌≤◌, ◌⊎◌, inl, inr, List, [], ◌∷◌, Result, Ok, Err, false, IsTrue, refl, sym, ap, ◌∙◌, subst, arith}
+use Rattle.std.specs.Prelude.{IfOk, IfErr}
+use Rattle.pb_lexer.specs.Tokens.{Token}
 use Rattle.pb_tree.specs.declared.program.Program.{Program}
+use Rattle.pb_tree.specs.Measure.{program_height, program_nodes}
 use Rattle.pb_tree.specs.Syntax.{ProgramSyntax}
 use Rattle.pb_tree.specs.View.{program_view}
 use Rattle.pb_parser.specs.declared.fault.ParseFault.{ParseFault}
 use Rattle.pb_parser.specs.declared.fault.ParseFault.TheVariants as fault
-use Rattle.pb_parser.specs.Limits.{IsTooHigh, IsTooLarge, IsNoProgram, IsSyntax}
+use Rattle.pb_parser.specs.Limits.{KeepsLimits, IsTooHigh, IsTooLarge, IsNoProgram, IsWithinLimits, IsSyntax}
+use Rattle.pb_parser.specs.Nesting.{NestsTooDeep}
 use Rattle.pb_parser.specs.Programs.{ReadsProgram}
-use Rattle.pb_parser.specs.Reader.{Refused}
-use Rattle.pb_parser.specs.ProgramReader.{program}
-use Rattle.pb_parser.specs.Promises.{Fails, Judges}
-use Rattle.pb_parser.proofs.ProgramLaws.{program_complete}
+use Rattle.pb_parser.specs.Reader.{Refused, Found, ended}
+use Rattle.pb_parser.specs.ProgramReader.{resources, processes, program}
+use Rattle.pb_parser.specs.declared.measure.Measure.{Measure}
+use Rattle.pb_parser.specs.Measured.{IsMeasure}
+use Rattle.pb_parser.specs.Making.{Fails, Makes}
+use Rattle.pb_parser.proofs.Chains.{goes_on, found_rest}
+use Rattle.pb_parser.proofs.Depths.{within_depth}
+use Rattle.pb_parser.proofs.ProgramLaws.{program_complete, program_sound, one_program}
 
--- ---- a fault of the grammar
+-- ---- a program takes all tokens
 
-none-reads : (given : List Given) → program (length given) (tokens given) ≡ Refused → IsNoProgram (tokens given)
-none-reads given none p reads =
-    let same = length-map given token in
-    let found = program_complete (length given) reads (omega arith) in cc
+none_left : (ts rest : List Token) → ended ts ≡ Found tt rest → rest ≡ []
+none_left [] rest p = sym (found_rest p)
+none_left (t ∷ ts) rest p = cc
 
-pub failed-syntax : (given : List Given) (e : ParseFault) → Fails e (program (length given) (tokens given)) → IsSyntax e → IsNoProgram (tokens given)
-failed-syntax given (fault.Syntax at) fails is = none-reads given fails
-failed-syntax given fault.TooDeep fails is = absurd is
-failed-syntax given fault.TooLarge fails is = absurd is
-failed-syntax given fault.NoMemory fails is = absurd is
+program_ends : (d : ℕ) (ts rest : List Token) (p : ProgramSyntax) → program d ts ≡ Found p rest → rest ≡ []
+unfolding program
+program_ends d ts rest p q =
+    let x = goes_on (resources ts) _ q in
+    let y = goes_on (processes d x.1) _ x.3 in
+    let z = goes_on (ended y.1) _ y.3 in
+    sym (found_rest z.3) ∙ none_left y.1 z.1 z.2
 
--- ---- a tree of the tokens
+pub to_the_end : {X : Type 0} (is : X → ProgramSyntax → Type 0) (wants : Type 0) (r : Result X ParseFault) (d : ℕ) (ts rest : List Token)
+    → Makes wants is r (program d ts) rest → Makes wants is r (program d ts) []
+to_the_end is wants (Ok x) d ts rest f = record { syntax = f.syntax; found = f.found ∙ ap (Found f.syntax) (program_ends d ts rest f.syntax f.found); same = f.same }
+to_the_end is wants (Err e) d ts rest f = f
 
-pub judged-found : {A : Type 0} (ts : List Token) (r : Result (Program A) ParseFault) (p : ProgramSyntax) → Judges r p → ReadsProgram ts p
-    → IfOk r (λ q. ReadsProgram ts (program_view q))
-judged-found ts (Ok q) p judged reads = subst (ReadsProgram ts) (sym judged.0) reads
-judged-found ts (Err e) p judged reads = tt
+-- ---- what is to be shown of an answer
 
-pub judged-deep : {A : Type 0} (ts : List Token) (r : Result (Program A) ParseFault) (p : ProgramSyntax) → Judges r p → ReadsProgram ts p
-    → r ≡ Err fault.TooDeep → IsTooHigh ts
-judged-deep ts r p judged reads is = (p, reads, subst (λ x. Judges x p) is judged)
+pub record Judged {A : Type 0} (ts : List Token) (r : Result (Program A) ParseFault) : Type 0 where
+  pub found : IfOk r (λ p. ReadsProgram ts (program_view p))
+  pub limits : IfOk r (λ p. KeepsLimits (program_view p))
+  pub too_deep : (r ≡ Err fault.TooDeep) ↔ (NestsTooDeep ts ⊎ IsTooHigh ts)
+  pub syntax : ((at : ℕ) × (r ≡ Err (fault.Syntax at))) ↔ ((¬ NestsTooDeep ts) × IsNoProgram ts)
+  pub too_large : (r ≡ Err fault.TooLarge) ↔ ((¬ NestsTooDeep ts) × IsTooLarge ts)
+  pub memory : r ≡ Err fault.NoMemory → IsWithinLimits ts
 
-pub judged-large : {A : Type 0} (ts : List Token) (r : Result (Program A) ParseFault) (p : ProgramSyntax) → Judges r p → ReadsProgram ts p
-    → r ≡ Err fault.TooLarge → IsTooLarge ts
-judged-large ts r p judged reads is = let over = subst (λ x. Judges x p) is judged in (p, reads, over.0, over.1)
+pub judged_nested : {A : Type 0} (ts : List Token) → NestsTooDeep ts → Judged {A = A} ts (Err fault.TooDeep)
+judged_nested ts nests = record {
+  found = tt;
+  limits = tt;
+  too_deep = (λ _. inl nests, λ _. refl);
+  syntax = (λ s. (let e = s.1 in cc), λ s. absurd (s.0 nests));
+  too_large = (λ e. cc, λ s. absurd (s.0 nests));
+  memory = λ e. cc;
+}
+
+none_reads : (ts : List Token) → (NestsTooDeep ts → ⊥) → program 257 ts ≡ Refused → IsNoProgram ts
+none_reads ts shallow none p reads = let found = program_complete 257 reads (within_depth reads shallow) in cc
+
+pub judged_refused : {A : Type 0} (ts : List Token) (e : ParseFault) → (NestsTooDeep ts → ⊥) → Fails ⊥ e (program 257 ts)
+    → Judged {A = A} ts (Err e)
+judged_refused ts (fault.Syntax at) shallow fails =
+    let none = none_reads ts shallow fails in
+    record {
+      found = tt;
+      limits = tt;
+      too_deep = (λ e. cc, λ s. elim s [ inl nests ↦ absurd (shallow nests) | inr high ↦ absurd (none high.0 high.1) ]);
+      syntax = (λ _. (shallow, none), λ _. (at, refl));
+      too_large = (λ e. cc, λ s. absurd (none s.1.0 s.1.1));
+      memory = λ e. cc;
+    }
+judged_refused ts fault.TooDeep shallow fails = absurd fails
+judged_refused ts fault.TooLarge shallow fails = absurd fails
+judged_refused ts fault.NoMemory shallow fails = absurd fails
+
+pub judged_high : {A : Type 0} (ts : List Token) (p : ProgramSyntax) → (NestsTooDeep ts → ⊥) → ReadsProgram ts p
+    → 200 < program_height p → Judged {A = A} ts (Err fault.TooDeep)
+judged_high ts p shallow reads high = record {
+  found = tt;
+  limits = tt;
+  too_deep = (λ _. inr (p, reads, high), λ _. refl);
+  syntax = (λ s. (let e = s.1 in cc), λ s. absurd (s.1 p reads));
+  too_large = (λ e. cc, λ s. (let same = ap program_height (one_program s.1.1 reads) in let low = s.1.2 in absurd (omega arith)));
+  memory = λ e. cc;
+}
+
+pub judged_large : {A : Type 0} (ts : List Token) (p : ProgramSyntax) → (NestsTooDeep ts → ⊥) → ReadsProgram ts p
+    → program_height p ≤ 200 → 16384 < program_nodes p
+    → Judged {A = A} ts (Err fault.TooLarge)
+judged_large ts p shallow reads low large = record {
+  found = tt;
+  limits = tt;
+  too_deep = (
+    λ e. cc,
+    λ s. elim s [
+      | inl nests ↦ absurd (shallow nests)
+      | inr high ↦ (let same = ap program_height (one_program high.1 reads) in let over = high.2 in absurd (omega arith))
+    ],
+  );
+  syntax = (λ s. (let e = s.1 in cc), λ s. absurd (s.1 p reads));
+  too_large = (λ _. (shallow, (p, reads, low, large)), λ _. refl);
+  memory = λ e. cc;
+}
+
+pub judged_made : {A : Type 0} (ts : List Token) (d : ℕ) (r : Result (Program A) ParseFault) (p : ProgramSyntax)
+    → (NestsTooDeep ts → ⊥) → program d ts ≡ Found p [] → KeepsLimits p
+    → Makes (Unit {0}) (λ x y. program_view x ≡ y) r (program d ts) [] → Judged ts r
+judged_made ts d (Ok q) p shallow found keeps made =
+    let reads = program_sound d ts [] made.syntax made.found in
+    let is : made.syntax ≡ p = one_program reads (program_sound d ts [] p found) in
+    let seen = made.same ∙ is in
+    record {
+      found = subst (ReadsProgram ts) (sym made.same) reads;
+      limits = subst KeepsLimits (sym seen) keeps;
+      too_deep = (
+        λ e. cc,
+        λ s. elim s [
+          | inl nests ↦ absurd (shallow nests)
+          | inr high ↦ (let same = ap program_height (one_program high.1 reads ∙ is) in let over = high.2 in let low = keeps.height in absurd (omega arith))
+        ],
+      );
+      syntax = (λ s. (let e = s.1 in cc), λ s. absurd (s.1 made.syntax reads));
+      too_large = (λ e. cc, λ s. (let same = ap program_nodes (one_program s.1.1 reads ∙ is) in let over = s.1.3 in let low = keeps.nodes in absurd (omega arith)));
+      memory = λ e. cc;
+    }
+judged_made ts d (Err (fault.Syntax at)) p shallow found keeps made = cc
+judged_made ts d (Err fault.TooDeep) p shallow found keeps made = absurd made
+judged_made ts d (Err fault.TooLarge) p shallow found keeps made = absurd made
+judged_made ts d (Err fault.NoMemory) p shallow found keeps made =
+    let reads = program_sound d ts [] p found in
+    record {
+      found = tt;
+      limits = tt;
+      too_deep = (
+        λ e. cc,
+        λ s. elim s [
+          | inl nests ↦ absurd (shallow nests)
+          | inr high ↦ (let same = ap program_height (one_program high.1 reads) in let over = high.2 in let low = keeps.height in absurd (omega arith))
+        ],
+      );
+      syntax = (λ s. (let e = s.1 in cc), λ s. absurd (s.1 p reads));
+      too_large = (λ e. cc, λ s. (let same = ap program_nodes (one_program s.1.1 reads) in let over = s.1.3 in let low = keeps.nodes in absurd (omega arith)));
+      memory = λ _. (shallow, (p, reads, keeps));
+    }
+
+pub not_nested : (ts : List Token) → (IsTrue false ↔ NestsTooDeep ts) → NestsTooDeep ts → ⊥
+not_nested ts is nests = let e = is.1 nests in cc
+
+-- ---- a measure against the limits
+
+pub is_high : (m : Measure) (h n : ℕ) → IsMeasure m h n → 200 < m.height → 200 < h
+is_high m h n is over = let e = is.is_high in omega arith
+
+pub not_high : (m : Measure) (h n : ℕ) → IsMeasure m h n → m.height ≤ 200 → h ≤ 200
+not_high m h n is within = let e = is.is_high in omega arith
+
+pub is_large : (m : Measure) (h n : ℕ) → IsMeasure m h n → 16384 < m.nodes → 16384 < n
+is_large m h n is over = let e = is.is_large in omega arith
+
+pub not_large : (m : Measure) (h n : ℕ) → IsMeasure m h n → m.nodes ≤ 16384 → n ≤ 16384
+not_large m h n is within = let e = is.is_large in omega arith
+
+-- ---- the same, clause by clause
+
+pub syntax_of : {A : Type 0} (ts : List Token) (r : Result (Program A) ParseFault) → Judged ts r
+    → IfErr r (λ e. IsSyntax e → IsNoProgram ts)
+syntax_of ts (Ok q) j = tt
+syntax_of ts (Err (fault.Syntax at)) j = λ _. (j.syntax.0 (at, refl)).1
+syntax_of ts (Err fault.TooDeep) j = λ is. absurd is
+syntax_of ts (Err fault.TooLarge) j = λ is. absurd is
+syntax_of ts (Err fault.NoMemory) j = λ is. absurd is

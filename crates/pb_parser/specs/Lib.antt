@@ -8,4 +8,6 @@ pub mod Reader
 pub mod ExpressionReader
 pub mod StatementReader
 pub mod ProgramReader
+pub mod Measured
+pub mod Making
 pub mod Promises

@@ -1,10 +1,11 @@
--- The limits of a tree, and what each fault says. A reader must believe 200 and 16,384.
+-- The limits of a tree. A reader must believe 200 and 16,384.
 use Rattle.std.specs.Prelude.{◌<◌, ◌≤◌, List}
 use Rattle.pb_lexer.specs.Tokens.{Token}
 use Rattle.pb_tree.specs.Syntax.{ProgramSyntax}
 use Rattle.pb_tree.specs.Measure.{program_height, program_nodes}
 use Rattle.pb_parser.specs.declared.fault.ParseFault.{ParseFault}
 use Rattle.pb_parser.specs.declared.fault.ParseFault.TheVariants as fault
+use Rattle.pb_parser.specs.Nesting.{NestsTooDeep}
 use Rattle.pb_parser.specs.Programs.{ReadsProgram}
 
 -- the tree is within the limits
@@ -20,6 +21,10 @@ IsTooHigh ts = (p : ProgramSyntax) × (ReadsProgram ts p) × (200 < program_heig
 abbrev pub IsTooLarge : List Token → Type 0
 IsTooLarge ts =
     (p : ProgramSyntax) × (ReadsProgram ts p) × (program_height p ≤ 200) × (16384 < program_nodes p)
+
+-- the tokens are a program within the limits, of tokens that do not nest too deep
+abbrev pub IsWithinLimits : List Token → Type 0
+IsWithinLimits ts = (¬ NestsTooDeep ts) × ((p : ProgramSyntax) × (ReadsProgram ts p) × KeepsLimits p)
 
 -- the tokens are no program
 abbrev pub IsNoProgram : List Token → Type 0

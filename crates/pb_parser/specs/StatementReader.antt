@@ -109,7 +109,3 @@ unfoldable pub statement : ℕ → Part StmtsSyntax
 statement zero ts = Refused
 statement (suc d) [] = Refused
 statement (suc d) (t ∷ ts) = statement_by d (statement d) t t.lexeme ts
-
--- an answer behind the statements that were there
-abbrev pub onto : StmtsSyntax → Answer StmtsSyntax → Answer StmtsSyntax
-onto before answer = and_then answer (λ a rest. Found (append before a) rest)

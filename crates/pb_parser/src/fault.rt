@@ -3,7 +3,7 @@
 ghost use Rattle.std.specs.Prelude.{◌≡◌};
 ghost use Rattle.pb_parser.specs.declared.fault.ParseFault.TheVariants.{NoMemory};
 
-use std::alloc::{AllocError, AllocFailed};
+use pb_base::NoMemory;
 
 /// Why no tree was made of some tokens. A place is an offset into the text, from 0.
 #[derive(Clone, Copy, Debug, PartialEq, Eq, thiserror::Error)]
@@ -26,18 +26,10 @@ pub enum ParseFault {
     NoMemory,
 }
 
-impl From<AllocError> for ParseFault {
+impl From<NoMemory> for ParseFault {
     ghost from_gives = { λ _ e. e ≡ NoMemory };
 
-    fn from(_e: AllocError) -> ParseFault {
-        ParseFault::NoMemory
-    }
-}
-
-impl<T: Drop> From<AllocFailed<T>> for ParseFault {
-    ghost from_gives = { λ _ e. e ≡ NoMemory };
-
-    fn from(_e: AllocFailed<T>) -> ParseFault {
+    fn from(_e: NoMemory) -> ParseFault {
         ParseFault::NoMemory
     }
 }

@@ -1,10 +1,12 @@
 //! The grammar: from the tokens of a text to the tree of its program.
 #![tactic(auto)]
 
-mod build;
+mod builder;
 pub mod fault;
 pub mod laws;
 pub mod level;
+mod measure;
+mod measures;
 mod nesting;
 mod operators;
 mod parser;
@@ -12,6 +14,7 @@ mod programs;
 mod statements;
 #[cfg(test)]
 mod tests;
+mod trees;
 
 pub use fault::ParseFault;
 pub use programs::parse;

@@ -11,6 +11,7 @@ use pb_base::BinaryOp;
 use pb_lexer::token::{Kind, Mark, Token};
 
 /// The binary operator of a level that the mark is.
+#[inline]
 fn operator_of(level: Level, mark: Mark) -> Option<BinaryOp>
     ensures { result ≡ grammar.operator level (Fixed mark) }
 {
@@ -48,6 +49,7 @@ fn operator_of(level: Level, mark: Mark) -> Option<BinaryOp>
 }
 
 /// The binary operator of a level that a token of the kind is.
+#[inline]
 pub(crate) fn operator(level: Level, kind: Kind) -> Option<BinaryOp>
     ensures { (text : List ℕ) → result ≡ grammar.operator level (spec_tokens.lexeme kind text) }
 {

@@ -4,30 +4,30 @@ ghost use Rattle.std.specs.Prelude.{◌≡◌, ℕ, List, [], ◌∷◌, MatchOp
 ghost use Rattle.pb_lexer.specs.Tokens.{token, tokens};
 ghost use Rattle.pb_lexer.specs.Tokens as spec_tokens;
 ghost use Rattle.pb_tree.specs.Syntax.{ExprSyntax};
-ghost use Rattle.pb_tree.specs.View.{expr_view, name_view, number_view};
+ghost use Rattle.pb_tree.specs.View.{number_view};
 ghost use Rattle.pb_parser.specs.Reader as reader;
 ghost use Rattle.pb_parser.specs.ExpressionReader as reads;
 ghost use Rattle.pb_parser.specs.StatementReader as parts;
-ghost use Rattle.pb_parser.specs.Promises.{Begins, Gives, TakesOperator, TakesMark};
+ghost use Rattle.pb_parser.specs.Making.{Makes};
+ghost use Rattle.pb_parser.specs.Promises.{Begins, Gives, Signs, TakesOperator, TakesMark, name_of};
 
-use crate::build;
+use crate::builder::Builder;
 use crate::fault::ParseFault;
 use crate::level::Level;
 use crate::operators::{is_mark, operator};
 use pb_base::{BinaryOp, UnaryOp};
 use pb_lexer::token::{Kind, Mark, Token};
-use pb_tree::{Expr, Name, Number};
-use std::alloc::Allocator;
+use pb_tree::Number;
 
-/// The tokens that are left, and where the last one that was taken ends.
+/// What builds, the tokens that are left, and where the last one that was taken ends.
 #[derive(Drop)]
-pub(crate) struct Parser<'a, 't, A: Allocator + Clone> {
-    pub(crate) alloc: A,
+pub(crate) struct Parser<'a, 't, B> {
+    pub(crate) build: B,
     pub(crate) rest: &'a [Token<'t>],
     pub(crate) end: usize,
 }
 
-impl<'a, 't, A: Allocator + Clone> Parser<'a, 't, A> {
+impl<'a, 't, B: Builder> Parser<'a, 't, B> {
     /// The next token is not in the grammar here.
     pub(crate) fn fault(&self) -> ParseFault
         ensures { (at : ℕ) × (result ≡ ParseFault.Syntax at) }
@@ -122,8 +122,9 @@ impl<'a, 't, A: Allocator + Clone> Parser<'a, 't, A> {
         taken
     }
 
-    pub(crate) fn name(&mut self) -> Result<Name<A>, ParseFault>
-        ensures { Gives name_view result
+    /// The next token, which is a name.
+    pub(crate) fn name(&mut self) -> Result<Token<'t>, ParseFault>
+        ensures { Gives name_of result
             (parts.a_name (tokens self.old.rest.now)) (tokens self.new.rest.now) }
     {
         let Some(next) = self.peek() else {
@@ -131,9 +132,8 @@ impl<'a, 't, A: Allocator + Clone> Parser<'a, 't, A> {
         };
         match next.kind() {
             Kind::Name => {
-                let name = build::name(&self.alloc, next.text(), next.start())?;
                 self.advance();
-                Ok(name)
+                Ok(next)
             }
             _ => Err(self.fault()),
         }
@@ -158,10 +158,21 @@ impl<'a, 't, A: Allocator + Clone> Parser<'a, 't, A> {
         }
     }
 
+    /// An operand behind a number of prefix operators.
+    fn signed(&self, op: UnaryOp, count: usize, operand: B::Expr) -> Result<B::Expr, ParseFault>
+        ensures { Signs B.wants B.is_expr result count op operand }
+    {
+        let mut whole = operand;
+        for _turn in 0..count {
+            whole = self.build.unary(op, whole)?;
+        }
+        Ok(whole)
+    }
+
     /// An expression with fewer than `depth` open brackets.
     #[cycle(expression)]
-    pub(crate) fn expression(&mut self, depth: usize) -> Result<Expr<A>, ParseFault>
-        ensures { Gives expr_view result
+    pub(crate) fn expression(&mut self, depth: usize) -> Result<B::Expr, ParseFault>
+        ensures { Makes B.wants B.is_expr result
             (reads.expression depth (tokens self.old.rest.now)) (tokens self.new.rest.now) }
     {
         if depth == 0 {
@@ -170,10 +181,11 @@ impl<'a, 't, A: Allocator + Clone> Parser<'a, 't, A> {
         self.level(depth - 1, Level::Disjunction)
     }
 
+    #[inline(always)]
     #[cycle(expression)]
     #[tactic(auto, unfolding(crate::specs::ExpressionReader::disjunction, crate::specs::ExpressionReader::conjunction, crate::specs::ExpressionReader::sum, crate::specs::ExpressionReader::term))]
-    fn level(&mut self, depth: usize, level: Level) -> Result<Expr<A>, ParseFault>
-        ensures { Gives expr_view result
+    fn level(&mut self, depth: usize, level: Level) -> Result<B::Expr, ParseFault>
+        ensures { Makes B.wants B.is_expr result
             (reads.of_level (reads.expression depth) level (tokens self.old.rest.now))
             (tokens self.new.rest.now) }
     {
@@ -190,9 +202,9 @@ impl<'a, 't, A: Allocator + Clone> Parser<'a, 't, A> {
 
     /// Parts joined by the operators of a level, grouped to the left.
     #[cycle(expression)]
-    fn chain(&mut self, depth: usize, level: Level, part: Level) -> Result<Expr<A>, ParseFault>
+    fn chain(&mut self, depth: usize, level: Level, part: Level) -> Result<B::Expr, ParseFault>
         requires { reads.looseness part < reads.looseness level }
-        ensures { Gives expr_view result
+        ensures { Makes B.wants B.is_expr result
             (reader.chain (reads.joins level)
             (reads.of_level (reads.expression depth) part) (tokens self.old.rest.now))
             (tokens self.new.rest.now) }
@@ -200,28 +212,28 @@ impl<'a, 't, A: Allocator + Clone> Parser<'a, 't, A> {
         let mut left = self.level(depth, part)?;
         while let Some(op) = self.operator(level) {
             let right = self.level(depth, part)?;
-            left = build::binary(&self.alloc, op, left, right)?;
+            left = self.build.binary(op, left, right)?;
         }
         Ok(left)
     }
 
     #[cycle(expression)]
     #[tactic(auto, unfolding(crate::specs::ExpressionReader::negation))]
-    fn negation(&mut self, depth: usize) -> Result<Expr<A>, ParseFault>
-        ensures { Gives expr_view result
+    fn negation(&mut self, depth: usize) -> Result<B::Expr, ParseFault>
+        ensures { Makes B.wants B.is_expr result
             (reads.negation (reads.expression depth) (tokens self.old.rest.now))
             (tokens self.new.rest.now) }
     {
         let count = self.count(Mark::Not);
         let operand = self.comparison(depth)?;
-        build::signed(&self.alloc, UnaryOp::Not, count, operand)
+        self.signed(UnaryOp::Not, count, operand)
     }
 
     /// A sum, or two with a relation between them.
     #[cycle(expression)]
     #[tactic(auto, unfolding(crate::specs::ExpressionReader::comparison, crate::specs::ExpressionReader::related))]
-    fn comparison(&mut self, depth: usize) -> Result<Expr<A>, ParseFault>
-        ensures { Gives expr_view result
+    fn comparison(&mut self, depth: usize) -> Result<B::Expr, ParseFault>
+        ensures { Makes B.wants B.is_expr result
             (reads.comparison (reads.expression depth) (tokens self.old.rest.now))
             (tokens self.new.rest.now) }
     {
@@ -230,26 +242,26 @@ impl<'a, 't, A: Allocator + Clone> Parser<'a, 't, A> {
             return Ok(left);
         };
         let right = self.level(depth, Level::Sum)?;
-        build::binary(&self.alloc, op, left, right)
+        Ok(self.build.binary(op, left, right)?)
     }
 
     #[cycle(expression)]
     #[tactic(auto, unfolding(crate::specs::ExpressionReader::factor))]
-    fn factor(&mut self, depth: usize) -> Result<Expr<A>, ParseFault>
-        ensures { Gives expr_view result
+    fn factor(&mut self, depth: usize) -> Result<B::Expr, ParseFault>
+        ensures { Makes B.wants B.is_expr result
             (reads.factor (reads.expression depth) (tokens self.old.rest.now))
             (tokens self.new.rest.now) }
     {
         let count = self.count(Mark::Minus);
         let operand = self.primary(depth)?;
-        build::signed(&self.alloc, UnaryOp::Negate, count, operand)
+        self.signed(UnaryOp::Negate, count, operand)
     }
 
     /// A number, a name or an expression in brackets.
     #[cycle(expression)]
     #[tactic(auto, unfolding(crate::specs::ExpressionReader::primary))]
-    fn primary(&mut self, depth: usize) -> Result<Expr<A>, ParseFault>
-        ensures { Gives expr_view result
+    fn primary(&mut self, depth: usize) -> Result<B::Expr, ParseFault>
+        ensures { Makes B.wants B.is_expr result
             (reads.primary (reads.expression depth) (tokens self.old.rest.now))
             (tokens self.new.rest.now) }
     {
@@ -260,12 +272,11 @@ impl<'a, 't, A: Allocator + Clone> Parser<'a, 't, A> {
             Kind::Number(value) => {
                 self.advance();
                 let at = next.start();
-                Ok(Expr::Number(Number { value, at }))
+                Ok(self.build.number(Number { value, at }))
             }
             Kind::Name => {
-                let name = build::name(&self.alloc, next.text(), next.start())?;
                 self.advance();
-                Ok(Expr::Variable(name))
+                Ok(self.build.variable(next.text(), next.start())?)
             }
             Kind::Mark(Mark::Open) => {
                 self.advance();

@@ -1,81 +1,114 @@
 //! Declarations and programs.
 
-ghost use Rattle.std.specs.Prelude.{◌≡◌, ℕ, [], ◌∷◌, ◌≤◌, ◌⊎◌, map, IfOk, IfErr};
+ghost use Rattle.std.specs.Prelude.{◌≡◌, ℕ, [], ◌∷◌, ◌⊎◌, IfOk, IfErr};
 ghost use Rattle.pb_lexer.specs.Tokens as spec_tokens;
-ghost use Rattle.pb_tree.specs.View.{name_view, resource_view, process_view, program_view};
-ghost use Rattle.pb_parser.specs.Limits.{KeepsLimits, IsTooHigh, IsTooLarge, IsNoProgram, IsSyntax};
+ghost use Rattle.pb_tree.specs.View.{number_view, program_view};
+ghost use Rattle.pb_parser.specs.Limits.{KeepsLimits, IsTooHigh, IsTooLarge, IsNoProgram, IsWithinLimits};
+ghost use Rattle.pb_parser.specs.Limits.{IsSyntax};
 ghost use Rattle.pb_parser.specs.Nesting.{NestsTooDeep};
 ghost use Rattle.pb_parser.specs.Programs.{ReadsProgram};
 ghost use Rattle.pb_parser.specs.ProgramReader as reads;
-ghost use Rattle.pb_parser.specs.Promises.{Gives, Judges};
+ghost use Rattle.pb_parser.specs.StatementReader.{concat};
+ghost use Rattle.pb_parser.specs.Making.{Adds, Builds, Makes};
+ghost use Rattle.pb_parser.specs.Promises.{Gives, name_of};
 
+use crate::builder::Builder;
 use crate::fault::ParseFault;
+use crate::measures::Measures;
 use crate::nesting::nests_too_deep;
 use crate::parser::Parser;
+use crate::trees::Trees;
 use pb_lexer::token::{Mark, Token};
-use pb_tree::{Name, Process, Program, Resource};
+use pb_tree::{Number, Program};
 use std::alloc::Allocator;
 
 const HIGHEST: u64 = 200;
 
 const MOST_NODES: u64 = 16_384;
 
-impl<'a, 't, A: Allocator + Clone> Parser<'a, 't, A> {
-    fn names(&mut self) -> Result<Vec<Name<A>, A>, ParseFault>
-        ensures { Gives (λ v. map name_view v.items) result
+/// So many parts of a program stand in one another, where at most 256 brackets and statements stand open.
+const DEPTH: usize = 257;
+
+/// A name, and how much there is of the resource that it declares.
+#[derive(Clone, Copy)]
+struct Declared<'t> {
+    name: Token<'t>,
+    capital: Number,
+}
+
+impl<'a, 't, B: Builder> Parser<'a, 't, B> {
+    fn add_name(&self, out: &mut B::Names, name: Token<'t>) -> Result<(), ParseFault>
+        ensures { Builds B.wants result (Adds B.is_names concat out.old out.new (name_of name.entry ∷ [])) }
+    {
+        let (text, at) = (name.text(), name.start());
+        Ok(self.build.add_name(out, text, at)?)
+    }
+
+    fn names(&mut self) -> Result<B::Names, ParseFault>
+        ensures { Makes B.wants B.is_names result
             (reads.names (spec_tokens.tokens self.old.rest.now)) (spec_tokens.tokens self.new.rest.now) }
     {
-        let mut found = Vec::new(self.alloc.clone()?);
+        let mut found = self.build.no_names()?;
         let first = self.name()?;
-        found.push(first)?;
+        self.add_name(&mut found, first)?;
         while self.eat(Mark::Comma) {
             let another = self.name()?;
-            found.push(another)?;
+            self.add_name(&mut found, another)?;
         }
         Ok(found)
     }
 
     #[tactic(auto, unfolding(crate::specs::ProgramReader::a_resource))]
-    fn resource(&mut self) -> Result<Resource<A>, ParseFault>
-        ensures { Gives (λ r. resource_view r ∷ []) result
+    fn resource(&mut self) -> Result<Declared<'t>, ParseFault>
+        ensures { Gives
+            (λ r. record { name = name_of r.name; capital = number_view r.capital } ∷ []) result
             (reads.a_resource (spec_tokens.tokens self.old.rest.now)) (spec_tokens.tokens self.new.rest.now) }
     {
         let name = self.name()?;
         self.expect(Mark::Equal)?;
         let capital = self.number()?;
         self.expect(Mark::Semicolon)?;
-        Ok(Resource { name, capital })
+        Ok(Declared { name, capital })
     }
 
-    fn resources(&mut self) -> Result<Vec<Resource<A>, A>, ParseFault>
-        ensures { Gives (λ v. map resource_view v.items) result
+    fn add_resource(&self, out: &mut B::Resources, found: Declared<'t>) -> Result<(), ParseFault>
+        ensures { Builds B.wants result (Adds B.is_resources concat out.old out.new
+            (record { name = name_of found.entry.name; capital = number_view found.entry.capital } ∷ [])) }
+    {
+        let (text, at) = (found.name.text(), found.name.start());
+        Ok(self.build.add_resource(out, text, at, found.capital)?)
+    }
+
+    fn resources(&mut self) -> Result<B::Resources, ParseFault>
+        ensures { Makes B.wants B.is_resources result
             (reads.resources (spec_tokens.tokens self.old.rest.now)) (spec_tokens.tokens self.new.rest.now) }
     {
-        let mut found = Vec::new(self.alloc.clone()?);
+        let mut found = self.build.no_resources()?;
         while self.eat(Mark::Resource) {
             let another = self.resource()?;
-            found.push(another)?;
+            self.add_resource(&mut found, another)?;
         }
         Ok(found)
     }
 
     /// The names of integers, if some are declared.
     #[tactic(auto, unfolding(crate::specs::ProgramReader::integers))]
-    fn integers(&mut self) -> Result<Vec<Name<A>, A>, ParseFault>
-        ensures { Gives (λ v. map name_view v.items) result
+    fn integers(&mut self) -> Result<B::Names, ParseFault>
+        ensures { Makes B.wants B.is_names result
             (reads.integers (spec_tokens.tokens self.old.rest.now)) (spec_tokens.tokens self.new.rest.now) }
     {
         if !self.eat(Mark::Integer) {
-            return Ok(Vec::new(self.alloc.clone()?));
+            return Ok(self.build.no_names()?);
         }
         let found = self.names()?;
         self.expect(Mark::Semicolon)?;
         Ok(found)
     }
 
+    /// A process, added to `out`.
     #[tactic(auto, unfolding(crate::specs::ProgramReader::a_process))]
-    fn process(&mut self, depth: usize) -> Result<Process<A>, ParseFault>
-        ensures { Gives (λ p. process_view p ∷ []) result
+    fn process(&mut self, depth: usize, out: &mut B::Processes) -> Result<(), ParseFault>
+        ensures { Makes B.wants (λ _. Adds B.is_processes concat out.old out.new) result
             (reads.a_process depth (spec_tokens.tokens self.old.rest.now))
             (spec_tokens.tokens self.new.rest.now) }
     {
@@ -84,81 +117,83 @@ impl<'a, 't, A: Allocator + Clone> Parser<'a, 't, A> {
         let integers = self.integers()?;
         let body = self.body(depth)?;
         self.expect(Mark::End)?;
-        Ok(Process {
-            name,
-            integers,
-            body,
-        })
+        let (text, at) = (name.text(), name.start());
+        Ok(self.build.add_process(out, text, at, integers, body)?)
     }
 
-    fn processes(&mut self, depth: usize) -> Result<Vec<Process<A>, A>, ParseFault>
-        ensures { Gives (λ v. map process_view v.items) result
+    fn processes(&mut self, depth: usize) -> Result<B::Processes, ParseFault>
+        ensures { Makes B.wants B.is_processes result
             (reads.processes depth (spec_tokens.tokens self.old.rest.now))
             (spec_tokens.tokens self.new.rest.now) }
     {
-        let mut found = Vec::new(self.alloc.clone()?);
+        let mut found = self.build.no_processes()?;
         self.expect(Mark::Process)?;
-        let first = self.process(depth)?;
-        found.push(first)?;
+        self.process(depth, &mut found)?;
         while self.eat(Mark::Process) {
-            let another = self.process(depth)?;
-            found.push(another)?;
+            self.process(depth, &mut found)?;
         }
         Ok(found)
     }
 
     #[tactic(auto, unfolding(crate::specs::ProgramReader::program))]
-    fn program(&mut self, depth: usize) -> Result<Program<A>, ParseFault>
-        ensures { Gives program_view result
+    fn program(&mut self, depth: usize) -> Result<B::Program, ParseFault>
+        ensures { Makes B.wants B.is_program result
             (reads.program depth (spec_tokens.tokens self.old.rest.now))
             (spec_tokens.tokens self.new.rest.now) }
     {
         let resources = self.resources()?;
         let processes = self.processes(depth)?;
         self.end()?;
-        Ok(Program {
-            resources,
-            processes,
-        })
+        Ok(self.build.program(resources, processes))
     }
 }
 
-/// The program, where it is within the limits: first its height is looked at, then its nodes.
-fn within_limits<A: Allocator>(program: Program<A>) -> Result<Program<A>, ParseFault>
-    ensures { Judges result (program_view program) }
+/// What the builder makes of the tokens.
+fn read<B: Builder>(build: B, tokens: &[Token<'_>]) -> Result<B::Program, ParseFault>
+    ensures { Makes B.wants B.is_program result
+        (reads.program DEPTH (spec_tokens.tokens tokens.now)) [] }
 {
-    if program.height() > HIGHEST {
-        return Err(ParseFault::TooDeep);
-    }
-    if program.nodes() > MOST_NODES {
-        return Err(ParseFault::TooLarge);
-    }
-    Ok(program)
+    let mut parser = Parser {
+        build,
+        rest: tokens,
+        end: 0,
+    };
+    parser.program(DEPTH)
 }
 
 /// The program that the tokens are.
 ///
-/// Tokens that nest too deep are refused before the grammar is looked at, and a tree over a limit after:
-/// first its
-/// height, then its nodes. An error leaves nothing behind.
+/// Tokens that nest too deep are refused before the grammar is looked at, and a program over a limit after:
+/// first its height, then its nodes. All this takes no memory: the tree is made of a program that is within
+/// the limits, and of no other. An error leaves nothing behind.
 pub fn parse<A: Allocator + Clone>(alloc: A, tokens: &[Token<'_>]) -> Result<Program<A>, ParseFault>
     ensures found { IfOk result (λ p. ReadsProgram (spec_tokens.tokens tokens.now) (program_view p)) }
     ensures limits { IfOk result (λ p. KeepsLimits (program_view p)) }
     // Tokens that nest too deep are always refused for that.
     ensures nested { NestsTooDeep (spec_tokens.tokens tokens.now) → result ≡ Err ParseFault.TooDeep }
+    // Each refusal has its cause,
     ensures syntax { IfErr result (λ fault. IsSyntax fault → IsNoProgram (spec_tokens.tokens tokens.now)) }
     ensures too_deep { result ≡ Err ParseFault.TooDeep
         → NestsTooDeep (spec_tokens.tokens tokens.now) ⊎ IsTooHigh (spec_tokens.tokens tokens.now) }
     ensures too_large { result ≡ Err ParseFault.TooLarge → IsTooLarge (spec_tokens.tokens tokens.now) }
+    // and each cause is answered, whatever memory there is.
+    ensures no_program { (¬ NestsTooDeep (spec_tokens.tokens tokens.now))
+        → IsNoProgram (spec_tokens.tokens tokens.now) → (at : ℕ) × (result ≡ Err (ParseFault.Syntax at)) }
+    ensures high { IsTooHigh (spec_tokens.tokens tokens.now) → result ≡ Err ParseFault.TooDeep }
+    ensures large { (¬ NestsTooDeep (spec_tokens.tokens tokens.now))
+        → IsTooLarge (spec_tokens.tokens tokens.now) → result ≡ Err ParseFault.TooLarge }
+    // Memory can want only for a program within the limits.
+    ensures memory { result ≡ Err ParseFault.NoMemory → IsWithinLimits (spec_tokens.tokens tokens.now) }
 {
     if nests_too_deep(tokens) {
         return Err(ParseFault::TooDeep);
     }
-    let mut parser = Parser {
-        alloc,
-        rest: tokens,
-        end: 0,
-    };
-    let program = parser.program(tokens.len())?;
-    within_limits(program)
+    let measure = read(Measures, tokens)?;
+    if measure.height > HIGHEST {
+        return Err(ParseFault::TooDeep);
+    }
+    if measure.nodes > MOST_NODES {
+        return Err(ParseFault::TooLarge);
+    }
+    read(Trees { alloc }, tokens)
 }

@@ -1,55 +1,69 @@
 //! Statements.
 
-ghost use Rattle.std.specs.Prelude.{◌≡◌, ℕ, [], ◌∷◌, map};
+ghost use Rattle.std.specs.Prelude.{◌≡◌, ℕ, [], ◌∷◌};
 ghost use Rattle.pb_lexer.specs.Tokens.{tokens};
 ghost use Rattle.pb_lexer.specs.Tokens as spec_tokens;
-ghost use Rattle.pb_tree.specs.Syntax as tree;
-ghost use Rattle.pb_tree.specs.View.{demand_view, stmts_view, arms_view};
+ghost use Rattle.pb_tree.specs.View.{number_view};
+ghost use Rattle.pb_parser.specs.Lists.{append};
 ghost use Rattle.pb_parser.specs.StatementReader as reads;
-ghost use Rattle.pb_parser.specs.StatementReader.{onto};
-ghost use Rattle.pb_parser.specs.Promises.{Gives};
+ghost use Rattle.pb_parser.specs.Making.{Adds, Builds, Makes};
+ghost use Rattle.pb_parser.specs.Promises.{Gives, name_of};
 
-use crate::build;
+use crate::builder::Builder;
 use crate::fault::ParseFault;
 use crate::parser::Parser;
 use pb_lexer::token::{Kind, Mark, Token};
-use pb_tree::{Demand, Stmt};
-use std::alloc::Allocator;
+use pb_tree::Number;
 
-impl<'a, 't, A: Allocator + Clone> Parser<'a, 't, A> {
+/// An amount, and the name of the resource of which it is.
+#[derive(Clone, Copy)]
+struct Pair<'t> {
+    amount: Number,
+    resource: Token<'t>,
+}
+
+impl<'a, 't, B: Builder> Parser<'a, 't, B> {
     /// An amount of a resource.
     #[tactic(auto, unfolding(crate::specs::StatementReader::a_pair))]
-    fn pair(&mut self) -> Result<Demand<A>, ParseFault>
-        ensures { Gives (λ p. demand_view p ∷ []) result
+    fn pair(&mut self) -> Result<Pair<'t>, ParseFault>
+        ensures { Gives
+            (λ p. record { amount = number_view p.amount; resource = name_of p.resource } ∷ []) result
             (reads.a_pair (tokens self.old.rest.now)) (tokens self.new.rest.now) }
     {
         let amount = self.number()?;
         self.expect(Mark::Of)?;
         let resource = self.name()?;
-        Ok(Demand { amount, resource })
+        Ok(Pair { amount, resource })
+    }
+
+    fn add_pair(&self, out: &mut B::Demands, pair: Pair<'t>) -> Result<(), ParseFault>
+        ensures { Builds B.wants result (Adds B.is_demands reads.concat out.old out.new
+            (record { amount = number_view pair.entry.amount; resource = name_of pair.entry.resource } ∷ [])) }
+    {
+        let (text, at) = (pair.resource.text(), pair.resource.start());
+        Ok(self.build.add_demand(out, pair.amount, text, at)?)
     }
 
     /// The pairs of a hold.
-    fn pairs(&mut self) -> Result<Vec<Demand<A>, A>, ParseFault>
-        ensures { Gives (λ v. map demand_view v.items) result
+    fn pairs(&mut self) -> Result<B::Demands, ParseFault>
+        ensures { Makes B.wants B.is_demands result
             (reads.pairs (tokens self.old.rest.now)) (tokens self.new.rest.now) }
     {
-        let mut found = Vec::new(self.alloc.clone()?);
+        let mut found = self.build.no_demands()?;
         let first = self.pair()?;
-        found.push(first)?;
+        self.add_pair(&mut found, first)?;
         while self.eat(Mark::Comma) {
             let another = self.pair()?;
-            found.push(another)?;
+            self.add_pair(&mut found, another)?;
         }
         Ok(found)
     }
 
     /// Statements with `;` between them, added to `out`.
     #[cycle(statement)]
-    fn list(&mut self, depth: usize, out: &mut Vec<Stmt<A>, A>) -> Result<(), ParseFault>
-        ensures { Gives (λ _. stmts_view out.new.items) result
-            (onto (stmts_view out.old.items)
-            (reads.list (reads.statement depth) (tokens self.old.rest.now)))
+    fn list(&mut self, depth: usize, out: &mut B::Stmts) -> Result<(), ParseFault>
+        ensures { Makes B.wants (λ _. Adds B.is_stmts append out.old out.new) result
+            (reads.list (reads.statement depth) (tokens self.old.rest.now))
             (tokens self.new.rest.now) }
     {
         self.statement(depth, out)?;
@@ -61,38 +75,38 @@ impl<'a, 't, A: Allocator + Clone> Parser<'a, 't, A> {
 
     /// Statements with `;` between them.
     #[cycle(statement)]
-    pub(crate) fn body(&mut self, depth: usize) -> Result<Vec<Stmt<A>, A>, ParseFault>
-        ensures { Gives (λ v. stmts_view v.items) result
+    pub(crate) fn body(&mut self, depth: usize) -> Result<B::Stmts, ParseFault>
+        ensures { Makes B.wants B.is_stmts result
             (reads.list (reads.statement depth) (tokens self.old.rest.now)) (tokens self.new.rest.now) }
     {
-        let mut out = Vec::new(self.alloc.clone()?);
+        let mut out = self.build.no_stmts()?;
         self.list(depth, &mut out)?;
         Ok(out)
     }
 
     /// The arms of a parbegin.
     #[cycle(statement)]
-    fn arms(&mut self, depth: usize) -> Result<Vec<Vec<Stmt<A>, A>, A>, ParseFault>
-        ensures { Gives (λ v. arms_view v.items) result
+    fn arms(&mut self, depth: usize) -> Result<B::Arms, ParseFault>
+        ensures { Makes B.wants B.is_arms result
             (reads.arms (reads.statement depth) (tokens self.old.rest.now)) (tokens self.new.rest.now) }
     {
-        let mut found = Vec::new(self.alloc.clone()?);
-        let mut body = Vec::new(self.alloc.clone()?);
+        let mut found = self.build.no_arms()?;
+        let mut body = self.build.no_stmts()?;
         self.statement(depth, &mut body)?;
-        build::push_arm(&mut found, body)?;
+        self.build.add_arm(&mut found, body)?;
         while self.eat(Mark::Semicolon) {
-            let mut another = Vec::new(self.alloc.clone()?);
+            let mut another = self.build.no_stmts()?;
             self.statement(depth, &mut another)?;
-            build::push_arm(&mut found, another)?;
+            self.build.add_arm(&mut found, another)?;
         }
         Ok(found)
     }
 
     /// A statement with fewer than `depth` others round it and in it, added to `out`.
     #[cycle(statement)]
-    fn statement(&mut self, depth: usize, out: &mut Vec<Stmt<A>, A>) -> Result<(), ParseFault>
-        ensures { Gives (λ _. stmts_view out.new.items) result
-            (onto (stmts_view out.old.items) (reads.statement depth (tokens self.old.rest.now)))
+    fn statement(&mut self, depth: usize, out: &mut B::Stmts) -> Result<(), ParseFault>
+        ensures { Makes B.wants (λ _. Adds B.is_stmts append out.old out.new) result
+            (reads.statement depth (tokens self.old.rest.now))
             (tokens self.new.rest.now) }
     {
         if depth == 0 {
@@ -112,12 +126,11 @@ impl<'a, 't, A: Allocator + Clone> Parser<'a, 't, A> {
         depth: usize,
         kind: Kind,
         first: Token<'t>,
-        out: &mut Vec<Stmt<A>, A>,
+        out: &mut B::Stmts,
     ) -> Result<(), ParseFault>
-        ensures { Gives (λ _. stmts_view out.new.items) result
-            (onto (stmts_view out.old.items)
+        ensures { Makes B.wants (λ _. Adds B.is_stmts append out.old out.new) result
             (reads.statement_by depth (reads.statement depth) (spec_tokens.token first.entry)
-            (spec_tokens.lexeme kind (spec_tokens.token first.entry).text) (tokens self.old.rest.now)))
+            (spec_tokens.lexeme kind (spec_tokens.token first.entry).text) (tokens self.old.rest.now))
             (tokens self.new.rest.now) }
     {
         match kind {
@@ -137,42 +150,31 @@ impl<'a, 't, A: Allocator + Clone> Parser<'a, 't, A> {
         &mut self,
         depth: usize,
         first: Token<'t>,
-        out: &mut Vec<Stmt<A>, A>,
+        out: &mut B::Stmts,
     ) -> Result<(), ParseFault>
-        ensures { Gives (λ _. stmts_view out.new.items) result
-            (onto (stmts_view out.old.items) (reads.assignment depth (spec_tokens.token first.entry)
-            (spec_tokens.token first.entry).text (tokens self.old.rest.now))) (tokens self.new.rest.now) }
+        ensures { Makes B.wants (λ _. Adds B.is_stmts append out.old out.new) result
+            (reads.assignment depth (spec_tokens.token first.entry)
+            (spec_tokens.token first.entry).text (tokens self.old.rest.now)) (tokens self.new.rest.now) }
     {
         self.expect(Mark::Assign)?;
         let value = self.expression(depth)?;
-        let target = build::name(&self.alloc, first.text(), first.start())?;
-        build::push(out, build::assignment(first.line(), target, value))
+        let (line, text, at) = (first.line(), first.text(), first.start());
+        Ok(self.build.assign(out, line, text, at, value)?)
     }
 
-    fn printing(
-        &mut self,
-        depth: usize,
-        line: u32,
-        out: &mut Vec<Stmt<A>, A>,
-    ) -> Result<(), ParseFault>
-        ensures { Gives (λ _. stmts_view out.new.items) result
-            (onto (stmts_view out.old.items) (reads.printing depth line (tokens self.old.rest.now)))
+    fn printing(&mut self, depth: usize, line: u32, out: &mut B::Stmts) -> Result<(), ParseFault>
+        ensures { Makes B.wants (λ _. Adds B.is_stmts append out.old out.new) result
+            (reads.printing depth line (tokens self.old.rest.now))
             (tokens self.new.rest.now) }
     {
         let value = self.expression(depth)?;
-        build::push(out, build::printing(line, value))
+        Ok(self.build.print(out, line, value)?)
     }
 
     #[cycle(statement)]
-    fn choice(
-        &mut self,
-        depth: usize,
-        line: u32,
-        out: &mut Vec<Stmt<A>, A>,
-    ) -> Result<(), ParseFault>
-        ensures { Gives (λ _. stmts_view out.new.items) result
-            (onto (stmts_view out.old.items)
-            (reads.choice depth (reads.statement depth) line (tokens self.old.rest.now)))
+    fn choice(&mut self, depth: usize, line: u32, out: &mut B::Stmts) -> Result<(), ParseFault>
+        ensures { Makes B.wants (λ _. Adds B.is_stmts append out.old out.new) result
+            (reads.choice depth (reads.statement depth) line (tokens self.old.rest.now))
             (tokens self.new.rest.now) }
     {
         let test = self.expression(depth)?;
@@ -180,84 +182,65 @@ impl<'a, 't, A: Allocator + Clone> Parser<'a, 't, A> {
         let on_true = self.body(depth)?;
         let on_false = self.otherwise(depth)?;
         self.expect(Mark::Fi)?;
-        build::push(out, build::choice(line, test, on_true, on_false))
+        Ok(self.build.choice(out, line, test, on_true, on_false)?)
     }
 
     /// What stands behind `else`, if that comes next.
     #[cycle(statement)]
     #[tactic(auto, unfolding(crate::specs::StatementReader::otherwise))]
-    fn otherwise(&mut self, depth: usize) -> Result<Vec<Stmt<A>, A>, ParseFault>
-        ensures { Gives (λ v. stmts_view v.items) result
+    fn otherwise(&mut self, depth: usize) -> Result<B::Stmts, ParseFault>
+        ensures { Makes B.wants B.is_stmts result
             (reads.otherwise (reads.statement depth) (tokens self.old.rest.now)) (tokens self.new.rest.now) }
     {
         if self.eat(Mark::Else) {
             self.body(depth)
         } else {
-            Ok(Vec::new(self.alloc.clone()?))
+            Ok(self.build.no_stmts()?)
         }
     }
 
     #[cycle(statement)]
-    fn looping(
-        &mut self,
-        depth: usize,
-        line: u32,
-        out: &mut Vec<Stmt<A>, A>,
-    ) -> Result<(), ParseFault>
-        ensures { Gives (λ _. stmts_view out.new.items) result
-            (onto (stmts_view out.old.items)
-            (reads.looping depth (reads.statement depth) line (tokens self.old.rest.now)))
+    fn looping(&mut self, depth: usize, line: u32, out: &mut B::Stmts) -> Result<(), ParseFault>
+        ensures { Makes B.wants (λ _. Adds B.is_stmts append out.old out.new) result
+            (reads.looping depth (reads.statement depth) line (tokens self.old.rest.now))
             (tokens self.new.rest.now) }
     {
         let test = self.expression(depth)?;
         self.expect(Mark::Do)?;
         let body = self.body(depth)?;
         self.expect(Mark::Od)?;
-        build::push(out, build::looping(line, test, body))
+        Ok(self.build.repeat(out, line, test, body)?)
     }
 
     #[cycle(statement)]
-    fn holding(
-        &mut self,
-        depth: usize,
-        line: u32,
-        out: &mut Vec<Stmt<A>, A>,
-    ) -> Result<(), ParseFault>
-        ensures { Gives (λ _. stmts_view out.new.items) result
-            (onto (stmts_view out.old.items)
-            (reads.holding (reads.statement depth) line (tokens self.old.rest.now)))
+    fn holding(&mut self, depth: usize, line: u32, out: &mut B::Stmts) -> Result<(), ParseFault>
+        ensures { Makes B.wants (λ _. Adds B.is_stmts append out.old out.new) result
+            (reads.holding (reads.statement depth) line (tokens self.old.rest.now))
             (tokens self.new.rest.now) }
     {
         let demands = self.pairs()?;
         self.expect(Mark::Do)?;
         let body = self.body(depth)?;
         self.expect(Mark::Od)?;
-        build::push(out, build::holding(line, demands, body))
+        Ok(self.build.hold(out, line, demands, body)?)
     }
 
     #[cycle(statement)]
-    fn forking(
-        &mut self,
-        depth: usize,
-        line: u32,
-        out: &mut Vec<Stmt<A>, A>,
-    ) -> Result<(), ParseFault>
-        ensures { Gives (λ _. stmts_view out.new.items) result
-            (onto (stmts_view out.old.items)
-            (reads.forking (reads.statement depth) line (tokens self.old.rest.now)))
+    fn forking(&mut self, depth: usize, line: u32, out: &mut B::Stmts) -> Result<(), ParseFault>
+        ensures { Makes B.wants (λ _. Adds B.is_stmts append out.old out.new) result
+            (reads.forking (reads.statement depth) line (tokens self.old.rest.now))
             (tokens self.new.rest.now) }
     {
         let arms = self.arms(depth)?;
         self.expect(Mark::Parend)?;
-        build::push(out, build::forking(line, arms))
+        Ok(self.build.fork(out, line, arms)?)
     }
 
     /// The statements between `begin` and `end`, added to `out`.
     #[cycle(statement)]
-    fn inner(&mut self, depth: usize, out: &mut Vec<Stmt<A>, A>) -> Result<(), ParseFault>
-        ensures { Gives (λ _. stmts_view out.new.items) result
-            (onto (stmts_view out.old.items)
-            (reads.then_mark Mark.End (reads.list (reads.statement depth) (tokens self.old.rest.now))))
+    fn inner(&mut self, depth: usize, out: &mut B::Stmts) -> Result<(), ParseFault>
+        ensures { Makes B.wants (λ _. Adds B.is_stmts append out.old out.new) result
+            (reads.then_mark Mark.End (reads.list (reads.statement depth) (tokens self.old.rest.now)))
             (tokens self.new.rest.now) }
     {
         self.list(depth, out)?;

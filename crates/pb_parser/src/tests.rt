@@ -1,21 +1,26 @@
+mod places;
+
 use crate::fault::ParseFault;
 use crate::programs::parse;
-use pb_base::{BinaryOp, UnaryOp};
+use bumpalo::Bump;
+use linked_list_allocator::LocalHeap;
+use pb_base::{BinaryOp, NoMemory, UnaryOp};
 use pb_lexer::lexer::lex;
+use pb_lexer::token::Token;
 use pb_tree::{Demand, Expr, Name, Number, Process, Program, Resource, Stmt};
 use std::alloc::Global;
 use std::test::Fail;
 
 type Statements = Vec<Stmt<Global>, Global>;
 
-fn name(alloc: Global, text: &[u8], at: usize) -> Result<Name<Global>, ParseFault> {
+fn name(alloc: Global, text: &[u8], at: usize) -> Result<Name<Global>, NoMemory> {
     Ok(Name {
         text: Vec::from_slice(alloc, text)?,
         at,
     })
 }
 
-fn variable(alloc: Global, text: &[u8], at: usize) -> Result<Expr<Global>, ParseFault> {
+fn variable(alloc: Global, text: &[u8], at: usize) -> Result<Expr<Global>, NoMemory> {
     Ok(Expr::Variable(name(alloc, text, at)?))
 }
 
@@ -23,7 +28,7 @@ fn number(value: i64, at: usize) -> Expr<Global> {
     Expr::Number(Number { value, at })
 }
 
-fn unary(alloc: Global, op: UnaryOp, operand: Expr<Global>) -> Result<Expr<Global>, ParseFault> {
+fn unary(alloc: Global, op: UnaryOp, operand: Expr<Global>) -> Result<Expr<Global>, NoMemory> {
     Ok(Expr::Unary(op, Box::new(alloc, operand)?))
 }
 
@@ -32,12 +37,12 @@ fn binary(
     op: BinaryOp,
     left: Expr<Global>,
     right: Expr<Global>,
-) -> Result<Expr<Global>, ParseFault> {
+) -> Result<Expr<Global>, NoMemory> {
     let left = Box::new(alloc, left)?;
     Ok(Expr::Binary(op, left, Box::new(alloc, right)?))
 }
 
-fn one(alloc: Global, stmt: Stmt<Global>) -> Result<Statements, ParseFault> {
+fn one(alloc: Global, stmt: Stmt<Global>) -> Result<Statements, NoMemory> {
     let mut list = Vec::new(alloc);
     list.push(stmt)?;
     Ok(list)
@@ -55,7 +60,7 @@ end
 process q begin if a > b then skip fi; print a = b end
 ";
 
-fn resources(alloc: Global) -> Result<Vec<Resource<Global>, Global>, ParseFault> {
+fn resources(alloc: Global) -> Result<Vec<Resource<Global>, Global>, NoMemory> {
     let mut resources = Vec::new(alloc);
     resources.push(Resource {
         name: name(alloc, b"r", 9)?,
@@ -69,7 +74,7 @@ fn resources(alloc: Global) -> Result<Vec<Resource<Global>, Global>, ParseFault>
 }
 
 // a := 1 - 2 * -3 div b mod 4 + (5)
-fn assignment(alloc: Global) -> Result<Stmt<Global>, ParseFault> {
+fn assignment(alloc: Global) -> Result<Stmt<Global>, NoMemory> {
     let minus = unary(alloc, UnaryOp::Negate, number(3, 80))?;
     let product = binary(alloc, BinaryOp::Multiply, number(2, 75), minus)?;
     let quotient = binary(
@@ -89,7 +94,7 @@ fn assignment(alloc: Global) -> Result<Stmt<Global>, ParseFault> {
 }
 
 // if not a < b and b >= 2 or a <> b then print a else skip; print b fi
-fn choice(alloc: Global) -> Result<Stmt<Global>, ParseFault> {
+fn choice(alloc: Global) -> Result<Stmt<Global>, NoMemory> {
     let a = variable(alloc, b"a", 110)?;
     let less = binary(alloc, BinaryOp::Less, a, variable(alloc, b"b", 114)?)?;
     let not_less = unary(alloc, UnaryOp::Not, less)?;
@@ -112,7 +117,7 @@ fn choice(alloc: Global) -> Result<Stmt<Global>, ParseFault> {
 }
 
 // while a <= 1 do begin a := 2; skip end od
-fn repetition(alloc: Global) -> Result<Stmt<Global>, ParseFault> {
+fn repetition(alloc: Global) -> Result<Stmt<Global>, NoMemory> {
     let a = variable(alloc, b"a", 181)?;
     let test = binary(alloc, BinaryOp::AtMost, a, number(1, 186))?;
     let assign = Stmt::Assign {
@@ -128,7 +133,7 @@ fn repetition(alloc: Global) -> Result<Stmt<Global>, ParseFault> {
 }
 
 // hold 1 of r, 2 of s do parbegin print 3; begin skip; print 4 end; skip parend od
-fn held(alloc: Global) -> Result<Stmt<Global>, ParseFault> {
+fn held(alloc: Global) -> Result<Stmt<Global>, NoMemory> {
     let mut demands = Vec::new(alloc);
     demands.push(Demand {
         amount: Number { value: 1, at: 225 },
@@ -151,7 +156,7 @@ fn held(alloc: Global) -> Result<Stmt<Global>, ParseFault> {
     })
 }
 
-fn first_process(alloc: Global) -> Result<Process<Global>, ParseFault> {
+fn first_process(alloc: Global) -> Result<Process<Global>, NoMemory> {
     let mut integers = Vec::new(alloc);
     integers.push(name(alloc, b"a", 58)?)?;
     integers.push(name(alloc, b"b", 61)?)?;
@@ -166,7 +171,7 @@ fn first_process(alloc: Global) -> Result<Process<Global>, ParseFault> {
     })
 }
 
-fn second_process(alloc: Global) -> Result<Process<Global>, ParseFault> {
+fn second_process(alloc: Global) -> Result<Process<Global>, NoMemory> {
     let a = variable(alloc, b"a", 324)?;
     let test = binary(alloc, BinaryOp::Greater, a, variable(alloc, b"b", 328)?)?;
     let mut body = one(
@@ -188,7 +193,7 @@ fn second_process(alloc: Global) -> Result<Process<Global>, ParseFault> {
     })
 }
 
-fn expected(alloc: Global) -> Result<Program<Global>, ParseFault> {
+fn expected(alloc: Global) -> Result<Program<Global>, NoMemory> {
     let mut processes = Vec::new(alloc);
     processes.push(first_process(alloc)?)?;
     processes.push(second_process(alloc)?)?;
@@ -209,10 +214,10 @@ fn reads_all_of_the_grammar(rt: HostRuntime) -> Result<(), Fail> {
     Ok(())
 }
 
-/// The fault of a text that has tokens.
+/// The fault of a text, which has tokens.
 fn fault(alloc: Global, text: &[u8]) -> Option<ParseFault> {
     let Ok(tokens) = lex(alloc, text) else {
-        return None;
+        return Some(ParseFault::NoMemory);
     };
     match parse(alloc, tokens.as_slice()) {
         Ok(_) => None,
@@ -252,6 +257,52 @@ fn names_the_place_of_a_syntax_error(rt: HostRuntime) -> Result<(), Fail> {
     Ok(())
 }
 
+/// The text with blanks in place of the token.
+fn left_out(alloc: Global, token: &Token<'_>) -> Result<Vec<u8, Global>, NoMemory> {
+    let mut text = Vec::new(alloc);
+    for (at, byte) in places::TEXT.iter().enumerate() {
+        let inside = token.start() <= at && at < token.end();
+        text.push(if inside { b' ' } else { *byte })?;
+    }
+    Ok(text)
+}
+
+/// The text with the token twice, and a blank between.
+fn twice(alloc: Global, token: &Token<'_>) -> Result<Vec<u8, Global>, NoMemory> {
+    let mut text = Vec::new(alloc);
+    for (at, byte) in places::TEXT.iter().enumerate() {
+        if at == token.end() {
+            text.push(b' ')?;
+            text.extend_from_slice(token.text())?;
+        }
+        text.push(*byte)?;
+    }
+    Ok(text)
+}
+
+fn expected_fault(place: usize) -> Option<ParseFault> {
+    if place == places::FINE {
+        None
+    } else {
+        Some(ParseFault::Syntax(place))
+    }
+}
+
+#[test]
+fn finds_the_first_token_that_is_wrong(rt: HostRuntime) -> Result<(), Fail> {
+    let alloc = rt.alloc();
+    assert_eq!(rt; fault(alloc, places::TEXT), None);
+    let tokens = lex(alloc, places::TEXT)?;
+    assert_eq!(rt; tokens.len(), places::PLACES.len());
+    for (token, places) in tokens.iter().zip(places::PLACES.iter()) {
+        let text = left_out(alloc, token)?;
+        assert_eq!(rt; fault(alloc, text.as_slice()), expected_fault(places[0]));
+        let text = twice(alloc, token)?;
+        assert_eq!(rt; fault(alloc, text.as_slice()), expected_fault(places[1]));
+    }
+    Ok(())
+}
+
 /// A text of a head, a piece so many times, and a tail.
 fn repeated(
     alloc: Global,
@@ -259,7 +310,7 @@ fn repeated(
     piece: &[u8],
     count: usize,
     tail: &[u8],
-) -> Result<Vec<u8, Global>, ParseFault> {
+) -> Result<Vec<u8, Global>, NoMemory> {
     let mut text = Vec::from_slice(alloc, head)?;
     for _ in 0..count {
         text.extend_from_slice(piece)?;
@@ -295,5 +346,48 @@ fn keeps_the_limits_of_the_tree(rt: HostRuntime) -> Result<(), Fail> {
     assert_eq!(rt; fault(alloc, text.as_slice()), None);
     let text = repeated(alloc, b"process p begin ", b"x:=1;", 8191, b"x:=1 end")?;
     assert_eq!(rt; fault(alloc, text.as_slice()), Some(ParseFault::TooLarge));
+    Ok(())
+}
+
+#[test]
+fn takes_the_room_of_the_allocator(rt: HostRuntime) -> Result<(), Fail> {
+    let alloc = rt.alloc();
+    let tokens = lex(alloc, TEXT)?;
+    let global = parse(alloc, tokens.as_slice())?;
+    let bump = Bump::new(alloc);
+    let empty = bump.allocated_bytes();
+    let arena = parse(&bump, tokens.as_slice())?;
+    assert!(rt; bump.allocated_bytes() > empty);
+    let heap = LocalHeap::new(alloc, 1_048_576)?;
+    assert_eq!(rt; heap.used(), 0);
+    let fixed = parse(&heap, tokens.as_slice())?;
+    // Each of the 52 nodes takes more than eight bytes.
+    assert!(rt; heap.used() > 8 * 52);
+    assert!(rt; global.same(&arena));
+    assert!(rt; arena.same(&fixed));
+    drop(fixed);
+    assert_eq!(rt; heap.used(), 0);
+    // Too little room.
+    let small = LocalHeap::new(alloc, 1_024)?;
+    assert!(rt; matches!(parse(&small, tokens.as_slice()), Err(ParseFault::NoMemory)));
+    assert_eq!(rt; small.used(), 0);
+    Ok(())
+}
+
+#[test]
+fn takes_no_room_where_it_refuses(rt: HostRuntime) -> Result<(), Fail> {
+    let alloc = rt.alloc();
+    let none = LocalHeap::new(alloc, 64)?;
+    let text = repeated(alloc, b"process p begin ", b"x:=1;", 8_191, b"x:=1 end")?;
+    let tokens = lex(alloc, text.as_slice())?;
+    assert!(rt; matches!(parse(&none, tokens.as_slice()), Err(ParseFault::TooLarge)));
+    let text = repeated(alloc, b"process p begin print 1", b"+1", 32_000, b" end")?;
+    let tokens = lex(alloc, text.as_slice())?;
+    assert!(rt; matches!(parse(&none, tokens.as_slice()), Err(ParseFault::TooDeep)));
+    let text = repeated(alloc, b"process p begin ", b"x:=1;", 8_000, b" end")?;
+    let tokens = lex(alloc, text.as_slice())?;
+    assert!(rt; matches!(parse(&none, tokens.as_slice()), Err(ParseFault::Syntax(_))));
+    let tokens = lex(alloc, b"process p begin print 1 end")?;
+    assert!(rt; matches!(parse(&none, tokens.as_slice()), Err(ParseFault::NoMemory)));
     Ok(())
 }

@@ -1,9 +1,8 @@
 use Rattle.std.proofs.Common.{length, ◌+◌, ◌*◌}
 use Rattle.pb_lexer.specs.Tokens.{tokens}
-use Rattle.pb_tree.specs.View.{expr_view}
 use Rattle.pb_parser.specs.Reader.{chain}
 use Rattle.pb_parser.specs.ExpressionReader.{joins, of_level, expression, looseness}
-use Rattle.pb_parser.proofs.Chains.{InChain}
+use Rattle.pb_parser.proofs.Loops.{InLoop}
 use Rattle.pb_parser.proofs.parser.Parser.+expression.Given as goal
 
 -- Sixteen for each bracket that may still open, and less for each step towards a tighter level.
@@ -30,7 +29,7 @@ decreases-primary g l = 16 * l.depth + 1
 
 abbrev pub invariant-chain-loop-op : goal.invariant-chain-loop-op
 invariant-chain-loop-op g l =
-    InChain (joins l.level) (of_level (expression l.depth) l.part) (expr_view l.left) (tokens l.self.rest.now)
+    InLoop (g.B.Builder.is_expr l.left) (joins l.level) (of_level (expression l.depth) l.part) (tokens l.self.rest.now)
     (chain (joins l.level) (of_level (expression l.depth) l.part) (tokens l.fn.self.rest.now))
 
 abbrev pub decreases-chain-loop-op : goal.decreases-chain-loop-op

@@ -1,102 +1,136 @@
-use Rattle.std.proofs.Common.{◌≡◌, ◌∷◌, ◌∙◌, ◌-◌, suc, length, ap, sym, arith}
+use Rattle.std.proofs.Common.{◌≡◌, ◌∷◌, ◌∙◌, ◌-◌, suc, length, ap, sym, subst, refl, arith}
 use Rattle.std.proofs.lemmas.Result.{err_from_is_err_and}
+use Rattle.pb_lexer.specs.declared.token.Mark.TheVariants as mark
 use Rattle.pb_lexer.specs.Tokens.{token, tokens}
-use Rattle.pb_tree.specs.View.{stmts_view, arms_view}
-use Rattle.pb_parser.specs.StatementReader.{onto, statement, statement_by}
-use Rattle.pb_parser.proofs.Chains.{fails_through}
-use Rattle.pb_parser.proofs.Loops.{onto_nothing, pushed, choice_open, choice_steps, holding_steps, list_refused, list_enter, list_more, list_fail, list_leave, statement_shorter, arms_refused, arms_enter, arms_more, arms_fail, arms_leave, statement_first, statement_none, statement_zero, skip_given}
+use Rattle.pb_tree.specs.Syntax.{no_stmt, no_arm}
+use Rattle.pb_parser.specs.Lists.{append, append_arms, single_arm}
+use Rattle.pb_parser.specs.StatementReader.{statement, statement_by, an_arm}
+use Rattle.pb_parser.proofs.Chains.{fails_through, fails_through_plain}
+use Rattle.pb_parser.proofs.Loops.{loop_more, loop_fails, loop_leaves, adds_more, stmts_assoc, append_empty, arm_refused, statement_shorter, statement_first, statement_none, statement_zero}
+use Rattle.pb_parser.proofs.Steps.{choice_steps, choice_open, looping_steps, holding_steps, list_enter, list_refused, arm_found, arms_enter, arms_refused}
 use Rattle.pb_parser.proofs.parser.Parser.+statement.Goals as goal
 
 pub arms-returns-in_err-statement : goal.arms-returns-in_err-statement
 arms-returns-in_err-statement g t c =
     let p = err_from_is_err_and c.from_residual-in_err-statement.result c.from_residual-in_err-statement.ensures.1 in
-    rw (p.1, p.2) (fails_through _ c.in_err-statement.ensures (arms_refused _ _ _))
+    rw (p.1, p.2) (fails_through g.B.Builder.wants _ c.in_err-statement.ensures (arms_refused _ _))
 
 pub arms-loop-self-init : goal.arms-loop-self-init
 arms-loop-self-init g t c =
-    arms_enter _ _ _ _ _ _ _ (ap stmts_view c.new-body.ensures.items) c.in_ok-statement.ensures (ap arms_view c.new-found.ensures.items) c.in_ok-push_arm.ensures
+    let f = c.in_ok-statement.ensures in
+    arms_enter _ _ _ f.syntax f.found
+    (c.in_ok-add_arm.ensures.made f.syntax (f.same no_stmt c.in_ok-body.ensures.made) no_arm c.in_ok-found.ensures.made)
 
 pub arms-returns-in_err-statement-2 : goal.arms-returns-in_err-statement-2
 arms-returns-in_err-statement-2 g t c =
     let p = err_from_is_err_and c.from_residual-in_err-statement-2.result c.from_residual-in_err-statement-2.ensures.1 in
-    rw (p.1, p.2) (fails_through _ c.in_err-statement-2.ensures (arms_fail _ _ _ _ _ _ c.loop-self.invariant c.loop-self-test.ensures))
+    rw (p.1, p.2) (fails_through g.B.Builder.wants _ c.in_err-statement-2.ensures
+    (λ none. loop_fails mark.Semicolon append_arms (an_arm (statement c.args.depth)) _ _ _ c.loop-self.invariant c.loop-self-test.ensures (arm_refused _ _ none)))
 
 pub arms-loop-self-smaller : goal.arms-loop-self-smaller
 arms-loop-self-smaller g t c =
     let taken = c.loop-self-test.ensures in
     let e = ap length taken.1 in
-    let less = statement_shorter _ _ _ _ _ c.in_ok-statement-2.ensures in
+    let less = statement_shorter _ _ _ _ c.in_ok-statement-2.ensures.found in
     omega (arith, e, less)
 
 pub arms-loop-self-preserved : goal.arms-loop-self-preserved
 arms-loop-self-preserved g t c =
-    arms_more _ _ _ _ _ _ _ _ _ c.loop-self.invariant c.loop-self-test.ensures (ap stmts_view c.new-another.ensures.items)
-    c.in_ok-statement-2.ensures c.in_ok-push_arm-2.ensures
+    let f = c.in_ok-statement-2.ensures in
+    let body = f.same no_stmt c.in_ok-another.ensures.made in
+    loop_more mark.Semicolon append_arms (an_arm (statement c.args.depth)) _ _ _ _ (single_arm f.syntax) c.loop-self.invariant c.loop-self-test.ensures
+    (arm_found _ _ _ f.syntax f.found) (statement_shorter _ _ _ f.syntax f.found) (c.in_ok-add_arm-2.ensures.made f.syntax body)
 
 pub arms-returns : goal.arms-returns
-arms-returns g t c = arms_leave _ _ _ _ _ c.loop-self.invariant c.loop-self-test.ensures
-
-pub body-returns-in_err-list : goal.body-returns-in_err-list
-body-returns-in_err-list g t c =
-    let p = err_from_is_err_and c.from_residual-in_err-list.result c.from_residual-in_err-list.ensures.1 in
-    rw (p.1, p.2) (fails_through _ c.in_err-list.ensures (λ none. sym (onto_nothing _ _ (ap stmts_view c.new-out.ensures.items)) ∙ none))
+arms-returns g t c = loop_leaves mark.Semicolon append_arms (an_arm (statement c.args.depth)) _ _ _ c.loop-self.invariant c.loop-self-test.ensures
 
 pub body-returns : goal.body-returns
-body-returns g t c = sym (onto_nothing _ _ (ap stmts_view c.new-out.ensures.items)) ∙ c.in_ok-list.ensures
+body-returns g t c =
+    let f = c.in_ok-list.ensures in
+    record { syntax = f.syntax; found = f.found; same = f.same no_stmt c.in_ok-out.ensures.made }
 
 pub choice-returns-in_err-expect-2 : goal.choice-returns-in_err-expect-2
 choice-returns-in_err-expect-2 g t c =
     let p = err_from_is_err_and c.from_residual-in_err-expect-2.result c.from_residual-in_err-expect-2.ensures.1 in
-    rw (p.1, p.2) (fails_through _ c.in_err-expect-2.ensures (choice_open _ _ _ _ _ _ _ _ _ _ _ _
-    c.in_ok-test.ensures c.in_ok-expect.ensures c.in_ok-on_true.ensures c.in_ok-on_false.ensures))
+    rw (p.1, p.2) (fails_through_plain g.B.Builder.wants _ c.in_err-expect-2.ensures (choice_open _ _ _ _ _ _ _ _ _ _ _
+    c.in_ok-test.ensures.found c.in_ok-expect.ensures c.in_ok-on_true.ensures.found c.in_ok-on_false.ensures.found))
 
 pub choice-returns : goal.choice-returns
 choice-returns g t c =
-    pushed c.push.result _ _ _ _ _ _ c.push.ensures c.choice.ensures (choice_steps _ _ _ _ _ _ _ _ _ _ _ _
-    c.in_ok-test.ensures c.in_ok-expect.ensures c.in_ok-on_true.ensures c.in_ok-on_false.ensures c.in_ok-expect-2.ensures)
+    let e = c.in_ok-test.ensures in
+    let a = c.in_ok-on_true.ensures in
+    let b = c.in_ok-on_false.ensures in
+    record {
+      syntax = _;
+      found = choice_steps _ _ _ _ _ _ _ _ _ e.syntax a.syntax b.syntax e.found c.in_ok-expect.ensures a.found b.found c.in_ok-expect-2.ensures;
+      same = c.in_ok-choice.ensures.made e.syntax a.syntax b.syntax e.same a.same b.same;
+    }
+
+pub looping-returns : goal.looping-returns
+looping-returns g t c =
+    let e = c.in_ok-test.ensures in
+    let a = c.in_ok-body.ensures in
+    record {
+      syntax = _;
+      found = looping_steps _ _ _ _ _ _ _ _ e.syntax a.syntax e.found c.in_ok-expect.ensures a.found c.in_ok-expect-2.ensures;
+      same = c.in_ok-repeat.ensures.made e.syntax a.syntax e.same a.same;
+    }
 
 pub holding-returns : goal.holding-returns
 holding-returns g t c =
-    pushed c.push.result _ _ _ _ _ _ c.push.ensures c.holding.ensures (holding_steps _ _ _ _ _ _ _ _ _
-    c.in_ok-demands.ensures c.in_ok-expect.ensures c.in_ok-body.ensures c.in_ok-expect-2.ensures)
+    let ds = c.in_ok-demands.ensures in
+    let a = c.in_ok-body.ensures in
+    record {
+      syntax = _;
+      found = holding_steps _ _ _ _ _ _ _ ds.syntax a.syntax ds.found c.in_ok-expect.ensures a.found c.in_ok-expect-2.ensures;
+      same = c.in_ok-hold.ensures.made ds.syntax a.syntax ds.same a.same;
+    }
+
+pub forking-returns : goal.forking-returns
+forking-returns g t c =
+    let a = c.in_ok-arms.ensures in
+    record { syntax = _; found = rw (a.found, c.in_ok-expect.ensures) refl; same = c.in_ok-fork.ensures.made a.syntax a.same }
 
 pub list-returns-in_err-statement : goal.list-returns-in_err-statement
 list-returns-in_err-statement g t c =
     let p = err_from_is_err_and c.from_residual.result c.from_residual.ensures.1 in
-    rw (p.1, p.2) (fails_through _ c.in_err-statement.ensures (list_refused _ _ _))
+    rw (p.1, p.2) (fails_through g.B.Builder.wants _ c.in_err-statement.ensures (list_refused _ _))
 
 pub list-loop-self-init : goal.list-loop-self-init
-list-loop-self-init g t c = list_enter _ _ _ _ _ c.in_ok-statement.ensures
+list-loop-self-init g t c = let f = c.in_ok-statement.ensures in list_enter _ _ _ f.syntax f.found f.same
 
 pub list-loop-self-smaller : goal.list-loop-self-smaller
 list-loop-self-smaller g t c =
     let taken = c.loop-self-test.ensures in
     let e = ap length taken.1 in
-    let less = statement_shorter _ _ _ _ _ c.in_ok-statement-2.ensures in
+    let less = statement_shorter _ _ _ _ c.in_ok-statement-2.ensures.found in
     omega (arith, e, less)
 
 pub list-loop-self-preserved : goal.list-loop-self-preserved
-list-loop-self-preserved g t c = list_more _ _ _ _ _ _ _ c.loop-self.invariant c.loop-self-test.ensures c.in_ok-statement-2.ensures
+list-loop-self-preserved g t c =
+    let f = c.in_ok-statement-2.ensures in
+    loop_more mark.Semicolon append (statement c.args.depth) _ _ _ _ f.syntax c.loop-self.invariant c.loop-self-test.ensures f.found
+    (statement_shorter _ _ _ f.syntax f.found) (λ a h. adds_more g.B.Builder.is_stmts append stmts_assoc _ _ _ a f.syntax h f.same)
 
 pub list-returns-in_err-statement-2 : goal.list-returns-in_err-statement-2
 list-returns-in_err-statement-2 g t c =
     let p = err_from_is_err_and c.from_residual-in_err-statement-2.result c.from_residual-in_err-statement-2.ensures.1 in
-    rw (p.1, p.2) (fails_through _ c.in_err-statement-2.ensures (list_fail _ _ _ _ _ c.loop-self.invariant c.loop-self-test.ensures))
+    rw (p.1, p.2) (fails_through g.B.Builder.wants _ c.in_err-statement-2.ensures
+    (λ none. loop_fails mark.Semicolon append (statement c.args.depth) _ _ _ c.loop-self.invariant c.loop-self-test.ensures none))
 
 pub list-returns : goal.list-returns
-list-returns g t c = list_leave _ _ _ _ _ c.loop-self.invariant c.loop-self-test.ensures
+list-returns g t c = loop_leaves mark.Semicolon append (statement c.args.depth) _ _ _ c.loop-self.invariant c.loop-self-test.ensures
 
 pub after_first-returns-in-Mark-Skip : goal.after_first-returns-in-Mark-Skip
 after_first-returns-in-Mark-Skip g t c =
     let s = rw c.in-Mark-Skip.is at c.in-Mark-Skip.field-0-is in
-    skip_given _ _ (token c.args.first) _ _ _ _ _ c.in-Mark-Skip.is s
+    record { syntax = no_stmt; found = rw (c.in-Mark-Skip.is, s) refl; same = λ before h. subst (g.B.Builder.is_stmts _) (sym (append_empty before)) h }
 
 pub statement-returns-then-depth-eq0 : goal.statement-returns-then-depth-eq0
-statement-returns-then-depth-eq0 g t c = rw c.fault.ensures.1 (ap (onto (stmts_view c.args.out.now.items)) (statement_zero c.args.depth _ c.if-depth-eq0.true))
+statement-returns-then-depth-eq0 g t c = rw c.fault.ensures.1 (statement_zero c.args.depth _ c.if-depth-eq0.true)
 
 pub statement-returns-in_default : goal.statement-returns-in_default
-statement-returns-in_default g t c =
-    rw c.fault-in_default.ensures.1 (ap (onto (stmts_view c.args.out.now.items)) (statement_none c.args.depth _ c.in_default.ensures))
+statement-returns-in_default g t c = rw c.fault-in_default.ensures.1 (statement_none c.args.depth _ c.in_default.ensures)
 
 pub statement-returns : goal.statement-returns
 statement-returns g t c =

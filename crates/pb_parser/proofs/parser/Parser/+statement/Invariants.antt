@@ -1,10 +1,10 @@
 use Rattle.std.proofs.Common.{length, ◌+◌, ◌*◌}
 use Rattle.pb_lexer.specs.declared.token.Mark.TheVariants as mark
 use Rattle.pb_lexer.specs.Tokens.{tokens}
-use Rattle.pb_tree.specs.View.{stmts_view, arms_view}
 use Rattle.pb_parser.specs.Lists.{append, append_arms}
-use Rattle.pb_parser.specs.StatementReader.{between, statement, list, an_arm, arms, onto}
-use Rattle.pb_parser.proofs.Chains.{InChain}
+use Rattle.pb_parser.specs.StatementReader.{between, statement, list, an_arm, arms}
+use Rattle.pb_parser.specs.Making.{Adds}
+use Rattle.pb_parser.proofs.Loops.{InLoop}
 use Rattle.pb_parser.proofs.parser.Parser.+statement.Given as goal
 
 -- Eight for each statement that may still begin in another, and less for each step towards the next.
@@ -43,15 +43,15 @@ decreases-after_first g l = 8 * l.depth + 5
 
 abbrev pub invariant-list-loop-self : goal.invariant-list-loop-self
 invariant-list-loop-self g l =
-    InChain (between mark.Semicolon append) (statement l.depth) (stmts_view l.out.items) (tokens l.self.rest.now)
-    (onto (stmts_view l.fn.out.items) (list (statement l.depth) (tokens l.fn.self.rest.now)))
+    InLoop (Adds g.B.Builder.is_stmts append l.fn.out l.out) (between mark.Semicolon append) (statement l.depth) (tokens l.self.rest.now)
+    (list (statement l.depth) (tokens l.fn.self.rest.now))
 
 abbrev pub decreases-list-loop-self : goal.decreases-list-loop-self
 decreases-list-loop-self g l = length (tokens l.self.rest.now)
 
 abbrev pub invariant-arms-loop-self : goal.invariant-arms-loop-self
 invariant-arms-loop-self g l =
-    InChain (between mark.Semicolon append_arms) (an_arm (statement l.depth)) (arms_view l.found.items) (tokens l.self.rest.now)
+    InLoop (g.B.Builder.is_arms l.found) (between mark.Semicolon append_arms) (an_arm (statement l.depth)) (tokens l.self.rest.now)
     (arms (statement l.depth) (tokens l.fn.self.rest.now))
 
 abbrev pub decreases-arms-loop-self : goal.decreases-arms-loop-self

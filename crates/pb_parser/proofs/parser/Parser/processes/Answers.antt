@@ -1,46 +1,47 @@
-use Rattle.std.proofs.Common.{length, ap, arith}
+use Rattle.std.proofs.Common.{[], length, ap, arith}
 use Rattle.std.proofs.lemmas.Result.{err_from_is_err_and}
 use Rattle.pb_lexer.specs.declared.token.Mark.TheVariants as mark
-use Rattle.pb_tree.specs.View.{process_view}
+use Rattle.pb_parser.specs.StatementReader.{concat}
 use Rattle.pb_parser.specs.ProgramReader.{a_process}
-use Rattle.pb_parser.proofs.Chains.{fails_through}
-use Rattle.pb_parser.proofs.Loops.{items_more, items_fail, items_leave}
-use Rattle.pb_parser.proofs.ProgramLaws.{processes_enter, processes_refused, processes_fail, a_process_shorter}
+use Rattle.pb_parser.proofs.Chains.{fails_through, fails_through_plain}
+use Rattle.pb_parser.proofs.Loops.{loop_more, loop_fails, loop_leaves}
+use Rattle.pb_parser.proofs.ProgramLaws.{a_process_shorter}
+use Rattle.pb_parser.proofs.Steps.{processes_enter, processes_refused, processes_fail}
 use Rattle.pb_parser.proofs.parser.Parser.processes.Goals as goal
 
 pub returns-in_err-expect : goal.returns-in_err-expect
 returns-in_err-expect g c =
     let p = err_from_is_err_and c.from_residual-in_err-expect.result c.from_residual-in_err-expect.ensures.1 in
-    rw (p.1, p.2) (fails_through _ c.in_err-expect.ensures (processes_refused _ _))
+    rw (p.1, p.2) (fails_through_plain g.B.Builder.wants _ c.in_err-expect.ensures (processes_refused _ _))
 
-pub returns-in_err-first : goal.returns-in_err-first
-returns-in_err-first g c =
-    let p = err_from_is_err_and c.from_residual-in_err-first.result c.from_residual-in_err-first.ensures.1 in
-    rw (p.1, p.2) (fails_through _ c.in_err-first.ensures (processes_fail c.args.depth _ _ c.in_ok-expect.ensures))
+pub returns-in_err-process : goal.returns-in_err-process
+returns-in_err-process g c =
+    let p = err_from_is_err_and c.from_residual-in_err-process.result c.from_residual-in_err-process.ensures.1 in
+    rw (p.1, p.2) (fails_through g.B.Builder.wants _ c.in_err-process.ensures (processes_fail c.args.depth _ _ c.in_ok-expect.ensures))
 
 pub loop-self-init : goal.loop-self-init
 loop-self-init g c =
-    processes_enter process_view c.args.depth _ _ _ _ _ c.in_ok-first.first c.new-found.ensures.items c.in_ok-push.ensures.items
-    c.in_ok-expect.ensures c.in_ok-first.ensures
+    let f = c.in_ok-process.ensures in
+    processes_enter c.args.depth _ _ _ f.syntax c.in_ok-expect.ensures f.found (f.same [] c.in_ok-found.ensures.made)
 
-pub returns-in_err-another : goal.returns-in_err-another
-returns-in_err-another g c =
-    let p = err_from_is_err_and c.from_residual-in_err-another.result c.from_residual-in_err-another.ensures.1 in
-    rw (p.1, p.2) (fails_through _ c.in_err-another.ensures
-    (λ none. items_fail mark.Process (a_process c.args.depth) _ _ _ _ c.loop-self.invariant c.loop-self-test.ensures none))
+pub returns-in_err-process-2 : goal.returns-in_err-process-2
+returns-in_err-process-2 g c =
+    let p = err_from_is_err_and c.from_residual-in_err-process-2.result c.from_residual-in_err-process-2.ensures.1 in
+    rw (p.1, p.2) (fails_through g.B.Builder.wants _ c.in_err-process-2.ensures
+    (λ none. loop_fails mark.Process concat (a_process c.args.depth) _ _ _ c.loop-self.invariant c.loop-self-test.ensures none))
 
 pub loop-self-smaller : goal.loop-self-smaller
 loop-self-smaller g c =
     let taken = c.loop-self-test.ensures in
     let e = ap length taken.1 in
-    let less = a_process_shorter c.args.depth _ _ _ c.in_ok-another.ensures in
+    let less = a_process_shorter c.args.depth _ _ _ c.in_ok-process-2.ensures.found in
     omega (arith, e, less)
 
 pub loop-self-preserved : goal.loop-self-preserved
 loop-self-preserved g c =
-    let p = c.in_ok-another.ensures in
-    items_more process_view mark.Process (a_process c.args.depth) _ _ _ _ _ c.in_ok-another.another _ c.loop-self.invariant c.loop-self-test.ensures p
-    (a_process_shorter c.args.depth _ _ _ p) c.in_ok-push-2.ensures.items
+    let f = c.in_ok-process-2.ensures in
+    loop_more mark.Process concat (a_process c.args.depth) _ _ _ _ f.syntax c.loop-self.invariant c.loop-self-test.ensures f.found
+    (a_process_shorter c.args.depth _ _ _ f.found) f.same
 
 pub returns : goal.returns
-returns g c = items_leave mark.Process (a_process c.args.depth) _ _ _ _ c.loop-self.invariant c.loop-self-test.ensures
+returns g c = loop_leaves mark.Process concat (a_process c.args.depth) _ _ _ c.loop-self.invariant c.loop-self-test.ensures

@@ -1,0 +1,146 @@
+-- The parts of the parser that take their parts one after the other.
+use Rattle.std.proofs.Common.{◌≡◌, ℕ, List, [], ◌∷◌, Some, refl}
+use Rattle.pb_base.specs.declared.operators.BinaryOp.{BinaryOp}
+use Rattle.pb_lexer.specs.declared.token.Mark.TheVariants as mark
+use Rattle.pb_lexer.specs.Tokens.{Token}
+use Rattle.pb_tree.specs.Syntax as tree
+use Rattle.pb_tree.specs.Syntax.{NameSyntax, ExprSyntax, StmtsSyntax, ArmsSyntax, DemandSyntax, ResourceSyntax, ProcessSyntax, ProgramSyntax}
+use Rattle.pb_parser.specs.declared.level.Level.TheVariants as level
+use Rattle.pb_parser.specs.Lists.{append, append_arms, single, single_arm}
+use Rattle.pb_parser.specs.Reader.{Refused, Found, Part, Stops, expect, ended}
+use Rattle.pb_parser.specs.ExpressionReader.{joins, sum, comparison, related, expression}
+use Rattle.pb_parser.specs.StatementReader.{between, concat, a_name, pairs, a_pair, list, arms, otherwise, choice, looping, holding, statement, an_arm}
+use Rattle.pb_parser.specs.ProgramReader.{one_name, names, a_resource, resources, integers, a_process, processes, program}
+use Rattle.pb_parser.proofs.Chains.{chain_refused}
+use Rattle.pb_parser.proofs.StatementLaws.{arm_read}
+use Rattle.pb_parser.proofs.Loops.{InLoop, loop_enters, loop_begins, arm_refused}
+
+-- ---- expressions
+
+pub comparison_alone : (inner : Part ExprSyntax) (ts mid after : List Token) (a : ExprSyntax) → sum inner ts ≡ Found a mid
+    → after ≡ mid → Stops (joins level.Comparison) mid
+    → comparison inner ts ≡ Found a after
+unfolding comparison related
+comparison_alone inner ts [] after a p e stop = rw (p, e) refl
+comparison_alone inner ts (t ∷ mid) after a p e stop = rw (p, stop, e) refl
+
+pub comparison_both : (inner : Part ExprSyntax) (t : Token) (ts mid us rest : List Token) (op : BinaryOp) (a b : ExprSyntax)
+    → sum inner ts ≡ Found a mid → mid ≡ t ∷ us
+    → joins level.Comparison t.lexeme ≡ Some (tree.binary op) → sum inner us ≡ Found b rest
+    → comparison inner ts ≡ Found (tree.binary op a b) rest
+unfolding comparison related
+comparison_both inner t ts mid us rest op a b p e j q = rw (p, e, j, q) refl
+
+-- ---- statements
+
+pub choice_steps : (d : ℕ) (deeper : Part StmtsSyntax) (line : ℕ) (ts us vs ws xs rest : List Token) (e : ExprSyntax) (a b : StmtsSyntax)
+    → expression d ts ≡ Found e us → expect mark.Then us ≡ Found tt vs → list deeper vs ≡ Found a ws → otherwise deeper ws ≡ Found b xs
+    → expect mark.Fi xs ≡ Found tt rest → choice d deeper line ts ≡ Found (single (tree.if_else line e a b)) rest
+choice_steps d deeper line ts us vs ws xs rest e a b p q r s f = rw (p, q, r, s, f) refl
+
+pub choice_open : (d : ℕ) (deeper : Part StmtsSyntax) (line : ℕ) (ts us vs ws xs : List Token) (e : ExprSyntax) (a b : StmtsSyntax)
+    → expression d ts ≡ Found e us → expect mark.Then us ≡ Found tt vs → list deeper vs ≡ Found a ws → otherwise deeper ws ≡ Found b xs
+    → expect mark.Fi xs ≡ Refused → choice d deeper line ts ≡ Refused
+choice_open d deeper line ts us vs ws xs e a b p q r s f = rw (p, q, r, s, f) refl
+
+pub looping_steps : (d : ℕ) (deeper : Part StmtsSyntax) (line : ℕ) (ts us vs ws rest : List Token) (e : ExprSyntax) (a : StmtsSyntax)
+    → expression d ts ≡ Found e us → expect mark.Do us ≡ Found tt vs → list deeper vs ≡ Found a ws → expect mark.Od ws ≡ Found tt rest
+    → looping d deeper line ts ≡ Found (single (tree.while_do line e a)) rest
+looping_steps d deeper line ts us vs ws rest e a p q r s = rw (p, q, r, s) refl
+
+pub holding_steps : (deeper : Part StmtsSyntax) (line : ℕ) (ts us vs ws rest : List Token) (ps : List DemandSyntax) (a : StmtsSyntax)
+    → pairs ts ≡ Found ps us → expect mark.Do us ≡ Found tt vs → list deeper vs ≡ Found a ws → expect mark.Od ws ≡ Found tt rest
+    → holding deeper line ts ≡ Found (single (tree.hold line ps a)) rest
+holding_steps deeper line ts us vs ws rest ps a p q r s = rw (p, q, r, s) refl
+
+pub pairs_refused : (ts : List Token) → a_pair ts ≡ Refused → pairs ts ≡ Refused
+unfolding pairs
+pairs_refused ts p = chain_refused _ a_pair ts p
+
+pub pairs_enter : {P : List DemandSyntax → Type 0} (ts rest : List Token) (ds : List DemandSyntax) → a_pair ts ≡ Found ds rest → P ds
+    → InLoop P (between mark.Comma concat) a_pair rest (pairs ts)
+unfolding pairs
+pairs_enter ts rest ds p h = loop_enters (between mark.Comma concat) a_pair ts rest ds p h
+
+pub list_enter : {P : StmtsSyntax → Type 0} (d : ℕ) (ts rest : List Token) (a : StmtsSyntax) → statement d ts ≡ Found a rest → P a
+    → InLoop P (between mark.Semicolon append) (statement d) rest (list (statement d) ts)
+unfolding list
+list_enter d ts rest a p h = loop_enters (between mark.Semicolon append) (statement d) ts rest a p h
+
+pub list_refused : (d : ℕ) (ts : List Token) → statement d ts ≡ Refused → list (statement d) ts ≡ Refused
+unfolding list
+list_refused d ts p = chain_refused (between mark.Semicolon append) (statement d) ts p
+
+pub arm_found : (d : ℕ) (ts rest : List Token) (a : StmtsSyntax) → statement d ts ≡ Found a rest
+    → an_arm (statement d) ts ≡ Found (single_arm a) rest
+arm_found d ts rest a p = arm_read (statement d) ts rest a p
+
+pub arms_enter : {P : ArmsSyntax → Type 0} (d : ℕ) (ts rest : List Token) (a : StmtsSyntax) → statement d ts ≡ Found a rest
+    → P (single_arm a)
+    → InLoop P (between mark.Semicolon append_arms) (an_arm (statement d)) rest (arms (statement d) ts)
+unfolding arms
+arms_enter d ts rest a p h = loop_enters (between mark.Semicolon append_arms) (an_arm (statement d)) ts rest (single_arm a) (arm_found d ts rest a p) h
+
+pub arms_refused : (d : ℕ) (ts : List Token) → statement d ts ≡ Refused → arms (statement d) ts ≡ Refused
+unfolding arms
+arms_refused d ts p = chain_refused (between mark.Semicolon append_arms) (an_arm (statement d)) ts (arm_refused d ts p)
+
+-- ---- declarations
+
+pub name_refused : (ts : List Token) → a_name ts ≡ Refused → one_name ts ≡ Refused
+unfolding one_name
+name_refused ts p = rw p refl
+
+pub names_refused : (ts : List Token) → a_name ts ≡ Refused → names ts ≡ Refused
+unfolding names
+names_refused ts p = chain_refused (between mark.Comma concat) one_name ts (name_refused ts p)
+
+pub name_found : (ts rest : List Token) (n : NameSyntax) → a_name ts ≡ Found n rest → one_name ts ≡ Found (n ∷ []) rest
+unfolding one_name
+name_found ts rest n p = rw p refl
+
+pub names_enter : {P : List NameSyntax → Type 0} (ts rest : List Token) (n : NameSyntax) → a_name ts ≡ Found n rest → P (n ∷ [])
+    → InLoop P (between mark.Comma concat) one_name rest (names ts)
+unfolding names
+names_enter ts rest n p h = loop_enters (between mark.Comma concat) one_name ts rest (n ∷ []) (name_found ts rest n p) h
+
+pub resources_enter : {P : List ResourceSyntax → Type 0} (ts : List Token) → P []
+    → InLoop P (between mark.Resource concat) a_resource ts (resources ts)
+unfolding resources
+resources_enter ts h = loop_begins (between mark.Resource concat) a_resource [] ts h
+
+pub processes_enter : {P : List ProcessSyntax → Type 0} (d : ℕ) (ts us rest : List Token) (ps : List ProcessSyntax)
+    → expect mark.Process ts ≡ Found tt us
+    → a_process d us ≡ Found ps rest → P ps → InLoop P (between mark.Process concat) (a_process d) rest (processes d ts)
+unfolding processes
+processes_enter d ts us rest ps e p h = rw e (loop_enters (between mark.Process concat) (a_process d) us rest ps p h)
+
+pub processes_refused : (d : ℕ) (ts : List Token) → expect mark.Process ts ≡ Refused → processes d ts ≡ Refused
+unfolding processes
+processes_refused d ts p = rw p refl
+
+pub processes_fail : (d : ℕ) (ts us : List Token) → expect mark.Process ts ≡ Found tt us → a_process d us ≡ Refused
+    → processes d ts ≡ Refused
+unfolding processes
+processes_fail d ts us first p = rw first (chain_refused (between mark.Process concat) (a_process d) us p)
+
+pub process_steps : (d : ℕ) (ts us vs ws ys rest : List Token) (x : NameSyntax) (xs : List NameSyntax) (a : StmtsSyntax)
+    → a_name ts ≡ Found x us
+    → expect mark.Begin us ≡ Found tt vs → integers vs ≡ Found xs ws → list (statement d) ws ≡ Found a ys
+    → expect mark.End ys ≡ Found tt rest
+    → a_process d ts ≡ Found (record { name = x; integers = xs; body = a } ∷ []) rest
+unfolding a_process
+process_steps d ts us vs ws ys rest x xs a p q r s f = rw (p, q, r, s, f) refl
+
+-- a process that does not end
+pub process_open : (d : ℕ) (ts us vs ws ys : List Token) (x : NameSyntax) (xs : List NameSyntax) (a : StmtsSyntax) → a_name ts ≡ Found x us
+    → expect mark.Begin us ≡ Found tt vs → integers vs ≡ Found xs ws → list (statement d) ws ≡ Found a ys
+    → expect mark.End ys ≡ Refused → a_process d ts ≡ Refused
+unfolding a_process
+process_open d ts us vs ws ys x xs a p q r s f = rw (p, q, r, s, f) refl
+
+pub program_steps : (d : ℕ) (ts us vs : List Token) (rs : List ResourceSyntax) (ps : List ProcessSyntax) → resources ts ≡ Found rs us
+    → processes d us ≡ Found ps vs
+    → ended vs ≡ Found tt vs → program d ts ≡ Found (record { resources = rs; processes = ps }) vs
+unfolding program
+program_steps d ts us vs rs ps p q r = rw (p, q, r) refl

@@ -1,0 +1,36 @@
+-- Private helpers of the proof: what a method of the parser makes of the plain syntax that it reads, where
+-- `is x y` says that `x` was made of the syntax `y`.
+use Rattle.std.specs.Prelude.{◌≡◌, List, Result, Ok, Err}
+use Rattle.pb_lexer.specs.Tokens.{Token}
+use Rattle.pb_parser.specs.declared.fault.ParseFault.{ParseFault}
+use Rattle.pb_parser.specs.declared.fault.ParseFault.TheVariants as fault
+use Rattle.pb_parser.specs.Reader.{Answer, Refused, Found}
+
+-- what a fault says of an answer: the grammar refuses it, or memory ran out, where it may
+abbrev pub Fails : {Y : Type 0} → (wants : Type 0) → ParseFault → Answer Y → Type 0
+Fails wants (fault.Syntax at) answer = answer ≡ Refused
+Fails wants fault.TooDeep answer = ⊥
+Fails wants fault.TooLarge answer = ⊥
+Fails wants fault.NoMemory answer = wants
+
+-- the answer is some syntax of which `x` was made
+pub record Finds {X Y : Type 0} (is : X → Y → Type 0) (x : X) (answer : Answer Y) (rest : List Token)
+    : Type 0 where
+  pub syntax : Y
+  pub found : answer ≡ Found syntax rest
+  pub same : is x syntax
+
+-- the result was made of the answer, unless memory runs out
+abbrev pub Makes : {X Y : Type 0} → (wants : Type 0) → (X → Y → Type 0) → Result X ParseFault → Answer Y
+    → List Token → Type 0
+Makes wants is (Ok x) answer rest = Finds is x answer rest
+Makes wants is (Err e) answer rest = Fails wants e answer
+
+-- `part` comes behind whatever `old` was made of, and so `new` was made
+abbrev pub Adds : {X Y : Type 0} → (X → Y → Type 0) → (Y → Y → Y) → X → X → Y → Type 0
+Adds is join old new part = (before : _) → is old before → is new (join before part)
+
+-- the fact holds, unless memory runs out
+abbrev pub Builds : {X : Type 0} → (wants : Type 0) → Result X ParseFault → Type 0 → Type 0
+Builds wants (Ok x) fact = fact
+Builds wants (Err e) fact = (e ≡ fault.NoMemory) × wants

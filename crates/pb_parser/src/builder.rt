@@ -1,0 +1,227 @@
+//! What the parser makes of what it reads.
+
+ghost use Rattle.std.specs.Prelude.{List, [], ◌∷◌, IfOk, IfErr};
+ghost use Rattle.pb_tree.specs.Syntax as tree;
+ghost use Rattle.pb_tree.specs.Syntax.{NameSyntax, ExprSyntax, DemandSyntax, StmtsSyntax, ArmsSyntax};
+ghost use Rattle.pb_tree.specs.Syntax.{ResourceSyntax, ProcessSyntax, ProgramSyntax};
+ghost use Rattle.pb_tree.specs.View.{number_view};
+ghost use Rattle.pb_parser.specs.Lists.{append, append_arms, single, single_arm};
+ghost use Rattle.pb_parser.specs.StatementReader.{concat};
+ghost use Rattle.pb_parser.specs.Making.{Adds};
+
+use pb_base::{BinaryOp, NoMemory, UnaryOp};
+use pb_tree::Number;
+
+/// What the parser makes of the parts of a program: the parser reads the grammar, and a builder says what
+/// an expression, a list of statements and so on are made into.
+///
+/// Each `is_` says of which plain syntax something was made, and `wants` whether memory may run out.
+pub(crate) trait Builder: Drop {
+    type Expr: Drop;
+
+    type Stmts: Drop;
+
+    type Arms: Drop;
+
+    type Names: Drop;
+
+    type Demands: Drop;
+
+    type Resources: Drop;
+
+    type Processes: Drop;
+
+    type Program: Drop;
+
+    ghost wants: { Type 0 };
+
+    ghost is_expr: { Self.Expr → ExprSyntax → Type 0 };
+
+    ghost is_stmts: { Self.Stmts → StmtsSyntax → Type 0 };
+
+    ghost is_arms: { Self.Arms → ArmsSyntax → Type 0 };
+
+    ghost is_names: { Self.Names → List NameSyntax → Type 0 };
+
+    ghost is_demands: { Self.Demands → List DemandSyntax → Type 0 };
+
+    ghost is_resources: { Self.Resources → List ResourceSyntax → Type 0 };
+
+    ghost is_processes: { Self.Processes → List ProcessSyntax → Type 0 };
+
+    ghost is_program: { Self.Program → ProgramSyntax → Type 0 };
+
+    /// A number as an expression.
+    fn number(&self, number: Number) -> Self::Expr
+        ensures { is_expr result (tree.number (number_view number)) };
+
+    /// A name as an expression.
+    fn variable(&self, text: &[u8], at: usize) -> Result<Self::Expr, NoMemory>
+        ensures made { IfOk result (λ x. is_expr x (tree.variable (record { text = text.now; at = at }))) }
+        ensures fault { IfErr result (λ _. wants) };
+
+    /// An operand behind a prefix operator.
+    fn unary(&self, op: UnaryOp, operand: Self::Expr) -> Result<Self::Expr, NoMemory>
+        ensures made { (e : ExprSyntax) → is_expr operand e → IfOk result (λ x. is_expr x (tree.unary op e)) }
+        ensures fault { IfErr result (λ _. wants) };
+
+    /// Two operands with an operator between them.
+    fn binary(
+        &self,
+        op: BinaryOp,
+        left: Self::Expr,
+        right: Self::Expr,
+    ) -> Result<Self::Expr, NoMemory>
+        ensures made { (a b : ExprSyntax) → is_expr left a → is_expr right b
+            → IfOk result (λ x. is_expr x (tree.binary op a b)) }
+        ensures fault { IfErr result (λ _. wants) };
+
+    /// No statement.
+    fn no_stmts(&self) -> Result<Self::Stmts, NoMemory>
+        ensures made { IfOk result (λ x. is_stmts x tree.no_stmt) }
+        ensures fault { IfErr result (λ _. wants) };
+
+    /// One more statement, an assignment.
+    fn assign(
+        &self,
+        out: &mut Self::Stmts,
+        line: u32,
+        text: &[u8],
+        at: usize,
+        value: Self::Expr,
+    ) -> Result<(), NoMemory>
+        ensures made { (e : ExprSyntax) → is_expr value e
+            → IfOk result (λ _. Adds is_stmts append out.old out.new
+            (single (tree.assign line (record { text = text.now; at = at }) e))) }
+        ensures fault { IfErr result (λ _. wants) };
+
+    /// One more statement, which prints.
+    fn print(&self, out: &mut Self::Stmts, line: u32, value: Self::Expr) -> Result<(), NoMemory>
+        ensures made { (e : ExprSyntax) → is_expr value e
+            → IfOk result (λ _. Adds is_stmts append out.old out.new (single (tree.print line e))) }
+        ensures fault { IfErr result (λ _. wants) };
+
+    /// One more statement, a choice between two lists.
+    fn choice(
+        &self,
+        out: &mut Self::Stmts,
+        line: u32,
+        test: Self::Expr,
+        on_true: Self::Stmts,
+        on_false: Self::Stmts,
+    ) -> Result<(), NoMemory>
+        ensures made { (e : ExprSyntax) (a b : StmtsSyntax)
+            → is_expr test e → is_stmts on_true a → is_stmts on_false b
+            → IfOk result (λ _. Adds is_stmts append out.old out.new (single (tree.if_else line e a b))) }
+        ensures fault { IfErr result (λ _. wants) };
+
+    /// One more statement, a loop.
+    fn repeat(
+        &self,
+        out: &mut Self::Stmts,
+        line: u32,
+        test: Self::Expr,
+        body: Self::Stmts,
+    ) -> Result<(), NoMemory>
+        ensures made { (e : ExprSyntax) (a : StmtsSyntax) → is_expr test e → is_stmts body a
+            → IfOk result (λ _. Adds is_stmts append out.old out.new (single (tree.while_do line e a))) }
+        ensures fault { IfErr result (λ _. wants) };
+
+    /// One more statement, which holds resources.
+    fn hold(
+        &self,
+        out: &mut Self::Stmts,
+        line: u32,
+        demands: Self::Demands,
+        body: Self::Stmts,
+    ) -> Result<(), NoMemory>
+        ensures made { (ds : List DemandSyntax) (a : StmtsSyntax) → is_demands demands ds → is_stmts body a
+            → IfOk result (λ _. Adds is_stmts append out.old out.new (single (tree.hold line ds a))) }
+        ensures fault { IfErr result (λ _. wants) };
+
+    /// One more statement, whose arms run side by side.
+    fn fork(&self, out: &mut Self::Stmts, line: u32, arms: Self::Arms) -> Result<(), NoMemory>
+        ensures made { (a : ArmsSyntax) → is_arms arms a
+            → IfOk result (λ _. Adds is_stmts append out.old out.new (single (tree.parbegin line a))) }
+        ensures fault { IfErr result (λ _. wants) };
+
+    /// No arm.
+    fn no_arms(&self) -> Result<Self::Arms, NoMemory>
+        ensures made { IfOk result (λ x. is_arms x tree.no_arm) }
+        ensures fault { IfErr result (λ _. wants) };
+
+    /// One more arm.
+    fn add_arm(&self, out: &mut Self::Arms, body: Self::Stmts) -> Result<(), NoMemory>
+        ensures made { (a : StmtsSyntax) → is_stmts body a
+            → IfOk result (λ _. Adds is_arms append_arms out.old out.new (single_arm a)) }
+        ensures fault { IfErr result (λ _. wants) };
+
+    /// No demand.
+    fn no_demands(&self) -> Result<Self::Demands, NoMemory>
+        ensures made { IfOk result (λ x. is_demands x []) }
+        ensures fault { IfErr result (λ _. wants) };
+
+    /// One more demand, of so much of the resource of this name.
+    fn add_demand(
+        &self,
+        out: &mut Self::Demands,
+        amount: Number,
+        text: &[u8],
+        at: usize,
+    ) -> Result<(), NoMemory>
+        ensures made { IfOk result (λ _. Adds is_demands concat out.old out.new
+            (record { amount = number_view amount; resource = record { text = text.now; at = at } } ∷ [])) }
+        ensures fault { IfErr result (λ _. wants) };
+
+    /// No name.
+    fn no_names(&self) -> Result<Self::Names, NoMemory>
+        ensures made { IfOk result (λ x. is_names x []) }
+        ensures fault { IfErr result (λ _. wants) };
+
+    /// One more name.
+    fn add_name(&self, out: &mut Self::Names, text: &[u8], at: usize) -> Result<(), NoMemory>
+        ensures made { IfOk result (λ _. Adds is_names concat out.old out.new
+            (record { text = text.now; at = at } ∷ [])) }
+        ensures fault { IfErr result (λ _. wants) };
+
+    /// No resource.
+    fn no_resources(&self) -> Result<Self::Resources, NoMemory>
+        ensures made { IfOk result (λ x. is_resources x []) }
+        ensures fault { IfErr result (λ _. wants) };
+
+    /// One more resource, of this name and with so much of it.
+    fn add_resource(
+        &self,
+        out: &mut Self::Resources,
+        text: &[u8],
+        at: usize,
+        capital: Number,
+    ) -> Result<(), NoMemory>
+        ensures made { IfOk result (λ _. Adds is_resources concat out.old out.new
+            (record { name = record { text = text.now; at = at }; capital = number_view capital } ∷ [])) }
+        ensures fault { IfErr result (λ _. wants) };
+
+    /// No process.
+    fn no_processes(&self) -> Result<Self::Processes, NoMemory>
+        ensures made { IfOk result (λ x. is_processes x []) }
+        ensures fault { IfErr result (λ _. wants) };
+
+    /// One more process, of this name, with its integers and statements.
+    fn add_process(
+        &self,
+        out: &mut Self::Processes,
+        text: &[u8],
+        at: usize,
+        integers: Self::Names,
+        body: Self::Stmts,
+    ) -> Result<(), NoMemory>
+        ensures made { (xs : List NameSyntax) (a : StmtsSyntax) → is_names integers xs → is_stmts body a
+            → IfOk result (λ _. Adds is_processes concat out.old out.new
+            (record { name = record { text = text.now; at = at }; integers = xs; body = a } ∷ [])) }
+        ensures fault { IfErr result (λ _. wants) };
+
+    /// A program of these resources and processes.
+    fn program(&self, resources: Self::Resources, processes: Self::Processes) -> Self::Program
+        ensures { (rs : List ResourceSyntax) (ps : List ProcessSyntax) → is_resources resources rs
+            → is_processes processes ps → is_program result (record { resources = rs; processes = ps }) };
+}
