@@ -24,11 +24,11 @@ amount_in-more pairs i r pair at =
 
 pub amount_of_pair-same : (r : ℕ) (pair : Pair) → pair.resource ≡ r → amount_of_pair r pair ≡ pair.amount
 amount_of_pair-same r pair same =
-    elim (eqb_tells pair.resource r) [ | inl e ↦ rw e.0 refl | inr e ↦ absurd (e.1 same) ]
+    elim (eqb_tells pair.resource r) [ inl e ↦ rw e.0 refl | inr e ↦ absurd (e.1 same) ]
 
 pub amount_of_pair-other : (r : ℕ) (pair : Pair) → pair.resource ≢ r → amount_of_pair r pair ≡ 0
 amount_of_pair-other r pair other =
-    elim (eqb_tells pair.resource r) [ | inl e ↦ absurd (other e.1) | inr e ↦ rw e.0 refl ]
+    elim (eqb_tells pair.resource r) [ inl e ↦ absurd (other e.1) | inr e ↦ rw e.0 refl ]
 
 -- nothing of a resource that no pair names
 amount_in-none : (pairs : List Pair) (r : ℕ) → All (λ pair. r ≢ pair.resource) pairs → amount_in pairs r ≡ 0

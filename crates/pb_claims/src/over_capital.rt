@@ -1,10 +1,11 @@
 //! Whether the capital is enough for every claim.
 
-ghost use Rattle.std.specs.Prelude.{◌≡◌, ◌<◌, ◌≤◌, ℕ, IfErr, OnOk, MatchOption, length, slice_index};
+ghost use Rattle.std.specs.Prelude.{◌≡◌, ◌<◌, ◌≤◌, ℕ, IfErr, IfSome, OnOk, MatchOption, length, slice_index};
 ghost use Rattle.pb_base.specs.Banker.{cell};
 ghost use Rattle.pb_base.specs.Tables.{width_of};
 ghost use Rattle.pb_claims.specs.Fits.{FitCapital, IsFirstOver, IsFirstInRow, RowFits};
 
+use pb_base::capital::MAX_RESOURCES;
 use pb_base::{Capital, Claims};
 
 /// A process whose claim on a resource is over the capital, so that the process could not be served even if it
@@ -45,7 +46,8 @@ pub fn fits(claims: &Claims, capital: &Capital) -> Result<(), OverCapital>
 fn first_over(claims: &Claims, capital: &Capital, p: usize) -> Option<usize>
     requires process { p < length claims.now }
     requires resources { width_of claims.now ≡ length capital.now }
-    ensures { MatchOption result (RowFits claims.now capital.now p) (IsFirstInRow claims.now capital.now p) }
+    ensures first { MatchOption result (RowFits claims.now capital.now p) (IsFirstInRow claims.now capital.now p) }
+    ensures small { IfSome result (λ r. r < MAX_RESOURCES) }
 {
     (0..capital.resources()).find(|r| claims.get(p, *r) > u64::from(capital.get(*r)))
 }

@@ -34,7 +34,9 @@ fn peak_of_stmt<A: Allocator>(stmt: &Stmt<A>, resource: u8) -> u64
     match stmt {
         Stmt::Assign { .. } | Stmt::Print { .. } => 0,
         Stmt::If {
-            on_true, on_false, ..
+            on_true,
+            on_false,
+            ..
         } => peak_of_list(on_true, resource).max(peak_of_list(on_false, resource)),
         Stmt::While { body, .. } => peak_of_list(body, resource),
         Stmt::Hold { bundle, body, .. } => {

@@ -11,7 +11,7 @@ peak_of_stmt-returns-in-Parbegin g t c =
     omega (
       arith,
       ap (stmt_peak c.args.resource) (ap stmt_view c.in-Parbegin.is
-      ∙ view-Parbegin c.in-Parbegin.line c.in-Parbegin.first c.in-Parbegin.arms),
+          ∙ view-Parbegin c.in-Parbegin.line c.in-Parbegin.first c.in-Parbegin.arms),
     )
 
 pub peak_of_list-loop-stmt-preserved : goal.peak_of_list-loop-stmt-preserved
