@@ -102,6 +102,18 @@ row_more block r amount before after so_far next pushed =
 
 -- ---- what is answered for a program in memory
 
+pub stored_resources : {A : Type 0} (program : Resolved A)
+    → length (resolved_view program).resources ≡ length program.resources.items
+stored_resources program = length-map program.resources.items resource_view
+
+pub stored_processes : {A : Type 0} (program : Resolved A)
+    → length (resolved_view program).processes ≡ length program.processes.items
+stored_processes program = length-map program.processes.items process_view
+
+pub stored_some : {A : Type 0} (program : Resolved A) → 1 ≤ length (resolved_view program).processes
+    → 0 < length program.processes.items
+stored_some program some = let same = stored_processes program in omega (arith, some, same)
+
 -- where rows were found for its processes, and a table has these rows
 pub found_claims : {A : Type 0} (program : Resolved A) (n : ℕ) (rows table : Table)
     → n ≡ length program.resources.items
@@ -109,7 +121,7 @@ pub found_claims : {A : Type 0} (program : Resolved A) (n : ℕ) (rows table : T
     → AreCappedClaims (resolved_view program) table
 found_claims program n rows table width found same =
     let long : n ≡ length (resolved_view program).resources =
-    width ∙ sym (length-map program.resources.items resource_view) in
+    width ∙ sym (stored_resources program) in
     capped_claims (resolved_view program) table
     (same ∙ found ∙ rows_of-view n program.processes.items
     ∙ ap (λ k. rows_of k (map process_view program.processes.items)) long)
