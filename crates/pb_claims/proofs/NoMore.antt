@@ -1,11 +1,11 @@
 -- No free run holds more than the one pass finds. What is yet to be held at most is given for every part of a run,
 -- and no free step lets it rise.
-use Rattle.std.proofs.Common.{◌≡◌, ℕ, ◌+◌, ◌≤◌, max, true, List, [], ◌∷◌, ◌++◌, refl, ap, arith, append-nil}
+use Rattle.std.proofs.Common.{◌≡◌, ℕ, ◌+◌, ◌≤◌, max, List, [], ◌∷◌, ◌++◌, refl, ap, arith, append-nil}
 use Rattle.pb_base.specs.Bundle.{amount_in}
-use Rattle.pb_names.specs.Program.{Expr, Stmt, Set, Write, If, While, HoldDo, Parbegin, Block, Skip, Then}
+use Rattle.pb_names.specs.Program.{Stmt, Set, Write, If, While, HoldDo, Parbegin, Block, Skip, Then}
 use Rattle.pb_names.specs.Program.{Arms, NoArm, AndArm}
 use Rattle.pb_names.specs.Source.{Item, Assign, Print, Choice, Loop, Hold, GiveBack, Parallel, item_of, items_of}
-use Rattle.pb_names.specs.Source.{Arm, Doing, Waiting, Ended, Running, Nothing, Beside, begin, all_ended}
+use Rattle.pb_names.specs.Source.{Arm, Doing, Waiting, Ended, Running, Nothing, Beside, begin}
 use Rattle.pb_names.specs.Claims.{FreeListStep, to_end, past_assign, past_print, to_then, to_else, past_loop}
 use Rattle.pb_names.specs.Claims.{into_loop, into_hold, past_give, into_arms, FreeStep, in_list, join, in_arms}
 use Rattle.pb_names.specs.Claims.{FreeStepAmong, in_first, in_later, FreeRun, at_start, and_then, held_in}

@@ -1,7 +1,7 @@
 -- The one pass over a process finds the most that a free run holds.
-use Rattle.std.proofs.Common.{◌≡◌, ℕ, List, [], ◌++◌, subst, ap, arith, append-nil}
+use Rattle.std.proofs.Common.{◌≡◌, ℕ, [], ◌++◌, subst, ap, arith, append-nil}
 use Rattle.pb_names.specs.Program.{Process}
-use Rattle.pb_names.specs.Source.{Item, items_of, Doing}
+use Rattle.pb_names.specs.Source.{items_of, Doing}
 use Rattle.pb_names.specs.Claims.{FreeRun, start_of, IsClaim, peak}
 use Rattle.pb_claims.proofs.NoMore.{list_peak, held_le, run_falls, block_list_peak}
 use Rattle.pb_claims.proofs.Reaching.{reach}

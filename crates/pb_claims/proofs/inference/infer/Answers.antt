@@ -1,4 +1,4 @@
-use Rattle.std.proofs.Common.{◌≤◌, arith, map}
+use Rattle.std.proofs.Common.{arith, map}
 use Rattle.pb_claims.proofs.Rows.{stored_some, stored_resources, found_width, found_one_length, IfOk-capped, IfOk-exact}
 use Rattle.pb_claims.proofs.inference.infer.Goals as goal
 
