@@ -1,9 +1,9 @@
 -- No claim of a resolved program is more than 1,000,000 for each node of its tree.
-use Rattle.std.proofs.Common.{◌≡◌, ℕ, zero, suc, ◌+◌, ◌*◌, ◌<◌, ◌≤◌, ◌^◌, List, [], ◌∷◌, length, arith, subst, Some, None}
+use Rattle.std.proofs.Common.{◌≡◌, ℕ, zero, suc, ◌*◌, ◌≤◌, List, [], ◌∷◌, arith, Some, None}
 use Rattle.std.specs.Prelude.{slice_get}
 use Rattle.std.specs.List.{AllZip}
 use Rattle.pb_tree.specs.Syntax as tree
-use Rattle.pb_tree.specs.Measure.{expr_nodes, stmt_nodes, stmts_nodes, arms_nodes, processes_nodes, program_nodes}
+use Rattle.pb_tree.specs.Measure.{stmt_nodes, stmts_nodes, arms_nodes, processes_nodes, program_nodes}
 use Rattle.pb_names.specs.Claims.{IsClaim, stmt_peak, peak, arms_peak}
 use Rattle.pb_names.specs.Program.{Name, Stmt, Block, Arms, Process, Program}
 use Rattle.pb_names.specs.Resolves.{ResolvesStmt, assign, print, if_else, while_do, hold, parbegin, ResolvesStmts}

@@ -1,13 +1,11 @@
 -- The rows of the one pass are the claims.
-use Rattle.std.proofs.Common.{◌≡◌, ℕ, zero, suc, ◌+◌, ◌<◌, ◌≤◌, ◌^◌, List, [], ◌∷◌, ◌++◌, length, map, get_or, Some, Vec}
+use Rattle.std.proofs.Common.{◌≡◌, ℕ, zero, suc, ◌+◌, ◌<◌, ◌≤◌, ◌^◌, List, [], ◌∷◌, ◌++◌, length, map, get_or, Some}
 use Rattle.std.proofs.Common.{arith, ap, sym, subst, refl, ◌∙◌}
 use Rattle.std.specs.Prelude.{slice_get, IfOk, Result, Ok, Err}
-use Rattle.std.specs.List.{range_with_len}
 use Rattle.std.proofs.lemmas.List.{length-map, get_or-map}
 use Rattle.std.proofs.lemmas.List.FromFn.{length-map-range_with_len, get_or-map-range_with_len}
 use Rattle.std.proofs.lemmas.List.FromFn.{map-range_with_len_more}
 use Rattle.std.proofs.lemmas.Option.{slice_get_within, get_or_from_slice_get}
-use Rattle.std.proofs.lemmas.Simd.{map-map}
 use Rattle.pb_base.specs.Banker.{cell, row_of}
 use Rattle.pb_base.specs.Steppers.{Table}
 use Rattle.pb_base.specs.Tables.{HasWidth, width_of}
@@ -102,6 +100,18 @@ row_more block r amount before after so_far next pushed =
 
 -- ---- what is answered for a program in memory
 
+pub stored_resources : {A : Type 0} (program : Resolved A)
+    → length (resolved_view program).resources ≡ length program.resources.items
+stored_resources program = length-map program.resources.items resource_view
+
+pub stored_processes : {A : Type 0} (program : Resolved A)
+    → length (resolved_view program).processes ≡ length program.processes.items
+stored_processes program = length-map program.processes.items process_view
+
+pub stored_some : {A : Type 0} (program : Resolved A) → 1 ≤ length (resolved_view program).processes
+    → 0 < length program.processes.items
+stored_some program some = let same = stored_processes program in omega (arith, some, same)
+
 -- where rows were found for its processes, and a table has these rows
 pub found_claims : {A : Type 0} (program : Resolved A) (n : ℕ) (rows table : Table)
     → n ≡ length program.resources.items
@@ -109,7 +119,7 @@ pub found_claims : {A : Type 0} (program : Resolved A) (n : ℕ) (rows table : T
     → AreCappedClaims (resolved_view program) table
 found_claims program n rows table width found same =
     let long : n ≡ length (resolved_view program).resources =
-    width ∙ sym (length-map program.resources.items resource_view) in
+    width ∙ sym (stored_resources program) in
     capped_claims (resolved_view program) table
     (same ∙ found ∙ rows_of-view n program.processes.items
     ∙ ap (λ k. rows_of k (map process_view program.processes.items)) long)

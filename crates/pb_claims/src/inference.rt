@@ -14,17 +14,17 @@ use pb_names::{Process, Resolved, Stmt};
 use std::alloc::{Allocator, Global};
 
 /// The claim of each process on each resource: the greatest amount that the process holds in any run in which
-/// tests go either way and no banker refuses (the claim of Dijkstra's banker, EWD123, found here and not
-/// declared). A hold counts also where its branch never runs. A claim beyond 64 bits, which no program of at
-/// most 16,384 nodes has, is answered as the greatest `u64`.
+/// tests go either way and no banker refuses. A hold counts also where its branch never runs. This is the claim
+/// of Dijkstra's banker (EWD123), found here and not declared by the customer.
 ///
-/// It is found by one pass over the body of the process: a hold adds its amount to the most that its body
-/// holds, lists and branches take the greatest, the arms of a parbegin are summed. The error comes only where
+/// It is found by one pass over the body for each resource: a hold adds its amount to the most that its body
+/// holds, of lists and branches the greatest counts, the arms of a parbegin are summed. A claim beyond 64 bits
+/// is answered as the greatest `u64`; no program of at most 16,384 nodes has one. The error comes only where
 /// memory is refused.
 pub fn infer<A: Allocator>(alloc: Global, program: &Resolved<A>) -> Result<Claims, NoMemory>
-    requires some_processes { 0 < length program.now.processes.items }
-    requires few_processes { length program.now.processes.items ≤ MAX_PROCESSES }
-    requires few_resources { length program.now.resources.items ≤ MAX_RESOURCES }
+    requires some_processes { 1 ≤ length (resolved_view program.now).processes }
+    requires few_processes { length (resolved_view program.now).processes ≤ MAX_PROCESSES }
+    requires few_resources { length (resolved_view program.now).resources ≤ MAX_RESOURCES }
     ensures exact { HaveSmallClaims (resolved_view program.now)
         → IfOk result (AreClaims (resolved_view program.now)) }
     ensures capped { IfOk result (AreCappedClaims (resolved_view program.now)) }

@@ -8,12 +8,13 @@ ghost use Rattle.pb_claims.specs.Fits.{FitCapital, IsFirstOver, IsFirstInRow, Ro
 use pb_base::capital::MAX_RESOURCES;
 use pb_base::{Capital, Claims};
 
-/// A process whose claim on a resource is over the capital, so that the process could not be served even if it
-/// ran alone. Processes and resources go by number.
+/// A process whose claim on a resource is over the capital: even alone it could not always be served.
 #[derive(Clone, Copy, Debug, PartialEq, Eq, thiserror::Error)]
 #[error("process {process} claims {claim} of resource {resource}, of which there are {capital}")]
 pub struct OverCapital {
+    /// The process, by its number from 0.
     pub process: u8,
+    /// The resource, by its number from 0.
     pub resource: u8,
     /// What the process may hold of the resource at most.
     pub claim: u64,

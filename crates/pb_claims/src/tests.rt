@@ -64,6 +64,33 @@ fn alone(
     program(alloc, capitals, bodies)
 }
 
+/// The claims of a program of 1 to 64 processes and at most 16 resources.
+#[tactic(auto, using(crate::proofs::Rows::stored_processes, crate::proofs::Rows::stored_resources))]
+fn claims_of(alloc: Global, program: &Resolved<Global>) -> Result<Claims, Fail> {
+    let processes = program.processes.len();
+    if processes == 0 || processes > 64 || program.resources.len() > 16 {
+        return Err(Fail::new("too few or too many"));
+    }
+    Ok(infer(alloc, program)?)
+}
+
+/// The claim of a process on a resource, where there are these.
+fn claim(claims: &Claims, p: usize, r: usize) -> Option<u64> {
+    if p < claims.processes() && r < claims.resources() {
+        Some(claims.get(p, r))
+    } else {
+        None
+    }
+}
+
+/// Whether the claims fit capital of as many resources.
+fn fits_in(claims: &Claims, capital: &Capital) -> Result<Result<(), OverCapital>, Fail> {
+    if claims.resources() != capital.resources() {
+        return Err(Fail::new("other resources"));
+    }
+    Ok(fits(claims, capital))
+}
+
 /// `hold 1 of t do parbegin hold 1 of t do skip od; hold 2 of t do skip od parend od`
 fn nested(alloc: Global) -> Result<Vec<Stmt<Global>>, NoMemory> {
     let mut arms = Vec::new(alloc);
@@ -80,9 +107,9 @@ fn nested(alloc: Global) -> Result<Vec<Stmt<Global>>, NoMemory> {
 #[test]
 fn arms_add_up_under_a_hold(rt: HostRuntime) -> Result<(), Fail> {
     let alloc = rt.alloc();
-    let claims = infer(alloc, &alone(alloc, &[4], nested(alloc)?)?)?;
+    let claims = claims_of(alloc, &alone(alloc, &[4], nested(alloc)?)?)?;
     assert_eq!(rt; (claims.processes(), claims.resources()), (1, 1));
-    assert_eq!(rt; claims.get(0, 0), 4);
+    assert!(rt; claim(&claims, 0, 0) == Some(4));
     Ok(())
 }
 
@@ -97,8 +124,8 @@ fn the_greatest_of_a_list_and_of_branches_counts(rt: HostRuntime) -> Result<(), 
         on_true: brief(alloc, 0, 2)?,
         on_false: brief(alloc, 0, 3)?,
     })?;
-    let claims = infer(alloc, &alone(alloc, &[9], body)?)?;
-    assert_eq!(rt; claims.get(0, 0), 3);
+    let claims = claims_of(alloc, &alone(alloc, &[9], body)?)?;
+    assert!(rt; claim(&claims, 0, 0) == Some(3));
     Ok(())
 }
 
@@ -124,25 +151,27 @@ fn each_resource_has_its_claim(rt: HostRuntime) -> Result<(), Fail> {
     let mut bodies = Vec::new(alloc);
     bodies.push(list(alloc, both)?)?;
     bodies.push(Vec::new(alloc))?;
-    let claims = infer(alloc, &program(alloc, &[9, 9], bodies)?)?;
+    let claims = claims_of(alloc, &program(alloc, &[9, 9], bodies)?)?;
     assert_eq!(rt; (claims.processes(), claims.resources()), (2, 2));
-    assert_eq!(rt; (claims.get(0, 0), claims.get(0, 1)), (2, 4));
-    assert_eq!(rt; (claims.get(1, 0), claims.get(1, 1)), (0, 0));
+    assert!(rt; claim(&claims, 0, 0) == Some(2));
+    assert!(rt; claim(&claims, 0, 1) == Some(4));
+    assert!(rt; claim(&claims, 1, 0) == Some(0));
+    assert!(rt; claim(&claims, 1, 1) == Some(0));
     Ok(())
 }
 
 #[test]
 fn the_first_claim_over_its_capital_is_named(rt: HostRuntime) -> Result<(), Fail> {
     let alloc = rt.alloc();
-    let claims = infer(alloc, &alone(alloc, &[3], nested(alloc)?)?)?;
-    assert!(rt; fits(&claims, &Capital::new(alloc, &[4])?).is_ok());
+    let claims = claims_of(alloc, &alone(alloc, &[3], nested(alloc)?)?)?;
+    assert!(rt; fits_in(&claims, &Capital::new(alloc, &[4])?)? == Ok(()));
     let over = OverCapital {
         process: 0,
         resource: 0,
         claim: 4,
         capital: 3,
     };
-    assert!(rt; fits(&claims, &Capital::new(alloc, &[3])?) == Err(over));
+    assert!(rt; fits_in(&claims, &Capital::new(alloc, &[3])?)? == Err(over));
     let claims = Claims::new(alloc, &[&[5, 5], &[5, 6], &[7, 7]])?;
     let over = OverCapital {
         process: 1,
@@ -150,7 +179,7 @@ fn the_first_claim_over_its_capital_is_named(rt: HostRuntime) -> Result<(), Fail
         claim: 6,
         capital: 5,
     };
-    assert!(rt; fits(&claims, &Capital::new(alloc, &[5, 5])?) == Err(over));
+    assert!(rt; fits_in(&claims, &Capital::new(alloc, &[5, 5])?)? == Err(over));
     assert_eq!(rt;
         over.to_string(alloc)?.as_str(),
         "process 1 claims 6 of resource 1, of which there are 5"
