@@ -1,18 +1,17 @@
 -- How much of a resource is held at each place.
-use Rattle.std.proofs.Common.{◌≡◌, ℕ, zero, suc, ◌+◌, ◌-◌, ◌*◌, ◌<◌, ◌≤◌, Bool, true, false, cond, List, [], ◌∷◌, length, take, Option, Some, None, refl, sym, ap, ◌∙◌, subst, arith}
+use Rattle.std.proofs.Common.{◌≡◌, ℕ, zero, suc, ◌+◌, ◌-◌, ◌*◌, ◌≤◌, cond, List, [], ◌∷◌, length, take, Option, Some, refl, sym, ap, ◌∙◌, subst, arith}
 use Rattle.std.specs.Prelude.{◌==◌, slice_get, option_map, unwrap_or}
-use Rattle.std.proofs.lemmas.Option.{get_or_from_slice_get, slice_get_within}
 use Rattle.pb_base.specs.declared.pair.Pair.{Pair}
 use Rattle.pb_base.specs.Bundle.{amount_in}
 use Rattle.pb_base.specs.Steppers.{Bundle}
 use Rattle.pb_base.proofs.Lending.{amount_in-cons, amount_in-le}
 use Rattle.pb_code.specs.Code.{Instr, Push, Load, Store, Compute1, Compute2, Jump, JumpIfZero, PrintTop, Take, Give, Fork, Join, End, ProcessCode}
 use Rattle.pb_verifier.specs.declared.amounts.Amount.{Amount}
-use Rattle.pb_verifier.specs.Amounts.{AmountFits, amount_after, TurnsAmount, HasHoldings, held_at}
+use Rattle.pb_verifier.specs.Amounts.{AmountFits, amount_after, TurnsAmount, held_at}
 use Rattle.pb_verifier.specs.Faults.{TurnsHoldings, AreHoldings, in_holdings}
 use Rattle.pb_verifier.specs.Limits.{HasSmallNumbers, IsSmallBundle, IsSmallProcess}
-use Rattle.pb_verifier.specs.Places.{InstrAt, Reached, at_entry, from, Follows, arms, Spreads}
-use Rattle.pb_verifier.specs.Spread.{Rules, rules_of, IsTableOf, fact_at, notes_of}
+use Rattle.pb_verifier.specs.Places.{Reached, at_entry, from, Spreads}
+use Rattle.pb_verifier.specs.Spread.{rules_of, IsTableOf, notes_of}
 use Rattle.pb_verifier.proofs.Bridging.{IsBy}
 use Rattle.pb_verifier.proofs.Ending.{fact_of}
 

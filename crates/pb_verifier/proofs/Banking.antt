@@ -1,26 +1,24 @@
 -- The loans of verified code stay within the claims and the capital, and safe; and some process can always go on.
-use Rattle.std.proofs.Common.{◌≡◌, ◌≢◌, ◌⊎◌, inl, inr, ⊎_elim, ℕ, zero, suc, ◌+◌, ◌-◌, ◌<◌, ◌≤◌, Bool, true, false, cond, eqb, List, [], ◌∷◌, ◌++◌, length, get_or, set, map, replicate, take, Option, Some, None, option_map, option_and_then, refl, sym, ap, ◌∙◌, subst, arith, get_or-set_same, length-append}
+use Rattle.std.proofs.Common.{◌≡◌, ◌⊎◌, inl, inr, ⊎_elim, ℕ, zero, suc, ◌+◌, ◌<◌, ◌≤◌, Bool, true, false, cond, eqb, List, [], ◌∷◌, ◌++◌, length, get_or, map, replicate, Option, Some, None, option_map, option_and_then, refl, sym, ap, ◌∙◌, subst, arith, get_or-set_same, length-append}
 use Rattle.std.specs.Prelude.{slice_get, All}
 use Rattle.std.proofs.lemmas.List.{get_or_append_left, length-map}
 use Rattle.std.proofs.lemmas.List.FromFn.{get_or-range_with_len, length-range_with_len}
-use Rattle.std.proofs.lemmas.List.Elements.{All-head, All-tail, All-cons}
+use Rattle.std.proofs.lemmas.List.Elements.{All-cons}
 use Rattle.std.proofs.lemmas.List.Sorted.{IsPermutation-refl, IsPermutation-sym, All-permutation}
-use Rattle.std.proofs.lemmas.Option.{slice_get_within, slice_get-get_or}
+use Rattle.std.proofs.lemmas.Option.{slice_get_within}
 use Rattle.std.proofs.lemmas.Bool.{eq-eqb}
 use Rattle.std.proofs.Math.ListN.{get_or-map}
-use Rattle.std.specs.List.Sorted.{IsPermutation}
-use Rattle.pb_base.specs.declared.operators.FaultKind.{FaultKind}
 use Rattle.pb_base.specs.declared.pair.Pair.{Pair}
 use Rattle.pb_base.specs.declared.pick.Pick.{Pick}
 use Rattle.pb_base.specs.declared.event.Event.{Event}
-use Rattle.pb_base.specs.Bundle.{IsDistinct, amount_in, lend, give_back}
-use Rattle.pb_base.specs.Banker.{BankerState, capital, claim, loan, processes, resources, everyone, held_by, cash, cell, row_of, FitsAfter, Finishes, IsSafe, IsAllowed, IsWithinClaim, IsWellFormed, with_loan}
+use Rattle.pb_base.specs.Bundle.{amount_in, lend, give_back}
+use Rattle.pb_base.specs.Banker.{BankerState, capital, loan, processes, everyone, held_by, cash, cell, row_of, Finishes, IsSafe, IsAllowed, IsWellFormed}
 use Rattle.pb_base.specs.Steppers.{Bundle, Table, Effect, Silent, Prints, Takes, Returns, Faults, Finishes as Ends, IsGranted, State, Move, Makes, moved, move_of, banker_state, loans_after, CanGoOn, IsFinished}
 use Rattle.pb_base.proofs.BankerLaws.{fewer_loans_stay_safe, first_borrower_may_ask, order_below}
 use Rattle.pb_base.proofs.Groups.{range_below, sum_by-zero_on}
 use Rattle.pb_base.proofs.Lending.{amount_in-le, amount_in-cons, get_or-give_back, get_or-lend, length-give_back, length-lend}
-use Rattle.pb_base.proofs.Rows.{with_row, IsRowFor, IsWellFormed-with_row, HasFewerLoans-with_row}
-use Rattle.pb_code.specs.Code.{Instr, Take, Give, ProcessCode, Thread, Idle, Live, Over, CodeProcess, thread, step_process, code_step, code_process, code_over}
+use Rattle.pb_base.proofs.Rows.{with_row, IsWellFormed-with_row, HasFewerLoans-with_row}
+use Rattle.pb_code.specs.Code.{ProcessCode, Thread, Idle, Live, Over, CodeProcess, thread, step_process, code_step, code_process, code_over}
 use Rattle.pb_code.specs.Reached.{CodeReaches}
 use Rattle.pb_code.specs.Whole.{Code, bank_of, code_opening}
 use Rattle.pb_verifier.specs.declared.fault.VerifyFault.TheVariants.{OutOfLimits, OverCapital, OverClaim}
@@ -28,7 +26,7 @@ use Rattle.pb_verifier.specs.Behaviour.{AsksWithin, IsStuck}
 use Rattle.pb_verifier.specs.Limits.{KeepsLimits, IsSmallBundle}
 use Rattle.pb_verifier.specs.Verified.{IsAnnotated}
 use Rattle.pb_verifier.proofs.Finding.{can_step, none_live}
-use Rattle.pb_verifier.proofs.Holding.{holds, holds_none, under_peak}
+use Rattle.pb_verifier.proofs.Holding.{holds_none, under_peak}
 use Rattle.pb_verifier.proofs.Peaking.{replicate_read}
 use Rattle.pb_verifier.proofs.States.{CodeMove, code_move, checked, Good, asks_within, bundles_small, good_next, good_start}
 use Rattle.pb_verifier.proofs.Turns.{turned}
@@ -161,9 +159,9 @@ module _ (whole : Code) (annotated : IsAnnotated whole) where
       let loans : loans_after s.loans pick.process m.effect ≡ move.next.loans = ap (λ (x : Move CodeProcess). x.next.loans) m.is in
       let turn = turned m.code (checked whole annotated pick.process m.code m.at) m.before m.after pick.arm m.effect (kept.good.fit pick.process m.code m.before m.at m.here) m.steps in
       let b =
-          banked s pick.process m.effect kept u (subst (IsGranted (bank_of whole) s.loans pick.process) (sym (ap (λ (x : Move CodeProcess). x.effect) m.is)) granted)
-          (bundles_small whole annotated pick.process m.code m.at (thread m.before.threads) (thread m.after.threads) pick.arm m.effect turn.turn)
-          (λ r x. subst (λ (t : Table). cell t pick.process r ≤ cell whole.claims pick.process r) (sym loans) (loan_fits move.next good pick.process r u x))
+      banked s pick.process m.effect kept u (subst (IsGranted (bank_of whole) s.loans pick.process) (sym (ap (λ (x : Move CodeProcess). x.effect) m.is)) granted)
+      (bundles_small whole annotated pick.process m.code m.at (thread m.before.threads) (thread m.after.threads) pick.arm m.effect turn.turn)
+      (λ r x. subst (λ (t : Table). cell t pick.process r ≤ cell whole.claims pick.process r) (sym loans) (loan_fits move.next good pick.process r u x))
       in
       record {
         good = good;
@@ -182,7 +180,7 @@ module _ (whole : Code) (annotated : IsAnnotated whole) where
   kept_start =
       let s = code_opening whole in
       let none : (r : ℕ) → held_by (bank_at s.loans) (everyone (bank_at s.loans)) r ≡ 0 =
-          λ r. sum_by-zero_on (λ p. loan (bank_at s.loans) p r) (everyone (bank_at s.loans)) (λ k d u. zero_loans (length whole.capital) (map code_process whole.processes) (get_or (everyone (bank_at s.loans)) k d) r)
+      λ r. sum_by-zero_on (λ p. loan (bank_at s.loans) p r) (everyone (bank_at s.loans)) (λ k d u. zero_loans (length whole.capital) (map code_process whole.processes) (get_or (everyone (bank_at s.loans)) k d) r)
       in
       let rows = limits.rows in
       record {
@@ -268,8 +266,8 @@ module _ (whole : Code) (annotated : IsAnnotated whole) where
         let w = can_step code.0 ok next.process fit next.going in
         let pick : Pick = record { process = next.p; arm = w.0 } in
         let enabled : move_of (code_step whole.processes) s pick ≡ Some (moved s pick (w.1, w.2)) =
-            ap (option_and_then (λ process. option_map (moved s pick) (code_step whole.processes next.p process w.0))) next.here
-            ∙ (ap (λ o. option_map (moved s pick) (option_and_then (λ code. step_process code next.process w.0) o)) code.1 ∙ ap (option_map (moved s pick)) w.3)
+        ap (option_and_then (λ process. option_map (moved s pick) (code_step whole.processes next.p process w.0))) next.here
+        ∙ (ap (λ o. option_map (moved s pick) (option_and_then (λ code. step_process code next.process w.0) o)) code.1 ∙ ap (option_map (moved s pick)) w.3)
         in
         (pick, moved s pick (w.1, w.2), enabled, granted w.2 (λ bundle e. takes code.0 code.1 w.0 w.1 w.2 w.3 enabled bundle e))
       where
@@ -283,9 +281,9 @@ module _ (whole : Code) (annotated : IsAnnotated whole) where
             let rows = limits.rows in
             first_borrower_may_ask (bank_at s.loans) (well_formed s kept) next.before next.p next.after finishes
             (λ k d u r v.
-                let below = order_below (bank_at s.loans) (next.before ++ next.p ∷ next.after) finishes.everyone k d (longer next.before (next.p ∷ next.after) k u) in
-                let same : get_or (next.before ++ next.p ∷ next.after) k d ≡ get_or next.before k d = get_or_append_left next.before (next.p ∷ next.after) d k u in
-                over_holds_none (get_or next.before k d) (omega (arith, below, same, rows)) (next.earlier k d u) r)
+            let below = order_below (bank_at s.loans) (next.before ++ next.p ∷ next.after) finishes.everyone k d (longer next.before (next.p ∷ next.after) k u) in
+            let same : get_or (next.before ++ next.p ∷ next.after) k d ≡ get_or next.before k d = get_or_append_left next.before (next.p ∷ next.after) d k u in
+            over_holds_none (get_or next.before k d) (omega (arith, below, same, rows)) (next.earlier k d u) r)
             bundle b.0.distinct b.1 (asks_within_claims s kept.good (record { process = next.p; arm = a }) _ bundle enabled e)
           where
             longer : (xs ys : List ℕ) (k : ℕ) → k < length xs → k < length (xs ++ ys)

@@ -1,6 +1,5 @@
 -- Verified code behaves.
-use Rattle.std.proofs.Common.{◌≡◌, ◌≤◌, ◌<◌, ℕ, [], arith, ap}
-use Rattle.pb_base.specs.Steppers.{Bundle}
+use Rattle.std.proofs.Common.{[], arith, ap}
 use Rattle.pb_code.specs.Whole.{Code}
 use Rattle.pb_verifier.specs.declared.fault.VerifyFault.TheVariants.{OutOfLimits, WrongArms, WrongForks}
 use Rattle.pb_verifier.specs.Behaviour.{IsWellBehaved, PeaksDecide}

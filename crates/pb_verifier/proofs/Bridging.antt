@@ -1,15 +1,14 @@
 -- The facts that the verifier spreads are those that the definitions of the faults speak of.
-use Rattle.std.proofs.Common.{◌≡◌, ◌⊎◌, ◌↔◌, inl, inr, ℕ, zero, suc, ◌+◌, ◌-◌, ◌<◌, ◌≤◌, Bool, true, false, cond, eqb, List, [], ◌∷◌, length, get_or, Option, Some, None, refl, sym, ap, ◌∙◌, subst, arith}
+use Rattle.std.proofs.Common.{◌≡◌, ◌⊎◌, ◌↔◌, inl, inr, ℕ, ◌+◌, ◌<◌, ◌≤◌, Bool, true, false, cond, eqb, List, [], ◌∷◌, length, get_or, Option, Some, None, refl, sym, ap, ◌∙◌, subst, arith}
 use Rattle.std.specs.Prelude.{Contains, slice_get, unwrap_or}
 use Rattle.std.proofs.lemmas.List.{get_or_default}
 use Rattle.std.proofs.lemmas.Option.{slice_get-get_or}
 use Rattle.std.proofs.lemmas.List.Elements.{Contains-get_or}
-use Rattle.std.proofs.lemmas.Bool.{cases_eq, eq-eqb}
+use Rattle.std.proofs.lemmas.Bool.{eq-eqb}
 use Rattle.std.proofs.Common.{eqb-true}
 use Rattle.pb_code.specs.Code.{Instr, Push, Load, Store, Compute1, Compute2, Jump, JumpIfZero, PrintTop, Take, Give, Fork, Join, End, ProcessCode}
 use Rattle.pb_verifier.specs.Places.{arms, entry, InstrAt, Reached, at_entry, from, Spreads, Follows}
-use Rattle.pb_verifier.specs.Flow.{IsReached, reached_entry, reached_next, followers, target_of, goes_on, StaysInside}
-use Rattle.pb_verifier.specs.Flow as flow
+use Rattle.pb_verifier.specs.Flow.{IsReached, reached_entry, reached_next, followers, goes_on, StaysInside}
 use Rattle.pb_base.specs.Steppers.{Bundle}
 use Rattle.pb_verifier.specs.Faults.{pops, pushes, TurnsDepth, TurnsHoldings}
 use Rattle.pb_verifier.specs.Spread.{depth_rules, hold_rules, HoldFits, held_after, tail, Rules, IsAnnotation, IsLeast, CanBeAnnotated, IsTableOf}
@@ -162,7 +161,7 @@ module _ {X : Type 0} (code : ProcessCode) (Turns : Instr → X → X → Type 0
           let same : f.0 ≡ i = same_read code.instrs p f.0 i f.1 read in
           let fits : rules.Fits i n.0 = subst (λ (j : Instr). rules.Fits j n.0) same f.2 in
           let next : (q : ℕ) → Contains (followers i p) q → notes q ≡ Some (rules.after i n.0) =
-              subst (λ (j : Instr). (q : ℕ) → Contains (followers j p) q → notes q ≡ Some (rules.after j n.0)) same f.3
+          subst (λ (j : Instr). (q : ℕ) → Contains (followers j p) q → notes q ≡ Some (rules.after j n.0)) same f.3
           in
           let here : n.0 ≡ unwrap_or (notes p) rules.start = sym (ap (λ (o : Option X). unwrap_or o rules.start) n.1) in (
             rules.after i n.0,

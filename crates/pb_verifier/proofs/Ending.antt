@@ -1,7 +1,6 @@
 -- What tables say of ends, and of the greatest depth of an arm.
 use Rattle.std.proofs.Common.{◌≡◌, ◌⊎◌, inl, inr, ℕ, zero, suc, ◌+◌, ◌<◌, ◌≤◌, List, [], Option, Some, None, length, get_or, refl, sym, ap, ◌∙◌, subst, arith}
-use Rattle.std.specs.Prelude.{option_map, slice_get, unwrap_or}
-use Rattle.std.proofs.lemmas.Option.{slice_get_within}
+use Rattle.std.specs.Prelude.{option_map, unwrap_or}
 use Rattle.std.proofs.lemmas.Bool.{cases_lt}
 use Rattle.std.proofs.lemmas.List.{get_or_default}
 use Rattle.pb_base.specs.Steppers.{Bundle}
@@ -9,13 +8,12 @@ use Rattle.pb_code.specs.Code.{Instr, End, ProcessCode}
 use Rattle.pb_verifier.specs.declared.depths.Depth.{Depth}
 use Rattle.pb_verifier.specs.declared.holdings.Holding.{Holding}
 use Rattle.pb_verifier.specs.Ends.{IsClearAt}
-use Rattle.pb_verifier.specs.Faults.{EndsClear, TurnsDepth, TurnsHoldings, AreDepths, AreHoldings}
+use Rattle.pb_verifier.specs.Faults.{EndsClear, TurnsDepth, TurnsHoldings}
 use Rattle.pb_verifier.specs.Holdings.{held, held_by}
-use Rattle.pb_verifier.specs.Places.{InstrAt, Reached, at_entry, IsInArm, arms, entry}
+use Rattle.pb_verifier.specs.Places.{InstrAt, Reached, at_entry, IsInArm, entry}
 use Rattle.pb_verifier.specs.Spread.{IsTableOf, fact_at, notes_of}
 use Rattle.pb_verifier.specs.Verified.{IsDepthOf}
 use Rattle.pb_verifier.proofs.Chains.{held_length}
-use Rattle.pb_verifier.proofs.Each.{EachBelow, each_all, same_read}
 
 -- a noted value comes from a fact
 pub fact_of : {F M : Type 0} (value : F → M) (table : List (Option F)) (p : ℕ) (m : M) → notes_of value table p ≡ Some m → (f : F) × (fact_at table p ≡ Some f) × (value f ≡ m)

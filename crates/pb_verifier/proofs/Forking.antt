@@ -1,5 +1,5 @@
 -- Forks and joins that fit.
-use Rattle.std.proofs.Common.{◌≡◌, ◌⊎◌, ◌↔◌, inl, inr, ℕ, zero, suc, ◌+◌, ◌-◌, ◌<◌, ◌≤◌, Bool, true, false, List, length, get_or, replicate, Option, Some, None, refl, sym, ap, ◌∙◌, subst, arith}
+use Rattle.std.proofs.Common.{◌≡◌, ◌⊎◌, ◌↔◌, inl, inr, ℕ, zero, suc, ◌+◌, ◌-◌, ◌<◌, ◌≤◌, Bool, true, false, List, length, get_or, replicate, Some, refl, sym, ap, ◌∙◌, subst, arith}
 use Rattle.std.specs.Prelude.{slice_get}
 use Rattle.std.proofs.lemmas.List.{get_or_default, get_or_past, get_or-replicate, length-replicate}
 use Rattle.std.proofs.lemmas.Option.{slice_get_within}
@@ -13,7 +13,7 @@ use Rattle.pb_verifier.specs.Arms.{EntriesRise, ForksLater, IsPaired, IsNamedBef
 use Rattle.pb_verifier.specs.Faults.{HasArms, HasForks}
 use Rattle.pb_verifier.specs.Places.{InstrAt, arms, entry, arm_end, IsInArm, JumpsTo, IsAmong}
 use Rattle.pb_verifier.proofs.Arming.{rise_of}
-use Rattle.pb_verifier.proofs.Each.{EachBelow, same_read}
+use Rattle.pb_verifier.proofs.Each.{same_read}
 
 -- an instruction that is seen as a fork is one
 pub fork_given : (bundles : List Bundle) (i : Given) (first count : ℕ) → instr_view bundles i ≡ Fork first count → i ≡ given.Fork first count

@@ -1,9 +1,9 @@
 -- Code whose arms are sound stays inside itself.
-use Rattle.std.proofs.Common.{◌≡◌, ◌⊎◌, inl, inr, ℕ, ◌+◌, ◌<◌, ◌≤◌, length, get_or, Some, sym, ap, ◌∙◌, subst, arith}
-use Rattle.std.specs.Prelude.{Contains, slice_get}
+use Rattle.std.proofs.Common.{◌≡◌, ℕ, ◌<◌, ◌≤◌, length, ◌∙◌, subst, arith}
+use Rattle.std.specs.Prelude.{Contains}
 use Rattle.std.proofs.lemmas.List.{get_or_default}
 use Rattle.std.proofs.lemmas.Option.{slice_get_within}
-use Rattle.pb_code.specs.Code.{Instr, ProcessCode}
+use Rattle.pb_code.specs.Code.{ProcessCode}
 use Rattle.pb_verifier.specs.Faults.{HasArms}
 use Rattle.pb_verifier.specs.Flow.{StaysInside, followers}
 use Rattle.pb_verifier.specs.Flow as flow

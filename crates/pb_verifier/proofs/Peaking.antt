@@ -1,17 +1,15 @@
 -- The greatest amounts of the arms, from the last arm to the first, cut off above any claim.
-use Rattle.std.proofs.Common.{◌≡◌, ◌≢◌, ◌⊎◌, inl, inr, ℕ, zero, suc, ◌+◌, ◌-◌, ◌<◌, ◌≤◌, Bool, true, false, cond, eqb, List, length, get_or, replicate, min, Option, Some, None, refl, sym, ap, ◌∙◌, subst, arith, eqb-true}
-use Rattle.std.specs.Prelude.{slice_get, option_map, unwrap_or}
+use Rattle.std.proofs.Common.{◌≡◌, ◌≢◌, ◌⊎◌, inl, inr, ℕ, zero, suc, ◌+◌, ◌<◌, ◌≤◌, Bool, true, false, cond, eqb, List, length, get_or, replicate, Option, Some, refl, sym, ap, ◌∙◌, subst, arith, eqb-true}
 use Rattle.std.proofs.lemmas.Bool.{cases_lt, cases_eq, eq-eqb}
 use Rattle.std.proofs.lemmas.List.{get_or_past, get_or-replicate, length-replicate}
 use Rattle.std.proofs.lemmas.Option.{slice_get_within}
-use Rattle.pb_base.specs.Steppers.{Bundle}
 use Rattle.pb_code.specs.Code.{Instr, Push, Load, Store, Compute1, Compute2, Jump, JumpIfZero, PrintTop, Take, Give, Fork, Join, End, ProcessCode}
 use Rattle.pb_verifier.specs.declared.amounts.Amount.{Amount}
 use Rattle.pb_verifier.specs.Amounts.{TurnsAmount, HasHoldings, held_at, clamped, IsPeakOf, AreCutOff}
-use Rattle.pb_verifier.specs.Faults.{HasArms, HasForks, AreHoldings, in_holdings, in_joined, sum_of_arms, StayUnder, IsAttained, PeakFits}
+use Rattle.pb_verifier.specs.Faults.{HasArms, HasForks, in_joined, sum_of_arms, IsAttained, PeakFits}
 use Rattle.pb_verifier.specs.Limits.{IsSmallProcess}
-use Rattle.pb_verifier.specs.Places.{InstrAt, arms, entry, arm_end, IsInArm, IsAmong, Reached, at_entry}
-use Rattle.pb_verifier.specs.Spread.{IsTableOf, fact_at, notes_of}
+use Rattle.pb_verifier.specs.Places.{InstrAt, arms, entry, arm_end, IsInArm, Reached, at_entry}
+use Rattle.pb_verifier.specs.Spread.{IsTableOf, notes_of}
 use Rattle.pb_verifier.proofs.Amounting.{held_is}
 use Rattle.pb_verifier.proofs.Each.{same_read}
 use Rattle.pb_verifier.proofs.Forking.{arm_of}
@@ -79,18 +77,18 @@ module _ (code : ProcessCode) (lie : HasArms code) (fork : HasForks code) (some 
   clamp_joined a place i f peak h here at cut =
       joined_by (λ _. Unit {0}) (λ _. Unit {0}) i f peak (λ m n. clamped (h + m) ≡ clamped (h + n)) (λ n. refl)
       (λ first count is.
-          let l = joins_later a place first count here (at ∙ ap Some is) in
-          let low = l.0 in
-          let high = l.1 in
-          clamp_sum f peak h first count (λ b u v. cut b (omega arith) (omega arith)))
+      let l = joins_later a place first count here (at ∙ ap Some is) in
+      let low = l.0 in
+      let high = l.1 in
+      clamp_sum f peak h first count (λ b u v. cut b (omega arith) (omega arith)))
 
   joined_same : (a place : ℕ) (i : Instr) (f g : ℕ → ℕ) → IsInArm code a place → InstrAt code place i → ((b : ℕ) → a < b → f b ≡ g b) → in_joined f i ≡ in_joined g i
   joined_same a place i f g here at same =
       joined_by (λ _. Unit {0}) (λ _. Unit {0}) i f g (λ m n. m ≡ n) (λ n. refl)
       (λ first count is.
-          let l = joins_later a place first count here (at ∙ ap Some is) in
-          let low = l.0 in
-          sum_same f g first count (λ b u v. same b (omega arith)))
+      let l = joins_later a place first count here (at ∙ ap Some is) in
+      let low = l.0 in
+      sum_same f g first count (λ b u v. same b (omega arith)))
 
   module _ (table : List (Option Amount)) where
     -- the greatest amount of an arm before a place
@@ -269,10 +267,10 @@ module _ (code : ProcessCode) (lie : HasArms code) (fork : HasForks code) (some 
       peak_least (held, holdings) claim fits =
           let w = fits held holdings in
           let exact : IsAttained code held r peak = λ a u.
-              let x = (are a u).attained in
-              let e = held_is code small r table amounts held holdings x.0 x.3 in
-              let v = x.5 in
-              (x.0, x.1, x.2, x.3, x.4, omega (arith, e, v))
+          let x = (are a u).attained in
+          let e = held_is code small r table amounts held holdings x.0 x.3 in
+          let v = x.5 in
+          (x.0, x.1, x.2, x.3, x.4, omega (arith, e, v))
           in
           let l = least code lie fork some held r peak w.0 exact w.1 in
           let c = w.2 in

@@ -6,16 +6,15 @@ use Rattle.std.proofs.lemmas.List.{get_or_past, length-map, length-replicate}
 use Rattle.std.proofs.lemmas.Option.{slice_get_within}
 use Rattle.std.proofs.Math.ListN.{get_or-map}
 use Rattle.pb_base.specs.declared.operators.FaultKind.{FaultKind}
-use Rattle.pb_base.specs.declared.pair.Pair.{Pair}
 use Rattle.pb_base.specs.Bundle.{amount_in, lend, give_back}
 use Rattle.pb_base.specs.Banker.{cell}
 use Rattle.pb_base.specs.Steppers.{Bundle, Table}
-use Rattle.pb_base.proofs.Lending.{AllBelow, get_or-lend, get_or-give_back, length-lend, length-give_back, amount_in-absent, amount_in-cons}
+use Rattle.pb_base.proofs.Lending.{AllBelow, get_or-lend, get_or-give_back, length-lend, length-give_back, amount_in-absent}
 use Rattle.pb_code.specs.Whole.{Code, bank_of, code_opening}
 use Rattle.pb_code.specs.Reached.{CodeReaches}
 use Rattle.pb_base.specs.declared.pick.Pick.{Pick}
 use Rattle.pb_base.specs.declared.event.Event.{Event}
-use Rattle.pb_base.specs.Steppers.{Effect, Silent, Prints, Takes, Returns, Faults, Finishes, ending, loans_after, State, Move, moved, move_of, Makes, opening}
+use Rattle.pb_base.specs.Steppers.{Effect, Silent, Prints, Takes, Returns, Faults, Finishes, ending, loans_after, State, Move, moved, move_of, Makes}
 use Rattle.pb_code.specs.Code.{Instr, Push, Load, Store, Compute1, Compute2, Jump, JumpIfZero, PrintTop, Take, Give, Fork, Join, End, ProcessCode, Thread, Idle, Live, CodeProcess, thread, step_process, code_step, code_process}
 use Rattle.pb_verifier.specs.Limits.{IsSmallBundle}
 use Rattle.pb_verifier.specs.Behaviour.{HasPlace, MeetsWhatItNeeds, PassesTests}

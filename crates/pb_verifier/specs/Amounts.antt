@@ -1,6 +1,6 @@
 -- Amounts of one resource at places, and peaks cut off above any claim, for the verifier's own functions: no public
 -- contract cites this file.
-use Rattle.std.specs.Prelude.{◌≡◌, ◌≤◌, ◌<◌, ◌⊎◌, ◌+◌, ◌-◌, ℕ, List, Option, Some, None, length, min, option_map, unwrap_or, slice_index, refl}
+use Rattle.std.specs.Prelude.{◌≡◌, ◌≤◌, ◌<◌, ◌+◌, ◌-◌, ℕ, List, Option, length, min, option_map, unwrap_or, slice_index}
 use Rattle.std.proofs.Common.{ap, arith}
 use Rattle.pb_base.specs.Bundle.{amount_in}
 use Rattle.pb_base.specs.Steppers.{Bundle}

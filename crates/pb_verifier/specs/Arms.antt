@@ -1,6 +1,6 @@
 -- The parts of sound arms and forks, for the verifier's own functions: no public contract cites this file.
 use Rattle.std.specs.Prelude.{◌≡◌, ◌≤◌, ◌<◌, ◌⊎◌, ℕ, ◌+◌, length, ⊤}
-use Rattle.pb_code.specs.Code.{Instr, Push, Load, Store, Compute1, Compute2, Jump, JumpIfZero, PrintTop, Take, Give, Fork, Join, End, ProcessCode}
+use Rattle.pb_code.specs.Code.{Instr, Jump, JumpIfZero, Fork, Join, End, ProcessCode}
 use Rattle.pb_verifier.specs.Places.{InstrAt, arms, entry, arm_end, IsInArm, JumpsTo, IsAmong}
 
 -- arm 0 begins at place 0, each other after the one before it, and all inside the code

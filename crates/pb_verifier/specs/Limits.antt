@@ -5,7 +5,7 @@ use Rattle.pb_base.specs.Bundle.{IsDistinct}
 use Rattle.pb_base.specs.Steppers.{Bundle}
 use Rattle.pb_base.specs.Tables.{HasWidth}
 use Rattle.pb_base.specs.Banker.{cell}
-use Rattle.pb_code.specs.Code.{Instr, Push, Load, Store, Compute1, Compute2, Jump, JumpIfZero, PrintTop, Take, Give, Fork, Join, End, ProcessCode}
+use Rattle.pb_code.specs.Code.{Instr, Load, Store, Jump, JumpIfZero, Take, Give, Fork, Join, ProcessCode}
 use Rattle.pb_code.specs.Whole.{Code}
 use Rattle.pb_verifier.specs.Places.{InstrAt, arms}
 

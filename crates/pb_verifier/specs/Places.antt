@@ -1,6 +1,6 @@
 -- The places of the code of one process: which arm has them, which follow which, and which are reached.
 use Rattle.std.specs.Prelude.{◌≡◌, ◌≤◌, ◌<◌, ◌⊎◌, ℕ, ◌+◌, length, get_or, slice_get, Some}
-use Rattle.pb_code.specs.Code.{Instr, Push, Load, Store, Compute1, Compute2, Jump, JumpIfZero, PrintTop, Take, Give, Fork, Join, End, ProcessCode}
+use Rattle.pb_code.specs.Code.{Instr, Jump, JumpIfZero, End, ProcessCode}
 
 -- an instruction stands at a place
 abbrev pub InstrAt : ProcessCode → ℕ → Instr → Type 0

@@ -1,12 +1,9 @@
 -- What one process adds to the faults of code, for the verifier's own functions: no public contract cites this file.
-use Rattle.std.specs.Prelude.{◌≡◌, ◌≤◌, ◌<◌, ◌⊎◌, ℕ, List, length, slice_get, slice_index, Option, Some, ⊤}
-use Rattle.pb_base.specs.Banker.{cell}
+use Rattle.std.specs.Prelude.{◌≡◌, ◌≤◌, ◌<◌, ◌⊎◌, ℕ, List, length, slice_index, Option, Some, ⊤}
 use Rattle.pb_base.specs.Steppers.{Bundle}
 use Rattle.pb_code.specs.Code.{ProcessCode}
-use Rattle.pb_code.specs.Whole.{Code}
 use Rattle.pb_verifier.specs.declared.fault.VerifyFault.{VerifyFault}
 use Rattle.pb_verifier.specs.declared.fault.VerifyFault.TheVariants.{OutOfLimits, OverCapital, OutOfRange, WrongArms, WrongForks, NoDepths, NoHoldings, LeftAtEnd, OverClaim, NoMemory}
-use Rattle.pb_verifier.specs.Limits.{IsSmallProcess}
 use Rattle.pb_verifier.specs.Places.{arms}
 use Rattle.pb_verifier.specs.Faults.{IsInRange, HasArms, HasForks, AreDepths, AreHoldings, EndsClear, PeakFits}
 use Rattle.pb_verifier.specs.Verified.{IsDepthOf, turn_of}

@@ -28,7 +28,11 @@ pub struct Amount {
 fn share(pair: Pair, resource: u8) -> u32
     ensures { result ≡ cond (pair.resource == resource) pair.amount 0 }
 {
-    if pair.resource == resource { pair.amount } else { 0 }
+    if pair.resource == resource {
+        pair.amount
+    } else {
+        0
+    }
 }
 
 /// The amount of a resource in a bundle.
@@ -72,7 +76,8 @@ impl Fact for Amount {
         let held = match instr {
             Instr::Take(bundle) => amount_of(code, bundle, self.resource) + self.held,
             Instr::Give(bundle) => {
-                self.held.saturating_sub(amount_of(code, bundle, self.resource))
+                self.held
+                    .saturating_sub(amount_of(code, bundle, self.resource))
             }
             _ => self.held,
         };

@@ -75,8 +75,8 @@ fn check(alloc: Global, code: &Code) -> Result<Vec<Vec<u16>>, VerifyFault>
 
 /// Verified code, exactly where none of the faults is in it; else the code unchanged and its first fault, in
 /// the order of `VerifyFault`, each looked for over all processes before the next. `NoMemory` comes only where
-/// a growth was refused, and may come before a fault is found. Takes time and memory linear in the size of
-/// the code.
+/// a growth was refused, and may come before a fault is found. (That time and memory are linear in the size of
+/// the code is by construction, and not proved.)
 pub fn verify(alloc: Global, code: Code) -> Result<Verified, (Code, VerifyFault)>
     ensures code { IfOk result (λ verified. verified.code ≡ code_view code) }
     ensures annotated { IfOk result (λ verified. IsAnnotated verified.code) }

@@ -15,7 +15,12 @@ use crate::places::{instr_at, places};
 use pb_code::{Instr, ProcessCode};
 
 /// Whether an instruction is no end, or nothing is left there.
-fn is_clear(code: &ProcessCode, instr: Instr, depth: Option<Depth>, holding: Option<Holding>) -> bool
+fn is_clear(
+    code: &ProcessCode,
+    instr: Instr,
+    depth: Option<Depth>,
+    holding: Option<Holding>,
+) -> bool
     ensures { (result ≡ true) ↔ IsClearAt (plain code.now instr) depth holding }
 {
     if !matches!(instr, Instr::End) {
@@ -33,7 +38,11 @@ fn is_clear(code: &ProcessCode, instr: Instr, depth: Option<Depth>, holding: Opt
 }
 
 /// Whether no operand and no bundle is left at a reached end.
-pub fn ends_clear(code: &ProcessCode, depths: &[Option<Depth>], holdings: &[Option<Holding>]) -> bool
+pub fn ends_clear(
+    code: &ProcessCode,
+    depths: &[Option<Depth>],
+    holdings: &[Option<Holding>],
+) -> bool
     requires few_depths { length depths.now ≡ length (instrs_of code.now) }
     requires few_holdings { length holdings.now ≡ length (instrs_of code.now) }
     requires depths { IsTableOf (process_view code.now) TurnsDepth 0 (notes_of (λ d. d.count) depths.now) }

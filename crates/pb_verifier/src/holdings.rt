@@ -67,13 +67,7 @@ fn before(table: &[Option<Holding>], place: u16) -> Holding
 }
 
 /// Whether two lists of bundles of one length are equal.
-fn same_holds(
-    code: &ProcessCode,
-    table: &[Option<Holding>],
-    count: u16,
-    one: u16,
-    two: u16,
-) -> bool
+fn same_holds(code: &ProcessCode, table: &[Option<Holding>], count: u16, one: u16, two: u16) -> bool
     requires one { IsChain (instrs_of code.now) table.now count one }
     requires two { IsChain (instrs_of code.now) table.now count two }
     ensures { (result ≡ true)
@@ -159,5 +153,11 @@ pub fn holdings(
     ensures no { IfOk result (λ answer. IfNone answer
         (¬ ((facts : ℕ → List Bundle) × AreHoldings (process_view code.now) facts))) }
 {
-    spread(alloc, &code.entries, code, order, Holding { count: 0, last: 0 })
+    spread(
+        alloc,
+        &code.entries,
+        code,
+        order,
+        Holding { count: 0, last: 0 },
+    )
 }

@@ -21,10 +21,9 @@ mod range;
 mod reach;
 pub mod verified;
 
-
+pub use checking::verify;
 pub use fault::VerifyFault;
 pub use verified::Verified;
-pub use checking::verify;
 
 #[cfg(test)]
 mod tests;

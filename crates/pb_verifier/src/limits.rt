@@ -10,9 +10,9 @@ ghost use Rattle.pb_verifier.specs.Limits.{AreNames, HasSmallNumbers, IsName, Is
 
 use crate::bundles::{pair_at, pairs};
 use crate::places::{instr_at, places};
+use pb_base::Claims;
 use pb_base::capital::MAX_RESOURCES;
 use pb_base::claims::MAX_PROCESSES;
-use pb_base::Claims;
 use pb_code::{Code, Instr, ProcessCode};
 
 /// The most bytes of a name.

@@ -53,11 +53,7 @@ fn visit_followers(
 }
 
 /// The reached places, each after one that leads to it.
-fn reached(
-    alloc: Global,
-    entries: &[u16],
-    code: &ProcessCode,
-) -> Result<Vec<u16>, NoMemory>
+fn reached(alloc: Global, entries: &[u16], code: &ProcessCode) -> Result<Vec<u16>, NoMemory>
     requires inside { StaysInside entries.now (instrs_of code.now) }
     ensures reached { IfOk result (λ order. (p : ℕ)
         → Contains order.items p ↔ IsReached entries.now (instrs_of code.now) p) }

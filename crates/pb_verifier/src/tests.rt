@@ -1,10 +1,10 @@
+ghost use Rattle.std.specs.Prelude.{◌≤◌};
+
 use crate::{VerifyFault, verify};
 use pb_base::{Bundle, Capital, Claims, Names, NoMemory};
 use pb_code::{Code, Instr, ProcessCode};
 use std::alloc::Global;
 use std::test::Fail;
-
-ghost use Rattle.std.specs.Prelude.{◌≤◌};
 
 /// Names that begin with a letter, so many of them.
 fn names(alloc: Global, letter: u8, count: usize) -> Result<Vec<Vec<u8>>, NoMemory> {
@@ -59,7 +59,10 @@ fn fault_of(
 ) -> Result<Option<VerifyFault>, NoMemory>
     requires { capital ≤ 1000000 }
 {
-    match verify(alloc, one_process(alloc, integers, entries, instrs, capital, claim)?) {
+    match verify(
+        alloc,
+        one_process(alloc, integers, entries, instrs, capital, claim)?,
+    ) {
         Ok(_) => Ok(None),
         Err((_, fault)) => Ok(Some(fault)),
     }
@@ -103,7 +106,13 @@ fn code_that_is_accepted(rt: HostRuntime) -> Result<(), Fail> {
 #[test]
 fn the_verified_code_and_its_depths(rt: HostRuntime) -> Result<(), Fail> {
     let alloc = rt.alloc();
-    let instrs = [Instr::Push(7), Instr::Push(8), Instr::Add, Instr::Print, Instr::End];
+    let instrs = [
+        Instr::Push(7),
+        Instr::Push(8),
+        Instr::Add,
+        Instr::Print,
+        Instr::End,
+    ];
     let code = one_process(alloc, 0, &[0], &instrs, 4, 0)?;
     let verified = match verify(alloc, code) {
         Ok(verified) => verified,
@@ -139,28 +148,76 @@ fn the_code_is_handed_back(rt: HostRuntime) -> Result<(), Fail> {
 fn each_fault(rt: HostRuntime) -> Result<(), Fail> {
     let alloc = rt.alloc();
     let end = [Instr::End];
-    assert_eq!(rt; fault_of(alloc, 65, &[0], &end, 4, 0)?, Some(VerifyFault::OutOfLimits));
-    assert_eq!(rt; fault_of(alloc, 0, &[0], &end, 4, 1_000_001)?, Some(VerifyFault::OutOfLimits));
+    assert_eq!(rt;
+        fault_of(alloc, 65, &[0], &end, 4, 0)?,
+        Some(VerifyFault::OutOfLimits)
+    );
+    assert_eq!(rt;
+        fault_of(alloc, 0, &[0], &end, 4, 1_000_001)?,
+        Some(VerifyFault::OutOfLimits)
+    );
     let no_bundle = [Instr::Take(2), Instr::Give(2), Instr::End];
-    assert_eq!(rt; fault_of(alloc, 0, &[0], &no_bundle, 4, 4)?, Some(VerifyFault::OutOfLimits));
-    assert_eq!(rt; fault_of(alloc, 0, &[0], &end, 4, 5)?, Some(VerifyFault::OverCapital));
+    assert_eq!(rt;
+        fault_of(alloc, 0, &[0], &no_bundle, 4, 4)?,
+        Some(VerifyFault::OutOfLimits)
+    );
+    assert_eq!(rt;
+        fault_of(alloc, 0, &[0], &end, 4, 5)?,
+        Some(VerifyFault::OverCapital)
+    );
     let stored = [Instr::Push(1), Instr::Store(1), Instr::End];
-    assert_eq!(rt; fault_of(alloc, 1, &[0], &stored, 4, 0)?, Some(VerifyFault::OutOfRange));
+    assert_eq!(rt;
+        fault_of(alloc, 1, &[0], &stored, 4, 0)?,
+        Some(VerifyFault::OutOfRange)
+    );
     let outside = [Instr::Jump(2), Instr::End];
-    assert_eq!(rt; fault_of(alloc, 0, &[0], &outside, 4, 0)?, Some(VerifyFault::WrongArms));
+    assert_eq!(rt;
+        fault_of(alloc, 0, &[0], &outside, 4, 0)?,
+        Some(VerifyFault::WrongArms)
+    );
     let unnamed = [Instr::End, Instr::End];
-    assert_eq!(rt; fault_of(alloc, 0, &[0, 1], &unnamed, 4, 0)?, Some(VerifyFault::WrongForks));
+    assert_eq!(rt;
+        fault_of(alloc, 0, &[0, 1], &unnamed, 4, 0)?,
+        Some(VerifyFault::WrongForks)
+    );
     let grown = [Instr::Push(1), Instr::Jump(0), Instr::End];
-    assert_eq!(rt; fault_of(alloc, 0, &[0], &grown, 4, 0)?, Some(VerifyFault::NoDepths));
+    assert_eq!(rt;
+        fault_of(alloc, 0, &[0], &grown, 4, 0)?,
+        Some(VerifyFault::NoDepths)
+    );
     let held = [ONE, Instr::Jump(0), Instr::End];
-    assert_eq!(rt; fault_of(alloc, 0, &[0], &held, 4, 4)?, Some(VerifyFault::NoHoldings));
-    let crossed = [ONE, Instr::Take(1), Instr::Give(0), Instr::Give(1), Instr::End];
-    assert_eq!(rt; fault_of(alloc, 0, &[0], &crossed, 4, 3)?, Some(VerifyFault::NoHoldings));
+    assert_eq!(rt;
+        fault_of(alloc, 0, &[0], &held, 4, 4)?,
+        Some(VerifyFault::NoHoldings)
+    );
+    let crossed = [
+        ONE,
+        Instr::Take(1),
+        Instr::Give(0),
+        Instr::Give(1),
+        Instr::End,
+    ];
+    assert_eq!(rt;
+        fault_of(alloc, 0, &[0], &crossed, 4, 3)?,
+        Some(VerifyFault::NoHoldings)
+    );
     let left = [ONE, Instr::End];
-    assert_eq!(rt; fault_of(alloc, 0, &[0], &left, 4, 4)?, Some(VerifyFault::LeftAtEnd));
-    let nested = [ONE, Instr::Take(1), Instr::Give(1), Instr::Give(0), Instr::End];
+    assert_eq!(rt;
+        fault_of(alloc, 0, &[0], &left, 4, 4)?,
+        Some(VerifyFault::LeftAtEnd)
+    );
+    let nested = [
+        ONE,
+        Instr::Take(1),
+        Instr::Give(1),
+        Instr::Give(0),
+        Instr::End,
+    ];
     assert_eq!(rt; fault_of(alloc, 0, &[0], &nested, 4, 3)?, None);
-    assert_eq!(rt; fault_of(alloc, 0, &[0], &nested, 4, 2)?, Some(VerifyFault::OverClaim));
+    assert_eq!(rt;
+        fault_of(alloc, 0, &[0], &nested, 4, 2)?,
+        Some(VerifyFault::OverClaim)
+    );
     Ok(())
 }
 
@@ -192,6 +249,9 @@ fn many_comparisons(rt: HostRuntime) -> Result<(), Fail> {
     }
     code.push(Instr::End)?;
     assert_eq!(rt; fault_of(alloc, 0, &[0], &code, 256, 256)?, None);
-    assert_eq!(rt; fault_of(alloc, 0, &[0], &code, 256, 255)?, Some(VerifyFault::OverClaim));
+    assert_eq!(rt;
+        fault_of(alloc, 0, &[0], &code, 256, 255)?,
+        Some(VerifyFault::OverClaim)
+    );
     Ok(())
 }

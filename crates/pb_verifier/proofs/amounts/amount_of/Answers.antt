@@ -1,6 +1,4 @@
-use Rattle.std.proofs.Common.{◌≡◌, ◌+◌, ◌*◌, ◌≤◌, cond, take, arith}
-use Rattle.std.specs.Prelude.{◌==◌}
-use Rattle.pb_base.specs.Bundle.{amount_in}
+use Rattle.std.proofs.Common.{arith}
 use Rattle.pb_verifier.specs.Given.{bundle_of}
 use Rattle.pb_verifier.proofs.Amounting.{amount_more}
 use Rattle.pb_verifier.proofs.amounts.amount_of.Goals as goal

@@ -1,7 +1,7 @@
-use Rattle.std.proofs.Common.{◌≡◌, ◌+◌, ◌-◌, ◌<◌, ◌≤◌, ◌↔◌, ℕ, length, arith}
+use Rattle.std.proofs.Common.{◌≡◌, ◌+◌, ◌-◌, ◌↔◌, arith}
 use Rattle.pb_code.specs.View.{process_view}
 use Rattle.pb_verifier.specs.Arms.{Closes, IsClosed}
-use Rattle.pb_verifier.specs.Given.{instrs_of, plain}
+use Rattle.pb_verifier.specs.Given.{plain}
 use Rattle.pb_verifier.specs.Places.{arm_end}
 use Rattle.pb_verifier.proofs.Arming.{arm_lies, closed_by}
 use Rattle.pb_verifier.proofs.arms.is_closed.Goals as goal
@@ -24,7 +24,7 @@ returns c =
     let e = c.end_of_arm.ensures in
     let last : (c.end_of_arm.result - 1) + 1 ≡ arm_end (process_view c.args.code.now) c.args.arm = omega arith in
     let by_last : Closes (plain c.args.code.now c.instr_at.result) ↔ IsClosed (process_view c.args.code.now) c.args.arm =
-        closed_by (process_view c.args.code.now) c.args.arm (c.end_of_arm.result - 1) (plain c.args.code.now c.instr_at.result) last c.instr_at.ensures
+    closed_by (process_view c.args.code.now) c.args.arm (c.end_of_arm.result - 1) (plain c.args.code.now c.instr_at.result) last c.instr_at.ensures
     in
     let h = c.closes.ensures c.args.code.now.bundles.items in
     (λ t. by_last.0 (h.0 t), λ closed. h.1 (by_last.1 closed))

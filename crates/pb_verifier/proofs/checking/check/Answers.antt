@@ -1,10 +1,9 @@
-use Rattle.std.proofs.Common.{◌≡◌, ◌+◌, ◌<◌, ◌≤◌, ℕ, List, [], ◌∷◌, ◌++◌, Option, Some, None, map, length, true, false, refl, sym, ap, ◌∙◌, subst, arith}
-use Rattle.std.specs.Prelude.{slice_get}
+use Rattle.std.proofs.Common.{◌≡◌, ◌+◌, ℕ, List, [], ◌∷◌, ◌++◌, Option, map, length, true, false, refl, sym, ap, ◌∙◌, subst, arith}
 use Rattle.std.proofs.lemmas.List.{length-map, map-append}
 use Rattle.pb_code.specs.View.{code_view, process_view}
 use Rattle.pb_verifier.specs.declared.fault.VerifyFault.{VerifyFault}
 use Rattle.pb_verifier.specs.declared.fault.VerifyFault.TheVariants.{NoMemory}
-use Rattle.pb_verifier.proofs.Judging.{IsFoundBefore, IsFirstBefore, AreSound, annotated_all, depths_all, found_fault, found_sound, refused_first}
+use Rattle.pb_verifier.proofs.Judging.{IsFoundBefore, annotated_all, depths_all, found_fault, found_sound, refused_first}
 use Rattle.pb_verifier.proofs.Limiting.{read_mapped}
 use Rattle.pb_verifier.proofs.checking.check.Goals as goal
 use Rattle.pb_verifier.proofs.checking.check.Goals.{in-Ok+in-Ok-push, in-Err+else-is_memory}
@@ -22,7 +21,7 @@ loop-p-preserved c =
     elim c.match-check_process.branch [
       | in-Ok+in-Ok-push w ↦
           let rows : map (λ row. row.items) c.match-check_process.depths.items ≡ map (λ row. row.items) c.loop-p.depths.items ++ w.in-Ok.row.items ∷ [] =
-              ap (λ v. map (λ row. row.items) v.items) w.depths-is ∙ ap (map (λ row. row.items)) w.in-Ok-push.ensures.items ∙ map-append (λ row. row.items) c.loop-p.depths.items (w.in-Ok.row ∷ [])
+          ap (λ v. map (λ row. row.items) v.items) w.depths-is ∙ ap (map (λ row. row.items)) w.in-Ok-push.ensures.items ∙ map-append (λ row. row.items) c.loop-p.depths.items (w.in-Ok.row ∷ [])
           in
           subst (λ (xs : List (List ℕ)). IsFoundBefore (code_view c.args.code.now) (c.loop-p.p + 1) c.match-check_process.found xs) (sym rows)
           (subst (λ (f : Option VerifyFault). IsFoundBefore (code_view c.args.code.now) (c.loop-p.p + 1) f (map (λ row. row.items) c.loop-p.depths.items ++ w.in-Ok.row.items ∷ [])) (sym w.found-is)

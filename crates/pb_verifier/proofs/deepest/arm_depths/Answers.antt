@@ -1,4 +1,4 @@
-use Rattle.std.proofs.Common.{◌≡◌, ◌+◌, ℕ, ◌∙◌, List, [], ◌∷◌, length, length-append, ap, subst, arith}
+use Rattle.std.proofs.Common.{◌+◌, ℕ, ◌∙◌, [], ◌∷◌, length-append, ap, arith}
 use Rattle.pb_code.specs.View.{process_view}
 use Rattle.pb_verifier.specs.Verified.{IsDepthOf}
 use Rattle.pb_verifier.proofs.Each.{push_more}

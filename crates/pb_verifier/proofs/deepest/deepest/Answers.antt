@@ -1,9 +1,8 @@
-use Rattle.std.proofs.Common.{◌≡◌, ◌≤◌, ◌<◌, ◌+◌, ℕ, length, Some, None, refl, sym, ◌∙◌, subst, arith}
+use Rattle.std.proofs.Common.{◌≡◌, ◌≤◌, ◌<◌, ◌+◌, ℕ, length, Some, None, sym, ◌∙◌, subst, arith}
 use Rattle.std.proofs.lemmas.List.{get_or_default}
 use Rattle.pb_code.specs.View.{process_view}
 use Rattle.pb_verifier.specs.declared.depths.Depth.{Depth}
-use Rattle.pb_verifier.specs.Given.{instrs_of}
-use Rattle.pb_verifier.specs.Places.{entry, IsInArm}
+use Rattle.pb_verifier.specs.Places.{IsInArm}
 use Rattle.pb_verifier.specs.Spread.{fact_at}
 use Rattle.pb_verifier.proofs.Arming.{arm_lies, rise_of}
 use Rattle.pb_verifier.proofs.Ending.{IsBestBefore, best_start, best_over, best_keeps, best_takes}
@@ -41,10 +40,10 @@ loop-place-preserved c =
           subst (λ (n : ℕ). IsBestBefore (process_view c.args.code.now) c.args.depths.now c.args.arm (c.loop-place.place + 1) n) (sym w.best-is)
           (best_keeps (process_view c.args.code.now) c.args.depths.now c.args.arm c.loop-place.place c.loop-place.best c.loop-place.invariant
           (λ d at.
-              let read : fact_at c.args.depths.now c.loop-place.place ≡ Some w.in-Some.depth = get_or_default c.args.depths.now c.loop-place.place None _ u ∙ w.in-Some.is in
-              let both : Some w.in-Some.depth ≡ Some d = sym read ∙ at in
-              let same : w.in-Some.depth ≡ d = cc in
-              subst (λ (x : Depth). x.count ≤ c.loop-place.best) same w.if-depth-best.false))
+          let read : fact_at c.args.depths.now c.loop-place.place ≡ Some w.in-Some.depth = get_or_default c.args.depths.now c.loop-place.place None _ u ∙ w.in-Some.is in
+          let both : Some w.in-Some.depth ≡ Some d = sym read ∙ at in
+          let same : w.in-Some.depth ≡ d = cc in
+          subst (λ (x : Depth). x.count ≤ c.loop-place.best) same w.if-depth-best.false))
       | in_default w ↦
           subst (λ (n : ℕ). IsBestBefore (process_view c.args.code.now) c.args.depths.now c.args.arm (c.loop-place.place + 1) n) (sym w.best-is)
           (best_keeps (process_view c.args.code.now) c.args.depths.now c.args.arm c.loop-place.place c.loop-place.best c.loop-place.invariant

@@ -16,14 +16,14 @@ pub returns-clause-yes : goal.returns-clause-yes
 returns-clause-yes c =
     some_weaker c.spread.result
     (λ table least.
-        table_of (process_view c.args.code.now) TurnsDepth depth_rules depths_by_rules c.args.order.now c.requires.inside c.requires.reached (notes_of (λ (d : Depth). d.count) table.items)
-        (subst (λ (es : List ℕ). IsLeast depth_rules es (instrs_of c.args.code.now) (notes_of (λ (d : Depth). d.count) table.items)) c.deref.ensures.value least))
+    table_of (process_view c.args.code.now) TurnsDepth depth_rules depths_by_rules c.args.order.now c.requires.inside c.requires.reached (notes_of (λ (d : Depth). d.count) table.items)
+    (subst (λ (es : List ℕ). IsLeast depth_rules es (instrs_of c.args.code.now) (notes_of (λ (d : Depth). d.count) table.items)) c.deref.ensures.value least))
     c.spread.ensures.yes
 
 pub returns-clause-no : goal.returns-clause-no
 returns-clause-no c =
     none_weaker c.spread.result
     (λ none.
-        no_facts (process_view c.args.code.now) TurnsDepth depth_rules depths_by_rules c.args.order.now c.requires.inside c.requires.reached
-        (subst (λ (es : List ℕ). ¬ CanBeAnnotated depth_rules es (instrs_of c.args.code.now)) c.deref.ensures.value none))
+    no_facts (process_view c.args.code.now) TurnsDepth depth_rules depths_by_rules c.args.order.now c.requires.inside c.requires.reached
+    (subst (λ (es : List ℕ). ¬ CanBeAnnotated depth_rules es (instrs_of c.args.code.now)) c.deref.ensures.value none))
     c.spread.ensures.no

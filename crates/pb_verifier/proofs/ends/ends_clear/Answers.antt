@@ -1,4 +1,4 @@
-use Rattle.std.proofs.Common.{◌≡◌, ◌<◌, length, true, false, refl, sym, arith}
+use Rattle.std.proofs.Common.{◌≡◌, true, false, refl, arith}
 use Rattle.pb_code.specs.View.{process_view}
 use Rattle.pb_verifier.specs.Ends.{IsClearAt}
 use Rattle.pb_verifier.specs.Given.{instrs_of, plain}

@@ -1,6 +1,6 @@
 use Rattle.std.proofs.Common.{◌≡◌, ℕ, ◌<◌, length, get_or, Some, None}
 use Rattle.std.specs.Prelude.{Contains}
-use Rattle.pb_verifier.specs.Given.{instrs_of, plain}
+use Rattle.pb_verifier.specs.Given.{instrs_of}
 use Rattle.pb_verifier.specs.Spread.{rules_of, fact_at}
 use Rattle.pb_verifier.proofs.Steps.{IsTable}
 use Rattle.pb_verifier.proofs.facts.spread.Given as goal

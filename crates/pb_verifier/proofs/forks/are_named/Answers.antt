@@ -1,9 +1,7 @@
-use Rattle.std.proofs.Common.{◌≡◌, ◌+◌, ◌≤◌, ◌<◌, ℕ, List, Bool, true, false, length, get_or, refl, sym, ap, Some, ◌∙◌, subst, arith, below_more}
-use Rattle.std.proofs.lemmas.List.{get_or_default}
+use Rattle.std.proofs.Common.{◌≡◌, ◌+◌, List, Bool, true, false, length, refl, sym, ◌∙◌, subst, arith}
 use Rattle.pb_code.specs.Code.{Fork}
 use Rattle.pb_code.specs.View.{process_view}
 use Rattle.pb_verifier.specs.Given.{instrs_of, plain}
-use Rattle.pb_verifier.specs.Places.{InstrAt}
 use Rattle.pb_verifier.proofs.Each.{same_read}
 use Rattle.pb_verifier.proofs.Forking.{IsMarked, fork_given, marked_none, marked_skip, marked_more, unmarked_of, named_from, marked_of, none_marked}
 use Rattle.pb_verifier.proofs.forks.are_named.Goals as goal
@@ -42,8 +40,8 @@ loop-place-preserved c =
           subst (λ (m : List Bool). IsMarked (process_view c.args.code.now) (c.loop-place.place + 1) m) (sym w.marks-is)
           (marked_skip (process_view c.args.code.now) c.loop-place.place c.loop-place.marks c.loop-place.invariant
           (λ first count read.
-              let same = same_read (instrs_of c.args.code.now) c.loop-place.place (plain c.args.code.now c.instr_at.result) (Fork first count) c.instr_at.ensures read in
-              w.in_default.not-Fork first count (fork_given c.args.code.now.bundles.items c.instr_at.result first count same)))
+          let same = same_read (instrs_of c.args.code.now) c.loop-place.place (plain c.args.code.now c.instr_at.result) (Fork first count) c.instr_at.ensures read in
+          w.in_default.not-Fork first count (fork_given c.args.code.now.bundles.items c.instr_at.result first count same)))
     ]
 
 pub returns-then-not-marks-arm : goal.returns-then-not-marks-arm

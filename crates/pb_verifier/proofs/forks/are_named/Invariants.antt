@@ -1,6 +1,5 @@
-use Rattle.std.proofs.Common.{◌≡◌, ◌↔◌, ◌≤◌, ℕ, ◌<◌, true, false, length, get_or}
+use Rattle.std.proofs.Common.{◌≡◌, ◌≤◌, ℕ, ◌<◌, true, false, get_or}
 use Rattle.pb_code.specs.View.{process_view}
-use Rattle.pb_verifier.specs.Arms.{IsNamedBefore, IsOnceBefore}
 use Rattle.pb_verifier.proofs.Forking.{IsMarked}
 use Rattle.pb_verifier.proofs.forks.are_named.Given as goal
 

@@ -1,8 +1,6 @@
-use Rattle.std.proofs.Common.{◌≡◌, ◌≤◌, ◌<◌, ℕ, true, false, refl, ap, Some, ◌∙◌, subst, arith}
-use Rattle.std.proofs.lemmas.Option.{slice_get_within}
-use Rattle.pb_code.specs.Code.{Fork}
+use Rattle.std.proofs.Common.{◌≡◌, true, false, refl, ap, Some, ◌∙◌, arith}
 use Rattle.pb_code.specs.View.{process_view}
-use Rattle.pb_verifier.specs.Given.{instrs_of, plain}
+use Rattle.pb_verifier.specs.Given.{plain}
 use Rattle.pb_verifier.proofs.Arming.{arm_lies, rise_of}
 use Rattle.pb_verifier.proofs.Forking.{later_more}
 use Rattle.pb_verifier.proofs.forks.forks_later.Goals as goal

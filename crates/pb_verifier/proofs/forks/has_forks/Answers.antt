@@ -1,7 +1,6 @@
-use Rattle.std.proofs.Common.{◌≡◌, ◌<◌, ◌≤◌, length, refl, arith, below_more}
-use Rattle.std.proofs.lemmas.List.{length-map}
+use Rattle.std.proofs.Common.{refl, arith, below_more}
 use Rattle.pb_code.specs.View.{process_view}
-use Rattle.pb_verifier.specs.Arms.{ForksLater, IsPaired}
+use Rattle.pb_verifier.specs.Arms.{IsPaired}
 use Rattle.pb_verifier.specs.Given.{instrs_of, plain}
 use Rattle.pb_verifier.proofs.Each.{each_more, each_all}
 use Rattle.pb_verifier.proofs.Forking.{forks_from, forks_there, named_of}

@@ -1,4 +1,4 @@
-use Rattle.std.proofs.Common.{◌≡◌, ◌↔◌, ◌+◌, ◌<◌, ◌≤◌, ℕ, leb, nat_lt, true, arith, ltb-true}
+use Rattle.std.proofs.Common.{◌+◌, ◌<◌, ◌≤◌, arith, ltb-true}
 use Rattle.std.proofs.lemmas.Bool.{leb-true, le-leb}
 use Rattle.pb_verifier.proofs.Forking.{forked_by}
 use Rattle.pb_verifier.proofs.forks.names_later.Goals as goal

@@ -1,6 +1,5 @@
 use Rattle.std.proofs.Common.{ℕ, List, sym, subst}
 use Rattle.pb_code.specs.View.{process_view}
-use Rattle.pb_verifier.specs.declared.holdings.Holding.{Holding}
 use Rattle.pb_verifier.specs.Faults.{TurnsHoldings}
 use Rattle.pb_verifier.specs.Flow.{IsGrown}
 use Rattle.pb_verifier.specs.Given.{instrs_of}
@@ -17,14 +16,14 @@ pub returns-clause-yes : goal.returns-clause-yes
 returns-clause-yes c =
     some_weaker c.spread.result
     (λ table least.
-        table_of (process_view c.args.code.now) TurnsHoldings hold_rules holdings_by_rules c.args.order.now c.requires.inside c.requires.reached (notes_of (held_by (instrs_of c.args.code.now) table.items) table.items)
-        (subst (λ (es : List ℕ). IsLeast hold_rules es (instrs_of c.args.code.now) (notes_of (held_by (instrs_of c.args.code.now) table.items) table.items)) c.deref.ensures.value least))
+    table_of (process_view c.args.code.now) TurnsHoldings hold_rules holdings_by_rules c.args.order.now c.requires.inside c.requires.reached (notes_of (held_by (instrs_of c.args.code.now) table.items) table.items)
+    (subst (λ (es : List ℕ). IsLeast hold_rules es (instrs_of c.args.code.now) (notes_of (held_by (instrs_of c.args.code.now) table.items) table.items)) c.deref.ensures.value least))
     c.spread.ensures.yes
 
 pub returns-clause-no : goal.returns-clause-no
 returns-clause-no c =
     none_weaker c.spread.result
     (λ none.
-        no_facts (process_view c.args.code.now) TurnsHoldings hold_rules holdings_by_rules c.args.order.now c.requires.inside c.requires.reached
-        (subst (λ (es : List ℕ). ¬ CanBeAnnotated hold_rules es (instrs_of c.args.code.now)) c.deref.ensures.value none))
+    no_facts (process_view c.args.code.now) TurnsHoldings hold_rules holdings_by_rules c.args.order.now c.requires.inside c.requires.reached
+    (subst (λ (es : List ℕ). ¬ CanBeAnnotated hold_rules es (instrs_of c.args.code.now)) c.deref.ensures.value none))
     c.spread.ensures.no

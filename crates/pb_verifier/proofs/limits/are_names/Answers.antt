@@ -1,7 +1,6 @@
-use Rattle.std.proofs.Common.{◌≡◌, ◌≢◌, ◌⊎◌, inl, inr, ℕ, ◌+◌, ◌<◌, ◌≤◌, List, [], get_or, map, length, true, false, Some, refl, sym, ap, ◌∙◌, subst, arith, below_more}
-use Rattle.std.specs.Prelude.{slice_get}
+use Rattle.std.proofs.Common.{◌≡◌, ℕ, List, map, length, true, false, refl, sym, subst, arith}
 use Rattle.std.proofs.lemmas.List.{length-map}
-use Rattle.pb_verifier.specs.Limits.{AreNames, IsName}
+use Rattle.pb_verifier.specs.Limits.{IsName}
 use Rattle.pb_verifier.proofs.Each.{each_more}
 use Rattle.pb_verifier.proofs.Limiting.{all_at, apart_more, are_names_from, read_mapped}
 use Rattle.pb_verifier.proofs.limits.are_names.Goals as goal

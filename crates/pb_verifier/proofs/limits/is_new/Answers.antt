@@ -1,4 +1,4 @@
-use Rattle.std.proofs.Common.{◌≡◌, ◌<◌, List, [], ℕ, get_or, map, length, true, false, sym, ◌∙◌, arith}
+use Rattle.std.proofs.Common.{◌≡◌, ◌<◌, [], map, length, true, false, sym, ◌∙◌, arith}
 use Rattle.pb_verifier.proofs.Limiting.{at_mapped, bytes_differ, bytes_same, new_more}
 use Rattle.pb_verifier.proofs.limits.is_new.Goals as goal
 
@@ -17,5 +17,5 @@ loop-j-preserved c =
     let two = at_mapped (λ name. name.items) c.args.names.now c.loop-j.j c.index-names-j.result [] u c.index-names-j.is in
     new_more (map (λ name. name.items) c.args.names.now) c.args.k c.loop-j.j c.loop-j.invariant
     (λ same.
-        bytes_differ c.as_slice.result.now c.as_slice-in-loop-j.result.now c.if-eq.ensures
-        (c.as_slice.ensures.value ∙ sym one ∙ same ∙ two ∙ sym c.as_slice-in-loop-j.ensures.value))
+    bytes_differ c.as_slice.result.now c.as_slice-in-loop-j.result.now c.if-eq.ensures
+    (c.as_slice.ensures.value ∙ sym one ∙ same ∙ two ∙ sym c.as_slice-in-loop-j.ensures.value))

@@ -1,4 +1,4 @@
-use Rattle.std.proofs.Common.{◌≡◌, ◌≢◌, ℕ, ◌<◌, [], get_or}
+use Rattle.std.proofs.Common.{◌≢◌, ℕ, ◌<◌, [], get_or}
 use Rattle.pb_verifier.specs.Limits.{reserved_words}
 use Rattle.pb_verifier.proofs.limits.is_reserved.Given as goal
 

@@ -1,4 +1,4 @@
-use Rattle.std.proofs.Common.{◌<◌, ℕ}
+use Rattle.std.proofs.Common.{◌<◌}
 use Rattle.pb_verifier.specs.Given.{bundle_of}
 use Rattle.pb_verifier.specs.Limits.{IsUpTo}
 use Rattle.pb_verifier.proofs.Each.{EachBelow}

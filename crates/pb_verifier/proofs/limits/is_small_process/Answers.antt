@@ -1,4 +1,4 @@
-use Rattle.std.proofs.Common.{◌≡◌, ◌≤◌, vec_len, length, refl, arith, subst, ℕ, ◌<◌}
+use Rattle.std.proofs.Common.{vec_len, refl, arith, subst, ℕ, ◌<◌}
 use Rattle.std.proofs.lemmas.List.{get_or_default}
 use Rattle.pb_verifier.specs.Given.{instrs_of}
 use Rattle.pb_verifier.specs.Limits.{HasSmallNumbers}

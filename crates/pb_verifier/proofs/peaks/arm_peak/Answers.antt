@@ -1,14 +1,11 @@
-use Rattle.std.proofs.Common.{◌≡◌, ◌⊎◌, inl, inr, ◌+◌, ◌≤◌, ◌<◌, ℕ, [], length, get_or, Some, None, Option, refl, sym, ap, ◌∙◌, subst, arith}
+use Rattle.std.proofs.Common.{◌≡◌, inl, inr, ◌+◌, ◌<◌, ℕ, length, Some, None, Option, sym, ap, ◌∙◌, subst, arith}
 use Rattle.std.specs.Prelude.{option_map, unwrap_or}
 use Rattle.std.proofs.lemmas.List.{get_or_default}
-use Rattle.pb_code.specs.Code.{Instr, Join}
 use Rattle.pb_code.specs.View.{process_view}
 use Rattle.pb_verifier.specs.declared.amounts.Amount.{Amount}
-use Rattle.pb_verifier.specs.Amounts.{AreCutOff, clamped, held_at}
-use Rattle.pb_verifier.specs.Faults.{HasArms, HasForks, in_joined}
-use Rattle.pb_verifier.specs.Given.{instrs_of, plain}
-use Rattle.pb_verifier.specs.Places.{IsInArm, Reached, arms, entry}
-use Rattle.pb_verifier.specs.Spread.{fact_at, notes_of}
+use Rattle.pb_verifier.specs.Given.{plain}
+use Rattle.pb_verifier.specs.Places.{IsInArm, Reached}
+use Rattle.pb_verifier.specs.Spread.{fact_at}
 use Rattle.pb_verifier.proofs.Arming.{arm_lies, rise_of}
 use Rattle.pb_verifier.proofs.Ending.{fact_of}
 use Rattle.pb_verifier.proofs.Forking.{join_given}
@@ -19,11 +16,11 @@ use Rattle.pb_verifier.proofs.peaks.arm_peak.Goals.{in-Some+then-here-best, in-S
 pub peak_at-here-requires-clause-there : goal.peak_at-here-requires-clause-there
 peak_at-here-requires-clause-there c =
     λ bundles first count e.
-        let is = ap (plain c.args.code.now) (join_given bundles c.instr_at.result first count e) in
-        let there = joins_there (process_view c.args.code.now) c.requires.arms c.requires.forks c.requires.small.some_arms.0 c.loop-place.place first count (c.instr_at.ensures ∙ ap Some is) in
-        let few = c.requires.small.some_arms.1 in
-        let sized = c.requires.sized in
-        omega arith
+    let is = ap (plain c.args.code.now) (join_given bundles c.instr_at.result first count e) in
+    let there = joins_there (process_view c.args.code.now) c.requires.arms c.requires.forks c.requires.small.some_arms.0 c.loop-place.place first count (c.instr_at.ensures ∙ ap Some is) in
+    let few = c.requires.small.some_arms.1 in
+    let sized = c.requires.sized in
+    omega arith
 
 pub bounds-table-place : goal.bounds-table-place
 bounds-table-place c =
@@ -75,9 +72,9 @@ loop-place-preserved c =
           }
       | in_default w ↦
           let none : Reached (process_view c.args.code.now) c.loop-place.place → ⊥ = λ reached.
-              let n = c.requires.amounts.noted c.loop-place.place reached in
-              let a = fact_of value c.args.table.now c.loop-place.place n.0 n.1 in
-              w.in_default.not-Some a.0 (sym (get_or_default c.args.table.now c.loop-place.place None _ u) ∙ a.1)
+          let n = c.requires.amounts.noted c.loop-place.place reached in
+          let a = fact_of value c.args.table.now c.loop-place.place n.0 n.1 in
+          w.in_default.not-Some a.0 (sym (get_or_default c.args.table.now c.loop-place.place None _ u) ∙ a.1)
           in
           record {
             best = λ peak cut lie fork some.
@@ -91,5 +88,5 @@ pub returns-clause-peak : goal.returns-clause-peak
 returns-clause-peak c =
     let e = c.end_of_arm-end.ensures in
     λ peak cut.
-        best_over (process_view c.args.code.now) c.requires.arms c.requires.forks c.requires.small.some_arms.0 c.args.table.now peak c.args.arm c.loop-place.place c.loop-place.best c.requires.arm (omega arith)
-        (c.loop-place.invariant.best peak cut c.requires.arms c.requires.forks c.requires.small.some_arms.0)
+    best_over (process_view c.args.code.now) c.requires.arms c.requires.forks c.requires.small.some_arms.0 c.args.table.now peak c.args.arm c.loop-place.place c.loop-place.best c.requires.arm (omega arith)
+    (c.loop-place.invariant.best peak cut c.requires.arms c.requires.forks c.requires.small.some_arms.0)

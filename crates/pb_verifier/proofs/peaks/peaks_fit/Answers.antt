@@ -1,10 +1,8 @@
-use Rattle.std.proofs.Common.{◌≡◌, ◌≤◌, ◌<◌, ℕ, List, Option, true, false, refl, sym, subst, arith, below_more}
+use Rattle.std.proofs.Common.{◌≡◌, ℕ, List, Option, true, false, refl, sym, subst, arith, below_more}
 use Rattle.pb_base.specs.Banker.{cell}
 use Rattle.pb_code.specs.View.{process_view}
 use Rattle.pb_verifier.specs.declared.amounts.Amount.{Amount}
-use Rattle.pb_verifier.specs.Amounts.{IsPeakOf, TurnsAmount, clamped}
-use Rattle.pb_verifier.specs.Faults.{PeakFits}
-use Rattle.pb_verifier.specs.Places.{arms}
+use Rattle.pb_verifier.specs.Amounts.{TurnsAmount}
 use Rattle.pb_verifier.specs.Spread.{IsTableOf, notes_of}
 use Rattle.pb_verifier.proofs.Peaking.{peak_fits, peak_least}
 use Rattle.pb_verifier.proofs.peaks.peaks_fit.Goals as goal

@@ -1,8 +1,8 @@
-use Rattle.std.proofs.Common.{◌≡◌, ◌≢◌, ◌⊎◌, inl, inr, ◌+◌, ◌-◌, ◌≤◌, ◌<◌, ℕ, List, length, get_or, set, refl, sym, ap, ◌∙◌, subst, arith, length-set, get_or-set_same, get_or-set_other}
+use Rattle.std.proofs.Common.{◌≡◌, ◌≢◌, ◌⊎◌, inl, inr, ◌+◌, ◌-◌, ◌≤◌, ◌<◌, ℕ, List, length, get_or, set, refl, ap, ◌∙◌, arith, length-set, get_or-set_same, get_or-set_other}
 use Rattle.std.proofs.lemmas.Bool.{cases_eq}
 use Rattle.pb_code.specs.View.{process_view}
 use Rattle.pb_verifier.specs.Places.{arms}
-use Rattle.pb_verifier.proofs.Peaking.{AreLast, last_cut, last_more, last_none, replicate_read}
+use Rattle.pb_verifier.proofs.Peaking.{last_cut, last_more, last_none, replicate_read}
 use Rattle.pb_verifier.proofs.peaks.root_peak.Goals as goal
 
 pub loop-done-init : goal.loop-done-init

@@ -1,4 +1,4 @@
-use Rattle.std.proofs.Common.{◌≡◌, ◌+◌, ◌*◌, ◌≤◌, get_or, arith}
+use Rattle.std.proofs.Common.{◌+◌, get_or, arith}
 use Rattle.pb_verifier.proofs.Peaking.{sum_more}
 use Rattle.pb_verifier.proofs.peaks.sum_of_peaks.Goals as goal
 

@@ -1,4 +1,4 @@
-use Rattle.std.proofs.Common.{◌≡◌, ◌<◌, ℕ, true, false, refl, sym, ◌∙◌, subst, arith}
+use Rattle.std.proofs.Common.{◌≡◌, ℕ, true, false, refl, sym, ◌∙◌, subst, arith}
 use Rattle.pb_base.specs.Banker.{cell}
 use Rattle.pb_base.specs.Tables.{width_of}
 use Rattle.pb_code.specs.View.{process_view}

@@ -1,6 +1,6 @@
 use Rattle.std.proofs.Common.{ℕ, ◌-◌, ◌<◌, length, get_or}
 use Rattle.std.specs.Prelude.{Contains}
-use Rattle.pb_verifier.specs.Given.{instrs_of, plain}
+use Rattle.pb_verifier.specs.Given.{instrs_of}
 use Rattle.pb_verifier.proofs.Searching.{IsSearch}
 use Rattle.pb_verifier.proofs.reach.reached.Given as goal
 

@@ -1,7 +1,7 @@
-use Rattle.std.proofs.Common.{◌≡◌, ◌≤◌, ◌↔◌, ℕ, List, length, sym, subst, arith, Contains}
+use Rattle.std.proofs.Common.{◌↔◌, ℕ, List, sym, subst, Contains}
 use Rattle.pb_code.specs.View.{process_view}
 use Rattle.pb_verifier.specs.Flow.{IsGrown, IsReached, StaysInside}
-use Rattle.pb_verifier.specs.Given.{IsOrderOf, instrs_of}
+use Rattle.pb_verifier.specs.Given.{instrs_of}
 use Rattle.pb_verifier.proofs.Each.{ok_both}
 use Rattle.pb_verifier.proofs.Inside.{stays_inside}
 use Rattle.pb_verifier.proofs.reach.reached_places.Goals as goal

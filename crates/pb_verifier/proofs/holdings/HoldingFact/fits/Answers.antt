@@ -15,8 +15,8 @@ returns-then-self-gt0 c =
     let held : List Bundle = held_by (instrs_of c.args.code.now) c.args._table.now c.args.self in
     let is : plain c.args.code.now c.args.instr ≡ Give (slice_index_or bundles c.in-Give.given []) = ap (plain c.args.code.now) c.in-Give.is in
     let g =
-        fits_give (instrs_of c.args.code.now) c.args._table.now c.args.self (slice_index_or bundles c.taken_at.result []) (slice_index_or bundles c.in-Give.given []) (omega arith)
-        c.requires c.taken_at.ensures
+    fits_give (instrs_of c.args.code.now) c.args._table.now c.args.self (slice_index_or bundles c.taken_at.result []) (slice_index_or bundles c.in-Give.given []) (omega arith)
+    c.requires c.taken_at.ensures
     in (
       λ e. subst (λ (i : Instr). HoldFits i held) (sym is) (g.1 (c.same_bundle.ensures.0 e)),
       λ h. c.same_bundle.ensures.1 (g.0 (subst (λ (i : Instr). HoldFits i held) is h)),

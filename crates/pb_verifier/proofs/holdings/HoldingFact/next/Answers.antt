@@ -1,5 +1,5 @@
 use Rattle.std.proofs.Common.{◌≡◌, List, sym, ap, ◌∙◌, subst}
-use Rattle.std.specs.Prelude.{slice_index_or, [], slice_get, Some}
+use Rattle.std.specs.Prelude.{slice_index_or, [], Some}
 use Rattle.pb_base.specs.Steppers.{Bundle}
 use Rattle.pb_code.specs.Code.{Instr, Give, Take}
 use Rattle.pb_verifier.specs.Given.{instrs_of, plain}
