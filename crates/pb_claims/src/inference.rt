@@ -13,9 +13,9 @@ use pb_base::{Claims, NoMemory};
 use pb_names::{Process, Resolved, Stmt};
 use std::alloc::{Allocator, Global};
 
-/// The claim of each process on each resource: the greatest amount that the process holds in any run in which
-/// tests go either way and no banker refuses. A hold counts also where its branch never runs. This is the claim
-/// of Dijkstra's banker (EWD123), found here and not declared by the customer.
+/// The claim of each process on each resource: the greatest amount that the process holds in any run in
+/// which tests go either way and no banker refuses. A hold counts also where its branch never runs. This is
+/// the claim of Dijkstra's banker (EWD123), found here and not declared by the customer.
 ///
 /// It is found by one pass over the body for each resource: a hold adds its amount to the most that its body
 /// holds, of lists and branches the greatest counts, the arms of a parbegin are summed. A claim beyond 64 bits

@@ -47,7 +47,8 @@ pub fn fits(claims: &Claims, capital: &Capital) -> Result<(), OverCapital>
 fn first_over(claims: &Claims, capital: &Capital, p: usize) -> Option<usize>
     requires process { p < length claims.now }
     requires resources { width_of claims.now ≡ length capital.now }
-    ensures first { MatchOption result (RowFits claims.now capital.now p) (IsFirstInRow claims.now capital.now p) }
+    ensures first { MatchOption result (RowFits claims.now capital.now p)
+        (IsFirstInRow claims.now capital.now p) }
     ensures small { IfSome result (λ r. r < MAX_RESOURCES) }
 {
     (0..capital.resources()).find(|r| claims.get(p, *r) > u64::from(capital.get(*r)))
