@@ -21,10 +21,10 @@ MAIN = """\
 ghost use Rattle.pb_machine.specs.Views.{IsMachineOf};
 
 use bumpalo::Bump;
-use pb_base::{Event, NoMemory, Pick};
-use pb_code::Verified;
+use pb_base::{Event, NoMemory, Pick, Step};
 use pb_codegen::compile;
-use pb_machine::{Machine, Step};
+use pb_machine::Machine;
+use pb_verifier::Verified;
 use std::alloc::Global;
 use std::io::Read;
 use std::process::ExitCode;
@@ -88,7 +88,7 @@ abbrev pub invariant-loop-steps : goal.invariant-loop-steps
 invariant-loop-steps l = IsMachineOf l.verified l.machine
 """
 
-CRATE = "bench: pb_base pb_code pb_codegen pb_machine anyhow bumpalo\n"
+CRATE = "bench: pb_base pb_codegen pb_machine pb_verifier anyhow bumpalo\n"
 
 # statements of a counting loop's kind, each with the instructions that it becomes
 STATEMENTS = [

@@ -5,4 +5,5 @@ pub mod Device
 pub mod Lines
 pub mod Padding
 pub mod Steppers
+pub mod Steps
 pub mod Tables

@@ -15,6 +15,7 @@ pub mod names;
 pub mod operators;
 pub mod pair;
 pub mod pick;
+pub mod step;
 
 pub use arithmetic::{apply, apply_unary};
 pub use bundle::Bundle;
@@ -31,3 +32,4 @@ pub use names::Names;
 pub use operators::{BinaryOp, FaultKind, UnaryOp};
 pub use pair::Pair;
 pub use pick::Pick;
+pub use step::Step;

@@ -1,40 +1,27 @@
 -- Texts that are looked at one after another, and their answers.
-use Rattle.std.proofs.Common.{◌≡◌, ℕ, ◌+◌, ◌-◌, ◌<◌, ◌≤◌, Bool, true, false, List, [], ◌∷◌, ◌++◌, length, drop, Option, Some, None, IfSome, IfNone, refl, sym, ap, ◌∙◌, subst, inl, inr, arith, append_assoc, append-nil, codes, ◌||◌}
+use Rattle.std.proofs.Common.{◌≡◌, ℕ, ◌+◌, ◌-◌, ◌<◌, ◌≤◌, Bool, true, false, List, [], ◌∷◌, ◌++◌, length, drop, Option, Some, None, IfSome, IfNone, refl, sym, ap, ◌∙◌, subst, inl, inr, arith, append_assoc, append-nil, ◌||◌}
 use Rattle.std.proofs.lemmas.List.{length-drop}
 use Rattle.pb_base.specs.Device.{AddsPrefix}
-use Rattle.pb_codegen.specs.Compiled.{IsRefused}
-use Rattle.pb_codegen.specs.declared.fault.CompileFault.{CompileFault}
-use Rattle.pb_codegen.specs.declared.fault.CompileFault.TheVariants.{Memory as OutOfMemory}
 use Rattle.pb_cli.specs.Answers.{line, memory_line, Leaves, Says, Tells}
-use Rattle.pb_cli.specs.Checks.{ill, AnswersTo, none, then, IsLeft, AreFirstParts, check_status, SaysOfChecks, too_long, answered, out_of_memory, cut_off, no_memory, nothing, TellsAnswer, AreTold}
+use Rattle.pb_cli.specs.Checks.{ill, AnswersTo, none, then, IsLeft, AreFirstParts, check_status, SaysOfChecks, answered, out_of_memory, cut_off, TellsAnswer, AreTold}
 use Rattle.pb_cli.specs.Parts.{IsMark, IsMarkAt, IsCutAt, AreParts, last, more}
-use Rattle.pb_cli.specs.Refusals.{refusal_line}
+use Rattle.pb_cli.specs.Refusals.{RefusesWith}
 use Rattle.pb_cli.specs.Steps.{Spoken}
 use Rattle.pb_cli.specs.declared.check.Told.TheVariants as told
 use Rattle.pb_cli.specs.declared.status.Status.{Status}
-use Rattle.pb_cli.specs.declared.status.Status.TheVariants.{Refused, Memory, Device}
-use Rattle.pb_cli.proofs.PageLemmas.{Leaves-more, AddsPrefix-more, Says-more, Says-first}
+use Rattle.pb_cli.specs.declared.status.Status.TheVariants.{Memory, Device}
+use Rattle.pb_cli.proofs.PageLemmas.{Leaves-more, AddsPrefix-more, Says-more}
 use Rattle.pb_cli.proofs.RunLemmas.{leaves_all}
-use Rattle.pb_cli.proofs.TextLemmas.{said_nothing}
 
 -- ---- one text
 
-pub refusal_told : (text given : List ℕ) (fault : CompileFault) (old new : Spoken) → (fault ≡ OutOfMemory → ⊥) → IsRefused text fault
-    → given ≡ refusal_line fault → Leaves old.written new.written (old.page ++ line given) new.page → TellsAnswer text old new (told.Answered true)
-refusal_told text given fault old new not_memory is same leaves = (
-  line (refusal_line fault),
-  ill fault not_memory is,
-  subst (λ (t : List ℕ). Leaves old.written new.written (old.page ++ line t) new.page) same leaves,
-)
+pub refusal_told : (text refusal : List ℕ) (old new : Spoken) → RefusesWith text refusal
+    → Leaves old.written new.written (old.page ++ line refusal) new.page → TellsAnswer text old new (told.Answered true)
+refusal_told text refusal old new is leaves = (line refusal, ill refusal is, leaves)
 
-pub refusal_broken : (text given : List ℕ) (fault : CompileFault) (old new : Spoken) → (fault ≡ OutOfMemory → ⊥) → IsRefused text fault
-    → given ≡ refusal_line fault → AddsPrefix old.written new.written (old.page ++ line given) → TellsAnswer text old new told.Broken
-refusal_broken text given fault old new not_memory is same part = (
-  line (refusal_line fault),
-  true,
-  ill fault not_memory is,
-  subst (λ (t : List ℕ). AddsPrefix old.written new.written (old.page ++ line t)) same part,
-)
+pub refusal_broken : (text refusal : List ℕ) (old new : Spoken) → RefusesWith text refusal
+    → AddsPrefix old.written new.written (old.page ++ line refusal) → TellsAnswer text old new told.Broken
+refusal_broken text refusal old new is part = (line refusal, true, ill refusal is, part)
 
 -- ---- the texts so far
 
@@ -133,18 +120,3 @@ told_broken seen bytes rest part None w refused old new are cut whole tells =
 told_broken seen bytes rest part (Some r) w refused old new are cut whole tells =
     told_until_fault bytes part w refused are.done are.said old new are.answers are.told
     (inr (seen r, one_more_done bytes rest part (seen r) are.done are.left cut)) tells
-
--- ---- no text is known
-
-pub checks_want_memory : (bytes page : List ℕ) (old new : Option (List ℕ)) (given : Status) → page ≡ []
-    → Says old new (page ++ memory_line) Memory given → Tells (SaysOfChecks bytes) old new given
-checks_want_memory bytes page old new given empty says =
-    (memory_line, Memory, no_memory, Says-first old new page memory_line Memory given empty says)
-
-pub input_is_too_long : (bytes page : List ℕ) (old new : Option (List ℕ)) (given : Status) → 4194304 < length bytes → page ≡ []
-    → Says old new (page ++ line (codes "refused input")) Refused given → Tells (SaysOfChecks bytes) old new given
-input_is_too_long bytes page old new given long empty says =
-    (line (codes "refused input"), Refused, too_long long, Says-first old new page (line (codes "refused input")) Refused given empty says)
-
-pub checks_nothing : (bytes : List ℕ) (w : Option (List ℕ)) → Tells (SaysOfChecks bytes) w w Device
-checks_nothing bytes w = ([], Device, nothing, said_nothing w)

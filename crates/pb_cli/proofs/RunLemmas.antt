@@ -1,7 +1,6 @@
 -- A run that is told, step after step.
 use Rattle.std.proofs.Common.{◌≡◌, ℕ, ◌+◌, ◌<◌, ◌≤◌, List, [], ◌∷◌, ◌++◌, length, Option, Some, None, option_to_list, refl, sym, ap, ◌∙◌, subst, inl, inr, arith, append-nil, length-append, codes}
 use Rattle.std.proofs.lemmas.Grind.{flat_map-append}
-use Rattle.std.proofs.lemmas.List.{length-map}
 use Rattle.std.proofs.lemmas.Bool.{cases_lt}
 use Rattle.std.specs.Prelude.{slice_get}
 use Rattle.std.specs.Fmt.{decimal}
@@ -11,18 +10,18 @@ use Rattle.pb_base.specs.Device.{AddsPrefix}
 use Rattle.pb_base.specs.Lines.{NameTable, HasNames, line_of}
 use Rattle.pb_base.specs.Steppers.{State, Makes}
 use Rattle.pb_code.specs.Code.{CodeProcess, code_step}
-use Rattle.pb_code.specs.Reached.{CodeMoves, CodeStays}
-use Rattle.pb_code.specs.Verified.{VerifiedCode, IsVerified}
+use Rattle.pb_code.specs.Reached.{CodeMoves}
+use Rattle.pb_verifier.specs.Verified.{VerifiedCode, IsVerified}
 use Rattle.pb_code.specs.Whole.{Code, bank_of, code_opening}
-use Rattle.pb_machine.specs.Going.{IsLive}
 use Rattle.pb_machine.specs.Views.{machine_view, IsMachineOf}
 use Rattle.pb_machine.specs.declared.machine.Machine.{Machine}
-use Rattle.pb_machine.proofs.Going.{bodies_are_live, live_arms_step, events_have_names}
-use Rattle.pb_machine.proofs.Machines.{as_many}
+use Rattle.pb_machine.proofs.Going.{events_have_names}
 use Rattle.pb_machine.proofs.Reaching.{makes_more}
 use Rattle.pb_cli.specs.Answers.{line, memory_line, Leaves, Says, Tells}
 use Rattle.pb_cli.specs.Runs.{event_lines, Run, IsDone, done, faulted, at_limit, out_of_memory, cut_off, SaysOfCode}
-use Rattle.pb_cli.specs.Steps.{IsNext, shown, Spoken, TellsEvent, TellsStep, IsTold, SaysOfEnd, all_done, some_fault, used_up}
+use Rattle.pb_base.specs.declared.step.Step.TheVariants.{Silent, Did}
+use Rattle.pb_cli.specs.Schedule.{StepsFirst}
+use Rattle.pb_cli.specs.Steps.{shown, Spoken, TellsEvent, TellsStep, IsTold, SaysOfEnd, all_done, some_fault, used_up}
 use Rattle.pb_cli.specs.declared.status.Status.{Status}
 use Rattle.pb_cli.specs.declared.status.Status.TheVariants.{Done, Fault, Limit, Memory, Device}
 use Rattle.pb_cli.specs.declared.steps.Progress.{Progress}
@@ -46,20 +45,10 @@ each_more P xs n x below here p k y within at = elim (cases_lt k n) [
 
 -- ---- one step
 
-pub few_here : (v : VerifiedCode) (m : Machine) → IsVerified v → IsMachineOf v m → length (machine_view m).processes ≤ 64
-few_here v m verified of = simp length-map (omega (arith, as_many v m of, verified.few_processes))
-
-pub next_is_enabled : (v : VerifiedCode) (m : Machine) (pick : Pick) → IsVerified v → IsMachineOf v m
-    → IsNext (machine_view m) (Some pick) → CodeStays v.code (machine_view m) pick → ⊥
-next_is_enabled v m pick verified of next stays =
-    let live = bodies_are_live v verified (machine_view m) of.reached pick.process next.0 next.1 next.2 in
-    let made = live_arms_step v verified (machine_view m) of.reached pick next.0 next.1 (subst (IsLive next.0) (sym next.3) live) in
-    stays (record { next = made.1; effect = made.2.0 }) made.2.1 made.2.2
-
-pub named : (v : VerifiedCode) (m : Machine) (pick : Pick) (event : Event) (after : State CodeProcess) (names : NameTable)
-    → IsVerified v → IsMachineOf v m → CodeMoves v.code (machine_view m) pick (Some event) after → names ≡ v.code.names
+pub named : (v : VerifiedCode) (m : Machine) (event : Event) (after : State CodeProcess) (names : NameTable)
+    → IsVerified v → IsMachineOf v m → StepsFirst v.code (machine_view m) (Did event) after → names ≡ v.code.names
     → HasNames names event
-named v m pick event after names verified of moves same =
+named v m event after names verified of (pick, first, moves) same =
     subst (λ n. HasNames n event) (sym same) (events_have_names v verified (machine_view m) of.reached pick event after moves)
 
 pub leaves_all : (w : Option (List ℕ)) (page : List ℕ) → Leaves w w page page
@@ -67,16 +56,17 @@ leaves_all None page = ([], refl, refl)
 leaves_all (Some held) page = ([], refl, ap Some (sym (append-nil held)))
 
 -- a step that shows nothing
-pub silent_step : (code : Code) (before after : State CodeProcess) (pick : Pick) (now : Spoken)
-    → CodeMoves code before pick None after → TellsStep code before after now now Made
-silent_step code before after pick now moves =
+pub silent_step : (code : Code) (before after : State CodeProcess) (now : Spoken) → StepsFirst code before Silent after
+    → TellsStep code before after now now Made
+silent_step code before after now (pick, first, moves) =
     (pick, None, moves, subst (λ (text : List ℕ). Leaves now.written now.written text now.page) (sym (append-nil now.page)) (leaves_all now.written now.page))
 
 -- a step that shows an event, which is told
-pub shown_step : (code : Code) (before after : State CodeProcess) (pick : Pick) (event : Event) (names : NameTable) (old new : Spoken)
-    (r : Progress) → CodeMoves code before pick (Some event) after → names ≡ code.names → TellsEvent names event old new r
+pub shown_step : (code : Code) (before after : State CodeProcess) (event : Event) (names : NameTable) (old new : Spoken)
+    (r : Progress) → StepsFirst code before (Did event) after → names ≡ code.names → TellsEvent names event old new r
     → TellsStep code before after old new r
-shown_step code before after pick event names old new r moves same told = go r (subst (λ n. TellsEvent n event old new r) same told)
+shown_step code before after event names old new r (pick, first, moves) same told =
+    go r (subst (λ n. TellsEvent n event old new r) same told)
   where
     go : (r : Progress) → TellsEvent code.names event old new r → TellsStep code before after old new r
     go Made h = (pick, Some event, moves, h)

@@ -1,36 +1,19 @@
 -- What `check` says of an input, and with which status.
-use Rattle.std.specs.Prelude.{◌≡◌, ◌++◌, ◌<◌, ◌||◌, ◌⊎◌, ℕ, Bool, true, false, List, [], ◌∷◌, Option, codes, length}
-use Rattle.pb_lexer.specs.Cutting.{AreTokensOf}
-use Rattle.pb_lexer.specs.Tokens.{Token}
-use Rattle.pb_tree.specs.Syntax.{ProgramSyntax}
-use Rattle.pb_parser.specs.Limits.{KeepsLimits}
-use Rattle.pb_parser.specs.Programs.{ReadsProgram}
-use Rattle.pb_codegen.specs.Compiled.{IsRefused}
-use Rattle.pb_codegen.specs.declared.fault.CompileFault.{CompileFault}
-use Rattle.pb_codegen.specs.declared.fault.CompileFault.TheVariants.{Memory as OutOfMemory}
+use Rattle.std.specs.Prelude.{◌≡◌, ◌++◌, ◌||◌, ◌⊎◌, ℕ, Bool, true, false, List, [], ◌∷◌, Option, codes}
 use Rattle.pb_cli.specs.Answers.{line, memory_line, Leaves}
 use Rattle.pb_base.specs.Device.{AddsPrefix}
 use Rattle.pb_cli.specs.Parts.{AreParts}
-use Rattle.pb_cli.specs.Refusals.{refusal_line}
+use Rattle.pb_cli.specs.Refusals.{IsAcceptedText, RefusesWith}
 use Rattle.pb_cli.specs.Steps.{Spoken}
 use Rattle.pb_cli.specs.declared.check.Told.{Told}
 use Rattle.pb_cli.specs.declared.check.Told.TheVariants as told
 use Rattle.pb_cli.specs.declared.status.Status.{Status}
 use Rattle.pb_cli.specs.declared.status.Status.TheVariants.{Done, Refused, Memory, Device}
 
--- the text is a program of the grammar, within its limits
-pub record IsProgramText (text : List ℕ) : Type 0 where
-  pub tokens : List Token
-  pub tree : ProgramSyntax
-  pub cut : AreTokensOf text tokens
-  pub read : ReadsProgram tokens tree
-  pub limits : KeepsLimits tree
-
 -- the answer to one text, and whether it is a refusal
 pub data AnswerTo (text : List ℕ) : List ℕ → Bool → Type 0 where
-  well : IsProgramText text → AnswerTo text (line (codes "ok")) false
-  ill : (fault : CompileFault) → (fault ≡ OutOfMemory → ⊥) → IsRefused text fault
-      → AnswerTo text (line (refusal_line fault)) true
+  well : IsAcceptedText text → AnswerTo text (line (codes "ok")) false
+  ill : (refusal : List ℕ) → RefusesWith text refusal → AnswerTo text (line refusal) true
 
 -- the answers to some texts, one after another, and whether one of them is a refusal
 pub data AnswersTo : List (List ℕ) → List ℕ → Bool → Type 0 where
@@ -51,18 +34,14 @@ abbrev pub check_status : Bool → Status
 check_status true = Refused
 check_status false = Done
 
--- what is said of a whole input: it is too long; or each of its parts is answered; or the first ones, until memory
--- wants or a device fails
+-- what is said of an input: each of its parts is answered; or the first ones, until memory wants or a write fails
 pub data SaysOfChecks (bytes : List ℕ) : List ℕ → Status → Type 0 where
-  too_long : 4194304 < length bytes → SaysOfChecks bytes (line (codes "refused input")) Refused
   answered : (parts : List (List ℕ)) (said : List ℕ) (refused : Bool) → AreParts bytes parts → AnswersTo parts said refused
       → SaysOfChecks bytes said (check_status refused)
   out_of_memory : (done : List (List ℕ)) (said : List ℕ) (refused : Bool) → AreFirstParts bytes done
       → AnswersTo done said refused → SaysOfChecks bytes (said ++ memory_line) Memory
   cut_off : (done : List (List ℕ)) (said : List ℕ) (refused : Bool) → AreFirstParts bytes done
       → AnswersTo done said refused → SaysOfChecks bytes said Device
-  no_memory : SaysOfChecks bytes memory_line Memory
-  nothing : SaysOfChecks bytes [] Device
 
 -- ---- one text
 

@@ -20,6 +20,13 @@ number_rule_or name least most default =
 unfoldable pub check_command : App
 check_command = with_rule (new_app (codes "check")) (number_rule (codes "heap") 1024 16777216)
 
+unfoldable pub exec_command : App
+exec_command =
+    with_rule (new_app (codes "exec")) (number_rule_or (codes "steps") 0 10000000 (codes "1000000"))
+
+unfoldable pub migrate_command : App
+migrate_command = new_app (codes "migrate")
+
 unfoldable pub run_command : App
 run_command =
     with_rule (new_app (codes "run")) (number_rule_or (codes "steps") 0 10000000 (codes "1000000"))
@@ -31,10 +38,17 @@ with_command a sub = with_subcommand a sub.top
 abbrev pub that_wants_command : App → App
 that_wants_command a = record a { top = record a.top { subcommand_required = true } }
 
+-- the commands over texts
+unfoldable pub with_text_commands : App → App
+with_text_commands a = with_command (with_command a check_command) run_command
+
+-- the commands over objects
+unfoldable pub with_object_commands : App → App
+with_object_commands a = with_command (with_command a exec_command) migrate_command
+
 -- the whole command line
 unfoldable pub command_line : App
-command_line =
-    with_command (with_command (that_wants_command (new_app (codes "parbegin"))) check_command) run_command
+command_line = with_object_commands (with_text_commands (that_wants_command (new_app (codes "parbegin"))))
 
 -- a command of this form, none of whose options a subcommand inherits
 abbrev pub IsCommand : App → Command → Type 0

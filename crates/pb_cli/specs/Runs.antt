@@ -1,5 +1,5 @@
 -- What `run` says of an input, and with which status.
-use Rattle.std.specs.Prelude.{◌≡◌, ◌++◌, ◌<◌, ℕ, List, [], codes, length, slice_get, Some, true}
+use Rattle.std.specs.Prelude.{◌≡◌, ◌++◌, ℕ, List, codes, length, slice_get, Some, true}
 use Rattle.std.specs.Fmt.{decimal}
 use Rattle.std.specs.List.{flat_map}
 use Rattle.pb_base.specs.declared.event.Event.{Event}
@@ -8,12 +8,10 @@ use Rattle.pb_base.specs.Lines.{NameTable, line_of}
 use Rattle.pb_base.specs.Steppers.{State, Makes, IsFinished}
 use Rattle.pb_code.specs.Code.{CodeProcess, code_step, code_over}
 use Rattle.pb_code.specs.Whole.{Code, ProcessLabels, bank_of, code_opening}
-use Rattle.pb_codegen.specs.Compiled.{IsCompiled, IsRefused}
-use Rattle.pb_codegen.specs.declared.fault.CompileFault.{CompileFault}
-use Rattle.pb_codegen.specs.declared.fault.CompileFault.TheVariants.{Memory as OutOfMemory}
+use Rattle.pb_codegen.specs.Compiled.{IsCompiled}
 use Rattle.pb_names.specs.Meaning.{SourceCan}
 use Rattle.pb_cli.specs.Answers.{line, memory_line}
-use Rattle.pb_cli.specs.Refusals.{refusal_line}
+use Rattle.pb_cli.specs.Refusals.{RefusesWith}
 use Rattle.pb_cli.specs.declared.status.Status.{Status}
 use Rattle.pb_cli.specs.declared.status.Status.TheVariants.{Done, Refused, Limit, Fault, Memory, Device}
 
@@ -48,24 +46,15 @@ pub data SaysOfRun (code : Code) (steps : ℕ) (events : List Event) : ℕ → L
   cut_off : (end : State CodeProcess) (run : Run code events end)
       → SaysOfRun code steps events (length run.picks) (event_lines code.names events) Device
 
--- what is said of a whole input: it is too long; or its text is refused; or it is accepted, and some run of its code
--- is told, of which the program can make the same events with as many picks; or there is no memory to begin with
+-- what is said of a text: it is refused; or it is accepted, and some run of its code is told, of which the program can
+-- make the same events with as many picks
 pub data SaysOf (steps : ℕ) (bytes : List ℕ) : List ℕ → Status → Type 0 where
-  too_long : 4194304 < length bytes → SaysOf steps bytes (line (codes "refused input")) Refused
-  refused : (fault : CompileFault) → (fault ≡ OutOfMemory → ⊥) → IsRefused bytes fault
-      → SaysOf steps bytes (line (refusal_line fault)) Refused
+  refused : (refusal : List ℕ) → RefusesWith bytes refusal → SaysOf steps bytes (line refusal) Refused
   accepted : (code : Code) (labels : List ProcessLabels) (compiled : IsCompiled bytes code labels)
       (events : List Event) (n : ℕ) (text : List ℕ) (status : Status)
       → SaysOfRun code steps events n text status → SourceCan compiled.program events n
       → SaysOf steps bytes text status
-  no_memory : SaysOf steps bytes memory_line Memory
-  nothing : SaysOf steps bytes [] Device
 
 -- what is said of some run of the code
 abbrev pub SaysOfCode : Code → ℕ → List ℕ → Status → Type 0
 SaysOfCode code steps text status = (events : List Event) × (n : ℕ) × SaysOfRun code steps events n text status
-
--- what is said of a fault
-pub data SaysOfFault (fault : CompileFault) : List ℕ → Status → Type 0 where
-  its_line : (fault ≡ OutOfMemory → ⊥) → SaysOfFault fault (line (refusal_line fault)) Refused
-  memory : SaysOfFault fault memory_line Memory

@@ -6,7 +6,7 @@ use Rattle.pb_base.specs.declared.pick.Pick.{Pick}
 use Rattle.pb_base.specs.Device.{AddsPrefix}
 use Rattle.pb_base.specs.Lines.{NameTable, line_of}
 use Rattle.pb_base.specs.Steppers.{State}
-use Rattle.pb_code.specs.Code.{CodeProcess, code_over}
+use Rattle.pb_code.specs.Code.{CodeProcess}
 use Rattle.pb_code.specs.Reached.{CodeMoves}
 use Rattle.pb_code.specs.Whole.{Code}
 use Rattle.pb_cli.specs.Answers.{line, Leaves}
@@ -15,13 +15,6 @@ use Rattle.pb_cli.specs.declared.status.Status.{Status}
 use Rattle.pb_cli.specs.declared.status.Status.TheVariants.{Done, Fault, Limit}
 use Rattle.pb_cli.specs.declared.steps.Progress.{Progress}
 use Rattle.pb_cli.specs.declared.steps.Progress.TheVariants.{Made, Finished, OutOfMemory, Broken}
-
--- the pick is of the body of a process that is not over
-abbrev pub IsNext : State CodeProcess → Option Pick → Type 0
-IsNext s None = IsDone s
-IsNext s (Some pick) =
-    (process : CodeProcess) × (slice_get s.processes pick.process ≡ Some process) × (code_over process → ⊥)
-    × (pick.arm ≡ 0)
 
 -- the line of an event, where there is one
 abbrev pub shown : NameTable → Option Event → List ℕ

@@ -1,25 +1,21 @@
 //! The command `check`, over any input and output.
 ghost use Rattle.std.specs.Prelude.{◌≡◌, ◌≢◌, ◌≤◌, ◌⊎◌, ℕ, List, IfErr, IfSome, OnOk, Some};
 ghost use Rattle.pb_base.specs.Device.{one_more_failure};
-ghost use Rattle.pb_codegen.specs.Compiled.{IsRefused};
 ghost use Rattle.pb_cli.specs.Answers.{Tells};
-ghost use Rattle.pb_cli.specs.Checks.{IsProgramText, SaysOfChecks, TellsAnswer, check_status};
+ghost use Rattle.pb_cli.specs.Checks.{SaysOfChecks, TellsAnswer, check_status};
+ghost use Rattle.pb_cli.specs.Inputs.{SaysOfInput};
+ghost use Rattle.pb_cli.specs.Refusals.{IsAcceptedText, IsRefusal};
 
+use crate::accept::{Refusal, accept};
+use crate::input::read_input;
 use crate::options::CheckOptions;
 use crate::page::Page;
 use crate::parts::first_part;
-use crate::refusal::refusal_text;
 use crate::status::Status;
 use bumpalo::Bump;
 use linked_list_allocator::LocalHeap;
-use pb_base::device::{Input, Output, ReadFault, read_whole};
-use pb_codegen::CompileFault;
-use pb_lexer::lex;
-use pb_parser::parse;
+use pb_base::device::{Input, Output};
 use std::alloc::{Allocator, Global};
-
-// The greatest length of an input, in bytes.
-const LONGEST_INPUT: usize = 4_194_304;
 
 // What came of telling the answer to one text.
 #[derive(Clone, Copy)]
@@ -33,12 +29,11 @@ enum Told {
 }
 
 // Looks at one text, whose trees lie in the memory of `trees`.
-fn look<A: Allocator + Clone>(alloc: Global, trees: A, text: &[u8]) -> Result<(), CompileFault>
-    ensures accepted { OnOk result (IsProgramText text.now) }
-    ensures refused { IfErr result (λ fault. IsRefused text.now fault) }
+fn look<A: Allocator + Clone>(alloc: Global, trees: A, text: &[u8]) -> Result<(), Refusal>
+    ensures accepted { OnOk result (IsAcceptedText text.now) }
+    ensures refused { IfErr result (IsRefusal text.now) }
 {
-    let tokens = lex(alloc, text)?;
-    parse(trees, tokens.as_slice())?;
+    accept(alloc, trees, text)?;
     Ok(())
 }
 
@@ -48,13 +43,15 @@ fn look_within(
     heap: Option<u64>,
     arena: &mut Bump,
     text: &[u8],
-) -> Result<(), CompileFault>
-    ensures accepted { OnOk result (IsProgramText text.now) }
-    ensures refused { IfErr result (λ fault. IsRefused text.now fault) }
+) -> Result<(), Refusal>
+    ensures accepted { OnOk result (IsAcceptedText text.now) }
+    ensures refused { IfErr result (IsRefusal text.now) }
 {
     if let Some(size) = heap {
-        let heap = LocalHeap::new(alloc, size as usize)?;
-        return look(alloc, &heap, text);
+        return match LocalHeap::new(alloc, size as usize) {
+            Ok(heap) => look(alloc, &heap, text),
+            Err(_) => Err(Refusal::NoMemory),
+        };
     }
     let answer = look(alloc, &*arena, text);
     if arena.reset().is_err() {
@@ -64,21 +61,16 @@ fn look_within(
 }
 
 // Says the line of a refusal.
-fn tell_refusal<O: Output>(
-    alloc: Global,
-    fault: &CompileFault,
-    page: &mut Page,
-    output: &mut O,
-) -> Told
-    ensures told { (text : List ℕ) → (fault.now ≡ CompileFault.Memory → ⊥) → IsRefused text fault.now → TellsAnswer text
+fn tell_refusal<O: Output>(refusal: Refusal, page: &mut Page, output: &mut O) -> Told
+    ensures told { (text : List ℕ) → IsRefusal text refusal → TellsAnswer text
         (record { written = O.written output.old; page = page.old }) (record { written = O.written output.new; page = page.new }) result }
     ensures counted { result ≢ Told.Broken → O.failures output.new ≡ O.failures output.old }
     ensures fault { result ≡ Told.Broken → O.failures output.new ≡ one_more_failure (O.failures output.old) }
 {
-    let Ok(text) = refusal_text(alloc, fault) else {
+    let Refusal::Line(line) = refusal else {
         return Told::OutOfMemory;
     };
-    match page.say_line(output, text.as_slice()) {
+    match page.say_line(output, line.as_slice()) {
         Ok(()) => Told::Answered(true),
         Err(_) => Told::Broken,
     }
@@ -86,29 +78,25 @@ fn tell_refusal<O: Output>(
 
 // Says the answer to one text.
 fn tell_answer<O: Output>(
-    alloc: Global,
     text: &[u8],
-    answer: Result<(), CompileFault>,
+    answer: Result<(), Refusal>,
     page: &mut Page,
     output: &mut O,
 ) -> Told
-    requires accepted { OnOk answer (IsProgramText text.now) }
-    requires refused { IfErr answer (λ fault. IsRefused text.now fault) }
+    requires accepted { OnOk answer (IsAcceptedText text.now) }
+    requires refused { IfErr answer (IsRefusal text.now) }
     ensures told { TellsAnswer text.now
         (record { written = O.written output.old; page = page.old }) (record { written = O.written output.new; page = page.new }) result }
     ensures counted { result ≢ Told.Broken → O.failures output.new ≡ O.failures output.old }
     ensures fault { result ≡ Told.Broken → O.failures output.new ≡ one_more_failure (O.failures output.old) }
 {
-    let Err(fault) = answer else {
+    let Err(refusal) = answer else {
         return match page.say_line(output, b"ok") {
             Ok(()) => Told::Answered(false),
             Err(_) => Told::Broken,
         };
     };
-    if let CompileFault::Memory = fault {
-        return Told::OutOfMemory;
-    }
-    tell_refusal(alloc, &fault, page, output)
+    tell_refusal(refusal, page, output)
 }
 
 // The status of a call that came to its end.
@@ -134,7 +122,7 @@ fn check_parts<O: Output>(alloc: Global, heap: Option<u64>, bytes: &[u8], output
     loop {
         let cut = first_part(rest);
         let answer = look_within(alloc, heap, &mut arena, cut.part);
-        match tell_answer(alloc, cut.part, answer, &mut page, output) {
+        match tell_answer(cut.part, answer, &mut page, output) {
             Told::Answered(is_refusal) => refused |= is_refusal,
             Told::OutOfMemory => return page.finish_with(output, b"memory", Status::Memory),
             Told::Broken => return Status::Device,
@@ -158,18 +146,14 @@ pub fn check_engine<I: Input, O: Output>(
     output: &mut O,
 ) -> Status
     ensures text { IfSome (I.rest input.old) (λ bytes.
-        Tells (SaysOfChecks bytes) (O.written output.old) (O.written output.new) result) }
+        Tells (SaysOfInput SaysOfChecks bytes) (O.written output.old) (O.written output.new) result) }
     ensures fault { result ≡ Status.Device
         → ((I.failures input.new ≡ one_more_failure (I.failures input.old)) × (O.written output.new ≡ O.written output.old))
         ⊎ (O.failures output.new ≡ one_more_failure (O.failures output.old)) }
 {
-    match read_whole(alloc, input, LONGEST_INPUT) {
+    match read_input(alloc, input, output) {
         Ok(bytes) => check_parts(alloc, options.heap, bytes.as_slice(), output),
-        Err(ReadFault::Device) => Status::Device,
-        Err(ReadFault::TooLong) => {
-            Page::new(alloc).finish_with(output, b"refused input", Status::Refused)
-        }
-        Err(ReadFault::Memory) => Page::new(alloc).finish_with(output, b"memory", Status::Memory),
+        Err(status) => status,
     }
 }
 

@@ -2,8 +2,8 @@
 ghost use Rattle.std.specs.Prelude.{◌≡◌, IfOk, false};
 ghost use Rattle.clap.specs.Words.{app_of, rule_of, with_rule};
 ghost use Rattle.clap.specs.declared.builder.command.Command.TheViews.{out-Command};
-ghost use Rattle.pb_cli.specs.CommandLine.{check_command, number_rule, number_rule_or, run_command, that_wants_command, IsCommand};
-ghost use Rattle.pb_cli.specs.CommandLine.{command_line as whole, with_command};
+ghost use Rattle.pb_cli.specs.CommandLine.{check_command, exec_command, migrate_command, number_rule, number_rule_or, run_command, that_wants_command, IsCommand};
+ghost use Rattle.pb_cli.specs.CommandLine.{command_line as whole, with_command, with_object_commands, with_text_commands};
 
 use clap::builder::ValueParser;
 use clap::{Arg, Command};
@@ -63,6 +63,23 @@ fn check_texts<'a>(alloc: Global) -> Result<Command<'a>, AllocError>
     with_option(check, heap)
 }
 
+#[tactic(auto, unfolding(crate::specs::CommandLine::exec_command))]
+fn exec_object<'a>(alloc: Global) -> Result<Command<'a>, AllocError>
+    ensures { IfOk result (IsCommand exec_command) }
+{
+    let steps = number_option_or(alloc, "steps", 0, 10_000_000, "1000000");
+    let steps = steps.help("The number of picks at which the run stops");
+    let exec = Command::new(alloc, "exec").about("Runs the object on standard input");
+    with_option(exec, steps)
+}
+
+#[tactic(auto, unfolding(crate::specs::CommandLine::migrate_command))]
+fn migrate_object<'a>(alloc: Global) -> Result<Command<'a>, AllocError>
+    ensures { IfOk result (IsCommand migrate_command) }
+{
+    Ok(Command::new(alloc, "migrate").about("Writes the object on standard input in the present format"))
+}
+
 #[tactic(auto, unfolding(crate::specs::CommandLine::run_command))]
 fn run_texts<'a>(alloc: Global) -> Result<Command<'a>, AllocError>
     ensures { IfOk result (IsCommand run_command) }
@@ -79,12 +96,27 @@ fn wanting_command<'a>(command: Command<'a>) -> Command<'a>
     command.subcommand_required(true)
 }
 
+#[tactic(auto, unfolding(crate::specs::CommandLine::with_text_commands))]
+fn with_texts<'a>(alloc: Global, command: Command<'a>) -> Result<Command<'a>, AllocError>
+    ensures { IfOk result (λ c. app_of c ≡ with_text_commands (app_of command.entry)) }
+{
+    let command = with_subcommand(command, check_texts(alloc)?)?;
+    with_subcommand(command, run_texts(alloc)?)
+}
+
+#[tactic(auto, unfolding(crate::specs::CommandLine::with_object_commands))]
+fn with_objects<'a>(alloc: Global, command: Command<'a>) -> Result<Command<'a>, AllocError>
+    ensures { IfOk result (λ c. app_of c ≡ with_object_commands (app_of command.entry)) }
+{
+    let command = with_subcommand(command, exec_object(alloc)?)?;
+    with_subcommand(command, migrate_object(alloc)?)
+}
+
 // The whole command line.
 #[tactic(auto, unfolding(crate::specs::CommandLine::command_line))]
 pub fn command_line<'a>(alloc: Global) -> Result<Command<'a>, AllocError>
     ensures { IfOk result (λ c. app_of c ≡ whole) }
 {
     let command = wanting_command(Command::new(alloc, "parbegin").bin_name("parbegin")?);
-    let command = with_subcommand(command, check_texts(alloc)?)?;
-    with_subcommand(command, run_texts(alloc)?)
+    with_objects(alloc, with_texts(alloc, command)?)
 }

@@ -1,15 +1,22 @@
 //! The program `parbegin`.
 #![tactic(auto)]
 
+mod accept;
 mod answer;
 mod check;
 mod command_line;
+mod exec;
+mod input;
+mod load;
+mod migrate;
 mod options;
 mod page;
 mod parts;
 mod read;
 mod refusal;
+mod reply;
 mod run;
+mod schedule;
 mod status;
 mod steps;
 

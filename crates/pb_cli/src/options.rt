@@ -10,7 +10,7 @@ pub struct CheckOptions {
     pub ghost heap_fits: { (size : ℕ) → heap ≡ Some size → size ≤ 16777216 },
 }
 
-/// The numbers of `run`.
+/// The numbers of `run` and of `exec`.
 #[derive(Clone, Copy, Debug, PartialEq, Eq)]
 pub struct RunOptions {
     /// After how many picks the run stops.
@@ -22,6 +22,8 @@ pub struct RunOptions {
 #[derive(Clone, Copy, Debug, PartialEq, Eq)]
 pub enum Options {
     Check(CheckOptions),
+    Exec(RunOptions),
+    Migrate,
     Run(RunOptions),
 }
 

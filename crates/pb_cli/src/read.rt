@@ -62,6 +62,8 @@ fn read_matches(matches: &ArgMatches<'_>) -> Option<Options>
     let (name, inner) = matches.subcommand()?;
     match name {
         "check" => Some(Options::Check(check_options(inner)?)),
+        "exec" => Some(Options::Exec(run_options(inner)?)),
+        "migrate" => Some(Options::Migrate),
         "run" => Some(Options::Run(run_options(inner)?)),
         _ => None,
     }
@@ -138,6 +140,14 @@ mod tests {
         assert_eq!(rt; heap, Options::Check(CheckOptions { heap: Some(1_024) }));
         assert!(rt; options(alloc, &["parbegin", "check", "--heap", "1023"]).is_err());
         assert!(rt; options(alloc, &["parbegin", "check", "--heap", "16777217"]).is_err());
+        Ok(())
+    }
+
+    #[test]
+    fn reads_migrate(rt: HostRuntime) -> Result<(), Fail> {
+        let alloc = rt.alloc();
+        assert_eq!(rt; options(alloc, &["parbegin", "migrate"])?, Options::Migrate);
+        assert!(rt; options(alloc, &["parbegin", "migrate", "text"]).is_err());
         Ok(())
     }
 

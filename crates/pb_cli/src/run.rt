@@ -1,27 +1,27 @@
 //! The command `run`, over any input and output.
-ghost use Rattle.std.specs.Prelude.{◌≡◌, ◌⊎◌, IfSome};
+ghost use Rattle.std.specs.Prelude.{◌≡◌, ◌≤◌, ◌⊎◌, IfErr, IfOk, IfSome, length};
 ghost use Rattle.pb_base.specs.Device.{one_more_failure};
 ghost use Rattle.pb_cli.specs.Answers.{Tells};
-ghost use Rattle.pb_cli.specs.Runs.{SaysOf, SaysOfFault};
+ghost use Rattle.pb_cli.specs.Inputs.{SaysOfInput};
+ghost use Rattle.pb_cli.specs.Refusals.{IsRefusal};
+ghost use Rattle.pb_cli.specs.Runs.{SaysOf};
+ghost use Rattle.pb_codegen.specs.Compiled.{IsCompiled};
 
+use crate::accept::{Refusal, accept, refuse};
+use crate::input::read_input;
 use crate::options::RunOptions;
-use crate::page::Page;
-use crate::refusal::refusal_text;
 use crate::status::Status;
 use crate::steps::tell_run;
 use bumpalo::Bump;
-use pb_base::device::{Input, Output, ReadFault, read_whole};
-use pb_codegen::{CompileFault, compile};
+use pb_base::device::{Input, Output};
+use pb_codegen::Compiled;
 use std::alloc::Global;
-
-// The greatest length of an input, in bytes.
-const LONGEST_INPUT: usize = 4_194_304;
 
 /// Runs the text that the input holds: writes the line of each event, and at the end `done`, or `limit` with the
 /// number of steps where they were used up before. A text that is refused is answered by its refusal line.
 ///
-/// The pick is always that of the process of least number that has not ended, and of its body. After a read that
-/// failed nothing is written; after a write that failed, a first part of what was being said.
+/// The pick is always the enabled one of the least process, and of its arms of the least. After a read that failed
+/// nothing is written; after a write that failed, a first part of what was being said.
 pub fn run_engine<I: Input, O: Output>(
     alloc: Global,
     options: RunOptions,
@@ -29,45 +29,39 @@ pub fn run_engine<I: Input, O: Output>(
     output: &mut O,
 ) -> Status
     ensures text { IfSome (I.rest input.old) (λ bytes.
-        Tells (SaysOf options.steps bytes) (O.written output.old) (O.written output.new) result) }
+        Tells (SaysOfInput (SaysOf options.steps) bytes) (O.written output.old) (O.written output.new) result) }
     ensures fault { result ≡ Status.Device
         → ((I.failures input.new ≡ one_more_failure (I.failures input.old)) × (O.written output.new ≡ O.written output.old))
         ⊎ (O.failures output.new ≡ one_more_failure (O.failures output.old)) }
 {
-    match read_whole(alloc, input, LONGEST_INPUT) {
+    match read_input(alloc, input, output) {
         Ok(bytes) => run_text(alloc, options.steps, bytes.as_slice(), output),
-        Err(ReadFault::Device) => Status::Device,
-        Err(ReadFault::TooLong) => {
-            Page::new(alloc).finish_with(output, b"refused input", Status::Refused)
-        }
-        Err(ReadFault::Memory) => Page::new(alloc).finish_with(output, b"memory", Status::Memory),
+        Err(status) => status,
     }
 }
 
 // Runs a text, whose trees lie in an arena while it is compiled.
 fn run_text<O: Output>(alloc: Global, steps: u64, text: &[u8], output: &mut O) -> Status
-    ensures text { Tells (SaysOf steps text.now) (O.written output.old) (O.written output.new) result }
+    requires { length text.now ≤ 4194304 }
+    ensures text { Tells (SaysOfInput (SaysOf steps) text.now) (O.written output.old) (O.written output.new) result }
     ensures fault { result ≡ Status.Device → O.failures output.new ≡ one_more_failure (O.failures output.old) }
 {
-    let arena = Bump::new(alloc);
-    match compile(alloc, &arena, text) {
+    match compile_text(alloc, text) {
         Ok(compiled) => tell_run(alloc, compiled.verified(), steps, output),
-        Err(fault) => refuse(alloc, &fault, output),
+        Err(refusal) => refuse(alloc, refusal, output),
     }
 }
 
-// Writes the line of a refusal, or that memory wants.
-fn refuse<O: Output>(alloc: Global, fault: &CompileFault, output: &mut O) -> Status
-    ensures text { Tells (SaysOfFault fault.now) (O.written output.old) (O.written output.new) result }
-    ensures fault { result ≡ Status.Device → O.failures output.new ≡ one_more_failure (O.failures output.old) }
+// The code of a text, whose trees lie in an arena while it is compiled.
+fn compile_text(alloc: Global, text: &[u8]) -> Result<Compiled, Refusal>
+    ensures compiled { IfOk result (λ c. IsCompiled text.now c.verified.code c.labels) }
+    ensures refused { IfErr result (IsRefusal text.now) }
 {
-    let page = Page::new(alloc);
-    if let CompileFault::Memory = fault {
-        return page.finish_with(output, b"memory", Status::Memory);
-    }
-    match refusal_text(alloc, fault) {
-        Ok(text) => page.finish_with(output, text.as_slice(), Status::Refused),
-        Err(_) => page.finish_with(output, b"memory", Status::Memory),
+    let arena = Bump::new(alloc);
+    let numbered = accept(alloc, &arena, text)?;
+    match numbered.code(alloc) {
+        Ok(compiled) => Ok(compiled),
+        Err(_) => Err(Refusal::NoMemory),
     }
 }
 
@@ -75,7 +69,6 @@ fn refuse<O: Output>(alloc: Global, fault: &CompileFault, output: &mut O) -> Sta
 mod tests {
     use super::*;
     use pb_base::device::{MemoryInput, MemoryOutput};
-    use pb_code::Instr;
     use std::process::Abort;
     use std::test::Fail;
 
@@ -104,7 +97,7 @@ mod tests {
     ) -> Result<(), Fail> {
         let alloc = rt.alloc();
         let mut input = MemoryInput::new(text);
-        let mut output = MemoryOutput::new(alloc, 256)?;
+        let mut output = MemoryOutput::new(alloc, 512)?;
         let options = RunOptions { steps: 1_000_000 };
         let answered = run_engine(alloc, options, &mut input, &mut output);
         assert_eq!(rt; answered, status);
@@ -129,33 +122,41 @@ mod tests {
     }
 
     #[test]
-    fn compiles_to_code_with_lines(rt: HostRuntime) -> Result<(), Fail> {
-        let alloc = rt.alloc();
-        let text = b"process p begin integer x;\nx := 7;\nprint x mod -2 end";
-        let Ok(compiled) = compile(alloc, alloc, text.as_slice()) else {
-            panic!(rt; "the text was refused");
-        };
-        let Some(process) = compiled.verified().code().processes.first() else {
-            panic!(rt; "the process is not there");
-        };
-        let instrs = [
-            Instr::Push(7),
-            Instr::Store(0),
-            Instr::Load(0),
-            Instr::Push(2),
-            Instr::Neg,
-            Instr::Mod,
-            Instr::Print,
-            Instr::End,
-        ];
-        assert_eq!(rt; process.instrs.as_slice(), instrs.as_slice());
-        let Some(labels) = compiled.labels().processes.first() else {
-            panic!(rt; "the labels are not there");
-        };
-        let [two, three] = [Some(2), Some(3)];
-        let lines = [two, two, three, three, three, three, three, None];
-        assert_eq!(rt; labels.lines.as_slice(), lines.as_slice());
-        Ok(())
+    fn runs_arms_and_holds(rt: HostRuntime) -> Result<(), Fail> {
+        check(
+            &rt,
+            b"process p begin integer i; while i < 3 do parbegin print i; print i + 10 parend; i := i + 1 od end",
+            Status::Done,
+            b"p.1 print 0\np.2 print 10\np.1 print 1\np.2 print 11\np.1 print 2\np.2 print 12\np end\ndone\n",
+        )?;
+        check(
+            &rt,
+            b"resource tape = 1; resource disk = 1; process a begin hold 1 of tape do hold 1 of disk do print 1 od od end process b begin hold 1 of disk do hold 1 of tape do print 2 od od end",
+            Status::Done,
+            b"a.0 grant 1 tape\na.0 grant 1 disk\na.0 print 1\na.0 return 1 disk\na.0 return 1 tape\na end\nb.0 grant 1 disk\nb.0 grant 1 tape\nb.0 print 2\nb.0 return 1 tape\nb.0 return 1 disk\nb end\ndone\n",
+        )?;
+        check(
+            &rt,
+            b"resource tape = 1; resource disk = 1; process a begin hold 1 of tape, 1 of disk do print 1 od end process b begin hold 1 of disk, 1 of tape do print 2 od end",
+            Status::Done,
+            b"a.0 grant 1 tape 1 disk\na.0 print 1\na.0 return 1 tape 1 disk\na end\nb.0 grant 1 disk 1 tape\nb.0 print 2\nb.0 return 1 disk 1 tape\nb end\ndone\n",
+        )
+    }
+
+    #[test]
+    fn runs_tests_and_faults(rt: HostRuntime) -> Result<(), Fail> {
+        check(
+            &rt,
+            b"process p begin integer i; while i < 2 do if i then print 8 else print 9 fi; i := i + 1 od end",
+            Status::Done,
+            b"p.0 print 9\np.0 print 8\np end\ndone\n",
+        )?;
+        check(
+            &rt,
+            b"resource t = 1; process p begin hold 1 of t do print 1 div 0 od end",
+            Status::Fault,
+            b"p.0 grant 1 t\np.0 fault divide\ndone\n",
+        )
     }
 
     #[test]
@@ -181,9 +182,9 @@ mod tests {
         )?;
         check(
             &rt,
-            b"process p begin while 1 do skip od end",
+            b"resource t = 3; process p begin hold 4 of t do skip od end",
             Status::Refused,
-            b"refused X1\n",
+            b"refused C1 p t claim 4 capital 3\n",
         )
     }
 

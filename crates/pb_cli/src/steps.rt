@@ -1,19 +1,20 @@
 //! The steps of a run, told line by line.
-ghost use Rattle.std.specs.Prelude.{◌≡◌, ◌≢◌, ◌≤◌, ◌++◌, ◌↔◌, IsTrue, codes, length};
+ghost use Rattle.std.specs.Prelude.{◌≡◌, ◌≢◌, ◌++◌, ◌↔◌, IsTrue, codes};
 ghost use Rattle.std.specs.Fmt.{decimal};
 ghost use Rattle.pb_base.specs.Device.{one_more_failure};
 ghost use Rattle.pb_base.specs.Lines.{names_view, HasNames};
 ghost use Rattle.pb_cli.specs.Answers.{line, Says, Tells};
 ghost use Rattle.pb_cli.specs.Runs.{HasFault, SaysOfCode};
-ghost use Rattle.pb_cli.specs.Steps.{IsNext, SaysOfEnd, TellsEvent, TellsStep};
+ghost use Rattle.pb_cli.specs.Steps.{SaysOfEnd, TellsEvent, TellsStep};
 ghost use Rattle.pb_machine.specs.Views.{machine_view, IsMachineOf};
 
 use crate::page::Page;
+use crate::schedule::step_first;
 use crate::status::Status;
 use pb_base::device::Output;
-use pb_base::{Event, Names, Pick, event_line};
-use pb_code::Verified;
-use pb_machine::{Machine, Step};
+use pb_base::{Event, Names, Step, event_line};
+use pb_machine::Machine;
+use pb_verifier::Verified;
 use std::alloc::Global;
 
 // What came of one step.
@@ -27,22 +28,6 @@ enum Progress {
     OutOfMemory,
     // A write failed.
     Broken,
-}
-
-// The body of the process of least number that has neither ended nor faulted, where there is one.
-fn next_pick(machine: &Machine) -> Option<Pick>
-    requires { length (machine_view machine.now).processes ≤ 64 }
-    ensures { IsNext (machine_view machine.now) result }
-{
-    for p in 0..machine.processes() {
-        if !machine.proc(p).is_over() {
-            return Some(Pick {
-                process: p as u8,
-                arm: 0,
-            });
-        }
-    }
-    None
 }
 
 // Says the line of an event.
@@ -84,13 +69,10 @@ fn tell_step<O: Output>(
     ensures fault { result ≡ Progress.Broken → O.failures output.new ≡ one_more_failure (O.failures output.old) }
 {
     let code = verified.code();
-    let Some(pick) = next_pick(machine) else {
-        return Progress::Finished;
-    };
-    match machine.step(verified, pick) {
+    match step_first(machine, verified) {
         Step::Silent => Progress::Made,
         Step::Did(event) => tell_event(alloc, &code.names, &event, page, output),
-        Step::NotEnabled => unreachable!(),
+        Step::NotEnabled => Progress::Finished,
     }
 }
 

@@ -1,7 +1,7 @@
 -- What each kind of line that is no place reads is what it spells.
 use Rattle.std.proofs.Common.{◌≡◌, ℕ, zero, suc, ◌^◌, ◌<◌, ◌≤◌, Bool, true, false, cond, not, ◌&&◌, eqb, ltb, List, [], ◌∷◌, length, refl, sym, ap, subst, ◌∙◌, arith, map, codes}
 use Rattle.std.specs.List.{list_all, AllByRecursion}
-use Rattle.std.specs.Char.{is_ascii_digit}
+use Rattle.std.specs.Char.{is_ascii_alphabetic, is_ascii_digit}
 use Rattle.std.specs.Fmt.{decimal}
 use Rattle.std.proofs.lemmas.Bool.Decides.{nat_tests}
 use Rattle.std.specs.Str.Parse.{digits_value}
@@ -11,7 +11,7 @@ use Rattle.std.proofs.lemmas.Fmt.{digits_decimal, decimal-digits_value, digits_v
 use Rattle.pb_code.specs.declared.words.Verdict.TheVariants.{Malformed, Beyond, Read}
 use Rattle.pb_code.specs.declared.format.Format.{Format}
 use Rattle.pb_code.specs.declared.format.Format.TheVariants.{One, Two}
-use Rattle.pb_code.specs.Words.{Word, paired, mapped, number, numbers, is_numeral, is_letter, is_name_byte, reserved_words, is_name, is_among, is_new_name, are_new}
+use Rattle.pb_code.specs.Words.{Word, paired, mapped, number, numbers, is_numeral, is_name_byte, reserved_words, is_name, is_among, is_new_name, are_new}
 use Rattle.pb_code.specs.Instructions.{select}
 use Rattle.pb_code.specs.Objects.{ResourceRow, counted_words, resource_words, process_words, digit_of, integers_words, claims_words}
 use Rattle.pb_code.specs.Ranges.{IsResource, AreIntegers, AreClaims, plain_names}
@@ -27,7 +27,7 @@ digit_inner b h = grind (arith, nat_tests)
 name_inner : (b : ℕ) → is_name_byte b ≡ true → is_inner b ≡ true
 name_inner b h = grind (arith, nat_tests)
 
-letter_name : (b : ℕ) → is_letter b ≡ true → is_name_byte b ≡ true
+pub letter_name : (b : ℕ) → is_ascii_alphabetic b ≡ true → is_name_byte b ≡ true
 letter_name b h = rw h refl
 
 pub decimal_clean : (n : ℕ) → n < 2 ^ 64 → list_all is_inner (decimal n) ≡ true
@@ -37,7 +37,7 @@ pub name_clean : (w : Word) → is_name w ≡ true → list_all is_inner w ≡ t
 unfolding is_name
 name_clean [] h = refl
 name_clean (b ∷ bs) h =
-    let p = both_true (is_letter b) (list_all is_name_byte bs && (ltb (length bs) 32 && not (is_among reserved_words (b ∷ bs)))) h in
+    let p = both_true (is_ascii_alphabetic b) (list_all is_name_byte bs && (ltb (length bs) 32 && not (is_among reserved_words (b ∷ bs)))) h in
     let q = both_true (list_all is_name_byte bs) (ltb (length bs) 32 && not (is_among reserved_words (b ∷ bs))) p.1 in
     rw (name_inner b (letter_name b p.0), all_mono is_name_byte is_inner name_inner bs q.0) refl
 

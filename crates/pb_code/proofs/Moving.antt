@@ -14,7 +14,7 @@ use Rattle.pb_code.specs.declared.format.Format.{Format}
 use Rattle.pb_code.specs.declared.format.Format.TheVariants.{One, Two}
 use Rattle.pb_code.specs.Code.{Instr, Take, Give}
 use Rattle.pb_code.specs.Whole.{Code, ProcessLabels}
-use Rattle.pb_code.specs.Words.{Word, is_name_byte, is_name, reserved_words, is_among, are_new}
+use Rattle.pb_code.specs.Words.{Word, is_name_byte, is_name, is_among, are_new}
 use Rattle.pb_code.specs.Objects.{ProcessRow, Object, code_of, labels_of}
 use Rattle.pb_code.specs.Ranges.{Each, IsBundle, IsInstr, IsLine, IsPlace, plain_names, AreIntegers, IsProcess, IsObject}
 use Rattle.pb_code.specs.Answers.{HasText}
@@ -27,13 +27,13 @@ digit_name : (b : ℕ) → is_ascii_digit b ≡ true → is_name_byte b ≡ true
 digit_name b h = grind (arith, nat_tests)
 
 plain_is_name : (n : ℕ) → n < 64 → is_name (118 ∷ decimal n) ≡ true
-unfolding is_name reserved_words
+unfolding is_name
 plain_is_name n small =
     let digits : list_all is_name_byte (decimal n) ≡ true = all_mono is_ascii_digit is_name_byte digit_name (decimal n) (digits_decimal own n (omega arith)) in
     let short : ltb (length (decimal n)) 32 ≡ true = lt-ltb _ _ (let l = length-decimal-le 2 n (omega arith) (omega arith) (omega arith) in omega (arith, l)) in
     rw (digits, short) refl
 
-all_push : (xs : List Word) (x : Word) → AllByRecursion (λ w. is_name w ≡ true) xs → is_name x ≡ true → AllByRecursion (λ w. is_name w ≡ true) (xs ++ x ∷ [])
+pub all_push : (xs : List Word) (x : Word) → AllByRecursion (λ w. is_name w ≡ true) xs → is_name x ≡ true → AllByRecursion (λ w. is_name w ≡ true) (xs ++ x ∷ [])
 all_push [] x h k = (k, tt)
 all_push (y ∷ xs) x h k = (h.0, all_push xs x h.1 k)
 
@@ -42,7 +42,7 @@ unfolding plain_names
 plain_are_names zero small = tt
 plain_are_names (suc n) small = all_push (plain_names n) (118 ∷ decimal n) (plain_are_names n (omega arith)) (plain_is_name n (omega arith))
 
-false_from : (b : Bool) → (b ≡ true → ⊥) → b ≡ false
+pub false_from : (b : Bool) → (b ≡ true → ⊥) → b ≡ false
 false_from true h = absurd (h refl)
 false_from false h = refl
 
@@ -54,7 +54,7 @@ still_true : (b p q : Bool) → (not b && p) ≡ true → (p ≡ true → q ≡ 
 still_true true p q h next = absurd cc
 still_true false p q h next = next h
 
-among_push : (xs : List Word) (x w : Word) → is_among xs w ≡ false → bytes_eq w x ≡ false → is_among (xs ++ x ∷ []) w ≡ false
+pub among_push : (xs : List Word) (x w : Word) → is_among xs w ≡ false → bytes_eq w x ≡ false → is_among (xs ++ x ∷ []) w ≡ false
 among_push [] x w h k = rw k refl
 among_push (y ∷ xs) x w h k = still_false (bytes_eq w y) (is_among xs w) (is_among (xs ++ x ∷ []) w) h (λ n. among_push xs x w n k)
 

@@ -46,10 +46,6 @@ pub record IsAnnotated (code : ProcessCode) (notes : Notes) : Type 0 where
 abbrev pub CanBeAnnotated : ProcessCode → Type 0
 CanBeAnnotated code = (notes : Notes) × IsAnnotated code notes
 
--- arm 0 begins at place 0
-abbrev pub BeginsAtZero : ProcessCode → Type 0
-BeginsAtZero code = (1 ≤ length code.entries) × (get_or code.entries 0 0 ≡ 0)
-
 -- no fork names an arm that isn't there
 abbrev pub ForksInRange : ProcessCode → Type 0
 ForksInRange code = (p first count : ℕ) → slice_get code.instrs p ≡ Some (Fork first count) → first + count ≤ length code.entries

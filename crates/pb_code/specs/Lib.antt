@@ -2,13 +2,14 @@ pub mod Annotation
 pub mod Answers
 pub mod Code
 pub mod Instructions
+pub mod Limits
 pub mod Lines
 pub mod Objects
 pub mod Ranges
 pub mod Reached
 pub mod Reading
 pub mod Rows
-pub mod Verified
+pub mod Same
 pub mod View
 pub mod Whole
 pub mod Words

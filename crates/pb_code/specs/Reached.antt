@@ -1,8 +1,9 @@
 -- Which states the code of a program comes to, and what one pick does there.
-use Rattle.std.specs.Prelude.{◌≡◌, List, Option, Some}
+use Rattle.std.specs.Prelude.{List, Option}
 use Rattle.pb_base.specs.declared.event.Event.{Event}
 use Rattle.pb_base.specs.declared.pick.Pick.{Pick}
-use Rattle.pb_base.specs.Steppers.{Effect, State, Move, IsGranted, Makes, event_of, move_of}
+use Rattle.pb_base.specs.Steppers.{State, Makes}
+use Rattle.pb_base.specs.Steps.{Moves, Stays}
 use Rattle.pb_code.specs.Code.{CodeProcess, code_step}
 use Rattle.pb_code.specs.Whole.{Code, bank_of, code_opening}
 
@@ -14,12 +15,8 @@ CodeReaches code s =
 
 -- the pick is enabled, and leads to this state with this event or with none
 abbrev pub CodeMoves : Code → State CodeProcess → Pick → Option Event → State CodeProcess → Type 0
-CodeMoves code s pick event next =
-    (effect : Effect) × (move_of (code_step code.processes) s pick ≡ Some (record { next = next; effect = effect }))
-    × IsGranted (bank_of code) s.loans pick.process effect × (event_of pick effect ≡ event)
+CodeMoves code = Moves (bank_of code) (code_step code.processes)
 
 -- the pick is not enabled
 abbrev pub CodeStays : Code → State CodeProcess → Pick → Type 0
-CodeStays code s pick =
-    (move : Move CodeProcess) → move_of (code_step code.processes) s pick ≡ Some move
-    → IsGranted (bank_of code) s.loans pick.process move.effect → ⊥
+CodeStays code = Stays (bank_of code) (code_step code.processes)

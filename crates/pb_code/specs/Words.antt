@@ -1,7 +1,7 @@
 -- Words of a line: numbers and names.
 use Rattle.std.specs.Prelude.{ℕ, ◌≤◌, Bool, true, false, not, ◌&&◌, ◌||◌, nat_lt, ◌==◌, if◌then◌else◌, List, [], ◌∷◌, ◌++◌, length, codes, ⊤}
 use Rattle.std.specs.Str.{bytes_eq}
-use Rattle.std.specs.Char.{is_ascii_digit}
+use Rattle.std.specs.Char.{is_ascii_alphabetic, is_ascii_digit}
 use Rattle.std.specs.Str.Parse.{digits_value}
 use Rattle.std.specs.List.{list_any, list_all}
 use Rattle.pb_code.specs.declared.words.Verdict.{Verdict}
@@ -58,14 +58,12 @@ AreWithin a b c d (Read n) = ((a ≤ n.0) × (n.0 ≤ b)) × ((c ≤ n.1) × (n.
 
 -- ---- names
 
-abbrev pub is_letter : ℕ → Bool
-is_letter b = (nat_lt 64 b && nat_lt b 91) || (nat_lt 96 b && nat_lt b 123)
-
+-- a byte is a letter, a digit or `_`
 abbrev pub is_name_byte : ℕ → Bool
-is_name_byte b = is_letter b || ((nat_lt 47 b && nat_lt b 58) || (b == 95))
+is_name_byte b = is_ascii_alphabetic b || is_ascii_digit b || b == 95
 
--- the words that mean something else
-unfoldable pub reserved_words : List Word
+-- the words of the language that are no names
+abbrev pub reserved_words : List Word
 reserved_words =
     codes "and" ∷ codes "begin" ∷ codes "div" ∷ codes "do" ∷ codes "else" ∷ codes "end" ∷ codes "fi" ∷ codes "hold" ∷
     codes "if" ∷ codes "integer" ∷ codes "mod" ∷ codes "not" ∷ codes "od" ∷ codes "of" ∷ codes "or" ∷ codes "parbegin" ∷
@@ -79,7 +77,7 @@ is_among words word = list_any (λ w. bytes_eq word w) words
 unfoldable pub is_name : Word → Bool
 is_name [] = false
 is_name (b ∷ bs) =
-    is_letter b && (list_all is_name_byte bs && (nat_lt (length bs) 32 && not (is_among reserved_words (b ∷ bs))))
+    is_ascii_alphabetic b && (list_all is_name_byte bs && (nat_lt (length bs) 32 && not (is_among reserved_words (b ∷ bs))))
 
 -- a name that no earlier one is
 abbrev pub is_new_name : List Word → Word → Bool

@@ -8,7 +8,7 @@ use pb_base::NoMemory;
 use std::alloc::{AllocError, AllocFailed};
 
 /// Why a text is no object: its first faulty line, by the place in the text at which that line begins.
-#[derive(Debug, Drop, thiserror::Error)]
+#[derive(Clone, Copy, Debug, PartialEq, Eq, thiserror::Error)]
 pub enum ObjectFault {
     /// The line there is not of the form that it must have, is not ended, is missing, or stands after the end.
     #[error("not an object at {0}")]

@@ -1,8 +1,10 @@
 //! Laws of the texts of objects, over their grammar alone.
 
-ghost use Rattle.std.specs.Prelude.{◌≡◌, ◌≤◌, ◌++◌, [], List, ℕ, Ok, length};
+ghost use Rattle.std.specs.Prelude.{◌≡◌, ◌↔◌, ◌≤◌, ◌++◌, [], List, ℕ, Ok, length};
 ghost use Rattle.pb_code.specs.declared.format.Format.{Format};
-ghost use Rattle.pb_code.specs.Answers.{IsObjectOf, Spells, SpellsOne};
+ghost use Rattle.pb_code.specs.Answers.{HasText, HasTextOne, IsObjectOf, Spells, SpellsOne};
+ghost use Rattle.pb_code.specs.declared.format.Format.TheVariants.{Two};
+ghost use Rattle.pb_code.specs.Limits.{FitsFirst, KeepsLimits, KeepsRanges, PushesFit};
 ghost use Rattle.pb_code.specs.Objects.{Object};
 ghost use Rattle.pb_code.specs.Reading.{answer_of};
 ghost use Rattle.pb_code.specs.Whole.{Code, ProcessLabels};
@@ -31,4 +33,16 @@ pub fn read_again()
     ensures { (f : Format) (c : Code) (l : List ProcessLabels) (text : List ℕ)
         → Spells f c l text → length text ≤ 4194304
         → (o : Object) × IsObjectOf f c l o × (answer_of text ≡ Ok o) }
+{}
+
+/// Code within its limits, with labels that fit it, and no other has a text in the second format.
+pub fn ranges_have_a_text()
+    ensures { (code : Code) (labels : List ProcessLabels) → KeepsRanges code labels ↔ HasText Two code labels }
+{}
+
+/// Of code within its limits, that which has at most 32 processes and takes and gives one resource at a time has a
+/// text in the first format, and no other.
+pub fn first_format_fits()
+    ensures yes { (code : Code) → KeepsLimits code → PushesFit code → FitsFirst code → HasTextOne code }
+    ensures only { (code : Code) → HasTextOne code → FitsFirst code }
 {}

@@ -1,10 +1,14 @@
 ghost use Rattle.std.specs.Prelude.{◌≤◌, length};
 
-use crate::code::Code;
+use crate::code::{Code, ProcessCode};
 use crate::fault::ObjectFault;
+use crate::first::fits_first_format;
 use crate::instr::Instr;
+use crate::names::is_name;
 use crate::object::{read_any, read_object};
 use crate::writer::{write_object, write_object2};
+use pb_base::{Bundle, Capital, Claims, Names, NoMemory};
+use std::alloc::Global;
 use std::process::Abort;
 use std::test::*;
 
@@ -174,5 +178,93 @@ fn refuses_the_first_faulty_line(rt: HostRuntime) {
     ];
     for (text, at) in beyond {
         assert_eq!(rt; beyond_at(read_any(rt.alloc(), text).err()), Some(at));
+    }
+}
+
+/// The code of one process that takes and gives one of a resource, which it names by this number of two.
+fn taking(alloc: Global, bundle: u16, amounts: [u32; 2]) -> Result<Code, NoMemory> {
+    let mut bundles = Vec::new(alloc);
+    bundles.push(Bundle::one(0, amounts[0]))?;
+    bundles.push(Bundle::one(0, amounts[1]))?;
+    let mut processes = Vec::new(alloc);
+    let instrs = [Instr::Take(bundle), Instr::Give(bundle), Instr::End];
+    processes.push(ProcessCode {
+        integers: 0,
+        entries: Vec::from_slice(alloc, &[0])?,
+        bundles,
+        instrs: Vec::from_slice(alloc, &instrs)?,
+    })?;
+    Ok(Code {
+        names: Names {
+            processes: Vec::new(alloc),
+            resources: Vec::new(alloc),
+        },
+        capital: Capital::new(alloc, &[9])?,
+        claims: Claims::new(alloc, &[&[9]])?,
+        processes,
+    })
+}
+
+#[test]
+fn bundles_are_the_same_by_their_pairs(rt: HostRuntime) -> Result<(), Fail> {
+    let code = taking(rt.alloc(), 0, [1, 2])?;
+    assert!(rt; code.same(&taking(rt.alloc(), 1, [2, 1])?));
+    assert!(rt; !code.same(&taking(rt.alloc(), 1, [1, 2])?));
+    Ok(())
+}
+
+/// Whether a process is the same in both, where both have it.
+fn is_same_process(code: &Code, other: &Code, p: usize) -> Option<bool> {
+    if p >= code.processes.len() {
+        return None;
+    }
+    if p >= other.processes.len() {
+        return None;
+    }
+    Some(code.same_process(p, other))
+}
+
+#[test]
+fn codes_and_processes_that_are_the_same(rt: HostRuntime) -> Result<(), Fail> {
+    let (first, _) = read_any(rt.alloc(), FIRST)?;
+    let (second, _) = read_any(rt.alloc(), SECOND)?;
+    let (joint, _) = read_any(rt.alloc(), JOINT)?;
+    assert!(rt; first.same(&second));
+    assert!(rt; !first.same(&joint));
+    let mut changed = Vec::from_slice(rt.alloc(), JOINT)?;
+    let last = changed.len() - 8;
+    changed[last] = b'8';
+    let Ok((other, _)) = read_any(rt.alloc(), &changed) else {
+        assert!(rt; false);
+        return Ok(());
+    };
+    assert!(rt; !joint.same(&other));
+    assert_eq!(rt; is_same_process(&joint, &other, 0), Some(true));
+    assert_eq!(rt; is_same_process(&joint, &other, 1), Some(false));
+    assert_eq!(rt; is_same_process(&joint, &other, 2), None);
+    Ok(())
+}
+
+#[test]
+fn what_the_first_format_can_say(rt: HostRuntime) -> Result<(), Fail> {
+    let (second, _) = read_any(rt.alloc(), SECOND)?;
+    let (joint, _) = read_any(rt.alloc(), JOINT)?;
+    assert!(rt; fits_first_format(&second));
+    assert!(rt; !fits_first_format(&joint));
+    Ok(())
+}
+
+#[test]
+fn words_that_are_names(rt: HostRuntime) {
+    assert!(rt; is_name(b"s_1"));
+    for word in [
+        b"".as_slice(),
+        b"1s",
+        b"_s",
+        b"while",
+        b"a-b",
+        b"a23456789012345678901234567890123",
+    ] {
+        assert!(rt; !is_name(word));
     }
 }

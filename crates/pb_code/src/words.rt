@@ -126,16 +126,10 @@ pub(crate) fn number(low: u64, high: u64, word: &[u8]) -> Verdict<u64>
     Verdict::Read(number)
 }
 
-fn is_letter(b: u8) -> bool
-    ensures { result ≡ spec.is_letter b }
-{
-    (64 < b && b < 91) || (96 < b && b < 123)
-}
-
 fn is_name_byte(b: u8) -> bool
     ensures { result ≡ spec.is_name_byte b }
 {
-    is_letter(b) || (47 < b && b < 58) || b == b'_'
+    b.is_ascii_alphabetic() || b.is_ascii_digit() || b == b'_'
 }
 
 fn are_name_bytes(word: &[u8]) -> bool
@@ -145,7 +139,6 @@ fn are_name_bytes(word: &[u8]) -> bool
 }
 
 /// Whether the word means something else than a name.
-#[tactic(auto, unfolding(crate::specs::Words::reserved_words))]
 fn is_reserved(word: &[u8]) -> bool
     ensures { result ≡ spec.is_among spec.reserved_words word.now }
 {
@@ -182,7 +175,10 @@ pub(crate) fn is_name(word: &[u8]) -> bool
     match word {
         [] => false,
         [first, rest @ ..] => {
-            is_letter(*first) && are_name_bytes(rest) && rest.len() < 32 && !is_reserved(word)
+            first.is_ascii_alphabetic()
+                && are_name_bytes(rest)
+                && rest.len() < 32
+                && !is_reserved(word)
         }
     }
 }

@@ -1,34 +1,87 @@
 -- From what each part answers to what a compiled, or a refused, text is.
-use Rattle.std.proofs.Common.{◌≡◌, ◌⊎◌, inl, inr, ℕ, zero, suc, ◌+◌, ◌<◌, ◌≤◌, List, [], ◌∷◌, length, Some, None, Err, refl, sym, ap, ◌∙◌, subst, arith, length-append}
-use Rattle.std.specs.Prelude.{slice_get, Result}
-use Rattle.std.specs.List.{AllZip}
-use Rattle.pb_base.specs.Banker.{row_of, cell}
+use Rattle.std.proofs.Common.{◌≡◌, ◌⊎◌, ℕ, List, length, map, Result, Ok, Err, refl, sym, ap, subst, ◌∙◌, arith}
+use Rattle.std.proofs.lemmas.List.{length-map}
+use Rattle.std.proofs.lemmas.List.Elements.{All-weaker}
+use Rattle.std.proofs.lemmas.Simd.{map-map}
+use Rattle.pb_base.specs.Steppers.{Table}
+use Rattle.pb_base.specs.Tables.{width_of}
 use Rattle.pb_lexer.specs.declared.error.LexFault.{LexFault}
 use Rattle.pb_lexer.specs.declared.error.LexFault.TheVariants as lex
 use Rattle.pb_lexer.specs.Cutting.{AreTokensOf, Refuses}
 use Rattle.pb_lexer.specs.Tokens.{Token}
 use Rattle.pb_tree.specs.Syntax as tree
-use Rattle.pb_tree.specs.Measure.{processes_nodes}
 use Rattle.pb_parser.specs.declared.fault.ParseFault.{ParseFault}
 use Rattle.pb_parser.specs.declared.fault.ParseFault.TheVariants as parse
-use Rattle.pb_parser.specs.Limits.{KeepsLimits, IsTooHigh, IsTooLarge, IsNoProgram, IsSyntax}
+use Rattle.pb_parser.specs.Limits.{IsTooHigh, IsTooLarge, IsNoProgram, IsSyntax, KeepsLimits}
 use Rattle.pb_parser.specs.Nesting.{NestsTooDeep}
 use Rattle.pb_parser.specs.Programs.{ReadsProgram}
 use Rattle.pb_names.specs.declared.fault.NameFault.{NameFault}
 use Rattle.pb_names.specs.declared.fault.NameFault.TheVariants as names
 use Rattle.pb_names.specs.Faults.{IsFault}
+use Rattle.pb_names.specs.Ready.{HasPairsStmt, HasPairs, HasPairsArms, IsComplete}
 use Rattle.pb_names.specs.Meaning.{AreClaims}
-use Rattle.pb_names.specs.Program.{Name, Process, Program, AllWellNumbered}
+use Rattle.pb_names.specs.Program.{Name, Process, Program, Resource, AllWellNumbered, capital_of}
 use Rattle.pb_names.specs.Resolves.{ResolvesProcess, Resolves, resource_names}
-use Rattle.pb_names.specs.Straight.{IsStraight, IsStraightBlock}
-use Rattle.pb_code.specs.Code.{End}
+use Rattle.pb_names.specs.View.{resolved_view, resource_view}
+use Rattle.pb_names.specs.declared.resolved.Resolved.{Resolved}
+use Rattle.pb_claims.specs.Fits.{FitCapital}
 use Rattle.pb_code.specs.Whole.{bank_of}
-use Rattle.pb_codegen.specs.Compiled.{IsCompiled, IsRefused, of_lex, of_parse, of_names}
-use Rattle.pb_codegen.specs.Generate.{block_code, process_code, program_code}
+use Rattle.pb_codegen.specs.Accepted.{HasSoundCode}
+use Rattle.pb_codegen.specs.declared.fault.CompileFault.{CompileFault}
+use Rattle.pb_codegen.specs.declared.fault.CompileFault.TheVariants.{Lex, Parse, Names, Claims, Memory}
+use Rattle.pb_codegen.specs.Compiled.{IsClaimsFault, IsCompiled, IsRefused, of_lex, of_parse, of_names}
+use Rattle.pb_codegen.specs.Numbered.{IsNumbered, Spells}
+use Rattle.pb_codegen.specs.Form.{IsFormedProcess, IsFullStmt, IsFull, AreFull}
+use Rattle.pb_codegen.specs.Generate.{program_code}
 use Rattle.pb_codegen.specs.Lines.{program_labels}
+use Rattle.pb_codegen.proofs.Accepting.{well_numbered}
 use Rattle.pb_codegen.proofs.Following.{is_followed}
 use Rattle.pb_codegen.proofs.Meaning.{means_the_same}
-use Rattle.pb_codegen.proofs.Verifying.{straight_instrs, block_length}
+use Rattle.pb_codegen.proofs.Reading.{read_program_formed}
+use Rattle.pb_codegen.proofs.Verified.{sound_code}
+
+-- ---- what was read
+
+-- a tree that was read within its limits, from tokens that nest not too deep
+pub spells : {T : Type 0} (text : List ℕ) (tokens : List Token) (written : tree.ProgramSyntax) (t : T) (r : Result T ParseFault)
+    → AreTokensOf text tokens → ReadsProgram tokens written → KeepsLimits written
+    → r ≡ Ok t → (NestsTooDeep tokens → r ≡ Err parse.TooDeep) → Spells text written
+spells text tokens written t r cut read limits is nested = record {
+  tokens = tokens;
+  cut = cut;
+  flat = λ deep. let e : r ≡ Err parse.TooDeep = nested deep in cc;
+  read = read;
+  limits = limits;
+}
+
+-- what is formed has what numbering asks for
+mutual
+  pairs_in_stmt : (s : tree.StmtSyntax) → IsFullStmt s → HasPairsStmt s
+  pairs_in_stmt (tree.assign line x e) h = tt
+  pairs_in_stmt (tree.print line e) h = tt
+  pairs_in_stmt (tree.if_else line e a b) h = (pairs_in a h.0, pairs_in b h.1)
+  pairs_in_stmt (tree.while_do line e body) h = pairs_in body h
+  pairs_in_stmt (tree.hold line demands body) h = (h.0, pairs_in body h.1)
+  pairs_in_stmt (tree.parbegin line arms) h = pairs_in_arms arms h.1
+
+  pairs_in : (ss : tree.StmtsSyntax) → IsFull ss → HasPairs ss
+  pairs_in tree.no_stmt h = tt
+  pairs_in (tree.stmt_then s ss) h = (pairs_in_stmt s h.0, pairs_in ss h.1)
+
+  pairs_in_arms : (arms : tree.ArmsSyntax) → AreFull arms → HasPairsArms arms
+  pairs_in_arms tree.no_arm h = tt
+  pairs_in_arms (tree.arm_then arm arms) h = (pairs_in arm h.0, pairs_in_arms arms h.1)
+
+pub complete : (text : List ℕ) (tokens : List Token) (written : tree.ProgramSyntax)
+    → AreTokensOf text tokens → ReadsProgram tokens written → IsComplete written
+complete text tokens written cut read =
+    let formed = read_program_formed text tokens written cut read in
+    record {
+      some_process = formed.some_processes;
+      pairs =
+          All-weaker IsFormedProcess (λ process. HasPairs process.body) (λ process h. pairs_in process.body h.full)
+          written.processes formed.processes;
+    }
 
 -- ---- refusals
 
@@ -47,95 +100,67 @@ parse_refused text tokens parse.TooDeep cut syntax deep large = (tokens, cut, de
 parse_refused text tokens parse.TooLarge cut syntax deep large = (tokens, cut, large refl)
 parse_refused text tokens parse.NoMemory cut syntax deep large = tt
 
-pub names_refused : (text : List ℕ) (tokens : List Token) (program : tree.ProgramSyntax) (fault : NameFault)
-    → AreTokensOf text tokens → ReadsProgram tokens program → IsFault program fault → IsRefused text (of_names fault)
-names_refused text tokens program names.Later cut read is = (tokens, program, cut, read, is)
-names_refused text tokens program (names.TooMany kind) cut read is = (tokens, program, cut, read, is)
-names_refused text tokens program (names.Twice at) cut read is = (tokens, program, cut, read, is)
-names_refused text tokens program (names.Unknown at) cut read is = (tokens, program, cut, read, is)
-names_refused text tokens program names.NoMemory cut read is = tt
+pub names_refused : (text : List ℕ) (program : tree.ProgramSyntax) (fault : NameFault)
+    → Spells text program → IsFault program fault → IsRefused text (of_names fault)
+names_refused text program (names.TooMany kind) spelled is = (program, spelled, is)
+names_refused text program (names.Twice at) spelled is = (program, spelled, is)
+names_refused text program (names.Unknown at) spelled is = (program, spelled, is)
+names_refused text program (names.Amount at) spelled is = (program, spelled, is)
+names_refused text program (names.Repeated at) spelled is = (program, spelled, is)
+names_refused text program names.NoMemory spelled is = tt
 
 -- ---- an accepted program
 
-all_numbered : (resources : List Name) (written : List tree.ProcessSyntax) (processes : List Process)
-    → AllZip (ResolvesProcess resources) written processes → AllWellNumbered processes
-all_numbered resources [] [] h = tt
-all_numbered resources [] (process ∷ processes) h = elim h [ ]
-all_numbered resources (w ∷ written) [] h = elim h [ ]
-all_numbered resources (w ∷ written) (process ∷ processes) h =
-    (h.0.numbered, all_numbered resources written processes h.1)
+-- claims have a column for each resource
+pub claims_width : (written : tree.ProgramSyntax) (program : Program) (claims : Table)
+    → Resolves written program → AreClaims program claims → width_of claims ≡ length program.resources
+claims_width written program claims resolves are =
+    let some = resolves.some_processes in
+    let rows = are.height in
+    are.width 0 (omega (arith, some, rows))
 
-pub few_integers : (resources : List Name) (written : List tree.ProcessSyntax) (processes : List Process)
-    → AllZip (ResolvesProcess resources) written processes
-    → (p : ℕ) (process : Process) → slice_get processes p ≡ Some process → length process.integers ≤ 64
-few_integers resources [] [] h p process at = cc
-few_integers resources [] (other ∷ processes) h p process at = elim h [ ]
-few_integers resources (w ∷ written) [] h p process at = elim h [ ]
-few_integers resources (w ∷ written) (other ∷ processes) h zero process at =
-    let e : Some other ≡ Some process = at in
-    let same : other ≡ process = cc in
-    subst (λ x. length x.integers ≤ 64) same h.0.few_integers
-few_integers resources (w ∷ written) (other ∷ processes) h (suc p) process at =
-    few_integers resources written processes h.1 p process at
+-- the code of a program that a text spells has none of the faults that the verifier looks for
+pub sound : (text : List ℕ) (program : Program) (claims : Table) → IsNumbered text program claims
+    → FitCapital claims (capital_of program) → HasSoundCode program claims
+sound text program claims is enough =
+    sound_code text is.spelled.tokens is.tree program claims is.spelled.cut is.spelled.read is.spelled.limits is.numbered is.claimed enough
 
--- the code of the only process has no more instructions than the tree has nodes
-small_alone : (resources : List Name) (written : List tree.ProcessSyntax) (process : Process)
-    → AllZip (ResolvesProcess resources) written (process ∷ []) → IsStraightBlock process.body
-    → processes_nodes written ≤ 16384 → length (process_code process).instrs ≤ 40000
-small_alone resources [] process h straight few = elim h [ ]
-small_alone resources (w ∷ written) process h straight few =
-    let body = block_length process.integers resources w.body process.body 0 h.0.body straight in
-    let whole : length (process_code process).instrs ≡ length (block_code 0 process.body) + 1 =
-    ap length (straight_instrs process straight) ∙ length-append (block_code 0 process.body) (End ∷ []) in
-    omega (arith, body, whole, few)
-
-pub small_code : (written : tree.ProgramSyntax) (program : Program) → KeepsLimits written → Resolves written program
-    → (straight : IsStraight program) → length (process_code straight.process).instrs ≤ 40000
-small_code written program limits resolves straight =
-    small_alone (resource_names program) written.processes straight.process
-    (subst (AllZip (ResolvesProcess (resource_names program)) written.processes) straight.alone resolves.processes)
-    straight.body limits.nodes
-
--- the same of each process that there is
-pub small_codes : (program : Program) (straight : IsStraight program) → length (process_code straight.process).instrs ≤ 40000
-    → (p : ℕ) (process : Process) → slice_get program.processes p ≡ Some process → length (process_code process).instrs ≤ 40000
-small_codes program straight few p process at =
-    alone p (subst (λ processes. slice_get processes p ≡ Some process) straight.alone at)
-  where
-    alone : (q : ℕ) → slice_get (straight.process ∷ []) q ≡ Some process → length (process_code process).instrs ≤ 40000
-    alone zero here =
-        let e : Some straight.process ≡ Some process = here in
-        let same : straight.process ≡ process = cc in
-        subst (λ x. length (process_code x).instrs ≤ 40000) same few
-    alone (suc q) here = let e : None ≡ Some process = here in cc
-
--- a program without resources has a row without amounts for its only process
-no_claims : (program : Program) → IsStraight program → AreClaims program ([] ∷ [])
-no_claims program straight =
-    let one : length program.processes ≡ 1 = ap (length {A = Process}) straight.alone in
-    let none : length program.resources ≡ 0 = ap length straight.no_resources in
+pub compiled : (text : List ℕ) (program : Program) (claims : Table) → IsNumbered text program claims
+    → FitCapital claims (capital_of program) → IsCompiled text (program_code program claims) (program_labels program)
+compiled text program claims is enough =
+    let numbered = well_numbered (resource_names program) is.tree.processes program.processes is.numbered.processes in
+    let sure = sound text program claims is enough in
     record {
-      height = sym one;
-      width = elim [ zero ↦ λ h. sym none | suc p ↦ λ h. absurd (omega (arith, h)) ];
-      each = λ p r process at below. absurd (omega (arith, none, below));
-    }
-
-pub compiled : (text : List ℕ) (tokens : List Token) (written : tree.ProgramSyntax) (program : Program)
-    → AreTokensOf text tokens → ReadsProgram tokens written → Resolves written program → IsStraight program
-    → IsCompiled text (program_code program ([] ∷ [])) (program_labels program)
-compiled text tokens written program cut read resolves straight =
-    let numbered = all_numbered (resource_names program) written.processes program.processes resolves.processes in
-    let are = no_claims program straight in
-    record {
-      tokens = tokens;
-      tree = written;
       program = program;
-      cut = cut;
-      read = read;
-      numbered = resolves;
+      numbered = is;
       names = refl;
-      claims = are;
-      same = means_the_same program ([] ∷ []) numbered are;
+      enough = enough;
+      same = means_the_same program claims numbered is.claimed;
       labelled = refl;
-      lines = is_followed (bank_of (program_code program ([] ∷ []))) program.processes numbered;
+      lines = is_followed (bank_of (program_code program claims)) program.processes numbered;
+      behaves = sure.behaves;
+      keeps = sure.keeps;
     }
+
+-- ---- the capital of resources in memory
+
+pub capital_seen : {A : Type 0} (program : Resolved A) (capital : List ℕ)
+    → capital ≡ map (λ resource. resource.capital) program.resources.items → capital ≡ capital_of (resolved_view program)
+capital_seen program capital is = is ∙ sym (map-map (λ (r : Resource). r.capital) resource_view program.resources.items)
+
+pub capital_width : {A : Type 0} (program : Resolved A) (capital : List ℕ) (claims : Table)
+    → capital ≡ map (λ resource. resource.capital) program.resources.items
+    → width_of claims ≡ length (resolved_view program).resources → width_of claims ≡ length capital
+capital_width program capital claims is width =
+    let seen = ap length (capital_seen program capital is) in
+    let all = length-map (resolved_view program).resources (λ (r : Resource). r.capital) in
+    omega (arith, width, seen, all)
+
+-- a claim over the capital refuses the text
+pub claims_refused : (text : List ℕ) (program : Program) (claims : Table) (fault : CompileFault) → IsNumbered text program claims
+    → IsClaimsFault claims (capital_of program) fault → IsRefused text fault
+claims_refused text program claims (Lex fault) is h = elim h [ ]
+claims_refused text program claims (Parse fault) is h = elim h [ ]
+claims_refused text program claims (Names fault) is h = elim h [ ]
+claims_refused text program claims (Claims over) is h = (program, claims, is, h)
+claims_refused text program claims Memory is h = tt

@@ -36,3 +36,7 @@ pub all_written : {X : Type 0} (f : X → ℕ) (P : ℕ → Type 0) (xs : List X
     → All (λ x. P (f x)) xs → ns ≡ map f (take i xs) → length xs ≤ i → ms ≡ ns → All P ms
 all_written f P xs i ns ms all written end same =
     subst (All P) (sym (same ∙ written ∙ ap (map f) (take_all i xs end))) (All-map P f xs all)
+
+-- what holds of each element as it is seen holds of each element's view
+pub all_seen : {X Y : Type 0} (f : X → Y) (P : Y → Type 0) (xs : List X) → All P (map f xs) → All (λ x. P (f x)) xs
+all_seen f P xs h = λ k d l. subst P (get_or-map f xs k d) (h k (f d) (omega (arith, length-map xs f, l)))

@@ -1,14 +1,12 @@
 -- The code of a program means the same as the program.
-use Rattle.std.proofs.Common.{◌≡◌, ℕ, zero, suc, ◌+◌, ◌*◌, ◌<◌, ◌≤◌, List, [], ◌∷◌, length, get_or, Option, Some, None, refl, sym, ap, ◌∙◌, subst, arith}
-use Rattle.std.specs.Prelude.{slice_get, slice_index}
-use Rattle.pb_base.specs.declared.event.Event.{Event}
+use Rattle.std.proofs.Common.{◌≡◌, ℕ, zero, suc, ◌<◌, List, [], ◌∷◌, length, get_or, Some, refl, sym, ◌∙◌, subst, arith}
+use Rattle.std.specs.Prelude.{slice_get}
 use Rattle.pb_base.specs.Banker.{row_of, cell}
 use Rattle.pb_base.specs.Steppers.{Table}
 use Rattle.pb_names.specs.Program.{Process, Program, AllWellNumbered, capital_of}
 use Rattle.pb_names.specs.Source.{SourceCanUnder}
-use Rattle.pb_names.specs.Claims.{IsClaim, held}
-use Rattle.pb_names.specs.Meaning.{AreClaims, SourceCan}
-use Rattle.pb_code.specs.Code.{CodeCanUnder, longest}
+use Rattle.pb_names.specs.Claims.{IsClaim}
+use Rattle.pb_names.specs.Meaning.{AreClaims}
 use Rattle.pb_codegen.specs.Generate.{program_code}
 use Rattle.pb_codegen.specs.Correct.{MeansTheSame}
 use Rattle.pb_codegen.proofs.Back.{implements}

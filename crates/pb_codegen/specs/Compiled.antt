@@ -1,5 +1,6 @@
 -- What it means that a text was compiled, or refused.
 use Rattle.std.specs.Prelude.{◌≡◌, ℕ, List, ◌⊎◌, ⊤}
+use Rattle.pb_base.specs.Steppers.{Table}
 use Rattle.pb_lexer.specs.declared.error.LexFault.{LexFault}
 use Rattle.pb_lexer.specs.declared.error.LexFault.TheVariants as lex
 use Rattle.pb_lexer.specs.Cutting.{AreTokensOf, Refuses}
@@ -9,39 +10,40 @@ use Rattle.pb_parser.specs.declared.fault.ParseFault.{ParseFault}
 use Rattle.pb_parser.specs.declared.fault.ParseFault.TheVariants as parse
 use Rattle.pb_parser.specs.Limits.{IsTooHigh, IsTooLarge, IsNoProgram}
 use Rattle.pb_parser.specs.Nesting.{NestsTooDeep}
-use Rattle.pb_parser.specs.Programs.{ReadsProgram}
 use Rattle.pb_names.specs.declared.fault.NameFault.{NameFault}
 use Rattle.pb_names.specs.declared.fault.NameFault.TheVariants as names
 use Rattle.pb_names.specs.Faults.{IsFault}
-use Rattle.pb_names.specs.Meaning.{AreClaims}
-use Rattle.pb_names.specs.Program.{Program}
-use Rattle.pb_names.specs.Resolves.{Resolves}
-use Rattle.pb_code.specs.Verified.{VerifiedCode}
+use Rattle.pb_names.specs.Program.{Program, capital_of}
+use Rattle.pb_claims.specs.declared.over_capital.OverCapital.{OverCapital}
+use Rattle.pb_claims.specs.Fits.{FitCapital, IsFirstOver}
 use Rattle.pb_code.specs.Whole.{Code, ProcessLabels, bank_of}
+use Rattle.pb_verifier.specs.Behaviour.{IsWellBehaved}
+use Rattle.pb_verifier.specs.Verified.{VerifiedCode}
 use Rattle.pb_codegen.specs.Correct.{MeansTheSame, IsFollowed}
 use Rattle.pb_codegen.specs.Generate.{names_of}
 use Rattle.pb_codegen.specs.Lines.{program_labels}
+use Rattle.pb_codegen.specs.Numbered.{IsNumbered, Spells}
+use Rattle.pb_codegen.specs.SourceBehaviour.{KeepsClaims}
 use Rattle.pb_codegen.specs.declared.fault.CompileFault.{CompileFault}
-use Rattle.pb_codegen.specs.declared.fault.CompileFault.TheVariants.{Lex, Parse, Names, Memory}
+use Rattle.pb_codegen.specs.declared.fault.CompileFault.TheVariants.{Lex, Parse, Names, Claims, Memory}
 
 -- what a contract sees of a compiled text
 pub record CompiledText : Type 0 where
   pub verified : VerifiedCode
   pub labels : List ProcessLabels
 
--- the text spells a program, and the code means the same; its names, claims and labels are those of the program
+-- the text spells a program, and the code means the same; its names, claims and labels are those of the program, and
+-- the capital is enough for the claims; both are well behaved: no request passes its claim, and all loans are safe
 pub record IsCompiled (text : List ℕ) (code : Code) (labels : List ProcessLabels) : Type 0 where
-  pub tokens : List Token
-  pub tree : ProgramSyntax
   pub program : Program
-  pub cut : AreTokensOf text tokens
-  pub read : ReadsProgram tokens tree
-  pub numbered : Resolves tree program
+  pub numbered : IsNumbered text program code.claims
   pub names : code.names ≡ names_of program
-  pub claims : AreClaims program code.claims
+  pub enough : FitCapital code.claims code.capital
   pub same : MeansTheSame program code
   pub labelled : labels ≡ program_labels program
   pub lines : IsFollowed (bank_of code) program.processes code.processes
+  pub behaves : IsWellBehaved code
+  pub keeps : KeepsClaims program code.claims
 
 -- ---- refusals
 
@@ -58,9 +60,9 @@ IsRefused text (Lex lex.NoMemory) = ⊥
 IsRefused text (Lex fault) = Refuses text fault
 IsRefused text (Parse fault) = (tokens : List Token) × AreTokensOf text tokens × IsParseFault tokens fault
 IsRefused text (Names names.NoMemory) = ⊥
-IsRefused text (Names fault) =
-    (tokens : List Token) × (tree : ProgramSyntax) × AreTokensOf text tokens × ReadsProgram tokens tree
-    × IsFault tree fault
+IsRefused text (Names fault) = (tree : ProgramSyntax) × Spells text tree × IsFault tree fault
+IsRefused text (Claims over) =
+    (program : Program) × (claims : Table) × IsNumbered text program claims × IsFirstOver claims (capital_of program) over
 IsRefused text Memory = ⊤
 
 -- ---- want of memory is one fault, wherever it comes
@@ -76,3 +78,18 @@ of_parse fault = Parse fault
 abbrev pub of_names : NameFault → CompileFault
 of_names names.NoMemory = Memory
 of_names fault = Names fault
+
+-- ---- claims
+
+-- the fault is none of claims
+abbrev pub IsBeforeClaims : CompileFault → Type 0
+IsBeforeClaims (Claims over) = ⊥
+IsBeforeClaims fault = ⊤
+
+-- the fault is that of claims under this capital, or want of memory
+abbrev pub IsClaimsFault : Table → List ℕ → CompileFault → Type 0
+IsClaimsFault claims capital (Lex fault) = ⊥
+IsClaimsFault claims capital (Parse fault) = ⊥
+IsClaimsFault claims capital (Names fault) = ⊥
+IsClaimsFault claims capital (Claims over) = IsFirstOver claims capital over
+IsClaimsFault claims capital Memory = ⊤

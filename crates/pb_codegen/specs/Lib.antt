@@ -1,6 +1,10 @@
+pub mod Accepted
 pub mod Compiled
 pub mod Correct
-pub mod Depths
 pub mod Emitted
+pub mod Form
 pub mod Generate
 pub mod Lines
+pub mod Numbered
+pub mod Sizes
+pub mod SourceBehaviour

@@ -2,9 +2,10 @@
 
 ghost use Rattle.std.specs.Prelude.{◌≡◌};
 ghost use Rattle.pb_codegen.specs.Compiled.{of_lex, of_parse, of_names};
-ghost use Rattle.pb_codegen.specs.declared.fault.CompileFault.TheVariants.{Memory};
+ghost use Rattle.pb_codegen.specs.declared.fault.CompileFault.TheVariants.{Claims, Memory};
 
 use pb_base::NoMemory;
+use pb_claims::OverCapital;
 use pb_lexer::LexFault;
 use pb_names::NameFault;
 use pb_parser::ParseFault;
@@ -20,6 +21,8 @@ pub enum CompileFault {
     Parse(ParseFault),
     #[error("{0}")]
     Names(NameFault),
+    #[error("{0}")]
+    Claims(OverCapital),
     #[error("out of memory")]
     Memory,
 }
@@ -54,6 +57,14 @@ impl From<NameFault> for CompileFault {
             NameFault::NoMemory => CompileFault::Memory,
             _ => CompileFault::Names(fault),
         }
+    }
+}
+
+impl From<OverCapital> for CompileFault {
+    ghost from_gives = { λ over e. e ≡ Claims over };
+
+    fn from(over: OverCapital) -> CompileFault {
+        CompileFault::Claims(over)
     }
 }
 

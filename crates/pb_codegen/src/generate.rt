@@ -1,12 +1,10 @@
 //! The code of a program.
 
-ghost use Rattle.std.specs.Prelude.{◌≡◌, ◌≤◌, ℕ, All, IfOk, length, map, Some, slice_get};
+ghost use Rattle.std.specs.Prelude.{◌≡◌, ◌≤◌, All, IfOk, length, map};
 ghost use Rattle.pb_code.specs.View.{code_view, labels_view};
-ghost use Rattle.pb_codegen.specs.Depths.{program_depths};
-ghost use Rattle.pb_codegen.specs.Generate.{process_code, program_code};
+ghost use Rattle.pb_codegen.specs.Generate.{program_code};
 ghost use Rattle.pb_codegen.specs.Lines.{program_labels};
-ghost use Rattle.pb_names.specs.Program.{Process};
-ghost use Rattle.pb_names.specs.Straight.{IsStraight};
+ghost use Rattle.pb_codegen.specs.Sizes.{IsGeneratable};
 ghost use Rattle.pb_names.specs.View.{resolved_view};
 
 use crate::names::program_names;
@@ -22,25 +20,18 @@ pub struct Generated {
     pub code: Code,
     /// The source line of each place, and the names of the integers.
     pub labels: Labels,
-    /// For each process how deep the operand stack of an arm grows at most.
-    pub depths: Vec<u16>,
 }
 
-/// The code of a program, with its labels and the depths of its operand stacks. The error comes only where memory is
-/// refused.
+/// The code of a program whose processes have these claims, with its labels: one pass over each process, in which
+/// jumps forward are patched. The error comes only where memory is refused.
 pub fn generate<A: Allocator>(
     alloc: Global,
     program: &Resolved<A>,
     claims: &Claims,
 ) -> Result<Generated, NoMemory>
-    requires straight { IsStraight (resolved_view program.now) }
-    requires small { (p : ℕ) (process : Process) → slice_get (resolved_view program.now).processes p ≡ Some process
-        → length (process_code process).instrs ≤ 40000 }
-    requires few_integers { (p : ℕ) (process : Process) → slice_get (resolved_view program.now).processes p ≡ Some process
-        → length process.integers ≤ 64 }
+    requires { IsGeneratable (resolved_view program.now) }
     ensures code { IfOk result (λ g. code_view g.code ≡ program_code (resolved_view program.now) claims.now) }
     ensures labels { IfOk result (λ g. labels_view g.labels ≡ program_labels (resolved_view program.now)) }
-    ensures depths { IfOk result (λ g. g.depths.items ≡ program_depths (resolved_view program.now)) }
 {
     let names = program_names(alloc, program)?;
     let capital = capital_of(alloc, &program.resources)?;
@@ -48,7 +39,6 @@ pub fn generate<A: Allocator>(
     let Processes {
         code: processes,
         labels,
-        depths,
     } = write_processes(alloc, &program.processes)?;
     Ok(Generated {
         code: Code {
@@ -58,12 +48,11 @@ pub fn generate<A: Allocator>(
             processes,
         },
         labels: Labels { processes: labels },
-        depths,
     })
 }
 
 /// The capital of each resource.
-fn capital_of<A: Allocator>(
+pub(crate) fn capital_of<A: Allocator>(
     alloc: Global,
     resources: &Vec<Resource<A>, A>,
 ) -> Result<Capital, NoMemory>

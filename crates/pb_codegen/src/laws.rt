@@ -1,11 +1,26 @@
 //! Laws over the definitions alone, each the contract of a function that does nothing.
 
-ghost use Rattle.std.specs.Prelude.{List};
-ghost use Rattle.pb_base.specs.Steppers.{Bank};
+ghost use Rattle.std.specs.Prelude.{ℕ, List};
+ghost use Rattle.pb_base.specs.Steppers.{Bank, State, Table};
+ghost use Rattle.pb_claims.specs.Fits.{FitCapital};
 ghost use Rattle.pb_code.specs.Annotation.{CanBeAnnotated};
-ghost use Rattle.pb_codegen.specs.Generate.{process_code};
+ghost use Rattle.pb_codegen.specs.Accepted.{CanBeCompiled, HasSoundCode};
 ghost use Rattle.pb_codegen.specs.Correct.{Implements, IsFollowed, generated};
-ghost use Rattle.pb_names.specs.Program.{AllWellNumbered, Process};
+ghost use Rattle.pb_codegen.specs.Form.{IsFormed};
+ghost use Rattle.pb_codegen.specs.Generate.{process_code, program_code};
+ghost use Rattle.pb_codegen.specs.Sizes.{IsGeneratable};
+ghost use Rattle.pb_codegen.specs.SourceBehaviour.{SourceAsksWithin, SourceIsSafe, SourceReaches};
+ghost use Rattle.pb_lexer.specs.Cutting.{AreTokensOf};
+ghost use Rattle.pb_lexer.specs.Tokens.{Token};
+ghost use Rattle.pb_names.specs.Meaning.{AreClaims};
+ghost use Rattle.pb_names.specs.Program.{AllWellNumbered, Process, Program, capital_of};
+ghost use Rattle.pb_names.specs.Resolves.{Resolves};
+ghost use Rattle.pb_names.specs.Source.{SourceProcess};
+ghost use Rattle.pb_parser.specs.Limits.{KeepsLimits};
+ghost use Rattle.pb_parser.specs.Programs.{ReadsProgram};
+ghost use Rattle.pb_tree.specs.Syntax.{ProgramSyntax};
+ghost use Rattle.pb_verifier.specs.Behaviour.{IsWellBehaved};
+ghost use Rattle.pb_verifier.specs.Verified.{IsAnnotated};
 
 /// The code of well numbered processes can make the events that the processes can make.
 pub fn same_events()
@@ -21,4 +36,52 @@ pub fn lines_follow_the_source()
 /// Generated code has depths and holdings at all its places that fit one another.
 pub fn generated_code_can_be_annotated()
     ensures { (process : Process) → CanBeAnnotated (process_code process) }
+{}
+
+/// The tree of a text has names where it declares processes, resources and integers, a pair in each hold, an arm in
+/// each parbegin, and a process.
+pub fn names_of_read_programs()
+    ensures { (text : List ℕ) (tokens : List Token) (tree : ProgramSyntax)
+        → AreTokensOf text tokens → ReadsProgram tokens tree → IsFormed tree }
+{}
+
+/// A program whose tree is within its limits has code whose places, arms and integers can be numbered.
+pub fn resolved_programs_can_be_generated()
+    ensures { (tree : ProgramSyntax) (program : Program)
+        → KeepsLimits tree → Resolves tree program → IsGeneratable program }
+{}
+
+/// The code of an accepted program, under its claims, has none of the faults that the verifier looks for.
+pub fn generated_code_is_verified()
+    ensures { (tree : ProgramSyntax) (program : Program) (claims : Table)
+        → CanBeCompiled tree program claims → IsAnnotated (program_code program claims) }
+{}
+
+/// Once a text is cut, read within the limits and resolved, and the capital is enough for its claims, its code can
+/// be generated, is verified unless memory is refused, and is well behaved; and the program keeps its claims.
+pub fn accepted_texts_have_sound_code()
+    ensures { (text : List ℕ) (tokens : List Token) (tree : ProgramSyntax) (program : Program) (claims : Table)
+        → AreTokensOf text tokens → ReadsProgram tokens tree → KeepsLimits tree → Resolves tree program
+        → AreClaims program claims → FitCapital claims (capital_of program) → HasSoundCode program claims }
+{}
+
+/// In no state that the source of a program reaches under its claims does an arm stand at a request beyond its claim.
+pub fn source_requests_stay_within_claims()
+    ensures { (tree : ProgramSyntax) (program : Program) (claims : Table)
+        → Resolves tree program → AreClaims program claims
+        → (s : State SourceProcess) → SourceReaches program claims s → SourceAsksWithin program claims s }
+{}
+
+/// Where the capital is enough for the claims, the loans are safe in every state that the source of a program reaches.
+pub fn source_states_stay_safe()
+    ensures { (tree : ProgramSyntax) (program : Program) (claims : Table)
+        → Resolves tree program → AreClaims program claims → FitCapital claims (capital_of program)
+        → (s : State SourceProcess) → SourceReaches program claims s → SourceIsSafe program claims s }
+{}
+
+/// The code of an accepted program is well behaved: no test fails, no request passes its claim, the loans
+/// are safe, and not all wait.
+pub fn generated_code_is_well_behaved()
+    ensures { (tree : ProgramSyntax) (program : Program) (claims : Table)
+        → CanBeCompiled tree program claims → IsWellBehaved (program_code program claims) }
 {}

@@ -3,13 +3,15 @@
 ghost use Rattle.std.specs.Prelude.{◌≡◌, List};
 ghost use Rattle.pb_base.specs.Steppers.{Bundle};
 ghost use Rattle.pb_code.specs.Code.{Compute1, Compute2};
+ghost use Rattle.pb_code.specs.Rows.{IsPlain};
 ghost use Rattle.pb_code.specs.View.{instr_view};
 
 use pb_base::{BinaryOp, UnaryOp};
 use pb_code::Instr;
 
 pub(crate) fn unary_instr(op: UnaryOp) -> Instr
-    ensures { (bundles : List Bundle) → instr_view bundles result ≡ Compute1 op }
+    ensures plain { IsPlain result }
+    ensures code { (bundles : List Bundle) → instr_view bundles result ≡ Compute1 op }
 {
     match op {
         UnaryOp::Negate => Instr::Neg,
@@ -18,7 +20,8 @@ pub(crate) fn unary_instr(op: UnaryOp) -> Instr
 }
 
 pub(crate) fn binary_instr(op: BinaryOp) -> Instr
-    ensures { (bundles : List Bundle) → instr_view bundles result ≡ Compute2 op }
+    ensures plain { IsPlain result }
+    ensures code { (bundles : List Bundle) → instr_view bundles result ≡ Compute2 op }
 {
     match op {
         BinaryOp::Add => Instr::Add,

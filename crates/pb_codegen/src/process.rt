@@ -1,18 +1,20 @@
 //! The code of processes.
 
-ghost use Rattle.std.specs.Prelude.{◌≡◌, IfOk, All, map};
+ghost use Rattle.std.specs.Prelude.{◌≡◌, ◌≤◌, IfOk, All, length, map};
 ghost use Rattle.pb_code.specs.View.{process_view, process_labels_view};
-ghost use Rattle.pb_codegen.specs.Depths.{block_depth};
-ghost use Rattle.pb_codegen.specs.Emitted.{IsWritable};
-ghost use Rattle.pb_codegen.specs.Generate.{process_code};
-ghost use Rattle.pb_codegen.specs.Lines.{process_labels};
-ghost use Rattle.pb_names.specs.View.{process_view as plain_process};
+ghost use Rattle.pb_codegen.specs.Emitted.{seen};
+ghost use Rattle.pb_codegen.specs.Generate.{arms_code, arms_entries, process_code};
+ghost use Rattle.pb_codegen.specs.Lines.{arms_lines, process_labels};
+ghost use Rattle.pb_codegen.specs.Sizes.{IsGeneratableProcess};
+ghost use Rattle.pb_names.specs.Program.{arms_in};
+ghost use Rattle.pb_names.specs.View.{block_view, process_view as plain_process};
 
-use crate::body::write_body;
+use crate::arms::arms_of;
 use crate::names::copy_names;
+use crate::writer::Writer;
 use pb_base::NoMemory;
 use pb_code::{ProcessCode, ProcessLabels};
-use pb_names::Process;
+use pb_names::{Process, Stmt};
 use std::alloc::{Allocator, Global};
 
 /// What is written of a process.
@@ -20,43 +22,65 @@ use std::alloc::{Allocator, Global};
 struct Written {
     code: ProcessCode,
     labels: ProcessLabels,
-    /// How deep the operand stack of an arm grows at most.
-    depth: u16,
+}
+
+/// The code of arms, and the place at which each of them begins.
+#[derive(Drop)]
+struct Body {
+    writer: Writer,
+    entries: Vec<u16>,
+}
+
+/// Writes arms one after another.
+fn write_arms<A: Allocator>(alloc: Global, arms: &Vec<&Vec<Stmt<A>, A>>) -> Result<Body, NoMemory>
+    requires small { length (arms_code 0 (map (λ arm. block_view arm.now.items) arms.now.items)) ≤ 40000 }
+    requires few_arms { All (λ arm. length (arms_in arm) ≤ 64) (map (λ arm. block_view arm.now.items) arms.now.items) }
+    ensures code { IfOk result (λ w. seen w.writer
+        ≡ arms_code 0 (map (λ arm. block_view arm.now.items) arms.now.items)) }
+    ensures lines { IfOk result (λ w. w.writer.lines.items
+        ≡ arms_lines (map (λ arm. block_view arm.now.items) arms.now.items)) }
+    ensures entries { IfOk result (λ w. w.entries.items
+        ≡ arms_entries 0 (map (λ arm. block_view arm.now.items) arms.now.items)) }
+{
+    let mut writer = Writer::new(alloc);
+    let mut entries = Vec::new(alloc);
+    for arm in arms {
+        entries.push(writer.place())?;
+        writer.put_arm(arm)?;
+    }
+    Ok(Body { writer, entries })
 }
 
 fn write_process<A: Allocator>(alloc: Global, process: &Process<A>) -> Result<Written, NoMemory>
-    requires { IsWritable (plain_process process.now) }
+    requires { IsGeneratableProcess (plain_process process.now) }
     ensures code { IfOk result (λ w. process_view w.code ≡ process_code (plain_process process.now)) }
     ensures labels { IfOk result (λ w. process_labels_view w.labels ≡ process_labels (plain_process process.now)) }
-    ensures depth { IfOk result (λ w. w.depth ≡ block_depth (plain_process process.now).body) }
 {
-    let body = write_body(alloc, &process.body)?;
-    let integers = copy_names(alloc, &process.integers)?;
-    let mut entries = Vec::new(alloc);
-    entries.push(0)?;
+    let arms = arms_of(alloc, process)?;
+    let Body { writer, entries } = write_arms(alloc, &arms)?;
+    let Writer {
+        instrs,
+        lines,
+        bundles,
+    } = writer;
     let code = ProcessCode {
         integers: process.integers.len() as u8,
         entries,
-        bundles: Vec::new(alloc),
-        instrs: body.instrs,
+        bundles,
+        instrs,
     };
-    let labels = ProcessLabels {
-        lines: body.lines,
-        integers,
-    };
+    let integers = copy_names(alloc, &process.integers)?;
     Ok(Written {
         code,
-        labels,
-        depth: body.depth,
+        labels: ProcessLabels { lines, integers },
     })
 }
 
-/// The code, the labels and the depths of processes, each by its number.
+/// The code and the labels of processes, each by its number.
 #[derive(Drop)]
 pub(crate) struct Processes {
     pub(crate) code: Vec<ProcessCode>,
     pub(crate) labels: Vec<ProcessLabels>,
-    pub(crate) depths: Vec<u16>,
 }
 
 /// What is written of each process.
@@ -64,26 +88,18 @@ pub(crate) fn write_processes<A: Allocator>(
     alloc: Global,
     processes: &Vec<Process<A>, A>,
 ) -> Result<Processes, NoMemory>
-    requires { All IsWritable (map plain_process processes.now.items) }
+    requires { All IsGeneratableProcess (map plain_process processes.now.items) }
     ensures code { IfOk result (λ w. map process_view w.code.items
         ≡ map process_code (map plain_process processes.now.items)) }
     ensures labels { IfOk result (λ w. map process_labels_view w.labels.items
         ≡ map process_labels (map plain_process processes.now.items)) }
-    ensures depths { IfOk result (λ w. w.depths.items
-        ≡ map (λ process. block_depth process.body) (map plain_process processes.now.items)) }
 {
     let mut code = Vec::new(alloc);
     let mut labels = Vec::new(alloc);
-    let mut depths = Vec::new(alloc);
     for process in processes {
         let written = write_process(alloc, process)?;
         code.push(written.code)?;
         labels.push(written.labels)?;
-        depths.push(written.depth)?;
     }
-    Ok(Processes {
-        code,
-        labels,
-        depths,
-    })
+    Ok(Processes { code, labels })
 }

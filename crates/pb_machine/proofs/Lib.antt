@@ -1,8 +1,13 @@
-pub mod Arms
+pub mod Given
 pub mod Going
+pub mod Growing
 pub mod Machines
 pub mod Openings
-pub mod Operands
+pub mod Picks
+pub mod Quietly
 pub mod Reaching
-pub mod Runs
-pub mod Seven
+pub mod Silently
+pub mod Standing
+pub mod Stepping
+pub mod Threads
+pub mod Turning

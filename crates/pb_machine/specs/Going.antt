@@ -1,13 +1,20 @@
--- Verified code is never stuck: in each state that it reaches the body of a process that is not over is live, and
--- a live arm can take a step. What an event speaks of has a name.
-use Rattle.std.specs.Prelude.{◌≡◌, ℕ, ℤ, List, Option, Some, slice_get}
+-- Verified code is never stuck: in each state that it reaches and that is not finished some pick is enabled, and the
+-- body of a process that is not over is live. What an event speaks of has a name.
+use Rattle.std.specs.Prelude.{◌≡◌, ◌⊎◌, ℕ, ℤ, List, Some, slice_get}
 use Rattle.pb_base.specs.declared.event.Event.{Event}
 use Rattle.pb_base.specs.declared.pick.Pick.{Pick}
 use Rattle.pb_base.specs.Lines.{HasNames}
-use Rattle.pb_base.specs.Steppers.{State}
-use Rattle.pb_code.specs.Code.{Live, CodeProcess, thread, code_over}
+use Rattle.pb_base.specs.Steppers.{State, CanGoOn, IsFinished}
+use Rattle.pb_code.specs.Code.{Live, CodeProcess, thread, code_step, code_over}
 use Rattle.pb_code.specs.Reached.{CodeReaches, CodeMoves}
-use Rattle.pb_code.specs.Verified.{VerifiedCode, IsVerified}
+use Rattle.pb_code.specs.Whole.{bank_of}
+use Rattle.pb_verifier.specs.Verified.{VerifiedCode, IsVerified}
+
+-- all has ended, or some pick is enabled
+abbrev pub VerifiedCodeGoesOn : Type 0
+VerifiedCodeGoesOn =
+    (v : VerifiedCode) → IsVerified v → (s : State CodeProcess) → CodeReaches v.code s
+    → IsFinished code_over s ⊎ CanGoOn (bank_of v.code) (code_step v.code.processes) s
 
 -- the arm is live
 abbrev pub IsLive : CodeProcess → ℕ → Type 0
@@ -19,14 +26,6 @@ BodiesAreLive =
     (v : VerifiedCode) → IsVerified v → (s : State CodeProcess) → CodeReaches v.code s
     → (p : ℕ) (process : CodeProcess) → slice_get s.processes p ≡ Some process
     → (code_over process → ⊥) → IsLive process 0
-
--- a pick of a live arm is enabled
-abbrev pub LiveArmsStep : Type 0
-LiveArmsStep =
-    (v : VerifiedCode) → IsVerified v → (s : State CodeProcess) → CodeReaches v.code s
-    → (pick : Pick) (process : CodeProcess) → slice_get s.processes pick.process ≡ Some process
-    → IsLive process pick.arm
-    → (event : Option Event) × (next : State CodeProcess) × CodeMoves v.code s pick event next
 
 -- all that the event of a pick speaks of has a name
 abbrev pub EventsHaveNames : Type 0

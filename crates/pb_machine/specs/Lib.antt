@@ -3,4 +3,5 @@ pub mod Going
 pub mod Operands
 pub mod Ready
 pub mod Steps
+pub mod Turns
 pub mod Views

@@ -1,56 +1,47 @@
 //! What one instruction does.
 
 ghost use Rattle.std.specs.Prelude.{◌≡◌, ◌+◌, ◌<◌, ◌≤◌, [], ◌∷◌, ℤ, List, length};
-ghost use Rattle.pb_base.specs.Steppers.{Bundle, Silent};
-ghost use Rattle.pb_code.specs.Code.{Compute1, Compute2, Live, Runs, act, with_result};
-ghost use Rattle.pb_code.specs.View.{instr_view, process_view};
-ghost use Rattle.pb_machine.specs.Acts.{IsReady, IsOutcome, act_at, state_after};
-ghost use Rattle.pb_machine.specs.Ready.{StandsReady};
+ghost use Rattle.pb_base.specs.Steppers.{Bundle};
+ghost use Rattle.pb_code.specs.Code.{Compute1, Compute2, act};
+ghost use Rattle.pb_code.specs.View.{instr_view};
+ghost use Rattle.pb_machine.specs.Acts.{IsReady, IsOutcome};
+ghost use Rattle.pb_machine.specs.Views.{room_of};
 
-use crate::thread::{Thread, ThreadState};
+use crate::thread::Thread;
 use pb_base::{BinaryOp, FaultKind, UnaryOp, apply, apply_unary};
-use pb_code::{Instr, ProcessCode};
+use pb_code::Instr;
 
-/// What one instruction did.
+/// What one instruction came to. All but `Silent` changed nothing: the rest is up to the process or the machine.
 #[derive(Clone, Copy)]
 pub enum Outcome {
-    /// Its arm goes on.
+    /// It was executed, and its arm goes on.
     Silent,
-    /// It printed a number, and its arm goes on.
-    Prints(i64),
-    /// Its process faults.
+    /// It prints the top operand.
+    Prints,
+    /// It faults.
     Faults(FaultKind),
+    /// It asks for the bundle with this number.
+    Takes(u16),
+    /// It gives back the bundle with this number.
+    Gives(u16),
+    /// It starts arms.
+    Forks { first: u8, count: u8 },
+    /// It waits for arms.
+    Joins { first: u8, count: u8 },
     /// Its arm ends.
     Ends,
 }
 
-/// Executes the instruction at which a live arm stands. Where it faults, what is left of the operands is of no
-/// use.
+/// Executes an instruction of a live arm where that concerns the arm and its integers alone.
 #[inline]
-pub fn advance(thread: &mut Thread, vars: &mut [i64], code: &ProcessCode) -> Outcome
-    requires { StandsReady (process_view code.now) thread.old.place (length thread.old.stack.items) thread.old.stack.room }
-    ensures act { IsOutcome
-        (act_at (process_view code.now) vars.old thread.old.place thread.old.stack.items)
-        vars.old result vars.new thread.new }
-    ensures state { thread.new.state ≡ state_after result thread.old.state }
-    ensures room { thread.new.stack.room ≡ thread.old.stack.room }
-{
-    let instr = code.instrs[usize::from(thread.place)];
-    execute(thread, vars, instr)
-}
-
-/// Executes an instruction of an arm. Where it faults, what is left of the operands is of no use. Code that is
-/// verified has none of `take`, `give`, `fork` and `join` yet, so they are never reached here.
-#[inline]
-fn execute(thread: &mut Thread, vars: &mut [i64], instr: Instr) -> Outcome
-    requires ready { IsReady (instr_view [] instr) (length thread.old.stack.items) thread.old.stack.room }
+pub fn execute(thread: &mut Thread, vars: &mut [i64], instr: Instr) -> Outcome
+    requires ready { IsReady (instr_view [] instr) (length vars.old) (length thread.old.stack.items) thread.old.stack.room }
     requires within { length thread.old.stack.items ≤ thread.old.stack.room }
     requires place { thread.old.place < 40000 }
-    ensures act { (bundles : List Bundle) → IsOutcome
+    ensures outcome { (bundles : List Bundle) → IsOutcome instr
         (act vars.old (instr_view bundles instr) thread.old.place thread.old.stack.items)
-        vars.old result vars.new thread.new }
-    ensures state { thread.new.state ≡ state_after result thread.old.state }
-    ensures room { thread.new.stack.room ≡ thread.old.stack.room }
+        vars.old thread.old result vars.new thread.new }
+    ensures room { room_of thread.new ≡ room_of thread.old }
 {
     match instr {
         Instr::Push(value) => {
@@ -58,16 +49,12 @@ fn execute(thread: &mut Thread, vars: &mut [i64], instr: Instr) -> Outcome
             go_on(thread)
         }
         Instr::Load(x) => {
-            let value = vars.get(usize::from(x)).copied().unwrap_or(0);
-            thread.stack.push(value);
+            thread.stack.push(vars[usize::from(x)]);
             go_on(thread)
         }
         Instr::Store(x) => {
             let value = thread.stack.pop();
-            let x = usize::from(x);
-            if x < vars.len() {
-                vars[x] = value;
-            }
+            vars[usize::from(x)] = value;
             go_on(thread)
         }
         Instr::Neg => compute_one(thread, UnaryOp::Negate),
@@ -97,16 +84,12 @@ fn execute(thread: &mut Thread, vars: &mut [i64], instr: Instr) -> Outcome
                 go_on(thread)
             }
         }
-        Instr::Print => {
-            let value = thread.stack.pop();
-            thread.place += 1;
-            Outcome::Prints(value)
-        }
-        Instr::Take(_) | Instr::Give(_) | Instr::Fork { .. } | Instr::Join { .. } => unreachable!(),
-        Instr::End => {
-            thread.state = ThreadState::Ended;
-            Outcome::Ends
-        }
+        Instr::Print => Outcome::Prints,
+        Instr::Take(bundle) => Outcome::Takes(bundle),
+        Instr::Give(bundle) => Outcome::Gives(bundle),
+        Instr::Fork { first, count } => Outcome::Forks { first, count },
+        Instr::Join { first, count } => Outcome::Joins { first, count },
+        Instr::End => Outcome::Ends,
     }
 }
 
@@ -121,55 +104,51 @@ fn go_on(thread: &mut Thread) -> Outcome
     Outcome::Silent
 }
 
-/// Puts the result of an operator in the place of its operand.
+/// Puts the result of an operator in the place of its operand. Where it has none, the operand stays.
 #[inline]
 fn compute_one(thread: &mut Thread, op: UnaryOp) -> Outcome
     requires operand { 1 ≤ length thread.old.stack.items }
     requires within { length thread.old.stack.items ≤ thread.old.stack.room }
     requires place { thread.old.place < 40000 }
-    ensures act { (vars : List ℤ) → IsOutcome
-        (act vars (Compute1 op) thread.old.place thread.old.stack.items)
-        vars result vars thread.new }
-    ensures state { thread.new.state ≡ state_after result thread.old.state }
-    ensures room { thread.new.stack.room ≡ thread.old.stack.room }
+    ensures outcome { (instr : Instr) → (vars : List ℤ) → IsOutcome instr
+        (act vars (Compute1 op) thread.old.place thread.old.stack.items) vars thread.old result vars thread.new }
+    ensures room { room_of thread.new ≡ room_of thread.old }
 {
     let operand = thread.stack.pop();
-    finish(thread, apply_unary(op, operand))
+    match apply_unary(op, operand) {
+        Ok(value) => {
+            thread.stack.push(value);
+            go_on(thread)
+        }
+        Err(kind) => {
+            thread.stack.push(operand);
+            Outcome::Faults(kind)
+        }
+    }
 }
 
-/// Puts the result of an operator in the place of its operands, of which the right one is on top.
+/// Puts the result of an operator in the place of its operands, of which the right one is on top. Where it has none,
+/// the operands stay.
 #[inline]
 fn compute_two(thread: &mut Thread, op: BinaryOp) -> Outcome
     requires operands { 2 ≤ length thread.old.stack.items }
     requires within { length thread.old.stack.items ≤ thread.old.stack.room }
     requires place { thread.old.place < 40000 }
-    ensures act { (vars : List ℤ) → IsOutcome
-        (act vars (Compute2 op) thread.old.place thread.old.stack.items)
-        vars result vars thread.new }
-    ensures state { thread.new.state ≡ state_after result thread.old.state }
-    ensures room { thread.new.stack.room ≡ thread.old.stack.room }
+    ensures outcome { (instr : Instr) → (vars : List ℤ) → IsOutcome instr
+        (act vars (Compute2 op) thread.old.place thread.old.stack.items) vars thread.old result vars thread.new }
+    ensures room { room_of thread.new ≡ room_of thread.old }
 {
     let right = thread.stack.pop();
     let left = thread.stack.pop();
-    finish(thread, apply(op, left, right))
-}
-
-/// Puts a result on top, for which there is room, or faults.
-#[inline]
-fn finish(thread: &mut Thread, answer: Result<i64, FaultKind>) -> Outcome
-    requires room { length thread.old.stack.items < thread.old.stack.room }
-    requires place { thread.old.place < 40000 }
-    ensures act { (vars : List ℤ) → IsOutcome
-        (Some (with_result answer (λ v. Runs vars (Live (thread.old.place + 1) (v ∷ thread.old.stack.items)) Silent)))
-        vars result vars thread.new }
-    ensures state { thread.new.state ≡ state_after result thread.old.state }
-    ensures room { thread.new.stack.room ≡ thread.old.stack.room }
-{
-    match answer {
+    match apply(op, left, right) {
         Ok(value) => {
             thread.stack.push(value);
             go_on(thread)
         }
-        Err(kind) => Outcome::Faults(kind),
+        Err(kind) => {
+            thread.stack.push(left);
+            thread.stack.push(right);
+            Outcome::Faults(kind)
+        }
     }
 }

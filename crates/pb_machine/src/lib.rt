@@ -1,6 +1,7 @@
 //! The machine: it does with each pick what the code does.
 #![tactic(auto)]
 
+mod arms;
 mod execute;
 pub mod laws;
 pub mod machine;
@@ -9,7 +10,9 @@ mod stack;
 #[cfg(test)]
 mod tests;
 pub mod thread;
+mod turn;
+mod visible;
 
 pub use machine::Machine;
-pub use process::{Proc, Step};
+pub use process::Proc;
 pub use thread::{Thread, ThreadState};

@@ -1,52 +1,70 @@
-//! The state of one process, and one step of it.
+//! The state of one process.
 
-ghost use Rattle.std.specs.Prelude.{◌≡◌, ◌↔◌, ◌<◌, ◌≤◌, length, map, replicate, pos, true, IsTrue, IfOk, vec_len};
-ghost use Rattle.pb_code.specs.Code.{Idle, thread, code_process, code_over};
-ghost use Rattle.pb_code.specs.View.{process_view};
-ghost use Rattle.pb_machine.specs.Ready.{AreReady, AreFresh};
-ghost use Rattle.pb_machine.specs.Steps.{IsProcessStep};
-ghost use Rattle.pb_machine.specs.Views.{thread_view, proc_view, rooms_of, IsRoomy};
+ghost use Rattle.std.specs.Prelude.{◌≡◌, ◌↔◌, ◌<◌, ℕ, length, map, replicate, pos, IsTrue, IfOk, slice_get, Some};
+ghost use Rattle.pb_code.specs.Code.{ProcessCode, thread, code_process, code_over};
+ghost use Rattle.pb_machine.specs.Views.{thread_view, proc_view, room_of, rooms_of, row, HaveRoom, IsProcessOf};
+ghost use Rattle.pb_verifier.specs.Verified.{VerifiedCode};
+ghost use Rattle.pb_machine.specs.Ready.{AreFresh};
 
-use crate::execute::{Outcome, advance};
 use crate::thread::{Thread, ThreadState};
-use pb_base::{Event, NoMemory, Pick};
-use pb_code::ProcessCode;
+use pb_base::NoMemory;
+use pb_verifier::Verified;
 use std::alloc::Global;
-
-/// What a pick did.
-#[derive(Clone, Copy)]
-pub enum Step {
-    /// A step that shows nothing.
-    Silent,
-    /// A step that shows this.
-    Did(Event),
-    /// Nothing, for the pick is not enabled.
-    NotEnabled,
-}
 
 /// The state of one process.
 #[derive(Drop)]
 pub struct Proc {
-    vars: Vec<i64>,
-    threads: Vec<Thread>,
-    faulted: bool,
+    pub(crate) vars: Vec<i64>,
+    pub(crate) threads: Vec<Thread>,
+    pub(crate) faulted: bool,
 }
 
 impl Proc {
-    /// A process before its first step, whose arms have room for so many operands.
-    pub(crate) fn new(alloc: Global, code: &ProcessCode, depth: usize) -> Result<Proc, NoMemory>
-        requires { 1 ≤ vec_len code.now.entries }
-        ensures opening { IfOk result (λ process. proc_view process ≡ code_process (process_view code.now)) }
-        ensures rooms { IfOk result (λ process. IsRoomy depth (rooms_of process)) }
+    /// A process of this code before its first step, with room for all operands of each arm.
+    pub(crate) fn new(alloc: Global, verified: &Verified, p: usize) -> Result<Proc, NoMemory>
+        requires { p < length verified.now.code.processes }
+        ensures opening { IfOk result (λ process. (code : ProcessCode)
+            → slice_get verified.now.code.processes p ≡ Some code → proc_view process ≡ code_process code) }
+        ensures rooms { IfOk result (λ process. HaveRoom (row verified.now.depths p) (rooms_of process)) }
     {
+        let code = &verified.code().processes[p];
         let vars = zeros(alloc, usize::from(code.integers))?;
-        let mut threads = idle_threads(alloc, code.entries.len(), depth)?;
-        threads[0].state = ThreadState::Live;
+        let mut threads = idle_threads(alloc, verified, p)?;
+        threads[0].begin(0);
         Ok(Proc {
             vars,
             threads,
             faulted: false,
         })
+    }
+
+    /// The same state, with the same room for the operands of each arm.
+    pub fn copy(&self, alloc: Global) -> Result<Proc, NoMemory>
+        ensures state { IfOk result (λ process. proc_view process ≡ proc_view self.now) }
+        ensures rooms { IfOk result (λ process. rooms_of process ≡ rooms_of self.now) }
+        ensures process { IfOk result (λ process. (v : VerifiedCode) → (p : ℕ)
+            → IsProcessOf v p self.now → IsProcessOf v p process) }
+    {
+        let vars = Vec::from_slice(alloc, &self.vars)?;
+        let threads = copies(alloc, &self.threads)?;
+        Ok(Proc {
+            vars,
+            threads,
+            faulted: self.faulted,
+        })
+    }
+
+    /// Whether the states are the same.
+    pub fn same(&self, other: &Proc) -> bool
+        ensures { IsTrue result ↔ (proc_view self.now ≡ proc_view other.now) }
+    {
+        if self.faulted != other.faulted {
+            return false;
+        }
+        if self.vars.as_slice() != other.vars.as_slice() {
+            return false;
+        }
+        are_same(&self.threads, &other.threads)
     }
 
     /// Its integers, by number.
@@ -84,62 +102,17 @@ impl Proc {
     {
         self.faulted || (!self.threads.is_empty() && self.threads[0].state == ThreadState::Ended)
     }
-
-    /// Executes the instruction at which the arm of the pick stands, where it is live.
-    #[inline]
-    pub(crate) fn step(&mut self, code: &ProcessCode, pick: Pick) -> Step
-        requires { AreReady (process_view code.now) self.old }
-        ensures step { IsProcessStep (process_view code.now) (proc_view self.old) pick result (proc_view self.new) }
-        ensures rooms { rooms_of self.new ≡ rooms_of self.old }
-    {
-        let arm = pick.arm as usize;
-        if arm >= self.threads.len() {
-            return Step::NotEnabled;
-        }
-        let thread = &mut self.threads[arm];
-        if thread.state != ThreadState::Live {
-            return Step::NotEnabled;
-        }
-        match advance(thread, &mut self.vars, code) {
-            Outcome::Silent => Step::Silent,
-            Outcome::Prints(value) => Step::Did(Event::Printed { pick, value }),
-            Outcome::Faults(kind) => {
-                self.fault();
-                Step::Did(Event::Faulted { pick, kind })
-            }
-            Outcome::Ends => {
-                if arm == 0 {
-                    Step::Did(Event::Finished {
-                        process: pick.process,
-                    })
-                } else {
-                    Step::Silent
-                }
-            }
-        }
-    }
-
-    /// After a fault no arm goes on.
-    #[cold]
-    fn fault(&mut self)
-        ensures process { proc_view self.new ≡ record { vars = self.old.vars.items; threads = map (λ _. Idle) self.old.threads.items; faulted = true } }
-        ensures rooms { rooms_of self.new ≡ rooms_of self.old }
-    {
-        for thread in self.threads.iter_mut() {
-            thread.state = ThreadState::Idle;
-        }
-        self.faulted = true;
-    }
 }
 
-/// So many arms that have not begun, each with room for so many operands.
-fn idle_threads(alloc: Global, count: usize, depth: usize) -> Result<Vec<Thread>, NoMemory>
-    ensures count { IfOk result (λ threads. vec_len threads ≡ count) }
-    ensures fresh { IfOk result (λ threads. AreFresh depth threads.items) }
+/// The arms of a process that have not begun, each with room for its depth.
+fn idle_threads(alloc: Global, verified: &Verified, p: usize) -> Result<Vec<Thread>, NoMemory>
+    requires { p < length verified.now.depths }
+    ensures fresh { IfOk result (λ threads. AreFresh (row verified.now.depths p) threads.items) }
 {
-    let mut threads = Vec::with_capacity(alloc, count)?;
-    for _ in 0..count {
-        threads.push(Thread::idle(alloc, depth)?)?;
+    let arms = verified.arms(p);
+    let mut threads = Vec::with_capacity(alloc, arms)?;
+    for arm in 0..arms {
+        threads.push(Thread::idle(alloc, usize::from(verified.depth(p, arm)))?)?;
     }
     Ok(threads)
 }
@@ -151,4 +124,31 @@ fn zeros(alloc: Global, count: usize) -> Result<Vec<i64>, NoMemory>
     let mut vars = Vec::new(alloc);
     vars.resize(count, 0)?;
     Ok(vars)
+}
+
+/// The same arms, with the same room.
+fn copies(alloc: Global, threads: &[Thread]) -> Result<Vec<Thread>, NoMemory>
+    ensures threads { IfOk result (λ copies. map thread_view copies.items ≡ map thread_view threads.now) }
+    ensures rooms { IfOk result (λ copies. map room_of copies.items ≡ map room_of threads.now) }
+{
+    let mut copies = Vec::with_capacity(alloc, threads.len())?;
+    for thread in threads {
+        copies.push(thread.copy(alloc)?)?;
+    }
+    Ok(copies)
+}
+
+/// Whether there are as many arms, and each stands as the other.
+fn are_same(threads: &[Thread], others: &[Thread]) -> bool
+    ensures { IsTrue result ↔ (map thread_view threads.now ≡ map thread_view others.now) }
+{
+    if threads.len() != others.len() {
+        return false;
+    }
+    for (arm, thread) in threads.iter().enumerate() {
+        if !thread.same(&others[arm]) {
+            return false;
+        }
+    }
+    true
 }

@@ -1,6 +1,6 @@
 //! The operands of an arm.
 
-ghost use Rattle.std.specs.Prelude.{◌≡◌, ◌<◌, ◌≤◌, [], ◌∷◌, length, IfOk};
+ghost use Rattle.std.specs.Prelude.{◌≡◌, ◌↔◌, ◌<◌, ◌≤◌, [], ◌∷◌, length, IsTrue, IfOk};
 
 use pb_base::NoMemory;
 use smallvec::SmallVec;
@@ -28,9 +28,28 @@ impl Stack {
         ensures items { IfOk result (λ stack. stack.items ≡ []) }
         ensures room { IfOk result (λ stack. depth ≤ stack.room) }
     {
-        let mut operands = SmallVec::new(alloc);
-        operands.reserve(depth)?;
+        let operands = SmallVec::with_capacity(alloc, depth)?;
         Ok(Stack { operands })
+    }
+
+    /// The same operands, with the same room.
+    pub fn copy(&self, alloc: Global) -> Result<Stack, NoMemory>
+        ensures items { IfOk result (λ stack. stack.items ≡ self.now.items) }
+        ensures room { IfOk result (λ stack. stack.room ≡ self.now.room) }
+    {
+        let _ = self.operands.len();
+        let mut operands = SmallVec::with_capacity(alloc, self.operands.capacity())?;
+        for value in self.operands.as_slice() {
+            operands.push_reserved(*value);
+        }
+        Ok(Stack { operands })
+    }
+
+    /// Whether the operands are the same.
+    pub fn same(&self, other: &Stack) -> bool
+        ensures { IsTrue result ↔ (self.now.items ≡ other.now.items) }
+    {
+        self.operands.as_slice() == other.operands.as_slice()
     }
 
     /// Puts an operand on top, for which there is room.
@@ -54,5 +73,13 @@ impl Stack {
             unreachable!()
         };
         value
+    }
+
+    /// Takes all operands.
+    pub fn clear(&mut self)
+        ensures items { self.new.items ≡ [] }
+        ensures room { self.new.room ≡ self.old.room }
+    {
+        self.operands.clear();
     }
 }

@@ -1,7 +1,8 @@
 //! Where an arm stands.
 
-ghost use Rattle.std.specs.Prelude.{◌≡◌, IfOk};
-ghost use Rattle.pb_machine.specs.Views.{thread_view, state_of_thread, place_of_thread};
+ghost use Rattle.std.specs.Prelude.{◌≡◌, ◌↔◌, [], IsTrue, IfOk};
+ghost use Rattle.pb_code.specs.Code.{Live};
+ghost use Rattle.pb_machine.specs.Views.{thread_view, room_of, state_of_thread, place_of_thread};
 ghost use Rattle.pb_machine.specs.Ready.{IsFresh};
 
 use crate::stack::Stack;
@@ -38,6 +39,41 @@ impl Thread {
             place: 0,
             stack,
         })
+    }
+
+    /// The same arm, with the same room for its operands.
+    pub(crate) fn copy(&self, alloc: Global) -> Result<Thread, NoMemory>
+        ensures thread { IfOk result (λ thread. thread_view thread ≡ thread_view self.now) }
+        ensures room { IfOk result (λ thread. room_of thread ≡ room_of self.now) }
+    {
+        let stack = self.stack.copy(alloc)?;
+        Ok(Thread {
+            state: self.state,
+            place: self.place,
+            stack,
+        })
+    }
+
+    /// Whether both arms stand alike.
+    pub(crate) fn same(&self, other: &Thread) -> bool
+        ensures { IsTrue result ↔ (thread_view self.now ≡ thread_view other.now) }
+    {
+        match (self.state, other.state) {
+            (ThreadState::Live, ThreadState::Live) => {
+                self.place == other.place && self.stack.same(&other.stack)
+            }
+            (mine, others) => mine == others,
+        }
+    }
+
+    /// The arm begins at its entry, with no operands.
+    pub(crate) fn begin(&mut self, entry: u16)
+        ensures thread { thread_view self.new ≡ Live entry [] }
+        ensures room { room_of self.new ≡ room_of self.old }
+    {
+        self.state = ThreadState::Live;
+        self.place = entry;
+        self.stack.clear();
     }
 
     /// Whether the arm takes steps.

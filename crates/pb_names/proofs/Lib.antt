@@ -1,6 +1,14 @@
-pub mod Bodies
+pub mod CausesMore
 mod Examples
-pub mod Least
-pub mod Lookups
+pub mod First
+pub mod Forks
+pub mod Holds
+pub mod Indexing
+pub mod Naming
+pub mod Numbered
+pub mod Pairs
+pub mod Ready
+pub mod Straights
+pub mod Told
 pub mod Views
 pub mod Whole

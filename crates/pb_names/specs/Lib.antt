@@ -1,8 +1,12 @@
+pub mod Causes
 pub mod Claims
 pub mod Faults
 pub mod HeadLines
+pub mod Index
+pub mod Limits
 pub mod Meaning
 pub mod Program
+pub mod Ready
 pub mod Resolves
 pub mod Search
 pub mod Source

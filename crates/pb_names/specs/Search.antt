@@ -1,40 +1,26 @@
--- What a search answers: the first number of a name, and the least place with a property.
-use Rattle.std.specs.Prelude.{◌≡◌, ◌≢◌, ℕ, ◌<◌, min, List, map, Vec, slice_get, Option, Some, None}
-use Rattle.pb_tree.specs.Syntax.{NameSyntax}
-use Rattle.pb_tree.specs.View.{name_view}
-use Rattle.pb_tree.specs.declared.expr.Name.{Name}
-use Rattle.pb_names.specs.Faults.{IsUnknownAt, IsRepeatedAt}
+-- What looking through a program answers: the cause of least place.
+use Rattle.std.specs.Prelude.{◌≡◌, ◌≤◌, nat_le, cond, List, map, Option, Some, None}
+use Rattle.pb_names.specs.Causes.{Causes}
 use Rattle.pb_names.specs.Program as plain
+use Rattle.pb_names.specs.declared.causes.Cause.{Cause}
+use Rattle.pb_names.specs.declared.declared.Declared.{Declared}
 
--- the names of a list in memory
-abbrev pub names_view : {A : Type 0} → Vec (Name A) A → List NameSyntax
-names_view names = map name_view names.items
+-- the names of a list, by number
+abbrev pub names_in : {A : Type 0} → Declared A → List plain.Name
+names_in declared = map (λ text. text.now) declared.texts.items
 
--- the least number of a name, or none where it is not there
-abbrev pub IsFirstNumber : List plain.Name → plain.Name → Option ℕ → Type 0
-IsFirstNumber names name None = (k : ℕ) → slice_get names k ≢ Some name
-IsFirstNumber names name (Some i) =
-    (slice_get names i ≡ Some name) × ((k : ℕ) → k < i → slice_get names k ≢ Some name)
+-- one of these causes, and none of them stands at an earlier place; none where there is none
+pub record IsFirst (causes : Causes) (told : Option Cause) : Type 0 where
+  pub stands : (cause : Cause) → told ≡ Some cause → causes cause
+  pub least : (cause other : Cause) → told ≡ Some cause → causes other → cause.at ≤ other.at
+  pub none : told ≡ None → (cause : Cause) → ¬ causes cause
 
--- the least place with a property, or none where no place has it
-abbrev pub IsLeast : (ℕ → Type 0) → Option ℕ → Type 0
-IsLeast P None = (at : ℕ) → ¬ P at
-IsLeast P (Some at) = P at × ((earlier : ℕ) → earlier < at → ¬ P earlier)
-
--- the earlier of two places
-abbrev pub earlier_of : Option ℕ → Option ℕ → Option ℕ
+-- the cause of the lesser place
+abbrev pub earlier_of : Option Cause → Option Cause → Option Cause
 earlier_of None b = b
 earlier_of (Some x) None = Some x
-earlier_of (Some x) (Some y) = Some (min x y)
+earlier_of (Some x) (Some y) = cond (nat_le x.at y.at) (Some x) (Some y)
 
--- the name of this number is declared before, and stands at this place
-abbrev pub IsRepeatedHere : List NameSyntax → ℕ → ℕ → Type 0
-IsRepeatedHere declared i at = (repeated : IsRepeatedAt declared at) × (repeated.second ≡ i)
-
--- no name is declared twice
-abbrev pub NoneRepeated : List NameSyntax → Type 0
-NoneRepeated declared = (at : ℕ) → ¬ IsRepeatedAt declared at
-
--- all names that are used are declared
-pub record AllKnown (declared used : List NameSyntax) : Type 0 where
-  pub none_unknown : (at : ℕ) → ¬ IsUnknownAt declared used at
+-- there are none of these causes
+pub record IsFree (causes : Causes) : Type 0 where
+  pub free : (cause : Cause) → ¬ causes cause

@@ -6,30 +6,45 @@ ghost use Rattle.pb_names.specs.declared.fault.NameFault.TheVariants.{NoMemory a
 use pb_base::NoMemory;
 use std::alloc::{AllocError, AllocFailed};
 
-/// What a program has too many of.
+/// What a program has too many of. Declarations are counted, also those of one name.
 #[derive(Clone, Copy, Debug, PartialEq, Eq, thiserror::Error)]
 pub enum Kind {
+    /// The program declares more than 64 processes.
+    #[error("processes")]
+    Processes,
+    /// The program declares more than 16 resources.
+    #[error("resources")]
+    Resources,
     /// A process declares more than 64 integers.
     #[error("integers")]
     Integers,
+    /// A parbegin has more than 16 arms.
+    #[error("fork")]
+    Fork,
+    /// A process has more than 64 arms, its body counted as one.
+    #[error("arms")]
+    Arms,
 }
 
 /// Why a program has no numbered form. A place is an offset into the text, from 0.
 #[derive(Clone, Copy, Debug, PartialEq, Eq, thiserror::Error)]
 pub enum NameFault {
-    /// The program has parts that are not supported yet: no process or several, a resource, or a statement
-    /// that is neither an assignment nor a print.
-    #[error("not supported yet")]
-    Later,
     /// The program has more of these than it may have.
     #[error("too many {0}")]
     TooMany(Kind),
-    /// At this place a name is declared that its process has declared before.
+    /// At this place a resource, a process or an integer of a process is declared whose name is declared
+    /// before.
     #[error("name declared twice at {0}")]
     Twice(usize),
-    /// At this place a name is used that its process does not declare.
+    /// At this place a name is used that is not declared: no integer of its process, or no resource.
     #[error("unknown name at {0}")]
     Unknown(usize),
+    /// At this place stands a capital over 1,000,000, or an amount of a hold that is 0 or over 1,000,000.
+    #[error("amount out of range at {0}")]
+    Amount(usize),
+    /// At this place a hold names a resource that it has named before.
+    #[error("resource named again at {0}")]
+    Repeated(usize),
     /// The numbered program did not find memory. It is answered only where an allocator refused a growth.
     #[error("out of memory")]
     NoMemory,

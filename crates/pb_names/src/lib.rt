@@ -2,13 +2,20 @@
 #![tactic(auto)]
 
 mod causes;
+pub mod complete;
+mod declared;
 pub mod fault;
+mod limits;
+mod lookups;
 pub mod numbering;
 pub mod resolved;
+pub mod straight;
 
+pub use complete::is_complete;
 pub use fault::{Kind, NameFault};
 pub use numbering::resolve;
 pub use resolved::{Expr, Process, Resolved, Resource, Stmt};
+pub use straight::is_straight;
 
 #[cfg(test)]
 mod tests;

@@ -1,31 +1,42 @@
 //! How a syntax tree becomes a numbered program.
 
-ghost use Rattle.std.specs.Prelude.{◌≡◌, ◌≤◌, [], ◌∷◌, length, map, IfOk, IfErr};
-ghost use Rattle.pb_tree.specs.View.{name_view, expr_view, stmt_view, stmts_view, process_view, program_view};
-ghost use Rattle.pb_names.specs.Faults.{IsFault, used_in, used_in_stmt, used_in_stmts};
-ghost use Rattle.pb_names.specs.Resolves.{Resolves, ResolvesExpr, ResolvesStmt, ResolvesStmts};
-ghost use Rattle.pb_names.specs.Resolves.{ResolvesProcess, IsNumber, texts};
-ghost use Rattle.pb_names.specs.Search.{AllKnown, NoneRepeated, names_view};
-ghost use Rattle.pb_names.specs.Straight.{IsStraight, IsStraightStmt, IsStraightBlock, IsSupportedStmt};
-ghost use Rattle.pb_names.specs.Straight.{IsSupportedBody};
+ghost use Rattle.std.specs.Prelude.{◌≡◌, ◌+◌, ◌≤◌, pos, length, map, All, IfOk, IfErr, OnOk};
+ghost use Rattle.std.specs.List.{AllZip};
+ghost use Rattle.pb_tree.specs.View.{name_view, number_view, expr_view, demand_view, stmt_view, stmts_view};
+ghost use Rattle.pb_tree.specs.View.{arms_view, process_view, resource_view, program_view};
+ghost use Rattle.pb_names.specs.Causes.{IsUnknown, IsOutside, InExpr, InDemand, InsideProcess, InProgram, Among};
+ghost use Rattle.pb_names.specs.Causes.{InResource, InProcess};
+ghost use Rattle.pb_names.specs.Faults.{IsFault};
+ghost use Rattle.pb_names.specs.Limits.{IsWithinLimits, widest_in, inner_arms_of_stmt, inner_arms};
+ghost use Rattle.pb_names.specs.Limits.{inner_arms_of_arms};
+ghost use Rattle.pb_names.specs.Program.{IsNumberedStmt, IsNumbered, AreNumbered};
+ghost use Rattle.pb_names.specs.Ready.{IsReadyStmt, AreReady, AreReadyArms, HasPairs, IsFitting};
+ghost use Rattle.pb_names.specs.Ready.{IsComplete};
+ghost use Rattle.pb_names.specs.Resolves.{Resolves, ResolvesExpr, ResolvesStmt, ResolvesStmts, ResolvesArms};
+ghost use Rattle.pb_names.specs.Resolves.{ResolvesDemand, ResolvesDemands, ResolvesProcess, ResolvesResource};
+ghost use Rattle.pb_names.specs.Resolves.{IsNumber, texts};
+ghost use Rattle.pb_names.specs.Search.{IsFree, names_in};
 ghost use Rattle.pb_names.specs.View.{resolved_view};
 ghost use Rattle.pb_names.specs.View.{expr_view as expr_of, stmt_view as stmt_of, block_view};
-ghost use Rattle.pb_names.specs.View.{process_view as process_of};
+ghost use Rattle.pb_names.specs.View.{arms_view as arms_of, process_view as process_of};
+ghost use Rattle.pb_names.specs.View.{resource_view as resource_of};
 
-use crate::causes::{MAX_INTEGERS, accepted_process, check_names, number_of};
+use crate::causes::{amount_from, fault_of, first_cause};
+use crate::declared::Declared;
 use crate::fault::NameFault;
-use crate::resolved::{Expr, Process, Resolved, Stmt};
-use pb_base::NoMemory;
-use pb_tree::Name;
+use crate::limits::{MAX_ARMS, MAX_FORK, MAX_INTEGERS, MAX_RESOURCES, too_many};
+use crate::resolved::{Expr, Process, Resolved, Resource, Stmt};
+use pb_base::{Bundle, NoMemory, Pair};
+use pb_tree::{Demand, Name, Number};
 use std::alloc::Allocator;
 
 /// The number of a name that is declared.
-fn number_in<A: Allocator>(declared: &Vec<Name<A>, A>, name: &Name<A>) -> u8
-    requires few { length declared.now.items ≤ MAX_INTEGERS }
-    requires known { AllKnown (names_view declared.now) (name_view name.now ∷ []) }
-    ensures { IsNumber (texts (names_view declared.now)) (name_view name.now) result }
+fn number_in<A: Allocator, B: Allocator>(declared: &Declared<'_, A>, name: &Name<B>) -> u8
+    requires few { length (names_in declared.now) ≤ MAX_INTEGERS }
+    requires known { IsFree (IsUnknown (names_in declared.now) (name_view name.now)) }
+    ensures { IsNumber (names_in declared.now) (name_view name.now) result }
 {
-    match number_of(declared, &name.text) {
+    match declared.number_of(&name.text) {
         Some(i) => i as u8,
         None => unreachable!(),
     }
@@ -34,44 +45,97 @@ fn number_in<A: Allocator>(declared: &Vec<Name<A>, A>, name: &Name<A>) -> u8
 /// An expression with numbers in place of its names.
 fn number_expr<A: Allocator + Clone>(
     alloc: &A,
-    declared: &Vec<Name<A>, A>,
+    integers: &Declared<'_, A>,
     expr: &pb_tree::Expr<A>,
 ) -> Result<Expr<A>, NoMemory>
-    requires few { length declared.now.items ≤ MAX_INTEGERS }
-    requires known { AllKnown (names_view declared.now) (used_in (expr_view expr.now)) }
-    ensures { IfOk result (λ e. ResolvesExpr (texts (names_view declared.now)) (expr_view expr.now) (expr_of e)) }
+    requires few { length (names_in integers.now) ≤ MAX_INTEGERS }
+    requires known { IsFree (InExpr (names_in integers.now) (expr_view expr.now)) }
+    ensures { IfOk result (λ e. ResolvesExpr (names_in integers.now) (expr_view expr.now) (expr_of e)) }
 {
     match expr {
         pb_tree::Expr::Number(number) => {
             let number = *number;
             Ok(Expr::Number(number.value))
         }
-        pb_tree::Expr::Variable(name) => Ok(Expr::Variable(number_in(declared, name))),
+        pb_tree::Expr::Variable(name) => Ok(Expr::Variable(number_in(integers, name))),
         pb_tree::Expr::Unary(op, operand) => {
-            let operand = number_expr(alloc, declared, operand)?;
+            let operand = number_expr(alloc, integers, operand)?;
             Ok(Expr::Unary(*op, Box::new(alloc.clone()?, operand)?))
         }
         pb_tree::Expr::Binary(op, left, right) => {
-            let left = number_expr(alloc, declared, left)?;
-            let right = number_expr(alloc, declared, right)?;
+            let left = number_expr(alloc, integers, left)?;
+            let right = number_expr(alloc, integers, right)?;
             let left = Box::new(alloc.clone()?, left)?;
             Ok(Expr::Binary(*op, left, Box::new(alloc.clone()?, right)?))
         }
     }
 }
 
-/// An assignment or a print with numbers in place of its names.
+/// An amount that is within its range.
+fn amount_of(least: u32, number: Number) -> u32
+    requires { IsFree (IsOutside least (number_view number)) }
+    ensures value { number.value ≡ pos result }
+    ensures least { least ≤ result }
+    ensures most { result ≤ 1000000 }
+{
+    match amount_from(least, number) {
+        Some(amount) => amount,
+        None => unreachable!(),
+    }
+}
+
+/// A pair of a hold with the number of its resource.
+fn number_demand<A: Allocator, B: Allocator>(
+    resources: &Declared<'_, A>,
+    demand: &Demand<B>,
+) -> Pair
+    requires few { length (names_in resources.now) ≤ MAX_RESOURCES }
+    requires amount { IsFree (IsOutside 1 (number_view demand.now.amount)) }
+    requires known { IsFree (IsUnknown (names_in resources.now) (name_view demand.now.resource)) }
+    ensures { ResolvesDemand (names_in resources.now) (demand_view demand.now) result }
+{
+    Pair {
+        resource: number_in(resources, &demand.resource),
+        amount: amount_of(1, demand.amount),
+    }
+}
+
+/// The pairs of a hold with the numbers of their resources.
+fn number_hold<A: Allocator, B: Allocator>(
+    resources: &Declared<'_, A>,
+    demands: &Vec<Demand<B>, B>,
+) -> Bundle
+    requires few { length (names_in resources.now) ≤ MAX_RESOURCES }
+    requires some { 1 ≤ length demands.now.items }
+    requires free { IsFree (Among (InDemand (names_in resources.now)) (map demand_view demands.now.items)) }
+    ensures { ResolvesDemands (names_in resources.now) (map demand_view demands.now.items) result }
+{
+    let first = number_demand(resources, &demands[0]);
+    let mut bundle = Bundle::one(first.resource, first.amount);
+    for i in 1..demands.len() {
+        bundle.push(number_demand(resources, &demands[i]));
+    }
+    bundle
+}
+
+/// A statement with numbers in place of its names. Its arms get the numbers from `next` on, which is left
+/// past them.
+#[cycle(numbering)]
+#[tactic(auto, using(pb_tree::proofs::Views::stmt_views))]
 fn number_stmt<A: Allocator + Clone>(
     alloc: &A,
-    declared: &Vec<Name<A>, A>,
+    integers: &Declared<'_, A>,
+    resources: &Declared<'_, A>,
+    next: &mut usize,
     stmt: &pb_tree::Stmt<A>,
 ) -> Result<Stmt<A>, NoMemory>
-    requires few { length declared.now.items ≤ MAX_INTEGERS }
-    requires supported { IsSupportedStmt (stmt_view stmt.now) }
-    requires known { AllKnown (names_view declared.now) (used_in_stmt (stmt_view stmt.now)) }
-    ensures numbered { IfOk result
-        (λ s. ResolvesStmt (texts (names_view declared.now)) [] (stmt_view stmt.now) (stmt_of s)) }
-    ensures straight { IfOk result (λ s. IsStraightStmt (stmt_of s)) }
+    requires few_integers { length (names_in integers.now) ≤ MAX_INTEGERS }
+    requires few_resources { length (names_in resources.now) ≤ MAX_RESOURCES }
+    requires ready { IsReadyStmt (names_in integers.now) (names_in resources.now) next.old (stmt_view stmt.now) }
+    ensures resolves { IfOk result
+        (λ s. ResolvesStmt (names_in integers.now) (names_in resources.now) (stmt_view stmt.now) (stmt_of s)) }
+    ensures numbered { IfOk result (λ s. IsNumberedStmt next.old (stmt_of s)) }
+    ensures next { OnOk result (next.new ≡ next.old + inner_arms_of_stmt (stmt_view stmt.now)) }
 {
     match stmt {
         pb_tree::Stmt::Assign {
@@ -79,8 +143,8 @@ fn number_stmt<A: Allocator + Clone>(
             target,
             value,
         } => {
-            let target = number_in(declared, target);
-            let value = number_expr(alloc, declared, value)?;
+            let target = number_in(integers, target);
+            let value = number_expr(alloc, integers, value)?;
             Ok(Stmt::Assign {
                 line: *line,
                 target,
@@ -88,35 +152,112 @@ fn number_stmt<A: Allocator + Clone>(
             })
         }
         pb_tree::Stmt::Print { line, value } => {
-            let value = number_expr(alloc, declared, value)?;
+            let value = number_expr(alloc, integers, value)?;
             Ok(Stmt::Print { line: *line, value })
         }
-        pb_tree::Stmt::If { .. }
-        | pb_tree::Stmt::While { .. }
-        | pb_tree::Stmt::Hold { .. }
-        | pb_tree::Stmt::Parbegin { .. } => unreachable!(),
+        pb_tree::Stmt::If {
+            line,
+            test,
+            on_true,
+            on_false,
+        } => {
+            let test = number_expr(alloc, integers, test)?;
+            let on_true = number_list(alloc, integers, resources, next, on_true)?;
+            let on_false = number_list(alloc, integers, resources, next, on_false)?;
+            Ok(Stmt::If {
+                line: *line,
+                test,
+                on_true,
+                on_false,
+            })
+        }
+        pb_tree::Stmt::While { line, test, body } => {
+            let test = number_expr(alloc, integers, test)?;
+            let body = number_list(alloc, integers, resources, next, body)?;
+            Ok(Stmt::While {
+                line: *line,
+                test,
+                body,
+            })
+        }
+        pb_tree::Stmt::Hold {
+            line,
+            demands,
+            body,
+        } => {
+            let bundle = number_hold(resources, demands);
+            let body = number_list(alloc, integers, resources, next, body)?;
+            Ok(Stmt::Hold {
+                line: *line,
+                bundle,
+                body,
+            })
+        }
+        pb_tree::Stmt::Parbegin { line, arms } => {
+            let first = *next as u8;
+            *next += arms.len();
+            let arms = number_arms(alloc, integers, resources, next, arms)?;
+            Ok(Stmt::Parbegin {
+                line: *line,
+                first,
+                arms,
+            })
+        }
     }
 }
 
-/// A body with numbers in place of its names.
-fn number_body<A: Allocator + Clone>(
+/// A list of statements with numbers in place of its names. Its arms get the numbers from `next` on, which is
+/// left past them.
+#[cycle(numbering)]
+#[tactic(auto, using(pb_tree::proofs::Views::stmt_views))]
+fn number_list<A: Allocator + Clone>(
     alloc: &A,
-    declared: &Vec<Name<A>, A>,
+    integers: &Declared<'_, A>,
+    resources: &Declared<'_, A>,
+    next: &mut usize,
     stmts: &Vec<pb_tree::Stmt<A>, A>,
 ) -> Result<Vec<Stmt<A>, A>, NoMemory>
-    requires few { length declared.now.items ≤ MAX_INTEGERS }
-    requires supported { IsSupportedBody (stmts_view stmts.now.items) }
-    requires known { AllKnown (names_view declared.now) (used_in_stmts (stmts_view stmts.now.items)) }
-    ensures numbered { IfOk result
-        (λ body. ResolvesStmts (texts (names_view declared.now)) []
-        (stmts_view stmts.now.items) (block_view body.items)) }
-    ensures straight { IfOk result (λ body. IsStraightBlock (block_view body.items)) }
+    requires few_integers { length (names_in integers.now) ≤ MAX_INTEGERS }
+    requires few_resources { length (names_in resources.now) ≤ MAX_RESOURCES }
+    requires ready { AreReady (names_in integers.now) (names_in resources.now) next.old
+        (stmts_view stmts.now.items) }
+    ensures resolves { IfOk result (λ list. ResolvesStmts (names_in integers.now) (names_in resources.now)
+        (stmts_view stmts.now.items) (block_view list.items)) }
+    ensures numbered { IfOk result (λ list. IsNumbered next.old (block_view list.items)) }
+    ensures next { OnOk result (next.new ≡ next.old + inner_arms (stmts_view stmts.now.items)) }
 {
-    let mut body = Vec::new(alloc.clone()?);
+    let mut list = Vec::new(alloc.clone()?);
     for stmt in stmts {
-        body.push(number_stmt(alloc, declared, stmt)?)?;
+        list.push(number_stmt(alloc, integers, resources, next, stmt)?)?;
     }
-    Ok(body)
+    Ok(list)
+}
+
+/// The arms of a parbegin with numbers in place of their names. The arms inside them get the numbers from
+/// `next` on, which is left past them.
+#[cycle(numbering)]
+#[tactic(auto, using(pb_tree::proofs::Views::stmt_views))]
+fn number_arms<A: Allocator + Clone>(
+    alloc: &A,
+    integers: &Declared<'_, A>,
+    resources: &Declared<'_, A>,
+    next: &mut usize,
+    arms: &Vec<Vec<pb_tree::Stmt<A>, A>, A>,
+) -> Result<Vec<Vec<Stmt<A>, A>, A>, NoMemory>
+    requires few_integers { length (names_in integers.now) ≤ MAX_INTEGERS }
+    requires few_resources { length (names_in resources.now) ≤ MAX_RESOURCES }
+    requires ready { AreReadyArms (names_in integers.now) (names_in resources.now) next.old
+        (arms_view arms.now.items) }
+    ensures resolves { IfOk result (λ list. ResolvesArms (names_in integers.now) (names_in resources.now)
+        (arms_view arms.now.items) (arms_of list.items)) }
+    ensures numbered { IfOk result (λ list. AreNumbered next.old (arms_of list.items)) }
+    ensures next { OnOk result (next.new ≡ next.old + inner_arms_of_arms (arms_view arms.now.items)) }
+{
+    let mut list = Vec::new(alloc.clone()?);
+    for arm in arms {
+        list.push(number_list(alloc, integers, resources, next, arm)?)?;
+    }
+    Ok(list)
 }
 
 /// The texts of names.
@@ -124,7 +265,7 @@ fn copy_texts<A: Allocator + Clone>(
     alloc: &A,
     names: &Vec<Name<A>, A>,
 ) -> Result<Vec<Vec<u8, A>, A>, NoMemory>
-    ensures { IfOk result (λ copies. map (λ copy. copy.items) copies.items ≡ texts (names_view names.now)) }
+    ensures { IfOk result (λ copies. map (λ copy. copy.items) copies.items ≡ texts (map name_view names.now.items)) }
 {
     let mut copies = Vec::new(alloc.clone()?);
     for name in names {
@@ -136,18 +277,23 @@ fn copy_texts<A: Allocator + Clone>(
 /// A process with numbers in place of its names.
 fn number_process<A: Allocator + Clone>(
     alloc: &A,
+    resources: &Declared<'_, A>,
     process: &pb_tree::Process<A>,
 ) -> Result<Process<A>, NoMemory>
-    requires few { length process.now.integers.items ≤ MAX_INTEGERS }
-    requires supported { IsSupportedBody (stmts_view process.now.body.items) }
-    requires once { NoneRepeated (names_view process.now.integers) }
-    requires known { AllKnown (names_view process.now.integers) (used_in_stmts (stmts_view process.now.body.items)) }
-    ensures numbered { IfOk result (λ p. ResolvesProcess [] (process_view process.now) (process_of p)) }
-    ensures straight { IfOk result (λ p. IsStraightBlock (block_view p.body.items)) }
+    requires few_resources { length (names_in resources.now) ≤ MAX_RESOURCES }
+    requires few_integers { length process.now.integers.items ≤ MAX_INTEGERS }
+    requires free { IsFree (InsideProcess (names_in resources.now) (process_view process.now)) }
+    requires pairs { HasPairs (stmts_view process.now.body.items) }
+    requires narrow { widest_in (stmts_view process.now.body.items) ≤ MAX_FORK }
+    requires room { 1 + inner_arms (stmts_view process.now.body.items) ≤ MAX_ARMS }
+    ensures { IfOk result
+        (λ p. ResolvesProcess (names_in resources.now) (process_view process.now) (process_of p)) }
 {
     let name = Vec::from_slice(alloc.clone()?, &process.name.text)?;
     let integers = copy_texts(alloc, &process.integers)?;
-    let body = number_body(alloc, &process.integers, &process.body)?;
+    let names = Declared::integers(alloc, &process.integers)?;
+    let mut next = 1;
+    let body = number_list(alloc, &names, resources, &mut next, &process.body)?;
     Ok(Process {
         name,
         integers,
@@ -155,29 +301,96 @@ fn number_process<A: Allocator + Clone>(
     })
 }
 
-/// The numbered form of a program of one process without resources, whose statements are assignments and
-/// prints.
+/// Processes with numbers in place of their names.
+fn number_processes<A: Allocator + Clone>(
+    alloc: &A,
+    resources: &Declared<'_, A>,
+    processes: &Vec<pb_tree::Process<A>, A>,
+) -> Result<Vec<Process<A>, A>, NoMemory>
+    requires few_resources { length (names_in resources.now) ≤ MAX_RESOURCES }
+    requires free { IsFree
+        (Among (InProcess (names_in resources.now)) (map process_view processes.now.items)) }
+    requires fitting { All IsFitting (map process_view processes.now.items) }
+    ensures { IfOk result (λ list. AllZip (ResolvesProcess (names_in resources.now))
+        (map process_view processes.now.items) (map process_of list.items)) }
+{
+    let mut list = Vec::new(alloc.clone()?);
+    for process in processes {
+        list.push(number_process(alloc, resources, process)?)?;
+    }
+    Ok(list)
+}
+
+/// A resource with its name and its capital.
+fn number_resource<A: Allocator + Clone>(
+    alloc: &A,
+    resource: &pb_tree::Resource<A>,
+) -> Result<Resource<A>, NoMemory>
+    requires { IsFree (IsOutside 0 (number_view resource.now.capital)) }
+    ensures { IfOk result (λ r. ResolvesResource (resource_view resource.now) (resource_of r)) }
+{
+    Ok(Resource {
+        name: Vec::from_slice(alloc.clone()?, &resource.name.text)?,
+        capital: amount_of(0, resource.capital),
+    })
+}
+
+/// Resources with their names and capitals.
+fn number_resources<A: Allocator + Clone>(
+    alloc: &A,
+    resources: &Vec<pb_tree::Resource<A>, A>,
+) -> Result<Vec<Resource<A>, A>, NoMemory>
+    requires { IsFree (Among InResource (map resource_view resources.now.items)) }
+    ensures { IfOk result (λ list.
+        AllZip ResolvesResource (map resource_view resources.now.items) (map resource_of list.items)) }
+{
+    let mut list = Vec::new(alloc.clone()?);
+    for resource in resources {
+        list.push(number_resource(alloc, resource)?)?;
+    }
+    Ok(list)
+}
+
+/// A program with numbers in place of its names.
+fn number_program<A: Allocator + Clone>(
+    alloc: &A,
+    program: &pb_tree::Program<A>,
+) -> Result<Resolved<A>, NoMemory>
+    requires complete { IsComplete (program_view program.now) }
+    requires within { IsWithinLimits (program_view program.now) }
+    requires free { IsFree (InProgram (program_view program.now)) }
+    ensures { IfOk result (λ resolved. Resolves (program_view program.now) (resolved_view resolved)) }
+{
+    let names = Declared::resources(alloc, &program.resources)?;
+    let resources = number_resources(alloc, &program.resources)?;
+    let processes = number_processes(alloc, &names, &program.processes)?;
+    Ok(Resolved {
+        resources,
+        processes,
+    })
+}
+
+/// The numbered form of a program, in memory of `alloc`. The program has a process, and each of its holds has
+/// a pair, as every tree that was read from a text.
 ///
-/// `Later` comes for any other program. Then `TooMany` comes where the process declares more than 64
-/// integers. Then the fault of least place comes: `Twice` at a name that the process has declared before,
-/// `Unknown` at a name that it does not declare. `NoMemory` comes where the allocator refused a growth.
+/// `TooMany` comes first, with the first kind of these that the program has too many of: processes,
+/// resources, integers of a process, arms of one parbegin, arms of a process. Then comes the fault of least
+/// place: `Twice` at a resource, a process or an integer of a process whose name is declared before,
+/// `Unknown` at a name that is not declared, `Amount` at a capital or an amount out of range, `Repeated` at
+/// a resource that its hold names before. `NoMemory` comes where the allocator refused a growth.
 pub fn resolve<A: Allocator + Clone>(
     alloc: A,
     program: &pb_tree::Program<A>,
 ) -> Result<Resolved<A>, NameFault>
+    requires { IsComplete (program_view program.now) }
     ensures resolves { IfOk result (λ resolved. Resolves (program_view program.now) (resolved_view resolved)) }
-    ensures straight { IfOk result (λ resolved. IsStraight (resolved_view resolved)) }
     ensures fault { IfErr result (λ fault. IsFault (program_view program.now) fault) }
 {
-    let Some(process) = accepted_process(program) else {
-        return Err(NameFault::Later);
-    };
-    check_names(process)?;
-    let process = number_process(&alloc, process)?;
-    let mut processes = Vec::new(alloc.clone()?);
-    processes.push(process)?;
-    Ok(Resolved {
-        resources: Vec::new(alloc),
-        processes,
-    })
+    if let Some(kind) = too_many(program) {
+        return Err(NameFault::TooMany(kind));
+    }
+    match first_cause(&alloc, program)? {
+        Some(cause) => Err(fault_of(cause)),
+        None => Ok(number_program(&alloc, program)?),
+    }
 }

@@ -142,7 +142,7 @@ joins_some : (l : Level) (k : Lexeme) (op : BinaryOp) → operator l k ≡ Some 
 unfolding joins
 joins_some l k op e = rw e refl
 
-stops : (l : Level) (rest : List Token) → Ends l rest → Stops (joins l) rest
+pub stops : (l : Level) (rest : List Token) → Ends l rest → Stops (joins l) rest
 stops l [] h = tt
 stops l (t ∷ ts) h = joins_none l t.lexeme (h l (omega arith))
 
@@ -251,7 +251,7 @@ negation_other : (inner : Part ExprSyntax) (ts rest : List Token) (e : ExprSynta
 unfolding negation
 negation_other inner ts rest e p = signed_other mark.Not sign.Not (comparison inner) ts rest e p (no_not inner)
 
-related_none : (part : Part ExprSyntax) (a : ExprSyntax) (rest : List Token) → Ends level.Comparison rest
+pub related_none : (part : Part ExprSyntax) (a : ExprSyntax) (rest : List Token) → Ends level.Comparison rest
     → related part a rest ≡ Found a rest
 unfolding related
 related_none part a [] h = refl

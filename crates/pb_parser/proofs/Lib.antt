@@ -6,6 +6,7 @@ pub mod Signs
 pub mod Expressions
 pub mod StatementLaws
 pub mod Loops
+pub mod Levels
 pub mod Steps
 pub mod ProgramLaws
 pub mod Depths

@@ -7,11 +7,12 @@ use Rattle.pb_tree.specs.Syntax as tree
 use Rattle.pb_tree.specs.Syntax.{ExprSyntax, StmtsSyntax, ArmsSyntax, DemandSyntax, no_stmt, stmt_then, no_arm, arm_then}
 use Rattle.pb_parser.specs.declared.level.Level.{Level}
 use Rattle.pb_parser.specs.Reader.{Answer, Refused, Found, Part, Join, Stops, is_mark, expect, expect_by, chain_from, chain}
-use Rattle.pb_parser.specs.Making.{Finds, Adds}
+use Rattle.pb_parser.specs.declared.fault.ParseFault.{ParseFault}
+use Rattle.pb_parser.specs.Making.{Fails, Finds, Adds}
 use Rattle.pb_parser.specs.Promises.{TakesMark, TakesOperator}
-use Rattle.pb_parser.specs.ExpressionReader.{joins}
+use Rattle.pb_parser.specs.ExpressionReader.{joins, joined}
 use Rattle.pb_parser.specs.StatementReader.{between, joined_if, a_pair, concat, an_arm, statement, statement_by}
-use Rattle.pb_parser.proofs.Chains.{InChain, chain_enters, chain_more, chain_leaves, chain_fails}
+use Rattle.pb_parser.proofs.Chains.{InChain, chain_enters, chain_more, chain_leaves, chain_fails, fails_through, goes_on, found_value, found_rest}
 use Rattle.pb_parser.proofs.StatementLaws.{pair_sound, pair_shorter, statement_sound, stmt_shorter}
 use Rattle.pb_parser.specs.Lists.{append, append_arms}
 
@@ -66,20 +67,39 @@ loop_leaves m join part ts after target l taken = record {
   same = l.same;
 }
 
--- the same for operators
+-- the same for operators, where one more part is joined by a call
 
-pub operator_more : {P Q : ExprSyntax → Type 0} (l : Level) (op : BinaryOp) (part : Part ExprSyntax) (ts mid rest : List Token) (target : Answer ExprSyntax) (b : ExprSyntax)
-    → InLoop P (joins l) part ts target → TakesOperator l (Some op) ts mid → part mid ≡ Found b rest → length rest < length mid
-    → ((a : ExprSyntax) → P a → Q (tree.binary op a b)) → InLoop Q (joins l) part rest target
-operator_more l op part ts mid rest target b x taken p less put = record {
-  syntax = tree.binary op x.syntax b;
-  same = put x.syntax x.same;
-  chain = chain_more (joins l) part x.syntax b (tree.binary op) taken.0 ts mid rest target x.chain taken.1 taken.2 p less;
-}
+pub joined_refused : (op : BinaryOp) (a : ExprSyntax) (answer : Answer ExprSyntax) → joined op a answer ≡ Refused → answer ≡ Refused
+joined_refused op a Refused none = refl
+joined_refused op a (Found b rest) none = cc
 
-pub operator_fails : {P : ExprSyntax → Type 0} (l : Level) (op : BinaryOp) (part : Part ExprSyntax) (ts mid : List Token) (target : Answer ExprSyntax)
-    → InLoop P (joins l) part ts target → TakesOperator l (Some op) ts mid → part mid ≡ Refused → target ≡ Refused
-operator_fails l op part ts mid target x taken p = chain_fails (joins l) part x.syntax (tree.binary op) taken.0 ts mid target x.chain taken.1 taken.2 p
+pub joined_shorter : {E : Type 0} {is : E → ExprSyntax → Type 0} {x : E} (op : BinaryOp) (a : ExprSyntax) (part : Part ExprSyntax) (mid rest : List Token)
+    → ((us : List Token) (b : ExprSyntax) → part mid ≡ Found b us → length us < length mid)
+    → Finds is x (joined op a (part mid)) rest → length rest < length mid
+joined_shorter op a part mid rest shorter f =
+    let j = goes_on (part mid) (λ b us. Found (tree.binary op a b) us) f.found in
+    let less = shorter j.1 j.0 j.2 in
+    let same = ap length (found_rest j.3) in
+    omega (arith, less, same)
+
+pub operator_more : {E : Type 0} {is : E → ExprSyntax → Type 0} {y : E} {P : ExprSyntax → Type 0} (l : Level) (op : BinaryOp) (part : Part ExprSyntax) (ts mid rest : List Token) (target : Answer ExprSyntax)
+    → ((us : List Token) (b : ExprSyntax) → part mid ≡ Found b us → length us < length mid)
+    → (loop : InLoop P (joins l) part ts target) → TakesOperator l (Some op) ts mid
+    → Finds is y (joined op loop.syntax (part mid)) rest → InLoop (is y) (joins l) part rest target
+operator_more l op part ts mid rest target shorter loop taken f =
+    let a = loop.syntax in
+    let j = goes_on (part mid) (λ b us. Found (tree.binary op a b) us) f.found in
+    let c = chain_more (joins l) part a j.0 (tree.binary op) taken.0 ts mid j.1 target loop.chain taken.1 taken.2 j.2 (shorter j.1 j.0 j.2) in
+    record {
+      syntax = f.syntax;
+      same = f.same;
+      chain = subst (λ s. InChain (joins l) part s rest target) (found_value j.3) (subst (λ us. InChain (joins l) part (tree.binary op a j.0) us target) (found_rest j.3) c);
+    }
+
+pub operator_fails : {P : ExprSyntax → Type 0} (wants : Type 0) (e : ParseFault) (l : Level) (op : BinaryOp) (part : Part ExprSyntax) (ts mid : List Token) (target : Answer ExprSyntax)
+    → (loop : InLoop P (joins l) part ts target) → TakesOperator l (Some op) ts mid → Fails wants e (joined op loop.syntax (part mid)) → Fails wants e target
+operator_fails wants e l op part ts mid target loop taken h =
+    fails_through wants e h (λ none. chain_fails (joins l) part loop.syntax (tree.binary op) taken.0 ts mid target loop.chain taken.1 taken.2 (joined_refused op loop.syntax (part mid) none))
 
 pub operator_leaves : {X : Type 0} {is : X → ExprSyntax → Type 0} {x : X} (l : Level) (part : Part ExprSyntax) (ts after : List Token) (target : Answer ExprSyntax)
     → InLoop (is x) (joins l) part ts target → TakesOperator l None ts after → Finds is x target after

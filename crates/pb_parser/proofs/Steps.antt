@@ -1,35 +1,17 @@
 -- The parts of the parser that take their parts one after the other.
-use Rattle.std.proofs.Common.{◌≡◌, ℕ, List, [], ◌∷◌, Some, refl}
-use Rattle.pb_base.specs.declared.operators.BinaryOp.{BinaryOp}
+use Rattle.std.proofs.Common.{◌≡◌, ℕ, List, [], ◌∷◌, refl}
 use Rattle.pb_lexer.specs.declared.token.Mark.TheVariants as mark
 use Rattle.pb_lexer.specs.Tokens.{Token}
 use Rattle.pb_tree.specs.Syntax as tree
 use Rattle.pb_tree.specs.Syntax.{NameSyntax, ExprSyntax, StmtsSyntax, ArmsSyntax, DemandSyntax, ResourceSyntax, ProcessSyntax, ProgramSyntax}
-use Rattle.pb_parser.specs.declared.level.Level.TheVariants as level
 use Rattle.pb_parser.specs.Lists.{append, append_arms, single, single_arm}
-use Rattle.pb_parser.specs.Reader.{Refused, Found, Part, Stops, expect, ended}
-use Rattle.pb_parser.specs.ExpressionReader.{joins, sum, comparison, related, expression}
+use Rattle.pb_parser.specs.Reader.{Refused, Found, Part, expect, ended}
+use Rattle.pb_parser.specs.ExpressionReader.{expression}
 use Rattle.pb_parser.specs.StatementReader.{between, concat, a_name, pairs, a_pair, list, arms, otherwise, choice, looping, holding, statement, an_arm}
 use Rattle.pb_parser.specs.ProgramReader.{one_name, names, a_resource, resources, integers, a_process, processes, program}
 use Rattle.pb_parser.proofs.Chains.{chain_refused}
 use Rattle.pb_parser.proofs.StatementLaws.{arm_read}
 use Rattle.pb_parser.proofs.Loops.{InLoop, loop_enters, loop_begins, arm_refused}
-
--- ---- expressions
-
-pub comparison_alone : (inner : Part ExprSyntax) (ts mid after : List Token) (a : ExprSyntax) → sum inner ts ≡ Found a mid
-    → after ≡ mid → Stops (joins level.Comparison) mid
-    → comparison inner ts ≡ Found a after
-unfolding comparison related
-comparison_alone inner ts [] after a p e stop = rw (p, e) refl
-comparison_alone inner ts (t ∷ mid) after a p e stop = rw (p, stop, e) refl
-
-pub comparison_both : (inner : Part ExprSyntax) (t : Token) (ts mid us rest : List Token) (op : BinaryOp) (a b : ExprSyntax)
-    → sum inner ts ≡ Found a mid → mid ≡ t ∷ us
-    → joins level.Comparison t.lexeme ≡ Some (tree.binary op) → sum inner us ≡ Found b rest
-    → comparison inner ts ≡ Found (tree.binary op a b) rest
-unfolding comparison related
-comparison_both inner t ts mid us rest op a b p e j q = rw (p, e, j, q) refl
 
 -- ---- statements
 

@@ -12,7 +12,7 @@ use Rattle.pb_tree.specs.Syntax.{ExprSyntax}
 use Rattle.pb_parser.specs.declared.level.Level.{Level}
 use Rattle.pb_parser.specs.declared.level.Level.TheVariants as level
 use Rattle.pb_parser.specs.Grammar.{operator, name_at, number_at}
-use Rattle.pb_parser.specs.Reader.{Answer, Refused, Found, Part, Join, and_then, is_mark, expect, chain}
+use Rattle.pb_parser.specs.Reader.{Answer, Refused, Found, Part, Join, and_then, is_mark, expect, chain, more}
 
 abbrev pub joined_by : Option BinaryOp → Option (ExprSyntax → ExprSyntax → ExprSyntax)
 joined_by None = None
@@ -83,6 +83,60 @@ of_level inner level.Comparison = comparison inner
 of_level inner level.Sum = sum inner
 of_level inner level.Term = term inner
 of_level inner level.Factor = factor inner
+
+-- `a` joined by the operator with what is answered
+abbrev pub joined : BinaryOp → ExprSyntax → Answer ExprSyntax → Answer ExprSyntax
+joined op a answer = and_then answer (λ b rest. Found (tree.binary op a b) rest)
+
+-- the rest of a term behind its first factor, and of a sum behind its first term
+abbrev pub factors : Part ExprSyntax → ExprSyntax → Part ExprSyntax
+factors inner a ts = more (joins level.Term) (factor inner) a ts
+
+abbrev pub terms : Part ExprSyntax → ExprSyntax → Part ExprSyntax
+terms inner a ts = more (joins level.Sum) (term inner) a ts
+
+-- the rest of a conjunction behind its first negation, and of a disjunction behind its first conjunction
+abbrev pub negations : Part ExprSyntax → ExprSyntax → Part ExprSyntax
+negations inner a ts = more (joins level.Conjunction) (negation inner) a ts
+
+abbrev pub conjunctions : Part ExprSyntax → ExprSyntax → Part ExprSyntax
+conjunctions inner a ts = more (joins level.Disjunction) (conjunction inner) a ts
+
+-- the rest of a comparison, sum or term behind its first factor
+unfoldable pub after_factor : Part ExprSyntax → Level → ExprSyntax → Part ExprSyntax
+after_factor inner level.Term a ts = factors inner a ts
+after_factor inner level.Sum a ts = and_then (factors inner a ts) (terms inner)
+after_factor inner level.Comparison a ts =
+    and_then (and_then (factors inner a ts) (terms inner)) (related (sum inner))
+after_factor inner _ a ts = Found a ts
+
+-- the rest of a disjunction or conjunction behind its first negation
+unfoldable pub after_negation : Part ExprSyntax → Level → ExprSyntax → Part ExprSyntax
+after_negation inner level.Conjunction a ts = negations inner a ts
+after_negation inner level.Disjunction a ts = and_then (negations inner a ts) (conjunctions inner)
+after_negation inner _ a ts = Found a ts
+
+-- whether a lexeme is a binary operator
+abbrev pub is_operator : Lexeme → Bool
+is_operator (Fixed mark.Or) = true
+is_operator (Fixed mark.And) = true
+is_operator (Fixed mark.Equal) = true
+is_operator (Fixed mark.NotEqual) = true
+is_operator (Fixed mark.Less) = true
+is_operator (Fixed mark.AtMost) = true
+is_operator (Fixed mark.Greater) = true
+is_operator (Fixed mark.AtLeast) = true
+is_operator (Fixed mark.Plus) = true
+is_operator (Fixed mark.Minus) = true
+is_operator (Fixed mark.Star) = true
+is_operator (Fixed mark.Div) = true
+is_operator (Fixed mark.Mod) = true
+is_operator _ = false
+
+-- whether a binary operator comes next
+abbrev pub begins_operator : List Token → Bool
+begins_operator [] = false
+begins_operator (t ∷ ts) = is_operator t.lexeme
 
 -- an expression with fewer than `depth` open brackets
 unfoldable pub expression : ℕ → Part ExprSyntax

@@ -57,6 +57,10 @@ chain_from join part zero a (t ∷ ts) = Refused
 chain_from join part (suc n) a (t ∷ ts) =
     chain_by part (chain_from join part n) a (Found a (t ∷ ts)) ts (join t.lexeme)
 
+-- goes on from `a` to the last part that is joined
+abbrev pub more : {X : Type 0} → Join X → Part X → X → Part X
+more join part a ts = chain_from join part (length ts) a ts
+
 -- parts that are joined
 unfoldable pub chain : {X : Type 0} → Join X → Part X → Part X
 chain join part ts = and_then (part ts) (λ a rest. chain_from join part (length rest) a rest)

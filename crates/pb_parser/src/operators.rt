@@ -5,6 +5,7 @@ ghost use Rattle.pb_lexer.specs.Tokens.{Fixed};
 ghost use Rattle.pb_lexer.specs.Tokens as spec_tokens;
 ghost use Rattle.pb_parser.specs.Grammar as grammar;
 ghost use Rattle.pb_parser.specs.Reader as reader;
+ghost use Rattle.pb_parser.specs.ExpressionReader as reads;
 
 use crate::level::Level;
 use pb_base::BinaryOp;
@@ -56,6 +57,20 @@ pub(crate) fn operator(level: Level, kind: Kind) -> Option<BinaryOp>
     match kind {
         Kind::Mark(mark) => operator_of(level, mark),
         _ => None,
+    }
+}
+
+/// Whether a token of the kind is a binary operator.
+#[inline]
+pub(crate) fn is_operator(kind: Kind) -> bool
+    ensures { (text : List ℕ) → result ≡ reads.is_operator (spec_tokens.lexeme kind text) }
+{
+    match kind {
+        Kind::Mark(Mark::Or | Mark::And | Mark::Plus | Mark::Minus) => true,
+        Kind::Mark(Mark::Star | Mark::Div | Mark::Mod) => true,
+        Kind::Mark(Mark::Equal | Mark::NotEqual | Mark::Less) => true,
+        Kind::Mark(Mark::AtMost | Mark::Greater | Mark::AtLeast) => true,
+        _ => false,
     }
 }
 

@@ -14,7 +14,7 @@ ghost use Rattle.pb_parser.specs.Promises.{Begins, Gives, Signs, TakesOperator, 
 use crate::builder::Builder;
 use crate::fault::ParseFault;
 use crate::level::Level;
-use crate::operators::{is_mark, operator};
+use crate::operators::{is_mark, is_operator, operator};
 use pb_base::{BinaryOp, UnaryOp};
 use pb_lexer::token::{Kind, Mark, Token};
 use pb_tree::Number;
@@ -109,6 +109,17 @@ impl<'a, 't, B: Builder> Parser<'a, 't, B> {
         Some(op)
     }
 
+    /// Whether the next token is an operator, of whatever level.
+    #[inline]
+    fn at_operator(&self) -> bool
+        ensures { result ≡ reads.begins_operator (tokens self.now.rest.now) }
+    {
+        match self.rest {
+            [next, ..] => is_operator(next.kind()),
+            [] => false,
+        }
+    }
+
     /// How many times the mark comes next; all of them are taken.
     pub(crate) fn count(&mut self, mark: Mark) -> usize
         ensures signs { (op : UnaryOp) (part : reader.Part ExprSyntax) →
@@ -183,38 +194,154 @@ impl<'a, 't, B: Builder> Parser<'a, 't, B> {
 
     #[inline(always)]
     #[cycle(expression)]
-    #[tactic(auto, unfolding(crate::specs::ExpressionReader::disjunction, crate::specs::ExpressionReader::conjunction, crate::specs::ExpressionReader::sum, crate::specs::ExpressionReader::term))]
     fn level(&mut self, depth: usize, level: Level) -> Result<B::Expr, ParseFault>
         ensures { Makes B.wants B.is_expr result
             (reads.of_level (reads.expression depth) level (tokens self.old.rest.now))
             (tokens self.new.rest.now) }
     {
         match level {
-            Level::Disjunction => self.chain(depth, Level::Disjunction, Level::Conjunction),
-            Level::Conjunction => self.chain(depth, Level::Conjunction, Level::Negation),
+            Level::Disjunction => self.logical(depth, Level::Disjunction),
+            Level::Conjunction => self.logical(depth, Level::Conjunction),
             Level::Negation => self.negation(depth),
-            Level::Comparison => self.comparison(depth),
-            Level::Sum => self.chain(depth, Level::Sum, Level::Term),
-            Level::Term => self.chain(depth, Level::Term, Level::Factor),
+            Level::Comparison => self.arithmetic(depth, Level::Comparison),
+            Level::Sum => self.arithmetic(depth, Level::Sum),
+            Level::Term => self.arithmetic(depth, Level::Term),
             Level::Factor => self.factor(depth),
         }
     }
 
-    /// Parts joined by the operators of a level, grouped to the left.
+    /// A disjunction or conjunction: most are a negation that no operator follows.
     #[cycle(expression)]
-    fn chain(&mut self, depth: usize, level: Level, part: Level) -> Result<B::Expr, ParseFault>
-        requires { reads.looseness part < reads.looseness level }
+    fn logical(&mut self, depth: usize, level: Level) -> Result<B::Expr, ParseFault>
+        requires { reads.looseness Level.Negation < reads.looseness level }
         ensures { Makes B.wants B.is_expr result
-            (reader.chain (reads.joins level)
-            (reads.of_level (reads.expression depth) part) (tokens self.old.rest.now))
+            (reads.of_level (reads.expression depth) level (tokens self.old.rest.now))
             (tokens self.new.rest.now) }
     {
-        let mut left = self.level(depth, part)?;
+        let first = self.negation(depth)?;
+        if self.at_operator() {
+            return self.after_negation(depth, level, first);
+        }
+        Ok(first)
+    }
+
+    /// The rest of a disjunction or conjunction behind its first negation.
+    #[cycle(expression)]
+    fn after_negation(
+        &mut self,
+        depth: usize,
+        level: Level,
+        first: B::Expr,
+    ) -> Result<B::Expr, ParseFault>
+        requires { (a : ExprSyntax) × B.is_expr first a }
+        ensures { (a : ExprSyntax) → B.is_expr first a → Makes B.wants B.is_expr result
+            (reads.after_negation (reads.expression depth) level a (tokens self.old.rest.now))
+            (tokens self.new.rest.now) }
+    {
+        match level {
+            Level::Disjunction => {
+                let left = self.after_negation(depth, Level::Conjunction, first)?;
+                self.chain(depth, Level::Disjunction, Level::Conjunction, left)
+            }
+            Level::Conjunction => self.chain(depth, Level::Conjunction, Level::Negation, first),
+            _ => Ok(first),
+        }
+    }
+
+    /// A comparison, sum or term: most are a factor that no operator follows.
+    #[cycle(expression)]
+    fn arithmetic(&mut self, depth: usize, level: Level) -> Result<B::Expr, ParseFault>
+        requires { reads.looseness level < reads.looseness Level.Negation }
+        ensures { Makes B.wants B.is_expr result
+            (reads.of_level (reads.expression depth) level (tokens self.old.rest.now))
+            (tokens self.new.rest.now) }
+    {
+        let first = self.factor(depth)?;
+        if self.at_operator() {
+            return self.after_factor(depth, level, first);
+        }
+        Ok(first)
+    }
+
+    /// The rest of a comparison, sum or term behind its first factor.
+    #[cycle(expression)]
+    fn after_factor(
+        &mut self,
+        depth: usize,
+        level: Level,
+        first: B::Expr,
+    ) -> Result<B::Expr, ParseFault>
+        requires { (a : ExprSyntax) × B.is_expr first a }
+        ensures { (a : ExprSyntax) → B.is_expr first a → Makes B.wants B.is_expr result
+            (reads.after_factor (reads.expression depth) level a (tokens self.old.rest.now))
+            (tokens self.new.rest.now) }
+    {
+        match level {
+            Level::Comparison => {
+                let left = self.after_factor(depth, Level::Sum, first)?;
+                self.relation(depth, left)
+            }
+            Level::Sum => {
+                let left = self.after_factor(depth, Level::Term, first)?;
+                self.chain(depth, Level::Sum, Level::Term, left)
+            }
+            Level::Term => self.chain(depth, Level::Term, Level::Factor, first),
+            _ => Ok(first),
+        }
+    }
+
+    /// Parts joined by the operators of a level behind the first, grouped to the left.
+    #[cycle(expression)]
+    fn chain(
+        &mut self,
+        depth: usize,
+        level: Level,
+        part: Level,
+        first: B::Expr,
+    ) -> Result<B::Expr, ParseFault>
+        requires tighter { reads.looseness part < reads.looseness level }
+        requires made { (a : ExprSyntax) × B.is_expr first a }
+        ensures { (a : ExprSyntax) → B.is_expr first a → Makes B.wants B.is_expr result
+            (reader.more (reads.joins level)
+            (reads.of_level (reads.expression depth) part) a (tokens self.old.rest.now))
+            (tokens self.new.rest.now) }
+    {
+        let mut left = first;
         while let Some(op) = self.operator(level) {
-            let right = self.level(depth, part)?;
-            left = self.build.binary(op, left, right)?;
+            left = self.joined(depth, part, op, left)?;
         }
         Ok(left)
+    }
+
+    /// What was read, joined with one more part.
+    #[cycle(expression)]
+    fn joined(
+        &mut self,
+        depth: usize,
+        part: Level,
+        op: BinaryOp,
+        left: B::Expr,
+    ) -> Result<B::Expr, ParseFault>
+        ensures { (a : ExprSyntax) → B.is_expr left a → Makes B.wants B.is_expr result
+            (reads.joined op a (reads.of_level (reads.expression depth) part (tokens self.old.rest.now)))
+            (tokens self.new.rest.now) }
+    {
+        let right = self.level(depth, part)?;
+        Ok(self.build.binary(op, left, right)?)
+    }
+
+    /// A sum, and another one if a relation stands between them.
+    #[cycle(expression)]
+    #[tactic(auto, using(crate::proofs::Levels::one_sum, crate::proofs::Levels::two_sums))]
+    fn relation(&mut self, depth: usize, left: B::Expr) -> Result<B::Expr, ParseFault>
+        ensures { (a : ExprSyntax) → B.is_expr left a → Makes B.wants B.is_expr result
+            (reads.related (reads.sum (reads.expression depth)) a (tokens self.old.rest.now))
+            (tokens self.new.rest.now) }
+    {
+        let Some(op) = self.operator(Level::Comparison) else {
+            return Ok(left);
+        };
+        self.joined(depth, Level::Sum, op, left)
     }
 
     #[cycle(expression)]
@@ -225,24 +352,8 @@ impl<'a, 't, B: Builder> Parser<'a, 't, B> {
             (tokens self.new.rest.now) }
     {
         let count = self.count(Mark::Not);
-        let operand = self.comparison(depth)?;
+        let operand = self.arithmetic(depth, Level::Comparison)?;
         self.signed(UnaryOp::Not, count, operand)
-    }
-
-    /// A sum, or two with a relation between them.
-    #[cycle(expression)]
-    #[tactic(auto, unfolding(crate::specs::ExpressionReader::comparison, crate::specs::ExpressionReader::related))]
-    fn comparison(&mut self, depth: usize) -> Result<B::Expr, ParseFault>
-        ensures { Makes B.wants B.is_expr result
-            (reads.comparison (reads.expression depth) (tokens self.old.rest.now))
-            (tokens self.new.rest.now) }
-    {
-        let left = self.level(depth, Level::Sum)?;
-        let Some(op) = self.operator(Level::Comparison) else {
-            return Ok(left);
-        };
-        let right = self.level(depth, Level::Sum)?;
-        Ok(self.build.binary(op, left, right)?)
     }
 
     #[cycle(expression)]

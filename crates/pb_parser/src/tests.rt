@@ -1,8 +1,9 @@
+mod memories;
 mod places;
+mod texts;
 
 use crate::fault::ParseFault;
 use crate::programs::parse;
-use bumpalo::Bump;
 use linked_list_allocator::LocalHeap;
 use pb_base::{BinaryOp, NoMemory, UnaryOp};
 use pb_lexer::lexer::lex;
@@ -346,31 +347,6 @@ fn keeps_the_limits_of_the_tree(rt: HostRuntime) -> Result<(), Fail> {
     assert_eq!(rt; fault(alloc, text.as_slice()), None);
     let text = repeated(alloc, b"process p begin ", b"x:=1;", 8191, b"x:=1 end")?;
     assert_eq!(rt; fault(alloc, text.as_slice()), Some(ParseFault::TooLarge));
-    Ok(())
-}
-
-#[test]
-fn takes_the_room_of_the_allocator(rt: HostRuntime) -> Result<(), Fail> {
-    let alloc = rt.alloc();
-    let tokens = lex(alloc, TEXT)?;
-    let global = parse(alloc, tokens.as_slice())?;
-    let bump = Bump::new(alloc);
-    let empty = bump.allocated_bytes();
-    let arena = parse(&bump, tokens.as_slice())?;
-    assert!(rt; bump.allocated_bytes() > empty);
-    let heap = LocalHeap::new(alloc, 1_048_576)?;
-    assert_eq!(rt; heap.used(), 0);
-    let fixed = parse(&heap, tokens.as_slice())?;
-    // Each of the 52 nodes takes more than eight bytes.
-    assert!(rt; heap.used() > 8 * 52);
-    assert!(rt; global.same(&arena));
-    assert!(rt; arena.same(&fixed));
-    drop(fixed);
-    assert_eq!(rt; heap.used(), 0);
-    // Too little room.
-    let small = LocalHeap::new(alloc, 1_024)?;
-    assert!(rt; matches!(parse(&small, tokens.as_slice()), Err(ParseFault::NoMemory)));
-    assert_eq!(rt; small.used(), 0);
     Ok(())
 }
 

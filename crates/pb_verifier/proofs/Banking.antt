@@ -22,7 +22,7 @@ use Rattle.pb_code.specs.Code.{ProcessCode, Thread, Idle, Live, Over, CodeProces
 use Rattle.pb_code.specs.Reached.{CodeReaches}
 use Rattle.pb_code.specs.Whole.{Code, bank_of, code_opening}
 use Rattle.pb_verifier.specs.declared.fault.VerifyFault.TheVariants.{OutOfLimits, OverCapital, OverClaim}
-use Rattle.pb_verifier.specs.Behaviour.{AsksWithin, IsStuck}
+use Rattle.pb_verifier.specs.Behaviour.{AsksWithin, EndsOrGoesOn, IsStuck}
 use Rattle.pb_verifier.specs.Limits.{KeepsLimits, IsSmallBundle}
 use Rattle.pb_verifier.specs.Verified.{IsAnnotated}
 use Rattle.pb_verifier.proofs.Finding.{can_step, none_live}
@@ -37,7 +37,7 @@ get_some (x ∷ xs) zero u = (x, refl)
 get_some (x ∷ xs) (suc i) u = get_some xs i (omega arith)
 
 -- a pair is part of its bundle
-pair_in : (bundle : Bundle) (k : ℕ) (d : Pair) → k < length bundle → (get_or bundle k d).amount ≤ amount_in bundle (get_or bundle k d).resource
+pub pair_in : (bundle : Bundle) (k : ℕ) (d : Pair) → k < length bundle → (get_or bundle k d).amount ≤ amount_in bundle (get_or bundle k d).resource
 pair_in [] k d u = absurd (omega arith)
 pair_in (pair ∷ bundle) zero d u =
     let a = amount_in-cons pair bundle pair.resource in
@@ -307,5 +307,8 @@ module _ (whole : Code) (annotated : IsAnnotated whole) where
         let is_p : get_or (everyone (bank_at s.loans)) p 0 ≡ p = (let r = get_or-range_with_len 0 (length whole.claims) p 0 w in let z : 0 + p ≡ p = omega arith in r ∙ z) in
         subst IsOverAt is_p (everywhere p 0 (let l = length-range_with_len 0 (length whole.claims) in omega (arith, w, l))) process here
 
+    pub ends_or_goes_on : EndsOrGoesOn whole s
+    ends_or_goes_on = ⊎_elim (λ next. inr (goes_on next)) (λ all. inl (finished all)) (walk kept.safe.0)
+
     pub not_stuck : IsStuck whole s → ⊥
-    not_stuck stuck = ⊎_elim (λ next. stuck.1 (goes_on next)) (λ all. stuck.0 (finished all)) (walk kept.safe.0)
+    not_stuck stuck = ⊎_elim stuck.0 stuck.1 ends_or_goes_on

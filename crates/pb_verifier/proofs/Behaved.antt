@@ -1,22 +1,30 @@
 -- Verified code behaves.
-use Rattle.std.proofs.Common.{[], arith, ap}
+use Rattle.std.proofs.Common.{[], arith, ap, ◌∙◌}
 use Rattle.pb_code.specs.Whole.{Code}
 use Rattle.pb_verifier.specs.declared.fault.VerifyFault.TheVariants.{OutOfLimits, WrongArms, WrongForks}
 use Rattle.pb_verifier.specs.Behaviour.{IsWellBehaved, PeaksDecide}
-use Rattle.pb_verifier.specs.Faults.{HasArms, HasForks, TurnsHoldings, in_holdings}
+use Rattle.pb_verifier.specs.Faults.{HasArms, HasForks, TurnsDepth, TurnsHoldings, in_holdings}
 use Rattle.pb_verifier.specs.Verified.{IsAnnotated}
-use Rattle.pb_verifier.proofs.Banking.{asks_within_claims, kept_reached, not_stuck}
+use Rattle.pb_verifier.proofs.Banking.{asks_within_claims, ends_or_goes_on, kept_reached, not_stuck}
 use Rattle.pb_verifier.proofs.Finding.{can_step}
-use Rattle.pb_verifier.proofs.Greatest.{least, one_holdings, spread_once}
+use Rattle.pb_verifier.proofs.Greatest.{least, one_depth, one_holdings, spread_once}
 use Rattle.pb_verifier.proofs.States.{checked, passes_tests}
 
 pub behaved : (code : Code) → IsAnnotated code → IsWellBehaved code
 behaved code annotated = record {
   passes_tests = λ s reached. passes_tests code annotated s (kept_reached code annotated s reached).good;
+  stacks_have_their_depth = λ s reached p a place stack process state at here live.
+      let ok = checked code annotated p process at in
+      let stands = ((kept_reached code annotated s reached).good.fit p process state at here).order.stands a place stack live in (
+        stands.0,
+        stands.1,
+        λ depth depths. stands.2 ∙ spread_once process TurnsDepth 0 ok.depth depth one_depth ok.depths depths place stands.1,
+      );
   asks_within = λ s reached. asks_within_claims code annotated s (kept_reached code annotated s reached).good;
   safe = λ s reached. (kept_reached code annotated s reached).safe;
   some_arm_steps = λ s reached p process state at here going.
       can_step process (checked code annotated p process at) state ((kept_reached code annotated s reached).good.fit p process state at here) going;
+  ends_or_goes_on = λ s reached. ends_or_goes_on code annotated s (kept_reached code annotated s reached);
   not_stuck = λ s reached. not_stuck code annotated s (kept_reached code annotated s reached);
 }
 

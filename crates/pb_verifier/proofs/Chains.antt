@@ -1,5 +1,5 @@
 -- Chains of holds.
-use Rattle.std.proofs.Common.{◌≡◌, ◌↔◌, ℕ, zero, suc, ◌+◌, ◌-◌, ◌<◌, ◌≤◌, List, [], ◌∷◌, length, slice_get, Option, Some, refl, sym, ap, ◌∙◌, subst, arith}
+use Rattle.std.proofs.Common.{◌≡◌, ◌↔◌, ℕ, zero, suc, ◌+◌, ◌-◌, ◌<◌, ◌≤◌, List, ◌∷◌, length, slice_get, Option, Some, refl, sym, ap, ◌∙◌, subst, arith}
 use Rattle.pb_base.specs.Steppers.{Bundle}
 use Rattle.pb_code.specs.Code.{Instr}
 use Rattle.pb_code.specs.Code.{Take, Give}
@@ -36,17 +36,6 @@ chain_at instrs table (suc n) last u (bundle, before, read, noted, count, rest) 
 pub held_length : (instrs : List Instr) (table : List (Option Holding)) (n last : ℕ) → length (held instrs table n last) ≡ n
 held_length instrs table zero last = refl
 held_length instrs table (suc n) last = ap suc (held_length instrs table n (last_of (fact_at table last)))
-
-pub same_by_get : {X : Type 0} (xs ys : List X) → length xs ≡ length ys → ((k : ℕ) → k < length xs → slice_get xs k ≡ slice_get ys k) → xs ≡ ys
-same_by_get [] [] l h = refl
-same_by_get [] (y ∷ ys) l h = absurd (omega arith)
-same_by_get (x ∷ xs) [] l h = absurd (omega arith)
-same_by_get (x ∷ xs) (y ∷ ys) l h =
-    let first : Some x ≡ Some y = h 0 (omega arith) in
-    let first' : x ≡ y = cc in
-    let l' : length xs ≡ length ys = omega arith in
-    let rest : xs ≡ ys = same_by_get xs ys l' (λ k u. h (suc k) (omega arith)) in
-    cc
 
 module _ (instrs : List Instr) (table : List (Option Holding)) where
   abbrev Held : ℕ → ℕ → List Bundle

@@ -1,30 +1,10 @@
 -- What holds of each element of a list, found out from the first on.
-use Rattle.std.proofs.Common.{◌≡◌, ◌⊎◌, inl, inr, ℕ, ◌+◌, ◌<◌, ◌≤◌, List, [], ◌∷◌, ◌++◌, length, get_or, Option, Some, None, Result, Ok, Err, sym, ap, ◌∙◌, subst, arith}
-use Rattle.std.specs.Prelude.{slice_get, IfOk, IfSome, IfNone}
-use Rattle.std.proofs.lemmas.Option.{slice_get_within}
+use Rattle.std.proofs.Common.{◌≡◌, ◌⊎◌, inl, inr, ℕ, ◌+◌, ◌<◌, ◌≤◌, List, [], ◌∷◌, ◌++◌, length, get_or, Option, Some, None, Result, Ok, Err, sym, ◌∙◌, subst, arith}
+use Rattle.std.specs.Prelude.{IfOk, IfSome, IfNone}
 use Rattle.std.proofs.lemmas.Bool.{cases_lt}
 use Rattle.std.proofs.lemmas.List.{get_or_append_left}
 use Rattle.std.proofs.Math.Seq.{get_or-append_seam}
-
--- what holds of the first n elements
-abbrev pub EachBelow : {A : Type 0} → List A → ℕ → (ℕ → A → Type 0) → Type 0
-EachBelow {A = A} xs n Holds = (k : ℕ) (x : A) → k < n → slice_get xs k ≡ Some x → Holds k x
-
-pub same_read : {A : Type 0} (xs : List A) (k : ℕ) (x y : A) → slice_get xs k ≡ Some x → slice_get xs k ≡ Some y → x ≡ y
-same_read xs k x y a b = let both : Some x ≡ Some y = sym a ∙ b in cc
-
-pub each_more : {A : Type 0} (xs : List A) (n : ℕ) (x : A) (Holds : ℕ → A → Type 0) → slice_get xs n ≡ Some x → EachBelow xs n Holds → Holds n x → EachBelow xs (n + 1) Holds
-each_more {A = A} xs n x Holds read before here k y u at = go (cases_lt k n)
-  where
-    go : (k < n) ⊎ (n ≤ k) → Holds k y
-    go (inl v) = before k y v at
-    go (inr v) =
-        let e : n ≡ k = omega arith in
-        let read' : slice_get xs k ≡ Some x = ap (slice_get xs) (sym e) ∙ read in
-        subst (λ (m : ℕ). Holds m y) e (subst (λ (z : A). Holds n z) (same_read xs k x y read' at) here)
-
-pub each_all : {A : Type 0} (xs : List A) (n : ℕ) (Holds : ℕ → A → Type 0) → length xs ≤ n → EachBelow xs n Holds → (k : ℕ) (x : A) → slice_get xs k ≡ Some x → Holds k x
-each_all xs n Holds u before k x read = let w : k < length xs = slice_get_within xs k x read in before k x (omega arith) read
+pub use Rattle.pb_code.proofs.Each.{EachBelow, same_read, each_more, each_all}
 
 -- ---- answers that may be none, or want of memory
 

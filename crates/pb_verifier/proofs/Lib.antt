@@ -1,3 +1,4 @@
+pub mod Absent
 pub mod Amounting
 pub mod Arming
 pub mod Banking
@@ -22,5 +23,6 @@ pub mod Spreading
 pub mod States
 pub mod Steps
 pub mod Sums
+pub mod Texts
 pub mod Threads
 pub mod Turns

@@ -1,25 +1,15 @@
 -- Tests of limits, at an end of their loops.
 use Rattle.std.proofs.Common.{◌≡◌, ◌≢◌, ◌⊎◌, inl, inr, ℕ, zero, suc, ◌+◌, ◌<◌, ◌≤◌, Bool, true, false, eqb, List, [], length, get_or, map, Some, refl, sym, ap, ◌∙◌, subst, arith}
-use Rattle.std.specs.Prelude.{slice_get, All, AllPairs, Contains}
+use Rattle.std.specs.Prelude.{slice_get, All, AllPairs}
 use Rattle.std.proofs.lemmas.List.{get_or_default}
-use Rattle.std.proofs.lemmas.Option.{slice_get_within, slice_get-get_or, get_or_from_slice_get, slice_get-map, slice_get_read}
-use Rattle.std.specs.Option.{option_map}
+use Rattle.std.proofs.lemmas.Option.{slice_get_within, slice_get-get_or, get_or_from_slice_get}
 use Rattle.std.specs.Cmp.Lexicographic.{pointwise}
 use Rattle.std.proofs.lemmas.Slice.Eq.{slice_eq-Decides}
 use Rattle.std.proofs.lemmas.Bool.{cases_lt}
 use Rattle.std.proofs.lemmas.Bool.Decides.{Decides-eqb}
 use Rattle.pb_verifier.specs.Limits.{AreNames, IsName}
 use Rattle.pb_verifier.proofs.Each.{EachBelow, each_all}
-
-pub not_among : (words : List (List ℕ)) (name : List ℕ) → ((j : ℕ) → j < length words → get_or words j [] ≢ name) → ¬ Contains words name
-not_among words name none c = none c.0 c.1 (get_or_default words c.0 [] name c.1 ∙ c.2)
-
-pub is_among : (words : List (List ℕ)) (name : List ℕ) (j : ℕ) → j < length words → get_or words j [] ≡ name → Contains words name
-is_among words name j u e = (j, u, get_or_default words j name [] u ∙ e)
-
--- an element of a list, seen in the mapped list
-pub read_mapped : {A B : Type 0} (f : A → B) (xs : List A) (k : ℕ) (x : A) → k < length xs → x ≡ get_or xs k x → slice_get (map f xs) k ≡ Some (f x)
-read_mapped f xs k x u e = slice_get-map f xs k ∙ ap (option_map f) (slice_get_read xs (length xs) k x refl u e)
+pub use Rattle.pb_code.proofs.Each.{read_mapped}
 
 -- the same, where the list was borrowed as a slice
 pub read_borrowed : {A B : Type 0} (f : A → B) (xs ys : List A) → ys ≡ xs → (k : ℕ) (x : A) → k < length ys → x ≡ get_or ys k x → slice_get (map f xs) k ≡ Some (f x)

@@ -47,6 +47,14 @@ amount_after End x = x
 abbrev pub TurnsAmount : Instr → ℕ × ℕ → ℕ × ℕ → Type 0
 TurnsAmount i x y = AmountFits i x × (y ≡ amount_after i x)
 
+-- an instruction that takes nothing of a resource
+abbrev pub TakesNone : ℕ → Instr → Type 0
+TakesNone r i = (bundle : Bundle) → i ≡ Take bundle → amount_in bundle r ≡ 0
+
+-- a process that never takes a resource
+abbrev pub NeverTakes : ProcessCode → ℕ → Type 0
+NeverTakes code r = (place : ℕ) (i : Instr) → InstrAt code place i → TakesNone r i
+
 -- nothing is held at entries
 pub first_amount : (first : Amount) → first.held ≡ 0 → (instrs : List Instr) (table : List (Option Amount))
     → (first.held ≤ 256000000) × ((let x : ℕ × ℕ = (first.resource, first.held) in x) ≡ (first.resource, 0))

@@ -1,5 +1,5 @@
 -- What verified code does and never does, from wherever it comes.
-use Rattle.std.specs.Prelude.{◌≡◌, ◌↔◌, ℕ, ◌+◌, ◌<◌, ◌≤◌, ℤ, List, length, Some, slice_get, All, ⊤}
+use Rattle.std.specs.Prelude.{◌≡◌, ◌↔◌, ◌⊎◌, ℕ, ◌+◌, ◌<◌, ◌≤◌, ℤ, List, length, Some, slice_get, All, ⊤}
 use Rattle.pb_base.specs.declared.pick.Pick.{Pick}
 use Rattle.pb_base.specs.Bundle.{amount_in}
 use Rattle.pb_base.specs.Banker.{IsSafe, IsWithinClaim, cell}
@@ -9,7 +9,8 @@ use Rattle.pb_code.specs.Reached.{CodeReaches}
 use Rattle.pb_code.specs.Whole.{Code, bank_of}
 use Rattle.pb_verifier.specs.declared.fault.VerifyFault.{VerifyFault}
 use Rattle.pb_verifier.specs.declared.fault.VerifyFault.TheVariants.{OverClaim}
-use Rattle.pb_verifier.specs.Faults.{AreHoldings, ArePeaks, PeakFits}
+use Rattle.pb_verifier.specs.Faults.{AreDepths, AreHoldings, ArePeaks, PeakFits}
+use Rattle.pb_verifier.specs.Places.{IsInArm, Reached}
 use Rattle.pb_verifier.specs.Verified.{IsFreeOf, turn_of}
 
 -- a place is one of the code
@@ -45,6 +46,15 @@ PassesTests code s =
     → (i : Instr) × (step : ThreadStep) × (slice_get process.instrs place ≡ Some i) × (act state.vars i place stack ≡ Some step)
     × MeetsWhatItNeeds (length code.capital) process s.loans p state place i
 
+-- each live arm stands at a reached place of its own, with as many operands as that place has by its depth
+abbrev pub StacksHaveTheirDepth : Code → State CodeProcess → Type 0
+StacksHaveTheirDepth code s =
+    (p a place : ℕ) (stack : List ℤ) (process : ProcessCode) (state : CodeProcess)
+    → slice_get code.processes p ≡ Some process → slice_get s.processes p ≡ Some state
+    → thread state.threads a ≡ Live place stack
+    → IsInArm process a place × Reached process place
+    × ((depth : ℕ → ℕ) → AreDepths process depth → length stack ≡ depth place)
+
 -- whatever arm stands at a request, it is within the claim, whether or not the banker allows it
 abbrev pub AsksWithin : Code → State CodeProcess → Type 0
 AsksWithin code s =
@@ -55,18 +65,25 @@ AsksWithin code s =
 abbrev pub SomeArmSteps : ProcessCode → CodeProcess → Type 0
 SomeArmSteps code process = (a : ℕ) × (after : CodeProcess) × (effect : Effect) × (step_process code process a ≡ Some (after, effect))
 
+-- all has ended, or some pick is enabled
+abbrev pub EndsOrGoesOn : Code → State CodeProcess → Type 0
+EndsOrGoesOn code s = IsFinished code_over s ⊎ CanGoOn (bank_of code) (code_step code.processes) s
+
 -- not all has ended, and no pick is enabled
 abbrev pub IsStuck : Code → State CodeProcess → Type 0
 IsStuck code s = (IsFinished code_over s → ⊥) × (CanGoOn (bank_of code) (code_step code.processes) s → ⊥)
 
--- in every state that the code reaches: no test fails, no request passes its claim, the loans are safe, and not all wait
+-- in every state that the code reaches: no test fails, stacks are as deep as their places say, no request passes its
+-- claim, the loans are safe, and not all wait
 pub record IsWellBehaved (code : Code) : Type 0 where
   pub passes_tests : (s : State CodeProcess) → CodeReaches code s → PassesTests code s
+  pub stacks_have_their_depth : (s : State CodeProcess) → CodeReaches code s → StacksHaveTheirDepth code s
   pub asks_within : (s : State CodeProcess) → CodeReaches code s → AsksWithin code s
   pub safe : (s : State CodeProcess) → CodeReaches code s → IsSafe (banker_state (bank_of code) s.loans)
   pub some_arm_steps : (s : State CodeProcess) → CodeReaches code s
       → (p : ℕ) (process : ProcessCode) (state : CodeProcess) → slice_get code.processes p ≡ Some process → slice_get s.processes p ≡ Some state
       → (code_over state → ⊥) → SomeArmSteps process state
+  pub ends_or_goes_on : (s : State CodeProcess) → CodeReaches code s → EndsOrGoesOn code s
   pub not_stuck : (s : State CodeProcess) → CodeReaches code s → IsStuck code s → ⊥
 
 -- whether the peak fits is decided by the greatest amounts, where there are any: in code that has no fault looked for

@@ -7,7 +7,7 @@ use Rattle.pb_code.specs.Whole.{Code}
 use Rattle.pb_verifier.specs.declared.fault.VerifyFault.{VerifyFault}
 use Rattle.pb_verifier.specs.declared.fault.VerifyFault.TheVariants.{OutOfLimits, OverCapital, OutOfRange, WrongArms, WrongForks, NoDepths, NoHoldings, LeftAtEnd, OverClaim, NoMemory}
 use Rattle.pb_verifier.specs.Places.{Reached, IsInArm, arms}
-use Rattle.pb_verifier.specs.Limits.{EachProcess, KeepsLimits}
+use Rattle.pb_verifier.specs.Limits.{EachProcess, KeepsLimits, PushesFit}
 use Rattle.pb_verifier.specs.Faults.{FitCapital, IsInRange, HasArms, HasForks, AreDepths, AreHoldings, EndsClear, PeakFits}
 
 -- the code doesn't have this fault; want of memory is none of the code's
@@ -73,4 +73,5 @@ pub record AreArmDepths (processes : List ProcessCode) (depths : List (List ℕ)
 
 pub record IsVerified (v : VerifiedCode) : Type 0 where
   pub annotated : IsAnnotated v.code
+  pub pushes : PushesFit v.code
   pub depths : AreArmDepths v.code.processes v.depths

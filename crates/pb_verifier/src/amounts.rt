@@ -1,15 +1,16 @@
 //! How much of one resource is held at each place.
 
-ghost use Rattle.std.specs.Prelude.{◌≡◌, ◌<◌, ◌≤◌, ◌==◌, ℕ, cond, length, slice_get, IfOk, Some};
+ghost use Rattle.std.specs.Prelude.{◌≡◌, ◌<◌, ◌≤◌, ◌==◌, ℕ, cond, false, length, slice_get, IfOk, Some};
 ghost use Rattle.pb_base.specs.Bundle.{amount_in};
 ghost use Rattle.pb_code.specs.View.{process_view};
-ghost use Rattle.pb_verifier.specs.Amounts.{HasHoldings, TurnsAmount, amount_after, AmountFits};
-ghost use Rattle.pb_verifier.specs.Given.{IsOrderOf, bundle_of, instrs_of};
+ghost use Rattle.pb_verifier.specs.Amounts.{HasHoldings, NeverTakes, TakesNone, TurnsAmount, amount_after, AmountFits};
+ghost use Rattle.pb_verifier.specs.Given.{IsOrderOf, bundle_of, instrs_of, plain};
 ghost use Rattle.pb_verifier.specs.Limits.{IsSmallProcess};
 ghost use Rattle.pb_verifier.specs.Spread.{IsTableOf, fact_at, notes_of};
 
 use crate::bundles::{pair_at, pairs};
 use crate::facts::{Fact, spread};
+use crate::places::{instr_at, places};
 use pb_base::{NoMemory, Pair};
 use pb_code::{Instr, ProcessCode};
 use std::alloc::Global;
@@ -45,6 +46,28 @@ fn amount_of(code: &ProcessCode, bundle: u16, resource: u8) -> u64
         amount += u64::from(share(pair_at(code, bundle, i), resource));
     }
     amount
+}
+
+/// Whether an instruction takes some of a resource.
+fn takes(code: &ProcessCode, instr: Instr, resource: u8) -> bool
+    ensures { result ≡ false → TakesNone resource (plain code.now instr) }
+{
+    match instr {
+        Instr::Take(bundle) => amount_of(code, bundle, resource) > 0,
+        _ => false,
+    }
+}
+
+/// Whether a process takes a resource anywhere.
+pub fn takes_any(code: &ProcessCode, resource: u8) -> bool
+    ensures { result ≡ false → NeverTakes (process_view code.now) resource }
+{
+    for place in 0..places(code) {
+        if takes(code, instr_at(code, place), resource) {
+            return true;
+        }
+    }
+    false
 }
 
 impl Fact for Amount {

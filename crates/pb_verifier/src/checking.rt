@@ -2,6 +2,7 @@
 
 ghost use Rattle.std.specs.Prelude.{◌≡◌, ◌↔◌, ◌⊎◌, ◌<◌, ◌≤◌, IfErr, IfOk, map, true};
 ghost use Rattle.pb_code.specs.View.{code_view};
+ghost use Rattle.pb_verifier.specs.Limits.{PushesFit};
 ghost use Rattle.pb_verifier.specs.Process.{IsEarlier};
 ghost use Rattle.pb_verifier.specs.Verified.{AreArmDepths, IsAnnotated, IsRefusedFor, turn_of};
 
@@ -40,6 +41,7 @@ fn is_memory(fault: VerifyFault) -> bool
 /// The greatest depth of each arm of each process, or the first fault.
 fn check(alloc: Global, code: &Code) -> Result<Vec<Vec<u16>>, VerifyFault>
     ensures annotated { IfOk result (λ _. IsAnnotated (code_view code.now)) }
+    ensures pushes { IfOk result (λ _. PushesFit (code_view code.now)) }
     ensures depths { IfOk result (λ depths.
         AreArmDepths (code_view code.now).processes (map (λ row. row.items) depths.items)) }
     ensures refused { IfErr result (IsRefusedFor (code_view code.now)) }

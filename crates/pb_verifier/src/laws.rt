@@ -1,12 +1,17 @@
 //! What is true of the definitions alone.
 
-ghost use Rattle.pb_code.specs.Whole.{Code};
+ghost use Rattle.std.specs.Prelude.{List};
+ghost use Rattle.pb_code.specs.declared.format.Format.TheVariants.{Two};
+ghost use Rattle.pb_code.specs.Answers.{HasText, HasTextOne};
+ghost use Rattle.pb_code.specs.Limits.{AreLabels, FitsFirst};
+ghost use Rattle.pb_code.specs.Whole.{Code, ProcessLabels};
 ghost use Rattle.pb_verifier.specs.Behaviour.{IsWellBehaved, PeaksDecide};
-ghost use Rattle.pb_verifier.specs.Verified.{IsAnnotated};
+ghost use Rattle.pb_verifier.specs.Verified.{IsAnnotated, IsVerified, VerifiedCode};
 
 /// Verified code, from wherever it comes, in every state that it reaches: no instruction meets a missing operand,
 /// a place, integer, resource or arm that is not there, a give of what is not held, or a fork of an arm that is not
-/// idle; no request passes its claim; the loans are safe; and where not all has ended, some pick is enabled.
+/// idle; each stack is as deep as the place of its arm says; no request passes its claim; the loans are safe; and
+/// where not all has ended, some pick is enabled.
 pub fn verified_code_is_well_behaved()
     ensures { (code : Code) → IsAnnotated code → IsWellBehaved code }
 {}
@@ -14,4 +19,11 @@ pub fn verified_code_is_well_behaved()
 /// The peak of arm 0 is within a claim exactly where the greatest amount that it holds is.
 pub fn greatest_amounts_decide()
     ensures { (code : Code) → PeaksDecide code }
+{}
+
+/// Verified code with labels that fit it has a text in the second format, and one in the first where this can say it.
+pub fn verified_code_has_a_text()
+    ensures second { (v : VerifiedCode) (labels : List ProcessLabels) → IsVerified v → AreLabels v.code labels
+        → HasText Two v.code labels }
+    ensures first { (v : VerifiedCode) → IsVerified v → FitsFirst v.code → HasTextOne v.code }
 {}

@@ -1,22 +1,21 @@
 //! Whether counts, names and numbers are within their limits.
 
-ghost use Rattle.std.specs.Prelude.{◌≡◌, ◌≢◌, ◌↔◌, ◌<◌, ◌≤◌, ℕ, [], AllPairs, All, Contains, length, map, slice_index_or, true};
+ghost use Rattle.std.specs.Prelude.{◌≡◌, ◌≢◌, ◌↔◌, ◌<◌, ◌≤◌, ℕ, ℤ, [], AllPairs, length, map, slice_index_or, true};
 ghost use Rattle.pb_base.specs.Lines.{names_view};
 ghost use Rattle.pb_base.specs.Banker.{cell};
 ghost use Rattle.pb_base.specs.Tables.{HasWidth};
+ghost use Rattle.pb_code.specs.Code.{Push};
+ghost use Rattle.pb_code.specs.Ranges.{IsSigned};
 ghost use Rattle.pb_code.specs.View.{code_view, process_view};
 ghost use Rattle.pb_verifier.specs.Given.{bundle_of, instrs_of, plain};
-ghost use Rattle.pb_verifier.specs.Limits.{AreNames, HasSmallNumbers, IsName, IsSmallBundle, IsSmallProcess, KeepsLimits, reserved_words};
+ghost use Rattle.pb_verifier.specs.Limits.{AreNames, HasSmallNumbers, IsSmallBundle, IsSmallProcess, KeepsLimits, HasSmallPushes, PushesFit};
 
 use crate::bundles::{pair_at, pairs};
 use crate::places::{instr_at, places};
 use pb_base::Claims;
 use pb_base::capital::MAX_RESOURCES;
 use pb_base::claims::MAX_PROCESSES;
-use pb_code::{Code, Instr, ProcessCode};
-
-/// The most bytes of a name.
-pub const MAX_NAME: usize = 32;
+use pb_code::{Code, Instr, ProcessCode, is_name};
 
 /// The most places of a process.
 pub const MAX_PLACES: usize = 40_000;
@@ -29,71 +28,6 @@ pub const MAX_INTEGERS: u8 = 64;
 
 /// The greatest amount in a bundle, and the greatest claim.
 pub const MAX_AMOUNT: u32 = 1_000_000;
-
-/// How many reserved words there are.
-const RESERVED: usize = 23;
-
-/// A reserved word.
-fn reserved(k: usize) -> &'static [u8]
-    requires { k < RESERVED }
-    ensures { result.now ≡ slice_index_or reserved_words k [] }
-{
-    match k {
-        0 => b"and",
-        1 => b"begin",
-        2 => b"div",
-        3 => b"do",
-        4 => b"else",
-        5 => b"end",
-        6 => b"fi",
-        7 => b"hold",
-        8 => b"if",
-        9 => b"integer",
-        10 => b"mod",
-        11 => b"not",
-        12 => b"od",
-        13 => b"of",
-        14 => b"or",
-        15 => b"parbegin",
-        16 => b"parend",
-        17 => b"print",
-        18 => b"process",
-        19 => b"resource",
-        20 => b"skip",
-        21 => b"then",
-        _ => b"while",
-    }
-}
-
-/// Whether a word is reserved.
-fn is_reserved(name: &[u8]) -> bool
-    ensures { (result ≡ true) ↔ Contains reserved_words name.now }
-{
-    for k in 0..RESERVED {
-        if reserved(k) == name {
-            return true;
-        }
-    }
-    false
-}
-
-/// Whether a name has the form of one.
-fn is_name(name: &[u8]) -> bool
-    ensures { (result ≡ true) ↔ IsName name.now }
-{
-    if name.is_empty() || name.len() > MAX_NAME {
-        return false;
-    }
-    if !name[0].is_ascii_alphabetic() {
-        return false;
-    }
-    for byte in name {
-        if !byte.is_ascii_alphanumeric() && *byte != b'_' {
-            return false;
-        }
-    }
-    !is_reserved(name)
-}
 
 /// Whether a name differs from all after it.
 fn is_new(names: &[Vec<u8>], k: usize) -> bool
@@ -157,7 +91,9 @@ fn are_small_arms(first: u8, count: u8) -> bool
 
 /// Whether the numbers of an instruction are within their limits.
 fn has_small_numbers(code: &ProcessCode, instr: Instr) -> bool
-    ensures { (result ≡ true) ↔ HasSmallNumbers (plain code.now instr) }
+    ensures limits { (result ≡ true) ↔ HasSmallNumbers (plain code.now instr) }
+    // What is pushed has 64 bits.
+    ensures pushes { (v : ℤ) → plain code.now instr ≡ Push v → IsSigned v }
 {
     match instr {
         Instr::Load(x) | Instr::Store(x) => x < MAX_INTEGERS,
@@ -170,7 +106,8 @@ fn has_small_numbers(code: &ProcessCode, instr: Instr) -> bool
 
 /// Whether the counts and numbers of a process are within their limits.
 fn is_small_process(code: &ProcessCode) -> bool
-    ensures { (result ≡ true) ↔ IsSmallProcess (process_view code.now) }
+    ensures limits { (result ≡ true) ↔ IsSmallProcess (process_view code.now) }
+    ensures pushes { result ≡ true → HasSmallPushes (process_view code.now) }
 {
     if code.integers > MAX_INTEGERS {
         return false;
@@ -215,7 +152,8 @@ fn are_small_claims(claims: &Claims, processes: usize, resources: usize) -> bool
 
 /// Whether all counts, numbers and names are within their limits.
 pub fn keeps_limits(code: &Code) -> bool
-    ensures { (result ≡ true) ↔ KeepsLimits (code_view code.now) }
+    ensures limits { (result ≡ true) ↔ KeepsLimits (code_view code.now) }
+    ensures pushes { result ≡ true → PushesFit (code_view code.now) }
 {
     let processes = code.processes.len();
     let resources = code.capital.resources();

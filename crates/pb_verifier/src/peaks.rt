@@ -13,7 +13,7 @@ ghost use Rattle.pb_verifier.specs.Limits.{IsSmallProcess};
 ghost use Rattle.pb_verifier.specs.Places.{InstrAt, arms};
 ghost use Rattle.pb_verifier.specs.Spread.{IsTableOf, fact_at, notes_of};
 
-use crate::amounts::{Amount, MAX_HELD, amounts};
+use crate::amounts::{Amount, MAX_HELD, amounts, takes_any};
 use crate::arms::{arm_count, arm_entry, end_of_arm};
 use crate::limits::MAX_ARMS;
 use crate::places::instr_at;
@@ -73,12 +73,34 @@ pub fn peaks_fit(
         → PeakFits (process_view code.now) r (cell claims.now process r))) }
 {
     for r in 0..claims.resources() {
-        let table = amounts(alloc, code, order, r as u8)?;
-        if root_peak(code, &table, r as u8) > claims.get(process, r) {
+        if !peak_fits(alloc, code, order, r as u8, claims.get(process, r))? {
             return Ok(false);
         }
     }
     Ok(true)
+}
+
+/// Whether the peak of arm 0 on a resource is within a claim.
+fn peak_fits(
+    alloc: Global,
+    code: &ProcessCode,
+    order: &[u16],
+    resource: u8,
+    claim: u64,
+) -> Result<bool, NoMemory>
+    requires order { IsOrderOf code.now order.now }
+    requires small { IsSmallProcess (process_view code.now) }
+    requires arms { HasArms (process_view code.now) }
+    requires forks { HasForks (process_view code.now) }
+    requires holdings { HasHoldings (process_view code.now) }
+    requires claim { claim ≤ 1000000 }
+    ensures { IfOk result (λ fits. (fits ≡ true) ↔ PeakFits (process_view code.now) resource claim) }
+{
+    if !takes_any(code, resource) {
+        return Ok(true);
+    }
+    let table = amounts(alloc, code, order, resource)?;
+    Ok(root_peak(code, &table, resource) <= claim)
 }
 
 /// The greatest amount of a resource that arm 0 and those that it awaits hold, cut off.

@@ -2,9 +2,10 @@ ghost use Rattle.std.specs.Prelude.{◌≤◌};
 
 use crate::{VerifyFault, verify};
 use pb_base::{Bundle, Capital, Claims, Names, NoMemory};
-use pb_code::{Code, Instr, ProcessCode};
+use pb_code::{Code, Instr, ObjectFault, ProcessCode, read_any, write_object2};
 use std::alloc::Global;
-use std::test::Fail;
+use std::process::Abort;
+use std::test::*;
 
 /// Names that begin with a letter, so many of them.
 fn names(alloc: Global, letter: u8, count: usize) -> Result<Vec<Vec<u8>>, NoMemory> {
@@ -253,5 +254,134 @@ fn many_comparisons(rt: HostRuntime) -> Result<(), Fail> {
         fault_of(alloc, 0, &[0], &code, 256, 255)?,
         Some(VerifyFault::OverClaim)
     );
+    Ok(())
+}
+
+// ---- texts of objects
+
+/// The text of an object of one process, which has one integer, over one resource.
+fn object(alloc: Global, capital: &[u8], rest: &[u8]) -> Result<Vec<u8>, NoMemory> {
+    let mut text = Vec::from_slice(alloc, b"PBO 1\nresources 1\nresource r ")?;
+    text.extend_from_slice(capital)?;
+    text.extend_from_slice(b"\nprocesses 1\nprocess p\nvars 1\n")?;
+    text.extend_from_slice(rest)?;
+    Ok(text)
+}
+
+/// The fault of the code that a text says, if it has one.
+fn fault_in(alloc: Global, text: &[u8]) -> Result<Option<VerifyFault>, ObjectFault> {
+    let (code, _) = read_any(alloc, text)?;
+    match verify(alloc, code) {
+        Ok(_) => Ok(None),
+        Err((_, fault)) => Ok(Some(fault)),
+    }
+}
+
+#[test]
+fn each_fault_of_a_text(rt: HostRuntime) -> Result<(), Fail> {
+    let refused: [(&[u8], &[u8], VerifyFault); 10] = [
+        (
+            b"9",
+            b"arms 1\nclaims 10\narm 0\ncode 1\nend\n",
+            VerifyFault::OverCapital,
+        ),
+        (
+            b"9",
+            b"arms 1\nclaims 9\narm 0\ncode 3\npush 1\nstore 1\nend\n",
+            VerifyFault::OutOfRange,
+        ),
+        (
+            b"9",
+            b"arms 1\nclaims 9\narm 0\ncode 2\njump 2\nend\n",
+            VerifyFault::WrongArms,
+        ),
+        (
+            b"9",
+            b"arms 2\nclaims 9\narm 0\narm 1\ncode 2\nend\nend\n",
+            VerifyFault::WrongForks,
+        ),
+        (
+            b"9",
+            b"arms 1\nclaims 9\narm 0\ncode 3\npush 1\njump 0\nend\n",
+            VerifyFault::NoDepths,
+        ),
+        (
+            b"9",
+            b"arms 1\nclaims 9\narm 0\ncode 3\ntake 0 1\njump 0\nend\n",
+            VerifyFault::NoHoldings,
+        ),
+        (
+            b"3",
+            b"arms 1\nclaims 3\narm 0\ncode 5\ntake 0 1\ntake 0 2\ngive 0 1\ngive 0 2\nend\n",
+            VerifyFault::NoHoldings,
+        ),
+        (
+            b"9",
+            b"arms 1\nclaims 9\narm 0\ncode 2\ntake 0 1\nend\n",
+            VerifyFault::LeftAtEnd,
+        ),
+        (
+            b"9",
+            b"arms 1\nclaims 9\narm 0\ncode 2\npush 1\nend\n",
+            VerifyFault::LeftAtEnd,
+        ),
+        (
+            b"3",
+            b"arms 1\nclaims 2\narm 0\ncode 5\ntake 0 1\ntake 0 2\ngive 0 2\ngive 0 1\nend\n",
+            VerifyFault::OverClaim,
+        ),
+    ];
+    for (capital, rest, fault) in refused {
+        let text = object(rt.alloc(), capital, rest)?;
+        assert_eq!(rt; fault_in(rt.alloc(), &text)?, Some(fault));
+    }
+    Ok(())
+}
+
+/// A loop with a hold and a test.
+const LOOP: &[u8] =
+    b"PBO 1\nresources 1\nresource r 9\nprocesses 1\nprocess p\nvars 1\narms 1\nclaims 9\narm 0\ncode 10\nload 0\npush 3\nlt\njzero 9\ntake 0 9\npush 90\nstore 0\ngive 0 9\njump 0\nend\n";
+
+/// Two processes, one of which forks an arm, and holds of two resources at once.
+const JOINT: &[u8] =
+    b"PBO 2\nresources 2\nresource r 9\nresource s_1 1000000\nprocesses 2\nprocess p\nvars 0\narms 2\nclaims 1 0\narm 0\narm 3\ncode 6\n1 fork 1 1\n1 join 1 1\n0 end\n2 take 0 1\n2 give 0 1\n0 end\nprocess Q\nvars 2 a b\narms 1\nclaims 9 1000000\narm 0\ncode 7\n2 take 1 1000000 0 9\n3 push -9223372036854775808\n4 jzero 4\n0 jump 4\n10 load 1\n10 print\n65536 jump 6\n";
+
+/// Reads and verifies a text, and sees that what it says is read again from the text that is written of it. Answers
+/// whether it is verified.
+fn is_verified(rt: &(impl Abort + AllocGlobal), text: &[u8]) -> Result<bool, Fail> {
+    let Ok((code, labels)) = read_any(rt.alloc(), text) else {
+        return Ok(false);
+    };
+    let written = write_object2(rt.alloc(), &code, &labels)?;
+    let (again, _) = read_any(rt.alloc(), &written)?;
+    assert!(rt; code.same(&again));
+    match verify(rt.alloc(), code) {
+        Ok(verified) => {
+            assert!(rt; verified.code().same(&again));
+            Ok(true)
+        }
+        Err((code, _)) => {
+            assert!(rt; code.same(&again));
+            Ok(false)
+        }
+    }
+}
+
+#[test]
+fn one_byte_changed(rt: HostRuntime) -> Result<(), Fail> {
+    for text in [LOOP, JOINT] {
+        let mut verified: usize = 0;
+        for i in 0..text.len() {
+            for byte in [b'\n', b'0', b'9', b' '] {
+                let mut changed = Vec::from_slice(rt.alloc(), text)?;
+                changed[i] = byte;
+                if is_verified(&rt, &changed)? {
+                    verified = verified.saturating_add(1);
+                }
+            }
+        }
+        assert!(rt; verified > 0);
+        assert!(rt; verified < text.len());
+    }
     Ok(())
 }

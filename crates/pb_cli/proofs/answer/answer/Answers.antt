@@ -1,5 +1,5 @@
 use Rattle.std.proofs.Common.{inl, subst}
-use Rattle.pb_cli.specs.declared.options.Options.TheVariants.{Check, Run}
+use Rattle.pb_cli.specs.declared.options.Options.TheVariants.{Check, Exec, Run}
 use Rattle.pb_cli.specs.Read.{WordsSay}
 use Rattle.pb_cli.proofs.AnswerLemmas.{CallWrites-refused, IfSome-of, IfSome-weaker}
 use Rattle.pb_cli.proofs.answer.answer.Goals as goal
@@ -18,3 +18,8 @@ pub returns-in-Err : goal.returns-in-Err
 returns-in-Err g c =
     IfSome-of (g.I.Input.rest c.args.input.now) _
     (λ bytes. CallWrites-refused c.args.words.now bytes _ _ c.refuse.result c.in-Err.fault c.in-Err.ensures.refused c.refuse.ensures)
+
+pub returns-in-Ok-Exec : goal.returns-in-Ok-Exec
+returns-in-Ok-Exec g c =
+    let read = subst (WordsSay c.args.words.now) c.in-Ok-Exec.field-0-is c.in-Ok-Exec.ensures.read in
+    IfSome-weaker (g.I.Input.rest c.args.input.now) _ _ (λ bytes writes. inl (Exec c.in-Ok-Exec.numbers, read, writes)) c.exec_engine.ensures.text

@@ -10,11 +10,7 @@ pub returns-in-Err-say_line-clause-told : goal.returns-in-Err-say_line-clause-to
 returns-in-Err-say_line-clause-told g c =
     let program = rw c.in_default.is at c.requires.accepted in (line (codes "ok"), false, well program, c.in-Err-say_line.ensures.prefix)
 
-pub returns : goal.returns
-returns g c =
+pub returns-clause-told : goal.returns-clause-told
+returns-clause-told g c =
     let refused = rw c.in-Err.is at c.requires.refused in
-    record {
-      told = c.tell_refusal.ensures.told c.args.text.now c.in_default-fault.not-Memory refused;
-      counted = c.tell_refusal.ensures.counted;
-      fault = c.tell_refusal.ensures.fault;
-    }
+    c.tell_refusal.ensures.told c.args.text.now refused

@@ -1,6 +1,6 @@
 use Rattle.std.proofs.Common.{rules}
 use Rattle.clap.specs.Words.{found_of, rows_of, subcommand_rows_of}
-use Rattle.pb_cli.proofs.ReadLemmas.{IfNone-of, no_check, no_run, nothing_read}
+use Rattle.pb_cli.proofs.ReadLemmas.{IfNone-of, no_check, no_exec, no_run, nothing_read}
 use Rattle.pb_cli.proofs.read.read_matches.Goals as goal
 
 pub returns-in_err-check_options-in-check-clause-none : goal.returns-in_err-check_options-in-check-clause-none
@@ -14,3 +14,9 @@ returns-in_err-run_options-in-run-clause-none c =
     IfNone-of c.from_residual-in_err-run_options-in-run.result
     (nothing_read (subcommand_rows_of c.args.matches.now) _ (rows_of (found_of c.in_ok-name.inner.now)) (search rules) c.in_ok-name.ensures.rows
     (no_run (rows_of (found_of c.in_ok-name.inner.now)) c.in_err-run_options-in-run.ensures.none))
+
+pub returns-in_err-run_options-in-exec-clause-none : goal.returns-in_err-run_options-in-exec-clause-none
+returns-in_err-run_options-in-exec-clause-none c =
+    IfNone-of c.from_residual-in_err-run_options-in-exec.result
+    (nothing_read (subcommand_rows_of c.args.matches.now) _ (rows_of (found_of c.in_ok-name.inner.now)) (search rules) c.in_ok-name.ensures.rows
+    (no_exec (rows_of (found_of c.in_ok-name.inner.now)) c.in_err-run_options-in-exec.ensures.none))

@@ -1,19 +1,12 @@
-use Rattle.std.proofs.Common.{◌∷◌, ◌++◌, [], ap, sym, ◌∙◌}
-use Rattle.std.proofs.lemmas.List.{length-map}
-use Rattle.pb_names.specs.View.{process_view as plain_process}
-use Rattle.pb_codegen.proofs.Whole.{straight_code, straight_labels}
+use Rattle.std.proofs.Common.{◌≤◌, length}
+use Rattle.std.proofs.lemmas.List.Elements.{All-same}
+use Rattle.pb_names.specs.Program.{arms_in, arms_of}
+use Rattle.pb_names.specs.View.{process_view}
+use Rattle.pb_codegen.proofs.ArmsInOrder.{few_arms_in_each}
 use Rattle.pb_codegen.proofs.process.write_process.Goals as goal
 
-pub returns-clause-code : goal.returns-clause-code
-returns-clause-code g c =
-    let integers = c.args.process.now.integers in
-    straight_code (plain_process c.args.process.now) c.requires.straight c.len.result c.push.new.self.items
-    c.new.result.items c.in_ok-body.body.instrs.items
-    (c.len.ensures ∙ integers.ok.0 ∙ sym (length-map integers.items (λ name. name.items)))
-    (c.in_ok-push.ensures.items ∙ ap (λ entries. entries ++ 0 ∷ []) c.new-entries.ensures.items)
-    c.new.ensures.items c.in_ok-body.ensures.instrs
-
-pub returns-clause-labels : goal.returns-clause-labels
-returns-clause-labels g c =
-    straight_labels (plain_process c.args.process.now) c.requires.straight _ _
-    c.in_ok-body.ensures.lines c.in_ok-integers.ensures
+pub write_arms-requires-clause-few_arms : goal.write_arms-requires-clause-few_arms
+write_arms-requires-clause-few_arms g c =
+    let process = process_view c.args.process.now in
+    All-same (λ arm. length (arms_in arm) ≤ 64) _ (arms_of process) c.in_ok-arms.ensures
+    (few_arms_in_each process c.requires.few_arms)

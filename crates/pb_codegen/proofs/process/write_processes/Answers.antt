@@ -1,16 +1,15 @@
 use Rattle.std.proofs.Common.{arith}
 use Rattle.pb_code.specs.View.{process_view, process_labels_view}
-use Rattle.pb_codegen.specs.Depths.{block_depth}
-use Rattle.pb_codegen.specs.Emitted.{IsWritable}
+use Rattle.pb_codegen.specs.Sizes.{IsGeneratableProcess}
 use Rattle.pb_codegen.specs.Generate.{process_code}
 use Rattle.pb_codegen.specs.Lines.{process_labels}
 use Rattle.pb_names.specs.View.{process_view as plain_process}
-use Rattle.pb_codegen.proofs.Loops.{at_read, more, more_seen}
+use Rattle.pb_codegen.proofs.Loops.{at_read, more_seen}
 use Rattle.pb_codegen.proofs.process.write_processes.Goals as goal
 
 pub write_process-requires : goal.write_process-requires
 write_process-requires g c =
-    at_read plain_process IsWritable c.args.processes.now.items c.deref-process-items.result.now c.loop-process.process-index
+    at_read plain_process IsGeneratableProcess c.args.processes.now.items c.deref-process-items.result.now c.loop-process.process-index
     c.process-item.result c.deref-process-items.ensures.value c.process-item.is (omega arith) c.requires
 
 pub loop-process-preserved : goal.loop-process-preserved
@@ -26,7 +25,4 @@ loop-process-preserved g c =
       labels =
           more_seen plain_process process_labels process_labels_view _ _ written.written.labels all i process
           c.loop-process.invariant.labels (omega arith) c.process-item.is c.in_ok-push-2.ensures.items written.ensures.labels;
-      depths =
-          more plain_process (λ p. block_depth p.body) _ _ written.written.depth all i process
-          c.loop-process.invariant.depths (omega arith) c.process-item.is c.in_ok-push-3.ensures.items written.ensures.depth;
     }

@@ -1,6 +1,5 @@
 use Rattle.std.proofs.Common.{◌≡◌, map, take}
 use Rattle.pb_code.specs.View.{process_view, process_labels_view}
-use Rattle.pb_codegen.specs.Depths.{block_depth}
 use Rattle.pb_codegen.specs.Generate.{process_code}
 use Rattle.pb_codegen.specs.Lines.{process_labels}
 use Rattle.pb_names.specs.View.{process_view as plain_process}
@@ -12,5 +11,4 @@ invariant-loop-process g l =
     record {
       code : map process_view l.code.items ≡ map process_code written;
       labels : map process_labels_view l.labels.items ≡ map process_labels written;
-      depths : l.depths.items ≡ map (λ process. block_depth process.body) written;
     }

@@ -1,15 +1,31 @@
-use Rattle.std.proofs.Common.{arith}
-use Rattle.std.proofs.lemmas.List.{length-map}
+use Rattle.std.proofs.Common.{◌≢◌, Some, map, arith, ap, sym, ◌∙◌, refl}
+use Rattle.std.specs.Prelude.{slice_get}
+use Rattle.std.specs.Cmp.Lexicographic.{same_text, other_text}
+use borrow.Author.Count.{below_more}
 use Rattle.pb_tree.specs.View.{name_view}
-use Rattle.pb_names.proofs.Least.{IsLeast-either}
-use Rattle.pb_names.proofs.Lookups.{repeated_more, repeated_all}
+use Rattle.pb_names.specs.declared.causes.Wrong.TheVariants.{Repeated}
+use Rattle.pb_names.proofs.First.{some_same, view_read}
+use Rattle.pb_names.proofs.Naming.{again_here, again_nowhere, demand_texts}
 use Rattle.pb_names.proofs.causes.first_repeated.Goals as goal
+
+pub returns-then-eq : goal.returns-then-eq
+returns-then-eq g c =
+    let ds = c.args.demands.now.items in
+    let read = view_read (λ d. d.resource.text.items) ds ds c.loop-i.i c.index.result.now refl (omega arith) c.index.ensures in
+    let same = same_text _ _ (sym c.if-eq.true ∙ c.eq.ensures) in
+    rw demand_texts
+    (again_here Repeated _ _ c.loop-i.i (name_view c.args.name.now) (omega arith)
+    (read ∙ ap Some (sym c.as_slice.ensures.value ∙ same ∙ c.as_slice-in-loop-i.ensures.value)))
 
 pub loop-i-preserved : goal.loop-i-preserved
 loop-i-preserved g c =
-    rw c.earlier-least.ensures
-    (repeated_more _ _ _ (IsLeast-either _ _ _ _ c.loop-i.invariant c.repeated_here.ensures))
+    let ds = c.args.demands.now.items in
+    let read = view_read (λ d. d.resource.text.items) ds ds c.loop-i.i c.index.result.now refl (omega arith) c.index.ensures in
+    let other = other_text _ _ (sym c.if-eq.false ∙ c.eq.ensures) in
+    below_more (λ k. slice_get (map (λ d. d.resource.text.items) ds) k ≢ Some c.args.name.now.text.items) _
+    c.loop-i.invariant
+    (λ here. other (c.as_slice.ensures.value ∙ some_same (sym read ∙ here) ∙ sym c.as_slice-in-loop-i.ensures.value))
 
 pub returns : goal.returns
 returns g c =
-    repeated_all _ _ _ (omega (arith, length-map c.args.declared.now.items name_view)) c.loop-i.invariant
+    rw demand_texts (again_nowhere Repeated _ _ (name_view c.args.name.now) (λ k below. c.loop-i.invariant k (omega arith)))

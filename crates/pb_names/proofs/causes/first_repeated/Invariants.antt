@@ -1,8 +1,7 @@
-use Rattle.std.proofs.Common.{map}
-use Rattle.pb_tree.specs.View.{name_view}
-use Rattle.pb_names.specs.Search.{IsLeast}
-use Rattle.pb_names.proofs.Lookups.{IsRepeatedBelow}
+use Rattle.std.proofs.Common.{◌≢◌, ℕ, ◌<◌, map, Some}
+use Rattle.std.specs.Prelude.{slice_get}
 use Rattle.pb_names.proofs.causes.first_repeated.Given as goal
 
 abbrev pub invariant-loop-i : goal.invariant-loop-i
-invariant-loop-i g l = IsLeast (IsRepeatedBelow (map name_view l.declared.items) l.i) l.least
+invariant-loop-i g l =
+    (k : ℕ) → k < l.i → slice_get (map (λ d. d.resource.text.items) l.demands.items) k ≢ Some l.name.text.items

@@ -1,42 +1,31 @@
-use Rattle.std.proofs.Common.{map, ap, ◌∙◌, rules}
+use Rattle.std.proofs.Common.{ap, ◌∙◌, rules}
 use Rattle.std.proofs.Common.{w64}
 use Rattle.std.proofs.lemmas.Int.{to_z-of_z}
 use Rattle.pb_tree.specs.declared.expr.Expr.{the_lemmas as expr_lemmas}
-use Rattle.pb_tree.specs.View.{name_view, expr_view}
+use Rattle.pb_tree.specs.View.{expr_view}
 use Rattle.pb_tree.proofs.Views as tree
-use Rattle.pb_names.specs.Faults.{used_in}
-use Rattle.pb_names.specs.Search.{AllKnown}
+use Rattle.pb_names.specs.Causes.{InExpr}
 use Rattle.pb_names.specs.Resolves.{number, variable, unary, binary}
-use Rattle.pb_names.proofs.Lookups.{known_left, known_right}
+use Rattle.pb_names.specs.Search.{IsFree, names_in}
+use Rattle.pb_names.proofs.First.{free_left, free_right}
 use Rattle.pb_names.proofs.Views.{view-Number, view-Variable, view-Unary, view-Binary}
 use Rattle.pb_names.proofs.numbering.+number_expr.Goals as goal
-
-pub number_in-requires-clause-known : goal.number_in-requires-clause-known
-number_in-requires-clause-known g t c =
-    rw (ap expr_view c.in-Variable.is ∙ tree.view-Variable c.in-Variable.name) at c.requires.known
-
-pub number_expr-requires : goal.number_expr-requires
-number_expr-requires g t c κs within =
-    let known : AllKnown (map name_view c.args.declared.now.items) (used_in (expr_view c.deref.result.now)) =
-    rw (ap expr_view c.in-Unary.is ∙ tree.view-Unary c.in-Unary.op c.in-Unary.operand, ← c.deref.ensures) at c.requires.known
-    in
-    search (rules, expr_lemmas)
 
 pub number_expr-requires-in-Binary : goal.number_expr-requires-in-Binary
 number_expr-requires-in-Binary g t c κs within =
     let a = c.in-Binary in
-    let known : AllKnown (map name_view c.args.declared.now.items) (used_in (expr_view c.deref-in-Binary.result.now)) =
+    let known : IsFree (InExpr (names_in c.args.integers.now) (expr_view c.deref-in-Binary.result.now)) =
     rw c.deref-in-Binary.ensures
-    (known_left _ _ _ (rw (ap expr_view a.is ∙ tree.view-Binary a.op a.left a.right) at c.requires.known))
+    (free_left (rw (ap expr_view a.is ∙ tree.view-Binary a.op a.left a.right) at c.requires.known))
     in
     search (rules, expr_lemmas)
 
 pub number_expr-requires-in-Binary-2 : goal.number_expr-requires-in-Binary-2
 number_expr-requires-in-Binary-2 g t c κs within =
     let a = c.in-Binary in
-    let known : AllKnown (map name_view c.args.declared.now.items) (used_in (expr_view c.deref-in-Binary-2.result.now)) =
+    let known : IsFree (InExpr (names_in c.args.integers.now) (expr_view c.deref-in-Binary-2.result.now)) =
     rw c.deref-in-Binary-2.ensures
-    (known_right _ _ _ (rw (ap expr_view a.is ∙ tree.view-Binary a.op a.left a.right) at c.requires.known))
+    (free_right (rw (ap expr_view a.is ∙ tree.view-Binary a.op a.left a.right) at c.requires.known))
     in
     search (rules, expr_lemmas)
 

@@ -1,15 +1,14 @@
-use Rattle.std.proofs.Common.{◌≡◌, [], ◌∷◌, map, ap}
-use Rattle.pb_tree.specs.View.{process_view as tree_view}
-use Rattle.pb_names.specs.View.{process_view, resource_view}
-use Rattle.pb_names.proofs.Whole.{whole_program}
+use Rattle.pb_tree.specs.View.{program_view}
+use Rattle.pb_names.specs.Causes.{InProgram}
+use Rattle.pb_names.proofs.Told.{told_first, none_free}
 use Rattle.pb_names.proofs.numbering.resolve.Goals as goal
 
-pub returns-clause-resolves : goal.returns-clause-resolves
-returns-clause-resolves g c =
-    whole_program _ (tree_view c.in-Some.process.now) (process_view c.in_ok-process.process) _ _
-    c.in-Some.ensures.accepted c.in_ok-process.ensures.numbered
-    (ap (map resource_view) c.new.ensures.items)
-    (ap (map process_view) alone)
-  where
-    alone : c.push.new.self.items ≡ c.in_ok-process.process ∷ []
-    alone = rw c.new-processes.ensures.items at c.in_ok-push.ensures.items
+pub returns-in-Some-2-clause-fault : goal.returns-in-Some-2-clause-fault
+returns-in-Some-2-clause-fault g c =
+    rw c.fault_of.ensures
+    (told_first (program_view c.args.program.now) c.in-Some-2.cause.at c.in-Some-2.cause.wrong c.in_default.ensures.within
+    (rw c.in-Some-2.is at c.in_ok-cause.ensures))
+
+pub number_program-requires-clause-free : goal.number_program-requires-clause-free
+number_program-requires-clause-free g c =
+    none_free (InProgram (program_view c.args.program.now)) (rw c.in-None.is at c.in_ok-cause.ensures)

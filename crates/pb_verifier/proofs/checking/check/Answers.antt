@@ -11,7 +11,7 @@ use Rattle.pb_verifier.proofs.checking.check.Goals.{in-Ok+in-Ok-push, in-Err+els
 pub check_process-requires-clause-small : goal.check_process-requires-clause-small
 check_process-requires-clause-small c =
     let n = c.len-p-end.ensures in
-    let limits = c.if-not-keeps_limits.ensures.0 refl in
+    let limits = c.if-not-keeps_limits.ensures.limits.0 refl in
     limits.each c.loop-p.p (process_view c.index.result.now) (read_mapped process_view c.args.code.now.processes.items c.loop-p.p c.index.result.now (omega arith) c.index.ensures)
 
 pub loop-p-preserved : goal.loop-p-preserved
@@ -38,18 +38,18 @@ returns-in-Some-clause-refused c =
     let n = c.len-p-end.ensures in
     let l : length (map process_view c.args.code.now.processes.items) ≡ length c.args.code.now.processes.items = length-map c.args.code.now.processes.items process_view in
     let first = subst (λ (f : Option VerifyFault). IsFoundBefore (code_view c.args.code.now) c.loop-p.p f (map (λ row. row.items) c.loop-p.depths.items)) c.in-Some.is c.loop-p.invariant in
-    refused_first (code_view c.args.code.now) (c.if-not-keeps_limits.ensures.0 refl) (c.if-not-fit_capital.ensures.0 refl) c.loop-p.p c.in-Some.fault (omega arith) first
+    refused_first (code_view c.args.code.now) (c.if-not-keeps_limits.ensures.limits.0 refl) (c.if-not-fit_capital.ensures.0 refl) c.loop-p.p c.in-Some.fault (omega arith) first
 
 pub returns-in-None-clause-annotated : goal.returns-in-None-clause-annotated
 returns-in-None-clause-annotated c =
     let n = c.len-p-end.ensures in
     let l : length (map process_view c.args.code.now.processes.items) ≡ length c.args.code.now.processes.items = length-map c.args.code.now.processes.items process_view in
     let sound = subst (λ (f : Option VerifyFault). IsFoundBefore (code_view c.args.code.now) c.loop-p.p f (map (λ row. row.items) c.loop-p.depths.items)) c.in-None.is c.loop-p.invariant in
-    annotated_all (code_view c.args.code.now) (c.if-not-keeps_limits.ensures.0 refl) (c.if-not-fit_capital.ensures.0 refl) c.loop-p.p (map (λ row. row.items) c.loop-p.depths.items) (omega arith) sound
+    annotated_all (code_view c.args.code.now) (c.if-not-keeps_limits.ensures.limits.0 refl) (c.if-not-fit_capital.ensures.0 refl) c.loop-p.p (map (λ row. row.items) c.loop-p.depths.items) (omega arith) sound
 
 pub returns-in-None-clause-depths : goal.returns-in-None-clause-depths
 returns-in-None-clause-depths c =
     let n = c.len-p-end.ensures in
     let l : length (map process_view c.args.code.now.processes.items) ≡ length c.args.code.now.processes.items = length-map c.args.code.now.processes.items process_view in
     let sound = subst (λ (f : Option VerifyFault). IsFoundBefore (code_view c.args.code.now) c.loop-p.p f (map (λ row. row.items) c.loop-p.depths.items)) c.in-None.is c.loop-p.invariant in
-    depths_all (code_view c.args.code.now) (c.if-not-keeps_limits.ensures.0 refl) (c.if-not-fit_capital.ensures.0 refl) c.loop-p.p (map (λ row. row.items) c.loop-p.depths.items) (omega arith) sound
+    depths_all (code_view c.args.code.now) (c.if-not-keeps_limits.ensures.limits.0 refl) (c.if-not-fit_capital.ensures.0 refl) c.loop-p.p (map (λ row. row.items) c.loop-p.depths.items) (omega arith) sound

@@ -1,61 +1,15 @@
-use Rattle.std.proofs.Common.{length, suc, ◌-◌, subst, ◌≡◌, ap, sym, arith}
+use Rattle.std.proofs.Common.{length, suc, ◌-◌, ◌<◌, subst, ◌≡◌, refl, ap, sym, ◌∙◌, arith}
 use Rattle.std.proofs.lemmas.Result.{err_from_is_err_and}
 use Rattle.pb_base.specs.declared.operators.UnaryOp.TheVariants as sign
 use Rattle.pb_lexer.specs.Tokens.{tokens}
-use Rattle.pb_parser.specs.ExpressionReader.{expression, negation, factor}
+use Rattle.pb_parser.specs.ExpressionReader.{expression, negation, factor, after_factor, after_negation, of_level}
 use Rattle.pb_parser.specs.Making.{Makes}
-use Rattle.pb_parser.proofs.Chains.{chain_refused, fails_through}
-use Rattle.pb_parser.proofs.Loops.{loop_enters, operator_more, operator_fails, operator_leaves}
-use Rattle.pb_parser.proofs.Signs.{signs_refused, signed_makes}
-use Rattle.pb_parser.proofs.Steps.{comparison_alone, comparison_both}
+use Rattle.pb_parser.proofs.Chains.{fails_through}
+use Rattle.pb_parser.proofs.Levels.{first_fails, then_makes, then_nothing, splits_at_factor, splits_at_negation, factor_ends, negation_ends, factor_alone, negation_alone}
+use Rattle.pb_parser.proofs.Loops.{loop_begins, joined_shorter, operator_more, operator_fails, operator_leaves}
 use Rattle.pb_parser.proofs.Expressions.{level_shorter}
+use Rattle.pb_parser.proofs.Signs.{signs_refused, signed_makes}
 use Rattle.pb_parser.proofs.parser.Parser.+expression.Goals as goal
-
-pub chain-returns-in_err-left : goal.chain-returns-in_err-left
-chain-returns-in_err-left g t c =
-    let p = err_from_is_err_and c.from_residual.result c.from_residual.ensures.1 in
-    rw (p.1, p.2) (fails_through g.B.Builder.wants _ c.in_err-left.ensures (chain_refused _ _ _))
-
-pub chain-loop-op-init : goal.chain-loop-op-init
-chain-loop-op-init g t c = let f = c.in_ok-left.ensures in loop_enters _ _ _ _ f.syntax f.found f.same
-
-pub chain-returns-in_err-right : goal.chain-returns-in_err-right
-chain-returns-in_err-right g t c =
-    let p = err_from_is_err_and c.from_residual-in_err-right.result c.from_residual-in_err-right.ensures.1 in
-    rw (p.1, p.2) (fails_through g.B.Builder.wants _ c.in_err-right.ensures (operator_fails _ _ _ _ _ _ c.loop-op.invariant c.in-Some.ensures))
-
-pub chain-loop-op-smaller : goal.chain-loop-op-smaller
-chain-loop-op-smaller g t c =
-    let op = c.in-Some.ensures in
-    let taken = ap length op.1 in
-    let less = level_shorter c.args.depth c.args.part _ _ _ c.in_ok-right.ensures.found in
-    omega (arith, taken, less)
-
-pub chain-loop-op-preserved : goal.chain-loop-op-preserved
-chain-loop-op-preserved g t c =
-    let f = c.in_ok-right.ensures in
-    let less = level_shorter c.args.depth c.args.part _ _ _ f.found in
-    operator_more _ _ _ _ _ _ _ f.syntax c.loop-op.invariant c.in-Some.ensures f.found less (λ a h. c.in_ok-left-2.ensures.made a f.syntax h f.same)
-
-pub chain-returns : goal.chain-returns
-chain-returns g t c = operator_leaves _ _ _ _ _ c.loop-op.invariant c.in_default.ensures
-
-pub comparison-returns-in_default : goal.comparison-returns-in_default
-comparison-returns-in_default g t c =
-    let f = c.in_ok-left.ensures in
-    let stop = c.in_default.ensures in
-    record { syntax = f.syntax; found = comparison_alone _ _ _ _ f.syntax f.found stop.0 stop.1; same = f.same }
-
-pub comparison-returns : goal.comparison-returns
-comparison-returns g t c =
-    let f = c.in_ok-left.ensures in
-    let op = c.in-Some.ensures in
-    let h = c.in_ok-right.ensures in
-    record {
-      syntax = _;
-      found = comparison_both _ op.0 _ _ _ _ _ f.syntax h.syntax f.found op.1 op.2 h.found;
-      same = c.in_ok-binary.ensures.made f.syntax h.syntax f.same h.same;
-    }
 
 pub expression-returns-then-depth-eq0 : goal.expression-returns-then-depth-eq0
 unfolding expression
@@ -88,3 +42,112 @@ pub negation-returns : goal.negation-returns
 unfolding negation
 negation-returns g t c =
     signed_makes g.B.Builder.is_expr g.B.Builder.wants c.signed.result c.count-count.result sign.Not _ _ _ _ c.signed.ensures c.in_ok-operand.ensures (c.count-count.ensures.signs sign.Not _)
+
+pub after_factor-returns-in_err-left-in-Sum : goal.after_factor-returns-in_err-left-in-Sum
+unfolding after_factor
+after_factor-returns-in_err-left-in-Sum g t c = λ a h.
+    let p = err_from_is_err_and c.from_residual-in_err-left-in-Sum.result c.from_residual-in_err-left-in-Sum.ensures.1 in
+    rw (p.1, p.2, c.in-Sum.is) (first_fails g.B.Builder.wants _ _ _ _ refl (c.in_err-left-in-Sum.ensures a h))
+
+pub after_factor-returns-in_ok-left-in-Sum : goal.after_factor-returns-in_ok-left-in-Sum
+unfolding after_factor
+after_factor-returns-in_ok-left-in-Sum g t c = λ a h.
+    rw c.in-Sum.is (then_makes g.B.Builder.is_expr g.B.Builder.wants _ _ _ _ _ _ _ refl (c.in_ok-left-in-Sum.ensures a h) c.chain.ensures)
+
+pub after_factor-returns-in_err-left-in-Comparison : goal.after_factor-returns-in_err-left-in-Comparison
+unfolding after_factor
+after_factor-returns-in_err-left-in-Comparison g t c = λ a h.
+    let p = err_from_is_err_and c.from_residual.result c.from_residual.ensures.1 in
+    rw (p.1, p.2, c.in-Comparison.is) (first_fails g.B.Builder.wants _ _ _ _ refl (c.in_err-left-in-Comparison.ensures a h))
+
+pub after_factor-returns-in_ok-left-in-Comparison : goal.after_factor-returns-in_ok-left-in-Comparison
+unfolding after_factor
+after_factor-returns-in_ok-left-in-Comparison g t c = λ a h.
+    rw c.in-Comparison.is (then_makes g.B.Builder.is_expr g.B.Builder.wants _ _ _ _ _ _ _ refl (c.in_ok-left-in-Comparison.ensures a h) c.relation.ensures)
+
+pub after_negation-returns-in_err-left-in-Disjunction : goal.after_negation-returns-in_err-left-in-Disjunction
+unfolding after_negation
+after_negation-returns-in_err-left-in-Disjunction g t c = λ a h.
+    let p = err_from_is_err_and c.from_residual.result c.from_residual.ensures.1 in
+    rw (p.1, p.2, c.in-Disjunction.is) (first_fails g.B.Builder.wants _ _ _ _ refl (c.in_err-left-in-Disjunction.ensures a h))
+
+pub after_negation-returns-in_ok-left-in-Disjunction : goal.after_negation-returns-in_ok-left-in-Disjunction
+unfolding after_negation
+after_negation-returns-in_ok-left-in-Disjunction g t c = λ a h.
+    rw c.in-Disjunction.is (then_makes g.B.Builder.is_expr g.B.Builder.wants _ _ _ _ _ _ _ refl (c.in_ok-left-in-Disjunction.ensures a h) c.chain.ensures)
+
+pub after_factor-returns-in-Term : goal.after_factor-returns-in-Term
+unfolding after_factor
+after_factor-returns-in-Term g t c = λ a h. rw c.in-Term.is (c.chain-in-Term.ensures a h)
+
+pub after_negation-returns-in-Conjunction : goal.after_negation-returns-in-Conjunction
+unfolding after_negation
+after_negation-returns-in-Conjunction g t c = λ a h. rw c.in-Conjunction.is (c.chain-in-Conjunction.ensures a h)
+
+pub after_factor-returns-in_default : goal.after_factor-returns-in_default
+after_factor-returns-in_default g t c = λ a h. record {
+  syntax = a;
+  found = factor_alone _ _ a _ c.in_default.not-Comparison c.in_default.not-Sum c.in_default.not-Term;
+  same = h;
+}
+
+pub after_negation-returns-in_default : goal.after_negation-returns-in_default
+after_negation-returns-in_default g t c = λ a h. record {
+  syntax = a;
+  found = negation_alone _ _ a _ c.in_default.not-Disjunction c.in_default.not-Conjunction;
+  same = h;
+}
+
+pub arithmetic-returns-in_err-first : goal.arithmetic-returns-in_err-first
+arithmetic-returns-in_err-first g t c =
+    let p = err_from_is_err_and c.from_residual.result c.from_residual.ensures.1 in
+    rw (p.1, p.2) (first_fails g.B.Builder.wants _ _ _ _ (splits_at_factor _ c.args.level _ c.requires) c.in_err-first.ensures)
+
+pub arithmetic-returns-then-at_operator : goal.arithmetic-returns-then-at_operator
+arithmetic-returns-then-at_operator g t c =
+    then_makes g.B.Builder.is_expr g.B.Builder.wants _ _ _ _ _ _ _ (splits_at_factor _ c.args.level _ c.requires) c.in_ok-first.ensures c.after_factor.ensures
+
+pub arithmetic-returns : goal.arithmetic-returns
+arithmetic-returns g t c =
+    let none = sym c.at_operator.ensures ∙ c.if-at_operator.false in
+    then_nothing g.B.Builder.is_expr _ _ _ _ _ (splits_at_factor _ c.args.level _ c.requires) c.in_ok-first.ensures (λ a. factor_ends _ c.args.level a _ none)
+
+pub logical-returns-in_err-first : goal.logical-returns-in_err-first
+logical-returns-in_err-first g t c =
+    let p = err_from_is_err_and c.from_residual.result c.from_residual.ensures.1 in
+    rw (p.1, p.2) (first_fails g.B.Builder.wants _ _ _ _ (splits_at_negation _ c.args.level _ c.requires) c.in_err-first.ensures)
+
+pub logical-returns-then-at_operator : goal.logical-returns-then-at_operator
+logical-returns-then-at_operator g t c =
+    then_makes g.B.Builder.is_expr g.B.Builder.wants _ _ _ _ _ _ _ (splits_at_negation _ c.args.level _ c.requires) c.in_ok-first.ensures c.after_negation.ensures
+
+pub logical-returns : goal.logical-returns
+logical-returns g t c =
+    let none = sym c.at_operator.ensures ∙ c.if-at_operator.false in
+    then_nothing g.B.Builder.is_expr _ _ _ _ _ (splits_at_negation _ c.args.level _ c.requires) c.in_ok-first.ensures (λ a. negation_ends _ c.args.level a _ none)
+
+pub chain-loop-op-init : goal.chain-loop-op-init
+chain-loop-op-init g t c = λ a h. loop_begins _ _ a _ h
+
+pub chain-returns-in_err-left : goal.chain-returns-in_err-left
+chain-returns-in_err-left g t c = λ a h.
+    let p = err_from_is_err_and c.from_residual.result c.from_residual.ensures.1 in
+    let l = c.loop-op.invariant a h in
+    rw (p.1, p.2) (operator_fails g.B.Builder.wants _ _ _ _ _ _ _ l c.in-Some.ensures (c.in_err-left.ensures l.syntax l.same))
+
+pub chain-loop-op-smaller : goal.chain-loop-op-smaller
+chain-loop-op-smaller g t c =
+    let l = c.loop-op.invariant c.requires.made.0 c.requires.made.1 in
+    let part = of_level (expression c.args.depth) c.args.part in
+    let taken = ap length c.in-Some.ensures.1 in
+    let less : length (tokens c.joined.new.self.rest.now) < length (tokens c.operator.new.self.rest.now) =
+    joined_shorter c.in-Some.op l.syntax part _ _ (level_shorter c.args.depth c.args.part _) (c.in_ok-left.ensures l.syntax l.same) in
+    omega (arith, taken, less)
+
+pub chain-loop-op-preserved : goal.chain-loop-op-preserved
+chain-loop-op-preserved g t c = λ a h.
+    let l = c.loop-op.invariant a h in
+    operator_more _ _ _ _ _ _ _ (level_shorter c.args.depth c.args.part _) l c.in-Some.ensures (c.in_ok-left.ensures l.syntax l.same)
+
+pub chain-returns : goal.chain-returns
+chain-returns g t c = λ a h. operator_leaves _ _ _ _ _ (c.loop-op.invariant a h) c.in_default.ensures

@@ -1,0 +1,54 @@
+-- From what was read, and what is said of it, to what is said of an input.
+use Rattle.std.proofs.Common.{◌≡◌, ℕ, ◌<◌, ◌≤◌, List, [], ◌++◌, length, Option, IfOk, OnErr, Result, Ok, Err, codes}
+use Rattle.pb_base.specs.declared.memory.NoMemory.{NoMemory}
+use Rattle.pb_cli.specs.Answers.{line, memory_line, Says, Tells}
+use Rattle.pb_cli.specs.Inputs.{SaysOfReading, too_long, no_memory, nothing, SaysOfInput, not_read, read}
+use Rattle.pb_cli.specs.declared.reply.Reply.{Reply}
+use Rattle.pb_cli.specs.declared.status.Status.{Status}
+use Rattle.pb_cli.specs.declared.status.Status.TheVariants.{Refused, Memory, Device}
+use Rattle.pb_cli.proofs.PageLemmas.{Says-first}
+use Rattle.pb_cli.proofs.TextLemmas.{said_nothing}
+
+-- ---- an input that is not read
+
+pub is_too_long : (bytes page : List ℕ) (old new : Option (List ℕ)) (given : Status) → 4194304 < length bytes → page ≡ []
+    → Says old new (page ++ line (codes "refused input")) Refused given → Tells (SaysOfReading bytes) old new given
+is_too_long bytes page old new given long empty says = (
+  line (codes "refused input"),
+  Refused,
+  too_long long,
+  Says-first old new page (line (codes "refused input")) Refused given empty says,
+)
+
+pub wants_memory : (bytes page : List ℕ) (old new : Option (List ℕ)) (given : Status) → page ≡ []
+    → Says old new (page ++ memory_line) Memory given → Tells (SaysOfReading bytes) old new given
+wants_memory bytes page old new given empty says =
+    (memory_line, Memory, no_memory, Says-first old new page memory_line Memory given empty says)
+
+pub fails : (bytes : List ℕ) (w : Option (List ℕ)) → Tells (SaysOfReading bytes) w w Device
+fails bytes w = ([], Device, nothing, said_nothing w)
+
+-- ---- what is said of an input
+
+pub told_not_read : (SaysOf : List ℕ → List ℕ → Status → Type 0) (bytes : List ℕ) (old new : Option (List ℕ)) (given : Status)
+    → Tells (SaysOfReading bytes) old new given → Tells (SaysOfInput SaysOf bytes) old new given
+told_not_read SaysOf bytes old new given (text, status, says, said) = (text, status, not_read says, said)
+
+pub told_read : (SaysOf : List ℕ → List ℕ → Status → Type 0) (bytes : List ℕ) (old new : Option (List ℕ)) (given : Status)
+    → length bytes ≤ 4194304 → Tells (SaysOf bytes) old new given → Tells (SaysOfInput SaysOf bytes) old new given
+told_read SaysOf bytes old new given short (text, status, says, said) = (text, status, read short says, said)
+
+-- a reply that was made, or for which there was no memory
+pub told_reply : (SaysOf : List ℕ → List ℕ → Status → Type 0) (bytes : List ℕ) (reply : Result Reply NoMemory) (old new : Option (List ℕ))
+    (given : Status) → length bytes ≤ 4194304 → IfOk reply (λ r. SaysOf bytes r.text.items r.status)
+    → IfOk reply (λ r. Says old new r.text.items r.status given) → OnErr reply (Says old new memory_line Memory given)
+    → Tells (SaysOfInput SaysOf bytes) old new given
+told_reply SaysOf bytes (Ok r) old new given short is says memory = (r.text.items, r.status, read short is, says)
+told_reply SaysOf bytes (Err e) old new given short is says memory = (memory_line, Memory, not_read no_memory, memory)
+
+-- what may be said may be said by a wider definition
+pub said_too : (P Q : List ℕ → List ℕ → Status → Type 0) (bytes : List ℕ) (old new : Option (List ℕ)) (given : Status)
+    → ((text : List ℕ) (status : Status) → P bytes text status → Q bytes text status)
+    → Tells (SaysOfInput P bytes) old new given → Tells (SaysOfInput Q bytes) old new given
+said_too P Q bytes old new given wider (text, status, not_read is, said) = (text, status, not_read is, said)
+said_too P Q bytes old new given wider (text, status, read short is, said) = (text, status, read short (wider text status is), said)

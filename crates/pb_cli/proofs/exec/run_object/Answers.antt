@@ -1,0 +1,18 @@
+use Rattle.std.proofs.Common.{ℕ}
+use Rattle.pb_code.specs.View.{labels_view}
+use Rattle.pb_cli.specs.Executions.{SaysOfExecution}
+use Rattle.pb_cli.proofs.ExecutionLemmas.{code_is_run, refusal_is_replied}
+use Rattle.pb_cli.proofs.InputLemmas.{told_reply}
+use Rattle.pb_cli.proofs.exec.run_object.Goals as goal
+
+pub returns-in-Ok-clause-text : goal.returns-in-Ok-clause-text
+returns-in-Ok-clause-text g c =
+    code_is_run c.args.steps c.args.bytes.now c.in-Ok.verified.code (labels_view c.in-Ok.field-0-1) _ _ c.tell_run.result c.requires
+    c.in-Ok.ensures.loaded c.tell_run.ensures.text
+
+pub returns-clause-text : goal.returns-clause-text
+returns-clause-text g c =
+    told_reply (SaysOfExecution c.args.steps) c.args.bytes.now c.refusal.result _ _ c.tell.result c.requires
+    (refusal_is_replied c.args.steps c.args.bytes.now c.in-Err.fault c.refusal.result c.in-Err.ensures.fault c.refusal.ensures.line
+    c.refusal.ensures.told)
+    c.tell.ensures.said c.tell.ensures.memory

@@ -1,0 +1,97 @@
+//! The command `exec`, over any input and output.
+ghost use Rattle.std.specs.Prelude.{◌≡◌, ◌≤◌, ◌⊎◌, IfOk, IfSome, length};
+ghost use Rattle.pb_base.specs.Device.{one_more_failure};
+ghost use Rattle.pb_cli.specs.Answers.{Tells, line};
+ghost use Rattle.pb_cli.specs.Executions.{SaysOfExecution};
+ghost use Rattle.pb_cli.specs.Inputs.{SaysOfInput};
+ghost use Rattle.pb_cli.specs.Loading.{WantsNoMemory, load_line};
+
+use crate::input::read_input;
+use crate::load::{LoadFault, load, load_text};
+use crate::options::RunOptions;
+use crate::reply::{Reply, refused, tell};
+use crate::status::Status;
+use crate::steps::tell_run;
+use pb_base::NoMemory;
+use pb_base::device::{Input, Output};
+use std::alloc::Global;
+
+// The reply of a refusal.
+fn refusal(alloc: Global, fault: LoadFault) -> Result<Reply, NoMemory>
+    ensures line { IfOk result (λ r. (r.text.items ≡ line (load_line fault)) × (r.status ≡ Status.Refused)) }
+    ensures told { IfOk result (λ _. WantsNoMemory fault) }
+{
+    let text = load_text(alloc, fault)?;
+    refused(text)
+}
+
+// Runs the code of an object, or writes why there is none.
+fn run_object<O: Output>(alloc: Global, steps: u64, bytes: &[u8], output: &mut O) -> Status
+    requires { length bytes.now ≤ 4194304 }
+    ensures text { Tells (SaysOfInput (SaysOfExecution steps) bytes.now) (O.written output.old) (O.written output.new) result }
+    ensures fault { result ≡ Status.Device → O.failures output.new ≡ one_more_failure (O.failures output.old) }
+{
+    match load(alloc, bytes) {
+        Ok((verified, _)) => tell_run(alloc, &verified, steps, output),
+        Err(fault) => tell(alloc, refusal(alloc, fault), output),
+    }
+}
+
+/// Runs the object that the input holds, in either format: writes the line of each event, and at the end `done`, or
+/// `limit` with the number of steps where they were used up before. Bytes that are no object, or whose code is not
+/// safe, are answered by their refusal line.
+///
+/// After a read that failed nothing is written; after a write that failed, a first part of what was being said.
+pub fn exec_engine<I: Input, O: Output>(
+    alloc: Global,
+    options: RunOptions,
+    input: &mut I,
+    output: &mut O,
+) -> Status
+    ensures text { IfSome (I.rest input.old) (λ bytes.
+        Tells (SaysOfInput (SaysOfExecution options.steps) bytes) (O.written output.old) (O.written output.new) result) }
+    ensures fault { result ≡ Status.Device
+        → ((I.failures input.new ≡ one_more_failure (I.failures input.old)) × (O.written output.new ≡ O.written output.old))
+        ⊎ (O.failures output.new ≡ one_more_failure (O.failures output.old)) }
+{
+    match read_input(alloc, input, output) {
+        Ok(bytes) => run_object(alloc, options.steps, bytes.as_slice(), output),
+        Err(status) => status,
+    }
+}
+
+#[cfg(test)]
+mod tests {
+    use super::*;
+    use pb_base::device::{MemoryInput, MemoryOutput};
+    use std::process::Abort;
+    use std::test::Fail;
+
+    fn check(
+        rt: &(impl Abort + AllocGlobal),
+        object: &[u8],
+        status: Status,
+        said: &[u8],
+    ) -> Result<(), Fail> {
+        let alloc = rt.alloc();
+        let mut input = MemoryInput::new(object);
+        let mut output = MemoryOutput::new(alloc, 64)?;
+        let options = RunOptions { steps: 7 };
+        assert_eq!(rt; exec_engine(alloc, options, &mut input, &mut output), status);
+        assert_eq!(rt; output.as_slice(), said);
+        Ok(())
+    }
+
+    #[test]
+    fn runs_objects(rt: HostRuntime) -> Result<(), Fail> {
+        let endless = b"PBO 1\nresources 0\nprocesses 1\nprocess p\nvars 0\narms 1\nclaims\narm 0\ncode 3\npush 1\nprint\njump 0\n";
+        check(
+            &rt,
+            endless,
+            Status::Limit,
+            b"p.0 print 1\np.0 print 1\nlimit 7\n",
+        )?;
+        let over = b"PBO 1\nresources 1\nresource t 9\nprocesses 1\nprocess p\nvars 0\narms 1\nclaims 1\narm 0\ncode 3\ntake 0 2\ngive 0 2\nend\n";
+        check(&rt, over, Status::Refused, b"refused V7\n")
+    }
+}

@@ -1,0 +1,8 @@
+use Rattle.std.proofs.Common.{refl, arith}
+use Rattle.pb_code.specs.Same.{bundle_of}
+use Rattle.pb_code.proofs.Each.{alike_all}
+use Rattle.pb_code.proofs.same.same_bundle.Goals as goal
+
+pub returns : goal.returns
+returns c =
+    (λ e. alike_all (bundle_of c.args.code.now c.args.one) (bundle_of c.args.other.now c.args.two) c.loop-i.i (omega arith) (omega arith) c.loop-i.invariant, λ e. refl)

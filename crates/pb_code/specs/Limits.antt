@@ -1,0 +1,114 @@
+-- Code whose counts, numbers and names are within their limits, and labels that fit it: what an object can say.
+use Rattle.std.specs.Prelude.{◌≡◌, ◌≢◌, ◌≤◌, ◌<◌, ℕ, true, List, length, slice_get, slice_index, Some, All, EachIndex, AllPairs, Contains, ℤ, ⊤}
+use Rattle.std.specs.Char.{is_ascii_alphabetic}
+use Rattle.pb_base.specs.Bundle.{IsDistinct}
+use Rattle.pb_base.specs.Steppers.{Bundle}
+use Rattle.pb_base.specs.Tables.{HasWidth}
+use Rattle.pb_base.specs.Banker.{cell}
+use Rattle.pb_code.specs.Code.{Instr, Push, Load, Store, Jump, JumpIfZero, Take, Give, Fork, Join, ProcessCode}
+use Rattle.pb_code.specs.Whole.{Code, ProcessLabels}
+use Rattle.pb_code.specs.Words.{is_name_byte, reserved_words}
+use Rattle.pb_code.specs.Ranges.{IsSigned, IsLine}
+
+abbrev pub IsUpTo : ℕ → ℕ → Type 0
+IsUpTo most n = (1 ≤ n) × (n ≤ most)
+
+-- what holds for the code of each process
+abbrev pub EachProcess : Code → (ProcessCode → Type 0) → Type 0
+EachProcess code Holds = (p : ℕ) (process : ProcessCode) → slice_get code.processes p ≡ Some process → Holds process
+
+-- ---- names
+
+-- 1 to 32 letters, digits and `_`, a letter first, and no reserved word
+pub record IsName (name : List ℕ) : Type 0 where
+  pub size : IsUpTo 32 (length name)
+  pub begins : is_ascii_alphabetic (slice_index name 0) ≡ true
+  pub bytes : EachIndex name (λ k. is_name_byte (slice_index name k) ≡ true)
+  pub free : ¬ Contains reserved_words name
+
+-- so many names, no two of them the same
+pub record AreNames (count : ℕ) (names : List (List ℕ)) : Type 0 where
+  pub all : length names ≡ count
+  pub formed : All IsName names
+  pub apart : AllPairs (λ a b. a ≢ b) names
+
+-- ---- the code of one process
+
+-- amounts from 1 to 1,000,000 of 1 to 16 resources, none twice
+pub record IsSmallBundle (bundle : Bundle) : Type 0 where
+  pub size : IsUpTo 16 (length bundle)
+  pub amounts : All (λ pair. (pair.resource < 16) × IsUpTo 1000000 pair.amount) bundle
+  pub distinct : IsDistinct bundle
+
+-- the numbers of an instruction; what may be pushed is said below
+abbrev pub HasSmallNumbers : Instr → Type 0
+HasSmallNumbers (Load x) = x < 64
+HasSmallNumbers (Store x) = x < 64
+HasSmallNumbers (Jump target) = target < 40000
+HasSmallNumbers (JumpIfZero target) = target < 40000
+HasSmallNumbers (Take bundle) = IsSmallBundle bundle
+HasSmallNumbers (Give bundle) = IsSmallBundle bundle
+HasSmallNumbers (Fork first count) = IsUpTo 63 first × IsUpTo 16 count
+HasSmallNumbers (Join first count) = IsUpTo 63 first × IsUpTo 16 count
+HasSmallNumbers i = ⊤
+
+pub record IsSmallProcess (code : ProcessCode) : Type 0 where
+  pub integers : code.integers ≤ 64
+  pub some_arms : IsUpTo 64 (length code.entries)
+  pub entries : All (λ place. place < 40000) code.entries
+  pub some_places : IsUpTo 40000 (length code.instrs)
+  pub numbers : (place : ℕ) (i : Instr) → slice_get code.instrs place ≡ Some i → HasSmallNumbers i
+
+-- ---- the whole code
+
+pub record KeepsLimits (code : Code) : Type 0 where
+  pub some_processes : IsUpTo 64 (length code.processes)
+  pub few_resources : length code.capital ≤ 16
+  pub capital : All (λ amount. amount ≤ 1000000) code.capital
+  pub process_names : AreNames (length code.processes) code.names.processes
+  pub resource_names : AreNames (length code.capital) code.names.resources
+  pub rows : length code.claims ≡ length code.processes
+  pub width : HasWidth (length code.capital) code.claims
+  pub claims : (p r : ℕ) → p < length code.processes → r < length code.capital → cell code.claims p r ≤ 1000000
+  pub each : EachProcess code IsSmallProcess
+
+-- what is pushed has 64 bits with a sign
+abbrev pub HasSmallPushes : ProcessCode → Type 0
+HasSmallPushes code = (place : ℕ) (v : ℤ) → slice_get code.instrs place ≡ Some (Push v) → IsSigned v
+
+-- so in each process, as in any code that is given
+abbrev pub PushesFit : Code → Type 0
+PushesFit code = EachProcess code HasSmallPushes
+
+-- ---- labels
+
+-- a source line or none for each place, and a name for each integer
+pub record FitLabels (process : ProcessCode) (labels : ProcessLabels) : Type 0 where
+  pub lines : length labels.lines ≡ length process.instrs
+  pub small_lines : All IsLine labels.lines
+  pub integers : AreNames process.integers labels.integers
+
+-- labels for each process
+pub record AreLabels (code : Code) (labels : List ProcessLabels) : Type 0 where
+  pub all : length labels ≡ length code.processes
+  pub each : (p : ℕ) (process : ProcessCode) (l : ProcessLabels) → slice_get code.processes p ≡ Some process
+      → slice_get labels p ≡ Some l → FitLabels process l
+
+-- what the second format can say
+pub record KeepsRanges (code : Code) (labels : List ProcessLabels) : Type 0 where
+  pub limits : KeepsLimits code
+  pub pushes : PushesFit code
+  pub fit : AreLabels code labels
+
+-- ---- the first format
+
+-- a take or a give is of one resource
+abbrev pub IsSingle : Instr → Type 0
+IsSingle (Take bundle) = length bundle ≡ 1
+IsSingle (Give bundle) = length bundle ≡ 1
+IsSingle i = ⊤
+
+-- what of code within the limits the first format can say
+pub record FitsFirst (code : Code) : Type 0 where
+  pub few_processes : length code.processes ≤ 32
+  pub single : EachProcess code (λ process. (place : ℕ) (i : Instr) → slice_get process.instrs place ≡ Some i → IsSingle i)

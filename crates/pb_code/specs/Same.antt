@@ -1,0 +1,30 @@
+-- Which processes of two codes are the same.
+use Rattle.std.specs.Prelude.{◌≡◌, ℕ, [], slice_get, slice_index_or, ⊤}
+use Rattle.pb_base.specs.Steppers.{Bundle}
+use Rattle.pb_code.specs.declared.code.ProcessCode.{ProcessCode as GivenProcess}
+use Rattle.pb_code.specs.declared.instr.Instr.{Instr as Given}
+use Rattle.pb_code.specs.declared.instr.Instr.TheVariants as given
+use Rattle.pb_code.specs.Whole.{Code}
+
+-- the bundle with a number, empty where there is none
+abbrev pub bundle_of : GivenProcess → ℕ → Bundle
+bundle_of code k = slice_index_or code.bundles.items k []
+
+-- an instruction with no operand
+abbrev pub IsBare : Given → Type 0
+IsBare (given.Push v) = ⊥
+IsBare (given.Load x) = ⊥
+IsBare (given.Store x) = ⊥
+IsBare (given.Jump t) = ⊥
+IsBare (given.JumpIfZero t) = ⊥
+IsBare (given.Take k) = ⊥
+IsBare (given.Give k) = ⊥
+IsBare (given.Fork first count) = ⊥
+IsBare (given.Join first count) = ⊥
+IsBare i = ⊤
+
+-- process p has the same name, claims, number of integers, entries and instructions in both
+pub record IsSameProcess (p : ℕ) (one two : Code) : Type 0 where
+  pub name : slice_get one.names.processes p ≡ slice_get two.names.processes p
+  pub claims : slice_get one.claims p ≡ slice_get two.claims p
+  pub code : slice_get one.processes p ≡ slice_get two.processes p

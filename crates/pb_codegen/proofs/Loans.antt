@@ -1,0 +1,121 @@
+-- What a step changes in the table of loans.
+use Rattle.std.proofs.Common.{◌≡◌, ◌≢◌, ⊎_elim, ℕ, zero, suc, ◌+◌, ◌-◌, ◌<◌, ◌≤◌, Bool, true, false, cond, eqb, List, [], ◌∷◌, length, get_or, set, refl, sym, ap, subst, arith, length-set, get_or-set_same, get_or-set_other, eqb-true, eq-eqb}
+use Rattle.std.proofs.lemmas.Bool.{cases_lt, eqb-false}
+use Rattle.std.proofs.lemmas.List.{get_or_past}
+use Rattle.pb_base.specs.declared.operators.FaultKind.{FaultKind}
+use Rattle.pb_base.specs.declared.pair.Pair.{Pair}
+use Rattle.pb_base.specs.Banker.{cell, row_of}
+use Rattle.pb_base.specs.Bundle.{amount_in, lend, give_back}
+use Rattle.pb_base.specs.Steppers.{Bundle, Table, Effect, Silent, Prints, Takes, Returns, Faults, Finishes, loans_after}
+use Rattle.pb_base.proofs.Lending.{amount_in-cons}
+use Rattle.pb_codegen.proofs.Shapes.{taken, given}
+
+set_at : (row : List ℕ) (q v : ℕ) → get_or (set row q v) q 0 ≤ v
+set_at row q v =
+    ⊎_elim (λ l. let e = get_or-set_same row q v 0 l in omega (arith, e))
+    (λ l. let e = get_or_past (set row q v) q 0 (omega (arith, l, length-set row q v)) in omega (arith, e))
+    (cases_lt q (length row))
+
+lend_le : (bundle : Bundle) (row : List ℕ) (r : ℕ)
+    → get_or (lend row bundle) r 0 ≤ get_or row r 0 + amount_in bundle r
+lend_le [] row r = omega arith
+lend_le (pair ∷ bundle) row r =
+    let row' = set row pair.resource (get_or row pair.resource 0 + pair.amount) in
+    let rest = lend_le bundle row' r in
+    let one = go (eqb pair.resource r) refl in
+    let both = amount_in-cons pair bundle r in
+    omega (arith, rest, one, both)
+  where
+    go : (b : Bool) → eqb pair.resource r ≡ b
+        → get_or (set row pair.resource (get_or row pair.resource 0 + pair.amount)) r 0
+        ≤ get_or row r 0 + cond b pair.amount 0
+    go true e =
+        subst
+        (λ k. get_or (set row pair.resource (get_or row pair.resource 0 + pair.amount)) k 0 ≤ get_or row k 0 + pair.amount)
+        (eqb-true pair.resource r e) (set_at row pair.resource (get_or row pair.resource 0 + pair.amount))
+    go false e =
+        let o =
+        get_or-set_other row pair.resource r (get_or row pair.resource 0 + pair.amount) 0
+        (λ z. eqb-false pair.resource r e (sym z))
+        in
+        omega (arith, o)
+
+pub give_back_le : (bundle : Bundle) (row : List ℕ) (r : ℕ)
+    → get_or (give_back row bundle) r 0 ≤ get_or row r 0 - amount_in bundle r
+give_back_le [] row r = omega arith
+give_back_le (pair ∷ bundle) row r =
+    let row' = set row pair.resource (get_or row pair.resource 0 - pair.amount) in
+    let rest = give_back_le bundle row' r in
+    let one = go (eqb pair.resource r) refl in
+    let both = amount_in-cons pair bundle r in
+    omega (arith, rest, one, both)
+  where
+    go : (b : Bool) → eqb pair.resource r ≡ b
+        → get_or (set row pair.resource (get_or row pair.resource 0 - pair.amount)) r 0
+        ≤ get_or row r 0 - cond b pair.amount 0
+    go true e =
+        subst
+        (λ k. get_or (set row pair.resource (get_or row pair.resource 0 - pair.amount)) k 0 ≤ get_or row k 0 - pair.amount)
+        (eqb-true pair.resource r e) (set_at row pair.resource (get_or row pair.resource 0 - pair.amount))
+    go false e =
+        let o =
+        get_or-set_other row pair.resource r (get_or row pair.resource 0 - pair.amount) 0
+        (λ z. eqb-false pair.resource r e (sym z))
+        in
+        omega (arith, o)
+
+-- a pair is part of its bundle
+pub pair_in : (bundle : Bundle) (k : ℕ) (d : Pair) → k < length bundle
+    → (get_or bundle k d).amount ≤ amount_in bundle (get_or bundle k d).resource
+pair_in [] k d u = absurd (omega (arith, u))
+pair_in (pair ∷ bundle) zero d u =
+    let a = amount_in-cons pair bundle pair.resource in
+    let e : cond (eqb pair.resource pair.resource) pair.amount 0 ≡ pair.amount =
+    ap (λ b. cond b pair.amount 0) (eq-eqb pair.resource pair.resource refl)
+    in
+    omega (arith, a, e)
+pair_in (pair ∷ bundle) (suc k) d u =
+    let rest = pair_in bundle k d (omega (arith, u)) in
+    let a = amount_in-cons pair bundle (get_or bundle k d).resource in
+    omega (arith, rest, a)
+
+row_at : (loans : Table) (p : ℕ) (row : List ℕ) (r : ℕ) → cell (set loans p row) p r ≤ get_or row r 0
+row_at loans p row r =
+    ⊎_elim
+    (λ l. let e = ap (λ (x : List ℕ). get_or x r 0) (get_or-set_same loans p row [] l) in omega (arith, e))
+    (λ l.
+    let e =
+    ap (λ (x : List ℕ). get_or x r 0)
+    (get_or_past (set loans p row) p [] (omega (arith, l, length-set loans p row)))
+    in
+    omega (arith, e))
+    (cases_lt p (length loans))
+
+-- of the process that steps, but for a fault
+pub lent_here : (loans : Table) (p : ℕ) (effect : Effect) (r : ℕ)
+    → ((kind : FaultKind) → effect ≡ Faults kind → ⊥)
+    → cell (loans_after loans p effect) p r ≤ cell loans p r + taken r effect - given r effect
+lent_here loans p Silent r ok = omega arith
+lent_here loans p (Prints v) r ok = omega arith
+lent_here loans p (Takes bundle) r ok =
+    let a = row_at loans p (lend (row_of loans p) bundle) r in
+    let b = lend_le bundle (row_of loans p) r in
+    omega (arith, a, b)
+lent_here loans p (Returns bundle) r ok =
+    let a = row_at loans p (give_back (row_of loans p) bundle) r in
+    let b = give_back_le bundle (row_of loans p) r in
+    omega (arith, a, b)
+lent_here loans p (Faults kind) r ok = elim (ok kind refl) [ ]
+lent_here loans p Finishes r ok = omega arith
+
+-- of another
+pub lent_there : (loans : Table) (p q : ℕ) (effect : Effect) (r : ℕ) → q ≢ p
+    → cell (loans_after loans p effect) q r ≡ cell loans q r
+lent_there loans p q Silent r ne = refl
+lent_there loans p q (Prints v) r ne = refl
+lent_there loans p q (Takes bundle) r ne =
+    ap (λ (x : List ℕ). get_or x r 0) (get_or-set_other loans p q _ [] ne)
+lent_there loans p q (Returns bundle) r ne =
+    ap (λ (x : List ℕ). get_or x r 0) (get_or-set_other loans p q _ [] ne)
+lent_there loans p q (Faults kind) r ne = ap (λ (x : List ℕ). get_or x r 0) (get_or-set_other loans p q _ [] ne)
+lent_there loans p q Finishes r ne = refl

@@ -1,0 +1,89 @@
+-- The names among the tokens of a text are names.
+use Rattle.std.proofs.Common.{◌≡◌, ℕ, zero, suc, ◌<◌, ◌≤◌, false, true, List, [], ◌∷◌, ◌++◌, length, map, get_or, refl, sym, subst, arith}
+use Rattle.std.specs.Prelude.{Contains, slice_range}
+use Rattle.pb_lexer.specs.declared.token.Mark.{Mark}
+use Rattle.pb_lexer.specs.declared.token.Mark.TheVariants as mark
+use Rattle.pb_lexer.specs.Cutting.{Piece, blank, comment, token, Cut, nothing, more, Fits, AllFit, AreTokensOf}
+use Rattle.pb_lexer.specs.Forms.{spelling, IsWord, Form, name, number, fixed}
+use Rattle.pb_lexer.specs.Tokens.{Lexeme, Name, Token}
+use Rattle.pb_verifier.specs.Limits.{IsName, reserved_words}
+
+-- a property of each token
+abbrev pub EachToken : (Token → Type 0) → List Token → Type 0
+EachToken P [] = Unit {0}
+EachToken P (t ∷ ts) = P t × EachToken P ts
+
+each_token-append : (P : Token → Type 0) (a b : List Token) → EachToken P a → EachToken P b → EachToken P (a ++ b)
+each_token-append P [] b h g = g
+each_token-append P (t ∷ a) b h g = (h.0, each_token-append P a b h.1 g)
+
+-- what the token says, where it says a name, is a name
+abbrev pub SaysName : Token → Type 0
+SaysName t = (x : List ℕ) → t.lexeme ≡ Name x → IsName x
+
+-- ---- reserved words
+
+-- the marks that are words, in the order of these
+abbrev words : List Mark
+words =
+    mark.And ∷ mark.Begin ∷ mark.Div ∷ mark.Do ∷ mark.Else ∷ mark.End ∷ mark.Fi ∷ mark.Hold ∷ mark.If ∷ mark.Integer
+    ∷ mark.Mod ∷ mark.Not ∷ mark.Od ∷ mark.Of ∷ mark.Or ∷ mark.Parbegin ∷ mark.Parend ∷ mark.Print ∷ mark.Process
+    ∷ mark.Resource ∷ mark.Skip ∷ mark.Then ∷ mark.While ∷ []
+
+reserved_are_words : reserved_words ≡ map spelling words
+reserved_are_words = refl
+
+spelled_at : (marks : List Mark) (k : ℕ) (x : List ℕ) → k < length (map spelling marks)
+    → get_or (map spelling marks) k x ≡ x → (m : Mark) × (x ≡ spelling m)
+spelled_at [] k x u e = absurd (omega (arith, u))
+spelled_at (m ∷ marks) zero x u e = (m, sym e)
+spelled_at (m ∷ marks) (suc k) x u e = spelled_at marks k x (omega (arith, u)) e
+
+not_reserved : (x : List ℕ) → ((m : Mark) → x ≡ spelling m → ⊥) → Contains reserved_words x → ⊥
+not_reserved x other c =
+    let d = subst (λ ws. Contains ws x) reserved_are_words c in
+    let w = spelled_at words d.0 x d.1 d.2 in
+    other w.0 w.1
+
+-- ---- one token
+
+word_not_empty : (x : List ℕ) → IsWord x → 1 ≤ length x
+word_not_empty [] h = let wrong : false ≡ true = h.letter in cc
+word_not_empty (b ∷ x) h = omega arith
+
+is_name : (x : List ℕ) → IsWord x → ((m : Mark) → x ≡ spelling m → ⊥) → length x ≤ 32 → IsName x
+is_name x word other short = record {
+  size = (word_not_empty x word, short);
+  begins = word.letter;
+  bytes = word.each;
+  free = not_reserved x other;
+}
+
+form_says_name : (bytes : List ℕ) (l : Lexeme) (x : List ℕ) → Form bytes l → Fits l → l ≡ Name x → IsName x
+form_says_name bytes _ x (name word other) fits e =
+    let same : bytes ≡ x = cc in subst IsName same (is_name bytes word other fits)
+form_says_name bytes _ x (number some digits) fits e = cc
+form_says_name bytes _ x (fixed is) fits e = cc
+
+-- ---- all tokens
+
+abbrev HasForm : Token → Type 0
+HasForm t = (bytes : List ℕ) × Form bytes t.lexeme
+
+piece_forms : {text : List ℕ} {at end : ℕ} {new : List Token} → Piece text at end new → EachToken HasForm new
+piece_forms (blank u is_blank one) = tt
+piece_forms (comment is) = tt
+piece_forms {text = text} {at = at} {end = end} (token is) = ((slice_range text at end, is.form), tt)
+
+cut_forms : {text : List ℕ} {end : ℕ} {ts : List Token} → Cut text end ts → EachToken HasForm ts
+cut_forms nothing = tt
+cut_forms (more {ts = ts} {new = new} cut piece) =
+    each_token-append HasForm ts new (cut_forms cut) (piece_forms piece)
+
+all_say_names : (ts : List Token) → EachToken HasForm ts → AllFit ts → EachToken SaysName ts
+all_say_names [] h fit = tt
+all_say_names (t ∷ ts) h fit =
+    (λ x e. form_says_name h.0.0 t.lexeme x h.0.1 fit.0 e, all_say_names ts h.1 fit.1)
+
+pub tokens_say_names : (text : List ℕ) (ts : List Token) → AreTokensOf text ts → EachToken SaysName ts
+tokens_say_names text ts h = all_say_names ts (cut_forms h.cuts) h.fit

@@ -1,0 +1,43 @@
+use Rattle.std.proofs.Common.{rules, refl}
+use Rattle.pb_claims.proofs.Sizes.{arm_within, arms_within, stmt_within}
+use Rattle.pb_names.specs.Program.{arms_in_stmt}
+use Rattle.pb_names.specs.View.{stmt_view}
+use Rattle.pb_names.proofs.Views.{view-If, view-Parbegin}
+use Rattle.pb_codegen.proofs.Lists.{arms_in-more, arms_in_arms-more, collected}
+use Rattle.pb_codegen.proofs.arms.+arms.Goals as goal
+
+pub add_arms_in-add_arms_in_stmt-requires : goal.add_arms_in-add_arms_in_stmt-requires
+add_arms_in-add_arms_in_stmt-requires g t c κs within =
+    let less = stmt_within _ _ _ _ c.deref-stmt-items.ensures.value c.stmt-item.is c.loop-stmt-test.true in
+    search rules
+
+pub add_arms_in-loop-stmt-preserved : goal.add_arms_in-loop-stmt-preserved
+add_arms_in-loop-stmt-preserved g t c =
+    collected _ _ _ _ (arms_in_stmt (stmt_view c.stmt-item.result)) _ c.loop-stmt.invariant c.in_ok-add_arms_in_stmt.ensures
+    (arms_in-more c.deref-stmt-items.result.now c.loop-stmt.stmt-index c.stmt-item.result c.stmt-item.is c.loop-stmt-test.true)
+
+pub add_arms_in_each-add_arms_in-requires : goal.add_arms_in_each-add_arms_in-requires
+add_arms_in_each-add_arms_in-requires g t c κs within =
+    let less = arm_within _ _ _ _ c.deref-arm-items.ensures.value c.arm-item.is c.loop-arm-test.true in
+    search rules
+
+pub add_arms_in_each-loop-arm-preserved : goal.add_arms_in_each-loop-arm-preserved
+add_arms_in_each-loop-arm-preserved g t c =
+    collected _ _ _ _ _ _ c.loop-arm.invariant c.in_ok-add_arms_in.ensures
+    (arms_in_arms-more c.deref-arm-items.result.now c.loop-arm.arm-index c.arm-item.result c.arm-item.is c.loop-arm-test.true)
+
+pub add_arms_in_stmt-add_arms_in_each-requires : goal.add_arms_in_stmt-add_arms_in_each-requires
+add_arms_in_stmt-add_arms_in_each-requires g t c κs within =
+    let less = arms_within c.args.stmt.now _ _ _ c.in-Parbegin.is in
+    search rules
+
+pub add_arms_in_stmt-returns-in_ok-add_arms_in-in-If-2 : goal.add_arms_in_stmt-returns-in_ok-add_arms_in-in-If-2
+add_arms_in_stmt-returns-in_ok-add_arms_in-in-If-2 g t c =
+    rw (c.in-If.is, view-If)
+    (collected _ _ _ _ _ _ c.in_ok-add_arms_in-in-If.ensures c.in_ok-add_arms_in-in-If-2.ensures refl)
+
+pub add_arms_in_stmt-returns-in_ok-add_arms_in_each-in-Parbegin :
+    goal.add_arms_in_stmt-returns-in_ok-add_arms_in_each-in-Parbegin
+add_arms_in_stmt-returns-in_ok-add_arms_in_each-in-Parbegin g t c =
+    rw (c.in-Parbegin.is, view-Parbegin)
+    (collected _ _ _ _ _ _ c.in_ok-add_arms-in-Parbegin.ensures c.in_ok-add_arms_in_each-in-Parbegin.ensures refl)

@@ -1,0 +1,47 @@
+use Rattle.std.proofs.Common.{Err, ap}
+use Rattle.std.proofs.lemmas.Result.{err_from_is_err_and}
+use Rattle.pb_tree.specs.View.{program_view}
+use Rattle.pb_claims.proofs.Bounds.{small_claims}
+use Rattle.pb_names.specs.View.{resolved_view}
+use Rattle.pb_codegen.proofs.Fronts.{names_come_early}
+use Rattle.pb_codegen.proofs.Compiling.{complete, spells, parse_refused, names_refused}
+use Rattle.pb_codegen.proofs.front.number.Goals as goal
+
+pub returns-in_err-tree-clause-refused : goal.returns-in_err-tree-clause-refused
+returns-in_err-tree-clause-refused g c =
+    let p = err_from_is_err_and c.from_residual-in_err-tree.result c.from_residual-in_err-tree.ensures.1 in
+    let cut = rw (← c.as_slice.ensures.value) at c.in_ok-tokens.ensures.found in
+    let e = c.in_err-tree.ensures in
+    rw (p.1, p.2) (parse_refused _ _ _ cut e.syntax (λ same. e.too_deep (ap Err same)) (λ same. e.too_large (ap Err same)))
+
+pub returns-in_err-program-clause-refused : goal.returns-in_err-program-clause-refused
+returns-in_err-program-clause-refused g c =
+    let p = err_from_is_err_and c.from_residual-in_err-program.result c.from_residual-in_err-program.ensures.1 in
+    let cut = rw (← c.as_slice.ensures.value) at c.in_ok-tokens.ensures.found in
+    let e = c.in_ok-tree.ensures in
+    let spelled = spells c.args.text.now _ (program_view c.in_ok-tree.tree) c.in_ok-tree.tree c.parse.result cut e.found e.limits c.in_ok-tree.was c.parse.ensures.nested in
+    rw (p.1, p.2) (names_refused _ _ _ spelled c.in_err-program.ensures.fault)
+
+pub returns-in_err-program-clause-early : goal.returns-in_err-program-clause-early
+returns-in_err-program-clause-early g c =
+    let p = err_from_is_err_and c.from_residual-in_err-program.result c.from_residual-in_err-program.ensures.1 in
+    rw (p.1, p.2) (names_come_early _)
+
+pub returns-clause-numbered : goal.returns-clause-numbered
+returns-clause-numbered g c =
+    let cut = rw (← c.as_slice.ensures.value) at c.in_ok-tokens.ensures.found in
+    let e = c.in_ok-tree.ensures in
+    let written = program_view c.in_ok-tree.tree in
+    let spelled = spells c.args.text.now _ written c.in_ok-tree.tree c.parse.result cut e.found e.limits c.in_ok-tree.was c.parse.ensures.nested in
+    let numbered = c.in_ok-program.ensures.resolves in
+    record {
+      tree = written;
+      spelled = spelled;
+      numbered = numbered;
+      claimed = c.in_ok-claims.ensures.exact (small_claims written (resolved_view c.in_ok-program.program) numbered e.limits.nodes);
+    }
+
+pub resolve-requires : goal.resolve-requires
+resolve-requires g c =
+    let cut = rw (← c.as_slice.ensures.value) at c.in_ok-tokens.ensures.found in
+    complete c.args.text.now _ (program_view c.in_ok-tree.tree) cut c.in_ok-tree.ensures.found

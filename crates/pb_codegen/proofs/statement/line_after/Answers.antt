@@ -1,0 +1,9 @@
+use Rattle.std.proofs.Common.{◌+◌, ap, sym, Some, ◌∙◌}
+use Rattle.pb_codegen.proofs.Lists.{line_next}
+use Rattle.pb_codegen.proofs.statement.line_after.Goals as goal
+
+pub returns-in-Some : goal.returns-in-Some
+returns-in-Some g c =
+    let found = c.in-Some.ensures.lookup in
+    rw (← c.deref.ensures.value)
+    (ap Some c.line_of.ensures ∙ sym (line_next c.deref.result.now (c.args.i + 1) c.in-Some.next.now c.args.after found.1 found.3.0))

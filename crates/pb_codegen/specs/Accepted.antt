@@ -1,0 +1,35 @@
+-- What is known of a program once all is checked that is checked before its code is generated.
+use Rattle.std.specs.Prelude.{◌≡◌}
+use Rattle.pb_base.specs.Steppers.{Table}
+use Rattle.pb_tree.specs.Syntax.{ProgramSyntax}
+use Rattle.pb_parser.specs.Limits.{KeepsLimits}
+use Rattle.pb_names.specs.Meaning.{AreClaims}
+use Rattle.pb_names.specs.Program.{Program, capital_of}
+use Rattle.pb_names.specs.Resolves.{Resolves}
+use Rattle.pb_claims.specs.Fits.{FitCapital}
+use Rattle.pb_verifier.specs.declared.fault.VerifyFault.{VerifyFault}
+use Rattle.pb_verifier.specs.declared.fault.VerifyFault.TheVariants.{NoMemory}
+use Rattle.pb_verifier.specs.Behaviour.{IsWellBehaved}
+use Rattle.pb_verifier.specs.Verified.{IsAnnotated, IsRefusedFor}
+use Rattle.pb_codegen.specs.Form.{IsFormed}
+use Rattle.pb_codegen.specs.Generate.{program_code}
+use Rattle.pb_codegen.specs.Sizes.{IsGeneratable}
+use Rattle.pb_codegen.specs.SourceBehaviour.{KeepsClaims}
+
+-- the tree was read, and is within its limits; the program has numbers in place of its names; the capital is
+-- enough for its claims
+pub record CanBeCompiled (tree : ProgramSyntax) (program : Program) (claims : Table) : Type 0 where
+  pub formed : IsFormed tree
+  pub limits : KeepsLimits tree
+  pub numbered : Resolves tree program
+  pub claimed : AreClaims program claims
+  pub enough : FitCapital claims (capital_of program)
+
+-- what is then true of it and its code: the code can be generated, it has none of the faults that the verifier looks
+-- for, and so a refusal is for want of memory alone; it is well behaved; and the program keeps its claims
+pub record HasSoundCode (program : Program) (claims : Table) : Type 0 where
+  pub generatable : IsGeneratable program
+  pub annotated : IsAnnotated (program_code program claims)
+  pub memory_alone : (fault : VerifyFault) → IsRefusedFor (program_code program claims) fault → fault ≡ NoMemory
+  pub behaves : IsWellBehaved (program_code program claims)
+  pub keeps : KeepsClaims program claims

@@ -1,0 +1,39 @@
+-- What a tree that was read has beside its limits: its names are names, each hold has a pair, each parbegin an arm,
+-- and there is a process.
+use Rattle.std.specs.Prelude.{◌≤◌, length, All, ⊤}
+use Rattle.pb_tree.specs.Syntax.{StmtSyntax, assign, print, if_else, while_do, hold, parbegin, StmtsSyntax}
+use Rattle.pb_tree.specs.Syntax.{no_stmt, stmt_then, ArmsSyntax, no_arm, arm_then, ProcessSyntax, ProgramSyntax}
+use Rattle.pb_verifier.specs.Limits.{IsName}
+
+-- there is an arm
+abbrev pub HasArm : ArmsSyntax → Type 0
+HasArm no_arm = ⊥
+HasArm (arm_then ss arms) = ⊤
+
+-- each hold has a pair, and each parbegin an arm
+abbrev mutual
+  pub IsFullStmt : StmtSyntax → Type 0
+  IsFullStmt (assign line x e) = ⊤
+  IsFullStmt (print line e) = ⊤
+  IsFullStmt (if_else line e on_true on_false) = IsFull on_true × IsFull on_false
+  IsFullStmt (while_do line e body) = IsFull body
+  IsFullStmt (hold line demands body) = (1 ≤ length demands) × IsFull body
+  IsFullStmt (parbegin line arms) = HasArm arms × AreFull arms
+
+  pub IsFull : StmtsSyntax → Type 0
+  IsFull no_stmt = ⊤
+  IsFull (stmt_then s ss) = IsFullStmt s × IsFull ss
+
+  pub AreFull : ArmsSyntax → Type 0
+  AreFull no_arm = ⊤
+  AreFull (arm_then ss arms) = IsFull ss × AreFull arms
+
+pub record IsFormedProcess (process : ProcessSyntax) : Type 0 where
+  pub name : IsName process.name.text
+  pub integers : All (λ name. IsName name.text) process.integers
+  pub full : IsFull process.body
+
+pub record IsFormed (tree : ProgramSyntax) : Type 0 where
+  pub resources : All (λ resource. IsName resource.name.text) tree.resources
+  pub some_processes : 1 ≤ length tree.processes
+  pub processes : All IsFormedProcess tree.processes

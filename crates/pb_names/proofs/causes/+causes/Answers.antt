@@ -1,0 +1,65 @@
+use Rattle.std.proofs.Common.{arith, rules, ap, ◌∙◌}
+use Rattle.pb_tree.specs.View.{stmt_view}
+use Rattle.pb_tree.proofs.Smaller.{stmt_within, arm_within, arms_within}
+use Rattle.pb_tree.proofs.Views.{view-Assign, view-If, view-While, view-Hold, view-Parbegin}
+use Rattle.pb_names.proofs.CausesMore.{stmts_more, arms_more}
+use Rattle.pb_names.proofs.First.{first_either}
+use Rattle.pb_names.proofs.causes.+causes.Goals as goal
+
+pub first_in_list-loop-stmt-preserved : goal.first_in_list-loop-stmt-preserved
+first_in_list-loop-stmt-preserved g t c =
+    rw c.earlier-first.ensures
+    (stmts_more _ _ c.deref-stmt-items.result.now c.loop-stmt.stmt-index c.stmt-item.result _ _
+    (omega arith) c.stmt-item.is c.loop-stmt.invariant c.first_in_stmt.ensures)
+
+pub first_in_arms-loop-arm-preserved : goal.first_in_arms-loop-arm-preserved
+first_in_arms-loop-arm-preserved g t c =
+    rw c.earlier-first.ensures
+    (arms_more _ _ c.deref-arm-items.result.now c.loop-arm.arm-index c.arm-item.result _ _
+    (omega arith) c.arm-item.is c.loop-arm.invariant c.first_in_list.ensures)
+
+pub first_in_list-first_in_stmt-requires : goal.first_in_list-first_in_stmt-requires
+first_in_list-first_in_stmt-requires g t c κs within =
+    let less = stmt_within _ _ _ _ c.deref-stmt-items.ensures.value c.stmt-item.is (omega arith) in
+    search rules
+
+pub first_in_arms-first_in_list-requires : goal.first_in_arms-first_in_list-requires
+first_in_arms-first_in_list-requires g t c κs within =
+    let less = arm_within _ _ _ _ c.deref-arm-items.ensures.value c.arm-item.is (omega arith) in
+    search rules
+
+pub first_in_stmt-first_in_arms-requires : goal.first_in_stmt-first_in_arms-requires
+first_in_stmt-first_in_arms-requires g t c κs within =
+    let less = arms_within c.args.stmt.now _ _ c.in-Parbegin.is in
+    search rules
+
+pub first_in_stmt-returns-in-Assign : goal.first_in_stmt-returns-in-Assign
+first_in_stmt-returns-in-Assign g t c =
+    let a = c.in-Assign in
+    rw (ap stmt_view a.is ∙ view-Assign a.line a.target a.value, c.earlier.ensures)
+    (first_either _ _ c.first_in_name-in_target.ensures c.first_in_expr.ensures)
+
+pub first_in_stmt-returns-in-If : goal.first_in_stmt-returns-in-If
+first_in_stmt-returns-in-If g t c =
+    let a = c.in-If in
+    rw (ap stmt_view a.is ∙ view-If a.line a.test a.on_true a.on_false, c.earlier-in-If-2.ensures, c.earlier-in-If.ensures)
+    (first_either _ _ c.first_in_expr-in_test.ensures
+    (first_either _ _ c.first_in_list-in_true.ensures c.first_in_list-in_false.ensures))
+
+pub first_in_stmt-returns-in-While : goal.first_in_stmt-returns-in-While
+first_in_stmt-returns-in-While g t c =
+    let a = c.in-While in
+    rw (ap stmt_view a.is ∙ view-While a.line a.test a.body, c.earlier-in-While.ensures)
+    (first_either _ _ c.first_in_expr-in_test-in-While.ensures c.first_in_list.ensures)
+
+pub first_in_stmt-returns-in-Hold : goal.first_in_stmt-returns-in-Hold
+first_in_stmt-returns-in-Hold g t c =
+    let a = c.in-Hold in
+    rw (ap stmt_view a.is ∙ view-Hold a.line a.demands a.body, c.earlier-in-Hold.ensures)
+    (first_either _ _ c.first_in_hold-in_demands.ensures c.first_in_list-in-Hold.ensures)
+
+pub first_in_stmt-returns-in-Parbegin : goal.first_in_stmt-returns-in-Parbegin
+first_in_stmt-returns-in-Parbegin g t c =
+    let a = c.in-Parbegin in
+    rw (ap stmt_view a.is ∙ view-Parbegin a.line a.arms)
+    c.first_in_arms.ensures

@@ -1,0 +1,56 @@
+use Rattle.std.proofs.Common.{arith, rules, ap, ◌∙◌}
+use Rattle.pb_tree.specs.View.{stmt_view}
+use Rattle.pb_tree.proofs.Smaller.{stmt_within, arm_within, arms_within}
+use Rattle.pb_tree.proofs.Views.{view-Parbegin}
+use Rattle.pb_names.specs.Limits.{widest_in_stmt, inner_arms_of_stmt}
+use Rattle.pb_names.proofs.Forks.{width-view, widest_more, inner_more, arms_widest_more, arms_inner_more}
+use Rattle.pb_names.proofs.limits.+forks.Goals as goal
+
+pub forks_of_stmt-returns-in-Parbegin-clause-widest : goal.forks_of_stmt-returns-in-Parbegin-clause-widest
+forks_of_stmt-returns-in-Parbegin-clause-widest g t c =
+    let a = c.in-Parbegin in
+    omega (
+      arith,
+      width-view a.arms.items,
+      ap widest_in_stmt (ap stmt_view a.is ∙ view-Parbegin a.line a.arms),
+    )
+
+pub forks_of_stmt-returns-in-Parbegin-clause-arms : goal.forks_of_stmt-returns-in-Parbegin-clause-arms
+forks_of_stmt-returns-in-Parbegin-clause-arms g t c =
+    let a = c.in-Parbegin in
+    omega (
+      arith,
+      width-view a.arms.items,
+      ap inner_arms_of_stmt (ap stmt_view a.is ∙ view-Parbegin a.line a.arms),
+    )
+
+pub forks_of_list-loop-stmt-preserved : goal.forks_of_list-loop-stmt-preserved
+forks_of_list-loop-stmt-preserved g t c =
+    let items = c.deref-stmt-items.result.now in
+    let i = c.loop-stmt.stmt-index in
+    let widest = widest_more items i c.stmt-item.result c.stmt-item.is (omega arith) in
+    let inner = inner_more items i c.stmt-item.result c.stmt-item.is (omega arith) in
+    record { widest = omega arith; arms = omega arith }
+
+pub forks_of_arms-loop-arm-preserved : goal.forks_of_arms-loop-arm-preserved
+forks_of_arms-loop-arm-preserved g t c =
+    let items = c.deref-arm-items.result.now in
+    let i = c.loop-arm.arm-index in
+    let widest = arms_widest_more items i c.arm-item.result c.arm-item.is (omega arith) in
+    let inner = arms_inner_more items i c.arm-item.result c.arm-item.is (omega arith) in
+    record { widest = omega arith; arms = omega arith }
+
+pub forks_of_list-forks_of_stmt-requires : goal.forks_of_list-forks_of_stmt-requires
+forks_of_list-forks_of_stmt-requires g t c κs within =
+    let less = stmt_within _ _ _ _ c.deref-stmt-items.ensures.value c.stmt-item.is (omega arith) in
+    search rules
+
+pub forks_of_arms-forks_of_list-requires : goal.forks_of_arms-forks_of_list-requires
+forks_of_arms-forks_of_list-requires g t c κs within =
+    let less = arm_within _ _ _ _ c.deref-arm-items.ensures.value c.arm-item.is (omega arith) in
+    search rules
+
+pub forks_of_stmt-forks_of_arms-requires : goal.forks_of_stmt-forks_of_arms-requires
+forks_of_stmt-forks_of_arms-requires g t c κs within =
+    let less = arms_within c.args.stmt.now _ _ c.in-Parbegin.is in
+    search rules

@@ -1,0 +1,248 @@
+use Rattle.std.proofs.Common.{arith, rules, ◌+◌, ap, ◌∙◌, map, refl}
+use Rattle.std.proofs.lemmas.List.{take_all, length-map}
+use Rattle.pb_tree.specs.View.{expr_view, stmt_view, stmts_view, arms_view, demand_view}
+use Rattle.pb_tree.proofs.Smaller.{stmt_within, arm_within, arms_within}
+use Rattle.pb_tree.proofs.Views as tree
+use Rattle.pb_names.specs.Limits.{inner_arms_of_stmt}
+use Rattle.pb_names.specs.Resolves.{assign, print, if_else, while_do, hold, parbegin, no_stmt, no_arm}
+use Rattle.pb_names.specs.Search.{names_in}
+use Rattle.pb_names.proofs.First.{free_left, free_right}
+use Rattle.pb_names.proofs.Forks.{width-view, inner_more, arms_inner_more}
+use Rattle.pb_names.proofs.Numbered.{resolves_more, numbered_more, resolves_more_arm, numbered_more_arm}
+use Rattle.pb_names.proofs.Numbered.{numbered_if, numbered_parbegin, few_arms}
+use Rattle.pb_names.proofs.Ready.{ready_true, ready_false, ready_while, ready_hold, ready_arms, ready_at}
+use Rattle.pb_names.proofs.Ready.{arm_ready_at, true_within, false_within, loop_within, hold_within}
+use Rattle.pb_names.proofs.Views.{view-Assign, view-Print, view-If, view-While, view-Hold, view-Parbegin}
+use Rattle.pb_names.proofs.numbering.+numbering.Goals as goal
+
+-- ---- lists and arms
+
+pub number_list-loop-stmt-init : goal.number_list-loop-stmt-init
+number_list-loop-stmt-init g t c =
+    rw c.new-list.ensures.items (record { resolves = no_stmt; numbered = tt; next = omega arith })
+
+pub number_arms-loop-arm-init : goal.number_arms-loop-arm-init
+number_arms-loop-arm-init g t c =
+    rw c.new-list.ensures.items (record { resolves = no_arm; numbered = tt; next = omega arith })
+
+pub number_list-returns-clause-resolves : goal.number_list-returns-clause-resolves
+number_list-returns-clause-resolves g t c =
+    rw (← c.deref-stmt-items.ensures.value, ← take_all c.loop-stmt.stmt-index c.deref-stmt-items.result.now (omega arith))
+    c.loop-stmt.invariant.resolves
+
+pub number_list-returns-clause-next : goal.number_list-returns-clause-next
+number_list-returns-clause-next g t c =
+    rw (← c.deref-stmt-items.ensures.value, ← take_all c.loop-stmt.stmt-index c.deref-stmt-items.result.now (omega arith))
+    c.loop-stmt.invariant.next
+
+pub number_list-loop-stmt-preserved : goal.number_list-loop-stmt-preserved
+number_list-loop-stmt-preserved g t c =
+    let items = c.deref-stmt-items.result.now in
+    let i = c.loop-stmt.stmt-index in
+    let inner = inner_more items i c.stmt-item.result c.stmt-item.is (omega arith) in
+    let done = c.in_ok-number_stmt.ensures in
+    record {
+      resolves = resolves_more _ _ items i _ _ _ _ (omega arith) c.stmt-item.is c.in_ok-push.ensures.items
+          c.loop-stmt.invariant.resolves done.resolves;
+      numbered = numbered_more _ _ _ _ _ _ _ _ c.in_ok-push.ensures.items c.loop-stmt.invariant.next
+          c.loop-stmt.invariant.resolves c.loop-stmt.invariant.numbered done.numbered;
+      next = let now = done.next in let before = c.loop-stmt.invariant.next in omega arith;
+    }
+
+pub number_arms-loop-arm-preserved : goal.number_arms-loop-arm-preserved
+number_arms-loop-arm-preserved g t c =
+    let items = c.deref-arm-items.result.now in
+    let i = c.loop-arm.arm-index in
+    let inner = arms_inner_more items i c.arm-item.result c.arm-item.is (omega arith) in
+    let done = c.in_ok-number_list.ensures in
+    record {
+      resolves = resolves_more_arm _ _ items i _ _ _ _ (omega arith) c.arm-item.is c.in_ok-push.ensures.items
+          c.loop-arm.invariant.resolves done.resolves;
+      numbered = numbered_more_arm _ _ _ _ _ _ _ _ c.in_ok-push.ensures.items c.loop-arm.invariant.next
+          c.loop-arm.invariant.resolves c.loop-arm.invariant.numbered done.numbered;
+      next = let now = done.next in let before = c.loop-arm.invariant.next in omega arith;
+    }
+
+pub number_list-number_stmt-requires : goal.number_list-number_stmt-requires
+number_list-number_stmt-requires g t c κs within =
+    let less = stmt_within _ _ _ _ c.deref-stmt-items.ensures.value c.stmt-item.is (omega arith) in
+    let ready =
+    ready_at _ _ _ _ _ c.deref-stmt-items.result.now c.loop-stmt.stmt-index c.stmt-item.result
+    c.deref-stmt-items.ensures.value (omega arith) c.stmt-item.is c.loop-stmt.invariant.next c.requires.ready in
+    search rules
+
+pub number_arms-number_list-requires : goal.number_arms-number_list-requires
+number_arms-number_list-requires g t c κs within =
+    let less = arm_within _ _ _ _ c.deref-arm-items.ensures.value c.arm-item.is (omega arith) in
+    let ready =
+    arm_ready_at _ _ _ _ _ c.deref-arm-items.result.now c.loop-arm.arm-index c.arm-item.result
+    c.deref-arm-items.ensures.value (omega arith) c.arm-item.is c.loop-arm.invariant.next c.requires.ready in
+    search rules
+
+-- ---- what calls ask
+
+pub number_stmt-number_in-target-requires-clause-known : goal.number_stmt-number_in-target-requires-clause-known
+number_stmt-number_in-target-requires-clause-known g t c =
+    let a = c.in-Assign in
+    free_left (rw (ap stmt_view a.is ∙ tree.view-Assign a.line a.target a.value) at c.requires.ready.free)
+
+pub number_stmt-number_expr-requires-clause-known : goal.number_stmt-number_expr-requires-clause-known
+number_stmt-number_expr-requires-clause-known g t c =
+    let a = c.in-Assign in
+    free_right (rw (ap stmt_view a.is ∙ tree.view-Assign a.line a.target a.value) at c.requires.ready.free)
+
+pub number_stmt-number_expr-requires-in-If-clause-known : goal.number_stmt-number_expr-requires-in-If-clause-known
+number_stmt-number_expr-requires-in-If-clause-known g t c =
+    let a = c.in-If in
+    free_left (rw (ap stmt_view a.is ∙ tree.view-If a.line a.test a.on_true a.on_false) at c.requires.ready.free)
+
+pub number_stmt-number_expr-requires-in-While-clause-known : goal.number_stmt-number_expr-requires-in-While-clause-known
+number_stmt-number_expr-requires-in-While-clause-known g t c =
+    let a = c.in-While in
+    free_left (rw (ap stmt_view a.is ∙ tree.view-While a.line a.test a.body) at c.requires.ready.free)
+
+pub number_stmt-number_hold-bundle-requires-clause-free : goal.number_stmt-number_hold-bundle-requires-clause-free
+number_stmt-number_hold-bundle-requires-clause-free g t c =
+    let a = c.in-Hold in
+    free_left (rw (ap stmt_view a.is ∙ tree.view-Hold a.line a.demands a.body) at c.requires.ready.free)
+
+pub number_stmt-number_hold-bundle-requires-clause-some : goal.number_stmt-number_hold-bundle-requires-clause-some
+number_stmt-number_hold-bundle-requires-clause-some g t c =
+    let a = c.in-Hold in
+    let pairs = rw (ap stmt_view a.is ∙ tree.view-Hold a.line a.demands a.body) at c.requires.ready.complete in
+    omega (arith, pairs.0, length-map a.demands.items demand_view)
+
+pub number_stmt-number_list-requires : goal.number_stmt-number_list-requires
+number_stmt-number_list-requires g t c κs within =
+    let a = c.in-If in
+    let less = true_within (stmt_view c.args.stmt.now) _ _ _ _ (ap stmt_view a.is ∙ tree.view-If a.line a.test a.on_true a.on_false) in
+    let ready =
+    ready_true (names_in c.args.integers.now) (names_in c.args.resources.now) _ a.line (expr_view a.test)
+    (stmts_view a.on_true.items) (stmts_view a.on_false.items)
+    (rw (ap stmt_view a.is ∙ tree.view-If a.line a.test a.on_true a.on_false) at c.requires.ready) in
+    search rules
+
+pub number_stmt-number_list-requires-in-If : goal.number_stmt-number_list-requires-in-If
+number_stmt-number_list-requires-in-If g t c κs within =
+    let a = c.in-If in
+    let less = false_within (stmt_view c.args.stmt.now) _ _ _ _ (ap stmt_view a.is ∙ tree.view-If a.line a.test a.on_true a.on_false) in
+    let ready =
+    ready_false (names_in c.args.integers.now) (names_in c.args.resources.now) _ _ a.line (expr_view a.test)
+    (stmts_view a.on_true.items) (stmts_view a.on_false.items) c.in_ok-on_true-in-If.ensures.next
+    (rw (ap stmt_view a.is ∙ tree.view-If a.line a.test a.on_true a.on_false) at c.requires.ready) in
+    search rules
+
+pub number_stmt-number_list-requires-in-While : goal.number_stmt-number_list-requires-in-While
+number_stmt-number_list-requires-in-While g t c κs within =
+    let a = c.in-While in
+    let less = loop_within (stmt_view c.args.stmt.now) _ _ _ (ap stmt_view a.is ∙ tree.view-While a.line a.test a.body) in
+    let ready =
+    ready_while (names_in c.args.integers.now) (names_in c.args.resources.now) _ a.line (expr_view a.test) (stmts_view a.body.items)
+    (rw (ap stmt_view a.is ∙ tree.view-While a.line a.test a.body) at c.requires.ready) in
+    search rules
+
+pub number_stmt-number_list-requires-in-Hold : goal.number_stmt-number_list-requires-in-Hold
+number_stmt-number_list-requires-in-Hold g t c κs within =
+    let a = c.in-Hold in
+    let less = hold_within (stmt_view c.args.stmt.now) _ _ _ (ap stmt_view a.is ∙ tree.view-Hold a.line a.demands a.body) in
+    let ready =
+    ready_hold (names_in c.args.integers.now) (names_in c.args.resources.now) _ a.line (map demand_view a.demands.items)
+    (stmts_view a.body.items)
+    (rw (ap stmt_view a.is ∙ tree.view-Hold a.line a.demands a.body) at c.requires.ready) in
+    search rules
+
+pub number_stmt-number_arms-requires : goal.number_stmt-number_arms-requires
+number_stmt-number_arms-requires g t c κs within =
+    let a = c.in-Parbegin in
+    let less = arms_within c.args.stmt.now _ _ a.is in
+    let ready =
+    ready_arms (names_in c.args.integers.now) (names_in c.args.resources.now) c.args.next.now (c.args.next.now + c.len.result) a.line (arms_view a.arms.items)
+    (omega (arith, width-view a.arms.items))
+    (rw (ap stmt_view a.is ∙ tree.view-Parbegin a.line a.arms) at c.requires.ready) in
+    search rules
+
+-- ---- statements
+
+pub number_stmt-returns-in_ok-value-in-Assign-clause-resolves : goal.number_stmt-returns-in_ok-value-in-Assign-clause-resolves
+number_stmt-returns-in_ok-value-in-Assign-clause-resolves g t c =
+    let a = c.in-Assign in
+    rw (ap stmt_view a.is ∙ tree.view-Assign a.line a.target a.value, view-Assign)
+    (assign _ _ _ _ _ c.number_in-target.ensures c.in_ok-value-in-Assign.ensures)
+
+pub number_stmt-returns-in_ok-value-in-Print-clause-resolves : goal.number_stmt-returns-in_ok-value-in-Print-clause-resolves
+number_stmt-returns-in_ok-value-in-Print-clause-resolves g t c =
+    let a = c.in-Print in
+    rw (ap stmt_view a.is ∙ tree.view-Print a.line a.value, view-Print) (print _ _ _ c.in_ok-value-in-Print.ensures)
+
+pub number_stmt-returns-in_ok-on_false-in-If-clause-resolves : goal.number_stmt-returns-in_ok-on_false-in-If-clause-resolves
+number_stmt-returns-in_ok-on_false-in-If-clause-resolves g t c =
+    let a = c.in-If in
+    rw (ap stmt_view a.is ∙ tree.view-If a.line a.test a.on_true a.on_false, view-If)
+    (if_else _ _ _ _ _ _ _ c.in_ok-test-in-If.ensures
+    c.in_ok-on_true-in-If.ensures.resolves c.in_ok-on_false-in-If.ensures.resolves)
+
+pub number_stmt-returns-in_ok-on_false-in-If-clause-numbered : goal.number_stmt-returns-in_ok-on_false-in-If-clause-numbered
+number_stmt-returns-in_ok-on_false-in-If-clause-numbered g t c =
+    rw view-If
+    (numbered_if (names_in c.args.integers.now) (names_in c.args.resources.now) (stmts_view c.in-If.on_true.items) _ _ _ _
+    c.in_ok-on_true-in-If.ensures.next c.in_ok-on_true-in-If.ensures.resolves
+    c.in_ok-on_true-in-If.ensures.numbered c.in_ok-on_false-in-If.ensures.numbered)
+
+pub number_stmt-returns-in_ok-on_false-in-If-clause-next : goal.number_stmt-returns-in_ok-on_false-in-If-clause-next
+number_stmt-returns-in_ok-on_false-in-If-clause-next g t c =
+    let a = c.in-If in
+    let first = c.in_ok-on_true-in-If.ensures.next in
+    let second = c.in_ok-on_false-in-If.ensures.next in
+    omega (
+      arith,
+      ap inner_arms_of_stmt (ap stmt_view a.is ∙ tree.view-If a.line a.test a.on_true a.on_false),
+    )
+
+pub number_stmt-returns-in_ok-body-in-While-clause-resolves : goal.number_stmt-returns-in_ok-body-in-While-clause-resolves
+number_stmt-returns-in_ok-body-in-While-clause-resolves g t c =
+    let a = c.in-While in
+    rw (ap stmt_view a.is ∙ tree.view-While a.line a.test a.body, view-While)
+    (while_do _ _ _ _ _ c.in_ok-test-in-While.ensures c.in_ok-body-in-While.ensures.resolves)
+
+pub number_stmt-returns-in_ok-body-in-While-clause-next : goal.number_stmt-returns-in_ok-body-in-While-clause-next
+number_stmt-returns-in_ok-body-in-While-clause-next g t c =
+    let a = c.in-While in
+    let inside = c.in_ok-body-in-While.ensures.next in
+    omega (arith, ap inner_arms_of_stmt (ap stmt_view a.is ∙ tree.view-While a.line a.test a.body))
+
+pub number_stmt-returns-in_ok-body-in-Hold-clause-resolves : goal.number_stmt-returns-in_ok-body-in-Hold-clause-resolves
+number_stmt-returns-in_ok-body-in-Hold-clause-resolves g t c =
+    let a = c.in-Hold in
+    rw (ap stmt_view a.is ∙ tree.view-Hold a.line a.demands a.body, view-Hold)
+    (hold _ _ _ _ _ c.number_hold-bundle.ensures c.in_ok-body-in-Hold.ensures.resolves)
+
+pub number_stmt-returns-in_ok-body-in-Hold-clause-next : goal.number_stmt-returns-in_ok-body-in-Hold-clause-next
+number_stmt-returns-in_ok-body-in-Hold-clause-next g t c =
+    let a = c.in-Hold in
+    let inside = c.in_ok-body-in-Hold.ensures.next in
+    omega (arith, ap inner_arms_of_stmt (ap stmt_view a.is ∙ tree.view-Hold a.line a.demands a.body))
+
+pub number_stmt-returns-in_ok-arms-in-Parbegin-clause-resolves : goal.number_stmt-returns-in_ok-arms-in-Parbegin-clause-resolves
+number_stmt-returns-in_ok-arms-in-Parbegin-clause-resolves g t c =
+    let a = c.in-Parbegin in
+    let narrow = rw (ap stmt_view a.is ∙ tree.view-Parbegin a.line a.arms) at c.requires.ready.narrow in
+    let inside = c.in_ok-arms-in-Parbegin.ensures.resolves in
+    rw (ap stmt_view a.is ∙ tree.view-Parbegin a.line a.arms, view-Parbegin)
+    (parbegin _ _ _ _ (few_arms _ _ (arms_view a.arms.items) _ inside (omega arith)) inside)
+
+pub number_stmt-returns-in_ok-arms-in-Parbegin-clause-numbered : goal.number_stmt-returns-in_ok-arms-in-Parbegin-clause-numbered
+number_stmt-returns-in_ok-arms-in-Parbegin-clause-numbered g t c =
+    let a = c.in-Parbegin in
+    rw view-Parbegin
+    (numbered_parbegin (names_in c.args.integers.now) (names_in c.args.resources.now) (arms_view a.arms.items) _ _ c.args.next.now _
+    refl (let n = c.len.ensures in omega (arith, width-view a.arms.items)) c.in_ok-arms-in-Parbegin.ensures.resolves c.in_ok-arms-in-Parbegin.ensures.numbered)
+
+pub number_stmt-returns-in_ok-arms-in-Parbegin-clause-next : goal.number_stmt-returns-in_ok-arms-in-Parbegin-clause-next
+number_stmt-returns-in_ok-arms-in-Parbegin-clause-next g t c =
+    let a = c.in-Parbegin in
+    let inside = c.in_ok-arms-in-Parbegin.ensures.next in
+    omega (
+      arith,
+      width-view a.arms.items,
+      ap inner_arms_of_stmt (ap stmt_view a.is ∙ tree.view-Parbegin a.line a.arms),
+    )

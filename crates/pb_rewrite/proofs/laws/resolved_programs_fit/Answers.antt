@@ -1,0 +1,5 @@
+use Rattle.pb_rewrite.proofs.Resolving.{resolved_fits}
+use Rattle.pb_rewrite.proofs.laws.resolved_programs_fit.Goals as goal
+
+pub returns : goal.returns
+returns c = resolved_fits

@@ -1,0 +1,51 @@
+use Rattle.std.proofs.Common.{◌≡◌, ◌<◌, [], ◌∷◌, ◌++◌, length, ap, arith, length-append}
+use Rattle.std.specs.Vec.Iter.{into_iter_items}
+use Rattle.pb_rewrite.specs.declared.arm.Arm.{Fresh}
+use Rattle.pb_rewrite.proofs.Beginning.{one_more, next_seen, room_for_next}
+use Rattle.pb_rewrite.proofs.lists.fresh_arms.Goals as goal
+
+pub loop-body-preserved-in-Some : goal.loop-body-preserved-in-Some
+loop-body-preserved-in-Some g c =
+    let all = c.args.bodies.items in
+    let seen = c.loop-body.yielded in
+    let rest = into_iter_items c.loop-body.body-iterator in
+    let rest' = into_iter_items c.next.new.self in
+    let less : length seen < length all = room_for_next all seen rest rest' c.in-Some.body c.loop-body.invariant.seen c.in-Some.ensures.steps.0 in
+    let pushed : c.push.new.self.items ≡ c.loop-body.arms.items ++ Fresh c.in-Some.body ∷ [] = grind arith in
+    record {
+      seen = next_seen all seen rest rest' c.in-Some.body c.loop-body.invariant.seen c.in-Some.ensures.steps.0;
+      count = omega (
+        arith,
+        ap length pushed,
+        length-append c.loop-body.arms.items (Fresh c.in-Some.body ∷ []),
+        length-append seen (c.in-Some.body ∷ []),
+        c.push.new.self.ok.0,
+        c.loop-body.arms.ok.0,
+        c.loop-body.invariant.count,
+      );
+      room = omega (arith, c.push.ensures.capacity, c.loop-body.invariant.room);
+      made = one_more c.loop-body.arms.items c.push.new.self.items seen c.in-Some.body pushed c.loop-body.invariant.made;
+    }
+
+pub loop-body-preserved : goal.loop-body-preserved
+loop-body-preserved g c =
+    let all = c.args.bodies.items in
+    let seen = c.loop-body.yielded in
+    let rest = into_iter_items c.loop-body.body-iterator in
+    let rest' = into_iter_items c.next.new.self in
+    let less : length seen < length all = room_for_next all seen rest rest' c.in-Some.body c.loop-body.invariant.seen c.in-Some.ensures.steps.0 in
+    let pushed : c.push.new.self.items ≡ c.loop-body.arms.items ++ Fresh c.in-Some.body ∷ [] = grind arith in
+    record {
+      seen = next_seen all seen rest rest' c.in-Some.body c.loop-body.invariant.seen c.in-Some.ensures.steps.0;
+      count = omega (
+        arith,
+        ap length pushed,
+        length-append c.loop-body.arms.items (Fresh c.in-Some.body ∷ []),
+        length-append seen (c.in-Some.body ∷ []),
+        c.push.new.self.ok.0,
+        c.loop-body.arms.ok.0,
+        c.loop-body.invariant.count,
+      );
+      room = omega (arith, c.push.ensures.capacity, c.loop-body.invariant.room);
+      made = one_more c.loop-body.arms.items c.push.new.self.items seen c.in-Some.body pushed c.loop-body.invariant.made;
+    }

@@ -1,0 +1,6 @@
+use Rattle.std.proofs.Common.{◌≡◌, take}
+use Rattle.pb_rewrite.proofs.Opening.{capitals}
+use Rattle.pb_rewrite.proofs.source.capital_for.Given as goal
+
+abbrev pub invariant-loop-resource : goal.invariant-loop-resource
+invariant-loop-resource g l = l.amounts.items ≡ capitals (take l.resource-index l.resource-items)

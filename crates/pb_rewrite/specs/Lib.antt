@@ -1,0 +1,5 @@
+pub mod Found
+pub mod Sound
+pub mod Sources
+pub mod Steps
+pub mod View

@@ -1,0 +1,154 @@
+//! All processes of the source together.
+
+ghost use Rattle.std.specs.Prelude.{◌≡◌, ◌↔◌, ◌<◌, ◌≤◌, length, map, All, IfOk, IsTrue, OnErr, slice_get, Some, slice_index, option_and_then};
+ghost use Rattle.pb_base.specs.Steppers.{IsFinished, opening};
+ghost use Rattle.pb_base.specs.Steps.{IsStepOf};
+ghost use Rattle.pb_names.specs.Program.{capital_of};
+ghost use Rattle.pb_names.specs.Source.{SourceProcess as SourceState, source_over, source_process, source_step};
+ghost use Rattle.pb_names.specs.View.{resource_view, resolved_view};
+ghost use Rattle.pb_names.specs.View.{process_view as program_process};
+ghost use Rattle.pb_rewrite.specs.Found.{line_in};
+ghost use Rattle.pb_rewrite.specs.View.{process_view};
+
+use crate::copies::copy_list;
+use crate::process::SourceProcess;
+use pb_banker::Banker;
+use pb_base::{Capital, Claims, NoMemory, Pick, Step};
+use pb_names::{Process, Resolved, Resource};
+use std::alloc::{Allocator, Global};
+
+/// What is left of a program: of each process its integers and its run, and all loans.
+#[derive(Drop)]
+pub struct Source<A: Allocator> {
+    processes: Vec<SourceProcess<A>>,
+    banker: Banker,
+}
+
+impl<A: Allocator> Source<A> {
+    ghost use Rattle.pb_rewrite.specs.Sources.{source_view, source_banker};
+
+    /// How many processes there are.
+    pub fn processes(&self) -> usize
+        ensures { result ≡ length (source_view self.now).processes }
+    {
+        self.processes.len()
+    }
+
+    /// The integers of a process, by number.
+    pub fn vars(&self, p: usize) -> &[i64]
+        requires { p < length (source_view self.now).processes }
+        ensures { (process : SourceState) → slice_get (source_view self.now).processes p ≡ Some process
+            → result.now ≡ process.vars }
+    {
+        self.processes[p].vars()
+    }
+
+    /// The banker, who knows all loans.
+    pub fn banker(&self) -> &Banker
+        ensures { result.now ≡ source_banker self.now }
+    {
+        &self.banker
+    }
+
+    /// Whether every process has ended or faulted.
+    pub fn finished(&self) -> bool
+        ensures { IsTrue result ↔ IsFinished source_over (source_view self.now) }
+    {
+        for process in &self.processes {
+            if !process.is_over() {
+                return false;
+            }
+        }
+        true
+    }
+
+    /// The line of the first item of an arm: running arms have that of their parbegin, and what is to be given
+    /// back that of its hold. None where there is no such process or arm, where its list is empty, or after a
+    /// fault.
+    pub fn head_line(&self, p: usize, arm: usize) -> Option<u32>
+        ensures { result ≡ option_and_then (λ process. line_in process arm)
+            (slice_get (source_view self.now).processes p) }
+    {
+        if p >= self.processes.len() {
+            return None;
+        }
+        self.processes[p].head_line(arm)
+    }
+}
+
+impl<A: Allocator + Clone> Source<A> {
+    ghost use Rattle.pb_rewrite.specs.Sources.{source_view, source_bank, IsSource, Fits};
+
+    /// The program before its first step, its statements copied into `trees`. The error comes only where
+    /// memory is refused.
+    pub fn new(
+        alloc: Global,
+        trees: A,
+        program: &Resolved<A>,
+        claims: &Claims,
+    ) -> Result<Source<A>, NoMemory>
+        requires { Fits (resolved_view program.now) claims.now }
+        ensures opening { IfOk result (λ s. source_view s
+            ≡ opening (record { capital = capital_of (resolved_view program.now); claims = claims.now })
+            (map source_process (resolved_view program.now).processes)) }
+        ensures bank { IfOk result (λ s. source_bank s
+            ≡ record { capital = capital_of (resolved_view program.now); claims = claims.now }) }
+        ensures source { IfOk result IsSource }
+    {
+        let capital = capital_for(alloc, &program.resources)?;
+        let banker = Banker::new(alloc, &capital, claims)?;
+        let processes = processes_for(alloc, &trees, &program.processes)?;
+        Ok(Source { processes, banker })
+    }
+
+    /// Makes a pick. One that is not enabled, or of a process or an arm that is not there, changes nothing;
+    /// neither does one for which memory is refused.
+    pub fn step(&mut self, alloc: A, pick: Pick) -> Result<Step, NoMemory>
+        requires { IsSource self.old }
+        ensures step { IfOk result (λ answer. IsStepOf (source_bank self.old) source_step (source_view self.old)
+            pick answer (source_view self.new)) }
+        ensures same { OnErr result (source_view self.new ≡ source_view self.old) }
+        ensures bank { source_bank self.new ≡ source_bank self.old }
+        ensures source { IsSource self.new }
+    {
+        let _ = self.banker.processes();
+        let p = pick.process as usize;
+        if p >= self.processes.len() {
+            return Ok(Step::NotEnabled);
+        }
+        self.processes[p].step(&mut self.banker, &alloc, pick)
+    }
+}
+
+/// The capital of the resources.
+fn capital_for<A: Allocator>(
+    alloc: Global,
+    resources: &Vec<Resource<A>, A>,
+) -> Result<Capital, NoMemory>
+    requires few { length resources.now.items ≤ 16 }
+    requires small { All (λ n. n ≤ 1000000) (map (λ r. r.capital) (map resource_view resources.now.items)) }
+    ensures { IfOk result (λ capital. capital ≡ map (λ r. r.capital) (map resource_view resources.now.items)) }
+{
+    let mut amounts = Vec::new(alloc);
+    for resource in resources {
+        amounts.push(resource.capital)?;
+    }
+    Capital::new(alloc, &amounts)
+}
+
+/// The processes before their first step.
+fn processes_for<A: Allocator + Clone>(
+    alloc: Global,
+    trees: &A,
+    processes: &Vec<Process<A>, A>,
+) -> Result<Vec<SourceProcess<A>>, NoMemory>
+    ensures { IfOk result (λ made. map process_view made.items
+        ≡ map source_process (map program_process processes.now.items)) }
+{
+    let mut made = Vec::with_capacity(alloc, processes.len())?;
+    for process in processes {
+        let body = copy_list(&process.body, trees)?;
+        made.push(SourceProcess::new(alloc, process.integers.len(), body)?)?;
+    }
+    Ok(made)
+}
