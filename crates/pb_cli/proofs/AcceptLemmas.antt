@@ -52,9 +52,9 @@ pub there : {A : Type 0} (program : Resolved A) (claims : Table) (over : OverCap
 there program claims over are first = (
   (let p = first.process in let h = are.height in let n = length-map program.processes.items process_view in omega (arith, p, h, n)),
   (
-    let r = first.first_resource.resource in
-    let n = length-map program.resources.items resource_view in
-    let m = length-map (resolved_view program).resources (λ (q : PlainResource). q.capital) in
-    omega (arith, r, n, m)
-  ),
+      let r = first.first_resource.resource in
+      let n = length-map program.resources.items resource_view in
+      let m = length-map (resolved_view program).resources (λ (q : PlainResource). q.capital) in
+      omega (arith, r, n, m)
+      ),
 )

@@ -39,8 +39,8 @@ pub no_such_arm : (code : Code) (s : State CodeProcess) (pick : Pick) (process :
     → length process.threads ≤ pick.arm → CodeStays code s pick
 no_such_arm code s pick process there long =
     stays_where_none code s pick (
-      ap (option_and_then (λ p. option_map (moved s pick) (code_step code.processes pick.process p pick.arm))) there
-      ∙ ap (option_map (moved s pick)) (no_step_beyond code.processes pick.process process pick.arm long)
+    ap (option_and_then (λ p. option_map (moved s pick) (code_step code.processes pick.process p pick.arm))) there
+    ∙ ap (option_map (moved s pick)) (no_step_beyond code.processes pick.process process pick.arm long)
     )
 
 -- a process that is not there
@@ -94,11 +94,13 @@ none_of code s now p n process below same there long = (
 -- no process has a pick that is enabled, so all is done
 pub none_at_all : (v : VerifiedCode) (s now : State CodeProcess) (n : ℕ) → IsVerified v → CodeReaches v.code s → NoProcessBelow v.code s n
     → now ≡ s → length s.processes ≤ n → StepsFirst v.code s NotEnabled now
-none_at_all v s now n verified reached below same long =
-    (elim (goes_on v verified s reached) [
-      | inl done ↦ done
-      | inr (pick, move, is, granted) ↦ absurd (stays pick move is granted)
-    ], same)
+none_at_all v s now n verified reached below same long = (
+  elim (goes_on v verified s reached) [
+    | inl done ↦ done
+    | inr (pick, move, is, granted) ↦ absurd (stays pick move is granted)
+  ],
+  same,
+)
   where
     stays : (pick : Pick) → CodeStays v.code s pick
     stays pick = elim (cases_lt pick.process n) [
@@ -117,6 +119,7 @@ first_of_all code s mid after n answer below same enabled steps =
       processes = subst (NoProcessBelow code s) (sym of) below;
       arms = subst (λ (k : ℕ). NoArmBelow code s k pick.arm) (sym of) arms;
     }
+
     go : (answer : Step) → (answer ≡ NotEnabled → ⊥) → StepsFirstOf code s n answer after → StepsFirst code s answer after
     go Silent enabled (pick, of, arms, moves) = (pick, first pick of arms, moves)
     go (Did event) enabled (pick, of, arms, moves) = (pick, first pick of arms, moves)

@@ -77,7 +77,9 @@ fn exec_object<'a>(alloc: Global) -> Result<Command<'a>, AllocError>
 fn migrate_object<'a>(alloc: Global) -> Result<Command<'a>, AllocError>
     ensures { IfOk result (IsCommand migrate_command) }
 {
-    Ok(Command::new(alloc, "migrate").about("Writes the object on standard input in the present format"))
+    Ok(Command::new(alloc, "migrate").about(
+        "Writes the object on standard input in the present format",
+    ))
 }
 
 #[tactic(auto, unfolding(crate::specs::CommandLine::run_command))]

@@ -77,21 +77,26 @@ mod tests {
         let mut input = MemoryInput::new(object);
         let mut output = MemoryOutput::new(alloc, 64)?;
         let options = RunOptions { steps: 7 };
-        assert_eq!(rt; exec_engine(alloc, options, &mut input, &mut output), status);
+        assert_eq!(rt;
+            exec_engine(alloc, options, &mut input, &mut output),
+            status
+        );
         assert_eq!(rt; output.as_slice(), said);
         Ok(())
     }
 
     #[test]
     fn runs_objects(rt: HostRuntime) -> Result<(), Fail> {
-        let endless = b"PBO 1\nresources 0\nprocesses 1\nprocess p\nvars 0\narms 1\nclaims\narm 0\ncode 3\npush 1\nprint\njump 0\n";
+        let endless =
+            b"PBO 1\nresources 0\nprocesses 1\nprocess p\nvars 0\narms 1\nclaims\narm 0\ncode 3\npush 1\nprint\njump 0\n";
         check(
             &rt,
             endless,
             Status::Limit,
             b"p.0 print 1\np.0 print 1\nlimit 7\n",
         )?;
-        let over = b"PBO 1\nresources 1\nresource t 9\nprocesses 1\nprocess p\nvars 0\narms 1\nclaims 1\narm 0\ncode 3\ntake 0 2\ngive 0 2\nend\n";
+        let over =
+            b"PBO 1\nresources 1\nresource t 9\nprocesses 1\nprocess p\nvars 0\narms 1\nclaims 1\narm 0\ncode 3\ntake 0 2\ngive 0 2\nend\n";
         check(&rt, over, Status::Refused, b"refused V7\n")
     }
 }

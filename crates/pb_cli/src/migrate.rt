@@ -78,23 +78,29 @@ mod tests {
 
     #[test]
     fn writes_the_second_format(rt: HostRuntime) -> Result<(), Fail> {
-        let first = b"PBO 1\nresources 0\nprocesses 1\nprocess p\nvars 1\narms 1\nclaims\narm 0\ncode 7\npush 2\npush 3\nadd\nstore 0\nload 0\nprint\nend\n";
-        let second = b"PBO 2\nresources 0\nprocesses 1\nprocess p\nvars 1 v0\narms 1\nclaims\narm 0\ncode 7\n0 push 2\n0 push 3\n0 add\n0 store 0\n0 load 0\n0 print\n0 end\n";
+        let first =
+            b"PBO 1\nresources 0\nprocesses 1\nprocess p\nvars 1\narms 1\nclaims\narm 0\ncode 7\npush 2\npush 3\nadd\nstore 0\nload 0\nprint\nend\n";
+        let second =
+            b"PBO 2\nresources 0\nprocesses 1\nprocess p\nvars 1 v0\narms 1\nclaims\narm 0\ncode 7\n0 push 2\n0 push 3\n0 add\n0 store 0\n0 load 0\n0 print\n0 end\n";
         assert_eq!(&rt; first.len(), 117);
         assert_eq!(&rt; second.len(), 134);
         check(&rt, first, Status::Done, second)?;
         check(&rt, second, Status::Done, second)?;
-        let lined = b"PBO 2\nresources 0\nprocesses 1\nprocess p\nvars 1 x\narms 1\nclaims\narm 0\ncode 3\n7 load 0\n7 print\n0 end\n";
+        let lined =
+            b"PBO 2\nresources 0\nprocesses 1\nprocess p\nvars 1 x\narms 1\nclaims\narm 0\ncode 3\n7 load 0\n7 print\n0 end\n";
         check(&rt, lined, Status::Done, lined)
     }
 
     #[test]
     fn refuses_objects(rt: HostRuntime) -> Result<(), Fail> {
-        let jumps_out = b"PBO 1\nresources 0\nprocesses 1\nprocess p\nvars 0\narms 1\nclaims\narm 0\ncode 2\njump 2\nend\n";
+        let jumps_out =
+            b"PBO 1\nresources 0\nprocesses 1\nprocess p\nvars 0\narms 1\nclaims\narm 0\ncode 2\njump 2\nend\n";
         check(&rt, jumps_out, Status::Refused, b"refused V1\n")?;
-        let not_ended = b"PBO 1\nresources 0\nprocesses 1\nprocess p\nvars 1\narms 1\nclaims\narm 0\ncode 7\npush 2\npush 3\nadd\nstore 0\nload 0\nprint\nend";
+        let not_ended =
+            b"PBO 1\nresources 0\nprocesses 1\nprocess p\nvars 1\narms 1\nclaims\narm 0\ncode 7\npush 2\npush 3\nadd\nstore 0\nload 0\nprint\nend";
         check(&rt, not_ended, Status::Refused, b"refused O1 at 113\n")?;
-        let too_many = b"PBO 1\nresources 0\nprocesses 1\nprocess p\nvars 65\narms 1\nclaims\narm 0\ncode 1\nend\n";
+        let too_many =
+            b"PBO 1\nresources 0\nprocesses 1\nprocess p\nvars 65\narms 1\nclaims\narm 0\ncode 1\nend\n";
         check(&rt, too_many, Status::Refused, b"refused O2 at 40\n")?;
         check(&rt, b"", Status::Refused, b"refused O1 at 0\n")
     }

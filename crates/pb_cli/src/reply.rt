@@ -19,11 +19,7 @@ pub struct Reply {
 }
 
 /// Writes a reply, or that there is no memory for it.
-pub fn tell<O: Output>(
-    alloc: Global,
-    reply: Result<Reply, NoMemory>,
-    output: &mut O,
-) -> Status
+pub fn tell<O: Output>(alloc: Global, reply: Result<Reply, NoMemory>, output: &mut O) -> Status
     ensures said { IfOk reply (λ r. Says (O.written output.old) (O.written output.new) r.text.items r.status result) }
     ensures memory { OnErr reply (Says (O.written output.old) (O.written output.new) memory_line Status.Memory result) }
     ensures fault { result ≡ Status.Device → O.failures output.new ≡ one_more_failure (O.failures output.old) }
