@@ -8,7 +8,6 @@ pub mod Naming
 pub mod Numbered
 pub mod Pairs
 pub mod Ready
-pub mod Straights
 pub mod Told
 pub mod Views
 pub mod Whole

@@ -10,5 +10,4 @@ pub mod Ready
 pub mod Resolves
 pub mod Search
 pub mod Source
-pub mod Straight
 pub mod View

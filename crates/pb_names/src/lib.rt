@@ -9,13 +9,11 @@ mod limits;
 mod lookups;
 pub mod numbering;
 pub mod resolved;
-pub mod straight;
 
 pub use complete::is_complete;
 pub use fault::{Kind, NameFault};
 pub use numbering::resolve;
 pub use resolved::{Expr, Process, Resolved, Resource, Stmt};
-pub use straight::is_straight;
 
 #[cfg(test)]
 mod tests;

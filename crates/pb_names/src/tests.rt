@@ -2,7 +2,6 @@ use crate::complete::is_complete;
 use crate::fault::{Kind, NameFault};
 use crate::numbering::resolve;
 use crate::resolved::{Expr, Resolved, Stmt};
-use crate::straight::is_straight;
 use pb_base::{BinaryOp, NoMemory};
 use pb_tree::{Demand, Name, Number, Process, Program, Resource};
 use std::alloc::Global;
@@ -185,7 +184,6 @@ fn numbers_names_in_order_of_declaration(rt: HostRuntime) -> Result<(), Fail> {
     let alloc = rt.alloc();
     let list = one(alloc, add_to(alloc, b"yy", b"x", [31, 37, 42])?)?;
     let resolved = answer(&rt, &program(alloc, x_and_yy(alloc)?, list)?)?;
-    assert!(rt; is_straight(&resolved));
     assert_eq!(rt; resolved.resources.len(), 0);
     assert_eq!(rt; resolved.processes.len(), 1);
     let process = &resolved.processes[0];
@@ -216,7 +214,6 @@ fn numbers_resources_of_holds(rt: HostRuntime) -> Result<(), Fail> {
     demands.push(pair(alloc, 2, b"u", [50, 55])?)?;
     demands.push(pair(alloc, 1, b"t", [58, 63])?)?;
     let resolved = answer(&rt, &holding(alloc, demands)?)?;
-    assert!(rt; !is_straight(&resolved));
     assert_eq!(rt; resolved.resources.len(), 2);
     assert_eq!(rt; resolved.resources[1].capital, 4);
     let Stmt::Hold {
