@@ -59,7 +59,8 @@ height_at (q ∷ ps) zero p at =
 height_at (q ∷ ps) (suc k) p at = let rest = height_at ps k p at in omega (arith, rest)
 
 -- the limits of a tree are those of each process
-limits_at : (tree : ProgramSyntax) (k : ℕ) (p : ProcessSyntax) → KeepsLimits tree → slice_get tree.processes k ≡ Some p
+limits_at : (tree : ProgramSyntax) (k : ℕ) (p : ProcessSyntax) → KeepsLimits tree
+    → slice_get tree.processes k ≡ Some p
     → (stmts_nodes p.body ≤ 16384) × (stmts_height p.body ≤ 200)
 limits_at tree k p limits at =
     let n = nodes_at tree.processes k p at in
@@ -78,7 +79,8 @@ module _ (tree : ProgramSyntax) (program : Program) (limits : KeepsLimits tree) 
   abbrev resources : List Name
   resources = resource_names program
 
-  tree_of : (p : ℕ) (process : Process) → slice_get program.processes p ≡ Some process → HasTree resources process
+  tree_of : (p : ℕ) (process : Process) → slice_get program.processes p ≡ Some process
+      → HasTree resources process
   tree_of p process at =
       let w = partner (ResolvesProcess resources) tree.processes program.processes p process h.processes at in
       let u = limits_at tree p w.0 limits w.1 in
@@ -92,7 +94,8 @@ module _ (tree : ProgramSyntax) (program : Program) (limits : KeepsLimits tree) 
     each = all_from IsGeneratableProcess program.processes (λ k process at. small k process at);
   }
     where
-      small : (p : ℕ) (process : Process) → slice_get program.processes p ≡ Some process → IsGeneratableProcess process
+      small : (p : ℕ) (process : Process) → slice_get program.processes p ≡ Some process
+          → IsGeneratableProcess process
       small p process at =
           let t = tree_of p process at in
           let len = code_length resources process t.written.body t.resolves.body in

@@ -1,5 +1,6 @@
 -- The claims of a resolved program are its claims on all resources: it holds none that isn't there.
-use Rattle.std.proofs.Common.{◌≡◌, ◌≢◌, ◌⊎◌, inl, inr, ℕ, ◌<◌, ◌≤◌, List, length, Some, sym, ◌∙◌, subst, arith}
+use Rattle.std.proofs.Common.{◌≡◌, ◌≢◌, ◌⊎◌, inl, inr, ℕ, ◌<◌, ◌≤◌, List, length, Some, sym, ◌∙◌, subst}
+use Rattle.std.proofs.Common.{arith}
 use Rattle.std.specs.Prelude.{slice_get}
 use Rattle.std.proofs.lemmas.Bool.{cases_lt}
 use Rattle.std.proofs.lemmas.List.{get_or_past, length-map}
@@ -14,7 +15,8 @@ use Rattle.pb_tree.specs.Syntax as tree
 use Rattle.pb_names.specs.Claims.{IsClaim, stmt_peak, peak, arms_peak}
 use Rattle.pb_names.specs.Meaning.{AreClaims}
 use Rattle.pb_names.specs.Program.{Name, Stmt, Block, Arms, Process, Resource, Program}
-use Rattle.pb_names.specs.Resolves.{ResolvesDemands, ResolvesStmt, assign, print, if_else, while_do, hold, parbegin}
+use Rattle.pb_names.specs.Resolves.{ResolvesDemands, ResolvesStmt, assign, print, if_else, while_do, hold}
+use Rattle.pb_names.specs.Resolves.{parbegin}
 use Rattle.pb_names.specs.Resolves.{ResolvesStmts, no_stmt, stmt_then, ResolvesArms, no_arm, arm_then}
 use Rattle.pb_names.specs.Resolves.{ResolvesProcess, Resolves, resource_names}
 use Rattle.pb_claims.proofs.OnePass.{is_claim}
@@ -22,7 +24,8 @@ use Rattle.pb_codegen.proofs.Bundles.{resources_there}
 use Rattle.pb_codegen.proofs.Zips.{partner}
 
 module _ (integers resources : List Name) (r : ℕ) (past : length resources ≤ r) where
-  none_of_demands : (demands : List tree.DemandSyntax) (bundle : Bundle) → ResolvesDemands resources demands bundle
+  none_of_demands : (demands : List tree.DemandSyntax) (bundle : Bundle)
+      → ResolvesDemands resources demands bundle
       → amount_in bundle r ≡ 0
   none_of_demands demands bundle h =
       amount_in-absent bundle r
@@ -69,11 +72,13 @@ all_claims tree program claims h are p r process at = go (cases_lt r (length pro
     go (inl u) = are.each p r process at u
     go (inr u) =
         let resources = resource_names program in
-        let w = partner (ResolvesProcess resources) tree.processes program.processes p process h.processes at in
+        let w =
+        partner (ResolvesProcess resources) tree.processes program.processes p process h.processes at in
         let n = length-map program.resources (λ (resource : Resource). resource.name) in
         let there = slice_get_within program.processes p process at in
         let height = are.height in
         let wide = are.width p (omega (arith, there, height)) in
         let zero : cell claims p r ≡ 0 = get_or_past (row_of claims p) r 0 (omega (arith, wide, u)) in
-        let none = none_held process.integers resources r (omega (arith, n, u)) w.0.body process.body w.2.body in
+        let none =
+        none_held process.integers resources r (omega (arith, n, u)) w.0.body process.body w.2.body in
         subst (IsClaim process r) (none ∙ sym zero) (is_claim process r)

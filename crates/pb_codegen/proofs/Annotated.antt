@@ -1,11 +1,15 @@
 -- Generated code can be annotated.
-use Rattle.std.proofs.Common.{◌≡◌, ⊎_elim, ℕ, zero, suc, ◌+◌, ◌<◌, ◌≤◌, List, [], ◌∷◌, ◌++◌, length, get_or, Some, refl, sym, ap, ◌∙◌, subst, arith, append_assoc, length-append}
+use Rattle.std.proofs.Common.{◌≡◌, ⊎_elim, ℕ, zero, suc, ◌+◌, ◌<◌, ◌≤◌, List, [], ◌∷◌, ◌++◌, length, get_or}
+use Rattle.std.proofs.Common.{Some, refl, sym, ap, ◌∙◌, subst, arith, append_assoc, length-append}
 use Rattle.std.specs.Prelude.{slice_get}
 use Rattle.std.proofs.lemmas.Bool.{cases_lt}
 use Rattle.pb_base.specs.Steppers.{Bundle}
-use Rattle.pb_names.specs.Program.{Expr, Number, Variable, Unary, Binary, Stmt, Set, Write, If, While, HoldDo, Parbegin, Block, Skip, Then, count, Process, arms_of}
-use Rattle.pb_code.specs.Code.{Instr, Push, Load, Store, Compute1, Compute2, Jump, JumpIfZero, PrintTop, Take, Give, Fork, Join, End}
-use Rattle.pb_codegen.specs.Generate.{expr_code, stmt_code, block_code, arm_code, arms_code, arms_entries, process_code}
+use Rattle.pb_names.specs.Program.{Expr, Number, Variable, Unary, Binary, Stmt, Set, Write, If, While, HoldDo}
+use Rattle.pb_names.specs.Program.{Parbegin, Block, Skip, Then, count, Process, arms_of}
+use Rattle.pb_code.specs.Code.{Instr, Push, Load, Store, Compute1, Compute2, Jump, JumpIfZero, PrintTop, Take}
+use Rattle.pb_code.specs.Code.{Give, Fork, Join, End}
+use Rattle.pb_codegen.specs.Generate.{expr_code, stmt_code, block_code, arm_code, arms_code, arms_entries}
+use Rattle.pb_codegen.specs.Generate.{process_code}
 use Rattle.pb_codegen.proofs.Placing.{get_back}
 use Rattle.pb_code.specs.Annotation.{Shape, Notes, Leads, Fits, IsAnnotated, CanBeAnnotated}
 
@@ -16,15 +20,19 @@ abbrev pub expr_shapes : ℕ → List Bundle → Expr → List Shape
 expr_shapes d hs (Number v) = shape d hs ∷ []
 expr_shapes d hs (Variable x) = shape d hs ∷ []
 expr_shapes d hs (Unary op a) = expr_shapes d hs a ++ (shape (suc d) hs ∷ [])
-expr_shapes d hs (Binary op a b) = expr_shapes d hs a ++ (expr_shapes (suc d) hs b ++ (shape (suc (suc d)) hs ∷ []))
+expr_shapes d hs (Binary op a b) =
+    expr_shapes d hs a ++ (expr_shapes (suc d) hs b ++ (shape (suc (suc d)) hs ∷ []))
 
 abbrev mutual
   pub stmt_shapes : List Bundle → Stmt → List Shape
   stmt_shapes hs (Set line x e) = expr_shapes 0 hs e ++ (shape 1 hs ∷ [])
   stmt_shapes hs (Write line e) = expr_shapes 0 hs e ++ (shape 1 hs ∷ [])
-  stmt_shapes hs (If line e a b) = expr_shapes 0 hs e ++ (shape 1 hs ∷ (block_shapes hs a ++ (shape 0 hs ∷ block_shapes hs b)))
-  stmt_shapes hs (While line e body) = expr_shapes 0 hs e ++ (shape 1 hs ∷ (block_shapes hs body ++ (shape 0 hs ∷ [])))
-  stmt_shapes hs (HoldDo line bundle body) = shape 0 hs ∷ (block_shapes (bundle ∷ hs) body ++ (shape 0 (bundle ∷ hs) ∷ []))
+  stmt_shapes hs (If line e a b) =
+      expr_shapes 0 hs e ++ (shape 1 hs ∷ (block_shapes hs a ++ (shape 0 hs ∷ block_shapes hs b)))
+  stmt_shapes hs (While line e body) =
+      expr_shapes 0 hs e ++ (shape 1 hs ∷ (block_shapes hs body ++ (shape 0 hs ∷ [])))
+  stmt_shapes hs (HoldDo line bundle body) =
+      shape 0 hs ∷ (block_shapes (bundle ∷ hs) body ++ (shape 0 (bundle ∷ hs) ∷ []))
   stmt_shapes hs (Parbegin line first arms) = shape 0 hs ∷ shape 0 hs ∷ []
 
   pub block_shapes : List Bundle → Block → List Shape
@@ -50,7 +58,8 @@ in_back xs p (i ∷ a) b h =
     let e : p + 1 + length a ≡ p + length (i ∷ a) = omega arith in
     subst (λ n. In xs n b) e (in_back xs (p + 1) a b h.1)
 
-length-expr_shapes : (d : ℕ) (hs : List Bundle) (e : Expr) → length (expr_shapes d hs e) ≡ length (expr_code e)
+length-expr_shapes : (d : ℕ) (hs : List Bundle) (e : Expr)
+    → length (expr_shapes d hs e) ≡ length (expr_code e)
 length-expr_shapes d hs (Number v) = refl
 length-expr_shapes d hs (Variable x) = refl
 length-expr_shapes d hs (Unary op a) = let x = length-expr_shapes d hs a in omega (arith, x, length-append (expr_shapes d hs a) (shape (suc d) hs ∷ []), length-append (expr_code a) (Compute1 op ∷ []))
@@ -68,7 +77,8 @@ length-expr_shapes d hs (Binary op a b) =
     )
 
 mutual
-  length-stmt_shapes : (p : ℕ) (hs : List Bundle) (s : Stmt) → length (stmt_shapes hs s) ≡ length (stmt_code p s)
+  length-stmt_shapes : (p : ℕ) (hs : List Bundle) (s : Stmt)
+      → length (stmt_shapes hs s) ≡ length (stmt_code p s)
   length-stmt_shapes p hs (Set line x e) = omega (arith, length-expr_shapes 0 hs e, length-append (expr_shapes 0 hs e) (shape 1 hs ∷ []), length-append (expr_code e) (Store x ∷ []))
   length-stmt_shapes p hs (Write line e) = omega (arith, length-expr_shapes 0 hs e, length-append (expr_shapes 0 hs e) (shape 1 hs ∷ []), length-append (expr_code e) (PrintTop ∷ []))
   length-stmt_shapes p hs (If line e a b) =
@@ -105,7 +115,8 @@ mutual
       omega (arith, hb, length-append (block_shapes (bundle ∷ hs) body) (shape 0 (bundle ∷ hs) ∷ []), length-append (block_code (p + 1) body) (Give bundle ∷ []))
   length-stmt_shapes p hs (Parbegin line first arms) = refl
 
-  pub length-block_shapes : (p : ℕ) (hs : List Bundle) (block : Block) → length (block_shapes hs block) ≡ length (block_code p block)
+  pub length-block_shapes : (p : ℕ) (hs : List Bundle) (block : Block)
+      → length (block_shapes hs block) ≡ length (block_code p block)
   length-block_shapes p hs Skip = refl
   length-block_shapes p hs (Then s block) =
       let mid = p + length (stmt_code p s) in
@@ -120,7 +131,9 @@ module _ (is : List Instr) (shapes : List Shape) where
   notes p = slice_get shapes p
 
   abbrev FitsAt : ℕ → Type 0
-  FitsAt p = (i : Instr) × (d : ℕ) × (hs : List Bundle) × (slice_get is p ≡ Some i) × Leads notes p d hs × Fits notes i p d hs
+  FitsAt p =
+      (i : Instr) × (d : ℕ) × (hs : List Bundle) × (slice_get is p ≡ Some i) × Leads notes p d hs
+      × Fits notes i p d hs
 
   abbrev AllFit : ℕ → ℕ → Type 0
   AllFit from to = (p : ℕ) → from ≤ p → p < to → FitsAt p
@@ -141,15 +154,19 @@ module _ (is : List Instr) (shapes : List Shape) where
   expr_first p d hs (Binary op a b) h = expr_first p d hs a (in_front shapes p (expr_shapes d hs a) _ h)
 
   -- the shapes after an expression's, at the place after its code
-  past_expr : (p d : ℕ) (hs : List Bundle) (e : Expr) (tail : List Shape) → In shapes p (expr_shapes d hs e ++ tail) → In shapes (p + length (expr_code e)) tail
+  past_expr : (p d : ℕ) (hs : List Bundle) (e : Expr) (tail : List Shape)
+      → In shapes p (expr_shapes d hs e ++ tail) → In shapes (p + length (expr_code e)) tail
   past_expr p d hs e tail h = subst (λ k. In shapes (p + k) tail) (length-expr_shapes d hs e) (in_back shapes p (expr_shapes d hs e) tail h)
 
-  expr_fit : (p d : ℕ) (hs : List Bundle) (e : Expr) → In is p (expr_code e) → In shapes p (expr_shapes d hs e) → Leads notes (p + length (expr_code e)) (suc d) hs → AllFit p (p + length (expr_code e))
+  expr_fit : (p d : ℕ) (hs : List Bundle) (e : Expr) → In is p (expr_code e)
+      → In shapes p (expr_shapes d hs e) → Leads notes (p + length (expr_code e)) (suc d) hs
+      → AllFit p (p + length (expr_code e))
   expr_fit p d hs (Number v) h s next = fit_one p (Push v, d, hs, h.0, s.0, next)
   expr_fit p d hs (Variable x) h s next = fit_one p (Load x, d, hs, h.0, s.0, next)
   expr_fit p d hs (Unary op a) h s next =
       let q = p + length (expr_code a) in
-      let len : q + 1 ≡ p + length (expr_code (Unary op a)) = omega (arith, length-append (expr_code a) (Compute1 op ∷ [])) in
+      let len : q + 1 ≡ p + length (expr_code (Unary op a)) =
+      omega (arith, length-append (expr_code a) (Compute1 op ∷ [])) in
       let at = (in_back is p (expr_code a) (Compute1 op ∷ []) h).0 in
       let sh = (past_expr p d hs a (shape (suc d) hs ∷ []) s).0 in
       fit_to p (q + 1) _ len (fit_join p q (q + 1)
@@ -177,19 +194,26 @@ module _ (is : List Instr) (shapes : List Shape) where
   stmt_first p hs (HoldDo line bundle body) h = h.0
   stmt_first p hs (Parbegin line first arms) h = h.0
 
-  block_first : (p after : ℕ) (hs : List Bundle) (block : Block) → In shapes p (block_shapes hs block) → p + length (block_code p block) ≡ after → Leads notes after 0 hs → Leads notes p 0 hs
-  block_first p after hs Skip h e next = let same : p ≡ after = omega arith in subst (λ k. Leads notes k 0 hs) (sym same) next
-  block_first p after hs (Then s block) h e next = stmt_first p hs s (in_front shapes p (stmt_shapes hs s) _ h)
+  block_first : (p after : ℕ) (hs : List Bundle) (block : Block) → In shapes p (block_shapes hs block)
+      → p + length (block_code p block) ≡ after → Leads notes after 0 hs → Leads notes p 0 hs
+  block_first p after hs Skip h e next =
+      let same : p ≡ after = omega arith in subst (λ k. Leads notes k 0 hs) (sym same) next
+  block_first p after hs (Then s block) h e next =
+      stmt_first p hs s (in_front shapes p (stmt_shapes hs s) _ h)
 
   -- the shapes after a block's, at the place after its code
-  past_block : (p : ℕ) (hs : List Bundle) (block : Block) (tail : List Shape) → In shapes p (block_shapes hs block ++ tail) → In shapes (p + length (block_code p block)) tail
+  past_block : (p : ℕ) (hs : List Bundle) (block : Block) (tail : List Shape)
+      → In shapes p (block_shapes hs block ++ tail) → In shapes (p + length (block_code p block)) tail
   past_block p hs block tail h = subst (λ k. In shapes (p + k) tail) (length-block_shapes p hs block) (in_back shapes p (block_shapes hs block) tail h)
 
   mutual
-    stmt_fit : (p : ℕ) (hs : List Bundle) (s : Stmt) → In is p (stmt_code p s) → In shapes p (stmt_shapes hs s) → Leads notes (p + length (stmt_code p s)) 0 hs → AllFit p (p + length (stmt_code p s))
+    stmt_fit : (p : ℕ) (hs : List Bundle) (s : Stmt) → In is p (stmt_code p s)
+        → In shapes p (stmt_shapes hs s) → Leads notes (p + length (stmt_code p s)) 0 hs
+        → AllFit p (p + length (stmt_code p s))
     stmt_fit p hs (Set line x e) h s next =
         let q = p + length (expr_code e) in
-        let len : q + 1 ≡ p + length (stmt_code p (Set line x e)) = omega (arith, length-append (expr_code e) (Store x ∷ [])) in
+        let len : q + 1 ≡ p + length (stmt_code p (Set line x e)) =
+        omega (arith, length-append (expr_code e) (Store x ∷ [])) in
         let at = (in_back is p (expr_code e) (Store x ∷ []) h).0 in
         let sh = (past_expr p 0 hs e (shape 1 hs ∷ []) s).0 in
         fit_to p (q + 1) _ len (fit_join p q (q + 1)
@@ -197,7 +221,8 @@ module _ (is : List Instr) (shapes : List Shape) where
         (fit_one q (Store x, 1, hs, at, sh, subst (λ k. Leads notes k 0 hs) (sym len) next)))
     stmt_fit p hs (Write line e) h s next =
         let q = p + length (expr_code e) in
-        let len : q + 1 ≡ p + length (stmt_code p (Write line e)) = omega (arith, length-append (expr_code e) (PrintTop ∷ [])) in
+        let len : q + 1 ≡ p + length (stmt_code p (Write line e)) =
+        omega (arith, length-append (expr_code e) (PrintTop ∷ [])) in
         let at = (in_back is p (expr_code e) (PrintTop ∷ []) h).0 in
         let sh = (past_expr p 0 hs e (shape 1 hs ∷ []) s).0 in
         fit_to p (q + 1) _ len (fit_join p q (q + 1)
@@ -248,7 +273,8 @@ module _ (is : List Instr) (shapes : List Shape) where
     stmt_fit p hs (HoldDo line bundle body) h s next =
         let start = p + 1 in
         let j = start + length (block_code start body) in
-        let len : j + 1 ≡ p + length (stmt_code p (HoldDo line bundle body)) = omega (arith, length-append (block_code start body) (Give bundle ∷ [])) in
+        let len : j + 1 ≡ p + length (stmt_code p (HoldDo line bundle body)) =
+        omega (arith, length-append (block_code start body) (Give bundle ∷ [])) in
         let hj = in_back is start (block_code start body) (Give bundle ∷ []) h.1 in
         let sj = past_block start (bundle ∷ hs) body (shape 0 (bundle ∷ hs) ∷ []) s.1 in
         let sb = in_front shapes start (block_shapes (bundle ∷ hs) body) (shape 0 (bundle ∷ hs) ∷ []) s.1 in
@@ -262,19 +288,26 @@ module _ (is : List Instr) (shapes : List Shape) where
         (fit_one p (Fork first (count arms), 0, hs, h.0, s.0, s.1.0))
         (fit_one (p + 1) (Join first (count arms), 0, hs, h.1.0, s.1.0, subst (λ k. Leads notes k 0 hs) (sym len) next)))
 
-    block_fit : (p : ℕ) (hs : List Bundle) (block : Block) → In is p (block_code p block) → In shapes p (block_shapes hs block) → Leads notes (p + length (block_code p block)) 0 hs → AllFit p (p + length (block_code p block))
+    block_fit : (p : ℕ) (hs : List Bundle) (block : Block) → In is p (block_code p block)
+        → In shapes p (block_shapes hs block) → Leads notes (p + length (block_code p block)) 0 hs
+        → AllFit p (p + length (block_code p block))
     block_fit p hs Skip h s next = λ q l u. elim (let w : ⊥ = omega arith in w) [ ]
     block_fit p hs (Then stmt block) h s next =
         let mid = p + length (stmt_code p stmt) in
-        let len : mid + length (block_code mid block) ≡ p + length (block_code p (Then stmt block)) = omega (arith, length-append (stmt_code p stmt) (block_code mid block)) in
-        let next' : Leads notes (mid + length (block_code mid block)) 0 hs = subst (λ k. Leads notes k 0 hs) (sym len) next in
+        let len : mid + length (block_code mid block) ≡ p + length (block_code p (Then stmt block)) =
+        omega (arith, length-append (stmt_code p stmt) (block_code mid block)) in
+        let next' : Leads notes (mid + length (block_code mid block)) 0 hs =
+        subst (λ k. Leads notes k 0 hs) (sym len) next in
         let sb : In shapes mid (block_shapes hs block) = subst (λ k. In shapes (p + k) (block_shapes hs block)) (length-stmt_shapes p hs stmt) (in_back shapes p (stmt_shapes hs stmt) (block_shapes hs block) s) in
         fit_to p (mid + length (block_code mid block)) _ len (fit_join p mid (mid + length (block_code mid block))
         (stmt_fit p hs stmt (in_front is p (stmt_code p stmt) _ h) (in_front shapes p (stmt_shapes hs stmt) _ s) (block_first mid _ hs block sb refl next'))
         (block_fit mid hs block (in_back is p (stmt_code p stmt) (block_code mid block) h) sb next'))
 
-  arms_fit : (p : ℕ) (arms : List Block) → In is p (arms_code p arms) → In shapes p (arms_shapes arms) → AllFit p (p + length (arms_code p arms)) × ((a : ℕ) → a < length (arms_entries p arms) → Leads notes (get_or (arms_entries p arms) a 0) 0 [])
-  arms_fit p [] h s = (λ q l u. elim (let w : ⊥ = omega arith in w) [ ], λ a u. elim (let w : ⊥ = omega arith in w) [ ])
+  arms_fit : (p : ℕ) (arms : List Block) → In is p (arms_code p arms) → In shapes p (arms_shapes arms)
+      → AllFit p (p + length (arms_code p arms)) ×
+      ((a : ℕ) → a < length (arms_entries p arms) → Leads notes (get_or (arms_entries p arms) a 0) 0 [])
+  arms_fit p [] h s =
+      (λ q l u. elim (let w : ⊥ = omega arith in w) [ ], λ a u. elim (let w : ⊥ = omega arith in w) [ ])
   arms_fit p (arm ∷ arms) h s =
       let q = p + length (block_code p arm) in
       let next = p + length (arm_code p arm) in

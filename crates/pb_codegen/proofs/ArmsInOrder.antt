@@ -1,5 +1,6 @@
 -- The arms of a process as they are written one after another.
-use Rattle.std.proofs.Common.{◌≡◌, ℕ, zero, suc, ◌+◌, ◌<◌, ◌≤◌, List, [], ◌∷◌, ◌++◌, length, map, take, get_or, None, arith, ap, sym, refl, ◌∙◌, append_assoc, length-append, All}
+use Rattle.std.proofs.Common.{◌≡◌, ℕ, zero, suc, ◌+◌, ◌<◌, ◌≤◌, List, [], ◌∷◌, ◌++◌, length, map, take}
+use Rattle.std.proofs.Common.{get_or, None, arith, ap, sym, refl, ◌∙◌, append_assoc, length-append, All}
 use Rattle.std.proofs.lemmas.List.{append-nil, map_more}
 use Rattle.std.proofs.lemmas.List.Elements.{All-nil, All-cons, All-append, All-weaker}
 use Rattle.pb_code.specs.Code.{End}
@@ -8,11 +9,14 @@ use Rattle.pb_codegen.specs.Generate.{block_code, arm_code, arms_code, arms_entr
 use Rattle.pb_codegen.specs.Lines.{block_lines, arms_lines}
 use Rattle.pb_codegen.specs.declared.writer.Writer.{Writer}
 use Rattle.pb_codegen.proofs.Emitting.{length-seen}
-use Rattle.pb_names.specs.Program.{Stmt, Set, Write, If, While, HoldDo, Parbegin, Block, Skip, Then, Arms, NoArm, AndArm, Process, arms_list, arms_in, arms_in_stmt, arms_in_arms, arms_of}
+use Rattle.pb_names.specs.Program.{Stmt, Set, Write, If, While, HoldDo, Parbegin, Block, Skip, Then, Arms}
+use Rattle.pb_names.specs.Program.{NoArm, AndArm, Process, arms_list, arms_in, arms_in_stmt, arms_in_arms}
+use Rattle.pb_names.specs.Program.{arms_of}
 
 -- ---- the code of one arm
 
-pub room_in_arm : {w : Writer} (arm : Block) → HasRoom w (arm_code (place w) arm) → HasRoom w (block_code (place w) arm)
+pub room_in_arm : {w : Writer} (arm : Block) → HasRoom w (arm_code (place w) arm)
+    → HasRoom w (block_code (place w) arm)
 room_in_arm {w} arm room =
     let small = room.small in
     record { sound = room.sound; small = omega (arith, small, length-append (block_code (place w) arm) (End ∷ [])) }
@@ -48,7 +52,8 @@ lines_more (a ∷ front) arm =
     ap (λ ls. (block_lines a None ++ None ∷ []) ++ ls) (lines_more front arm)
     ∙ sym (append_assoc (block_lines a None ++ None ∷ []) (arms_lines front) (block_lines arm None ++ None ∷ []))
 
-front_within : (p : ℕ) (arms : List Block) (i : ℕ) → length (arms_code p (take i arms)) ≤ length (arms_code p arms)
+front_within : (p : ℕ) (arms : List Block) (i : ℕ)
+    → length (arms_code p (take i arms)) ≤ length (arms_code p arms)
 front_within p [] zero = omega arith
 front_within p [] (suc i) = omega arith
 front_within p (a ∷ arms) zero = omega arith
@@ -78,7 +83,8 @@ arms_more : {X : Type 0} (f : X → Block) (xs : List X) (i : ℕ) (x : X) → x
     → map f (take (i + 1) xs) ≡ map f (take i xs) ++ f x ∷ []
 arms_more f xs i x here l = map_more f xs i x l ∙ ap (λ y. map f (take i xs) ++ f y ∷ []) (sym here)
 
-pub wrote_arm : {X : Type 0} {w u : Writer} (f : X → Block) (xs : List X) (i : ℕ) (x : X) (entries entries' : List ℕ) (at : ℕ)
+pub wrote_arm : {X : Type 0} {w u : Writer} (f : X → Block) (xs : List X) (i : ℕ) (x : X)
+    (entries entries' : List ℕ) (at : ℕ)
     → x ≡ get_or xs i x → i < length xs → HasWritten w entries (map f (take i xs))
     → at ≡ place w → entries' ≡ entries ++ at ∷ []
     → Adds w u (arm_code (place w) (f x)) (block_lines (f x) None ++ None ∷ [])
@@ -100,7 +106,8 @@ wrote_arm {X} {w} {u} f xs i x entries entries' at here l h is_at pushed k =
       sound = k.sound;
     }
 
-pub room_for_arm : {X : Type 0} {w : Writer} (f : X → Block) (all xs : List X) (i : ℕ) (x : X) (entries : List ℕ)
+pub room_for_arm : {X : Type 0} {w : Writer} (f : X → Block) (all xs : List X) (i : ℕ) (x : X)
+    (entries : List ℕ)
     → xs ≡ all → x ≡ get_or xs i x → i < length xs → length (arms_code 0 (map f all)) ≤ 40000
     → HasWritten w entries (map f (take i xs)) → HasRoom w (arm_code (place w) (f x))
 room_for_arm {X} {w} f all xs i x entries same here l small h =
@@ -190,7 +197,8 @@ mutual
       (more_room (length (arms_in_arms arms)) n (omega (arith, all)) (arms_list arms) (few_in_own arms))
 
 -- so each arm of a process that can be generated has few
-pub few_arms_in_each : (process : Process) → length (arms_of process) ≤ 64 → All (λ arm. length (arms_in arm) ≤ 64) (arms_of process)
+pub few_arms_in_each : (process : Process) → length (arms_of process) ≤ 64
+    → All (λ arm. length (arms_in arm) ≤ 64) (arms_of process)
 few_arms_in_each process few =
     let inside = arms_in process.body in
     All-cons (HasFew 64) process.body inside (omega (arith, few))

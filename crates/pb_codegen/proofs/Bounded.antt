@@ -2,7 +2,8 @@
 use Rattle.std.proofs.Common.{◌≡◌, ℕ, zero, suc, ◌+◌, ◌≤◌, List, [], ◌∷◌, ◌++◌, length, Some, subst, arith}
 use Rattle.std.specs.Prelude.{slice_get}
 use Rattle.pb_base.specs.Steppers.{Bundle}
-use Rattle.pb_names.specs.Program.{Expr, Number, Variable, Unary, Binary, Stmt, Set, Write, If, While, HoldDo, Parbegin, Block, Skip, Then, count}
+use Rattle.pb_names.specs.Program.{Expr, Number, Variable, Unary, Binary, Stmt, Set, Write, If, While, HoldDo}
+use Rattle.pb_names.specs.Program.{Parbegin, Block, Skip, Then, count}
 use Rattle.pb_names.specs.Claims.{stmt_peak, peak, arms_peak}
 use Rattle.pb_code.specs.Code.{Instr, Store, Compute1, Compute2, Jump, JumpIfZero, PrintTop, Give, End}
 use Rattle.pb_codegen.specs.Generate.{expr_code, stmt_code, block_code, arm_code}

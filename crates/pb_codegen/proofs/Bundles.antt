@@ -1,5 +1,6 @@
 -- A hold of a resolved program has 1 to 16 pairs.
-use Rattle.std.proofs.Common.{◌≡◌, ◌≢◌, ℕ, ◌<◌, ◌≤◌, Bool, true, false, ◌||◌, eqb, eqb-true, List, [], ◌∷◌, length, map, refl, sym, ◌∙◌, arith}
+use Rattle.std.proofs.Common.{◌≡◌, ◌≢◌, ℕ, ◌<◌, ◌≤◌, Bool, true, false, ◌||◌, eqb, eqb-true, List, [], ◌∷◌}
+use Rattle.std.proofs.Common.{length, map, refl, sym, ◌∙◌, arith}
 use Rattle.std.specs.Prelude.{All}
 use Rattle.std.specs.List.{AllZip, AllPairs, list_any}
 use Rattle.std.proofs.lemmas.Bool.Decides.{Decides-eqb}
@@ -44,7 +45,8 @@ distinct_numbers bundle h i j d less within =
     λ same. h i j none less (omega (arith, within, len)) (sym a ∙ (same ∙ b))
 
 -- no resource twice, of n resources
-few_pairs : (n : ℕ) (bundle : Bundle) → IsDistinct bundle → All (λ pair. pair.resource < n) bundle → length bundle ≤ n
+few_pairs : (n : ℕ) (bundle : Bundle) → IsDistinct bundle → All (λ pair. pair.resource < n) bundle
+    → length bundle ≤ n
 few_pairs n bundle distinct below =
     let len = length-map bundle (λ (pair : Pair). pair.resource) in
     let few =
@@ -64,10 +66,12 @@ resources_there resources (demand ∷ demands) (pair ∷ bundle) h =
     (slice_get_within resources pair.resource demand.resource.text h.0.resource)
     (resources_there resources demands bundle h.1)
 
-small_amounts : (resources : List Name) (demands : List DemandSyntax) (bundle : Bundle) → length resources ≤ 16
+small_amounts : (resources : List Name) (demands : List DemandSyntax) (bundle : Bundle)
+    → length resources ≤ 16
     → AllZip (ResolvesDemand resources) demands bundle
     → All (λ pair. (pair.resource < 16) × IsUpTo 1000000 pair.amount) bundle
-small_amounts resources [] [] few h = All-nil (λ (pair : Pair). (pair.resource < 16) × IsUpTo 1000000 pair.amount)
+small_amounts resources [] [] few h =
+    All-nil (λ (pair : Pair). (pair.resource < 16) × IsUpTo 1000000 pair.amount)
 small_amounts resources [] (pair ∷ bundle) few h = elim h [ ]
 small_amounts resources (demand ∷ demands) [] few h = elim h [ ]
 small_amounts resources (demand ∷ demands) (pair ∷ bundle) few h =
@@ -76,7 +80,8 @@ small_amounts resources (demand ∷ demands) (pair ∷ bundle) few h =
     (omega (arith, u, few), (h.0.some, h.0.small)) (small_amounts resources demands bundle few h.1)
 
 -- the pairs of a hold that has some
-pub small_bundle : (resources : List Name) (demands : List DemandSyntax) (bundle : Bundle) → length resources ≤ 16
+pub small_bundle : (resources : List Name) (demands : List DemandSyntax) (bundle : Bundle)
+    → length resources ≤ 16
     → 1 ≤ length demands → ResolvesDemands resources demands bundle
     → IsSmallBundle bundle × All (λ pair. pair.resource < length resources) bundle
 small_bundle resources demands bundle few some h =

@@ -8,13 +8,15 @@ use Rattle.pb_code.specs.Code.{CodeProcess, code_step, is_skipped}
 use Rattle.pb_code.proofs.Chains.{chain_skips, chain_stops}
 use Rattle.pb_codegen.specs.Correct.{generated}
 use Rattle.pb_codegen.proofs.Back.{chain_at}
-use Rattle.pb_codegen.proofs.Runs.{StatesAlike, at_process, ChainAt, PicksAlike, not_enabled, code_alone, together, picks_alike, pick_skipped}
+use Rattle.pb_codegen.proofs.Runs.{StatesAlike, at_process, ChainAt, PicksAlike, not_enabled, code_alone}
+use Rattle.pb_codegen.proofs.Runs.{together, picks_alike, pick_skipped}
 
 -- in some state of the code the pick has the same effect, whether or not the banker allows it
 pub record Catches (program : List Process) (pick : Pick) (move : Move SourceProcess) : Type 0 where
   pub last : State CodeProcess
   pub next : State CodeProcess
-  pub enabled : move_of (code_step (generated program)) last pick ≡ Some (record { next = next; effect = move.effect })
+  pub enabled : move_of (code_step (generated program)) last pick ≡ Some
+      (record { next = next; effect = move.effect })
 
 module _ (program : List Process) (ss : State SourceProcess) (pick : Pick) (move : Move SourceProcess) (enabled : move_of source_step ss pick ≡ Some move) where
   catches_after : (k : ℕ) (cs : State CodeProcess) → StatesAlike program cs ss → ChainAt program cs pick k
@@ -22,7 +24,8 @@ module _ (program : List Process) (ss : State SourceProcess) (pick : Pick) (move
   catches_after zero cs h ch = go (picks_alike program cs ss pick h)
     where
       stops : is_skipped (generated program) cs pick ≡ false
-      stops = pick_skipped program cs ss pick h ch.0 ch.1 false ch.2 ch.3 (chain_stops ch.0 ch.1 pick.arm ch.4)
+      stops =
+          pick_skipped program cs ss pick h ch.0 ch.1 false ch.2 ch.3 (chain_stops ch.0 ch.1 pick.arm ch.4)
 
       go : PicksAlike program cs ss pick → Catches program pick move
       go (not_enabled c s) = let w : None ≡ Some move = sym s ∙ enabled in cc

@@ -1,19 +1,23 @@
 -- The source of a program holds no more than a free run, so no request passes its claim.
-use Rattle.std.proofs.Common.{◌≡◌, ◌≢◌, ⊎_elim, ℕ, zero, suc, ◌+◌, ◌≤◌, Bool, true, false, nat_eq, List, [], ◌∷◌, length, get_or, map, replicate, Option, Some, None, option_map, option_and_then, refl, sym, ap, ◌∙◌, subst, arith, eqb-true}
+use Rattle.std.proofs.Common.{◌≡◌, ◌≢◌, ⊎_elim, ℕ, zero, suc, ◌+◌, ◌≤◌, Bool, true, false, nat_eq, List, []}
+use Rattle.std.proofs.Common.{◌∷◌, length, get_or, map, replicate, Option, Some, None, option_map}
+use Rattle.std.proofs.Common.{option_and_then, refl, sym, ap, ◌∙◌, subst, arith, eqb-true}
 use Rattle.std.specs.Prelude.{slice_get, slice_set}
 use Rattle.std.proofs.lemmas.Bool.{eqb-false}
 use Rattle.pb_base.specs.Banker.{cell}
 use Rattle.pb_base.specs.Bundle.{amount_in}
 use Rattle.pb_base.specs.declared.pick.Pick.{Pick}
 use Rattle.pb_base.specs.declared.event.Event.{Event}
-use Rattle.pb_base.specs.Steppers.{Bank, Bundle, Effect, Takes, Faults, loans_after, State, Move, moved, move_of, Makes, opening}
+use Rattle.pb_base.specs.Steppers.{Bank, Bundle, Effect, Takes, Faults, loans_after, State, Move, moved}
+use Rattle.pb_base.specs.Steppers.{move_of, Makes, opening}
 use Rattle.pb_names.specs.Program.{Process, AllWellNumbered}
 use Rattle.pb_names.specs.Source.{Arm, SourceProcess, step_run, source_step, source_process}
 use Rattle.pb_names.specs.Claims.{IsClaim, FreeRun, at_start, and_then, held, start_of}
 use Rattle.pb_code.specs.Code.{CodeProcess, code_process}
 use Rattle.pb_codegen.specs.Correct.{generated}
 use Rattle.pb_codegen.proofs.Placing.{listing_of}
-use Rattle.pb_codegen.proofs.Shapes.{SameArm, same_arm, same_arm_trans, same_arm_sym, step_same, held_same, taken, given, IsFree}
+use Rattle.pb_codegen.proofs.Shapes.{SameArm, same_arm, same_arm_trans, same_arm_sym, step_same, held_same}
+use Rattle.pb_codegen.proofs.Shapes.{taken, given, IsFree}
 use Rattle.pb_codegen.proofs.Processes.{RunAlike}
 use Rattle.pb_codegen.proofs.Freeing.{RunFrees, run_frees, located}
 use Rattle.pb_codegen.proofs.Loans.{lent_here, lent_there}
@@ -71,7 +75,8 @@ opened ss pick move e = at (slice_get ss.processes pick.process) refl e
     at (Some sp) q m = run sp q sp.run refl m
 
 module _ (program : List Process) (cs : State CodeProcess) (ss : State SourceProcess) (h : StatesAlike program cs ss) (pick : Pick) (move : Move SourceProcess) (o : Opened ss pick move) where
-  opened_frees : AtProcess program cs.processes ss.processes pick.process → RunFrees o.root o.effect o.after.run
+  opened_frees : AtProcess program cs.processes ss.processes pick.process
+      → RunFrees o.root o.effect o.after.run
   opened_frees (absent c s) = let w : None ≡ Some o.before = sym s ∙ o.here in cc
   opened_frees (present process cp sp in_program at c s alike change keep) =
       let same : Some sp ≡ Some o.before = sym s ∙ o.here in
@@ -94,7 +99,8 @@ follow_free process run new arm effect f s is_free =
     ⊎_elim (λ same. (arm, f, same_arm_trans new run arm (same_arm_sym run new same) s))
     (λ step. let r = step_same run new arm step s in (r.0, and_then arm r.0 f r.1, r.2)) is_free.way
 
-slice_set_same : {X : Type 0} (xs : List X) (i : ℕ) (x y : X) → slice_get (slice_set xs i x) i ≡ Some y → x ≡ y
+slice_set_same : {X : Type 0} (xs : List X) (i : ℕ) (x y : X) → slice_get (slice_set xs i x) i ≡ Some y
+    → x ≡ y
 slice_set_same [] i x y h = cc
 slice_set_same (z ∷ xs) zero x y h = let same : Some x ≡ Some y = h in cc
 slice_set_same (z ∷ xs) (suc i) x y h = slice_set_same xs i x y h
@@ -173,7 +179,8 @@ AsksAtMost bank ss =
 source_asks : (bank : Bank) (program : List Process) (cs : State CodeProcess) (ss : State SourceProcess)
     → HasClaims bank program → StatesAlike program cs ss → Lent program ss → Covers program ss → AsksAtMost
     bank ss
-source_asks bank program cs ss claims h lent covers pick move bundle enabled takes = λ r. go (opened ss pick move enabled) r
+source_asks bank program cs ss claims h lent covers pick move bundle enabled takes =
+    λ r. go (opened ss pick move enabled) r
   where
     bound : (o : Opened ss pick move) (r : ℕ) (run : Option Arm) → RunFrees o.root o.effect run
         → o.effect ≡ Takes bundle

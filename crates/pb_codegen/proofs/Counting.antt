@@ -1,5 +1,6 @@
 -- How many forks of a list of instructions name an arm.
-use Rattle.std.proofs.Common.{◌≡◌, ◌⊎◌, inl, inr, ℕ, zero, suc, ◌+◌, ◌<◌, ◌≤◌, List, [], ◌∷◌, ◌++◌, cond, eqb, Some, refl, ap, arith, ne_eqb, eq-eqb}
+use Rattle.std.proofs.Common.{◌≡◌, ◌⊎◌, inl, inr, ℕ, zero, suc, ◌+◌, ◌<◌, ◌≤◌, List, [], ◌∷◌, ◌++◌, cond, eqb}
+use Rattle.std.proofs.Common.{Some, refl, ap, arith, ne_eqb, eq-eqb}
 use Rattle.std.specs.Prelude.{slice_get}
 use Rattle.std.proofs.lemmas.Bool.{cases_lt}
 use Rattle.pb_code.specs.Code.{Instr, Push, Load, Store, Compute1, Compute2, Jump, JumpIfZero, PrintTop, Take}
@@ -68,7 +69,8 @@ one_among b first n h = one_inside b first n h.0 h.1
 pub among_or_none : (b first n : ℕ) → IsAmong first n b ⊎ (among b first n ≡ 0)
 among_or_none b first n = go (cases_lt b first) (cases_lt b (first + n))
   where
-    go : (b < first) ⊎ (first ≤ b) → (b < first + n) ⊎ (first + n ≤ b) → IsAmong first n b ⊎ (among b first n ≡ 0)
+    go : (b < first) ⊎ (first ≤ b) → (b < first + n) ⊎ (first + n ≤ b)
+        → IsAmong first n b ⊎ (among b first n ≡ 0)
     go (inl u) w = inr (none_before b first n u)
     go (inr u) (inl v) = inl (u, v)
     go (inr u) (inr v) = inr (none_past b first n v)
@@ -89,7 +91,8 @@ times_in-append b [] ys = omega arith
 times_in-append b (i ∷ xs) ys = let rest = times_in-append b xs ys in omega (arith, rest)
 
 -- a place that names it
-pub named_once_at_least : (b : ℕ) (is : List Instr) (place first n : ℕ) → slice_get is place ≡ Some (Fork first n)
+pub named_once_at_least : (b : ℕ) (is : List Instr) (place first n : ℕ)
+    → slice_get is place ≡ Some (Fork first n)
     → IsAmong first n b → 1 ≤ times_in b is
 named_once_at_least b [] place first n at h = cc
 named_once_at_least b (i ∷ is) zero first n at h =

@@ -1,5 +1,6 @@
 -- How a writer grows: one part of the code behind another, and jumps that are patched.
-use Rattle.std.proofs.Common.{◌≡◌, ℕ, ◌+◌, ◌<◌, ◌≤◌, List, [], ◌∷◌, ◌++◌, length, map, Option, Some, arith, ap, sym, subst, ◌∙◌, append_assoc, append-nil, length-append, All}
+use Rattle.std.proofs.Common.{◌≡◌, ℕ, ◌+◌, ◌<◌, ◌≤◌, List, [], ◌∷◌, ◌++◌, length, map, Option, Some, arith}
+use Rattle.std.proofs.Common.{ap, sym, subst, ◌∙◌, append_assoc, append-nil, length-append, All}
 use Rattle.std.specs.Prelude.{slice_get, slice_set, slice_index_or}
 use Rattle.std.proofs.Math.Seq.{set-append_seam}
 use Rattle.std.proofs.lemmas.List.{length-map, map-append, map-set, length-set, get_or_append_left}
@@ -95,7 +96,8 @@ put_one old new i line sound named instrs lines same =
 last_at : (xs : Bundles) (x : List Pair) (k : ℕ) → k ≡ length xs → slice_index_or (xs ++ x ∷ []) k [] ≡ x
 last_at xs x k at = grind (arith, common_steps)
 
-pub got_last : (xs ys : Bundles) (x : List Pair) (k : ℕ) → k ≡ length xs → ys ≡ xs ++ x ∷ [] → slice_get ys k ≡ Some x
+pub got_last : (xs ys : Bundles) (x : List Pair) (k : ℕ) → k ≡ length xs → ys ≡ xs ++ x ∷ []
+    → slice_get ys k ≡ Some x
 got_last xs ys x k at pushed =
     ap (λ (bs : Bundles). slice_get bs k) pushed ∙ ap (slice_get (xs ++ x ∷ [])) (at ∙ more) ∙ get_back xs (x ∷ []) 0
   where
@@ -193,7 +195,8 @@ pub replaced : {a b c : Writer} {lines : List (Option ℕ)} (front back : List I
     → Adds a b (front ++ i ∷ back) lines → Replaces b c at j → at ≡ place a + length front
     → Adds a c (front ++ j ∷ back) lines
 replaced {a} {b} {c} front back i j at h r here =
-    let far : at ≡ length (seen a ++ front) = omega (arith, here, length-seen a, length-append (seen a) front) in
+    let far : at ≡ length (seen a ++ front) =
+    omega (arith, here, length-seen a, length-append (seen a) front) in
     record {
       coded =
           r.coded ∙ ap (λ is. slice_set is at j) (h.coded ∙ sym (append_assoc (seen a) front (i ∷ back)))

@@ -1,5 +1,6 @@
 -- What the definitions say of worked programs, by computing.
-use Rattle.std.proofs.Common.{◌≡◌, ℕ, pos, List, [], ◌∷◌, ◌++◌, replicate, Option, Some, None, option_map, option_and_then, option_to_list, refl}
+use Rattle.std.proofs.Common.{◌≡◌, ℕ, pos, List, [], ◌∷◌, ◌++◌, replicate, Option, Some, None, option_map}
+use Rattle.std.proofs.Common.{option_and_then, option_to_list, refl}
 use Rattle.std.specs.Prelude.{codes}
 use Rattle.pb_base.specs.Arithmetic.{apply}
 use Rattle.pb_base.specs.declared.operators.FaultKind.TheVariants.{Divide}
@@ -8,9 +9,11 @@ use Rattle.pb_base.specs.Steppers.{Bundle, State, Stepper, move_of, event_of, op
 use Rattle.pb_base.specs.declared.pick.Pick.{Pick}
 use Rattle.pb_base.specs.declared.event.Event.{Event}
 use Rattle.pb_base.specs.declared.event.Event.TheVariants.{Granted, Returned, Printed, Faulted, Finished}
-use Rattle.pb_names.specs.Program.{Number, Variable, Binary, Stmt, Set, Write, While, HoldDo, Parbegin, Skip, Then, NoArm, AndArm, Process, IsWellNumbered}
+use Rattle.pb_names.specs.Program.{Number, Variable, Binary, Stmt, Set, Write, While, HoldDo, Parbegin, Skip}
+use Rattle.pb_names.specs.Program.{Then, NoArm, AndArm, Process, IsWellNumbered}
 use Rattle.pb_names.specs.Source.{source_step, source_process}
-use Rattle.pb_code.specs.Code.{Push, Load, Store, Compute2, Jump, JumpIfZero, PrintTop, Take, Give, Fork, Join, End, code_step, code_process}
+use Rattle.pb_code.specs.Code.{Push, Load, Store, Compute2, Jump, JumpIfZero, PrintTop, Take, Give, Fork}
+use Rattle.pb_code.specs.Code.{Join, End, code_step, code_process}
 use Rattle.pb_codegen.specs.Generate.{process_code}
 use Rattle.pb_codegen.specs.Lines.{process_lines}
 
@@ -47,16 +50,19 @@ two_bumps = record { name = codes "p"; integers = codes "x" ∷ []; body = Then 
 two_bumps_numbered : IsWellNumbered two_bumps
 two_bumps_numbered = ((refl, ((tt, tt), ((tt, tt), tt))), (tt, tt))
 
-one_after_another : in_code two_bumps ((0, 1) ∷ (1, 5) ∷ (2, 5) ∷ (0, 4) ∷ []) ≡ Some (Printed (by_arm 0) (pos 2) ∷ Finished 0 ∷ [])
+one_after_another : in_code two_bumps ((0, 1) ∷ (1, 5) ∷ (2, 5) ∷ (0, 4) ∷ []) ≡ Some
+    (Printed (by_arm 0) (pos 2) ∷ Finished 0 ∷ [])
 unfolding apply
 one_after_another = refl
 
-lost_bump : in_code two_bumps ((0, 1) ∷ (1, 1) ∷ (2, 5) ∷ (1, 4) ∷ (0, 4) ∷ []) ≡ Some (Printed (by_arm 0) (pos 1) ∷ Finished 0 ∷ [])
+lost_bump : in_code two_bumps ((0, 1) ∷ (1, 1) ∷ (2, 5) ∷ (1, 4) ∷ (0, 4) ∷ []) ≡ Some
+    (Printed (by_arm 0) (pos 1) ∷ Finished 0 ∷ [])
 unfolding apply
 lost_bump = refl
 
 -- the same in the source, without the picks that push
-lost_bump_in_source : in_source two_bumps ((0, 1) ∷ (1, 1) ∷ (2, 4) ∷ (1, 3) ∷ (0, 4) ∷ []) ≡ Some (Printed (by_arm 0) (pos 1) ∷ Finished 0 ∷ [])
+lost_bump_in_source : in_source two_bumps ((0, 1) ∷ (1, 1) ∷ (2, 4) ∷ (1, 3) ∷ (0, 4) ∷ []) ≡ Some
+    (Printed (by_arm 0) (pos 1) ∷ Finished 0 ∷ [])
 unfolding apply
 lost_bump_in_source = refl
 
@@ -80,7 +86,8 @@ thrice_code : process_code thrice ≡ record {
 }
 thrice_code = refl
 
-thrice_run : in_code thrice ((0, 5) ∷ (1, 3) ∷ (2, 5) ∷ (0, 11) ∷ (1, 3) ∷ (2, 5) ∷ (0, 11) ∷ (1, 3) ∷ (2, 5) ∷ (0, 11) ∷ [])
+thrice_run : in_code thrice
+    ((0, 5) ∷ (1, 3) ∷ (2, 5) ∷ (0, 11) ∷ (1, 3) ∷ (2, 5) ∷ (0, 11) ∷ (1, 3) ∷ (2, 5) ∷ (0, 11) ∷ [])
     ≡ Some (Printed (by_arm 1) (pos 0) ∷ Printed (by_arm 2) (pos 10) ∷ Printed (by_arm 1) (pos 1) ∷ Printed (by_arm 2) (pos 11) ∷ Printed (by_arm 1) (pos 2) ∷ Printed (by_arm 2) (pos 12) ∷ Finished 0 ∷ [])
 unfolding apply
 thrice_run = refl
@@ -119,7 +126,8 @@ faulty = record {
       (AndArm (Then (Write 1 (Binary Remainder (Number (pos 1)) (Number (pos 0)))) Skip) NoArm))) Skip;
 }
 
-faulty_run : in_code faulty ((0, 1) ∷ (1, 1) ∷ (2, 3) ∷ []) ≡ Some (Granted (by_arm 1) (amounts 0 1) ∷ Faulted (by_arm 2) Divide ∷ [])
+faulty_run : in_code faulty ((0, 1) ∷ (1, 1) ∷ (2, 3) ∷ []) ≡ Some
+    (Granted (by_arm 1) (amounts 0 1) ∷ Faulted (by_arm 2) Divide ∷ [])
 unfolding apply
 faulty_run = refl
 

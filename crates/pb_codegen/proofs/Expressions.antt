@@ -1,5 +1,6 @@
 -- What is left of an expression, against the instructions that are left and the stack.
-use Rattle.std.proofs.Common.{◌≡◌, ℕ, ◌+◌, ℤ, pos, false, List, [], ◌∷◌, ◌++◌, length, get_or, Some, Result, Ok, Err, refl, sym, ap, ◌∙◌, subst, arith, append_assoc}
+use Rattle.std.proofs.Common.{◌≡◌, ℕ, ◌+◌, ℤ, pos, false, List, [], ◌∷◌, ◌++◌, length, get_or, Some, Result}
+use Rattle.std.proofs.Common.{Ok, Err, refl, sym, ap, ◌∙◌, subst, arith, append_assoc}
 use Rattle.std.specs.Prelude.{slice_get}
 use Rattle.pb_base.specs.Arithmetic.{apply, apply_unary}
 use Rattle.pb_base.specs.declared.operators.FaultKind.{FaultKind}
@@ -8,7 +9,8 @@ use Rattle.pb_base.specs.declared.operators.BinaryOp.{BinaryOp}
 use Rattle.pb_base.specs.Steppers.{Silent}
 use Rattle.pb_names.specs.Program.{Expr, Number, Variable, Unary, Binary}
 use Rattle.pb_names.specs.Source.{Becomes, Fails, from_result, inside, step_expr}
-use Rattle.pb_code.specs.Code.{Instr, Push, Load, Compute1, Compute2, Live, Runs, Traps, with_result, act, is_skip}
+use Rattle.pb_code.specs.Code.{Instr, Push, Load, Compute1, Compute2, Live, Runs, Traps, with_result, act}
+use Rattle.pb_code.specs.Code.{is_skip}
 use Rattle.pb_codegen.specs.Generate.{expr_code}
 
 -- the instructions stand in the code at this place
@@ -31,9 +33,12 @@ pub data Left : Expr → List Instr → List ℤ → Type 0 where
   unpushed : (v : ℤ) → Left (Number v) (Push v ∷ []) []
   pushed : (v : ℤ) → Left (Number v) [] (v ∷ [])
   unloaded : (x : ℕ) → Left (Variable x) (Load x ∷ []) []
-  under : (op : UnaryOp) (a : Expr) (code : List Instr) (stack : List ℤ) → Left a code stack → Left (Unary op a) (code ++ Compute1 op ∷ []) stack
-  on_left : (op : BinaryOp) (a b : Expr) (code : List Instr) (stack : List ℤ) → Left a code stack → Left (Binary op a b) (code ++ (expr_code b ++ Compute2 op ∷ [])) stack
-  on_right : (op : BinaryOp) (v : ℤ) (b : Expr) (code : List Instr) (stack : List ℤ) → Left b code stack → Left (Binary op (Number v) b) (code ++ Compute2 op ∷ []) (stack ++ v ∷ [])
+  under : (op : UnaryOp) (a : Expr) (code : List Instr) (stack : List ℤ) → Left a code stack
+      → Left (Unary op a) (code ++ Compute1 op ∷ []) stack
+  on_left : (op : BinaryOp) (a b : Expr) (code : List Instr) (stack : List ℤ) → Left a code stack
+      → Left (Binary op a b) (code ++ (expr_code b ++ Compute2 op ∷ [])) stack
+  on_right : (op : BinaryOp) (v : ℤ) (b : Expr) (code : List Instr) (stack : List ℤ) → Left b code stack
+      → Left (Binary op (Number v) b) (code ++ Compute2 op ∷ []) (stack ++ v ∷ [])
 
 pub whole : (e : Expr) → Left e (expr_code e) []
 whole (Number v) = unpushed v
@@ -44,43 +49,53 @@ whole (Binary op a b) = on_left op a b (expr_code a) [] (whole a)
 -- what the next instruction does, and what the source's next step does
 pub data Progress (vars : List ℤ) (e : Expr) (code : List Instr) (stack : List ℤ) : Type 0 where
   finished : (v : ℤ) → e ≡ Number v → code ≡ [] → stack ≡ v ∷ [] → Progress vars e code stack
-  pushes : (v : ℤ) (rest : List Instr) → code ≡ Push v ∷ rest → Left e rest (v ∷ stack) → Progress vars e code stack
+  pushes : (v : ℤ) (rest : List Instr) → code ≡ Push v ∷ rest → Left e rest (v ∷ stack)
+      → Progress vars e code stack
   works : (i : Instr) (rest : List Instr) (e' : Expr) (stack' : List ℤ) → code ≡ i ∷ rest → is_skip i ≡ false → step_expr vars e ≡ Becomes e' → ((p : ℕ) (below : List ℤ) → act vars i p (stack ++ below) ≡ Some (Runs vars (Live (p + 1) (stack' ++ below)) Silent)) → Left e' rest stack' → Progress vars e code stack
-  traps : (i : Instr) (rest : List Instr) (kind : FaultKind) → code ≡ i ∷ rest → is_skip i ≡ false → step_expr vars e ≡ Fails kind → ((p : ℕ) (below : List ℤ) → act vars i p (stack ++ below) ≡ Some (Traps kind)) → Progress vars e code stack
+  traps : (i : Instr) (rest : List Instr) (kind : FaultKind) → code ≡ i ∷ rest → is_skip i ≡ false
+      → step_expr vars e ≡ Fails kind
+      → ((p : ℕ) (below : List ℤ) → act vars i p (stack ++ below) ≡ Some (Traps kind))
+      → Progress vars e code stack
 
 -- ---- the source's step under an operator
 
-unary_becomes : (vars : List ℤ) (op : UnaryOp) (a a' : Expr) → step_expr vars a ≡ Becomes a' → step_expr vars (Unary op a) ≡ Becomes (Unary op a')
+unary_becomes : (vars : List ℤ) (op : UnaryOp) (a a' : Expr) → step_expr vars a ≡ Becomes a'
+    → step_expr vars (Unary op a) ≡ Becomes (Unary op a')
 unary_becomes vars op (Number v) a' h = cc
 unary_becomes vars op (Variable x) a' h = ap (inside (Unary op)) h
 unary_becomes vars op (Unary o b) a' h = ap (inside (Unary op)) h
 unary_becomes vars op (Binary o b c) a' h = ap (inside (Unary op)) h
 
-unary_fails : (vars : List ℤ) (op : UnaryOp) (a : Expr) (kind : FaultKind) → step_expr vars a ≡ Fails kind → step_expr vars (Unary op a) ≡ Fails kind
+unary_fails : (vars : List ℤ) (op : UnaryOp) (a : Expr) (kind : FaultKind) → step_expr vars a ≡ Fails kind
+    → step_expr vars (Unary op a) ≡ Fails kind
 unary_fails vars op (Number v) kind h = cc
 unary_fails vars op (Variable x) kind h = ap (inside (Unary op)) h
 unary_fails vars op (Unary o b) kind h = ap (inside (Unary op)) h
 unary_fails vars op (Binary o b c) kind h = ap (inside (Unary op)) h
 
-left_becomes : (vars : List ℤ) (op : BinaryOp) (a a' b : Expr) → step_expr vars a ≡ Becomes a' → step_expr vars (Binary op a b) ≡ Becomes (Binary op a' b)
+left_becomes : (vars : List ℤ) (op : BinaryOp) (a a' b : Expr) → step_expr vars a ≡ Becomes a'
+    → step_expr vars (Binary op a b) ≡ Becomes (Binary op a' b)
 left_becomes vars op (Number v) a' b h = cc
 left_becomes vars op (Variable x) a' b h = ap (inside (λ c. Binary op c b)) h
 left_becomes vars op (Unary o c) a' b h = ap (inside (λ c. Binary op c b)) h
 left_becomes vars op (Binary o c d) a' b h = ap (inside (λ c. Binary op c b)) h
 
-left_fails : (vars : List ℤ) (op : BinaryOp) (a b : Expr) (kind : FaultKind) → step_expr vars a ≡ Fails kind → step_expr vars (Binary op a b) ≡ Fails kind
+left_fails : (vars : List ℤ) (op : BinaryOp) (a b : Expr) (kind : FaultKind) → step_expr vars a ≡ Fails kind
+    → step_expr vars (Binary op a b) ≡ Fails kind
 left_fails vars op (Number v) b kind h = cc
 left_fails vars op (Variable x) b kind h = ap (inside (λ c. Binary op c b)) h
 left_fails vars op (Unary o c) b kind h = ap (inside (λ c. Binary op c b)) h
 left_fails vars op (Binary o c d) b kind h = ap (inside (λ c. Binary op c b)) h
 
-right_becomes : (vars : List ℤ) (op : BinaryOp) (v : ℤ) (b b' : Expr) → step_expr vars b ≡ Becomes b' → step_expr vars (Binary op (Number v) b) ≡ Becomes (Binary op (Number v) b')
+right_becomes : (vars : List ℤ) (op : BinaryOp) (v : ℤ) (b b' : Expr) → step_expr vars b ≡ Becomes b'
+    → step_expr vars (Binary op (Number v) b) ≡ Becomes (Binary op (Number v) b')
 right_becomes vars op v (Number w) b' h = cc
 right_becomes vars op v (Variable x) b' h = ap (inside (Binary op (Number v))) h
 right_becomes vars op v (Unary o c) b' h = ap (inside (Binary op (Number v))) h
 right_becomes vars op v (Binary o c d) b' h = ap (inside (Binary op (Number v))) h
 
-right_fails : (vars : List ℤ) (op : BinaryOp) (v : ℤ) (b : Expr) (kind : FaultKind) → step_expr vars b ≡ Fails kind → step_expr vars (Binary op (Number v) b) ≡ Fails kind
+right_fails : (vars : List ℤ) (op : BinaryOp) (v : ℤ) (b : Expr) (kind : FaultKind)
+    → step_expr vars b ≡ Fails kind → step_expr vars (Binary op (Number v) b) ≡ Fails kind
 right_fails vars op v (Number w) kind h = cc
 right_fails vars op v (Variable x) kind h = ap (inside (Binary op (Number v))) h
 right_fails vars op v (Unary o c) kind h = ap (inside (Binary op (Number v))) h
@@ -93,7 +108,8 @@ operates : (vars : List ℤ) (e : Expr) (i : Instr) (stack : List ℤ) (r : Resu
 operates vars e i stack (Ok v) skip step acts = works i [] (Number v) (v ∷ []) refl skip step acts (pushed v)
 operates vars e i stack (Err kind) skip step acts = traps i [] kind refl skip step acts
 
-under_progress : (vars : List ℤ) (op : UnaryOp) (a : Expr) (code : List Instr) (stack : List ℤ) → Progress vars a code stack → Progress vars (Unary op a) (code ++ Compute1 op ∷ []) stack
+under_progress : (vars : List ℤ) (op : UnaryOp) (a : Expr) (code : List Instr) (stack : List ℤ)
+    → Progress vars a code stack → Progress vars (Unary op a) (code ++ Compute1 op ∷ []) stack
 under_progress vars op a code stack (finished v e c s) =
     subst (λ a. Progress vars (Unary op a) (code ++ Compute1 op ∷ []) stack) (sym e)
     (subst (λ c. Progress vars (Unary op (Number v)) (c ++ Compute1 op ∷ []) stack) (sym c)
@@ -106,7 +122,9 @@ under_progress vars op a code stack (works i rest a' stack' c skip step acts l) 
 under_progress vars op a code stack (traps i rest kind c skip step acts) =
     traps i (rest ++ Compute1 op ∷ []) kind (ap (λ c. c ++ Compute1 op ∷ []) c) skip (unary_fails vars op a kind step) acts
 
-right_progress : (vars : List ℤ) (op : BinaryOp) (v : ℤ) (b : Expr) (code : List Instr) (stack : List ℤ) → Progress vars b code stack → Progress vars (Binary op (Number v) b) (code ++ Compute2 op ∷ []) (stack ++ v ∷ [])
+right_progress : (vars : List ℤ) (op : BinaryOp) (v : ℤ) (b : Expr) (code : List Instr) (stack : List ℤ)
+    → Progress vars b code stack
+    → Progress vars (Binary op (Number v) b) (code ++ Compute2 op ∷ []) (stack ++ v ∷ [])
 right_progress vars op v b code stack (finished w e c s) =
     subst (λ b. Progress vars (Binary op (Number v) b) (code ++ Compute2 op ∷ []) (stack ++ v ∷ [])) (sym e)
     (subst (λ c. Progress vars (Binary op (Number v) (Number w)) (c ++ Compute2 op ∷ []) (stack ++ v ∷ [])) (sym c)
@@ -122,7 +140,9 @@ right_progress vars op v b code stack (traps i rest kind c skip step acts) =
     traps i (rest ++ Compute2 op ∷ []) kind (ap (λ c. c ++ Compute2 op ∷ []) c) skip (right_fails vars op v b kind step)
     (λ p below. ap (act vars i p) (append_assoc stack (v ∷ []) below) ∙ acts p (v ∷ below))
 
-left_progress : (vars : List ℤ) (op : BinaryOp) (a b : Expr) (code : List Instr) (stack : List ℤ) → Progress vars b (expr_code b) [] → Progress vars a code stack → Progress vars (Binary op a b) (code ++ (expr_code b ++ Compute2 op ∷ [])) stack
+left_progress : (vars : List ℤ) (op : BinaryOp) (a b : Expr) (code : List Instr) (stack : List ℤ)
+    → Progress vars b (expr_code b) [] → Progress vars a code stack
+    → Progress vars (Binary op a b) (code ++ (expr_code b ++ Compute2 op ∷ [])) stack
 left_progress vars op a b code stack q (finished v e c s) =
     subst (λ a. Progress vars (Binary op a b) (code ++ (expr_code b ++ Compute2 op ∷ [])) stack) (sym e)
     (subst (λ c. Progress vars (Binary op (Number v) b) (c ++ (expr_code b ++ Compute2 op ∷ [])) stack) (sym c)
@@ -145,12 +165,17 @@ whole_progress : (vars : List ℤ) (e : Expr) → Progress vars e (expr_code e) 
 whole_progress vars (Number v) = pushes v [] refl (pushed v)
 whole_progress vars (Variable x) = loads vars x
 whole_progress vars (Unary op a) = under_progress vars op a (expr_code a) [] (whole_progress vars a)
-whole_progress vars (Binary op a b) = left_progress vars op a b (expr_code a) [] (whole_progress vars b) (whole_progress vars a)
+whole_progress vars (Binary op a b) =
+    left_progress vars op a b (expr_code a) [] (whole_progress vars b) (whole_progress vars a)
 
-pub progress : (vars : List ℤ) (e : Expr) (code : List Instr) (stack : List ℤ) → Left e code stack → Progress vars e code stack
+pub progress : (vars : List ℤ) (e : Expr) (code : List Instr) (stack : List ℤ) → Left e code stack
+    → Progress vars e code stack
 progress vars e code stack (unpushed v) = pushes v [] refl (pushed v)
 progress vars e code stack (pushed v) = finished v refl refl refl
 progress vars e code stack (unloaded x) = loads vars x
-progress vars e code stack (under op a code' stack' l) = under_progress vars op a code' stack' (progress vars a code' stack' l)
-progress vars e code stack (on_left op a b code' stack' l) = left_progress vars op a b code' stack' (whole_progress vars b) (progress vars a code' stack' l)
-progress vars e code stack (on_right op v b code' stack' l) = right_progress vars op v b code' stack' (progress vars b code' stack' l)
+progress vars e code stack (under op a code' stack' l) =
+    under_progress vars op a code' stack' (progress vars a code' stack' l)
+progress vars e code stack (on_left op a b code' stack' l) =
+    left_progress vars op a b code' stack' (whole_progress vars b) (progress vars a code' stack' l)
+progress vars e code stack (on_right op v b code' stack' l) =
+    right_progress vars op v b code' stack' (progress vars b code' stack' l)

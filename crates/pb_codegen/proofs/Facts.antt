@@ -1,10 +1,13 @@
 -- Notes at all places give depths and holdings at the reached ones.
-use Rattle.std.proofs.Common.{◌≡◌, ◌⊎◌, inl, inr, ℕ, zero, suc, ◌+◌, ◌≤◌, List, [], ◌∷◌, length, Option, Some, None, refl, sym, ap, ◌∙◌, subst, arith}
+use Rattle.std.proofs.Common.{◌≡◌, ◌⊎◌, inl, inr, ℕ, zero, suc, ◌+◌, ◌≤◌, List, [], ◌∷◌, length, Option, Some}
+use Rattle.std.proofs.Common.{None, refl, sym, ap, ◌∙◌, subst, arith}
 use Rattle.pb_base.specs.Steppers.{Bundle}
-use Rattle.pb_code.specs.Code.{Instr, Push, Load, Store, Compute1, Compute2, Jump, JumpIfZero, PrintTop, Take, Give, Fork, Join, End, ProcessCode}
+use Rattle.pb_code.specs.Code.{Instr, Push, Load, Store, Compute1, Compute2, Jump, JumpIfZero, PrintTop, Take}
+use Rattle.pb_code.specs.Code.{Give, Fork, Join, End, ProcessCode}
 use Rattle.pb_code.specs.Annotation.{Shape, Notes, Leads, Fits, IsAnnotated}
 use Rattle.pb_verifier.specs.Places.{InstrAt, Follows, Reached, at_entry, from}
-use Rattle.pb_verifier.specs.Faults.{pops, pushes, TurnsDepth, AreDepths, TurnsHoldings, AreHoldings, EndsClear}
+use Rattle.pb_verifier.specs.Faults.{pops, pushes, TurnsDepth, AreDepths, TurnsHoldings, AreHoldings}
+use Rattle.pb_verifier.specs.Faults.{EndsClear}
 use Rattle.pb_verifier.proofs.Lying.{same_instr}
 use Rattle.pb_verifier.proofs.Greatest.{one_depth, one_holdings, spread_once}
 

@@ -1,5 +1,6 @@
 -- Generated code has depths, holdings, clear ends and peaks.
-use Rattle.std.proofs.Common.{◌≡◌, ℕ, zero, suc, ◌+◌, ◌<◌, ◌≤◌, List, [], ◌∷◌, ◌++◌, length, get_or, Some, sym, ap, ◌∙◌, subst, arith, length-append}
+use Rattle.std.proofs.Common.{◌≡◌, ℕ, zero, suc, ◌+◌, ◌<◌, ◌≤◌, List, [], ◌∷◌, ◌++◌, length, get_or, Some}
+use Rattle.std.proofs.Common.{sym, ap, ◌∙◌, subst, arith, length-append}
 use Rattle.std.specs.Prelude.{slice_get}
 use Rattle.pb_base.specs.Steppers.{Bundle}
 use Rattle.pb_names.specs.Program.{Block, Process, arms_of, IsWellNumbered}
@@ -10,7 +11,8 @@ use Rattle.pb_verifier.specs.Places.{InstrAt, IsInArm}
 use Rattle.pb_verifier.specs.Faults.{AreDepths, AreHoldings, EndsClear, PeakFits, TurnsHoldings, in_holdings}
 use Rattle.pb_verifier.proofs.Greatest.{one_holdings, spread_once}
 use Rattle.pb_codegen.specs.Generate.{block_code, arm_code, arms_entries, process_code}
-use Rattle.pb_codegen.proofs.Annotated.{shape, block_shapes, arms_shapes, length-block_shapes, In, in_front, in_back, in_all, process_notes, notes_fit}
+use Rattle.pb_codegen.proofs.Annotated.{shape, block_shapes, arms_shapes, length-block_shapes, In, in_front}
+use Rattle.pb_codegen.proofs.Annotated.{in_back, in_all, process_notes, notes_fit}
 use Rattle.pb_codegen.proofs.Bounded.{Under, each_at, arm_each}
 use Rattle.pb_codegen.proofs.Facts.{noted, depths, holdings, clear, held, held_here, depth}
 use Rattle.pb_codegen.proofs.Forks.{arm_with}
@@ -32,7 +34,8 @@ shapes_lie : (shapes : List Shape) (p : ℕ) (arms : List Block) (a : ℕ) → a
 shapes_lie shapes p [] a u h = absurd (omega (arith, u))
 shapes_lie shapes p (arm ∷ arms) zero u h = in_front shapes p (arm_shapes arm) (arms_shapes arms) h
 shapes_lie shapes p (arm ∷ arms) (suc a) u h =
-    let next : p + length (arm_shapes arm) ≡ p + length (arm_code p arm) = ap (λ n. p + n) (length-arm_shapes p arm) in
+    let next : p + length (arm_shapes arm) ≡ p + length (arm_code p arm) =
+    ap (λ n. p + n) (length-arm_shapes p arm) in
     shapes_lie shapes (p + length (arm_code p arm)) arms a (omega (arith, u))
     (subst (λ k. In shapes k (arms_shapes arms)) next (in_back shapes p (arm_shapes arm) (arms_shapes arms) h))
 
@@ -44,7 +47,8 @@ module _ (process : Process) (numbered : IsWellNumbered process) (low : height p
   code = process_code process
 
   -- what an arm holds and needs at a place is within its peak
-  under_at : (r a place : ℕ) (i : Instr) (d : ℕ) (hs : List Bundle) → IsInArm code a place → InstrAt code place i
+  under_at : (r a place : ℕ) (i : Instr) (d : ℕ) (hs : List Bundle) → IsInArm code a place
+      → InstrAt code place i
       → Leads (process_notes process) place d hs → Under r (most r all) (most r all a) i (shape d hs)
   under_at r a place i d hs here at leads =
       let shapes = arms_shapes all in
@@ -66,7 +70,8 @@ module _ (process : Process) (numbered : IsWellNumbered process) (low : height p
       (arm_each r (most r all) (most r all a) w.start arm known.1 (omega arith) known.0)
       (instr_in_arm process a place i here at) x_at
 
-  shallow : (place d : ℕ) (hs : List Bundle) → Leads (process_notes process) place d hs → (d ≤ 256) × (length hs ≤ 256)
+  shallow : (place d : ℕ) (hs : List Bundle) → Leads (process_notes process) place d hs
+      → (d ≤ 256) × (length hs ≤ 256)
   shallow place d hs leads =
       let f = (notes_fit process).flows place d hs leads in
       let w = arm_with process numbered place f.0 f.1 in

@@ -34,7 +34,8 @@ module _ (process : Process) (numbered : IsWellNumbered process) where
   named_within : (place first n b : ℕ) → InstrAt code place (Fork first n) → IsAmong first n b → b < arms code
   named_within place first n b at h = go (among_or_none b 1 (length (arms_in process.body)))
     where
-      go : IsAmong 1 (length (arms_in process.body)) b ⊎ (among b 1 (length (arms_in process.body)) ≡ 0) → b < arms code
+      go : IsAmong 1 (length (arms_in process.body)) b ⊎ (among b 1 (length (arms_in process.body)) ≡ 0)
+          → b < arms code
       go (inl w) = let l = w.1 in let c = count_arms in omega (arith, l, c)
       go (inr z) =
           let x = named_once_at_least b code.instrs place first n at h in

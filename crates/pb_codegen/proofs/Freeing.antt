@@ -1,10 +1,15 @@
 -- A step of a process of the source is a free step, or changes only what is left of an expression; or it is a fault.
-use Rattle.std.proofs.Common.{◌≡◌, ◌⊎◌, inl, inr, ⊎_elim, ℕ, zero, suc, ◌<◌, ◌≤◌, ℤ, Bool, true, false, cond, List, [], ◌∷◌, length, Option, Some, None, option_map, option_and_then, refl, sym, ap, ◌∙◌, subst, arith}
+use Rattle.std.proofs.Common.{◌≡◌, ◌⊎◌, inl, inr, ⊎_elim, ℕ, zero, suc, ◌<◌, ◌≤◌, ℤ, Bool, true, false, cond}
+use Rattle.std.proofs.Common.{List, [], ◌∷◌, length, Option, Some, None, option_map, option_and_then, refl}
+use Rattle.std.proofs.Common.{sym, ap, ◌∙◌, subst, arith}
 use Rattle.std.proofs.lemmas.Bool.{cases_lt}
 use Rattle.pb_base.specs.declared.operators.FaultKind.{FaultKind}
 use Rattle.pb_base.specs.Steppers.{Effect, Silent, Faults, ending}
 use Rattle.pb_names.specs.Program.{Expr}
-use Rattle.pb_names.specs.Source.{ExprStep, Is, Becomes, Fails, step_expr, evaluate, Item, Assign, Print, Choice, Loop, Hold, GiveBack, Parallel, Arm, Doing, Waiting, Ended, all_ended, ArmStep, Goes, Breaks, Ends, step_items, step_arm, put, SourceProcess, settle, step_run}
+use Rattle.pb_names.specs.Source.{ExprStep, Is, Becomes, Fails, step_expr, evaluate, Item, Assign, Print}
+use Rattle.pb_names.specs.Source.{Choice, Loop, Hold, GiveBack, Parallel, Arm, Doing, Waiting, Ended}
+use Rattle.pb_names.specs.Source.{all_ended, ArmStep, Goes, Breaks, Ends, step_items, step_arm, put}
+use Rattle.pb_names.specs.Source.{SourceProcess, settle, step_run}
 use Rattle.pb_names.specs.Claims.{join}
 use Rattle.pb_code.specs.Code.{CodeProcess}
 use Rattle.pb_codegen.proofs.Listing.{Listing}
@@ -67,7 +72,8 @@ items_not_faulting vars (Hold line bundle body ∷ rest) = λ kind w. cc
 items_not_faulting vars (GiveBack line bundle ∷ rest) = λ kind w. cc
 items_not_faulting vars (Parallel line first arms ∷ rest) = λ kind w. cc
 
-arm_not_faulting : (vars : List ℤ) (found : Arm) (st : ArmStep) → step_arm vars found ≡ Some st → NotFaulting st
+arm_not_faulting : (vars : List ℤ) (found : Arm) (st : ArmStep) → step_arm vars found ≡ Some st
+    → NotFaulting st
 arm_not_faulting vars (Doing items) st e =
     let same : step_items vars items ≡ st = cc in
     subst NotFaulting same (items_not_faulting vars items)
@@ -85,7 +91,8 @@ RunFrees root effect None = (kind : FaultKind) × (effect ≡ Faults kind)
 RunFrees root effect (Some new) = IsFree root new effect × ((kind : FaultKind) → effect ≡ Faults kind → ⊥)
 
 module _ (code : Listing) (cp : CodeProcess) (a : ℕ) (root : Arm) (l : Located code cp.threads 0 1 (length cp.threads) root a) where
-  whole_free : (new : Arm) (effect : Effect) → IsFree l.found new effect → IsFree root (put a new 0 root) effect
+  whole_free : (new : Arm) (effect : Effect) → IsFree l.found new effect
+      → IsFree root (put a new 0 root) effect
   whole_free new effect f = record {
     way = ⊎_elim (λ s. inl (l.alike new s)) (λ s. inr (l.free new s)) f.way;
     balance = λ r. let h = l.holds r new in let b = f.balance r in omega (arith, h, b);
@@ -133,6 +140,7 @@ located code cp a vars root r h steps = go (cases_lt a (length cp.threads))
         (locate code cp.threads 0 1 (length cp.threads) root a h.2 (omega arith) (mine u (cases_lt 0 a)))
     go (inr u) =
         let some : 1 ≤ length cp.threads = h.1 in
-        let not_mine : Mine 0 1 (length cp.threads) a → ⊥ = elim [ inl m ↦ (omega arith) | inr m ↦ (omega arith) ] in
+        let not_mine : Mine 0 1 (length cp.threads) a → ⊥ =
+        elim [ inl m ↦ (omega arith) | inr m ↦ (omega arith) ] in
         let none = outside code cp.threads 0 1 (length cp.threads) root a h.2 not_mine in
         elim (nowhere code cp a vars root r none.0 steps) [ ]

@@ -4,7 +4,8 @@ use Rattle.pb_tree.specs.Syntax as tree
 use Rattle.pb_tree.specs.Measure as measure
 use Rattle.pb_names.specs.Program.{Expr, Number, Variable, Unary, Binary, Stmt, Set, Write, If, While, HoldDo}
 use Rattle.pb_names.specs.Program.{Parbegin, Block, Skip, Then, Arms, NoArm, AndArm, Name}
-use Rattle.pb_names.specs.Resolves.{ResolvesExpr, number, variable, unary, binary, ResolvesStmt, assign, print}
+use Rattle.pb_names.specs.Resolves.{ResolvesExpr, number, variable, unary, binary, ResolvesStmt, assign}
+use Rattle.pb_names.specs.Resolves.{print}
 use Rattle.pb_names.specs.Resolves.{if_else, while_do, hold, parbegin, ResolvesStmts, no_stmt, stmt_then}
 use Rattle.pb_names.specs.Resolves.{ResolvesArms, no_arm, arm_then}
 

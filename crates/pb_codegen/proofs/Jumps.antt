@@ -1,5 +1,6 @@
 -- No jump of generated code leaves its arm, or goes to a join.
-use Rattle.std.proofs.Common.{◌≡◌, inl, inr, ⊎_elim, ℕ, ◌+◌, ◌<◌, ◌≤◌, List, [], ◌∷◌, ◌++◌, length, Some, refl, sym, ◌∙◌, subst, arith, length-append}
+use Rattle.std.proofs.Common.{◌≡◌, inl, inr, ⊎_elim, ℕ, ◌+◌, ◌<◌, ◌≤◌, List, [], ◌∷◌, ◌++◌, length, Some}
+use Rattle.std.proofs.Common.{refl, sym, ◌∙◌, subst, arith, length-append}
 use Rattle.std.specs.Prelude.{slice_get}
 use Rattle.pb_names.specs.Program.{Expr, Number, Variable, Unary, Binary, Stmt, Set, Write, If, While, HoldDo}
 use Rattle.pb_names.specs.Program.{Parbegin, Block, Skip, Then, count}
@@ -143,7 +144,8 @@ module _ (is : List Instr) where
       block_jumps p (Then s block) l u h next =
           let mid = p + length (stmt_code p s) in
           let n = length-append (stmt_code p s) (block_code mid block) in
-          let end : p + length (block_code p (Then s block)) ≡ mid + length (block_code mid block) = omega (arith, n) in
+          let end : p + length (block_code p (Then s block)) ≡ mid + length (block_code mid block) =
+          omega (arith, n) in
           let next' : IsNoJoin (mid + length (block_code mid block)) = subst IsNoJoin end next in
           let hs = in_front is p (stmt_code p s) (block_code mid block) h in
           let hb = in_back is p (stmt_code p s) (block_code mid block) h in

@@ -1,6 +1,7 @@
 -- The source of a resolved program asks within its claims, and where the capital is enough for them its states stay
 -- safe.
-use Rattle.std.proofs.Common.{◌≡◌, ℕ, ◌<◌, ◌≤◌, List, [], ◌∷◌, length, get_or, map, Some, sym, ap, ◌∙◌, subst, arith}
+use Rattle.std.proofs.Common.{◌≡◌, ℕ, ◌<◌, ◌≤◌, List, [], ◌∷◌, length, get_or, map, Some, sym, ap, ◌∙◌, subst}
+use Rattle.std.proofs.Common.{arith}
 use Rattle.std.specs.Prelude.{slice_get}
 use Rattle.std.proofs.lemmas.List.{length-map}
 use Rattle.std.proofs.lemmas.List.Elements.{All-map}
@@ -84,7 +85,8 @@ module _ (tree : ProgramSyntax) (program : Program) (claims : Table) (h : Resolv
       )
 
   module _ (fair : IsFairBank bank (length program.processes)) where
-    sound_makes : (cs : State CodeProcess) (ss : State SourceProcess) (picks : List Pick) (events : List Event)
+    sound_makes : (cs : State CodeProcess) (ss : State SourceProcess) (picks : List Pick)
+        (events : List Event)
         (end : State SourceProcess) → StatesAlike program.processes cs ss → IsSound bank ss.loans
         → Makes bank source_step ss picks events end → IsSound bank end.loans
     sound_makes cs ss [] events end alike sound m =

@@ -5,12 +5,14 @@ use Rattle.pb_tree.specs.Syntax as tree
 use Rattle.pb_tree.specs.Measure.{expr_nodes, stmt_nodes, stmts_nodes, arms_nodes}
 use Rattle.pb_names.specs.Program.{Expr, Stmt, Block, Arms, Name, Process, arms_of, arms_in, arms_list}
 use Rattle.pb_names.specs.Program.{arms_in_stmt, arms_in_arms}
-use Rattle.pb_names.specs.Resolves.{ResolvesExpr, number, variable, unary, binary, ResolvesStmt, assign, print}
+use Rattle.pb_names.specs.Resolves.{ResolvesExpr, number, variable, unary, binary, ResolvesStmt, assign}
+use Rattle.pb_names.specs.Resolves.{print}
 use Rattle.pb_names.specs.Resolves.{if_else, while_do, hold, parbegin, ResolvesStmts, no_stmt, stmt_then}
 use Rattle.pb_names.specs.Resolves.{ResolvesArms, no_arm, arm_then}
 use Rattle.pb_code.specs.Code.{Store, Compute1, Compute2, Jump, JumpIfZero, PrintTop, Give}
 use Rattle.pb_codegen.specs.Generate.{expr_code, stmt_code, block_code, process_code}
-use Rattle.pb_codegen.proofs.Annotated.{shape, block_shapes, arms_shapes, length-block_shapes, length-arms_shapes}
+use Rattle.pb_codegen.proofs.Annotated.{shape, block_shapes, arms_shapes, length-block_shapes}
+use Rattle.pb_codegen.proofs.Annotated.{length-arms_shapes}
 
 length-both : (a b : List Block)
     → length (arms_shapes (a ++ b)) ≡ length (arms_shapes a) + length (arms_shapes b)
@@ -21,7 +23,8 @@ length-both (arm ∷ a) b =
     omega (arith, rest, length-append here (arms_shapes (a ++ b)), length-append here (arms_shapes a))
 
 module _ (integers resources : List Name) where
-  length-expr : (e : tree.ExprSyntax) (e' : Expr) → ResolvesExpr integers e e' → length (expr_code e') ≡ expr_nodes e
+  length-expr : (e : tree.ExprSyntax) (e' : Expr) → ResolvesExpr integers e e'
+      → length (expr_code e') ≡ expr_nodes e
   length-expr _ _ (number n) = refl
   length-expr _ _ (variable x i is) = refl
   length-expr _ _ (unary op e e' h) =

@@ -16,7 +16,8 @@ use Rattle.pb_codegen.proofs.Lying.{has_arms}
 use Rattle.pb_codegen.proofs.Named.{NamesWell}
 use Rattle.pb_codegen.proofs.Placing.{length-entries}
 
-there : (integers resources : ℕ) (i : Instr) → NamesWell integers resources i → UsesWhatIsThere integers resources i
+there : (integers resources : ℕ) (i : Instr) → NamesWell integers resources i
+    → UsesWhatIsThere integers resources i
 there n m (Push v) h = tt
 there n m (Load x) h = h
 there n m (Store x) h = h

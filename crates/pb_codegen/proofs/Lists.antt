@@ -1,5 +1,7 @@
 -- Lists of statements and of arms, one more element at a time, as loops read them.
-use Rattle.std.proofs.Common.{◌≡◌, ℕ, zero, suc, ◌+◌, ◌<◌, ◌≤◌, List, [], ◌∷◌, ◌++◌, Vec, length, map, take, drop, get_or, Option, Some, arith, ap, sym, refl, ◌∙◌, add-one, append_assoc, length-append}
+use Rattle.std.proofs.Common.{◌≡◌, ℕ, zero, suc, ◌+◌, ◌<◌, ◌≤◌, List, [], ◌∷◌, ◌++◌, Vec, length, map, take}
+use Rattle.std.proofs.Common.{drop, get_or, Option, Some, arith, ap, sym, refl, ◌∙◌, add-one, append_assoc}
+use Rattle.std.proofs.Common.{length-append}
 use Rattle.std.proofs.lemmas.List.{append-nil, map_more}
 use Rattle.pb_codegen.specs.Emitted.{place, HasRoom, Adds}
 use Rattle.pb_codegen.specs.Generate.{stmt_code, block_code}
@@ -7,7 +9,8 @@ use Rattle.pb_codegen.specs.Lines.{stmt_line, stmt_lines, line_of, block_lines}
 use Rattle.pb_codegen.specs.declared.writer.Writer.{Writer}
 use Rattle.pb_codegen.proofs.Emitting.{adds_then, adds_as, adds-place}
 use Rattle.pb_names.specs.Program as plain
-use Rattle.pb_names.specs.Program.{Block, Skip, Then, Arms, NoArm, AndArm, count, arms_list, arms_in, arms_in_stmt, arms_in_arms}
+use Rattle.pb_names.specs.Program.{Block, Skip, Then, Arms, NoArm, AndArm, count, arms_list, arms_in}
+use Rattle.pb_names.specs.Program.{arms_in_stmt, arms_in_arms}
 use Rattle.pb_names.specs.View.{stmt_view, block_of, block_view, arm_view, arms_view}
 use Rattle.pb_names.specs.declared.resolved.Stmt.{Stmt}
 
@@ -50,13 +53,15 @@ block_more ss i s here l =
     ∙ ap (λ y. map stmt_view (take i ss) ++ stmt_view y ∷ []) (sym here))
 
 -- the line of what is left, of which the first was read
-line_left : {A : Type 0} (ss : List (Stmt A)) (i : ℕ) (s : Stmt A) (after : Option ℕ) → s ≡ get_or ss i s → i < length ss
+line_left : {A : Type 0} (ss : List (Stmt A)) (i : ℕ) (s : Stmt A) (after : Option ℕ) → s ≡ get_or ss i s
+    → i < length ss
     → line_of (block_view (drop i ss)) after ≡ Some (stmt_line (stmt_view s))
 line_left [] i s after here l = absurd (omega arith)
 line_left (t ∷ ss) zero s after here l = ap (λ y. Some (stmt_line (stmt_view y))) (sym here)
 line_left (t ∷ ss) (suc i) s after here l = line_left ss i s after here (omega arith)
 
-pub line_next : {A : Type 0} (ss : List (Stmt A)) (i : ℕ) (s : Stmt A) (after : Option ℕ) → s ≡ get_or ss i s → i < length ss
+pub line_next : {A : Type 0} (ss : List (Stmt A)) (i : ℕ) (s : Stmt A) (after : Option ℕ) → s ≡ get_or ss i s
+    → i < length ss
     → line_of (block_view (drop i ss)) after ≡ Some (stmt_line (stmt_view s))
 line_next ss i s after here l = line_left ss i s after here l
 
@@ -68,7 +73,8 @@ line_behind (t ∷ ss) zero after l = absurd (omega arith)
 line_behind (t ∷ ss) (suc i) after l = line_behind ss i after (omega arith)
 
 -- one more statement is written
-pub block_written : {A : Type 0} {w u v : Writer} (ss : List (Stmt A)) (i : ℕ) (s : Stmt A) (after next : Option ℕ)
+pub block_written : {A : Type 0} {w u v : Writer} (ss : List (Stmt A)) (i : ℕ) (s : Stmt A)
+    (after next : Option ℕ)
     → s ≡ get_or ss i s → i < length ss → next ≡ line_of (block_view (drop (i + 1) ss)) after
     → Adds w u (block_code (place w) (block_view (take i ss))) (block_lines (block_view (take i ss)) (line_of (block_view (drop i ss)) after))
     → Adds u v (stmt_code (place u) (stmt_view s)) (stmt_lines (stmt_view s) next)
@@ -102,7 +108,8 @@ front_within p (s ∷ ss) (suc i) =
     )
 
 -- the next statement fits
-pub room_for_stmt : {A : Type 0} {w u : Writer} (all ss : List (Stmt A)) (i : ℕ) (s : Stmt A) {ls : List (Option ℕ)}
+pub room_for_stmt : {A : Type 0} {w u : Writer} (all ss : List (Stmt A)) (i : ℕ) (s : Stmt A)
+    {ls : List (Option ℕ)}
     → ss ≡ all → s ≡ get_or ss i s → i < length ss → HasRoom w (block_code (place w) (block_view all))
     → Adds w u (block_code (place w) (block_view (take i ss))) ls → HasRoom u (stmt_code (place u) (stmt_view s))
 room_for_stmt {A} {w} {u} all ss i s same here l room h =
@@ -135,11 +142,13 @@ room_for_stmt {A} {w} {u} all ss i s same here l room h =
 stmt_arms_at : {A : Type 0} (ss : List (Stmt A)) (i : ℕ) (d : Stmt A) → i < length ss
     → length (arms_in_stmt (stmt_view (get_or ss i d))) ≤ length (arms_in (block_view ss))
 stmt_arms_at [] i d l = absurd (omega arith)
-stmt_arms_at (s ∷ ss) zero d l = omega (arith, length-append (arms_in_stmt (stmt_view s)) (arms_in (block_view ss)))
+stmt_arms_at (s ∷ ss) zero d l =
+    omega (arith, length-append (arms_in_stmt (stmt_view s)) (arms_in (block_view ss)))
 stmt_arms_at (s ∷ ss) (suc i) d l =
     omega (arith, stmt_arms_at ss i d (omega arith), length-append (arms_in_stmt (stmt_view s)) (arms_in (block_view ss)))
 
-pub few_arms_in_stmt : {A : Type 0} (all ss : List (Stmt A)) (i n : ℕ) (s : Stmt A) → ss ≡ all → s ≡ get_or ss i s → i < length ss
+pub few_arms_in_stmt : {A : Type 0} (all ss : List (Stmt A)) (i n : ℕ) (s : Stmt A) → ss ≡ all
+    → s ≡ get_or ss i s → i < length ss
     → length (arms_in (block_view all)) ≤ n → length (arms_in_stmt (stmt_view s)) ≤ n
 few_arms_in_stmt all ss i n s same here l few =
     omega (
@@ -158,7 +167,8 @@ pub arms_in-more : {A : Type 0} (ss : List (Stmt A)) (i : ℕ) (s : Stmt A) → 
 arms_in-more ss i s here l =
     ap arms_in (block_more ss i s here l) ∙ behind (map stmt_view (take i ss)) (stmt_view s)
   where
-    behind : (front : List plain.Stmt) (s : plain.Stmt) → arms_in (block_of (front ++ s ∷ [])) ≡ arms_in (block_of front) ++ arms_in_stmt s
+    behind : (front : List plain.Stmt) (s : plain.Stmt)
+        → arms_in (block_of (front ++ s ∷ [])) ≡ arms_in (block_of front) ++ arms_in_stmt s
     behind [] s = append-nil (arms_in_stmt s)
     behind (f ∷ front) s =
         ap (λ arms. arms_in_stmt f ++ arms) (behind front s)
@@ -169,9 +179,11 @@ arms_list_suc : {A : Type 0} (arms : List (Vec (Stmt A) A)) (i : ℕ) (d : Vec (
 unfolding arm_view
 arms_list_suc [] i d l = absurd (omega arith)
 arms_list_suc (a ∷ arms) zero d l = refl
-arms_list_suc (a ∷ arms) (suc i) d l = ap (λ bs. block_view a.items ∷ bs) (arms_list_suc arms i d (omega arith))
+arms_list_suc (a ∷ arms) (suc i) d l =
+    ap (λ bs. block_view a.items ∷ bs) (arms_list_suc arms i d (omega arith))
 
-pub arms_list-more : {A : Type 0} (arms : List (Vec (Stmt A) A)) (i : ℕ) (arm : Vec (Stmt A) A) → arm ≡ get_or arms i arm → i < length arms
+pub arms_list-more : {A : Type 0} (arms : List (Vec (Stmt A) A)) (i : ℕ) (arm : Vec (Stmt A) A)
+    → arm ≡ get_or arms i arm → i < length arms
     → arms_list (arms_view (take (i + 1) arms)) ≡ arms_list (arms_view (take i arms)) ++ block_view arm.items ∷ []
 arms_list-more arms i arm here l =
     rw add-one (arms_list_suc arms i arm l ∙ ap (λ y. arms_list (arms_view (take i arms)) ++ block_view y.items ∷ []) (sym here))
@@ -185,7 +197,8 @@ arms_in_arms_suc (a ∷ arms) (suc i) d l =
     ap (λ bs. arms_in (block_view a.items) ++ bs) (arms_in_arms_suc arms i d (omega arith))
     ∙ sym (append_assoc (arms_in (block_view a.items)) (arms_in_arms (arms_view (take i arms))) (arms_in (block_view (get_or arms i d).items)))
 
-pub arms_in_arms-more : {A : Type 0} (arms : List (Vec (Stmt A) A)) (i : ℕ) (arm : Vec (Stmt A) A) → arm ≡ get_or arms i arm → i < length arms
+pub arms_in_arms-more : {A : Type 0} (arms : List (Vec (Stmt A) A)) (i : ℕ) (arm : Vec (Stmt A) A)
+    → arm ≡ get_or arms i arm → i < length arms
     → arms_in_arms (arms_view (take (i + 1) arms)) ≡ arms_in_arms (arms_view (take i arms)) ++ arms_in (block_view arm.items)
 arms_in_arms-more arms i arm here l =
     rw add-one (arms_in_arms_suc arms i arm l ∙ ap (λ y. arms_in_arms (arms_view (take i arms)) ++ arms_in (block_view y.items)) (sym here))
@@ -193,7 +206,8 @@ arms_in_arms-more arms i arm here l =
 -- ---- arms that are collected
 
 -- more arms behind those so far
-pub collected : (old now new done more all : List Block) → now ≡ old ++ done → new ≡ now ++ more → all ≡ done ++ more
+pub collected : (old now new done more all : List Block) → now ≡ old ++ done → new ≡ now ++ more
+    → all ≡ done ++ more
     → new ≡ old ++ all
 collected old now new done more all so_far then is =
     then ∙ ap (λ bs. bs ++ more) so_far ∙ append_assoc old done more ∙ ap (λ bs. old ++ bs) (sym is)

@@ -1,12 +1,15 @@
 -- What a step changes in the table of loans.
-use Rattle.std.proofs.Common.{◌≡◌, ◌≢◌, ⊎_elim, ℕ, zero, suc, ◌+◌, ◌-◌, ◌<◌, ◌≤◌, Bool, true, false, cond, eqb, List, [], ◌∷◌, length, get_or, set, refl, sym, ap, subst, arith, length-set, get_or-set_same, get_or-set_other, eqb-true, eq-eqb}
+use Rattle.std.proofs.Common.{◌≡◌, ◌≢◌, ⊎_elim, ℕ, zero, suc, ◌+◌, ◌-◌, ◌<◌, ◌≤◌, Bool, true, false, cond}
+use Rattle.std.proofs.Common.{eqb, List, [], ◌∷◌, length, get_or, set, refl, sym, ap, subst, arith}
+use Rattle.std.proofs.Common.{length-set, get_or-set_same, get_or-set_other, eqb-true, eq-eqb}
 use Rattle.std.proofs.lemmas.Bool.{cases_lt, eqb-false}
 use Rattle.std.proofs.lemmas.List.{get_or_past}
 use Rattle.pb_base.specs.declared.operators.FaultKind.{FaultKind}
 use Rattle.pb_base.specs.declared.pair.Pair.{Pair}
 use Rattle.pb_base.specs.Banker.{cell, row_of}
 use Rattle.pb_base.specs.Bundle.{amount_in, lend, give_back}
-use Rattle.pb_base.specs.Steppers.{Bundle, Table, Effect, Silent, Prints, Takes, Returns, Faults, Finishes, loans_after}
+use Rattle.pb_base.specs.Steppers.{Bundle, Table, Effect, Silent, Prints, Takes, Returns, Faults, Finishes}
+use Rattle.pb_base.specs.Steppers.{loans_after}
 use Rattle.pb_base.proofs.Lending.{amount_in-cons}
 use Rattle.pb_codegen.proofs.Shapes.{taken, given}
 
@@ -117,5 +120,6 @@ lent_there loans p q (Takes bundle) r ne =
     ap (λ (x : List ℕ). get_or x r 0) (get_or-set_other loans p q _ [] ne)
 lent_there loans p q (Returns bundle) r ne =
     ap (λ (x : List ℕ). get_or x r 0) (get_or-set_other loans p q _ [] ne)
-lent_there loans p q (Faults kind) r ne = ap (λ (x : List ℕ). get_or x r 0) (get_or-set_other loans p q _ [] ne)
+lent_there loans p q (Faults kind) r ne =
+    ap (λ (x : List ℕ). get_or x r 0) (get_or-set_other loans p q _ [] ne)
 lent_there loans p q Finishes r ne = refl

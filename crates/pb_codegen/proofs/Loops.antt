@@ -1,5 +1,6 @@
 -- Loops that write something for each element of a list.
-use Rattle.std.proofs.Common.{◌≡◌, ℕ, ◌+◌, ◌<◌, ◌≤◌, List, [], ◌∷◌, ◌++◌, length, map, take, get_or, arith, ap, sym, subst, ◌∙◌}
+use Rattle.std.proofs.Common.{◌≡◌, ℕ, ◌+◌, ◌<◌, ◌≤◌, List, [], ◌∷◌, ◌++◌, length, map, take, get_or, arith}
+use Rattle.std.proofs.Common.{ap, sym, subst, ◌∙◌}
 use Rattle.std.proofs.Math.ListN.{get_or-map}
 use Rattle.std.proofs.lemmas.List.{length-map, map_more, map-append, take_all}
 use Rattle.std.proofs.lemmas.List.Elements.{All-map}
@@ -17,7 +18,8 @@ more f h zs zs' z xs i x so_far within here pushed same =
     ∙ ap (map h) (sym (map_more f xs i x within))
 
 -- the same where what is written is seen by its view
-pub more_seen : {X Y Z W : Type 0} (f : X → Y) (h : Y → Z) (g : W → Z) (ws ws' : List W) (w : W) (xs : List X) (i : ℕ) (x : X)
+pub more_seen : {X Y Z W : Type 0} (f : X → Y) (h : Y → Z) (g : W → Z) (ws ws' : List W) (w : W) (xs : List X)
+    (i : ℕ) (x : X)
     → map g ws ≡ map h (map f (take i xs)) → i < length xs → x ≡ get_or xs i x → ws' ≡ ws ++ w ∷ [] → g w ≡ h (f x)
     → map g ws' ≡ map h (map f (take (i + 1) xs))
 more_seen f h g ws ws' w xs i x so_far within here pushed same =
@@ -38,5 +40,6 @@ all_written f P xs i ns ms all written end same =
     subst (All P) (sym (same ∙ written ∙ ap (map f) (take_all i xs end))) (All-map P f xs all)
 
 -- what holds of each element as it is seen holds of each element's view
-pub all_seen : {X Y : Type 0} (f : X → Y) (P : Y → Type 0) (xs : List X) → All P (map f xs) → All (λ x. P (f x)) xs
+pub all_seen : {X Y : Type 0} (f : X → Y) (P : Y → Type 0) (xs : List X) → All P (map f xs)
+    → All (λ x. P (f x)) xs
 all_seen f P xs h = λ k d l. subst P (get_or-map f xs k d) (h k (f d) (omega (arith, length-map xs f, l)))

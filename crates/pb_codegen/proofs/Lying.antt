@@ -1,5 +1,6 @@
 -- The arms of generated code follow one another.
-use Rattle.std.proofs.Common.{◌≡◌, inl, ℕ, zero, suc, ◌+◌, ◌-◌, ◌<◌, List, [], ◌∷◌, length, get_or, Some, refl, sym, ap, ◌∙◌, arith, length-append}
+use Rattle.std.proofs.Common.{◌≡◌, inl, ℕ, zero, suc, ◌+◌, ◌-◌, ◌<◌, List, [], ◌∷◌, length, get_or, Some}
+use Rattle.std.proofs.Common.{refl, sym, ap, ◌∙◌, arith, length-append}
 use Rattle.std.specs.Prelude.{slice_get}
 use Rattle.std.proofs.lemmas.Option.{slice_get_within}
 use Rattle.pb_names.specs.Program.{Block, Skip, Process, arms_of}
@@ -54,7 +55,8 @@ lies_at is p (arm ∷ arms) zero u h = record {
     ends (b ∷ arms) = refl
 lies_at is p (arm ∷ arms) (suc a) u h =
     let next = p + length (arm_code p arm) in
-    let rest = lies_at is next arms a (omega (arith, u)) (in_back is p (arm_code p arm) (arms_code next arms) h) in
+    let rest =
+    lies_at is next arms a (omega (arith, u)) (in_back is p (arm_code p arm) (arms_code next arms) h) in
     let one : suc a + 1 ≡ suc (a + 1) = omega arith in
     let len : p + length (arms_code p (arm ∷ arms)) ≡ next + length (arms_code next arms) =
     omega (arith, length-append (arm_code p arm) (arms_code next arms))
@@ -78,10 +80,12 @@ module _ (process : Process) where
   within a u = let n = length-entries 0 all in omega (arith, n, u)
 
   -- where each arm of a process lies
-  pub lies : (a : ℕ) → a < arms (process_code process) → Lies (process_code process).instrs 0 (arms_of process) a
+  pub lies : (a : ℕ) → a < arms (process_code process)
+      → Lies (process_code process).instrs 0 (arms_of process) a
   lies a u = lies_at instrs 0 all a (within a u) (in_all [] instrs)
 
-  ends_at : (a : ℕ) → arm_end (process_code process) a ≡ get_or (arms_entries 0 all) (a + 1) (0 + length instrs)
+  ends_at : (a : ℕ)
+      → arm_end (process_code process) a ≡ get_or (arms_entries 0 all) (a + 1) (0 + length instrs)
   ends_at a =
       let e : length instrs ≡ 0 + length instrs = omega arith in
       ap (λ d. get_or (arms_entries 0 all) (a + 1) d) e

@@ -1,5 +1,6 @@
 -- The code of a program means the same as the program.
-use Rattle.std.proofs.Common.{◌≡◌, ℕ, zero, suc, ◌<◌, List, [], ◌∷◌, length, get_or, Some, refl, sym, ◌∙◌, subst, arith}
+use Rattle.std.proofs.Common.{◌≡◌, ℕ, zero, suc, ◌<◌, List, [], ◌∷◌, length, get_or, Some, refl, sym, ◌∙◌}
+use Rattle.std.proofs.Common.{subst, arith}
 use Rattle.std.specs.Prelude.{slice_get}
 use Rattle.pb_base.specs.Banker.{row_of, cell}
 use Rattle.pb_base.specs.Steppers.{Table}
@@ -48,10 +49,12 @@ one_table program a b h k =
 
 -- ---- both directions
 
-pub means_the_same : (program : Program) (claims : Table) → AllWellNumbered program.processes → AreClaims program claims
+pub means_the_same : (program : Program) (claims : Table) → AllWellNumbered program.processes
+    → AreClaims program claims
     → MeansTheSame program (program_code program claims)
 means_the_same program claims numbered are =
-    let both = implements (record { capital = capital_of program; claims = claims }) program.processes numbered in
+    let both =
+    implements (record { capital = capital_of program; claims = claims }) program.processes numbered in
     record {
       no_more = λ events n can. (claims, are, both.no_more events n can);
       no_less = λ events n can.

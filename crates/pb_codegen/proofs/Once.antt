@@ -1,7 +1,8 @@
 -- Each arm of generated code but the first is named by one fork.
 use Rattle.std.proofs.Common.{◌≡◌, ℕ, ◌+◌, List, [], ◌∷◌, ◌++◌, length, refl, ap, arith, length-append}
 use Rattle.pb_names.specs.Program.{Expr, Number, Variable, Unary, Binary, Stmt, Set, Write, If, While, HoldDo}
-use Rattle.pb_names.specs.Program.{Parbegin, Block, Skip, Then, Arms, NoArm, AndArm, count, arms_list, arms_in}
+use Rattle.pb_names.specs.Program.{Parbegin, Block, Skip, Then, Arms, NoArm, AndArm, count, arms_list}
+use Rattle.pb_names.specs.Program.{arms_in}
 use Rattle.pb_names.specs.Program.{arms_in_stmt, arms_in_arms, IsNumbered, IsNumberedStmt, AreNumbered}
 use Rattle.pb_code.specs.Code.{Store, Compute1, Compute2, Jump, JumpIfZero, PrintTop, Give, End}
 use Rattle.pb_codegen.specs.Generate.{expr_code, stmt_code, block_code, arm_code, arms_code}
@@ -75,7 +76,8 @@ module _ (b : ℕ) where
         let after = start + length (block_code start body) + 1 in
         let x = times_in-expr e in
         let y = times_in-block start body in
-        let n = times_in-append b (expr_code e) (JumpIfZero after ∷ (block_code start body ++ (Jump p ∷ []))) in
+        let n =
+        times_in-append b (expr_code e) (JumpIfZero after ∷ (block_code start body ++ (Jump p ∷ []))) in
         let m = times_in-append b (block_code start body) (Jump p ∷ []) in
         omega (arith, x, y, n, m)
     times_in-stmt p (HoldDo line bundle body) =

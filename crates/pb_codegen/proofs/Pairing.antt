@@ -30,7 +30,8 @@ one i h = alone i [] h none
 paired_expr : (e : Expr) → ArePaired (expr_code e)
 paired_expr (Number v) = one (Push v) tt
 paired_expr (Variable x) = one (Load x) tt
-paired_expr (Unary op a) = paired-append (expr_code a) (Compute1 op ∷ []) (paired_expr a) (one (Compute1 op) tt)
+paired_expr (Unary op a) =
+    paired-append (expr_code a) (Compute1 op ∷ []) (paired_expr a) (one (Compute1 op) tt)
 paired_expr (Binary op a b) =
     paired-append (expr_code a) (expr_code b ++ (Compute2 op ∷ [])) (paired_expr a)
     (paired-append (expr_code b) (Compute2 op ∷ []) (paired_expr b) (one (Compute2 op) tt))

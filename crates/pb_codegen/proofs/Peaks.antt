@@ -1,7 +1,9 @@
 -- The arms of a process are low, and those of each parbegin have the peaks of the one pass.
-use Rattle.std.proofs.Common.{◌≡◌, ℕ, zero, suc, ◌+◌, ◌<◌, ◌≤◌, List, [], ◌∷◌, ◌++◌, length, Some, refl, sym, ap, subst, arith}
+use Rattle.std.proofs.Common.{◌≡◌, ℕ, zero, suc, ◌+◌, ◌<◌, ◌≤◌, List, [], ◌∷◌, ◌++◌, length, Some, refl, sym}
+use Rattle.std.proofs.Common.{ap, subst, arith}
 use Rattle.std.specs.Prelude.{slice_get}
-use Rattle.pb_names.specs.Program.{Stmt, Set, Write, If, While, HoldDo, Parbegin, Block, Skip, Then, Arms, NoArm}
+use Rattle.pb_names.specs.Program.{Stmt, Set, Write, If, While, HoldDo, Parbegin, Block, Skip, Then, Arms}
+use Rattle.pb_names.specs.Program.{NoArm}
 use Rattle.pb_names.specs.Program.{AndArm, count, arms_list, arms_in_stmt, arms_in, arms_in_arms}
 use Rattle.pb_names.specs.Program.{IsNumberedStmt, IsNumbered, AreNumbered}
 use Rattle.pb_names.specs.Claims.{peak, arms_peak}

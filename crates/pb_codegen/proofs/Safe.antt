@@ -1,13 +1,16 @@
 -- Under the banker the loans of processes that ask for no resource twice stay safe.
-use Rattle.std.proofs.Common.{◌≡◌, ℕ, zero, suc, ◌+◌, ◌-◌, ◌<◌, ◌≤◌, List, [], ◌∷◌, length, get_or, map, replicate, set, refl, sym, ◌∙◌, subst, arith}
+use Rattle.std.proofs.Common.{◌≡◌, ℕ, zero, suc, ◌+◌, ◌-◌, ◌<◌, ◌≤◌, List, [], ◌∷◌, length, get_or, map}
+use Rattle.std.proofs.Common.{replicate, set, refl, sym, ◌∙◌, subst, arith}
 use Rattle.std.specs.Prelude.{All}
 use Rattle.std.proofs.Math.ListN.{get_or-map}
 use Rattle.std.proofs.lemmas.List.{length-map, length-replicate}
 use Rattle.std.proofs.lemmas.List.Sorted.{IsPermutation-refl}
 use Rattle.pb_base.specs.declared.pair.Pair.{Pair}
-use Rattle.pb_base.specs.Banker.{BankerState, claim, loan, everyone, held_by, cash, cell, row_of, IsSafe, IsAllowed, IsWellFormed}
+use Rattle.pb_base.specs.Banker.{BankerState, claim, loan, everyone, held_by, cash, cell, row_of, IsSafe}
+use Rattle.pb_base.specs.Banker.{IsAllowed, IsWellFormed}
 use Rattle.pb_base.specs.Bundle.{amount_in, lend, give_back}
-use Rattle.pb_base.specs.Steppers.{Bank, Bundle, Table, Effect, Silent, Prints, Takes, Returns, Faults, IsGranted, banker_state, loans_after}
+use Rattle.pb_base.specs.Steppers.{Bank, Bundle, Table, Effect, Silent, Prints, Takes, Returns, Faults}
+use Rattle.pb_base.specs.Steppers.{IsGranted, banker_state, loans_after}
 use Rattle.pb_base.specs.Steppers as steppers
 use Rattle.pb_base.proofs.BankerLaws.{fewer_loans_stay_safe}
 use Rattle.pb_base.proofs.Groups.{range_below, sum_by-zero_on}

@@ -1,5 +1,6 @@
 -- What is written of expressions and statements, kind by kind.
-use Rattle.std.proofs.Common.{◌≡◌, ℕ, suc, ◌+◌, List, [], ◌∷◌, ◌++◌, length, replicate, Option, Some, arith, ap, refl, ◌∙◌, append_assoc, length-append}
+use Rattle.std.proofs.Common.{◌≡◌, ℕ, suc, ◌+◌, List, [], ◌∷◌, ◌++◌, length, replicate, Option, Some, arith}
+use Rattle.std.proofs.Common.{ap, refl, ◌∙◌, append_assoc, length-append}
 use Rattle.std.proofs.lemmas.List.{replicate-append-replicate}
 use Rattle.pb_base.specs.declared.operators.UnaryOp.{UnaryOp}
 use Rattle.pb_base.specs.declared.operators.BinaryOp.{BinaryOp}
@@ -59,15 +60,18 @@ if_code p line e a b then other end is_then is_other is_end =
     let then' = p + length (expr_code e) + 1 in
     let other' = then' + length (block_code then' a) + 1 in
     let end' = other' + length (block_code other' b) in
-    let same : length (block_code then a) ≡ length (block_code then' a) = ap (λ (q : ℕ). length (block_code q a)) is_then in
+    let same : length (block_code then a) ≡ length (block_code then' a) =
+    ap (λ (q : ℕ). length (block_code q a)) is_then in
     let same_other : other ≡ other' = omega (arith, same, is_then, is_other) in
-    let others : length (block_code other b) ≡ length (block_code other' b) = ap (λ (q : ℕ). length (block_code q b)) same_other in
+    let others : length (block_code other b) ≡ length (block_code other' b) =
+    ap (λ (q : ℕ). length (block_code q b)) same_other in
     let same_end : end ≡ end' = omega (arith, others, same_other, is_end) in
     ap (λ (t : ℕ). expr_code e ++ (JumpIfZero other ∷ (block_code t a ++ (Jump end ∷ block_code other b)))) is_then
     ∙ ap (λ (o : ℕ). expr_code e ++ (JumpIfZero o ∷ (block_code then' a ++ (Jump end ∷ block_code o b)))) same_other
     ∙ ap (λ (n : ℕ). expr_code e ++ (JumpIfZero other' ∷ (block_code then' a ++ (Jump n ∷ block_code other' b)))) same_end
 
-pub adds_if : {w u v x y z o s : Writer} (line : ℕ) (e : Expr) (a b : Block) (after : Option ℕ) (at other at' end : ℕ)
+pub adds_if : {w u v x y z o s : Writer} (line : ℕ) (e : Expr) (a b : Block) (after : Option ℕ)
+    (at other at' end : ℕ)
     → Adds w u (expr_code e) (replicate (length (expr_code e)) (Some line))
     → Adds u v (JumpIfZero 0 ∷ []) (Some line ∷ [])
     → Adds v x (block_code (place v) a) (block_lines a after)
@@ -83,7 +87,8 @@ adds_if {w} {u} {v} {x} {y} {z} {o} {s} line e a b after at other at' end h l m 
     let B = block_code (place z) b in
     let L = replicate (suc (length E)) (Some line) in
     let then : place v ≡ place w + length E + 1 = omega (arith, adds-place h, adds-place l) in
-    let else : place z ≡ place v + length A + 1 = omega (arith, adds-place m, adds-place n, place-replaced r) in
+    let else : place z ≡ place v + length A + 1 =
+    omega (arith, adds-place m, adds-place n, place-replaced r) in
     let last : place o ≡ place z + length B = adds-place q in
     let tested : Adds w v (E ++ JumpIfZero 0 ∷ []) L = adds_last line e (JumpIfZero 0) h l in
     let first : Adds w y (E ++ (JumpIfZero 0 ∷ (A ++ Jump 0 ∷ []))) (L ++ (block_lines a after ++ after ∷ [])) =
@@ -116,7 +121,8 @@ while_code : (p line : ℕ) (e : Expr) (body : Block) (start end : ℕ) → star
 while_code p line e body start end is_start is_end =
     let start' = p + length (expr_code e) + 1 in
     let end' = start' + length (block_code start' body) + 1 in
-    let same : length (block_code start body) ≡ length (block_code start' body) = ap (λ (q : ℕ). length (block_code q body)) is_start in
+    let same : length (block_code start body) ≡ length (block_code start' body) =
+    ap (λ (q : ℕ). length (block_code q body)) is_start in
     let same_end : end ≡ end' = omega (arith, same, is_start, is_end) in
     ap (λ (s : ℕ). expr_code e ++ (JumpIfZero end ∷ (block_code s body ++ Jump p ∷ []))) is_start
     ∙ ap (λ (n : ℕ). expr_code e ++ (JumpIfZero n ∷ (block_code start' body ++ Jump p ∷ []))) same_end

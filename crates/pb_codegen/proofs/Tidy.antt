@@ -1,5 +1,7 @@
 -- What code of a resolved program takes and gives back is no resource twice, and each one that is there.
-use Rattle.std.proofs.Common.{◌≡◌, ℕ, zero, suc, ◌+◌, ◌<◌, ℤ, pos, Bool, true, false, cond, List, [], ◌∷◌, length, get_or, set, Option, Some, None, option_and_then, Result, Ok, Err, refl, ap, subst}
+use Rattle.std.proofs.Common.{◌≡◌, ℕ, zero, suc, ◌+◌, ◌<◌, ℤ, pos, Bool, true, false, cond, List, [], ◌∷◌}
+use Rattle.std.proofs.Common.{length, get_or, set, Option, Some, None, option_and_then, Result, Ok, Err, refl}
+use Rattle.std.proofs.Common.{ap, subst}
 use Rattle.std.specs.Prelude.{All, slice_get}
 use Rattle.pb_base.specs.Arithmetic.{apply, apply_unary, is_zero}
 use Rattle.pb_base.specs.declared.operators.FaultKind.{FaultKind}
@@ -8,11 +10,14 @@ use Rattle.pb_base.specs.Steppers.{Bundle, Effect, Silent, Prints, Takes, Return
 use Rattle.pb_tree.specs.Syntax as tree
 use Rattle.pb_names.specs.Program.{Expr, Number, Variable, Unary, Binary, Stmt, Block, Arms, Name, Process}
 use Rattle.pb_names.specs.Program.{arms_of, arms_in, arms_list, arms_in_stmt, arms_in_arms}
-use Rattle.pb_names.specs.Resolves.{ResolvesStmt, assign, print, if_else, while_do, hold, parbegin, ResolvesStmts}
+use Rattle.pb_names.specs.Resolves.{ResolvesStmt, assign, print, if_else, while_do, hold, parbegin}
+use Rattle.pb_names.specs.Resolves.{ResolvesStmts}
 use Rattle.pb_names.specs.Resolves.{no_stmt, stmt_then, ResolvesArms, no_arm, arm_then}
 use Rattle.pb_code.specs.Code.{Instr, Push, Load, Store, Compute1, Compute2, Jump, JumpIfZero, PrintTop, Take}
-use Rattle.pb_code.specs.Code.{Give, Fork, Join, End, ProcessCode, CodeProcess, Thread, Idle, Live, Over, thread}
-use Rattle.pb_code.specs.Code.{ThreadStep, Runs, Traps, Forks, Joins, Stops, with_result, act, all_over, apply_step}
+use Rattle.pb_code.specs.Code.{Give, Fork, Join, End, ProcessCode, CodeProcess, Thread, Idle, Live, Over}
+use Rattle.pb_code.specs.Code.{thread}
+use Rattle.pb_code.specs.Code.{ThreadStep, Runs, Traps, Forks, Joins, Stops, with_result, act, all_over}
+use Rattle.pb_code.specs.Code.{apply_step}
 use Rattle.pb_code.specs.Code.{step_thread, step_process}
 use Rattle.pb_codegen.specs.Generate.{process_code}
 use Rattle.pb_codegen.proofs.Bundles.{resources_there}

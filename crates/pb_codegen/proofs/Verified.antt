@@ -1,5 +1,6 @@
 -- The code of an accepted program passes the verifier.
-use Rattle.std.proofs.Common.{◌≡◌, ℕ, ◌<◌, ◌≤◌, List, [], length, get_or, map, Some, refl, sym, ap, ◌∙◌, subst, arith}
+use Rattle.std.proofs.Common.{◌≡◌, ℕ, ◌<◌, ◌≤◌, List, [], length, get_or, map, Some, refl, sym, ap, ◌∙◌}
+use Rattle.std.proofs.Common.{subst, arith}
 use Rattle.std.specs.Prelude.{All, slice_get}
 use Rattle.std.proofs.lemmas.List.{get_or_default, length-map}
 use Rattle.std.proofs.lemmas.List.Elements.{All-map}
@@ -9,7 +10,8 @@ use Rattle.pb_tree.specs.Syntax.{ResourceSyntax, ProgramSyntax}
 use Rattle.pb_names.specs.Claims.{peak}
 use Rattle.pb_names.specs.Program.{Process, Resource, Program, capital_of}
 use Rattle.pb_names.specs.Meaning.{AreClaims}
-use Rattle.pb_names.specs.Resolves.{Resolves, ResolvesProcess, ResolvesResource, process_names, resource_names}
+use Rattle.pb_names.specs.Resolves.{Resolves, ResolvesProcess, ResolvesResource, process_names}
+use Rattle.pb_names.specs.Resolves.{resource_names}
 use Rattle.pb_parser.specs.Limits as parser
 use Rattle.pb_parser.specs.Programs.{ReadsProgram}
 use Rattle.pb_lexer.specs.Cutting.{AreTokensOf}
@@ -20,8 +22,12 @@ use Rattle.pb_claims.proofs.OnePass.{is_claim}
 use Rattle.pb_code.specs.Code.{ProcessCode}
 use Rattle.pb_code.specs.Whole.{Code}
 use Rattle.pb_verifier.specs.declared.fault.VerifyFault.{VerifyFault}
-use Rattle.pb_verifier.specs.declared.fault.VerifyFault.TheVariants.{OutOfLimits, OverCapital, OutOfRange, WrongArms, WrongForks, NoDepths, NoHoldings, LeftAtEnd, OverClaim, NoMemory}
-use Rattle.pb_verifier.specs.Faults.{FitCapital, IsInRange, HasArms, HasForks, AreDepths, AreHoldings, EndsClear, PeakFits}
+use Rattle.pb_verifier.specs.declared.fault.VerifyFault.TheVariants.{OutOfLimits, OverCapital, OutOfRange}
+use Rattle.pb_verifier.specs.declared.fault.VerifyFault.TheVariants.{WrongArms, WrongForks, NoDepths}
+use Rattle.pb_verifier.specs.declared.fault.VerifyFault.TheVariants.{NoHoldings, LeftAtEnd, OverClaim}
+use Rattle.pb_verifier.specs.declared.fault.VerifyFault.TheVariants.{NoMemory}
+use Rattle.pb_verifier.specs.Faults.{FitCapital, IsInRange, HasArms, HasForks, AreDepths, AreHoldings}
+use Rattle.pb_verifier.specs.Faults.{EndsClear, PeakFits}
 use Rattle.pb_verifier.specs.Limits.{IsName, IsSmallProcess, KeepsLimits}
 use Rattle.pb_verifier.specs.Behaviour.{IsWellBehaved}
 use Rattle.pb_verifier.specs.Verified.{IsAnnotated, IsRefusedFor}
@@ -171,9 +177,11 @@ module _ (tree : ProgramSyntax) (program : Program) (claims : Table) (h : CanBeC
 
 -- ---- what verified code does
 
-pub code_behaves : (tree : ProgramSyntax) (program : Program) (claims : Table) → CanBeCompiled tree program claims
+pub code_behaves : (tree : ProgramSyntax) (program : Program) (claims : Table)
+    → CanBeCompiled tree program claims
     → IsWellBehaved (program_code program claims)
-code_behaves tree program claims h = behaved (program_code program claims) (annotated_code tree program claims h)
+code_behaves tree program claims h =
+    behaved (program_code program claims) (annotated_code tree program claims h)
 
 -- ---- a refusal
 
@@ -183,8 +191,10 @@ wrong_fault c fault annotated refused other = (refused other).0 (annotated fault
 
 -- annotated code is refused for want of memory alone
 pub memory_alone : (c : Code) (fault : VerifyFault) → IsAnnotated c → IsRefusedFor c fault → fault ≡ NoMemory
-memory_alone c OutOfLimits annotated refused = elim (wrong_fault c OutOfLimits annotated refused (λ e. cc)) [ ]
-memory_alone c OverCapital annotated refused = elim (wrong_fault c OverCapital annotated refused (λ e. cc)) [ ]
+memory_alone c OutOfLimits annotated refused =
+    elim (wrong_fault c OutOfLimits annotated refused (λ e. cc)) [ ]
+memory_alone c OverCapital annotated refused =
+    elim (wrong_fault c OverCapital annotated refused (λ e. cc)) [ ]
 memory_alone c OutOfRange annotated refused = elim (wrong_fault c OutOfRange annotated refused (λ e. cc)) [ ]
 memory_alone c WrongArms annotated refused = elim (wrong_fault c WrongArms annotated refused (λ e. cc)) [ ]
 memory_alone c WrongForks annotated refused = elim (wrong_fault c WrongForks annotated refused (λ e. cc)) [ ]
@@ -196,7 +206,8 @@ memory_alone c NoMemory annotated refused = refl
 
 -- ---- an accepted text
 
-pub sound_code : (text : List ℕ) (tokens : List Token) (tree : ProgramSyntax) (program : Program) (claims : Table)
+pub sound_code : (text : List ℕ) (tokens : List Token) (tree : ProgramSyntax) (program : Program)
+    (claims : Table)
     → AreTokensOf text tokens → ReadsProgram tokens tree → parser.KeepsLimits tree → Resolves tree program
     → AreClaims program claims → claimed.FitCapital claims (capital_of program) → HasSoundCode program claims
 sound_code text tokens tree program claims cut read limits numbered are_claims enough =

@@ -9,7 +9,8 @@ abbrev whole : NameTable → List ℕ → Table → List ProcessCode → Code
 whole names capital claims processes =
     record { names = names; capital = capital; claims = claims; processes = processes }
 
-pub same_code : (names names' : NameTable) (capital capital' : List ℕ) (claims claims' : Table) (processes processes' : List ProcessCode)
+pub same_code : (names names' : NameTable) (capital capital' : List ℕ) (claims claims' : Table)
+    (processes processes' : List ProcessCode)
     → names ≡ names' → capital ≡ capital' → claims ≡ claims' → processes ≡ processes'
     → whole names capital claims processes ≡ whole names' capital' claims' processes'
 same_code names names' capital capital' claims claims' processes processes' n c t p =

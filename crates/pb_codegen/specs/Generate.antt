@@ -2,11 +2,14 @@
 use Rattle.std.specs.Prelude.{ℕ, ◌+◌, List, [], ◌∷◌, ◌++◌, length, map}
 use Rattle.pb_base.specs.Lines.{NameTable}
 use Rattle.pb_base.specs.Steppers.{Table}
-use Rattle.pb_names.specs.Program.{Expr, Number, Variable, Unary, Binary, Stmt, Set, Write, If, While, HoldDo, Parbegin, Block, Skip, Then, count, Process, Program, arms_of, capital_of}
+use Rattle.pb_names.specs.Program.{Expr, Number, Variable, Unary, Binary, Stmt, Set, Write, If, While, HoldDo}
+use Rattle.pb_names.specs.Program.{Parbegin, Block, Skip, Then, count, Process, Program, arms_of, capital_of}
 use Rattle.pb_names.specs.Resolves.{process_names, resource_names}
 use Rattle.pb_code.specs.Whole.{Code}
-use Rattle.pb_code.specs.Code.{Instr, Push, Load, Store, Compute1, Compute2, Jump, JumpIfZero, PrintTop, Take, Give, Fork, Join, End, ProcessCode}
+use Rattle.pb_code.specs.Code.{Instr, Push, Load, Store, Compute1, Compute2, Jump, JumpIfZero, PrintTop, Take}
+use Rattle.pb_code.specs.Code.{Give, Fork, Join, End, ProcessCode}
 
+-- the code of an expression: its operands from the left, then what is computed of them
 abbrev pub expr_code : Expr → List Instr
 expr_code (Number v) = Push v ∷ []
 expr_code (Variable x) = Load x ∷ []
@@ -27,13 +30,16 @@ abbrev mutual
       let start = place + length (expr_code e) + 1 in
       let after = start + length (block_code start body) + 1 in
       expr_code e ++ (JumpIfZero after ∷ (block_code start body ++ (Jump place ∷ [])))
-  stmt_code place (HoldDo line bundle body) = Take bundle ∷ (block_code (place + 1) body ++ (Give bundle ∷ []))
+  stmt_code place (HoldDo line bundle body) =
+      Take bundle ∷ (block_code (place + 1) body ++ (Give bundle ∷ []))
   stmt_code place (Parbegin line first arms) = Fork first (count arms) ∷ Join first (count arms) ∷ []
 
+  -- the code of a list of statements
   pub block_code : ℕ → Block → List Instr
   block_code place Skip = []
   block_code place (Then s block) = stmt_code place s ++ block_code (place + length (stmt_code place s)) block
 
+-- the code of an arm: its list, and the end
 abbrev pub arm_code : ℕ → Block → List Instr
 arm_code place arm = block_code place arm ++ (End ∷ [])
 
@@ -42,10 +48,12 @@ abbrev pub arms_code : ℕ → List Block → List Instr
 arms_code place [] = []
 arms_code place (arm ∷ arms) = arm_code place arm ++ arms_code (place + length (arm_code place arm)) arms
 
+-- the place at which each arm begins
 abbrev pub arms_entries : ℕ → List Block → List ℕ
 arms_entries place [] = []
 arms_entries place (arm ∷ arms) = place ∷ arms_entries (place + length (arm_code place arm)) arms
 
+-- the code of a process: its body is arm 0
 abbrev pub process_code : Process → ProcessCode
 process_code process = record {
   integers = length process.integers;

@@ -3,7 +3,8 @@ use Rattle.std.specs.Prelude.{◌≡◌, List, map, Some}
 use Rattle.pb_base.specs.declared.event.Event.{Event}
 use Rattle.pb_base.specs.declared.pick.Pick.{Pick}
 use Rattle.pb_base.specs.Banker.{IsSafe, IsWithinClaim}
-use Rattle.pb_base.specs.Steppers.{Bank, Bundle, Table, Takes, State, Move, Makes, banker_state, move_of, opening}
+use Rattle.pb_base.specs.Steppers.{Bank, Bundle, Table, Takes, State, Move, Makes, banker_state, move_of}
+use Rattle.pb_base.specs.Steppers.{opening}
 use Rattle.pb_names.specs.Program.{Program, capital_of}
 use Rattle.pb_names.specs.Source.{SourceProcess, source_process, source_step}
 
@@ -31,5 +32,6 @@ SourceIsSafe program claims s = IsSafe (banker_state (bank_with program claims) 
 
 -- in every state that the source reaches, requests are within the claims and the loans are safe
 pub record KeepsClaims (program : Program) (claims : Table) : Type 0 where
-  pub asks_within : (s : State SourceProcess) → SourceReaches program claims s → SourceAsksWithin program claims s
+  pub asks_within : (s : State SourceProcess) → SourceReaches program claims s
+      → SourceAsksWithin program claims s
   pub safe : (s : State SourceProcess) → SourceReaches program claims s → SourceIsSafe program claims s

@@ -5,7 +5,7 @@ ghost use Rattle.pb_base.specs.Steppers.{Bank, State, Table};
 ghost use Rattle.pb_claims.specs.Fits.{FitCapital};
 ghost use Rattle.pb_code.specs.Annotation.{CanBeAnnotated};
 ghost use Rattle.pb_codegen.specs.Accepted.{CanBeCompiled, HasSoundCode};
-ghost use Rattle.pb_codegen.specs.Correct.{Implements, IsFollowed, generated};
+ghost use Rattle.pb_codegen.specs.Correct.{ImplementsUnder, IsFollowed, generated};
 ghost use Rattle.pb_codegen.specs.Form.{IsFormed};
 ghost use Rattle.pb_codegen.specs.Generate.{process_code, program_code};
 ghost use Rattle.pb_codegen.specs.Sizes.{IsGeneratable};
@@ -24,13 +24,15 @@ ghost use Rattle.pb_verifier.specs.Verified.{IsAnnotated};
 
 /// The code of well numbered processes can make the events that the processes can make.
 pub fn same_events()
-    ensures { (bank : Bank) (program : List Process) → AllWellNumbered program → Implements bank program (generated program) }
+    ensures { (bank : Bank) (program : List Process)
+        → AllWellNumbered program → ImplementsUnder bank program (generated program) }
 {}
 
 /// After any picks of the code the source stands after their shadow, and the line at the place of each live
 /// arm is the line of that arm's first item there.
 pub fn lines_follow_the_source()
-    ensures { (bank : Bank) (program : List Process) → AllWellNumbered program → IsFollowed bank program (generated program) }
+    ensures { (bank : Bank) (program : List Process)
+        → AllWellNumbered program → IsFollowed bank program (generated program) }
 {}
 
 /// Generated code has depths and holdings at all its places that fit one another.
