@@ -25,11 +25,13 @@ pub record CanBeCompiled (tree : ProgramSyntax) (program : Program) (claims : Ta
   pub claimed : AreClaims program claims
   pub enough : FitCapital claims (capital_of program)
 
--- what is then true of it and its code: the code can be generated, it has none of the faults that the verifier looks
--- for, and so a refusal is for want of memory alone; it is well behaved; and the program keeps its claims
+-- what is then true of it and its code: the code can be generated, it has none of the faults that the
+-- verifier looks for, and so a refusal is for want of memory alone; it is well behaved; and the program keeps
+-- its claims
 pub record HasSoundCode (program : Program) (claims : Table) : Type 0 where
   pub generatable : IsGeneratable program
   pub annotated : IsAnnotated (program_code program claims)
-  pub memory_alone : (fault : VerifyFault) → IsRefusedFor (program_code program claims) fault → fault ≡ NoMemory
+  pub memory_alone : (fault : VerifyFault) → IsRefusedFor (program_code program claims) fault
+      → fault ≡ NoMemory
   pub behaves : IsWellBehaved (program_code program claims)
   pub keeps : KeepsClaims program claims

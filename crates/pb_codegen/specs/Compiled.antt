@@ -32,8 +32,9 @@ pub record CompiledText : Type 0 where
   pub verified : VerifiedCode
   pub labels : List ProcessLabels
 
--- the text spells a program, and the code means the same; its names, claims and labels are those of the program, and
--- the capital is enough for the claims; both are well behaved: no request passes its claim, and all loans are safe
+-- the text spells a program, and the code means the same; its names, claims and labels are those of the
+-- program, and the capital is enough for the claims; both are well behaved: no request passes its claim, and
+-- all loans are safe
 pub record IsCompiled (text : List ℕ) (code : Code) (labels : List ProcessLabels) : Type 0 where
   pub program : Program
   pub numbered : IsNumbered text program code.claims
@@ -62,7 +63,8 @@ IsRefused text (Parse fault) = (tokens : List Token) × AreTokensOf text tokens 
 IsRefused text (Names names.NoMemory) = ⊥
 IsRefused text (Names fault) = (tree : ProgramSyntax) × Spells text tree × IsFault tree fault
 IsRefused text (Claims over) =
-    (program : Program) × (claims : Table) × IsNumbered text program claims × IsFirstOver claims (capital_of program) over
+    (program : Program) × (claims : Table) × IsNumbered text program claims
+    × IsFirstOver claims (capital_of program) over
 IsRefused text Memory = ⊤
 
 -- ---- want of memory is one fault, wherever it comes

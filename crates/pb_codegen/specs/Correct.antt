@@ -17,11 +17,13 @@ generated program = map process_code program
 
 -- the code and the program can make the same events
 pub record Implements (bank : Bank) (program : List Process) (codes : List ProcessCode) : Type 0 where
-  pub no_more : (events : List Event) (n : ℕ) → CodeCanUnder bank codes events n → SourceCanUnder bank program events n
-  pub no_less : (events : List Event) (n : ℕ) → SourceCanUnder bank program events n → CodeCanUnder bank codes events (n * (longest codes + 1))
+  pub no_more : (events : List Event) (n : ℕ) → CodeCanUnder bank codes events n
+      → SourceCanUnder bank program events n
+  pub no_less : (events : List Event) (n : ℕ) → SourceCanUnder bank program events n
+      → CodeCanUnder bank codes events (n * (longest codes + 1))
 
--- the code makes the events that the program makes, and no others; in the other direction each step of the program
--- takes at most the length of the longest code, and one more
+-- the code makes the events that the program makes, and no others; in the other direction each step of the
+-- program takes at most the length of the longest code, and one more
 pub record MeansTheSame (program : Program) (code : Code) : Type 0 where
   pub no_more : (events : List Event) (n : ℕ) → CodeCan code events n → SourceCan program events n
   pub no_less : (events : List Event) (n : ℕ)
@@ -29,19 +31,24 @@ pub record MeansTheSame (program : Program) (code : Code) : Type 0 where
 
 -- ---- lines
 
--- the line of the place of each live arm is the line of the first item of that arm in the source, none where its list is empty
+-- the line of the place of each live arm is the line of the first item of that arm in the source, none where
+-- its list is empty
 abbrev pub LinesAgree : List Process → State CodeProcess → State SourceProcess → Type 0
 LinesAgree program s t =
     (p a place : ℕ) (stack : List ℤ) (process : Process) (cp : CodeProcess) (sp : SourceProcess)
-    → slice_get program p ≡ Some process → slice_get s.processes p ≡ Some cp → slice_get t.processes p ≡ Some sp
+    → slice_get program p ≡ Some process → slice_get s.processes p ≡ Some cp
+    → slice_get t.processes p ≡ Some sp
     → thread cp.threads a ≡ Live place stack
-    → (run : Arm) × (arm : Arm) × (sp.run ≡ Some run) × (find a 0 run ≡ Some arm) × (get_or (process_lines process) place None ≡ head_line arm)
+    → (run : Arm) × (arm : Arm) × (sp.run ≡ Some run) × (find a 0 run ≡ Some arm)
+    × (get_or (process_lines process) place None ≡ head_line arm)
 
--- whatever the code's picks, the source makes their shadow, with the same events; the lines agree there, and whether all is finished
+-- whatever the code's picks, the source makes their shadow, with the same events; the lines agree there, and
+-- whether all is finished
 pub record IsFollowed (bank : Bank) (program : List Process) (codes : List ProcessCode) : Type 0 where
   pub by_shadow : (picks : List Pick) (events : List Event) (s : State CodeProcess)
       → Makes bank (code_step codes) (opening bank (map code_process codes)) picks events s
       → (t : State SourceProcess)
-      × Makes bank source_step (opening bank (map source_process program)) (shadow codes (opening bank (map code_process codes)) picks) events t
+      × Makes bank source_step (opening bank (map source_process program))
+      (shadow codes (opening bank (map code_process codes)) picks) events t
       × LinesAgree program s t
       × (IsFinished code_over s ↔ IsFinished source_over t)

@@ -1,5 +1,5 @@
--- What a tree that was read has beside its limits: its names are names, each hold has a pair, each parbegin an arm,
--- and there is a process.
+-- What a tree that was read has beside its limits: its names are names, each hold has a pair, each parbegin
+-- an arm, and there is a process.
 use Rattle.std.specs.Prelude.{◌≤◌, length, All, ⊤}
 use Rattle.pb_tree.specs.Syntax.{StmtSyntax, assign, print, if_else, while_do, hold, parbegin, StmtsSyntax}
 use Rattle.pb_tree.specs.Syntax.{no_stmt, stmt_then, ArmsSyntax, no_arm, arm_then, ProcessSyntax, ProgramSyntax}

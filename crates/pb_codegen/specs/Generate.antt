@@ -27,7 +27,8 @@ abbrev mutual
       let start = place + length (expr_code e) + 1 in
       let after = start + length (block_code start body) + 1 in
       expr_code e ++ (JumpIfZero after ∷ (block_code start body ++ (Jump place ∷ [])))
-  stmt_code place (HoldDo line bundle body) = Take bundle ∷ (block_code (place + 1) body ++ (Give bundle ∷ []))
+  stmt_code place (HoldDo line bundle body) =
+      Take bundle ∷ (block_code (place + 1) body ++ (Give bundle ∷ []))
   stmt_code place (Parbegin line first arms) = Fork first (count arms) ∷ Join first (count arms) ∷ []
 
   pub block_code : ℕ → Block → List Instr

@@ -23,7 +23,8 @@ abbrev mutual
   stmt_lines (Set line x e) after = replicate (suc (length (expr_code e))) (Some line)
   stmt_lines (Write line e) after = replicate (suc (length (expr_code e))) (Some line)
   stmt_lines (If line e a b) after =
-      replicate (suc (length (expr_code e))) (Some line) ++ (block_lines a after ++ (after ∷ block_lines b after))
+      replicate (suc (length (expr_code e))) (Some line)
+      ++ (block_lines a after ++ (after ∷ block_lines b after))
   stmt_lines (While line e body) after =
       replicate (suc (length (expr_code e))) (Some line) ++ (block_lines body (Some line) ++ (Some line ∷ []))
   stmt_lines (HoldDo line bundle body) after = Some line ∷ (block_lines body (Some line) ++ (Some line ∷ []))

@@ -31,5 +31,6 @@ SourceIsSafe program claims s = IsSafe (banker_state (bank_with program claims) 
 
 -- in every state that the source reaches, requests are within the claims and the loans are safe
 pub record KeepsClaims (program : Program) (claims : Table) : Type 0 where
-  pub asks_within : (s : State SourceProcess) → SourceReaches program claims s → SourceAsksWithin program claims s
+  pub asks_within : (s : State SourceProcess) → SourceReaches program claims s
+      → SourceAsksWithin program claims s
   pub safe : (s : State SourceProcess) → SourceReaches program claims s → SourceIsSafe program claims s
