@@ -1,5 +1,5 @@
--- What is answered for a program: in a row for each process its claim on each resource, or the greatest u64 where
--- the claim is larger.
+-- What is answered for a program: in a row for each process its claim on each resource, or the greatest u64
+-- where the claim is larger.
 use Rattle.std.specs.Prelude.{◌≡◌, ℕ, ◌<◌, ◌-◌, ◌^◌, min, List, length, map, slice_get, Some}
 use Rattle.std.specs.List.{range_with_len}
 use Rattle.pb_base.specs.Banker.{cell, row_of}

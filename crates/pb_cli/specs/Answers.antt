@@ -24,4 +24,5 @@ Says old new text status answered =
 
 -- one of some texts was said, with its status
 abbrev pub Tells : (List ℕ → Status → Type 0) → Option (List ℕ) → Option (List ℕ) → Status → Type 0
-Tells MaySay old new answered = (text : List ℕ) × (status : Status) × MaySay text status × Says old new text status answered
+Tells MaySay old new answered =
+    (text : List ℕ) × (status : Status) × MaySay text status × Says old new text status answered

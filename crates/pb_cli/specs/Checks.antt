@@ -34,9 +34,11 @@ abbrev pub check_status : Bool → Status
 check_status true = Refused
 check_status false = Done
 
--- what is said of an input: each of its parts is answered; or the first ones, until memory wants or a write fails
+-- what is said of an input: each of its parts is answered; or the first ones, until memory wants or a write
+-- fails
 pub data SaysOfChecks (bytes : List ℕ) : List ℕ → Status → Type 0 where
-  answered : (parts : List (List ℕ)) (said : List ℕ) (refused : Bool) → AreParts bytes parts → AnswersTo parts said refused
+  answered : (parts : List (List ℕ)) (said : List ℕ) (refused : Bool) → AreParts bytes parts
+      → AnswersTo parts said refused
       → SaysOfChecks bytes said (check_status refused)
   out_of_memory : (done : List (List ℕ)) (said : List ℕ) (refused : Bool) → AreFirstParts bytes done
       → AnswersTo done said refused → SaysOfChecks bytes (said ++ memory_line) Memory
@@ -48,7 +50,8 @@ pub data SaysOfChecks (bytes : List ℕ) : List ℕ → Status → Type 0 where
 -- what came of telling the answer to one text
 abbrev pub TellsAnswer : List ℕ → Spoken → Spoken → Told → Type 0
 TellsAnswer text old new (told.Answered refused) =
-    (answer : List ℕ) × AnswerTo text answer refused × Leaves old.written new.written (old.page ++ answer) new.page
+    (answer : List ℕ) × AnswerTo text answer refused
+    × Leaves old.written new.written (old.page ++ answer) new.page
 TellsAnswer text old new told.OutOfMemory = new ≡ old
 TellsAnswer text old new told.Broken =
     (answer : List ℕ) × (refused : Bool) × AnswerTo text answer refused

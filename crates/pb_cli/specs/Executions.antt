@@ -8,7 +8,9 @@ use Rattle.pb_cli.specs.declared.status.Status.{Status}
 
 -- the bytes give no safe code; or they give some, of which some run is told
 pub data SaysOfExecution (steps : ℕ) (bytes : List ℕ) : List ℕ → Status → Type 0 where
-  no_code : (text : List ℕ) (status : Status) → SaysOfNoCode bytes text status → SaysOfExecution steps bytes text status
+  no_code : (text : List ℕ) (status : Status) → SaysOfNoCode bytes text status
+      → SaysOfExecution steps bytes text status
   executed : (code : Code) (labels : List ProcessLabels) → IsLoaded bytes code labels
-      → (events : List Event) (n : ℕ) (text : List ℕ) (status : Status) → SaysOfRun code steps events n text status
+      → (events : List Event) (n : ℕ) (text : List ℕ) (status : Status)
+      → SaysOfRun code steps events n text status
       → SaysOfExecution steps bytes text status

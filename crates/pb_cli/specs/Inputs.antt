@@ -11,6 +11,7 @@ pub data SaysOfReading (bytes : List ℕ) : List ℕ → Status → Type 0 where
   nothing : SaysOfReading bytes [] Device
 
 -- that, or what is said of these bytes, which are not too many
-pub data SaysOfInput (SaysOf : List ℕ → List ℕ → Status → Type 0) (bytes text : List ℕ) (status : Status) : Type 0 where
+pub data SaysOfInput (SaysOf : List ℕ → List ℕ → Status → Type 0) (bytes text : List ℕ) (status : Status)
+    : Type 0 where
   not_read : SaysOfReading bytes text status → SaysOfInput SaysOf bytes text status
   read : length bytes ≤ 4194304 → SaysOf bytes text status → SaysOfInput SaysOf bytes text status

@@ -23,7 +23,8 @@ pub record IsLoaded (bytes : List ℕ) (code : Code) (labels : List ProcessLabel
 abbrev pub IsLoadFault : List ℕ → LoadFault → Type 0
 IsLoadFault bytes (Object fault) = IsFaultOf bytes fault
 IsLoadFault bytes (Unsafe fault) =
-    (format : Format) × (code : Code) × (labels : List ProcessLabels) × Spells format code labels bytes × IsRefusedFor code fault
+    (format : Format) × (code : Code) × (labels : List ProcessLabels) × Spells format code labels bytes
+    × IsRefusedFor code fault
 
 -- the fault is one of the bytes, and not want of memory
 abbrev pub WantsNoMemory : LoadFault → Type 0
@@ -36,4 +37,5 @@ load_line (Unsafe fault) = verify_line fault
 
 -- what is said of bytes that give no safe code
 pub data SaysOfNoCode (bytes : List ℕ) : List ℕ → Status → Type 0 where
-  refused : (fault : LoadFault) → WantsNoMemory fault → IsLoadFault bytes fault → SaysOfNoCode bytes (line (load_line fault)) Refused
+  refused : (fault : LoadFault) → WantsNoMemory fault → IsLoadFault bytes fault
+      → SaysOfNoCode bytes (line (load_line fault)) Refused

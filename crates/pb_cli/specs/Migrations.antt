@@ -7,8 +7,10 @@ use Rattle.pb_cli.specs.Loading.{IsLoaded, SaysOfNoCode}
 use Rattle.pb_cli.specs.declared.status.Status.{Status}
 use Rattle.pb_cli.specs.declared.status.Status.TheVariants.{Done}
 
--- the bytes give no safe code; or they give some, whose text in the second format, with the same labels, is said
+-- the bytes give no safe code; or they give some, whose text in the second format, with the same labels, is
+-- said
 pub data SaysOfMigration (bytes : List ℕ) : List ℕ → Status → Type 0 where
-  no_code : (text : List ℕ) (status : Status) → SaysOfNoCode bytes text status → SaysOfMigration bytes text status
+  no_code : (text : List ℕ) (status : Status) → SaysOfNoCode bytes text status
+      → SaysOfMigration bytes text status
   migrated : (code : Code) (labels : List ProcessLabels) → IsLoaded bytes code labels
       → (text : List ℕ) → Spells Two code labels text → SaysOfMigration bytes text Done

@@ -13,8 +13,8 @@ pub record IsMarkAt (text : List ℕ) (at : ℕ) : Type 0 where
 abbrev pub HasNoMarkBelow : List ℕ → ℕ → Type 0
 HasNoMarkBelow text n = (at : ℕ) → at < n → ¬ IsMarkAt text at
 
--- a text with no mark has itself as its one part; else its first part ends before the first mark, and what follows
--- the mark has the others
+-- a text with no mark has itself as its one part; else its first part ends before the first mark, and what
+-- follows the mark has the others
 pub data AreParts : List ℕ → List (List ℕ) → Type 0 where
   last : (text : List ℕ) → ((at : ℕ) → ¬ IsMarkAt text at) → AreParts text (text ∷ [])
   more : (text : List ℕ) (at : ℕ) (parts : List (List ℕ)) → IsMarkAt text at → HasNoMarkBelow text at

@@ -63,7 +63,8 @@ names_line names.NoMemory = codes "memory"
 -- a claim that is over its capital, with the names of its process and its resource
 abbrev pub claims_line : NameTable → OverCapital → List ℕ
 claims_line table over =
-    codes "refused C1 " ++ slice_index_or table.processes over.process [] ++ 32 ∷ slice_index_or table.resources over.resource []
+    codes "refused C1 " ++ slice_index_or table.processes over.process []
+    ++ 32 ∷ slice_index_or table.resources over.resource []
     ++ codes " claim " ++ decimal over.claim ++ codes " capital " ++ decimal over.capital
 
 -- the line of the first fault of a text

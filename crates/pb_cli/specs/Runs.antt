@@ -29,10 +29,11 @@ IsDone end = IsFinished code_over end
 
 -- some process has faulted
 abbrev pub HasFault : State CodeProcess → Type 0
-HasFault end = (p : ℕ) × (process : CodeProcess) × (slice_get end.processes p ≡ Some process) × (process.faulted ≡ true)
+HasFault end =
+    (p : ℕ) × (process : CodeProcess) × (slice_get end.processes p ≡ Some process) × (process.faulted ≡ true)
 
--- what is said of a run of n picks with these events: at its end `done`, or `limit` where all steps were used up
--- before; the lines so far, and then `memory`, where memory wants; the lines so far where a write failed
+-- what is said of a run of n picks with these events: at its end `done`, or `limit` where all steps were used
+-- up before; the lines so far, and then `memory`, where memory wants; the lines so far where a write failed
 pub data SaysOfRun (code : Code) (steps : ℕ) (events : List Event) : ℕ → List ℕ → Status → Type 0 where
   done : (end : State CodeProcess) (run : Run code events end) → IsDone end → ¬ HasFault end
       → SaysOfRun code steps events (length run.picks) (event_lines code.names events ++ line (codes "done")) Done
@@ -46,8 +47,8 @@ pub data SaysOfRun (code : Code) (steps : ℕ) (events : List Event) : ℕ → L
   cut_off : (end : State CodeProcess) (run : Run code events end)
       → SaysOfRun code steps events (length run.picks) (event_lines code.names events) Device
 
--- what is said of a text: it is refused; or it is accepted, and some run of its code is told, of which the program can
--- make the same events with as many picks
+-- what is said of a text: it is refused; or it is accepted, and some run of its code is told, of which the
+-- program can make the same events with as many picks
 pub data SaysOf (steps : ℕ) (bytes : List ℕ) : List ℕ → Status → Type 0 where
   refused : (refusal : List ℕ) → RefusesWith bytes refusal → SaysOf steps bytes (line refusal) Refused
   accepted : (code : Code) (labels : List ProcessLabels) (compiled : IsCompiled bytes code labels)
@@ -57,4 +58,5 @@ pub data SaysOf (steps : ℕ) (bytes : List ℕ) : List ℕ → Status → Type 
 
 -- what is said of some run of the code
 abbrev pub SaysOfCode : Code → ℕ → List ℕ → Status → Type 0
-SaysOfCode code steps text status = (events : List Event) × (n : ℕ) × SaysOfRun code steps events n text status
+SaysOfCode code steps text status =
+    (events : List Event) × (n : ℕ) × SaysOfRun code steps events n text status

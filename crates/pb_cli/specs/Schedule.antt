@@ -25,15 +25,18 @@ pub record IsFirst (code : Code) (s : State CodeProcess) (pick : Pick) : Type 0 
 -- the first pick of process p that is enabled was made; or none of it is
 abbrev pub StepsFirstOf : Code → State CodeProcess → ℕ → Step → State CodeProcess → Type 0
 StepsFirstOf code before p Silent after =
-    (pick : Pick) × (pick.process ≡ p) × NoArmBelow code before p pick.arm × CodeMoves code before pick None after
+    (pick : Pick) × (pick.process ≡ p) × NoArmBelow code before p pick.arm
+    × CodeMoves code before pick None after
 StepsFirstOf code before p (Did event) after =
-    (pick : Pick) × (pick.process ≡ p) × NoArmBelow code before p pick.arm × CodeMoves code before pick (Some event) after
+    (pick : Pick) × (pick.process ≡ p) × NoArmBelow code before p pick.arm
+    × CodeMoves code before pick (Some event) after
 StepsFirstOf code before p NotEnabled after =
     ((pick : Pick) → pick.process ≡ p → CodeStays code before pick) × (after ≡ before)
 
 -- the first pick that is enabled was made; or all is done
 abbrev pub StepsFirst : Code → State CodeProcess → Step → State CodeProcess → Type 0
-StepsFirst code before Silent after = (pick : Pick) × IsFirst code before pick × CodeMoves code before pick None after
+StepsFirst code before Silent after =
+    (pick : Pick) × IsFirst code before pick × CodeMoves code before pick None after
 StepsFirst code before (Did event) after =
     (pick : Pick) × IsFirst code before pick × CodeMoves code before pick (Some event) after
 StepsFirst code before NotEnabled after = IsDone before × (after ≡ before)

@@ -28,13 +28,15 @@ pub record Spoken : Type 0 where
 
 -- what came of telling an event
 abbrev pub TellsEvent : NameTable → Event → Spoken → Spoken → Progress → Type 0
-TellsEvent names event old new Made = Leaves old.written new.written (old.page ++ line (line_of names event)) new.page
+TellsEvent names event old new Made =
+    Leaves old.written new.written (old.page ++ line (line_of names event)) new.page
 TellsEvent names event old new Finished = ⊥
 TellsEvent names event old new OutOfMemory = new ≡ old
-TellsEvent names event old new Broken = AddsPrefix old.written new.written (old.page ++ line (line_of names event))
+TellsEvent names event old new Broken =
+    AddsPrefix old.written new.written (old.page ++ line (line_of names event))
 
--- what came of one step: it was made and told; or all were done before; or there was no memory for its line; or it was
--- made and a write failed
+-- what came of one step: it was made and told; or all were done before; or there was no memory for its line;
+-- or it was made and a write failed
 abbrev pub TellsStep : Code → State CodeProcess → State CodeProcess → Spoken → Spoken → Progress → Type 0
 TellsStep code before after old new Made =
     (pick : Pick) × (event : Option Event) × CodeMoves code before pick event after
@@ -42,7 +44,8 @@ TellsStep code before after old new Made =
 TellsStep code before after old new Finished = IsDone before × (after ≡ before) × (new ≡ old)
 TellsStep code before after old new OutOfMemory = new ≡ old
 TellsStep code before after old new Broken =
-    (pick : Pick) × (event : Event) × (next : State CodeProcess) × CodeMoves code before pick (Some event) next
+    (pick : Pick) × (event : Event) × (next : State CodeProcess)
+    × CodeMoves code before pick (Some event) next
     × AddsPrefix old.written new.written (old.page ++ line (line_of code.names event))
 
 -- so far so many picks were made and told

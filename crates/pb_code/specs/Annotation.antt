@@ -16,7 +16,8 @@ Notes = ℕ → Option Shape
 abbrev pub Leads : Notes → ℕ → ℕ → List Bundle → Type 0
 Leads notes place depth holdings = notes place ≡ Some (record { depth = depth; holdings = holdings })
 
--- an instruction at a place of this depth and with these holdings finds what it needs, and leads to places of the right shape
+-- an instruction at a place of this depth and with these holdings finds what it needs, and leads to places of
+-- the right shape
 abbrev pub Fits : Notes → Instr → (place depth : ℕ) → List Bundle → Type 0
 Fits notes (Push v) p d hs = Leads notes (p + 1) (suc d) hs
 Fits notes (Load x) p d hs = Leads notes (p + 1) (suc d) hs
@@ -41,22 +42,27 @@ Fits notes End p d hs = (d ≡ 0) × (hs ≡ [])
 
 pub record IsAnnotated (code : ProcessCode) (notes : Notes) : Type 0 where
   pub starts : (a : ℕ) → a < length code.entries → Leads notes (get_or code.entries a 0) 0 []
-  pub flows : (p d : ℕ) (hs : List Bundle) → Leads notes p d hs → (i : Instr) × (slice_get code.instrs p ≡ Some i) × Fits notes i p d hs
+  pub flows : (p d : ℕ) (hs : List Bundle) → Leads notes p d hs
+      → (i : Instr) × (slice_get code.instrs p ≡ Some i) × Fits notes i p d hs
 
 abbrev pub CanBeAnnotated : ProcessCode → Type 0
 CanBeAnnotated code = (notes : Notes) × IsAnnotated code notes
 
 -- no fork names an arm that isn't there
 abbrev pub ForksInRange : ProcessCode → Type 0
-ForksInRange code = (p first count : ℕ) → slice_get code.instrs p ≡ Some (Fork first count) → first + count ≤ length code.entries
+ForksInRange code =
+    (p first count : ℕ) → slice_get code.instrs p ≡ Some (Fork first count)
+    → first + count ≤ length code.entries
 
 -- each live arm stands at an instruction that finds its operands
 abbrev pub HasOperands : ProcessCode → CodeProcess → Type 0
 HasOperands code process =
     (a place : ℕ) (stack : List ℤ) → thread process.threads a ≡ Live place stack
-    → (i : Instr) × (step : ThreadStep) × (slice_get code.instrs place ≡ Some i) × (act process.vars i place stack ≡ Some step)
+    → (i : Instr) × (step : ThreadStep) × (slice_get code.instrs place ≡ Some i)
+    × (act process.vars i place stack ≡ Some step)
 
 -- a process that some picks of its code lead to, whatever the banker says
 pub data IsRun (code : ProcessCode) : CodeProcess → Type 0 where
   run_start : IsRun code (code_process code)
-  run_step : (before after : CodeProcess) (a : ℕ) (effect : Effect) → IsRun code before → step_process code before a ≡ Some (after, effect) → IsRun code after
+  run_step : (before after : CodeProcess) (a : ℕ) (effect : Effect) → IsRun code before
+      → step_process code before a ≡ Some (after, effect) → IsRun code after

@@ -103,13 +103,15 @@ names_resource (r ∷ k ∷ ws) word = bytes_eq r word || names_resource ws word
 
 -- a resource, and an amount of it
 abbrev pub pair_of : Word → Word → Verdict Pair
-pair_of r k = mapped (λ p. record { resource = p.0; amount = p.1 }) (paired (number 0 15 r) (number 1 1000000 k))
+pair_of r k =
+    mapped (λ p. record { resource = p.0; amount = p.1 }) (paired (number 0 15 r) (number 1 1000000 k))
 
 -- such pairs, no resource twice
 unfoldable pub pairs_of : List Word → Verdict (List Pair)
 pairs_of [] = Read []
 pairs_of (r ∷ []) = Malformed
-pairs_of (r ∷ k ∷ ws) = cond (names_resource ws r) Malformed (mapped (λ p. p.0 ∷ p.1) (paired (pair_of r k) (pairs_of ws)))
+pairs_of (r ∷ k ∷ ws) =
+    cond (names_resource ws r) Malformed (mapped (λ p. p.0 ∷ p.1) (paired (pair_of r k) (pairs_of ws)))
 
 -- how many pairs there may be
 abbrev pub most_pairs : Format → ℕ
@@ -117,7 +119,8 @@ most_pairs One = 1
 most_pairs Two = 16
 
 unfoldable pub bundle_of : Format → List Word → Verdict (List Pair)
-bundle_of format ws = cond (nat_lt 0 (length ws) && nat_lt (length ws) (2 * most_pairs format + 1)) (pairs_of ws) Malformed
+bundle_of format ws =
+    cond (nat_lt 0 (length ws) && nat_lt (length ws) (2 * most_pairs format + 1)) (pairs_of ws) Malformed
 
 unfoldable pub operation : Word → List Word → Verdict Given
 operation k ws =

@@ -1,4 +1,5 @@
--- Code whose counts, numbers and names are within their limits, and labels that fit it: what an object can say.
+-- Code whose counts, numbers and names are within their limits, and labels that fit it: what an object can
+-- say.
 use Rattle.std.specs.Prelude.{◌≡◌, ◌≢◌, ◌≤◌, ◌<◌, ℕ, true, List, length, slice_get, slice_index, Some, All, EachIndex, AllPairs, Contains, ℤ, ⊤}
 use Rattle.std.specs.Char.{is_ascii_alphabetic}
 use Rattle.pb_base.specs.Bundle.{IsDistinct}
@@ -15,7 +16,8 @@ IsUpTo most n = (1 ≤ n) × (n ≤ most)
 
 -- what holds for the code of each process
 abbrev pub EachProcess : Code → (ProcessCode → Type 0) → Type 0
-EachProcess code Holds = (p : ℕ) (process : ProcessCode) → slice_get code.processes p ≡ Some process → Holds process
+EachProcess code Holds =
+    (p : ℕ) (process : ProcessCode) → slice_get code.processes p ≡ Some process → Holds process
 
 -- ---- names
 
@@ -69,7 +71,8 @@ pub record KeepsLimits (code : Code) : Type 0 where
   pub resource_names : AreNames (length code.capital) code.names.resources
   pub rows : length code.claims ≡ length code.processes
   pub width : HasWidth (length code.capital) code.claims
-  pub claims : (p r : ℕ) → p < length code.processes → r < length code.capital → cell code.claims p r ≤ 1000000
+  pub claims : (p r : ℕ) → p < length code.processes → r < length code.capital
+      → cell code.claims p r ≤ 1000000
   pub each : EachProcess code IsSmallProcess
 
 -- what is pushed has 64 bits with a sign
@@ -111,4 +114,5 @@ IsSingle i = ⊤
 -- what of code within the limits the first format can say
 pub record FitsFirst (code : Code) : Type 0 where
   pub few_processes : length code.processes ≤ 32
-  pub single : EachProcess code (λ process. (place : ℕ) (i : Instr) → slice_get process.instrs place ≡ Some i → IsSingle i)
+  pub single : EachProcess code (λ process. (place : ℕ) (i : Instr)
+      → slice_get process.instrs place ≡ Some i → IsSingle i)

@@ -49,6 +49,7 @@ line form text = do
   Ok (x, words.1)
 
 -- n parts in a row, each read by what stands before it
-unfoldable pub many : {X : Type 0} → (List X → List ℕ → Result (X × List ℕ) Fault) → List X → ℕ → List ℕ → Result (List X × List ℕ) Fault
+unfoldable pub many : {X : Type 0} → (List X → List ℕ → Result (X × List ℕ) Fault) → List X → ℕ → List ℕ
+    → Result (List X × List ℕ) Fault
 many part earlier zero text = Ok (earlier, text)
 many part earlier (suc n) text = part earlier text >>= λ x. many part (earlier ++ x.0 ∷ []) n x.1

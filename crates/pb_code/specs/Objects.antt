@@ -31,7 +31,8 @@ pub record Object : Type 0 where
   pub processes : List ProcessRow
 
 abbrev pub process_code : ProcessRow → ProcessCode
-process_code p = record { integers = length p.integers; entries = p.entries; instrs = map (λ place. place.1) p.places }
+process_code p =
+    record { integers = length p.integers; entries = p.entries; instrs = map (λ place. place.1) p.places }
 
 abbrev pub process_labels : ProcessRow → ProcessLabels
 process_labels p = record { lines = map (λ place. place.0) p.places; integers = p.integers }

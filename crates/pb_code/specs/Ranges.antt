@@ -69,7 +69,8 @@ plain_names (suc n) = plain_names n ++ (118 ∷ decimal n) ∷ []
 -- the first format has no names of integers but these
 abbrev pub AreIntegers : Format → List Word → Type 0
 AreIntegers One names = (names ≡ plain_names (length names)) × (length names ≤ 64)
-AreIntegers Two names = AllByRecursion (λ name. is_name name ≡ true) names × (are_new [] names ≡ true) × (length names ≤ 64)
+AreIntegers Two names =
+    AllByRecursion (λ name. is_name name ≡ true) names × (are_new [] names ≡ true) × (length names ≤ 64)
 
 -- ---- objects
 

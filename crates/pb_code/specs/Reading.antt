@@ -72,7 +72,8 @@ integers Two (k ∷ count ∷ names) = select k (codes "vars") (named_integers c
 -- a claim for each of m resources
 abbrev pub claims : ℕ → List Word → Verdict (List ℕ)
 claims m [] = verdict.Malformed
-claims m (k ∷ ws) = select k (codes "claims") (cond (length ws == m) (numbers 0 1000000 ws) verdict.Malformed) verdict.Malformed
+claims m (k ∷ ws) =
+    select k (codes "claims") (cond (length ws == m) (numbers 0 1000000 ws) verdict.Malformed) verdict.Malformed
 
 -- ---- the parts of an object, each with what follows it
 

@@ -37,7 +37,9 @@ is_numeral (d ∷ ds) = list_all is_ascii_digit (d ∷ ds) && (not (d == 48) || 
 unfoldable pub number : ℕ → ℕ → Word → Verdict ℕ
 number low high word =
     if is_numeral word then
-    if nat_lt (digits_value 10 word) low || nat_lt high (digits_value 10 word) then Beyond else Read (digits_value 10 word)
+    if nat_lt (digits_value 10 word) low || nat_lt high (digits_value 10 word)
+    then Beyond
+    else Read (digits_value 10 word)
     else Malformed
 
 -- numbers from low to high, one after the other
@@ -65,9 +67,10 @@ is_name_byte b = is_ascii_alphabetic b || is_ascii_digit b || b == 95
 -- the words of the language that are no names
 abbrev pub reserved_words : List Word
 reserved_words =
-    codes "and" ∷ codes "begin" ∷ codes "div" ∷ codes "do" ∷ codes "else" ∷ codes "end" ∷ codes "fi" ∷ codes "hold" ∷
-    codes "if" ∷ codes "integer" ∷ codes "mod" ∷ codes "not" ∷ codes "od" ∷ codes "of" ∷ codes "or" ∷ codes "parbegin" ∷
-    codes "parend" ∷ codes "print" ∷ codes "process" ∷ codes "resource" ∷ codes "skip" ∷ codes "then" ∷ codes "while" ∷ []
+    codes "and" ∷ codes "begin" ∷ codes "div" ∷ codes "do" ∷ codes "else" ∷ codes "end" ∷ codes "fi"
+    ∷ codes "hold" ∷ codes "if" ∷ codes "integer" ∷ codes "mod" ∷ codes "not" ∷ codes "od" ∷ codes "of"
+    ∷ codes "or" ∷ codes "parbegin" ∷ codes "parend" ∷ codes "print" ∷ codes "process" ∷ codes "resource"
+    ∷ codes "skip" ∷ codes "then" ∷ codes "while" ∷ []
 
 -- one of these words is this one
 abbrev pub is_among : List Word → Word → Bool
@@ -77,7 +80,8 @@ is_among words word = list_any (λ w. bytes_eq word w) words
 unfoldable pub is_name : Word → Bool
 is_name [] = false
 is_name (b ∷ bs) =
-    is_ascii_alphabetic b && (list_all is_name_byte bs && (nat_lt (length bs) 32 && not (is_among reserved_words (b ∷ bs))))
+    is_ascii_alphabetic b
+    && (list_all is_name_byte bs && (nat_lt (length bs) 32 && not (is_among reserved_words (b ∷ bs))))
 
 -- a name that no earlier one is
 abbrev pub is_new_name : List Word → Word → Bool

@@ -1,5 +1,5 @@
--- Verified code is never stuck: in each state that it reaches and that is not finished some pick is enabled, and the
--- body of a process that is not over is live. What an event speaks of has a name.
+-- Verified code is never stuck: in each state that it reaches and that is not finished some pick is enabled,
+-- and the body of a process that is not over is live. What an event speaks of has a name.
 use Rattle.std.specs.Prelude.{◌≡◌, ◌⊎◌, ℕ, ℤ, List, Some, slice_get}
 use Rattle.pb_base.specs.declared.event.Event.{Event}
 use Rattle.pb_base.specs.declared.pick.Pick.{Pick}

@@ -1,5 +1,5 @@
--- What holds of a program that is to be numbered: it has the parts that the grammar asks for, nothing is wrong
--- with its names and amounts, and there are numbers for its arms.
+-- What holds of a program that is to be numbered: it has the parts that the grammar asks for, nothing is
+-- wrong with its names and amounts, and there are numbers for its arms.
 use Rattle.std.specs.Prelude.{ℕ, ◌+◌, ◌≤◌, List, length, All, ⊤}
 use Rattle.pb_tree.specs.Syntax.{StmtSyntax, assign, print, if_else, while_do, hold, parbegin}
 use Rattle.pb_tree.specs.Syntax.{StmtsSyntax, no_stmt, stmt_then, ArmsSyntax, no_arm, arm_then}

@@ -33,8 +33,8 @@ FitsCapital program claims =
     (p r : ℕ) → p < length claims → r < length program.resources
     → cell claims p r ≤ slice_index (capital_of program) r
 
--- the program is within the limits, its arms are well numbered, and each hold names resources that are there; the
--- claims are those of so many processes on so many resources, each within the capital
+-- the program is within the limits, its arms are well numbered, and each hold names resources that are there;
+-- the claims are those of so many processes on so many resources, each within the capital
 pub record Fits (program : Program) (claims : Table) : Type 0 where
   pub some : 1 ≤ length program.processes
   pub few_resources : length program.resources ≤ 16

@@ -53,14 +53,16 @@ abbrev pub IsFreeStep : List ℤ → Option ArmStep → Outcome → List ℤ →
 IsFreeStep vars made outcome.Silent vars' arm' = made ≡ Some (Goes vars' arm' effect.Silent)
 IsFreeStep vars made (outcome.Prints v) vars' arm' = made ≡ Some (Goes vars' arm' (effect.Prints v))
 IsFreeStep vars made (outcome.Takes bundle) vars' arm' = ⊥
-IsFreeStep vars made (outcome.Returns bundle) vars' arm' = made ≡ Some (Goes vars' arm' (effect.Returns bundle))
+IsFreeStep vars made (outcome.Returns bundle) vars' arm' =
+    made ≡ Some (Goes vars' arm' (effect.Returns bundle))
 IsFreeStep vars made (outcome.Faults kind) vars' arm' = (made ≡ Some (Breaks kind)) × (vars' ≡ vars)
 IsFreeStep vars made outcome.Ends vars' arm' = (made ≡ Some Ends) × (arm' ≡ Ended) × (vars' ≡ vars)
 IsFreeStep vars made outcome.Waits vars' arm' = ⊥
 
 -- so it is of a list of items, and this arm is what is left
 abbrev pub StepsItems : {A : Type 0} → List ℤ → List Item → Stepped A → List ℤ → Type 0
-StepsItems vars items s vars' = IsFreeStep vars (Some (step_items vars items)) s.outcome vars' (arm_view s.arm)
+StepsItems vars items s vars' =
+    IsFreeStep vars (Some (step_items vars items)) s.outcome vars' (arm_view s.arm)
 
 -- nothing is seen of the step, and this arm is what is left
 abbrev pub Leaves : {A : Type 0} → Stepped A → Arm → Type 0
@@ -95,7 +97,8 @@ AreBelow n bundle = All (λ pair. pair.resource < n) bundle
 -- what the arm asks for next are some of n resources
 abbrev pub AsksBelow : ℕ → List ℤ → Arm → Type 0
 AsksBelow n vars arm =
-    (vars' : List ℤ) (arm' : Arm) (bundle : Bundle) → step_arm vars arm ≡ Some (Goes vars' arm' (effect.Takes bundle))
+    (vars' : List ℤ) (arm' : Arm) (bundle : Bundle)
+    → step_arm vars arm ≡ Some (Goes vars' arm' (effect.Takes bundle))
     → AreBelow n bundle
 
 -- the arm of a number changed places with another, where it is there
@@ -143,7 +146,8 @@ IsProcessStep s process pick step.NotEnabled process' s' =
     × (process' ≡ process) × (s' ≡ s)
 
 -- what is left to do after a step of an arm: what is given back, or a fault
-abbrev pub IsSettled : BankerState → SourceProcess → Pick → Outcome → Step → SourceProcess → BankerState → Type 0
+abbrev pub IsSettled : BankerState → SourceProcess → Pick → Outcome → Step → SourceProcess → BankerState
+    → Type 0
 IsSettled s q pick outcome.Silent answer q' s' = (answer ≡ step.Silent) × (q' ≡ q) × (s' ≡ s)
 IsSettled s q pick (outcome.Prints v) answer q' s' =
     (answer ≡ step.Did (event.Printed pick v)) × (q' ≡ q) × (s' ≡ s)

@@ -1,5 +1,5 @@
--- Amounts of one resource at places, and peaks cut off above any claim, for the verifier's own functions: no public
--- contract cites this file.
+-- Amounts of one resource at places, and peaks cut off above any claim, for the verifier's own functions: no
+-- public contract cites this file.
 use Rattle.std.specs.Prelude.{◌≡◌, ◌≤◌, ◌<◌, ◌+◌, ◌-◌, ℕ, List, Option, length, min, option_map, unwrap_or, slice_index}
 use Rattle.std.proofs.Common.{ap, arith}
 use Rattle.pb_base.specs.Bundle.{amount_in}
@@ -69,9 +69,12 @@ abbrev pub clamped : ℕ → ℕ
 clamped n = min n 1000001
 
 -- the greatest amount that an arm and those that it awaits hold at a reached place of it
-pub record IsPeakOf (code : ProcessCode) (table : List (Option Amount)) (peak : ℕ → ℕ) (a greatest : ℕ) : Type 0 where
-  pub above : (place : ℕ) (i : Instr) → IsInArm code a place → Reached code place → InstrAt code place i → held_at table place + in_joined peak i ≤ greatest
-  pub attained : (place : ℕ) × (i : Instr) × IsInArm code a place × Reached code place × InstrAt code place i × (greatest ≡ held_at table place + in_joined peak i)
+pub record IsPeakOf (code : ProcessCode) (table : List (Option Amount)) (peak : ℕ → ℕ) (a greatest : ℕ)
+    : Type 0 where
+  pub above : (place : ℕ) (i : Instr) → IsInArm code a place → Reached code place → InstrAt code place i
+      → held_at table place + in_joined peak i ≤ greatest
+  pub attained : (place : ℕ) × (i : Instr) × IsInArm code a place × Reached code place × InstrAt code place i
+      × (greatest ≡ held_at table place + in_joined peak i)
 
 -- the peaks of the arms from one on, cut off
 pub record AreCutOff (code : ProcessCode) (from : ℕ) (peak : ℕ → ℕ) (peaks : List ℕ) : Type 0 where

@@ -17,20 +17,25 @@ use Rattle.pb_verifier.specs.Verified.{IsFreeOf, turn_of}
 abbrev pub HasPlace : ProcessCode → ℕ → Type 0
 HasPlace code place = place < length code.instrs
 
--- what an instruction at a place meets is there: the next place, the integer, the resources and the arms; these are
--- idle where they are forked, and what is given is held
+-- what an instruction at a place meets is there: the next place, the integer, the resources and the arms;
+-- these are idle where they are forked, and what is given is held
 abbrev pub MeetsWhatItNeeds : (resources : ℕ) → ProcessCode → Table → ℕ → CodeProcess → ℕ → Instr → Type 0
 MeetsWhatItNeeds resources code loans p process place (Push v) = HasPlace code (place + 1)
-MeetsWhatItNeeds resources code loans p process place (Load x) = HasPlace code (place + 1) × (x < length process.vars)
-MeetsWhatItNeeds resources code loans p process place (Store x) = HasPlace code (place + 1) × (x < length process.vars)
+MeetsWhatItNeeds resources code loans p process place (Load x) =
+    HasPlace code (place + 1) × (x < length process.vars)
+MeetsWhatItNeeds resources code loans p process place (Store x) =
+    HasPlace code (place + 1) × (x < length process.vars)
 MeetsWhatItNeeds resources code loans p process place (Compute1 op) = HasPlace code (place + 1)
 MeetsWhatItNeeds resources code loans p process place (Compute2 op) = HasPlace code (place + 1)
 MeetsWhatItNeeds resources code loans p process place (Jump target) = HasPlace code target
-MeetsWhatItNeeds resources code loans p process place (JumpIfZero target) = HasPlace code (place + 1) × HasPlace code target
+MeetsWhatItNeeds resources code loans p process place (JumpIfZero target) =
+    HasPlace code (place + 1) × HasPlace code target
 MeetsWhatItNeeds resources code loans p process place PrintTop = HasPlace code (place + 1)
-MeetsWhatItNeeds resources code loans p process place (Take bundle) = HasPlace code (place + 1) × All (λ pair. pair.resource < resources) bundle
+MeetsWhatItNeeds resources code loans p process place (Take bundle) =
+    HasPlace code (place + 1) × All (λ pair. pair.resource < resources) bundle
 MeetsWhatItNeeds resources code loans p process place (Give bundle) =
-    HasPlace code (place + 1) × All (λ pair. pair.resource < resources) bundle × ((r : ℕ) → amount_in bundle r ≤ cell loans p r)
+    HasPlace code (place + 1) × All (λ pair. pair.resource < resources) bundle
+    × ((r : ℕ) → amount_in bundle r ≤ cell loans p r)
 MeetsWhatItNeeds resources code loans p process place (Fork first count) =
     HasPlace code (place + 1) × (first + count ≤ length process.threads)
     × ((a : ℕ) → first ≤ a → a < first + count → thread process.threads a ≡ Idle)
@@ -42,8 +47,10 @@ MeetsWhatItNeeds resources code loans p process place End = ⊤
 abbrev pub PassesTests : Code → State CodeProcess → Type 0
 PassesTests code s =
     (p a place : ℕ) (stack : List ℤ) (process : ProcessCode) (state : CodeProcess)
-    → slice_get code.processes p ≡ Some process → slice_get s.processes p ≡ Some state → thread state.threads a ≡ Live place stack
-    → (i : Instr) × (step : ThreadStep) × (slice_get process.instrs place ≡ Some i) × (act state.vars i place stack ≡ Some step)
+    → slice_get code.processes p ≡ Some process → slice_get s.processes p ≡ Some state
+    → thread state.threads a ≡ Live place stack
+    → (i : Instr) × (step : ThreadStep) × (slice_get process.instrs place ≡ Some i)
+    × (act state.vars i place stack ≡ Some step)
     × MeetsWhatItNeeds (length code.capital) process s.loans p state place i
 
 -- each live arm stands at a reached place of its own, with as many operands as that place has by its depth
@@ -58,12 +65,14 @@ StacksHaveTheirDepth code s =
 -- whatever arm stands at a request, it is within the claim, whether or not the banker allows it
 abbrev pub AsksWithin : Code → State CodeProcess → Type 0
 AsksWithin code s =
-    (pick : Pick) (move : Move CodeProcess) (bundle : Bundle) → move_of (code_step code.processes) s pick ≡ Some move
+    (pick : Pick) (move : Move CodeProcess) (bundle : Bundle)
+    → move_of (code_step code.processes) s pick ≡ Some move
     → move.effect ≡ Takes bundle → IsWithinClaim (banker_state (bank_of code) s.loans) pick.process bundle
 
 -- but for the banker some arm of the process can step
 abbrev pub SomeArmSteps : ProcessCode → CodeProcess → Type 0
-SomeArmSteps code process = (a : ℕ) × (after : CodeProcess) × (effect : Effect) × (step_process code process a ≡ Some (after, effect))
+SomeArmSteps code process =
+    (a : ℕ) × (after : CodeProcess) × (effect : Effect) × (step_process code process a ≡ Some (after, effect))
 
 -- all has ended, or some pick is enabled
 abbrev pub EndsOrGoesOn : Code → State CodeProcess → Type 0
@@ -73,23 +82,25 @@ EndsOrGoesOn code s = IsFinished code_over s ⊎ CanGoOn (bank_of code) (code_st
 abbrev pub IsStuck : Code → State CodeProcess → Type 0
 IsStuck code s = (IsFinished code_over s → ⊥) × (CanGoOn (bank_of code) (code_step code.processes) s → ⊥)
 
--- in every state that the code reaches: no test fails, stacks are as deep as their places say, no request passes its
--- claim, the loans are safe, and not all wait
+-- in every state that the code reaches: no test fails, stacks are as deep as their places say, no request
+-- passes its claim, the loans are safe, and not all wait
 pub record IsWellBehaved (code : Code) : Type 0 where
   pub passes_tests : (s : State CodeProcess) → CodeReaches code s → PassesTests code s
   pub stacks_have_their_depth : (s : State CodeProcess) → CodeReaches code s → StacksHaveTheirDepth code s
   pub asks_within : (s : State CodeProcess) → CodeReaches code s → AsksWithin code s
   pub safe : (s : State CodeProcess) → CodeReaches code s → IsSafe (banker_state (bank_of code) s.loans)
   pub some_arm_steps : (s : State CodeProcess) → CodeReaches code s
-      → (p : ℕ) (process : ProcessCode) (state : CodeProcess) → slice_get code.processes p ≡ Some process → slice_get s.processes p ≡ Some state
+      → (p : ℕ) (process : ProcessCode) (state : CodeProcess) → slice_get code.processes p ≡ Some process
+      → slice_get s.processes p ≡ Some state
       → (code_over state → ⊥) → SomeArmSteps process state
   pub ends_or_goes_on : (s : State CodeProcess) → CodeReaches code s → EndsOrGoesOn code s
   pub not_stuck : (s : State CodeProcess) → CodeReaches code s → IsStuck code s → ⊥
 
--- whether the peak fits is decided by the greatest amounts, where there are any: in code that has no fault looked for
--- earlier
+-- whether the peak fits is decided by the greatest amounts, where there are any: in code that has no fault
+-- looked for earlier
 abbrev pub PeaksDecide : Code → Type 0
 PeaksDecide code =
     ((fault : VerifyFault) → turn_of fault < turn_of OverClaim → IsFreeOf fault code)
-    → (p r claim : ℕ) (process : ProcessCode) (held : ℕ → List Bundle) (peak : ℕ → ℕ) → slice_get code.processes p ≡ Some process
+    → (p r claim : ℕ) (process : ProcessCode) (held : ℕ → List Bundle) (peak : ℕ → ℕ)
+    → slice_get code.processes p ≡ Some process
     → AreHoldings process held → ArePeaks process held r peak → (PeakFits process r claim ↔ (peak 0 ≤ claim))

@@ -12,7 +12,8 @@ use Rattle.pb_verifier.specs.Places.{InstrAt, arms, entry, arm_end, IsInArm, Jum
 -- no claim is over its capital
 abbrev pub FitCapital : Code → Type 0
 FitCapital code =
-    (p r : ℕ) → p < length code.processes → r < length code.capital → cell code.claims p r ≤ slice_index code.capital r
+    (p r : ℕ) → p < length code.processes → r < length code.capital
+    → cell code.claims p r ≤ slice_index code.capital r
 
 -- an instruction names only integers and resources that are there
 abbrev pub UsesWhatIsThere : (integers resources : ℕ) → Instr → Type 0
@@ -23,7 +24,8 @@ UsesWhatIsThere integers resources (Give bundle) = All (λ pair. pair.resource <
 UsesWhatIsThere integers resources i = ⊤
 
 abbrev pub IsInRange : ℕ → ProcessCode → Type 0
-IsInRange resources code = (place : ℕ) (i : Instr) → InstrAt code place i → UsesWhatIsThere code.integers resources i
+IsInRange resources code =
+    (place : ℕ) (i : Instr) → InstrAt code place i → UsesWhatIsThere code.integers resources i
 
 -- ---- arms: one after another, never left but by an end
 
@@ -31,7 +33,8 @@ pub record HasArms (code : ProcessCode) : Type 0 where
   pub first : entry code 0 ≡ 0
   pub rise : (a : ℕ) → a + 1 < arms code → entry code a < entry code (a + 1)
   pub inside : (a : ℕ) → a < arms code → entry code a < length code.instrs
-  pub jumps_stay : (a place target : ℕ) (i : Instr) → IsInArm code a place → InstrAt code place i → JumpsTo i target → IsInArm code a target
+  pub jumps_stay : (a place target : ℕ) (i : Instr) → IsInArm code a place → InstrAt code place i
+      → JumpsTo i target → IsInArm code a target
   pub closes : (a place : ℕ) → a < arms code → place + 1 ≡ arm_end code a
       → InstrAt code place End ⊎ ((target : ℕ) × InstrAt code place (Jump target))
 
@@ -40,13 +43,17 @@ pub record HasArms (code : ProcessCode) : Type 0 where
 pub record HasForks (code : ProcessCode) : Type 0 where
   pub later : (a place first count : ℕ) → IsInArm code a place → InstrAt code place (Fork first count)
       → (a < first) × (first + count ≤ arms code)
-  pub then_join : (place first count : ℕ) → InstrAt code place (Fork first count) → InstrAt code (place + 1) (Join first count)
+  pub then_join : (place first count : ℕ) → InstrAt code place (Fork first count)
+      → InstrAt code (place + 1) (Join first count)
   pub after_fork : (place first count : ℕ) → InstrAt code place (Join first count)
       → (before : ℕ) × (place ≡ before + 1) × InstrAt code before (Fork first count)
-  pub no_jump : (place target first count : ℕ) (i : Instr) → InstrAt code place i → JumpsTo i target → InstrAt code target (Join first count) → ⊥
+  pub no_jump : (place target first count : ℕ) (i : Instr) → InstrAt code place i → JumpsTo i target
+      → InstrAt code target (Join first count) → ⊥
   pub named : (b : ℕ) → 1 ≤ b → b < arms code
-      → (place : ℕ) × (first : ℕ) × (count : ℕ) × InstrAt code place (Fork first count) × IsAmong first count b
-  pub once : (b p f n q g m : ℕ) → InstrAt code p (Fork f n) → IsAmong f n b → InstrAt code q (Fork g m) → IsAmong g m b → p ≡ q
+      → (place : ℕ) × (first : ℕ) × (count : ℕ) × InstrAt code place (Fork first count)
+      × IsAmong first count b
+  pub once : (b p f n q g m : ℕ) → InstrAt code p (Fork f n) → IsAmong f n b → InstrAt code q (Fork g m)
+      → IsAmong g m b → p ≡ q
 
 -- ---- depths: how many operands there are
 
@@ -121,8 +128,9 @@ IsAttained code held r peak = (a : ℕ) → a < arms code
 abbrev pub ArePeaks : ProcessCode → (ℕ → List Bundle) → ℕ → (ℕ → ℕ) → Type 0
 ArePeaks code held r peak = StayUnder code held r peak × IsAttained code held r peak
 
--- the peak of arm 0 is within the claim: amounts exist that no arm passes (the peaks are the least such amounts), that
--- of arm 0 within the claim
+-- the peak of arm 0 is within the claim: amounts exist that no arm passes (the peaks are the least such
+-- amounts), that of arm 0 within the claim
 abbrev pub PeakFits : ProcessCode → (r claim : ℕ) → Type 0
 PeakFits code r claim =
-    (held : ℕ → List Bundle) → AreHoldings code held → (peak : ℕ → ℕ) × StayUnder code held r peak × (peak 0 ≤ claim)
+    (held : ℕ → List Bundle) → AreHoldings code held
+    → (peak : ℕ → ℕ) × StayUnder code held r peak × (peak 0 ≤ claim)

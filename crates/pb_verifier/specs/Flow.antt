@@ -1,4 +1,5 @@
--- The same places and reached places as lists, for the verifier's own functions: no public contract cites this file.
+-- The same places and reached places as lists, for the verifier's own functions: no public contract cites
+-- this file.
 use Rattle.std.specs.Prelude.{◌≡◌, ℕ, ◌+◌, ◌<◌, ◌≤◌, ◌⊎◌, Bool, true, false, cond, List, [], ◌∷◌, ◌++◌, length, Contains, slice_get, slice_index, slice_index_or, slice_set, Option, Some, None, IfSome, option_to_list}
 use Rattle.pb_code.specs.Code.{Instr}
 use Rattle.pb_code.specs.Code.{Push, Load, Store, Compute1, Compute2, Jump, JumpIfZero, PrintTop, Take, Give, Fork, Join, End}
@@ -61,7 +62,8 @@ pub record LeadsBelow (i : Instr) (p n : ℕ) : Type 0 where
 abbrev pub IsGrown : List ℕ → List Instr → List ℕ → Type 0
 IsGrown entries instrs order =
     (k : ℕ) → k < length order
-    → Contains entries (slice_index order k) ⊎ ((j : ℕ) × (j < k) × Follows instrs (slice_index order j) (slice_index order k))
+    → Contains entries (slice_index order k)
+    ⊎ ((j : ℕ) × (j < k) × Follows instrs (slice_index order j) (slice_index order k))
 
 -- ---- the search
 

@@ -1,5 +1,5 @@
--- Lists of bundles as chains through a table: each place after a take notes that take's place. No public contract
--- cites this file.
+-- Lists of bundles as chains through a table: each place after a take notes that take's place. No public
+-- contract cites this file.
 use Rattle.std.specs.Prelude.{◌≡◌, ◌≢◌, ℕ, zero, suc, ◌≤◌, List, [], ◌∷◌, slice_get, slice_set, Option, Some, None, refl}
 use Rattle.std.proofs.Common.{sym, ◌∙◌, ap, arith, get_or-set_other}
 use Rattle.pb_base.specs.Steppers.{Bundle}
@@ -35,13 +35,15 @@ last_of None = 0
 -- the list of n holds, of which the last was taken at a place: what was held there before comes after it
 abbrev pub held : List Instr → List (Option Holding) → ℕ → ℕ → List Bundle
 held instrs table zero last = []
-held instrs table (suc n) last = taken (slice_get instrs last) ∷ held instrs table n (last_of (fact_at table last))
+held instrs table (suc n) last =
+    taken (slice_get instrs last) ∷ held instrs table n (last_of (fact_at table last))
 
 -- each hold was taken at a place where the table says what was held before
 abbrev pub IsChain : List Instr → List (Option Holding) → ℕ → ℕ → Type 0
 IsChain instrs table zero last = Unit {0}
 IsChain instrs table (suc n) last =
-    (bundle : Bundle) × (before : Holding) × (slice_get instrs last ≡ Some (Take bundle)) × (fact_at table last ≡ Some before) × (before.count ≡ n) × IsChain instrs table n before.last
+    (bundle : Bundle) × (before : Holding) × (slice_get instrs last ≡ Some (Take bundle))
+    × (fact_at table last ≡ Some before) × (before.count ≡ n) × IsChain instrs table n before.last
 
 abbrev pub held_by : List Instr → List (Option Holding) → Holding → List Bundle
 held_by instrs table h = held instrs table h.count h.last
@@ -50,8 +52,10 @@ abbrev pub CanBeRead : List Instr → List (Option Holding) → Holding → Type
 CanBeRead instrs table h = IsChain instrs table h.count h.last × (h.count ≤ 256)
 
 -- a fact at a place that had none changes no chain
-pub chain_keeps : (instrs : List Instr) (table : List (Option Holding)) (p : ℕ) (new : Holding) → fact_at table p ≡ None → (n last : ℕ) → IsChain instrs table n last
-    → IsChain instrs (slice_set table p (Some new)) n last × (held instrs (slice_set table p (Some new)) n last ≡ held instrs table n last)
+pub chain_keeps : (instrs : List Instr) (table : List (Option Holding)) (p : ℕ) (new : Holding)
+    → fact_at table p ≡ None → (n last : ℕ) → IsChain instrs table n last
+    → IsChain instrs (slice_set table p (Some new)) n last
+    × (held instrs (slice_set table p (Some new)) n last ≡ held instrs table n last)
 chain_keeps instrs table p new none zero last chain = (tt, refl)
 chain_keeps instrs table p new none (suc n) last (bundle, before, read, noted, count, rest) =
     let other : last ≢ p = λ same. let clash : Some before ≡ None = sym noted ∙ ap (fact_at table) same ∙ none in cc in

@@ -40,10 +40,11 @@ Follows i place next = next ≡ place + 1
 -- the entries of all arms, and what follows from a reached place
 pub data Reached (code : ProcessCode) : ℕ → Type 0 where
   at_entry : (a place : ℕ) → a < arms code → place ≡ entry code a → Reached code place
-  from : (place next : ℕ) (i : Instr) → Reached code place → InstrAt code place i → Follows i place next → Reached code next
+  from : (place next : ℕ) (i : Instr) → Reached code place → InstrAt code place i → Follows i place next
+      → Reached code next
 
--- a fact for each place: that of an entry is `start`, and each reached instruction turns the fact of its place into
--- that of all places that may follow
+-- a fact for each place: that of an entry is `start`, and each reached instruction turns the fact of its
+-- place into that of all places that may follow
 pub record Spreads {X : Type 0} (code : ProcessCode) (Turns : Instr → X → X → Type 0) (start : X) (fact : ℕ → X) : Type 0 where
   pub starts : (a : ℕ) → a < arms code → fact (entry code a) ≡ start
   pub flows : (place : ℕ) (i : Instr) → Reached code place → InstrAt code place i

@@ -1,4 +1,5 @@
--- What one process adds to the faults of code, for the verifier's own functions: no public contract cites this file.
+-- What one process adds to the faults of code, for the verifier's own functions: no public contract cites
+-- this file.
 use Rattle.std.specs.Prelude.{◌≡◌, ◌≤◌, ◌<◌, ◌⊎◌, ℕ, List, length, slice_index, Option, Some, ⊤}
 use Rattle.pb_base.specs.Steppers.{Bundle}
 use Rattle.pb_code.specs.Code.{ProcessCode}
@@ -22,18 +23,22 @@ IsProcessFreeOf resources claim code OverClaim = (r : ℕ) → r < resources →
 IsProcessFreeOf resources claim code NoMemory = ⊤
 
 -- none of the faults, and these are the depths of its arms
-pub record IsSoundProcess (resources : ℕ) (claim : ℕ → ℕ) (code : ProcessCode) (depths : List ℕ) : Type 0 where
+pub record IsSoundProcess (resources : ℕ) (claim : ℕ → ℕ) (code : ProcessCode) (depths : List ℕ)
+    : Type 0 where
   pub free : (fault : VerifyFault) → IsProcessFreeOf resources claim code fault
   pub all : length depths ≡ arms code
   pub greatest : (a : ℕ) → a < arms code → IsDepthOf code a (slice_index depths a)
 
 -- the first fault of the process
-pub record IsFirstOfProcess (resources : ℕ) (claim : ℕ → ℕ) (code : ProcessCode) (fault : VerifyFault) : Type 0 where
+pub record IsFirstOfProcess (resources : ℕ) (claim : ℕ → ℕ) (code : ProcessCode) (fault : VerifyFault)
+    : Type 0 where
   pub there : IsProcessFreeOf resources claim code fault → ⊥
-  pub earlier : (other : VerifyFault) → turn_of other < turn_of fault → IsProcessFreeOf resources claim code other
+  pub earlier : (other : VerifyFault) → turn_of other < turn_of fault
+      → IsProcessFreeOf resources claim code other
 
 abbrev pub IsProcessRefused : (resources : ℕ) → (claim : ℕ → ℕ) → ProcessCode → VerifyFault → Type 0
-IsProcessRefused resources claim code fault = (fault ≡ NoMemory → ⊥) → IsFirstOfProcess resources claim code fault
+IsProcessRefused resources claim code fault =
+    (fault ≡ NoMemory → ⊥) → IsFirstOfProcess resources claim code fault
 
 -- the one of two faults that is looked for first
 abbrev pub IsEarlier : Option VerifyFault → VerifyFault → VerifyFault → Type 0

@@ -1,5 +1,5 @@
--- Facts that hold at places, spread from the entries along the code, for the verifier's own functions: no public
--- contract cites this file.
+-- Facts that hold at places, spread from the entries along the code, for the verifier's own functions: no
+-- public contract cites this file.
 use Rattle.std.specs.Prelude.{◌≡◌, ℕ, suc, ◌+◌, ◌-◌, ◌≤◌, List, [], ◌∷◌, length, Contains, slice_get, slice_index_or, slice_set, Option, Some, None, option_map, unwrap_or}
 use Rattle.pb_base.specs.Steppers.{Bundle}
 use Rattle.pb_code.specs.Code.{Instr, ProcessCode}
@@ -21,13 +21,15 @@ rules_of start Fits after = record { start = start; Fits = Fits; after = after }
 pub record IsAnnotation {M : Type 0} (rules : Rules M) (entries : List ℕ) (instrs : List Instr) (notes : ℕ → Option M) : Type 0 where
   pub starts : (p : ℕ) → Contains entries p → notes p ≡ Some rules.start
   pub flows : (p : ℕ) (m : M) → notes p ≡ Some m
-      → (i : Instr) × (slice_get instrs p ≡ Some i) × rules.Fits i m × ((q : ℕ) → Contains (followers i p) q → notes q ≡ Some (rules.after i m))
+      → (i : Instr) × (slice_get instrs p ≡ Some i) × rules.Fits i m
+      × ((q : ℕ) → Contains (followers i p) q → notes q ≡ Some (rules.after i m))
 
 -- an annotation of the reached places alone, with which each other agrees
 pub record IsLeast {M : Type 0} (rules : Rules M) (entries : List ℕ) (instrs : List Instr) (notes : ℕ → Option M) : Type 0 where
   pub annotation : IsAnnotation rules entries instrs notes
   pub reached : (p : ℕ) (m : M) → notes p ≡ Some m → IsReached entries instrs p
-  pub agrees : (other : ℕ → Option M) → IsAnnotation rules entries instrs other → (p : ℕ) (m : M) → notes p ≡ Some m → other p ≡ Some m
+  pub agrees : (other : ℕ → Option M) → IsAnnotation rules entries instrs other → (p : ℕ) (m : M)
+      → notes p ≡ Some m → other p ≡ Some m
 
 abbrev pub CanBeAnnotated : {M : Type 0} → Rules M → List ℕ → List Instr → Type 0
 CanBeAnnotated {M = M} rules entries instrs = (notes : ℕ → Option M) × IsAnnotation rules entries instrs notes
@@ -92,7 +94,8 @@ pub record IsTableOf {X : Type 0} (code : ProcessCode) (Turns : Instr → X → 
   pub spreads : Spreads code Turns start (λ place. unwrap_or (notes place) start)
   pub noted : (place : ℕ) → Reached code place → (x : X) × (notes place ≡ Some x)
   pub only : (place : ℕ) (x : X) → notes place ≡ Some x → Reached code place
-  pub agrees : (fact : ℕ → X) → Spreads code Turns start fact → (place : ℕ) (x : X) → notes place ≡ Some x → fact place ≡ x
+  pub agrees : (fact : ℕ → X) → Spreads code Turns start fact → (place : ℕ) (x : X) → notes place ≡ Some x
+      → fact place ≡ x
 
 abbrev pub fact_at : {F : Type 0} → List (Option F) → ℕ → Option F
 fact_at table p = slice_index_or table p None

@@ -44,9 +44,12 @@ IsAnnotated code = (fault : VerifyFault) → IsFreeOf fault code
 
 -- this fault is there, and none that is looked for before it
 abbrev pub IsFirstFault : Code → VerifyFault → Type 0
-IsFirstFault code fault = (IsFreeOf fault code → ⊥) × ((earlier : VerifyFault) → turn_of earlier < turn_of fault → IsFreeOf earlier code)
+IsFirstFault code fault =
+    (IsFreeOf fault code → ⊥)
+    × ((earlier : VerifyFault) → turn_of earlier < turn_of fault → IsFreeOf earlier code)
 
--- what a refusal says: the first fault, or that memory was refused, which may come before any of them is found
+-- what a refusal says: the first fault, or that memory was refused, which may come before any of them is
+-- found
 abbrev pub IsRefusedFor : Code → VerifyFault → Type 0
 IsRefusedFor code fault = (fault ≡ NoMemory → ⊥) → IsFirstFault code fault
 
@@ -67,7 +70,8 @@ pub record VerifiedCode : Type 0 where
 -- a row for each process, with a depth for each of its arms
 pub record AreArmDepths (processes : List ProcessCode) (depths : List (List ℕ)) : Type 0 where
   pub all : length depths ≡ length processes
-  pub rows : (p : ℕ) (process : ProcessCode) → slice_get processes p ≡ Some process → length (slice_index_or depths p []) ≡ arms process
+  pub rows : (p : ℕ) (process : ProcessCode) → slice_get processes p ≡ Some process
+      → length (slice_index_or depths p []) ≡ arms process
   pub greatest : (p a : ℕ) (process : ProcessCode) → slice_get processes p ≡ Some process → a < arms process
       → IsDepthOf process a (slice_index (slice_index_or depths p []) a)
 
