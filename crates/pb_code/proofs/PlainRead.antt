@@ -11,14 +11,15 @@ use Rattle.pb_code.specs.Rows.{IfRead, NamesBelow}
 use Rattle.pb_code.proofs.BundleTables.{plain_same, plain_names}
 use Rattle.pb_code.proofs.InstrForms.{plain_is}
 
-pub plain_view : (bundles : List (List Pair)) (k : Word) (ws : List Word) (v : Verdict Given) → v ≡ plain k ws
-    → mapped (instr_view bundles) v ≡ mapped (instr_view []) (plain k ws)
+pub plain_view : (bundles : List (List Pair)) (k : Word) (ws : List Word) (v : Verdict Given)
+    → v ≡ plain k ws → mapped (instr_view bundles) v ≡ mapped (instr_view []) (plain k ws)
 plain_view bundles k ws Malformed e = ap (mapped (instr_view [])) e
 plain_view bundles k ws Beyond e = ap (mapped (instr_view [])) e
 plain_view bundles k ws (Read i) e =
     ap Read (plain_same bundles [] i (plain_is k ws i (sym e))) ∙ ap (mapped (instr_view [])) e
 
-pub plain_names_read : (n : ℕ) (k : Word) (ws : List Word) (v : Verdict Given) → v ≡ plain k ws → IfRead v (NamesBelow n)
+pub plain_names_read : (n : ℕ) (k : Word) (ws : List Word) (v : Verdict Given)
+    → v ≡ plain k ws → IfRead v (NamesBelow n)
 plain_names_read n k ws Malformed e = tt
 plain_names_read n k ws Beyond e = tt
 plain_names_read n k ws (Read i) e = plain_names n i (plain_is k ws i (sym e))

@@ -8,8 +8,11 @@ unfolding instr_of
 returns-else-is-2-clause-instr c =
     let no_take = sym c.is.ensures ∙ c.if-is.false in
     let no_give = sym c.is-else-is.ensures ∙ c.if-is-2.false in
-    rw (no_take, no_give) (plain_view c.args.bundles.now.items c.args.keyword.now (map (λ w. w.now) c.args.words.now) c.plain.result c.plain.ensures)
+    let words = map (λ w. w.now) c.args.words.now in
+    rw (no_take, no_give)
+    (plain_view c.args.bundles.now.items c.args.keyword.now words c.plain.result c.plain.ensures)
 
 pub returns-else-is-2-clause-names : goal.returns-else-is-2-clause-names
 returns-else-is-2-clause-names c =
-    plain_names_read (length c.args.bundles.now.items) c.args.keyword.now (map (λ w. w.now) c.args.words.now) c.plain.result c.plain.ensures
+    let words = map (λ w. w.now) c.args.words.now in
+    plain_names_read (length c.args.bundles.now.items) c.args.keyword.now words c.plain.result c.plain.ensures
