@@ -5,9 +5,7 @@ use Rattle.pb_code.specs.declared.words.Verdict.{Verdict}
 use Rattle.pb_code.specs.declared.words.Verdict.TheVariants as verdict
 use Rattle.pb_code.specs.declared.instr.Instr.{Instr as Given}
 use Rattle.pb_code.specs.declared.instr.Instr.TheVariants as given
-use Rattle.pb_code.specs.declared.place_reader.Operation.{Operation}
-use Rattle.pb_code.specs.declared.place_reader.Operation.TheVariants as operations
-use Rattle.pb_code.specs.Code.{Instr, Take, Give}
+use Rattle.pb_code.specs.Code.{Instr}
 use Rattle.pb_code.specs.View.{instr_view}
 use Rattle.pb_code.specs.declared.reader.Places.{Places}
 use Rattle.pb_code.specs.declared.rows.ResourceRow.{ResourceRow as GivenResource}
@@ -15,36 +13,21 @@ use Rattle.pb_code.specs.declared.rows.ProcessRow.{ProcessRow as GivenProcess}
 use Rattle.pb_code.specs.declared.rows.Rows.{Rows}
 use Rattle.pb_code.specs.Objects.{ResourceRow, ProcessRow, Object}
 
--- what an operation does
-abbrev pub operation_view : Operation → Instr
-operation_view (operations.Plain i) = instr_view [] i
-operation_view (operations.Take bundle) = Take bundle
-operation_view (operations.Give bundle) = Give bundle
-
 -- an instruction that names no bundle
 abbrev pub IsPlain : Given → Type 0
 IsPlain (given.Take k) = ⊥
 IsPlain (given.Give k) = ⊥
 IsPlain i = ⊤
 
-abbrev pub IsOperation : Operation → Type 0
-IsOperation (operations.Plain i) = IsPlain i
-IsOperation (operations.Take bundle) = ⊤
-IsOperation (operations.Give bundle) = ⊤
+-- a place, with the bundles of its process
+abbrev pub place_view : List (List Pair) → Option ℕ × Given → Option ℕ × Instr
+place_view bundles place = (place.0, instr_view bundles place.1)
 
--- what was read is such an operation
-abbrev pub IsOperationRead : Verdict Operation → Type 0
-IsOperationRead verdict.Malformed = ⊤
-IsOperationRead verdict.Beyond = ⊤
-IsOperationRead (verdict.Read operation) = IsOperation operation
-
-abbrev pub place_view : Option ℕ × Operation → Option ℕ × Instr
-place_view place = (place.0, operation_view place.1)
-
-abbrev pub IsPlaceRead : Verdict (Option ℕ × Operation) → Type 0
-IsPlaceRead verdict.Malformed = ⊤
-IsPlaceRead verdict.Beyond = ⊤
-IsPlaceRead (verdict.Read place) = IsOperation place.1
+-- of what was read
+abbrev pub IfRead : {A : Type 0} → Verdict A → (A → Type 0) → Type 0
+IfRead verdict.Malformed P = ⊤
+IfRead verdict.Beyond P = ⊤
+IfRead (verdict.Read x) P = P x
 
 -- the pairs so far
 abbrev pub bundle_so_far : Option (List Pair) → List Pair

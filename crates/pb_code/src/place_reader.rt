@@ -1,23 +1,17 @@
 //! The lines of places: an instruction, in the second format behind its source line.
 
-ghost use Rattle.std.specs.Prelude.{◌≡◌, ◌≢◌, ◌<◌, ◌≤◌, ◌++◌, ◌∷◌, [], length, map, All};
+ghost use Rattle.std.specs.Prelude.{◌≡◌, ◌≢◌, ◌<◌, ◌≤◌, ◌+◌, ◌++◌, ◌∷◌, [], length, map, All, IfOk, OnOk};
 ghost use Rattle.pb_code.specs.Instructions as spec;
-ghost use Rattle.pb_code.specs.Words.{mapped};
-ghost use Rattle.pb_code.specs.Rows.{operation_view, bundle_so_far, IsOperationRead, place_view, IsPlaceRead};
+ghost use Rattle.pb_code.specs.Words.{mapped, paired};
+ghost use Rattle.pb_code.specs.Rows.{bundle_so_far, place_view, IfRead, NamesBelow, Extends};
+ghost use Rattle.pb_code.specs.View.{instr_view};
 
 use crate::format::Format;
 use crate::instr::Instr;
 use crate::instr_reader::plain;
 use crate::words::{Verdict, is, number, same};
 use pb_base::{Bundle, Pair};
-
-/// What a place does, where its bundle has no place yet among those of its process.
-#[derive(Clone, Copy)]
-pub(crate) enum Operation {
-    Plain(Instr),
-    Take(Bundle),
-    Give(Bundle),
-}
+use std::alloc::AllocError;
 
 /// Whether the words name this resource, as a first word of two.
 fn names_resource(words: &[&[u8]], resource: &[u8]) -> bool
@@ -122,41 +116,64 @@ fn bundle(format: Format, words: &[&[u8]]) -> Verdict<Bundle>
     pairs(words)
 }
 
-/// What an instruction does.
+/// Adds a bundle, and answers its place.
+fn added(bundles: &mut Vec<Bundle>, bundle: Bundle) -> Result<u16, AllocError>
+    requires room { length bundles.old.items < 65536 }
+    ensures place { IfOk result (λ place. place ≡ length bundles.old.items) }
+    ensures added { OnOk result (bundles.new.items ≡ bundles.old.items ++ bundle ∷ []) }
+{
+    let place = bundles.len() as u16;
+    bundles.push(bundle)?;
+    Ok(place)
+}
+
+/// An instruction, whose bundle now stands among those of its process.
 #[tactic(auto, unfolding(crate::specs::Instructions::instr_of))]
-fn operation_of(format: Format, keyword: &[u8], words: &[&[u8]]) -> Verdict<Operation>
-    ensures instr { mapped operation_view result
-        ≡ spec.instr_of format keyword.now (map (λ w. w.now) words.now) }
-    ensures plain { IsOperationRead result }
+fn instr_of(
+    bundles: &mut Vec<Bundle>,
+    format: Format,
+    keyword: &[u8],
+    words: &[&[u8]],
+) -> Result<Verdict<Instr>, AllocError>
+    requires room { length bundles.old.items < 65536 }
+    ensures instr { IfOk result (λ v. mapped (instr_view bundles.new.items) v
+        ≡ spec.instr_of format keyword.now (map (λ w. w.now) words.now)) }
+    ensures names { IfOk result (λ v. IfRead v (NamesBelow (length bundles.new.items))) }
+    ensures kept { OnOk result (Extends bundles.old.items bundles.new.items) }
+    ensures few { OnOk result (length bundles.new.items ≤ length bundles.old.items + 1) }
 {
     if is(keyword, "take") {
         match bundle(format, words) {
-            Verdict::Malformed => Verdict::Malformed,
-            Verdict::Beyond => Verdict::Beyond,
-            Verdict::Read(bundle) => Verdict::Read(Operation::Take(bundle)),
+            Verdict::Malformed => Ok(Verdict::Malformed),
+            Verdict::Beyond => Ok(Verdict::Beyond),
+            Verdict::Read(bundle) => Ok(Verdict::Read(Instr::Take(added(bundles, bundle)?))),
         }
     } else if is(keyword, "give") {
         match bundle(format, words) {
-            Verdict::Malformed => Verdict::Malformed,
-            Verdict::Beyond => Verdict::Beyond,
-            Verdict::Read(bundle) => Verdict::Read(Operation::Give(bundle)),
+            Verdict::Malformed => Ok(Verdict::Malformed),
+            Verdict::Beyond => Ok(Verdict::Beyond),
+            Verdict::Read(bundle) => Ok(Verdict::Read(Instr::Give(added(bundles, bundle)?))),
         }
     } else {
-        match plain(keyword, words) {
-            Verdict::Malformed => Verdict::Malformed,
-            Verdict::Beyond => Verdict::Beyond,
-            Verdict::Read(instr) => Verdict::Read(Operation::Plain(instr)),
-        }
+        Ok(plain(keyword, words))
     }
 }
 
-fn instr(format: Format, words: &[&[u8]]) -> Verdict<Operation>
-    ensures instr { mapped operation_view result ≡ spec.instr format (map (λ w. w.now) words.now) }
-    ensures plain { IsOperationRead result }
+fn instr(
+    bundles: &mut Vec<Bundle>,
+    format: Format,
+    words: &[&[u8]],
+) -> Result<Verdict<Instr>, AllocError>
+    requires room { length bundles.old.items < 65536 }
+    ensures instr { IfOk result (λ v. mapped (instr_view bundles.new.items) v
+        ≡ spec.instr format (map (λ w. w.now) words.now)) }
+    ensures names { IfOk result (λ v. IfRead v (NamesBelow (length bundles.new.items))) }
+    ensures kept { OnOk result (Extends bundles.old.items bundles.new.items) }
+    ensures few { OnOk result (length bundles.new.items ≤ length bundles.old.items + 1) }
 {
     match words {
-        [] => Verdict::Malformed,
-        [keyword, words @ ..] => operation_of(format, keyword, words),
+        [] => Ok(Verdict::Malformed),
+        [keyword, words @ ..] => instr_of(bundles, format, keyword, words),
     }
 }
 
@@ -168,28 +185,46 @@ fn line_of(line: u64) -> Option<u32>
     if line == 0 { None } else { Some(line as u32) }
 }
 
-/// A place: its source line, where the format has lines, and its instruction.
+/// A place and its source line, of which either may be out of range.
+fn labelled(line: Verdict<u64>, instr: Verdict<Instr>) -> Verdict<(Option<u32>, Instr)>
+    requires { IfRead line (λ line. line ≤ 65536) }
+    ensures { result ≡ paired (mapped spec.line_of line) instr }
+{
+    match (line, instr) {
+        (Verdict::Malformed, _) => Verdict::Malformed,
+        (_, Verdict::Malformed) => Verdict::Malformed,
+        (Verdict::Read(line), Verdict::Read(instr)) => Verdict::Read((line_of(line), instr)),
+        _ => Verdict::Beyond,
+    }
+}
+
+/// A place: its source line, where the format has lines, and its instruction, whose bundle now stands among those of
+/// its process.
 #[tactic(auto, unfolding(crate::specs::Instructions::place))]
-pub(crate) fn place(format: Format, words: &[&[u8]]) -> Verdict<(Option<u32>, Operation)>
-    ensures place { mapped place_view result ≡ spec.place format (map (λ w. w.now) words.now) }
-    ensures plain { IsPlaceRead result }
+pub(crate) fn place(
+    bundles: &mut Vec<Bundle>,
+    format: Format,
+    words: &[&[u8]],
+) -> Result<Verdict<(Option<u32>, Instr)>, AllocError>
+    requires room { length bundles.old.items < 65536 }
+    ensures place { IfOk result (λ v. mapped (place_view bundles.new.items) v
+        ≡ spec.place format (map (λ w. w.now) words.now)) }
+    ensures names { IfOk result (λ v. IfRead v (λ place. NamesBelow (length bundles.new.items) place.1)) }
+    ensures kept { OnOk result (Extends bundles.old.items bundles.new.items) }
+    ensures few { OnOk result (length bundles.new.items ≤ length bundles.old.items + 1) }
 {
     match format {
-        Format::One => match instr(format, words) {
-            Verdict::Malformed => Verdict::Malformed,
-            Verdict::Beyond => Verdict::Beyond,
-            Verdict::Read(operation) => Verdict::Read((None, operation)),
+        Format::One => match instr(bundles, format, words)? {
+            Verdict::Malformed => Ok(Verdict::Malformed),
+            Verdict::Beyond => Ok(Verdict::Beyond),
+            Verdict::Read(instr) => Ok(Verdict::Read((None, instr))),
         },
         Format::Two => match words {
-            [] => Verdict::Malformed,
-            [line, words @ ..] => match (number(0, 65_536, line), instr(format, words)) {
-                (Verdict::Malformed, _) => Verdict::Malformed,
-                (_, Verdict::Malformed) => Verdict::Malformed,
-                (Verdict::Read(line), Verdict::Read(operation)) => {
-                    Verdict::Read((line_of(line), operation))
-                }
-                _ => Verdict::Beyond,
-            },
+            [] => Ok(Verdict::Malformed),
+            [line, words @ ..] => {
+                let instr = instr(bundles, format, words)?;
+                Ok(labelled(number(0, 65_536, line), instr))
+            }
         },
     }
 }

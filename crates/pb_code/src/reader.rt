@@ -1,12 +1,11 @@
 //! Objects from their text.
 
-ghost use Rattle.std.specs.Prelude.{◌≡◌, ◌<◌, ◌≤◌, ◌+◌, ◌++◌, [], length, map, All, IfOk, OnOk, codes, ℕ, slice_index_or};
+ghost use Rattle.std.specs.Prelude.{◌≡◌, ◌<◌, ◌≤◌, ◌+◌, [], length, map, All, IfOk, OnOk, codes, ℕ, slice_index_or};
 ghost use Rattle.pb_code.specs.Instructions.{place as place_spec};
 ghost use Rattle.pb_code.specs.Lines.{Gives, line, many};
 ghost use Rattle.pb_code.specs.Ranges as ranges;
 ghost use Rattle.pb_code.specs.Reading as spec;
-ghost use Rattle.pb_code.specs.Rows.{resource_row, process_row, object_row, places_row, place_view, operation_view, IsOperation, IsRow, NamesBelow, Extends};
-ghost use Rattle.pb_code.specs.View.{instr_view};
+ghost use Rattle.pb_code.specs.Rows.{resource_row, process_row, object_row, places_row, place_view, IsRow, NamesBelow, Extends};
 
 use crate::code::ProcessCode;
 use crate::fault::{Fault, ReadError};
@@ -14,11 +13,11 @@ use crate::format::Format;
 use crate::instr::Instr;
 use crate::labels::ProcessLabels;
 use crate::line_reader::{claims_at, counted_at, heading_at, integers_at, name_at, resource_at};
-use crate::place_reader::{Operation, place};
+use crate::place_reader::place;
 use crate::rows::{ProcessRow, ResourceRow, Rows};
-use crate::words::{judge, words_of};
+use crate::words::{judge, words_into};
 use pb_base::Bundle;
-use std::alloc::{AllocError, Global};
+use std::alloc::Global;
 
 fn resources_of(
     alloc: Global,
@@ -53,42 +52,26 @@ fn entries_of(alloc: Global, count: u64, text: &[u8]) -> Result<(Vec<u16>, &[u8]
 
 // ---- places
 
+/// A place, and what follows the line, whose words are now in `words`; the bundle that the place names now stands
+/// among those of its process.
 #[tactic(auto, unfolding(crate::specs::Lines::line))]
-fn place_at(
-    alloc: Global,
+fn place_at<'t>(
+    words: &mut Vec<&'t [u8]>,
+    bundles: &mut Vec<Bundle>,
     format: Format,
-    text: &[u8],
-) -> Result<((Option<u32>, Operation), &[u8]), ReadError>
-    ensures place { Gives (λ x. (place_view x.0, x.1.now)) result (line (place_spec format) text.now) }
-    ensures plain { IfOk result (λ x. IsOperation x.0.1) }
-{
-    let (words, rest) = words_of(alloc, text)?;
-    let place = judge(text.len(), place(format, &words))?;
-    Ok((place, rest))
-}
-
-/// The instruction, whose bundle now stands among those of its process.
-fn with_bundle(bundles: &mut Vec<Bundle>, operation: Operation) -> Result<Instr, AllocError>
-    requires plain { IsOperation operation }
+    text: &'t [u8],
+) -> Result<((Option<u32>, Instr), &'t [u8]), ReadError>
     requires room { length bundles.old.items < 65536 }
-    ensures instr { IfOk result (λ i. instr_view bundles.new.items i ≡ operation_view operation) }
-    ensures names { IfOk result (NamesBelow (length bundles.new.items)) }
+    ensures place { Gives (λ x. (place_view bundles.new.items x.0, x.1.now)) result
+        (line (place_spec format) text.now) }
+    ensures names { IfOk result (λ x. NamesBelow (length bundles.new.items) x.0.1) }
     ensures kept { OnOk result (Extends bundles.old.items bundles.new.items) }
     ensures few { OnOk result (length bundles.new.items ≤ length bundles.old.items + 1) }
 {
-    match operation {
-        Operation::Plain(instr) => Ok(instr),
-        Operation::Take(bundle) => {
-            let place = bundles.len() as u16;
-            bundles.push(bundle)?;
-            Ok(Instr::Take(place))
-        }
-        Operation::Give(bundle) => {
-            let place = bundles.len() as u16;
-            bundles.push(bundle)?;
-            Ok(Instr::Give(place))
-        }
-    }
+    let rest = words_into(words, text)?;
+    let verdict = place(bundles, format, words)?;
+    let place = judge(text.len(), verdict)?;
+    Ok((place, rest))
 }
 
 /// Places one after the other, with the bundles that they name.
@@ -109,15 +92,17 @@ fn places_of(
     ensures read { Gives (λ x. (places_row x.0, x.1.now)) result (many (spec.place_at format) [] count text.now) }
     ensures even { IfOk result (λ x. length x.0.lines.items ≡ length x.0.instrs.items) }
 {
-    let mut lines = Vec::new(alloc);
-    let mut instrs = Vec::new(alloc);
+    // A place takes three bytes or more.
+    let room = count.min(text.len() as u64 / 3) as usize;
+    let mut lines = Vec::with_capacity(alloc, room)?;
+    let mut instrs = Vec::with_capacity(alloc, room)?;
     let mut bundles = Vec::new(alloc);
+    let mut words = Vec::new(alloc);
     let mut rest = text;
     for _ in 0..count {
-        match place_at(alloc, format, rest) {
-            Ok((place, after)) => {
-                let instr = with_bundle(&mut bundles, place.1)?;
-                lines.push(place.0)?;
+        match place_at(&mut words, &mut bundles, format, rest) {
+            Ok(((line, instr), after)) => {
+                lines.push(line)?;
                 instrs.push(instr)?;
                 rest = after;
             }

@@ -21,31 +21,38 @@ pub(crate) enum Verdict<T> {
     Read(T),
 }
 
-fn line_end(text: &[u8]) -> Option<usize>
-    ensures { result ≡ position (λ b. b == 10) text.now }
+/// Leaves in `words` the words of the first line, and answers what follows its end.
+pub(crate) fn words_into<'t>(
+    words: &mut Vec<&'t [u8]>,
+    text: &'t [u8],
+) -> Result<&'t [u8], ReadError>
+    ensures { Gives (λ rest. (map (λ w. w.now) words.new.items, rest.now)) result (first_line text.now) }
 {
-    text.iter().position(|b| *b == b'\n')
-}
-
-fn split_words(alloc: Global, line: &[u8]) -> Result<Vec<&[u8]>, AllocError>
-    ensures { IfOk result (λ words. map (λ w. w.now) words.items ≡ slice_split (λ b. b == 32) line.now) }
-{
-    line.split(|b| *b == b' ').collect(alloc)
+    words.clear();
+    let mut start = 0;
+    for end in 0..text.len() {
+        match text[end] {
+            b' ' => {
+                words.push(&text[start..end])?;
+                start = end + 1;
+            }
+            b'\n' => {
+                words.push(&text[start..end])?;
+                return Ok(&text[end + 1..]);
+            }
+            _ => {}
+        }
+    }
+    Err(ReadError::Fault(Fault::Malformed(text.len())))
 }
 
 /// The words of the first line, and what follows its end.
-#[tactic(auto, unfolding(crate::specs::Lines::first_line))]
 pub(crate) fn words_of(alloc: Global, text: &[u8]) -> Result<(Vec<&[u8]>, &[u8]), ReadError>
     ensures { Gives (λ x. (map (λ w. w.now) x.0.items, x.1.now)) result (first_line text.now) }
 {
-    match line_end(text) {
-        None => Err(ReadError::Fault(Fault::Malformed(text.len()))),
-        Some(end) => {
-            let (line, rest) = text.split_at(end);
-            let words = split_words(alloc, line)?;
-            Ok((words, &rest[1..]))
-        }
-    }
+    let mut words = Vec::new(alloc);
+    let rest = words_into(&mut words, text)?;
+    Ok((words, rest))
 }
 
 /// What the line is read as, where the text from its start on has `left` bytes.
