@@ -7,9 +7,11 @@ use Rattle.std.proofs.lemmas.List.Elements.{Contains-get_or}
 use Rattle.std.proofs.lemmas.Bool.{cases_eq, cases_lt}
 use Rattle.pb_code.specs.Code.{Instr}
 use Rattle.pb_verifier.specs.Flow.{followers, IsGrown, IsReached, reached_entry, reached_next, StaysInside, LeadsBelow}
-use Rattle.pb_verifier.specs.Spread.{Rules, IsAnnotation, CanBeAnnotated, fact_at, notes_of, AllReadable, AgreesAt, with_notes}
+use Rattle.pb_verifier.specs.Spread.{Rules, IsAnnotation, CanBeAnnotated, fact_at, notes_of, AllReadable, AgreesAt, IsKept, with_notes}
 use Rattle.pb_verifier.proofs.Searching.{reached_inside, leads_below}
-use Rattle.pb_verifier.proofs.Spreading.{IsSpread, Extended, spread_noted, refuted_fit, next_agrees, spread_step}
+use Rattle.pb_verifier.proofs.Spreading.{IsSpread, Extended, spread_noted, refuted_fit, next_agrees, spread_same, spread_step}
+use Rattle.pb_verifier.proofs.Ending.{fact_of}
+use Rattle.pb_verifier.proofs.Keeping.{kept_agrees}
 use Rattle.pb_verifier.proofs.Noting.{Noted, note_all}
 
 -- the order of the reached places
@@ -47,6 +49,15 @@ module _ {F M : Type 0} (value : List (Option F) → F → M) (IsReadable : List
       go : {m : M} (x : Option F) → fact_at table (get_or order done 0) ≡ x → notes_of (value table) table (get_or order done 0) ≡ Some m → (f : F) × (fact_at table (get_or order done 0) ≡ Some f)
       go None e n = let e' = ap (option_map (value table)) (sym e) ∙ n in cc
       go (Some f) e n = (f, e)
+
+  table_kept : (done : ℕ) (table later : List (Option F)) → IsTable done table → IsKept value IsReadable table later
+      → IsTable done later
+  table_kept done table later t kept = record {
+    sized = kept.sized ∙ t.sized;
+    readable = kept.readable;
+    spread = spread_same rules entries instrs order done (notes_of (value table) table) (notes_of (value later) later)
+        kept.notes t.spread;
+  }
 
   module _ (done : ℕ) (table : List (Option F)) (i : Instr) (f : F) (h : IsHere done table i f) where
     pub here_inside : get_or order done 0 < length instrs
@@ -95,6 +106,31 @@ module _ {F M : Type 0} (value : List (Option F) → F → M) (IsReadable : List
                 (subst (λ (v : M). Extended (notes_of (value table) table) (followers i (get_or order done 0)) v (notes_of (value (with_notes table next (followers i (get_or order done 0)))) (with_notes table next (followers i (get_or order done 0))))) means n.extended)
                 (order_next entries instrs order h.ordered done h.within i here_read);
           }
+
+  -- the same in a later table in which whatever was known still means what it meant
+  pub shared_done : (done : ℕ) (table later : List (Option F)) (i : Instr) (f next : F) → IsHere done table i f
+      → IsKept value IsReadable table later
+      → ((table : List (Option F)) (p : ℕ) (new fact : F) → fact_at table p ≡ None → IsReadable table fact
+      → IsReadable (set table p (Some new)) fact × (value (set table p (Some new)) fact ≡ value table fact))
+      → value table next ≡ rules.after i (value table f) → rules.Fits i (value table f) → IsReadable table next
+      → ((q : ℕ) → Contains (followers i (get_or order done 0)) q → AgreesAt (value table) table next q)
+      → IsTable (done + 1) (with_notes later next (followers i (get_or order done 0)))
+  shared_done done table later i f next h kept keeps means fits readable agree =
+      let noted : notes_of (value later) later (get_or order done 0) ≡ Some (value table f) =
+      kept.notes (get_or order done 0) ∙ ap (option_map (value table)) h.here
+      in
+      let now = fact_of (value later) later (get_or order done 0) (value table f) noted in
+      let here : IsHere done later i now.0 = record {
+        ordered = h.ordered;
+        kept = table_kept done table later h.kept kept;
+        within = h.within;
+        read = h.read;
+        here = now.1;
+      }
+      in
+      here_done done later i now.0 here next ((kept.facts next readable).1 ∙ means ∙ ap (rules.after i) (sym now.2))
+      keeps (subst (rules.Fits i) (sym now.2) fits) (kept.facts next readable).0
+      (λ q c. kept_agrees value IsReadable table later next q kept readable (agree q c))
 
   -- at the start only entries have a fact
   pub table_start : (table : List (Option F)) (first : F) → IsOrder entries instrs order → length table ≡ length instrs → ((k : ℕ) → k < length entries → fact_at table (get_or entries k 0) ≡ Some first)
