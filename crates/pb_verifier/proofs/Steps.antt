@@ -1,8 +1,7 @@
 -- A step of the spread over a table.
-use Rattle.std.proofs.Common.{◌≡◌, ◌≢◌, ◌⊎◌, ◌↔◌, inl, inr, ℕ, zero, suc, ◌+◌, ◌-◌, ◌<◌, ◌≤◌, List, [], ◌∷◌, ◌++◌, length, get_or, set, Option, Some, None, refl, sym, ap, ◌∙◌, subst, arith, get_or-set_same, get_or-set_other}
+use Rattle.std.proofs.Common.{◌≡◌, ◌≢◌, ◌⊎◌, ◌↔◌, inl, inr, ℕ, ◌+◌, ◌<◌, ◌≤◌, List, length, get_or, set, Option, Some, None, refl, sym, ap, ◌∙◌, subst, arith, get_or-set_same, get_or-set_other}
 use Rattle.std.specs.Prelude.{Contains, slice_get, option_map}
-use Rattle.std.proofs.lemmas.List.{get_or_default, get_or_append_left}
-use Rattle.std.proofs.Math.Seq.{get_or-append_right}
+use Rattle.std.proofs.lemmas.List.{get_or_default}
 use Rattle.std.proofs.lemmas.List.Elements.{Contains-get_or}
 use Rattle.std.proofs.lemmas.Bool.{cases_eq, cases_lt}
 use Rattle.pb_code.specs.Code.{Instr}
@@ -168,17 +167,6 @@ module _ {F M : Type 0} (value : List (Option F) → F → M) (IsReadable : List
       least other a p m (f, u, e) = a.starts p (only p f u).0 ∙ ap Some (sym means ∙ ap (value table) (sym (only p f u).1) ∙ e)
 
 -- ---- filling the table
-
-pub empty_more : {F : Type 0} (table : List (Option F)) → ((p : ℕ) → fact_at table p ≡ None) → (p : ℕ) → fact_at (table ++ None ∷ []) p ≡ None
-empty_more {F = F} table empty p = go (cases_lt p (length table))
-  where
-    last : (k : ℕ) → fact_at {F = F} (None ∷ []) k ≡ None
-    last zero = refl
-    last (suc k) = refl
-
-    go : (p < length table) ⊎ (length table ≤ p) → fact_at (table ++ None ∷ []) p ≡ None
-    go (inl u) = get_or_append_left table (None ∷ []) None p u ∙ empty p
-    go (inr u) = get_or-append_right table (None ∷ []) p None u ∙ last (p - length table)
 
 pub started_more : {F : Type 0} (table : List (Option F)) (entries : List ℕ) (n : ℕ) (first : F) → get_or entries n 0 < length table → ((k : ℕ) → k < n → fact_at table (get_or entries k 0) ≡ Some first)
     → (k : ℕ) → k < n + 1 → fact_at (set table (get_or entries n 0) (Some first)) (get_or entries k 0) ≡ Some first

@@ -222,10 +222,7 @@ pub fn spread<F: Fact>(
     ensures no { IfOk result (λ answer. IfNone answer
         (¬ CanBeAnnotated (rules_of (F.start first) F.Fits F.after) entries.now (instrs_of code.now))) }
 {
-    let mut table: Vec<Option<F>> = Vec::new(alloc);
-    for _ in 0..places(code) {
-        table.push(None)?;
-    }
+    let mut table: Vec<Option<F>> = vec![in alloc; None; places(code)]?;
     for entry in entries {
         table[*entry as usize] = Some(first);
     }

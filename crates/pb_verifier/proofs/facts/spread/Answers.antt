@@ -1,23 +1,12 @@
-use Rattle.std.proofs.Common.{◌≡◌, ◌<◌, ◌+◌, ℕ, List, ◌∷◌, [], false, true, Option, Some, None, length, Contains, get_or, arith, refl, sym, ap, ◌∙◌, subst, length-set, length-append}
+use Rattle.std.proofs.Common.{◌≡◌, ◌<◌, ◌+◌, ℕ, List, false, true, Option, Some, None, length, Contains, get_or, arith, refl, sym, ap, ◌∙◌, subst, length-set}
 use Rattle.std.proofs.lemmas.List.Elements.{Contains-get_or}
 use Rattle.pb_verifier.specs.Given.{instrs_of, plain}
 use Rattle.pb_verifier.specs.Spread.{rules_of, fact_at, notes_of, AllReadable, AgreesAt}
 use Rattle.pb_verifier.specs.Flow.{followers}
-use Rattle.pb_verifier.proofs.Steps.{IsTable, empty_more, started_more, only_more, table_start, table_noted, order_inside, found_here, IsHere, here_leads, here_readable, here_read, here_misfit, here_agrees, shared_done}
+use Rattle.pb_verifier.proofs.Steps.{IsTable, started_more, only_more, table_start, table_noted, order_inside, found_here, IsHere, here_leads, here_readable, here_read, here_misfit, here_agrees, shared_done}
 use Rattle.std.proofs.lemmas.List.{get_or_default}
 use Rattle.pb_verifier.proofs.Spreading.{spread_over}
 use Rattle.pb_verifier.proofs.facts.spread.Goals as goal
-
-pub loop-init : goal.loop-init
-loop-init g c = rw c.new-table.ensures.items record { sized = refl; empty = λ p. refl }
-
-pub loop-preserved : goal.loop-preserved
-loop-preserved g c =
-    rw c.in_ok-push.ensures.items
-    record {
-      sized = length-append c.loop.table.items (None ∷ []) ∙ ap (λ (n : ℕ). n + 1) c.loop.invariant.sized;
-      empty = empty_more c.loop.table.items c.loop.invariant.empty;
-    }
 
 entry_inside : {n k : ℕ} (entries : List ℕ) → ((p : ℕ) → Contains entries p → p < n) → k < length entries → get_or entries k 0 < n
 entry_inside {n = n} {k = k} entries h u = h (get_or entries k 0) (Contains-get_or entries k 0 u)
