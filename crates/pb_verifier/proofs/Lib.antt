@@ -13,12 +13,14 @@ pub mod Greatest
 pub mod Holding
 pub mod Inside
 pub mod Judging
+pub mod Keeping
 pub mod Limiting
 pub mod Lying
 pub mod Noting
 pub mod Order
 pub mod Peaking
 pub mod Searching
+pub mod Sharing
 pub mod Spreading
 pub mod States
 pub mod Steps

@@ -32,6 +32,23 @@ module _ {M : Type 0} (rules : Rules M) (entries : List ℕ) (instrs : List Inst
   abbrev Spread : ℕ → (ℕ → Option M) → Type 0
   Spread done notes = IsSpread rules entries instrs order done notes
 
+  -- equal notes are spread as well
+  pub spread_same : (done : ℕ) (notes later : ℕ → Option M) → ((p : ℕ) → later p ≡ notes p) → Spread done notes
+      → Spread done later
+  spread_same done notes later same h = record {
+    starts = λ p c. same p ∙ h.starts p c;
+    flows = λ k u. let f : FlowsAt rules instrs notes (get_or order k 0) = h.flows k u in record {
+      value = f.value;
+      instr = f.instr;
+      noted = same (get_or order k 0) ∙ f.noted;
+      read = f.read;
+      fits = f.fits;
+      next = λ q c. same q ∙ f.next q c;
+    };
+    within = λ p m e. h.within p m (sym (same p) ∙ e);
+    least = λ other a p m e. h.least other a p m (sym (same p) ∙ e);
+  }
+
   -- the next place of the order has a value
   pub spread_noted : (done : ℕ) (notes : ℕ → Option M) → Spread done notes → IsGrown entries instrs order → done < length order → (m : M) × (notes (get_or order done 0) ≡ Some m)
   spread_noted done notes h grown u = go (grown done u)

@@ -1,15 +1,16 @@
 -- A step of the spread over a table.
-use Rattle.std.proofs.Common.{◌≡◌, ◌≢◌, ◌⊎◌, ◌↔◌, inl, inr, ℕ, zero, suc, ◌+◌, ◌-◌, ◌<◌, ◌≤◌, List, [], ◌∷◌, ◌++◌, length, get_or, set, Option, Some, None, refl, sym, ap, ◌∙◌, subst, arith, get_or-set_same, get_or-set_other}
+use Rattle.std.proofs.Common.{◌≡◌, ◌≢◌, ◌⊎◌, ◌↔◌, inl, inr, ℕ, ◌+◌, ◌<◌, ◌≤◌, List, length, get_or, set, Option, Some, None, refl, sym, ap, ◌∙◌, subst, arith, get_or-set_same, get_or-set_other}
 use Rattle.std.specs.Prelude.{Contains, slice_get, option_map}
-use Rattle.std.proofs.lemmas.List.{get_or_default, get_or_append_left}
-use Rattle.std.proofs.Math.Seq.{get_or-append_right}
+use Rattle.std.proofs.lemmas.List.{get_or_default}
 use Rattle.std.proofs.lemmas.List.Elements.{Contains-get_or}
 use Rattle.std.proofs.lemmas.Bool.{cases_eq, cases_lt}
 use Rattle.pb_code.specs.Code.{Instr}
 use Rattle.pb_verifier.specs.Flow.{followers, IsGrown, IsReached, reached_entry, reached_next, StaysInside, LeadsBelow}
-use Rattle.pb_verifier.specs.Spread.{Rules, IsAnnotation, CanBeAnnotated, fact_at, notes_of, AllReadable, AgreesAt, with_notes}
+use Rattle.pb_verifier.specs.Spread.{Rules, IsAnnotation, CanBeAnnotated, fact_at, notes_of, AllReadable, AgreesAt, IsKept, with_notes}
 use Rattle.pb_verifier.proofs.Searching.{reached_inside, leads_below}
-use Rattle.pb_verifier.proofs.Spreading.{IsSpread, Extended, spread_noted, refuted_fit, next_agrees, spread_step}
+use Rattle.pb_verifier.proofs.Spreading.{IsSpread, Extended, spread_noted, refuted_fit, next_agrees, spread_same, spread_step}
+use Rattle.pb_verifier.proofs.Ending.{fact_of}
+use Rattle.pb_verifier.proofs.Keeping.{kept_agrees}
 use Rattle.pb_verifier.proofs.Noting.{Noted, note_all}
 
 -- the order of the reached places
@@ -47,6 +48,15 @@ module _ {F M : Type 0} (value : List (Option F) → F → M) (IsReadable : List
       go : {m : M} (x : Option F) → fact_at table (get_or order done 0) ≡ x → notes_of (value table) table (get_or order done 0) ≡ Some m → (f : F) × (fact_at table (get_or order done 0) ≡ Some f)
       go None e n = let e' = ap (option_map (value table)) (sym e) ∙ n in cc
       go (Some f) e n = (f, e)
+
+  table_kept : (done : ℕ) (table later : List (Option F)) → IsTable done table → IsKept value IsReadable table later
+      → IsTable done later
+  table_kept done table later t kept = record {
+    sized = kept.sized ∙ t.sized;
+    readable = kept.readable;
+    spread = spread_same rules entries instrs order done (notes_of (value table) table) (notes_of (value later) later)
+        kept.notes t.spread;
+  }
 
   module _ (done : ℕ) (table : List (Option F)) (i : Instr) (f : F) (h : IsHere done table i f) where
     pub here_inside : get_or order done 0 < length instrs
@@ -96,6 +106,31 @@ module _ {F M : Type 0} (value : List (Option F) → F → M) (IsReadable : List
                 (order_next entries instrs order h.ordered done h.within i here_read);
           }
 
+  -- the same in a later table in which whatever was known still means what it meant
+  pub shared_done : (done : ℕ) (table later : List (Option F)) (i : Instr) (f next : F) → IsHere done table i f
+      → IsKept value IsReadable table later
+      → ((table : List (Option F)) (p : ℕ) (new fact : F) → fact_at table p ≡ None → IsReadable table fact
+      → IsReadable (set table p (Some new)) fact × (value (set table p (Some new)) fact ≡ value table fact))
+      → value table next ≡ rules.after i (value table f) → rules.Fits i (value table f) → IsReadable table next
+      → ((q : ℕ) → Contains (followers i (get_or order done 0)) q → AgreesAt (value table) table next q)
+      → IsTable (done + 1) (with_notes later next (followers i (get_or order done 0)))
+  shared_done done table later i f next h kept keeps means fits readable agree =
+      let noted : notes_of (value later) later (get_or order done 0) ≡ Some (value table f) =
+      kept.notes (get_or order done 0) ∙ ap (option_map (value table)) h.here
+      in
+      let now = fact_of (value later) later (get_or order done 0) (value table f) noted in
+      let here : IsHere done later i now.0 = record {
+        ordered = h.ordered;
+        kept = table_kept done table later h.kept kept;
+        within = h.within;
+        read = h.read;
+        here = now.1;
+      }
+      in
+      here_done done later i now.0 here next ((kept.facts next readable).1 ∙ means ∙ ap (rules.after i) (sym now.2))
+      keeps (subst (rules.Fits i) (sym now.2) fits) (kept.facts next readable).0
+      (λ q c. kept_agrees value IsReadable table later next q kept readable (agree q c))
+
   -- at the start only entries have a fact
   pub table_start : (table : List (Option F)) (first : F) → IsOrder entries instrs order → length table ≡ length instrs → ((k : ℕ) → k < length entries → fact_at table (get_or entries k 0) ≡ Some first)
       → ((p : ℕ) (f : F) → fact_at table p ≡ Some f → Contains entries p × (f ≡ first)) → IsReadable table first → value table first ≡ rules.start → IsTable 0 table
@@ -132,17 +167,6 @@ module _ {F M : Type 0} (value : List (Option F) → F → M) (IsReadable : List
       least other a p m (f, u, e) = a.starts p (only p f u).0 ∙ ap Some (sym means ∙ ap (value table) (sym (only p f u).1) ∙ e)
 
 -- ---- filling the table
-
-pub empty_more : {F : Type 0} (table : List (Option F)) → ((p : ℕ) → fact_at table p ≡ None) → (p : ℕ) → fact_at (table ++ None ∷ []) p ≡ None
-empty_more {F = F} table empty p = go (cases_lt p (length table))
-  where
-    last : (k : ℕ) → fact_at {F = F} (None ∷ []) k ≡ None
-    last zero = refl
-    last (suc k) = refl
-
-    go : (p < length table) ⊎ (length table ≤ p) → fact_at (table ++ None ∷ []) p ≡ None
-    go (inl u) = get_or_append_left table (None ∷ []) None p u ∙ empty p
-    go (inr u) = get_or-append_right table (None ∷ []) p None u ∙ last (p - length table)
 
 pub started_more : {F : Type 0} (table : List (Option F)) (entries : List ℕ) (n : ℕ) (first : F) → get_or entries n 0 < length table → ((k : ℕ) → k < n → fact_at table (get_or entries k 0) ≡ Some first)
     → (k : ℕ) → k < n + 1 → fact_at (set table (get_or entries n 0) (Some first)) (get_or entries k 0) ≡ Some first

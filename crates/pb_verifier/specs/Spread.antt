@@ -107,6 +107,14 @@ notes_of value table p = option_map value (fact_at table p)
 abbrev pub AllReadable : {F : Type 0} → (F → Type 0) → List (Option F) → Type 0
 AllReadable {F = F} IsReadable table = (p : ℕ) (f : F) → fact_at table p ≡ Some f → IsReadable f
 
+-- a later table, in which whatever was known is known at the same places and means the same
+pub record IsKept {F M : Type 0} (value : List (Option F) → F → M) (IsReadable : List (Option F) → F → Type 0)
+    (table later : List (Option F)) : Type 0 where
+  pub sized : length later ≡ length table
+  pub readable : AllReadable (IsReadable later) later
+  pub facts : (f : F) → IsReadable table f → IsReadable later f × (value later f ≡ value table f)
+  pub notes : (p : ℕ) → notes_of (value later) later p ≡ notes_of (value table) table p
+
 -- what is known at a place, if anything, means the same
 abbrev pub AgreesAt : {F M : Type 0} → (F → M) → List (Option F) → F → ℕ → Type 0
 AgreesAt {F = F} value table fact p = (found : F) → fact_at table p ≡ Some found → value found ≡ value fact

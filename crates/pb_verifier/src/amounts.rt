@@ -114,6 +114,8 @@ impl Fact for Amount {
         self.resource == other.resource && self.held == other.held
     }
 
+    fn share(self, _other: Self, _code: &ProcessCode, _table: &mut Vec<Option<Self>>) {}
+
     ghost firsts = { first_amount };
 
     ghost keeps = { λ _ _ _ _ _ _ r. (r, refl) };

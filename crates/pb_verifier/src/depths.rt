@@ -53,6 +53,8 @@ impl Fact for Depth {
         self.count == other.count
     }
 
+    fn share(self, _other: Self, _code: &ProcessCode, _table: &mut Vec<Option<Self>>) {}
+
     ghost firsts = { λ first zero _ _. (tt, zero) };
 
     ghost keeps = { λ _ _ _ _ _ _ _. (tt, refl) };

@@ -4,7 +4,7 @@ ghost use Rattle.std.specs.Prelude.{◌≡◌, ◌↔◌, ◌<◌, ◌+◌, ℕ,
 ghost use Rattle.pb_code.specs.Code.{Instr};
 ghost use Rattle.pb_verifier.specs.Flow.{followers, target_of, IsGrown, IsReached, LeadsBelow, StaysInside};
 ghost use Rattle.pb_verifier.specs.Given.{instrs_of, plain};
-ghost use Rattle.pb_verifier.specs.Spread.{AgreesAt, AllReadable, CanBeAnnotated, IsLeast, fact_at, notes_of, rules_of, with_note, with_notes};
+ghost use Rattle.pb_verifier.specs.Spread.{AgreesAt, AllReadable, CanBeAnnotated, IsKept, IsLeast, fact_at, notes_of, rules_of, with_note, with_notes};
 
 use crate::places::{falls_through, instr_at, places, target};
 use pb_base::NoMemory;
@@ -50,6 +50,15 @@ pub trait Fact: Copy + Drop {
         ensures { (result ≡ true)
             ↔ (value (instrs_of code.now) table.now self
             ≡ value (instrs_of code.now) table.now other) };
+
+    /// Lets two facts that mean the same share what they stand on, so that they are told to be the same at once.
+    fn share(self, other: Self, code: &ProcessCode, table: &mut Vec<Option<Self>>)
+        requires one { IsReadable (instrs_of code.now) table.old.items self }
+        requires two { IsReadable (instrs_of code.now) table.old.items other }
+        requires same { value (instrs_of code.now) table.old.items self
+            ≡ value (instrs_of code.now) table.old.items other }
+        requires readable { AllReadable (IsReadable (instrs_of code.now) table.old.items) table.old.items }
+        ensures { IsKept (value (instrs_of code.now)) (IsReadable (instrs_of code.now)) table.old.items table.new.items };
 
     // what is known at entries needs no table
     ghost firsts: { (first : Self) → IsFirst first → (instrs : List Instr) (table : List (Option Self)) → IsReadable instrs table first × (value instrs table first ≡ start first) };
@@ -142,6 +151,54 @@ fn note_all<F: Fact>(
     }
 }
 
+/// Lets a fact share what the one that is known at a place stands on.
+fn share_at<F: Fact>(table: &mut Vec<Option<F>>, fact: F, code: &ProcessCode, place: u16)
+    requires place { place < length table.old.items }
+    requires readable { AllReadable (F.IsReadable (instrs_of code.now) table.old.items) table.old.items }
+    requires fact { F.IsReadable (instrs_of code.now) table.old.items fact }
+    requires agrees { AgreesAt (F.value (instrs_of code.now) table.old.items) table.old.items fact place }
+    ensures { IsKept (F.value (instrs_of code.now)) (F.IsReadable (instrs_of code.now)) table.old.items table.new.items }
+{
+    if let Some(found) = table[place as usize] {
+        found.share(fact, code, table);
+    }
+}
+
+/// Lets a fact share what the one stands on that is known where the instruction may jump to.
+fn share_at_target<F: Fact>(table: &mut Vec<Option<F>>, fact: F, code: &ProcessCode, instr: Instr)
+    requires target { IfSome (target_of (plain code.now instr)) (λ next. next < length table.old.items) }
+    requires readable { AllReadable (F.IsReadable (instrs_of code.now) table.old.items) table.old.items }
+    requires fact { F.IsReadable (instrs_of code.now) table.old.items fact }
+    requires agrees { (q : ℕ) → target_of (plain code.now instr) ≡ Some q
+        → AgreesAt (F.value (instrs_of code.now) table.old.items) table.old.items fact q }
+    ensures { IsKept (F.value (instrs_of code.now)) (F.IsReadable (instrs_of code.now)) table.old.items table.new.items }
+{
+    if let Some(next) = target(instr) {
+        share_at(table, fact, code, next);
+    }
+}
+
+/// Lets a fact share what those stand on that are known wherever the instruction at a place leads to.
+fn share_all<F: Fact>(
+    table: &mut Vec<Option<F>>,
+    fact: F,
+    code: &ProcessCode,
+    instr: Instr,
+    place: u16,
+)
+    requires inside { LeadsBelow (plain code.now instr) place (length table.old.items) }
+    requires readable { AllReadable (F.IsReadable (instrs_of code.now) table.old.items) table.old.items }
+    requires fact { F.IsReadable (instrs_of code.now) table.old.items fact }
+    requires agree { (q : ℕ) → Contains (followers (plain code.now instr) place) q
+        → AgreesAt (F.value (instrs_of code.now) table.old.items) table.old.items fact q }
+    ensures { IsKept (F.value (instrs_of code.now)) (F.IsReadable (instrs_of code.now)) table.old.items table.new.items }
+{
+    share_at_target(table, fact, code, instr);
+    if falls_through(instr) {
+        share_at(table, fact, code, place + 1);
+    }
+}
+
 /// What is known at each reached place, or none where a place can't be given one fact that serves
 /// each way of reaching it.
 pub fn spread<F: Fact>(
@@ -165,10 +222,7 @@ pub fn spread<F: Fact>(
     ensures no { IfOk result (λ answer. IfNone answer
         (¬ CanBeAnnotated (rules_of (F.start first) F.Fits F.after) entries.now (instrs_of code.now))) }
 {
-    let mut table: Vec<Option<F>> = Vec::new(alloc);
-    for _ in 0..places(code) {
-        table.push(None)?;
-    }
+    let mut table: Vec<Option<F>> = vec![in alloc; None; places(code)]?;
     for entry in entries {
         table[*entry as usize] = Some(first);
     }
@@ -185,6 +239,7 @@ pub fn spread<F: Fact>(
         if !all_agree(code, facts, next, instr, *place) {
             return Ok(None);
         }
+        share_all(&mut table, next, code, instr, *place);
         note_all(&mut table, next, code, instr, *place);
     }
     Ok(Some(table))

@@ -6,7 +6,7 @@ ghost use Rattle.pb_code.specs.Code.{Take};
 ghost use Rattle.pb_code.specs.View.{process_view};
 ghost use Rattle.pb_verifier.specs.Faults.{AreHoldings, TurnsHoldings};
 ghost use Rattle.pb_verifier.specs.Given.{IsOrderOf, IsTakeAt, bundle_of, instrs_of};
-ghost use Rattle.pb_verifier.specs.Spread.{HoldFits, IsTableOf, fact_at, held_after, notes_of};
+ghost use Rattle.pb_verifier.specs.Spread.{AllReadable, HoldFits, IsKept, IsTableOf, fact_at, held_after, notes_of};
 ghost use Rattle.pb_verifier.specs.Holdings.{CanBeRead, IsChain, held, held_by};
 
 use crate::bundles::{pair_at, pairs};
@@ -91,6 +91,31 @@ fn same_holds(code: &ProcessCode, table: &[Option<Holding>], count: u16, one: u1
     true
 }
 
+/// Lets two equal lists of bundles share what was held before each of their holds.
+fn share_holds(code: &ProcessCode, table: &mut Vec<Option<Holding>>, count: u16, one: u16, two: u16)
+    requires one { IsChain (instrs_of code.now) table.old.items count one }
+    requires two { IsChain (instrs_of code.now) table.old.items count two }
+    requires same { held (instrs_of code.now) table.old.items count one
+        ≡ held (instrs_of code.now) table.old.items count two }
+    requires readable { AllReadable (CanBeRead (instrs_of code.now) table.old.items) table.old.items }
+    ensures { IsKept (held_by (instrs_of code.now)) (CanBeRead (instrs_of code.now)) table.old.items table.new.items }
+{
+    let mut left = count;
+    let mut a = one;
+    let mut b = two;
+    while left > 0 {
+        let kept = before(table, a);
+        let dropped = before(table, b);
+        if kept.last == dropped.last {
+            return;
+        }
+        table[b as usize] = Some(kept);
+        a = kept.last;
+        b = dropped.last;
+        left -= 1;
+    }
+}
+
 impl Fact for Holding {
     ghost use Rattle.pb_verifier.specs.Holdings.{chain_keeps, none_held};
 
@@ -131,6 +156,10 @@ impl Fact for Holding {
 
     fn same(self, other: Self, code: &ProcessCode, table: &[Option<Self>]) -> bool {
         self.count == other.count && same_holds(code, table, self.count, self.last, other.last)
+    }
+
+    fn share(self, other: Self, code: &ProcessCode, table: &mut Vec<Option<Self>>) {
+        share_holds(code, table, self.count, self.last, other.last);
     }
 
     ghost firsts = { λ first zero instrs table. none_held instrs table first.count first.last zero };

@@ -1,23 +1,12 @@
-use Rattle.std.proofs.Common.{◌≡◌, ◌<◌, ◌+◌, ℕ, List, ◌∷◌, [], false, true, Option, Some, None, length, Contains, get_or, arith, refl, sym, ap, ◌∙◌, subst, length-set, length-append}
+use Rattle.std.proofs.Common.{◌≡◌, ◌<◌, ◌+◌, ℕ, List, false, true, Option, Some, None, length, Contains, get_or, arith, refl, sym, ap, ◌∙◌, subst, length-set}
 use Rattle.std.proofs.lemmas.List.Elements.{Contains-get_or}
 use Rattle.pb_verifier.specs.Given.{instrs_of, plain}
 use Rattle.pb_verifier.specs.Spread.{rules_of, fact_at, notes_of, AllReadable, AgreesAt}
 use Rattle.pb_verifier.specs.Flow.{followers}
-use Rattle.pb_verifier.proofs.Steps.{IsTable, empty_more, started_more, only_more, table_start, table_noted, order_inside, found_here, IsHere, here_leads, here_readable, here_read, here_misfit, here_agrees, here_done}
+use Rattle.pb_verifier.proofs.Steps.{IsTable, started_more, only_more, table_start, table_noted, order_inside, found_here, IsHere, here_leads, here_readable, here_read, here_misfit, here_agrees, shared_done}
 use Rattle.std.proofs.lemmas.List.{get_or_default}
 use Rattle.pb_verifier.proofs.Spreading.{spread_over}
 use Rattle.pb_verifier.proofs.facts.spread.Goals as goal
-
-pub loop-init : goal.loop-init
-loop-init g c = rw c.new-table.ensures.items record { sized = refl; empty = λ p. refl }
-
-pub loop-preserved : goal.loop-preserved
-loop-preserved g c =
-    rw c.in_ok-push.ensures.items
-    record {
-      sized = length-append c.loop.table.items (None ∷ []) ∙ ap (λ (n : ℕ). n + 1) c.loop.invariant.sized;
-      empty = empty_more c.loop.table.items c.loop.invariant.empty;
-    }
 
 entry_inside : {n k : ℕ} (entries : List ℕ) → ((p : ℕ) → Contains entries p → p < n) → k < length entries → get_or entries k 0 < n
 entry_inside {n = n} {k = k} entries h u = h (get_or entries k 0) (Contains-get_or entries k 0 u)
@@ -208,6 +197,34 @@ returns-then-not-all_agree-clause-no g c =
     in
     λ a. let z : false ≡ true = e.1 (subst (λ (xs : List (Option g.row.F.Denot)). (q : ℕ) → Contains (followers (plain c.args.code.now c.instr_at-instr.result) (get_or c.args.order.now c.loop-place.place-index 0)) q → AgreesAt (g.F.Fact.value (instrs_of c.args.code.now) xs) xs c.next-next.result q) (sym d) (here_agrees (g.F.Fact.value (instrs_of c.args.code.now)) (g.F.Fact.IsReadable (instrs_of c.args.code.now)) (rules_of (g.F.Fact.start c.args.first) g.F.Fact.Fits g.F.Fact.after) c.args.entries.now (instrs_of c.args.code.now) c.args.order.now c.loop-place.place-index c.loop-place.table.items (plain c.args.code.now c.instr_at-instr.result) c.in-Some.fact here c.next-next.result means a)) in cc
 
+pub share_all-requires-clause-inside : goal.share_all-requires-clause-inside
+share_all-requires-clause-inside g c =
+    let u : get_or c.args.order.now c.loop-place.place-index 0 < length (instrs_of c.args.code.now) =
+    order_inside c.args.entries.now (instrs_of c.args.code.now) c.args.order.now record { inside = c.requires.inside; reached = c.requires.reached; grown = c.requires.grown } c.loop-place.place-index c.loop-place-test.true
+    in
+    let l : length c.loop-place.table.items ≡ length (instrs_of c.args.code.now) = c.loop-place.invariant.sized in
+    let w : get_or c.args.order.now c.loop-place.place-index 0 < length c.loop-place.table.items = omega arith in
+    let here : IsHere (g.F.Fact.value (instrs_of c.args.code.now)) (g.F.Fact.IsReadable (instrs_of c.args.code.now)) (rules_of (g.F.Fact.start c.args.first) g.F.Fact.Fits g.F.Fact.after) c.args.entries.now (instrs_of c.args.code.now) c.args.order.now c.loop-place.place-index c.loop-place.table.items (plain c.args.code.now c.instr_at-instr.result) c.in-Some.fact = record {
+      ordered = record { inside = c.requires.inside; reached = c.requires.reached; grown = c.requires.grown };
+      kept = c.loop-place.invariant;
+      within = c.loop-place-test.true;
+      read = c.instr_at-instr.ensures;
+      here = found_here c.loop-place.table.items (get_or c.args.order.now c.loop-place.place-index 0) c.index.result.now c.in-Some.fact w c.index.ensures c.in-Some.is;
+    }
+    in
+    let d = c.deref-facts.ensures.value in
+    here_leads (g.F.Fact.value (instrs_of c.args.code.now)) (g.F.Fact.IsReadable (instrs_of c.args.code.now)) (rules_of (g.F.Fact.start c.args.first) g.F.Fact.Fits g.F.Fact.after) c.args.entries.now (instrs_of c.args.code.now) c.args.order.now c.loop-place.place-index c.loop-place.table.items (plain c.args.code.now c.instr_at-instr.result) c.in-Some.fact here _ refl
+
+pub share_all-requires-clause-agree : goal.share_all-requires-clause-agree
+share_all-requires-clause-agree g c =
+    let d = c.deref-facts.ensures.value in
+    let e = c.if-not-all_agree.ensures in
+    subst (λ (xs : List (Option g.row.F.Denot)). (q : ℕ) → Contains (followers (plain c.args.code.now c.instr_at-instr.result) (get_or c.args.order.now c.loop-place.place-index 0)) q → AgreesAt (g.F.Fact.value (instrs_of c.args.code.now) xs) xs c.next-next.result q) d (e.0 refl)
+
+pub share_all-requires-clause-fact : goal.share_all-requires-clause-fact
+share_all-requires-clause-fact g c =
+    subst (λ (xs : List (Option g.row.F.Denot)). g.F.Fact.IsReadable (instrs_of c.args.code.now) xs c.next-next.result) c.deref-facts.ensures.value c.next-next.ensures.readable
+
 pub note_all-requires : goal.note_all-requires
 note_all-requires g c =
     let u : get_or c.args.order.now c.loop-place.place-index 0 < length (instrs_of c.args.code.now) =
@@ -224,7 +241,7 @@ note_all-requires g c =
     }
     in
     let d = c.deref-facts.ensures.value in
-    here_leads (g.F.Fact.value (instrs_of c.args.code.now)) (g.F.Fact.IsReadable (instrs_of c.args.code.now)) (rules_of (g.F.Fact.start c.args.first) g.F.Fact.Fits g.F.Fact.after) c.args.entries.now (instrs_of c.args.code.now) c.args.order.now c.loop-place.place-index c.loop-place.table.items (plain c.args.code.now c.instr_at-instr.result) c.in-Some.fact here _ refl
+    here_leads (g.F.Fact.value (instrs_of c.args.code.now)) (g.F.Fact.IsReadable (instrs_of c.args.code.now)) (rules_of (g.F.Fact.start c.args.first) g.F.Fact.Fits g.F.Fact.after) c.args.entries.now (instrs_of c.args.code.now) c.args.order.now c.loop-place.place-index c.loop-place.table.items (plain c.args.code.now c.instr_at-instr.result) c.in-Some.fact here _ c.share_all.ensures.sized
 
 pub loop-place-preserved : goal.loop-place-preserved
 loop-place-preserved g c =
@@ -258,7 +275,7 @@ loop-place-preserved g c =
     subst (λ (xs : List (Option g.row.F.Denot)). (q : ℕ) → Contains (followers (plain c.args.code.now c.instr_at-instr.result) (get_or c.args.order.now c.loop-place.place-index 0)) q → AgreesAt (g.F.Fact.value (instrs_of c.args.code.now) xs) xs c.next-next.result q) d (e.0 refl)
     in
     subst (λ (xs : List (Option g.row.F.Denot)). IsTable (g.F.Fact.value (instrs_of c.args.code.now)) (g.F.Fact.IsReadable (instrs_of c.args.code.now)) (rules_of (g.F.Fact.start c.args.first) g.F.Fact.Fits g.F.Fact.after) c.args.entries.now (instrs_of c.args.code.now) c.args.order.now (c.loop-place.place-index + 1) xs) (sym n)
-    (here_done (g.F.Fact.value (instrs_of c.args.code.now)) (g.F.Fact.IsReadable (instrs_of c.args.code.now)) (rules_of (g.F.Fact.start c.args.first) g.F.Fact.Fits g.F.Fact.after) c.args.entries.now (instrs_of c.args.code.now) c.args.order.now c.loop-place.place-index c.loop-place.table.items (plain c.args.code.now c.instr_at-instr.result) c.in-Some.fact here c.next-next.result means (g.met.F.Fact.keeps (instrs_of c.args.code.now)) fits readable agree)
+    (shared_done (g.F.Fact.value (instrs_of c.args.code.now)) (g.F.Fact.IsReadable (instrs_of c.args.code.now)) (rules_of (g.F.Fact.start c.args.first) g.F.Fact.Fits g.F.Fact.after) c.args.entries.now (instrs_of c.args.code.now) c.args.order.now c.loop-place.place-index c.loop-place.table.items c.share_all.new.table.items (plain c.args.code.now c.instr_at-instr.result) c.in-Some.fact c.next-next.result here c.share_all.ensures (g.met.F.Fact.keeps (instrs_of c.args.code.now)) means fits readable agree)
 
 pub returns-clause-yes : goal.returns-clause-yes
 returns-clause-yes g c =

@@ -1,12 +1,9 @@
-use Rattle.std.proofs.Common.{◌≡◌, ℕ, ◌<◌, length, get_or, Some, None}
+use Rattle.std.proofs.Common.{◌≡◌, ℕ, ◌<◌, length, get_or, Some}
 use Rattle.std.specs.Prelude.{Contains}
 use Rattle.pb_verifier.specs.Given.{instrs_of}
 use Rattle.pb_verifier.specs.Spread.{rules_of, fact_at}
 use Rattle.pb_verifier.proofs.Steps.{IsTable}
 use Rattle.pb_verifier.proofs.facts.spread.Given as goal
-
-abbrev pub invariant-loop : goal.invariant-loop
-invariant-loop g l = record { sized : length l.table.items ≡ l.counter; empty : (p : ℕ) → fact_at l.table.items p ≡ None }
 
 abbrev pub invariant-loop-entry : goal.invariant-loop-entry
 invariant-loop-entry g l = record {
