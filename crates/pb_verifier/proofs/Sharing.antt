@@ -54,7 +54,8 @@ module _ (instrs : List Instr) (table : List (Option Holding)) (p : ℕ) (old ne
                 ∙ ap (held instrs table n) (sym (ap last_of noted))),
           )
       go (inr other) =
-          let now : fact_at Later last ≡ fact_at table last = get_or-set_other table p last (Some new) None other in
+          let now : fact_at Later last ≡ fact_at table last =
+          get_or-set_other table p last (Some new) None other in
           let below : KeepsList n before.last = shorter before.last rest in (
             (bundle, before, read, now ∙ noted, count, below.0),
             ap (λ xs. taken (slice_get instrs last) ∷ xs)
@@ -66,7 +67,8 @@ module _ (instrs : List Instr) (table : List (Option Holding)) (p : ℕ) (old ne
   swap_list zero last chain = (tt, refl)
   swap_list (suc n) last chain = list_longer n last chain (swap_list n)
 
-  swap_kept : AllReadable (CanBeRead instrs table) table → IsKept (held_by instrs) (CanBeRead instrs) table Later
+  swap_kept : AllReadable (CanBeRead instrs table) table
+      → IsKept (held_by instrs) (CanBeRead instrs) table Later
   swap_kept all = record {
     sized = length-set table p (Some new);
     readable = λ q f e. readable q f e (cases_eq q p);
@@ -81,16 +83,20 @@ module _ (instrs : List Instr) (table : List (Option Holding)) (p : ℕ) (old ne
       now : (q : ℕ) → q ≡ p → fact_at Later q ≡ Some new
       now q e = ap (fact_at Later) e ∙ get_or-set_same table p (Some new) None swap.inside
 
-      readable : (q : ℕ) (f : Holding) → fact_at Later q ≡ Some f → (q ≡ p) ⊎ (q ≢ p) → CanBeRead instrs Later f
+      readable : (q : ℕ) (f : Holding) → fact_at Later q ≡ Some f → (q ≡ p) ⊎ (q ≢ p)
+          → CanBeRead instrs Later f
       readable q f e (inl same) =
           let both : Some new ≡ Some f = sym (now q same) ∙ e in
           let is : new ≡ f = cc in
           subst (CanBeRead instrs Later) is (facts new swap.readable).0
-      readable q f e (inr other) = (facts f (all q f (sym (get_or-set_other table p q (Some new) None other) ∙ e))).0
+      readable q f e (inr other) =
+          (facts f (all q f (sym (get_or-set_other table p q (Some new) None other) ∙ e))).0
 
       noted : (q : ℕ) (o : Option Holding) → fact_at table q ≡ o
-          → option_map (held_by instrs Later) (fact_at table q) ≡ option_map (held_by instrs table) (fact_at table q)
-      noted q None e = ap (option_map (held_by instrs Later)) e ∙ sym (ap (option_map (held_by instrs table)) e)
+          → option_map (held_by instrs Later) (fact_at table q)
+          ≡ option_map (held_by instrs table) (fact_at table q)
+      noted q None e =
+          ap (option_map (held_by instrs Later)) e ∙ sym (ap (option_map (held_by instrs table)) e)
       noted q (Some f) e =
           ap (option_map (held_by instrs Later)) e ∙ ap Some (facts f (all q f e)).1
           ∙ sym (ap (option_map (held_by instrs table)) e)
@@ -98,7 +104,8 @@ module _ (instrs : List Instr) (table : List (Option Holding)) (p : ℕ) (old ne
       notes : (q : ℕ) → (q ≡ p) ⊎ (q ≢ p)
           → notes_of (held_by instrs Later) Later q ≡ notes_of (held_by instrs table) table q
       notes q (inl same) =
-          ap (option_map (held_by instrs Later)) (now q same) ∙ ap Some ((facts new swap.readable).1 ∙ swap.means)
+          ap (option_map (held_by instrs Later)) (now q same)
+          ∙ ap Some ((facts new swap.readable).1 ∙ swap.means)
           ∙ sym (ap (option_map (held_by instrs table)) (ap (fact_at table) same ∙ swap.here))
       notes q (inr other) =
           ap (option_map (held_by instrs Later)) (get_or-set_other table p q (Some new) None other)
@@ -111,7 +118,8 @@ pub record AreEqual (instrs : List Instr) (first table : List (Option Holding)) 
   pub same : held instrs table n a ≡ held instrs table n b
   pub kept : IsKept (held_by instrs) (CanBeRead instrs) first table
 
-noted_inside : (table : List (Option Holding)) (p : ℕ) (f : Holding) → fact_at table p ≡ Some f → p < length table
+noted_inside : (table : List (Option Holding)) (p : ℕ) (f : Holding)
+    → fact_at table p ≡ Some f → p < length table
 noted_inside table p f e = go (cases_lt p (length table))
   where
     go : (p < length table) ⊎ (length table ≤ p) → p < length table

@@ -33,8 +33,8 @@ module _ {M : Type 0} (rules : Rules M) (entries : List ℕ) (instrs : List Inst
   Spread done notes = IsSpread rules entries instrs order done notes
 
   -- equal notes are spread as well
-  pub spread_same : (done : ℕ) (notes later : ℕ → Option M) → ((p : ℕ) → later p ≡ notes p) → Spread done notes
-      → Spread done later
+  pub spread_same : (done : ℕ) (notes later : ℕ → Option M) → ((p : ℕ) → later p ≡ notes p)
+      → Spread done notes → Spread done later
   spread_same done notes later same h = record {
     starts = λ p c. same p ∙ h.starts p c;
     flows = λ k u. let f : FlowsAt rules instrs notes (get_or order k 0) = h.flows k u in record {

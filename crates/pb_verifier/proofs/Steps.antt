@@ -49,13 +49,14 @@ module _ {F M : Type 0} (value : List (Option F) → F → M) (IsReadable : List
       go None e n = let e' = ap (option_map (value table)) (sym e) ∙ n in cc
       go (Some f) e n = (f, e)
 
-  table_kept : (done : ℕ) (table later : List (Option F)) → IsTable done table → IsKept value IsReadable table later
+  table_kept : (done : ℕ) (table later : List (Option F)) → IsTable done table
+      → IsKept value IsReadable table later
       → IsTable done later
   table_kept done table later t kept = record {
     sized = kept.sized ∙ t.sized;
     readable = kept.readable;
-    spread = spread_same rules entries instrs order done (notes_of (value table) table) (notes_of (value later) later)
-        kept.notes t.spread;
+    spread = spread_same rules entries instrs order done (notes_of (value table) table)
+        (notes_of (value later) later) kept.notes t.spread;
   }
 
   module _ (done : ℕ) (table : List (Option F)) (i : Instr) (f : F) (h : IsHere done table i f) where
@@ -107,11 +108,12 @@ module _ {F M : Type 0} (value : List (Option F) → F → M) (IsReadable : List
           }
 
   -- the same in a later table in which whatever was known still means what it meant
-  pub shared_done : (done : ℕ) (table later : List (Option F)) (i : Instr) (f next : F) → IsHere done table i f
-      → IsKept value IsReadable table later
+  pub shared_done : (done : ℕ) (table later : List (Option F)) (i : Instr) (f next : F)
+      → IsHere done table i f → IsKept value IsReadable table later
       → ((table : List (Option F)) (p : ℕ) (new fact : F) → fact_at table p ≡ None → IsReadable table fact
       → IsReadable (set table p (Some new)) fact × (value (set table p (Some new)) fact ≡ value table fact))
-      → value table next ≡ rules.after i (value table f) → rules.Fits i (value table f) → IsReadable table next
+      → value table next ≡ rules.after i (value table f) → rules.Fits i (value table f)
+      → IsReadable table next
       → ((q : ℕ) → Contains (followers i (get_or order done 0)) q → AgreesAt (value table) table next q)
       → IsTable (done + 1) (with_notes later next (followers i (get_or order done 0)))
   shared_done done table later i f next h kept keeps means fits readable agree =
@@ -127,7 +129,8 @@ module _ {F M : Type 0} (value : List (Option F) → F → M) (IsReadable : List
         here = now.1;
       }
       in
-      here_done done later i now.0 here next ((kept.facts next readable).1 ∙ means ∙ ap (rules.after i) (sym now.2))
+      here_done done later i now.0 here next
+      ((kept.facts next readable).1 ∙ means ∙ ap (rules.after i) (sym now.2))
       keeps (subst (rules.Fits i) (sym now.2) fits) (kept.facts next readable).0
       (λ q c. kept_agrees value IsReadable table later next q kept readable (agree q c))
 

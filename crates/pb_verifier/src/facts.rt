@@ -51,14 +51,15 @@ pub trait Fact: Copy + Drop {
             ↔ (value (instrs_of code.now) table.now self
             ≡ value (instrs_of code.now) table.now other) };
 
-    /// Lets two facts that mean the same share what they stand on, so that they are told to be the same at once.
+    /// Lets two facts that mean the same share what they stand on, so that they soon compare as the same.
     fn share(self, other: Self, code: &ProcessCode, table: &mut Vec<Option<Self>>)
         requires one { IsReadable (instrs_of code.now) table.old.items self }
         requires two { IsReadable (instrs_of code.now) table.old.items other }
         requires same { value (instrs_of code.now) table.old.items self
             ≡ value (instrs_of code.now) table.old.items other }
         requires readable { AllReadable (IsReadable (instrs_of code.now) table.old.items) table.old.items }
-        ensures { IsKept (value (instrs_of code.now)) (IsReadable (instrs_of code.now)) table.old.items table.new.items };
+        ensures { IsKept (value (instrs_of code.now)) (IsReadable (instrs_of code.now))
+            table.old.items table.new.items };
 
     // what is known at entries needs no table
     ghost firsts: { (first : Self) → IsFirst first → (instrs : List Instr) (table : List (Option Self)) → IsReadable instrs table first × (value instrs table first ≡ start first) };
@@ -157,7 +158,8 @@ fn share_at<F: Fact>(table: &mut Vec<Option<F>>, fact: F, code: &ProcessCode, pl
     requires readable { AllReadable (F.IsReadable (instrs_of code.now) table.old.items) table.old.items }
     requires fact { F.IsReadable (instrs_of code.now) table.old.items fact }
     requires agrees { AgreesAt (F.value (instrs_of code.now) table.old.items) table.old.items fact place }
-    ensures { IsKept (F.value (instrs_of code.now)) (F.IsReadable (instrs_of code.now)) table.old.items table.new.items }
+    ensures { IsKept (F.value (instrs_of code.now)) (F.IsReadable (instrs_of code.now))
+        table.old.items table.new.items }
 {
     if let Some(found) = table[place as usize] {
         found.share(fact, code, table);
@@ -171,7 +173,8 @@ fn share_at_target<F: Fact>(table: &mut Vec<Option<F>>, fact: F, code: &ProcessC
     requires fact { F.IsReadable (instrs_of code.now) table.old.items fact }
     requires agrees { (q : ℕ) → target_of (plain code.now instr) ≡ Some q
         → AgreesAt (F.value (instrs_of code.now) table.old.items) table.old.items fact q }
-    ensures { IsKept (F.value (instrs_of code.now)) (F.IsReadable (instrs_of code.now)) table.old.items table.new.items }
+    ensures { IsKept (F.value (instrs_of code.now)) (F.IsReadable (instrs_of code.now))
+        table.old.items table.new.items }
 {
     if let Some(next) = target(instr) {
         share_at(table, fact, code, next);
@@ -191,7 +194,8 @@ fn share_all<F: Fact>(
     requires fact { F.IsReadable (instrs_of code.now) table.old.items fact }
     requires agree { (q : ℕ) → Contains (followers (plain code.now instr) place) q
         → AgreesAt (F.value (instrs_of code.now) table.old.items) table.old.items fact q }
-    ensures { IsKept (F.value (instrs_of code.now)) (F.IsReadable (instrs_of code.now)) table.old.items table.new.items }
+    ensures { IsKept (F.value (instrs_of code.now)) (F.IsReadable (instrs_of code.now))
+        table.old.items table.new.items }
 {
     share_at_target(table, fact, code, instr);
     if falls_through(instr) {

@@ -98,7 +98,8 @@ fn share_holds(code: &ProcessCode, table: &mut Vec<Option<Holding>>, count: u16,
     requires same { held (instrs_of code.now) table.old.items count one
         ≡ held (instrs_of code.now) table.old.items count two }
     requires readable { AllReadable (CanBeRead (instrs_of code.now) table.old.items) table.old.items }
-    ensures { IsKept (held_by (instrs_of code.now)) (CanBeRead (instrs_of code.now)) table.old.items table.new.items }
+    ensures { IsKept (held_by (instrs_of code.now)) (CanBeRead (instrs_of code.now))
+        table.old.items table.new.items }
 {
     let mut left = count;
     let mut a = one;
