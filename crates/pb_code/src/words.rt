@@ -1,11 +1,11 @@
 //! Lines, their words, and what a word says.
 
-ghost use Rattle.std.specs.Prelude.{◌≡◌, ◌<◌, ◌^◌, ◌-◌, ◌==◌, length, map, IfOk, codes, min, true};
+ghost use Rattle.std.specs.Prelude.{◌≡◌, ◌<◌, ◌^◌, ◌-◌, map, IfOk, min, true};
 ghost use Rattle.std.specs.Str.{bytes_eq};
 ghost use Rattle.std.specs.Str.Parse.{digits_value};
 ghost use Rattle.pb_code.specs.Lines.{Gives, first_line, judged};
 ghost use Rattle.pb_code.specs.Words as spec;
-ghost use Rattle.std.specs.List.{position, slice_split, list_all};
+ghost use Rattle.std.specs.List.{list_all};
 ghost use Rattle.std.specs.Char.{is_ascii_digit};
 
 use crate::fault::{Fault, ReadError};
