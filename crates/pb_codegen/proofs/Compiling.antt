@@ -1,5 +1,5 @@
 -- From what each part answers to what a compiled, or a refused, text is.
-use Rattle.std.proofs.Common.{◌≡◌, ◌⊎◌, ℕ, List, length, map, Result, Ok, Err, refl, sym, ap, subst, ◌∙◌, arith}
+use Rattle.std.proofs.Common.{◌≡◌, ◌⊎◌, ℕ, List, length, map, Result, Ok, Err, refl, sym, ap, ◌∙◌, arith}
 use Rattle.std.proofs.lemmas.List.{length-map}
 use Rattle.std.proofs.lemmas.List.Elements.{All-weaker}
 use Rattle.std.proofs.lemmas.Simd.{map-map}
@@ -20,8 +20,8 @@ use Rattle.pb_names.specs.declared.fault.NameFault.TheVariants as names
 use Rattle.pb_names.specs.Faults.{IsFault}
 use Rattle.pb_names.specs.Ready.{HasPairsStmt, HasPairs, HasPairsArms, IsComplete}
 use Rattle.pb_names.specs.Meaning.{AreClaims}
-use Rattle.pb_names.specs.Program.{Name, Process, Program, Resource, AllWellNumbered, capital_of}
-use Rattle.pb_names.specs.Resolves.{ResolvesProcess, Resolves, resource_names}
+use Rattle.pb_names.specs.Program.{Program, Resource, capital_of}
+use Rattle.pb_names.specs.Resolves.{Resolves, resource_names}
 use Rattle.pb_names.specs.View.{resolved_view, resource_view}
 use Rattle.pb_names.specs.declared.resolved.Resolved.{Resolved}
 use Rattle.pb_claims.specs.Fits.{FitCapital}

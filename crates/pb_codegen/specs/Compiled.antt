@@ -14,7 +14,6 @@ use Rattle.pb_names.specs.declared.fault.NameFault.{NameFault}
 use Rattle.pb_names.specs.declared.fault.NameFault.TheVariants as names
 use Rattle.pb_names.specs.Faults.{IsFault}
 use Rattle.pb_names.specs.Program.{Program, capital_of}
-use Rattle.pb_claims.specs.declared.over_capital.OverCapital.{OverCapital}
 use Rattle.pb_claims.specs.Fits.{FitCapital, IsFirstOver}
 use Rattle.pb_code.specs.Whole.{Code, ProcessLabels, bank_of}
 use Rattle.pb_verifier.specs.Behaviour.{IsWellBehaved}
