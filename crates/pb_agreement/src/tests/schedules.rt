@@ -70,9 +70,9 @@ fn draw(alloc: Global, machine: &Machine, draws: &mut Draws) -> Result<Pick, NoM
 /// Where the two sides first differ.
 #[derive(Clone, Copy, Debug, PartialEq, Eq)]
 pub(super) struct Parting {
-    /// How many picks were made before.
+    /// How many picks were made before the one after which they differ.
     made: usize,
-    /// The pick after which they differ, where one was made.
+    /// That pick; none where they differ before any.
     pick: Option<Pick>,
     difference: Difference,
 }
@@ -90,27 +90,22 @@ fn make_picks(
     requires machine { IsMachineOf compiled.now.verified machine.old }
     requires source { IsSource source.old }
 {
-    let mut pick = None;
     for made in 0..MOST_PICKS {
-        if let Some(difference) = first_difference(compiled.labels(), machine, source) {
-            return Ok(Some(Parting {
-                made,
-                pick,
-                difference,
-            }));
-        }
         if machine.finished() && draws.below(4) == 0 {
             return Ok(None);
         }
-        let drawn = draw(alloc, machine, draws)?;
-        let seen = step_both(alloc, compiled.verified(), machine, source, drawn)?;
+        let pick = draw(alloc, machine, draws)?;
+        let seen = step_both(alloc, compiled.verified(), machine, source, pick)?;
         tally.count(seen);
-        pick = Some(drawn);
-        if let Seen::Differ(..) = seen {
+        let difference = match seen {
+            Seen::Differ(..) => Some(Difference::Answer),
+            _ => first_difference(compiled.labels(), machine, source),
+        };
+        if let Some(difference) = difference {
             return Ok(Some(Parting {
                 made,
-                pick,
-                difference: Difference::Answer,
+                pick: Some(pick),
+                difference,
             }));
         }
     }
@@ -130,6 +125,13 @@ pub(super) fn follow(
     let numbered = &program.numbered;
     let mut machine = Machine::new(alloc, compiled.verified())?;
     let mut source = Source::new(alloc, alloc, &numbered.program, &numbered.claims)?;
+    if let Some(difference) = first_difference(compiled.labels(), &machine, &source) {
+        return Ok(Some(Parting {
+            made: 0,
+            pick: None,
+            difference,
+        }));
+    }
     let mut draws = Draws::new(schedule);
     make_picks(
         alloc,
