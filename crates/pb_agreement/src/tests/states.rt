@@ -1,0 +1,111 @@
+//! Whether the machine and the source stand alike.
+
+ghost use Rattle.std.specs.Prelude.{◌<◌, length};
+ghost use Rattle.pb_base.specs.Banker.{processes};
+
+use pb_banker::Banker;
+use pb_code::Labels;
+use pb_machine::{Machine, Proc};
+use pb_rewrite::Source;
+use std::alloc::Global;
+
+/// In what the two sides differ.
+#[derive(Clone, Copy, Debug, PartialEq, Eq)]
+pub(super) enum Difference {
+    /// In the answer to a pick.
+    Answer,
+    /// In the integers of a process.
+    Integers,
+    /// In the line at which an arm stands, or whether it stands at one.
+    Lines,
+    /// In what is lent.
+    Loans,
+    /// In whether all processes are over.
+    Finished,
+}
+
+fn same_integers(machine: &Machine, source: &Source<Global>) -> bool {
+    if machine.processes() != source.processes() {
+        return false;
+    }
+    for p in 0..machine.processes() {
+        if machine.proc(p).vars() != source.vars(p) {
+            return false;
+        }
+    }
+    true
+}
+
+/// The line of a place of the code, where an arm stands at one that has a line.
+fn line_at(labels: &Labels, p: usize, place: Option<u16>) -> Option<u32> {
+    let lines = &labels.processes.get(p)?.lines;
+    *lines.get(usize::from(place?))?
+}
+
+/// Whether each arm of a process stands at the same line on both sides, those that are not live at none.
+fn same_lines_in(labels: &Labels, process: &Proc, source: &Source<Global>, p: usize) -> bool {
+    for arm in 0..process.arms() {
+        if line_at(labels, p, process.thread(arm).place()) != source.head_line(p, arm) {
+            return false;
+        }
+    }
+    true
+}
+
+fn same_lines(labels: &Labels, machine: &Machine, source: &Source<Global>) -> bool {
+    for p in 0..machine.processes() {
+        if !same_lines_in(labels, machine.proc(p), source, p) {
+            return false;
+        }
+    }
+    true
+}
+
+fn same_loans_of(one: &Banker, other: &Banker, p: usize) -> bool
+    requires one { p < processes one.now.state }
+    requires other { p < processes other.now.state }
+{
+    if one.resources() != other.resources() {
+        return false;
+    }
+    for r in 0..one.resources() {
+        if one.loan(p, r) != other.loan(p, r) {
+            return false;
+        }
+    }
+    true
+}
+
+/// Whether both bankers have lent the same.
+pub(super) fn same_loans(one: &Banker, other: &Banker) -> bool {
+    if one.processes() != other.processes() {
+        return false;
+    }
+    for p in 0..one.processes() {
+        if !same_loans_of(one, other, p) {
+            return false;
+        }
+    }
+    true
+}
+
+/// In what the machine and the source differ first, where they do.
+pub(super) fn first_difference(
+    labels: &Labels,
+    machine: &Machine,
+    source: &Source<Global>,
+) -> Option<Difference> {
+    if machine.finished() != source.finished() {
+        return Some(Difference::Finished);
+    }
+    if !same_integers(machine, source) {
+        return Some(Difference::Integers);
+    }
+    if !same_loans(machine.banker(), source.banker()) {
+        return Some(Difference::Loans);
+    }
+    if !same_lines(labels, machine, source) {
+        return Some(Difference::Lines);
+    }
+    None
+}
