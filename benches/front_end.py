@@ -10,14 +10,14 @@ import pathlib
 import tempfile
 import time
 
-from scratch import build_plain, build_proved, instructions_a_round, least, print_table, said
+from scratch import build_plain, build_proved, instructions_a_round, least, least_of_rows, print_table, said
 
-ROUNDS = 100
+ROUNDS = 60
 TURNS = 9
 SIZE = 65_536
 
 MAIN = """\
-//! Does one part of the compiler with the text that it is given, again and again, and says how long that took.
+//! Does one part of the compiler with the text that it is given, again and again, and says how long each round took.
 #![tactic(auto)]
 
 ghost use Rattle.pb_claims.specs.Fits.{FitCapital};
@@ -50,45 +50,30 @@ fn nodes_of(alloc: Global, text: &[u8]) -> u64 {
     }
 }
 
-/// Whether the text is a program, as was found so many times.
-fn parses(alloc: Global, text: &[u8], rounds: u64) -> bool {
-    for _ in 0..rounds {
-        let Ok(tokens) = lex(alloc, text) else {
-            return false;
-        };
-        if parse(alloc, tokens.as_slice()).is_err() {
-            return false;
-        }
+/// Whether the text is a program.
+fn parses(alloc: Global, text: &[u8]) -> bool {
+    match lex(alloc, text) {
+        Ok(tokens) => parse(alloc, tokens.as_slice()).is_ok(),
+        Err(_) => false,
     }
-    true
 }
 
-/// Whether the names of the tree are right, as was found with its claims so many times.
-fn resolves(alloc: Global, tree: &Program<Global>, rounds: u64) -> bool
+/// Whether the names of the tree are right, and there was memory for its claims.
+fn resolves(alloc: Global, tree: &Program<Global>) -> bool
     requires { IsComplete (program_view tree.now) }
 {
-    for _ in 0..rounds {
-        let Ok(program) = resolve(alloc, tree) else {
-            return false;
-        };
-        if infer(alloc, &program).is_err() {
-            return false;
-        }
+    match resolve(alloc, tree) {
+        Ok(program) => infer(alloc, &program).is_ok(),
+        Err(_) => false,
     }
-    true
 }
 
-/// Whether there was memory for the code of the program, which was generated so many times.
-fn generates(alloc: Global, numbered: &Numbered<Global>, rounds: u64) -> bool
+/// Whether there was memory for the code of the program.
+fn generates(alloc: Global, numbered: &Numbered<Global>) -> bool
     requires spelled { IsSpelled (resolved_view numbered.now.program) numbered.now.claims }
     requires enough { FitCapital numbered.now.claims (capital_of (resolved_view numbered.now.program)) }
 {
-    for _ in 0..rounds {
-        if generate(alloc, &numbered.program, &numbered.claims).is_err() {
-            return false;
-        }
-    }
-    true
+    generate(alloc, &numbered.program, &numbered.claims).is_ok()
 }
 
 fn main(rt: HostRuntime) -> anyhow::Result<ExitCode> {
@@ -116,18 +101,20 @@ fn main(rt: HostRuntime) -> anyhow::Result<ExitCode> {
     if !is_complete(&tree) {
         return Ok(ExitCode::FAILURE);
     }
-    let start = Instant::now(&rt)?;
-    let done = match words[1].as_str() {
-        "parse" => parses(alloc, text.as_slice(), rounds),
-        "resolve" => resolves(alloc, &tree, rounds),
-        "generate" => generates(alloc, &numbered, rounds),
-        _ => false,
-    };
-    let taken = start.elapsed(&rt)?;
-    if !done {
-        return Ok(ExitCode::FAILURE);
+    for _ in 0..rounds {
+        let start = Instant::now(&rt)?;
+        let done = match words[1].as_str() {
+            "parse" => parses(alloc, text.as_slice()),
+            "resolve" => resolves(alloc, &tree),
+            "generate" => generates(alloc, &numbered),
+            _ => false,
+        };
+        let taken = start.elapsed(&rt)?;
+        if !done {
+            return Ok(ExitCode::FAILURE);
+        }
+        println!(rt; "{} {nodes}", taken.as_nanos())?;
     }
-    println!(rt; "{} {nodes}", taken.as_nanos())?;
     Ok(ExitCode::SUCCESS)
 }
 """
@@ -198,39 +185,37 @@ def lua():
 
 
 def part_time(words, text):
-    """Nanoseconds a round of one run, with the count of nodes."""
-    nanoseconds, nodes = said([*words, ROUNDS], text.encode())
-    return int(nanoseconds) / ROUNDS, nodes
+    """The least nanoseconds of a round, with the count of nodes."""
+    return least_of_rows(said([*words, ROUNDS], text.encode()), 2)
 
 
-def luac_time(folder):
-    """Nanoseconds of `luac5.4 -p`, its start taken off: the same for an empty text. With how many bytes it read."""
-    times = []
+def luac_time(path):
+    """Nanoseconds of a call of `luac5.4 -p`."""
+    start = time.perf_counter_ns()
+    said(["luac5.4", "-p", path])
+    return time.perf_counter_ns() - start, ()
+
+
+def print_luac(folder):
+    """`luac5.4 -p` on a text of the same size in Lua, its start taken off: its least time for an empty text."""
     for name, text in (("empty.lua", ""), ("full.lua", lua())):
         (folder / name).write_text(text)
-        start = time.perf_counter_ns()
-        said(["luac5.4", "-p", folder / name])
-        times.append(time.perf_counter_ns() - start)
-    return times[1] - times[0]
+    calls = [lambda name=name: luac_time(folder / name) for name in ("empty.lua", "full.lua")]
+    empty, full = least(40 * TURNS, calls)
+    print(f"luac5.4 -p: {len(lua()) * 1e3 / (full - empty):.1f} MB a second\n", flush=True)
 
 
-def print_parsing(folder, proved, plain):
-    """Lexer and parser beside the twin, and `luac5.4 -p` in the same turns."""
+def print_parsing(proved, plain):
+    """Lexer and parser beside the twin."""
     rows = []
-    best_luac = float("inf")
     for kind, text in texts().items():
         both = [proved, "parse"], [plain]
-        nodes = part_time(both[0], text)[1]
-        calls = [lambda words=words: part_time(words, text) for words in both]
-        calls.append(lambda: (luac_time(folder), nodes))
-        ours, twin, luac = least(TURNS, calls)
-        best_luac = min(best_luac, luac)
+        ours, twin = least(TURNS, [lambda words=words: part_time(words, text) for words in both])
         counted = [instructions_a_round(words, text.encode()) / 1e6 for words in both]
         speeds = [len(text) * 1e3 / ours, len(text) * 1e3 / twin]
-        rows.append([kind, nodes, *speeds, ours / twin, *counted, counted[0] / counted[1]])
-    head = ["text", "nodes", "proved, MB a second", "plain Rust", "ratio of times"]
+        rows.append([kind, *speeds, ours / twin, *counted, counted[0] / counted[1]])
+    head = ["text", "proved, MB a second", "plain Rust", "ratio of times"]
     print_table(head + ["proved, million instructions", "plain Rust", "ratio"], rows)
-    print(f"luac5.4 -p: {len(lua()) * 1e3 / best_luac:.1f} MB a second\n")
 
 
 def print_parts(proved, kinds, parts):
@@ -253,7 +238,8 @@ def main():
     with tempfile.TemporaryDirectory() as name:
         folder = pathlib.Path(name)
         proved, plain = build_proved(folder, NEEDS, FILES), build_plain(folder, "front_end")
-        print_parsing(folder, proved, plain)
+        print_parsing(proved, plain)
+        print_luac(folder)
         named = {"short names": short_names(), "64 processes of 64 integers": many_processes(64),
                  "64 processes of 8 integers": many_processes(8), "64 processes of 2 integers": many_processes(2)}
         print_parts(proved, named, ["parse", "resolve"])

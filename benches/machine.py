@@ -15,18 +15,34 @@ straight  680 times four assignments with most operators, one after another
 import pathlib
 import sys
 import tempfile
-import time
 
-from scratch import build_plain, build_proved, instructions_a_round, least, print_table, said
+from scratch import build_plain, build_proved, instructions_a_round, least, least_of_rows, print_table, said
 
-# short runs and many turns, so that some run is not disturbed by other work
-TURNS = 41
-LOOP_TURNS = 15
-LOOP_TIMES = 2_000_000
+TURNS = 9
 CYCLES = 680
+SCRIPT_TIMES = 200_000
+
+# the counting loop in Lua and in Python, which say nanoseconds and the count for each of ten rounds
+LUA = f"""\
+for round = 1, 10 do
+    local start, i = os.clock(), 0
+    while i < {SCRIPT_TIMES} do i = i + 1 end
+    print(math.floor((os.clock() - start) * 1e9), i)
+end
+"""
+PYTHON = f"""\
+import time
+def count():
+    start, i = time.perf_counter_ns(), 0
+    while i < {SCRIPT_TIMES}:
+        i = i + 1
+    print(time.perf_counter_ns() - start, i)
+for _ in range(10):
+    count()
+"""
 
 MAIN = """\
-//! Runs the text that it is given again and again, and says how long the steps took.
+//! Runs the text that it is given again and again, and says how long each round took.
 #![tactic(auto)]
 
 ghost use Rattle.pb_machine.specs.Views.{IsMachineOf};
@@ -83,9 +99,9 @@ fn run_process(machine: &mut Machine, verified: &Verified, process: u8, arms: u8
 }
 
 /// Runs all processes, one after the other.
-fn run_all(alloc: Global, verified: &Verified, processes: u8, arms: u8, before: Ran) -> Result<Ran, NoMemory> {
+fn run_all(alloc: Global, verified: &Verified, processes: u8, arms: u8) -> Result<Ran, NoMemory> {
     let mut machine = Machine::new(alloc, verified)?;
-    let mut ran = before;
+    let mut ran = Ran { steps: 0, granted: 0, last: 0 };
     for process in 0..processes {
         ran = run_process(&mut machine, verified, process, arms, ran);
     }
@@ -107,16 +123,14 @@ fn main(rt: HostRuntime) -> anyhow::Result<ExitCode> {
     let Ok(compiled) = compile(alloc, &arena, text.as_slice()) else {
         return Ok(ExitCode::FAILURE);
     };
-    let start = Instant::now(&rt)?;
-    let mut ran = Ran { steps: 0, granted: 0, last: 0 };
     for _ in 0..rounds {
-        let Ok(further) = run_all(alloc, compiled.verified(), processes, arms, ran) else {
+        let start = Instant::now(&rt)?;
+        let Ok(ran) = run_all(alloc, compiled.verified(), processes, arms) else {
             return Ok(ExitCode::FAILURE);
         };
-        ran = further;
+        let taken = start.elapsed(&rt)?;
+        println!(rt; "{} {} {} {}", taken.as_nanos(), ran.steps, ran.granted, ran.last)?;
     }
-    let taken = start.elapsed(&rt)?;
-    println!(rt; "{} {} {} {}", taken.as_nanos(), ran.steps, ran.granted, ran.last)?;
     Ok(ExitCode::SUCCESS)
 }
 """
@@ -182,13 +196,9 @@ def straight(_):
     return text, ["capital", "process", "arm", *listing, "load 1", "print", "end"], 1, 1
 
 
-# each with how often it loops, how often it loops where instructions are counted, and how many rounds are timed
-KINDS = {
-    "count": (count, 400_000, 10_000, 1),
-    "arms": (arms, 100_000, 5_000, 1),
-    "holds": (holds, 40_000, 2_000, 1),
-    "straight": (straight, 0, 0, 150),
-}
+# each with how often it loops: a round takes some two milliseconds, so that other work leaves some rounds alone
+KINDS = {"count": (count, 20_000), "arms": (arms, 8_000), "holds": (holds, 2_000), "straight": (straight, 0)}
+ROUNDS = 60
 
 
 def commands(proved, plain, kind, times):
@@ -198,54 +208,35 @@ def commands(proved, plain, kind, times):
     return ([proved, *words], text.encode()), ([plain, *words], "\n".join(listing).encode() + b"\n")
 
 
-def steps_time(words, given, rounds):
-    """Nanoseconds a step of one call, with the steps, the holds that were granted, and the last number printed."""
-    nanoseconds, steps, *found = said([*words, rounds], given)
-    return int(nanoseconds) / int(steps), (int(steps), *found)
+def least_round(words, given, rounds):
+    """The least nanoseconds of a round, with the steps, the holds that were granted, and the last number printed."""
+    return least_of_rows(said([*words, rounds], given), 4)
 
 
 def row_of(proved, plain, name):
     """What is said of one text."""
-    kind, times, few, rounds = KINDS[name]
-    both = commands(proved, plain, kind, times)
-    ours, twin = least(TURNS, [lambda call=call: steps_time(*call, rounds) for call in both])
-    row = [name, 1e3 / ours, 1e3 / twin, ours / twin]
-    counted = []
-    for words, given in commands(proved, plain, kind, few):
-        steps = steps_time(words, given, 1)[1][0]
-        counted.append(instructions_a_round(words, given) / steps)
-    return row + counted + [counted[0] / counted[1]]
-
-
-def script_time(words):
-    """Nanoseconds of a call of an interpreter, with what it printed."""
-    start = time.perf_counter_ns()
-    found = said(words)
-    return time.perf_counter_ns() - start, found
-
-
-def loop_time(words, script):
-    """Nanoseconds of a turn of the loop of a script, the same call with no turn taken off."""
-    empty, _ = script_time([*words, script.format(0)])
-    full, found = script_time([*words, script.format(LOOP_TIMES)])
-    return (full - empty) / LOOP_TIMES, found
+    both = commands(proved, plain, *KINDS[name])
+    steps = int(least_round(*both[0], 1)[1][0])
+    ours, twin = least(TURNS, [lambda call=call: least_round(*call, ROUNDS) for call in both])
+    counted = [instructions_a_round(*call) / steps for call in both]
+    return [name, steps * 1e3 / ours, steps * 1e3 / twin, ours / twin, *counted, counted[0] / counted[1]]
 
 
 def print_loops(proved, plain):
     """The counting loop beside that of Lua and of CPython: nanoseconds a turn, of which the machine makes nine steps."""
-    lua = "local i = 0; while i < {} do i = i + 1 end; print(i)"
-    python = "def count():\n    i = 0\n    while i < {}:\n        i = i + 1\n    print(i)\ncount()"
+    times = KINDS["count"][1]
 
-    def turn(words, given):
-        nanoseconds, _, _, last = said([*words, 1], given)
-        return int(nanoseconds) / LOOP_TIMES, [last]
+    def machine_turn(words, given):
+        return least_round(words, given, ROUNDS)[0] / times, ()
 
-    calls = [lambda call=call: turn(*call) for call in commands(proved, plain, count, LOOP_TIMES)]
-    calls.append(lambda: loop_time(["lua5.4", "-e"], lua))
-    calls.append(lambda: loop_time([sys.executable, "-c"], python))
-    best = least(LOOP_TURNS, calls)
-    version = sys.version.split()[0]
-    names = ["proved machine", "plain Rust machine", "Lua 5.4", f"CPython {version}"]
+    def script_turn(*words):
+        return least_of_rows(said(words), 2)[0] / SCRIPT_TIMES, ()
+
+    calls = [lambda call=call: machine_turn(*call) for call in commands(proved, plain, count, times)]
+    calls.append(lambda: script_turn("lua5.4", "-e", LUA))
+    calls.append(lambda: script_turn(sys.executable, "-c", PYTHON))
+    best = least(TURNS, calls)
+    names = ["proved machine", "plain Rust machine", "Lua 5.4", f"CPython {sys.version.split()[0]}"]
     print_table(["the loop of count in", "ns a turn", "proved machine by it"],
                 [[name, taken, best[0] / taken] for name, taken in zip(names, best)])
 

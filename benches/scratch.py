@@ -79,6 +79,15 @@ def least(turns, calls):
     return best
 
 
+def least_of_rows(words, width):
+    """The least time among rows of so many words, the first of which is a time, with the others, which must be the same
+    in all of them."""
+    rows = [tuple(words[i:i + width]) for i in range(0, len(words), width)]
+    if len({row[1:] for row in rows}) != 1:
+        raise SystemExit(f"two rounds disagree: {rows}")
+    return min(int(row[0]) for row in rows), rows[0][1:]
+
+
 def instructions(words, given=b""):
     """How many instructions a call of a program takes, as callgrind counts them, which no other work disturbs."""
     words = ["valgrind", "--tool=callgrind", "--callgrind-out-file=/dev/null"] + [str(word) for word in words]
