@@ -223,7 +223,7 @@ def row_of(proved, plain, name):
 
 
 def print_loops(proved, plain):
-    """The counting loop beside that of Lua and of CPython: nanoseconds a turn, of which the machine makes nine steps."""
+    """The counting loop beside that of Lua and CPython: nanoseconds a turn, for which the machine makes nine steps."""
     times = KINDS["count"][1]
 
     def machine_turn(words, given):
