@@ -14,8 +14,9 @@ import tempfile
 from scratch import build_plain, build_proved, least, print_table, said
 
 SIZES = [(processes, resources) for processes in (4, 16, 64) for resources in (1, 16)]
-TURNS = 9
-NANOSECONDS = 30_000_000
+TURNS = 61
+# a run takes some two milliseconds, so that other work leaves some runs alone
+NANOSECONDS = 2_000_000
 
 MAIN = """\
 //! Asks a banker again and again, and says how long it took.
@@ -309,7 +310,8 @@ def compare(proved, plain, kind, processes, resources):
     """The least time of each over some turns, after one that says how many rounds to make."""
     guess, _ = time(plain, kind, processes, resources, 100)
     rounds = min(500_000, max(100, int(NANOSECONDS / guess)))
-    return least(TURNS, [lambda: time(command, kind, processes, resources, rounds) for command in (proved, plain)])
+    calls = [lambda command=command: time(command, kind, processes, resources, rounds) for command in (proved, plain)]
+    return least(TURNS, calls)
 
 
 def main():
