@@ -9,15 +9,14 @@ chain  refused after the whole search: in each round the process of greatest num
        last two are left of which neither does: P (P + 1) / 2 comparisons of P processes
 """
 import pathlib
-import shutil
-import subprocess
 import tempfile
 
-TOP = pathlib.Path(__file__).resolve().parent.parent
-CRATES = ["pb_base", "pb_banker"]
+from scratch import build_plain, build_proved, least, print_table, said
+
 SIZES = [(processes, resources) for processes in (4, 16, 64) for resources in (1, 16)]
-TURNS = 9
-NANOSECONDS = 30_000_000
+TURNS = 61
+# a run takes some two milliseconds, so that other work leaves some runs alone
+NANOSECONDS = 2_000_000
 
 MAIN = """\
 //! Asks a banker again and again, and says how long it took.
@@ -301,34 +300,9 @@ IsRow n row = (length row ≡ n) × All (λ x. x ≤ 1000000) row
 }
 
 
-def build_proved(folder):
-    """Builds the small program over copies of the crates, and answers where it lies."""
-    for name in CRATES:
-        shutil.copytree(TOP / "crates" / name, folder / "crates" / name, ignore=shutil.ignore_patterns("must-fail"))
-    lines = (TOP / "crates.txt").read_text().splitlines()
-    lines = [line for line in lines if line.split(":")[0] in CRATES]
-    (folder / "crates.txt").write_text("\n".join(lines + ["bench: pb_base pb_banker anyhow"]) + "\n")
-    shutil.copy(TOP / "HANDLES", folder)
-    crate = folder / "crates" / "bench"
-    for name, text in {"src/main.rt": MAIN, **FILES}.items():
-        (crate / name).parent.mkdir(parents=True, exist_ok=True)
-        (crate / name).write_text(text)
-    # with no words the program only fails; the run builds it
-    subprocess.run(["rt", "run"], cwd=crate, stdin=subprocess.DEVNULL, stdout=subprocess.DEVNULL, check=False)
-    return crate / "out" / "bench"
-
-
-def build_plain(folder):
-    """Builds the twin, and answers where it lies."""
-    out = folder / "twin"
-    subprocess.run(["rustc", "-O", "-o", out, TOP / "benches" / "banker" / "twin.rs"], check=True)
-    return out
-
-
 def time(command, kind, processes, resources, rounds):
     """Nanoseconds a request, with how many were granted and how many comparisons the last one made."""
-    words = [command, kind, str(processes), str(resources), str(rounds)]
-    nanoseconds, granted, looked = subprocess.run(words, stdout=subprocess.PIPE, check=True).stdout.split()
+    nanoseconds, granted, looked = said([command, kind, processes, resources, rounds])
     return int(nanoseconds) / rounds, (granted, looked)
 
 
@@ -336,27 +310,21 @@ def compare(proved, plain, kind, processes, resources):
     """The least time of each over some turns, after one that says how many rounds to make."""
     guess, _ = time(plain, kind, processes, resources, 100)
     rounds = min(500_000, max(100, int(NANOSECONDS / guess)))
-    best = [float("inf"), float("inf")]
-    for _ in range(TURNS):
-        for i, command in enumerate((proved, plain)):
-            taken, answer = time(command, kind, processes, resources, rounds)
-            best[i] = min(best[i], taken)
-            if i == 0:
-                expected = answer
-            elif answer != expected:
-                raise SystemExit(f"the two disagree: {expected} and {answer}")
-    return best
+    calls = [lambda command=command: time(command, kind, processes, resources, rounds) for command in (proved, plain)]
+    return least(TURNS, calls)
 
 
 def main():
     with tempfile.TemporaryDirectory() as name:
         folder = pathlib.Path(name)
-        proved, plain = build_proved(folder), build_plain(folder)
-        print("kind   processes  resources  proved ns  plain ns  ratio")
+        proved = build_proved(folder, ["pb_base", "pb_banker", "anyhow"], {"src/main.rt": MAIN, **FILES})
+        plain = build_plain(folder, "banker")
+        rows = []
         for kind in ("kept", "chain"):
             for processes, resources in SIZES:
                 ours, twin = compare(proved, plain, kind, processes, resources)
-                print(f"{kind:5}  {processes:9}  {resources:9}  {ours:9.1f}  {twin:8.1f}  {ours / twin:5.2f}")
+                rows.append([kind, processes, resources, ours, twin, ours / twin])
+        print_table(["kind", "processes", "resources", "proved", "plain Rust", "ratio"], rows)
 
 
 if __name__ == "__main__":

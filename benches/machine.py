@@ -1,21 +1,48 @@
 #!/usr/bin/env python3
-"""Times steps of the proved machine beside the same machine in plain Rust, turn by turn in one run.
+"""Times steps of the proved machine beside the same machine in plain Rust, turn by turn in one run, and a counting loop
+also beside Lua and CPython.
 
-A scratch repository in a temporary folder gets copies of the crates and a small program that compiles a long text of
-assignments and runs it again and again. Wants `rt` and `rustc`. Says steps a second of both and their ratio.
+A scratch repository in a temporary folder gets copies of the crates and a small proved program, which compiles a text
+and runs each of its processes to its end. The twin reads a listing of the same instructions. That both make the same
+number of steps, grant as many holds and print the same number last is checked. Wants `rt`, `rustc`, `lua5.4` and
+`valgrind`. Says million steps a second and instructions of the processor a step, for these texts:
+
+count     one process counts: i := i + 1 in a loop
+arms      a loop starts two arms, and waits for them
+holds     each of four processes, one after the other, takes and gives back a hold in a loop
+straight  680 times four assignments with most operators, one after another
 """
 import pathlib
-import shutil
-import subprocess
+import sys
 import tempfile
 
-TOP = pathlib.Path(__file__).resolve().parent.parent
-ROUNDS = "2000"
-TURNS = 7
+from scratch import build_plain, build_proved, instructions_a_round, least, least_of_rows, print_table, said
+
+TURNS = 9
 CYCLES = 680
+SCRIPT_TIMES = 200_000
+
+# the counting loop in Lua and in Python, which say nanoseconds and the count for each of ten rounds
+LUA = f"""\
+for round = 1, 10 do
+    local start, i = os.clock(), 0
+    while i < {SCRIPT_TIMES} do i = i + 1 end
+    print(math.floor((os.clock() - start) * 1e9), i)
+end
+"""
+PYTHON = f"""\
+import time
+def count():
+    start, i = time.perf_counter_ns(), 0
+    while i < {SCRIPT_TIMES}:
+        i = i + 1
+    print(time.perf_counter_ns() - start, i)
+for _ in range(10):
+    count()
+"""
 
 MAIN = """\
-//! Runs the text that it is given again and again, and says how long the steps took.
+//! Runs the text that it is given again and again, and says how long each round took.
 #![tactic(auto)]
 
 ghost use Rattle.pb_machine.specs.Views.{IsMachineOf};
@@ -30,126 +57,198 @@ use std::io::Read;
 use std::process::ExitCode;
 use std::time::Instant;
 
-const PICK: Pick = Pick { process: 0, arm: 0 };
-
+/// What was run so far.
 #[derive(Clone, Copy)]
 struct Ran {
     steps: u64,
+    granted: u64,
     last: i64,
 }
 
-fn run_once(alloc: Global, verified: &Verified) -> Result<Ran, NoMemory> {
-    let mut machine = Machine::new(alloc, verified)?;
-    let mut last = 0i64;
-    for steps in 0..100_000u64 {
-        match machine.step(verified, PICK) {
-            Step::NotEnabled => return Ok(Ran { steps, last }),
-            Step::Did(Event::Printed { value, .. }) => last = value,
-            Step::Did(_) | Step::Silent => {}
+/// Makes the pick of the least arm that is enabled.
+fn step_first(machine: &mut Machine, verified: &Verified, process: u8, arms: u8) -> Step
+    requires { IsMachineOf verified.now machine.old }
+    ensures { IsMachineOf verified.now machine.new }
+{
+    for arm in 0..arms {
+        match machine.step(verified, Pick { process, arm }) {
+            Step::Silent => return Step::Silent,
+            Step::Did(event) => return Step::Did(event),
+            Step::NotEnabled => {}
         }
     }
-    Ok(Ran { steps: 100_000, last })
+    Step::NotEnabled
+}
+
+/// Runs a process until none of its arms is enabled.
+fn run_process(machine: &mut Machine, verified: &Verified, process: u8, arms: u8, before: Ran) -> Ran
+    requires { IsMachineOf verified.now machine.old }
+    ensures { IsMachineOf verified.now machine.new }
+{
+    let mut ran = before;
+    for _ in 0..u64::MAX {
+        match step_first(machine, verified, process, arms) {
+            Step::NotEnabled => return ran,
+            Step::Did(Event::Printed { value, .. }) => ran.last = value,
+            Step::Did(Event::Granted { .. }) => ran.granted = ran.granted.wrapping_add(1),
+            Step::Did(_) | Step::Silent => {}
+        }
+        ran.steps = ran.steps.wrapping_add(1);
+    }
+    ran
+}
+
+/// Runs all processes, one after the other.
+fn run_all(alloc: Global, verified: &Verified, processes: u8, arms: u8) -> Result<Ran, NoMemory> {
+    let mut machine = Machine::new(alloc, verified)?;
+    let mut ran = Ran { steps: 0, granted: 0, last: 0 };
+    for process in 0..processes {
+        ran = run_process(&mut machine, verified, process, arms, ran);
+    }
+    Ok(ran)
 }
 
 fn main(rt: HostRuntime) -> anyhow::Result<ExitCode> {
     let alloc = rt.alloc();
     let words: Vec<String> = std::env::args(&rt)?.collect(alloc)?;
-    let rounds = match words.get(1) {
-        Some(word) => word.as_str().parse::<u64>()?,
-        None => 1,
-    };
+    if words.len() < 4 {
+        return Ok(ExitCode::FAILURE);
+    }
+    let processes = words[1].as_str().parse::<u8>()?;
+    let arms = words[2].as_str().parse::<u8>()?;
+    let rounds = words[3].as_str().parse::<u64>()?;
     let mut text = Vec::new(alloc);
     rt.stdin().read_to_end(&mut text)?;
     let arena = Bump::new(alloc);
     let Ok(compiled) = compile(alloc, &arena, text.as_slice()) else {
         return Ok(ExitCode::FAILURE);
     };
-    let start = Instant::now(&rt)?;
-    let mut steps = 0u64;
-    let mut last = 0i64;
     for _ in 0..rounds {
-        let Ok(ran) = run_once(alloc, compiled.verified()) else {
+        let start = Instant::now(&rt)?;
+        let Ok(ran) = run_all(alloc, compiled.verified(), processes, arms) else {
             return Ok(ExitCode::FAILURE);
         };
-        steps = steps.wrapping_add(ran.steps);
-        last = ran.last;
+        let taken = start.elapsed(&rt)?;
+        println!(rt; "{} {} {} {}", taken.as_nanos(), ran.steps, ran.granted, ran.last)?;
     }
-    let taken = start.elapsed(&rt)?;
-    println!(rt; "{steps} {} {last}", taken.as_nanos())?;
     Ok(ExitCode::SUCCESS)
 }
 """
 
-INVARIANTS = """\
-use Rattle.pb_machine.specs.Views.{IsMachineOf}
-use Rattle.bench.proofs.run_once.Given as goal
 
-abbrev pub invariant-loop-steps : goal.invariant-loop-steps
-invariant-loop-steps l = IsMachineOf l.verified l.machine
+def invariants(function, loop):
+    """The invariant of a loop over the machine."""
+    return f"""\
+use Rattle.pb_machine.specs.Views.{{IsMachineOf}}
+use Rattle.bench.proofs.{function}.Given as goal
+
+abbrev pub {loop} : goal.{loop}
+{loop} l = IsMachineOf l.verified l.machine
 """
 
-CRATE = "bench: pb_base pb_codegen pb_machine pb_verifier anyhow bumpalo\n"
 
-# statements of a counting loop's kind, each with the instructions that it becomes
+LOOPS = [("step_first", "invariant-loop-arm"), ("run_process", "invariant-loop"), ("run_all", "invariant-loop-process")]
+FILES = {
+    "src/main.rt": MAIN,
+    **{f"proofs/{function}/Invariants.antt": invariants(function, loop) for function, loop in LOOPS},
+}
+NEEDS = ["pb_base", "pb_codegen", "pb_machine", "pb_verifier", "anyhow", "bumpalo"]
+
+# assignments with most operators, each with the instructions that it becomes
 STATEMENTS = [
     ("i := i + 1", ["load 0", "push 1", "add", "store 0"]),
     ("s := (s * 31 + i) mod 1000003", ["load 1", "push 31", "mul", "load 0", "add", "push 1000003", "mod", "store 1"]),
     ("b := b + (i < s)", ["load 2", "load 0", "load 1", "lt", "add", "store 2"]),
     ("i := i - b div 2", ["load 0", "load 2", "push 2", "div", "sub", "store 0"]),
 ]
+ADDS = ["load 0", "push 1", "add", "store 0"]
 
 
-def program():
-    """A text of nearly as many nodes as one may have, and the listing of its code."""
-    statements, instructions = zip(*STATEMENTS)
+def count(times):
+    text = f"process p begin integer i; i := 0; while i < {times} do i := i + 1 od; print i end"
+    code = ["push 0", "store 0", "load 0", f"push {times}", "lt", "jzero 11", *ADDS, "jump 2", "load 0", "print", "end"]
+    return text, ["capital", "process", "arm", *code], 1, 1
+
+
+def arms(times):
+    loop = f"while i < {times} do parbegin a := a + 1; b := b + 2 parend; i := i + 1 od"
+    text = f"process p begin integer i, a, b; {loop}; print a + b end"
+    code = ["load 0", f"push {times}", "lt", "jzero 11", "fork 1 2", "join 1 2", *ADDS, "jump 0"]
+    code += ["load 1", "load 2", "add", "print", "end"]
+    code += ["arm", "load 1", "push 1", "add", "store 1", "end", "arm", "load 2", "push 2", "add", "store 2", "end"]
+    return text, ["capital", "process", "arm", *code], 1, 3
+
+
+def holds(times):
+    text, listing = "resource tape = 4;", ["capital 4"]
+    for p in range(4):
+        loop = f"while i < {times} do hold 2 of tape do skip od; i := i + 1 od"
+        text += f" process p{p} begin integer i; {loop}; print i end"
+        listing += ["process 2", "arm", "load 0", f"push {times}", "lt", "jzero 11", "take 0 2", "give 0 2", *ADDS]
+        listing += ["jump 0", "load 0", "print", "end"]
+    return text, listing, 4, 1
+
+
+def straight(_):
+    statements, code = zip(*STATEMENTS)
     text = "process p begin integer i, s, b; " + "; ".join(statements * CYCLES) + "; print s end"
-    listing = [line for lines in instructions * CYCLES for line in lines]
-    return text, "\n".join(listing + ["load 1", "print", "end"]) + "\n"
+    listing = [line for lines in code * CYCLES for line in lines]
+    return text, ["capital", "process", "arm", *listing, "load 1", "print", "end"], 1, 1
 
 
-def build_proved(folder):
-    """Builds the small program over copies of the crates, and answers where it lies."""
-    shutil.copytree(TOP / "crates", folder / "crates", ignore=shutil.ignore_patterns("must-fail"))
-    (folder / "crates.txt").write_text((TOP / "crates.txt").read_text() + CRATE)
-    shutil.copy(TOP / "HANDLES", folder)
-    crate = folder / "crates" / "bench"
-    (crate / "src").mkdir(parents=True)
-    (crate / "src" / "main.rt").write_text(MAIN)
-    (crate / "proofs" / "run_once").mkdir(parents=True)
-    (crate / "proofs" / "run_once" / "Invariants.antt").write_text(INVARIANTS)
-    subprocess.run(["rt", "run"], cwd=crate, stdin=subprocess.DEVNULL, check=False)
-    return crate / "out" / "bench"
+# each with how often it loops: a round takes some two milliseconds, so that other work leaves some rounds alone
+KINDS = {"count": (count, 20_000), "arms": (arms, 8_000), "holds": (holds, 2_000), "straight": (straight, 0)}
+ROUNDS = 60
 
 
-def build_plain(folder):
-    """Builds the twin, and answers where it lies."""
-    out = folder / "twin"
-    subprocess.run(["rustc", "-O", "-o", out, TOP / "benches" / "machine" / "twin.rs"], check=True)
-    return out
+def commands(proved, plain, kind, times):
+    """The call of each program but for its rounds, with its input."""
+    text, listing, processes, most_arms = kind(times)
+    words = [processes, most_arms]
+    return ([proved, *words], text.encode()), ([plain, *words], "\n".join(listing).encode() + b"\n")
 
 
-def rate(command, given):
-    """Steps a second of one run, with the steps and the last number printed."""
-    said = subprocess.run([command, ROUNDS], input=given.encode(), stdout=subprocess.PIPE, check=True)
-    steps, nanoseconds, last = said.stdout.split()
-    return int(steps) * 1e9 / int(nanoseconds), (steps, last)
+def least_round(words, given, rounds):
+    """The least nanoseconds of a round, with the steps, the holds that were granted, and the last number printed."""
+    return least_of_rows(said([*words, rounds], given), 4)
+
+
+def row_of(proved, plain, name):
+    """What is said of one text."""
+    both = commands(proved, plain, *KINDS[name])
+    steps = int(least_round(*both[0], 1)[1][0])
+    ours, twin = least(TURNS, [lambda call=call: least_round(*call, ROUNDS) for call in both])
+    counted = [instructions_a_round(*call) / steps for call in both]
+    return [name, steps * 1e3 / ours, steps * 1e3 / twin, ours / twin, *counted, counted[0] / counted[1]]
+
+
+def print_loops(proved, plain):
+    """The counting loop beside that of Lua and CPython: nanoseconds a turn, for which the machine makes nine steps."""
+    times = KINDS["count"][1]
+
+    def machine_turn(words, given):
+        return least_round(words, given, ROUNDS)[0] / times, ()
+
+    def script_turn(*words):
+        return least_of_rows(said(words), 2)[0] / SCRIPT_TIMES, ()
+
+    calls = [lambda call=call: machine_turn(*call) for call in commands(proved, plain, count, times)]
+    calls.append(lambda: script_turn("lua5.4", "-e", LUA))
+    calls.append(lambda: script_turn(sys.executable, "-c", PYTHON))
+    best = least(TURNS, calls)
+    names = ["proved machine", "plain Rust machine", "Lua 5.4", f"CPython {sys.version.split()[0]}"]
+    print_table(["the loop of count in", "ns a turn", "proved machine by it"],
+                [[name, taken, best[0] / taken] for name, taken in zip(names, best)])
 
 
 def main():
     with tempfile.TemporaryDirectory() as name:
         folder = pathlib.Path(name)
-        text, listing = program()
-        proved, plain = build_proved(folder), build_plain(folder)
-        best = [0.0, 0.0]
-        for _ in range(TURNS):
-            ours, answer = rate(proved, text)
-            twin, expected = rate(plain, listing)
-            if answer != expected:
-                raise SystemExit(f"the two disagree: {answer} and {expected}")
-            best = [max(best[0], ours), max(best[1], twin)]
-        print(f"proved: {best[0] / 1e6:.1f} million steps a second")
-        print(f"plain Rust: {best[1] / 1e6:.1f} million steps a second")
-        print(f"ratio: {best[0] / best[1]:.2f}")
+        proved, plain = build_proved(folder, NEEDS, FILES), build_plain(folder, "machine")
+        head = ["text", "proved, million steps a second", "plain Rust", "ratio of times"]
+        head += ["proved, instructions a step", "plain Rust", "ratio"]
+        print_table(head, [row_of(proved, plain, name) for name in KINDS])
+        print_loops(proved, plain)
 
 
 if __name__ == "__main__":

@@ -4,16 +4,16 @@ in plain Rust and beside `wasm-validate` on a module of as many instructions.
 
 A scratch repository in a temporary folder gets copies of the crates and a small program. Wants `rt`, `rustc` and
 `wasm-validate` (of the package wabt). Says megabytes and million instructions a second; the least time of each counts.
-The number of processes can be given, 64 where it is not.
+Numbers of processes can be given, 64 and 2 where they are not.
 """
 import pathlib
-import shutil
 import subprocess
 import sys
 import tempfile
 import time
 
-TOP = pathlib.Path(__file__).resolve().parent.parent
+from scratch import build_plain, build_proved, print_table, said
+
 ROUNDS = "5"
 TURNS = 3
 MOST_BYTES = 4_194_304
@@ -59,7 +59,8 @@ fn main(rt: HostRuntime) -> anyhow::Result<ExitCode> {
 }
 """
 
-CRATE = "bench: pb_base pb_code pb_verifier anyhow\n"
+FILES = {"src/main.rt": MAIN}
+NEEDS = ["pb_base", "pb_code", "pb_verifier", "anyhow"]
 
 
 def body(jumps):
@@ -117,29 +118,10 @@ def wasm(functions, instructions):
     return b"\x00asm\x01\x00\x00\x00" + types + section(3, functions_section) + section(10, code_section)
 
 
-def build_proved(folder):
-    """Builds the small program over copies of the crates, and answers where it lies."""
-    shutil.copytree(TOP / "crates", folder / "crates", ignore=shutil.ignore_patterns("must-fail"))
-    (folder / "crates.txt").write_text((TOP / "crates.txt").read_text() + CRATE)
-    shutil.copy(TOP / "HANDLES", folder)
-    crate = folder / "crates" / "bench"
-    (crate / "src").mkdir(parents=True)
-    (crate / "src" / "main.rt").write_text(MAIN)
-    subprocess.run(["rt", "run"], cwd=crate, stdin=subprocess.DEVNULL, check=False)
-    return crate / "out" / "bench"
-
-
-def build_plain(folder):
-    """Builds the twin, and answers where it lies."""
-    out = folder / "twin"
-    subprocess.run(["rustc", "-O", "-o", out, TOP / "benches" / "objects" / "twin.rs"], check=True)
-    return out
-
-
 def proved_times(command, text):
     """The least nanoseconds of reading, writing and verifying."""
-    said = subprocess.run([command, ROUNDS], input=text, stdout=subprocess.PIPE, check=True).stdout.decode()
-    rows = [line.split() for line in said.splitlines()]
+    found = said([command, ROUNDS], text)
+    rows = [found[i:i + 5] for i in range(0, len(found), 5)]
     if any(row[3:] != ["true", "true"] for row in rows):
         raise SystemExit("the object was written otherwise, or refused")
     return [min(int(row[column]) for row in rows) for column in range(3)]
@@ -147,10 +129,10 @@ def proved_times(command, text):
 
 def plain_time(command, text, instructions):
     """The least nanoseconds of the twin's reading."""
-    said = subprocess.run([command, ROUNDS], input=text, stdout=subprocess.PIPE, check=True).stdout.split()
-    if int(said[1]) != instructions:
+    nanoseconds, found, _ = said([command, ROUNDS], text)
+    if int(found) != instructions:
         raise SystemExit("the twin found other instructions")
-    return int(said[0])
+    return int(nanoseconds)
 
 
 def wasm_time(folder, functions, instructions):
@@ -162,21 +144,30 @@ def wasm_time(folder, functions, instructions):
     return time.perf_counter_ns() - start
 
 
-def main():
-    processes = int(sys.argv[1]) if len(sys.argv) > 1 else 64
+def print_times(proved, plain, folder, processes):
+    """What is said of an object of so many processes."""
     text, instructions = hostile(processes)
+    best = [float("inf")] * 5
+    for _ in range(TURNS):
+        turn = proved_times(proved, text) + [plain_time(plain, text, instructions)]
+        turn.append(wasm_time(folder, processes, instructions) - wasm_time(folder, 1, 2))
+        best = [min(pair) for pair in zip(best, turn)]
+    read, write, verify, plain_read, wasm = best
+    print(f"{processes} processes: {len(text):,} bytes, {instructions:,} instructions\n")
+    names = ["read", "read in plain Rust", "write", "verify", "`wasm-validate`"]
+    rows = [[name, len(text) * 1e3 / taken, instructions * 1e3 / taken]
+            for name, taken in zip(names, [read, plain_read, write, verify, wasm])]
+    print_table(["what", "megabytes a second", "million instructions a second"], rows)
+    print(f"read by read in plain Rust {read / plain_read:.2f}, verify by wasm-validate {verify / wasm:.2f}\n")
+
+
+def main():
+    sizes = [int(word) for word in sys.argv[1:]] or [64, 2]
     with tempfile.TemporaryDirectory() as name:
         folder = pathlib.Path(name)
-        proved, plain = build_proved(folder), build_plain(folder)
-        best = [float("inf")] * 5
-        for _ in range(TURNS):
-            turn = proved_times(proved, text) + [plain_time(plain, text, instructions)]
-            turn.append(wasm_time(folder, processes, instructions) - wasm_time(folder, 1, 2))
-            best = [min(pair) for pair in zip(best, turn)]
-    print(f"{len(text)} bytes, {instructions} instructions, {processes} processes")
-    for what, time_taken in zip(["read", "write", "verify", "read in plain Rust", "wasm-validate"], best):
-        speed = instructions * 1e3 / time_taken
-        print(f"{what}: {len(text) * 1e3 / time_taken:.1f} MB/s, {speed:.1f} million instructions a second")
+        proved, plain = build_proved(folder, NEEDS, FILES), build_plain(folder, "objects")
+        for processes in sizes:
+            print_times(proved, plain, folder, processes)
 
 
 if __name__ == "__main__":

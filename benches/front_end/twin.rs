@@ -570,11 +570,10 @@ fn main() -> Result<(), Fault> {
     let rounds = std::env::args().nth(1).map_or(1, |word| word.parse().expect("a number"));
     let mut text = Vec::new();
     std::io::stdin().read_to_end(&mut text).expect("standard input");
-    let mut nodes = 0;
-    let start = Instant::now();
     for _ in 0..rounds {
-        nodes = parse(&lex(std::hint::black_box(&text))?)?.nodes;
+        let start = Instant::now();
+        let nodes = parse(&lex(std::hint::black_box(&text))?)?.nodes;
+        println!("{} {nodes}", start.elapsed().as_nanos());
     }
-    println!("{} {nodes}", start.elapsed().as_nanos());
     Ok(())
 }
