@@ -12,8 +12,6 @@ mod looping;
 pub mod process;
 pub mod source;
 mod stepping;
-#[cfg(test)]
-mod tests;
 
 pub use arm::Arm;
 pub use item::Item;
