@@ -5,12 +5,12 @@ use Rattle.clap.specs.Words.{HasKind, IsAmong, Kinds, ReadsOne, Row, Text, Tries
 use Rattle.clap.specs.declared.error.Error.{Error}
 use Rattle.clap.specs.declared.error.kind.ErrorKind.TheVariants.{OutOfMemory}
 use Rattle.clap.proofs.OnLiterals.{clap_on_literals}
-use Rattle.pb_cli.specs.CommandLine.{command_line, with_text_commands, with_object_commands, check_command, exec_command, migrate_command, run_command}
+use Rattle.pb_cli.specs.CommandLine.{command_line, with_text_commands, with_code_commands, with_object_commands, check_command, claims_command, exec_command, migrate_command, run_command}
 use Rattle.clap.specs.declared.parser.matches.Found.{Found}
 use Rattle.clap.proofs.WalkLemmas.{one_text-rows}
 use Rattle.pb_cli.specs.Read.{BlamesWords, HasCheckNumbers, HasNumber, HasNumberIn, HasOptionalNumber, HasRunNumbers, IsReadFrom, IsReadFromMatches}
 use Rattle.pb_cli.specs.declared.options.Options.{Options}
-use Rattle.pb_cli.specs.declared.options.Options.TheVariants.{Check, Exec, Migrate, Run}
+use Rattle.pb_cli.specs.declared.options.Options.TheVariants.{Check, Claims, Exec, Migrate, Run}
 use Rattle.pb_cli.specs.declared.options.CheckOptions.{CheckOptions}
 use Rattle.pb_cli.specs.declared.options.RunOptions.{RunOptions}
 use Rattle.pb_cli.specs.declared.options.WordsFault.{WordsFault}
@@ -52,18 +52,21 @@ nothing_read m name rows named is none o (other, found, entered, says) =
 pub no_check : (rows : List Row) → ((o : CheckOptions) → HasCheckNumbers rows o → ⊥) → (o : Options) → IsReadFrom (codes "check") rows o → ⊥
 no_check rows none (Check o) says = none o says.1
 no_check rows none (Exec o) says = let w : codes "check" ≡ codes "exec" = says.0 in cc
+no_check rows none Claims says = let w : codes "check" ≡ codes "claims" = says in cc
 no_check rows none Migrate says = let w : codes "check" ≡ codes "migrate" = says in cc
 no_check rows none (Run o) says = let w : codes "check" ≡ codes "run" = says.0 in cc
 
 pub no_run : (rows : List Row) → ((o : RunOptions) → HasRunNumbers rows o → ⊥) → (o : Options) → IsReadFrom (codes "run") rows o → ⊥
 no_run rows none (Check o) says = let w : codes "run" ≡ codes "check" = says.0 in cc
 no_run rows none (Exec o) says = let w : codes "run" ≡ codes "exec" = says.0 in cc
+no_run rows none Claims says = let w : codes "run" ≡ codes "claims" = says in cc
 no_run rows none Migrate says = let w : codes "run" ≡ codes "migrate" = says in cc
 no_run rows none (Run o) says = none o says.1
 
 pub no_exec : (rows : List Row) → ((o : RunOptions) → HasRunNumbers rows o → ⊥) → (o : Options) → IsReadFrom (codes "exec") rows o → ⊥
 no_exec rows none (Check o) says = let w : codes "exec" ≡ codes "check" = says.0 in cc
 no_exec rows none (Exec o) says = none o says.1
+no_exec rows none Claims says = let w : codes "exec" ≡ codes "claims" = says in cc
 no_exec rows none Migrate says = let w : codes "exec" ≡ codes "migrate" = says in cc
 no_exec rows none (Run o) says = let w : codes "exec" ≡ codes "run" = says.0 in cc
 
@@ -99,11 +102,11 @@ clap_refused kinds e Memory is memory blames none = blames
 
 -- the matches of this command line are a function of the words
 pub is_simple_command_line : is_simple command_line ≡ true
-unfolding command_line with_text_commands with_object_commands check_command exec_command migrate_command run_command clap_on_literals
+unfolding command_line with_text_commands with_code_commands with_object_commands check_command claims_command exec_command migrate_command run_command clap_on_literals
 is_simple_command_line = refl
 
 pub is_free_command_line : is_simple_and_free command_line ≡ true
-unfolding command_line with_text_commands with_object_commands check_command exec_command migrate_command run_command clap_on_literals
+unfolding command_line with_text_commands with_code_commands with_object_commands check_command claims_command exec_command migrate_command run_command clap_on_literals
 is_free_command_line = refl
 
 -- a fact that holds anyway holds where there is no value

@@ -1,6 +1,7 @@
 pub mod Answers
 pub mod Calls
 pub mod Checks
+pub mod ClaimLines
 pub mod CommandLine
 pub mod Executions
 pub mod Inputs

@@ -33,6 +33,7 @@ HasCheckNumbers rows o = HasOptionalNumber rows (codes "heap") o.heap
 -- the options are those of this subcommand with these matches
 abbrev pub IsReadFrom : Text → List Row → Options → Type 0
 IsReadFrom name rows (option.Check o) = (name ≡ codes "check") × HasCheckNumbers rows o
+IsReadFrom name rows option.Claims = name ≡ codes "claims"
 IsReadFrom name rows (option.Exec o) = (name ≡ codes "exec") × HasRunNumbers rows o
 IsReadFrom name rows option.Migrate = name ≡ codes "migrate"
 IsReadFrom name rows (option.Run o) = (name ≡ codes "run") × HasRunNumbers rows o

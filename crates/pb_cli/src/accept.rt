@@ -4,7 +4,7 @@ ghost use Rattle.pb_base.specs.Device.{one_more_failure};
 ghost use Rattle.pb_claims.specs.Fits.{FitCapital};
 ghost use Rattle.pb_cli.specs.Answers.{Tells};
 ghost use Rattle.pb_cli.specs.Inputs.{SaysOfInput};
-ghost use Rattle.pb_cli.specs.Refusals.{IsRefusal, RefusesWith, SaysOfRefusedText};
+ghost use Rattle.pb_cli.specs.Refusals.{IsEarlyRefusal, IsRefusal, RefusesEarly, RefusesWith, SaysOfRefusedText};
 ghost use Rattle.pb_codegen.specs.Compiled.{IsBeforeClaims, IsClaimsFault, IsRefused};
 ghost use Rattle.pb_codegen.specs.Numbered.{IsNumbered, IsSpelled};
 ghost use Rattle.pb_names.specs.Program.{capital_of};
@@ -29,7 +29,8 @@ pub enum Refusal {
 
 // The refusal by a line, where there was memory for it.
 fn by_line(line: Result<Vec<u8>, NoMemory>) -> Refusal
-    ensures { (text : List ℕ) → IfOk line (λ l. RefusesWith text l.items) → IsRefusal text result }
+    ensures any { (text : List ℕ) → IfOk line (λ l. RefusesWith text l.items) → IsRefusal text result }
+    ensures early { (text : List ℕ) → IfOk line (λ l. RefusesEarly text l.items) → IsEarlyRefusal text result }
 {
     match line {
         Ok(line) => Refusal::Line(line),
@@ -40,7 +41,7 @@ fn by_line(line: Result<Vec<u8>, NoMemory>) -> Refusal
 // The line of a fault that comes before the claims.
 fn early_line(alloc: Global, fault: CompileFault) -> Result<Vec<u8>, NoMemory>
     requires { IsBeforeClaims fault }
-    ensures { (text : List ℕ) → IsRefused text fault → IfOk result (λ line. RefusesWith text line.items) }
+    ensures { (text : List ℕ) → IsRefused text fault → IfOk result (λ line. RefusesEarly text line.items) }
 {
     match fault {
         CompileFault::Lex(fault) => lex_text(alloc, fault),
@@ -77,7 +78,7 @@ pub fn read_text<A: Allocator + Clone>(
     text: &[u8],
 ) -> Result<Numbered<A>, Refusal>
     ensures numbered { IfOk result (λ n. IsNumbered text.now (resolved_view n.program) n.claims) }
-    ensures refused { IfErr result (IsRefusal text.now) }
+    ensures refused { IfErr result (IsEarlyRefusal text.now) }
 {
     match number(alloc, trees, text) {
         Ok(numbered) => Ok(numbered),

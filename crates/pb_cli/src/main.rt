@@ -4,6 +4,7 @@
 mod accept;
 mod answer;
 mod check;
+mod claims;
 mod command_line;
 mod exec;
 mod input;

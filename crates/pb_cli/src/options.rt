@@ -31,6 +31,7 @@ pub struct RunOptions {
 #[derive(Clone, Copy, Debug, PartialEq, Eq)]
 pub enum Options {
     Check(CheckOptions),
+    Claims,
     Exec(RunOptions),
     Migrate,
     Run(RunOptions),

@@ -62,6 +62,7 @@ fn read_matches(matches: &ArgMatches<'_>) -> Option<Options>
     let (name, inner) = matches.subcommand()?;
     match name {
         "check" => Some(Options::Check(check_options(inner)?)),
+        "claims" => Some(Options::Claims),
         "exec" => Some(Options::Exec(run_options(inner)?)),
         "migrate" => Some(Options::Migrate),
         "run" => Some(Options::Run(run_options(inner)?)),
@@ -144,9 +145,11 @@ mod tests {
     }
 
     #[test]
-    fn reads_migrate(rt: HostRuntime) -> Result<(), Fail> {
+    fn reads_plain_commands(rt: HostRuntime) -> Result<(), Fail> {
         let alloc = rt.alloc();
+        assert_eq!(rt; options(alloc, &["parbegin", "claims"])?, Options::Claims);
         assert_eq!(rt; options(alloc, &["parbegin", "migrate"])?, Options::Migrate);
+        assert!(rt; options(alloc, &["parbegin", "claims", "--steps", "3"]).is_err());
         assert!(rt; options(alloc, &["parbegin", "migrate", "text"]).is_err());
         Ok(())
     }
