@@ -2,6 +2,7 @@ pub mod Answers
 pub mod Calls
 pub mod Checks
 pub mod CommandLine
+pub mod Emissions
 pub mod Executions
 pub mod Inputs
 pub mod Loading

@@ -5,6 +5,7 @@ mod accept;
 mod answer;
 mod check;
 mod command_line;
+mod emit;
 mod exec;
 mod input;
 mod load;
