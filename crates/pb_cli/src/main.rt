@@ -6,6 +6,7 @@ mod answer;
 mod check;
 mod claims;
 mod command_line;
+mod emit;
 mod exec;
 mod input;
 mod load;
