@@ -23,6 +23,9 @@ check_command = with_rule (new_app (codes "check")) (number_rule (codes "heap") 
 unfoldable pub claims_command : App
 claims_command = new_app (codes "claims")
 
+unfoldable pub emit_command : App
+emit_command = with_rule (new_app (codes "emit")) (number_rule_or (codes "object") 1 2 (codes "2"))
+
 unfoldable pub exec_command : App
 exec_command =
     with_rule (new_app (codes "exec")) (number_rule_or (codes "steps") 0 10000000 (codes "1000000"))
@@ -47,7 +50,7 @@ with_text_commands a = with_command (with_command a check_command) claims_comman
 
 -- the commands that make code of a text
 unfoldable pub with_code_commands : App → App
-with_code_commands a = with_command a run_command
+with_code_commands a = with_command (with_command a emit_command) run_command
 
 -- the commands over objects
 unfoldable pub with_object_commands : App → App

@@ -32,6 +32,7 @@ pub struct RunOptions {
 pub enum Options {
     Check(CheckOptions),
     Claims,
+    Emit(EmitOptions),
     Exec(RunOptions),
     Migrate,
     Run(RunOptions),
