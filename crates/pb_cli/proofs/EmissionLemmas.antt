@@ -26,12 +26,13 @@ has_second_text verified code labels given same same_labels is fit =
 
 -- ---- what is said of it
 
-pub says_first : (code given : Code) (labels : List ProcessLabels) (text : List ℕ) → given ≡ code → SpellsOne given text
-    → SaysOfObject code labels One text Done
-says_first code given labels text same spells = written One text (subst (λ (c : Code). SpellsOne c text) same spells)
+pub says_first : (code given : Code) (labels : List ProcessLabels) (text : List ℕ) → given ≡ code
+    → SpellsOne given text → SaysOfObject code labels One text Done
+says_first code given labels text same spells =
+    written One text (subst (λ (c : Code). SpellsOne c text) same spells)
 
-pub says_second : (code given : Code) (labels seen : List ProcessLabels) (text : List ℕ) → given ≡ code → seen ≡ labels
-    → Spells Two given seen text → SaysOfObject code labels Two text Done
+pub says_second : (code given : Code) (labels seen : List ProcessLabels) (text : List ℕ) → given ≡ code
+    → seen ≡ labels → Spells Two given seen text → SaysOfObject code labels Two text Done
 says_second code given labels seen text same same_labels spells =
     written Two text
     (subst (λ (c : Code). Spells Two c labels text) same

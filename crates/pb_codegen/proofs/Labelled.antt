@@ -1,14 +1,15 @@
 -- The labels of an accepted program fit its code.
-use Rattle.std.proofs.Common.{◌≡◌, ℕ, zero, suc, ◌+◌, List, [], ◌∷◌, ◌++◌, length, replicate, Option, Some, None, refl, sym, ap, ◌∙◌, subst, arith, length-append}
+use Rattle.std.proofs.Common.{◌≡◌, ℕ, zero, suc, ◌+◌, List, [], ◌∷◌, ◌++◌, length, replicate, Option, Some}
+use Rattle.std.proofs.Common.{None, refl, sym, ap, ◌∙◌, subst, arith, length-append}
 use Rattle.std.specs.Prelude.{All, slice_get}
 use Rattle.std.proofs.lemmas.List.{length-map}
 use Rattle.std.proofs.lemmas.List.Elements.{All-nil, All-cons, All-append, All-map}
 use Rattle.pb_tree.specs.Syntax as tree
 use Rattle.pb_names.specs.Program.{Stmt, Block, Arms, Name, Process, Program, arms_of, arms_in, arms_list}
 use Rattle.pb_names.specs.Program.{arms_in_stmt, arms_in_arms}
-use Rattle.pb_names.specs.Resolves.{ResolvesStmt, assign, print, if_else, while_do, hold, parbegin, ResolvesStmts}
-use Rattle.pb_names.specs.Resolves.{no_stmt, stmt_then, ResolvesArms, no_arm, arm_then, ResolvesProcess, Resolves}
-use Rattle.pb_names.specs.Resolves.{resource_names}
+use Rattle.pb_names.specs.Resolves.{ResolvesStmt, assign, print, if_else, while_do, hold, parbegin}
+use Rattle.pb_names.specs.Resolves.{ResolvesStmts, no_stmt, stmt_then, ResolvesArms, no_arm, arm_then}
+use Rattle.pb_names.specs.Resolves.{ResolvesProcess, Resolves, resource_names}
 use Rattle.pb_base.specs.Steppers.{Table}
 use Rattle.pb_code.specs.Code.{End, ProcessCode}
 use Rattle.pb_code.specs.Limits.{IsName, FitLabels, AreLabels}
@@ -89,8 +90,10 @@ module _ (integers resources : List Name) where
   mutual
     lined_stmt : (s : tree.StmtSyntax) (s' : Stmt) (after : Option ℕ) → IsFullStmt s
         → ResolvesStmt integers resources s s' → IsLine after → All IsLine (stmt_lines s' after)
-    lined_stmt _ _ after full (assign line x i e e' u h) is = replicated (suc (length (expr_code e'))) (Some line) full
-    lined_stmt _ _ after full (print line e e' h) is = replicated (suc (length (expr_code e'))) (Some line) full
+    lined_stmt _ _ after full (assign line x i e e' u h) is =
+        replicated (suc (length (expr_code e'))) (Some line) full
+    lined_stmt _ _ after full (print line e e' h) is =
+        replicated (suc (length (expr_code e'))) (Some line) full
     lined_stmt _ _ after full (if_else line e e' a b a' b' h k l) is =
         let test = replicate (suc (length (expr_code e'))) (Some line) in
         All-append IsLine test (block_lines a' after ++ (after ∷ block_lines b' after))
@@ -111,7 +114,8 @@ module _ (integers resources : List Name) where
         (lined_block body body' (Some line) full.2 k full.0)
         (All-cons IsLine (Some line) [] full.0 (All-nil IsLine)))
     lined_stmt _ _ after full (parbegin line first arms arms' few h) is =
-        All-cons IsLine (Some line) (Some line ∷ []) full.0 (All-cons IsLine (Some line) [] full.0 (All-nil IsLine))
+        All-cons IsLine (Some line) (Some line ∷ []) full.0
+        (All-cons IsLine (Some line) [] full.0 (All-nil IsLine))
 
     lined_block : (ss : tree.StmtsSyntax) (block : Block) (after : Option ℕ) → IsFull ss
         → ResolvesStmts integers resources ss block → IsLine after → All IsLine (block_lines block after)
@@ -139,9 +143,11 @@ module _ (integers resources : List Name) where
         → AllLined (arms_in block)
     inside _ _ full no_stmt = tt
     inside _ _ full (stmt_then s s' ss block h k) =
-        all_lined-append (arms_in_stmt s') (arms_in block) (inside_stmt s s' full.0 h) (inside ss block full.1 k)
+        all_lined-append (arms_in_stmt s') (arms_in block) (inside_stmt s s' full.0 h)
+        (inside ss block full.1 k)
 
-    inside_arms : (arms : tree.ArmsSyntax) (arms' : Arms) → AreFull arms → ResolvesArms integers resources arms arms'
+    inside_arms : (arms : tree.ArmsSyntax) (arms' : Arms) → AreFull arms
+        → ResolvesArms integers resources arms arms'
         → AllLined (arms_list arms') × AllLined (arms_in_arms arms')
     inside_arms _ _ full no_arm = (tt, tt)
     inside_arms _ _ full (arm_then arm arm' arms arms' h k) =
@@ -163,7 +169,9 @@ fitting resources written process formed h = record {
   );
   integers = record {
     all = refl;
-    formed = subst (All IsName) (sym h.integers) (All-map IsName (λ (n : tree.NameSyntax). n.text) written.integers formed.integers);
+    formed =
+        subst (All IsName) (sym h.integers)
+        (All-map IsName (λ (n : tree.NameSyntax). n.text) written.integers formed.integers);
     apart = h.distinct;
   };
 }
@@ -186,7 +194,8 @@ fitting_labels written program claims formed h = record {
         → FitLabels (process_code process) (process_labels process)
     at p process is =
         let w =
-        partner (ResolvesProcess (resource_names program)) written.processes program.processes p process h.processes is
+        partner (ResolvesProcess (resource_names program)) written.processes program.processes p process
+        h.processes is
         in
         fitting (resource_names program) w.0 process
         (all_at IsFormedProcess written.processes formed.processes p w.0 w.1) w.2

@@ -26,7 +26,8 @@ AreProper ts = EachToken IsProper ts
 
 -- ---- the tokens behind an expression
 
-behind_expr : {l : Level} {ts rest : List Token} {e : tree.ExprSyntax} → Reads l ts e rest → AreProper ts → AreProper rest
+behind_expr : {l : Level} {ts rest : List Token} {e : tree.ExprSyntax} → Reads l ts e rest → AreProper ts
+    → AreProper rest
 behind_expr (tight h) s = behind_expr h s
 behind_expr (chain c o h k) s = behind_expr k (behind_expr h s).1
 behind_expr (negation i h) s = behind_expr h s.1
@@ -38,7 +39,8 @@ behind_expr (group i j h) s = (behind_expr h s.1).1
 
 -- ---- pairs
 
-behind_pair : {ts rest : List Token} {p : tree.DemandSyntax} → ReadsPair ts p rest → AreProper ts → AreProper rest
+behind_pair : {ts rest : List Token} {p : tree.DemandSyntax} → ReadsPair ts p rest → AreProper ts
+    → AreProper rest
 behind_pair (pair i j k) s = s.1.1.1
 
 behind_pairs : {ts rest : List Token} {ps : List tree.DemandSyntax} → ReadsPairs ts ps rest → AreProper ts
@@ -124,8 +126,8 @@ named_resource : {ts rest : List Token} {r : tree.ResourceSyntax} → ReadsResou
     → IsName r.name.text × AreProper rest
 named_resource (resource {x = x} is i j k) s = (s.0.1 x is, s.1.1.1.1)
 
-named_resources : {ts rest : List Token} {rs : List tree.ResourceSyntax} → ReadsResources ts rs rest → AreProper ts
-    → All (λ resource. IsName resource.name.text) rs × AreProper rest
+named_resources : {ts rest : List Token} {rs : List tree.ResourceSyntax} → ReadsResources ts rs rest
+    → AreProper ts → All (λ resource. IsName resource.name.text) rs × AreProper rest
 named_resources none s = (All-nil IsNamedResource, s)
 named_resources (another {rs = rs} {r = r} h i k) s =
     let x = named_resources h s in
@@ -142,8 +144,8 @@ formed_process (integers {x = x} is i j h k l m) s =
     let a = full_list l w.1.1 in
     (record { name = s.0.1 x is; integers = w.0; full = a.0 }, a.1.1)
 
-formed_processes : {ts rest : List Token} {ps : List tree.ProcessSyntax} → ReadsProcesses ts ps rest → AreProper ts
-    → (1 ≤ length ps) × All IsFormedProcess ps × AreProper rest
+formed_processes : {ts rest : List Token} {ps : List tree.ProcessSyntax} → ReadsProcesses ts ps rest
+    → AreProper ts → (1 ≤ length ps) × All IsFormedProcess ps × AreProper rest
 formed_processes (one_process {p = p} i h) s =
     let x = formed_process h s.1 in
     (omega arith, All-cons IsFormedProcess p [] x.0 (All-nil IsFormedProcess), x.1)

@@ -1,11 +1,13 @@
 -- The tokens of a text stand on its lines, and the names among them are names.
-use Rattle.std.proofs.Common.{◌≡◌, ℕ, zero, suc, ◌<◌, ◌≤◌, false, true, List, [], ◌∷◌, ◌++◌, length, map, get_or, refl, sym, subst, take, arith}
+use Rattle.std.proofs.Common.{◌≡◌, ℕ, zero, suc, ◌<◌, ◌≤◌, false, true, List, [], ◌∷◌, ◌++◌, length, map}
+use Rattle.std.proofs.Common.{get_or, refl, sym, subst, take, arith}
 use Rattle.std.specs.Prelude.{Contains, slice_range, ◌==◌}
 use Rattle.std.proofs.lemmas.List.{length-take-le}
 use Rattle.std.proofs.lemmas.List.Sums.{count_by-le-length}
 use Rattle.pb_lexer.specs.declared.token.Mark.{Mark}
 use Rattle.pb_lexer.specs.declared.token.Mark.TheVariants as mark
-use Rattle.pb_lexer.specs.Cutting.{Piece, blank, comment, token, IsToken, Cut, nothing, more, Fits, AllFit, AreTokensOf}
+use Rattle.pb_lexer.specs.Cutting.{Piece, blank, comment, token, IsToken, Cut, nothing, more, Fits, AllFit}
+use Rattle.pb_lexer.specs.Cutting.{AreTokensOf}
 use Rattle.pb_lexer.specs.Forms.{spelling, IsWord, Form, name, number, fixed}
 use Rattle.pb_lexer.specs.Tokens.{Lexeme, Name, Token}
 use Rattle.pb_verifier.specs.Limits.{IsName, reserved_words}
@@ -71,7 +73,8 @@ form_says_name bytes _ x (fixed is) fits e = cc
 -- ---- all tokens
 
 -- the lines before a token are as many as the line feeds before it, and a text has few bytes
-line_of_token : {text : List ℕ} {at end : ℕ} {t : Token} → length text ≤ 65536 → IsToken text at end t → IsSourceLine t.line
+line_of_token : {text : List ℕ} {at end : ℕ} {t : Token} → length text ≤ 65536 → IsToken text at end t
+    → IsSourceLine t.line
 line_of_token {text = text} {at = at} {end = end} short is =
     let line = is.line_is in
     let before = is.before_end in
@@ -84,13 +87,15 @@ line_of_token {text = text} {at = at} {end = end} short is =
 abbrev WasCut : Token → Type 0
 WasCut t = IsSourceLine t.line × ((bytes : List ℕ) × Form bytes t.lexeme)
 
-cut_piece : {text : List ℕ} {at end : ℕ} {new : List Token} → length text ≤ 65536 → Piece text at end new → EachToken WasCut new
+cut_piece : {text : List ℕ} {at end : ℕ} {new : List Token} → length text ≤ 65536 → Piece text at end new
+    → EachToken WasCut new
 cut_piece short (blank u is_blank one) = tt
 cut_piece short (comment is) = tt
 cut_piece {text = text} {at = at} {end = end} short (token is) =
     ((line_of_token short is, (slice_range text at end, is.form)), tt)
 
-cut_tokens : {text : List ℕ} {end : ℕ} {ts : List Token} → length text ≤ 65536 → Cut text end ts → EachToken WasCut ts
+cut_tokens : {text : List ℕ} {end : ℕ} {ts : List Token} → length text ≤ 65536 → Cut text end ts
+    → EachToken WasCut ts
 cut_tokens short nothing = tt
 cut_tokens short (more {ts = ts} {new = new} cut piece) =
     each_token-append WasCut ts new (cut_tokens short cut) (cut_piece short piece)

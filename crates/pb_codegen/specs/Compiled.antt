@@ -34,8 +34,8 @@ pub record CompiledText : Type 0 where
   pub labels : List ProcessLabels
 
 -- the text spells a program, and the code means the same; its names, claims and labels are those of the program, and
--- the capital is enough for the claims; both are well behaved: no request passes its claim, and all loans are safe;
--- the labels have a line or none for each place of the code, and a name for each integer
+-- the capital is enough for the claims; both are well behaved: no request passes its claim, and all loans are
+-- safe; the labels have a line or none for each place of the code, and a name for each integer
 pub record IsCompiled (text : List ℕ) (code : Code) (labels : List ProcessLabels) : Type 0 where
   pub program : Program
   pub numbered : IsNumbered text program code.claims

@@ -11,8 +11,8 @@ returns-in-Ok-clause-text g c =
     let code = c.in-Ok.compiled.verified.code in
     let labels = c.in-Ok.compiled.labels in
     told_reply (SaysOfEmission c.args.format) c.args.text.now c.object.result _ _ c.tell.result c.requires
-    (replied_too (SaysOfObject code labels c.args.format) (SaysOfEmission c.args.format c.args.text.now) c.object.result
-    (emitted code labels c.in-Ok.ensures.compiled) c.object.ensures)
+    (replied_too (SaysOfObject code labels c.args.format) (SaysOfEmission c.args.format c.args.text.now)
+    c.object.result (emitted code labels c.in-Ok.ensures.compiled) c.object.ensures)
     c.tell.ensures.said c.tell.ensures.memory
 
 pub returns-in-Err-clause-text : goal.returns-in-Err-clause-text

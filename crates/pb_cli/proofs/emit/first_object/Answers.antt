@@ -7,8 +7,9 @@ use Rattle.pb_cli.proofs.emit.first_object.Goals as goal
 pub returns-then-not-fits_first_format : goal.returns-then-not-fits_first_format
 returns-then-not-fits_first_format c labels =
     of_refusal c.refused.result c.in_ok-line.line.items (SaysOfObject c.args.verified.now.code labels One)
-    (says_beyond c.args.verified.now.code _ labels c.in_ok-line.line.items c.code-code.ensures.code c.in_ok-line.ensures.items
-    (λ fits. let e = c.fits_first_format.ensures.fits.1 fits in let n = c.if-not-fits_first_format.true in cc))
+    (says_beyond c.args.verified.now.code _ labels c.in_ok-line.line.items c.code-code.ensures.code
+    c.in_ok-line.ensures.items (λ fits.
+    let e = c.fits_first_format.ensures.fits.1 fits in let n = c.if-not-fits_first_format.true in cc))
     c.refused.ensures
 
 pub write_object-requires : goal.write_object-requires
@@ -18,4 +19,5 @@ write_object-requires c =
 
 pub returns : goal.returns
 returns c labels =
-    says_first c.args.verified.now.code _ labels c.in_ok-text.text.items c.code-code.ensures.code c.in_ok-text.ensures
+    says_first c.args.verified.now.code _ labels c.in_ok-text.text.items c.code-code.ensures.code
+    c.in_ok-text.ensures

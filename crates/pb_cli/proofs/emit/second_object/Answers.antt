@@ -12,5 +12,5 @@ write_object2-requires c =
 pub returns : goal.returns
 returns c =
     let same = c.code-code.ensures.code ∙ ap (λ (v : VerifiedCode). v.code) c.verified.ensures in
-    says_second c.args.compiled.now.verified.code _ c.args.compiled.now.labels _ c.in_ok-text.text.items same c.labels.ensures
-    c.in_ok-text.ensures
+    says_second c.args.compiled.now.verified.code _ c.args.compiled.now.labels _ c.in_ok-text.text.items same
+    c.labels.ensures c.in_ok-text.ensures

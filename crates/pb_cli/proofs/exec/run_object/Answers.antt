@@ -12,7 +12,8 @@ returns-in-Ok-clause-text g c =
 
 pub returns-clause-text : goal.returns-clause-text
 returns-clause-text g c =
-    told_reply (SaysOfExecution c.args.steps) c.args.bytes.now c.load_refusal.result _ _ c.tell.result c.requires
-    (replied_too (SaysOfNoCode c.args.bytes.now) (SaysOfExecution c.args.steps c.args.bytes.now) c.load_refusal.result no_code
-    (c.load_refusal.ensures c.args.bytes.now c.in-Err.ensures.fault))
+    told_reply (SaysOfExecution c.args.steps) c.args.bytes.now c.load_refusal.result _ _ c.tell.result
+    c.requires
+    (replied_too (SaysOfNoCode c.args.bytes.now) (SaysOfExecution c.args.steps c.args.bytes.now)
+    c.load_refusal.result no_code (c.load_refusal.ensures c.args.bytes.now c.in-Err.ensures.fault))
     c.tell.ensures.said c.tell.ensures.memory

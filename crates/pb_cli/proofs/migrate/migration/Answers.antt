@@ -10,8 +10,8 @@ use Rattle.pb_cli.proofs.migrate.migration.Goals as goal
 
 pub returns-in-Err : goal.returns-in-Err
 returns-in-Err c =
-    replied_too (SaysOfNoCode c.args.bytes.now) (SaysOfMigration c.args.bytes.now) c.load_refusal.result no_code
-    (c.load_refusal.ensures c.args.bytes.now c.in-Err.ensures.fault)
+    replied_too (SaysOfNoCode c.args.bytes.now) (SaysOfMigration c.args.bytes.now) c.load_refusal.result
+    no_code (c.load_refusal.ensures c.args.bytes.now c.in-Err.ensures.fault)
 
 pub write_object2-requires : goal.write_object2-requires
 write_object2-requires c =
