@@ -12,7 +12,9 @@ use Rattle.pb_names.specs.declared.resolved.Resource.{Resource}
 use Rattle.pb_names.specs.declared.resolved.Resolved.{Resolved}
 use Rattle.pb_base.specs.declared.memory.NoMemory.{NoMemory}
 use Rattle.pb_cli.specs.Answers.{line}
-use Rattle.pb_cli.specs.Refusals.{RefusesWith, SaysOfRefusedText, refused as by_line}
+use Rattle.pb_cli.specs.Refusals.{IsEarlyRefusal, IsRefusal, RefusesEarly, RefusesWith, SaysOfRefusedText, early, refused as by_line}
+use Rattle.pb_cli.specs.declared.accept.Refusal.{Refusal}
+use Rattle.pb_cli.specs.declared.accept.Refusal.TheVariants.{Line, NoMemory as OutOfMemory}
 use Rattle.pb_cli.specs.declared.reply.Reply.{Reply}
 use Rattle.pb_cli.specs.declared.status.Status.{Status}
 use Rattle.pb_cli.specs.declared.status.Status.TheVariants.{Refused}
@@ -22,6 +24,17 @@ pub refuses_by : {V : Type 0} (seen : V → List ℕ) (r : Result V NoMemory) (t
     → IfOk r (λ x. RefusesWith text (seen x))
 refuses_by seen (Ok x) text l same is = subst (RefusesWith text) (sym same) is
 refuses_by seen (Err e) text l same is = tt
+
+-- the same of a refusal that comes before the claims
+pub refuses_early_by : {V : Type 0} (seen : V → List ℕ) (r : Result V NoMemory) (text l : List ℕ) → IfOk r (λ x. seen x ≡ l)
+    → RefusesEarly text l → IfOk r (λ x. RefusesEarly text (seen x))
+refuses_early_by seen (Ok x) text l same is = subst (RefusesEarly text) (sym same) is
+refuses_early_by seen (Err e) text l same is = tt
+
+-- a refusal that comes before the claims is one
+pub is_refusal : (text : List ℕ) (refusal : Refusal) → IsEarlyRefusal text refusal → IsRefusal text refusal
+is_refusal text (Line l) is = early l.items is
+is_refusal text OutOfMemory is = tt
 
 -- so is the reply with this line
 pub reply_refuses : (r : Result Reply NoMemory) (text l : List ℕ) → IfOk r (λ x. (x.text.items ≡ line l) × (x.status ≡ Refused))

@@ -46,6 +46,13 @@ pub told_reply : (SaysOf : List ℕ → List ℕ → Status → Type 0) (bytes :
 told_reply SaysOf bytes (Ok r) old new given short is says memory = (r.text.items, r.status, read short is, says)
 told_reply SaysOf bytes (Err e) old new given short is says memory = (memory_line, Memory, not_read no_memory, memory)
 
+-- what a reply says may be said by a wider definition
+pub replied_too : (P Q : List ℕ → Status → Type 0) (reply : Result Reply NoMemory)
+    → ((text : List ℕ) (status : Status) → P text status → Q text status)
+    → IfOk reply (λ r. P r.text.items r.status) → IfOk reply (λ r. Q r.text.items r.status)
+replied_too P Q (Ok r) wider is = wider r.text.items r.status is
+replied_too P Q (Err e) wider is = tt
+
 -- what may be said may be said by a wider definition
 pub said_too : (P Q : List ℕ → List ℕ → Status → Type 0) (bytes : List ℕ) (old new : Option (List ℕ)) (given : Status)
     → ((text : List ℕ) (status : Status) → P bytes text status → Q bytes text status)

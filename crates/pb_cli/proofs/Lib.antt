@@ -1,6 +1,8 @@
 pub mod AcceptLemmas
 pub mod AnswerLemmas
 pub mod CheckLemmas
+pub mod ClaimLemmas
+pub mod EmissionLemmas
 pub mod ExecutionLemmas
 pub mod InputLemmas
 pub mod LoadLemmas

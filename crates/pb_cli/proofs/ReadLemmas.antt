@@ -1,17 +1,20 @@
 -- What clap's answers say of the rows that it matched, and of this command line.
-use Rattle.std.proofs.Common.{◌≡◌, ◌<◌, ◌^◌, ℕ, List, [], Option, Some, None, Result, Ok, Err, refl, sym, ap, subst, ◌∙◌, true, option_map, inl, inr, IfNone, codes}
+use Rattle.std.proofs.Common.{◌≡◌, ◌<◌, ◌≤◌, ◌^◌, ℕ, List, [], Option, Some, None, Result, Ok, Err, refl, sym, ap, subst, ◌∙◌, true, option_map, inl, inr, IfNone, codes, get_or, arith}
 use Rattle.std.specs.Str.Parse.{IsNumeral, digits_value, without_leading_plus}
 use Rattle.clap.specs.Words.{HasKind, IsAmong, Kinds, ReadsOne, Row, Text, TriesOne, is_simple, is_simple_and_free, kind_of, one_of, one_text, rows_of}
 use Rattle.clap.specs.declared.error.Error.{Error}
 use Rattle.clap.specs.declared.error.kind.ErrorKind.TheVariants.{OutOfMemory}
 use Rattle.clap.proofs.OnLiterals.{clap_on_literals}
-use Rattle.pb_cli.specs.CommandLine.{command_line, with_text_commands, with_object_commands, check_command, exec_command, migrate_command, run_command}
+use Rattle.pb_cli.specs.CommandLine.{command_line, with_text_commands, with_code_commands, with_object_commands, check_command, claims_command, emit_command, exec_command, migrate_command, run_command}
 use Rattle.clap.specs.declared.parser.matches.Found.{Found}
 use Rattle.clap.proofs.WalkLemmas.{one_text-rows}
-use Rattle.pb_cli.specs.Read.{BlamesWords, HasCheckNumbers, HasNumber, HasNumberIn, HasOptionalNumber, HasRunNumbers, IsReadFrom, IsReadFromMatches}
+use Rattle.pb_code.specs.declared.format.Format.{Format}
+use Rattle.pb_code.specs.declared.format.Format.TheVariants.{One, Two}
+use Rattle.pb_cli.specs.Read.{BlamesWords, HasCheckNumbers, HasEmitNumber, HasNumber, HasNumberIn, HasOptionalNumber, HasRunNumbers, IsReadFrom, IsReadFromMatches, format_number}
 use Rattle.pb_cli.specs.declared.options.Options.{Options}
-use Rattle.pb_cli.specs.declared.options.Options.TheVariants.{Check, Exec, Migrate, Run}
+use Rattle.pb_cli.specs.declared.options.Options.TheVariants.{Check, Claims, Emit, Exec, Migrate, Run}
 use Rattle.pb_cli.specs.declared.options.CheckOptions.{CheckOptions}
+use Rattle.pb_cli.specs.declared.options.EmitOptions.{EmitOptions}
 use Rattle.pb_cli.specs.declared.options.RunOptions.{RunOptions}
 use Rattle.pb_cli.specs.declared.options.WordsFault.{WordsFault}
 use Rattle.pb_cli.specs.declared.options.WordsFault.TheVariants.{Words, Memory}
@@ -52,18 +55,32 @@ nothing_read m name rows named is none o (other, found, entered, says) =
 pub no_check : (rows : List Row) → ((o : CheckOptions) → HasCheckNumbers rows o → ⊥) → (o : Options) → IsReadFrom (codes "check") rows o → ⊥
 no_check rows none (Check o) says = none o says.1
 no_check rows none (Exec o) says = let w : codes "check" ≡ codes "exec" = says.0 in cc
+no_check rows none Claims says = let w : codes "check" ≡ codes "claims" = says in cc
+no_check rows none (Emit o) says = let w : codes "check" ≡ codes "emit" = says.0 in cc
 no_check rows none Migrate says = let w : codes "check" ≡ codes "migrate" = says in cc
 no_check rows none (Run o) says = let w : codes "check" ≡ codes "run" = says.0 in cc
+
+pub no_emit : (rows : List Row) → ((o : EmitOptions) → HasEmitNumber rows o → ⊥) → (o : Options) → IsReadFrom (codes "emit") rows o → ⊥
+no_emit rows none (Check o) says = let w : codes "emit" ≡ codes "check" = says.0 in cc
+no_emit rows none Claims says = let w : codes "emit" ≡ codes "claims" = says in cc
+no_emit rows none (Emit o) says = none o says.1
+no_emit rows none (Exec o) says = let m : 109 ≡ 120 = ap (λ (l : Text). get_or l 1 0) says.0 in omega (arith, m)
+no_emit rows none Migrate says = let w : codes "emit" ≡ codes "migrate" = says in cc
+no_emit rows none (Run o) says = let w : codes "emit" ≡ codes "run" = says.0 in cc
 
 pub no_run : (rows : List Row) → ((o : RunOptions) → HasRunNumbers rows o → ⊥) → (o : Options) → IsReadFrom (codes "run") rows o → ⊥
 no_run rows none (Check o) says = let w : codes "run" ≡ codes "check" = says.0 in cc
 no_run rows none (Exec o) says = let w : codes "run" ≡ codes "exec" = says.0 in cc
+no_run rows none Claims says = let w : codes "run" ≡ codes "claims" = says in cc
+no_run rows none (Emit o) says = let w : codes "run" ≡ codes "emit" = says.0 in cc
 no_run rows none Migrate says = let w : codes "run" ≡ codes "migrate" = says in cc
 no_run rows none (Run o) says = none o says.1
 
 pub no_exec : (rows : List Row) → ((o : RunOptions) → HasRunNumbers rows o → ⊥) → (o : Options) → IsReadFrom (codes "exec") rows o → ⊥
 no_exec rows none (Check o) says = let w : codes "exec" ≡ codes "check" = says.0 in cc
 no_exec rows none (Exec o) says = none o says.1
+no_exec rows none Claims says = let w : codes "exec" ≡ codes "claims" = says in cc
+no_exec rows none (Emit o) says = let m : 120 ≡ 109 = ap (λ (l : Text). get_or l 1 0) says.0 in omega (arith, m)
 no_exec rows none Migrate says = let w : codes "exec" ≡ codes "migrate" = says in cc
 no_exec rows none (Run o) says = let w : codes "exec" ≡ codes "run" = says.0 in cc
 
@@ -75,6 +92,14 @@ no_check_numbers rows none given o says = go o.heap refl says
     go : (heap : Option ℕ) → o.heap ≡ heap → HasOptionalNumber rows (codes "heap") heap → ⊥
     go None is h = given h
     go (Some n) is h = none n (h, o.heap_suffices n is, o.heap_fits n is)
+
+-- where no number of a format is read, no format is
+pub no_format : (rows : List Row) → ((n : ℕ) → HasNumberIn rows (codes "object") 1 2 n → ⊥) → (o : EmitOptions) → HasEmitNumber rows o → ⊥
+no_format rows none o says = none (format_number o.object) (says, (within o.object).0, (within o.object).1)
+  where
+    within : (format : Format) → (1 ≤ format_number format) × (format_number format ≤ 2)
+    within One = (omega arith, omega arith)
+    within Two = (omega arith, omega arith)
 
 -- where nothing is read of an option, the rows have no text for it
 pub no_text : {E : Type 0} (gives : Text → Result ℕ E → Type 0) (f : Found) (id : Text) (read : Result (Option ℕ) E) → read ≡ Ok None
@@ -99,11 +124,11 @@ clap_refused kinds e Memory is memory blames none = blames
 
 -- the matches of this command line are a function of the words
 pub is_simple_command_line : is_simple command_line ≡ true
-unfolding command_line with_text_commands with_object_commands check_command exec_command migrate_command run_command clap_on_literals
+unfolding command_line with_text_commands with_code_commands with_object_commands check_command claims_command emit_command exec_command migrate_command run_command clap_on_literals
 is_simple_command_line = refl
 
 pub is_free_command_line : is_simple_and_free command_line ≡ true
-unfolding command_line with_text_commands with_object_commands check_command exec_command migrate_command run_command clap_on_literals
+unfolding command_line with_text_commands with_code_commands with_object_commands check_command claims_command emit_command exec_command migrate_command run_command clap_on_literals
 is_free_command_line = refl
 
 -- a fact that holds anyway holds where there is no value

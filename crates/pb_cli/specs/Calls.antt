@@ -10,6 +10,8 @@ use Rattle.pb_cli.specs.declared.status.Status.{Status}
 use Rattle.pb_cli.specs.declared.status.Status.TheVariants.{Words, Memory}
 use Rattle.pb_cli.specs.Answers.{Says, Tells, memory_line}
 use Rattle.pb_cli.specs.Checks.{SaysOfChecks}
+use Rattle.pb_cli.specs.ClaimLines.{SaysOfClaims}
+use Rattle.pb_cli.specs.Emissions.{SaysOfEmission}
 use Rattle.pb_cli.specs.Executions.{SaysOfExecution}
 use Rattle.pb_cli.specs.Inputs.{SaysOfInput}
 use Rattle.pb_cli.specs.Migrations.{SaysOfMigration}
@@ -19,6 +21,8 @@ use Rattle.pb_cli.specs.Read.{WordsSay}
 -- what a command may say of an input
 abbrev pub CommandSays : Options → List ℕ → List ℕ → Status → Type 0
 CommandSays (option.Check numbers) = SaysOfInput SaysOfChecks
+CommandSays option.Claims = SaysOfInput SaysOfClaims
+CommandSays (option.Emit numbers) = SaysOfInput (SaysOfEmission numbers.object)
 CommandSays (option.Exec numbers) = SaysOfInput (SaysOfExecution numbers.steps)
 CommandSays option.Migrate = SaysOfInput SaysOfMigration
 CommandSays (option.Run numbers) = SaysOfInput (SaysOf numbers.steps)

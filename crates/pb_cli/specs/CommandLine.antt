@@ -20,6 +20,12 @@ number_rule_or name least most default =
 unfoldable pub check_command : App
 check_command = with_rule (new_app (codes "check")) (number_rule (codes "heap") 1024 16777216)
 
+unfoldable pub claims_command : App
+claims_command = new_app (codes "claims")
+
+unfoldable pub emit_command : App
+emit_command = with_rule (new_app (codes "emit")) (number_rule_or (codes "object") 1 2 (codes "2"))
+
 unfoldable pub exec_command : App
 exec_command =
     with_rule (new_app (codes "exec")) (number_rule_or (codes "steps") 0 10000000 (codes "1000000"))
@@ -38,9 +44,13 @@ with_command a sub = with_subcommand a sub.top
 abbrev pub that_wants_command : App → App
 that_wants_command a = record a { top = record a.top { subcommand_required = true } }
 
--- the commands over texts
+-- the commands that look at texts
 unfoldable pub with_text_commands : App → App
-with_text_commands a = with_command (with_command a check_command) run_command
+with_text_commands a = with_command (with_command a check_command) claims_command
+
+-- the commands that make code of a text
+unfoldable pub with_code_commands : App → App
+with_code_commands a = with_command (with_command a emit_command) run_command
 
 -- the commands over objects
 unfoldable pub with_object_commands : App → App
@@ -48,7 +58,8 @@ with_object_commands a = with_command (with_command a exec_command) migrate_comm
 
 -- the whole command line
 unfoldable pub command_line : App
-command_line = with_object_commands (with_text_commands (that_wants_command (new_app (codes "parbegin"))))
+command_line =
+    with_object_commands (with_code_commands (with_text_commands (that_wants_command (new_app (codes "parbegin")))))
 
 -- a command of this form, none of whose options a subcommand inherits
 abbrev pub IsCommand : App → Command → Type 0

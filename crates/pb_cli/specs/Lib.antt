@@ -1,7 +1,9 @@
 pub mod Answers
 pub mod Calls
 pub mod Checks
+pub mod ClaimLines
 pub mod CommandLine
+pub mod Emissions
 pub mod Executions
 pub mod Inputs
 pub mod Loading

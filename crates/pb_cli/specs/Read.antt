@@ -3,10 +3,13 @@ use Rattle.std.specs.Prelude.{◌≡◌, ◌≤◌, ℕ, List, [], Option, Some,
 use Rattle.std.specs.Str.Parse.{IsNumeral, digits_value, without_leading_plus}
 use Rattle.clap.specs.Words.{Row, Text, fault_of, one_of, subcommand_of}
 use Rattle.std.specs.Borrow.{Bor}
+use Rattle.pb_code.specs.declared.format.Format.{Format}
+use Rattle.pb_code.specs.declared.format.Format.TheVariants.{One, Two}
 use Rattle.pb_cli.specs.CommandLine.{command_line}
 use Rattle.pb_cli.specs.declared.options.Options.{Options}
 use Rattle.pb_cli.specs.declared.options.Options.TheVariants as option
 use Rattle.pb_cli.specs.declared.options.CheckOptions.{CheckOptions}
+use Rattle.pb_cli.specs.declared.options.EmitOptions.{EmitOptions}
 use Rattle.pb_cli.specs.declared.options.RunOptions.{RunOptions}
 use Rattle.pb_cli.specs.declared.options.WordsFault.{WordsFault}
 use Rattle.pb_cli.specs.declared.options.WordsFault.TheVariants as fault
@@ -30,9 +33,18 @@ HasOptionalNumber rows id None = one_of id rows ≡ None
 abbrev pub HasCheckNumbers : List Row → CheckOptions → Type 0
 HasCheckNumbers rows o = HasOptionalNumber rows (codes "heap") o.heap
 
+abbrev pub format_number : Format → ℕ
+format_number One = 1
+format_number Two = 2
+
+abbrev pub HasEmitNumber : List Row → EmitOptions → Type 0
+HasEmitNumber rows o = HasNumber rows (codes "object") (format_number o.object)
+
 -- the options are those of this subcommand with these matches
 abbrev pub IsReadFrom : Text → List Row → Options → Type 0
 IsReadFrom name rows (option.Check o) = (name ≡ codes "check") × HasCheckNumbers rows o
+IsReadFrom name rows option.Claims = name ≡ codes "claims"
+IsReadFrom name rows (option.Emit o) = (name ≡ codes "emit") × HasEmitNumber rows o
 IsReadFrom name rows (option.Exec o) = (name ≡ codes "exec") × HasRunNumbers rows o
 IsReadFrom name rows option.Migrate = name ≡ codes "migrate"
 IsReadFrom name rows (option.Run o) = (name ≡ codes "run") × HasRunNumbers rows o

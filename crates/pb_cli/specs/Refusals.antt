@@ -67,11 +67,15 @@ claims_line table over =
     ++ 32 ∷ slice_index_or table.resources over.resource []
     ++ codes " claim " ++ decimal over.claim ++ codes " capital " ++ decimal over.capital
 
--- the line of the first fault of a text
+-- the line of the first fault of a text that spells no program
+pub data RefusesEarly (text : List ℕ) : List ℕ → Type 0 where
+  by_tokens : (fault : LexFault) → IsRefused text (Lex fault) → RefusesEarly text (lex_line fault)
+  by_grammar : (fault : ParseFault) → IsRefused text (Parse fault) → RefusesEarly text (parse_line fault)
+  by_names : (fault : NameFault) → IsRefused text (Names fault) → RefusesEarly text (names_line fault)
+
+-- the line of the first fault of a text: it spells no program, or a claim is over its capital
 pub data RefusesWith (text : List ℕ) : List ℕ → Type 0 where
-  by_tokens : (fault : LexFault) → IsRefused text (Lex fault) → RefusesWith text (lex_line fault)
-  by_grammar : (fault : ParseFault) → IsRefused text (Parse fault) → RefusesWith text (parse_line fault)
-  by_names : (fault : NameFault) → IsRefused text (Names fault) → RefusesWith text (names_line fault)
+  early : (refusal : List ℕ) → RefusesEarly text refusal → RefusesWith text refusal
   by_claims : (program : Program) (claims : Table) (over : OverCapital) → IsNumbered text program claims
       → IsFirstOver claims (capital_of program) over → RefusesWith text (claims_line (names_of program) over)
 
@@ -86,6 +90,11 @@ pub record IsAcceptedText (text : List ℕ) : Type 0 where
 abbrev pub IsRefusal : List ℕ → Refusal → Type 0
 IsRefusal text (Line line) = RefusesWith text line.items
 IsRefusal text NoMemory = ⊤
+
+-- the same, whatever the capital
+abbrev pub IsEarlyRefusal : List ℕ → Refusal → Type 0
+IsEarlyRefusal text (Line line) = RefusesEarly text line.items
+IsEarlyRefusal text NoMemory = ⊤
 
 -- what is said of a refused text
 pub data SaysOfRefusedText (text : List ℕ) : List ℕ → Status → Type 0 where

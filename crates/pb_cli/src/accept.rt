@@ -4,8 +4,8 @@ ghost use Rattle.pb_base.specs.Device.{one_more_failure};
 ghost use Rattle.pb_claims.specs.Fits.{FitCapital};
 ghost use Rattle.pb_cli.specs.Answers.{Tells};
 ghost use Rattle.pb_cli.specs.Inputs.{SaysOfInput};
-ghost use Rattle.pb_cli.specs.Refusals.{IsRefusal, RefusesWith, SaysOfRefusedText};
-ghost use Rattle.pb_codegen.specs.Compiled.{IsBeforeClaims, IsClaimsFault, IsRefused};
+ghost use Rattle.pb_cli.specs.Refusals.{IsEarlyRefusal, IsRefusal, RefusesEarly, RefusesWith, SaysOfRefusedText};
+ghost use Rattle.pb_codegen.specs.Compiled.{IsBeforeClaims, IsClaimsFault, IsCompiled, IsRefused};
 ghost use Rattle.pb_codegen.specs.Numbered.{IsNumbered, IsSpelled};
 ghost use Rattle.pb_names.specs.Program.{capital_of};
 ghost use Rattle.pb_names.specs.View.{resolved_view};
@@ -13,9 +13,10 @@ ghost use Rattle.pb_names.specs.View.{resolved_view};
 use crate::refusal::{claims_text, lex_text, names_text, parse_text};
 use crate::reply::{Reply, refused, tell};
 use crate::status::Status;
+use bumpalo::Bump;
 use pb_base::NoMemory;
 use pb_base::device::Output;
-use pb_codegen::{CompileFault, Numbered, number};
+use pb_codegen::{CompileFault, Compiled, Numbered, number};
 use std::alloc::{Allocator, Global};
 
 /// Why a text is not accepted.
@@ -29,7 +30,8 @@ pub enum Refusal {
 
 // The refusal by a line, where there was memory for it.
 fn by_line(line: Result<Vec<u8>, NoMemory>) -> Refusal
-    ensures { (text : List ℕ) → IfOk line (λ l. RefusesWith text l.items) → IsRefusal text result }
+    ensures any { (text : List ℕ) → IfOk line (λ l. RefusesWith text l.items) → IsRefusal text result }
+    ensures early { (text : List ℕ) → IfOk line (λ l. RefusesEarly text l.items) → IsEarlyRefusal text result }
 {
     match line {
         Ok(line) => Refusal::Line(line),
@@ -40,7 +42,7 @@ fn by_line(line: Result<Vec<u8>, NoMemory>) -> Refusal
 // The line of a fault that comes before the claims.
 fn early_line(alloc: Global, fault: CompileFault) -> Result<Vec<u8>, NoMemory>
     requires { IsBeforeClaims fault }
-    ensures { (text : List ℕ) → IsRefused text fault → IfOk result (λ line. RefusesWith text line.items) }
+    ensures { (text : List ℕ) → IsRefused text fault → IfOk result (λ line. RefusesEarly text line.items) }
 {
     match fault {
         CompileFault::Lex(fault) => lex_text(alloc, fault),
@@ -77,7 +79,7 @@ pub fn read_text<A: Allocator + Clone>(
     text: &[u8],
 ) -> Result<Numbered<A>, Refusal>
     ensures numbered { IfOk result (λ n. IsNumbered text.now (resolved_view n.program) n.claims) }
-    ensures refused { IfErr result (IsRefusal text.now) }
+    ensures refused { IfErr result (IsEarlyRefusal text.now) }
 {
     match number(alloc, trees, text) {
         Ok(numbered) => Ok(numbered),
@@ -99,6 +101,19 @@ pub fn accept<A: Allocator + Clone>(
     match numbered.check_claims(alloc) {
         Ok(()) => Ok(numbered),
         Err(fault) => Err(by_line(over_line(alloc, &numbered, fault))),
+    }
+}
+
+/// The code of a text, whose trees lie in an arena while it is compiled.
+pub fn compile_text(alloc: Global, text: &[u8]) -> Result<Compiled, Refusal>
+    ensures compiled { IfOk result (λ c. IsCompiled text.now c.verified.code c.labels) }
+    ensures refused { IfErr result (IsRefusal text.now) }
+{
+    let arena = Bump::new(alloc);
+    let numbered = accept(alloc, &arena, text)?;
+    match numbered.code(alloc) {
+        Ok(compiled) => Ok(compiled),
+        Err(_) => Err(Refusal::NoMemory),
     }
 }
 

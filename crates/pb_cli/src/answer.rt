@@ -4,6 +4,8 @@ ghost use Rattle.pb_cli.specs.Answers.{Says};
 ghost use Rattle.pb_cli.specs.Calls.{fault_status, fault_text, CallWrites};
 
 use crate::check::check_engine;
+use crate::claims::claims_engine;
+use crate::emit::emit_engine;
 use crate::exec::exec_engine;
 use crate::migrate::migrate_engine;
 use crate::options::{Options, WordsFault};
@@ -25,6 +27,8 @@ pub fn answer<I: Input, O: Output>(
 {
     match options(alloc, words) {
         Ok(Options::Check(numbers)) => check_engine(alloc, numbers, input, output),
+        Ok(Options::Claims) => claims_engine(alloc, input, output),
+        Ok(Options::Emit(numbers)) => emit_engine(alloc, numbers, input, output),
         Ok(Options::Exec(numbers)) => exec_engine(alloc, numbers, input, output),
         Ok(Options::Migrate) => migrate_engine(alloc, input, output),
         Ok(Options::Run(numbers)) => run_engine(alloc, numbers, input, output),

@@ -2,8 +2,8 @@
 ghost use Rattle.std.specs.Prelude.{◌≡◌, IfOk, false};
 ghost use Rattle.clap.specs.Words.{app_of, rule_of, with_rule};
 ghost use Rattle.clap.specs.declared.builder.command.Command.TheViews.{out-Command};
-ghost use Rattle.pb_cli.specs.CommandLine.{check_command, exec_command, migrate_command, number_rule, number_rule_or, run_command, that_wants_command, IsCommand};
-ghost use Rattle.pb_cli.specs.CommandLine.{command_line as whole, with_command, with_object_commands, with_text_commands};
+ghost use Rattle.pb_cli.specs.CommandLine.{check_command, claims_command, emit_command, exec_command, migrate_command, number_rule, number_rule_or, run_command, that_wants_command, IsCommand};
+ghost use Rattle.pb_cli.specs.CommandLine.{command_line as whole, with_code_commands, with_command, with_object_commands, with_text_commands};
 
 use clap::builder::ValueParser;
 use clap::{Arg, Command};
@@ -63,6 +63,27 @@ fn check_texts<'a>(alloc: Global) -> Result<Command<'a>, AllocError>
     with_option(check, heap)
 }
 
+#[tactic(auto, unfolding(crate::specs::CommandLine::claims_command))]
+fn claims_of_text<'a>(alloc: Global) -> Result<Command<'a>, AllocError>
+    ensures { IfOk result (IsCommand claims_command) }
+{
+    Ok(Command::new(alloc, "claims").about(
+        "Says how much of each resource a process of the program on standard input may hold",
+    ))
+}
+
+#[tactic(auto, unfolding(crate::specs::CommandLine::emit_command))]
+fn emit_object<'a>(alloc: Global) -> Result<Command<'a>, AllocError>
+    ensures { IfOk result (IsCommand emit_command) }
+{
+    let object = number_option_or(alloc, "object", 1, 2, "2");
+    let object = object.help("The format of the object");
+    let emit = Command::new(alloc, "emit").about(
+        "Writes the object of the program on standard input",
+    );
+    with_option(emit, object)
+}
+
 #[tactic(auto, unfolding(crate::specs::CommandLine::exec_command))]
 fn exec_object<'a>(alloc: Global) -> Result<Command<'a>, AllocError>
     ensures { IfOk result (IsCommand exec_command) }
@@ -103,6 +124,14 @@ fn with_texts<'a>(alloc: Global, command: Command<'a>) -> Result<Command<'a>, Al
     ensures { IfOk result (λ c. app_of c ≡ with_text_commands (app_of command.entry)) }
 {
     let command = with_subcommand(command, check_texts(alloc)?)?;
+    with_subcommand(command, claims_of_text(alloc)?)
+}
+
+#[tactic(auto, unfolding(crate::specs::CommandLine::with_code_commands))]
+fn with_codes<'a>(alloc: Global, command: Command<'a>) -> Result<Command<'a>, AllocError>
+    ensures { IfOk result (λ c. app_of c ≡ with_code_commands (app_of command.entry)) }
+{
+    let command = with_subcommand(command, emit_object(alloc)?)?;
     with_subcommand(command, run_texts(alloc)?)
 }
 
@@ -120,5 +149,6 @@ pub fn command_line<'a>(alloc: Global) -> Result<Command<'a>, AllocError>
     ensures { IfOk result (λ c. app_of c ≡ whole) }
 {
     let command = wanting_command(Command::new(alloc, "parbegin").bin_name("parbegin")?);
-    with_objects(alloc, with_texts(alloc, command)?)
+    let command = with_codes(alloc, with_texts(alloc, command)?)?;
+    with_objects(alloc, command)
 }

@@ -1,29 +1,18 @@
 //! The command `exec`, over any input and output.
-ghost use Rattle.std.specs.Prelude.{◌≡◌, ◌≤◌, ◌⊎◌, IfOk, IfSome, length};
+ghost use Rattle.std.specs.Prelude.{◌≡◌, ◌≤◌, ◌⊎◌, IfSome, length};
 ghost use Rattle.pb_base.specs.Device.{one_more_failure};
-ghost use Rattle.pb_cli.specs.Answers.{Tells, line};
+ghost use Rattle.pb_cli.specs.Answers.{Tells};
 ghost use Rattle.pb_cli.specs.Executions.{SaysOfExecution};
 ghost use Rattle.pb_cli.specs.Inputs.{SaysOfInput};
-ghost use Rattle.pb_cli.specs.Loading.{WantsNoMemory, load_line};
 
 use crate::input::read_input;
-use crate::load::{LoadFault, load, load_text};
+use crate::load::{load, load_refusal};
 use crate::options::RunOptions;
-use crate::reply::{Reply, refused, tell};
+use crate::reply::tell;
 use crate::status::Status;
 use crate::steps::tell_run;
-use pb_base::NoMemory;
 use pb_base::device::{Input, Output};
 use std::alloc::Global;
-
-// The reply of a refusal.
-fn refusal(alloc: Global, fault: LoadFault) -> Result<Reply, NoMemory>
-    ensures line { IfOk result (λ r. (r.text.items ≡ line (load_line fault)) × (r.status ≡ Status.Refused)) }
-    ensures told { IfOk result (λ _. WantsNoMemory fault) }
-{
-    let text = load_text(alloc, fault)?;
-    refused(text)
-}
 
 // Runs the code of an object, or writes why there is none.
 fn run_object<O: Output>(alloc: Global, steps: u64, bytes: &[u8], output: &mut O) -> Status
@@ -33,7 +22,7 @@ fn run_object<O: Output>(alloc: Global, steps: u64, bytes: &[u8], output: &mut O
 {
     match load(alloc, bytes) {
         Ok((verified, _)) => tell_run(alloc, &verified, steps, output),
-        Err(fault) => tell(alloc, refusal(alloc, fault), output),
+        Err(fault) => tell(alloc, load_refusal(alloc, fault), output),
     }
 }
 

@@ -1,11 +1,12 @@
 //! Objects, read and verified.
-ghost use Rattle.std.specs.Prelude.{◌≡◌, IfErr, IfOk};
+ghost use Rattle.std.specs.Prelude.{◌≡◌, ℕ, IfErr, IfOk, List};
 ghost use Rattle.pb_code.specs.Answers.{HasText};
 ghost use Rattle.pb_code.specs.View.{labels_view};
 ghost use Rattle.pb_code.specs.declared.format.Format.TheVariants.{Two};
-ghost use Rattle.pb_cli.specs.Loading.{IsLoaded, IsLoadFault, WantsNoMemory, load_line};
+ghost use Rattle.pb_cli.specs.Loading.{IsLoaded, IsLoadFault, SaysOfNoCode, WantsNoMemory, load_line};
 
 use crate::refusal::{object_text, verify_text};
+use crate::reply::{Reply, refused};
 use pb_base::NoMemory;
 use pb_code::{Labels, ObjectFault, read_any};
 use pb_verifier::{Verified, VerifyFault, verify};
@@ -36,8 +37,8 @@ pub fn load(alloc: Global, bytes: &[u8]) -> Result<(Verified, Labels), LoadFault
     }
 }
 
-/// The line of a refusal, without a line feed. Want of memory has none.
-pub fn load_text(alloc: Global, fault: LoadFault) -> Result<Vec<u8>, NoMemory>
+// The line of a refusal, without a line feed. Want of memory has none.
+fn load_text(alloc: Global, fault: LoadFault) -> Result<Vec<u8>, NoMemory>
     ensures line { IfOk result (λ text. text.items ≡ load_line fault) }
     ensures told { IfOk result (λ _. WantsNoMemory fault) }
 {
@@ -45,4 +46,13 @@ pub fn load_text(alloc: Global, fault: LoadFault) -> Result<Vec<u8>, NoMemory>
         LoadFault::Object(fault) => object_text(alloc, fault),
         LoadFault::Unsafe(fault) => verify_text(alloc, fault),
     }
+}
+
+/// The reply to bytes that have this fault. There is none where memory wanted.
+pub fn load_refusal(alloc: Global, fault: LoadFault) -> Result<Reply, NoMemory>
+    ensures { (bytes : List ℕ) → IsLoadFault bytes fault
+        → IfOk result (λ r. SaysOfNoCode bytes r.text.items r.status) }
+{
+    let text = load_text(alloc, fault)?;
+    refused(text)
 }

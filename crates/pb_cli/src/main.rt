@@ -4,7 +4,9 @@
 mod accept;
 mod answer;
 mod check;
+mod claims;
 mod command_line;
+mod emit;
 mod exec;
 mod input;
 mod load;

@@ -6,8 +6,8 @@ ghost use Rattle.pb_cli.specs.Inputs.{SaysOfInput};
 ghost use Rattle.pb_cli.specs.Migrations.{SaysOfMigration};
 
 use crate::input::read_input;
-use crate::load::{load, load_text};
-use crate::reply::{Reply, refused, tell};
+use crate::load::{load, load_refusal};
+use crate::reply::{Reply, tell};
 use crate::status::Status;
 use pb_base::NoMemory;
 use pb_base::device::{Input, Output};
@@ -20,7 +20,7 @@ fn migration(alloc: Global, bytes: &[u8]) -> Result<Reply, NoMemory>
 {
     let (verified, labels) = match load(alloc, bytes) {
         Ok(loaded) => loaded,
-        Err(fault) => return refused(load_text(alloc, fault)?),
+        Err(fault) => return load_refusal(alloc, fault),
     };
     let text = write_object2(alloc, verified.code(), &labels)?;
     Ok(Reply {

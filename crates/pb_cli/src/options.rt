@@ -1,6 +1,8 @@
 //! The words of a call, read.
 ghost use Rattle.std.specs.Prelude.{◌≡◌, ◌≤◌, ℕ, Some};
 
+use pb_code::Format;
+
 /// The number of `check`.
 #[derive(Clone, Copy, Debug, PartialEq, Eq)]
 pub struct CheckOptions {
@@ -8,6 +10,13 @@ pub struct CheckOptions {
     pub heap: Option<u64>,
     pub ghost heap_suffices: { (size : ℕ) → heap ≡ Some size → 1024 ≤ size },
     pub ghost heap_fits: { (size : ℕ) → heap ≡ Some size → size ≤ 16777216 },
+}
+
+/// The format of `emit`.
+#[derive(Clone, Copy, Debug, PartialEq, Eq)]
+pub struct EmitOptions {
+    /// The format in which the object is written.
+    pub object: Format,
 }
 
 /// The numbers of `run` and of `exec`.
@@ -22,6 +31,8 @@ pub struct RunOptions {
 #[derive(Clone, Copy, Debug, PartialEq, Eq)]
 pub enum Options {
     Check(CheckOptions),
+    Claims,
+    Emit(EmitOptions),
     Exec(RunOptions),
     Migrate,
     Run(RunOptions),

@@ -1,15 +1,17 @@
 //! Reads the words of a call.
 ghost use Rattle.std.specs.Prelude.{◌≡◌, ◌↔◌, IfErr, IfNone, IfOk, IfSome, IsTrue, None, ℕ};
 ghost use Rattle.clap.specs.Words.{found_of, kind_of, one_of, rows_of, subcommand_rows_of};
-ghost use Rattle.pb_cli.specs.Read.{BlamesWords, HasCheckNumbers, HasNumberIn, HasRunNumbers, IsReadFromMatches, WordsSay};
+ghost use Rattle.pb_cli.specs.Read.{BlamesWords, HasCheckNumbers, HasEmitNumber, HasNumberIn, HasRunNumbers, IsReadFromMatches, WordsSay};
 ghost use Rattle.pb_cli.specs.declared.options.Options.{Options as AnyOptions};
 ghost use Rattle.pb_cli.specs.declared.options.CheckOptions.{CheckOptions as AnyCheckOptions};
+ghost use Rattle.pb_cli.specs.declared.options.EmitOptions.{EmitOptions as AnyEmitOptions};
 ghost use Rattle.pb_cli.specs.declared.options.RunOptions.{RunOptions as AnyRunOptions};
 
 use crate::command_line::command_line;
-use crate::options::{CheckOptions, Options, RunOptions, WordsFault};
+use crate::options::{CheckOptions, EmitOptions, Options, RunOptions, WordsFault};
 use clap::error::ErrorKind;
 use clap::{ArgMatches, Error};
+use pb_code::Format;
 use std::alloc::Global;
 
 // The number of an option, where it was matched with one from `least` to `most`.
@@ -46,6 +48,17 @@ fn check_options(matches: &ArgMatches<'_>) -> Option<CheckOptions>
     Some(CheckOptions { heap: Some(size) })
 }
 
+fn emit_options(matches: &ArgMatches<'_>) -> Option<EmitOptions>
+    ensures some { IfSome result (HasEmitNumber (rows_of (found_of matches.now))) }
+    ensures none { IfNone result ((o : AnyEmitOptions) → HasEmitNumber (rows_of (found_of matches.now)) o → ⊥) }
+{
+    let object = match number(matches, "object", 1, 2)? {
+        1 => Format::One,
+        _ => Format::Two,
+    };
+    Some(EmitOptions { object })
+}
+
 fn run_options(matches: &ArgMatches<'_>) -> Option<RunOptions>
     ensures some { IfSome result (HasRunNumbers (rows_of (found_of matches.now))) }
     ensures none { IfNone result ((o : AnyRunOptions) → HasRunNumbers (rows_of (found_of matches.now)) o → ⊥) }
@@ -62,6 +75,8 @@ fn read_matches(matches: &ArgMatches<'_>) -> Option<Options>
     let (name, inner) = matches.subcommand()?;
     match name {
         "check" => Some(Options::Check(check_options(inner)?)),
+        "claims" => Some(Options::Claims),
+        "emit" => Some(Options::Emit(emit_options(inner)?)),
         "exec" => Some(Options::Exec(run_options(inner)?)),
         "migrate" => Some(Options::Migrate),
         "run" => Some(Options::Run(run_options(inner)?)),
@@ -144,9 +159,32 @@ mod tests {
     }
 
     #[test]
-    fn reads_migrate(rt: HostRuntime) -> Result<(), Fail> {
+    fn reads_emit(rt: HostRuntime) -> Result<(), Fail> {
         let alloc = rt.alloc();
+        let one = Options::Emit(EmitOptions {
+            object: Format::One,
+        });
+        let two = Options::Emit(EmitOptions {
+            object: Format::Two,
+        });
+        assert_eq!(rt; options(alloc, &["parbegin", "emit"])?, two);
+        assert_eq!(rt;
+            options(alloc, &["parbegin", "emit", "--object", "2"])?,
+            two
+        );
+        assert_eq!(rt; options(alloc, &["parbegin", "emit", "--object=1"])?, one);
+        for words in ["0", "3", "one"] {
+            assert!(rt; options(alloc, &["parbegin", "emit", "--object", words]).is_err());
+        }
+        Ok(())
+    }
+
+    #[test]
+    fn reads_plain_commands(rt: HostRuntime) -> Result<(), Fail> {
+        let alloc = rt.alloc();
+        assert_eq!(rt; options(alloc, &["parbegin", "claims"])?, Options::Claims);
         assert_eq!(rt; options(alloc, &["parbegin", "migrate"])?, Options::Migrate);
+        assert!(rt; options(alloc, &["parbegin", "claims", "--steps", "3"]).is_err());
         assert!(rt; options(alloc, &["parbegin", "migrate", "text"]).is_err());
         Ok(())
     }

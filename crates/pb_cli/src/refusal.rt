@@ -75,8 +75,8 @@ pub fn names_text(alloc: Global, fault: NameFault) -> Result<Vec<u8>, NoMemory>
     }
 }
 
-// A text, and a number behind it.
-fn put_number(text: &mut Vec<u8>, before: &[u8], number: u64) -> Result<(), NoMemory>
+/// Puts a text and a number behind a text.
+pub fn put_number(text: &mut Vec<u8>, before: &[u8], number: u64) -> Result<(), NoMemory>
     ensures { OnOk result (text.new.items ≡ text.old.items ++ before.now ++ decimal number) }
 {
     let mut digits = itoa::Buffer::new();

@@ -1,20 +1,16 @@
 //! The command `run`, over any input and output.
-ghost use Rattle.std.specs.Prelude.{◌≡◌, ◌≤◌, ◌⊎◌, IfErr, IfOk, IfSome, length};
+ghost use Rattle.std.specs.Prelude.{◌≡◌, ◌≤◌, ◌⊎◌, IfSome, length};
 ghost use Rattle.pb_base.specs.Device.{one_more_failure};
 ghost use Rattle.pb_cli.specs.Answers.{Tells};
 ghost use Rattle.pb_cli.specs.Inputs.{SaysOfInput};
-ghost use Rattle.pb_cli.specs.Refusals.{IsRefusal};
 ghost use Rattle.pb_cli.specs.Runs.{SaysOf};
-ghost use Rattle.pb_codegen.specs.Compiled.{IsCompiled};
 
-use crate::accept::{Refusal, accept, refuse};
+use crate::accept::{compile_text, refuse};
 use crate::input::read_input;
 use crate::options::RunOptions;
 use crate::status::Status;
 use crate::steps::tell_run;
-use bumpalo::Bump;
 use pb_base::device::{Input, Output};
-use pb_codegen::Compiled;
 use std::alloc::Global;
 
 /// Runs the text that the input holds: writes the line of each event, and at the end `done`, or `limit` with the
@@ -40,7 +36,7 @@ pub fn run_engine<I: Input, O: Output>(
     }
 }
 
-// Runs a text, whose trees lie in an arena while it is compiled.
+// Runs a text.
 fn run_text<O: Output>(alloc: Global, steps: u64, text: &[u8], output: &mut O) -> Status
     requires { length text.now ≤ 4194304 }
     ensures text { Tells (SaysOfInput (SaysOf steps) text.now) (O.written output.old) (O.written output.new) result }
@@ -49,19 +45,6 @@ fn run_text<O: Output>(alloc: Global, steps: u64, text: &[u8], output: &mut O) -
     match compile_text(alloc, text) {
         Ok(compiled) => tell_run(alloc, compiled.verified(), steps, output),
         Err(refusal) => refuse(alloc, refusal, output),
-    }
-}
-
-// The code of a text, whose trees lie in an arena while it is compiled.
-fn compile_text(alloc: Global, text: &[u8]) -> Result<Compiled, Refusal>
-    ensures compiled { IfOk result (λ c. IsCompiled text.now c.verified.code c.labels) }
-    ensures refused { IfErr result (IsRefusal text.now) }
-{
-    let arena = Bump::new(alloc);
-    let numbered = accept(alloc, &arena, text)?;
-    match numbered.code(alloc) {
-        Ok(compiled) => Ok(compiled),
-        Err(_) => Err(Refusal::NoMemory),
     }
 }
 

@@ -27,6 +27,7 @@ mod writer;
 pub use code::{Code, ProcessCode};
 pub use fault::ObjectFault;
 pub use first::fits_first_format;
+pub use format::Format;
 pub use instr::Instr;
 pub use labels::{Labels, ProcessLabels};
 pub use names::is_name;

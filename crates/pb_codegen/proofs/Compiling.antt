@@ -36,6 +36,7 @@ use Rattle.pb_codegen.specs.Generate.{program_code}
 use Rattle.pb_codegen.specs.Lines.{program_labels}
 use Rattle.pb_codegen.proofs.Accepting.{well_numbered}
 use Rattle.pb_codegen.proofs.Following.{is_followed}
+use Rattle.pb_codegen.proofs.Labelled.{fitting_labels}
 use Rattle.pb_codegen.proofs.Meaning.{means_the_same}
 use Rattle.pb_codegen.proofs.Reading.{read_program_formed}
 use Rattle.pb_codegen.proofs.Verified.{sound_code}
@@ -59,10 +60,10 @@ mutual
   pairs_in_stmt : (s : tree.StmtSyntax) → IsFullStmt s → HasPairsStmt s
   pairs_in_stmt (tree.assign line x e) h = tt
   pairs_in_stmt (tree.print line e) h = tt
-  pairs_in_stmt (tree.if_else line e a b) h = (pairs_in a h.0, pairs_in b h.1)
-  pairs_in_stmt (tree.while_do line e body) h = pairs_in body h
-  pairs_in_stmt (tree.hold line demands body) h = (h.0, pairs_in body h.1)
-  pairs_in_stmt (tree.parbegin line arms) h = pairs_in_arms arms h.1
+  pairs_in_stmt (tree.if_else line e a b) h = (pairs_in a h.1, pairs_in b h.2)
+  pairs_in_stmt (tree.while_do line e body) h = pairs_in body h.1
+  pairs_in_stmt (tree.hold line demands body) h = (h.1, pairs_in body h.2)
+  pairs_in_stmt (tree.parbegin line arms) h = pairs_in_arms arms h.2
 
   pairs_in : (ss : tree.StmtsSyntax) → IsFull ss → HasPairs ss
   pairs_in tree.no_stmt h = tt
@@ -140,6 +141,9 @@ compiled text program claims is enough =
       lines = is_followed (bank_of (program_code program claims)) program.processes numbered;
       behaves = sure.behaves;
       keeps = sure.keeps;
+      fit =
+          fitting_labels is.tree program claims
+          (read_program_formed text is.spelled.tokens is.tree is.spelled.cut is.spelled.read) is.numbered;
     }
 
 -- ---- the capital of resources in memory

@@ -22,6 +22,7 @@ pub mod Heights
 pub mod Instructions
 pub mod Jumps
 pub mod Keeping
+pub mod Labelled
 pub mod Later
 pub mod Lengths
 pub mod Limits

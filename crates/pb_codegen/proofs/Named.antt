@@ -59,19 +59,19 @@ module _ (integers resources : List Name) (few : length resources ≤ 16) where
     names_stmt _ _ full (assign line x i e e' is h) = ((slice_get_within integers i x.text is, names_expr e e' h), tt)
     names_stmt _ _ full (print line e e' h) = (names_expr e e' h, tt)
     names_stmt _ _ full (if_else line e e' a b a' b' h k l) =
-        let x = names_block a a' full.0 k in
-        let y = names_block b b' full.1 l in
+        let x = names_block a a' full.1 k in
+        let y = names_block b b' full.2 l in
         ((names_expr e e' h, x.0, y.0), all_name-append Well (arms_in a') (arms_in b') x.1 y.1)
     names_stmt _ _ full (while_do line e e' body body' h k) =
-        let x = names_block body body' full k in
+        let x = names_block body body' full.1 k in
         ((names_expr e e' h, x.0), x.1)
     names_stmt _ _ full (hold line demands bundle body body' h k) =
-        let x = names_block body body' full.1 k in
-        let small = small_bundle resources demands bundle few full.0 h in
+        let x = names_block body body' full.2 k in
+        let small = small_bundle resources demands bundle few full.1 h in
         ((small, small, x.0), x.1)
     names_stmt _ _ full (parbegin line first arms arms' most h) =
-        let x = names_arms arms arms' full.1 h in
-        let some = counts_arm arms arms' full.0 h in
+        let x = names_arms arms arms' full.2 h in
+        let some = counts_arm arms arms' full.1 h in
         (((some, most), (some, most)), all_name-append Well (arms_list arms') (arms_in_arms arms') x.0 x.1)
 
     pub names_block : (ss : tree.StmtsSyntax) (block : Block) → IsFull ss → ResolvesStmts integers resources ss block

@@ -1,12 +1,17 @@
--- The names among the tokens of a text are names.
-use Rattle.std.proofs.Common.{◌≡◌, ℕ, zero, suc, ◌<◌, ◌≤◌, false, true, List, [], ◌∷◌, ◌++◌, length, map, get_or, refl, sym, subst, arith}
-use Rattle.std.specs.Prelude.{Contains, slice_range}
+-- The tokens of a text stand on its lines, and the names among them are names.
+use Rattle.std.proofs.Common.{◌≡◌, ℕ, zero, suc, ◌<◌, ◌≤◌, false, true, List, [], ◌∷◌, ◌++◌, length, map}
+use Rattle.std.proofs.Common.{get_or, refl, sym, subst, take, arith}
+use Rattle.std.specs.Prelude.{Contains, slice_range, ◌==◌}
+use Rattle.std.proofs.lemmas.List.{length-take-le}
+use Rattle.std.proofs.lemmas.List.Sums.{count_by-le-length}
 use Rattle.pb_lexer.specs.declared.token.Mark.{Mark}
 use Rattle.pb_lexer.specs.declared.token.Mark.TheVariants as mark
-use Rattle.pb_lexer.specs.Cutting.{Piece, blank, comment, token, Cut, nothing, more, Fits, AllFit, AreTokensOf}
+use Rattle.pb_lexer.specs.Cutting.{Piece, blank, comment, token, IsToken, Cut, nothing, more, Fits, AllFit}
+use Rattle.pb_lexer.specs.Cutting.{AreTokensOf}
 use Rattle.pb_lexer.specs.Forms.{spelling, IsWord, Form, name, number, fixed}
 use Rattle.pb_lexer.specs.Tokens.{Lexeme, Name, Token}
 use Rattle.pb_verifier.specs.Limits.{IsName, reserved_words}
+use Rattle.pb_codegen.specs.Form.{IsSourceLine}
 
 -- a property of each token
 abbrev pub EachToken : (Token → Type 0) → List Token → Type 0
@@ -17,9 +22,9 @@ each_token-append : (P : Token → Type 0) (a b : List Token) → EachToken P a 
 each_token-append P [] b h g = g
 each_token-append P (t ∷ a) b h g = (h.0, each_token-append P a b h.1 g)
 
--- what the token says, where it says a name, is a name
-abbrev pub SaysName : Token → Type 0
-SaysName t = (x : List ℕ) → t.lexeme ≡ Name x → IsName x
+-- the token begins on a line of a text, and what it says, where it says a name, is a name
+abbrev pub IsProper : Token → Type 0
+IsProper t = IsSourceLine t.line × ((x : List ℕ) → t.lexeme ≡ Name x → IsName x)
 
 -- ---- reserved words
 
@@ -67,23 +72,38 @@ form_says_name bytes _ x (fixed is) fits e = cc
 
 -- ---- all tokens
 
-abbrev HasForm : Token → Type 0
-HasForm t = (bytes : List ℕ) × Form bytes t.lexeme
+-- the lines before a token are as many as the line feeds before it, and a text has few bytes
+line_of_token : {text : List ℕ} {at end : ℕ} {t : Token} → length text ≤ 65536 → IsToken text at end t
+    → IsSourceLine t.line
+line_of_token {text = text} {at = at} {end = end} short is =
+    let line = is.line_is in
+    let before = is.before_end in
+    let within = is.within in
+    let few = count_by-le-length (λ (b : ℕ). b == 10) (take at text) in
+    let all = length-take-le at text (omega (arith, before, within)) in
+    (omega (arith, line), omega (arith, line, few, all, before, within, short))
 
-piece_forms : {text : List ℕ} {at end : ℕ} {new : List Token} → Piece text at end new → EachToken HasForm new
-piece_forms (blank u is_blank one) = tt
-piece_forms (comment is) = tt
-piece_forms {text = text} {at = at} {end = end} (token is) = ((slice_range text at end, is.form), tt)
+-- a token that was cut stands on a line of the text, and has the form of a token
+abbrev WasCut : Token → Type 0
+WasCut t = IsSourceLine t.line × ((bytes : List ℕ) × Form bytes t.lexeme)
 
-cut_forms : {text : List ℕ} {end : ℕ} {ts : List Token} → Cut text end ts → EachToken HasForm ts
-cut_forms nothing = tt
-cut_forms (more {ts = ts} {new = new} cut piece) =
-    each_token-append HasForm ts new (cut_forms cut) (piece_forms piece)
+cut_piece : {text : List ℕ} {at end : ℕ} {new : List Token} → length text ≤ 65536 → Piece text at end new
+    → EachToken WasCut new
+cut_piece short (blank u is_blank one) = tt
+cut_piece short (comment is) = tt
+cut_piece {text = text} {at = at} {end = end} short (token is) =
+    ((line_of_token short is, (slice_range text at end, is.form)), tt)
 
-all_say_names : (ts : List Token) → EachToken HasForm ts → AllFit ts → EachToken SaysName ts
-all_say_names [] h fit = tt
-all_say_names (t ∷ ts) h fit =
-    (λ x e. form_says_name h.0.0 t.lexeme x h.0.1 fit.0 e, all_say_names ts h.1 fit.1)
+cut_tokens : {text : List ℕ} {end : ℕ} {ts : List Token} → length text ≤ 65536 → Cut text end ts
+    → EachToken WasCut ts
+cut_tokens short nothing = tt
+cut_tokens short (more {ts = ts} {new = new} cut piece) =
+    each_token-append WasCut ts new (cut_tokens short cut) (cut_piece short piece)
 
-pub tokens_say_names : (text : List ℕ) (ts : List Token) → AreTokensOf text ts → EachToken SaysName ts
-tokens_say_names text ts h = all_say_names ts (cut_forms h.cuts) h.fit
+all_proper : (ts : List Token) → EachToken WasCut ts → AllFit ts → EachToken IsProper ts
+all_proper [] h fit = tt
+all_proper (t ∷ ts) h fit =
+    ((h.0.0, λ x e. form_says_name h.0.1.0 t.lexeme x h.0.1.1 fit.0 e), all_proper ts h.1 fit.1)
+
+pub proper_tokens : (text : List ℕ) (ts : List Token) → AreTokensOf text ts → EachToken IsProper ts
+proper_tokens text ts h = all_proper ts (cut_tokens h.short h.cuts) h.fit

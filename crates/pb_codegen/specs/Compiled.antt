@@ -15,6 +15,7 @@ use Rattle.pb_names.specs.declared.fault.NameFault.TheVariants as names
 use Rattle.pb_names.specs.Faults.{IsFault}
 use Rattle.pb_names.specs.Program.{Program, capital_of}
 use Rattle.pb_claims.specs.Fits.{FitCapital, IsFirstOver}
+use Rattle.pb_code.specs.Limits.{AreLabels}
 use Rattle.pb_code.specs.Whole.{Code, ProcessLabels, bank_of}
 use Rattle.pb_verifier.specs.Behaviour.{IsWellBehaved}
 use Rattle.pb_verifier.specs.Verified.{VerifiedCode}
@@ -33,7 +34,7 @@ pub record CompiledText : Type 0 where
 
 -- the text spells a program, and the code means the same; its names, claims and labels are those of the
 -- program, and the capital is enough for the claims; both are well behaved: no request passes its claim, and
--- all loans are safe
+-- all loans are safe; the labels have a line or none for each place of the code, and a name for each integer
 pub record IsCompiled (text : List ℕ) (code : Code) (labels : List ProcessLabels) : Type 0 where
   pub program : Program
   pub numbered : IsNumbered text program code.claims
@@ -44,6 +45,7 @@ pub record IsCompiled (text : List ℕ) (code : Code) (labels : List ProcessLabe
   pub lines : IsFollowed (bank_of code) program.processes code.processes
   pub behaves : IsWellBehaved code
   pub keeps : KeepsClaims program code.claims
+  pub fit : AreLabels code labels
 
 -- ---- refusals
 

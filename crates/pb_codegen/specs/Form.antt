@@ -1,24 +1,28 @@
 -- What a tree that was read has beside its limits: its names are names, each hold has a pair, each parbegin
--- an arm, and there is a process.
-use Rattle.std.specs.Prelude.{◌≤◌, length, All, ⊤}
+-- an arm, each statement begins on a line of a text, and there is a process.
+use Rattle.std.specs.Prelude.{ℕ, ◌≤◌, length, All, ⊤}
 use Rattle.pb_tree.specs.Syntax.{StmtSyntax, assign, print, if_else, while_do, hold, parbegin, StmtsSyntax}
 use Rattle.pb_tree.specs.Syntax.{no_stmt, stmt_then, ArmsSyntax, no_arm, arm_then, ProcessSyntax, ProgramSyntax}
-use Rattle.pb_verifier.specs.Limits.{IsName}
+use Rattle.pb_verifier.specs.Limits.{IsUpTo, IsName}
 
 -- there is an arm
 abbrev pub HasArm : ArmsSyntax → Type 0
 HasArm no_arm = ⊥
 HasArm (arm_then ss arms) = ⊤
 
--- each hold has a pair, and each parbegin an arm
+-- a line of a text, whose size has its limit
+abbrev pub IsSourceLine : ℕ → Type 0
+IsSourceLine line = IsUpTo 65536 line
+
+-- each statement begins on a line of a text, each hold has a pair, and each parbegin an arm
 abbrev mutual
   pub IsFullStmt : StmtSyntax → Type 0
-  IsFullStmt (assign line x e) = ⊤
-  IsFullStmt (print line e) = ⊤
-  IsFullStmt (if_else line e on_true on_false) = IsFull on_true × IsFull on_false
-  IsFullStmt (while_do line e body) = IsFull body
-  IsFullStmt (hold line demands body) = (1 ≤ length demands) × IsFull body
-  IsFullStmt (parbegin line arms) = HasArm arms × AreFull arms
+  IsFullStmt (assign line x e) = IsSourceLine line
+  IsFullStmt (print line e) = IsSourceLine line
+  IsFullStmt (if_else line e on_true on_false) = IsSourceLine line × IsFull on_true × IsFull on_false
+  IsFullStmt (while_do line e body) = IsSourceLine line × IsFull body
+  IsFullStmt (hold line demands body) = IsSourceLine line × (1 ≤ length demands) × IsFull body
+  IsFullStmt (parbegin line arms) = IsSourceLine line × HasArm arms × AreFull arms
 
   pub IsFull : StmtsSyntax → Type 0
   IsFull no_stmt = ⊤

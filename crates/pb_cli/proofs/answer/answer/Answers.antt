@@ -1,5 +1,5 @@
 use Rattle.std.proofs.Common.{inl, subst}
-use Rattle.pb_cli.specs.declared.options.Options.TheVariants.{Check, Exec, Run}
+use Rattle.pb_cli.specs.declared.options.Options.TheVariants.{Check, Emit, Exec, Run}
 use Rattle.pb_cli.specs.Read.{WordsSay}
 use Rattle.pb_cli.proofs.AnswerLemmas.{CallWrites-refused, IfSome-of, IfSome-weaker}
 use Rattle.pb_cli.proofs.answer.answer.Goals as goal
@@ -23,3 +23,8 @@ pub returns-in-Ok-Exec : goal.returns-in-Ok-Exec
 returns-in-Ok-Exec g c =
     let read = subst (WordsSay c.args.words.now) c.in-Ok-Exec.field-0-is c.in-Ok-Exec.ensures.read in
     IfSome-weaker (g.I.Input.rest c.args.input.now) _ _ (λ bytes writes. inl (Exec c.in-Ok-Exec.numbers, read, writes)) c.exec_engine.ensures.text
+
+pub returns-in-Ok-Emit : goal.returns-in-Ok-Emit
+returns-in-Ok-Emit g c =
+    let read = subst (WordsSay c.args.words.now) c.in-Ok-Emit.field-0-is c.in-Ok-Emit.ensures.read in
+    IfSome-weaker (g.I.Input.rest c.args.input.now) _ _ (λ bytes writes. inl (Emit c.in-Ok-Emit.numbers, read, writes)) c.emit_engine.ensures.text

@@ -1,8 +1,8 @@
-use Rattle.std.proofs.Common.{ℕ}
 use Rattle.pb_code.specs.View.{labels_view}
-use Rattle.pb_cli.specs.Executions.{SaysOfExecution}
-use Rattle.pb_cli.proofs.ExecutionLemmas.{code_is_run, refusal_is_replied}
-use Rattle.pb_cli.proofs.InputLemmas.{told_reply}
+use Rattle.pb_cli.specs.Executions.{SaysOfExecution, no_code}
+use Rattle.pb_cli.specs.Loading.{SaysOfNoCode}
+use Rattle.pb_cli.proofs.ExecutionLemmas.{code_is_run}
+use Rattle.pb_cli.proofs.InputLemmas.{replied_too, told_reply}
 use Rattle.pb_cli.proofs.exec.run_object.Goals as goal
 
 pub returns-in-Ok-clause-text : goal.returns-in-Ok-clause-text
@@ -12,7 +12,8 @@ returns-in-Ok-clause-text g c =
 
 pub returns-clause-text : goal.returns-clause-text
 returns-clause-text g c =
-    told_reply (SaysOfExecution c.args.steps) c.args.bytes.now c.refusal.result _ _ c.tell.result c.requires
-    (refusal_is_replied c.args.steps c.args.bytes.now c.in-Err.fault c.refusal.result c.in-Err.ensures.fault c.refusal.ensures.line
-    c.refusal.ensures.told)
+    told_reply (SaysOfExecution c.args.steps) c.args.bytes.now c.load_refusal.result _ _ c.tell.result
+    c.requires
+    (replied_too (SaysOfNoCode c.args.bytes.now) (SaysOfExecution c.args.steps c.args.bytes.now)
+    c.load_refusal.result no_code (c.load_refusal.ensures c.args.bytes.now c.in-Err.ensures.fault))
     c.tell.ensures.said c.tell.ensures.memory

@@ -4,15 +4,14 @@ use Rattle.pb_code.specs.Whole.{Code}
 use Rattle.pb_code.specs.View.{labels_view}
 use Rattle.pb_code.specs.declared.format.Format.TheVariants.{Two}
 use Rattle.pb_cli.specs.Migrations.{SaysOfMigration, migrated, no_code}
-use Rattle.pb_cli.proofs.LoadLemmas.{of_refusal, says_fault}
+use Rattle.pb_cli.specs.Loading.{SaysOfNoCode}
+use Rattle.pb_cli.proofs.InputLemmas.{replied_too}
 use Rattle.pb_cli.proofs.migrate.migration.Goals as goal
 
 pub returns-in-Err : goal.returns-in-Err
 returns-in-Err c =
-    of_refusal c.refused.result _ (SaysOfMigration c.args.bytes.now)
-    (no_code _ _ (says_fault c.args.bytes.now _ c.in-Err.fault c.in-Err.ensures.fault c.in_ok-load_text-in-Err.ensures.line
-    c.in_ok-load_text-in-Err.ensures.told))
-    c.refused.ensures
+    replied_too (SaysOfNoCode c.args.bytes.now) (SaysOfMigration c.args.bytes.now) c.load_refusal.result
+    no_code (c.load_refusal.ensures c.args.bytes.now c.in-Err.ensures.fault)
 
 pub write_object2-requires : goal.write_object2-requires
 write_object2-requires c =
