@@ -1,5 +1,5 @@
 -- The lines of refused texts.
-use Rattle.std.proofs.Common.{◌≡◌, ℕ, zero, suc, ◌+◌, ◌<◌, List, [], ◌∷◌, length, map, get_or, slice_index_or, Result, Ok, Err, IfOk, subst, sym, ap, arith}
+use Rattle.std.proofs.Common.{◌≡◌, ℕ, zero, suc, ◌<◌, List, [], ◌∷◌, length, map, get_or, slice_index_or, Result, Ok, Err, IfOk, subst, sym, ap, arith}
 use Rattle.std.proofs.lemmas.List.{length-map}
 use Rattle.pb_base.specs.Steppers.{Table}
 use Rattle.pb_claims.specs.Fits.{IsFirstOver}
@@ -26,8 +26,8 @@ refuses_by seen (Ok x) text l same is = subst (RefusesWith text) (sym same) is
 refuses_by seen (Err e) text l same is = tt
 
 -- the same of a refusal that comes before the claims
-pub refuses_early_by : {V : Type 0} (seen : V → List ℕ) (r : Result V NoMemory) (text l : List ℕ) → IfOk r (λ x. seen x ≡ l)
-    → RefusesEarly text l → IfOk r (λ x. RefusesEarly text (seen x))
+pub refuses_early_by : {V : Type 0} (seen : V → List ℕ) (r : Result V NoMemory) (text l : List ℕ)
+    → IfOk r (λ x. seen x ≡ l) → RefusesEarly text l → IfOk r (λ x. RefusesEarly text (seen x))
 refuses_early_by seen (Ok x) text l same is = subst (RefusesEarly text) (sym same) is
 refuses_early_by seen (Err e) text l same is = tt
 

@@ -14,15 +14,17 @@ use Rattle.pb_names.specs.declared.resolved.Resource.{Resource}
 use Rattle.pb_names.specs.declared.resolved.Resolved.{Resolved}
 
 -- the text so far, and that of one pair more
-pub one_more : {A B : Type 0} (f : A × B → List ℕ) (xs : List A) (ys : List B) (i : ℕ) (x : A) (y : B) (old so_far new : List ℕ)
-    → i < length xs → i < length ys → get_or xs i x ≡ x → get_or ys i y ≡ y → so_far ≡ old ++ flat_map f (take i (zip xs ys))
+pub one_more : {A B : Type 0} (f : A × B → List ℕ) (xs : List A) (ys : List B) (i : ℕ) (x : A) (y : B)
+    (old so_far new : List ℕ) → i < length xs → i < length ys → get_or xs i x ≡ x → get_or ys i y ≡ y
+    → so_far ≡ old ++ flat_map f (take i (zip xs ys))
     → new ≡ so_far ++ f (x, y) → new ≡ old ++ flat_map f (take (i + 1) (zip xs ys))
 one_more f xs ys i x y old so_far new in_xs in_ys here there before now =
     let pairs = zip xs ys in
     let within : i < length pairs = (let n = length-zip xs ys in omega (arith, n, in_xs, in_ys)) in
     let at : get_or pairs i (x, y) ≡ (x, y) = (let z = get_or-zip xs ys i (x, y) in_xs in_ys in cc) in
     now ∙ ap (λ (t : List ℕ). t ++ f (x, y)) before ∙ flat_map_more f old (take i pairs) (x, y)
-    ∙ ap (λ l. old ++ flat_map f l) (sym (take_more pairs i (x, y) within ∙ ap (λ p. take i pairs ++ p ∷ []) at))
+    ∙ ap (λ l. old ++ flat_map f l)
+    (sym (take_more pairs i (x, y) within ∙ ap (λ p. take i pairs ++ p ∷ []) at))
 
 -- the text of all pairs
 pub all_of_them : {A B : Type 0} (f : A × B → List ℕ) (xs : List A) (ys : List B) (i : ℕ) (old new : List ℕ)
@@ -41,7 +43,8 @@ pub names_of_resources : {A : Type 0} (program : Resolved A)
     → map (λ (r : Resource A). r.name.items) program.resources.items ≡ resource_names (resolved_view program)
 names_of_resources {A} program = go program.resources.items
   where
-    go : (rs : List (Resource A)) → map (λ (r : Resource A). r.name.items) rs ≡ map (λ r. r.name) (map resource_view rs)
+    go : (rs : List (Resource A))
+        → map (λ (r : Resource A). r.name.items) rs ≡ map (λ r. r.name) (map resource_view rs)
     go [] = refl
     go (r ∷ rs) = ap (λ (names : List Name). r.name.items ∷ names) (go rs)
 
@@ -49,7 +52,8 @@ pub names_of_processes : {A : Type 0} (program : Resolved A)
     → map (λ (p : Process A). p.name.items) program.processes.items ≡ process_names (resolved_view program)
 names_of_processes {A} program = go program.processes.items
   where
-    go : (ps : List (Process A)) → map (λ (p : Process A). p.name.items) ps ≡ map (λ p. p.name) (map process_view ps)
+    go : (ps : List (Process A))
+        → map (λ (p : Process A). p.name.items) ps ≡ map (λ p. p.name) (map process_view ps)
     go [] = refl
     go (p ∷ ps) = ap (λ (names : List Name). p.name.items ∷ names) (go ps)
 

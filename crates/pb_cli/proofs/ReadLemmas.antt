@@ -60,11 +60,13 @@ no_check rows none (Emit o) says = let w : codes "check" ≡ codes "emit" = says
 no_check rows none Migrate says = let w : codes "check" ≡ codes "migrate" = says in cc
 no_check rows none (Run o) says = let w : codes "check" ≡ codes "run" = says.0 in cc
 
-pub no_emit : (rows : List Row) → ((o : EmitOptions) → HasEmitNumber rows o → ⊥) → (o : Options) → IsReadFrom (codes "emit") rows o → ⊥
+pub no_emit : (rows : List Row) → ((o : EmitOptions) → HasEmitNumber rows o → ⊥) → (o : Options)
+    → IsReadFrom (codes "emit") rows o → ⊥
 no_emit rows none (Check o) says = let w : codes "emit" ≡ codes "check" = says.0 in cc
 no_emit rows none Claims says = let w : codes "emit" ≡ codes "claims" = says in cc
 no_emit rows none (Emit o) says = none o says.1
-no_emit rows none (Exec o) says = let m : 109 ≡ 120 = ap (λ (l : Text). get_or l 1 0) says.0 in omega (arith, m)
+no_emit rows none (Exec o) says =
+    let m : 109 ≡ 120 = ap (λ (l : Text). get_or l 1 0) says.0 in omega (arith, m)
 no_emit rows none Migrate says = let w : codes "emit" ≡ codes "migrate" = says in cc
 no_emit rows none (Run o) says = let w : codes "emit" ≡ codes "run" = says.0 in cc
 
@@ -80,7 +82,8 @@ pub no_exec : (rows : List Row) → ((o : RunOptions) → HasRunNumbers rows o �
 no_exec rows none (Check o) says = let w : codes "exec" ≡ codes "check" = says.0 in cc
 no_exec rows none (Exec o) says = none o says.1
 no_exec rows none Claims says = let w : codes "exec" ≡ codes "claims" = says in cc
-no_exec rows none (Emit o) says = let m : 120 ≡ 109 = ap (λ (l : Text). get_or l 1 0) says.0 in omega (arith, m)
+no_exec rows none (Emit o) says =
+    let m : 120 ≡ 109 = ap (λ (l : Text). get_or l 1 0) says.0 in omega (arith, m)
 no_exec rows none Migrate says = let w : codes "exec" ≡ codes "migrate" = says in cc
 no_exec rows none (Run o) says = let w : codes "exec" ≡ codes "run" = says.0 in cc
 
@@ -94,7 +97,8 @@ no_check_numbers rows none given o says = go o.heap refl says
     go (Some n) is h = none n (h, o.heap_suffices n is, o.heap_fits n is)
 
 -- where no number of a format is read, no format is
-pub no_format : (rows : List Row) → ((n : ℕ) → HasNumberIn rows (codes "object") 1 2 n → ⊥) → (o : EmitOptions) → HasEmitNumber rows o → ⊥
+pub no_format : (rows : List Row) → ((n : ℕ) → HasNumberIn rows (codes "object") 1 2 n → ⊥) → (o : EmitOptions)
+    → HasEmitNumber rows o → ⊥
 no_format rows none o says = none (format_number o.object) (says, (within o.object).0, (within o.object).1)
   where
     within : (format : Format) → (1 ≤ format_number format) × (format_number format ≤ 2)

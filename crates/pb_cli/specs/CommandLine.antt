@@ -59,7 +59,8 @@ with_object_commands a = with_command (with_command a exec_command) migrate_comm
 -- the whole command line
 unfoldable pub command_line : App
 command_line =
-    with_object_commands (with_code_commands (with_text_commands (that_wants_command (new_app (codes "parbegin")))))
+    with_object_commands (with_code_commands (with_text_commands
+    (that_wants_command (new_app (codes "parbegin")))))
 
 -- a command of this form, none of whose options a subcommand inherits
 abbrev pub IsCommand : App → Command → Type 0

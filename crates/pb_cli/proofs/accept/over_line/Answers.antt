@@ -1,6 +1,5 @@
 use Rattle.std.proofs.Common.{◌≡◌, ◌++◌, ◌∷◌, [], ◌∙◌, ℕ, List, codes, get_or, slice_index_or, subst, sym}
 use Rattle.std.specs.Fmt.{decimal}
-use Rattle.pb_claims.specs.Fits.{IsFirstOver}
 use Rattle.pb_codegen.specs.Compiled.{IsClaimsFault}
 use Rattle.pb_codegen.specs.Generate.{names_of}
 use Rattle.pb_names.specs.Program.{capital_of}

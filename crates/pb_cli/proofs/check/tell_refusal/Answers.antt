@@ -1,5 +1,4 @@
-use Rattle.std.proofs.Common.{◌++◌, ℕ, List, subst, sym}
-use Rattle.pb_cli.specs.Answers.{line}
+use Rattle.std.proofs.Common.{subst, sym}
 use Rattle.pb_cli.specs.Refusals.{IsRefusal, RefusesWith}
 use Rattle.pb_cli.proofs.CheckLemmas.{refusal_broken, refusal_told}
 use Rattle.pb_cli.proofs.check.tell_refusal.Goals as goal

@@ -14,4 +14,5 @@ returns-in-Ok c =
 pub returns-in-Err-Line : goal.returns-in-Err-Line
 returns-in-Err-Line c =
     let is = subst (IsEarlyRefusal c.args.text.now) c.in-Err-Line.field-0-is c.in-Err-Line.ensures.refused in
-    of_refusal c.refused.result _ (SaysOfClaims c.args.text.now) (refused _ is) (rw c.in-Err-Line.line-is at c.refused.ensures)
+    of_refusal c.refused.result _ (SaysOfClaims c.args.text.now) (refused _ is)
+    (rw c.in-Err-Line.line-is at c.refused.ensures)

@@ -19,8 +19,12 @@ loop-p-preserved g c =
     let p = c.loop-p.p in
     let process = c.index.result.now in
     let row = row_of claims p in
-    let within : p < length given.processes.items = (let n = c.len-p-end.ensures in let t = c.loop-p-test.true in omega (arith, n, t)) in
-    let in_claims : p < length claims = (let h = (as_many given claims c.requires).0 in omega (arith, h, within)) in
+    let within : p < length given.processes.items =
+    (let n = c.len-p-end.ensures in let t = c.loop-p-test.true in omega (arith, n, t))
+    in
+    let in_claims : p < length claims =
+    (let h = (as_many given claims c.requires).0 in omega (arith, h, within))
+    in
     let in_names : p < length names =
     (
     let n = ap (λ (l : List Name). length l) (names_of_processes given) in
@@ -34,12 +38,16 @@ loop-p-preserved g c =
     in
     let written =
     c.in_ok-put_claims.ensures
-    ∙ ap (λ (l : List (Resource _)). c.loop-p.text.items ++ lines_of_process (map (λ q. q.name.items) l) c.deref.result.now row) c.deref-in-loop-p.ensures.value
-    ∙ ap (λ (l : List Name). c.loop-p.text.items ++ lines_of_process l c.deref.result.now row) (names_of_resources given)
+    ∙ ap (λ (l : List (Resource _)). c.loop-p.text.items
+    ++ lines_of_process (map (λ q. q.name.items) l) c.deref.result.now row)
+    c.deref-in-loop-p.ensures.value
+    ∙ ap (λ (l : List Name). c.loop-p.text.items ++ lines_of_process l c.deref.result.now row)
+    (names_of_resources given)
     ∙ ap (λ (n : Name). c.loop-p.text.items ++ lines_of_process resources n row) c.deref.ensures.value
     in
-    one_more (λ process. lines_of_process resources process.0 process.1) names claims p process.name.items row [] c.loop-p.text.items _
-    in_names in_claims name (get_or_default claims p row [] in_claims) c.loop-p.invariant written
+    one_more (λ process. lines_of_process resources process.0 process.1) names claims p process.name.items row
+    [] c.loop-p.text.items _ in_names in_claims name (get_or_default claims p row [] in_claims)
+    c.loop-p.invariant written
 
 pub returns : goal.returns
 returns g c =
@@ -54,5 +62,5 @@ returns g c =
     omega (arith, h, n, past)
     )
     in
-    all_of_them (λ process. lines_of_process (resource_names (resolved_view given)) process.0 process.1) names claims c.loop-p.p []
-    c.loop-p.text.items end c.loop-p.invariant
+    all_of_them (λ process. lines_of_process (resource_names (resolved_view given)) process.0 process.1) names
+    claims c.loop-p.p [] c.loop-p.text.items end c.loop-p.invariant

@@ -7,4 +7,5 @@ use Rattle.pb_cli.proofs.claims.put_claims.Given as goal
 abbrev pub invariant-loop-r : goal.invariant-loop-r
 invariant-loop-r g l =
     l.text.items ≡ l.fn.text.items
-    ++ flat_map (λ claim. claim_line l.name claim.0 claim.1) (take l.r (zip (row_of l.claims l.p) (map (λ r. r.name.items) l.resources)))
+    ++ flat_map (λ claim. claim_line l.name claim.0 claim.1)
+    (take l.r (zip (row_of l.claims l.p) (map (λ r. r.name.items) l.resources)))

@@ -1,4 +1,4 @@
-use Rattle.std.proofs.Common.{◌≤◌, arith}
+use Rattle.std.proofs.Common.{arith}
 use Rattle.pb_base.specs.declared.step.Step.TheVariants.{Did}
 use Rattle.pb_machine.specs.Views.{machine_view}
 use Rattle.pb_cli.proofs.ScheduleLemmas.{few_processes, first_of_all, none_at_all}

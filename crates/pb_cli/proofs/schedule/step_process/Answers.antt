@@ -1,4 +1,4 @@
-use Rattle.std.proofs.Common.{◌≤◌, ◌∙◌, arith, refl, subst}
+use Rattle.std.proofs.Common.{◌∙◌, arith, refl, subst}
 use Rattle.pb_code.specs.Reached.{CodeStays}
 use Rattle.pb_machine.specs.Views.{machine_view}
 use Rattle.pb_cli.proofs.ScheduleLemmas.{few_arms, no_arm_yet, one_more_arm}
