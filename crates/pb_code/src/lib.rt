@@ -19,8 +19,6 @@ mod place_reader;
 mod reader;
 mod rows;
 pub mod same;
-#[cfg(test)]
-mod tests;
 mod words;
 mod writer;
 

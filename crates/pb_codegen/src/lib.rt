@@ -17,6 +17,3 @@ mod writer;
 pub use compiler::{Compiled, compile};
 pub use fault::CompileFault;
 pub use front::{Numbered, number};
-
-#[cfg(test)]
-mod tests;

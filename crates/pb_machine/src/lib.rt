@@ -7,8 +7,6 @@ pub mod laws;
 pub mod machine;
 pub mod process;
 mod stack;
-#[cfg(test)]
-mod tests;
 pub mod thread;
 mod turn;
 mod visible;

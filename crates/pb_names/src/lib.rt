@@ -14,6 +14,3 @@ pub use complete::is_complete;
 pub use fault::{Kind, NameFault};
 pub use numbering::resolve;
 pub use resolved::{Expr, Process, Resolved, Resource, Stmt};
-
-#[cfg(test)]
-mod tests;

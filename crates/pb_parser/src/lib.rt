@@ -12,8 +12,6 @@ mod operators;
 mod parser;
 mod programs;
 mod statements;
-#[cfg(test)]
-mod tests;
 mod trees;
 
 pub use fault::ParseFault;

@@ -5,8 +5,6 @@ pub mod expr;
 pub mod laws;
 pub mod program;
 pub mod stmt;
-#[cfg(test)]
-mod tests;
 
 pub use expr::{Expr, Name, Number};
 pub use program::{Process, Program, Resource};

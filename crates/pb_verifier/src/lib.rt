@@ -24,6 +24,3 @@ pub mod verified;
 pub use checking::verify;
 pub use fault::VerifyFault;
 pub use verified::Verified;
-
-#[cfg(test)]
-mod tests;

@@ -1,0 +1,144 @@
+//! Schedules: which picks are made.
+
+ghost use Rattle.pb_machine.specs.Views.{IsMachineOf};
+ghost use Rattle.pb_names.specs.View.{resolved_view};
+ghost use Rattle.pb_rewrite.specs.Sources.{Fits, IsSource};
+
+use crate::agreement::draws::Draws;
+use crate::agreement::sides::{Program, Seen, step_both};
+use crate::agreement::states::{Difference, first_difference};
+use crate::agreement::tally::Tally;
+use pb_base::{NoMemory, Pick};
+use pb_codegen::Compiled;
+use pb_machine::{Machine, Proc, ThreadState};
+use pb_rewrite::Source;
+use std::alloc::Global;
+
+/// The most picks of one schedule: some programs have no end.
+const MOST_PICKS: usize = 500;
+
+/// Adds the picks of a process's live arms.
+fn push_live(process: &Proc, p: usize, picks: &mut Vec<Pick>) -> Result<(), NoMemory> {
+    let Ok(process_number) = u8::try_from(p) else {
+        return Ok(());
+    };
+    for arm in 0..process.arms() {
+        let Ok(arm_number) = u8::try_from(arm) else {
+            return Ok(());
+        };
+        if process.thread(arm).state() == ThreadState::Live {
+            picks.push(Pick {
+                process: process_number,
+                arm: arm_number,
+            })?;
+        }
+    }
+    Ok(())
+}
+
+/// The picks of all live arms.
+fn live_picks(alloc: Global, machine: &Machine) -> Result<Vec<Pick>, NoMemory> {
+    let mut picks = Vec::new(alloc);
+    for p in 0..machine.processes() {
+        push_live(machine.proc(p), p, &mut picks)?;
+    }
+    Ok(picks)
+}
+
+/// One of some few numbers.
+fn small(draws: &mut Draws, bound: usize) -> u8 {
+    match u8::try_from(draws.below(bound)) {
+        Ok(number) => number,
+        Err(_) => u8::MAX,
+    }
+}
+
+/// A pick: seven times out of eight of a live arm, else of any process and arm, also one that is not there.
+fn draw(alloc: Global, machine: &Machine, draws: &mut Draws) -> Result<Pick, NoMemory> {
+    let live = live_picks(alloc, machine)?;
+    if draws.below(8) > 0 {
+        if let Some(pick) = live.get(draws.below(live.len())) {
+            return Ok(*pick);
+        }
+    }
+    Ok(Pick {
+        process: small(draws, machine.processes().saturating_add(1)),
+        arm: small(draws, 8),
+    })
+}
+
+/// Where the two sides first differ.
+#[derive(Clone, Copy, Debug, PartialEq, Eq)]
+pub(super) struct Parting {
+    /// How many picks were made before the one after which they differ.
+    made: usize,
+    /// That pick; none where they differ before any.
+    pick: Option<Pick>,
+    difference: Difference,
+}
+
+/// Makes drawn picks on both sides until all processes are over and some picks more, and compares the sides after
+/// each.
+fn make_picks(
+    alloc: Global,
+    compiled: &Compiled,
+    machine: &mut Machine,
+    source: &mut Source<Global>,
+    draws: &mut Draws,
+    tally: &mut Tally,
+) -> Result<Option<Parting>, NoMemory>
+    requires machine { IsMachineOf compiled.now.verified machine.old }
+    requires source { IsSource source.old }
+{
+    for made in 0..MOST_PICKS {
+        if machine.finished() && draws.below(4) == 0 {
+            return Ok(None);
+        }
+        let pick = draw(alloc, machine, draws)?;
+        let seen = step_both(alloc, compiled.verified(), machine, source, pick)?;
+        tally.count(seen);
+        let difference = match seen {
+            Seen::Differ(..) => Some(Difference::Answer),
+            _ => first_difference(compiled.labels(), machine, source),
+        };
+        if let Some(difference) = difference {
+            return Ok(Some(Parting {
+                made,
+                pick: Some(pick),
+                difference,
+            }));
+        }
+    }
+    Ok(None)
+}
+
+/// Steps a program on both sides under a schedule, and says where they first differ, if they do.
+pub(super) fn follow(
+    alloc: Global,
+    program: &Program,
+    schedule: u64,
+    tally: &mut Tally,
+) -> Result<Option<Parting>, NoMemory>
+    requires { Fits (resolved_view program.now.numbered.program) program.now.numbered.claims }
+{
+    let compiled = &program.compiled;
+    let numbered = &program.numbered;
+    let mut machine = Machine::new(alloc, compiled.verified())?;
+    let mut source = Source::new(alloc, alloc, &numbered.program, &numbered.claims)?;
+    if let Some(difference) = first_difference(compiled.labels(), &machine, &source) {
+        return Ok(Some(Parting {
+            made: 0,
+            pick: None,
+            difference,
+        }));
+    }
+    let mut draws = Draws::new(schedule);
+    make_picks(
+        alloc,
+        compiled,
+        &mut machine,
+        &mut source,
+        &mut draws,
+        tally,
+    )
+}

@@ -1,0 +1,19 @@
+//! Tests of the crates by their public calls alone, in one crate, so that none of them is proved again with its tests.
+#![tactic(auto)]
+
+#[cfg(test)]
+mod agreement;
+#[cfg(test)]
+mod code;
+#[cfg(test)]
+mod codegen;
+#[cfg(test)]
+mod machine;
+#[cfg(test)]
+mod names;
+#[cfg(test)]
+mod parser;
+#[cfg(test)]
+mod tree;
+#[cfg(test)]
+mod verifier;

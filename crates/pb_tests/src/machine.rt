@@ -1,0 +1,371 @@
+//! Code built by hand, and what its machine shows.
+
+ghost use Rattle.std.specs.Prelude.{◌<◌, length, IfOk};
+ghost use Rattle.pb_machine.specs.Views.{machine_view, IsMachineOf, IsProcessOf};
+
+use pb_base::{Bundle, Capital, Claims, Event, FaultKind, Names, NoMemory, Pick, Step};
+use pb_code::{Code, Instr, ProcessCode};
+use pb_machine::{Machine, Proc, ThreadState};
+use pb_verifier::{Verified, verify};
+use std::alloc::Global;
+use std::test::Fail;
+
+/// What a step showed, of the process and the arm.
+#[derive(Clone, Copy, PartialEq, Eq, Debug)]
+enum Seen {
+    Granted(u8, u8),
+    Returned(u8, u8),
+    Printed(u8, u8, i64),
+    Faulted(u8, u8, FaultKind),
+    Finished(u8),
+}
+
+fn shown(event: Event) -> Seen {
+    match event {
+        Event::Granted { pick, .. } => Seen::Granted(pick.process, pick.arm),
+        Event::Returned { pick, .. } => Seen::Returned(pick.process, pick.arm),
+        Event::Printed { pick, value } => Seen::Printed(pick.process, pick.arm, value),
+        Event::Faulted { pick, kind } => Seen::Faulted(pick.process, pick.arm, kind),
+        Event::Finished { process } => Seen::Finished(process),
+    }
+}
+
+/// The code of a process with one integer. Its bundles are one, then two, of the first resource, and one of the
+/// second.
+fn process(alloc: Global, entries: &[u16], instrs: &[Instr]) -> Result<ProcessCode, NoMemory> {
+    let mut bundles = Vec::new(alloc);
+    bundles.push(Bundle::one(0, 1))?;
+    bundles.push(Bundle::one(0, 2))?;
+    bundles.push(Bundle::one(1, 1))?;
+    Ok(ProcessCode {
+        integers: 1,
+        entries: Vec::from_slice(alloc, entries)?,
+        bundles,
+        instrs: Vec::from_slice(alloc, instrs)?,
+    })
+}
+
+/// The names of these letters.
+fn names(alloc: Global, letters: &[u8]) -> Result<Vec<Vec<u8>>, NoMemory> {
+    let mut names = Vec::new(alloc);
+    for letter in letters {
+        names.push(Vec::from_slice(alloc, &[*letter])?)?;
+    }
+    Ok(names)
+}
+
+/// One process, over four of one resource and one of another, all of which it may have.
+fn alone(alloc: Global, entries: &[u16], instrs: &[Instr]) -> Result<Option<Verified>, NoMemory> {
+    let mut processes = Vec::new(alloc);
+    processes.push(process(alloc, entries, instrs)?)?;
+    let code = Code {
+        names: Names {
+            processes: names(alloc, b"p")?,
+            resources: names(alloc, b"rs")?,
+        },
+        capital: Capital::new(alloc, &[4, 1])?,
+        claims: Claims::new(alloc, &[&[4, 1]])?,
+        processes,
+    };
+    Ok(verify(alloc, code).ok())
+}
+
+/// Picks of each arm of each process in turn, so many rounds.
+fn turns(alloc: Global, rounds: u8, processes: u8, arms: u8) -> Result<Vec<Pick>, NoMemory> {
+    let mut picks = Vec::new(alloc);
+    for _ in 0..rounds {
+        for process in 0..processes {
+            for arm in 0..arms {
+                picks.push(Pick { process, arm })?;
+            }
+        }
+    }
+    Ok(picks)
+}
+
+/// Makes these picks where they are enabled, and says what was shown.
+fn run(
+    alloc: Global,
+    verified: &Verified,
+    machine: &mut Machine,
+    picks: &[Pick],
+) -> Result<Vec<Seen>, NoMemory>
+    requires { IsMachineOf verified.now machine.old }
+    ensures { IsMachineOf verified.now machine.new }
+{
+    let mut all = Vec::new(alloc);
+    for pick in picks {
+        if let Step::Did(event) = machine.step(verified, *pick) {
+            all.push(shown(event))?;
+        }
+    }
+    Ok(all)
+}
+
+/// What a process holds of a resource, where both are there.
+fn loan(machine: &Machine, p: usize, r: usize) -> Option<u32> {
+    let banker = machine.banker();
+    if p >= banker.processes() || r >= banker.resources() {
+        return None;
+    }
+    Some(banker.loan(p, r))
+}
+
+/// Whether an arm takes steps, and at which place, where it is there.
+fn stands(machine: &Machine, p: usize, arm: usize) -> Option<(ThreadState, Option<u16>)> {
+    if p >= machine.processes() {
+        return None;
+    }
+    let process = machine.proc(p);
+    if arm >= process.arms() {
+        return None;
+    }
+    let thread = process.thread(arm);
+    Some((thread.state(), thread.place()))
+}
+
+/// Three rounds of two arms, of which one prints the number of the round, and the other ten more.
+#[test]
+fn rounds_of_two_arms(rt: HostRuntime) -> Result<(), Fail> {
+    let alloc = rt.alloc();
+    let instrs = [
+        Instr::Load(0),
+        Instr::Push(3),
+        Instr::Lt,
+        Instr::JumpIfZero(11),
+        Instr::Fork { first: 1, count: 2 },
+        Instr::Join { first: 1, count: 2 },
+        Instr::Load(0),
+        Instr::Push(1),
+        Instr::Add,
+        Instr::Store(0),
+        Instr::Jump(0),
+        Instr::End,
+        Instr::Load(0),
+        Instr::Print,
+        Instr::End,
+        Instr::Load(0),
+        Instr::Push(10),
+        Instr::Add,
+        Instr::Print,
+        Instr::End,
+    ];
+    let Some(verified) = alone(alloc, &[0, 12, 15], &instrs)? else {
+        return Err(Fail::from(NoMemory));
+    };
+    let mut machine = Machine::new(alloc, &verified)?;
+    assert!(rt; !machine.finished());
+    let picks = turns(alloc, 60, 1, 4)?;
+    let all = run(alloc, &verified, &mut machine, &picks)?;
+    let wanted = [
+        Seen::Printed(0, 1, 0),
+        Seen::Printed(0, 2, 10),
+        Seen::Printed(0, 1, 1),
+        Seen::Printed(0, 2, 11),
+        Seen::Printed(0, 1, 2),
+        Seen::Printed(0, 2, 12),
+        Seen::Finished(0),
+    ];
+    assert_eq!(rt; all.as_slice(), wanted.as_slice());
+    assert!(rt; machine.finished());
+    let ended = Some((ThreadState::Ended, None));
+    let idle = Some((ThreadState::Idle, None));
+    assert_eq!(rt; stands(&machine, 0, 0), ended);
+    assert_eq!(rt; stands(&machine, 0, 2), idle);
+    Ok(())
+}
+
+/// Two arms hold in the hold of their process.
+#[test]
+fn nested_holds(rt: HostRuntime) -> Result<(), Fail> {
+    let alloc = rt.alloc();
+    let instrs = [
+        Instr::Take(0),
+        Instr::Fork { first: 1, count: 2 },
+        Instr::Join { first: 1, count: 2 },
+        Instr::Give(0),
+        Instr::End,
+        Instr::Take(0),
+        Instr::Give(0),
+        Instr::End,
+        Instr::Take(1),
+        Instr::Give(1),
+        Instr::End,
+    ];
+    let Some(verified) = alone(alloc, &[0, 5, 8], &instrs)? else {
+        return Err(Fail::from(NoMemory));
+    };
+    let mut machine = Machine::new(alloc, &verified)?;
+    let picks = turns(alloc, 3, 1, 3)?;
+    let all = run(alloc, &verified, &mut machine, &picks)?;
+    let wanted = [
+        Seen::Granted(0, 0),
+        Seen::Granted(0, 1),
+        Seen::Granted(0, 2),
+        Seen::Returned(0, 1),
+        Seen::Returned(0, 2),
+    ];
+    assert_eq!(rt; all.as_slice(), wanted.as_slice());
+    assert_eq!(rt; loan(&machine, 0, 0), Some(1));
+    let more = turns(alloc, 4, 1, 3)?;
+    let rest = run(alloc, &verified, &mut machine, &more)?;
+    let last = [Seen::Returned(0, 0), Seen::Finished(0)];
+    assert_eq!(rt; rest.as_slice(), last.as_slice());
+    assert_eq!(rt; loan(&machine, 0, 0), Some(0));
+    Ok(())
+}
+
+/// One arm divides by zero while the other holds.
+#[test]
+fn a_fault_beside_a_hold(rt: HostRuntime) -> Result<(), Fail> {
+    let alloc = rt.alloc();
+    let instrs = [
+        Instr::Fork { first: 1, count: 2 },
+        Instr::Join { first: 1, count: 2 },
+        Instr::End,
+        Instr::Take(1),
+        Instr::Give(1),
+        Instr::End,
+        Instr::Push(1),
+        Instr::Push(0),
+        Instr::Div,
+        Instr::Print,
+        Instr::End,
+    ];
+    let Some(verified) = alone(alloc, &[0, 3, 6], &instrs)? else {
+        return Err(Fail::from(NoMemory));
+    };
+    let mut machine = Machine::new(alloc, &verified)?;
+    let picks = [
+        Pick { process: 0, arm: 0 },
+        Pick { process: 0, arm: 1 },
+        Pick { process: 0, arm: 2 },
+        Pick { process: 0, arm: 2 },
+    ];
+    let all = run(alloc, &verified, &mut machine, &picks)?;
+    assert_eq!(rt; all.as_slice(), [Seen::Granted(0, 1)].as_slice());
+    assert_eq!(rt; loan(&machine, 0, 0), Some(2));
+    let later = [
+        Pick { process: 0, arm: 2 },
+        Pick { process: 0, arm: 1 },
+        Pick { process: 0, arm: 0 },
+    ];
+    let rest = run(alloc, &verified, &mut machine, &later)?;
+    assert_eq!(rt;
+        rest.as_slice(),
+        [Seen::Faulted(0, 2, FaultKind::Divide)].as_slice()
+    );
+    assert_eq!(rt; loan(&machine, 0, 0), Some(0));
+    let idle = Some((ThreadState::Idle, None));
+    assert_eq!(rt; stands(&machine, 0, 0), idle);
+    assert_eq!(rt; stands(&machine, 0, 1), idle);
+    assert!(rt; machine.finished());
+    Ok(())
+}
+
+/// Two processes take the two resources in turn, one the first and then the second, the other the other way round.
+fn crossed(alloc: Global) -> Result<Option<Verified>, NoMemory> {
+    let one_way = [
+        Instr::Take(0),
+        Instr::Take(2),
+        Instr::Give(2),
+        Instr::Give(0),
+        Instr::End,
+    ];
+    let other_way = [
+        Instr::Take(2),
+        Instr::Take(0),
+        Instr::Give(0),
+        Instr::Give(2),
+        Instr::End,
+    ];
+    let mut processes = Vec::new(alloc);
+    processes.push(process(alloc, &[0], &one_way)?)?;
+    processes.push(process(alloc, &[0], &other_way)?)?;
+    let code = Code {
+        names: Names {
+            processes: names(alloc, b"pq")?,
+            resources: names(alloc, b"rs")?,
+        },
+        capital: Capital::new(alloc, &[1, 1])?,
+        claims: Claims::new(alloc, &[&[1, 1], &[1, 1]])?,
+        processes,
+    };
+    Ok(verify(alloc, code).ok())
+}
+
+#[test]
+fn a_request_is_refused(rt: HostRuntime) -> Result<(), Fail> {
+    let alloc = rt.alloc();
+    let Some(verified) = crossed(alloc)? else {
+        return Err(Fail::from(NoMemory));
+    };
+    let mut machine = Machine::new(alloc, &verified)?;
+    let picks = turns(alloc, 1, 2, 1)?;
+    let all = run(alloc, &verified, &mut machine, &picks)?;
+    assert_eq!(rt; all.as_slice(), [Seen::Granted(0, 0)].as_slice());
+    let waiting = Some((ThreadState::Live, Some(0)));
+    assert_eq!(rt; stands(&machine, 1, 0), waiting);
+    assert_eq!(rt; loan(&machine, 1, 1), Some(0));
+    let copy = machine.copy(alloc)?;
+    let again = turns(alloc, 12, 2, 1)?;
+    let rest = run(alloc, &verified, &mut machine, &again)?;
+    let wanted = [
+        Seen::Granted(0, 0),
+        Seen::Returned(0, 0),
+        Seen::Returned(0, 0),
+        Seen::Granted(1, 0),
+        Seen::Finished(0),
+        Seen::Granted(1, 0),
+        Seen::Returned(1, 0),
+        Seen::Returned(1, 0),
+        Seen::Finished(1),
+    ];
+    assert_eq!(rt; rest.as_slice(), wanted.as_slice());
+    assert!(rt; machine.finished());
+    assert!(rt; !copy.finished());
+    assert_eq!(rt; loan(&copy, 0, 0), Some(1));
+    Ok(())
+}
+
+/// The first process once more, apart from its machine.
+fn apart(alloc: Global, verified: &Verified, machine: &Machine) -> Result<Proc, NoMemory>
+    requires of { IsMachineOf verified.now machine.now }
+    requires there { 0 < length (machine_view machine.now).processes }
+    ensures { IfOk result (IsProcessOf verified.now 0) }
+{
+    let process = machine.proc(0).copy(alloc)?;
+    Ok(process)
+}
+
+/// Silent picks are made apart from the machine, and those that show something are left to it.
+#[test]
+fn silent_picks_apart(rt: HostRuntime) -> Result<(), Fail> {
+    let alloc = rt.alloc();
+    let instrs = [
+        Instr::Push(1),
+        Instr::Push(0),
+        Instr::Div,
+        Instr::Print,
+        Instr::End,
+    ];
+    let Some(verified) = alone(alloc, &[0], &instrs)? else {
+        return Err(Fail::from(NoMemory));
+    };
+    let mut machine = Machine::new(alloc, &verified)?;
+    assert!(rt; machine.processes() == 1);
+    let pick = Pick { process: 0, arm: 0 };
+    let mut apart = apart(alloc, &verified, &machine)?;
+    assert!(rt; apart.same(machine.proc(0)));
+    assert!(rt; apart.silent(&verified, pick));
+    assert!(rt; apart.silent(&verified, pick));
+    assert!(rt; !apart.same(machine.proc(0)));
+    let before = apart.copy(alloc)?;
+    assert!(rt; !apart.silent(&verified, pick));
+    assert!(rt; !apart.silent(&verified, Pick { process: 0, arm: 1 }));
+    assert!(rt; apart.same(&before));
+    machine.set(0, apart);
+    assert!(rt; machine.processes() == 1);
+    assert!(rt; before.same(machine.proc(0)));
+    Ok(())
+}
