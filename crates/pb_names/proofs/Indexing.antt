@@ -1,6 +1,6 @@
 -- An index of names: how it is made, one name more at a time, and how a name is looked for in it.
-use Rattle.std.proofs.Common.{◌≡◌, ◌≢◌, ℕ, suc, ◌<◌, ◌≤◌, List, length, get_or, set, Some, None}
-use Rattle.std.proofs.Common.{inl, inr, arith, ap, sym, ◌∙◌, length-set}
+use Rattle.std.proofs.Common.{◌≡◌, ◌≢◌, ℕ, suc, ◌+◌, ◌*◌, ◌%◌, ◌<◌, ◌≤◌, List, [], ◌∷◌, length, get_or, set, Some, None}
+use Rattle.std.proofs.Common.{inl, inr, arith, ap, sym, ◌∙◌, refl, length-set}
 use Rattle.std.specs.Prelude.{slice_get}
 use Rattle.std.proofs.lemmas.Bool.{cases_lt, cases_eq}
 use Rattle.std.proofs.lemmas.List.{get_or-set_same, get_or-set_other}
@@ -8,6 +8,21 @@ use Rattle.std.proofs.lemmas.Option.{slice_get_within}
 use Rattle.pb_names.specs.Index.{IsFirstNumber, IsNext, IsLinked, slot}
 use Rattle.pb_names.specs.Program.{Name}
 use Rattle.pb_names.proofs.First.{some_same}
+
+-- ---- the slot of a short name
+
+pub slot_of_none : (name : Name) → length name ≡ 0 → 0 ≡ slot name
+unfolding slot
+slot_of_none [] none = refl
+slot_of_none (x ∷ rest) none = absurd (omega arith)
+
+pub slot_of_one : (name : Name) → length name ≡ 1 → (1 + 19 * get_or name 0 0) % 128 ≡ slot name
+unfolding slot
+slot_of_one [] one = absurd (omega arith)
+slot_of_one (x ∷ []) one =
+    let same : 1 + 19 * x ≡ 1 + 7 * x + 11 * x + x = omega arith in
+    ap (λ n. n % 128) same
+slot_of_one (x ∷ y ∷ rest) one = absurd (omega arith)
 
 -- ---- the next name of a slot
 

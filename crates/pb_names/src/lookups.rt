@@ -1,6 +1,6 @@
 //! The number of each name that is declared.
 
-ghost use Rattle.std.specs.Prelude.{◌≡◌, ◌<◌, get_or, map, IfOk};
+ghost use Rattle.std.specs.Prelude.{◌≡◌, ◌<◌, get_or, length, map, IfOk};
 ghost use Rattle.pb_tree.specs.View.{name_view, process_view, resource_view};
 ghost use Rattle.pb_names.specs.Index.{IsFirstNumber, slot};
 ghost use Rattle.pb_names.specs.Resolves.{texts};
@@ -76,15 +76,13 @@ impl<'t, A: Allocator> Declared<'t, A> {
     }
 }
 
-/// The byte at a place of a name, and 0 past its end.
+/// The byte at a place of a name.
 fn byte_at(name: &[u8], i: usize) -> usize
+    requires { i < length name.now }
     ensures value { result ≡ get_or name.now i 0 }
     ensures small { result < 256 }
 {
-    if i < name.len() {
-        return usize::from(name[i]);
-    }
-    0
+    usize::from(name[i])
 }
 
 /// The slot of a name.
@@ -93,10 +91,13 @@ fn slot_of(name: &[u8]) -> usize
     ensures few { result < SLOTS }
 {
     let len = name.len();
-    let first = byte_at(name, 0);
-    let other = byte_at(name, len.saturating_sub(2));
-    let last = byte_at(name, len.saturating_sub(1));
-    (len + 7 * first + 11 * other + last) % SLOTS
+    if len == 0 {
+        return 0;
+    }
+    if len == 1 {
+        return (1 + 19 * byte_at(name, 0)) % SLOTS;
+    }
+    (len + 7 * byte_at(name, 0) + 11 * byte_at(name, len - 2) + byte_at(name, len - 1)) % SLOTS
 }
 
 /// An index of names.
