@@ -3,6 +3,7 @@ use Rattle.std.proofs.Common.{◌≡◌, ◌≢◌, ℕ, suc, ◌+◌, ◌*◌, 
 use Rattle.std.proofs.Common.{inl, inr, arith, ap, sym, ◌∙◌, refl, length-set}
 use Rattle.std.specs.Prelude.{slice_get}
 use Rattle.std.proofs.lemmas.Bool.{cases_lt, cases_eq}
+use Rattle.std.proofs.lemmas.Grind.{get_or_default_zero}
 use Rattle.std.proofs.lemmas.List.{get_or-set_same, get_or-set_other}
 use Rattle.std.proofs.lemmas.Option.{slice_get_within}
 use Rattle.pb_names.specs.Index.{IsFirstNumber, IsNext, IsLinked, slot}
@@ -51,39 +52,41 @@ next_over names name s i to read differs next = record {
 
 -- ---- how an index is made
 
--- one more name, in front of those from the next number on
-pub linked_more : (names : List Name) (name : Name) (i : ℕ) (first_of next_of : List ℕ)
-    → slice_get names i ≡ Some name → slot name < 128 → IsLinked names (suc i) first_of next_of
-    → IsLinked names i (set first_of (slot name) i) (set next_of i (get_or first_of (slot name) 0))
-linked_more names name i first_of next_of read few linked = record {
-  slots = length-set first_of (slot name) i ∙ linked.slots;
-  links = length-set next_of i behind ∙ linked.links;
+-- one more name, in front of those from the next number on, with what was read as the first of its slot
+pub linked_more : (names : List Name) (name : Name) (i behind : ℕ) (firsts nexts : List ℕ)
+    → slice_get names i ≡ Some name → slot name < 128 → behind ≡ get_or firsts (slot name) behind
+    → IsLinked names (suc i) firsts nexts
+    → IsLinked names i (set firsts (slot name) i) (set nexts i behind)
+linked_more names name i behind firsts nexts read few is linked = record {
+  slots = length-set firsts (slot name) i ∙ linked.slots;
+  links = length-set nexts i behind ∙ linked.links;
   first = first;
   next = next;
 }
   where
-    behind : ℕ
-    behind = get_or first_of (slot name) 0
-
-    first : (s : ℕ) → s < 128 → IsNext names s i (get_or (set first_of (slot name) i) s 0)
+    first : (s : ℕ) → s < 128 → IsNext names s i (get_or (set firsts (slot name) i) s 0)
     first s below = elim (cases_eq s (slot name)) [
       | inl e ↦
-          rw (e, get_or-set_same first_of (slot name) i 0 (omega (arith, linked.slots)))
+          rw (e, get_or-set_same firsts (slot name) i 0 (omega (arith, linked.slots)))
           (next_here names name i read)
       | inr n ↦
-          rw (get_or-set_other first_of (slot name) s i 0 n)
+          rw (get_or-set_other firsts (slot name) s i 0 n)
           (next_over names name s i _ read (λ same. n (sym same)) (linked.first s below))
     ]
 
+    next_of_name : IsNext names (slot name) (suc i) behind
+    next_of_name =
+        rw (is ∙ get_or_default_zero firsts (slot name) behind (omega (arith, linked.slots)))
+        (linked.first (slot name) few)
+
     next : (k : ℕ) (other : Name) → i ≤ k → slice_get names k ≡ Some other
-        → IsNext names (slot other) (suc k) (get_or (set next_of i behind) k 0)
+        → IsNext names (slot other) (suc k) (get_or (set nexts i behind) k 0)
     next k other above here = elim (cases_eq k i) [
       | inl e ↦
           let same : name ≡ other = some_same (sym read ∙ ap (slice_get names) (sym e) ∙ here) in
-          rw (e, get_or-set_same next_of i behind 0 (omega (arith, linked.links, slice_get_within names i name read)), ← same)
-          (linked.first (slot name) few)
-      | inr n ↦
-          rw (get_or-set_other next_of i k behind 0 n) (linked.next k other (omega arith) here)
+          let inside : i < length nexts = omega (arith, linked.links, slice_get_within names i name read) in
+          rw (e, get_or-set_same nexts i behind 0 inside, ← same) next_of_name
+      | inr n ↦ rw (get_or-set_other nexts i k behind 0 n) (linked.next k other (omega arith) here)
     ]
 
 -- ---- how a name is looked for
@@ -93,18 +96,17 @@ pub record IsReached (names : List Name) (name : Name) (i : ℕ) : Type 0 where
   pub none : (k : ℕ) → k < i → slice_get names k ≢ Some name
   pub here : (other : Name) → slice_get names i ≡ Some other → slot other ≡ slot name
 
--- one place further, behind another name
-pub reached_next : (names : List Name) (name other : Name) (first_of next_of : List ℕ) (i : ℕ)
-    → slice_get names i ≡ Some other → other ≢ name → IsLinked names 0 first_of next_of
-    → IsReached names name i → (i < get_or next_of i 0) × IsReached names name (get_or next_of i 0)
-reached_next names name other first_of next_of i read differs linked reached =
+-- one place further, behind another name, as the index is read
+pub reached_next : (names : List Name) (name other : Name) (firsts nexts : List ℕ) (i to : ℕ)
+    → slice_get names i ≡ Some other → other ≢ name → to ≡ get_or nexts i to → IsLinked names 0 firsts nexts
+    → IsReached names name i → (i < to) × IsReached names name to
+reached_next names name other firsts nexts i to read differs is linked reached =
     (omega (arith, next.after), record { none = none; here = here })
   where
-    to : ℕ
-    to = get_or next_of i 0
-
     next : IsNext names (slot other) (suc i) to
-    next = linked.next i other (omega arith) read
+    next =
+        rw (is ∙ get_or_default_zero nexts i to (omega (arith, linked.links, slice_get_within names i other read)))
+        (linked.next i other (omega arith) read)
 
     none : (k : ℕ) → k < to → slice_get names k ≢ Some name
     none k below here = elim (cases_lt k i) [

@@ -23,9 +23,9 @@ pub record IsNext (names : List Name) (s from to : ℕ) : Type 0 where
   pub here : (name : Name) → slice_get names to ≡ Some name → slot name ≡ s
 
 -- the names from a number on: the first of each slot, and behind each name the next of its slot
-pub record IsLinked (names : List Name) (from : ℕ) (first_of next_of : List ℕ) : Type 0 where
-  pub slots : length first_of ≡ 128
-  pub links : length next_of ≡ length names
-  pub first : (s : ℕ) → s < 128 → IsNext names s from (get_or first_of s 0)
+pub record IsLinked (names : List Name) (from : ℕ) (firsts nexts : List ℕ) : Type 0 where
+  pub slots : length firsts ≡ 128
+  pub links : length nexts ≡ length names
+  pub first : (s : ℕ) → s < 128 → IsNext names s from (get_or firsts s 0)
   pub next : (k : ℕ) (name : Name) → from ≤ k → slice_get names k ≡ Some name
-      → IsNext names (slot name) (suc k) (get_or next_of k 0)
+      → IsNext names (slot name) (suc k) (get_or nexts k 0)

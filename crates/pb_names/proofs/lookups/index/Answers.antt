@@ -1,5 +1,4 @@
 use Rattle.std.proofs.Common.{◌≡◌, suc, ◌-◌, map, get_or, arith, ap, sym, ◌∙◌, refl, subst}
-use Rattle.std.proofs.lemmas.Grind.{get_or_default_zero}
 use Rattle.pb_names.specs.Index.{IsLinked}
 use Rattle.pb_names.proofs.First.{view_read}
 use Rattle.pb_names.proofs.Indexing.{linked_more}
@@ -11,16 +10,14 @@ loop-i-preserved g c =
     let names = map (λ text. text.now) xs in
     let firsts = c.loop-i.first_of.items in
     let nexts = c.loop-i.next_of.items in
+    let behind = c.index-in-loop-i.result.now in
     let i = c.loop-i.i - 1 in
     let above : suc i ≡ c.loop-i.i = omega arith in
     let read = view_read (λ text. text.now) xs xs i c.index.result.now refl (omega arith) c.index.ensures in
     let is = c.slot_of-slot.ensures.value in
-    let behind =
-    c.index-in-loop-i.ensures
-    ∙ get_or_default_zero firsts c.slot_of-slot.result _ (omega (arith, c.loop-i.invariant.slots, c.slot_of-slot.ensures.few))
-    ∙ ap (λ s. get_or firsts s 0) is in
-    rw (behind, is)
-    (linked_more names _ i firsts nexts read (omega (arith, is, c.slot_of-slot.ensures.few))
+    rw is
+    (linked_more names _ i behind firsts nexts read (omega (arith, is, c.slot_of-slot.ensures.few))
+    (c.index-in-loop-i.ensures ∙ ap (λ s. get_or firsts s behind) is)
     (subst (λ n. IsLinked names n firsts nexts) (sym above) c.loop-i.invariant))
 
 pub invariant_of-result : goal.invariant_of-result

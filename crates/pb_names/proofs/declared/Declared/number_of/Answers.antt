@@ -1,6 +1,5 @@
 use Rattle.std.proofs.Common.{arith, ap, sym, ◌∙◌, refl, Some}
 use Rattle.std.specs.Cmp.Lexicographic.{same_text, other_text}
-use Rattle.std.proofs.lemmas.Grind.{get_or_default_zero}
 use Rattle.std.proofs.lemmas.List.{length-map}
 use Rattle.pb_names.specs.Search.{names_in}
 use Rattle.pb_names.proofs.First.{view_read}
@@ -18,23 +17,23 @@ pub loop-i-smaller : goal.loop-i-smaller
 loop-i-smaller g c =
     let names = c.args.self.now in
     let xs = names.texts.items in
-    let i = c.loop-i.i in
-    let read = view_read (λ text. text.now) xs xs i c.index.result.now refl (omega arith) c.index.ensures in
+    let read = view_read (λ text. text.now) xs xs c.loop-i.i c.index.result.now refl (omega arith) c.index.ensures in
     let other = other_text _ _ (sym c.if-eq.false ∙ c.eq.ensures) in
-    let next = reached_next (names_in names) c.args.name.now _ _ _ i read other names.linked c.loop-i.invariant in
-    let is = c.index-i-in-loop-i.ensures ∙ get_or_default_zero names.next_of.items i _ (omega (arith, length-map xs (λ text. text.now), names.linked.links)) in
-    omega (arith, next.0, is, length-map xs (λ text. text.now))
+    let next =
+    reached_next (names_in names) c.args.name.now _ _ _ _ _ read other c.index-i-in-loop-i.ensures names.linked
+    c.loop-i.invariant in
+    omega (arith, next.0, length-map xs (λ text. text.now))
 
 pub loop-i-preserved : goal.loop-i-preserved
 loop-i-preserved g c =
     let names = c.args.self.now in
     let xs = names.texts.items in
-    let i = c.loop-i.i in
-    let read = view_read (λ text. text.now) xs xs i c.index.result.now refl (omega arith) c.index.ensures in
+    let read = view_read (λ text. text.now) xs xs c.loop-i.i c.index.result.now refl (omega arith) c.index.ensures in
     let other = other_text _ _ (sym c.if-eq.false ∙ c.eq.ensures) in
-    let next = reached_next (names_in names) c.args.name.now _ _ _ i read other names.linked c.loop-i.invariant in
-    let is = c.index-i-in-loop-i.ensures ∙ get_or_default_zero names.next_of.items i _ (omega (arith, length-map xs (λ text. text.now), names.linked.links)) in
-    rw is next.1
+    let next =
+    reached_next (names_in names) c.args.name.now _ _ _ _ _ read other c.index-i-in-loop-i.ensures names.linked
+    c.loop-i.invariant in
+    next.1
 
 pub returns : goal.returns
 returns g c =
