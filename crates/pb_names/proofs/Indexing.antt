@@ -1,6 +1,6 @@
 -- An index of names: how it is made, one name more at a time, and how a name is looked for in it.
-use Rattle.std.proofs.Common.{◌≡◌, ◌≢◌, ℕ, suc, ◌+◌, ◌*◌, ◌%◌, ◌<◌, ◌≤◌, List, [], ◌∷◌, length, get_or, set, Some, None}
-use Rattle.std.proofs.Common.{inl, inr, arith, ap, sym, ◌∙◌, refl, length-set}
+use Rattle.std.proofs.Common.{◌≡◌, ◌≢◌, ℕ, suc, ◌+◌, ◌*◌, ◌%◌, ◌<◌, ◌≤◌, List, [], ◌∷◌, length, get_or, set}
+use Rattle.std.proofs.Common.{Some, None, inl, inr, arith, ap, sym, ◌∙◌, refl, length-set}
 use Rattle.std.specs.Prelude.{slice_get}
 use Rattle.std.proofs.lemmas.Bool.{cases_lt, cases_eq}
 use Rattle.std.proofs.lemmas.Grind.{get_or_default_zero}
@@ -28,7 +28,8 @@ slot_of_one (x ∷ y ∷ rest) one = absurd (omega arith)
 -- ---- the next name of a slot
 
 -- a name is the next of its own slot
-next_here : (names : List Name) (name : Name) (i : ℕ) → slice_get names i ≡ Some name → IsNext names (slot name) i i
+next_here : (names : List Name) (name : Name) (i : ℕ) → slice_get names i ≡ Some name
+    → IsNext names (slot name) i i
 next_here names name i read = record {
   after = omega arith;
   none = λ k other above below here. absurd (omega arith);
@@ -74,8 +75,8 @@ linked_more names name i behind firsts nexts read few is linked = record {
           (next_over names name s i _ read (λ same. n (sym same)) (linked.first s below))
     ]
 
-    next_of_name : IsNext names (slot name) (suc i) behind
-    next_of_name =
+    after : IsNext names (slot name) (suc i) behind
+    after =
         rw (is ∙ get_or_default_zero firsts (slot name) behind (omega (arith, linked.slots)))
         (linked.first (slot name) few)
 
@@ -85,7 +86,7 @@ linked_more names name i behind firsts nexts read few is linked = record {
       | inl e ↦
           let same : name ≡ other = some_same (sym read ∙ ap (slice_get names) (sym e) ∙ here) in
           let inside : i < length nexts = omega (arith, linked.links, slice_get_within names i name read) in
-          rw (e, get_or-set_same nexts i behind 0 inside, ← same) next_of_name
+          rw (e, get_or-set_same nexts i behind 0 inside, ← same) after
       | inr n ↦ rw (get_or-set_other nexts i k behind 0 n) (linked.next k other (omega arith) here)
     ]
 
@@ -105,8 +106,8 @@ reached_next names name other firsts nexts i to read differs is linked reached =
   where
     next : IsNext names (slot other) (suc i) to
     next =
-        rw (is ∙ get_or_default_zero nexts i to (omega (arith, linked.links, slice_get_within names i other read)))
-        (linked.next i other (omega arith) read)
+        let inside : i < length nexts = omega (arith, linked.links, slice_get_within names i other read) in
+        rw (is ∙ get_or_default_zero nexts i to inside) (linked.next i other (omega arith) read)
 
     none : (k : ℕ) → k < to → slice_get names k ≢ Some name
     none k below here = elim (cases_lt k i) [

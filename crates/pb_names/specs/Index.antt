@@ -13,10 +13,10 @@ IsFirstNumber names name (Some i) =
 -- the slot of a name, one of 128, by its length, its first byte and its last two
 unfoldable pub slot : Name → ℕ
 slot name =
-    (length name + 7 * get_or name 0 0 + 11 * get_or name (length name - 2) 0 + get_or name (length name - 1) 0)
-    % 128
+    (length name + 7 * get_or name 0 0 + 11 * get_or name (length name - 2) 0
+    + get_or name (length name - 1) 0) % 128
 
--- the first name of a slot from a number on has the other number, or there is none, and that is past all names
+-- the first name of a slot from a number on has the other number; where there is none, that is past all names
 pub record IsNext (names : List Name) (s from to : ℕ) : Type 0 where
   pub after : from ≤ to
   pub none : (k : ℕ) (name : Name) → from ≤ k → k < to → slice_get names k ≡ Some name → slot name ≢ s

@@ -5,8 +5,8 @@ ghost use Rattle.pb_names.specs.Index.{IsLinked};
 
 use std::alloc::Allocator;
 
-/// The names of one kind in order of declaration. Each slot has the number of its first name, and each name that
-/// of the next one in its slot; past the last comes their count.
+/// The names of one kind in order of declaration. Each slot has the number of its first name, and each name
+/// that of the next one in its slot; past the last comes their count.
 #[derive(Drop)]
 pub struct Declared<'t, A: Allocator> {
     pub(crate) texts: Vec<&'t [u8], A>,

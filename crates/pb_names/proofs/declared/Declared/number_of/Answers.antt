@@ -9,7 +9,8 @@ use Rattle.pb_names.proofs.declared.Declared.number_of.Goals as goal
 pub returns-then-eq : goal.returns-then-eq
 returns-then-eq g c =
     let xs = c.args.self.now.texts.items in
-    let read = view_read (λ text. text.now) xs xs c.loop-i.i c.index.result.now refl (omega arith) c.index.ensures in
+    let read =
+    view_read (λ text. text.now) xs xs c.loop-i.i c.index.result.now refl (omega arith) c.index.ensures in
     let same = same_text _ _ (sym c.if-eq.true ∙ c.eq.ensures) in
     (read ∙ ap Some same, c.loop-i.invariant.none)
 
@@ -17,22 +18,24 @@ pub loop-i-smaller : goal.loop-i-smaller
 loop-i-smaller g c =
     let names = c.args.self.now in
     let xs = names.texts.items in
-    let read = view_read (λ text. text.now) xs xs c.loop-i.i c.index.result.now refl (omega arith) c.index.ensures in
+    let read =
+    view_read (λ text. text.now) xs xs c.loop-i.i c.index.result.now refl (omega arith) c.index.ensures in
     let other = other_text _ _ (sym c.if-eq.false ∙ c.eq.ensures) in
     let next =
-    reached_next (names_in names) c.args.name.now _ _ _ _ _ read other c.index-i-in-loop-i.ensures names.linked
-    c.loop-i.invariant in
+    reached_next (names_in names) c.args.name.now _ _ _ _ _ read other c.index-i-in-loop-i.ensures
+    names.linked c.loop-i.invariant in
     omega (arith, next.0, length-map xs (λ text. text.now))
 
 pub loop-i-preserved : goal.loop-i-preserved
 loop-i-preserved g c =
     let names = c.args.self.now in
     let xs = names.texts.items in
-    let read = view_read (λ text. text.now) xs xs c.loop-i.i c.index.result.now refl (omega arith) c.index.ensures in
+    let read =
+    view_read (λ text. text.now) xs xs c.loop-i.i c.index.result.now refl (omega arith) c.index.ensures in
     let other = other_text _ _ (sym c.if-eq.false ∙ c.eq.ensures) in
     let next =
-    reached_next (names_in names) c.args.name.now _ _ _ _ _ read other c.index-i-in-loop-i.ensures names.linked
-    c.loop-i.invariant in
+    reached_next (names_in names) c.args.name.now _ _ _ _ _ read other c.index-i-in-loop-i.ensures
+    names.linked c.loop-i.invariant in
     next.1
 
 pub returns : goal.returns
