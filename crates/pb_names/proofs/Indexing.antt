@@ -1,7 +1,8 @@
 -- An index of names: how it is made, one name more at a time, and how a name is looked for in it.
-use Rattle.std.proofs.Common.{◌≡◌, ◌≢◌, ℕ, suc, ◌+◌, ◌*◌, ◌%◌, ◌<◌, ◌≤◌, List, [], ◌∷◌, length, get_or, set}
-use Rattle.std.proofs.Common.{Some, None, inl, inr, arith, ap, sym, ◌∙◌, refl, length-set}
-use Rattle.std.specs.Prelude.{slice_get}
+use Rattle.std.proofs.Common.{◌≡◌, ◌≢◌, ℕ, suc, ◌+◌, ◌*◌, ◌<◌, ◌≤◌, List, [], ◌∷◌, length, get_or, set}
+use Rattle.std.proofs.Common.{Some, None, inl, inr, arith, ap, sym, ◌∙◌, length-set}
+use Rattle.std.specs.Prelude.{slice_get, bit_and}
+use Rattle.std.specs.Int.Bits.{and_zero_l}
 use Rattle.std.proofs.lemmas.Bool.{cases_lt, cases_eq}
 use Rattle.std.proofs.lemmas.Grind.{get_or_default_zero}
 use Rattle.std.proofs.lemmas.List.{get_or-set_same, get_or-set_other}
@@ -12,76 +13,77 @@ use Rattle.pb_names.proofs.First.{some_same}
 
 -- ---- the slot of a short name
 
-pub slot_of_none : (name : Name) → length name ≡ 0 → 0 ≡ slot name
+pub slot_of_none : (greatest : ℕ) (name : Name) → length name ≡ 0 → 0 ≡ slot greatest name
 unfolding slot
-slot_of_none [] none = refl
-slot_of_none (x ∷ rest) none = absurd (omega arith)
+slot_of_none greatest [] none = sym (and_zero_l greatest)
+slot_of_none greatest (x ∷ rest) none = absurd (omega arith)
 
-pub slot_of_one : (name : Name) → length name ≡ 1 → (1 + 19 * get_or name 0 0) % 128 ≡ slot name
+pub slot_of_one : (greatest : ℕ) (name : Name) → length name ≡ 1
+    → bit_and (1 + 19 * get_or name 0 0) greatest ≡ slot greatest name
 unfolding slot
-slot_of_one [] one = absurd (omega arith)
-slot_of_one (x ∷ []) one =
+slot_of_one greatest [] one = absurd (omega arith)
+slot_of_one greatest (x ∷ []) one =
     let same : 1 + 19 * x ≡ 1 + 7 * x + 11 * x + x = omega arith in
-    ap (λ n. n % 128) same
-slot_of_one (x ∷ y ∷ rest) one = absurd (omega arith)
+    ap (λ n. bit_and n greatest) same
+slot_of_one greatest (x ∷ y ∷ rest) one = absurd (omega arith)
 
 -- ---- the next name of a slot
 
 -- a name is the next of its own slot
-next_here : (names : List Name) (name : Name) (i : ℕ) → slice_get names i ≡ Some name
-    → IsNext names (slot name) i i
-next_here names name i read = record {
+next_here : (names : List Name) (name : Name) (greatest i : ℕ) → slice_get names i ≡ Some name
+    → IsNext names greatest (slot greatest name) i i
+next_here names name greatest i read = record {
   after = omega arith;
   none = λ k other above below here. absurd (omega arith);
-  here = λ other here. ap slot (some_same (sym here ∙ read));
+  here = λ other here. ap (slot greatest) (some_same (sym here ∙ read));
 }
 
 -- and of no other
-next_over : (names : List Name) (name : Name) (s i to : ℕ) → slice_get names i ≡ Some name → slot name ≢ s
-    → IsNext names s (suc i) to → IsNext names s i to
-next_over names name s i to read differs next = record {
+next_over : (names : List Name) (name : Name) (greatest s i to : ℕ) → slice_get names i ≡ Some name → slot greatest name ≢ s
+    → IsNext names greatest s (suc i) to → IsNext names greatest s i to
+next_over names name greatest s i to read differs next = record {
   after = omega (arith, next.after);
   none = none;
   here = next.here;
 }
   where
-    none : (k : ℕ) (other : Name) → i ≤ k → k < to → slice_get names k ≡ Some other → slot other ≢ s
+    none : (k : ℕ) (other : Name) → i ≤ k → k < to → slice_get names k ≡ Some other → slot greatest other ≢ s
     none k other above below here same = elim (cases_eq k i) [
-      | inl e ↦ differs (ap slot (some_same (sym read ∙ ap (slice_get names) (sym e) ∙ here)) ∙ same)
+      | inl e ↦ differs (ap (slot greatest) (some_same (sym read ∙ ap (slice_get names) (sym e) ∙ here)) ∙ same)
       | inr n ↦ next.none k other (omega arith) below here same
     ]
 
 -- ---- how an index is made
 
 -- one more name, in front of those from the next number on, with what was read as the first of its slot
-pub linked_more : (names : List Name) (name : Name) (i behind : ℕ) (firsts nexts : List ℕ)
-    → slice_get names i ≡ Some name → slot name < 128 → behind ≡ get_or firsts (slot name) behind
-    → IsLinked names (suc i) firsts nexts
-    → IsLinked names i (set firsts (slot name) i) (set nexts i behind)
-linked_more names name i behind firsts nexts read few is linked = record {
-  slots = length-set firsts (slot name) i ∙ linked.slots;
+pub linked_more : (names : List Name) (name : Name) (greatest i behind : ℕ) (firsts nexts : List ℕ)
+    → slice_get names i ≡ Some name → slot greatest name ≤ greatest → behind ≡ get_or firsts (slot greatest name) behind
+    → IsLinked names greatest (suc i) firsts nexts
+    → IsLinked names greatest i (set firsts (slot greatest name) i) (set nexts i behind)
+linked_more names name greatest i behind firsts nexts read few is linked = record {
+  slots = length-set firsts (slot greatest name) i ∙ linked.slots;
   links = length-set nexts i behind ∙ linked.links;
   first = first;
   next = next;
 }
   where
-    first : (s : ℕ) → s < 128 → IsNext names s i (get_or (set firsts (slot name) i) s 0)
-    first s below = elim (cases_eq s (slot name)) [
+    first : (s : ℕ) → s ≤ greatest → IsNext names greatest s i (get_or (set firsts (slot greatest name) i) s 0)
+    first s below = elim (cases_eq s (slot greatest name)) [
       | inl e ↦
-          rw (e, get_or-set_same firsts (slot name) i 0 (omega (arith, linked.slots)))
-          (next_here names name i read)
+          rw (e, get_or-set_same firsts (slot greatest name) i 0 (omega (arith, linked.slots)))
+          (next_here names name greatest i read)
       | inr n ↦
-          rw (get_or-set_other firsts (slot name) s i 0 n)
-          (next_over names name s i _ read (λ same. n (sym same)) (linked.first s below))
+          rw (get_or-set_other firsts (slot greatest name) s i 0 n)
+          (next_over names name greatest s i _ read (λ same. n (sym same)) (linked.first s below))
     ]
 
-    after : IsNext names (slot name) (suc i) behind
+    after : IsNext names greatest (slot greatest name) (suc i) behind
     after =
-        rw (is ∙ get_or_default_zero firsts (slot name) behind (omega (arith, linked.slots)))
-        (linked.first (slot name) few)
+        rw (is ∙ get_or_default_zero firsts (slot greatest name) behind (omega (arith, linked.slots)))
+        (linked.first (slot greatest name) few)
 
     next : (k : ℕ) (other : Name) → i ≤ k → slice_get names k ≡ Some other
-        → IsNext names (slot other) (suc k) (get_or (set nexts i behind) k 0)
+        → IsNext names greatest (slot greatest other) (suc k) (get_or (set nexts i behind) k 0)
     next k other above here = elim (cases_eq k i) [
       | inl e ↦
           let same : name ≡ other = some_same (sym read ∙ ap (slice_get names) (sym e) ∙ here) in
@@ -93,18 +95,18 @@ linked_more names name i behind firsts nexts read few is linked = record {
 -- ---- how a name is looked for
 
 -- the name has no number below this one, where a name of its slot stands or no name
-pub record IsReached (names : List Name) (name : Name) (i : ℕ) : Type 0 where
+pub record IsReached (names : List Name) (greatest : ℕ) (name : Name) (i : ℕ) : Type 0 where
   pub none : (k : ℕ) → k < i → slice_get names k ≢ Some name
-  pub here : (other : Name) → slice_get names i ≡ Some other → slot other ≡ slot name
+  pub here : (other : Name) → slice_get names i ≡ Some other → slot greatest other ≡ slot greatest name
 
 -- one place further, behind another name, as the index is read
-pub reached_next : (names : List Name) (name other : Name) (firsts nexts : List ℕ) (i to : ℕ)
-    → slice_get names i ≡ Some other → other ≢ name → to ≡ get_or nexts i to → IsLinked names 0 firsts nexts
-    → IsReached names name i → (i < to) × IsReached names name to
-reached_next names name other firsts nexts i to read differs is linked reached =
+pub reached_next : (names : List Name) (name other : Name) (firsts nexts : List ℕ) (greatest i to : ℕ)
+    → slice_get names i ≡ Some other → other ≢ name → to ≡ get_or nexts i to → IsLinked names greatest 0 firsts nexts
+    → IsReached names greatest name i → (i < to) × IsReached names greatest name to
+reached_next names name other firsts nexts greatest i to read differs is linked reached =
     (omega (arith, next.after), record { none = none; here = here })
   where
-    next : IsNext names (slot other) (suc i) to
+    next : IsNext names greatest (slot greatest other) (suc i) to
     next =
         let inside : i < length nexts = omega (arith, linked.links, slice_get_within names i other read) in
         rw (is ∙ get_or_default_zero nexts i to inside) (linked.next i other (omega arith) read)
@@ -118,10 +120,10 @@ reached_next names name other firsts nexts i to read differs is linked reached =
       ]
     ]
 
-    here : (x : Name) → slice_get names to ≡ Some x → slot x ≡ slot name
+    here : (x : Name) → slice_get names to ≡ Some x → slot greatest x ≡ slot greatest name
     here x there = next.here x there ∙ reached.here other read
 
-pub reached_end : (names : List Name) (name : Name) (i : ℕ) → length names ≤ i → IsReached names name i
+pub reached_end : (names : List Name) (name : Name) (greatest i : ℕ) → length names ≤ i → IsReached names greatest name i
     → IsFirstNumber names name None
-reached_end names name i past reached =
+reached_end names name greatest i past reached =
     λ k here. reached.none k (omega (arith, slice_get_within names k name here)) here

@@ -1,6 +1,6 @@
 //! Names that are declared.
 
-ghost use Rattle.std.specs.Prelude.{map};
+ghost use Rattle.std.specs.Prelude.{◌-◌, length, map};
 ghost use Rattle.pb_names.specs.Index.{IsLinked};
 
 use std::alloc::Allocator;
@@ -12,5 +12,6 @@ pub struct Declared<'t, A: Allocator> {
     pub(crate) texts: Vec<&'t [u8], A>,
     pub(crate) first_of: Vec<usize, A>,
     pub(crate) next_of: Vec<usize, A>,
-    ghost linked: { IsLinked (map (λ text. text.now) texts.items) 0 first_of.items next_of.items },
+    ghost linked: { IsLinked (map (λ text. text.now) texts.items) (length first_of.items - 1) 0
+        first_of.items next_of.items },
 }

@@ -1,6 +1,6 @@
 //! The number of each name that is declared.
 
-ghost use Rattle.std.specs.Prelude.{◌≡◌, ◌<◌, get_or, length, map, IfOk};
+ghost use Rattle.std.specs.Prelude.{◌≡◌, ◌<◌, ◌≤◌, get_or, length, map, IfOk};
 ghost use Rattle.pb_tree.specs.View.{name_view, process_view, resource_view};
 ghost use Rattle.pb_names.specs.Index.{IsFirstNumber, slot};
 ghost use Rattle.pb_names.specs.Resolves.{texts};
@@ -10,9 +10,6 @@ use crate::declared::Declared;
 use pb_base::NoMemory;
 use pb_tree::{Name, Process, Resource};
 use std::alloc::Allocator;
-
-/// How many slots there are. The names of one slot are looked through one after the other.
-const SLOTS: usize = 128;
 
 impl<'t, A: Allocator + Clone> Declared<'t, A> {
     /// The names of the integers of a process.
@@ -65,7 +62,8 @@ impl<'t, A: Allocator> Declared<'t, A> {
     pub fn number_of(&self, name: &[u8]) -> Option<usize>
         ensures { IsFirstNumber (names_in self.now) name.now result }
     {
-        let mut i = self.first_of[slot_of(name)];
+        let greatest = self.first_of.len() - 1;
+        let mut i = self.first_of[slot_of(name, greatest)];
         while i < self.texts.len() {
             if self.texts[i] == name {
                 return Some(i);
@@ -85,19 +83,26 @@ fn byte_at(name: &[u8], i: usize) -> usize
     usize::from(name[i])
 }
 
-/// The slot of a name.
-fn slot_of(name: &[u8]) -> usize
-    ensures value { result ≡ slot name.now }
-    ensures few { result < SLOTS }
+/// The slot of a name, from 0 to the greatest one.
+fn slot_of(name: &[u8], greatest: usize) -> usize
+    ensures value { result ≡ slot greatest name.now }
+    ensures few { result ≤ greatest }
 {
     let len = name.len();
     if len == 0 {
         return 0;
     }
     if len == 1 {
-        return (1 + 19 * byte_at(name, 0)) % SLOTS;
+        return (1 + 19 * byte_at(name, 0)) & greatest;
     }
-    (len + 7 * byte_at(name, 0) + 11 * byte_at(name, len - 2) + byte_at(name, len - 1)) % SLOTS
+    (len + 7 * byte_at(name, 0) + 11 * byte_at(name, len - 2) + byte_at(name, len - 1)) & greatest
+}
+
+/// The greatest slot in an index of so many names. The names of one slot are looked through one after the other.
+fn greatest_slot(count: usize) -> usize
+    ensures { result < 64 }
+{
+    if count > 8 { 63 } else { 7 }
 }
 
 /// An index of names.
@@ -108,10 +113,11 @@ fn index<'t, A: Allocator + Clone>(
     ensures { IfOk result (λ names. names_in names ≡ map (λ text. text.now) texts.entry.items) }
 {
     let count = texts.len();
-    let mut first_of = vec![in alloc.clone()?; count; SLOTS]?;
+    let greatest = greatest_slot(count);
+    let mut first_of = vec![in alloc.clone()?; count; greatest + 1]?;
     let mut next_of = vec![in alloc.clone()?; count; count]?;
     for i in (0..count).rev() {
-        let slot = slot_of(texts[i]);
+        let slot = slot_of(texts[i], greatest);
         next_of[i] = first_of[slot];
         first_of[slot] = i;
     }

@@ -1,4 +1,4 @@
-use Rattle.std.proofs.Common.{◌≡◌, suc, ◌-◌, map, get_or, arith, ap, sym, ◌∙◌, refl, subst}
+use Rattle.std.proofs.Common.{◌≡◌, suc, ◌-◌, map, get_or, length, arith, ap, sym, ◌∙◌, refl, subst}
 use Rattle.pb_names.specs.Index.{IsLinked}
 use Rattle.pb_names.proofs.First.{view_read}
 use Rattle.pb_names.proofs.Indexing.{linked_more}
@@ -16,11 +16,13 @@ loop-i-preserved g c =
     let read = view_read (λ text. text.now) xs xs i c.index.result.now refl (omega arith) c.index.ensures in
     let is = c.slot_of-slot.ensures.value in
     rw is
-    (linked_more names _ i behind firsts nexts read (omega (arith, is, c.slot_of-slot.ensures.few))
+    (linked_more names _ c.greatest_slot-greatest.result i behind firsts nexts read (omega (arith, is, c.slot_of-slot.ensures.few))
     (c.index-in-loop-i.ensures ∙ ap (λ s. get_or firsts s behind) is)
-    (subst (λ n. IsLinked names n firsts nexts) (sym above) c.loop-i.invariant))
+    (subst (λ n. IsLinked names c.greatest_slot-greatest.result n firsts nexts) (sym above) c.loop-i.invariant))
 
 pub invariant_of-result : goal.invariant_of-result
 invariant_of-result g c =
     let done : c.loop-i.i ≡ 0 = omega arith in
-    record { linked = rw done at c.loop-i.invariant }
+    let kept : c.greatest_slot-greatest.result ≡ length c.loop-i.first_of.items - 1 =
+    omega (arith, c.loop-i.invariant.slots) in
+    record { linked = rw (done, kept) at c.loop-i.invariant }
