@@ -1,133 +1,129 @@
--- An index of names, one name more at a time.
-use Rattle.std.proofs.Common.{◌≡◌, ◌≢◌, ℕ, zero, suc, ◌<◌, ◌≤◌, List, [], ◌∷◌, ◌++◌, length}
-use Rattle.std.proofs.Common.{Option, Some, None, Bool, true, false, cond, ◌⊎◌, inl, inr, arith, ap, sym, ◌∙◌, refl, subst}
-use Rattle.std.proofs.Common.{nat_cmp, is_some, Ordering}
-use Rattle.std.specs.Prelude.{slice_get}
-use Rattle.std.specs.BTreeMap.{BTreeMap, IsEmpty, get_by}
-use Rattle.std.specs.Cmp.Lexicographic.{slice_cmp, same_text, other_text}
-use Rattle.std.specs.Ordering.{is_eq}
-use Rattle.std.specs.Str.{bytes_eq}
-use Rattle.std.proofs.lemmas.Bool.{cases_lt}
-use Rattle.std.proofs.lemmas.Map.Text.{is_eq-slice_cmp}
+-- An index of names: how it is made, one name more at a time, and how a name is looked for in it.
+use Rattle.std.proofs.Common.{◌≡◌, ◌≢◌, ℕ, suc, ◌+◌, ◌*◌, ◌<◌, ◌≤◌, List, [], ◌∷◌, length, get_or, set}
+use Rattle.std.proofs.Common.{Some, None, inl, inr, arith, ap, sym, ◌∙◌, length-set}
+use Rattle.std.specs.Prelude.{slice_get, bit_and}
+use Rattle.std.specs.Int.Bits.{and_zero_l}
+use Rattle.std.proofs.lemmas.Bool.{cases_lt, cases_eq}
+use Rattle.std.proofs.lemmas.Grind.{get_or_default_zero}
+use Rattle.std.proofs.lemmas.List.{get_or-set_same, get_or-set_other}
 use Rattle.std.proofs.lemmas.Option.{slice_get_within}
-use Rattle.pb_names.specs.Index.{IsFirstNumber, IsNoted}
+use Rattle.pb_names.specs.Index.{IsFirstNumber, IsNext, IsLinked, slot}
 use Rattle.pb_names.specs.Program.{Name}
 use Rattle.pb_names.proofs.First.{some_same}
 
--- what an index answers
-pub indexed : (names : List Name) (name : Name) (found : Option ℕ)
-    → ((i : ℕ) → found ≡ Some i → (slice_get names i ≡ Some name) × ((k : ℕ) → k < i → slice_get names k ≢ Some name))
-    → ((k : ℕ) → found ≡ None → slice_get names k ≢ Some name) → IsFirstNumber names name found
-indexed names name None first all = λ k. all k refl
-indexed names name (Some i) first all = first i refl
+-- ---- the slot of a short name
 
--- and what it holds
-pub first_found : (names : List Name) (name : Name) (found : Option ℕ) (i : ℕ) → found ≡ Some i
-    → IsFirstNumber names name found
-    → (slice_get names i ≡ Some name) × ((k : ℕ) → k < i → slice_get names k ≢ Some name)
-first_found names name None i is first = absurd (cc)
-first_found names name (Some j) i is first =
-    let e : j ≡ i = some_same is in subst (λ n. IsFirstNumber names name (Some n)) e first
+pub slot_of_none : (greatest : ℕ) (name : Name) → length name ≡ 0 → 0 ≡ slot greatest name
+unfolding slot
+slot_of_none greatest [] none = sym (and_zero_l greatest)
+slot_of_none greatest (x ∷ rest) none = absurd (omega arith)
 
-pub none_found : (names : List Name) (name : Name) (found : Option ℕ) (k : ℕ) → found ≡ None
-    → IsFirstNumber names name found → slice_get names k ≢ Some name
-none_found names name None k is first = first k
-none_found names name (Some j) k is first = absurd (cc)
+pub slot_of_one : (greatest : ℕ) (name : Name) → length name ≡ 1
+    → bit_and (1 + 19 * get_or name 0 0) greatest ≡ slot greatest name
+unfolding slot
+slot_of_one greatest [] one = absurd (omega arith)
+slot_of_one greatest (x ∷ []) one =
+    let same : 1 + 19 * x ≡ 1 + 7 * x + 11 * x + x = omega arith in
+    ap (λ n. bit_and n greatest) same
+slot_of_one greatest (x ∷ y ∷ rest) one = absurd (omega arith)
 
--- an empty index
-pub in_index : {K : Type 0} (names : List Name) (name : Name) (compare : K → Ordering) (numbers : BTreeMap K ℕ)
-    → IsEmpty numbers → ((k : ℕ) → slice_get names k ≢ Some name) → IsFirstNumber names name (get_by compare numbers)
-in_index names name compare numbers empty none = rw empty none
+-- ---- the next name of a slot
 
--- ---- two texts are the same or not
-
-bool_cases : (b : Bool) → (true ≡ b) ⊎ (false ≡ b)
-bool_cases true = inl refl
-bool_cases false = inr refl
-
-pub same_or_other : (a b : List ℕ) → ((is_eq (slice_cmp nat_cmp a b) ≡ true) × (a ≡ b))
-    ⊎ ((is_eq (slice_cmp nat_cmp a b) ≡ false) × (a ≢ b))
-same_or_other a b = elim (bool_cases (bytes_eq a b)) [
-  | inl h ↦ inl (is_eq-slice_cmp a b ∙ sym h, same_text a b h)
-  | inr h ↦ inr (is_eq-slice_cmp a b ∙ sym h, other_text a b h)
-]
-
--- ---- one more name
-
--- a name that is there keeps its number
-pub noted_known : (text name : Name) (number : ℕ) (found : Name → Option ℕ) → is_some (found text) ≡ true
-    → IsNoted text number name (found name) (found name)
-noted_known text name number found some = record {
-  kept = λ k is. is;
-  noted = λ none same. let e : found text ≡ None = ap found (sym same) ∙ none in absurd (cc (ap is_some e));
-  other = λ none differs. none;
+-- a name is the next of its own slot
+next_here : (names : List Name) (name : Name) (greatest i : ℕ) → slice_get names i ≡ Some name
+    → IsNext names greatest (slot greatest name) i i
+next_here names name greatest i read = record {
+  after = omega arith;
+  none = λ k other above below here. absurd (omega arith);
+  here = λ other here. ap (slot greatest) (some_same (sym here ∙ read));
 }
 
--- a name that is not there gets this number
-pub noted_new : (text name : Name) (number : ℕ) (found : Name → Option ℕ) (after : Option ℕ)
-    → is_some (found text) ≡ false
-    → after ≡ cond (is_eq (slice_cmp nat_cmp text name)) (Some number) (found name)
-    → IsNoted text number name (found name) after
-noted_new text name number found after new is = elim (same_or_other text name) [
-  | inl h ↦ record {
-    kept = λ k known. let e : found text ≡ Some k = ap found h.1 ∙ known in absurd (cc (ap is_some e));
-    noted = λ none same. is ∙ ap (λ b. cond b (Some number) (found name)) h.0;
-    other = λ none differs. absurd (differs (sym h.1));
-  }
-  | inr h ↦ record {
-    kept = λ k known. is ∙ ap (λ b. cond b (Some number) (found name)) h.0 ∙ known;
-    noted = λ none same. absurd (h.1 (sym same));
-    other = λ none differs. is ∙ ap (λ b. cond b (Some number) (found name)) h.0 ∙ none;
-  }
-]
-
--- ---- the names after one more
-
-read_left : (names : List Name) (text : Name) (k : ℕ) → k < length names
-    → slice_get (names ++ text ∷ []) k ≡ slice_get names k
-read_left [] text k below = absurd (omega arith)
-read_left (n ∷ names) text zero below = refl
-read_left (n ∷ names) text (suc k) below = read_left names text k (omega arith)
-
-read_last : (names : List Name) (text : Name) (k : ℕ) (name : Name) → length names ≤ k
-    → slice_get (names ++ text ∷ []) k ≡ Some name → (text ≡ name) × (k ≡ length names)
-read_last [] text zero name past here = (some_same here, refl)
-read_last [] text (suc k) name past here = absurd (omega (arith, slice_get_within [] k name here))
-read_last (n ∷ names) text zero name past here = absurd (omega arith)
-read_last (n ∷ names) text (suc k) name past here =
-    let r = read_last names text k name (omega arith) here in (r.0, ap suc r.1)
-
-at_end : (names : List Name) (text : Name) → slice_get (names ++ text ∷ []) (length names) ≡ Some text
-at_end [] text = refl
-at_end (n ∷ names) text = at_end names text
-
--- a name of lower number than all that was added is one of those before
-none_before_end : (names : List Name) (text name : Name) → ((k : ℕ) → slice_get names k ≢ Some name)
-    → (k : ℕ) → k < length names → slice_get (names ++ text ∷ []) k ≢ Some name
-none_before_end names text name none k below here = none k (sym (read_left names text k below) ∙ here)
-
-none_at_all : (names : List Name) (text name : Name) → ((k : ℕ) → slice_get names k ≢ Some name) → text ≢ name
-    → (k : ℕ) → slice_get (names ++ text ∷ []) k ≢ Some name
-none_at_all names text name none differs k here = side (cases_lt k (length names))
+-- and of no other
+next_over : (names : List Name) (name : Name) (greatest s i to : ℕ) → slice_get names i ≡ Some name → slot greatest name ≢ s
+    → IsNext names greatest s (suc i) to → IsNext names greatest s i to
+next_over names name greatest s i to read differs next = record {
+  after = omega (arith, next.after);
+  none = none;
+  here = next.here;
+}
   where
-    side : (k < length names) ⊎ (length names ≤ k) → ⊥
-    side (inl below) = none_before_end names text name none k below here
-    side (inr past) = differs (read_last names text k name past here).0
+    none : (k : ℕ) (other : Name) → i ≤ k → k < to → slice_get names k ≡ Some other → slot greatest other ≢ s
+    none k other above below here same = elim (cases_eq k i) [
+      | inl e ↦ differs (ap (slot greatest) (some_same (sym read ∙ ap (slice_get names) (sym e) ∙ here)) ∙ same)
+      | inr n ↦ next.none k other (omega arith) below here same
+    ]
 
-kept_first : (names : List Name) (text name : Name) (j : ℕ) → IsFirstNumber names name (Some j)
-    → IsFirstNumber (names ++ text ∷ []) name (Some j)
-kept_first names text name j first =
-    let within = slice_get_within names j name first.0 in (
-      read_left names text j within ∙ first.0,
-      λ k below here. first.1 k below (sym (read_left names text k (omega arith)) ∙ here),
-    )
+-- ---- how an index is made
 
-pub first_more : (names : List Name) (text name : Name) (before after : Option ℕ) → IsFirstNumber names name before
-    → IsNoted text (length names) name before after → IsFirstNumber (names ++ text ∷ []) name after
-first_more names text name (Some j) after first step = rw (step.kept j refl) (kept_first names text name j first)
-first_more names text name None after none step = elim (same_or_other text name) [
-  | inl h ↦
-      rw (step.noted refl (sym h.1))
-      (at_end names text ∙ ap Some h.1, none_before_end names text name none)
-  | inr h ↦ rw (step.other refl (λ same. h.1 (sym same))) (none_at_all names text name none h.1)
-]
+-- one more name, in front of those from the next number on, with what was read as the first of its slot
+pub linked_more : (names : List Name) (name : Name) (greatest i behind : ℕ) (firsts nexts : List ℕ)
+    → slice_get names i ≡ Some name → slot greatest name ≤ greatest → behind ≡ get_or firsts (slot greatest name) behind
+    → IsLinked names greatest (suc i) firsts nexts
+    → IsLinked names greatest i (set firsts (slot greatest name) i) (set nexts i behind)
+linked_more names name greatest i behind firsts nexts read few is linked = record {
+  slots = length-set firsts (slot greatest name) i ∙ linked.slots;
+  links = length-set nexts i behind ∙ linked.links;
+  first = first;
+  next = next;
+}
+  where
+    first : (s : ℕ) → s ≤ greatest → IsNext names greatest s i (get_or (set firsts (slot greatest name) i) s 0)
+    first s below = elim (cases_eq s (slot greatest name)) [
+      | inl e ↦
+          rw (e, get_or-set_same firsts (slot greatest name) i 0 (omega (arith, linked.slots)))
+          (next_here names name greatest i read)
+      | inr n ↦
+          rw (get_or-set_other firsts (slot greatest name) s i 0 n)
+          (next_over names name greatest s i _ read (λ same. n (sym same)) (linked.first s below))
+    ]
+
+    after : IsNext names greatest (slot greatest name) (suc i) behind
+    after =
+        rw (is ∙ get_or_default_zero firsts (slot greatest name) behind (omega (arith, linked.slots)))
+        (linked.first (slot greatest name) few)
+
+    next : (k : ℕ) (other : Name) → i ≤ k → slice_get names k ≡ Some other
+        → IsNext names greatest (slot greatest other) (suc k) (get_or (set nexts i behind) k 0)
+    next k other above here = elim (cases_eq k i) [
+      | inl e ↦
+          let same : name ≡ other = some_same (sym read ∙ ap (slice_get names) (sym e) ∙ here) in
+          let inside : i < length nexts = omega (arith, linked.links, slice_get_within names i name read) in
+          rw (e, get_or-set_same nexts i behind 0 inside, ← same) after
+      | inr n ↦ rw (get_or-set_other nexts i k behind 0 n) (linked.next k other (omega arith) here)
+    ]
+
+-- ---- how a name is looked for
+
+-- the name has no number below this one, where a name of its slot stands or no name
+pub record IsReached (names : List Name) (greatest : ℕ) (name : Name) (i : ℕ) : Type 0 where
+  pub none : (k : ℕ) → k < i → slice_get names k ≢ Some name
+  pub here : (other : Name) → slice_get names i ≡ Some other → slot greatest other ≡ slot greatest name
+
+-- one place further, behind another name, as the index is read
+pub reached_next : (names : List Name) (name other : Name) (firsts nexts : List ℕ) (greatest i to : ℕ)
+    → slice_get names i ≡ Some other → other ≢ name → to ≡ get_or nexts i to → IsLinked names greatest 0 firsts nexts
+    → IsReached names greatest name i → (i < to) × IsReached names greatest name to
+reached_next names name other firsts nexts greatest i to read differs is linked reached =
+    (omega (arith, next.after), record { none = none; here = here })
+  where
+    next : IsNext names greatest (slot greatest other) (suc i) to
+    next =
+        let inside : i < length nexts = omega (arith, linked.links, slice_get_within names i other read) in
+        rw (is ∙ get_or_default_zero nexts i to inside) (linked.next i other (omega arith) read)
+
+    none : (k : ℕ) → k < to → slice_get names k ≢ Some name
+    none k below here = elim (cases_lt k i) [
+      | inl less ↦ reached.none k less here
+      | inr most ↦ elim (cases_eq k i) [
+        | inl e ↦ differs (some_same (sym read ∙ ap (slice_get names) (sym e) ∙ here))
+        | inr n ↦ next.none k name (omega arith) below here (sym (reached.here other read))
+      ]
+    ]
+
+    here : (x : Name) → slice_get names to ≡ Some x → slot greatest x ≡ slot greatest name
+    here x there = next.here x there ∙ reached.here other read
+
+pub reached_end : (names : List Name) (name : Name) (greatest i : ℕ) → length names ≤ i → IsReached names greatest name i
+    → IsFirstNumber names name None
+reached_end names name greatest i past reached =
+    λ k here. reached.none k (omega (arith, slice_get_within names k name here)) here

@@ -1,9 +1,7 @@
--- What a search for a name answers: its first number.
-use Rattle.std.specs.Prelude.{◌≡◌, ◌≢◌, ℕ, ◌<◌, List, slice_get, Option, Some, None}
-use Rattle.std.specs.BTreeMap.{BTreeMap, get_by}
-use Rattle.std.specs.Cmp.Lexicographic.{slice_cmp}
-use Rattle.std.specs.Ordering.{nat_cmp}
-use denote.Ref.{Bor}
+-- What a search for a name answers: its first number. Names that may be the same have one slot, and the names
+-- of one slot follow one another by number.
+use Rattle.std.specs.Prelude.{◌≡◌, ◌≢◌, ℕ, suc, ◌+◌, ◌-◌, ◌*◌, ◌<◌, ◌≤◌, List, length, get_or, slice_get}
+use Rattle.std.specs.Prelude.{Option, Some, None, bit_and}
 use Rattle.pb_names.specs.Program.{Name}
 
 -- the least number of a name, or none where it is not there
@@ -12,19 +10,23 @@ IsFirstNumber names name None = (k : ℕ) → slice_get names k ≢ Some name
 IsFirstNumber names name (Some i) =
     (slice_get names i ≡ Some name) × ((k : ℕ) → k < i → slice_get names k ≢ Some name)
 
--- the map has the first number of each name that is there, and no other name
-abbrev pub HasNumbers : List Name → BTreeMap (Bor (List ℕ)) ℕ → Type 0
-HasNumbers names numbers =
-    (name : Name) (i : ℕ) → get_by (λ key. slice_cmp nat_cmp name key.now) numbers ≡ Some i
-    → (slice_get names i ≡ Some name) × ((k : ℕ) → k < i → slice_get names k ≢ Some name)
+-- the slot of a name, from 0 to the greatest one, by its length, its first byte and its last two
+unfoldable pub slot : ℕ → Name → ℕ
+slot greatest name =
+    bit_and
+    (length name + 7 * get_or name 0 0 + 11 * get_or name (length name - 2) 0 + get_or name (length name - 1) 0)
+    greatest
 
-abbrev pub HasAll : List Name → BTreeMap (Bor (List ℕ)) ℕ → Type 0
-HasAll names numbers =
-    (name : Name) (k : ℕ) → get_by (λ key. slice_cmp nat_cmp name key.now) numbers ≡ None
-    → slice_get names k ≢ Some name
+-- the first name of a slot from a number on has the other number; where there is none, that is past all names
+pub record IsNext (names : List Name) (greatest s from to : ℕ) : Type 0 where
+  pub after : from ≤ to
+  pub none : (k : ℕ) (name : Name) → from ≤ k → k < to → slice_get names k ≡ Some name → slot greatest name ≢ s
+  pub here : (name : Name) → slice_get names to ≡ Some name → slot greatest name ≡ s
 
--- what is found under a name after the number of a text was noted: what was found before, or the number
-pub record IsNoted (text : List ℕ) (number : ℕ) (name : Name) (before after : Option ℕ) : Type 0 where
-  pub kept : (k : ℕ) → before ≡ Some k → after ≡ Some k
-  pub noted : before ≡ None → name ≡ text → after ≡ Some number
-  pub other : before ≡ None → name ≢ text → after ≡ None
+-- the names from a number on: the first of each slot, and behind each name the next of its slot
+pub record IsLinked (names : List Name) (greatest from : ℕ) (firsts nexts : List ℕ) : Type 0 where
+  pub slots : length firsts ≡ suc greatest
+  pub links : length nexts ≡ length names
+  pub first : (s : ℕ) → s ≤ greatest → IsNext names greatest s from (get_or firsts s 0)
+  pub next : (k : ℕ) (name : Name) → from ≤ k → slice_get names k ≡ Some name
+      → IsNext names greatest (slot greatest name) (suc k) (get_or nexts k 0)

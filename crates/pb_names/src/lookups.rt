@@ -1,12 +1,8 @@
 //! The number of each name that is declared.
 
-ghost use Rattle.std.specs.Prelude.{◌≡◌, map, IfOk, OnOk};
-ghost use Rattle.std.specs.BTreeMap.{get_by};
-ghost use Rattle.std.specs.Cmp.Lexicographic.{slice_cmp};
-ghost use Rattle.std.specs.Ordering.{nat_cmp};
+ghost use Rattle.std.specs.Prelude.{◌≡◌, ◌<◌, ◌≤◌, get_or, length, map, IfOk};
 ghost use Rattle.pb_tree.specs.View.{name_view, process_view, resource_view};
-ghost use Rattle.pb_names.specs.Index.{IsFirstNumber, IsNoted};
-ghost use Rattle.pb_names.specs.Program.{Name as Text};
+ghost use Rattle.pb_names.specs.Index.{IsFirstNumber, slot};
 ghost use Rattle.pb_names.specs.Resolves.{texts};
 ghost use Rattle.pb_names.specs.Search.{names_in};
 
@@ -14,7 +10,6 @@ use crate::declared::Declared;
 use pb_base::NoMemory;
 use pb_tree::{Name, Process, Resource};
 use std::alloc::Allocator;
-use std::collections::BTreeMap;
 
 impl<'t, A: Allocator + Clone> Declared<'t, A> {
     /// The names of the integers of a process.
@@ -67,25 +62,47 @@ impl<'t, A: Allocator> Declared<'t, A> {
     pub fn number_of(&self, name: &[u8]) -> Option<usize>
         ensures { IsFirstNumber (names_in self.now) name.now result }
     {
-        self.numbers.get(name).copied()
+        let greatest = self.first_of.len() - 1;
+        let mut i = self.first_of[slot_of(name, greatest)];
+        while i < self.texts.len() {
+            if self.texts[i] == name {
+                return Some(i);
+            }
+            i = self.next_of[i];
+        }
+        None
     }
 }
 
-/// Notes the number of a name, unless the name has one.
-fn note<'t, A: Allocator + Clone>(
-    numbers: &mut BTreeMap<&'t [u8], usize, A>,
-    text: &'t [u8],
-    number: usize,
-) -> Result<(), NoMemory>
-    ensures { OnOk result ((name : Text) → IsNoted text.now number name
-        (get_by (λ key. slice_cmp nat_cmp name key.now) numbers.old)
-        (get_by (λ key. slice_cmp nat_cmp name key.now) numbers.new)) }
+/// The byte at a place of a name.
+fn byte_at(name: &[u8], i: usize) -> usize
+    requires { i < length name.now }
+    ensures value { result ≡ get_or name.now i 0 }
+    ensures small { result < 256 }
 {
-    if numbers.contains_key(text) {
-        return Ok(());
+    usize::from(name[i])
+}
+
+/// The slot of a name, from 0 to the greatest one.
+fn slot_of(name: &[u8], greatest: usize) -> usize
+    ensures value { result ≡ slot greatest name.now }
+    ensures few { result ≤ greatest }
+{
+    let len = name.len();
+    if len == 0 {
+        return 0;
     }
-    numbers.insert(text, number)?;
-    Ok(())
+    if len == 1 {
+        return (1 + 19 * byte_at(name, 0)) & greatest;
+    }
+    (len + 7 * byte_at(name, 0) + 11 * byte_at(name, len - 2) + byte_at(name, len - 1)) & greatest
+}
+
+/// The greatest slot in an index of so many names. The names of one slot are looked through one after the other.
+fn greatest_slot(count: usize) -> usize
+    ensures { result < 64 }
+{
+    if count > 8 { 63 } else { 7 }
 }
 
 /// An index of names.
@@ -95,9 +112,18 @@ fn index<'t, A: Allocator + Clone>(
 ) -> Result<Declared<'t, A>, NoMemory>
     ensures { IfOk result (λ names. names_in names ≡ map (λ text. text.now) texts.entry.items) }
 {
-    let mut numbers = BTreeMap::new(alloc.clone()?);
-    for (i, text) in texts.iter().enumerate() {
-        note(&mut numbers, *text, i)?;
+    let count = texts.len();
+    let greatest = greatest_slot(count);
+    let mut first_of = vec![in alloc.clone()?; count; greatest + 1]?;
+    let mut next_of = vec![in alloc.clone()?; count; count]?;
+    for i in (0..count).rev() {
+        let slot = slot_of(texts[i], greatest);
+        next_of[i] = first_of[slot];
+        first_of[slot] = i;
     }
-    Ok(Declared { texts, numbers })
+    Ok(Declared {
+        texts,
+        first_of,
+        next_of,
+    })
 }

@@ -226,7 +226,7 @@ fn number_list<A: Allocator + Clone>(
     ensures numbered { IfOk result (λ list. IsNumbered next.old (block_view list.items)) }
     ensures next { OnOk result (next.new ≡ next.old + inner_arms (stmts_view stmts.now.items)) }
 {
-    let mut list = Vec::new(alloc.clone()?);
+    let mut list = Vec::with_capacity(alloc.clone()?, stmts.len())?;
     for stmt in stmts {
         list.push(number_stmt(alloc, integers, resources, next, stmt)?)?;
     }
@@ -253,7 +253,7 @@ fn number_arms<A: Allocator + Clone>(
     ensures numbered { IfOk result (λ list. AreNumbered next.old (arms_of list.items)) }
     ensures next { OnOk result (next.new ≡ next.old + inner_arms_of_arms (arms_view arms.now.items)) }
 {
-    let mut list = Vec::new(alloc.clone()?);
+    let mut list = Vec::with_capacity(alloc.clone()?, arms.len())?;
     for arm in arms {
         list.push(number_list(alloc, integers, resources, next, arm)?)?;
     }
@@ -267,7 +267,7 @@ fn copy_texts<A: Allocator + Clone>(
 ) -> Result<Vec<Vec<u8, A>, A>, NoMemory>
     ensures { IfOk result (λ copies. map (λ copy. copy.items) copies.items ≡ texts (map name_view names.now.items)) }
 {
-    let mut copies = Vec::new(alloc.clone()?);
+    let mut copies = Vec::with_capacity(alloc.clone()?, names.len())?;
     for name in names {
         copies.push(Vec::from_slice(alloc.clone()?, &name.text)?)?;
     }
@@ -314,7 +314,7 @@ fn number_processes<A: Allocator + Clone>(
     ensures { IfOk result (λ list. AllZip (ResolvesProcess (names_in resources.now))
         (map process_view processes.now.items) (map process_of list.items)) }
 {
-    let mut list = Vec::new(alloc.clone()?);
+    let mut list = Vec::with_capacity(alloc.clone()?, processes.len())?;
     for process in processes {
         list.push(number_process(alloc, resources, process)?)?;
     }
@@ -344,7 +344,7 @@ fn number_resources<A: Allocator + Clone>(
     ensures { IfOk result (λ list.
         AllZip ResolvesResource (map resource_view resources.now.items) (map resource_of list.items)) }
 {
-    let mut list = Vec::new(alloc.clone()?);
+    let mut list = Vec::with_capacity(alloc.clone()?, resources.len())?;
     for resource in resources {
         list.push(number_resource(alloc, resource)?)?;
     }

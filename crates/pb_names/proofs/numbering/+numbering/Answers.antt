@@ -19,11 +19,11 @@ use Rattle.pb_names.proofs.numbering.+numbering.Goals as goal
 
 pub number_list-loop-stmt-init : goal.number_list-loop-stmt-init
 number_list-loop-stmt-init g t c =
-    rw c.new-list.ensures.items (record { resolves = no_stmt; numbered = tt; next = omega arith })
+    rw c.in_ok-list.ensures.items (record { resolves = no_stmt; numbered = tt; next = omega arith })
 
 pub number_arms-loop-arm-init : goal.number_arms-loop-arm-init
 number_arms-loop-arm-init g t c =
-    rw c.new-list.ensures.items (record { resolves = no_arm; numbered = tt; next = omega arith })
+    rw c.in_ok-list.ensures.items (record { resolves = no_arm; numbered = tt; next = omega arith })
 
 pub number_list-returns-clause-resolves : goal.number_list-returns-clause-resolves
 number_list-returns-clause-resolves g t c =
