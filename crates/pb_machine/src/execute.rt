@@ -105,7 +105,7 @@ fn go_on(thread: &mut Thread) -> Outcome
 }
 
 /// Puts the result of an operator in the place of its operand. Where it has none, the operand stays.
-#[inline]
+#[inline(always)]
 fn compute_one(thread: &mut Thread, op: UnaryOp) -> Outcome
     requires operand { 1 ≤ length thread.old.stack.items }
     requires within { length thread.old.stack.items ≤ thread.old.stack.room }
@@ -129,7 +129,7 @@ fn compute_one(thread: &mut Thread, op: UnaryOp) -> Outcome
 
 /// Puts the result of an operator in the place of its operands, of which the right one is on top. Where it has none,
 /// the operands stay.
-#[inline]
+#[inline(always)]
 fn compute_two(thread: &mut Thread, op: BinaryOp) -> Outcome
     requires operands { 2 ≤ length thread.old.stack.items }
     requires within { length thread.old.stack.items ≤ thread.old.stack.room }
