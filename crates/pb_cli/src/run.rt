@@ -80,7 +80,7 @@ mod tests {
     ) -> Result<(), Fail> {
         let alloc = rt.alloc();
         let mut input = MemoryInput::new(text);
-        let mut output = MemoryOutput::new(alloc, 512)?;
+        let mut output = MemoryOutput::new(alloc, 1024)?;
         let options = RunOptions { steps: 1_000_000 };
         let answered = run_engine(alloc, options, &mut input, &mut output);
         assert_eq!(rt; answered, status);
@@ -123,6 +123,28 @@ mod tests {
             b"resource tape = 1; resource disk = 1; process a begin hold 1 of tape, 1 of disk do print 1 od end process b begin hold 1 of disk, 1 of tape do print 2 od end",
             Status::Done,
             b"a.0 grant 1 tape 1 disk\na.0 print 1\na.0 return 1 tape 1 disk\na end\nb.0 grant 1 disk 1 tape\nb.0 print 2\nb.0 return 1 disk 1 tape\nb end\ndone\n",
+        )
+    }
+
+    #[test]
+    fn runs_examples_of_arms_and_holds(rt: HostRuntime) -> Result<(), Fail> {
+        check(
+            &rt,
+            b"process p begin integer x; parbegin x := x + 1; x := x + 1 parend; print x end",
+            Status::Done,
+            b"p.0 print 2\np end\ndone\n",
+        )?;
+        check(
+            &rt,
+            b"resource florin = 10; process a begin hold 4 of florin do hold 4 of florin do skip od od end process b begin hold 2 of florin do hold 1 of florin do hold 3 of florin do skip od od od end process c begin hold 1 of florin do hold 3 of florin do skip od od end",
+            Status::Done,
+            b"a.0 grant 4 florin\na.0 grant 4 florin\na.0 return 4 florin\na.0 return 4 florin\na end\nb.0 grant 2 florin\nb.0 grant 1 florin\nb.0 grant 3 florin\nb.0 return 3 florin\nb.0 return 1 florin\nb.0 return 2 florin\nb end\nc.0 grant 1 florin\nc.0 grant 3 florin\nc.0 return 3 florin\nc.0 return 1 florin\nc end\ndone\n",
+        )?;
+        check(
+            &rt,
+            b"resource north = 1; resource east = 1; resource west = 1; process hypatia begin integer meals; while meals < 2 do hold 1 of north do hold 1 of east do meals := meals + 1; print meals od od od end process plato begin integer meals; while meals < 2 do hold 1 of east do hold 1 of west do meals := meals + 1; print meals od od od end process spinoza begin integer meals; while meals < 2 do hold 1 of west do hold 1 of north do meals := meals + 1; print meals od od od end",
+            Status::Done,
+            b"hypatia.0 grant 1 north\nhypatia.0 grant 1 east\nhypatia.0 print 1\nhypatia.0 return 1 east\nhypatia.0 return 1 north\nhypatia.0 grant 1 north\nhypatia.0 grant 1 east\nhypatia.0 print 2\nhypatia.0 return 1 east\nhypatia.0 return 1 north\nhypatia end\nplato.0 grant 1 east\nplato.0 grant 1 west\nplato.0 print 1\nplato.0 return 1 west\nplato.0 return 1 east\nplato.0 grant 1 east\nplato.0 grant 1 west\nplato.0 print 2\nplato.0 return 1 west\nplato.0 return 1 east\nplato end\nspinoza.0 grant 1 west\nspinoza.0 grant 1 north\nspinoza.0 print 1\nspinoza.0 return 1 north\nspinoza.0 return 1 west\nspinoza.0 grant 1 west\nspinoza.0 grant 1 north\nspinoza.0 print 2\nspinoza.0 return 1 north\nspinoza.0 return 1 west\nspinoza end\ndone\n",
         )
     }
 

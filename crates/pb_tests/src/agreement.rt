@@ -12,7 +12,8 @@ mod texts;
 use crate::agreement::schedules::follow;
 use crate::agreement::sides::program_of;
 use crate::agreement::tally::Tally;
-use crate::agreement::texts::{LONG, PROCESSES, TEXTS};
+use crate::agreement::texts::{LONG, PROCESSES};
+use crate::texts::{EXAMPLES, PROGRAMS};
 use pb_base::NoMemory;
 use std::alloc::Global;
 use std::process::Abort;
@@ -61,8 +62,11 @@ fn agree(
 #[test]
 fn both_sides_agree(rt: HostRuntime) -> Result<(), Fail> {
     let mut tally = Tally::new();
-    for (number, text) in TEXTS.iter().enumerate() {
+    for (number, text) in EXAMPLES.iter().enumerate() {
         agree(&rt, number, text, SCHEDULES, &mut tally)?;
+    }
+    for (number, text) in PROGRAMS.iter().enumerate() {
+        agree(&rt, EXAMPLES.len() + number, text, SCHEDULES, &mut tally)?;
     }
     assert!(rt; tally.skipped > 1_000, "{tally:?}");
     assert!(rt; tally.silent > 1_000, "{tally:?}");

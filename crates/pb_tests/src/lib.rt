@@ -14,6 +14,8 @@ mod names;
 #[cfg(test)]
 mod parser;
 #[cfg(test)]
+mod texts;
+#[cfg(test)]
 mod tree;
 #[cfg(test)]
 mod verifier;

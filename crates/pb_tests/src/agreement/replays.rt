@@ -5,7 +5,7 @@ ghost use Rattle.pb_rewrite.specs.Sources.{IsSource};
 
 use crate::agreement::sides::{Seen, program_of, step_both};
 use crate::agreement::states::{first_difference, same_loans};
-use crate::agreement::texts::{DEVICES, FAULT, INCREMENTS, NESTED};
+use crate::texts::{DEVICES, FAULT, INCREMENTS, NESTED};
 use pb_base::{FaultKind, NoMemory, Pick};
 use pb_codegen::Compiled;
 use pb_machine::Machine;

@@ -1,6 +1,7 @@
 //! The tree of a program is the same in whatever memory it lies.
 
 use super::{places, repeated, texts};
+use crate::texts::{EXAMPLES, PROGRAMS};
 use bumpalo::Bump;
 use linked_list_allocator::LocalHeap;
 use pb_base::NoMemory;
@@ -58,7 +59,13 @@ fn makes_the_same_tree_in_each_memory(rt: HostRuntime) -> Result<(), Fail> {
     let alloc = rt.alloc();
     let heap = LocalHeap::new(alloc, 1_048_576)?;
     assert_same(&rt, &heap, super::TEXT)?;
-    for text in texts::TEXTS {
+    for text in EXAMPLES {
+        assert_same(&rt, &heap, text)?;
+    }
+    for text in PROGRAMS {
+        assert_same(&rt, &heap, text)?;
+    }
+    for text in texts::REFUSED {
         assert_same(&rt, &heap, text)?;
     }
     for count in [33, 64, 65] {

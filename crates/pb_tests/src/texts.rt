@@ -1,0 +1,215 @@
+//! Programs that several of the tests use.
+
+/// Of `examples/`: each job could wait for the device that the other has.
+#[rattlefmt::skip]
+pub const DEVICES: &[u8] = b"// Two jobs want the same tape and the same disk, in opposite order. Taken one by one, each could end up with one
+// device in its hands, waiting for the other: the banker never lets it come to that.
+resource tape = 1;
+resource disk = 1;
+process a
+begin
+  hold 1 of tape do hold 1 of disk do print 1 od od
+end
+process b
+begin
+  hold 1 of disk do hold 1 of tape do print 2 od od
+end
+";
+
+/// Two arms add 1 to the same integer.
+#[rattlefmt::skip]
+pub const INCREMENTS: &[u8] = b"process p begin integer x; parbegin x := x + 1; x := x + 1 parend; print x end";
+
+/// One arm holds, the other faults.
+#[rattlefmt::skip]
+pub const FAULT: &[u8] = b"resource t = 2; process p begin parbegin hold 1 of t do print 5 od; print 1 mod 0 parend end";
+
+/// A parbegin in the first arm of another.
+#[rattlefmt::skip]
+pub const NESTED: &[u8] = b"process p begin parbegin parbegin print 1; print 2 parend; print 3 parend; print 4 end";
+
+/// The programs of `examples/`.
+#[rattlefmt::skip]
+pub const EXAMPLES: [&[u8]; 9] = [
+    b"// How many hours, minutes and seconds a number of seconds is.
+process clock
+begin
+  integer seconds, minutes;
+  seconds := 98765;
+  minutes := seconds div 60;
+  print minutes div 60;
+  print minutes mod 60;
+  print seconds mod 60
+end
+",
+    b"// Dijkstra's banker has ten florins and three customers, who may come to need eight, six and four. He lends while
+// what is left, with what comes back, is enough to finish with all of them in some order.
+resource florin = 10;
+process a begin hold 4 of florin do hold 4 of florin do skip od od end
+process b begin hold 2 of florin do hold 1 of florin do hold 3 of florin do skip od od od end
+process c begin hold 1 of florin do hold 3 of florin do skip od od end
+",
+    DEVICES,
+    b"// Where the integers end: quotients are cut toward zero, a remainder has the sign of the dividend, truth is 1 or 0,
+// and a result that does not fit in 64 bits is a fault, which ends the process.
+process edges
+begin
+  integer greatest, least;
+  greatest := 9223372036854775807;
+  least := -greatest - 1;
+  print least;
+  print least mod -1;
+  print -7 div 2;
+  print -7 mod 2;
+  print not (least < greatest) or 3 <> 4 and 5 >= 5;
+  print greatest + 1;
+  print 0
+end
+",
+    b"process p begin print 1 end
+",
+    b"// Two arms add one to the same integer. To read it and to assign to it are two steps, so where both arms read before
+// either assigns, one of the two additions is lost. Run arm by arm, as here, none is.
+process p
+begin
+  integer x;
+  parbegin
+    x := x + 1;
+    x := x + 1
+  parend;
+  print x
+end
+",
+    b"// Three philosophers at a round table, with a fork between each two of them. Each takes one fork and then another;
+// with one fork each they would wait for ever, so the banker keeps the last one back.
+resource north = 1;
+resource east = 1;
+resource west = 1;
+process hypatia
+begin
+  integer meals;
+  while meals < 2 do
+    hold 1 of north do hold 1 of east do meals := meals + 1; print meals od od
+  od
+end
+process plato
+begin
+  integer meals;
+  while meals < 2 do
+    hold 1 of east do hold 1 of west do meals := meals + 1; print meals od od
+  od
+end
+process spinoza
+begin
+  integer meals;
+  while meals < 2 do
+    hold 1 of west do hold 1 of north do meals := meals + 1; print meals od od
+  od
+end
+",
+    b"// Three rounds; in each two arms print, and the next round begins when both have ended.
+process p
+begin
+  integer i;
+  while i < 3 do
+    parbegin
+      print i;
+      print i + 10
+    parend;
+    i := i + 1
+  od
+end
+",
+    b"// The same two jobs, each of which asks for both devices at once: it gets both or none.
+resource tape = 1;
+resource disk = 1;
+process a begin hold 1 of tape, 1 of disk do print 1 od end
+process b begin hold 1 of disk, 1 of tape do print 2 od end
+",
+];
+
+/// Programs that each use some of the language.
+#[rattlefmt::skip]
+pub const PROGRAMS: [&[u8]; 28] = [
+    b"process p begin integer x; x := 2 + 3; print x end",
+    b"resource t = 4; process p begin hold 1 of t do parbegin hold 1 of t do skip od; hold 2 of t do skip od parend od end",
+    b"resource t = 9; process p begin integer x; hold 1 of t do skip od; if x then hold 2 of t do skip od else hold 3 of t do skip od fi end",
+    b"resource tape = 1; resource disk = 1;
+process a begin hold 1 of tape do hold 1 of disk do skip od od end
+process b begin hold 1 of disk do hold 1 of tape do skip od od end",
+    b"resource t = 10;
+process a begin hold 4 of t do hold 4 of t do skip od od end
+process b begin hold 2 of t do hold 1 of t do hold 3 of t do skip od od od end
+process c begin hold 1 of t do hold 3 of t do skip od od end",
+    b"resource t = 1; process p begin hold 1 of t do print 1 div 0 od end",
+    b"process p begin print (-9223372036854775807 - 1) div -1 end",
+    b"process p begin print (-9223372036854775807 - 1) mod -1 end",
+    b"process p begin print -9223372036854775807 - 1 end",
+    b"process p begin print -7 div 2 end",
+    b"process p begin print -7 mod 2 end",
+    b"process p begin print 9223372036854775807 + 1 end",
+    INCREMENTS,
+    b"process p begin while 1 do skip od end",
+    b"process p begin integer i; while i < 3 do parbegin print i; print i + 10 parend; i := i + 1 od end",
+    FAULT,
+    b"process p begin integer x; x := 7; print x mod -2 end",
+    b"resource t = 5; process p begin if 0 then hold 3 of t do skip od fi end",
+    b"resource t = 5; resource u = 5; process p begin parbegin hold 2 of t do hold 1 of u do skip od od; hold 3 of u do skip od parend end",
+    b"process p begin integer i; while i < 2 do if i then print 8 else print 9 fi; i := i + 1 od end",
+    NESTED,
+    b"resource tape = 1; resource disk = 1; process a begin hold 1 of tape, 1 of disk do skip od end process b begin hold 1 of disk, 1 of tape do skip od end",
+    b"resource tape = 1; resource disk = 1;
+process a begin hold 1 of tape do print 1 div 0; hold 1 of disk do skip od od end
+process b begin hold 1 of disk do hold 1 of tape do skip od od end",
+    b"process p
+begin
+  integer i, x;
+  while i < 3 do
+    parbegin
+      parbegin x := x + 1; x := x * 2 + i parend;
+      if x > 2 then print x else x := x + 3 fi;
+      skip
+    parend;
+    i := i + 1
+  od;
+  print x
+end",
+    b"resource r = 3;
+resource s = 2;
+process a begin integer i; while i < 2 do hold 2 of r do hold 1 of s do print i od od; i := i + 1 od end
+process b begin integer i; while i < 2 do hold 1 of s, 2 of r do print 10 + i od; i := i + 1 od end
+process c begin parbegin hold 1 of r do hold 1 of s do skip od od; hold 1 of s do print 20 od parend end",
+    b"resource r = 2;
+process p
+begin
+  integer x;
+  x := 3;
+  hold 1 of r do
+    parbegin
+      begin x := 0; hold 1 of r do print x od; x := 2 end;
+      print 6 div x
+    parend
+  od
+end
+process q begin hold 2 of r do print 1 od end",
+    b"process p
+begin
+  integer flag, turns;
+  parbegin
+    while not flag do turns := turns + 1 od;
+    begin skip; flag := 1 end
+  parend;
+  print turns < 1000
+end",
+    b"resource r = 4;
+process p
+begin
+  integer x;
+  parbegin
+    while x < 2 do hold 1 of r do if x = 1 then skip else parbegin skip; print x parend fi od; x := x + 1 od;
+    if x then hold 2 of r do skip od else skip fi;
+    begin if not x then hold 1 of r do skip od fi; while x > 1 do x := x - 1 od end
+  parend
+end
+process q begin if 1 and 0 then print 1 else hold 4 of r do skip od fi end",
+];
