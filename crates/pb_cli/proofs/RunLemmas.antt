@@ -1,5 +1,5 @@
 -- A run that is told, step after step.
-use Rattle.std.proofs.Common.{◌≡◌, ℕ, ◌+◌, ◌<◌, List, [], ◌∷◌, ◌++◌, length, Option, Some, None, option_to_list, refl, sym, ap, ◌∙◌, subst, inl, inr, arith, append-nil, length-append, codes}
+use Rattle.std.proofs.Common.{◌≡◌, ℕ, ◌+◌, ◌<◌, ◌≤◌, List, [], ◌∷◌, ◌++◌, length, Option, Some, None, option_to_list, refl, sym, ap, ◌∙◌, subst, inl, inr, arith, append-nil, length-append, codes}
 use Rattle.std.proofs.lemmas.Grind.{flat_map-append}
 use Rattle.std.proofs.lemmas.Bool.{cases_lt}
 use Rattle.std.specs.Prelude.{slice_get}
@@ -127,22 +127,22 @@ say_more code w n state now more new status answered told says =
     Says-more w now.written new [] (event_lines code.names told.events) more now.page status answered told.said says
 
 pub told_end : (code : Code) (steps : ℕ) (w : Option (List ℕ)) (n : ℕ) (state : State CodeProcess) (now : Spoken) (new : Option (List ℕ))
-    (answered : Status) → IsTold code w n state now → (¬ IsDone state → n ≡ steps)
+    (answered : Status) → IsTold code w n state now → n ≤ steps → (¬ IsDone state → n ≡ steps)
     → Tells (SaysOfEnd state steps now.page) now.written new answered → Tells (SaysOfCode code steps) w new answered
-told_end code steps w n state now new answered told used tells = go tells.0 tells.1 tells.2 tells.3
+told_end code steps w n state now new answered told few used tells = go tells.0 tells.1 tells.2 tells.3
   where
     go : (text : List ℕ) (status : Status) → SaysOfEnd state steps now.page text status → Says now.written new text status answered
         → Tells (SaysOfCode code steps) w new answered
     go _ _ (all_done is no_fault) says = (
       event_lines code.names told.events ++ line (codes "done"),
       Done,
-      (told.events, length told.run.picks, done state told.run is no_fault),
+      (told.events, length told.run.picks, done state told.run (let same = told.so_many in omega (arith, same, few)) is no_fault),
       say_more code w n state now (line (codes "done")) new Done answered told says,
     )
     go _ _ (some_fault is fault) says = (
       event_lines code.names told.events ++ line (codes "done"),
       Fault,
-      (told.events, length told.run.picks, faulted state told.run is fault),
+      (told.events, length told.run.picks, faulted state told.run (let same = told.so_many in omega (arith, same, few)) is fault),
       say_more code w n state now (line (codes "done")) new Fault answered told says,
     )
     go _ _ (used_up not_done) says = (
@@ -154,24 +154,28 @@ told_end code steps w n state now new answered told used tells = go tells.0 tell
 
 -- there is no memory for the next line
 pub told_memory : (code : Code) (steps : ℕ) (w : Option (List ℕ)) (n : ℕ) (state : State CodeProcess) (old now : Spoken) (new : Option (List ℕ))
-    (answered : Status) → IsTold code w n state old → now ≡ old → Says now.written new (now.page ++ memory_line) Memory answered
+    (answered : Status) → IsTold code w n state old → n ≤ steps → now ≡ old
+    → Says now.written new (now.page ++ memory_line) Memory answered
     → Tells (SaysOfCode code steps) w new answered
-told_memory code steps w n state old now new answered told same says = (
+told_memory code steps w n state old now new answered told few same says = (
   event_lines code.names told.events ++ memory_line,
   Memory,
-  (told.events, length told.run.picks, out_of_memory state told.run),
+  (told.events, length told.run.picks, out_of_memory state told.run (let all = told.so_many in omega (arith, all, few))),
   say_more code w n state old memory_line new Memory answered told
       (subst (λ (s : Spoken). Says s.written new (s.page ++ memory_line) Memory answered) same says),
 )
 
 -- a write failed
 pub told_broken : (code : Code) (steps : ℕ) (w : Option (List ℕ)) (n : ℕ) (before after : State CodeProcess) (old new : Spoken)
-    → IsTold code w n before old → TellsStep code before after old new Broken → Tells (SaysOfCode code steps) w new.written Device
-told_broken code steps w n before after old new told step =
+    → IsTold code w n before old → n < steps → TellsStep code before after old new Broken
+    → Tells (SaysOfCode code steps) w new.written Device
+unfolding run_more
+told_broken code steps w n before after old new told few step =
     let run = run_more code told.events before step.2 step.0 (Some step.1) told.run step.3 in (
       event_lines code.names (told.events ++ step.1 ∷ []),
       Device,
-      (told.events ++ step.1 ∷ [], length run.picks, cut_off step.2 run),
+      (told.events ++ step.1 ∷ [], length run.picks, cut_off step.2 run
+          (let all = length-append told.run.picks (step.0 ∷ []) in let same = told.so_many in omega (arith, all, same, few))),
       inr (
         subst (AddsPrefix w new.written) (sym (one_more_line code.names told.events (Some step.1)))
             (AddsPrefix-more w old.written new.written [] (event_lines code.names told.events) (line (line_of code.names step.1)) old.page told.said step.4),
@@ -184,13 +188,14 @@ pub no_machine : (code : Code) (steps : ℕ) (w new : Option (List ℕ)) (page :
     → Says w new (page ++ memory_line) Memory answered → Tells (SaysOfCode code steps) w new answered
 no_machine code steps w new page answered empty says =
     told_memory code steps w 0 (code_opening code) (record { written = w; page = page }) (record { written = w; page = page }) new answered
-    (told_first code (code_opening code) w page refl empty) refl says
+    (told_first code (code_opening code) w page refl empty) (omega arith) refl says
 
 -- all were done before
 pub told_finished : (code : Code) (steps : ℕ) (w : Option (List ℕ)) (n : ℕ) (before after : State CodeProcess) (old new : Spoken)
-    (final : Option (List ℕ)) (answered : Status) → IsTold code w n before old → TellsStep code before after old new Finished
+    (final : Option (List ℕ)) (answered : Status) → IsTold code w n before old → n ≤ steps
+    → TellsStep code before after old new Finished
     → Tells (SaysOfEnd after steps new.page) new.written final answered → Tells (SaysOfCode code steps) w final answered
-told_finished code steps w n before after old new final answered told step tells =
+told_finished code steps w n before after old new final answered told few step tells =
     told_end code steps w n after new final answered
-    (subst (λ (s : Spoken). IsTold code w n after s) (sym step.2) (subst (λ (s : State CodeProcess). IsTold code w n s old) (sym step.1) told))
+    (subst (λ (s : Spoken). IsTold code w n after s) (sym step.2) (subst (λ (s : State CodeProcess). IsTold code w n s old) (sym step.1) told)) few
     (λ not_done. absurd (not_done (subst IsDone (sym step.1) step.0))) tells

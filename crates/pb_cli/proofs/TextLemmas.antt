@@ -13,11 +13,11 @@ use Rattle.pb_cli.specs.declared.status.Status.TheVariants.{Device}
 -- the code can make the events of a run that is told
 can_make : (code : Code) (steps : ℕ) (events : List Event) (n : ℕ) (text : List ℕ) (status : Status)
     → SaysOfRun code steps events n text status → CodeCan code events n
-can_make code steps events _ _ _ (done end run is no_fault) = (run.picks, end, omega arith, run.makes)
-can_make code steps events _ _ _ (faulted end run is fault) = (run.picks, end, omega arith, run.makes)
+can_make code steps events _ _ _ (done end run few is no_fault) = (run.picks, end, omega arith, run.makes)
+can_make code steps events _ _ _ (faulted end run few is fault) = (run.picks, end, omega arith, run.makes)
 can_make code steps events _ _ _ (at_limit end run not_done all) = (run.picks, end, omega arith, run.makes)
-can_make code steps events _ _ _ (out_of_memory end run) = (run.picks, end, omega arith, run.makes)
-can_make code steps events _ _ _ (cut_off end run) = (run.picks, end, omega arith, run.makes)
+can_make code steps events _ _ _ (out_of_memory end run few) = (run.picks, end, omega arith, run.makes)
+can_make code steps events _ _ _ (cut_off end run few) = (run.picks, end, omega arith, run.makes)
 
 -- an accepted text, whose code is run
 pub text_is_run : (steps : ℕ) (bytes : List ℕ) (code given : Code) (labels : List ProcessLabels) (old new : Option (List ℕ)) (answered : Status)

@@ -1,5 +1,5 @@
 -- What `run` says of an input, and with which status.
-use Rattle.std.specs.Prelude.{◌≡◌, ◌++◌, ℕ, List, codes, length, slice_get, Some, true}
+use Rattle.std.specs.Prelude.{◌≡◌, ◌≤◌, ◌++◌, ℕ, List, codes, length, slice_get, Some, true}
 use Rattle.std.specs.Fmt.{decimal}
 use Rattle.std.specs.List.{flat_map}
 use Rattle.pb_base.specs.declared.event.Event.{Event}
@@ -35,16 +35,18 @@ HasFault end =
 -- what is said of a run of n picks with these events: at its end `done`, or `limit` where all steps were used
 -- up before; the lines so far, and then `memory`, where memory wants; the lines so far where a write failed
 pub data SaysOfRun (code : Code) (steps : ℕ) (events : List Event) : ℕ → List ℕ → Status → Type 0 where
-  done : (end : State CodeProcess) (run : Run code events end) → IsDone end → ¬ HasFault end
+  done : (end : State CodeProcess) (run : Run code events end) → length run.picks ≤ steps → IsDone end
+      → ¬ HasFault end
       → SaysOfRun code steps events (length run.picks) (event_lines code.names events ++ line (codes "done")) Done
-  faulted : (end : State CodeProcess) (run : Run code events end) → IsDone end → HasFault end
+  faulted : (end : State CodeProcess) (run : Run code events end) → length run.picks ≤ steps → IsDone end
+      → HasFault end
       → SaysOfRun code steps events (length run.picks) (event_lines code.names events ++ line (codes "done")) Fault
   at_limit : (end : State CodeProcess) (run : Run code events end) → ¬ IsDone end → length run.picks ≡ steps
       → SaysOfRun code steps events (length run.picks)
       (event_lines code.names events ++ line (codes "limit " ++ decimal steps)) Limit
-  out_of_memory : (end : State CodeProcess) (run : Run code events end)
+  out_of_memory : (end : State CodeProcess) (run : Run code events end) → length run.picks ≤ steps
       → SaysOfRun code steps events (length run.picks) (event_lines code.names events ++ memory_line) Memory
-  cut_off : (end : State CodeProcess) (run : Run code events end)
+  cut_off : (end : State CodeProcess) (run : Run code events end) → length run.picks ≤ steps
       → SaysOfRun code steps events (length run.picks) (event_lines code.names events) Device
 
 -- what is said of a text: it is refused; or it is accepted, and some run of its code is told, of which the

@@ -1,5 +1,6 @@
 //! The whole program, over any words, input and output.
-ghost use Rattle.std.specs.Prelude.{◌≡◌, IfSome};
+ghost use Rattle.std.specs.Prelude.{◌≡◌, ◌⊎◌, IfSome};
+ghost use Rattle.pb_base.specs.Device.{one_more_failure};
 ghost use Rattle.pb_cli.specs.Answers.{Says};
 ghost use Rattle.pb_cli.specs.Calls.{fault_status, fault_text, CallWrites};
 
@@ -23,7 +24,10 @@ pub fn answer<I: Input, O: Output>(
     input: &mut I,
     output: &mut O,
 ) -> Status
-    ensures { IfSome (I.rest input.old) (λ bytes. CallWrites words.now bytes (O.written output.old) (O.written output.new) result) }
+    ensures text { IfSome (I.rest input.old) (λ bytes. CallWrites words.now bytes (O.written output.old) (O.written output.new) result) }
+    ensures fault { result ≡ Status.Device
+        → ((I.failures input.new ≡ one_more_failure (I.failures input.old)) × (O.written output.new ≡ O.written output.old))
+        ⊎ (O.failures output.new ≡ one_more_failure (O.failures output.old)) }
 {
     match options(alloc, words) {
         Ok(Options::Check(numbers)) => check_engine(alloc, numbers, input, output),
@@ -38,7 +42,8 @@ pub fn answer<I: Input, O: Output>(
 
 // Writes the text of a fault, and answers its status.
 fn refuse<O: Output>(alloc: Global, output: &mut O, fault: &WordsFault) -> Status
-    ensures { Says (O.written output.old) (O.written output.new) (fault_text fault.now) (fault_status fault.now) result }
+    ensures text { Says (O.written output.old) (O.written output.new) (fault_text fault.now) (fault_status fault.now) result }
+    ensures fault { result ≡ Status.Device → O.failures output.new ≡ one_more_failure (O.failures output.old) }
 {
     let mut page = Page::new(alloc);
     let WordsFault::Words(text) = fault else {

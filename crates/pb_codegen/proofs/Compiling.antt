@@ -95,11 +95,14 @@ lex_refused text lex.NoMemory is = tt
 
 pub parse_refused : (text : List ℕ) (tokens : List Token) (fault : ParseFault) → AreTokensOf text tokens
     → (IsSyntax fault → IsNoProgram tokens) → (fault ≡ parse.TooDeep → NestsTooDeep tokens ⊎ IsTooHigh tokens)
-    → (fault ≡ parse.TooLarge → IsTooLarge tokens) → IsRefused text (of_parse fault)
-parse_refused text tokens (parse.Syntax at) cut syntax deep large = (tokens, cut, syntax tt)
-parse_refused text tokens parse.TooDeep cut syntax deep large = (tokens, cut, deep refl)
-parse_refused text tokens parse.TooLarge cut syntax deep large = (tokens, cut, large refl)
-parse_refused text tokens parse.NoMemory cut syntax deep large = tt
+    → (fault ≡ parse.TooLarge → IsTooLarge tokens) → (NestsTooDeep tokens → fault ≡ parse.TooDeep)
+    → IsRefused text (of_parse fault)
+parse_refused text tokens (parse.Syntax at) cut syntax deep large nested =
+    (tokens, cut, ((λ n. let e : parse.Syntax at ≡ parse.TooDeep = nested n in cc), syntax tt))
+parse_refused text tokens parse.TooDeep cut syntax deep large nested = (tokens, cut, deep refl)
+parse_refused text tokens parse.TooLarge cut syntax deep large nested =
+    (tokens, cut, ((λ n. let e : parse.TooLarge ≡ parse.TooDeep = nested n in cc), large refl))
+parse_refused text tokens parse.NoMemory cut syntax deep large nested = tt
 
 pub names_refused : (text : List ℕ) (program : tree.ProgramSyntax) (fault : NameFault)
     → Spells text program → IsFault program fault → IsRefused text (of_names fault)
@@ -134,6 +137,7 @@ compiled text program claims is enough =
     record {
       program = program;
       numbered = is;
+      generated = refl;
       names = refl;
       enough = enough;
       same = means_the_same program claims numbered is.claimed;

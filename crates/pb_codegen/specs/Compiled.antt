@@ -20,7 +20,7 @@ use Rattle.pb_code.specs.Whole.{Code, ProcessLabels, bank_of}
 use Rattle.pb_verifier.specs.Behaviour.{IsWellBehaved}
 use Rattle.pb_verifier.specs.Verified.{VerifiedCode}
 use Rattle.pb_codegen.specs.Correct.{MeansTheSame, IsFollowed}
-use Rattle.pb_codegen.specs.Generate.{names_of}
+use Rattle.pb_codegen.specs.Generate.{names_of, program_code}
 use Rattle.pb_codegen.specs.Lines.{program_labels}
 use Rattle.pb_codegen.specs.Numbered.{IsNumbered, Spells}
 use Rattle.pb_codegen.specs.SourceBehaviour.{KeepsClaims}
@@ -38,6 +38,7 @@ pub record CompiledText : Type 0 where
 pub record IsCompiled (text : List ℕ) (code : Code) (labels : List ProcessLabels) : Type 0 where
   pub program : Program
   pub numbered : IsNumbered text program code.claims
+  pub generated : code ≡ program_code program code.claims
   pub names : code.names ≡ names_of program
   pub enough : FitCapital code.claims code.capital
   pub same : MeansTheSame program code
@@ -51,9 +52,9 @@ pub record IsCompiled (text : List ℕ) (code : Code) (labels : List ProcessLabe
 
 -- the cause of a fault of the grammar, for the tokens of a text
 abbrev pub IsParseFault : List Token → ParseFault → Type 0
-IsParseFault tokens (parse.Syntax at) = IsNoProgram tokens
+IsParseFault tokens (parse.Syntax at) = (¬ NestsTooDeep tokens) × IsNoProgram tokens
 IsParseFault tokens parse.TooDeep = NestsTooDeep tokens ⊎ IsTooHigh tokens
-IsParseFault tokens parse.TooLarge = IsTooLarge tokens
+IsParseFault tokens parse.TooLarge = (¬ NestsTooDeep tokens) × IsTooLarge tokens
 IsParseFault tokens parse.NoMemory = ⊥
 
 -- the fault stands in the text, and nothing before it refuses the text; want of memory is always `Memory`

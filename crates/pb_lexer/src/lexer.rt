@@ -6,7 +6,7 @@ ghost use Rattle.std.specs.Char.{is_ascii_alphabetic, is_ascii_digit};
 ghost use Rattle.pb_lexer.specs.Tokens.{tokens};
 ghost use Rattle.pb_lexer.specs.Tokens as spec_tokens;
 ghost use Rattle.pb_lexer.specs.Forms.{is_blank, spelling};
-ghost use Rattle.pb_lexer.specs.Cutting.{line_at, IsComment, AreTokensOf, Refuses, Answers, IsFault};
+ghost use Rattle.pb_lexer.specs.Cutting.{longest_text, line_at, IsComment, AreTokensOf, Refuses, Answers, IsFault};
 ghost use Rattle.pb_lexer.specs.Finding.{Finds};
 
 use crate::error::LexFault;
@@ -136,6 +136,7 @@ fn token_at<'t>(text: &'t [u8], at: usize, line: u32) -> Result<Token<'t>, LexFa
 fn cut<'t>(alloc: Global, text: &'t [u8]) -> Result<Vec<Token<'t>>, LexFault>
     ensures found { IfOk result (λ v. AreTokensOf text.now (tokens v.items)) }
     ensures fault { IfErr result (λ e. Refuses text.now e) }
+    ensures long { longest_text < length text.now → result ≡ Err LexFault.TooLong }
 {
     if text.len() > LONGEST_TEXT {
         return Err(LexFault::TooLong);
@@ -183,6 +184,8 @@ pub fn lex<'t>(alloc: Global, text: &'t [u8]) -> Result<Vec<Token<'t>>, LexFault
     // Where it has a fault, that is answered, unless memory runs out.
     ensures exact { (e : LexFault) → (e ≡ LexFault.NoMemory → ⊥) → Refuses text.now e
         → IsFault result e }
+    // A text over the limit takes no memory.
+    ensures long { longest_text < length text.now → result ≡ Err LexFault.TooLong }
 {
     cut(alloc, text)
 }

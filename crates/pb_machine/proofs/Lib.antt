@@ -3,6 +3,7 @@ pub mod Going
 pub mod Growing
 pub mod Machines
 pub mod Openings
+pub mod Peeking
 pub mod Picks
 pub mod Quietly
 pub mod Reaching

@@ -1,5 +1,6 @@
 pub mod Acts
 pub mod Going
+pub mod Looks
 pub mod Operands
 pub mod Ready
 pub mod Steps

@@ -4,6 +4,7 @@
 mod arms;
 mod execute;
 pub mod laws;
+pub mod look;
 pub mod machine;
 pub mod process;
 mod stack;
@@ -11,6 +12,7 @@ pub mod thread;
 mod turn;
 mod visible;
 
+pub use look::Look;
 pub use machine::Machine;
 pub use process::Proc;
 pub use thread::{Thread, ThreadState};

@@ -1,6 +1,6 @@
 //! The operands of an arm.
 
-ghost use Rattle.std.specs.Prelude.{◌≡◌, ◌↔◌, ◌<◌, ◌≤◌, [], ◌∷◌, length, IsTrue, IfOk};
+ghost use Rattle.std.specs.Prelude.{◌≡◌, ◌↔◌, ◌<◌, ◌≤◌, [], ◌∷◌, length, slice_get, Some, IsTrue, IfOk};
 
 use pb_base::NoMemory;
 use smallvec::SmallVec;
@@ -50,6 +50,16 @@ impl Stack {
         ensures { IsTrue result ↔ (self.now.items ≡ other.now.items) }
     {
         self.operands.as_slice() == other.operands.as_slice()
+    }
+
+    /// The operand below so many others.
+    #[inline]
+    pub fn below(&self, others: usize) -> i64
+        requires { others < length self.now.items }
+        ensures { slice_get self.now.items others ≡ Some result }
+    {
+        let operands = self.operands.as_slice();
+        operands[operands.len() - 1 - others]
     }
 
     /// Puts an operand on top, for which there is room.

@@ -1,3 +1,5 @@
+pub mod NoFault
+pub mod Once
 pub mod CausesMore
 mod Examples
 pub mod First
@@ -11,3 +13,4 @@ pub mod Ready
 pub mod Told
 pub mod Views
 pub mod Whole
+pub mod Within

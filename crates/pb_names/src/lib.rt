@@ -5,6 +5,7 @@ mod causes;
 pub mod complete;
 mod declared;
 pub mod fault;
+pub mod laws;
 mod limits;
 mod lookups;
 pub mod numbering;

@@ -7,7 +7,7 @@ ghost use Rattle.pb_tree.specs.View.{arms_view, process_view, resource_view, pro
 ghost use Rattle.pb_names.specs.Causes.{IsUnknown, IsOutside, InExpr, InDemand, InsideProcess, InProgram, Among};
 ghost use Rattle.pb_names.specs.Causes.{InResource, InProcess};
 ghost use Rattle.pb_names.specs.Faults.{IsFault};
-ghost use Rattle.pb_names.specs.Limits.{IsWithinLimits, widest_in, inner_arms_of_stmt, inner_arms};
+ghost use Rattle.pb_names.specs.Limits.{IsTooMany, IsWithinLimits, widest_in, inner_arms_of_stmt, inner_arms};
 ghost use Rattle.pb_names.specs.Limits.{inner_arms_of_arms};
 ghost use Rattle.pb_names.specs.Program.{IsNumberedStmt, IsNumbered, AreNumbered};
 ghost use Rattle.pb_names.specs.Ready.{IsReadyStmt, AreReady, AreReadyArms, HasPairs, IsFitting};
@@ -23,7 +23,7 @@ ghost use Rattle.pb_names.specs.View.{resource_view as resource_of};
 
 use crate::causes::{amount_from, fault_of, first_cause};
 use crate::declared::Declared;
-use crate::fault::NameFault;
+use crate::fault::{Kind, NameFault};
 use crate::limits::{MAX_ARMS, MAX_FORK, MAX_INTEGERS, MAX_RESOURCES, too_many};
 use crate::resolved::{Expr, Process, Resolved, Resource, Stmt};
 use pb_base::{Bundle, NoMemory, Pair};
@@ -385,6 +385,9 @@ pub fn resolve<A: Allocator + Clone>(
     requires { IsComplete (program_view program.now) }
     ensures resolves { IfOk result (λ resolved. Resolves (program_view program.now) (resolved_view resolved)) }
     ensures fault { IfErr result (λ fault. IsFault (program_view program.now) fault) }
+    // What there is too much of is counted without memory.
+    ensures too_many { (kind : Kind) → IsTooMany (program_view program.now) kind
+        → result ≡ Err (NameFault.TooMany kind) }
 {
     if let Some(kind) = too_many(program) {
         return Err(NameFault::TooMany(kind));

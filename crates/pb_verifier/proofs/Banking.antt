@@ -86,7 +86,7 @@ module _ (whole : Code) (annotated : IsAnnotated whole) where
     pub lent : (r : ℕ) → r < length whole.capital → held_by (bank_at s.loans) (everyone (bank_at s.loans)) r ≤ capital (bank_at s.loans) r
     pub safe : IsSafe (bank_at s.loans)
 
-  well_formed : (s : State CodeProcess) → Kept s → IsWellFormed (bank_at s.loans)
+  pub well_formed : (s : State CodeProcess) → Kept s → IsWellFormed (bank_at s.loans)
   well_formed s kept =
       let rows = limits.rows in
       let few = limits.some_processes.1 in
@@ -152,7 +152,7 @@ module _ (whole : Code) (annotated : IsAnnotated whole) where
       (λ r x. let e : get_or (map none (row_of s.loans p)) r 0 ≡ 0 = get_or-map none (row_of s.loans p) r 0 in omega (arith, e))
   banked s p Ends kept u granted bundles claims = (kept.lent, kept.safe)
 
-  kept_next : (s : State CodeProcess) (pick : Pick) (move : Move CodeProcess) → Kept s → CodeMove whole.processes s pick move → IsGranted (bank_of whole) s.loans pick.process move.effect → Kept move.next
+  pub kept_next : (s : State CodeProcess) (pick : Pick) (move : Move CodeProcess) → Kept s → CodeMove whole.processes s pick move → IsGranted (bank_of whole) s.loans pick.process move.effect → Kept move.next
   kept_next s pick move kept m granted =
       let good = good_next whole annotated s pick move kept.good m in
       let u = slice_get_within whole.processes pick.process m.code m.at in

@@ -19,6 +19,7 @@ pub mod Lying
 pub mod Noting
 pub mod Order
 pub mod Peaking
+pub mod Requests
 pub mod Searching
 pub mod Sharing
 pub mod Spreading

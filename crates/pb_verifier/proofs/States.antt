@@ -34,7 +34,7 @@ slice_set_same [] i x y h = cc
 slice_set_same (z ∷ xs) zero x y h = let same : Some x ≡ Some y = h in cc
 slice_set_same (z ∷ xs) (suc i) x y h = slice_set_same xs i x y h
 
-slice_set_other : {X : Type 0} (xs : List X) (i j : ℕ) (x : X) → j ≢ i → slice_get (slice_set xs i x) j ≡ slice_get xs j
+pub slice_set_other : {X : Type 0} (xs : List X) (i j : ℕ) (x : X) → j ≢ i → slice_get (slice_set xs i x) j ≡ slice_get xs j
 slice_set_other [] i j x ne = refl
 slice_set_other (z ∷ xs) zero zero x ne = elim (ne refl) [ ]
 slice_set_other (z ∷ xs) zero (suc j) x ne = refl

@@ -9,5 +9,6 @@ pub mod Holdings
 pub mod Limits
 pub mod Places
 pub mod Process
+pub mod Requests
 pub mod Spread
 pub mod Verified

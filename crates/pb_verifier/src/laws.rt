@@ -6,6 +6,7 @@ ghost use Rattle.pb_code.specs.Answers.{HasText, HasTextOne};
 ghost use Rattle.pb_code.specs.Limits.{AreLabels, FitsFirst};
 ghost use Rattle.pb_code.specs.Whole.{Code, ProcessLabels};
 ghost use Rattle.pb_verifier.specs.Behaviour.{IsWellBehaved, PeaksDecide};
+ghost use Rattle.pb_verifier.specs.Requests.{RefusedStays, RefusedStops, SameProcessSameDepths};
 ghost use Rattle.pb_verifier.specs.Verified.{IsAnnotated, IsVerified, VerifiedCode};
 
 /// Verified code, from wherever it comes, in every state that it reaches: no instruction meets a missing operand,
@@ -26,4 +27,16 @@ pub fn verified_code_has_a_text()
     ensures second { (v : VerifiedCode) (labels : List ProcessLabels) → IsVerified v → AreLabels v.code labels
         → HasText Two v.code labels }
     ensures first { (v : VerifiedCode) → IsVerified v → FitsFirst v.code → HasTextOne v.code }
+{}
+
+/// In verified code an arm that was refused cannot be picked, and stays refused until loans come back, by a return or a
+/// fault: a grant to anyone makes nothing allowed that was not.
+pub fn refused_requests_stay_refused()
+    ensures stops { (code : Code) → IsAnnotated code → RefusedStops code }
+    ensures stays { (code : Code) → IsAnnotated code → RefusedStays code }
+{}
+
+/// Two verified codes with the same process have the same depths for its arms.
+pub fn same_process_has_the_same_depths()
+    ensures { SameProcessSameDepths }
 {}

@@ -4,27 +4,27 @@ use Rattle.pb_cli.specs.Read.{WordsSay}
 use Rattle.pb_cli.proofs.AnswerLemmas.{CallWrites-refused, IfSome-of, IfSome-weaker}
 use Rattle.pb_cli.proofs.answer.answer.Goals as goal
 
-pub returns-in-Ok-Check : goal.returns-in-Ok-Check
-returns-in-Ok-Check g c =
+pub returns-in-Ok-Check-clause-text : goal.returns-in-Ok-Check-clause-text
+returns-in-Ok-Check-clause-text g c =
     let read = subst (WordsSay c.args.words.now) c.in-Ok-Check.field-0-is c.in-Ok-Check.ensures.read in
     IfSome-weaker (g.I.Input.rest c.args.input.now) _ _ (λ bytes writes. inl (Check c.in-Ok-Check.numbers, read, writes)) c.check_engine.ensures.text
 
-pub returns-in-Ok-Run : goal.returns-in-Ok-Run
-returns-in-Ok-Run g c =
+pub returns-in-Ok-Run-clause-text : goal.returns-in-Ok-Run-clause-text
+returns-in-Ok-Run-clause-text g c =
     let read = subst (WordsSay c.args.words.now) c.in-Ok-Run.field-0-is c.in-Ok-Run.ensures.read in
     IfSome-weaker (g.I.Input.rest c.args.input.now) _ _ (λ bytes writes. inl (Run c.in-Ok-Run.numbers, read, writes)) c.run_engine.ensures.text
 
-pub returns-in-Err : goal.returns-in-Err
-returns-in-Err g c =
+pub returns-in-Err-clause-text : goal.returns-in-Err-clause-text
+returns-in-Err-clause-text g c =
     IfSome-of (g.I.Input.rest c.args.input.now) _
-    (λ bytes. CallWrites-refused c.args.words.now bytes _ _ c.refuse.result c.in-Err.fault c.in-Err.ensures.refused c.refuse.ensures)
+    (λ bytes. CallWrites-refused c.args.words.now bytes _ _ c.refuse.result c.in-Err.fault c.in-Err.ensures.refused c.refuse.ensures.text)
 
-pub returns-in-Ok-Exec : goal.returns-in-Ok-Exec
-returns-in-Ok-Exec g c =
+pub returns-in-Ok-Exec-clause-text : goal.returns-in-Ok-Exec-clause-text
+returns-in-Ok-Exec-clause-text g c =
     let read = subst (WordsSay c.args.words.now) c.in-Ok-Exec.field-0-is c.in-Ok-Exec.ensures.read in
     IfSome-weaker (g.I.Input.rest c.args.input.now) _ _ (λ bytes writes. inl (Exec c.in-Ok-Exec.numbers, read, writes)) c.exec_engine.ensures.text
 
-pub returns-in-Ok-Emit : goal.returns-in-Ok-Emit
-returns-in-Ok-Emit g c =
+pub returns-in-Ok-Emit-clause-text : goal.returns-in-Ok-Emit-clause-text
+returns-in-Ok-Emit-clause-text g c =
     let read = subst (WordsSay c.args.words.now) c.in-Ok-Emit.field-0-is c.in-Ok-Emit.ensures.read in
     IfSome-weaker (g.I.Input.rest c.args.input.now) _ _ (λ bytes writes. inl (Emit c.in-Ok-Emit.numbers, read, writes)) c.emit_engine.ensures.text

@@ -23,7 +23,7 @@ loop-step-preserved g c = (
 
 pub returns-in-Finished-clause-text : goal.returns-in-Finished-clause-text
 returns-in-Finished-clause-text g c =
-    told_finished _ c.args.steps _ _ _ _ _ _ _ c.tell_end.result c.loop-step.invariant.0 c.in-Finished.ensures.told c.tell_end.ensures.text
+    told_finished _ c.args.steps _ _ _ _ _ _ _ c.tell_end.result c.loop-step.invariant.0 (omega arith) c.in-Finished.ensures.told c.tell_end.ensures.text
 
 pub returns-in-Finished-clause-fault : goal.returns-in-Finished-clause-fault
 returns-in-Finished-clause-fault g c device =
@@ -31,7 +31,7 @@ returns-in-Finished-clause-fault g c device =
 
 pub returns-in-OutOfMemory-clause-text : goal.returns-in-OutOfMemory-clause-text
 returns-in-OutOfMemory-clause-text g c =
-    told_memory _ c.args.steps _ _ _ _ _ _ c.finish_with-in-OutOfMemory.result c.loop-step.invariant.0 c.in-OutOfMemory.ensures.told
+    told_memory _ c.args.steps _ _ _ _ _ _ c.finish_with-in-OutOfMemory.result c.loop-step.invariant.0 (omega arith) c.in-OutOfMemory.ensures.told
     c.finish_with-in-OutOfMemory.ensures.text
 
 pub returns-in-OutOfMemory-clause-fault : goal.returns-in-OutOfMemory-clause-fault
@@ -43,7 +43,7 @@ pub returns-in-Broken-clause-text : goal.returns-in-Broken-clause-text
 returns-in-Broken-clause-text g c =
     told_broken _ c.args.steps _ _ _ (machine_view c.tell_step.new.machine) _
     (record { written = g.O.Output.written c.tell_step.new.output; page = c.tell_step.new.page })
-    c.loop-step.invariant.0 c.in-Broken.ensures.told
+    c.loop-step.invariant.0 (omega arith) c.in-Broken.ensures.told
 
 pub returns-in-Broken-clause-fault : goal.returns-in-Broken-clause-fault
 returns-in-Broken-clause-fault g c device = c.in-Broken.ensures.fault refl ∙ ap one_more_failure c.loop-step.invariant.2
@@ -51,7 +51,7 @@ returns-in-Broken-clause-fault g c device = c.in-Broken.ensures.fault refl ∙ a
 pub returns-clause-text : goal.returns-clause-text
 returns-clause-text g c =
     let all : c.loop-step._step ≡ c.args.steps = omega arith in
-    told_end _ c.args.steps _ _ _ _ _ c.tell_end-2.result c.loop-step.invariant.0 (λ not_done. all) c.tell_end-2.ensures.text
+    told_end _ c.args.steps _ _ _ _ _ c.tell_end-2.result c.loop-step.invariant.0 (omega (arith, all)) (λ not_done. all) c.tell_end-2.ensures.text
 
 pub returns-clause-fault : goal.returns-clause-fault
 returns-clause-fault g c device = c.tell_end-2.ensures.fault device ∙ ap one_more_failure c.loop-step.invariant.2

@@ -1,0 +1,48 @@
+-- Requests that were refused, and that two codes with the same process need as much room for it.
+use Rattle.std.specs.Prelude.{◌≡◌, ℕ, Bool, true, false, Option, Some, None, slice_get, slice_index_or, []}
+use Rattle.pb_base.specs.declared.event.Event.{Event}
+use Rattle.pb_base.specs.declared.event.Event.TheVariants.{Granted, Returned, Printed, Faulted, Finished}
+use Rattle.pb_base.specs.declared.pick.Pick.{Pick}
+use Rattle.pb_base.specs.Banker.{IsAllowed}
+use Rattle.pb_base.specs.Steppers.{Bundle, Takes, State, Move, banker_state, move_of}
+use Rattle.pb_code.specs.Code.{ProcessCode, CodeProcess, code_step}
+use Rattle.pb_code.specs.Reached.{CodeReaches, CodeMoves}
+use Rattle.pb_code.specs.Whole.{Code, bank_of}
+use Rattle.pb_verifier.specs.Verified.{IsAnnotated, IsVerified, VerifiedCode}
+
+-- the arm stands at a request that is not allowed now
+pub record IsRefused (code : Code) (s : State CodeProcess) (pick : Pick) : Type 0 where
+  pub move : Move CodeProcess
+  pub bundle : Bundle
+  pub asks : move_of (code_step code.processes) s pick ≡ Some move
+  pub takes : move.effect ≡ Takes bundle
+  pub not_allowed : IsAllowed (banker_state (bank_of code) s.loans) pick.process bundle → ⊥
+
+-- whether an event gives loans back, so that what was refused may be allowed
+abbrev pub frees : Option Event → Bool
+frees None = false
+frees (Some (Granted pick bundle)) = false
+frees (Some (Returned pick bundle)) = true
+frees (Some (Printed pick value)) = false
+frees (Some (Faulted pick kind)) = true
+frees (Some (Finished process)) = false
+
+-- a request that was refused stays refused, until loans come back
+abbrev pub RefusedStays : Code → Type 0
+RefusedStays code =
+    (s next : State CodeProcess) (pick refused : Pick) (event : Option Event)
+    → CodeReaches code s → CodeMoves code s pick event next → frees event ≡ false
+    → IsRefused code s refused → IsRefused code next refused
+
+-- an arm that was refused cannot be picked
+abbrev pub RefusedStops : Code → Type 0
+RefusedStops code =
+    (s next : State CodeProcess) (pick : Pick) (event : Option Event)
+    → IsRefused code s pick → CodeMoves code s pick event next → ⊥
+
+-- what two codes with the same process p say of the depth of its arms
+abbrev pub SameProcessSameDepths : Type 0
+SameProcessSameDepths =
+    (v w : VerifiedCode) (p : ℕ) → IsVerified v → IsVerified w
+    → slice_get v.code.processes p ≡ slice_get w.code.processes p
+    → slice_index_or v.depths p [] ≡ slice_index_or w.depths p []
