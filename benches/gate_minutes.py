@@ -1,0 +1,65 @@
+#!/usr/bin/env python3
+"""Runs the gate, or the command given, and prints the minutes of processors that each crate took, as a table.
+
+    benches/gate_minutes.py [COMMAND ..]      .ci/run if no command is given; the table follows its output
+
+Each second it reads the processor time of every running rattle of this session, and takes crate and phase from the
+command line and folder of the process. What a process uses in its last second is missed; the total is exact.
+"""
+import collections
+import os
+import subprocess
+import sys
+import time
+
+TOP = os.path.dirname(os.path.dirname(os.path.realpath(__file__)))
+PHASES = ("proof", "tests", "edits")
+TICKS = os.sysconf("SC_CLK_TCK")
+
+
+def read(number):
+    """Returns the start, crate, phase and processor seconds of a rattle of this session, or None."""
+    try:
+        with open(f"/proc/{number}/cmdline", "rb") as file:
+            words = file.read().decode(errors="replace").split("\0")
+        with open(f"/proc/{number}/stat", encoding="utf-8", errors="replace") as file:
+            fields = file.read().rpartition(")")[2].split()
+        folder = os.path.basename(os.readlink(f"/proc/{number}/cwd"))
+    except OSError:
+        return None
+    if os.path.basename(words[0]) != "rattle" or "--crate-name" not in words or int(fields[3]) != os.getsid(0):
+        return None
+    crate = words[words.index("--crate-name") + 1]
+    phase = "edits" if folder.startswith("rt-edit-") else "tests" if "--test" in words else "proof"
+    return fields[19], crate, phase, (int(fields[11]) + int(fields[12])) / TICKS
+
+
+def edits_of(crate):
+    folder = f"{TOP}/crates/{crate}/must-fail"
+    return sum(name.endswith(".edit") for name in os.listdir(folder)) if os.path.isdir(folder) else 0
+
+
+def main(words):
+    began, seen = time.monotonic(), {}
+    ran = subprocess.Popen(words or [f"{TOP}/.ci/run"], cwd=None if words else TOP)
+    while ran.poll() is None:
+        for number in filter(str.isdigit, os.listdir("/proc")):
+            found = read(number)
+            if found:
+                seen[number, found[0]] = found[1:]
+        time.sleep(1)
+    spent = collections.Counter()
+    for crate, phase, seconds in seen.values():
+        spent[crate, phase] += seconds / 60
+    print("\n| Crate | Proof from nothing | The same with tests | Must-fail edits | Minutes for the edits |\n|---|---|---|---|---|")
+    for crate in sorted({crate for crate, _ in spent}):
+        proof, tests, edits = (f"{spent[crate, it]:.1f}" if spent[crate, it] else "" for it in PHASES)
+        print(f"| {crate} | {proof} | {tests} | {edits_of(crate) or 'none'} | {edits} |")
+    sums = ", ".join(f"{phase} {sum(it for (_, of), it in spent.items() if of == phase):.1f}" for phase in PHASES)
+    used = os.times()
+    total, clock = (used.children_user + used.children_system) / 60, (time.monotonic() - began) / 60
+    print(f"\n{sums}; in all {total:.1f} minutes of processors, {clock:.1f} by the clock")
+    return ran.returncode
+
+
+sys.exit(main(sys.argv[1:]))
