@@ -1,0 +1,6 @@
+pub mod Laying
+pub mod Leading
+pub mod Replaying
+pub mod Rising
+pub mod Spanning
+pub mod Wholes

@@ -1,0 +1,79 @@
+use Rattle.std.proofs.Common.{◌≡◌, ◌+◌, ◌-◌, ◌/◌, ◌<◌, ⊎_elim, Some, length, slice_get, sym, ap, ◌∙◌, arith}
+use Rattle.std.proofs.lemmas.Bool.{cases_lt}
+use Rattle.pb_history.specs.Entries.{all_picks, size}
+use Rattle.pb_history.specs.Ends.{row_of, spans_from}
+use Rattle.pb_history.proofs.Rising.{all_before, end_is, ends_rise, item_there, pick_at, size_from}
+use Rattle.pb_history.proofs.spans.Spans.pick.Goals as goal
+
+pub loop-low-preserved-then-span-i : goal.loop-low-preserved-then-span-i
+loop-low-preserved-then-span-i c =
+    let t = c.self.inside in
+    let ends = t.ends.items in
+    let low = c.loop-low.low in
+    let high = c.loop-low.high in
+    let mid = low + (high - low) / 2 in
+    let within = c.loop-low.invariant.within in
+    let test = c.loop-low-test.true in
+    let lt : mid < length ends = omega (arith, within, test) in
+    let s = c.index-span.result.now in
+    let end = end_is ends mid s (item_there ends mid s lt ∙ ap Some (sym c.index-span.ensures)) in
+    let here = c.if-span-i.true in record {
+      order = omega (arith, test);
+      within = within;
+      before = λ k u. let r = ends_rise 0 t.len ends k mid c.self.invariant (omega (arith, u)) lt in omega (arith, r, end, here);
+      after = c.loop-low.invariant.after;
+    }
+
+pub loop-low-preserved : goal.loop-low-preserved
+loop-low-preserved c =
+    let t = c.self.inside in
+    let ends = t.ends.items in
+    let low = c.loop-low.low in
+    let high = c.loop-low.high in
+    let mid = low + (high - low) / 2 in
+    let within = c.loop-low.invariant.within in
+    let test = c.loop-low-test.true in
+    let lt : mid < length ends = omega (arith, within, test) in
+    let s = c.index-span.result.now in
+    let end = end_is ends mid s (item_there ends mid s lt ∙ ap Some (sym c.index-span.ensures)) in
+    let here = c.if-span-i.false in record {
+      order = omega arith;
+      within = omega (arith, within, test);
+      before = c.loop-low.invariant.before;
+      after = λ k u v. let r = ends_rise 0 t.len ends mid k c.self.invariant u v in omega (arith, r, end, here);
+    }
+
+pub index-span-requires-2 : goal.index-span-requires-2
+index-span-requires-2 c =
+    let t = c.self.inside in
+    let ends = t.ends.items in
+    let within : c.args.i < size (row_of t).spans = rw (← c.self.view_is) at c.requires in
+    let len = size_from 0 t.len ends c.self.invariant in
+    let there : c.loop-low.low < length ends = ⊎_elim (λ l. l)
+    (λ l.
+    let past = all_before 0 t.len c.args.i ends c.self.invariant (omega arith) (λ k u. c.loop-low.invariant.before k (omega (arith, u, l))) in
+    absurd (omega (arith, past, within, len)))
+    (cases_lt c.loop-low.low (length ends)) in
+    omega (arith, there, t.ends.ok.0)
+
+pub returns : goal.returns
+returns c =
+    let t = c.self.inside in
+    let ends = t.ends.items in
+    let i = c.args.i in
+    let low = c.loop-low.low in
+    let within : i < size (row_of t).spans = rw (← c.self.view_is) at c.requires in
+    let len = size_from 0 t.len ends c.self.invariant in
+    let lt : low < length ends = ⊎_elim (λ l. l)
+    (λ l.
+    let past = all_before 0 t.len i ends c.self.invariant (omega arith) (λ k u. c.loop-low.invariant.before k (omega (arith, u, l))) in
+    absurd (omega (arith, past, within, len)))
+    (cases_lt low (length ends)) in
+    let s = c.index-span-2.result.now in
+    let there : slice_get ends low ≡ Some s = item_there ends low s lt ∙ ap Some (sym c.index-span-2.ensures) in
+    let end = end_is ends low s there in
+    let test = c.loop-low-test.false in
+    let below = c.loop-low.invariant.after low (omega (arith, test)) lt in
+    let none : i - 0 ≡ i = omega arith in
+    rw (← c.self.view_is) (ap (slice_get (all_picks (spans_from 0 ends))) (sym none)
+    ∙ pick_at 0 t.len i ends low s c.self.invariant (omega arith) there c.loop-low.invariant.before (omega (arith, below, end)))

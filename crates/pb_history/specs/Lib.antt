@@ -1,0 +1,6 @@
+pub mod Ends
+pub mod Entries
+pub mod Kept
+pub mod Leads
+pub mod Replays
+pub mod Traces

@@ -1,0 +1,25 @@
+-- Traces: entries that are kept as spans and events.
+use Rattle.std.specs.Prelude.{◌≡◌, ℕ, ◌<◌, ◌≤◌, List, [], ◌∷◌, drop, length, min}
+use Rattle.pb_base.specs.declared.event.Event.{Event}
+use Rattle.pb_history.specs.Entries.{Entry, entries_of, marks, spans_of}
+use Rattle.pb_history.specs.declared.span.Span.{Span}
+use Rattle.pb_history.specs.declared.trace.Trace.TheInside.{Inside}
+
+-- what contracts see of a trace: its entries, and how many more calls that add there is room for
+pub record Trail : Type 0 where
+  pub entries : List Entry
+  pub room : ℕ
+
+-- each span has a pick, and the spans that show have these events
+abbrev pub AreLaid : List Span → List Event → Type 0
+AreLaid [] events = events ≡ []
+AreLaid (s ∷ spans) events =
+    (0 < s.count) × (marks s.shows ≤ length events) × AreLaid spans (drop (marks s.shows) events)
+
+abbrev pub trail_of : Inside → Trail
+trail_of t = record { entries = entries_of t.spans.spans t.events.events; room = min t.spans.room t.events.room }
+
+-- the spans have these events, and no two of them could be one
+pub record IsTrace (t : Inside) : Type 0 where
+  pub laid : AreLaid t.spans.spans t.events.events
+  pub apart : spans_of (entries_of t.spans.spans t.events.events) ≡ t.spans.spans

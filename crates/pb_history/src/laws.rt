@@ -1,0 +1,13 @@
+//! Laws of traces, each the contract of a function that does nothing.
+
+ghost use Rattle.pb_history.specs.Leads.{SilentPicksLead, TracesMake};
+
+/// The picks of a trace make its events.
+pub fn traces_make_their_events()
+    ensures { TracesMake }
+{}
+
+/// Silent picks of one process, made apart from the others, are picks of the code.
+pub fn silent_picks_lead()
+    ensures { SilentPicksLead }
+{}

@@ -1,0 +1,16 @@
+//! The history of a run: which picks were made and what each showed, kept in little room; and picks made once more.
+#![tactic(auto)]
+
+pub mod counted;
+mod events;
+pub mod fault;
+pub mod laws;
+pub mod replay;
+pub mod span;
+mod spans;
+pub mod trace;
+
+pub use counted::CountedPick;
+pub use fault::ReplayFault;
+pub use span::Span;
+pub use trace::Trace;

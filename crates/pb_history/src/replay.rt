@@ -1,0 +1,119 @@
+//! Picks made once more, from the start.
+
+ghost use Rattle.std.specs.Prelude.{◌≡◌, ◌+◌, ◌≤◌, ◌++◌, length, replicate, IfOk, IfErr, OnOk};
+ghost use Rattle.pb_code.specs.Whole.{code_opening};
+ghost use Rattle.pb_history.specs.Entries.{picks_of};
+ghost use Rattle.pb_history.specs.Leads.{Leads};
+ghost use Rattle.pb_history.specs.Replays.{IsReplay, IsRun, IsStopped, spread};
+ghost use Rattle.pb_machine.specs.Views.{machine_view, IsMachineOf};
+
+use crate::counted::CountedPick;
+use crate::fault::ReplayFault;
+use crate::trace::Trace;
+use pb_base::{Pick, Step};
+use pb_machine::Machine;
+use pb_verifier::Verified;
+use std::alloc::Global;
+
+/// Makes these picks in turn, from the start of the code: returns the machine after the last, and the trace of all.
+/// The fault is the first pick that is not enabled, or out of memory.
+pub fn replay(
+    alloc: Global,
+    verified: &Verified,
+    picks: &[Pick],
+) -> Result<(Machine, Trace), ReplayFault>
+    requires { length picks.now ≤ 10000000 }
+    ensures replay { IfOk result (λ made.
+        IsReplay verified.now.code picks.now made.1.entries (machine_view made.0)) }
+    ensures machine { IfOk result (λ made. IsMachineOf verified.now made.0) }
+    ensures stopped { IfErr result (λ fault. IsStopped verified.now.code picks.now fault) }
+{
+    let mut machine = Machine::new(alloc, verified)?;
+    let mut trace = Trace::new(alloc);
+    for i in 0..picks.len() {
+        let event = match machine.step(verified, picks[i]) {
+            Step::Silent => None,
+            Step::Did(event) => Some(event),
+            Step::NotEnabled => return Err(ReplayFault::NotEnabled(i as u32)),
+        };
+        trace.push(picks[i], event)?;
+    }
+    Ok((machine, trace))
+}
+
+/// Makes each of these picks as often as its count says: the same as `replay` of all the picks one by one, which are
+/// never spread out in memory.
+pub fn replay_counted(
+    alloc: Global,
+    verified: &Verified,
+    picks: &[CountedPick],
+) -> Result<(Machine, Trace), ReplayFault>
+    requires { length (spread picks.now) ≤ 10000000 }
+    ensures replay { IfOk result (λ made.
+        IsReplay verified.now.code (spread picks.now) made.1.entries (machine_view made.0)) }
+    ensures machine { IfOk result (λ made. IsMachineOf verified.now made.0) }
+    ensures stopped { IfErr result (λ fault. IsStopped verified.now.code (spread picks.now) fault) }
+{
+    let mut machine = Machine::new(alloc, verified)?;
+    let mut trace = Trace::new(alloc);
+    for i in 0..picks.len() {
+        repeat(verified, &mut machine, &mut trace, picks[i])?;
+    }
+    Ok((machine, trace))
+}
+
+/// Makes a pick as often as its count says, after those of the trace.
+fn repeat(
+    verified: &Verified,
+    machine: &mut Machine,
+    trace: &mut Trace,
+    counted: CountedPick,
+) -> Result<(), ReplayFault>
+    requires machine { IsMachineOf verified.now machine.old }
+    requires leads { Leads verified.now.code (code_opening verified.now.code) trace.old.entries
+        (machine_view machine.old) }
+    requires fits { length trace.old.entries + counted.count ≤ 10000000 }
+    ensures picks { OnOk result (picks_of trace.new.entries
+        ≡ picks_of trace.old.entries ++ replicate counted.count counted.pick) }
+    ensures leads { OnOk result (Leads verified.now.code (code_opening verified.now.code) trace.new.entries
+        (machine_view machine.new)) }
+    ensures machine { OnOk result (IsMachineOf verified.now machine.new) }
+    ensures stopped { IfErr result (IsStopped verified.now.code
+        (picks_of trace.old.entries ++ replicate counted.count counted.pick)) }
+{
+    let pick = counted.pick;
+    let mut left = counted.count;
+    while left > 0 {
+        let (silent, step) = run(verified, machine, pick, left);
+        trace.reserve(1)?;
+        match step {
+            Step::Silent => {
+                trace.push_run(pick, silent, None);
+                left -= silent;
+            }
+            Step::Did(event) => {
+                trace.push_run(pick, silent, Some(event));
+                left -= silent + 1;
+            }
+            Step::NotEnabled => return Err(ReplayFault::NotEnabled(trace.len() + silent)),
+        }
+    }
+    Ok(())
+}
+
+/// Makes picks of one arm, at most `max`, up to the first that is not silent: returns how many were silent before it,
+/// and what it came to.
+fn run(verified: &Verified, machine: &mut Machine, pick: Pick, max: u32) -> (u32, Step)
+    requires { IsMachineOf verified.now machine.old }
+    ensures run { IsRun verified.now.code (machine_view machine.old) pick max result.0 result.1
+        (machine_view machine.new) }
+    ensures machine { IsMachineOf verified.now machine.new }
+{
+    for made in 0..max {
+        match machine.step(verified, pick) {
+            Step::Silent => {}
+            step => return (made, step),
+        }
+    }
+    (max, Step::Silent)
+}
