@@ -1,6 +1,6 @@
 //! Where bytes come from and where they go.
 
-ghost use Rattle.std.specs.Prelude.{◌≡◌, ◌≤◌, ◌<◌, ℕ, List, [], Option, take, length, ◌⊎◌};
+ghost use Rattle.std.specs.Prelude.{◌≡◌, ◌≢◌, ◌≤◌, ◌<◌, ℕ, List, [], Option, take, length, ◌⊎◌};
 ghost use Rattle.std.specs.Prelude.{IfErr, IfOk, IfSome, OnOk, OnErr, ◌^◌};
 ghost use Rattle.pb_base.specs.Device.{appended, dropped, one_more_failure, AddsPrefix, GivesNext};
 
@@ -101,6 +101,9 @@ pub fn read_whole<I: Input>(
         IfSome (I.rest input.old) (λ bytes. limit < length bytes)) }
     ensures fault { IfErr result (λ e. e ≡ ReadFault.Device →
         I.failures input.new ≡ one_more_failure (I.failures input.old)) }
+    // A read that fails is told as nothing else.
+    ensures no_fault { IfErr result (λ e. e ≢ ReadFault.Device →
+        I.failures input.new ≡ I.failures input.old) }
 {
     let mut bytes = Vec::new(alloc);
     let mut block = [0; 4096];

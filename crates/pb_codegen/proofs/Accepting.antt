@@ -138,7 +138,7 @@ module _ (resources : List Name) (process : Process) (fine : IsFine resources pr
       → NamesWell (length process.integers) (length resources) i
   names_at place i at =
       each_instr_at (NamesWell (length process.integers) (length resources)) (process_code process).instrs place i
-      (names_well resources process fine.tree.written.body fine.few_resources fine.formed.full fine.tree.resolves.body) at
+      (names_well resources process fine.tree.written.body fine.few_resources fine.tree.resolves.body) at
 
   pub sound_forks : HasForks (process_code process)
   sound_forks =

@@ -16,7 +16,6 @@ use Rattle.pb_tree.specs.Syntax.{DemandSyntax}
 use Rattle.pb_names.specs.Program.{Name}
 use Rattle.pb_names.specs.Resolves.{ResolvesDemand, ResolvesDemands}
 use Rattle.pb_verifier.specs.Limits.{IsUpTo, IsSmallBundle}
-use Rattle.pb_codegen.proofs.Zips.{same_length}
 
 abbrev numbers : Bundle → List ℕ
 numbers bundle = map (λ pair. pair.resource) bundle
@@ -79,17 +78,15 @@ small_amounts resources (demand ∷ demands) (pair ∷ bundle) few h =
     All-cons (λ (pair : Pair). (pair.resource < 16) × IsUpTo 1000000 pair.amount) pair bundle
     (omega (arith, u, few), (h.0.some, h.0.small)) (small_amounts resources demands bundle few h.1)
 
--- the pairs of a hold that has some
+-- the pairs of a hold
 pub small_bundle : (resources : List Name) (demands : List DemandSyntax) (bundle : Bundle)
-    → length resources ≤ 16
-    → 1 ≤ length demands → ResolvesDemands resources demands bundle
+    → length resources ≤ 16 → ResolvesDemands resources demands bundle
     → IsSmallBundle bundle × All (λ pair. pair.resource < length resources) bundle
-small_bundle resources demands bundle few some h =
+small_bundle resources demands bundle few h =
     let there = resources_there resources demands bundle h.each in
-    let most = few_pairs (length resources) bundle h.distinct there in
-    let as_many = same_length (ResolvesDemand resources) demands bundle h.each in (
+    let most = few_pairs (length resources) bundle h.distinct there in (
       record {
-        size = (omega (arith, some, as_many), omega (arith, most, few));
+        size = (h.some, omega (arith, most, few));
         amounts = small_amounts resources demands bundle few h.each;
         distinct = h.distinct;
       },

@@ -18,7 +18,7 @@ use Rattle.pb_parser.specs.Programs.{ReadsProgram}
 use Rattle.pb_names.specs.declared.fault.NameFault.{NameFault}
 use Rattle.pb_names.specs.declared.fault.NameFault.TheVariants as names
 use Rattle.pb_names.specs.Faults.{IsFault}
-use Rattle.pb_names.specs.Ready.{HasPairsStmt, HasPairs, HasPairsArms, IsComplete}
+use Rattle.pb_names.specs.Ready.{IsCompleteStmt, AreComplete, AreCompleteArms, IsComplete}
 use Rattle.pb_names.specs.Meaning.{AreClaims}
 use Rattle.pb_names.specs.Program.{Program, Resource, capital_of}
 use Rattle.pb_names.specs.Resolves.{Resolves, resource_names}
@@ -55,23 +55,23 @@ spells text tokens written t r cut read limits is nested = record {
   limits = limits;
 }
 
--- what is formed has what numbering asks for
+-- what is formed is complete
 mutual
-  pairs_in_stmt : (s : tree.StmtSyntax) → IsFullStmt s → HasPairsStmt s
-  pairs_in_stmt (tree.assign line x e) h = tt
-  pairs_in_stmt (tree.print line e) h = tt
-  pairs_in_stmt (tree.if_else line e a b) h = (pairs_in a h.1, pairs_in b h.2)
-  pairs_in_stmt (tree.while_do line e body) h = pairs_in body h.1
-  pairs_in_stmt (tree.hold line demands body) h = (h.1, pairs_in body h.2)
-  pairs_in_stmt (tree.parbegin line arms) h = pairs_in_arms arms h.2
+  complete_stmt : (s : tree.StmtSyntax) → IsFullStmt s → IsCompleteStmt s
+  complete_stmt (tree.assign line x e) h = tt
+  complete_stmt (tree.print line e) h = tt
+  complete_stmt (tree.if_else line e a b) h = (complete_list a h.1, complete_list b h.2)
+  complete_stmt (tree.while_do line e body) h = complete_list body h.1
+  complete_stmt (tree.hold line demands body) h = (h.1, complete_list body h.2)
+  complete_stmt (tree.parbegin line arms) h = (h.1, complete_arms arms h.2)
 
-  pairs_in : (ss : tree.StmtsSyntax) → IsFull ss → HasPairs ss
-  pairs_in tree.no_stmt h = tt
-  pairs_in (tree.stmt_then s ss) h = (pairs_in_stmt s h.0, pairs_in ss h.1)
+  complete_list : (ss : tree.StmtsSyntax) → IsFull ss → AreComplete ss
+  complete_list tree.no_stmt h = tt
+  complete_list (tree.stmt_then s ss) h = (complete_stmt s h.0, complete_list ss h.1)
 
-  pairs_in_arms : (arms : tree.ArmsSyntax) → AreFull arms → HasPairsArms arms
-  pairs_in_arms tree.no_arm h = tt
-  pairs_in_arms (tree.arm_then arm arms) h = (pairs_in arm h.0, pairs_in_arms arms h.1)
+  complete_arms : (arms : tree.ArmsSyntax) → AreFull arms → AreCompleteArms arms
+  complete_arms tree.no_arm h = tt
+  complete_arms (tree.arm_then arm arms) h = (complete_list arm h.0, complete_arms arms h.1)
 
 pub complete : (text : List ℕ) (tokens : List Token) (written : tree.ProgramSyntax)
     → AreTokensOf text tokens → ReadsProgram tokens written → IsComplete written
@@ -79,8 +79,8 @@ complete text tokens written cut read =
     let formed = read_program_formed text tokens written cut read in
     record {
       some_process = formed.some_processes;
-      pairs =
-          All-weaker IsFormedProcess (λ process. HasPairs process.body) (λ process h. pairs_in process.body h.full)
+      bodies =
+          All-weaker IsFormedProcess (λ process. AreComplete process.body) (λ process h. complete_list process.body h.full)
           written.processes formed.processes;
     }
 

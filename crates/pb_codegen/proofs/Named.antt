@@ -10,7 +10,6 @@ use Rattle.pb_names.specs.Resolves.{if_else, while_do, hold, parbegin, ResolvesS
 use Rattle.pb_names.specs.Resolves.{ResolvesArms, no_arm, arm_then}
 use Rattle.pb_code.specs.Code.{Instr, Load, Store, Take, Give, Fork, Join}
 use Rattle.pb_verifier.specs.Limits.{IsUpTo, IsSmallBundle}
-use Rattle.pb_codegen.specs.Form.{HasArm, IsFullStmt, IsFull, AreFull}
 use Rattle.pb_codegen.specs.Generate.{process_code}
 use Rattle.pb_codegen.proofs.Bundles.{small_bundle}
 use Rattle.pb_codegen.proofs.Instructions.{IsElsewhere, NamesExpr, NamesStmt, Names, AllName, all_name-append}
@@ -47,55 +46,49 @@ module _ (integers resources : List Name) (few : length resources ≤ 16) where
   names_expr _ _ (unary op e e' h) = names_expr e e' h
   names_expr _ _ (binary op a b a' b' h k) = (names_expr a a' h, names_expr b b' k)
 
-  counts_arm : (arms : tree.ArmsSyntax) (arms' : Arms) → HasArm arms → ResolvesArms integers resources arms arms'
-      → 1 ≤ count arms'
-  counts_arm _ _ some no_arm = elim some [ ]
-  counts_arm _ _ some (arm_then arm arm' arms arms' h k) = omega arith
-
   -- those of the arm that has a statement, and those of the arms inside
   mutual
-    names_stmt : (s : tree.StmtSyntax) (s' : Stmt) → IsFullStmt s → ResolvesStmt integers resources s s'
+    names_stmt : (s : tree.StmtSyntax) (s' : Stmt) → ResolvesStmt integers resources s s'
         → NamesStmt Well s' × AllName Well (arms_in_stmt s')
-    names_stmt _ _ full (assign line x i e e' is h) = ((slice_get_within integers i x.text is, names_expr e e' h), tt)
-    names_stmt _ _ full (print line e e' h) = (names_expr e e' h, tt)
-    names_stmt _ _ full (if_else line e e' a b a' b' h k l) =
-        let x = names_block a a' full.1 k in
-        let y = names_block b b' full.2 l in
+    names_stmt _ _ (assign line x i e e' is h) = ((slice_get_within integers i x.text is, names_expr e e' h), tt)
+    names_stmt _ _ (print line e e' h) = (names_expr e e' h, tt)
+    names_stmt _ _ (if_else line e e' a b a' b' h k l) =
+        let x = names_block a a' k in
+        let y = names_block b b' l in
         ((names_expr e e' h, x.0, y.0), all_name-append Well (arms_in a') (arms_in b') x.1 y.1)
-    names_stmt _ _ full (while_do line e e' body body' h k) =
-        let x = names_block body body' full.1 k in
+    names_stmt _ _ (while_do line e e' body body' h k) =
+        let x = names_block body body' k in
         ((names_expr e e' h, x.0), x.1)
-    names_stmt _ _ full (hold line demands bundle body body' h k) =
-        let x = names_block body body' full.2 k in
-        let small = small_bundle resources demands bundle few full.1 h in
+    names_stmt _ _ (hold line demands bundle body body' h k) =
+        let x = names_block body body' k in
+        let small = small_bundle resources demands bundle few h in
         ((small, small, x.0), x.1)
-    names_stmt _ _ full (parbegin line first arms arms' most h) =
-        let x = names_arms arms arms' full.2 h in
-        let some = counts_arm arms arms' full.1 h in
-        (((some, most), (some, most)), all_name-append Well (arms_list arms') (arms_in_arms arms') x.0 x.1)
+    names_stmt _ _ (parbegin line first arms arms' most h) =
+        let x = names_arms arms arms' h in
+        ((most, most), all_name-append Well (arms_list arms') (arms_in_arms arms') x.0 x.1)
 
-    pub names_block : (ss : tree.StmtsSyntax) (block : Block) → IsFull ss → ResolvesStmts integers resources ss block
+    pub names_block : (ss : tree.StmtsSyntax) (block : Block) → ResolvesStmts integers resources ss block
         → Names (NamesWell (length integers) (length resources)) block
         × AllName (NamesWell (length integers) (length resources)) (arms_in block)
-    names_block _ _ full no_stmt = (tt, tt)
-    names_block _ _ full (stmt_then s s' ss block h k) =
-        let x = names_stmt s s' full.0 h in
-        let y = names_block ss block full.1 k in
+    names_block _ _ no_stmt = (tt, tt)
+    names_block _ _ (stmt_then s s' ss block h k) =
+        let x = names_stmt s s' h in
+        let y = names_block ss block k in
         ((x.0, y.0), all_name-append Well (arms_in_stmt s') (arms_in block) x.1 y.1)
 
-    names_arms : (arms : tree.ArmsSyntax) (arms' : Arms) → AreFull arms → ResolvesArms integers resources arms arms'
+    names_arms : (arms : tree.ArmsSyntax) (arms' : Arms) → ResolvesArms integers resources arms arms'
         → AllName Well (arms_list arms') × AllName Well (arms_in_arms arms')
-    names_arms _ _ full no_arm = (tt, tt)
-    names_arms _ _ full (arm_then arm arm' arms arms' h k) =
-        let x = names_block arm arm' full.0 h in
-        let y = names_arms arms arms' full.1 k in
+    names_arms _ _ no_arm = (tt, tt)
+    names_arms _ _ (arm_then arm arm' arms arms' h k) =
+        let x = names_block arm arm' h in
+        let y = names_arms arms arms' k in
         ((x.0, y.0), all_name-append Well (arms_in arm') (arms_in_arms arms') x.1 y.1)
 
 -- each instruction of a process's code
 pub names_well : (resources : List Name) (process : Process) (ss : tree.StmtsSyntax) → length resources ≤ 16
-    → IsFull ss → ResolvesStmts process.integers resources ss process.body
+    → ResolvesStmts process.integers resources ss process.body
     → EachInstr (NamesWell (length process.integers) (length resources)) (process_code process).instrs
-names_well resources process ss few full h =
-    let names = names_block process.integers resources few ss process.body full h in
+names_well resources process ss few h =
+    let names = names_block process.integers resources few ss process.body h in
     each_of_arms (NamesWell (length process.integers) (length resources))
     (names_elsewhere (length process.integers) (length resources)) 0 (arms_of process) names

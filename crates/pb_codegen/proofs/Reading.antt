@@ -7,6 +7,7 @@ use Rattle.pb_lexer.specs.Tokens.{Token}
 use Rattle.pb_tree.specs.Syntax as tree
 use Rattle.pb_parser.specs.declared.level.Level.{Level}
 use Rattle.pb_parser.specs.Grammar.{Reads, tight, chain, negation, comparison, minus, number, variable, group}
+use Rattle.pb_names.specs.Limits.{width}
 use Rattle.pb_parser.specs.Grammar.{name_at}
 use Rattle.pb_parser.specs.Lists.{append, append_arms, single_arm}
 use Rattle.pb_parser.specs.Statements.{ReadsPair, pair, ReadsPairs, ReadsStmt, skip, assign, print, choice, choices}
@@ -17,7 +18,7 @@ use Rattle.pb_parser.specs.Programs.{ReadsProcess, plain, integers, ReadsProcess
 use Rattle.pb_parser.specs.Programs.{ReadsProgram, program}
 use Rattle.pb_parser.specs.Programs as names
 use Rattle.pb_verifier.specs.Limits.{IsName}
-use Rattle.pb_codegen.specs.Form.{HasArm, IsFull, AreFull, IsFormedProcess, IsFormed}
+use Rattle.pb_codegen.specs.Form.{IsFull, AreFull, IsFormedProcess, IsFormed}
 use Rattle.pb_codegen.proofs.WordTokens.{EachToken, IsProper, proper_tokens}
 
 -- each token is a proper one
@@ -61,9 +62,9 @@ full-append_arms : (a b : tree.ArmsSyntax) → AreFull a → AreFull b → AreFu
 full-append_arms tree.no_arm b h g = g
 full-append_arms (tree.arm_then s a) b h g = (h.0, full-append_arms a b h.1 g)
 
-arm-append_arms : (a : tree.ArmsSyntax) (s : tree.StmtsSyntax) → HasArm (append_arms a (single_arm s))
-arm-append_arms tree.no_arm s = tt
-arm-append_arms (tree.arm_then t a) s = tt
+arm-append_arms : (a : tree.ArmsSyntax) (s : tree.StmtsSyntax) → 1 ≤ width (append_arms a (single_arm s))
+arm-append_arms tree.no_arm s = omega arith
+arm-append_arms (tree.arm_then t a) s = omega arith
 
 mutual
   full_stmt : {ts rest : List Token} {a : tree.StmtsSyntax} → ReadsStmt ts a rest → AreProper ts
@@ -99,8 +100,8 @@ mutual
       (full-append a b x.0 y.0, y.1)
 
   full_arms : {ts rest : List Token} {a : tree.ArmsSyntax} → ReadsArms ts a rest → AreProper ts
-      → HasArm a × AreFull a × AreProper rest
-  full_arms (first_arm h) s = let x = full_stmt h s in (tt, (x.0, tt), x.1)
+      → (1 ≤ width a) × AreFull a × AreProper rest
+  full_arms (first_arm h) s = let x = full_stmt h s in (omega arith, (x.0, tt), x.1)
   full_arms (next_arm {a = a} {b = b} h i k) s =
       let x = full_arms h s in
       let y = full_stmt k x.2.1 in

@@ -3,12 +3,8 @@
 use Rattle.std.specs.Prelude.{ℕ, ◌≤◌, length, All, ⊤}
 use Rattle.pb_tree.specs.Syntax.{StmtSyntax, assign, print, if_else, while_do, hold, parbegin, StmtsSyntax}
 use Rattle.pb_tree.specs.Syntax.{no_stmt, stmt_then, ArmsSyntax, no_arm, arm_then, ProcessSyntax, ProgramSyntax}
+use Rattle.pb_names.specs.Limits.{width}
 use Rattle.pb_verifier.specs.Limits.{IsUpTo, IsName}
-
--- there is an arm
-abbrev pub HasArm : ArmsSyntax → Type 0
-HasArm no_arm = ⊥
-HasArm (arm_then ss arms) = ⊤
 
 -- a line of a text, whose size has its limit
 abbrev pub IsSourceLine : ℕ → Type 0
@@ -22,7 +18,7 @@ abbrev mutual
   IsFullStmt (if_else line e on_true on_false) = IsSourceLine line × IsFull on_true × IsFull on_false
   IsFullStmt (while_do line e body) = IsSourceLine line × IsFull body
   IsFullStmt (hold line demands body) = IsSourceLine line × (1 ≤ length demands) × IsFull body
-  IsFullStmt (parbegin line arms) = IsSourceLine line × HasArm arms × AreFull arms
+  IsFullStmt (parbegin line arms) = IsSourceLine line × (1 ≤ width arms) × AreFull arms
 
   pub IsFull : StmtsSyntax → Type 0
   IsFull no_stmt = ⊤

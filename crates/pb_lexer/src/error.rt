@@ -20,7 +20,7 @@ pub enum LexFault {
     /// At this place begins a name over 32 bytes.
     #[error("the name at {0} is over 32 bytes")]
     NameTooLong(usize),
-    /// The tokens did not find memory. It is answered only where an allocator refused a growth.
+    /// The allocator is out of memory. It is answered only if it refused a growth.
     #[error("out of memory")]
     NoMemory,
 }

@@ -13,7 +13,7 @@ use crate::error::LexFault;
 use crate::scan::{bad_byte, digits_end, is_blank, line_end, value, word_end};
 use crate::token::{Kind, Mark, Token};
 use crate::words::{reserved, symbol, symbol_of_two};
-use std::alloc::Global;
+use std::alloc::Allocator;
 
 /// The most bytes of a text.
 pub const LONGEST_TEXT: usize = 65_536;
@@ -132,8 +132,8 @@ fn token_at<'t>(text: &'t [u8], at: usize, line: u32) -> Result<Token<'t>, LexFa
     }
 }
 
-/// The tokens of the text, or its first fault.
-fn cut<'t>(alloc: Global, text: &'t [u8]) -> Result<Vec<Token<'t>>, LexFault>
+/// Returns the tokens of the text, or its first fault.
+fn cut<'t, A: Allocator>(alloc: A, text: &'t [u8]) -> Result<Vec<Token<'t>, A>, LexFault>
     ensures found { IfOk result (λ v. AreTokensOf text.now (tokens v.items)) }
     ensures fault { IfErr result (λ e. Refuses text.now e) }
     ensures long { longest_text < length text.now → result ≡ Err LexFault.TooLong }
@@ -166,15 +166,16 @@ fn cut<'t>(alloc: Global, text: &'t [u8]) -> Result<Vec<Token<'t>>, LexFault>
     Ok(tokens)
 }
 
-/// Cuts a text into its tokens: names, numbers, symbols and reserved words, each the longest that begins
-/// where it stands. Between them may stand blanks (space, tab, line feed, carriage return) and comments,
-/// which go from `//` to the next line feed or the end, whatever bytes they have. Lines count from 1.
+/// Cuts a text into its tokens, in memory of `alloc`: names, numbers, symbols and reserved words, each the
+/// longest that begins where it stands. Between them may stand blanks (space, tab, line feed, carriage
+/// return) and comments, which go from `//` to the next line feed or the end, whatever bytes they have. Lines
+/// count from 1.
 ///
 /// A text over 65,536 bytes is `TooLong`. Else the fault with the least place is answered: `BadByte` at a
 /// byte that is not allowed (allowed are 32 to 126, tab, line feed and carriage return), in a comment too,
 /// or where nothing begins; `NumberTooLarge` at a number over 9223372036854775807; `NameTooLong` at a name
-/// over 32 bytes. `NoMemory` comes where the tokens do not find memory in `alloc`.
-pub fn lex<'t>(alloc: Global, text: &'t [u8]) -> Result<Vec<Token<'t>>, LexFault>
+/// over 32 bytes. `NoMemory` comes if `alloc` is out of memory, and never for a text that is too long.
+pub fn lex<'t, A: Allocator>(alloc: A, text: &'t [u8]) -> Result<Vec<Token<'t>, A>, LexFault>
     ensures found { IfOk result (λ v. AreTokensOf text.now (tokens v.items)) }
     // A text over the limit, or the fault with the least place.
     ensures fault { IfErr result (λ e. Refuses text.now e) }

@@ -1,6 +1,7 @@
 pub mod NoFault
 pub mod Once
 pub mod CausesMore
+pub mod Completeness
 mod Examples
 pub mod First
 pub mod Forks
@@ -8,7 +9,6 @@ pub mod Holds
 pub mod Indexing
 pub mod Naming
 pub mod Numbered
-pub mod Pairs
 pub mod Ready
 pub mod Told
 pub mod Views

@@ -1,18 +1,17 @@
--- A tree that has a numbered program has no cause of a fault (a check by an audit).
-use Rattle.std.proofs.Common.{◌≡◌, ◌≢◌, ℕ, zero, suc, ◌+◌, ◌<◌, ◌≤◌, List, [], ◌∷◌, map, take, length, Some, arith, ap, sym, ◌∙◌, refl, subst, pos, inl, inr}
+-- A tree that has a numbered program has no cause of a fault.
+use Rattle.std.proofs.Common.{◌≡◌, ℕ, zero, suc, ◌<◌, List, [], ◌∷◌, map, take, Some, arith, ap, sym, ◌∙◌, refl, subst, inl, inr}
 use Rattle.std.specs.Prelude.{slice_get}
 use Rattle.std.specs.List.{AllZip}
 use Rattle.std.proofs.lemmas.Option.{slice_get_within, get_or_from_slice_get}
-use Rattle.pb_base.specs.declared.pair.Pair.{Pair}
 use Rattle.pb_base.specs.Steppers.{Bundle}
 use Rattle.pb_tree.specs.Syntax as tree
-use Rattle.pb_names.specs.Program.{Name, Expr, Stmt, Block, Arms, Resource, Process, Program}
-use Rattle.pb_names.specs.Resolves.{texts, AreDistinct, IsNumber, ResolvesExpr, number, variable, unary, binary}
+use Rattle.pb_names.specs.Program.{Name, Expr, Stmt, Block, Arms, Program}
+use Rattle.pb_names.specs.Resolves.{texts, AreDistinct, ResolvesExpr, number, variable, unary, binary}
 use Rattle.pb_names.specs.Resolves.{ResolvesStmt, assign, print, if_else, while_do, hold, parbegin, ResolvesDemands, ResolvesDemand}
 use Rattle.pb_names.specs.Resolves.{ResolvesStmts, no_stmt, stmt_then, ResolvesArms, no_arm, arm_then}
 use Rattle.pb_names.specs.Resolves.{ResolvesResource, ResolvesProcess, Resolves, resource_names, process_names}
-use Rattle.pb_names.specs.Causes.{Causes, Among, IsUnknown, IsAgain, IsOutside, InExpr, InDemand, InStmt, InStmts, InArms}
-use Rattle.pb_names.specs.Causes.{InInteger, InResource, InsideProcess, InProcess, InProgram}
+use Rattle.pb_names.specs.Causes.{Among, IsAgain, InExpr, InDemand, InStmt, InStmts, InArms}
+use Rattle.pb_names.specs.Causes.{InInteger, InProgram}
 use Rattle.pb_names.specs.declared.causes.Cause.{Cause}
 use Rattle.pb_names.specs.declared.causes.Wrong.{Wrong}
 use Rattle.pb_names.specs.declared.causes.Wrong.TheVariants.{Twice}

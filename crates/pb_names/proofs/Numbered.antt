@@ -166,6 +166,9 @@ numbered_parbegin is rs arms arms' first n m own after resolved inside =
     let same : m ≡ n + count arms' = omega (arith, count_resolved is rs arms arms' resolved) in
     (own, subst (λ k. AreNumbered k arms') same inside)
 
-pub few_arms : (is rs : List Name) (arms : ArmsSyntax) (arms' : Arms) → ResolvesArms is rs arms arms'
-    → width arms ≤ 16 → count arms' ≤ 16
-few_arms is rs arms arms' resolved few = omega (arith, count_resolved is rs arms arms' resolved)
+-- a parbegin that is written with 1 to 16 arms has as many
+pub arms_in_range : (is rs : List Name) (arms : ArmsSyntax) (arms' : Arms) → ResolvesArms is rs arms arms'
+    → 1 ≤ width arms → width arms ≤ 16 → (1 ≤ count arms') × (count arms' ≤ 16)
+arms_in_range is rs arms arms' resolved some few =
+    let same = count_resolved is rs arms arms' resolved in
+    (omega (arith, same, some), omega (arith, same, few))

@@ -1,13 +1,13 @@
--- A tree has at most one numbered program (a check by an audit).
-use Rattle.std.proofs.Common.{◌≡◌, ◌≢◌, ℕ, ◌+◌, ◌<◌, ◌≤◌, List, [], ◌∷◌, map, length, Some, arith, ap, sym, ◌∙◌, refl, subst, suc, pos}
+-- A tree has at most one numbered program.
+use Rattle.std.proofs.Common.{◌≡◌, ℕ, ◌+◌, ◌<◌, List, [], ◌∷◌, map, length, Some, arith, ap, sym, ◌∙◌, refl, subst, suc, pos}
 use Rattle.std.specs.Prelude.{slice_get}
 use Rattle.std.proofs.lemmas.Option.{slice_get_within, get_or_from_slice_get}
 use Rattle.pb_tree.specs.Syntax as tree
-use Rattle.pb_names.specs.Program.{Name, Expr, Number, Variable, Unary, Binary}
-use Rattle.pb_names.specs.Program.{Stmt, Set, Write, If, While, HoldDo, Parbegin, Block, Skip, Then, Arms, NoArm, AndArm}
+use Rattle.pb_names.specs.Program.{Name, Expr, Variable, Unary}
+use Rattle.pb_names.specs.Program.{Stmt, Write, Block, Arms}
 use Rattle.pb_names.specs.Program.{IsNumberedStmt, IsNumbered, AreNumbered, arms_in, arms_in_stmt, count}
-use Rattle.pb_names.specs.Resolves.{AreDistinct, IsNumber, ResolvesExpr, number, variable, unary, binary}
-use Rattle.pb_names.specs.Resolves.{ResolvesStmt, assign, print, if_else, while_do, hold, parbegin, ResolvesDemands}
+use Rattle.pb_names.specs.Resolves.{AreDistinct, ResolvesExpr, number, variable, unary, binary}
+use Rattle.pb_names.specs.Resolves.{ResolvesStmt, assign, print, if_else, while_do, hold, parbegin}
 use Rattle.pb_names.specs.Resolves.{ResolvesStmts, no_stmt, stmt_then, ResolvesArms, no_arm, arm_then}
 use Rattle.pb_base.specs.Steppers.{Bundle}
 use Rattle.pb_base.specs.declared.pair.Pair.{Pair}

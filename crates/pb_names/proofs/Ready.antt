@@ -50,7 +50,7 @@ pub ready_arms : (is rs : List Name) (n m line : ℕ) (arms : ArmsSyntax)
     → m ≡ n + width arms → IsReadyStmt is rs n (parbegin line arms) → AreReadyArms is rs m arms
 ready_arms is rs n m line arms after r = record {
   free = r.free;
-  complete = r.complete;
+  complete = r.complete.1;
   narrow = let h = r.narrow in omega arith;
   room = let h = r.room in omega arith;
 }

@@ -108,7 +108,7 @@ pub each_fitting : (program : ProgramSyntax) → IsWithinLimits program → IsCo
 each_fitting program limits complete k d below = record {
   few_integers =
       most_each (λ process. length process.integers) program.processes 64 (limits.within Integers) k d below;
-  pairs = complete.pairs k d below;
+  complete = complete.bodies k d below;
   narrow = most_each (λ process. widest_in process.body) program.processes 16 (limits.within Fork) k d below;
   room = most_each (λ process. 1 + inner_arms process.body) program.processes 64 (limits.within Arms) k d below;
 }

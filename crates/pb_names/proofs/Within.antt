@@ -1,15 +1,15 @@
--- A tree that has a numbered program is within its limits, and has no fault (a check by an audit).
-use Rattle.std.proofs.Common.{◌≡◌, ℕ, zero, suc, ◌+◌, ◌<◌, ◌≤◌, List, [], ◌∷◌, ◌++◌, map, length, arith, ap, sym, ◌∙◌, refl, subst, max}
+-- A tree that has a numbered program is within the limits, and has no fault.
+use Rattle.std.proofs.Common.{◌≡◌, ℕ, suc, ◌+◌, ◌≤◌, List, [], ◌∷◌, length, arith, ap, refl}
 use Rattle.std.specs.List.{AllZip}
 use Rattle.std.proofs.lemmas.List.{length-map, length-append}
 use Rattle.pb_tree.specs.Syntax as tree
-use Rattle.pb_names.specs.Program.{NoArm, AndArm, Name, Expr, Stmt, Block, Arms, Resource, Process, Program, count, arms_list, arms_in, arms_in_stmt, arms_in_arms}
-use Rattle.pb_names.specs.Resolves.{texts, ResolvesStmt, assign, print, if_else, while_do, hold, parbegin}
+use Rattle.pb_names.specs.Program.{NoArm, AndArm, Name, Stmt, Block, Arms, Program, count, arms_list, arms_in, arms_in_stmt, arms_in_arms}
+use Rattle.pb_names.specs.Resolves.{ResolvesStmt, assign, print, if_else, while_do, hold, parbegin}
 use Rattle.pb_names.specs.Resolves.{ResolvesStmts, no_stmt, stmt_then, ResolvesArms, no_arm, arm_then}
 use Rattle.pb_names.specs.Resolves.{ResolvesResource, ResolvesProcess, Resolves, resource_names}
 use Rattle.pb_names.specs.Limits.{width, widest_in_stmt, widest_in, widest_in_arms, inner_arms_of_stmt, inner_arms, inner_arms_of_arms}
 use Rattle.pb_names.specs.Limits.{most, how_many, limit, IsTooMany, IsWithinLimits}
-use Rattle.pb_names.specs.Faults.{IsFault, IsFirstCause}
+use Rattle.pb_names.specs.Faults.{IsFault}
 use Rattle.pb_names.specs.declared.fault.Kind.{Kind}
 use Rattle.pb_names.specs.declared.fault.Kind.TheVariants.{Processes, Resources, Integers, Fork, Arms as ArmsKind}
 use Rattle.pb_names.specs.declared.fault.NameFault.{NameFault}
@@ -47,7 +47,7 @@ module _ (integers resources : List Name) where
     stmt_narrow _ _ (while_do line e e1 a a1 k ka) = narrow a a1 ka
     stmt_narrow _ _ (hold line ds b a a1 k ka) = narrow a a1 ka
     stmt_narrow _ _ (parbegin line first arms a few k) =
-        let x = width_is arms a k in let y = arms_narrow arms a k in omega arith
+        let x = width_is arms a k in let y = arms_narrow arms a k in omega (arith, few.1, x, y)
 
     narrow : (ss : tree.StmtsSyntax) (a : Block) → ResolvesStmts integers resources ss a → widest_in ss ≤ 16
     narrow _ _ no_stmt = omega arith

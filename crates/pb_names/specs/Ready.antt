@@ -5,60 +5,61 @@ use Rattle.pb_tree.specs.Syntax.{StmtSyntax, assign, print, if_else, while_do, h
 use Rattle.pb_tree.specs.Syntax.{StmtsSyntax, no_stmt, stmt_then, ArmsSyntax, no_arm, arm_then}
 use Rattle.pb_tree.specs.Syntax.{ProcessSyntax, ProgramSyntax}
 use Rattle.pb_names.specs.Causes.{Causes, InStmt, InStmts, InArms}
-use Rattle.pb_names.specs.Limits.{widest_in_stmt, widest_in, widest_in_arms}
+use Rattle.pb_names.specs.Limits.{width, widest_in_stmt, widest_in, widest_in_arms}
 use Rattle.pb_names.specs.Limits.{inner_arms_of_stmt, inner_arms, inner_arms_of_arms}
 use Rattle.pb_names.specs.Program.{Name}
 use Rattle.pb_names.specs.Search.{IsFree}
 
 -- ---- what the grammar gives
 
--- each hold inside has a pair
+-- each hold inside has a pair, and each parbegin an arm
 abbrev mutual
-  pub HasPairsStmt : StmtSyntax → Type 0
-  HasPairsStmt (assign line x e) = ⊤
-  HasPairsStmt (print line e) = ⊤
-  HasPairsStmt (if_else line e on_true on_false) = HasPairs on_true × HasPairs on_false
-  HasPairsStmt (while_do line e body) = HasPairs body
-  HasPairsStmt (hold line demands body) = (1 ≤ length demands) × HasPairs body
-  HasPairsStmt (parbegin line arms) = HasPairsArms arms
+  pub IsCompleteStmt : StmtSyntax → Type 0
+  IsCompleteStmt (assign line x e) = ⊤
+  IsCompleteStmt (print line e) = ⊤
+  IsCompleteStmt (if_else line e on_true on_false) = AreComplete on_true × AreComplete on_false
+  IsCompleteStmt (while_do line e body) = AreComplete body
+  IsCompleteStmt (hold line demands body) = (1 ≤ length demands) × AreComplete body
+  IsCompleteStmt (parbegin line arms) = (1 ≤ width arms) × AreCompleteArms arms
 
-  pub HasPairs : StmtsSyntax → Type 0
-  HasPairs no_stmt = ⊤
-  HasPairs (stmt_then s ss) = HasPairsStmt s × HasPairs ss
+  pub AreComplete : StmtsSyntax → Type 0
+  AreComplete no_stmt = ⊤
+  AreComplete (stmt_then s ss) = IsCompleteStmt s × AreComplete ss
 
-  pub HasPairsArms : ArmsSyntax → Type 0
-  HasPairsArms no_arm = ⊤
-  HasPairsArms (arm_then arm arms) = HasPairs arm × HasPairsArms arms
+  pub AreCompleteArms : ArmsSyntax → Type 0
+  AreCompleteArms no_arm = ⊤
+  AreCompleteArms (arm_then arm arms) = AreComplete arm × AreCompleteArms arms
 
--- a program has a process, and each of its holds a pair
+-- a program has a process, each of its holds a pair, and each of its parbegins an arm
 pub record IsComplete (program : ProgramSyntax) : Type 0 where
   pub some_process : 1 ≤ length program.processes
-  pub pairs : All (λ process. HasPairs process.body) program.processes
+  pub bodies : All (λ process. AreComplete process.body) program.processes
 
 -- ---- what looking it through gives
 
--- a part with these causes, holds, widest parbegin and inner arms, whose arms get the numbers from n on
-pub record IsReady (causes : Causes) (pairs : Type 0) (widest inner n : ℕ) : Type 0 where
+-- a part with these causes, widest parbegin and inner arms, that is complete, and whose arms get the numbers
+-- from n on
+pub record IsReady (causes : Causes) (IsWhole : Type 0) (widest inner n : ℕ) : Type 0 where
   pub free : IsFree causes
-  pub complete : pairs
+  pub complete : IsWhole
   pub narrow : widest ≤ 16
   pub room : n + inner ≤ 64
 
 abbrev pub IsReadyStmt : (integers resources : List Name) → ℕ → StmtSyntax → Type 0
 IsReadyStmt integers resources n s =
-    IsReady (InStmt integers resources s) (HasPairsStmt s) (widest_in_stmt s) (inner_arms_of_stmt s) n
+    IsReady (InStmt integers resources s) (IsCompleteStmt s) (widest_in_stmt s) (inner_arms_of_stmt s) n
 
 abbrev pub AreReady : (integers resources : List Name) → ℕ → StmtsSyntax → Type 0
 AreReady integers resources n ss =
-    IsReady (InStmts integers resources ss) (HasPairs ss) (widest_in ss) (inner_arms ss) n
+    IsReady (InStmts integers resources ss) (AreComplete ss) (widest_in ss) (inner_arms ss) n
 
 abbrev pub AreReadyArms : (integers resources : List Name) → ℕ → ArmsSyntax → Type 0
 AreReadyArms integers resources n arms =
-    IsReady (InArms integers resources arms) (HasPairsArms arms) (widest_in_arms arms) (inner_arms_of_arms arms) n
+    IsReady (InArms integers resources arms) (AreCompleteArms arms) (widest_in_arms arms) (inner_arms_of_arms arms) n
 
--- a process of few integers, narrow parbegins and few arms
+-- a complete process of few integers, narrow parbegins and few arms
 pub record IsFitting (process : ProcessSyntax) : Type 0 where
   pub few_integers : length process.integers ≤ 64
-  pub pairs : HasPairs process.body
+  pub complete : AreComplete process.body
   pub narrow : widest_in process.body ≤ 16
   pub room : 1 + inner_arms process.body ≤ 64

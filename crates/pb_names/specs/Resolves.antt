@@ -44,13 +44,14 @@ pub record ResolvesDemand (resources : List Name) (demand : tree.DemandSyntax) (
   pub some : 1 ≤ pair.amount
   pub small : pair.amount ≤ 1000000
 
--- the pairs of a hold keep their order, and none names a resource again
+-- a hold has a pair; its pairs keep their order, and none names a resource again
 pub record ResolvesDemands (resources : List Name) (demands : List tree.DemandSyntax) (bundle : Bundle)
     : Type 0 where
+  pub some : 1 ≤ length bundle
   pub each : AllZip (ResolvesDemand resources) demands bundle
   pub distinct : IsDistinct bundle
 
--- statements keep their lines; a target is an integer of the process; a parbegin has at most 16 arms
+-- statements keep their lines; a target is an integer of the process; a parbegin has 1 to 16 arms
 mutual
   pub data ResolvesStmt (integers resources : List Name) : tree.StmtSyntax → Stmt → Type 0 where
     assign : (line : ℕ) (x : tree.NameSyntax) (i : ℕ) (e : tree.ExprSyntax) (e' : Expr)
@@ -70,7 +71,7 @@ mutual
         → ResolvesDemands resources demands bundle → ResolvesStmts integers resources body body'
         → ResolvesStmt integers resources (tree.hold line demands body) (HoldDo line bundle body')
     parbegin : (line first : ℕ) (arms : tree.ArmsSyntax) (arms' : Arms)
-        → count arms' ≤ 16 → ResolvesArms integers resources arms arms'
+        → (1 ≤ count arms') × (count arms' ≤ 16) → ResolvesArms integers resources arms arms'
         → ResolvesStmt integers resources (tree.parbegin line arms) (Parbegin line first arms')
 
   pub data ResolvesStmts (integers resources : List Name) : tree.StmtsSyntax → Block → Type 0 where

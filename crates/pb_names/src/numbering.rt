@@ -10,7 +10,7 @@ ghost use Rattle.pb_names.specs.Faults.{IsFault};
 ghost use Rattle.pb_names.specs.Limits.{IsTooMany, IsWithinLimits, widest_in, inner_arms_of_stmt, inner_arms};
 ghost use Rattle.pb_names.specs.Limits.{inner_arms_of_arms};
 ghost use Rattle.pb_names.specs.Program.{IsNumberedStmt, IsNumbered, AreNumbered};
-ghost use Rattle.pb_names.specs.Ready.{IsReadyStmt, AreReady, AreReadyArms, HasPairs, IsFitting};
+ghost use Rattle.pb_names.specs.Ready.{IsReadyStmt, AreReady, AreReadyArms, AreComplete, IsFitting};
 ghost use Rattle.pb_names.specs.Ready.{IsComplete};
 ghost use Rattle.pb_names.specs.Resolves.{Resolves, ResolvesExpr, ResolvesStmt, ResolvesStmts, ResolvesArms};
 ghost use Rattle.pb_names.specs.Resolves.{ResolvesDemand, ResolvesDemands, ResolvesProcess, ResolvesResource};
@@ -283,7 +283,7 @@ fn number_process<A: Allocator + Clone>(
     requires few_resources { length (names_in resources.now) ≤ MAX_RESOURCES }
     requires few_integers { length process.now.integers.items ≤ MAX_INTEGERS }
     requires free { IsFree (InsideProcess (names_in resources.now) (process_view process.now)) }
-    requires pairs { HasPairs (stmts_view process.now.body.items) }
+    requires complete { AreComplete (stmts_view process.now.body.items) }
     requires narrow { widest_in (stmts_view process.now.body.items) ≤ MAX_FORK }
     requires room { 1 + inner_arms (stmts_view process.now.body.items) ≤ MAX_ARMS }
     ensures { IfOk result
@@ -370,8 +370,8 @@ fn number_program<A: Allocator + Clone>(
     })
 }
 
-/// The numbered form of a program, in memory of `alloc`. The program has a process, and each of its holds has
-/// a pair, as every tree that was read from a text.
+/// Returns the numbered form of a program, in memory of `alloc`. The program has a process, each of its holds
+/// a pair and each of its parbegins an arm, as every tree that was read from a text.
 ///
 /// `TooMany` comes first, with the first kind of these that the program has too many of: processes,
 /// resources, integers of a process, arms of one parbegin, arms of a process. Then comes the fault of least

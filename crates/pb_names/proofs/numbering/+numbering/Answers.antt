@@ -9,7 +9,7 @@ use Rattle.pb_names.specs.Search.{names_in}
 use Rattle.pb_names.proofs.First.{free_left, free_right}
 use Rattle.pb_names.proofs.Forks.{width-view, inner_more, arms_inner_more}
 use Rattle.pb_names.proofs.Numbered.{resolves_more, numbered_more, resolves_more_arm, numbered_more_arm}
-use Rattle.pb_names.proofs.Numbered.{numbered_if, numbered_parbegin, few_arms}
+use Rattle.pb_names.proofs.Numbered.{numbered_if, numbered_parbegin, arms_in_range}
 use Rattle.pb_names.proofs.Ready.{ready_true, ready_false, ready_while, ready_hold, ready_arms, ready_at}
 use Rattle.pb_names.proofs.Ready.{arm_ready_at, true_within, false_within, loop_within, hold_within}
 use Rattle.pb_names.proofs.Views.{view-Assign, view-Print, view-If, view-While, view-Hold, view-Parbegin}
@@ -226,9 +226,10 @@ pub number_stmt-returns-in_ok-arms-in-Parbegin-clause-resolves : goal.number_stm
 number_stmt-returns-in_ok-arms-in-Parbegin-clause-resolves g t c =
     let a = c.in-Parbegin in
     let narrow = rw (ap stmt_view a.is ∙ tree.view-Parbegin a.line a.arms) at c.requires.ready.narrow in
+    let whole = rw (ap stmt_view a.is ∙ tree.view-Parbegin a.line a.arms) at c.requires.ready.complete in
     let inside = c.in_ok-arms-in-Parbegin.ensures.resolves in
     rw (ap stmt_view a.is ∙ tree.view-Parbegin a.line a.arms, view-Parbegin)
-    (parbegin _ _ _ _ (few_arms _ _ (arms_view a.arms.items) _ inside (omega arith)) inside)
+    (parbegin _ _ _ _ (arms_in_range _ _ (arms_view a.arms.items) _ inside whole.0 (omega arith)) inside)
 
 pub number_stmt-returns-in_ok-arms-in-Parbegin-clause-numbered : goal.number_stmt-returns-in_ok-arms-in-Parbegin-clause-numbered
 number_stmt-returns-in_ok-arms-in-Parbegin-clause-numbered g t c =

@@ -1,4 +1,4 @@
-use Rattle.std.proofs.Common.{map, arith, refl}
+use Rattle.std.proofs.Common.{map, length, [], ◌∷◌, length-append, ap, arith, refl}
 use Rattle.pb_tree.specs.View.{demand_view}
 use Rattle.pb_names.specs.Search.{names_in}
 use Rattle.pb_names.proofs.First.{view_read}
@@ -62,6 +62,7 @@ loop-i-preserved g c =
     number_new (names_in c.args.resources.now) (map demand_view ds) c.loop-i.bundle c.loop-i.i (demand_view d) _
     read c.requires.free c.loop-i.invariant.each c.number_demand.ensures.resource in
     record {
+      some = omega (arith, ap length c.push.ensures, length-append c.loop-i.bundle (c.number_demand.result ∷ []));
       each = zip_more _ (map demand_view ds) _ _ c.loop-i.i _ _ read c.push.ensures c.loop-i.invariant.each
           c.number_demand.ensures;
       distinct = distinct_more _ _ _ c.push.ensures c.loop-i.invariant.distinct other;

@@ -1,4 +1,4 @@
-use Rattle.std.proofs.Common.{map, take}
+use Rattle.std.proofs.Common.{◌≤◌, length, map, take}
 use Rattle.std.specs.List.{AllZip}
 use Rattle.pb_base.specs.Bundle.{IsDistinct}
 use Rattle.pb_tree.specs.View.{demand_view}
@@ -8,6 +8,7 @@ use Rattle.pb_names.proofs.numbering.number_hold.Given as goal
 
 abbrev pub invariant-loop-i : goal.invariant-loop-i
 invariant-loop-i g l = record {
+  some : 1 ≤ length l.bundle;
   each : AllZip (ResolvesDemand (names_in l.resources)) (take l.i (map demand_view l.demands.items)) l.bundle;
   distinct : IsDistinct l.bundle;
 }

@@ -18,7 +18,7 @@ returns g c =
 pub number_list-requires-clause-ready : goal.number_list-requires-clause-ready
 number_list-requires-clause-ready g c = record {
   free = rw c.in_ok-names.ensures (free_right c.requires.free);
-  complete = c.requires.pairs;
+  complete = c.requires.complete;
   narrow = c.requires.narrow;
   room = c.requires.room;
 }

@@ -42,14 +42,14 @@ number_process-requires-clause-few_integers g c =
     let fits = fitting_at (map process_view ps) i (process_view p) read c.requires.fitting in
     omega (arith, fits.few_integers, length-map p.integers.items name_view)
 
-pub number_process-requires-clause-pairs : goal.number_process-requires-clause-pairs
-number_process-requires-clause-pairs g c =
+pub number_process-requires-clause-complete : goal.number_process-requires-clause-complete
+number_process-requires-clause-complete g c =
     let ps = c.args.processes.now.items in
     let p = c.process-item.result in
     let i = c.loop-process.process-index in
     let read = view_read process_view ps _ i p c.deref-process-items.ensures.value (omega arith) c.process-item.is in
     let fits = fitting_at (map process_view ps) i (process_view p) read c.requires.fitting in
-    fits.pairs
+    fits.complete
 
 pub number_process-requires-clause-narrow : goal.number_process-requires-clause-narrow
 number_process-requires-clause-narrow g c =
