@@ -1,12 +1,14 @@
+pub mod Advances
 pub mod Given
 pub mod Going
 pub mod Growing
+pub mod Looks
 pub mod Machines
 pub mod Openings
-pub mod Peeking
 pub mod Picks
 pub mod Quietly
 pub mod Reaching
+pub mod SilentRuns
 pub mod Silently
 pub mod Standing
 pub mod Stepping

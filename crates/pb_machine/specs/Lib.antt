@@ -1,4 +1,5 @@
 pub mod Acts
+pub mod Advances
 pub mod Going
 pub mod Looks
 pub mod Operands

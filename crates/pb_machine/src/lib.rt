@@ -1,6 +1,7 @@
 //! The machine: it does with each pick what the code does.
 #![tactic(auto)]
 
+mod advance;
 mod arms;
 mod execute;
 pub mod laws;

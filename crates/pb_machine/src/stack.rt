@@ -45,6 +45,19 @@ impl Stack {
         Ok(Stack { operands })
     }
 
+    /// Takes over the operands of a stack with the same room.
+    pub fn set_to(&mut self, other: &Stack)
+        requires { self.old.room ≡ other.now.room }
+        ensures items { self.new.items ≡ other.now.items }
+        ensures room { self.new.room ≡ self.old.room }
+    {
+        let _ = other.operands.len();
+        self.operands.clear();
+        for value in other.operands.as_slice() {
+            self.operands.push_reserved(*value);
+        }
+    }
+
     /// Whether the operands are the same.
     pub fn same(&self, other: &Stack) -> bool
         ensures { IsTrue result ↔ (self.now.items ≡ other.now.items) }

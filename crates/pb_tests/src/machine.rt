@@ -369,3 +369,95 @@ fn silent_picks_apart(rt: HostRuntime) -> Result<(), Fail> {
     assert!(rt; before.same(machine.proc(0)));
     Ok(())
 }
+
+/// Counts to three by rounds of nine picks, tests once more by four, puts two operands, and adds them, which overflows.
+const COUNT_AND_OVERFLOW: [Instr; 14] = [
+    Instr::Load(0),
+    Instr::Push(3),
+    Instr::Lt,
+    Instr::JumpIfZero(9),
+    Instr::Load(0),
+    Instr::Push(1),
+    Instr::Add,
+    Instr::Store(0),
+    Instr::Jump(0),
+    Instr::Push(i64::MAX),
+    Instr::Load(0),
+    Instr::Add,
+    Instr::Print,
+    Instr::End,
+];
+
+/// A run of each length makes as many picks as it may, and leaves what as many picks leave that are made one by one; it
+/// leaves the fault to the machine.
+#[test]
+fn silent_runs_apart(rt: HostRuntime) -> Result<(), Fail> {
+    let alloc = rt.alloc();
+    let Some(verified) = alone(alloc, &[0], &COUNT_AND_OVERFLOW)? else {
+        return Err(Fail::from(NoMemory));
+    };
+    let machine = Machine::new(alloc, &verified)?;
+    assert!(rt; machine.processes() == 1);
+    let pick = Pick { process: 0, arm: 0 };
+    let mut one_by_one = apart(alloc, &verified, &machine)?;
+    let mut picks = 0;
+    for max in 0..40 {
+        let mut run = apart(alloc, &verified, &machine)?;
+        assert_eq!(rt; run.run_silent(&verified, pick, max), picks);
+        assert!(rt; run.same(&one_by_one), "a run of {max}");
+        if one_by_one.silent(&verified, pick) {
+            picks += 1;
+        }
+        assert_eq!(rt;
+            run.run_silent(&verified, Pick { process: 0, arm: 1 }, max),
+            0
+        );
+    }
+    assert_eq!(rt; picks, 33);
+    Ok(())
+}
+
+/// The machine makes silent runs of its processes, and has the groups of their code.
+#[test]
+fn silent_runs_of_the_machine(rt: HostRuntime) -> Result<(), Fail> {
+    let alloc = rt.alloc();
+    let Some(verified) = alone(alloc, &[0], &COUNT_AND_OVERFLOW)? else {
+        return Err(Fail::from(NoMemory));
+    };
+    let mut machine = Machine::new(alloc, &verified)?;
+    let pick = Pick { process: 0, arm: 0 };
+    assert_eq!(rt; machine.run_silent(&verified, pick, 20), 20);
+    assert_eq!(rt; machine.run_silent(&verified, pick, 20), 13);
+    assert_eq!(rt; machine.run_silent(&verified, pick, 20), 0);
+    assert_eq!(rt;
+        machine.run_silent(&verified, Pick { process: 1, arm: 0 }, 20),
+        0
+    );
+    assert!(rt; verified.code().processes.len() == 1);
+    assert_eq!(rt; verified.groups(0).len(), COUNT_AND_OVERFLOW.len());
+    let Step::Did(event) = machine.step(&verified, pick) else {
+        return Err(Fail::from(NoMemory));
+    };
+    assert_eq!(rt; shown(event), Seen::Faulted(0, 0, FaultKind::Overflow));
+    Ok(())
+}
+
+/// A process takes over the state of another.
+#[test]
+fn a_process_is_set_to_another(rt: HostRuntime) -> Result<(), Fail> {
+    let alloc = rt.alloc();
+    let Some(verified) = alone(alloc, &[0], &COUNT_AND_OVERFLOW)? else {
+        return Err(Fail::from(NoMemory));
+    };
+    let machine = Machine::new(alloc, &verified)?;
+    assert!(rt; machine.processes() == 1);
+    let mut spare = apart(alloc, &verified, &machine)?;
+    let mut ahead = spare.copy(alloc)?;
+    let made = ahead.run_silent(&verified, Pick { process: 0, arm: 0 }, 7);
+    assert_eq!(rt; made, 7);
+    assert!(rt; !spare.same(&ahead));
+    assert!(rt; spare.vars().len() == ahead.vars().len());
+    spare.set_to(&ahead);
+    assert!(rt; spare.same(&ahead));
+    Ok(())
+}

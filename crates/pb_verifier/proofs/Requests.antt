@@ -1,34 +1,29 @@
 -- A request that was refused stays refused, until loans come back.
-use Rattle.std.proofs.Common.{◌≡◌, ◌≢◌, ◌⊎◌, inl, inr, ⊎_elim, ℕ, zero, suc, ◌+◌, ◌-◌, ◌<◌, ◌≤◌, ℤ, Bool, true, false, List, [], ◌∷◌, ◌++◌, length, get_or, set, Option, Some, None, option_map, option_and_then, refl, sym, ap, ◌∙◌, subst, arith, get_or-set_same, get_or-set_other}
+use Rattle.std.proofs.Common.{◌≡◌, ◌≢◌, inl, ⊎_elim, ℕ, zero, suc, ◌+◌, ◌-◌, ◌<◌, ◌≤◌, ℤ, true, false, List, [], ◌∷◌, length, get_or, set, Option, Some, None, option_map, option_and_then, refl, sym, ap, ◌∙◌, subst, arith}
 use Rattle.std.specs.Prelude.{slice_get, slice_set, All}
-use Rattle.std.proofs.lemmas.Bool.{cases_lt}
 use Rattle.std.proofs.lemmas.List.{get_or_past}
-use Rattle.std.proofs.lemmas.Option.{slice_get_within, slice_get_past}
-use Rattle.pb_base.specs.declared.pair.Pair.{Pair}
+use Rattle.std.proofs.lemmas.Option.{slice_get_within}
 use Rattle.pb_base.specs.declared.operators.FaultKind.{FaultKind}
 use Rattle.pb_base.specs.declared.pick.Pick.{Pick}
-use Rattle.pb_base.specs.declared.event.Event.{Event}
 use Rattle.pb_base.specs.Bundle.{amount_in, lend}
-use Rattle.pb_base.specs.Banker.{BankerState, capital, claim, loan, processes, resources, everyone, held_by, cash, cell, row_of, with_loan, IsAllowed, IsWellFormed, HasFewerLoans}
+use Rattle.pb_base.specs.Banker.{BankerState, capital, claim, loan, processes, resources, everyone, held_by, cash, row_of, with_loan, IsAllowed, IsWellFormed, HasFewerLoans}
 use Rattle.pb_base.specs.Steppers.{Bundle, Table, Effect, Silent, Prints, Takes, Returns, Faults, Finishes, IsGranted, State, Move, banker_state, ending, event_of, loans_after, moved, move_of}
 use Rattle.pb_base.proofs.BankerLaws.{fewer_loans_stay_safe, loan-with_loan, loan-with_loan_other}
 use Rattle.pb_base.proofs.Groups.{range_below, sum_by-le_on}
 use Rattle.pb_base.proofs.Lending.{amount_in-le, get_or-lend, length-lend}
-use Rattle.pb_base.proofs.Rows.{with_row, IsWellFormed-with_row}
-use Rattle.pb_code.specs.Code.{Instr, Take, Fork, Join, End, ProcessCode, Thread, Idle, Live, Over, CodeProcess, thread, step_thread, step_process, code_step, act, apply_step}
-use Rattle.pb_code.specs.Reached.{CodeReaches, CodeMoves}
+use Rattle.pb_base.proofs.Rows.{IsWellFormed-with_row}
+use Rattle.pb_code.specs.Code.{Instr, Take, ProcessCode, Thread, Idle, Live, Over, CodeProcess, thread, step_thread, step_process, code_step, act, apply_step}
 use Rattle.pb_code.specs.Whole.{Code, bank_of}
-use Rattle.pb_verifier.specs.Faults.{AreDepths}
 use Rattle.pb_verifier.specs.Limits.{IsSmallBundle}
-use Rattle.pb_verifier.specs.Places.{InstrAt, IsAmong, arms}
+use Rattle.pb_verifier.specs.Places.{InstrAt}
 use Rattle.pb_verifier.specs.Requests.{IsRefused, frees, RefusedStays, RefusedStops, SameProcessSameDepths}
-use Rattle.pb_verifier.specs.Verified.{IsAnnotated, IsVerified, VerifiedCode}
+use Rattle.pb_verifier.specs.Verified.{IsAnnotated, VerifiedCode}
 use Rattle.pb_verifier.specs.declared.fault.VerifyFault.TheVariants.{OutOfLimits, NoDepths}
 use Rattle.pb_verifier.proofs.Banking.{Kept, kept_next, kept_reached, well_formed}
 use Rattle.pb_verifier.proofs.Lying.{Checked}
 use Rattle.pb_verifier.proofs.Order.{same_or_not, among_or_not, idle_before}
-use Rattle.pb_verifier.proofs.States.{CodeMove, code_move, checked, bundles_small, good_next, slice_set_other}
-use Rattle.pb_verifier.proofs.Turns.{Turn, runs, traps, forks, joins, stops, InOrder, Fit, turned}
+use Rattle.pb_verifier.proofs.States.{code_move, checked, bundles_small, slice_set_other}
+use Rattle.pb_verifier.proofs.Turns.{Turn, runs, traps, forks, joins, stops, InOrder, turned}
 
 -- ---- what is allowed with more loans is with fewer
 

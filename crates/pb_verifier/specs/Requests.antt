@@ -5,10 +5,10 @@ use Rattle.pb_base.specs.declared.event.Event.TheVariants.{Granted, Returned, Pr
 use Rattle.pb_base.specs.declared.pick.Pick.{Pick}
 use Rattle.pb_base.specs.Banker.{IsAllowed}
 use Rattle.pb_base.specs.Steppers.{Bundle, Takes, State, Move, banker_state, move_of}
-use Rattle.pb_code.specs.Code.{ProcessCode, CodeProcess, code_step}
+use Rattle.pb_code.specs.Code.{CodeProcess, code_step}
 use Rattle.pb_code.specs.Reached.{CodeReaches, CodeMoves}
 use Rattle.pb_code.specs.Whole.{Code, bank_of}
-use Rattle.pb_verifier.specs.Verified.{IsAnnotated, IsVerified, VerifiedCode}
+use Rattle.pb_verifier.specs.Verified.{IsVerified, VerifiedCode}
 
 -- the arm stands at a request that is not allowed now
 pub record IsRefused (code : Code) (s : State CodeProcess) (pick : Pick) : Type 0 where

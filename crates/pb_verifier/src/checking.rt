@@ -12,6 +12,7 @@ use crate::process::check_process;
 use crate::range::fit_capital;
 use crate::verified::Verified;
 use pb_code::Code;
+use pb_groups::groups_of_code;
 use std::alloc::Global;
 
 /// The place of a fault in the order in which they are looked for.
@@ -86,8 +87,12 @@ pub fn verify(alloc: Global, code: Code) -> Result<Verified, (Code, VerifyFault)
     ensures handed_back { IfErr result (λ refusal. refusal.0 ≡ code) }
     ensures refused { IfErr result (λ refusal. IsRefusedFor (code_view code) refusal.1) }
 {
-    match check(alloc, &code) {
-        Ok(depths) => Ok(Verified::new(code, depths)),
-        Err(fault) => Err((code, fault)),
+    let depths = match check(alloc, &code) {
+        Ok(depths) => depths,
+        Err(fault) => return Err((code, fault)),
+    };
+    match groups_of_code(alloc, &code) {
+        Ok(groups) => Ok(Verified::new(code, depths, groups)),
+        Err(_) => Err((code, VerifyFault::NoMemory)),
     }
 }

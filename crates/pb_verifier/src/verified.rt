@@ -3,10 +3,12 @@
 ghost use Rattle.std.specs.Prelude.{◌≡◌, ◌<◌, length, slice_index, slice_index_or, map, []};
 ghost use Rattle.pb_base.specs.Lines.{names_view};
 ghost use Rattle.pb_code.specs.View.{code_view};
+ghost use Rattle.pb_groups.specs.Groups.{AreGroupsOf, AreTables};
 ghost use Rattle.pb_verifier.specs.Verified.{IsVerified};
 
 use pb_base::Names;
 use pb_code::Code;
+use pb_groups::Group;
 use std::marker::Model;
 
 /// Code that was verified: none of the faults of `VerifyFault` is in it. Only `verify` makes one.
@@ -14,27 +16,36 @@ use std::marker::Model;
 pub struct Verified {
     code: Code,
     depths: Vec<Vec<u16>>,
+    groups: Vec<Vec<Group>>,
 }
 
 impl Model for Verified {
     ghost use Rattle.std.specs.Prelude.{map};
     ghost use Rattle.pb_verifier.specs.Verified.{VerifiedCode, IsVerified};
     ghost use Rattle.pb_code.specs.View.{code_view};
+    ghost use Rattle.pb_groups.specs.Groups.{AreTables};
 
     ghost Value = { VerifiedCode };
 
     ghost view = { λ v. record { code = code_view v.code; depths = map (λ row. row.items) v.depths.items } };
 
-    ghost invariant = { λ v. IsVerified (record { code = code_view v.code; depths = map (λ row. row.items) v.depths.items }) };
+    ghost invariant = { λ v. IsVerified (record { code = code_view v.code; depths = map (λ row. row.items) v.depths.items })
+        × AreTables (code_view v.code) (map (λ table. table.items) v.groups.items) };
 }
 
 impl Verified {
-    /// The code with a row for each process, which has the greatest depth of each of its arms.
-    pub(crate) fn new(code: Code, depths: Vec<Vec<u16>>) -> Verified
-        requires { IsVerified (record { code = code_view code; depths = map (λ row. row.items) depths.items }) }
+    /// The code with a row for each process, which has the greatest depth of each of its arms, and a table for each
+    /// process, which has its groups.
+    pub(crate) fn new(code: Code, depths: Vec<Vec<u16>>, groups: Vec<Vec<Group>>) -> Verified
+        requires verified { IsVerified (record { code = code_view code; depths = map (λ row. row.items) depths.items }) }
+        requires groups { AreTables (code_view code) (map (λ table. table.items) groups.items) }
         ensures { result ≡ record { code = code_view code; depths = map (λ row. row.items) depths.items } }
     {
-        Verified { code, depths }
+        Verified {
+            code,
+            depths,
+            groups,
+        }
     }
 
     /// The code that was handed in.
@@ -68,5 +79,13 @@ impl Verified {
     {
         let row = &self.depths[process];
         row[arm]
+    }
+
+    /// Returns the groups of a process, one for each place of its code, made when the code was verified.
+    pub fn groups(&self, process: usize) -> &[Group]
+        requires { process < length self.now.code.processes }
+        ensures { AreGroupsOf self.now.code process result.now }
+    {
+        &self.groups[process]
     }
 }

@@ -1,10 +1,10 @@
-use Rattle.std.proofs.Common.{rules, ◌≡◌, ◌≢◌, ℕ, zero, suc, length, true, false, cond, sym, ap, ◌∙◌, arith}
+use Rattle.std.proofs.Common.{rules, ◌≡◌, ℕ, length, true, false, cond, sym, ap, ◌∙◌, arith}
 use Rattle.pb_code.specs.Code.{all_over}
 use Rattle.pb_machine.specs.Views.{proc_view}
 use Rattle.pb_machine.specs.declared.look.Look.TheVariants as look
 use Rattle.pb_machine.specs.declared.look.Peek.TheVariants as peek
 use Rattle.pb_machine.specs.declared.thread.ThreadState.TheVariants as given
-use Rattle.pb_machine.proofs.Peeking.{look_of_peek, ends_later, ends_first}
+use Rattle.pb_machine.proofs.Looks.{ends_later, ends_first}
 use Rattle.pb_machine.proofs.Turning.{executable, joins_there, peeks, place_within}
 use Rattle.pb_machine.proofs.process.Proc.glance.Goals as goal
 
