@@ -7,10 +7,9 @@ ghost use Rattle.pb_object.specs.Ranges.{IsObject};
 ghost use Rattle.pb_object.specs.Rows.{object_row, IsRow};
 ghost use Rattle.pb_code.specs.View.{code_view, labels_view};
 
-use pb_code::{Code, ProcessCode};
-use pb_code::{Labels, ProcessLabels};
 use crate::rows::{ProcessRow, ResourceRow, Rows};
 use pb_base::{Capital, Claims, Names, NoMemory};
+use pb_code::{Code, Labels, ProcessCode, ProcessLabels};
 use std::alloc::Global;
 
 /// The columns of resources.

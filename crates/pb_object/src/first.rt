@@ -8,8 +8,7 @@ ghost use Rattle.pb_code.specs.Limits.{KeepsLimits, PushesFit};
 ghost use Rattle.pb_code.specs.View.{code_view, instr_view, process_view};
 
 use pb_code::bundles::pairs;
-use pb_code::{Code, ProcessCode};
-use pb_code::Instr;
+use pb_code::{Code, Instr, ProcessCode};
 
 /// The most processes of the first format.
 const MOST_PROCESSES: usize = 32;

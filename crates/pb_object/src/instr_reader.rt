@@ -4,8 +4,8 @@ ghost use Rattle.std.specs.Prelude.{◌≡◌, ◌<◌, ◌^◌, ◌-◌, ◌==�
 ghost use Rattle.pb_object.specs.Instructions as spec;
 ghost use Rattle.pb_object.specs.Words.{number, IsWithin, AreWithin};
 
-use pb_code::Instr;
 use crate::words::{Verdict, is, number};
+use pb_code::Instr;
 
 fn bare(instr: Instr, words: &[&[u8]]) -> Verdict<Instr>
     ensures { result ≡ spec.bare instr (map (λ w. w.now) words.now) }

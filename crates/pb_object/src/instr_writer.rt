@@ -8,9 +8,9 @@ ghost use Rattle.pb_object.specs.declared.format.Format.TheVariants.{One, Two};
 ghost use Rattle.pb_object.specs.Lines.{line_text};
 ghost use Rattle.pb_code.specs.View.{instr_view};
 
-use pb_code::Instr;
 use itoa::Buffer;
 use pb_base::{Bundle, NoMemory, Pair};
+use pb_code::Instr;
 
 pub(crate) fn put_number(out: &mut Vec<u8>, number: u64) -> Result<(), NoMemory>
     ensures { OnOk result (out.new.items ≡ out.old.items ++ decimal number) }

@@ -15,9 +15,7 @@ use crate::fault::{Fault, ReadError};
 use crate::format::Format;
 use crate::instr_reader::alone;
 use crate::rows::{ProcessRow, ResourceRow};
-use crate::words::{
-    Verdict, copy_of, is, is_numeral, judge, number, same, saturated, words_of,
-};
+use crate::words::{Verdict, copy_of, is, is_numeral, judge, number, same, saturated, words_of};
 use itoa::Buffer;
 use pb_code::is_name;
 use std::alloc::{AllocError, Global};

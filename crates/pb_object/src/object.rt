@@ -13,13 +13,12 @@ ghost use Rattle.pb_code.specs.View.{code_view, labels_view};
 ghost use Rattle.pb_code.specs.Whole.{Code as PlainCode, ProcessLabels as PlainLabels};
 
 use crate::assemble::assemble;
-use pb_code::Code;
 use crate::fault::{Fault, ObjectFault, ReadError};
 use crate::format::Format;
-use pb_code::Labels;
 use crate::line_reader::heading_at;
 use crate::reader::read_rows;
 use crate::rows::Rows;
+use pb_code::{Code, Labels};
 use std::alloc::Global;
 
 /// The longest text that is read, in bytes.

@@ -8,10 +8,10 @@ ghost use Rattle.pb_code.specs.Bundles.{NamesBelow, Extends};
 ghost use Rattle.pb_code.specs.View.{instr_view};
 
 use crate::format::Format;
-use pb_code::Instr;
 use crate::instr_reader::plain;
 use crate::words::{Verdict, is, number, same};
 use pb_base::{Bundle, Pair};
+use pb_code::Instr;
 use std::alloc::AllocError;
 
 /// Whether the words name this resource, as a first word of two.

@@ -8,16 +8,14 @@ ghost use Rattle.pb_object.specs.Reading as spec;
 ghost use Rattle.pb_object.specs.Rows.{resource_row, process_row, object_row, places_row, place_view, IsRow};
 ghost use Rattle.pb_code.specs.Bundles.{NamesBelow, Extends};
 
-use pb_code::ProcessCode;
 use crate::fault::{Fault, ReadError};
 use crate::format::Format;
-use pb_code::Instr;
-use pb_code::ProcessLabels;
 use crate::line_reader::{claims_at, counted_at, heading_at, integers_at, name_at, resource_at};
 use crate::place_reader::place;
 use crate::rows::{ProcessRow, ResourceRow, Rows};
 use crate::words::{judge, words_into};
 use pb_base::Bundle;
+use pb_code::{Instr, ProcessCode, ProcessLabels};
 use std::alloc::Global;
 
 fn resources_of(

@@ -1,8 +1,7 @@
 //! What the lines of an object say, before they are code.
 
-use pb_code::ProcessCode;
 use crate::format::Format;
-use pb_code::ProcessLabels;
+use pb_code::{ProcessCode, ProcessLabels};
 
 /// A resource and its capital.
 #[derive(Drop)]

@@ -15,10 +15,9 @@ ghost use Rattle.pb_object.specs.Objects.{ProcessRow, ResourceRow};
 ghost use Rattle.pb_object.specs.Writing.{IsRowOf, IsLabelsOf};
 ghost use Rattle.pb_code.specs.View.{instr_view, code_view, labels_view, process_view, process_labels_view};
 
-use pb_code::{Code, ProcessCode};
 use crate::instr_writer::{put_lined_place, put_number, put_place};
-use pb_code::{Labels, ProcessLabels};
 use pb_base::{Capital, Claims, NoMemory};
+use pb_code::{Code, Labels, ProcessCode, ProcessLabels};
 use std::alloc::Global;
 
 /// A keyword and a number.

@@ -9,10 +9,10 @@ ghost use Rattle.pb_verifier.specs.Given.{IsOrderOf, instrs_of, plain};
 ghost use Rattle.pb_verifier.specs.Limits.{IsSmallProcess};
 ghost use Rattle.pb_verifier.specs.Spread.{IsTableOf, fact_at, notes_of};
 
-use pb_code::bundles::{pair_at, pairs};
 use crate::facts::{Fact, spread};
 use crate::places::{instr_at, places};
 use pb_base::{NoMemory, Pair};
+use pb_code::bundles::{pair_at, pairs};
 use pb_code::{Instr, ProcessCode};
 use std::alloc::Global;
 

@@ -10,9 +10,9 @@ ghost use Rattle.pb_verifier.specs.Given.{IsOrderOf, IsTakeAt, instrs_of};
 ghost use Rattle.pb_verifier.specs.Spread.{AllReadable, HoldFits, IsKept, IsTableOf, fact_at, held_after, notes_of};
 ghost use Rattle.pb_verifier.specs.Holdings.{CanBeRead, IsChain, held, held_by};
 
-use pb_code::bundles::{pair_at, pairs};
 use crate::facts::{Fact, spread};
 use pb_base::NoMemory;
+use pb_code::bundles::{pair_at, pairs};
 use pb_code::{Instr, ProcessCode};
 use std::alloc::Global;
 

@@ -7,8 +7,8 @@ ghost use Rattle.pb_code.specs.Bundles.{bundle_of};
 ghost use Rattle.pb_verifier.specs.Given.{plain};
 ghost use Rattle.pb_verifier.specs.Limits.{KeepsLimits};
 
-use pb_code::bundles::{pair_at, pairs};
 use crate::places::{instr_at, places};
+use pb_code::bundles::{pair_at, pairs};
 use pb_code::{Code, Instr, ProcessCode};
 
 /// Whether no claim is over its capital.
