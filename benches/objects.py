@@ -23,7 +23,7 @@ MAIN = """\
 //! Reads the object that it is given, writes it again and verifies it, again and again, and says how long each took.
 #![tactic(auto)]
 
-use pb_code::{read_any, write_object2};
+use pb_object::{read_any, write_object2};
 use pb_verifier::verify;
 use std::io::Read;
 use std::process::ExitCode;
@@ -60,7 +60,7 @@ fn main(rt: HostRuntime) -> anyhow::Result<ExitCode> {
 """
 
 FILES = {"src/main.rt": MAIN}
-NEEDS = ["pb_base", "pb_code", "pb_verifier", "anyhow"]
+NEEDS = ["pb_base", "pb_code", "pb_object", "pb_verifier", "anyhow"]
 
 
 def body(jumps):

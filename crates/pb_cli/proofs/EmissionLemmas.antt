@@ -1,11 +1,13 @@
 -- From verified code, and labels that fit it, to the texts that it has and what `emit` says of it.
 use Rattle.std.proofs.Common.{◌≡◌, ℕ, List, codes, subst, sym}
-use Rattle.pb_code.specs.Answers.{HasText, HasTextOne, Spells, SpellsOne}
-use Rattle.pb_code.specs.Limits.{AreLabels, FitsFirst}
+use Rattle.pb_object.specs.Answers.{HasText, HasTextOne, Spells, SpellsOne}
+use Rattle.pb_code.specs.Limits.{AreLabels}
+use Rattle.pb_object.specs.Formats.{FitsFirst}
 use Rattle.pb_code.specs.Whole.{Code, ProcessLabels}
-use Rattle.pb_code.specs.declared.format.Format.TheVariants.{One, Two}
+use Rattle.pb_object.specs.declared.format.Format.TheVariants.{One, Two}
 use Rattle.pb_verifier.specs.Verified.{IsVerified, VerifiedCode}
-use Rattle.pb_verifier.proofs.Texts.{verified_code_has_a_first_text, verified_code_has_a_text}
+use Rattle.pb_verifier.specs.declared.fault.VerifyFault.TheVariants.{OutOfLimits}
+use Rattle.pb_object.proofs.Sayable.{first_text, ranges_text}
 use Rattle.pb_cli.specs.Answers.{line}
 use Rattle.pb_cli.specs.Emissions.{SaysOfObject, beyond_first, written}
 use Rattle.pb_cli.specs.declared.status.Status.TheVariants.{Done, Refused}
@@ -14,7 +16,7 @@ pub has_first_text : (verified : VerifiedCode) (code : Code) → code ≡ verifi
     → FitsFirst code → HasTextOne code
 has_first_text verified code same is fits =
     subst HasTextOne (sym same)
-    (verified_code_has_a_first_text verified.code is.annotated is.pushes (subst FitsFirst same fits))
+    (first_text verified.code (is.annotated OutOfLimits) is.pushes (subst FitsFirst same fits))
 
 pub has_second_text : (verified : VerifiedCode) (code : Code) (labels given : List ProcessLabels)
     → code ≡ verified.code → given ≡ labels → IsVerified verified → AreLabels verified.code labels
@@ -22,7 +24,8 @@ pub has_second_text : (verified : VerifiedCode) (code : Code) (labels given : Li
 has_second_text verified code labels given same same_labels is fit =
     subst (λ (c : Code). HasText Two c given) (sym same)
     (subst (λ (l : List ProcessLabels). HasText Two verified.code l) (sym same_labels)
-    (verified_code_has_a_text verified.code labels is.annotated is.pushes fit))
+    (ranges_text verified.code labels
+    (record { limits = is.annotated OutOfLimits; pushes = is.pushes; fit = fit })))
 
 -- ---- what is said of it
 

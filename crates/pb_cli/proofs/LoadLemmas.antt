@@ -1,9 +1,9 @@
 -- From what reading and verifying answer to what is said of an object.
 use Rattle.std.proofs.Common.{◌≡◌, ℕ, List, Result, Ok, Err, IfOk, subst, sym}
 use Rattle.pb_base.specs.declared.memory.NoMemory.{NoMemory}
-use Rattle.pb_code.specs.Answers.{Spells}
+use Rattle.pb_object.specs.Answers.{Spells}
 use Rattle.pb_code.specs.Whole.{Code, ProcessLabels}
-use Rattle.pb_code.specs.declared.format.Format.{Format}
+use Rattle.pb_object.specs.declared.format.Format.{Format}
 use Rattle.pb_verifier.specs.Verified.{IsAnnotated}
 use Rattle.pb_cli.specs.Answers.{line}
 use Rattle.pb_cli.specs.Loading.{IsLoaded, IsLoadFault, SaysOfNoCode, WantsNoMemory, load_line, refused}

@@ -8,8 +8,8 @@ use Rattle.clap.proofs.OnLiterals.{clap_on_literals}
 use Rattle.pb_cli.specs.CommandLine.{command_line, with_text_commands, with_code_commands, with_object_commands, check_command, claims_command, emit_command, exec_command, migrate_command, run_command}
 use Rattle.clap.specs.declared.parser.matches.Found.{Found}
 use Rattle.clap.proofs.WalkLemmas.{one_text-rows}
-use Rattle.pb_code.specs.declared.format.Format.{Format}
-use Rattle.pb_code.specs.declared.format.Format.TheVariants.{One, Two}
+use Rattle.pb_object.specs.declared.format.Format.{Format}
+use Rattle.pb_object.specs.declared.format.Format.TheVariants.{One, Two}
 use Rattle.pb_cli.specs.Read.{BlamesWords, HasCheckNumbers, HasEmitNumber, HasNumber, HasNumberIn, HasOptionalNumber, HasRunNumbers, IsReadFrom, IsReadFromMatches, format_number}
 use Rattle.pb_cli.specs.declared.options.Options.{Options}
 use Rattle.pb_cli.specs.declared.options.Options.TheVariants.{Check, Claims, Emit, Exec, Migrate, Run}

@@ -1,10 +1,10 @@
 -- What `emit` says of an input, and with which status.
 use Rattle.std.specs.Prelude.{ℕ, List, codes}
-use Rattle.pb_code.specs.Answers.{Spells, SpellsOne}
-use Rattle.pb_code.specs.Limits.{FitsFirst}
+use Rattle.pb_object.specs.Answers.{Spells, SpellsOne}
+use Rattle.pb_object.specs.Formats.{FitsFirst}
 use Rattle.pb_code.specs.Whole.{Code, ProcessLabels}
-use Rattle.pb_code.specs.declared.format.Format.{Format}
-use Rattle.pb_code.specs.declared.format.Format.TheVariants.{One, Two}
+use Rattle.pb_object.specs.declared.format.Format.{Format}
+use Rattle.pb_object.specs.declared.format.Format.TheVariants.{One, Two}
 use Rattle.pb_codegen.specs.Compiled.{IsCompiled}
 use Rattle.pb_cli.specs.Answers.{line}
 use Rattle.pb_cli.specs.Refusals.{SaysOfRefusedText}

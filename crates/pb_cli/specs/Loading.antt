@@ -1,9 +1,9 @@
 -- When the bytes of an object give code that is safe to run, and what is said where they don't.
 use Rattle.std.specs.Prelude.{◌≡◌, ℕ, List}
-use Rattle.pb_code.specs.Answers.{Spells, IsFaultOf}
+use Rattle.pb_object.specs.Answers.{Spells, IsFaultOf}
 use Rattle.pb_code.specs.Whole.{Code, ProcessLabels}
-use Rattle.pb_code.specs.declared.fault.ObjectFault.TheVariants as object
-use Rattle.pb_code.specs.declared.format.Format.{Format}
+use Rattle.pb_object.specs.declared.fault.ObjectFault.TheVariants as object
+use Rattle.pb_object.specs.declared.format.Format.{Format}
 use Rattle.pb_verifier.specs.Verified.{IsAnnotated, IsRefusedFor}
 use Rattle.pb_verifier.specs.declared.fault.VerifyFault.TheVariants as verify
 use Rattle.pb_cli.specs.Answers.{line}

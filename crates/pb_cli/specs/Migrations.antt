@@ -1,8 +1,8 @@
 -- What `migrate` says of an input, and with which status.
 use Rattle.std.specs.Prelude.{ℕ, List}
-use Rattle.pb_code.specs.Answers.{Spells}
+use Rattle.pb_object.specs.Answers.{Spells}
 use Rattle.pb_code.specs.Whole.{Code, ProcessLabels}
-use Rattle.pb_code.specs.declared.format.Format.TheVariants.{Two}
+use Rattle.pb_object.specs.declared.format.Format.TheVariants.{Two}
 use Rattle.pb_cli.specs.Loading.{IsLoaded, SaysOfNoCode}
 use Rattle.pb_cli.specs.declared.status.Status.{Status}
 use Rattle.pb_cli.specs.declared.status.Status.TheVariants.{Done}

@@ -3,8 +3,8 @@ use Rattle.std.specs.Prelude.{◌≡◌, ◌≤◌, ℕ, List, [], Option, Some,
 use Rattle.std.specs.Str.Parse.{IsNumeral, digits_value, without_leading_plus}
 use Rattle.clap.specs.Words.{Row, Text, fault_of, one_of, subcommand_of}
 use Rattle.std.specs.Borrow.{Bor}
-use Rattle.pb_code.specs.declared.format.Format.{Format}
-use Rattle.pb_code.specs.declared.format.Format.TheVariants.{One, Two}
+use Rattle.pb_object.specs.declared.format.Format.{Format}
+use Rattle.pb_object.specs.declared.format.Format.TheVariants.{One, Two}
 use Rattle.pb_cli.specs.CommandLine.{command_line}
 use Rattle.pb_cli.specs.declared.options.Options.{Options}
 use Rattle.pb_cli.specs.declared.options.Options.TheVariants as option

@@ -14,8 +14,8 @@ use Rattle.pb_names.specs.declared.fault.NameFault.{NameFault}
 use Rattle.pb_names.specs.declared.fault.NameFault.TheVariants as names
 use Rattle.pb_claims.specs.Fits.{FitCapital, IsFirstOver}
 use Rattle.pb_claims.specs.declared.over_capital.OverCapital.{OverCapital}
-use Rattle.pb_code.specs.declared.fault.ObjectFault.{ObjectFault}
-use Rattle.pb_code.specs.declared.fault.ObjectFault.TheVariants as object
+use Rattle.pb_object.specs.declared.fault.ObjectFault.{ObjectFault}
+use Rattle.pb_object.specs.declared.fault.ObjectFault.TheVariants as object
 use Rattle.pb_codegen.specs.Compiled.{IsRefused}
 use Rattle.pb_codegen.specs.Generate.{names_of}
 use Rattle.pb_codegen.specs.Numbered.{IsNumbered}

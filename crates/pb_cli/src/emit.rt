@@ -3,7 +3,7 @@ ghost use Rattle.std.specs.Prelude.{◌≡◌, ◌≤◌, ◌⊎◌, IfOk, IfSom
 ghost use Rattle.pb_base.specs.Device.{one_more_failure};
 ghost use Rattle.pb_code.specs.Limits.{AreLabels};
 ghost use Rattle.pb_code.specs.Whole.{ProcessLabels};
-ghost use Rattle.pb_code.specs.declared.format.Format.TheVariants.{One, Two};
+ghost use Rattle.pb_object.specs.declared.format.Format.TheVariants.{One, Two};
 ghost use Rattle.pb_cli.specs.Answers.{Tells};
 ghost use Rattle.pb_cli.specs.Emissions.{SaysOfEmission, SaysOfObject};
 ghost use Rattle.pb_cli.specs.Inputs.{SaysOfInput};
@@ -15,8 +15,8 @@ use crate::reply::{Reply, refused, tell};
 use crate::status::Status;
 use pb_base::NoMemory;
 use pb_base::device::{Input, Output};
-use pb_code::{Format, fits_first_format, write_object, write_object2};
 use pb_codegen::Compiled;
+use pb_object::{Format, fits_first_format, write_object, write_object2};
 use pb_verifier::Verified;
 use std::alloc::Global;
 

@@ -1,14 +1,15 @@
 //! Objects, read and verified.
 ghost use Rattle.std.specs.Prelude.{◌≡◌, ℕ, IfErr, IfOk, List};
-ghost use Rattle.pb_code.specs.Answers.{HasText};
+ghost use Rattle.pb_object.specs.Answers.{HasText};
 ghost use Rattle.pb_code.specs.View.{labels_view};
-ghost use Rattle.pb_code.specs.declared.format.Format.TheVariants.{Two};
+ghost use Rattle.pb_object.specs.declared.format.Format.TheVariants.{Two};
 ghost use Rattle.pb_cli.specs.Loading.{IsLoaded, IsLoadFault, SaysOfNoCode, WantsNoMemory, load_line};
 
 use crate::refusal::{object_text, verify_text};
 use crate::reply::{Reply, refused};
 use pb_base::NoMemory;
-use pb_code::{Labels, ObjectFault, read_any};
+use pb_code::Labels;
+use pb_object::{ObjectFault, read_any};
 use pb_verifier::{Verified, VerifyFault, verify};
 use std::alloc::Global;
 

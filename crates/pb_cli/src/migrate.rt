@@ -11,7 +11,7 @@ use crate::reply::{Reply, tell};
 use crate::status::Status;
 use pb_base::NoMemory;
 use pb_base::device::{Input, Output};
-use pb_code::write_object2;
+use pb_object::write_object2;
 use std::alloc::Global;
 
 // The second format of the object that the bytes spell, or the line of their refusal.

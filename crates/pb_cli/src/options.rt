@@ -1,7 +1,7 @@
 //! The words of a call, read.
 ghost use Rattle.std.specs.Prelude.{◌≡◌, ◌≤◌, ℕ, Some};
 
-use pb_code::Format;
+use pb_object::Format;
 
 /// The number of `check`.
 #[derive(Clone, Copy, Debug, PartialEq, Eq)]

@@ -11,7 +11,7 @@ use crate::command_line::command_line;
 use crate::options::{CheckOptions, EmitOptions, Options, RunOptions, WordsFault};
 use clap::error::ErrorKind;
 use clap::{ArgMatches, Error};
-use pb_code::Format;
+use pb_object::Format;
 use std::alloc::Global;
 
 // The number of an option, where it was matched with one from `least` to `most`.

@@ -5,7 +5,7 @@ ghost use Rattle.pb_cli.specs.Refusals.{at_place, kind_line, lex_line, names_lin
 
 use pb_base::NoMemory;
 use pb_claims::OverCapital;
-use pb_code::ObjectFault;
+use pb_object::ObjectFault;
 use pb_lexer::LexFault;
 use pb_names::{Kind, NameFault};
 use pb_parser::ParseFault;

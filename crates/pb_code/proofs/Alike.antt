@@ -8,7 +8,7 @@ use Rattle.std.proofs.lemmas.Slice.Eq.{slice_eq-Decides}
 use Rattle.pb_base.specs.Banker.{cell}
 use Rattle.pb_code.specs.declared.instr.Instr.{Instr as Given}
 use Rattle.pb_code.specs.declared.instr.Instr.TheVariants as given
-use Rattle.pb_code.specs.Rows.{IsPlain}
+use Rattle.pb_code.specs.Bundles.{IsPlain}
 use Rattle.pb_code.proofs.Each.{alike_numbers}
 
 -- what is no take and no give

@@ -6,7 +6,7 @@ use Rattle.pb_code.specs.declared.instr.Instr.{Instr as Given}
 use Rattle.pb_code.specs.declared.instr.Instr.TheVariants as given
 use Rattle.pb_code.specs.Code.{Instr, Take, Give}
 use Rattle.pb_code.specs.View.{instr_view}
-use Rattle.pb_code.specs.Rows.{IsPlain, NamesBelow, Extends}
+use Rattle.pb_code.specs.Bundles.{IsPlain, NamesBelow, Extends}
 
 get_before : (xs more : List (List Pair)) (k : ℕ) → k < length xs → get_or (xs ++ more) k [] ≡ get_or xs k []
 get_before xs more k lt = get_or_append_left xs more [] k lt

@@ -1,16 +1,23 @@
--- Names: the test of a word, and names that differ from one another.
-use Rattle.std.proofs.Common.{◌≡◌, ◌≢◌, ◌⊎◌, ◌↔◌, inl, inr, ℕ, zero, suc, ◌<◌, Bool, true, false, not, ◌&&◌, ◌||◌, ltb, List, [], ◌∷◌, ◌++◌, length, get_or, refl, sym, arith}
-use Rattle.std.specs.Prelude.{All, AllPairs, Contains, EachIndex}
+-- Names: the test of a word.
+use Rattle.std.proofs.Common.{◌≡◌, ◌⊎◌, ◌↔◌, inl, inr, ℕ, zero, suc, ◌<◌, Bool, true, false, not, ◌&&◌, ◌||◌, ltb, List, [], ◌∷◌, length, get_or, refl, sym, arith}
+use Rattle.std.specs.Prelude.{All, Contains, EachIndex}
 use Rattle.std.specs.Char.{is_ascii_alphabetic}
 use Rattle.std.specs.Str.{bytes_eq}
 use Rattle.std.specs.List.{list_all, AllByRecursion}
 use Rattle.std.proofs.lemmas.Bool.{ltb-true, lt-ltb}
 use Rattle.std.proofs.lemmas.Slice.Eq.{bytes_eq-Decides}
-use Rattle.pb_code.specs.Words.{Word, is_name_byte, reserved_words, is_among, is_name, is_new_name, are_new}
+use Rattle.pb_code.specs.Names.{Word, is_name_byte, reserved_words, is_among, is_name}
 use Rattle.pb_code.specs.Limits.{IsName}
-use Rattle.pb_code.proofs.Numbers.{both_true}
-use Rattle.pb_code.proofs.LineForms.{letter_name}
-use Rattle.pb_code.proofs.Moving.{among_push, false_from}
+
+-- ---- truths
+
+pub both_true : (a b : Bool) → (a && b) ≡ true → (a ≡ true) × (b ≡ true)
+both_true true b e = (refl, e)
+both_true false b e = absurd cc
+
+pub false_from : (b : Bool) → (b ≡ true → ⊥) → b ≡ false
+false_from true h = absurd (h refl)
+false_from false h = refl
 
 -- ---- one of some words
 
@@ -55,6 +62,9 @@ not_true : (b : Bool) → not b ≡ true → b ≡ false
 not_true true h = absurd cc
 not_true false h = refl
 
+pub letter_name : (b : ℕ) → is_ascii_alphabetic b ≡ true → is_name_byte b ≡ true
+letter_name b h = rw h refl
+
 bytes_of : (b : ℕ) (bs : List ℕ) → is_ascii_alphabetic b ≡ true → list_all is_name_byte bs ≡ true
     → EachIndex (b ∷ bs) (λ k. is_name_byte (get_or (b ∷ bs) k 0) ≡ true)
 bytes_of b bs h all zero lt = letter_name b h
@@ -90,36 +100,6 @@ is_named (b ∷ bs) h =
 pub name_decides : (w : Word) → (is_name w ≡ true) ↔ IsName w
 name_decides w = (is_formed w, is_named w)
 
--- ---- names that differ
-
-new_step : (a b : Bool) → a ≡ false → b ≡ true → (not a && b) ≡ true
-new_step true b e h = absurd cc
-new_step false b e h = h
-
-differ : (v w : Word) → v ≢ w → bytes_eq v w ≡ false
-differ v w other = false_from (bytes_eq v w) (λ h. other ((bytes_eq-Decides v w).0 h))
-
--- names that differ from one another and from earlier ones are new
-pub apart_are_new : (earlier names : List Word) → All (λ w. is_among earlier w ≡ false) names → AllPairs (λ a b. a ≢ b) names
-    → are_new earlier names ≡ true
-apart_are_new earlier [] before apart = refl
-apart_are_new earlier (w ∷ names) before apart =
-    new_step (is_among earlier w) (are_new (earlier ++ w ∷ []) names) (before 0 w (omega arith))
-    (apart_are_new (earlier ++ w ∷ []) names
-    (λ k d lt. among_push earlier w (get_or names k d) (before (suc k) d (omega (arith, lt)))
-    (differ (get_or names k d) w (λ same. apart 0 (suc k) d (omega arith) (omega (arith, lt)) (sym same))))
-    (λ i j d u v. apart (suc i) (suc j) d (omega (arith, u)) (omega (arith, v))))
-
 pub formed_are_names : (names : List Word) → All IsName names → AllByRecursion (λ w. is_name w ≡ true) names
 formed_are_names [] h = tt
 formed_are_names (w ∷ names) h = (is_named w (h 0 w (omega arith)), formed_are_names names (λ k d lt. h (suc k) d (omega (arith, lt))))
-
-new_both : (a b c : Bool) → a ≡ true → (not b && c) ≡ true → ((a && not b) ≡ true) × (c ≡ true)
-new_both true true c e h = absurd cc
-new_both true false c e h = (refl, h)
-new_both false b c e h = absurd cc
-
--- the first of new names is a new name, and the others are new after it
-pub new_parts : (earlier : List Word) (w : Word) (names : List Word) → is_name w ≡ true → are_new earlier (w ∷ names) ≡ true
-    → (is_new_name earlier w ≡ true) × (are_new (earlier ++ w ∷ []) names ≡ true)
-new_parts earlier w names name new = new_both (is_name w) (is_among earlier w) (are_new (earlier ++ w ∷ []) names) name new

@@ -1,6 +1,5 @@
--- Code whose counts, numbers and names are within their limits, and labels that fit it: what an object can
--- say.
-use Rattle.std.specs.Prelude.{◌≡◌, ◌≢◌, ◌≤◌, ◌<◌, ℕ, true, List, length, slice_get, slice_index, Some, All, EachIndex, AllPairs, Contains, ℤ, ⊤}
+-- Code whose counts, numbers and names are within their limits, and labels that fit it.
+use Rattle.std.specs.Prelude.{◌≡◌, ◌≢◌, ◌≤◌, ◌<◌, ◌^◌, ℕ, true, List, length, slice_get, slice_index, Option, Some, None, All, EachIndex, AllPairs, Contains, ℤ, pos, negsuc, ⊤}
 use Rattle.std.specs.Char.{is_ascii_alphabetic}
 use Rattle.pb_base.specs.Bundle.{IsDistinct}
 use Rattle.pb_base.specs.Steppers.{Bundle}
@@ -8,8 +7,7 @@ use Rattle.pb_base.specs.Tables.{HasWidth}
 use Rattle.pb_base.specs.Banker.{cell}
 use Rattle.pb_code.specs.Code.{Instr, Push, Load, Store, Jump, JumpIfZero, Take, Give, Fork, Join, ProcessCode}
 use Rattle.pb_code.specs.Whole.{Code, ProcessLabels}
-use Rattle.pb_code.specs.Words.{is_name_byte, reserved_words}
-use Rattle.pb_code.specs.Ranges.{IsSigned, IsLine}
+use Rattle.pb_code.specs.Names.{is_name_byte, reserved_words}
 
 abbrev pub IsUpTo : ℕ → ℕ → Type 0
 IsUpTo most n = (1 ≤ n) × (n ≤ most)
@@ -75,6 +73,11 @@ pub record KeepsLimits (code : Code) : Type 0 where
       → cell code.claims p r ≤ 1000000
   pub each : EachProcess code IsSmallProcess
 
+-- 64 bits with a sign
+abbrev pub IsSigned : ℤ → Type 0
+IsSigned (pos n) = n < 2 ^ 63
+IsSigned (negsuc n) = n < 2 ^ 63
+
 -- what is pushed has 64 bits with a sign
 abbrev pub HasSmallPushes : ProcessCode → Type 0
 HasSmallPushes code = (place : ℕ) (v : ℤ) → slice_get code.instrs place ≡ Some (Push v) → IsSigned v
@@ -84,6 +87,11 @@ abbrev pub PushesFit : Code → Type 0
 PushesFit code = EachProcess code HasSmallPushes
 
 -- ---- labels
+
+-- a source line, from 1, or none
+abbrev pub IsLine : Option ℕ → Type 0
+IsLine None = ⊤
+IsLine (Some n) = (1 ≤ n) × (n ≤ 65536)
 
 -- a source line or none for each place, and a name for each integer
 pub record FitLabels (process : ProcessCode) (labels : ProcessLabels) : Type 0 where
@@ -96,23 +104,3 @@ pub record AreLabels (code : Code) (labels : List ProcessLabels) : Type 0 where
   pub all : length labels ≡ length code.processes
   pub each : (p : ℕ) (process : ProcessCode) (l : ProcessLabels) → slice_get code.processes p ≡ Some process
       → slice_get labels p ≡ Some l → FitLabels process l
-
--- what the second format can say
-pub record KeepsRanges (code : Code) (labels : List ProcessLabels) : Type 0 where
-  pub limits : KeepsLimits code
-  pub pushes : PushesFit code
-  pub fit : AreLabels code labels
-
--- ---- the first format
-
--- a take or a give is of one resource
-abbrev pub IsSingle : Instr → Type 0
-IsSingle (Take bundle) = length bundle ≡ 1
-IsSingle (Give bundle) = length bundle ≡ 1
-IsSingle i = ⊤
-
--- what of code within the limits the first format can say
-pub record FitsFirst (code : Code) : Type 0 where
-  pub few_processes : length code.processes ≤ 32
-  pub single : EachProcess code (λ process. (place : ℕ) (i : Instr)
-      → slice_get process.instrs place ≡ Some i → IsSingle i)

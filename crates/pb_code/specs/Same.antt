@@ -1,14 +1,8 @@
 -- Which processes of two codes are the same.
-use Rattle.std.specs.Prelude.{◌≡◌, ℕ, [], slice_get, slice_index_or, ⊤}
-use Rattle.pb_base.specs.Steppers.{Bundle}
-use Rattle.pb_code.specs.declared.code.ProcessCode.{ProcessCode as GivenProcess}
+use Rattle.std.specs.Prelude.{◌≡◌, ℕ, slice_get, ⊤}
 use Rattle.pb_code.specs.declared.instr.Instr.{Instr as Given}
 use Rattle.pb_code.specs.declared.instr.Instr.TheVariants as given
 use Rattle.pb_code.specs.Whole.{Code}
-
--- the bundle with a number, empty where there is none
-abbrev pub bundle_of : GivenProcess → ℕ → Bundle
-bundle_of code k = slice_index_or code.bundles.items k []
 
 -- an instruction with no operand
 abbrev pub IsBare : Given → Type 0

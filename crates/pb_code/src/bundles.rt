@@ -1,14 +1,17 @@
 //! The bundles that the instructions of a process name.
 
-ghost use Rattle.std.specs.Prelude.{◌≡◌, ◌<◌, length, slice_get, Some};
-ghost use Rattle.pb_code.specs.Same.{bundle_of};
+ghost use Rattle.std.specs.Prelude.{◌≡◌, ◌<◌, ◌≤◌, length, slice_get, Some};
+ghost use Rattle.pb_base.specs.Bundle.{IsDistinct};
+ghost use Rattle.pb_code.specs.Bundles.{bundle_of};
 
 use crate::code::ProcessCode;
 use pb_base::Pair;
 
 /// The number of pairs of a bundle, 0 where there is no such bundle.
-pub(crate) fn pairs(code: &ProcessCode, bundle: u16) -> usize
-    ensures { result ≡ length (bundle_of code.now bundle) }
+pub fn pairs(code: &ProcessCode, bundle: u16) -> usize
+    ensures len { result ≡ length (bundle_of code.now bundle) }
+    ensures few { result ≤ 16 }
+    ensures distinct { IsDistinct (bundle_of code.now bundle) }
 {
     match code.bundles.get(bundle as usize) {
         Some(bundle) => bundle.len(),
@@ -17,7 +20,7 @@ pub(crate) fn pairs(code: &ProcessCode, bundle: u16) -> usize
 }
 
 /// A pair of a bundle.
-pub(crate) fn pair_at(code: &ProcessCode, bundle: u16, i: usize) -> Pair
+pub fn pair_at(code: &ProcessCode, bundle: u16, i: usize) -> Pair
     requires { i < length (bundle_of code.now bundle) }
     ensures { slice_get (bundle_of code.now bundle) i ≡ Some result }
 {

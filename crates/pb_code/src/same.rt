@@ -2,8 +2,9 @@
 
 ghost use Rattle.std.specs.Prelude.{◌≡◌, ◌↔◌, ◌<◌, List, length, map, slice_get, true};
 ghost use Rattle.pb_base.specs.Steppers.{Bundle};
-ghost use Rattle.pb_code.specs.Rows.{IsPlain};
-ghost use Rattle.pb_code.specs.Same.{IsBare, IsSameProcess, bundle_of};
+ghost use Rattle.pb_code.specs.Bundles.{IsPlain};
+ghost use Rattle.pb_code.specs.Same.{IsBare, IsSameProcess};
+ghost use Rattle.pb_code.specs.Bundles.{bundle_of};
 ghost use Rattle.pb_code.specs.View.{code_view, instr_view, process_view};
 
 use crate::bundles::{pair_at, pairs};

@@ -11,7 +11,7 @@ use Rattle.pb_base.specs.declared.pair.Pair.{Pair}
 use Rattle.pb_code.specs.declared.instr.Instr.{Instr as Given}
 use Rattle.pb_code.specs.declared.instr.Instr.TheVariants as given
 use Rattle.pb_code.specs.Code.{Instr, Take, Give}
-use Rattle.pb_code.specs.Rows.{IsPlain, NamesBelow, Extends}
+use Rattle.pb_code.specs.Bundles.{IsPlain, NamesBelow, Extends}
 use Rattle.pb_code.specs.View.{instr_view}
 use Rattle.pb_code.proofs.BundleTables.{plain_same, plain_names, views_kept, names_kept}
 use Rattle.pb_codegen.specs.Emitted.{seen, place, IsSound, Adds, Replaces}

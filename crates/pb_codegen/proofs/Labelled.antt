@@ -13,7 +13,7 @@ use Rattle.pb_names.specs.Resolves.{ResolvesProcess, Resolves, resource_names}
 use Rattle.pb_base.specs.Steppers.{Table}
 use Rattle.pb_code.specs.Code.{End, ProcessCode}
 use Rattle.pb_code.specs.Limits.{IsName, FitLabels, AreLabels}
-use Rattle.pb_code.specs.Ranges.{IsLine}
+use Rattle.pb_code.specs.Limits.{IsLine}
 use Rattle.pb_code.specs.Whole.{ProcessLabels}
 use Rattle.pb_verifier.proofs.Limiting.{all_at}
 use Rattle.pb_codegen.specs.Form.{IsSourceLine, IsFullStmt, IsFull, AreFull, IsFormedProcess, IsFormed}

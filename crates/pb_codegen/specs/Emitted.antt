@@ -1,7 +1,7 @@
 -- What has been written of a process: its instructions as contracts see them, and how a writer grows.
 use Rattle.std.specs.Prelude.{◌≡◌, ℕ, ◌+◌, ◌≤◌, List, ◌++◌, All, length, map, Option, slice_set}
 use Rattle.pb_code.specs.Code.{Instr}
-use Rattle.pb_code.specs.Rows.{Extends, NamesBelow}
+use Rattle.pb_code.specs.Bundles.{Extends, NamesBelow}
 use Rattle.pb_code.specs.View.{instr_view}
 use Rattle.pb_codegen.specs.declared.writer.Writer.{Writer}
 

@@ -3,7 +3,7 @@
 ghost use Rattle.std.specs.Prelude.{◌≡◌, List};
 ghost use Rattle.pb_base.specs.Steppers.{Bundle};
 ghost use Rattle.pb_code.specs.Code.{Compute1, Compute2};
-ghost use Rattle.pb_code.specs.Rows.{IsPlain};
+ghost use Rattle.pb_code.specs.Bundles.{IsPlain};
 ghost use Rattle.pb_code.specs.View.{instr_view};
 
 use pb_base::{BinaryOp, UnaryOp};

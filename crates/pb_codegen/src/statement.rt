@@ -1,7 +1,7 @@
 //! The instructions of statements. A jump is written with a target of 0, and patched once its target is known.
 
 ghost use Rattle.std.specs.Prelude.{◌≡◌, suc, ◌+◌, ◌<◌, ◌≤◌, [], ◌∷◌, ◌++◌, None, Some, OnOk, drop, length, replicate};
-ghost use Rattle.pb_code.specs.Rows.{IsPlain};
+ghost use Rattle.pb_code.specs.Bundles.{IsPlain};
 ghost use Rattle.pb_code.specs.View.{instr_view};
 ghost use Rattle.pb_codegen.specs.Emitted.{Adds, HasRoom, IsSound, place};
 ghost use Rattle.pb_codegen.specs.Generate.{arm_code, block_code, expr_code, stmt_code};

@@ -2,7 +2,7 @@
 
 ghost use Rattle.std.specs.Prelude.{◌≡◌, ◌<◌, ◌≤◌, [], ◌∷◌, length, slice_get, IfOk, OnOk, Some};
 ghost use Rattle.pb_code.specs.Code.{Take};
-ghost use Rattle.pb_code.specs.Rows.{IsPlain, NamesBelow};
+ghost use Rattle.pb_code.specs.Bundles.{IsPlain, NamesBelow};
 ghost use Rattle.pb_code.specs.View.{instr_view};
 ghost use Rattle.pb_codegen.specs.Emitted.{Adds, HasRoom, IsSound, Replaces, place};
 

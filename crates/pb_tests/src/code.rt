@@ -3,9 +3,9 @@
 ghost use Rattle.std.specs.Prelude.{◌≤◌, length};
 
 use pb_base::{Bundle, Capital, Claims, Names, NoMemory};
-use pb_code::{
-    Code, Instr, ObjectFault, ProcessCode, fits_first_format, is_name, read_any, read_object,
-    write_object, write_object2,
+use pb_code::{Code, Instr, ProcessCode, is_name};
+use pb_object::{
+    ObjectFault, fits_first_format, read_any, read_object, write_object, write_object2,
 };
 use std::alloc::Global;
 use std::process::Abort;

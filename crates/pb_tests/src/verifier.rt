@@ -3,7 +3,8 @@
 ghost use Rattle.std.specs.Prelude.{◌≤◌};
 
 use pb_base::{Bundle, Capital, Claims, Names, NoMemory};
-use pb_code::{Code, Instr, ObjectFault, ProcessCode, read_any, write_object2};
+use pb_code::{Code, Instr, ProcessCode};
+use pb_object::{ObjectFault, read_any, write_object2};
 use pb_verifier::{VerifyFault, verify};
 use std::alloc::Global;
 use std::process::Abort;

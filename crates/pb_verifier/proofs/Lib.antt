@@ -26,6 +26,5 @@ pub mod Spreading
 pub mod States
 pub mod Steps
 pub mod Sums
-pub mod Texts
 pub mod Threads
 pub mod Turns

@@ -14,10 +14,6 @@ plain code i = instr_view code.bundles.items i
 abbrev pub instrs_of : GivenProcess → List Instr
 instrs_of code = map (instr_view code.bundles.items) code.instrs.items
 
--- the bundle with a number, empty where there is none
-abbrev pub bundle_of : GivenProcess → ℕ → Bundle
-bundle_of code k = slice_index_or code.bundles.items k []
-
 -- a take stands at a place
 abbrev pub IsTakeAt : List Instr → ℕ → Type 0
 IsTakeAt instrs p = (bundle : Bundle) × (slice_get instrs p ≡ Some (Take bundle))

@@ -4,14 +4,15 @@ ghost use Rattle.std.specs.Prelude.{◌≡◌, ◌<◌, ◌≤◌, ◌==◌, ℕ
 ghost use Rattle.pb_base.specs.Bundle.{amount_in};
 ghost use Rattle.pb_code.specs.View.{process_view};
 ghost use Rattle.pb_verifier.specs.Amounts.{HasHoldings, NeverTakes, TakesNone, TurnsAmount, amount_after, AmountFits};
-ghost use Rattle.pb_verifier.specs.Given.{IsOrderOf, bundle_of, instrs_of, plain};
+ghost use Rattle.pb_code.specs.Bundles.{bundle_of};
+ghost use Rattle.pb_verifier.specs.Given.{IsOrderOf, instrs_of, plain};
 ghost use Rattle.pb_verifier.specs.Limits.{IsSmallProcess};
 ghost use Rattle.pb_verifier.specs.Spread.{IsTableOf, fact_at, notes_of};
 
-use crate::bundles::{pair_at, pairs};
 use crate::facts::{Fact, spread};
 use crate::places::{instr_at, places};
 use pb_base::{NoMemory, Pair};
+use pb_code::bundles::{pair_at, pairs};
 use pb_code::{Instr, ProcessCode};
 use std::alloc::Global;
 

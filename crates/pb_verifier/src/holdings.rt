@@ -5,13 +5,14 @@ ghost use Rattle.pb_base.specs.Steppers.{Bundle};
 ghost use Rattle.pb_code.specs.Code.{Take};
 ghost use Rattle.pb_code.specs.View.{process_view};
 ghost use Rattle.pb_verifier.specs.Faults.{AreHoldings, TurnsHoldings};
-ghost use Rattle.pb_verifier.specs.Given.{IsOrderOf, IsTakeAt, bundle_of, instrs_of};
+ghost use Rattle.pb_code.specs.Bundles.{bundle_of};
+ghost use Rattle.pb_verifier.specs.Given.{IsOrderOf, IsTakeAt, instrs_of};
 ghost use Rattle.pb_verifier.specs.Spread.{AllReadable, HoldFits, IsKept, IsTableOf, fact_at, held_after, notes_of};
 ghost use Rattle.pb_verifier.specs.Holdings.{CanBeRead, IsChain, held, held_by};
 
-use crate::bundles::{pair_at, pairs};
 use crate::facts::{Fact, spread};
 use pb_base::NoMemory;
+use pb_code::bundles::{pair_at, pairs};
 use pb_code::{Instr, ProcessCode};
 use std::alloc::Global;
 

@@ -1,10 +1,7 @@
 //! What is true of the definitions alone.
 
-ghost use Rattle.std.specs.Prelude.{List};
-ghost use Rattle.pb_code.specs.declared.format.Format.TheVariants.{Two};
-ghost use Rattle.pb_code.specs.Answers.{HasText, HasTextOne};
-ghost use Rattle.pb_code.specs.Limits.{AreLabels, FitsFirst};
-ghost use Rattle.pb_code.specs.Whole.{Code, ProcessLabels};
+ghost use Rattle.pb_code.specs.Limits.{KeepsLimits, PushesFit};
+ghost use Rattle.pb_code.specs.Whole.{Code};
 ghost use Rattle.pb_verifier.specs.Behaviour.{IsWellBehaved, PeaksDecide};
 ghost use Rattle.pb_verifier.specs.Requests.{RefusedStays, RefusedStops, SameProcessSameDepths};
 ghost use Rattle.pb_verifier.specs.Verified.{IsAnnotated, IsVerified, VerifiedCode};
@@ -22,11 +19,10 @@ pub fn greatest_amounts_decide()
     ensures { (code : Code) → PeaksDecide code }
 {}
 
-/// Verified code with labels that fit it has a text in the second format, and one in the first where this can say it.
-pub fn verified_code_has_a_text()
-    ensures second { (v : VerifiedCode) (labels : List ProcessLabels) → IsVerified v → AreLabels v.code labels
-        → HasText Two v.code labels }
-    ensures first { (v : VerifiedCode) → IsVerified v → FitsFirst v.code → HasTextOne v.code }
+/// Verified code keeps the limits of code, so that with labels that fit it there is an object that says it.
+pub fn verified_code_keeps_the_limits()
+    ensures limits { (v : VerifiedCode) → IsVerified v → KeepsLimits v.code }
+    ensures pushes { (v : VerifiedCode) → IsVerified v → PushesFit v.code }
 {}
 
 /// In verified code an arm that was refused cannot be picked, and stays refused until loans come back, by a return or a

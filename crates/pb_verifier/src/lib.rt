@@ -3,7 +3,6 @@
 
 mod amounts;
 mod arms;
-mod bundles;
 mod checking;
 mod deepest;
 mod depths;

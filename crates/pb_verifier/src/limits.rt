@@ -5,16 +5,17 @@ ghost use Rattle.pb_base.specs.Lines.{names_view};
 ghost use Rattle.pb_base.specs.Banker.{cell};
 ghost use Rattle.pb_base.specs.Tables.{HasWidth};
 ghost use Rattle.pb_code.specs.Code.{Push};
-ghost use Rattle.pb_code.specs.Ranges.{IsSigned};
+ghost use Rattle.pb_code.specs.Limits.{IsSigned};
 ghost use Rattle.pb_code.specs.View.{code_view, process_view};
-ghost use Rattle.pb_verifier.specs.Given.{bundle_of, instrs_of, plain};
+ghost use Rattle.pb_code.specs.Bundles.{bundle_of};
+ghost use Rattle.pb_verifier.specs.Given.{instrs_of, plain};
 ghost use Rattle.pb_verifier.specs.Limits.{AreNames, HasSmallNumbers, IsSmallBundle, IsSmallProcess, KeepsLimits, HasSmallPushes, PushesFit};
 
-use crate::bundles::{pair_at, pairs};
 use crate::places::{instr_at, places};
 use pb_base::Claims;
 use pb_base::capital::MAX_RESOURCES;
 use pb_base::claims::MAX_PROCESSES;
+use pb_code::bundles::{pair_at, pairs};
 use pb_code::{Code, Instr, ProcessCode, is_name};
 
 /// The most places of a process.

@@ -3,11 +3,12 @@
 ghost use Rattle.std.specs.Prelude.{◌≡◌, ◌↔◌, ◌<◌, ◌≤◌, All, length, true};
 ghost use Rattle.pb_code.specs.View.{code_view, process_view};
 ghost use Rattle.pb_verifier.specs.Faults.{FitCapital, IsInRange, UsesWhatIsThere};
-ghost use Rattle.pb_verifier.specs.Given.{bundle_of, plain};
+ghost use Rattle.pb_code.specs.Bundles.{bundle_of};
+ghost use Rattle.pb_verifier.specs.Given.{plain};
 ghost use Rattle.pb_verifier.specs.Limits.{KeepsLimits};
 
-use crate::bundles::{pair_at, pairs};
 use crate::places::{instr_at, places};
+use pb_code::bundles::{pair_at, pairs};
 use pb_code::{Code, Instr, ProcessCode};
 
 /// Whether no claim is over its capital.

@@ -1,8 +1,8 @@
 use Rattle.std.proofs.Common.{subst, sym}
-use Rattle.pb_code.specs.Answers.{HasText, Spells}
+use Rattle.pb_object.specs.Answers.{HasText, Spells}
 use Rattle.pb_code.specs.Whole.{Code}
 use Rattle.pb_code.specs.View.{labels_view}
-use Rattle.pb_code.specs.declared.format.Format.TheVariants.{Two}
+use Rattle.pb_object.specs.declared.format.Format.TheVariants.{Two}
 use Rattle.pb_cli.specs.Migrations.{SaysOfMigration, migrated, no_code}
 use Rattle.pb_cli.specs.Loading.{SaysOfNoCode}
 use Rattle.pb_cli.proofs.InputLemmas.{replied_too}

@@ -1,5 +1,5 @@
 use Rattle.std.proofs.Common.{refl, arith}
-use Rattle.pb_code.specs.Same.{bundle_of}
+use Rattle.pb_code.specs.Bundles.{bundle_of}
 use Rattle.pb_code.proofs.Each.{alike_all}
 use Rattle.pb_code.proofs.same.same_bundle.Goals as goal
 

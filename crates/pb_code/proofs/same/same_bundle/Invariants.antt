@@ -1,4 +1,4 @@
-use Rattle.pb_code.specs.Same.{bundle_of}
+use Rattle.pb_code.specs.Bundles.{bundle_of}
 use Rattle.pb_code.proofs.Each.{AlikeBelow}
 use Rattle.pb_code.proofs.same.same_bundle.Given as goal
 

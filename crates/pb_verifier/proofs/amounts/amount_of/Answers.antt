@@ -1,5 +1,5 @@
 use Rattle.std.proofs.Common.{arith}
-use Rattle.pb_verifier.specs.Given.{bundle_of}
+use Rattle.pb_code.specs.Bundles.{bundle_of}
 use Rattle.pb_verifier.proofs.Amounting.{amount_more}
 use Rattle.pb_verifier.proofs.amounts.amount_of.Goals as goal
 

@@ -1,6 +1,6 @@
 use Rattle.std.proofs.Common.{◌≡◌, ◌≤◌, ◌*◌, take}
 use Rattle.pb_base.specs.Bundle.{amount_in}
-use Rattle.pb_verifier.specs.Given.{bundle_of}
+use Rattle.pb_code.specs.Bundles.{bundle_of}
 use Rattle.pb_verifier.proofs.amounts.amount_of.Given as goal
 
 abbrev pub invariant-loop-i : goal.invariant-loop-i

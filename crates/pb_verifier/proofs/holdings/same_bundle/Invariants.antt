@@ -1,5 +1,5 @@
 use Rattle.std.proofs.Common.{◌≡◌, ℕ, ◌<◌, slice_get}
-use Rattle.pb_verifier.specs.Given.{bundle_of}
+use Rattle.pb_code.specs.Bundles.{bundle_of}
 use Rattle.pb_verifier.proofs.holdings.same_bundle.Given as goal
 
 abbrev pub invariant-loop-i : goal.invariant-loop-i

@@ -1,6 +1,6 @@
 use Rattle.std.proofs.Common.{◌≡◌, vec_len, refl, arith, subst, ℕ, ℤ, ◌<◌}
 use Rattle.pb_code.specs.Code.{Push}
-use Rattle.pb_code.specs.Ranges.{IsSigned}
+use Rattle.pb_code.specs.Limits.{IsSigned}
 use Rattle.std.proofs.lemmas.List.{get_or_default}
 use Rattle.pb_verifier.specs.Given.{instrs_of}
 use Rattle.pb_verifier.specs.Limits.{HasSmallNumbers}

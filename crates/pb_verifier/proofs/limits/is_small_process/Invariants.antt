@@ -1,6 +1,6 @@
 use Rattle.std.proofs.Common.{◌≡◌, ◌<◌, ℕ, ℤ, get_or}
 use Rattle.pb_code.specs.Code.{Push}
-use Rattle.pb_code.specs.Ranges.{IsSigned}
+use Rattle.pb_code.specs.Limits.{IsSigned}
 use Rattle.pb_verifier.specs.Given.{instrs_of}
 use Rattle.pb_verifier.specs.Limits.{HasSmallNumbers}
 use Rattle.pb_verifier.proofs.Each.{EachBelow}

@@ -1,5 +1,5 @@
 use Rattle.std.proofs.Common.{◌<◌}
-use Rattle.pb_verifier.specs.Given.{bundle_of}
+use Rattle.pb_code.specs.Bundles.{bundle_of}
 use Rattle.pb_verifier.proofs.Each.{EachBelow}
 use Rattle.pb_verifier.proofs.range.names_resources.Given as goal
 

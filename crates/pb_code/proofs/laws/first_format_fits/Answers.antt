@@ -1,5 +1,0 @@
-use Rattle.pb_code.proofs.Sayable.{first_text, first_fits}
-use Rattle.pb_code.proofs.laws.first_format_fits.Goals as goal
-
-pub returns : goal.returns
-returns c = record { yes = first_text; only = first_fits }

@@ -1,5 +1,0 @@
-use Rattle.pb_code.proofs.SpellingLaws.{same_code}
-use Rattle.pb_code.proofs.laws.one_code.Goals as goal
-
-pub returns : goal.returns
-returns c = same_code

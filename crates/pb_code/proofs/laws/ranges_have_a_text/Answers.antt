@@ -1,6 +1,0 @@
-use Rattle.pb_code.proofs.Said.{text_keeps}
-use Rattle.pb_code.proofs.Sayable.{ranges_text}
-use Rattle.pb_code.proofs.laws.ranges_have_a_text.Goals as goal
-
-pub returns : goal.returns
-returns c = λ code labels. (ranges_text code labels, text_keeps code labels)

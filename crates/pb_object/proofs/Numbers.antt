@@ -1,0 +1,88 @@
+-- A number that is read is the number that was written, and what was written is read again.
+use Rattle.std.proofs.Common.{◌≡◌, ℕ, ◌+◌, ◌*◌, ◌^◌, ◌<◌, ◌≤◌, Bool, true, false, cond, not, ◌&&◌, ◌||◌, eqb, ltb, List, [], ◌∷◌, length, get_or, refl, sym, ap, subst, ◌∙◌, arith, rules, inl, inr, take}
+use Rattle.std.specs.List.{list_all}
+use Rattle.std.specs.Char.{is_ascii_digit, digit_value}
+use Rattle.std.specs.Fmt.{decimal}
+use Rattle.std.specs.Str.Parse.{digits_value}
+use Rattle.std.proofs.lemmas.Str.{digit_value_digit}
+use Rattle.std.proofs.lemmas.Str.Parse.{IsNumeralModel, numerals_by_value, digit_at}
+use Rattle.std.proofs.lemmas.Int.Digits.{digits_value_more}
+use Rattle.std.proofs.lemmas.Fmt.{decimal-digits_value, digits_decimal, digits_value-decimal, decimal_nonempty, first_decimal, decimal_digit}
+use Rattle.std.proofs.lemmas.Bool.{eqb-true, ltb-false, le-ltb, cases_lt}
+use Rattle.pb_code.proofs.Naming.{both_true}
+use Rattle.pb_object.specs.declared.words.Verdict.{Verdict}
+use Rattle.pb_object.specs.declared.words.Verdict.TheVariants.{Malformed, Beyond, Read}
+use Rattle.std.proofs.lemmas.Bool.Decides.{nat_tests}
+use Rattle.pb_code.specs.Names.{Word}
+use Rattle.pb_object.specs.Words.{is_numeral, number}
+
+pub own : IsNumeralModel (λ ds. list_all is_ascii_digit ds ≡ true) (digits_value 10)
+own = numerals_by_value _ (search rules)
+
+pub digit_more : (ds : List ℕ) (i : ℕ) → list_all is_ascii_digit ds ≡ true → i < length ds
+    → (digits_value 10 (take (i + 1) ds) + 48 ≡ digits_value 10 (take i ds) * 10 + get_or ds i 0) × (48 ≤ get_or ds i 0)
+digit_more ds i all lt =
+    let more = digits_value_more 10 ds i lt in
+    let d : digit_value (get_or ds i 0) + 48 ≡ get_or ds i 0 = digit_value_digit (get_or ds i 0) (digit_at ds i (own.to ds all) lt) in
+    (omega (arith, more, d), omega (arith, d))
+
+either : (a b : Bool) → (a || b) ≡ true → a ≡ false → b ≡ true
+either true b e h = absurd cc
+either false b e h = e
+
+pub none_of : (a b : Bool) → (a || b) ≡ false → (a ≡ false) × (b ≡ false)
+none_of true b e = absurd cc
+none_of false b e = (refl, e)
+
+-- a number with a range that was read
+abbrev judge : Bool → Bool → ℕ → Verdict ℕ
+judge a b n = cond a (cond b Beyond (Read n)) Malformed
+
+pub read_number : (a b : Bool) (n m : ℕ) → judge a b n ≡ Read m → (a ≡ true) × (b ≡ false) × (n ≡ m)
+read_number true true n m e = absurd cc
+read_number true false n m e = (refl, refl, cc)
+read_number false b n m e = absurd cc
+
+pub numeral_is : (w : Word) → is_numeral w ≡ true → (list_all is_ascii_digit w ≡ true) × (0 < length w) × (get_or w 0 0 ≡ 48 → length w ≡ 1)
+numeral_is [] e = absurd cc
+numeral_is (d ∷ ds) e =
+    let p = both_true (list_all is_ascii_digit (d ∷ ds)) (not (eqb d 48) || eqb (length ds) 0) e in
+    (p.0, omega arith, λ h. let h' : d ≡ 48 = h in let q : eqb (length ds) 0 ≡ true = subst (λ (x : ℕ). (not (eqb x 48) || eqb (length ds) 0) ≡ true) h' p.1 in omega (arith, eqb-true (length ds) 0 q))
+
+lone : (d n : ℕ) → (d ≡ 48 → n ≡ 0) → (not (eqb d 48) || eqb n 0) ≡ true
+lone d n h = grind (arith, nat_tests)
+
+pub is_numeral_from : (w : Word) → list_all is_ascii_digit w ≡ true → 0 < length w → (get_or w 0 0 ≡ 48 → length w ≡ 1) → is_numeral w ≡ true
+is_numeral_from [] all some zeros = absurd (omega arith)
+is_numeral_from (d ∷ ds) all some zeros =
+    let z : d ≡ 48 → length ds ≡ 0 = λ h. let one : length (d ∷ ds) ≡ 1 = zeros h in omega (arith, one) in
+    rw (all, lone d (length ds) z) refl
+
+pub number_takes : (low high : ℕ) (w : Word) (n : ℕ) → high < 2 ^ 64 → number low high w ≡ Read n → (w ≡ decimal n) × (low ≤ n) × (n ≤ high)
+unfolding number
+number_takes low high w n small e =
+    let p = read_number (is_numeral w) (ltb (digits_value 10 w) low || ltb high (digits_value 10 w)) (digits_value 10 w) n e in
+    let q = none_of (ltb (digits_value 10 w) low) (ltb high (digits_value 10 w)) p.1 in
+    let f = numeral_is w p.0 in
+    let above : low ≤ digits_value 10 w = ltb-false _ _ q.0 in
+    let below : digits_value 10 w ≤ high = ltb-false _ _ q.1 in
+    let written : decimal (digits_value 10 w) ≡ w = decimal-digits_value own w f.0 f.1 f.2 (omega arith) in
+    (sym written ∙ ap decimal p.2, omega (arith, p.2), omega (arith, p.2))
+
+pub is_numeral_decimal : (n : ℕ) → n < 2 ^ 64 → is_numeral (decimal n) ≡ true
+is_numeral_decimal n small =
+    is_numeral_from (decimal n) (digits_decimal own n small) (decimal_nonempty n small) (λ h.
+    elim (cases_lt 0 n) [
+      | inl lt ↦ absurd (omega (arith, first_decimal n lt small, h))
+      | inr le ↦ (let z : n ≡ 0 = omega arith in let d : decimal n ≡ 48 ∷ [] = ap decimal z ∙ decimal_digit 0 (omega arith) in ap (λ (w : Word). length w) d)
+    ])
+
+pub number_again : (low high n : ℕ) → high < 2 ^ 64 → low ≤ n → n ≤ high → number low high (decimal n) ≡ Read n
+unfolding number
+number_again low high n small above below =
+    let lt : n < 2 ^ 64 = omega arith in
+    let value : digits_value 10 (decimal n) ≡ n = digits_value-decimal own n lt in
+    let form : is_numeral (decimal n) ≡ true = is_numeral_decimal n lt in
+    let a : ltb n low ≡ false = le-ltb _ _ above in
+    let b : ltb high n ≡ false = le-ltb _ _ below in
+    rw (form, value, a, b) refl

@@ -1,0 +1,10 @@
+use Rattle.std.proofs.Common.{◌≡◌, ◌++◌, take}
+use Rattle.pb_object.specs.declared.format.Format.TheVariants.{Two}
+use Rattle.pb_object.specs.Objects.{Object, code_of, labels_of}
+use Rattle.pb_code.specs.View.{code_view, labels_view}
+use Rattle.pb_object.proofs.Written.{opening, processes_text}
+use Rattle.pb_object.proofs.writer.write_object2.Given as goal
+
+abbrev pub invariant-loop-p : goal.invariant-loop-p
+invariant-loop-p l =
+    (o : Object) → code_view l.code ≡ code_of o → labels_view l.labels ≡ labels_of o → l.out.items ≡ opening Two o ++ processes_text Two (take l.p o.processes)

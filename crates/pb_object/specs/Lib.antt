@@ -1,0 +1,10 @@
+pub mod Answers
+pub mod Formats
+pub mod Instructions
+pub mod Lines
+pub mod Objects
+pub mod Ranges
+pub mod Reading
+pub mod Rows
+pub mod Words
+pub mod Writing

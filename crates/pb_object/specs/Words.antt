@@ -1,0 +1,68 @@
+-- Words of a line: numbers and names that are new.
+use Rattle.std.specs.Prelude.{ℕ, ◌≤◌, Bool, true, false, not, ◌&&◌, ◌||◌, nat_lt, ◌==◌, if◌then◌else◌, List, [], ◌∷◌, ◌++◌, length, codes, ⊤}
+use Rattle.std.specs.Str.{bytes_eq}
+use Rattle.std.specs.Char.{is_ascii_alphabetic, is_ascii_digit}
+use Rattle.std.specs.Str.Parse.{digits_value}
+use Rattle.std.specs.List.{list_any, list_all}
+use Rattle.pb_code.specs.Names.{Word, is_among, is_name}
+use Rattle.pb_object.specs.declared.words.Verdict.{Verdict}
+use Rattle.pb_object.specs.declared.words.Verdict.TheVariants.{Malformed, Beyond, Read}
+
+-- ---- what a line or a part of it says: first that it is of the form, then that its numbers are in range
+
+abbrev pub mapped : {A B : Type 0} → (A → B) → Verdict A → Verdict B
+mapped f Malformed = Malformed
+mapped f Beyond = Beyond
+mapped f (Read x) = Read (f x)
+
+abbrev pub paired : {A B : Type 0} → Verdict A → Verdict B → Verdict (A × B)
+paired Malformed b = Malformed
+paired Beyond Malformed = Malformed
+paired Beyond Beyond = Beyond
+paired Beyond (Read y) = Beyond
+paired (Read x) Malformed = Malformed
+paired (Read x) Beyond = Beyond
+paired (Read x) (Read y) = Read (x, y)
+
+-- ---- numbers
+
+-- digits, with no zero before others
+abbrev pub is_numeral : Word → Bool
+is_numeral [] = false
+is_numeral (d ∷ ds) = list_all is_ascii_digit (d ∷ ds) && (not (d == 48) || (length ds == 0))
+
+-- a number from low to high
+unfoldable pub number : ℕ → ℕ → Word → Verdict ℕ
+number low high word =
+    if is_numeral word then
+    if nat_lt (digits_value 10 word) low || nat_lt high (digits_value 10 word)
+    then Beyond
+    else Read (digits_value 10 word)
+    else Malformed
+
+-- numbers from low to high, one after the other
+abbrev pub numbers : ℕ → ℕ → List Word → Verdict (List ℕ)
+numbers low high [] = Read []
+numbers low high (w ∷ ws) = mapped (λ p. p.0 ∷ p.1) (paired (number low high w) (numbers low high ws))
+
+-- what was read is from low to high
+abbrev pub IsWithin : ℕ → ℕ → Verdict ℕ → Type 0
+IsWithin low high Malformed = ⊤
+IsWithin low high Beyond = ⊤
+IsWithin low high (Read n) = (low ≤ n) × (n ≤ high)
+
+abbrev pub AreWithin : ℕ → ℕ → ℕ → ℕ → Verdict (ℕ × ℕ) → Type 0
+AreWithin a b c d Malformed = ⊤
+AreWithin a b c d Beyond = ⊤
+AreWithin a b c d (Read n) = ((a ≤ n.0) × (n.0 ≤ b)) × ((c ≤ n.1) × (n.1 ≤ d))
+
+-- ---- names
+
+-- a name that no earlier one is
+abbrev pub is_new_name : List Word → Word → Bool
+is_new_name earlier name = is_name name && not (is_among earlier name)
+
+-- each is none of the earlier ones nor of those before it
+abbrev pub are_new : List Word → List Word → Bool
+are_new earlier [] = true
+are_new earlier (w ∷ ws) = not (is_among earlier w) && are_new (earlier ++ w ∷ []) ws

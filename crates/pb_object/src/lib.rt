@@ -1,0 +1,23 @@
+//! Objects: the text of code, in two formats, read and written.
+#![tactic(auto)]
+
+mod assemble;
+pub mod fault;
+pub mod first;
+mod format;
+mod instr_reader;
+mod instr_writer;
+pub mod laws;
+mod line_reader;
+pub mod object;
+mod place_reader;
+mod reader;
+mod rows;
+mod words;
+mod writer;
+
+pub use fault::ObjectFault;
+pub use first::fits_first_format;
+pub use format::Format;
+pub use object::{read_any, read_object};
+pub use writer::{write_object, write_object2};

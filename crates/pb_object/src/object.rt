@@ -1,0 +1,104 @@
+//! Objects: code as text. The first format has code alone, the second also the names of integers and the source
+//! line of each place.
+
+ghost use Rattle.std.specs.Prelude.{◌≡◌, ◌≤◌, All, IfOk, IfErr, List, length};
+ghost use Rattle.pb_object.specs.declared.format.Format.{Format as Formats};
+ghost use Rattle.pb_object.specs.declared.fault.ObjectFault.TheVariants.{NoMemory};
+ghost use Rattle.pb_object.specs.declared.format.Format.TheVariants.{Two};
+ghost use Rattle.pb_object.specs.Answers.{Spells, SpellsOne, HasText, HasTextOne, AnswersRows, IsAnswer, IsFaultOf, IsAnswerOne, IsFaultOfOne, is_two};
+ghost use Rattle.pb_object.specs.Lines.{line};
+ghost use Rattle.pb_object.specs.Reading.{heading};
+ghost use Rattle.pb_object.specs.Rows.{IsRow};
+ghost use Rattle.pb_code.specs.View.{code_view, labels_view};
+ghost use Rattle.pb_code.specs.Whole.{Code as PlainCode, ProcessLabels as PlainLabels};
+
+use crate::assemble::assemble;
+use crate::fault::{Fault, ObjectFault, ReadError};
+use crate::format::Format;
+use crate::line_reader::heading_at;
+use crate::reader::read_rows;
+use crate::rows::Rows;
+use pb_code::{Code, Labels};
+use std::alloc::Global;
+
+/// The longest text that is read, in bytes.
+pub const MAX_TEXT: usize = 4_194_304;
+
+/// What the text says, or its first faulty line.
+fn rows_of(alloc: Global, text: &[u8]) -> Result<Rows, ObjectFault>
+    ensures rows { AnswersRows text.now result }
+    ensures fit { IfOk result (λ rows. All IsRow rows.processes.items) }
+{
+    if text.len() > MAX_TEXT {
+        return Err(ObjectFault::Limit(0));
+    }
+    match read_rows(alloc, text) {
+        Ok(rows) => Ok(rows),
+        Err(ReadError::Memory) => Err(ObjectFault::NoMemory),
+        Err(ReadError::Fault(Fault::Malformed(left))) => {
+            Err(ObjectFault::NotObject(text.len().saturating_sub(left)))
+        }
+        Err(ReadError::Fault(Fault::Beyond(left))) => {
+            Err(ObjectFault::Limit(text.len().saturating_sub(left)))
+        }
+    }
+}
+
+/// The code and the labels that the text spells, in either format. From the first format the integers of each
+/// process are named `v0`, `v1` and so on, and no place has a source line.
+///
+/// Else the first line that is not as it must be: `NotObject` where it is not of its form, is not ended by a line
+/// feed, is missing, or stands after the end; `Limit` where it is of its form and a number is out of range. The
+/// place is that of the start of the line, or the length of the text where a line is missing. A text of more than
+/// `MAX_TEXT` bytes is `Limit` at 0. `NoMemory` comes wherever a growth is refused.
+pub fn read_any(alloc: Global, text: &[u8]) -> Result<(Code, Labels), ObjectFault>
+    // The text spells what is answered.
+    ensures found { IfOk result (λ x. (format : Formats)
+        × Spells format (code_view x.0) (labels_view x.1) text.now) }
+    // What is answered has a text in the second format.
+    ensures writable { IfOk result (λ x. HasText Two (code_view x.0) (labels_view x.1)) }
+    // What a text spells is answered.
+    ensures only { (format : Formats) (code : PlainCode) (labels : List PlainLabels)
+        → Spells format code labels text.now → length text.now ≤ MAX_TEXT → IsAnswer code labels result }
+    // A refusal names the first faulty line.
+    ensures fault { IfErr result (IsFaultOf text.now) }
+{
+    let rows = rows_of(alloc, text)?;
+    let object = assemble(alloc, rows)?;
+    Ok(object)
+}
+
+/// Whether the first line names the second format.
+fn begins_two(alloc: Global, text: &[u8]) -> Result<bool, ObjectFault>
+    ensures two { IfOk result (λ two. two ≡ is_two (line heading text.now)) }
+    ensures fault { IfErr result (λ fault. fault ≡ NoMemory) }
+{
+    match heading_at(alloc, text) {
+        Ok((Format::Two, _)) => Ok(true),
+        Err(ReadError::Memory) => Err(ObjectFault::NoMemory),
+        _ => Ok(false),
+    }
+}
+
+/// The code that the text spells in the first format, else the first faulty line, as in `read_any`; the first line
+/// of the second format is no line of an object.
+pub fn read_object(alloc: Global, text: &[u8]) -> Result<Code, ObjectFault>
+    // The text spells the code that is answered.
+    ensures found { IfOk result (λ code. SpellsOne (code_view code) text.now) }
+    // It has a text in the first format.
+    ensures writable { IfOk result (λ code. HasTextOne (code_view code)) }
+    // The code that a text spells is answered.
+    ensures only { (code : PlainCode) → SpellsOne code text.now → length text.now ≤ MAX_TEXT
+        → IsAnswerOne code result }
+    // A refusal names the first faulty line.
+    ensures fault { IfErr result (IsFaultOfOne text.now) }
+{
+    if text.len() > MAX_TEXT {
+        return Err(ObjectFault::Limit(0));
+    }
+    if begins_two(alloc, text)? {
+        return Err(ObjectFault::NotObject(0));
+    }
+    let (code, _) = read_any(alloc, text)?;
+    Ok(code)
+}

@@ -1,0 +1,134 @@
+//! Lines, their words, and what a word says.
+
+ghost use Rattle.std.specs.Prelude.{◌≡◌, ◌<◌, ◌^◌, ◌-◌, map, IfOk, min, true};
+ghost use Rattle.std.specs.Str.{bytes_eq};
+ghost use Rattle.std.specs.Str.Parse.{digits_value};
+ghost use Rattle.pb_object.specs.Lines.{Gives, first_line, judged};
+ghost use Rattle.pb_object.specs.Words as spec;
+ghost use Rattle.std.specs.List.{list_all};
+ghost use Rattle.std.specs.Char.{is_ascii_digit};
+
+use crate::fault::{Fault, ReadError};
+use std::alloc::{AllocError, Global};
+
+/// What a line or a part of it says.
+#[derive(Clone, Copy, Debug, PartialEq, Eq)]
+pub(crate) enum Verdict<T> {
+    /// It is not of the form.
+    Malformed,
+    /// It is of the form, with a number out of range.
+    Beyond,
+    Read(T),
+}
+
+/// Leaves in `words` the words of the first line, and answers what follows its end.
+pub(crate) fn words_into<'t>(
+    words: &mut Vec<&'t [u8]>,
+    text: &'t [u8],
+) -> Result<&'t [u8], ReadError>
+    ensures { Gives (λ rest. (map (λ w. w.now) words.new.items, rest.now)) result (first_line text.now) }
+{
+    words.clear();
+    let mut start = 0;
+    for end in 0..text.len() {
+        match text[end] {
+            b' ' => {
+                words.push(&text[start..end])?;
+                start = end + 1;
+            }
+            b'\n' => {
+                words.push(&text[start..end])?;
+                return Ok(&text[end + 1..]);
+            }
+            _ => {}
+        }
+    }
+    Err(ReadError::Fault(Fault::Malformed(text.len())))
+}
+
+/// The words of the first line, and what follows its end.
+pub(crate) fn words_of(alloc: Global, text: &[u8]) -> Result<(Vec<&[u8]>, &[u8]), ReadError>
+    ensures { Gives (λ x. (map (λ w. w.now) x.0.items, x.1.now)) result (first_line text.now) }
+{
+    let mut words = Vec::new(alloc);
+    let rest = words_into(&mut words, text)?;
+    Ok((words, rest))
+}
+
+/// What the line is read as, where the text from its start on has `left` bytes.
+pub(crate) fn judge<T>(left: usize, verdict: Verdict<T>) -> Result<T, ReadError>
+    ensures { Gives (λ x. x) result (judged left verdict) }
+{
+    match verdict {
+        Verdict::Malformed => Err(ReadError::Fault(Fault::Malformed(left))),
+        Verdict::Beyond => Err(ReadError::Fault(Fault::Beyond(left))),
+        Verdict::Read(x) => Ok(x),
+    }
+}
+
+/// Whether the word is this text.
+pub(crate) fn is(word: &[u8], text: &str) -> bool
+    ensures { result ≡ bytes_eq word.now text.now }
+{
+    word == text.as_bytes()
+}
+
+/// A copy of the word.
+pub(crate) fn copy_of(alloc: Global, word: &[u8]) -> Result<Vec<u8>, AllocError>
+    ensures { IfOk result (λ copy. copy.items ≡ word.now) }
+{
+    word.to_vec(alloc)
+}
+
+/// Whether two words are the same.
+pub(crate) fn same(a: &[u8], b: &[u8]) -> bool
+    ensures { result ≡ bytes_eq a.now b.now }
+{
+    a == b
+}
+
+fn are_digits(word: &[u8]) -> bool
+    ensures { result ≡ list_all is_ascii_digit word.now }
+{
+    word.iter().all(|b| b.is_ascii_digit())
+}
+
+pub(crate) fn is_numeral(word: &[u8]) -> bool
+    ensures { result ≡ spec.is_numeral word.now }
+{
+    match word {
+        [] => false,
+        [first, rest @ ..] => are_digits(word) && (*first != b'0' || rest.is_empty()),
+    }
+}
+
+/// The number that digits write, or `u64::MAX` where it is larger.
+pub(crate) fn saturated(digits: &[u8]) -> u64
+    requires { list_all is_ascii_digit digits.now ≡ true }
+    ensures { result ≡ min (digits_value 10 digits.now) (2 ^ 64 - 1) }
+{
+    let mut number: u64 = 0;
+    for digit in digits {
+        number = number
+            .saturating_mul(10)
+            .saturating_add((*digit - b'0') as u64);
+    }
+    number
+}
+
+/// A number from `low` to `high`.
+#[tactic(auto, unfolding(crate::specs::Words::number))]
+pub(crate) fn number(low: u64, high: u64, word: &[u8]) -> Verdict<u64>
+    requires { high < 2 ^ 64 - 1 }
+    ensures number { result ≡ spec.number low high word.now }
+    ensures range { spec.IsWithin low high result }
+{
+    if !is_numeral(word) {
+        return Verdict::Malformed;
+    }
+    let number = saturated(word);
+    if number < low || high < number {
+        return Verdict::Beyond;
+    }
+    Verdict::Read(number)
+}
