@@ -6,16 +6,16 @@ use Rattle.pb_cli.specs.declared.options.Options.{Options}
 use Rattle.pb_cli.specs.declared.options.Options.TheVariants as option
 use Rattle.pb_cli.specs.declared.options.WordsFault.{WordsFault}
 use Rattle.pb_cli.specs.declared.options.WordsFault.TheVariants as fault
-use Rattle.pb_cli.specs.declared.status.Status.{Status}
-use Rattle.pb_cli.specs.declared.status.Status.TheVariants.{Words, Memory}
-use Rattle.pb_cli.specs.Answers.{Says, Tells, memory_line}
-use Rattle.pb_cli.specs.Checks.{SaysOfChecks}
-use Rattle.pb_cli.specs.ClaimLines.{SaysOfClaims}
-use Rattle.pb_cli.specs.Emissions.{SaysOfEmission}
-use Rattle.pb_cli.specs.Executions.{SaysOfExecution}
-use Rattle.pb_cli.specs.Inputs.{SaysOfInput}
-use Rattle.pb_cli.specs.Migrations.{SaysOfMigration}
-use Rattle.pb_cli.specs.Runs.{SaysOf}
+use Rattle.pb_engines.specs.declared.status.Status.{Status}
+use Rattle.pb_engines.specs.declared.status.Status.TheVariants.{Words, Memory}
+use Rattle.pb_engines.specs.Answers.{Says, Tells, memory_line}
+use Rattle.pb_engines.specs.Checks.{SaysOfChecks}
+use Rattle.pb_engines.specs.ClaimLines.{SaysOfClaims}
+use Rattle.pb_engines.specs.Emissions.{SaysOfEmission}
+use Rattle.pb_engines.specs.Executions.{SaysOfExecution}
+use Rattle.pb_engines.specs.Inputs.{SaysOfInput}
+use Rattle.pb_engines.specs.Migrations.{SaysOfMigration}
+use Rattle.pb_engines.specs.Runs.{SaysOf}
 use Rattle.pb_cli.specs.Read.{WordsSay}
 
 -- what a command may say of an input

@@ -1,20 +1,15 @@
 //! The whole program, over any words, input and output.
 ghost use Rattle.std.specs.Prelude.{◌≡◌, ◌⊎◌, IfSome};
 ghost use Rattle.pb_base.specs.Device.{one_more_failure};
-ghost use Rattle.pb_cli.specs.Answers.{Says};
+ghost use Rattle.pb_engines.specs.Answers.{Says};
 ghost use Rattle.pb_cli.specs.Calls.{fault_status, fault_text, CallWrites};
 
-use crate::check::check_engine;
-use crate::claims::claims_engine;
-use crate::emit::emit_engine;
-use crate::exec::exec_engine;
-use crate::migrate::migrate_engine;
 use crate::options::{Options, WordsFault};
-use crate::page::Page;
 use crate::read::options;
-use crate::run::run_engine;
-use crate::status::Status;
 use pb_base::device::{Input, Output};
+use pb_engines::{Page, Status};
+use pb_engines::{check_engine, claims_engine, emit_engine};
+use pb_engines::{exec_engine, migrate_engine, run_engine};
 use std::alloc::Global;
 
 /// Reads the words of a call, of which the first is the program's own name, and does what they say.

@@ -1,7 +1,8 @@
 use Rattle.std.proofs.Common.{inl, subst}
 use Rattle.pb_cli.specs.declared.options.Options.TheVariants.{Check, Emit, Exec, Run}
 use Rattle.pb_cli.specs.Read.{WordsSay}
-use Rattle.pb_cli.proofs.AnswerLemmas.{CallWrites-refused, IfSome-of, IfSome-weaker}
+use Rattle.pb_cli.proofs.AnswerLemmas.{CallWrites-refused}
+use Rattle.pb_engines.proofs.InputLemmas.{IfSome-of, IfSome-weaker}
 use Rattle.pb_cli.proofs.answer.answer.Goals as goal
 
 pub returns-in-Ok-Check-clause-text : goal.returns-in-Ok-Check-clause-text

@@ -1,0 +1,40 @@
+//! The input of a command.
+ghost use Rattle.std.specs.Prelude.{◌≡◌, ◌≤◌, ◌⊎◌, IfErr, IfOk, IfSome, OnOk, length};
+ghost use Rattle.pb_base.specs.Device.{one_more_failure};
+ghost use Rattle.pb_engines.specs.Answers.{Tells};
+ghost use Rattle.pb_engines.specs.Inputs.{SaysOfReading};
+
+use crate::page::Page;
+use crate::status::Status;
+use pb_base::device::{Input, Output, ReadFault, read_whole};
+use std::alloc::Global;
+
+// The greatest length of an input, in bytes.
+const LONGEST_INPUT: usize = 4_194_304;
+
+/// The whole input. Where there is none to be had, that is said, and the status of the call is the error.
+pub fn read_input<I: Input, O: Output>(
+    alloc: Global,
+    input: &mut I,
+    output: &mut O,
+) -> Result<Vec<u8>, Status>
+    ensures read { IfOk result (λ bytes. IfSome (I.rest input.old) (λ rest. bytes.items ≡ rest)) }
+    ensures short { IfOk result (λ bytes. length bytes.items ≤ LONGEST_INPUT) }
+    ensures untouched { OnOk result (output.new ≡ output.old) }
+    ensures told { IfErr result (λ status. IfSome (I.rest input.old) (λ rest.
+        Tells (SaysOfReading rest) (O.written output.old) (O.written output.new) status)) }
+    ensures fault { IfErr result (λ status. status ≡ Status.Device
+        → ((I.failures input.new ≡ one_more_failure (I.failures input.old)) × (O.written output.new ≡ O.written output.old))
+        ⊎ (O.failures output.new ≡ one_more_failure (O.failures output.old))) }
+{
+    match read_whole(alloc, input, LONGEST_INPUT) {
+        Ok(bytes) => Ok(bytes),
+        Err(ReadFault::Device) => Err(Status::Device),
+        Err(ReadFault::TooLong) => {
+            Err(Page::new(alloc).finish_with(output, b"refused input", Status::Refused))
+        }
+        Err(ReadFault::Memory) => {
+            Err(Page::new(alloc).finish_with(output, b"memory", Status::Memory))
+        }
+    }
+}
