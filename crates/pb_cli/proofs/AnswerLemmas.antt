@@ -10,8 +10,8 @@ use Rattle.pb_cli.specs.Calls.{CallWrites, fault_status, fault_text}
 use Rattle.pb_cli.specs.Read.{BlamesWords, WordsSay}
 
 -- what is written where the words were not read
-pub CallWrites-refused : (words : List (Bor (List ℕ))) (bytes : List ℕ) (old new : Option (List ℕ)) (status : Status) (e : WordsFault)
+pub CallWrites-refused : (words : List (Bor (List ℕ))) (rest old new : Option (List ℕ)) (status : Status) (e : WordsFault)
     → (BlamesWords e → (o : Options) → WordsSay words o → ⊥) → Says old new (fault_text e) (fault_status e) status
-    → CallWrites words bytes old new status
-CallWrites-refused words bytes old new status (fault.Words text) none says = inr (inl (none tt, (fault_text (fault.Words text), says)))
-CallWrites-refused words bytes old new status fault.Memory none says = inr (inr says)
+    → CallWrites words rest old new status
+CallWrites-refused words rest old new status (fault.Words text) none says = inr (inl (none tt, (fault_text (fault.Words text), says)))
+CallWrites-refused words rest old new status fault.Memory none says = inr (inr says)

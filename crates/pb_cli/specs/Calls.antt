@@ -1,5 +1,5 @@
 -- What a call of the program writes, with its words and its input.
-use Rattle.std.specs.Prelude.{◌⊎◌, ℕ, List, Option}
+use Rattle.std.specs.Prelude.{◌⊎◌, ℕ, IfSome, List, Option}
 use Rattle.std.specs.Borrow.{Bor}
 use Rattle.clap.specs.Words.{Text}
 use Rattle.pb_cli.specs.declared.options.Options.{Options}
@@ -36,18 +36,18 @@ abbrev pub fault_status : WordsFault → Status
 fault_status (fault.Words text) = Words
 fault_status fault.Memory = Memory
 
--- the words say a command, which tells what it may
-abbrev pub CommandWrites : List (Bor Text) → List ℕ → Option (List ℕ) → Option (List ℕ) → Status → Type 0
-CommandWrites words bytes old new status =
-    (o : Options) × WordsSay words o × Tells (CommandSays o bytes) old new status
+-- the words say a command, which tells of the bytes of its input, where these are known, what it may
+abbrev pub CommandWrites : List (Bor Text) → Option (List ℕ) → Option (List ℕ) → Option (List ℕ) → Status → Type 0
+CommandWrites words rest old new status =
+    (o : Options) × WordsSay words o × IfSome rest (λ bytes. Tells (CommandSays o bytes) old new status)
 
 -- the words say nothing, and some text of theirs is written
 abbrev pub RefusesWords : List (Bor Text) → Option (List ℕ) → Option (List ℕ) → Status → Type 0
 RefusesWords words old new status =
     ((o : Options) → WordsSay words o → ⊥) × ((text : List ℕ) × Says old new text Words status)
 
--- one of these, or memory wants
-abbrev pub CallWrites : List (Bor Text) → List ℕ → Option (List ℕ) → Option (List ℕ) → Status → Type 0
-CallWrites words bytes old new status =
-    CommandWrites words bytes old new status
+-- one of these, or the program is out of memory before it knows what the words say
+abbrev pub CallWrites : List (Bor Text) → Option (List ℕ) → Option (List ℕ) → Option (List ℕ) → Status → Type 0
+CallWrites words rest old new status =
+    CommandWrites words rest old new status
     ⊎ (RefusesWords words old new status ⊎ Says old new memory_line Memory status)

@@ -37,5 +37,5 @@ fn start(rt: &HostRuntime) -> Status {
 }
 
 fn main(rt: HostRuntime) -> ExitCode {
-    ExitCode::from(start(&rt) as u8)
+    ExitCode::from(start(&rt).number())
 }

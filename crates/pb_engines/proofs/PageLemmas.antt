@@ -1,9 +1,10 @@
 -- Texts that are said one after another.
 use Rattle.std.proofs.Common.{◌≡◌, ◌++◌, ℕ, List, [], Option, refl, subst, ap, sym, ◌∙◌, append_assoc, append-nil, inl, inr, Result, Ok, Err, OnErr}
-use Rattle.pb_base.specs.Device.{appended, AddsPrefix}
+use Rattle.pb_base.specs.Device.{appended, one_more_failure, AddsPrefix}
 use Rattle.pb_base.proofs.DeviceLemmas.{appended-appended}
 use Rattle.pb_engines.specs.declared.status.Status.{Status}
 use Rattle.pb_engines.specs.Answers.{Leaves, Says}
+use Rattle.pb_engines.specs.Faults.{TellsWriteFaults}
 
 -- what was written before, and then more
 added : (old now new : Option (List ℕ)) (done more : List ℕ) → now ≡ appended old done → new ≡ appended now more → new ≡ appended old (done ++ more)
@@ -95,3 +96,11 @@ AddsPrefix-flushed old now new page kept text same wrote then =
 pub OnErr-of : {T E P : Type 0} (r : Result T E) → P → OnErr r P
 OnErr-of (Ok x) p = tt
 OnErr-of (Err e) p = p
+
+-- ---- faults
+
+-- the faults that a status tells, counted from a state in which none had come yet
+pub faults_since : (old between new : ℕ) (status : Status) → between ≡ old → TellsWriteFaults between new status
+    → TellsWriteFaults old new status
+faults_since old between new status same (without, with_one) =
+    (λ not_device. without not_device ∙ same, λ device. with_one device ∙ ap one_more_failure same)

@@ -3,6 +3,7 @@ pub mod Checks
 pub mod ClaimLines
 pub mod Emissions
 pub mod Executions
+pub mod Faults
 pub mod Inputs
 pub mod Loading
 pub mod Migrations
@@ -10,4 +11,5 @@ pub mod Parts
 pub mod Refusals
 pub mod Runs
 pub mod Schedule
+pub mod Statuses
 pub mod Steps

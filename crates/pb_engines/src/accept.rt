@@ -1,6 +1,5 @@
 //! Texts, as far as every command over texts looks at them.
 ghost use Rattle.std.specs.Prelude.{◌≡◌, ◌≤◌, ℕ, IfErr, IfOk, List, length};
-ghost use Rattle.pb_base.specs.Device.{one_more_failure};
 ghost use Rattle.pb_claims.specs.Fits.{FitCapital};
 ghost use Rattle.pb_engines.specs.Answers.{Tells};
 ghost use Rattle.pb_engines.specs.Inputs.{SaysOfInput};
@@ -9,6 +8,7 @@ ghost use Rattle.pb_codegen.specs.Compiled.{IsBeforeClaims, IsClaimsFault, IsCom
 ghost use Rattle.pb_codegen.specs.Numbered.{IsNumbered, IsSpelled};
 ghost use Rattle.pb_names.specs.Program.{capital_of};
 ghost use Rattle.pb_names.specs.View.{resolved_view};
+ghost use Rattle.pb_engines.specs.Faults.{TellsWriteFaults};
 
 use crate::refusal::{claims_text, lex_text, names_text, parse_text};
 use crate::reply::{Reply, refused, tell};
@@ -132,7 +132,7 @@ fn refusal_reply(refusal: Refusal) -> Result<Reply, NoMemory>
 pub fn refuse<O: Output>(alloc: Global, refusal: Refusal, output: &mut O) -> Status
     ensures text { (text : List ℕ) → length text ≤ 4194304 → IsRefusal text refusal
         → Tells (SaysOfInput SaysOfRefusedText text) (O.written output.old) (O.written output.new) result }
-    ensures fault { result ≡ Status.Device → O.failures output.new ≡ one_more_failure (O.failures output.old) }
+    ensures faults { TellsWriteFaults (O.failures output.old) (O.failures output.new) result }
 {
     tell(alloc, refusal_reply(refusal), output)
 }

@@ -5,6 +5,7 @@ ghost use Rattle.pb_engines.specs.Answers.{Tells};
 ghost use Rattle.pb_engines.specs.Checks.{SaysOfChecks, TellsAnswer, check_status};
 ghost use Rattle.pb_engines.specs.Inputs.{SaysOfInput};
 ghost use Rattle.pb_engines.specs.Refusals.{IsAcceptedText, IsRefusal};
+ghost use Rattle.pb_engines.specs.Faults.{TellsFaults, TellsWriteFaults};
 
 use crate::accept::{Refusal, accept};
 use crate::input::read_input;
@@ -113,7 +114,7 @@ fn status_of(refused: bool) -> Status
 // Answers each part of the input in turn.
 fn check_parts<O: Output>(alloc: Global, heap: Option<u64>, bytes: &[u8], output: &mut O) -> Status
     ensures text { Tells (SaysOfChecks bytes.now) (O.written output.old) (O.written output.new) result }
-    ensures fault { result ≡ Status.Device → O.failures output.new ≡ one_more_failure (O.failures output.old) }
+    ensures faults { TellsWriteFaults (O.failures output.old) (O.failures output.new) result }
 {
     let mut page = Page::new(alloc);
     let mut arena = Bump::new(alloc);
@@ -147,9 +148,10 @@ pub fn check_engine<I: Input, O: Output>(
 ) -> Status
     ensures text { IfSome (I.rest input.old) (λ bytes.
         Tells (SaysOfInput SaysOfChecks bytes) (O.written output.old) (O.written output.new) result) }
-    ensures fault { result ≡ Status.Device
-        → ((I.failures input.new ≡ one_more_failure (I.failures input.old)) × (O.written output.new ≡ O.written output.old))
-        ⊎ (O.failures output.new ≡ one_more_failure (O.failures output.old)) }
+    ensures faults { TellsFaults
+        (record { reads = I.failures input.old; writes = O.failures output.old; written = O.written output.old })
+        (record { reads = I.failures input.new; writes = O.failures output.new; written = O.written output.new })
+        result }
 {
     match read_input(alloc, input, output) {
         Ok(bytes) => check_parts(alloc, options.heap, bytes.as_slice(), output),

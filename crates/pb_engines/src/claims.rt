@@ -1,12 +1,12 @@
 //! The command `claims`, over any input and output.
 ghost use Rattle.std.specs.Prelude.{◌≡◌, ◌<◌, ◌≤◌, ◌++◌, ◌⊎◌, ℕ, IfOk, IfSome, OnOk, length, map};
 ghost use Rattle.pb_base.specs.Banker.{row_of};
-ghost use Rattle.pb_base.specs.Device.{one_more_failure};
 ghost use Rattle.pb_engines.specs.Answers.{Tells};
 ghost use Rattle.pb_engines.specs.ClaimLines.{claim_line, claim_lines, lines_of_process, SaysOfClaims};
 ghost use Rattle.pb_engines.specs.Inputs.{SaysOfInput};
 ghost use Rattle.pb_names.specs.Meaning.{AreClaims};
 ghost use Rattle.pb_names.specs.View.{resolved_view};
+ghost use Rattle.pb_engines.specs.Faults.{TellsFaults, TellsWriteFaults};
 
 use crate::accept::{Refusal, read_text};
 use crate::input::read_input;
@@ -91,7 +91,7 @@ fn claims_reply(alloc: Global, text: &[u8]) -> Result<Reply, NoMemory>
 fn tell_claims<O: Output>(alloc: Global, text: &[u8], output: &mut O) -> Status
     requires { length text.now ≤ 4194304 }
     ensures text { Tells (SaysOfInput SaysOfClaims text.now) (O.written output.old) (O.written output.new) result }
-    ensures fault { result ≡ Status.Device → O.failures output.new ≡ one_more_failure (O.failures output.old) }
+    ensures faults { TellsWriteFaults (O.failures output.old) (O.failures output.new) result }
 {
     tell(alloc, claims_reply(alloc, text), output)
 }
@@ -103,9 +103,10 @@ fn tell_claims<O: Output>(alloc: Global, text: &[u8], output: &mut O) -> Status
 pub fn claims_engine<I: Input, O: Output>(alloc: Global, input: &mut I, output: &mut O) -> Status
     ensures text { IfSome (I.rest input.old) (λ bytes.
         Tells (SaysOfInput SaysOfClaims bytes) (O.written output.old) (O.written output.new) result) }
-    ensures fault { result ≡ Status.Device
-        → ((I.failures input.new ≡ one_more_failure (I.failures input.old)) × (O.written output.new ≡ O.written output.old))
-        ⊎ (O.failures output.new ≡ one_more_failure (O.failures output.old)) }
+    ensures faults { TellsFaults
+        (record { reads = I.failures input.old; writes = O.failures output.old; written = O.written output.old })
+        (record { reads = I.failures input.new; writes = O.failures output.new; written = O.written output.new })
+        result }
 {
     match read_input(alloc, input, output) {
         Ok(bytes) => tell_claims(alloc, bytes.as_slice(), output),

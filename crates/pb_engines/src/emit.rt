@@ -1,12 +1,12 @@
 //! The command `emit`, over any input and output.
 ghost use Rattle.std.specs.Prelude.{◌≡◌, ◌≤◌, ◌⊎◌, IfOk, IfSome, List, length};
-ghost use Rattle.pb_base.specs.Device.{one_more_failure};
 ghost use Rattle.pb_code.specs.Limits.{AreLabels};
 ghost use Rattle.pb_code.specs.Whole.{ProcessLabels};
 ghost use Rattle.pb_code.specs.declared.format.Format.TheVariants.{One, Two};
 ghost use Rattle.pb_engines.specs.Answers.{Tells};
 ghost use Rattle.pb_engines.specs.Emissions.{SaysOfEmission, SaysOfObject};
 ghost use Rattle.pb_engines.specs.Inputs.{SaysOfInput};
+ghost use Rattle.pb_engines.specs.Faults.{TellsFaults, TellsWriteFaults};
 
 use crate::accept::{compile_text, refuse};
 use crate::input::read_input;
@@ -67,7 +67,7 @@ fn object(alloc: Global, format: Format, compiled: &Compiled) -> Result<Reply, N
 fn emit_text<O: Output>(alloc: Global, format: Format, text: &[u8], output: &mut O) -> Status
     requires { length text.now ≤ 4194304 }
     ensures text { Tells (SaysOfInput (SaysOfEmission format) text.now) (O.written output.old) (O.written output.new) result }
-    ensures fault { result ≡ Status.Device → O.failures output.new ≡ one_more_failure (O.failures output.old) }
+    ensures faults { TellsWriteFaults (O.failures output.old) (O.failures output.new) result }
 {
     match compile_text(alloc, text) {
         Ok(compiled) => tell(alloc, object(alloc, format, &compiled), output),
@@ -88,9 +88,10 @@ pub fn emit_engine<I: Input, O: Output>(
 ) -> Status
     ensures text { IfSome (I.rest input.old) (λ bytes.
         Tells (SaysOfInput (SaysOfEmission options.object) bytes) (O.written output.old) (O.written output.new) result) }
-    ensures fault { result ≡ Status.Device
-        → ((I.failures input.new ≡ one_more_failure (I.failures input.old)) × (O.written output.new ≡ O.written output.old))
-        ⊎ (O.failures output.new ≡ one_more_failure (O.failures output.old)) }
+    ensures faults { TellsFaults
+        (record { reads = I.failures input.old; writes = O.failures output.old; written = O.written output.old })
+        (record { reads = I.failures input.new; writes = O.failures output.new; written = O.written output.new })
+        result }
 {
     match read_input(alloc, input, output) {
         Ok(bytes) => emit_text(alloc, options.object, bytes.as_slice(), output),

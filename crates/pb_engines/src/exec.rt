@@ -1,9 +1,9 @@
 //! The command `exec`, over any input and output.
 ghost use Rattle.std.specs.Prelude.{◌≡◌, ◌≤◌, ◌⊎◌, IfSome, length};
-ghost use Rattle.pb_base.specs.Device.{one_more_failure};
 ghost use Rattle.pb_engines.specs.Answers.{Tells};
 ghost use Rattle.pb_engines.specs.Executions.{SaysOfExecution};
 ghost use Rattle.pb_engines.specs.Inputs.{SaysOfInput};
+ghost use Rattle.pb_engines.specs.Faults.{TellsFaults, TellsWriteFaults};
 
 use crate::input::read_input;
 use crate::load::{load, load_refusal};
@@ -18,7 +18,7 @@ use std::alloc::Global;
 fn run_object<O: Output>(alloc: Global, steps: u64, bytes: &[u8], output: &mut O) -> Status
     requires { length bytes.now ≤ 4194304 }
     ensures text { Tells (SaysOfInput (SaysOfExecution steps) bytes.now) (O.written output.old) (O.written output.new) result }
-    ensures fault { result ≡ Status.Device → O.failures output.new ≡ one_more_failure (O.failures output.old) }
+    ensures faults { TellsWriteFaults (O.failures output.old) (O.failures output.new) result }
 {
     match load(alloc, bytes) {
         Ok((verified, _)) => tell_run(alloc, &verified, steps, output),
@@ -39,9 +39,10 @@ pub fn exec_engine<I: Input, O: Output>(
 ) -> Status
     ensures text { IfSome (I.rest input.old) (λ bytes.
         Tells (SaysOfInput (SaysOfExecution options.steps) bytes) (O.written output.old) (O.written output.new) result) }
-    ensures fault { result ≡ Status.Device
-        → ((I.failures input.new ≡ one_more_failure (I.failures input.old)) × (O.written output.new ≡ O.written output.old))
-        ⊎ (O.failures output.new ≡ one_more_failure (O.failures output.old)) }
+    ensures faults { TellsFaults
+        (record { reads = I.failures input.old; writes = O.failures output.old; written = O.written output.old })
+        (record { reads = I.failures input.new; writes = O.failures output.new; written = O.written output.new })
+        result }
 {
     match read_input(alloc, input, output) {
         Ok(bytes) => run_object(alloc, options.steps, bytes.as_slice(), output),

@@ -1,6 +1,6 @@
 //! The input of a command.
 ghost use Rattle.std.specs.Prelude.{◌≡◌, ◌≤◌, ◌⊎◌, IfErr, IfOk, IfSome, OnOk, length};
-ghost use Rattle.pb_base.specs.Device.{one_more_failure};
+ghost use Rattle.pb_engines.specs.Faults.{TellsFaults};
 ghost use Rattle.pb_engines.specs.Answers.{Tells};
 ghost use Rattle.pb_engines.specs.Inputs.{SaysOfReading};
 
@@ -23,9 +23,10 @@ pub fn read_input<I: Input, O: Output>(
     ensures untouched { OnOk result (output.new ≡ output.old) }
     ensures told { IfErr result (λ status. IfSome (I.rest input.old) (λ rest.
         Tells (SaysOfReading rest) (O.written output.old) (O.written output.new) status)) }
-    ensures fault { IfErr result (λ status. status ≡ Status.Device
-        → ((I.failures input.new ≡ one_more_failure (I.failures input.old)) × (O.written output.new ≡ O.written output.old))
-        ⊎ (O.failures output.new ≡ one_more_failure (O.failures output.old))) }
+    ensures counted { OnOk result (I.failures input.new ≡ I.failures input.old) }
+    ensures faults { IfErr result (TellsFaults
+        (record { reads = I.failures input.old; writes = O.failures output.old; written = O.written output.old })
+        (record { reads = I.failures input.new; writes = O.failures output.new; written = O.written output.new })) }
 {
     match read_whole(alloc, input, LONGEST_INPUT) {
         Ok(bytes) => Ok(bytes),

@@ -1,9 +1,9 @@
 //! The command `migrate`, over any input and output.
 ghost use Rattle.std.specs.Prelude.{◌≡◌, ◌≤◌, ◌⊎◌, IfOk, IfSome, length};
-ghost use Rattle.pb_base.specs.Device.{one_more_failure};
 ghost use Rattle.pb_engines.specs.Answers.{Tells};
 ghost use Rattle.pb_engines.specs.Inputs.{SaysOfInput};
 ghost use Rattle.pb_engines.specs.Migrations.{SaysOfMigration};
+ghost use Rattle.pb_engines.specs.Faults.{TellsFaults, TellsWriteFaults};
 
 use crate::input::read_input;
 use crate::load::{load, load_refusal};
@@ -33,7 +33,7 @@ fn migration(alloc: Global, bytes: &[u8]) -> Result<Reply, NoMemory>
 fn tell_migration<O: Output>(alloc: Global, bytes: &[u8], output: &mut O) -> Status
     requires { length bytes.now ≤ 4194304 }
     ensures text { Tells (SaysOfInput SaysOfMigration bytes.now) (O.written output.old) (O.written output.new) result }
-    ensures fault { result ≡ Status.Device → O.failures output.new ≡ one_more_failure (O.failures output.old) }
+    ensures faults { TellsWriteFaults (O.failures output.old) (O.failures output.new) result }
 {
     tell(alloc, migration(alloc, bytes), output)
 }
@@ -45,9 +45,10 @@ fn tell_migration<O: Output>(alloc: Global, bytes: &[u8], output: &mut O) -> Sta
 pub fn migrate_engine<I: Input, O: Output>(alloc: Global, input: &mut I, output: &mut O) -> Status
     ensures text { IfSome (I.rest input.old) (λ bytes.
         Tells (SaysOfInput SaysOfMigration bytes) (O.written output.old) (O.written output.new) result) }
-    ensures fault { result ≡ Status.Device
-        → ((I.failures input.new ≡ one_more_failure (I.failures input.old)) × (O.written output.new ≡ O.written output.old))
-        ⊎ (O.failures output.new ≡ one_more_failure (O.failures output.old)) }
+    ensures faults { TellsFaults
+        (record { reads = I.failures input.old; writes = O.failures output.old; written = O.written output.old })
+        (record { reads = I.failures input.new; writes = O.failures output.new; written = O.written output.new })
+        result }
 {
     match read_input(alloc, input, output) {
         Ok(bytes) => tell_migration(alloc, bytes.as_slice(), output),

@@ -2,6 +2,7 @@
 ghost use Rattle.std.specs.Prelude.{◌≡◌, ◌≢◌, ◌++◌, ℕ, List, [], OnOk, OnErr, MatchBool};
 ghost use Rattle.pb_base.specs.Device.{appended, one_more_failure, AddsPrefix};
 ghost use Rattle.pb_engines.specs.Answers.{line, Leaves, Says};
+ghost use Rattle.pb_engines.specs.Faults.{TellsWriteFaults};
 
 use crate::status::Status;
 use pb_base::device::{DeviceFault, Output, write_all};
@@ -85,7 +86,7 @@ impl Page {
     pub fn finish<O: Output>(self, output: &mut O, status: Status) -> Status
         requires { status ≢ Status.Device }
         ensures text { Says (O.written output.old) (O.written output.new) self status result }
-        ensures fault { result ≡ Status.Device → O.failures output.new ≡ one_more_failure (O.failures output.old) }
+        ensures faults { TellsWriteFaults (O.failures output.old) (O.failures output.new) result }
     {
         match write_all(output, self.text.as_slice()) {
             Ok(()) => status,
@@ -97,7 +98,7 @@ impl Page {
     pub fn finish_with<O: Output>(mut self, output: &mut O, last: &[u8], status: Status) -> Status
         requires { status ≢ Status.Device }
         ensures text { Says (O.written output.old) (O.written output.new) (self ++ line last.now) status result }
-        ensures fault { result ≡ Status.Device → O.failures output.new ≡ one_more_failure (O.failures output.old) }
+        ensures faults { TellsWriteFaults (O.failures output.old) (O.failures output.new) result }
     {
         match self.say_line(output, last) {
             Ok(()) => self.finish(output, status),

@@ -1,8 +1,8 @@
 //! A whole answer of a command, and how it is written.
 ghost use Rattle.std.specs.Prelude.{◌≡◌, ◌≢◌, IfErr, IfOk, OnErr};
-ghost use Rattle.pb_base.specs.Device.{one_more_failure};
 ghost use Rattle.pb_engines.specs.Answers.{Says, line, memory_line};
 ghost use Rattle.pb_engines.specs.declared.status.Status.TheVariants.{Device};
+ghost use Rattle.pb_engines.specs.Faults.{TellsWriteFaults};
 
 use crate::page::Page;
 use crate::status::Status;
@@ -22,7 +22,7 @@ pub struct Reply {
 pub fn tell<O: Output>(alloc: Global, reply: Result<Reply, NoMemory>, output: &mut O) -> Status
     ensures said { IfOk reply (λ r. Says (O.written output.old) (O.written output.new) r.text.items r.status result) }
     ensures memory { OnErr reply (Says (O.written output.old) (O.written output.new) memory_line Status.Memory result) }
-    ensures fault { result ≡ Status.Device → O.failures output.new ≡ one_more_failure (O.failures output.old) }
+    ensures faults { TellsWriteFaults (O.failures output.old) (O.failures output.new) result }
 {
     let Ok(reply) = reply else {
         return Page::new(alloc).finish_with(output, b"memory", Status::Memory);

@@ -1,9 +1,9 @@
 //! The command `run`, over any input and output.
 ghost use Rattle.std.specs.Prelude.{◌≡◌, ◌≤◌, ◌⊎◌, IfSome, length};
-ghost use Rattle.pb_base.specs.Device.{one_more_failure};
 ghost use Rattle.pb_engines.specs.Answers.{Tells};
 ghost use Rattle.pb_engines.specs.Inputs.{SaysOfInput};
 ghost use Rattle.pb_engines.specs.Runs.{SaysOf};
+ghost use Rattle.pb_engines.specs.Faults.{TellsFaults, TellsWriteFaults};
 
 use crate::accept::{compile_text, refuse};
 use crate::input::read_input;
@@ -26,9 +26,10 @@ pub fn run_engine<I: Input, O: Output>(
 ) -> Status
     ensures text { IfSome (I.rest input.old) (λ bytes.
         Tells (SaysOfInput (SaysOf options.steps) bytes) (O.written output.old) (O.written output.new) result) }
-    ensures fault { result ≡ Status.Device
-        → ((I.failures input.new ≡ one_more_failure (I.failures input.old)) × (O.written output.new ≡ O.written output.old))
-        ⊎ (O.failures output.new ≡ one_more_failure (O.failures output.old)) }
+    ensures faults { TellsFaults
+        (record { reads = I.failures input.old; writes = O.failures output.old; written = O.written output.old })
+        (record { reads = I.failures input.new; writes = O.failures output.new; written = O.written output.new })
+        result }
 {
     match read_input(alloc, input, output) {
         Ok(bytes) => run_text(alloc, options.steps, bytes.as_slice(), output),
@@ -40,7 +41,7 @@ pub fn run_engine<I: Input, O: Output>(
 fn run_text<O: Output>(alloc: Global, steps: u64, text: &[u8], output: &mut O) -> Status
     requires { length text.now ≤ 4194304 }
     ensures text { Tells (SaysOfInput (SaysOf steps) text.now) (O.written output.old) (O.written output.new) result }
-    ensures fault { result ≡ Status.Device → O.failures output.new ≡ one_more_failure (O.failures output.old) }
+    ensures faults { TellsWriteFaults (O.failures output.old) (O.failures output.new) result }
 {
     match compile_text(alloc, text) {
         Ok(compiled) => tell_run(alloc, compiled.verified(), steps, output),

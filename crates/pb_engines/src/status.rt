@@ -1,20 +1,40 @@
-//! The exit status of the program.
+//! What an engine came to.
 
-/// What a command came to. The number is the exit status of the program.
+ghost use Rattle.std.specs.Prelude.{◌≡◌};
+ghost use Rattle.pb_engines.specs.Statuses.{status_number};
+
+/// What a command came to.
 #[derive(Clone, Copy, Debug, PartialEq, Eq)]
 pub enum Status {
     /// All was done.
-    Done = 0,
-    /// The text was refused.
-    Refused = 1,
-    /// The words of the call were refused, or help was asked for.
-    Words = 2,
+    Done,
+    /// The text or the object was refused.
+    Refused,
+    /// The words of the call were refused, or help or the version was asked for.
+    Words,
     /// The run came to its limit.
-    Limit = 3,
+    Limit,
     /// A process faulted.
-    Fault = 4,
-    /// Memory wanted.
-    Memory = 5,
+    Fault,
+    /// The command ran out of memory.
+    Memory,
     /// A read or a write failed.
-    Device = 6,
+    Device,
+}
+
+impl Status {
+    /// Returns the exit status of the program, from 0 to 6.
+    pub fn number(self) -> u8
+        ensures { result ≡ status_number self }
+    {
+        match self {
+            Status::Done => 0,
+            Status::Refused => 1,
+            Status::Words => 2,
+            Status::Limit => 3,
+            Status::Fault => 4,
+            Status::Memory => 5,
+            Status::Device => 6,
+        }
+    }
 }

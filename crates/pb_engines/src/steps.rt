@@ -7,6 +7,7 @@ ghost use Rattle.pb_engines.specs.Answers.{line, Says, Tells};
 ghost use Rattle.pb_engines.specs.Runs.{HasFault, SaysOfCode};
 ghost use Rattle.pb_engines.specs.Steps.{SaysOfEnd, TellsEvent, TellsStep};
 ghost use Rattle.pb_machine.specs.Views.{machine_view, IsMachineOf};
+ghost use Rattle.pb_engines.specs.Faults.{TellsWriteFaults};
 
 use crate::page::Page;
 use crate::schedule::step_first;
@@ -91,7 +92,7 @@ fn has_fault(machine: &Machine) -> bool
 // Says that the steps were used up.
 fn tell_limit<O: Output>(mut page: Page, output: &mut O, steps: u64) -> Status
     ensures text { Says (O.written output.old) (O.written output.new) (page ++ line (codes "limit " ++ decimal steps)) Status.Limit result }
-    ensures fault { result ≡ Status.Device → O.failures output.new ≡ one_more_failure (O.failures output.old) }
+    ensures faults { TellsWriteFaults (O.failures output.old) (O.failures output.new) result }
 {
     let mut digits = itoa::Buffer::new();
     match page.say(output, b"limit ") {
@@ -104,7 +105,7 @@ fn tell_limit<O: Output>(mut page: Page, output: &mut O, steps: u64) -> Status
 #[tactic(auto, using(crate::specs::Steps::all_done, crate::specs::Steps::some_fault, crate::specs::Steps::used_up))]
 fn tell_end<O: Output>(page: Page, output: &mut O, machine: &Machine, steps: u64) -> Status
     ensures text { Tells (SaysOfEnd (machine_view machine.now) steps page) (O.written output.old) (O.written output.new) result }
-    ensures fault { result ≡ Status.Device → O.failures output.new ≡ one_more_failure (O.failures output.old) }
+    ensures faults { TellsWriteFaults (O.failures output.old) (O.failures output.new) result }
 {
     if !machine.finished() {
         return tell_limit(page, output, steps);
@@ -118,7 +119,7 @@ fn tell_end<O: Output>(page: Page, output: &mut O, machine: &Machine, steps: u64
 /// Makes at most so many steps of the code from its opening, and writes the line of each event and the last line.
 pub fn tell_run<O: Output>(alloc: Global, verified: &Verified, steps: u64, output: &mut O) -> Status
     ensures text { Tells (SaysOfCode verified.now.code steps) (O.written output.old) (O.written output.new) result }
-    ensures fault { result ≡ Status.Device → O.failures output.new ≡ one_more_failure (O.failures output.old) }
+    ensures faults { TellsWriteFaults (O.failures output.old) (O.failures output.new) result }
 {
     let mut page = Page::new(alloc);
     let Ok(mut machine) = Machine::new(alloc, verified) else {

@@ -8,3 +8,4 @@ mod exec;
 mod migrate;
 mod page;
 mod run;
+mod status;
