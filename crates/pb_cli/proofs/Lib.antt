@@ -1,13 +1,2 @@
-pub mod AcceptLemmas
 pub mod AnswerLemmas
-pub mod CheckLemmas
-pub mod ClaimLemmas
-pub mod EmissionLemmas
-pub mod ExecutionLemmas
-pub mod InputLemmas
-pub mod LoadLemmas
-pub mod PageLemmas
 pub mod ReadLemmas
-pub mod RunLemmas
-pub mod ScheduleLemmas
-pub mod TextLemmas

@@ -13,9 +13,9 @@ use Rattle.pb_object.specs.declared.format.Format.TheVariants.{One, Two}
 use Rattle.pb_cli.specs.Read.{BlamesWords, HasCheckNumbers, HasEmitNumber, HasNumber, HasNumberIn, HasOptionalNumber, HasRunNumbers, IsReadFrom, IsReadFromMatches, format_number}
 use Rattle.pb_cli.specs.declared.options.Options.{Options}
 use Rattle.pb_cli.specs.declared.options.Options.TheVariants.{Check, Claims, Emit, Exec, Migrate, Run}
-use Rattle.pb_cli.specs.declared.options.CheckOptions.{CheckOptions}
-use Rattle.pb_cli.specs.declared.options.EmitOptions.{EmitOptions}
-use Rattle.pb_cli.specs.declared.options.RunOptions.{RunOptions}
+use Rattle.pb_engines.specs.declared.options.CheckOptions.{CheckOptions}
+use Rattle.pb_engines.specs.declared.options.EmitOptions.{EmitOptions}
+use Rattle.pb_engines.specs.declared.options.RunOptions.{RunOptions}
 use Rattle.pb_cli.specs.declared.options.WordsFault.{WordsFault}
 use Rattle.pb_cli.specs.declared.options.WordsFault.TheVariants.{Words, Memory}
 

@@ -1,21 +1,21 @@
 -- What a call of the program writes, with its words and its input.
-use Rattle.std.specs.Prelude.{◌⊎◌, ℕ, List, Option}
+use Rattle.std.specs.Prelude.{◌⊎◌, ℕ, IfSome, List, Option}
 use Rattle.std.specs.Borrow.{Bor}
 use Rattle.clap.specs.Words.{Text}
 use Rattle.pb_cli.specs.declared.options.Options.{Options}
 use Rattle.pb_cli.specs.declared.options.Options.TheVariants as option
 use Rattle.pb_cli.specs.declared.options.WordsFault.{WordsFault}
 use Rattle.pb_cli.specs.declared.options.WordsFault.TheVariants as fault
-use Rattle.pb_cli.specs.declared.status.Status.{Status}
-use Rattle.pb_cli.specs.declared.status.Status.TheVariants.{Words, Memory}
-use Rattle.pb_cli.specs.Answers.{Says, Tells, memory_line}
-use Rattle.pb_cli.specs.Checks.{SaysOfChecks}
-use Rattle.pb_cli.specs.ClaimLines.{SaysOfClaims}
-use Rattle.pb_cli.specs.Emissions.{SaysOfEmission}
-use Rattle.pb_cli.specs.Executions.{SaysOfExecution}
-use Rattle.pb_cli.specs.Inputs.{SaysOfInput}
-use Rattle.pb_cli.specs.Migrations.{SaysOfMigration}
-use Rattle.pb_cli.specs.Runs.{SaysOf}
+use Rattle.pb_engines.specs.declared.status.Status.{Status}
+use Rattle.pb_engines.specs.declared.status.Status.TheVariants.{Words, Memory}
+use Rattle.pb_engines.specs.Answers.{Says, Tells, memory_line}
+use Rattle.pb_engines.specs.Checks.{SaysOfChecks}
+use Rattle.pb_engines.specs.ClaimLines.{SaysOfClaims}
+use Rattle.pb_engines.specs.Emissions.{SaysOfEmission}
+use Rattle.pb_engines.specs.Executions.{SaysOfExecution}
+use Rattle.pb_engines.specs.Inputs.{SaysOfInput}
+use Rattle.pb_engines.specs.Migrations.{SaysOfMigration}
+use Rattle.pb_engines.specs.Runs.{SaysOf}
 use Rattle.pb_cli.specs.Read.{WordsSay}
 
 -- what a command may say of an input
@@ -36,18 +36,18 @@ abbrev pub fault_status : WordsFault → Status
 fault_status (fault.Words text) = Words
 fault_status fault.Memory = Memory
 
--- the words say a command, which tells what it may
-abbrev pub CommandWrites : List (Bor Text) → List ℕ → Option (List ℕ) → Option (List ℕ) → Status → Type 0
-CommandWrites words bytes old new status =
-    (o : Options) × WordsSay words o × Tells (CommandSays o bytes) old new status
+-- the words say a command, which tells of the bytes of its input, where these are known, what it may
+abbrev pub CommandWrites : List (Bor Text) → Option (List ℕ) → Option (List ℕ) → Option (List ℕ) → Status → Type 0
+CommandWrites words rest old new status =
+    (o : Options) × WordsSay words o × IfSome rest (λ bytes. Tells (CommandSays o bytes) old new status)
 
 -- the words say nothing, and some text of theirs is written
 abbrev pub RefusesWords : List (Bor Text) → Option (List ℕ) → Option (List ℕ) → Status → Type 0
 RefusesWords words old new status =
     ((o : Options) → WordsSay words o → ⊥) × ((text : List ℕ) × Says old new text Words status)
 
--- one of these, or memory wants
-abbrev pub CallWrites : List (Bor Text) → List ℕ → Option (List ℕ) → Option (List ℕ) → Status → Type 0
-CallWrites words bytes old new status =
-    CommandWrites words bytes old new status
+-- one of these, or the program is out of memory before it knows what the words say
+abbrev pub CallWrites : List (Bor Text) → Option (List ℕ) → Option (List ℕ) → Option (List ℕ) → Status → Type 0
+CallWrites words rest old new status =
+    CommandWrites words rest old new status
     ⊎ (RefusesWords words old new status ⊎ Says old new memory_line Memory status)

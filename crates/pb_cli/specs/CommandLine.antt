@@ -40,9 +40,9 @@ run_command =
 abbrev pub with_command : App → App → App
 with_command a sub = with_subcommand a sub.top
 
--- a command that wants a subcommand
+-- a command that wants a subcommand, and has a version to tell
 abbrev pub that_wants_command : App → App
-that_wants_command a = record a { top = record a.top { subcommand_required = true } }
+that_wants_command a = record a { top = record a.top { subcommand_required = true; has_version = true } }
 
 -- the commands that look at texts
 unfoldable pub with_text_commands : App → App

@@ -1,16 +1,3 @@
-pub mod Answers
 pub mod Calls
-pub mod Checks
-pub mod ClaimLines
 pub mod CommandLine
-pub mod Emissions
-pub mod Executions
-pub mod Inputs
-pub mod Loading
-pub mod Migrations
-pub mod Parts
 pub mod Read
-pub mod Refusals
-pub mod Runs
-pub mod Schedule
-pub mod Steps

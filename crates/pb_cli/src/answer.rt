@@ -1,20 +1,15 @@
 //! The whole program, over any words, input and output.
-ghost use Rattle.std.specs.Prelude.{◌≡◌, ◌⊎◌, IfSome};
-ghost use Rattle.pb_base.specs.Device.{one_more_failure};
-ghost use Rattle.pb_cli.specs.Answers.{Says};
+ghost use Rattle.std.specs.Prelude.{◌≡◌};
+ghost use Rattle.pb_engines.specs.Answers.{Says};
 ghost use Rattle.pb_cli.specs.Calls.{fault_status, fault_text, CallWrites};
+ghost use Rattle.pb_engines.specs.Faults.{TellsFaults, TellsWriteFaults};
 
-use crate::check::check_engine;
-use crate::claims::claims_engine;
-use crate::emit::emit_engine;
-use crate::exec::exec_engine;
-use crate::migrate::migrate_engine;
 use crate::options::{Options, WordsFault};
-use crate::page::Page;
 use crate::read::options;
-use crate::run::run_engine;
-use crate::status::Status;
 use pb_base::device::{Input, Output};
+use pb_engines::{Page, Status};
+use pb_engines::{check_engine, claims_engine, emit_engine};
+use pb_engines::{exec_engine, migrate_engine, run_engine};
 use std::alloc::Global;
 
 /// Reads the words of a call, of which the first is the program's own name, and does what they say.
@@ -24,10 +19,11 @@ pub fn answer<I: Input, O: Output>(
     input: &mut I,
     output: &mut O,
 ) -> Status
-    ensures text { IfSome (I.rest input.old) (λ bytes. CallWrites words.now bytes (O.written output.old) (O.written output.new) result) }
-    ensures fault { result ≡ Status.Device
-        → ((I.failures input.new ≡ one_more_failure (I.failures input.old)) × (O.written output.new ≡ O.written output.old))
-        ⊎ (O.failures output.new ≡ one_more_failure (O.failures output.old)) }
+    ensures text { CallWrites words.now (I.rest input.old) (O.written output.old) (O.written output.new) result }
+    ensures faults { TellsFaults
+        (record { reads = I.failures input.old; writes = O.failures output.old; written = O.written output.old })
+        (record { reads = I.failures input.new; writes = O.failures output.new; written = O.written output.new })
+        result }
 {
     match options(alloc, words) {
         Ok(Options::Check(numbers)) => check_engine(alloc, numbers, input, output),
@@ -43,7 +39,7 @@ pub fn answer<I: Input, O: Output>(
 // Writes the text of a fault, and answers its status.
 fn refuse<O: Output>(alloc: Global, output: &mut O, fault: &WordsFault) -> Status
     ensures text { Says (O.written output.old) (O.written output.new) (fault_text fault.now) (fault_status fault.now) result }
-    ensures fault { result ≡ Status.Device → O.failures output.new ≡ one_more_failure (O.failures output.old) }
+    ensures faults { TellsWriteFaults (O.failures output.old) (O.failures output.new) result }
 {
     let mut page = Page::new(alloc);
     let WordsFault::Words(text) = fault else {

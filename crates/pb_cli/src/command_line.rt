@@ -9,6 +9,9 @@ use clap::builder::ValueParser;
 use clap::{Arg, Command};
 use std::alloc::{AllocError, Global};
 
+// The version, and the line of `rt version` of the kit that it was proved with.
+const VERSION: &str = "0.1\nproved with rattle-kit-13b logic dac8208d650f15bf";
+
 fn number_option<'a>(alloc: Global, name: &'a str, least: u64, most: u64) -> Arg<'a>
     ensures rule { rule_of result ≡ number_rule name.entry.now least most }
     ensures own { result.global ≡ false }
@@ -56,9 +59,9 @@ fn check_texts<'a>(alloc: Global) -> Result<Command<'a>, AllocError>
     ensures { IfOk result (IsCommand check_command) }
 {
     let heap = number_option(alloc, "heap", 1_024, 16_777_216);
-    let heap = heap.help("The bytes of a heap for the trees of each text");
+    let heap = heap.help("Keep the syntax trees of each text in a heap of this many bytes");
     let check = Command::new(alloc, "check").about(
-        "Says of each text on standard input whether it is a program",
+        "Check the programs read from standard input, which lines of %% separate",
     );
     with_option(check, heap)
 }
@@ -68,7 +71,7 @@ fn claims_of_text<'a>(alloc: Global) -> Result<Command<'a>, AllocError>
     ensures { IfOk result (IsCommand claims_command) }
 {
     Ok(Command::new(alloc, "claims").about(
-        "Says how much of each resource a process of the program on standard input may hold",
+        "Print the claims of the program read from standard input",
     ))
 }
 
@@ -77,9 +80,9 @@ fn emit_object<'a>(alloc: Global) -> Result<Command<'a>, AllocError>
     ensures { IfOk result (IsCommand emit_command) }
 {
     let object = number_option_or(alloc, "object", 1, 2, "2");
-    let object = object.help("The format of the object");
+    let object = object.help("The format of the object: 1 or 2");
     let emit = Command::new(alloc, "emit").about(
-        "Writes the object of the program on standard input",
+        "Compile the program read from standard input and print its object",
     );
     with_option(emit, object)
 }
@@ -89,8 +92,8 @@ fn exec_object<'a>(alloc: Global) -> Result<Command<'a>, AllocError>
     ensures { IfOk result (IsCommand exec_command) }
 {
     let steps = number_option_or(alloc, "steps", 0, 10_000_000, "1000000");
-    let steps = steps.help("The number of picks at which the run stops");
-    let exec = Command::new(alloc, "exec").about("Runs the object on standard input");
+    let steps = steps.help("Stop the run after this many steps");
+    let exec = Command::new(alloc, "exec").about("Run the object read from standard input");
     with_option(exec, steps)
 }
 
@@ -99,7 +102,7 @@ fn migrate_object<'a>(alloc: Global) -> Result<Command<'a>, AllocError>
     ensures { IfOk result (IsCommand migrate_command) }
 {
     Ok(Command::new(alloc, "migrate").about(
-        "Writes the object on standard input in the present format",
+        "Print the object read from standard input in format 2",
     ))
 }
 
@@ -108,15 +111,15 @@ fn run_texts<'a>(alloc: Global) -> Result<Command<'a>, AllocError>
     ensures { IfOk result (IsCommand run_command) }
 {
     let steps = number_option_or(alloc, "steps", 0, 10_000_000, "1000000");
-    let steps = steps.help("The number of picks at which the run stops");
-    let run = Command::new(alloc, "run").about("Runs the program on standard input");
+    let steps = steps.help("Stop the run after this many steps");
+    let run = Command::new(alloc, "run").about("Run the program read from standard input");
     with_option(run, steps)
 }
 
 fn wanting_command<'a>(command: Command<'a>) -> Command<'a>
     ensures { app_of result ≡ that_wants_command (app_of command.entry) }
 {
-    command.subcommand_required(true)
+    command.subcommand_required(true).version(VERSION)
 }
 
 #[tactic(auto, unfolding(crate::specs::CommandLine::with_text_commands))]

@@ -1,31 +1,14 @@
 //! The program `parbegin`.
 #![tactic(auto)]
 
-mod accept;
 mod answer;
-mod check;
-mod claims;
 mod command_line;
-mod emit;
-mod exec;
-mod input;
-mod load;
-mod migrate;
 mod options;
-mod page;
-mod parts;
 mod read;
-mod refusal;
-mod reply;
-mod run;
-mod schedule;
-mod status;
-mod steps;
 
 use crate::answer::answer;
-use crate::page::Page;
-use crate::status::Status;
 use pb_base::device::{StandardInput, StandardOutput};
+use pb_engines::{Page, Status};
 use std::alloc::AllocError;
 use std::env;
 use std::io::ErrorKind;
@@ -54,5 +37,5 @@ fn start(rt: &HostRuntime) -> Status {
 }
 
 fn main(rt: HostRuntime) -> ExitCode {
-    ExitCode::from(start(&rt) as u8)
+    ExitCode::from(start(&rt).number())
 }

@@ -3,15 +3,16 @@ ghost use Rattle.std.specs.Prelude.{◌≡◌, ◌↔◌, IfErr, IfNone, IfOk, I
 ghost use Rattle.clap.specs.Words.{found_of, kind_of, one_of, rows_of, subcommand_rows_of};
 ghost use Rattle.pb_cli.specs.Read.{BlamesWords, HasCheckNumbers, HasEmitNumber, HasNumberIn, HasRunNumbers, IsReadFromMatches, WordsSay};
 ghost use Rattle.pb_cli.specs.declared.options.Options.{Options as AnyOptions};
-ghost use Rattle.pb_cli.specs.declared.options.CheckOptions.{CheckOptions as AnyCheckOptions};
-ghost use Rattle.pb_cli.specs.declared.options.EmitOptions.{EmitOptions as AnyEmitOptions};
-ghost use Rattle.pb_cli.specs.declared.options.RunOptions.{RunOptions as AnyRunOptions};
+ghost use Rattle.pb_engines.specs.declared.options.CheckOptions.{CheckOptions as AnyCheckOptions};
+ghost use Rattle.pb_engines.specs.declared.options.EmitOptions.{EmitOptions as AnyEmitOptions};
+ghost use Rattle.pb_engines.specs.declared.options.RunOptions.{RunOptions as AnyRunOptions};
 
 use crate::command_line::command_line;
-use crate::options::{CheckOptions, EmitOptions, Options, RunOptions, WordsFault};
+use crate::options::{Options, WordsFault};
 use clap::error::ErrorKind;
 use clap::{ArgMatches, Error};
 use pb_object::Format;
+use pb_engines::{CheckOptions, EmitOptions, RunOptions};
 use std::alloc::Global;
 
 // The number of an option, where it was matched with one from `least` to `most`.

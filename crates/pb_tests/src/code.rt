@@ -2,6 +2,7 @@
 
 ghost use Rattle.std.specs.Prelude.{◌≤◌, length};
 
+use crate::objects::{FIRST, MOVED, SECOND};
 use pb_base::{Bundle, Capital, Claims, Names, NoMemory};
 use pb_code::{Code, Instr, ProcessCode, is_name};
 use pb_object::{
@@ -10,18 +11,6 @@ use pb_object::{
 use std::alloc::Global;
 use std::process::Abort;
 use std::test::*;
-
-/// The text of `process p begin integer x; x := 2 + 3; print x end` in the first format.
-const FIRST: &[u8] =
-    b"PBO 1\nresources 0\nprocesses 1\nprocess p\nvars 1\narms 1\nclaims\narm 0\ncode 7\npush 2\npush 3\nadd\nstore 0\nload 0\nprint\nend\n";
-
-/// The same in the second format.
-const SECOND: &[u8] =
-    b"PBO 2\nresources 0\nprocesses 1\nprocess p\nvars 1 x\narms 1\nclaims\narm 0\ncode 7\n1 push 2\n1 push 3\n1 add\n1 store 0\n1 load 0\n1 print\n0 end\n";
-
-/// The first, read and written in the second format.
-const MOVED: &[u8] =
-    b"PBO 2\nresources 0\nprocesses 1\nprocess p\nvars 1 v0\narms 1\nclaims\narm 0\ncode 7\n0 push 2\n0 push 3\n0 add\n0 store 0\n0 load 0\n0 print\n0 end\n";
 
 /// Two resources and two processes; the second takes both resources at once.
 const JOINT: &[u8] =

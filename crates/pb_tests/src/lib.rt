@@ -8,9 +8,13 @@ mod code;
 #[cfg(test)]
 mod codegen;
 #[cfg(test)]
+mod engines;
+#[cfg(test)]
 mod machine;
 #[cfg(test)]
 mod names;
+#[cfg(test)]
+mod objects;
 #[cfg(test)]
 mod parser;
 #[cfg(test)]

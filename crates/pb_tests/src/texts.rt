@@ -16,6 +16,15 @@ begin
 end
 ";
 
+/// Of `examples/`: prints 1.
+#[rattlefmt::skip]
+pub const HELLO: &[u8] = b"process p begin print 1 end
+";
+
+/// Prints a sum.
+#[rattlefmt::skip]
+pub const SUM: &[u8] = b"process p begin integer x; x := 2 + 3; print x end";
+
 /// Two arms add 1 to the same integer.
 #[rattlefmt::skip]
 pub const INCREMENTS: &[u8] = b"process p begin integer x; parbegin x := x + 1; x := x + 1 parend; print x end";
@@ -66,8 +75,7 @@ begin
   print 0
 end
 ",
-    b"process p begin print 1 end
-",
+    HELLO,
     b"// Two arms add one to the same integer. To read it and to assign to it are two steps, so where both arms read before
 // either assigns, one of the two additions is lost. Run arm by arm, as here, none is.
 process p
@@ -131,7 +139,7 @@ process b begin hold 1 of disk, 1 of tape do print 2 od end
 /// Programs that each use some of the language.
 #[rattlefmt::skip]
 pub const PROGRAMS: [&[u8]; 28] = [
-    b"process p begin integer x; x := 2 + 3; print x end",
+    SUM,
     b"resource t = 4; process p begin hold 1 of t do parbegin hold 1 of t do skip od; hold 2 of t do skip od parend od end",
     b"resource t = 9; process p begin integer x; hold 1 of t do skip od; if x then hold 2 of t do skip od else hold 3 of t do skip od fi end",
     b"resource tape = 1; resource disk = 1;

@@ -1,30 +1,30 @@
 use Rattle.std.proofs.Common.{inl, subst}
 use Rattle.pb_cli.specs.declared.options.Options.TheVariants.{Check, Emit, Exec, Run}
 use Rattle.pb_cli.specs.Read.{WordsSay}
-use Rattle.pb_cli.proofs.AnswerLemmas.{CallWrites-refused, IfSome-of, IfSome-weaker}
+use Rattle.pb_cli.proofs.AnswerLemmas.{CallWrites-refused}
 use Rattle.pb_cli.proofs.answer.answer.Goals as goal
 
 pub returns-in-Ok-Check-clause-text : goal.returns-in-Ok-Check-clause-text
 returns-in-Ok-Check-clause-text g c =
     let read = subst (WordsSay c.args.words.now) c.in-Ok-Check.field-0-is c.in-Ok-Check.ensures.read in
-    IfSome-weaker (g.I.Input.rest c.args.input.now) _ _ (λ bytes writes. inl (Check c.in-Ok-Check.numbers, read, writes)) c.check_engine.ensures.text
+    inl (Check c.in-Ok-Check.numbers, read, c.check_engine.ensures.text)
 
 pub returns-in-Ok-Run-clause-text : goal.returns-in-Ok-Run-clause-text
 returns-in-Ok-Run-clause-text g c =
     let read = subst (WordsSay c.args.words.now) c.in-Ok-Run.field-0-is c.in-Ok-Run.ensures.read in
-    IfSome-weaker (g.I.Input.rest c.args.input.now) _ _ (λ bytes writes. inl (Run c.in-Ok-Run.numbers, read, writes)) c.run_engine.ensures.text
-
-pub returns-in-Err-clause-text : goal.returns-in-Err-clause-text
-returns-in-Err-clause-text g c =
-    IfSome-of (g.I.Input.rest c.args.input.now) _
-    (λ bytes. CallWrites-refused c.args.words.now bytes _ _ c.refuse.result c.in-Err.fault c.in-Err.ensures.refused c.refuse.ensures.text)
+    inl (Run c.in-Ok-Run.numbers, read, c.run_engine.ensures.text)
 
 pub returns-in-Ok-Exec-clause-text : goal.returns-in-Ok-Exec-clause-text
 returns-in-Ok-Exec-clause-text g c =
     let read = subst (WordsSay c.args.words.now) c.in-Ok-Exec.field-0-is c.in-Ok-Exec.ensures.read in
-    IfSome-weaker (g.I.Input.rest c.args.input.now) _ _ (λ bytes writes. inl (Exec c.in-Ok-Exec.numbers, read, writes)) c.exec_engine.ensures.text
+    inl (Exec c.in-Ok-Exec.numbers, read, c.exec_engine.ensures.text)
 
 pub returns-in-Ok-Emit-clause-text : goal.returns-in-Ok-Emit-clause-text
 returns-in-Ok-Emit-clause-text g c =
     let read = subst (WordsSay c.args.words.now) c.in-Ok-Emit.field-0-is c.in-Ok-Emit.ensures.read in
-    IfSome-weaker (g.I.Input.rest c.args.input.now) _ _ (λ bytes writes. inl (Emit c.in-Ok-Emit.numbers, read, writes)) c.emit_engine.ensures.text
+    inl (Emit c.in-Ok-Emit.numbers, read, c.emit_engine.ensures.text)
+
+pub returns-in-Err-clause-text : goal.returns-in-Err-clause-text
+returns-in-Err-clause-text g c =
+    CallWrites-refused c.args.words.now (g.I.Input.rest c.args.input.now) _ _ c.refuse.result c.in-Err.fault
+    c.in-Err.ensures.refused c.refuse.ensures.text

@@ -1,0 +1,49 @@
+#!/bin/sh
+# Runs the built program once for each exit status that can be brought about from outside, and compares the statuses.
+# It is run by hand; its own status is 0 if all of them are as wanted, and 1 if not.
+set -u
+top=$(CDPATH= cd -- "$(dirname -- "$0")/.." && pwd) || exit 1
+failed=0
+
+# expect WANTED OUTPUT WORD..: calls the program with the words and the standard input of this call
+expect() {
+    wanted=$1
+    output=$2
+    shift 2
+    "$top/parbegin" "$@" >"$output"
+    status=$?
+    if [ "$status" -eq "$wanted" ]; then
+        echo "status $status: parbegin $*"
+    else
+        echo "status $status in place of $wanted: parbegin $*" >&2
+        failed=1
+    fi
+}
+
+# a program of a thousand statements, for whose tree a kilobyte is too little
+long_program() {
+    echo "process p begin"
+    count=0
+    while [ "$count" -lt 1000 ]; do
+        echo "  print $count;"
+        count=$((count + 1))
+    done
+    echo "  skip end"
+}
+
+expect 0 /dev/null run <"$top/examples/hello.pb"
+echo "process p begin" | {
+    expect 1 /dev/null run
+    exit "$failed"
+} || failed=1
+expect 2 /dev/null fly </dev/null
+expect 2 /dev/null --version </dev/null
+expect 3 /dev/null run --steps 1 <"$top/examples/hello.pb"
+expect 4 /dev/null run <"$top/examples/edges.pb"
+long_program | {
+    expect 5 /dev/null check --heap 1024
+    exit "$failed"
+} || failed=1
+expect 6 /dev/full run <"$top/examples/hello.pb"
+expect 6 /dev/null run <"$top"
+exit "$failed"

@@ -1,0 +1,72 @@
+-- From what was read, and what is said of it, to what is said of an input.
+use Rattle.std.proofs.Common.{◌≡◌, ℕ, ◌<◌, ◌≤◌, List, [], ◌++◌, length, Option, Some, None, IfSome, IfOk, OnErr, Result, Ok, Err, codes}
+use Rattle.pb_base.specs.declared.memory.NoMemory.{NoMemory}
+use Rattle.pb_engines.specs.Answers.{line, memory_line, Says, Tells}
+use Rattle.pb_engines.specs.Inputs.{SaysOfReading, too_long, no_memory, nothing, SaysOfInput, not_read, read}
+use Rattle.pb_engines.specs.declared.reply.Reply.{Reply}
+use Rattle.pb_engines.specs.declared.status.Status.{Status}
+use Rattle.pb_engines.specs.declared.status.Status.TheVariants.{Refused, Memory, Device}
+use Rattle.pb_engines.proofs.PageLemmas.{Says-first}
+use Rattle.pb_engines.proofs.TextLemmas.{said_nothing}
+
+-- ---- what is known of an input
+
+-- where a fact holds of each value, it holds of that which is known
+pub IfSome-of : {X : Type 0} (o : Option X) (P : X → Type 0) → ((x : X) → P x) → IfSome o P
+IfSome-of None P each = tt
+IfSome-of (Some x) P each = each x
+
+pub IfSome-weaker : {X : Type 0} (o : Option X) (P Q : X → Type 0) → ((x : X) → P x → Q x) → IfSome o P → IfSome o Q
+IfSome-weaker None P Q f h = tt
+IfSome-weaker (Some x) P Q f h = f x h
+
+-- ---- an input that is not read
+
+pub is_too_long : (bytes page : List ℕ) (old new : Option (List ℕ)) (given : Status) → 4194304 < length bytes → page ≡ []
+    → Says old new (page ++ line (codes "refused input")) Refused given → Tells (SaysOfReading bytes) old new given
+is_too_long bytes page old new given long empty says = (
+  line (codes "refused input"),
+  Refused,
+  too_long long,
+  Says-first old new page (line (codes "refused input")) Refused given empty says,
+)
+
+pub wants_memory : (bytes page : List ℕ) (old new : Option (List ℕ)) (given : Status) → page ≡ []
+    → Says old new (page ++ memory_line) Memory given → Tells (SaysOfReading bytes) old new given
+wants_memory bytes page old new given empty says =
+    (memory_line, Memory, no_memory, Says-first old new page memory_line Memory given empty says)
+
+pub fails : (bytes : List ℕ) (w : Option (List ℕ)) → Tells (SaysOfReading bytes) w w Device
+fails bytes w = ([], Device, nothing, said_nothing w)
+
+-- ---- what is said of an input
+
+pub told_not_read : (SaysOf : List ℕ → List ℕ → Status → Type 0) (bytes : List ℕ) (old new : Option (List ℕ)) (given : Status)
+    → Tells (SaysOfReading bytes) old new given → Tells (SaysOfInput SaysOf bytes) old new given
+told_not_read SaysOf bytes old new given (text, status, says, said) = (text, status, not_read says, said)
+
+pub told_read : (SaysOf : List ℕ → List ℕ → Status → Type 0) (bytes : List ℕ) (old new : Option (List ℕ)) (given : Status)
+    → length bytes ≤ 4194304 → Tells (SaysOf bytes) old new given → Tells (SaysOfInput SaysOf bytes) old new given
+told_read SaysOf bytes old new given short (text, status, says, said) = (text, status, read short says, said)
+
+-- a reply that was made, or for which there was no memory
+pub told_reply : (SaysOf : List ℕ → List ℕ → Status → Type 0) (bytes : List ℕ) (reply : Result Reply NoMemory) (old new : Option (List ℕ))
+    (given : Status) → length bytes ≤ 4194304 → IfOk reply (λ r. SaysOf bytes r.text.items r.status)
+    → IfOk reply (λ r. Says old new r.text.items r.status given) → OnErr reply (Says old new memory_line Memory given)
+    → Tells (SaysOfInput SaysOf bytes) old new given
+told_reply SaysOf bytes (Ok r) old new given short is says memory = (r.text.items, r.status, read short is, says)
+told_reply SaysOf bytes (Err e) old new given short is says memory = (memory_line, Memory, not_read no_memory, memory)
+
+-- what a reply says may be said by a wider definition
+pub replied_too : (P Q : List ℕ → Status → Type 0) (reply : Result Reply NoMemory)
+    → ((text : List ℕ) (status : Status) → P text status → Q text status)
+    → IfOk reply (λ r. P r.text.items r.status) → IfOk reply (λ r. Q r.text.items r.status)
+replied_too P Q (Ok r) wider is = wider r.text.items r.status is
+replied_too P Q (Err e) wider is = tt
+
+-- what may be said may be said by a wider definition
+pub said_too : (P Q : List ℕ → List ℕ → Status → Type 0) (bytes : List ℕ) (old new : Option (List ℕ)) (given : Status)
+    → ((text : List ℕ) (status : Status) → P bytes text status → Q bytes text status)
+    → Tells (SaysOfInput P bytes) old new given → Tells (SaysOfInput Q bytes) old new given
+said_too P Q bytes old new given wider (text, status, not_read is, said) = (text, status, not_read is, said)
+said_too P Q bytes old new given wider (text, status, read short is, said) = (text, status, read short (wider text status is), said)

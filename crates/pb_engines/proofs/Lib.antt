@@ -1,0 +1,11 @@
+pub mod AcceptLemmas
+pub mod CheckLemmas
+pub mod ClaimLemmas
+pub mod EmissionLemmas
+pub mod ExecutionLemmas
+pub mod InputLemmas
+pub mod LoadLemmas
+pub mod PageLemmas
+pub mod RunLemmas
+pub mod ScheduleLemmas
+pub mod TextLemmas

@@ -1,0 +1,17 @@
+use Rattle.pb_engines.proofs.InputLemmas.{IfSome-of, IfSome-weaker, fails, is_too_long, wants_memory}
+use Rattle.pb_engines.proofs.input.read_input.Goals as goal
+
+pub returns-in-Err-Device-clause-told : goal.returns-in-Err-Device-clause-told
+returns-in-Err-Device-clause-told g c = IfSome-of _ _ (λ bytes. fails bytes _)
+
+pub returns-in-Err-TooLong-clause-told : goal.returns-in-Err-TooLong-clause-told
+returns-in-Err-TooLong-clause-told g c =
+    IfSome-weaker (g.I.Input.rest c.args.input.now) _ _
+    (λ bytes long. is_too_long bytes c.new.result _ _ c.finish_with.result long c.new.ensures c.finish_with.ensures.text)
+    (c.in-Err-TooLong.ensures.long c.in-Err-TooLong.field-0-is)
+
+pub returns-in-Err-Memory-clause-told : goal.returns-in-Err-Memory-clause-told
+returns-in-Err-Memory-clause-told g c =
+    IfSome-of _ _
+    (λ bytes. wants_memory bytes c.new-in-Err-Memory.result _ _ c.finish_with-in-Err-Memory.result
+    c.new-in-Err-Memory.ensures c.finish_with-in-Err-Memory.ensures.text)

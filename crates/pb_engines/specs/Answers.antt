@@ -1,0 +1,28 @@
+-- What a command writes, and its status: lines, of which want of memory or a fault of a device may cut
+-- off the rest.
+use Rattle.std.specs.Prelude.{◌≡◌, ◌++◌, ◌⊎◌, ℕ, List, [], ◌∷◌, Option, codes}
+use Rattle.pb_base.specs.Device.{appended, AddsPrefix}
+use Rattle.pb_engines.specs.declared.status.Status.{Status}
+use Rattle.pb_engines.specs.declared.status.Status.TheVariants.{Device}
+
+-- a line of text ends in a line feed
+abbrev pub line : List ℕ → List ℕ
+line text = text ++ 10 ∷ []
+
+-- the line of a command that wants memory
+abbrev pub memory_line : List ℕ
+memory_line = line (codes "memory")
+
+-- a first part of the text was added to an output, and the rest is left
+abbrev pub Leaves : Option (List ℕ) → Option (List ℕ) → List ℕ → List ℕ → Type 0
+Leaves old new text rest = (done : List ℕ) × (text ≡ done ++ rest) × (new ≡ appended old done)
+
+-- the whole text was added and the status answered, or a device failed and a first part was added
+abbrev pub Says : Option (List ℕ) → Option (List ℕ) → List ℕ → Status → Status → Type 0
+Says old new text status answered =
+    ((new ≡ appended old text) × (answered ≡ status)) ⊎ (AddsPrefix old new text × (answered ≡ Device))
+
+-- one of some texts was said, with its status
+abbrev pub Tells : (List ℕ → Status → Type 0) → Option (List ℕ) → Option (List ℕ) → Status → Type 0
+Tells MaySay old new answered =
+    (text : List ℕ) × (status : Status) × MaySay text status × Says old new text status answered

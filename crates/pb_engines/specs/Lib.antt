@@ -1,0 +1,15 @@
+pub mod Answers
+pub mod Checks
+pub mod ClaimLines
+pub mod Emissions
+pub mod Executions
+pub mod Faults
+pub mod Inputs
+pub mod Loading
+pub mod Migrations
+pub mod Parts
+pub mod Refusals
+pub mod Runs
+pub mod Schedule
+pub mod Statuses
+pub mod Steps

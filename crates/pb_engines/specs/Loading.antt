@@ -1,0 +1,41 @@
+-- When the bytes of an object give code that is safe to run, and what is said where they don't.
+use Rattle.std.specs.Prelude.{◌≡◌, ℕ, List}
+use Rattle.pb_object.specs.Answers.{Spells, IsFaultOf}
+use Rattle.pb_code.specs.Whole.{Code, ProcessLabels}
+use Rattle.pb_object.specs.declared.fault.ObjectFault.TheVariants as object
+use Rattle.pb_object.specs.declared.format.Format.{Format}
+use Rattle.pb_verifier.specs.Verified.{IsAnnotated, IsRefusedFor}
+use Rattle.pb_verifier.specs.declared.fault.VerifyFault.TheVariants as verify
+use Rattle.pb_engines.specs.Answers.{line}
+use Rattle.pb_engines.specs.Refusals.{object_line, verify_line}
+use Rattle.pb_engines.specs.declared.load.LoadFault.{LoadFault}
+use Rattle.pb_engines.specs.declared.load.LoadFault.TheVariants.{Object, Unsafe}
+use Rattle.pb_engines.specs.declared.status.Status.{Status}
+use Rattle.pb_engines.specs.declared.status.Status.TheVariants.{Refused}
+
+-- the bytes spell this code and these labels, and the code is safe to run
+pub record IsLoaded (bytes : List ℕ) (code : Code) (labels : List ProcessLabels) : Type 0 where
+  pub format : Format
+  pub spelled : Spells format code labels bytes
+  pub safe : IsAnnotated code
+
+-- the bytes are no object, by this fault; or they spell code that is refused for it
+abbrev pub IsLoadFault : List ℕ → LoadFault → Type 0
+IsLoadFault bytes (Object fault) = IsFaultOf bytes fault
+IsLoadFault bytes (Unsafe fault) =
+    (format : Format) × (code : Code) × (labels : List ProcessLabels) × Spells format code labels bytes
+    × IsRefusedFor code fault
+
+-- the fault is one of the bytes, and not want of memory
+abbrev pub WantsNoMemory : LoadFault → Type 0
+WantsNoMemory (Object fault) = fault ≡ object.NoMemory → ⊥
+WantsNoMemory (Unsafe fault) = fault ≡ verify.NoMemory → ⊥
+
+abbrev pub load_line : LoadFault → List ℕ
+load_line (Object fault) = object_line fault
+load_line (Unsafe fault) = verify_line fault
+
+-- what is said of bytes that give no safe code
+pub data SaysOfNoCode (bytes : List ℕ) : List ℕ → Status → Type 0 where
+  refused : (fault : LoadFault) → WantsNoMemory fault → IsLoadFault bytes fault
+      → SaysOfNoCode bytes (line (load_line fault)) Refused

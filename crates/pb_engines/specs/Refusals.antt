@@ -1,0 +1,120 @@
+-- The line of each refusal of a text or of an object.
+use Rattle.std.specs.Prelude.{ℕ, List, [], ◌∷◌, ◌++◌, codes, slice_index_or, ⊤}
+use Rattle.std.specs.Fmt.{decimal}
+use Rattle.pb_base.specs.Lines.{NameTable}
+use Rattle.pb_base.specs.Steppers.{Table}
+use Rattle.pb_lexer.specs.declared.error.LexFault.{LexFault}
+use Rattle.pb_lexer.specs.declared.error.LexFault.TheVariants as lex
+use Rattle.pb_parser.specs.declared.fault.ParseFault.{ParseFault}
+use Rattle.pb_parser.specs.declared.fault.ParseFault.TheVariants as parse
+use Rattle.pb_names.specs.Program.{Program, capital_of}
+use Rattle.pb_names.specs.declared.fault.Kind.{Kind}
+use Rattle.pb_names.specs.declared.fault.Kind.TheVariants.{Processes, Resources, Integers, Fork, Arms}
+use Rattle.pb_names.specs.declared.fault.NameFault.{NameFault}
+use Rattle.pb_names.specs.declared.fault.NameFault.TheVariants as names
+use Rattle.pb_claims.specs.Fits.{FitCapital, IsFirstOver}
+use Rattle.pb_claims.specs.declared.over_capital.OverCapital.{OverCapital}
+use Rattle.pb_object.specs.declared.fault.ObjectFault.{ObjectFault}
+use Rattle.pb_object.specs.declared.fault.ObjectFault.TheVariants as object
+use Rattle.pb_codegen.specs.Compiled.{IsRefused}
+use Rattle.pb_codegen.specs.Generate.{names_of}
+use Rattle.pb_codegen.specs.Numbered.{IsNumbered}
+use Rattle.pb_codegen.specs.declared.fault.CompileFault.TheVariants.{Lex, Parse, Names}
+use Rattle.pb_verifier.specs.declared.fault.VerifyFault.{VerifyFault}
+use Rattle.pb_verifier.specs.declared.fault.VerifyFault.TheVariants as verify
+use Rattle.pb_engines.specs.Answers.{line}
+use Rattle.pb_engines.specs.declared.accept.Refusal.{Refusal}
+use Rattle.pb_engines.specs.declared.accept.Refusal.TheVariants.{Line, NoMemory}
+use Rattle.pb_engines.specs.declared.status.Status.{Status}
+use Rattle.pb_engines.specs.declared.status.Status.TheVariants.{Refused}
+
+-- the letter and number of a cause, and its place
+abbrev pub at_place : List ℕ → ℕ → List ℕ
+at_place cause at = cause ++ codes " at " ++ decimal at
+
+abbrev pub lex_line : LexFault → List ℕ
+lex_line lex.TooLong = codes "refused L1"
+lex_line (lex.BadByte at) = at_place (codes "refused L2") at
+lex_line (lex.NumberTooLarge at) = at_place (codes "refused L3") at
+lex_line (lex.NameTooLong at) = at_place (codes "refused L4") at
+lex_line lex.NoMemory = codes "memory"
+
+abbrev pub parse_line : ParseFault → List ℕ
+parse_line (parse.Syntax at) = at_place (codes "refused P1") at
+parse_line parse.TooDeep = codes "refused P2"
+parse_line parse.TooLarge = codes "refused P3"
+parse_line parse.NoMemory = codes "memory"
+
+abbrev pub kind_line : Kind → List ℕ
+kind_line Processes = codes "refused N1 processes"
+kind_line Resources = codes "refused N1 resources"
+kind_line Integers = codes "refused N1 integers"
+kind_line Fork = codes "refused N1 fork"
+kind_line Arms = codes "refused N1 arms"
+
+abbrev pub names_line : NameFault → List ℕ
+names_line (names.TooMany kind) = kind_line kind
+names_line (names.Twice at) = at_place (codes "refused N2") at
+names_line (names.Unknown at) = at_place (codes "refused N3") at
+names_line (names.Amount at) = at_place (codes "refused N4") at
+names_line (names.Repeated at) = at_place (codes "refused N6") at
+names_line names.NoMemory = codes "memory"
+
+-- a claim that is over its capital, with the names of its process and its resource
+abbrev pub claims_line : NameTable → OverCapital → List ℕ
+claims_line table over =
+    codes "refused C1 " ++ slice_index_or table.processes over.process []
+    ++ 32 ∷ slice_index_or table.resources over.resource []
+    ++ codes " claim " ++ decimal over.claim ++ codes " capital " ++ decimal over.capital
+
+-- the line of the first fault of a text that spells no program
+pub data RefusesEarly (text : List ℕ) : List ℕ → Type 0 where
+  by_tokens : (fault : LexFault) → IsRefused text (Lex fault) → RefusesEarly text (lex_line fault)
+  by_grammar : (fault : ParseFault) → IsRefused text (Parse fault) → RefusesEarly text (parse_line fault)
+  by_names : (fault : NameFault) → IsRefused text (Names fault) → RefusesEarly text (names_line fault)
+
+-- the line of the first fault of a text: it spells no program, or a claim is over its capital
+pub data RefusesWith (text : List ℕ) : List ℕ → Type 0 where
+  early : (refusal : List ℕ) → RefusesEarly text refusal → RefusesWith text refusal
+  by_claims : (program : Program) (claims : Table) (over : OverCapital) → IsNumbered text program claims
+      → IsFirstOver claims (capital_of program) over → RefusesWith text (claims_line (names_of program) over)
+
+-- the text spells a program, and the capital is enough for its claims
+pub record IsAcceptedText (text : List ℕ) : Type 0 where
+  pub program : Program
+  pub claims : Table
+  pub numbered : IsNumbered text program claims
+  pub enough : FitCapital claims (capital_of program)
+
+-- a refusal is by the line of the first fault, or for want of memory
+abbrev pub IsRefusal : List ℕ → Refusal → Type 0
+IsRefusal text (Line line) = RefusesWith text line.items
+IsRefusal text NoMemory = ⊤
+
+-- the same, whatever the capital
+abbrev pub IsEarlyRefusal : List ℕ → Refusal → Type 0
+IsEarlyRefusal text (Line line) = RefusesEarly text line.items
+IsEarlyRefusal text NoMemory = ⊤
+
+-- what is said of a refused text
+pub data SaysOfRefusedText (text : List ℕ) : List ℕ → Status → Type 0 where
+  refused : (refusal : List ℕ) → RefusesWith text refusal → SaysOfRefusedText text (line refusal) Refused
+
+-- ---- objects
+
+abbrev pub object_line : ObjectFault → List ℕ
+object_line (object.NotObject at) = at_place (codes "refused O1") at
+object_line (object.Limit at) = at_place (codes "refused O2") at
+object_line object.NoMemory = codes "memory"
+
+abbrev pub verify_line : VerifyFault → List ℕ
+verify_line verify.OutOfLimits = codes "refused V9"
+verify_line verify.OverCapital = codes "refused V8"
+verify_line verify.OutOfRange = codes "refused V3"
+verify_line verify.WrongArms = codes "refused V1"
+verify_line verify.WrongForks = codes "refused V6"
+verify_line verify.NoDepths = codes "refused V2"
+verify_line verify.NoHoldings = codes "refused V4"
+verify_line verify.LeftAtEnd = codes "refused V5"
+verify_line verify.OverClaim = codes "refused V7"
+verify_line verify.NoMemory = codes "memory"

@@ -1,0 +1,64 @@
+-- What `run` says of an input, and with which status.
+use Rattle.std.specs.Prelude.{◌≡◌, ◌≤◌, ◌++◌, ℕ, List, codes, length, slice_get, Some, true}
+use Rattle.std.specs.Fmt.{decimal}
+use Rattle.std.specs.List.{flat_map}
+use Rattle.pb_base.specs.declared.event.Event.{Event}
+use Rattle.pb_base.specs.declared.pick.Pick.{Pick}
+use Rattle.pb_base.specs.Lines.{NameTable, line_of}
+use Rattle.pb_base.specs.Steppers.{State, Makes, IsFinished}
+use Rattle.pb_code.specs.Code.{CodeProcess, code_step, code_over}
+use Rattle.pb_code.specs.Whole.{Code, ProcessLabels, bank_of, code_opening}
+use Rattle.pb_codegen.specs.Compiled.{IsCompiled}
+use Rattle.pb_names.specs.Meaning.{SourceCan}
+use Rattle.pb_engines.specs.Answers.{line, memory_line}
+use Rattle.pb_engines.specs.Refusals.{RefusesWith}
+use Rattle.pb_engines.specs.declared.status.Status.{Status}
+use Rattle.pb_engines.specs.declared.status.Status.TheVariants.{Done, Refused, Limit, Fault, Memory, Device}
+
+-- the lines of events, in their order
+abbrev pub event_lines : NameTable → List Event → List ℕ
+event_lines names events = flat_map (λ event. line (line_of names event)) events
+
+-- some picks of the code, each enabled in turn from the start, that make these events and lead to this state
+pub record Run (code : Code) (events : List Event) (end : State CodeProcess) : Type 0 where
+  pub picks : List Pick
+  pub makes : Makes (bank_of code) (code_step code.processes) (code_opening code) picks events end
+
+abbrev pub IsDone : State CodeProcess → Type 0
+IsDone end = IsFinished code_over end
+
+-- some process has faulted
+abbrev pub HasFault : State CodeProcess → Type 0
+HasFault end =
+    (p : ℕ) × (process : CodeProcess) × (slice_get end.processes p ≡ Some process) × (process.faulted ≡ true)
+
+-- what is said of a run of n picks with these events: at its end `done`, or `limit` where all steps were used
+-- up before; the lines so far, and then `memory`, where memory wants; the lines so far where a write failed
+pub data SaysOfRun (code : Code) (steps : ℕ) (events : List Event) : ℕ → List ℕ → Status → Type 0 where
+  done : (end : State CodeProcess) (run : Run code events end) → length run.picks ≤ steps → IsDone end
+      → ¬ HasFault end
+      → SaysOfRun code steps events (length run.picks) (event_lines code.names events ++ line (codes "done")) Done
+  faulted : (end : State CodeProcess) (run : Run code events end) → length run.picks ≤ steps → IsDone end
+      → HasFault end
+      → SaysOfRun code steps events (length run.picks) (event_lines code.names events ++ line (codes "done")) Fault
+  at_limit : (end : State CodeProcess) (run : Run code events end) → ¬ IsDone end → length run.picks ≡ steps
+      → SaysOfRun code steps events (length run.picks)
+      (event_lines code.names events ++ line (codes "limit " ++ decimal steps)) Limit
+  out_of_memory : (end : State CodeProcess) (run : Run code events end) → length run.picks ≤ steps
+      → SaysOfRun code steps events (length run.picks) (event_lines code.names events ++ memory_line) Memory
+  cut_off : (end : State CodeProcess) (run : Run code events end) → length run.picks ≤ steps
+      → SaysOfRun code steps events (length run.picks) (event_lines code.names events) Device
+
+-- what is said of a text: it is refused; or it is accepted, and some run of its code is told, of which the
+-- program can make the same events with as many picks
+pub data SaysOf (steps : ℕ) (bytes : List ℕ) : List ℕ → Status → Type 0 where
+  refused : (refusal : List ℕ) → RefusesWith bytes refusal → SaysOf steps bytes (line refusal) Refused
+  accepted : (code : Code) (labels : List ProcessLabels) (compiled : IsCompiled bytes code labels)
+      (events : List Event) (n : ℕ) (text : List ℕ) (status : Status)
+      → SaysOfRun code steps events n text status → SourceCan compiled.program events n
+      → SaysOf steps bytes text status
+
+-- what is said of some run of the code
+abbrev pub SaysOfCode : Code → ℕ → List ℕ → Status → Type 0
+SaysOfCode code steps text status =
+    (events : List Event) × (n : ℕ) × SaysOfRun code steps events n text status

@@ -1,0 +1,42 @@
+-- Which pick comes next: the enabled one of the least process, and of its arms of the least.
+use Rattle.std.specs.Prelude.{◌≡◌, ◌<◌, ℕ, Some, None}
+use Rattle.pb_base.specs.declared.pick.Pick.{Pick}
+use Rattle.pb_base.specs.declared.step.Step.{Step}
+use Rattle.pb_base.specs.declared.step.Step.TheVariants.{Silent, Did, NotEnabled}
+use Rattle.pb_base.specs.Steppers.{State}
+use Rattle.pb_code.specs.Code.{CodeProcess}
+use Rattle.pb_code.specs.Reached.{CodeMoves, CodeStays}
+use Rattle.pb_code.specs.Whole.{Code}
+use Rattle.pb_engines.specs.Runs.{IsDone}
+
+-- no pick of an arm of process p below n is enabled
+abbrev pub NoArmBelow : Code → State CodeProcess → (p n : ℕ) → Type 0
+NoArmBelow code s p n = (pick : Pick) → pick.process ≡ p → pick.arm < n → CodeStays code s pick
+
+-- no pick of a process below n is enabled
+abbrev pub NoProcessBelow : Code → State CodeProcess → ℕ → Type 0
+NoProcessBelow code s n = (pick : Pick) → pick.process < n → CodeStays code s pick
+
+-- no pick before this one is enabled
+pub record IsFirst (code : Code) (s : State CodeProcess) (pick : Pick) : Type 0 where
+  pub processes : NoProcessBelow code s pick.process
+  pub arms : NoArmBelow code s pick.process pick.arm
+
+-- the first pick of process p that is enabled was made; or none of it is
+abbrev pub StepsFirstOf : Code → State CodeProcess → ℕ → Step → State CodeProcess → Type 0
+StepsFirstOf code before p Silent after =
+    (pick : Pick) × (pick.process ≡ p) × NoArmBelow code before p pick.arm
+    × CodeMoves code before pick None after
+StepsFirstOf code before p (Did event) after =
+    (pick : Pick) × (pick.process ≡ p) × NoArmBelow code before p pick.arm
+    × CodeMoves code before pick (Some event) after
+StepsFirstOf code before p NotEnabled after =
+    ((pick : Pick) → pick.process ≡ p → CodeStays code before pick) × (after ≡ before)
+
+-- the first pick that is enabled was made; or all is done
+abbrev pub StepsFirst : Code → State CodeProcess → Step → State CodeProcess → Type 0
+StepsFirst code before Silent after =
+    (pick : Pick) × IsFirst code before pick × CodeMoves code before pick None after
+StepsFirst code before (Did event) after =
+    (pick : Pick) × IsFirst code before pick × CodeMoves code before pick (Some event) after
+StepsFirst code before NotEnabled after = IsDone before × (after ≡ before)

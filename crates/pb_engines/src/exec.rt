@@ -1,0 +1,51 @@
+//! The command `exec`, over any input and output.
+ghost use Rattle.std.specs.Prelude.{◌≡◌, ◌≤◌, ◌⊎◌, IfSome, length};
+ghost use Rattle.pb_engines.specs.Answers.{Tells};
+ghost use Rattle.pb_engines.specs.Executions.{SaysOfExecution};
+ghost use Rattle.pb_engines.specs.Inputs.{SaysOfInput};
+ghost use Rattle.pb_engines.specs.Faults.{TellsFaults, TellsWriteFaults};
+
+use crate::input::read_input;
+use crate::load::{load, load_refusal};
+use crate::options::RunOptions;
+use crate::reply::tell;
+use crate::status::Status;
+use crate::steps::tell_run;
+use pb_base::device::{Input, Output};
+use std::alloc::Global;
+
+// Runs the code of an object, or writes why there is none.
+fn run_object<O: Output>(alloc: Global, steps: u64, bytes: &[u8], output: &mut O) -> Status
+    requires { length bytes.now ≤ 4194304 }
+    ensures text { Tells (SaysOfInput (SaysOfExecution steps) bytes.now) (O.written output.old) (O.written output.new) result }
+    ensures faults { TellsWriteFaults (O.failures output.old) (O.failures output.new) result }
+{
+    match load(alloc, bytes) {
+        Ok((verified, _)) => tell_run(alloc, &verified, steps, output),
+        Err(fault) => tell(alloc, load_refusal(alloc, fault), output),
+    }
+}
+
+/// Runs the object that the input holds, in either format: writes the line of each event, and at the end `done`, or
+/// `limit` with the number of steps where they were used up before. Bytes that are no object, or whose code is not
+/// safe, are answered by their refusal line.
+///
+/// After a read that failed nothing is written; after a write that failed, a first part of what was being said.
+pub fn exec_engine<I: Input, O: Output>(
+    alloc: Global,
+    options: RunOptions,
+    input: &mut I,
+    output: &mut O,
+) -> Status
+    ensures text { IfSome (I.rest input.old) (λ bytes.
+        Tells (SaysOfInput (SaysOfExecution options.steps) bytes) (O.written output.old) (O.written output.new) result) }
+    ensures faults { TellsFaults
+        (record { reads = I.failures input.old; writes = O.failures output.old; written = O.written output.old })
+        (record { reads = I.failures input.new; writes = O.failures output.new; written = O.written output.new })
+        result }
+{
+    match read_input(alloc, input, output) {
+        Ok(bytes) => run_object(alloc, options.steps, bytes.as_slice(), output),
+        Err(status) => status,
+    }
+}

@@ -1,0 +1,30 @@
+//! The engines: what each command does over any input and output.
+#![tactic(auto)]
+
+mod accept;
+pub mod check;
+pub mod claims;
+pub mod emit;
+pub mod exec;
+mod input;
+mod load;
+pub mod migrate;
+pub mod options;
+pub mod page;
+mod parts;
+mod refusal;
+mod reply;
+pub mod run;
+mod schedule;
+pub mod status;
+mod steps;
+
+pub use check::check_engine;
+pub use claims::claims_engine;
+pub use emit::emit_engine;
+pub use exec::exec_engine;
+pub use migrate::migrate_engine;
+pub use options::{CheckOptions, EmitOptions, RunOptions};
+pub use page::Page;
+pub use run::run_engine;
+pub use status::Status;

@@ -1,0 +1,57 @@
+//! The command `migrate`, over any input and output.
+ghost use Rattle.std.specs.Prelude.{◌≡◌, ◌≤◌, ◌⊎◌, IfOk, IfSome, length};
+ghost use Rattle.pb_engines.specs.Answers.{Tells};
+ghost use Rattle.pb_engines.specs.Inputs.{SaysOfInput};
+ghost use Rattle.pb_engines.specs.Migrations.{SaysOfMigration};
+ghost use Rattle.pb_engines.specs.Faults.{TellsFaults, TellsWriteFaults};
+
+use crate::input::read_input;
+use crate::load::{load, load_refusal};
+use crate::reply::{Reply, tell};
+use crate::status::Status;
+use pb_base::NoMemory;
+use pb_base::device::{Input, Output};
+use pb_object::write_object2;
+use std::alloc::Global;
+
+// The second format of the object that the bytes spell, or the line of their refusal.
+fn migration(alloc: Global, bytes: &[u8]) -> Result<Reply, NoMemory>
+    ensures { IfOk result (λ reply. SaysOfMigration bytes.now reply.text.items reply.status) }
+{
+    let (verified, labels) = match load(alloc, bytes) {
+        Ok(loaded) => loaded,
+        Err(fault) => return load_refusal(alloc, fault),
+    };
+    let text = write_object2(alloc, verified.code(), &labels)?;
+    Ok(Reply {
+        text,
+        status: Status::Done,
+    })
+}
+
+// Writes the reply to the bytes of an object.
+fn tell_migration<O: Output>(alloc: Global, bytes: &[u8], output: &mut O) -> Status
+    requires { length bytes.now ≤ 4194304 }
+    ensures text { Tells (SaysOfInput SaysOfMigration bytes.now) (O.written output.old) (O.written output.new) result }
+    ensures faults { TellsWriteFaults (O.failures output.old) (O.failures output.new) result }
+{
+    tell(alloc, migration(alloc, bytes), output)
+}
+
+/// Writes the object on the input once more, in the second format, or the line of its refusal: by its text, or by the
+/// first fault of its code. From the first format integers get the names `v0`, `v1` and so on, and no place a line.
+///
+/// After a read that failed nothing is written; after a write that failed, a first part of what was being said.
+pub fn migrate_engine<I: Input, O: Output>(alloc: Global, input: &mut I, output: &mut O) -> Status
+    ensures text { IfSome (I.rest input.old) (λ bytes.
+        Tells (SaysOfInput SaysOfMigration bytes) (O.written output.old) (O.written output.new) result) }
+    ensures faults { TellsFaults
+        (record { reads = I.failures input.old; writes = O.failures output.old; written = O.written output.old })
+        (record { reads = I.failures input.new; writes = O.failures output.new; written = O.written output.new })
+        result }
+{
+    match read_input(alloc, input, output) {
+        Ok(bytes) => tell_migration(alloc, bytes.as_slice(), output),
+        Err(status) => status,
+    }
+}

@@ -1,0 +1,28 @@
+//! What the engines are told beside their input.
+ghost use Rattle.std.specs.Prelude.{◌≡◌, ◌≤◌, ℕ, Some};
+
+use pb_object::Format;
+
+/// The options of `check_engine`.
+#[derive(Clone, Copy, Debug, PartialEq, Eq)]
+pub struct CheckOptions {
+    /// The size of the heap for the trees of each text, in bytes, if they are to lie in one.
+    pub heap: Option<u64>,
+    pub ghost heap_suffices: { (size : ℕ) → heap ≡ Some size → 1024 ≤ size },
+    pub ghost heap_fits: { (size : ℕ) → heap ≡ Some size → size ≤ 16777216 },
+}
+
+/// The options of `emit_engine`.
+#[derive(Clone, Copy, Debug, PartialEq, Eq)]
+pub struct EmitOptions {
+    /// The format in which the object is written.
+    pub object: Format,
+}
+
+/// The options of `run_engine` and of `exec_engine`.
+#[derive(Clone, Copy, Debug, PartialEq, Eq)]
+pub struct RunOptions {
+    /// The number of picks after which the run stops, at most 10,000,000.
+    pub steps: u64,
+    pub ghost steps_fit: { steps ≤ 10000000 },
+}

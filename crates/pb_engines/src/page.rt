@@ -1,0 +1,108 @@
+//! Text that was said, on its way to an output.
+ghost use Rattle.std.specs.Prelude.{◌≡◌, ◌≢◌, ◌++◌, ℕ, List, [], OnOk, OnErr, MatchBool};
+ghost use Rattle.pb_base.specs.Device.{appended, one_more_failure, AddsPrefix};
+ghost use Rattle.pb_engines.specs.Answers.{line, Leaves, Says};
+ghost use Rattle.pb_engines.specs.Faults.{TellsWriteFaults};
+
+use crate::status::Status;
+use pb_base::device::{DeviceFault, Output, write_all};
+use std::alloc::Global;
+use std::marker::Model;
+
+// From this length on a page is written.
+const FULL: usize = 4_096;
+
+/// Text that was said and waits to be written, so that an output is not called for each line. After
+/// a fault of the output nothing more should be said.
+#[derive(Drop)]
+pub struct Page {
+    text: Vec<u8>,
+}
+
+impl Model for Page {
+    ghost use Rattle.std.specs.Prelude.{ℕ, List};
+
+    ghost Value = { List ℕ };
+
+    ghost view = { λ s. s.text.items };
+}
+
+impl Page {
+    /// A page with no text. It takes no memory yet.
+    pub fn new(alloc: Global) -> Page
+        ensures { result ≡ [] }
+    {
+        Page {
+            text: Vec::new(alloc),
+        }
+    }
+
+    // Puts a text on the page, where the page is not full and can grow.
+    fn keep(&mut self, text: &[u8]) -> bool
+        ensures { MatchBool result (self.new ≡ self.old ++ text.now) (self.new ≡ self.old) }
+    {
+        self.text.len() < FULL && self.text.extend_from_slice(text).is_ok()
+    }
+
+    /// Says a text: it is written, or waits on the page. Where the page cannot grow the text is
+    /// written at once, so want of memory is no fault here.
+    pub fn say<O: Output>(&mut self, output: &mut O, text: &[u8]) -> Result<(), DeviceFault>
+        ensures ok { OnOk result (Leaves (O.written output.old) (O.written output.new) (self.old ++ text.now) self.new) }
+        ensures counted { OnOk result (O.failures output.new ≡ O.failures output.old) }
+        ensures prefix { OnErr result (AddsPrefix (O.written output.old) (O.written output.new) (self.old ++ text.now)) }
+        ensures fault { OnErr result (O.failures output.new ≡ one_more_failure (O.failures output.old)) }
+    {
+        if self.keep(text) {
+            return Ok(());
+        }
+        self.flush(output)?;
+        write_all(output, text)
+    }
+
+    /// Says a line, which ends in a line feed.
+    pub fn say_line<O: Output>(&mut self, output: &mut O, text: &[u8]) -> Result<(), DeviceFault>
+        ensures ok { OnOk result (Leaves (O.written output.old) (O.written output.new) (self.old ++ line text.now) self.new) }
+        ensures counted { OnOk result (O.failures output.new ≡ O.failures output.old) }
+        ensures prefix { OnErr result (AddsPrefix (O.written output.old) (O.written output.new) (self.old ++ line text.now)) }
+        ensures fault { OnErr result (O.failures output.new ≡ one_more_failure (O.failures output.old)) }
+    {
+        self.say(output, text)?;
+        self.say(output, b"\n")
+    }
+
+    /// Writes what waits. After a fault some first part of it is written.
+    pub fn flush<O: Output>(&mut self, output: &mut O) -> Result<(), DeviceFault>
+        ensures ok { OnOk result ((O.written output.new ≡ appended (O.written output.old) self.old) × (self.new ≡ [])) }
+        ensures counted { OnOk result (O.failures output.new ≡ O.failures output.old) }
+        ensures prefix { OnErr result (AddsPrefix (O.written output.old) (O.written output.new) self.old) }
+        ensures fault { OnErr result (O.failures output.new ≡ one_more_failure (O.failures output.old)) }
+    {
+        write_all(output, self.text.as_slice())?;
+        self.text.clear();
+        Ok(())
+    }
+
+    /// Writes what waits, and answers the status where no write failed.
+    pub fn finish<O: Output>(self, output: &mut O, status: Status) -> Status
+        requires { status ≢ Status.Device }
+        ensures text { Says (O.written output.old) (O.written output.new) self status result }
+        ensures faults { TellsWriteFaults (O.failures output.old) (O.failures output.new) result }
+    {
+        match write_all(output, self.text.as_slice()) {
+            Ok(()) => status,
+            Err(_) => Status::Device,
+        }
+    }
+
+    /// Writes what waits and a last line, and answers the status where no write failed.
+    pub fn finish_with<O: Output>(mut self, output: &mut O, last: &[u8], status: Status) -> Status
+        requires { status ≢ Status.Device }
+        ensures text { Says (O.written output.old) (O.written output.new) (self ++ line last.now) status result }
+        ensures faults { TellsWriteFaults (O.failures output.old) (O.failures output.new) result }
+    {
+        match self.say_line(output, last) {
+            Ok(()) => self.finish(output, status),
+            Err(_) => Status::Device,
+        }
+    }
+}

@@ -1,0 +1,50 @@
+//! The command `run`, over any input and output.
+ghost use Rattle.std.specs.Prelude.{◌≡◌, ◌≤◌, ◌⊎◌, IfSome, length};
+ghost use Rattle.pb_engines.specs.Answers.{Tells};
+ghost use Rattle.pb_engines.specs.Inputs.{SaysOfInput};
+ghost use Rattle.pb_engines.specs.Runs.{SaysOf};
+ghost use Rattle.pb_engines.specs.Faults.{TellsFaults, TellsWriteFaults};
+
+use crate::accept::{compile_text, refuse};
+use crate::input::read_input;
+use crate::options::RunOptions;
+use crate::status::Status;
+use crate::steps::tell_run;
+use pb_base::device::{Input, Output};
+use std::alloc::Global;
+
+/// Runs the text that the input holds: writes the line of each event, and at the end `done`, or `limit` with the
+/// number of steps where they were used up before. A text that is refused is answered by its refusal line.
+///
+/// The pick is always the enabled one of the least process, and of its arms of the least. After a read that failed
+/// nothing is written; after a write that failed, a first part of what was being said.
+pub fn run_engine<I: Input, O: Output>(
+    alloc: Global,
+    options: RunOptions,
+    input: &mut I,
+    output: &mut O,
+) -> Status
+    ensures text { IfSome (I.rest input.old) (λ bytes.
+        Tells (SaysOfInput (SaysOf options.steps) bytes) (O.written output.old) (O.written output.new) result) }
+    ensures faults { TellsFaults
+        (record { reads = I.failures input.old; writes = O.failures output.old; written = O.written output.old })
+        (record { reads = I.failures input.new; writes = O.failures output.new; written = O.written output.new })
+        result }
+{
+    match read_input(alloc, input, output) {
+        Ok(bytes) => run_text(alloc, options.steps, bytes.as_slice(), output),
+        Err(status) => status,
+    }
+}
+
+// Runs a text.
+fn run_text<O: Output>(alloc: Global, steps: u64, text: &[u8], output: &mut O) -> Status
+    requires { length text.now ≤ 4194304 }
+    ensures text { Tells (SaysOfInput (SaysOf steps) text.now) (O.written output.old) (O.written output.new) result }
+    ensures faults { TellsWriteFaults (O.failures output.old) (O.failures output.new) result }
+{
+    match compile_text(alloc, text) {
+        Ok(compiled) => tell_run(alloc, compiled.verified(), steps, output),
+        Err(refusal) => refuse(alloc, refusal, output),
+    }
+}

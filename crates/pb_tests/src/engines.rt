@@ -1,0 +1,11 @@
+//! The engines, each called over inputs and outputs in memory.
+
+mod check;
+mod claims;
+mod devices;
+mod emit;
+mod exec;
+mod migrate;
+mod page;
+mod run;
+mod status;

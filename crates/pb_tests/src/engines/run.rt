@@ -1,0 +1,221 @@
+//! Texts that are run, and what is written of them.
+
+ghost use Rattle.std.specs.Prelude.{◌≤◌};
+
+use crate::texts::{EXAMPLES, FAULT, HELLO, PROGRAMS};
+use pb_base::device::{MemoryInput, MemoryOutput};
+use pb_engines::{RunOptions, Status, run_engine};
+use std::process::Abort;
+use std::test::Fail;
+
+/// What is written of each of the programs of `examples/`, in their order.
+const EVENTS: [(Status, &[u8]); 9] = [
+    (
+        Status::Done,
+        b"clock.0 print 27
+clock.0 print 26
+clock.0 print 5
+clock end
+done
+",
+    ),
+    (
+        Status::Done,
+        b"a.0 grant 4 florin
+a.0 grant 4 florin
+a.0 return 4 florin
+a.0 return 4 florin
+a end
+b.0 grant 2 florin
+b.0 grant 1 florin
+b.0 grant 3 florin
+b.0 return 3 florin
+b.0 return 1 florin
+b.0 return 2 florin
+b end
+c.0 grant 1 florin
+c.0 grant 3 florin
+c.0 return 3 florin
+c.0 return 1 florin
+c end
+done
+",
+    ),
+    (
+        Status::Done,
+        b"a.0 grant 1 tape
+a.0 grant 1 disk
+a.0 print 1
+a.0 return 1 disk
+a.0 return 1 tape
+a end
+b.0 grant 1 disk
+b.0 grant 1 tape
+b.0 print 2
+b.0 return 1 tape
+b.0 return 1 disk
+b end
+done
+",
+    ),
+    (
+        Status::Fault,
+        b"edges.0 print -9223372036854775808
+edges.0 print 0
+edges.0 print -3
+edges.0 print -1
+edges.0 print 1
+edges.0 fault overflow
+done
+",
+    ),
+    (
+        Status::Done,
+        b"p.0 print 1
+p end
+done
+",
+    ),
+    (
+        Status::Done,
+        b"p.0 print 2
+p end
+done
+",
+    ),
+    (
+        Status::Done,
+        b"hypatia.0 grant 1 north
+hypatia.0 grant 1 east
+hypatia.0 print 1
+hypatia.0 return 1 east
+hypatia.0 return 1 north
+hypatia.0 grant 1 north
+hypatia.0 grant 1 east
+hypatia.0 print 2
+hypatia.0 return 1 east
+hypatia.0 return 1 north
+hypatia end
+plato.0 grant 1 east
+plato.0 grant 1 west
+plato.0 print 1
+plato.0 return 1 west
+plato.0 return 1 east
+plato.0 grant 1 east
+plato.0 grant 1 west
+plato.0 print 2
+plato.0 return 1 west
+plato.0 return 1 east
+plato end
+spinoza.0 grant 1 west
+spinoza.0 grant 1 north
+spinoza.0 print 1
+spinoza.0 return 1 north
+spinoza.0 return 1 west
+spinoza.0 grant 1 west
+spinoza.0 grant 1 north
+spinoza.0 print 2
+spinoza.0 return 1 north
+spinoza.0 return 1 west
+spinoza end
+done
+",
+    ),
+    (
+        Status::Done,
+        b"p.1 print 0
+p.2 print 10
+p.1 print 1
+p.2 print 11
+p.1 print 2
+p.2 print 12
+p end
+done
+",
+    ),
+    (
+        Status::Done,
+        b"a.0 grant 1 tape 1 disk
+a.0 print 1
+a.0 return 1 tape 1 disk
+a end
+b.0 grant 1 disk 1 tape
+b.0 print 2
+b.0 return 1 disk 1 tape
+b end
+done
+",
+    ),
+];
+
+/// Runs a text for at most so many picks, and compares what is written.
+fn check(
+    rt: &(impl Abort + AllocGlobal),
+    steps: u64,
+    text: &[u8],
+    status: Status,
+    said: &[u8],
+) -> Result<(), Fail>
+    requires { steps ≤ 10000000 }
+{
+    let alloc = rt.alloc();
+    let mut input = MemoryInput::new(text);
+    let mut output = MemoryOutput::new(alloc, 1_024)?;
+    let options = RunOptions { steps };
+    let answered = run_engine(alloc, options, &mut input, &mut output);
+    assert_eq!(rt; answered, status);
+    assert_eq!(rt; output.as_slice(), said);
+    Ok(())
+}
+
+#[test]
+fn runs_the_examples(rt: HostRuntime) -> Result<(), Fail> {
+    for (text, (status, said)) in EXAMPLES.iter().zip(EVENTS.iter()) {
+        check(&rt, 1_000_000, text, *status, said)?;
+    }
+    Ok(())
+}
+
+#[test]
+fn stops_after_its_steps(rt: HostRuntime) -> Result<(), Fail> {
+    let done = b"p.0 print 1\np end\ndone\n";
+    check(&rt, 3, HELLO, Status::Done, done)?;
+    let printed = b"p.0 print 1\nlimit 2\n";
+    check(&rt, 2, HELLO, Status::Limit, printed)?;
+    check(&rt, 0, HELLO, Status::Limit, b"limit 0\n")
+}
+
+#[test]
+fn tells_branches_and_faults(rt: HostRuntime) -> Result<(), Fail> {
+    let branches = b"p.0 print 9\np.0 print 8\np end\ndone\n";
+    check(&rt, 1_000, PROGRAMS[19], Status::Done, branches)?;
+    let divided = b"p.0 grant 1 t\np.0 fault divide\ndone\n";
+    check(&rt, 1_000, PROGRAMS[5], Status::Fault, divided)?;
+    let in_an_arm = b"p.1 grant 1 t\np.1 print 5\np.1 return 1 t\np.2 fault divide\ndone\n";
+    check(&rt, 1_000, FAULT, Status::Fault, in_an_arm)
+}
+
+#[test]
+fn refuses_texts(rt: HostRuntime) -> Result<(), Fail> {
+    let refused: [(&[u8], &[u8]); 5] = [
+        (b"", b"refused P1 at 0\n"),
+        (b"// only a comment", b"refused P1 at 0\n"),
+        (b"process p begin print 1 % 2 end", b"refused L2 at 24\n"),
+        (b"process p begin x := 1 end", b"refused N3 at 16\n"),
+        (
+            b"resource t = 3; process p begin hold 4 of t do skip od end",
+            b"refused C1 p t claim 4 capital 3\n",
+        ),
+    ];
+    for (text, line) in refused {
+        check(&rt, 17, text, Status::Refused, line)?;
+    }
+    Ok(())
+}
+
+#[test]
+fn refuses_a_long_input(rt: HostRuntime) -> Result<(), Fail> {
+    let alloc = rt.alloc();
+    let text = vec![in alloc; b' '; 4_194_305]?;
+    check(&rt, 17, text.as_slice(), Status::Refused, b"refused input\n")
+}
