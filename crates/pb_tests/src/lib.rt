@@ -8,6 +8,8 @@ mod code;
 #[cfg(test)]
 mod codegen;
 #[cfg(test)]
+mod lexer;
+#[cfg(test)]
 mod machine;
 #[cfg(test)]
 mod names;
