@@ -49,7 +49,7 @@ impl Claims {
         Ok(Claims { rows: copies })
     }
 
-    /// The same claims again. The error comes only where memory is refused.
+    /// The same claims again. The error comes only if `alloc` is out of memory.
     pub fn copy(&self, alloc: Global) -> Result<Claims, NoMemory>
         ensures { IfOk result (λ c. c ≡ self.now) }
     {

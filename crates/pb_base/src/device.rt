@@ -81,7 +81,7 @@ pub enum ReadFault {
     /// More bytes are there than the limit.
     #[error("the input is too long")]
     TooLong,
-    /// The bytes find no room.
+    /// Out of memory for the bytes.
     #[error("out of memory")]
     Memory,
 }

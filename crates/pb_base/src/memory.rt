@@ -1,8 +1,8 @@
-//! Want of memory.
+//! Out of memory.
 
 use std::alloc::{AllocError, AllocFailed};
 
-/// A growth was refused. It is answered only where an allocator refused one.
+/// An allocator is out of memory: it refused a request.
 #[derive(Clone, Copy, Debug, PartialEq, Eq, thiserror::Error)]
 #[error("out of memory")]
 pub struct NoMemory;

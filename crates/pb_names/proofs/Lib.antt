@@ -1,5 +1,3 @@
-pub mod NoFault
-pub mod Once
 pub mod CausesMore
 pub mod Completeness
 mod Examples
@@ -8,7 +6,10 @@ pub mod Forks
 pub mod Holds
 pub mod Indexing
 pub mod Naming
+pub mod NoCause
 pub mod Numbered
+pub mod Once
+pub mod Parts
 pub mod Ready
 pub mod Told
 pub mod Views

@@ -30,7 +30,7 @@ distinct_list xs once i j d less below same =
     (slice_get-get_or xs i d (omega arith) ∙ ap Some same)
 
 -- what an element of a list was made from
-made_from : {S T : Type 0} (f : S → T) (xs : List S) (i : ℕ) (y : T) → slice_get (map f xs) i ≡ Some y
+pub made_from : {S T : Type 0} (f : S → T) (xs : List S) (i : ℕ) (y : T) → slice_get (map f xs) i ≡ Some y
     → (x : S) × (slice_get xs i ≡ Some x) × (f x ≡ y)
 made_from f [] zero y here = absurd (cc)
 made_from f [] (suc i) y here = absurd (cc)
@@ -120,7 +120,7 @@ fitting_at ps i p here all =
 
 -- ---- the program
 
-resource_names_kept : (written : List ResourceSyntax) (resources : List Resource)
+pub resource_names_kept : (written : List ResourceSyntax) (resources : List Resource)
     → AllZip ResolvesResource written resources
     → map (λ r. r.name) resources ≡ texts (map (λ r. r.name) written)
 resource_names_kept [] [] zip = refl
@@ -129,7 +129,7 @@ resource_names_kept (w ∷ ws) [] zip = absurd zip
 resource_names_kept (w ∷ ws) (r ∷ rs) zip =
     let rest = resource_names_kept ws rs zip.1 in let first = zip.0.name in cc
 
-process_names_kept : (names : List Name) (written : List ProcessSyntax) (processes : List Process)
+pub process_names_kept : (names : List Name) (written : List ProcessSyntax) (processes : List Process)
     → AllZip (ResolvesProcess names) written processes
     → map (λ p. p.name) processes ≡ texts (map (λ p. p.name) written)
 process_names_kept names [] [] zip = refl
@@ -138,7 +138,7 @@ process_names_kept names (w ∷ ws) [] zip = absurd zip
 process_names_kept names (w ∷ ws) (p ∷ ps) zip =
     let rest = process_names_kept names ws ps zip.1 in let first = zip.0.name in cc
 
-same_length : {A B : Type 0} (R : A → B → Type 0) (xs : List A) (ys : List B) → AllZip R xs ys → length ys ≡ length xs
+pub same_length : {A B : Type 0} (R : A → B → Type 0) (xs : List A) (ys : List B) → AllZip R xs ys → length ys ≡ length xs
 same_length R [] [] zip = refl
 same_length R [] (y ∷ ys) zip = absurd zip
 same_length R (x ∷ xs) [] zip = absurd zip

@@ -14,14 +14,11 @@ use Rattle.pb_names.specs.declared.fault.Kind.{Kind}
 use Rattle.pb_names.specs.declared.fault.Kind.TheVariants.{Processes, Resources, Integers, Fork, Arms as ArmsKind}
 use Rattle.pb_names.specs.declared.fault.NameFault.{NameFault}
 use Rattle.pb_names.specs.declared.fault.NameFault.TheVariants.{TooMany, Twice, Unknown, Amount, Repeated, NoMemory}
-use Rattle.pb_names.proofs.NoFault.{program_free}
+use Rattle.pb_names.proofs.NoCause.{program_free}
+use Rattle.pb_names.proofs.Numbered.{count_resolved, inner_of}
+use Rattle.pb_names.proofs.Whole.{same_length}
 
-zip_length : {W P : Type 0} (R : W → P → Type 0) (ws : List W) (ps : List P) → AllZip R ws ps → length ws ≡ length ps
-zip_length R [] [] h = refl
-zip_length R [] (p ∷ ps) h = absurd h
-zip_length R (w ∷ ws) [] h = absurd h
-zip_length R (w ∷ ws) (p ∷ ps) h = ap suc (zip_length R ws ps h.1)
-
+-- what each process has at most, if each numbered one has
 zip_most : {P : Type 0} (R : tree.ProcessSyntax → P → Type 0) (f : tree.ProcessSyntax → ℕ) (n : ℕ)
     → ((w : tree.ProcessSyntax) (p : P) → R w p → f w ≤ n)
     → (ws : List tree.ProcessSyntax) (ps : List P) → AllZip R ws ps → most f ws ≤ n
@@ -34,10 +31,7 @@ zip_most R f n each (w ∷ ws) (p ∷ ps) h =
     omega arith
 
 module _ (integers resources : List Name) where
-  width_is : (arms : tree.ArmsSyntax) (a : Arms) → ResolvesArms integers resources arms a → width arms ≡ count a
-  width_is _ _ no_arm = refl
-  width_is _ _ (arm_then arm a1 arms ar h k) = ap suc (width_is arms ar k)
-
+  -- no parbegin is wider than 16
   mutual
     stmt_narrow : (s : tree.StmtSyntax) (a : Stmt) → ResolvesStmt integers resources s a → widest_in_stmt s ≤ 16
     stmt_narrow _ _ (assign line x i e a is k) = omega arith
@@ -47,7 +41,8 @@ module _ (integers resources : List Name) where
     stmt_narrow _ _ (while_do line e e1 a a1 k ka) = narrow a a1 ka
     stmt_narrow _ _ (hold line ds b a a1 k ka) = narrow a a1 ka
     stmt_narrow _ _ (parbegin line first arms a few k) =
-        let x = width_is arms a k in let y = arms_narrow arms a k in omega (arith, few.1, x, y)
+        let x = count_resolved integers resources arms a k in
+        let y = arms_narrow arms a k in omega (arith, few.1, x, y)
 
     narrow : (ss : tree.StmtsSyntax) (a : Block) → ResolvesStmts integers resources ss a → widest_in ss ≤ 16
     narrow _ _ no_stmt = omega arith
@@ -57,44 +52,13 @@ module _ (integers resources : List Name) where
     arms_narrow _ _ no_arm = omega arith
     arms_narrow _ _ (arm_then arm a1 arms ar k ka) = let x = narrow arm a1 k in let y = arms_narrow arms ar ka in omega arith
 
-  list_count : (a : Arms) → length (arms_list a) ≡ count a
-  list_count NoArm = refl
-  list_count (AndArm arm arms) = ap suc (list_count arms)
-
-  mutual
-    stmt_inner : (s : tree.StmtSyntax) (a : Stmt) → ResolvesStmt integers resources s a
-        → inner_arms_of_stmt s ≡ length (arms_in_stmt a)
-    stmt_inner _ _ (assign line x i e a is k) = refl
-    stmt_inner _ _ (print line e a k) = refl
-    stmt_inner _ _ (if_else line e e1 a b a1 b1 k ka kb) =
-        let x = inner a a1 ka in let y = inner b b1 kb in
-        let z = length-append (arms_in a1) (arms_in b1) in omega arith
-    stmt_inner _ _ (while_do line e e1 a a1 k ka) = inner a a1 ka
-    stmt_inner _ _ (hold line ds b a a1 k ka) = inner a a1 ka
-    stmt_inner _ _ (parbegin line first arms a few k) =
-        let x = width_is arms a k in let y = arms_inner arms a k in
-        let z = length-append (arms_list a) (arms_in_arms a) in let w = list_count a in omega arith
-
-    inner : (ss : tree.StmtsSyntax) (a : Block) → ResolvesStmts integers resources ss a → inner_arms ss ≡ length (arms_in a)
-    inner _ _ no_stmt = refl
-    inner _ _ (stmt_then s s1 ss a k ka) =
-        let x = stmt_inner s s1 k in let y = inner ss a ka in
-        let z = length-append (arms_in_stmt s1) (arms_in a) in omega arith
-
-    arms_inner : (arms : tree.ArmsSyntax) (a : Arms) → ResolvesArms integers resources arms a
-        → inner_arms_of_arms arms ≡ length (arms_in_arms a)
-    arms_inner _ _ no_arm = refl
-    arms_inner _ _ (arm_then arm a1 arms ar k ka) =
-        let x = inner arm a1 k in let y = arms_inner arms ar ka in
-        let z = length-append (arms_in a1) (arms_in_arms ar) in omega arith
-
 pub within_limits : (written : tree.ProgramSyntax) (program : Program) → Resolves written program → IsWithinLimits written
 within_limits written program h = record { within = each }
   where
     each : (kind : Kind) → how_many kind written ≤ limit kind
-    each Processes = let x = zip_length (ResolvesProcess (resource_names program)) written.processes program.processes h.processes in
+    each Processes = let x = same_length (ResolvesProcess (resource_names program)) written.processes program.processes h.processes in
         let y = h.few_processes in omega arith
-    each Resources = let x = zip_length ResolvesResource written.resources program.resources h.resources in
+    each Resources = let x = same_length ResolvesResource written.resources program.resources h.resources in
         let y = h.few_resources in omega arith
     each Integers = zip_most (ResolvesProcess (resource_names program)) (λ process. length process.integers) 64
         (λ w p r. let x = r.few_integers in let y = ap length r.integers in
@@ -104,7 +68,7 @@ within_limits written program h = record { within = each }
         (λ w p r. narrow p.integers (resource_names program) w.body p.body r.body)
         written.processes program.processes h.processes
     each ArmsKind = zip_most (ResolvesProcess (resource_names program)) (λ process. 1 + inner_arms process.body) 64
-        (λ w p r. let x = inner p.integers (resource_names program) w.body p.body r.body in
+        (λ w p r. let x = inner_of p.integers (resource_names program) w.body p.body r.body in
         let y = r.few_arms in omega arith)
         written.processes program.processes h.processes
 

@@ -45,7 +45,7 @@ pub enum NameFault {
     /// At this place a hold names a resource that it has named before.
     #[error("resource named again at {0}")]
     Repeated(usize),
-    /// The numbered program did not find memory. It is answered only where an allocator refused a growth.
+    /// The allocator is out of memory. It is answered only if it refused a growth.
     #[error("out of memory")]
     NoMemory,
 }

@@ -3,6 +3,7 @@
 ghost use Rattle.std.specs.Prelude.{◌≡◌};
 ghost use Rattle.pb_names.specs.Program.{Program};
 ghost use Rattle.pb_names.specs.Faults.{IsFault};
+ghost use Rattle.pb_names.specs.Ready.{IsComplete};
 ghost use Rattle.pb_names.specs.Resolves.{Resolves};
 ghost use Rattle.pb_tree.specs.Syntax.{ProgramSyntax};
 
@@ -14,9 +15,15 @@ pub fn one_numbering()
     ensures { (written : ProgramSyntax) (a b : Program) → Resolves written a → Resolves written b → a ≡ b }
 {}
 
-/// A tree that has a numbered program has no fault but want of memory.
+/// A tree that has a numbered program has no fault but that memory runs out.
 #[tactic(auto, using(crate::proofs::Within::no_fault))]
 pub fn no_fault()
     ensures { (written : ProgramSyntax) (program : Program) (e : NameFault)
         → Resolves written program → (e ≡ NameFault.NoMemory → ⊥) → IsFault written e → ⊥ }
+{}
+
+/// A tree that has a numbered program has a process, a pair in each hold and an arm in each parbegin.
+#[tactic(auto, using(crate::proofs::Parts::complete_program))]
+pub fn complete_tree()
+    ensures { (written : ProgramSyntax) (program : Program) → Resolves written program → IsComplete written }
 {}

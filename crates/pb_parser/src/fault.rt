@@ -21,7 +21,7 @@ pub enum ParseFault {
     /// The tree has more than 16,384 nodes.
     #[error("tree too large")]
     TooLarge,
-    /// The tree did not find memory.
+    /// The allocator is out of memory for the tree.
     #[error("out of memory")]
     NoMemory,
 }

@@ -182,7 +182,7 @@ pub fn parse<A: Allocator + Clone>(alloc: A, tokens: &[Token<'_>]) -> Result<Pro
     ensures high { IsTooHigh (spec_tokens.tokens tokens.now) → result ≡ Err ParseFault.TooDeep }
     ensures large { (¬ NestsTooDeep (spec_tokens.tokens tokens.now))
         → IsTooLarge (spec_tokens.tokens tokens.now) → result ≡ Err ParseFault.TooLarge }
-    // Memory can want only for a program within the limits.
+    // Memory can run out only for a program within the limits.
     ensures memory { result ≡ Err ParseFault.NoMemory → IsWithinLimits (spec_tokens.tokens tokens.now) }
 {
     if nests_too_deep(tokens) {

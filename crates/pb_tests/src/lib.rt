@@ -10,6 +10,8 @@ mod codegen;
 #[cfg(test)]
 mod engines;
 #[cfg(test)]
+mod lexer;
+#[cfg(test)]
 mod machine;
 #[cfg(test)]
 mod names;

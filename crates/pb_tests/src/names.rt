@@ -1,5 +1,7 @@
 //! Trees built by hand, and their numbered programs or faults.
 
+mod memories;
+
 use pb_base::{BinaryOp, NoMemory};
 use pb_names::{Expr, Kind, NameFault, Resolved, Stmt, is_complete, resolve};
 use pb_tree::{Demand, Name, Number, Process, Program, Resource};
@@ -245,6 +247,20 @@ fn numbers_the_arms_of_a_parbegin_before_those_inside(rt: HostRuntime) -> Result
     assert_eq!(rt; arms.len(), 2);
     assert_eq!(rt; first_arm(&arms[0])?, 3);
     assert_eq!(rt; first_arm(&arms[1])?, 5);
+    Ok(())
+}
+
+#[test]
+fn asks_for_an_arm_a_pair_and_a_process(rt: HostRuntime) -> Result<(), Fail> {
+    let alloc = rt.alloc();
+    assert!(rt; is_complete(&forks(alloc, &[1, 16])?));
+    assert!(rt; !is_complete(&forks(alloc, &[1, 0])?));
+    assert!(rt; !is_complete(&holding(alloc, Vec::new(alloc))?));
+    let nothing = Program {
+        resources: Vec::new(alloc),
+        processes: Vec::new(alloc),
+    };
+    assert!(rt; !is_complete(&nothing));
     Ok(())
 }
 

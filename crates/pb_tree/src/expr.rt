@@ -39,7 +39,7 @@ pub enum Expr<A: Allocator> {
 impl<A: Allocator> Name<A> {
     ghost use Rattle.pb_tree.specs.View.{name_view};
 
-    /// The same name in memory of `alloc`. The error comes only where that memory is refused.
+    /// The same name in memory of `alloc`. The error comes only if `alloc` is out of memory.
     pub fn copy_into<B: Allocator + Clone>(&self, alloc: &B) -> Result<Name<B>, NoMemory>
         ensures { IfOk result (λ name. name_view name ≡ name_view self.now) }
     {
@@ -61,7 +61,7 @@ impl<A: Allocator> Expr<A> {
     ghost use Rattle.pb_tree.specs.Measure.{saturated, expr_nodes, expr_height};
     ghost use Rattle.pb_tree.specs.View.{expr_view};
 
-    /// The same expression in memory of `alloc`. The error comes only where that memory is refused.
+    /// The same expression in memory of `alloc`. The error comes only if `alloc` is out of memory.
     pub fn copy_into<B: Allocator + Clone>(&self, alloc: &B) -> Result<Expr<B>, NoMemory>
         ensures { IfOk result (λ expr. expr_view expr ≡ expr_view self.now) }
     {

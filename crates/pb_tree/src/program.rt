@@ -40,7 +40,7 @@ pub struct Program<A: Allocator> {
 }
 
 impl<A: Allocator> Resource<A> {
-    /// The same resource in memory of `alloc`. The error comes only where that memory is refused.
+    /// The same resource in memory of `alloc`. The error comes only if `alloc` is out of memory.
     pub fn copy_into<B: Allocator + Clone>(&self, alloc: &B) -> Result<Resource<B>, NoMemory>
         ensures { IfOk result (λ copy. resource_view copy ≡ resource_view self.now) }
     {
@@ -59,7 +59,7 @@ impl<A: Allocator> Resource<A> {
 }
 
 impl<A: Allocator> Process<A> {
-    /// The same process in memory of `alloc`. The error comes only where that memory is refused.
+    /// The same process in memory of `alloc`. The error comes only if `alloc` is out of memory.
     pub fn copy_into<B: Allocator + Clone>(&self, alloc: &B) -> Result<Process<B>, NoMemory>
         ensures { IfOk result (λ copy. process_view copy ≡ process_view self.now) }
     {
@@ -84,7 +84,7 @@ impl<A: Allocator> Process<A> {
 }
 
 impl<A: Allocator> Program<A> {
-    /// The same program in memory of `alloc`. The error comes only where that memory is refused.
+    /// The same program in memory of `alloc`. The error comes only if `alloc` is out of memory.
     pub fn copy_into<B: Allocator + Clone>(&self, alloc: B) -> Result<Program<B>, NoMemory>
         ensures { IfOk result (λ copy. program_view copy ≡ program_view self.now) }
     {

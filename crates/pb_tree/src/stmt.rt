@@ -78,7 +78,7 @@ pub struct Demand<A: Allocator> {
 }
 
 impl<A: Allocator> Stmt<A> {
-    /// The same statement in memory of `alloc`. The error comes only where that memory is refused.
+    /// The same statement in memory of `alloc`. The error comes only if `alloc` is out of memory.
     #[cycle(copy)]
     #[tactic(auto, using(crate::proofs::Views::stmt_views))]
     pub fn copy_into<B: Allocator + Clone>(&self, alloc: &B) -> Result<Stmt<B>, NoMemory>
@@ -147,7 +147,7 @@ impl<A: Allocator> Stmt<A> {
         }
     }
 
-    /// The same list in memory of `alloc`. The error comes only where that memory is refused.
+    /// The same list in memory of `alloc`. The error comes only if `alloc` is out of memory.
     #[cycle(copy)]
     #[tactic(auto, using(crate::proofs::Views::stmt_views))]
     pub fn copy_list<B: Allocator + Clone>(

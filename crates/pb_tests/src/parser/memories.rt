@@ -83,7 +83,7 @@ fn makes_the_same_tree_in_each_memory(rt: HostRuntime) -> Result<(), Fail> {
     Ok(())
 }
 
-/// Whether the tokens are parsed in a heap of so many bytes; want of memory is the one other answer.
+/// Whether the tokens are parsed in a heap of so many bytes. Out of memory is the one other answer.
 fn fits(
     rt: &(impl Abort + AllocGlobal),
     size: usize,
@@ -105,7 +105,7 @@ fn fits(
 }
 
 #[test]
-fn wants_memory_and_nothing_else(rt: HostRuntime) -> Result<(), Fail> {
+fn runs_out_of_memory_and_fails_for_nothing_else(rt: HostRuntime) -> Result<(), Fail> {
     let alloc = rt.alloc();
     let tokens = lex(alloc, places::TEXT)?;
     let expected = parse(alloc, tokens.as_slice())?;

@@ -16,36 +16,28 @@ use Rattle.pb_names.specs.declared.causes.Cause.{Cause}
 use Rattle.pb_names.specs.declared.causes.Wrong.{Wrong}
 use Rattle.pb_names.specs.declared.causes.Wrong.TheVariants.{Twice}
 use Rattle.pb_names.proofs.First.{some_same}
+use Rattle.pb_names.proofs.Naming.{take_read, text_read, name_read, taken_texts, taken_names}
 use Rattle.pb_names.proofs.Once.{name_once}
+use Rattle.pb_names.proofs.Whole.{made_from, resource_names_kept, process_names_kept}
 
-zip_at : {W P : Type 0} (R : W → P → Type 0) (ws : List W) (ps : List P) (i : ℕ) (w : W) → AllZip R ws ps
+-- what an element of the first list was numbered as
+pub numbered_at : {W P : Type 0} (R : W → P → Type 0) (ws : List W) (ps : List P) (i : ℕ) (w : W) → AllZip R ws ps
     → slice_get ws i ≡ Some w → (p : P) × (slice_get ps i ≡ Some p) × R w p
-zip_at R [] ps i w h is = absurd (cc)
-zip_at R (x ∷ ws) [] i w h is = absurd h
-zip_at R (x ∷ ws) (p ∷ ps) zero w h is = (p, refl, subst (λ y. R y p) (some_same is) h.0)
-zip_at R (x ∷ ws) (p ∷ ps) (suc i) w h is = zip_at R ws ps i w h.1 is
+numbered_at R [] ps i w h is = absurd (cc)
+numbered_at R (x ∷ ws) [] i w h is = absurd h
+numbered_at R (x ∷ ws) (p ∷ ps) zero w h is = (p, refl, subst (λ y. R y p) (some_same is) h.0)
+numbered_at R (x ∷ ws) (p ∷ ps) (suc i) w h is = numbered_at R ws ps i w h.1 is
 
-made : {S T : Type 0} (f : S → T) (xs : List S) (i : ℕ) (y : T) → slice_get (map f xs) i ≡ Some y
-    → (x : S) × (slice_get xs i ≡ Some x) × (f x ≡ y)
-made f [] zero y here = absurd (cc)
-made f [] (suc i) y here = absurd (cc)
-made f (x ∷ xs) zero y here = (x, refl, some_same here)
-made f (x ∷ xs) (suc i) y here = made f xs i y here
+-- a name among the first names of a list stands before
+stands_before : (names : List Name) (n first : ℕ) (x : Name) → AreDistinct names → slice_get (take n names) first ≡ Some x
+    → slice_get names n ≡ Some x → ⊥
+stands_before names n first x distinct again here =
+    let before = take_read names n first x again in
+    let same : first ≡ n = name_once names x first n distinct before.1 here in
+    let less = before.0 in
+    absurd (omega arith)
 
-mapped : {S T : Type 0} (f : S → T) (xs : List S) (i : ℕ) (x : S) → slice_get xs i ≡ Some x
-    → slice_get (map f xs) i ≡ Some (f x)
-mapped f [] i x here = absurd (cc)
-mapped f (y ∷ xs) zero x here = ap (λ z. Some (f z)) (some_same here)
-mapped f (y ∷ xs) (suc i) x here = mapped f xs i x here
-
-taken : {S : Type 0} (xs : List S) (n i : ℕ) (x : S) → slice_get (take n xs) i ≡ Some x
-    → (i < n) × (slice_get xs i ≡ Some x)
-taken xs zero i x here = absurd (cc)
-taken [] (suc n) i x here = absurd (cc)
-taken (y ∷ xs) (suc n) zero x here = (omega arith, here)
-taken (y ∷ xs) (suc n) (suc i) x here =
-    let below = taken xs n i x here in
-    (omega (arith, below.0), below.1)
+-- ---- statements
 
 module _ (integers resources : List Name) (known : AreDistinct resources) where
   expr_free : (e : tree.ExprSyntax) (a : Expr) → ResolvesExpr integers e a → (c : Cause) → InExpr integers e c → ⊥
@@ -57,20 +49,22 @@ module _ (integers resources : List Name) (known : AreDistinct resources) where
   demands_free : (ds : List tree.DemandSyntax) (b : Bundle) → ResolvesDemands resources ds b → (c : Cause)
       → Among (InDemand resources) ds c → ⊥
   demands_free ds b h c k =
-      let at = zip_at (ResolvesDemand resources) ds b k.place k.element h.each k.here in
+      let at = numbered_at (ResolvesDemand resources) ds b k.place k.element h.each k.here in
       elim k.wrong [
         | inl x ↦ x.outside at.0.amount at.2.some at.2.small at.2.amount
         | inr y ↦ elim y [
           | inl x ↦ x.undeclared at.0.resource at.2.resource
           | inr x ↦
-              (let t = made (λ n. n.text) (map (λ d. d.resource) (take k.place ds)) x.first k.element.resource.text x.again in
-              let d = made (λ d. d.resource) (take k.place ds) x.first t.0 t.1 in
-              let below = taken ds k.place x.first d.0 d.1 in
-              let other = zip_at (ResolvesDemand resources) ds b x.first d.0 h.each below.1 in
+              (let all = texts (map (λ d. d.resource) ds) in
+              let again = take_read all k.place x.first k.element.resource.text
+              (ap (λ ts. slice_get ts x.first) (taken_names (λ d. d.resource) ds k.place) ∙ x.again) in
+              let t = made_from (λ n. n.text) (map (λ d. d.resource) ds) x.first k.element.resource.text again.1 in
+              let d = made_from (λ d. d.resource) ds x.first t.0 t.1 in
+              let other = numbered_at (ResolvesDemand resources) ds b x.first d.0 h.each d.1 in
               let same_text : d.0.resource.text ≡ k.element.resource.text = ap (λ n. n.text) d.2 ∙ t.2 in
               let same : other.0.resource ≡ at.0.resource = name_once resources k.element.resource.text other.0.resource at.0.resource known
               (other.2.resource ∙ ap Some same_text) at.2.resource in
-              h.distinct x.first k.place at.0 below.0 (slice_get_within b k.place at.0 at.1)
+              h.distinct x.first k.place at.0 again.0 (slice_get_within b k.place at.0 at.1)
               (ap (λ p. p.resource) (get_or_from_slice_get b x.first other.0 at.0 other.1) ∙ same
               ∙ sym (ap (λ p. p.resource) (get_or_from_slice_get b k.place at.0 at.0 at.1))))
         ]
@@ -111,61 +105,35 @@ again_free : {T : Type 0} (name : T → tree.NameSyntax) (xs : List T) (wrong : 
     → (c : Cause) (place : ℕ) (x : T) → slice_get xs place ≡ Some x
     → IsAgain wrong (texts (map name (take place xs))) (name x) c → ⊥
 again_free name xs wrong distinct c place x here h =
-    let t = made (λ n. n.text) (map name (take place xs)) h.first (name x).text h.again in
-    let d = made name (take place xs) h.first t.0 t.1 in
-    let below = taken xs place h.first d.0 d.1 in
-    let one = mapped (λ n. n.text) (map name xs) h.first (name d.0) (mapped name xs h.first d.0 below.1) in
-    let two = mapped (λ n. n.text) (map name xs) place (name x) (mapped name xs place x here) in
-    let same_text : (name d.0).text ≡ (name x).text = ap (λ n. n.text) d.2 ∙ t.2 in
-    let same : h.first ≡ place = name_once (texts (map name xs)) (name x).text h.first place distinct (one ∙ ap Some same_text) two in
-    let less = below.0 in
-    absurd (omega arith)
-
-map_map_texts : {T : Type 0} (name : T → tree.NameSyntax) (xs : List T)
-    → texts (map name xs) ≡ map (λ x. (name x).text) xs
-map_map_texts name [] = refl
-map_map_texts name (x ∷ xs) = ap (λ ts. (name x).text ∷ ts) (map_map_texts name xs)
+    stands_before (texts (map name xs)) place h.first (name x).text distinct
+    (ap (λ ts. slice_get ts h.first) (taken_names name xs place) ∙ h.again) (name_read name xs place x here)
 
 integers_free : (xs : List tree.NameSyntax) → AreDistinct (texts xs) → (c : Cause) → Among InInteger xs c → ⊥
 integers_free xs distinct c k =
-    let t = made (λ n. n.text) (take k.place xs) k.wrong.first k.element.text k.wrong.again in
-    let below = taken xs k.place k.wrong.first t.0 t.1 in
-    let one = mapped (λ n. n.text) xs k.wrong.first t.0 below.1 in
-    let two = mapped (λ n. n.text) xs k.place k.element k.here in
-    let same : k.wrong.first ≡ k.place = name_once (texts xs) k.element.text k.wrong.first k.place distinct (one ∙ ap Some t.2) two in
-    let less = below.0 in
-    absurd (omega arith)
+    stands_before (texts xs) k.place k.wrong.first k.element.text distinct
+    (ap (λ ts. slice_get ts k.wrong.first) (taken_texts xs k.place) ∙ k.wrong.again)
+    (text_read xs k.place k.element k.here)
 
-zip_names : {W P : Type 0} (R : W → P → Type 0) (name : W → tree.NameSyntax) (name' : P → Name)
-    → ((w : W) (p : P) → R w p → name' p ≡ (name w).text)
-    → (ws : List W) (ps : List P) → AllZip R ws ps → map name' ps ≡ texts (map name ws)
-zip_names R name name' is [] [] h = refl
-zip_names R name name' is [] (p ∷ ps) h = absurd h
-zip_names R name name' is (w ∷ ws) [] h = absurd h
-zip_names R name name' is (w ∷ ws) (p ∷ ps) h =
-    let x = is w p h.0 in
-    let y = zip_names R name name' is ws ps h.1 in
-    rw (x, y) refl
+-- ---- programs
 
 pub program_free : (written : tree.ProgramSyntax) (program : Program) → Resolves written program → (c : Cause)
     → InProgram written c → ⊥
 program_free written program h c k =
     let rs : resource_names program ≡ texts (map (λ r. r.name) written.resources) =
-    zip_names ResolvesResource (λ r. r.name) (λ r. r.name) (λ w p r. r.name) written.resources program.resources h.resources in
+    resource_names_kept written.resources program.resources h.resources in
     let ps : process_names program ≡ texts (map (λ p. p.name) written.processes) =
-    zip_names (ResolvesProcess (resource_names program)) (λ p. p.name) (λ p. p.name) (λ w p r. r.name)
-    written.processes program.processes h.processes in
+    process_names_kept (resource_names program) written.processes program.processes h.processes in
     let known = subst AreDistinct rs h.distinct_resources in
     let named = subst AreDistinct ps h.distinct_processes in
     elim k [
       | inl x ↦
-          (let at = zip_at ResolvesResource written.resources program.resources x.place x.element h.resources x.here in
+          (let at = numbered_at ResolvesResource written.resources program.resources x.place x.element h.resources x.here in
           elim x.wrong [
             | inl y ↦ again_free (λ r. r.name) written.resources Twice known c x.place x.element x.here y
             | inr y ↦ y.outside at.0.capital (omega arith) at.2.small at.2.capital
           ])
       | inr x ↦
-          (let at = zip_at (ResolvesProcess (resource_names program)) written.processes program.processes x.place x.element
+          (let at = numbered_at (ResolvesProcess (resource_names program)) written.processes program.processes x.place x.element
           h.processes x.here in
           elim x.wrong [
             | inl y ↦ again_free (λ p. p.name) written.processes Twice named c x.place x.element x.here y
