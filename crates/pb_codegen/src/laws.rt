@@ -96,14 +96,12 @@ pub fn generated_code_is_well_behaved()
 {}
 
 /// A text spells at most one numbered program, with one table of claims.
-#[tactic(auto, using(crate::proofs::OneCode::one_analysis))]
 pub fn one_analysis()
     ensures { (text : List ℕ) (program other : Program) (claims others : Table)
         → IsNumbered text program claims → IsNumbered text other others → (program ≡ other) × (claims ≡ others) }
 {}
 
 /// A text is compiled to at most one code, with one list of labels.
-#[tactic(auto, using(crate::proofs::OneCode::one_code))]
 pub fn one_code()
     ensures { (text : List ℕ) (code other : Code) (labels others : List ProcessLabels)
         → IsCompiled text code labels → IsCompiled text other others → (code ≡ other) × (labels ≡ others) }
