@@ -20,6 +20,8 @@ use Rattle.pb_names.specs.declared.fault.NameFault.TheVariants as names
 use Rattle.pb_names.specs.Faults.{IsFault}
 use Rattle.pb_names.specs.Ready.{IsCompleteStmt, AreComplete, AreCompleteArms, IsComplete}
 use Rattle.pb_names.specs.Meaning.{AreClaims}
+use Rattle.pb_claims.specs.Inferred.{HaveSmallClaims}
+use Rattle.pb_claims.proofs.Bounds.{small_claims}
 use Rattle.pb_names.specs.Program.{Program, Resource, capital_of}
 use Rattle.pb_names.specs.Resolves.{Resolves, resource_names}
 use Rattle.pb_names.specs.View.{resolved_view, resource_view}
@@ -29,7 +31,7 @@ use Rattle.pb_code.specs.Whole.{bank_of}
 use Rattle.pb_codegen.specs.Accepted.{HasSoundCode}
 use Rattle.pb_codegen.specs.declared.fault.CompileFault.{CompileFault}
 use Rattle.pb_codegen.specs.declared.fault.CompileFault.TheVariants.{Lex, Parse, Names, Claims, Memory}
-use Rattle.pb_codegen.specs.Compiled.{IsClaimsFault, IsCompiled, IsRefused, of_lex, of_parse, of_names}
+use Rattle.pb_codegen.specs.Compiled.{IsBeforeClaims, IsCapitalFault, IsCompiled, IsRefused, of_lex, of_parse, of_names}
 use Rattle.pb_codegen.specs.Numbered.{IsNumbered, Spells}
 use Rattle.pb_codegen.specs.Form.{IsFormedProcess, IsFullStmt, IsFull, AreFull}
 use Rattle.pb_codegen.specs.Generate.{program_code}
@@ -53,6 +55,16 @@ spells text tokens written t r cut read limits is nested = record {
   flat = λ deep. let e : r ≡ Err parse.TooDeep = nested deep in cc;
   read = read;
   limits = limits;
+}
+
+-- the program of a tree that a text spells, with its claims
+pub numbered : (text : List ℕ) (written : tree.ProgramSyntax) (program : Program) (claims : Table) → Spells text written
+    → Resolves written program → (HaveSmallClaims program → AreClaims program claims) → IsNumbered text program claims
+numbered text written program claims spelled resolves claimed = record {
+  tree = written;
+  spelled = spelled;
+  numbered = resolves;
+  claimed = claimed (small_claims written program resolves spelled.limits.nodes);
 }
 
 -- what is formed is complete
@@ -113,6 +125,15 @@ names_refused text program (names.Amount at) spelled is = (program, spelled, is)
 names_refused text program (names.Repeated at) spelled is = (program, spelled, is)
 names_refused text program names.NoMemory spelled is = tt
 
+-- names are looked at before the claims
+pub names_come_early : (fault : NameFault) → IsBeforeClaims (of_names fault)
+names_come_early (names.TooMany kind) = tt
+names_come_early (names.Twice at) = tt
+names_come_early (names.Unknown at) = tt
+names_come_early (names.Amount at) = tt
+names_come_early (names.Repeated at) = tt
+names_come_early names.NoMemory = tt
+
 -- ---- an accepted program
 
 -- claims have a column for each resource
@@ -132,7 +153,7 @@ sound text program claims is enough =
 pub compiled : (text : List ℕ) (program : Program) (claims : Table) → IsNumbered text program claims
     → FitCapital claims (capital_of program) → IsCompiled text (program_code program claims) (program_labels program)
 compiled text program claims is enough =
-    let numbered = well_numbered (resource_names program) is.tree.processes program.processes is.numbered.processes in
+    let arms = well_numbered (resource_names program) is.tree.processes program.processes is.numbered.processes in
     let sure = sound text program claims is enough in
     record {
       program = program;
@@ -140,9 +161,9 @@ compiled text program claims is enough =
       generated = refl;
       names = refl;
       enough = enough;
-      same = means_the_same program claims numbered is.claimed;
+      same = means_the_same program claims arms is.claimed;
       labelled = refl;
-      lines = is_followed (bank_of (program_code program claims)) program.processes numbered;
+      lines = is_followed (bank_of (program_code program claims)) program.processes arms;
       behaves = sure.behaves;
       keeps = sure.keeps;
       fit =
@@ -165,10 +186,10 @@ capital_width program capital claims is width =
     omega (arith, width, seen, all)
 
 -- a claim over the capital refuses the text
-pub claims_refused : (text : List ℕ) (program : Program) (claims : Table) (fault : CompileFault) → IsNumbered text program claims
-    → IsClaimsFault claims (capital_of program) fault → IsRefused text fault
-claims_refused text program claims (Lex fault) is h = elim h [ ]
-claims_refused text program claims (Parse fault) is h = elim h [ ]
-claims_refused text program claims (Names fault) is h = elim h [ ]
-claims_refused text program claims (Claims over) is h = (program, claims, is, h)
-claims_refused text program claims Memory is h = tt
+pub capital_refused : (text : List ℕ) (program : Program) (claims : Table) (fault : CompileFault) → IsNumbered text program claims
+    → IsCapitalFault program claims fault → IsRefused text fault
+capital_refused text program claims (Lex fault) is h = elim h [ ]
+capital_refused text program claims (Parse fault) is h = elim h [ ]
+capital_refused text program claims (Names fault) is h = elim h [ ]
+capital_refused text program claims (Claims fault) is h = (program, claims, is, h)
+capital_refused text program claims Memory is h = tt

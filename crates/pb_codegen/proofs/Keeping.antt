@@ -1,5 +1,5 @@
--- The source of a resolved program asks within its claims, and where the capital is enough for them its states stay
--- safe.
+-- The source of a resolved program asks within its claims, and if the capital is enough for them its states stay
+-- well formed and safe.
 use Rattle.std.proofs.Common.{◌≡◌, ℕ, ◌<◌, ◌≤◌, List, [], ◌∷◌, length, get_or, map, Some, sym, ap, ◌∙◌, subst}
 use Rattle.std.proofs.Common.{arith}
 use Rattle.std.specs.Prelude.{slice_get}
@@ -19,7 +19,7 @@ use Rattle.pb_code.specs.Code.{CodeProcess, ProcessCode, code_process}
 use Rattle.pb_verifier.proofs.States.{code_move}
 use Rattle.pb_codegen.specs.Correct.{generated}
 use Rattle.pb_codegen.specs.Generate.{process_code}
-use Rattle.pb_codegen.specs.SourceBehaviour.{bank_with, SourceReaches, SourceAsksWithin, SourceIsSafe}
+use Rattle.pb_codegen.specs.SourceBehaviour.{bank_with, SourceReaches, SourceAsksWithin, SourceIsSafe, SourceIsWellFormed}
 use Rattle.pb_codegen.proofs.Accepting.{well_numbered, small_capital}
 use Rattle.pb_codegen.proofs.AllClaims.{all_claims}
 use Rattle.pb_codegen.proofs.Back.{chain_at, catch_up}
@@ -126,14 +126,21 @@ module _ (tree : ProgramSyntax) (program : Program) (claims : Table) (h : Resolv
         claims_fit = λ p r u v. enough p u r v;
       }
 
-  pub source_safe : AreClaims program claims → FitCapital claims (capital_of program)
-      → (s : State SourceProcess)
-      → SourceReaches program claims s → SourceIsSafe program claims s
-  source_safe are enough s reached =
+  source_sound : AreClaims program claims → FitCapital claims (capital_of program)
+      → (s : State SourceProcess) → SourceReaches program claims s → IsSound bank s.loans
+  source_sound are enough s reached =
       let fair = fair_bank are enough in
       let n = length-map program.processes source_process in
-      (sound_makes fair (opening bank (map code_process (generated program.processes)))
+      sound_makes fair (opening bank (map code_process (generated program.processes)))
       (opening bank (map source_process program.processes)) reached.0 reached.1 s
       (opening_alike bank program.processes numbered)
       (sound_opening bank (map source_process program.processes) (subst (IsFairBank bank) (sym n) fair))
-      reached.2).safe
+      reached.2
+
+  pub source_well_formed : AreClaims program claims → FitCapital claims (capital_of program)
+      → (s : State SourceProcess) → SourceReaches program claims s → SourceIsWellFormed program claims s
+  source_well_formed are enough s reached = (source_sound are enough s reached).formed
+
+  pub source_safe : AreClaims program claims → FitCapital claims (capital_of program)
+      → (s : State SourceProcess) → SourceReaches program claims s → SourceIsSafe program claims s
+  source_safe are enough s reached = (source_sound are enough s reached).safe

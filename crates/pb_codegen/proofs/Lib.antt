@@ -17,7 +17,6 @@ pub mod Fitting
 pub mod Following
 pub mod Forks
 pub mod Freeing
-pub mod Fronts
 pub mod Heights
 pub mod Instructions
 pub mod Jumps
@@ -33,7 +32,9 @@ pub mod Loops
 pub mod Lying
 pub mod Meaning
 pub mod Named
+pub mod Naming
 pub mod Once
+pub mod OneCode
 pub mod Owning
 pub mod Pairing
 pub mod Pauses

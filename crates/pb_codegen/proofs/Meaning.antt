@@ -37,7 +37,7 @@ some_at [] p h = absurd (omega arith)
 some_at (x ∷ xs) zero h = (x, refl)
 some_at (x ∷ xs) (suc p) h = some_at xs p (omega arith)
 
-one_table : (program : Program) (a b : Table) → AreClaims program a → AreClaims program b → a ≡ b
+pub one_table : (program : Program) (a b : Table) → AreClaims program a → AreClaims program b → a ≡ b
 one_table program a b h k =
     same_list [] a b (h.height ∙ sym k.height) (λ p within.
     let also : p < length b = omega (arith, h.height, k.height) in

@@ -1,9 +1,9 @@
 -- The numbers in the code of a resolved program are those of integers, resources and few arms.
-use Rattle.std.proofs.Common.{ℕ, ◌<◌, ◌≤◌, List, length, arith}
+use Rattle.std.proofs.Common.{ℕ, ◌<◌, ◌≤◌, List, length}
 use Rattle.std.specs.Prelude.{All}
 use Rattle.std.proofs.lemmas.Option.{slice_get_within}
 use Rattle.pb_tree.specs.Syntax as tree
-use Rattle.pb_names.specs.Program.{Expr, Stmt, Block, Arms, Name, Process, count, arms_of, arms_in}
+use Rattle.pb_names.specs.Program.{Expr, Stmt, Block, Arms, Name, Process, arms_of, arms_in}
 use Rattle.pb_names.specs.Program.{arms_list, arms_in_stmt, arms_in_arms}
 use Rattle.pb_names.specs.Resolves.{ResolvesExpr, number, variable, unary, binary, ResolvesStmt, assign, print}
 use Rattle.pb_names.specs.Resolves.{if_else, while_do, hold, parbegin, ResolvesStmts, no_stmt, stmt_then}

@@ -39,7 +39,7 @@ use Rattle.pb_codegen.specs.Generate.{process_code, program_code}
 use Rattle.pb_codegen.specs.Sizes.{IsGeneratable, IsGeneratableProcess}
 use Rattle.pb_codegen.proofs.Accepting.{IsFine, fine_process, generatable, low, sound_forks}
 use Rattle.pb_codegen.proofs.Fitting.{has_depths, has_holdings, ends_clear, peak_fits}
-use Rattle.pb_codegen.proofs.Keeping.{source_asks, source_safe}
+use Rattle.pb_codegen.proofs.Keeping.{source_asks, source_safe, source_well_formed}
 use Rattle.pb_codegen.proofs.Limits.{in_range, small_process}
 use Rattle.pb_codegen.proofs.Lying.{has_arms}
 use Rattle.pb_codegen.proofs.Reading.{read_program_formed}
@@ -226,6 +226,7 @@ sound_code text tokens tree program claims cut read limits numbered are_claims e
       behaves = code_behaves tree program claims accepted;
       keeps = record {
         asks_within = source_asks tree program claims numbered are_claims;
+        well_formed = source_well_formed tree program claims numbered are_claims enough;
         safe = source_safe tree program claims numbered are_claims enough;
       };
     }

@@ -1,5 +1,5 @@
 -- What it means that a text was compiled, or refused.
-use Rattle.std.specs.Prelude.{◌≡◌, ℕ, List, ◌⊎◌, ⊤}
+use Rattle.std.specs.Prelude.{◌≡◌, ℕ, List, [], slice_index_or, ◌⊎◌, ⊤}
 use Rattle.pb_base.specs.Steppers.{Table}
 use Rattle.pb_lexer.specs.declared.error.LexFault.{LexFault}
 use Rattle.pb_lexer.specs.declared.error.LexFault.TheVariants as lex
@@ -14,7 +14,9 @@ use Rattle.pb_names.specs.declared.fault.NameFault.{NameFault}
 use Rattle.pb_names.specs.declared.fault.NameFault.TheVariants as names
 use Rattle.pb_names.specs.Faults.{IsFault}
 use Rattle.pb_names.specs.Program.{Program, capital_of}
+use Rattle.pb_names.specs.Resolves.{process_names, resource_names}
 use Rattle.pb_claims.specs.Fits.{FitCapital, IsFirstOver}
+use Rattle.pb_claims.specs.declared.over_capital.OverCapital.{OverCapital}
 use Rattle.pb_code.specs.Limits.{AreLabels}
 use Rattle.pb_code.specs.Whole.{Code, ProcessLabels, bank_of}
 use Rattle.pb_verifier.specs.Behaviour.{IsWellBehaved}
@@ -24,6 +26,7 @@ use Rattle.pb_codegen.specs.Generate.{names_of, program_code}
 use Rattle.pb_codegen.specs.Lines.{program_labels}
 use Rattle.pb_codegen.specs.Numbered.{IsNumbered, Spells}
 use Rattle.pb_codegen.specs.SourceBehaviour.{KeepsClaims}
+use Rattle.pb_codegen.specs.declared.fault.ClaimsFault.{ClaimsFault}
 use Rattle.pb_codegen.specs.declared.fault.CompileFault.{CompileFault}
 use Rattle.pb_codegen.specs.declared.fault.CompileFault.TheVariants.{Lex, Parse, Names, Claims, Memory}
 
@@ -57,6 +60,19 @@ IsParseFault tokens parse.TooDeep = NestsTooDeep tokens ⊎ IsTooHigh tokens
 IsParseFault tokens parse.TooLarge = (¬ NestsTooDeep tokens) × IsTooLarge tokens
 IsParseFault tokens parse.NoMemory = ⊥
 
+-- the fault tells this claim, with the names of its process and its resource
+pub record NamesClaim (program : Program) (over : OverCapital) (fault : ClaimsFault) : Type 0 where
+  pub process : fault.process.items ≡ slice_index_or (process_names program) over.process []
+  pub resource : fault.resource.items ≡ slice_index_or (resource_names program) over.resource []
+  pub claim : fault.claim ≡ over.claim
+  pub capital : fault.capital ≡ over.capital
+
+-- the fault tells the first claim of the program that is over its capital
+pub record IsClaimsFault (program : Program) (claims : Table) (fault : ClaimsFault) : Type 0 where
+  pub over : OverCapital
+  pub first : IsFirstOver claims (capital_of program) over
+  pub named : NamesClaim program over fault
+
 -- the fault stands in the text, and nothing before it refuses the text; want of memory is always `Memory`
 abbrev pub IsRefused : List ℕ → CompileFault → Type 0
 IsRefused text (Lex lex.NoMemory) = ⊥
@@ -64,9 +80,8 @@ IsRefused text (Lex fault) = Refuses text fault
 IsRefused text (Parse fault) = (tokens : List Token) × AreTokensOf text tokens × IsParseFault tokens fault
 IsRefused text (Names names.NoMemory) = ⊥
 IsRefused text (Names fault) = (tree : ProgramSyntax) × Spells text tree × IsFault tree fault
-IsRefused text (Claims over) =
-    (program : Program) × (claims : Table) × IsNumbered text program claims
-    × IsFirstOver claims (capital_of program) over
+IsRefused text (Claims fault) =
+    (program : Program) × (claims : Table) × IsNumbered text program claims × IsClaimsFault program claims fault
 IsRefused text Memory = ⊤
 
 -- ---- want of memory is one fault, wherever it comes
@@ -87,13 +102,13 @@ of_names fault = Names fault
 
 -- the fault is none of claims
 abbrev pub IsBeforeClaims : CompileFault → Type 0
-IsBeforeClaims (Claims over) = ⊥
+IsBeforeClaims (Claims fault) = ⊥
 IsBeforeClaims fault = ⊤
 
--- the fault is that of claims under this capital, or want of memory
-abbrev pub IsClaimsFault : Table → List ℕ → CompileFault → Type 0
-IsClaimsFault claims capital (Lex fault) = ⊥
-IsClaimsFault claims capital (Parse fault) = ⊥
-IsClaimsFault claims capital (Names fault) = ⊥
-IsClaimsFault claims capital (Claims over) = IsFirstOver claims capital over
-IsClaimsFault claims capital Memory = ⊤
+-- the fault is that of a claim over the capital, or out of memory
+abbrev pub IsCapitalFault : Program → Table → CompileFault → Type 0
+IsCapitalFault program claims (Lex fault) = ⊥
+IsCapitalFault program claims (Parse fault) = ⊥
+IsCapitalFault program claims (Names fault) = ⊥
+IsCapitalFault program claims (Claims fault) = IsClaimsFault program claims fault
+IsCapitalFault program claims Memory = ⊤

@@ -2,7 +2,7 @@
 use Rattle.std.specs.Prelude.{◌≡◌, List, map, Some}
 use Rattle.pb_base.specs.declared.event.Event.{Event}
 use Rattle.pb_base.specs.declared.pick.Pick.{Pick}
-use Rattle.pb_base.specs.Banker.{IsSafe, IsWithinClaim}
+use Rattle.pb_base.specs.Banker.{IsSafe, IsWellFormed, IsWithinClaim}
 use Rattle.pb_base.specs.Steppers.{Bank, Bundle, Table, Takes, State, Move, Makes, banker_state, move_of}
 use Rattle.pb_base.specs.Steppers.{opening}
 use Rattle.pb_names.specs.Program.{Program, capital_of}
@@ -30,8 +30,15 @@ SourceAsksWithin program claims s =
 abbrev pub SourceIsSafe : Program → Table → State SourceProcess → Type 0
 SourceIsSafe program claims s = IsSafe (banker_state (bank_with program claims) s.loans)
 
--- in every state that the source reaches, requests are within the claims and the loans are safe
+-- each loan is within its claim, and all loans together within the capital
+abbrev pub SourceIsWellFormed : Program → Table → State SourceProcess → Type 0
+SourceIsWellFormed program claims s = IsWellFormed (banker_state (bank_with program claims) s.loans)
+
+-- in every state that the source reaches, requests are within the claims, each loan is within its claim and all
+-- loans together within the capital, and the loans are safe
 pub record KeepsClaims (program : Program) (claims : Table) : Type 0 where
   pub asks_within : (s : State SourceProcess) → SourceReaches program claims s
       → SourceAsksWithin program claims s
+  pub well_formed : (s : State SourceProcess) → SourceReaches program claims s
+      → SourceIsWellFormed program claims s
   pub safe : (s : State SourceProcess) → SourceReaches program claims s → SourceIsSafe program claims s

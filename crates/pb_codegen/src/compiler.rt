@@ -1,82 +1,57 @@
-//! From a text to code that is safe to run.
+//! The driver: from a text to its analysis, and to code that is safe to run.
 
-ghost use Rattle.std.specs.Prelude.{◌≡◌, ℕ, IfOk, IfErr, List};
+ghost use Rattle.std.specs.Prelude.{◌≡◌, ◌<◌, IfOk, IfErr, OnOk, length};
 ghost use Rattle.pb_claims.specs.Fits.{FitCapital};
 ghost use Rattle.pb_code.specs.View.{code_view, labels_view};
-ghost use Rattle.pb_codegen.specs.Compiled.{IsCompiled, IsRefused};
+ghost use Rattle.pb_codegen.specs.Compiled.{IsBeforeClaims, IsCapitalFault, IsCompiled, IsRefused, NamesClaim};
 ghost use Rattle.pb_codegen.specs.Numbered.{IsNumbered, IsSpelled};
 ghost use Rattle.pb_names.specs.Program.{capital_of};
 ghost use Rattle.pb_names.specs.View.{resolved_view};
 ghost use Rattle.pb_verifier.specs.Verified.{IsRefusedFor};
 
-use crate::fault::CompileFault;
-use crate::front::{Numbered, number};
-use crate::generate::{Generated, generate};
-use pb_base::NoMemory;
-use pb_code::{Code, Labels};
+use crate::compiled::Compiled;
+use crate::fault::{ClaimsFault, CompileFault};
+use crate::generate::{Generated, capital_of, generate};
+use pb_base::{Claims, NoMemory};
+use pb_claims::{OverCapital, fits, infer};
+use pb_code::Code;
+use pb_lexer::lex;
+use pb_names::{Resolved, resolve};
+use pb_parser::parse;
 use pb_verifier::{Verified, VerifyFault, verify};
 use std::alloc::{Allocator, Global};
-use std::marker::Model;
 
-/// The code of a text, and the labels of its places.
+/// The numbered program of a text, and the claim of each process on each resource.
 #[derive(Drop)]
-pub struct Compiled {
-    verified: Verified,
-    labels: Labels,
+pub struct Analysis<A: Allocator> {
+    pub program: Resolved<A>,
+    pub claims: Claims,
 }
 
-impl Model for Compiled {
-    ghost use Rattle.pb_code.specs.View.{labels_view};
-    ghost use Rattle.pb_codegen.specs.Compiled.{CompiledText};
-
-    ghost Value = { CompiledText };
-
-    ghost view = { λ c. record { verified = c.verified; labels = labels_view c.labels } };
-}
-
-impl Compiled {
-    /// The code.
-    pub fn verified(&self) -> &Verified
-        ensures { result.now ≡ self.now.verified }
-    {
-        &self.verified
-    }
-
-    /// The source line of each place of the code, and the names of the integers.
-    pub fn labels(&self) -> &Labels
-        ensures { labels_view result.now ≡ self.now.labels }
-    {
-        &self.labels
-    }
-
-    /// The code and the labels.
-    pub fn into_parts(self) -> (Verified, Labels)
-        ensures verified { result.0 ≡ self.verified }
-        ensures labels { labels_view result.1 ≡ self.labels }
-    {
-        let Compiled { verified, labels } = self;
-        (verified, labels)
-    }
-}
-
-impl<A: Allocator> Numbered<A> {
-    /// The code of the program, and the labels of its places. The error comes only where memory is refused.
-    pub fn code(&self, alloc: Global) -> Result<Compiled, NoMemory>
-        requires spelled { IsSpelled (resolved_view self.now.program) self.now.claims }
-        requires enough { FitCapital self.now.claims (capital_of (resolved_view self.now.program)) }
-        ensures { (text : List ℕ) → IsNumbered text (resolved_view self.now.program) self.now.claims
-            → IfOk result (λ c. IsCompiled text c.verified.code c.labels) }
-    {
-        let Generated { code, labels } = generate(alloc, &self.program, &self.claims)?;
-        let verified = verify_generated(alloc, code)?;
-        Ok(Compiled { verified, labels })
-    }
-}
-
-/// Compiles a text, whose trees lie in the memory of `trees` while it does.
+/// Numbers the program of a text and infers its claims, whether or not the capital is enough for them. The program
+/// lies in the memory of `trees`.
 ///
-/// The parts are asked in the order of `CompileFault`; want of memory anywhere is `Memory`, which may come before
-/// a later cause is found. An error leaves nothing behind.
+/// A text is refused by the first of the parts that finds a fault in it, in the order of `CompileFault`. An error is
+/// `Memory` if memory is refused at any time, also before a later part has looked at the text.
+pub fn analyze<A: Allocator + Clone>(
+    alloc: Global,
+    trees: A,
+    text: &[u8],
+) -> Result<Analysis<A>, CompileFault>
+    ensures analyzed { IfOk result (λ a. IsNumbered text.now (resolved_view a.program) a.claims) }
+    ensures refused { IfErr result (λ fault. IsRefused text.now fault) }
+    ensures early { IfErr result IsBeforeClaims }
+{
+    let tokens = lex(alloc, text)?;
+    let tree = parse(trees.clone()?, tokens.as_slice())?;
+    let program = resolve(trees, &tree)?;
+    let claims = infer(alloc, &program)?;
+    Ok(Analysis { program, claims })
+}
+
+/// Compiles a text. Its trees lie in the memory of `trees` until this returns.
+///
+/// A text is refused as by `analyze`, and then for the first claim over its capital. An error leaves nothing behind.
 pub fn compile<A: Allocator + Clone>(
     alloc: Global,
     trees: A,
@@ -85,13 +60,51 @@ pub fn compile<A: Allocator + Clone>(
     ensures compiled { IfOk result (λ c. IsCompiled text.now c.verified.code c.labels) }
     ensures refused { IfErr result (λ fault. IsRefused text.now fault) }
 {
-    let numbered = number(alloc, trees, text)?;
-    numbered.check_claims(alloc)?;
-    let compiled = numbered.code(alloc)?;
-    Ok(compiled)
+    let Analysis { program, claims } = analyze(alloc, trees, text)?;
+    check_capital(alloc, &program, &claims)?;
+    let Generated { code, labels } = generate(alloc, &program, &claims)?;
+    let verified = verify_generated(alloc, code)?;
+    Ok(Compiled { verified, labels })
 }
 
-/// Verifies code in which there is no fault. The error comes only where memory is refused.
+/// Checks that the capital is enough for every claim.
+fn check_capital<A: Allocator>(
+    alloc: Global,
+    program: &Resolved<A>,
+    claims: &Claims,
+) -> Result<(), CompileFault>
+    requires { IsSpelled (resolved_view program.now) claims.now }
+    ensures enough { OnOk result (FitCapital claims.now (capital_of (resolved_view program.now))) }
+    ensures over { IfErr result (IsCapitalFault (resolved_view program.now) claims.now) }
+{
+    let capital = capital_of(alloc, &program.resources)?;
+    match fits(claims, &capital) {
+        Ok(()) => Ok(()),
+        Err(over) => Err(CompileFault::Claims(name_claim(alloc, program, over)?)),
+    }
+}
+
+/// The fault of a claim over the capital, by the names of its process and its resource.
+fn name_claim<A: Allocator>(
+    alloc: Global,
+    program: &Resolved<A>,
+    over: OverCapital,
+) -> Result<ClaimsFault, NoMemory>
+    requires process { over.process < length program.now.processes.items }
+    requires resource { over.resource < length program.now.resources.items }
+    ensures { IfOk result (NamesClaim (resolved_view program.now) over) }
+{
+    let process = &program.processes[usize::from(over.process)];
+    let resource = &program.resources[usize::from(over.resource)];
+    Ok(ClaimsFault {
+        process: Vec::from_slice(alloc, &process.name)?,
+        resource: Vec::from_slice(alloc, &resource.name)?,
+        claim: over.claim,
+        capital: over.capital,
+    })
+}
+
+/// Verifies code in which there is no fault. The error comes only if memory is refused.
 fn verify_generated(alloc: Global, code: Code) -> Result<Verified, NoMemory>
     requires { (fault : VerifyFault) → IsRefusedFor (code_view code) fault → fault ≡ VerifyFault.NoMemory }
     ensures { IfOk result (λ verified. verified.code ≡ code_view code) }

@@ -2,18 +2,32 @@
 
 ghost use Rattle.std.specs.Prelude.{◌≡◌};
 ghost use Rattle.pb_codegen.specs.Compiled.{of_lex, of_parse, of_names};
-ghost use Rattle.pb_codegen.specs.declared.fault.CompileFault.TheVariants.{Claims, Memory};
+ghost use Rattle.pb_codegen.specs.declared.fault.CompileFault.TheVariants.{Memory};
 
 use pb_base::NoMemory;
-use pb_claims::OverCapital;
 use pb_lexer::LexFault;
 use pb_names::NameFault;
 use pb_parser::ParseFault;
 use std::alloc::AllocError;
 
-/// Why a text is not compiled, by the part that refused it. The parts are asked in this order, and want of memory
+/// A process whose claim on a resource is over the capital: even alone it could not always be served. It is the first
+/// such process, and the resource the first of that process, in the order in which the text declares them.
+#[derive(Debug, Drop, PartialEq, Eq, thiserror::Error)]
+#[error("a process claims {claim} of a resource, of which there are {capital}")]
+pub struct ClaimsFault {
+    /// The name of the process.
+    pub process: Vec<u8>,
+    /// The name of the resource.
+    pub resource: Vec<u8>,
+    /// What the process may hold of the resource at most.
+    pub claim: u64,
+    /// How much of the resource there is.
+    pub capital: u32,
+}
+
+/// Why a text is not compiled, by the part that refused it. The parts are asked in this order, and out of memory
 /// anywhere is `Memory`.
-#[derive(Clone, Copy, Debug, PartialEq, Eq, thiserror::Error)]
+#[derive(Debug, Drop, PartialEq, Eq, thiserror::Error)]
 pub enum CompileFault {
     #[error("{0}")]
     Lex(LexFault),
@@ -22,7 +36,7 @@ pub enum CompileFault {
     #[error("{0}")]
     Names(NameFault),
     #[error("{0}")]
-    Claims(OverCapital),
+    Claims(ClaimsFault),
     #[error("out of memory")]
     Memory,
 }
@@ -57,14 +71,6 @@ impl From<NameFault> for CompileFault {
             NameFault::NoMemory => CompileFault::Memory,
             _ => CompileFault::Names(fault),
         }
-    }
-}
-
-impl From<OverCapital> for CompileFault {
-    ghost from_gives = { λ over e. e ≡ Claims over };
-
-    fn from(over: OverCapital) -> CompileFault {
-        CompileFault::Claims(over)
     }
 }
 

@@ -1,15 +1,18 @@
 //! Laws over the definitions alone, each the contract of a function that does nothing.
 
-ghost use Rattle.std.specs.Prelude.{ℕ, List};
+ghost use Rattle.std.specs.Prelude.{◌≡◌, ℕ, List};
 ghost use Rattle.pb_base.specs.Steppers.{Bank, State, Table};
 ghost use Rattle.pb_claims.specs.Fits.{FitCapital};
 ghost use Rattle.pb_code.specs.Annotation.{CanBeAnnotated};
+ghost use Rattle.pb_code.specs.Whole.{Code, ProcessLabels};
 ghost use Rattle.pb_codegen.specs.Accepted.{CanBeCompiled, HasSoundCode};
+ghost use Rattle.pb_codegen.specs.Compiled.{IsCompiled};
 ghost use Rattle.pb_codegen.specs.Correct.{ImplementsUnder, IsFollowed, generated};
 ghost use Rattle.pb_codegen.specs.Form.{IsFormed};
 ghost use Rattle.pb_codegen.specs.Generate.{process_code, program_code};
+ghost use Rattle.pb_codegen.specs.Numbered.{IsNumbered};
 ghost use Rattle.pb_codegen.specs.Sizes.{IsGeneratable};
-ghost use Rattle.pb_codegen.specs.SourceBehaviour.{SourceAsksWithin, SourceIsSafe, SourceReaches};
+ghost use Rattle.pb_codegen.specs.SourceBehaviour.{SourceAsksWithin, SourceIsSafe, SourceIsWellFormed, SourceReaches};
 ghost use Rattle.pb_lexer.specs.Cutting.{AreTokensOf};
 ghost use Rattle.pb_lexer.specs.Tokens.{Token};
 ghost use Rattle.pb_names.specs.Meaning.{AreClaims};
@@ -74,16 +77,32 @@ pub fn source_requests_stay_within_claims()
         → (s : State SourceProcess) → SourceReaches program claims s → SourceAsksWithin program claims s }
 {}
 
-/// Where the capital is enough for the claims, the loans are safe in every state that the source of a program reaches.
+/// If the capital is enough for the claims, then in every state that the source of a program reaches each loan is within
+/// its claim, all loans together are within the capital, and the loans are safe.
 pub fn source_states_stay_safe()
-    ensures { (tree : ProgramSyntax) (program : Program) (claims : Table)
+    ensures well_formed { (tree : ProgramSyntax) (program : Program) (claims : Table)
+        → Resolves tree program → AreClaims program claims → FitCapital claims (capital_of program)
+        → (s : State SourceProcess) → SourceReaches program claims s → SourceIsWellFormed program claims s }
+    ensures safe { (tree : ProgramSyntax) (program : Program) (claims : Table)
         → Resolves tree program → AreClaims program claims → FitCapital claims (capital_of program)
         → (s : State SourceProcess) → SourceReaches program claims s → SourceIsSafe program claims s }
 {}
 
-/// The code of an accepted program is well behaved: no test fails, no request passes its claim, the loans
-/// are safe, and not all wait.
+/// The code of an accepted program is well behaved: no test fails, no request passes its claim, each loan is within its
+/// claim and all loans together within the capital, the loans are safe, and not all wait.
 pub fn generated_code_is_well_behaved()
     ensures { (tree : ProgramSyntax) (program : Program) (claims : Table)
         → CanBeCompiled tree program claims → IsWellBehaved (program_code program claims) }
+{}
+
+/// A text spells at most one numbered program, with one table of claims.
+pub fn one_analysis()
+    ensures { (text : List ℕ) (program other : Program) (claims others : Table)
+        → IsNumbered text program claims → IsNumbered text other others → (program ≡ other) × (claims ≡ others) }
+{}
+
+/// A text is compiled to at most one code, with one list of labels.
+pub fn one_code()
+    ensures { (text : List ℕ) (code other : Code) (labels others : List ProcessLabels)
+        → IsCompiled text code labels → IsCompiled text other others → (code ≡ other) × (labels ≡ others) }
 {}

@@ -2,10 +2,10 @@
 #![tactic(auto)]
 
 mod arms;
+pub mod compiled;
 pub mod compiler;
 mod expression;
 pub mod fault;
-pub mod front;
 pub mod generate;
 pub mod laws;
 mod names;
@@ -14,6 +14,6 @@ mod process;
 mod statement;
 mod writer;
 
-pub use compiler::{Compiled, compile};
-pub use fault::CompileFault;
-pub use front::{Numbered, number};
+pub use compiled::Compiled;
+pub use compiler::{Analysis, analyze, compile};
+pub use fault::{ClaimsFault, CompileFault};

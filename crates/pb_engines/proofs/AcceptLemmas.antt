@@ -1,23 +1,17 @@
 -- The lines of refused texts.
-use Rattle.std.proofs.Common.{◌≡◌, ℕ, zero, suc, ◌<◌, List, [], ◌∷◌, length, map, get_or, slice_index_or, Result, Ok, Err, IfOk, subst, sym, ap, arith}
-use Rattle.std.proofs.lemmas.List.{length-map}
-use Rattle.pb_base.specs.Steppers.{Table}
-use Rattle.pb_claims.specs.Fits.{IsFirstOver}
-use Rattle.pb_claims.specs.declared.over_capital.OverCapital.{OverCapital}
-use Rattle.pb_names.specs.Meaning.{AreClaims}
-use Rattle.pb_names.specs.Program.{capital_of, Process as PlainProcess, Resource as PlainResource}
-use Rattle.pb_names.specs.View.{process_view, resolved_view, resource_view}
-use Rattle.pb_names.specs.declared.resolved.Process.{Process}
-use Rattle.pb_names.specs.declared.resolved.Resource.{Resource}
-use Rattle.pb_names.specs.declared.resolved.Resolved.{Resolved}
+use Rattle.std.proofs.Common.{◌≡◌, ℕ, List, Result, Ok, Err, IfOk, subst, sym}
 use Rattle.pb_base.specs.declared.memory.NoMemory.{NoMemory}
+use Rattle.pb_code.specs.Whole.{Code, ProcessLabels}
+use Rattle.pb_codegen.specs.Compiled.{IsCompiled}
+use Rattle.pb_names.specs.Program.{capital_of}
+use Rattle.pb_claims.specs.Fits.{FitCapital}
 use Rattle.pb_engines.specs.Answers.{line}
-use Rattle.pb_engines.specs.Refusals.{IsEarlyRefusal, IsRefusal, RefusesEarly, RefusesWith, SaysOfRefusedText, early, refused as by_line}
-use Rattle.pb_engines.specs.declared.accept.Refusal.{Refusal}
-use Rattle.pb_engines.specs.declared.accept.Refusal.TheVariants.{Line, NoMemory as OutOfMemory}
+use Rattle.pb_engines.specs.Refusals.{IsAcceptedText, RefusesEarly, RefusesWith, SaysOfRefusedText, early, refused as by_line}
 use Rattle.pb_engines.specs.declared.reply.Reply.{Reply}
 use Rattle.pb_engines.specs.declared.status.Status.{Status}
 use Rattle.pb_engines.specs.declared.status.Status.TheVariants.{Refused}
+use Rattle.pb_engines.specs.declared.accept.Refusal.{Refusal}
+use Rattle.pb_engines.specs.declared.accept.Refusal.TheVariants.{Line, NoMemory as OutOfMemory}
 
 -- a line that is written is that of the refusal
 pub refuses_by : {V : Type 0} (seen : V → List ℕ) (r : Result V NoMemory) (text l : List ℕ) → IfOk r (λ x. seen x ≡ l) → RefusesWith text l
@@ -31,43 +25,20 @@ pub refuses_early_by : {V : Type 0} (seen : V → List ℕ) (r : Result V NoMemo
 refuses_early_by seen (Ok x) text l same is = subst (RefusesEarly text) (sym same) is
 refuses_early_by seen (Err e) text l same is = tt
 
--- a refusal that comes before the claims is one
-pub is_refusal : (text : List ℕ) (refusal : Refusal) → IsEarlyRefusal text refusal → IsRefusal text refusal
-is_refusal text (Line l) is = early l.items is
-is_refusal text OutOfMemory is = tt
+-- a compiled text is accepted
+pub compiled_is_accepted : (text : List ℕ) (code : Code) (labels : List ProcessLabels) → IsCompiled text code labels
+    → IsAcceptedText text
+compiled_is_accepted text code labels is = record {
+  program = is.program;
+  claims = code.claims;
+  numbered = is.numbered;
+  enough = subst (λ (c : Code). FitCapital code.claims c.capital) is.generated is.enough;
+}
 
--- so is the reply with this line
+-- the reply with this line refuses the text
 pub reply_refuses : (r : Result Reply NoMemory) (text l : List ℕ) → IfOk r (λ x. (x.text.items ≡ line l) × (x.status ≡ Refused))
     → RefusesWith text l → IfOk r (λ x. SaysOfRefusedText text x.text.items x.status)
 reply_refuses (Ok x) text l (same, status) is =
     subst (λ (t : List ℕ). SaysOfRefusedText text t x.status) (sym same)
     (subst (λ (s : Status). SaysOfRefusedText text (line l) s) (sym status) (by_line l is))
 reply_refuses (Err e) text l same is = tt
-
--- ---- names
-
-pub process_name : {A : Type 0} (ps : List (Process A)) (i : ℕ) (p : Process A) → i < length ps → p ≡ get_or ps i p
-    → slice_index_or (map (λ (q : PlainProcess). q.name) (map process_view ps)) i [] ≡ p.name.items
-process_name [] i p within at = absurd (omega (arith, within))
-process_name (q ∷ ps) zero p within at = ap (λ (x : Process _). x.name.items) (sym at)
-process_name (q ∷ ps) (suc i) p within at = process_name ps i p (omega (arith, within)) at
-
-pub resource_name : {A : Type 0} (rs : List (Resource A)) (i : ℕ) (r : Resource A) → i < length rs → r ≡ get_or rs i r
-    → slice_index_or (map (λ (q : PlainResource). q.name) (map resource_view rs)) i [] ≡ r.name.items
-resource_name [] i r within at = absurd (omega (arith, within))
-resource_name (q ∷ rs) zero r within at = ap (λ (x : Resource _). x.name.items) (sym at)
-resource_name (q ∷ rs) (suc i) r within at = resource_name rs i r (omega (arith, within)) at
-
--- what is named first is there
-pub there : {A : Type 0} (program : Resolved A) (claims : Table) (over : OverCapital) → AreClaims (resolved_view program) claims
-    → IsFirstOver claims (capital_of (resolved_view program)) over
-    → (over.process < length program.processes.items) × (over.resource < length program.resources.items)
-there program claims over are first = (
-  (let p = first.process in let h = are.height in let n = length-map program.processes.items process_view in omega (arith, p, h, n)),
-  (
-      let r = first.first_resource.resource in
-      let n = length-map program.resources.items resource_view in
-      let m = length-map (resolved_view program).resources (λ (q : PlainResource). q.capital) in
-      omega (arith, r, n, m)
-      ),
-)

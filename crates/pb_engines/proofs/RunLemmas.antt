@@ -174,8 +174,12 @@ told_broken code steps w n before after old new told few step =
     let run = run_more code told.events before step.2 step.0 (Some step.1) told.run step.3 in (
       event_lines code.names (told.events ++ step.1 ∷ []),
       Device,
-      (told.events ++ step.1 ∷ [], length run.picks, cut_off step.2 run
-          (let all = length-append told.run.picks (step.0 ∷ []) in let same = told.so_many in omega (arith, all, same, few))),
+      (
+        told.events ++ step.1 ∷ [],
+        length run.picks,
+        cut_off step.2 run
+            (let all = length-append told.run.picks (step.0 ∷ []) in let same = told.so_many in omega (arith, all, same, few)),
+      ),
       inr (
         subst (AddsPrefix w new.written) (sym (one_more_line code.names told.events (Some step.1)))
             (AddsPrefix-more w old.written new.written [] (event_lines code.names told.events) (line (line_of code.names step.1)) old.page told.said step.4),

@@ -1,7 +1,6 @@
 -- The line of each refusal of a text or of an object.
-use Rattle.std.specs.Prelude.{ℕ, List, [], ◌∷◌, ◌++◌, codes, slice_index_or, ⊤}
+use Rattle.std.specs.Prelude.{ℕ, List, ◌∷◌, ◌++◌, codes, ⊤}
 use Rattle.std.specs.Fmt.{decimal}
-use Rattle.pb_base.specs.Lines.{NameTable}
 use Rattle.pb_base.specs.Steppers.{Table}
 use Rattle.pb_lexer.specs.declared.error.LexFault.{LexFault}
 use Rattle.pb_lexer.specs.declared.error.LexFault.TheVariants as lex
@@ -12,14 +11,13 @@ use Rattle.pb_names.specs.declared.fault.Kind.{Kind}
 use Rattle.pb_names.specs.declared.fault.Kind.TheVariants.{Processes, Resources, Integers, Fork, Arms}
 use Rattle.pb_names.specs.declared.fault.NameFault.{NameFault}
 use Rattle.pb_names.specs.declared.fault.NameFault.TheVariants as names
-use Rattle.pb_claims.specs.Fits.{FitCapital, IsFirstOver}
-use Rattle.pb_claims.specs.declared.over_capital.OverCapital.{OverCapital}
+use Rattle.pb_claims.specs.Fits.{FitCapital}
 use Rattle.pb_object.specs.declared.fault.ObjectFault.{ObjectFault}
 use Rattle.pb_object.specs.declared.fault.ObjectFault.TheVariants as object
 use Rattle.pb_codegen.specs.Compiled.{IsRefused}
-use Rattle.pb_codegen.specs.Generate.{names_of}
 use Rattle.pb_codegen.specs.Numbered.{IsNumbered}
-use Rattle.pb_codegen.specs.declared.fault.CompileFault.TheVariants.{Lex, Parse, Names}
+use Rattle.pb_codegen.specs.declared.fault.ClaimsFault.{ClaimsFault}
+use Rattle.pb_codegen.specs.declared.fault.CompileFault.TheVariants.{Lex, Parse, Names, Claims}
 use Rattle.pb_verifier.specs.declared.fault.VerifyFault.{VerifyFault}
 use Rattle.pb_verifier.specs.declared.fault.VerifyFault.TheVariants as verify
 use Rattle.pb_engines.specs.Answers.{line}
@@ -61,11 +59,10 @@ names_line (names.Repeated at) = at_place (codes "refused N6") at
 names_line names.NoMemory = codes "memory"
 
 -- a claim that is over its capital, with the names of its process and its resource
-abbrev pub claims_line : NameTable → OverCapital → List ℕ
-claims_line table over =
-    codes "refused C1 " ++ slice_index_or table.processes over.process []
-    ++ 32 ∷ slice_index_or table.resources over.resource []
-    ++ codes " claim " ++ decimal over.claim ++ codes " capital " ++ decimal over.capital
+abbrev pub claims_line : ClaimsFault → List ℕ
+claims_line fault =
+    codes "refused C1 " ++ fault.process.items ++ 32 ∷ fault.resource.items
+    ++ codes " claim " ++ decimal fault.claim ++ codes " capital " ++ decimal fault.capital
 
 -- the line of the first fault of a text that spells no program
 pub data RefusesEarly (text : List ℕ) : List ℕ → Type 0 where
@@ -76,8 +73,7 @@ pub data RefusesEarly (text : List ℕ) : List ℕ → Type 0 where
 -- the line of the first fault of a text: it spells no program, or a claim is over its capital
 pub data RefusesWith (text : List ℕ) : List ℕ → Type 0 where
   early : (refusal : List ℕ) → RefusesEarly text refusal → RefusesWith text refusal
-  by_claims : (program : Program) (claims : Table) (over : OverCapital) → IsNumbered text program claims
-      → IsFirstOver claims (capital_of program) over → RefusesWith text (claims_line (names_of program) over)
+  by_claims : (fault : ClaimsFault) → IsRefused text (Claims fault) → RefusesWith text (claims_line fault)
 
 -- the text spells a program, and the capital is enough for its claims
 pub record IsAcceptedText (text : List ℕ) : Type 0 where

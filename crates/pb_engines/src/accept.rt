@@ -1,12 +1,10 @@
 //! Texts, as far as every command over texts looks at them.
 ghost use Rattle.std.specs.Prelude.{◌≡◌, ◌≤◌, ℕ, IfErr, IfOk, List, length};
-ghost use Rattle.pb_claims.specs.Fits.{FitCapital};
 ghost use Rattle.pb_engines.specs.Answers.{Tells};
 ghost use Rattle.pb_engines.specs.Inputs.{SaysOfInput};
 ghost use Rattle.pb_engines.specs.Refusals.{IsEarlyRefusal, IsRefusal, RefusesEarly, RefusesWith, SaysOfRefusedText};
-ghost use Rattle.pb_codegen.specs.Compiled.{IsBeforeClaims, IsClaimsFault, IsCompiled, IsRefused};
-ghost use Rattle.pb_codegen.specs.Numbered.{IsNumbered, IsSpelled};
-ghost use Rattle.pb_names.specs.Program.{capital_of};
+ghost use Rattle.pb_codegen.specs.Compiled.{IsBeforeClaims, IsCompiled, IsRefused};
+ghost use Rattle.pb_codegen.specs.Numbered.{IsNumbered};
 ghost use Rattle.pb_names.specs.View.{resolved_view};
 ghost use Rattle.pb_engines.specs.Faults.{TellsWriteFaults};
 
@@ -16,7 +14,7 @@ use crate::status::Status;
 use bumpalo::Bump;
 use pb_base::NoMemory;
 use pb_base::device::Output;
-use pb_codegen::{CompileFault, Compiled, Numbered, number};
+use pb_codegen::{Analysis, CompileFault, Compiled, analyze, compile};
 use std::alloc::{Allocator, Global};
 
 /// Why a text is not accepted.
@@ -28,79 +26,59 @@ pub enum Refusal {
     NoMemory,
 }
 
-// The refusal by a line, where there was memory for it.
-fn by_line(line: Result<Vec<u8>, NoMemory>) -> Refusal
-    ensures any { (text : List ℕ) → IfOk line (λ l. RefusesWith text l.items) → IsRefusal text result }
-    ensures early { (text : List ℕ) → IfOk line (λ l. RefusesEarly text l.items) → IsEarlyRefusal text result }
-{
-    match line {
-        Ok(line) => Refusal::Line(line),
-        Err(_) => Refusal::NoMemory,
-    }
-}
-
-// The line of a fault that comes before the claims.
-fn early_line(alloc: Global, fault: CompileFault) -> Result<Vec<u8>, NoMemory>
-    requires { IsBeforeClaims fault }
-    ensures { (text : List ℕ) → IsRefused text fault → IfOk result (λ line. RefusesEarly text line.items) }
+// The line of a fault.
+fn fault_line(alloc: Global, fault: CompileFault) -> Result<Vec<u8>, NoMemory>
+    ensures any { (text : List ℕ) → IsRefused text fault → IfOk result (λ line. RefusesWith text line.items) }
+    ensures early { (text : List ℕ) → IsRefused text fault → IsBeforeClaims fault
+        → IfOk result (λ line. RefusesEarly text line.items) }
 {
     match fault {
         CompileFault::Lex(fault) => lex_text(alloc, fault),
         CompileFault::Parse(fault) => parse_text(alloc, fault),
         CompileFault::Names(fault) => names_text(alloc, fault),
-        CompileFault::Claims(_) => unreachable!(),
+        CompileFault::Claims(fault) => claims_text(alloc, &fault),
         CompileFault::Memory => Err(NoMemory),
     }
 }
 
-// The line of a claim that is over its capital.
-fn over_line<A: Allocator>(
-    alloc: Global,
-    numbered: &Numbered<A>,
-    fault: CompileFault,
-) -> Result<Vec<u8>, NoMemory>
-    requires fault { IsClaimsFault numbered.now.claims (capital_of (resolved_view numbered.now.program)) fault }
-    requires spelled { IsSpelled (resolved_view numbered.now.program) numbered.now.claims }
-    ensures { (text : List ℕ) → IsNumbered text (resolved_view numbered.now.program) numbered.now.claims
-        → IfOk result (λ line. RefusesWith text line.items) }
+// The refusal for a fault: by its line, if there is memory for it.
+fn refusal_of(alloc: Global, fault: CompileFault) -> Refusal
+    ensures any { (text : List ℕ) → IsRefused text fault → IsRefusal text result }
+    ensures early { (text : List ℕ) → IsRefused text fault → IsBeforeClaims fault → IsEarlyRefusal text result }
 {
-    let CompileFault::Claims(over) = fault else {
-        return Err(NoMemory);
-    };
-    let process = &numbered.program.processes[usize::from(over.process)];
-    let resource = &numbered.program.resources[usize::from(over.resource)];
-    claims_text(alloc, &process.name, &resource.name, over)
-}
-
-/// The numbered program of a text, with its claims, whether or not the capital is enough for them.
-pub fn read_text<A: Allocator + Clone>(
-    alloc: Global,
-    trees: A,
-    text: &[u8],
-) -> Result<Numbered<A>, Refusal>
-    ensures numbered { IfOk result (λ n. IsNumbered text.now (resolved_view n.program) n.claims) }
-    ensures refused { IfErr result (IsEarlyRefusal text.now) }
-{
-    match number(alloc, trees, text) {
-        Ok(numbered) => Ok(numbered),
-        Err(fault) => Err(by_line(early_line(alloc, fault))),
+    match fault_line(alloc, fault) {
+        Ok(line) => Refusal::Line(line),
+        Err(_) => Refusal::NoMemory,
     }
 }
 
-/// The numbered program of a text, whose capital is enough for its claims.
-pub fn accept<A: Allocator + Clone>(
+/// The numbered program of a text, with its claims, whether or not the capital is enough for them.
+pub fn analyze_text<A: Allocator + Clone>(
     alloc: Global,
     trees: A,
     text: &[u8],
-) -> Result<Numbered<A>, Refusal>
-    ensures numbered { IfOk result (λ n. IsNumbered text.now (resolved_view n.program) n.claims) }
-    ensures enough { IfOk result (λ n. FitCapital n.claims (capital_of (resolved_view n.program))) }
+) -> Result<Analysis<A>, Refusal>
+    ensures analyzed { IfOk result (λ a. IsNumbered text.now (resolved_view a.program) a.claims) }
+    ensures refused { IfErr result (IsEarlyRefusal text.now) }
+{
+    match analyze(alloc, trees, text) {
+        Ok(analysis) => Ok(analysis),
+        Err(fault) => Err(refusal_of(alloc, fault)),
+    }
+}
+
+/// The code of a text, whose trees lie in the memory of `trees` while it is compiled.
+pub fn compile_within<A: Allocator + Clone>(
+    alloc: Global,
+    trees: A,
+    text: &[u8],
+) -> Result<Compiled, Refusal>
+    ensures compiled { IfOk result (λ c. IsCompiled text.now c.verified.code c.labels) }
     ensures refused { IfErr result (IsRefusal text.now) }
 {
-    let numbered = read_text(alloc, trees, text)?;
-    match numbered.check_claims(alloc) {
-        Ok(()) => Ok(numbered),
-        Err(fault) => Err(by_line(over_line(alloc, &numbered, fault))),
+    match compile(alloc, trees, text) {
+        Ok(compiled) => Ok(compiled),
+        Err(fault) => Err(refusal_of(alloc, fault)),
     }
 }
 
@@ -110,11 +88,7 @@ pub fn compile_text(alloc: Global, text: &[u8]) -> Result<Compiled, Refusal>
     ensures refused { IfErr result (IsRefusal text.now) }
 {
     let arena = Bump::new(alloc);
-    let numbered = accept(alloc, &arena, text)?;
-    match numbered.code(alloc) {
-        Ok(compiled) => Ok(compiled),
-        Err(_) => Err(Refusal::NoMemory),
-    }
+    compile_within(alloc, &arena, text)
 }
 
 // The reply of a refusal, where there was memory for its line.

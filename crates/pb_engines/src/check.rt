@@ -7,7 +7,7 @@ ghost use Rattle.pb_engines.specs.Inputs.{SaysOfInput};
 ghost use Rattle.pb_engines.specs.Refusals.{IsAcceptedText, IsRefusal};
 ghost use Rattle.pb_engines.specs.Faults.{TellsFaults, TellsWriteFaults};
 
-use crate::accept::{Refusal, accept};
+use crate::accept::{Refusal, compile_within};
 use crate::input::read_input;
 use crate::options::CheckOptions;
 use crate::page::Page;
@@ -34,7 +34,7 @@ fn look<A: Allocator + Clone>(alloc: Global, trees: A, text: &[u8]) -> Result<()
     ensures accepted { OnOk result (IsAcceptedText text.now) }
     ensures refused { IfErr result (IsRefusal text.now) }
 {
-    accept(alloc, trees, text)?;
+    compile_within(alloc, trees, text)?;
     Ok(())
 }
 

@@ -8,7 +8,7 @@ ghost use Rattle.pb_names.specs.Meaning.{AreClaims};
 ghost use Rattle.pb_names.specs.View.{resolved_view};
 ghost use Rattle.pb_engines.specs.Faults.{TellsFaults, TellsWriteFaults};
 
-use crate::accept::{Refusal, read_text};
+use crate::accept::{Refusal, analyze_text};
 use crate::input::read_input;
 use crate::refusal::put_number;
 use crate::reply::{Reply, refused, tell};
@@ -77,9 +77,9 @@ fn claims_reply(alloc: Global, text: &[u8]) -> Result<Reply, NoMemory>
     ensures { IfOk result (λ reply. SaysOfClaims text.now reply.text.items reply.status) }
 {
     let arena = Bump::new(alloc);
-    match read_text(alloc, &arena, text) {
-        Ok(numbered) => Ok(Reply {
-            text: claims_text(alloc, &numbered.program, &numbered.claims)?,
+    match analyze_text(alloc, &arena, text) {
+        Ok(analysis) => Ok(Reply {
+            text: claims_text(alloc, &analysis.program, &analysis.claims)?,
             status: Status::Done,
         }),
         Err(Refusal::Line(line)) => refused(line),

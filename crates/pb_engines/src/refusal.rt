@@ -1,11 +1,11 @@
 //! The line of a text or an object that is refused.
 ghost use Rattle.std.specs.Prelude.{◌≡◌, ◌≢◌, ◌++◌, ◌∷◌, IfOk, OnOk, codes};
 ghost use Rattle.std.specs.Fmt.{decimal};
-ghost use Rattle.pb_engines.specs.Refusals.{at_place, kind_line, lex_line, names_line, object_line, parse_line, verify_line};
+ghost use Rattle.pb_engines.specs.Refusals.{at_place, claims_line, kind_line, lex_line, names_line, object_line, parse_line, verify_line};
 
 use pb_base::NoMemory;
-use pb_claims::OverCapital;
 use pb_object::ObjectFault;
+use pb_codegen::ClaimsFault;
 use pb_lexer::LexFault;
 use pb_names::{Kind, NameFault};
 use pb_parser::ParseFault;
@@ -85,22 +85,16 @@ pub fn put_number(text: &mut Vec<u8>, before: &[u8], number: u64) -> Result<(), 
     Ok(())
 }
 
-/// The line of a claim that is over its capital, without a line feed: the process and the resource by these names.
-pub fn claims_text(
-    alloc: Global,
-    process: &[u8],
-    resource: &[u8],
-    over: OverCapital,
-) -> Result<Vec<u8>, NoMemory>
-    ensures { IfOk result (λ text. text.items ≡ codes "refused C1 " ++ process.now ++ 32 ∷ resource.now
-        ++ codes " claim " ++ decimal over.claim ++ codes " capital " ++ decimal over.capital) }
+/// The line of a claim that is over its capital, without a line feed.
+pub fn claims_text(alloc: Global, fault: &ClaimsFault) -> Result<Vec<u8>, NoMemory>
+    ensures { IfOk result (λ text. text.items ≡ claims_line fault.now) }
 {
     let mut text = Vec::from_slice(alloc, b"refused C1 ")?;
-    text.extend_from_slice(process)?;
+    text.extend_from_slice(&fault.process)?;
     text.push(b' ')?;
-    text.extend_from_slice(resource)?;
-    put_number(&mut text, b" claim ", over.claim)?;
-    put_number(&mut text, b" capital ", u64::from(over.capital))?;
+    text.extend_from_slice(&fault.resource)?;
+    put_number(&mut text, b" claim ", fault.claim)?;
+    put_number(&mut text, b" capital ", u64::from(fault.capital))?;
     Ok(text)
 }
 

@@ -1,8 +1,7 @@
 //! Texts, and the code that they are compiled to.
 
-use pb_claims::OverCapital;
 use pb_code::{Instr, ProcessCode};
-use pb_codegen::{CompileFault, Compiled, compile};
+use pb_codegen::{CompileFault, Compiled, analyze, compile};
 use std::test::Fail;
 
 /// The code of the first process.
@@ -140,21 +139,33 @@ fn a_joint_hold_in_an_if_without_else(rt: HostRuntime) -> Result<(), Fail> {
     Ok(())
 }
 
+const OVER: &[u8] = b"resource t = 1; resource u = 3;
+process p begin hold 1 of t do skip od end
+process q begin hold 3 of u do parbegin hold 1 of t do skip od; hold 2 of u do skip od parend od end
+process r begin hold 9 of t do skip od end";
+
 #[test]
-fn a_claim_over_the_capital(rt: HostRuntime) -> Result<(), Fail> {
+fn the_first_claim_over_its_capital(rt: HostRuntime) -> Result<(), Fail> {
     let alloc = rt.alloc();
-    let text = b"resource t = 1; process p begin hold 2 of t do skip od end";
-    let over = OverCapital {
-        process: 0,
-        resource: 0,
-        claim: 2,
-        capital: 1,
+    let Err(CompileFault::Claims(fault)) = compile(alloc, alloc, OVER) else {
+        return Err(Fail::new("not refused for a claim"));
     };
-    match compile(alloc, alloc, text) {
-        Ok(_) => Err(Fail::new("not refused")),
-        Err(fault) => {
-            assert!(rt; fault == CompileFault::Claims(over));
-            Ok(())
-        }
-    }
+    assert!(rt; fault.process.as_slice() == b"q".as_slice());
+    assert!(rt; fault.resource.as_slice() == b"u".as_slice());
+    assert_eq!(rt; fault.claim, 5);
+    assert_eq!(rt; fault.capital, 3);
+    Ok(())
+}
+
+#[test]
+fn an_analysis_whatever_the_capital(rt: HostRuntime) -> Result<(), Fail> {
+    let alloc = rt.alloc();
+    let analysis = analyze(alloc, alloc, OVER)?;
+    assert_eq!(rt; analysis.program.processes.len(), 3);
+    assert_eq!(rt; analysis.claims.processes(), 3);
+    assert_eq!(rt; analysis.claims.resources(), 2);
+    assert_eq!(rt; analysis.claims.get(0, 0), 1);
+    assert_eq!(rt; analysis.claims.get(1, 1), 5);
+    assert_eq!(rt; analysis.claims.get(2, 0), 9);
+    Ok(())
 }

@@ -22,7 +22,7 @@ use Rattle.pb_code.specs.Code.{ProcessCode, Thread, Idle, Live, Over, CodeProces
 use Rattle.pb_code.specs.Reached.{CodeReaches}
 use Rattle.pb_code.specs.Whole.{Code, bank_of, code_opening}
 use Rattle.pb_verifier.specs.declared.fault.VerifyFault.TheVariants.{OutOfLimits, OverCapital, OverClaim}
-use Rattle.pb_verifier.specs.Behaviour.{AsksWithin, EndsOrGoesOn, IsStuck}
+use Rattle.pb_verifier.specs.Behaviour.{AsksWithin, EndsOrGoesOn, IsDeadlocked}
 use Rattle.pb_verifier.specs.Limits.{KeepsLimits, IsSmallBundle}
 use Rattle.pb_verifier.specs.Verified.{IsAnnotated}
 use Rattle.pb_verifier.proofs.Finding.{can_step, none_live}
@@ -310,5 +310,5 @@ module _ (whole : Code) (annotated : IsAnnotated whole) where
     pub ends_or_goes_on : EndsOrGoesOn whole s
     ends_or_goes_on = ⊎_elim (λ next. inr (goes_on next)) (λ all. inl (finished all)) (walk kept.safe.0)
 
-    pub not_stuck : IsStuck whole s → ⊥
-    not_stuck stuck = ⊎_elim stuck.0 stuck.1 ends_or_goes_on
+    pub not_deadlocked : IsDeadlocked whole s → ⊥
+    not_deadlocked locked = ⊎_elim locked.0 locked.1 ends_or_goes_on

@@ -5,7 +5,7 @@ use Rattle.pb_verifier.specs.declared.fault.VerifyFault.TheVariants.{OutOfLimits
 use Rattle.pb_verifier.specs.Behaviour.{IsWellBehaved, PeaksDecide}
 use Rattle.pb_verifier.specs.Faults.{HasArms, HasForks, TurnsDepth, TurnsHoldings, in_holdings}
 use Rattle.pb_verifier.specs.Verified.{IsAnnotated}
-use Rattle.pb_verifier.proofs.Banking.{asks_within_claims, ends_or_goes_on, kept_reached, not_stuck}
+use Rattle.pb_verifier.proofs.Banking.{asks_within_claims, ends_or_goes_on, kept_reached, not_deadlocked, well_formed}
 use Rattle.pb_verifier.proofs.Finding.{can_step}
 use Rattle.pb_verifier.proofs.Greatest.{least, one_depth, one_holdings, spread_once}
 use Rattle.pb_verifier.proofs.States.{checked, passes_tests}
@@ -21,11 +21,12 @@ behaved code annotated = record {
         λ depth depths. stands.2 ∙ spread_once process TurnsDepth 0 ok.depth depth one_depth ok.depths depths place stands.1,
       );
   asks_within = λ s reached. asks_within_claims code annotated s (kept_reached code annotated s reached).good;
+  well_formed = λ s reached. well_formed code annotated s (kept_reached code annotated s reached);
   safe = λ s reached. (kept_reached code annotated s reached).safe;
   some_arm_steps = λ s reached p process state at here going.
       can_step process (checked code annotated p process at) state ((kept_reached code annotated s reached).good.fit p process state at here) going;
   ends_or_goes_on = λ s reached. ends_or_goes_on code annotated s (kept_reached code annotated s reached);
-  not_stuck = λ s reached. not_stuck code annotated s (kept_reached code annotated s reached);
+  not_deadlocked = λ s reached. not_deadlocked code annotated s (kept_reached code annotated s reached);
 }
 
 pub peaks_decide : (code : Code) → PeaksDecide code

@@ -2,7 +2,7 @@
 use Rattle.std.specs.Prelude.{◌≡◌, ◌↔◌, ◌⊎◌, ℕ, ◌+◌, ◌<◌, ◌≤◌, ℤ, List, length, Some, slice_get, All, ⊤}
 use Rattle.pb_base.specs.declared.pick.Pick.{Pick}
 use Rattle.pb_base.specs.Bundle.{amount_in}
-use Rattle.pb_base.specs.Banker.{IsSafe, IsWithinClaim, cell}
+use Rattle.pb_base.specs.Banker.{IsSafe, IsWellFormed, IsWithinClaim, cell}
 use Rattle.pb_base.specs.Steppers.{Bundle, Table, Effect, Takes, State, Move, banker_state, move_of, CanGoOn, IsFinished}
 use Rattle.pb_code.specs.Code.{ProcessCode, Instr, Push, Load, Store, Compute1, Compute2, Jump, JumpIfZero, PrintTop, Take, Give, Fork, Join, End, Idle, Live, ThreadStep, CodeProcess, thread, act, step_process, code_step, code_over}
 use Rattle.pb_code.specs.Reached.{CodeReaches}
@@ -79,22 +79,25 @@ abbrev pub EndsOrGoesOn : Code → State CodeProcess → Type 0
 EndsOrGoesOn code s = IsFinished code_over s ⊎ CanGoOn (bank_of code) (code_step code.processes) s
 
 -- not all has ended, and no pick is enabled
-abbrev pub IsStuck : Code → State CodeProcess → Type 0
-IsStuck code s = (IsFinished code_over s → ⊥) × (CanGoOn (bank_of code) (code_step code.processes) s → ⊥)
+abbrev pub IsDeadlocked : Code → State CodeProcess → Type 0
+IsDeadlocked code s = (IsFinished code_over s → ⊥) × (CanGoOn (bank_of code) (code_step code.processes) s → ⊥)
 
 -- in every state that the code reaches: no test fails, stacks are as deep as their places say, no request
--- passes its claim, the loans are safe, and not all wait
+-- passes its claim, each loan is within its claim and all loans together within the capital, the loans are safe,
+-- and not all wait
 pub record IsWellBehaved (code : Code) : Type 0 where
   pub passes_tests : (s : State CodeProcess) → CodeReaches code s → PassesTests code s
   pub stacks_have_their_depth : (s : State CodeProcess) → CodeReaches code s → StacksHaveTheirDepth code s
   pub asks_within : (s : State CodeProcess) → CodeReaches code s → AsksWithin code s
+  pub well_formed : (s : State CodeProcess) → CodeReaches code s
+      → IsWellFormed (banker_state (bank_of code) s.loans)
   pub safe : (s : State CodeProcess) → CodeReaches code s → IsSafe (banker_state (bank_of code) s.loans)
   pub some_arm_steps : (s : State CodeProcess) → CodeReaches code s
       → (p : ℕ) (process : ProcessCode) (state : CodeProcess) → slice_get code.processes p ≡ Some process
       → slice_get s.processes p ≡ Some state
       → (code_over state → ⊥) → SomeArmSteps process state
   pub ends_or_goes_on : (s : State CodeProcess) → CodeReaches code s → EndsOrGoesOn code s
-  pub not_stuck : (s : State CodeProcess) → CodeReaches code s → IsStuck code s → ⊥
+  pub not_deadlocked : (s : State CodeProcess) → CodeReaches code s → IsDeadlocked code s → ⊥
 
 -- whether the peak fits is decided by the greatest amounts, where there are any: in code that has no fault
 -- looked for earlier

@@ -70,10 +70,10 @@ fn replay(
     let alloc = rt.alloc();
     let program = program_of(alloc, text)?;
     let compiled = &program.compiled;
-    let numbered = &program.numbered;
+    let analysis = &program.analysis;
     let opening = Machine::new(alloc, compiled.verified())?;
     let mut machine = Machine::new(alloc, compiled.verified())?;
-    let mut source = Source::new(alloc, alloc, &numbered.program, &numbered.claims)?;
+    let mut source = Source::new(alloc, alloc, &analysis.program, &analysis.claims)?;
     let mut all = Vec::new(alloc);
     for turn in turns {
         take_turn(alloc, compiled, &mut machine, &mut source, *turn, &mut all)?;

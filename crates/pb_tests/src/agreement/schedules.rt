@@ -130,13 +130,13 @@ pub(super) fn follow(
     schedule: u64,
     tally: &mut Tally,
 ) -> Result<Option<Parting>, NoMemory>
-    requires { Fits (resolved_view program.now.numbered.program) program.now.numbered.claims }
+    requires { Fits (resolved_view program.now.analysis.program) program.now.analysis.claims }
 {
     let compiled = &program.compiled;
-    let numbered = &program.numbered;
+    let analysis = &program.analysis;
     let mut machine = Machine::new(alloc, compiled.verified())?;
     let mut beside = machine.copy(alloc)?;
-    let mut source = Source::new(alloc, alloc, &numbered.program, &numbered.claims)?;
+    let mut source = Source::new(alloc, alloc, &analysis.program, &analysis.claims)?;
     if let Some(difference) = first_difference(compiled.labels(), &machine, &source) {
         return Ok(Some(Parting {
             made: 0,

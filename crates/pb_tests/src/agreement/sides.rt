@@ -8,7 +8,8 @@ ghost use Rattle.pb_rewrite.specs.Sources.{Fits, IsSource};
 use crate::agreement::answers::same_step;
 use pb_base::{Event, FaultKind, NoMemory, Pick, Step};
 use pb_code::{Code, Instr};
-use pb_codegen::{CompileFault, Compiled, Numbered, number};
+use pb_codegen::laws::one_analysis;
+use pb_codegen::{Analysis, CompileFault, Compiled, analyze, compile};
 use pb_machine::Machine;
 use pb_rewrite::Source;
 use pb_rewrite::laws::resolved_programs_fit;
@@ -18,20 +19,20 @@ use std::alloc::Global;
 /// The numbered program of a text, and its code.
 #[derive(Drop)]
 pub(super) struct Program {
-    pub(super) numbered: Numbered<Global>,
+    pub(super) analysis: Analysis<Global>,
     pub(super) compiled: Compiled,
 }
 
 /// The program of an accepted text.
 pub(super) fn program_of(alloc: Global, text: &[u8]) -> Result<Program, CompileFault>
     ensures { IfOk result (λ program.
-        Fits (resolved_view program.numbered.program) program.numbered.claims) }
+        Fits (resolved_view program.analysis.program) program.analysis.claims) }
 {
-    let numbered = number(alloc, alloc, text)?;
-    numbered.check_claims(alloc)?;
+    let compiled = compile(alloc, alloc, text)?;
+    let analysis = analyze(alloc, alloc, text)?;
+    one_analysis();
     resolved_programs_fit();
-    let compiled = numbered.code(alloc)?;
-    Ok(Program { numbered, compiled })
+    Ok(Program { analysis, compiled })
 }
 
 /// The place of an arm, where it is live.

@@ -9,7 +9,7 @@ use Rattle.pb_engines.proofs.claims.claims_reply.Goals as goal
 pub returns-in-Ok : goal.returns-in-Ok
 returns-in-Ok c =
     subst (λ (t : List ℕ). SaysOfClaims c.args.text.now t Done) (sym c.in_ok-claims_text-in-Ok.ensures)
-    (claimed (resolved_view c.in-Ok.numbered.program) c.in-Ok.numbered.claims c.in-Ok.ensures.numbered)
+    (claimed (resolved_view c.in-Ok.analysis.program) c.in-Ok.analysis.claims c.in-Ok.ensures.analyzed)
 
 pub returns-in-Err-Line : goal.returns-in-Err-Line
 returns-in-Err-Line c =

@@ -1,11 +1,14 @@
 use Rattle.std.proofs.Common.{Err, ap}
 use Rattle.std.proofs.lemmas.Result.{err_from_is_err_and}
 use Rattle.pb_tree.specs.View.{program_view}
-use Rattle.pb_claims.proofs.Bounds.{small_claims}
 use Rattle.pb_names.specs.View.{resolved_view}
-use Rattle.pb_codegen.proofs.Fronts.{names_come_early}
-use Rattle.pb_codegen.proofs.Compiling.{complete, spells, parse_refused, names_refused}
-use Rattle.pb_codegen.proofs.front.number.Goals as goal
+use Rattle.pb_codegen.proofs.Compiling.{complete, names_come_early, names_refused, numbered, parse_refused, spells}
+use Rattle.pb_codegen.proofs.compiler.analyze.Goals as goal
+
+pub resolve-requires : goal.resolve-requires
+resolve-requires g c =
+    let cut = rw (← c.as_slice.ensures.value) at c.in_ok-tokens.ensures.found in
+    complete c.args.text.now _ (program_view c.in_ok-tree.tree) cut c.in_ok-tree.ensures.found
 
 pub returns-in_err-tree-clause-refused : goal.returns-in_err-tree-clause-refused
 returns-in_err-tree-clause-refused g c =
@@ -27,21 +30,9 @@ returns-in_err-program-clause-early g c =
     let p = err_from_is_err_and c.from_residual-in_err-program.result c.from_residual-in_err-program.ensures.1 in
     rw (p.1, p.2) (names_come_early _)
 
-pub returns-clause-numbered : goal.returns-clause-numbered
-returns-clause-numbered g c =
+pub returns-clause-analyzed : goal.returns-clause-analyzed
+returns-clause-analyzed g c =
     let cut = rw (← c.as_slice.ensures.value) at c.in_ok-tokens.ensures.found in
     let e = c.in_ok-tree.ensures in
-    let written = program_view c.in_ok-tree.tree in
-    let spelled = spells c.args.text.now _ written c.in_ok-tree.tree c.parse.result cut e.found e.limits c.in_ok-tree.was c.parse.ensures.nested in
-    let numbered = c.in_ok-program.ensures.resolves in
-    record {
-      tree = written;
-      spelled = spelled;
-      numbered = numbered;
-      claimed = c.in_ok-claims.ensures.exact (small_claims written (resolved_view c.in_ok-program.program) numbered e.limits.nodes);
-    }
-
-pub resolve-requires : goal.resolve-requires
-resolve-requires g c =
-    let cut = rw (← c.as_slice.ensures.value) at c.in_ok-tokens.ensures.found in
-    complete c.args.text.now _ (program_view c.in_ok-tree.tree) cut c.in_ok-tree.ensures.found
+    let spelled = spells c.args.text.now _ (program_view c.in_ok-tree.tree) c.in_ok-tree.tree c.parse.result cut e.found e.limits c.in_ok-tree.was c.parse.ensures.nested in
+    numbered _ _ (resolved_view c.in_ok-program.program) _ spelled c.in_ok-program.ensures.resolves c.in_ok-claims.ensures.exact

@@ -1,0 +1,5 @@
+use Rattle.pb_codegen.proofs.OneCode.{one_analysis}
+use Rattle.pb_codegen.proofs.laws.one_analysis.Goals as goal
+
+pub returns : goal.returns
+returns c = one_analysis
