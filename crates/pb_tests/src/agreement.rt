@@ -3,7 +3,6 @@
 mod answers;
 mod draws;
 mod replays;
-mod runs;
 mod schedules;
 mod sides;
 mod states;
@@ -21,7 +20,7 @@ use std::process::Abort;
 use std::test::Fail;
 
 /// How many schedules each program is stepped under.
-const SCHEDULES: u64 = 200;
+const SCHEDULES: u64 = 300;
 
 /// How many schedules each long program is stepped under.
 const FEW_SCHEDULES: u64 = 20;

@@ -388,8 +388,8 @@ const COUNT_AND_OVERFLOW: [Instr; 14] = [
     Instr::End,
 ];
 
-/// A run of each length makes as many picks as it may, and leaves what as many picks leave that are made one by one; it
-/// leaves the fault to the machine.
+/// A run stops at its limit, also in the midst of a round, and before the fault, which it leaves to the machine; it
+/// leaves what as many picks leave that are made one by one.
 #[test]
 fn silent_runs_apart(rt: HostRuntime) -> Result<(), Fail> {
     let alloc = rt.alloc();
@@ -399,25 +399,23 @@ fn silent_runs_apart(rt: HostRuntime) -> Result<(), Fail> {
     let machine = Machine::new(alloc, &verified)?;
     assert!(rt; machine.processes() == 1);
     let pick = Pick { process: 0, arm: 0 };
+    let mut run = apart(alloc, &verified, &machine)?;
     let mut one_by_one = apart(alloc, &verified, &machine)?;
-    let mut picks = 0;
-    for max in 0..40 {
-        let mut run = apart(alloc, &verified, &machine)?;
-        assert_eq!(rt; run.run_silent(&verified, pick, max), picks);
-        assert!(rt; run.same(&one_by_one), "a run of {max}");
-        if one_by_one.silent(&verified, pick) {
-            picks += 1;
-        }
-        assert_eq!(rt;
-            run.run_silent(&verified, Pick { process: 0, arm: 1 }, max),
-            0
-        );
-    }
-    assert_eq!(rt; picks, 33);
+    assert_eq!(rt; run.run_silent(&verified, pick, 2), 2);
+    assert!(rt; one_by_one.silent(&verified, pick));
+    assert!(rt; one_by_one.silent(&verified, pick));
+    assert!(rt; run.same(&one_by_one));
+    assert_eq!(rt; run.run_silent(&verified, Pick { process: 0, arm: 1 }, 5), 0);
+    assert_eq!(rt; run.run_silent(&verified, pick, 30), 30);
+    assert!(rt; !run.same(&one_by_one));
+    assert_eq!(rt; one_by_one.run_silent(&verified, pick, 40), 31);
+    assert_eq!(rt; run.run_silent(&verified, pick, 40), 1);
+    assert!(rt; run.same(&one_by_one));
+    assert!(rt; !run.silent(&verified, pick));
     Ok(())
 }
 
-/// The machine makes silent runs of its processes, and has the groups of their code.
+/// The machine makes silent runs of its processes, and faults where a run stopped.
 #[test]
 fn silent_runs_of_the_machine(rt: HostRuntime) -> Result<(), Fail> {
     let alloc = rt.alloc();
@@ -429,35 +427,10 @@ fn silent_runs_of_the_machine(rt: HostRuntime) -> Result<(), Fail> {
     assert_eq!(rt; machine.run_silent(&verified, pick, 20), 20);
     assert_eq!(rt; machine.run_silent(&verified, pick, 20), 13);
     assert_eq!(rt; machine.run_silent(&verified, pick, 20), 0);
-    assert_eq!(rt;
-        machine.run_silent(&verified, Pick { process: 1, arm: 0 }, 20),
-        0
-    );
-    assert!(rt; verified.code().processes.len() == 1);
-    assert_eq!(rt; verified.groups(0).len(), COUNT_AND_OVERFLOW.len());
+    assert_eq!(rt; machine.run_silent(&verified, Pick { process: 1, arm: 0 }, 20), 0);
     let Step::Did(event) = machine.step(&verified, pick) else {
         return Err(Fail::from(NoMemory));
     };
     assert_eq!(rt; shown(event), Seen::Faulted(0, 0, FaultKind::Overflow));
-    Ok(())
-}
-
-/// A process takes over the state of another.
-#[test]
-fn a_process_is_set_to_another(rt: HostRuntime) -> Result<(), Fail> {
-    let alloc = rt.alloc();
-    let Some(verified) = alone(alloc, &[0], &COUNT_AND_OVERFLOW)? else {
-        return Err(Fail::from(NoMemory));
-    };
-    let machine = Machine::new(alloc, &verified)?;
-    assert!(rt; machine.processes() == 1);
-    let mut spare = apart(alloc, &verified, &machine)?;
-    let mut ahead = spare.copy(alloc)?;
-    let made = ahead.run_silent(&verified, Pick { process: 0, arm: 0 }, 7);
-    assert_eq!(rt; made, 7);
-    assert!(rt; !spare.same(&ahead));
-    assert!(rt; spare.vars().len() == ahead.vars().len());
-    spare.set_to(&ahead);
-    assert!(rt; spare.same(&ahead));
     Ok(())
 }

@@ -5,8 +5,7 @@ ghost use Rattle.pb_names.specs.View.{resolved_view};
 ghost use Rattle.pb_rewrite.specs.Sources.{Fits, IsSource};
 
 use crate::agreement::draws::Draws;
-use crate::agreement::runs::make_run;
-use crate::agreement::sides::Program;
+use crate::agreement::sides::{Program, Seen, step_both};
 use crate::agreement::states::{Difference, first_difference};
 use crate::agreement::tally::Tally;
 use pb_base::{NoMemory, Pick};
@@ -15,11 +14,8 @@ use pb_machine::{Machine, Proc, ThreadState};
 use pb_rewrite::Source;
 use std::alloc::Global;
 
-/// The most picks of one schedule, but for the rest of its last run: some programs have no end.
-const MOST_PICKS: u64 = 500;
-
-/// A silent run is to make fewer picks than so many.
-const LONGEST_RUN: usize = 12;
+/// The most picks of one schedule: some programs have no end.
+const MOST_PICKS: usize = 500;
 
 /// Adds the picks of a process's live arms.
 fn push_live(process: &Proc, p: usize, picks: &mut Vec<Pick>) -> Result<(), NoMemory> {
@@ -74,44 +70,37 @@ fn draw(alloc: Global, machine: &Machine, draws: &mut Draws) -> Result<Pick, NoM
 /// Where the two sides first differ.
 #[derive(Clone, Copy, Debug, PartialEq, Eq)]
 pub(super) struct Parting {
-    /// How many picks and runs were made before the one after which they differ.
-    made: u64,
-    /// That pick, or the pick of that run; none where they differ before any.
+    /// How many picks were made before the one after which they differ.
+    made: usize,
+    /// That pick; none where they differ before any.
     pick: Option<Pick>,
     difference: Difference,
 }
 
-/// How many picks a silent run is to make: none half of the time, so that a pick is made alone.
-fn length(draws: &mut Draws) -> u32 {
-    if draws.below(2) == 0 {
-        return 0;
-    }
-    u32::from(small(draws, LONGEST_RUN))
-}
-
 /// Makes drawn picks on both sides until all processes are over and some picks more, and compares the sides after
-/// each. `beside` is a machine that makes the same picks by silent runs of drawn lengths.
+/// each.
 fn make_picks(
     alloc: Global,
     compiled: &Compiled,
     machine: &mut Machine,
-    beside: &mut Machine,
     source: &mut Source<Global>,
     draws: &mut Draws,
     tally: &mut Tally,
 ) -> Result<Option<Parting>, NoMemory>
     requires machine { IsMachineOf compiled.now.verified machine.old }
-    requires beside { IsMachineOf compiled.now.verified beside.old }
     requires source { IsSource source.old }
 {
-    let enough = tally.picks().saturating_add(MOST_PICKS);
     for made in 0..MOST_PICKS {
-        if tally.picks() >= enough || (machine.finished() && draws.below(4) == 0) {
+        if machine.finished() && draws.below(4) == 0 {
             return Ok(None);
         }
         let pick = draw(alloc, machine, draws)?;
-        let max = length(draws);
-        let difference = make_run(alloc, compiled, machine, beside, source, pick, max, tally)?;
+        let seen = step_both(alloc, compiled.verified(), machine, source, pick)?;
+        tally.count(seen);
+        let difference = match seen {
+            Seen::Differ(..) => Some(Difference::Answer),
+            _ => first_difference(compiled.labels(), machine, source),
+        };
         if let Some(difference) = difference {
             return Ok(Some(Parting {
                 made,
@@ -135,7 +124,6 @@ pub(super) fn follow(
     let compiled = &program.compiled;
     let analysis = &program.analysis;
     let mut machine = Machine::new(alloc, compiled.verified())?;
-    let mut beside = machine.copy(alloc)?;
     let mut source = Source::new(alloc, alloc, &analysis.program, &analysis.claims)?;
     if let Some(difference) = first_difference(compiled.labels(), &machine, &source) {
         return Ok(Some(Parting {
@@ -149,7 +137,6 @@ pub(super) fn follow(
         alloc,
         compiled,
         &mut machine,
-        &mut beside,
         &mut source,
         &mut draws,
         tally,

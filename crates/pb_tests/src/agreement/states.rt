@@ -22,8 +22,6 @@ pub(super) enum Difference {
     Loans,
     /// In whether all processes are over.
     Finished,
-    /// A silent run from the same picks made one by one.
-    Run,
 }
 
 fn same_integers(machine: &Machine, source: &Source<Global>) -> bool {

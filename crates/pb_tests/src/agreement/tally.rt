@@ -28,20 +28,6 @@ impl Tally {
         }
     }
 
-    /// How many picks were counted.
-    pub(super) fn picks(&self) -> u64 {
-        let silent = self
-            .skipped
-            .saturating_add(self.silent)
-            .saturating_add(self.not_enabled);
-        let loans = self.granted.saturating_add(self.returned);
-        let others = self
-            .printed
-            .saturating_add(self.faulted)
-            .saturating_add(self.finished);
-        silent.saturating_add(loans).saturating_add(others)
-    }
-
     /// Counts what a pick showed.
     pub(super) fn count(&mut self, seen: Seen) {
         let number = match seen {
