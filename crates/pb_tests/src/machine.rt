@@ -405,7 +405,10 @@ fn silent_runs_apart(rt: HostRuntime) -> Result<(), Fail> {
     assert!(rt; one_by_one.silent(&verified, pick));
     assert!(rt; one_by_one.silent(&verified, pick));
     assert!(rt; run.same(&one_by_one));
-    assert_eq!(rt; run.run_silent(&verified, Pick { process: 0, arm: 1 }, 5), 0);
+    assert_eq!(rt;
+        run.run_silent(&verified, Pick { process: 0, arm: 1 }, 5),
+        0
+    );
     assert_eq!(rt; run.run_silent(&verified, pick, 30), 30);
     assert!(rt; !run.same(&one_by_one));
     assert_eq!(rt; one_by_one.run_silent(&verified, pick, 40), 31);
@@ -427,7 +430,10 @@ fn silent_runs_of_the_machine(rt: HostRuntime) -> Result<(), Fail> {
     assert_eq!(rt; machine.run_silent(&verified, pick, 20), 20);
     assert_eq!(rt; machine.run_silent(&verified, pick, 20), 13);
     assert_eq!(rt; machine.run_silent(&verified, pick, 20), 0);
-    assert_eq!(rt; machine.run_silent(&verified, Pick { process: 1, arm: 0 }, 20), 0);
+    assert_eq!(rt;
+        machine.run_silent(&verified, Pick { process: 1, arm: 0 }, 20),
+        0
+    );
     let Step::Did(event) = machine.step(&verified, pick) else {
         return Err(Fail::from(NoMemory));
     };

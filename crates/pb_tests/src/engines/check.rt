@@ -40,7 +40,13 @@ process p begin skip end
 %%
 process p begin while 1 do skip od end%%";
     let answers = b"refused P1 at 0\nrefused L2 at 25\nrefused L2 at 38\n";
-    check(&rt, Some(1_024), with_marks_in_lines, Status::Refused, answers)
+    check(
+        &rt,
+        Some(1_024),
+        with_marks_in_lines,
+        Status::Refused,
+        answers,
+    )
 }
 
 #[test]
@@ -51,6 +57,12 @@ fn a_heap_may_be_too_small(rt: HostRuntime) -> Result<(), Fail> {
         text.extend_from_slice(b"; print 1")?;
     }
     text.extend_from_slice(b" end")?;
-    check(&rt, Some(1_024), text.as_slice(), Status::Memory, b"memory\n")?;
+    check(
+        &rt,
+        Some(1_024),
+        text.as_slice(),
+        Status::Memory,
+        b"memory\n",
+    )?;
     check(&rt, Some(1_048_576), text.as_slice(), Status::Done, b"ok\n")
 }

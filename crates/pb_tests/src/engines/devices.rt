@@ -3,20 +3,16 @@
 use crate::objects::FIRST;
 use crate::texts::HELLO;
 use pb_base::device::{FaultyInput, MemoryInput, MemoryOutput};
+use pb_engines::{
+    CheckOptions, EmitOptions, RunOptions, Status, check_engine, claims_engine, emit_engine,
+    exec_engine, migrate_engine, run_engine,
+};
 use pb_object::Format;
-use pb_engines::{CheckOptions, EmitOptions, RunOptions, Status};
-use pb_engines::{check_engine, claims_engine, emit_engine};
-use pb_engines::{exec_engine, migrate_engine, run_engine};
 use std::process::Abort;
 use std::test::Fail;
 
 /// Sees that an engine told the one read that failed, and wrote nothing.
-fn check(
-    rt: &impl Abort,
-    status: Status,
-    input: &FaultyInput<'_>,
-    output: &MemoryOutput,
-) {
+fn check(rt: &impl Abort, status: Status, input: &FaultyInput<'_>, output: &MemoryOutput) {
     assert_eq!(rt; status, Status::Device);
     assert_eq!(rt; input.failures(), 1);
     assert_eq!(rt; output.failures(), 0);

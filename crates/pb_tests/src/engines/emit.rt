@@ -3,8 +3,8 @@
 use crate::objects::{FIRST, SECOND};
 use crate::texts::{EXAMPLES, SUM};
 use pb_base::device::{MemoryInput, MemoryOutput};
-use pb_object::Format;
 use pb_engines::{EmitOptions, Status, emit_engine};
+use pb_object::Format;
 use std::process::Abort;
 use std::test::Fail;
 
@@ -36,7 +36,8 @@ fn writes_both_formats(rt: HostRuntime) -> Result<(), Fail> {
 fn refuses_texts(rt: HostRuntime) -> Result<(), Fail> {
     let joint = EXAMPLES[8];
     check(&rt, Format::One, joint, Status::Refused, b"refused E1\n")?;
-    let over = b"resource t = 1; resource d = 1; process a begin hold 2 of t, 1 of d do skip od end";
+    let over =
+        b"resource t = 1; resource d = 1; process a begin hold 2 of t, 1 of d do skip od end";
     let line = b"refused C1 a t claim 2 capital 1\n";
     check(&rt, Format::One, over, Status::Refused, line)
 }

@@ -217,5 +217,11 @@ fn refuses_texts(rt: HostRuntime) -> Result<(), Fail> {
 fn refuses_a_long_input(rt: HostRuntime) -> Result<(), Fail> {
     let alloc = rt.alloc();
     let text = vec![in alloc; b' '; 4_194_305]?;
-    check(&rt, 17, text.as_slice(), Status::Refused, b"refused input\n")
+    check(
+        &rt,
+        17,
+        text.as_slice(),
+        Status::Refused,
+        b"refused input\n",
+    )
 }
