@@ -10,8 +10,6 @@ use Rattle.pb_engines.specs.Refusals.{IsAcceptedText, RefusesEarly, RefusesWith,
 use Rattle.pb_engines.specs.declared.reply.Reply.{Reply}
 use Rattle.pb_engines.specs.declared.status.Status.{Status}
 use Rattle.pb_engines.specs.declared.status.Status.TheVariants.{Refused}
-use Rattle.pb_engines.specs.declared.accept.Refusal.{Refusal}
-use Rattle.pb_engines.specs.declared.accept.Refusal.TheVariants.{Line, NoMemory as OutOfMemory}
 
 -- a line that is written is that of the refusal
 pub refuses_by : {V : Type 0} (seen : V → List ℕ) (r : Result V NoMemory) (text l : List ℕ) → IfOk r (λ x. seen x ≡ l) → RefusesWith text l
