@@ -1,0 +1,4 @@
+pub mod Keeping
+pub mod Looking
+pub mod Marking
+pub mod Running

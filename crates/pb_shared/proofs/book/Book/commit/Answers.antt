@@ -1,0 +1,113 @@
+use Rattle.std.proofs.Common.{◌≡◌, ◌<◌, ◌+◌, ◌-◌, ◌++◌, ℕ, List, None, length, slice_set, refl, sym, ap, ◌∙◌, subst, arith}
+use Rattle.pb_history.specs.Entries.{Entry, silent_picks}
+use Rattle.pb_machine.specs.Steps.{ComesFrom}
+use Rattle.pb_machine.specs.Views.{machine_view}
+use Rattle.pb_shared.specs.Books.{ledger_of}
+use Rattle.pb_shared.specs.Ledgers.{Ledger, IsLegal, IsLentBy, home}
+use Rattle.pb_shared.specs.Stretches.{lent_of}
+use Rattle.pb_shared.proofs.Keeping.{back_fits, comes_home, home_legal, legal_as, process_within, set_view, slip_within, machine_there, tries_legal, tries_there}
+use Rattle.pb_shared.proofs.book.Book.commit.Goals as goal
+
+pub push_silent-requires-clause-fits : goal.push_silent-requires-clause-fits
+push_silent-requires-clause-fits g c =
+    let s = ledger_of c.self.inside in
+    let lent = lent_of c.stretch.inside in
+    let by : IsLentBy s lent = rw (← c.self.view_is, ← c.stretch.view_is) at (c.lent.ensures.0 c.if-not-lent.false) in
+    let fits = back_fits g.C.CodeBrand.code s lent c.self.invariant.legal by in
+    let limited = c.self.invariant.legal.limited in
+    let within = c.stretch.invariant.run.within in
+    let same = ap (λ (es : List Entry). length es) c.reserve.ensures.same in
+    omega (arith, fits, limited, within, same)
+
+pub set-requires : goal.set-requires
+set-requires g c =
+    let s = ledger_of c.self.inside in
+    let lent = lent_of c.stretch.inside in
+    let by : IsLentBy s lent = rw (← c.self.view_is, ← c.stretch.view_is) at (c.lent.ensures.0 c.if-not-lent.false) in
+    let lt = process_within g.C.CodeBrand.code s lent c.self.invariant.legal by in
+    let from = c.from.ensures in
+    omega (arith, lt, from)
+
+pub index_mut-requires : goal.index_mut-requires
+index_mut-requires g c =
+    let s = ledger_of c.self.inside in
+    let lent = lent_of c.stretch.inside in
+    let by : IsLentBy s lent = rw (← c.self.view_is, ← c.stretch.view_is) at (c.lent.ensures.0 c.if-not-lent.false) in
+    let lt = slip_within g.C.CodeBrand.code s lent c.self.invariant.legal by in
+    let from = c.from-2.ensures in
+    omega (arith, lt, from, c.self.inside.slips.ok.0)
+
+pub overflow_add-self : goal.overflow_add-self
+overflow_add-self g c =
+    let s = ledger_of c.self.inside in
+    let lent = lent_of c.stretch.inside in
+    let by : IsLentBy s lent = rw (← c.self.view_is, ← c.stretch.view_is) at (c.lent.ensures.0 c.if-not-lent.false) in
+    let fits = back_fits g.C.CodeBrand.code s lent c.self.invariant.legal by in
+    let limited = c.self.invariant.legal.limited in
+    omega (arith, fits, limited)
+
+pub try_visible-requires-clause-fits : goal.try_visible-requires-clause-fits
+try_visible-requires-clause-fits g c =
+    let s = ledger_of c.self.inside in
+    let lent = lent_of c.stretch.inside in
+    let by : IsLentBy s lent = rw (← c.self.view_is, ← c.stretch.view_is) at (c.lent.ensures.0 c.if-not-lent.false) in
+    let counted = (home_legal g.C.CodeBrand.code s lent c.self.invariant.legal by c.stretch.invariant.run).counted in
+    let limited = c.self.invariant.legal.limited in
+    let within = c.stretch.invariant.run.within in
+    let same : length c.push_silent.new.self.entries ≡ length (s.entries ++ silent_picks lent.pick lent.made) =
+    ap (λ (es : List Entry). length es) (c.push_silent.ensures.entries ∙ ap (λ (es : List Entry). es ++ silent_picks lent.pick lent.made) c.reserve.ensures.same) in
+    omega (arith, counted, limited, within, same)
+
+pub invariant_of-self-then-made-allowance : goal.invariant_of-self-then-made-allowance
+invariant_of-self-then-made-allowance g c =
+    let s = ledger_of c.self.inside in
+    let lent = lent_of c.stretch.inside in
+    let legal = c.self.invariant.legal in
+    let run = c.stretch.invariant.run in
+    let by : IsLentBy s lent = rw (← c.self.view_is, ← c.stretch.view_is) at (c.lent.ensures.0 c.if-not-lent.false) in record {
+      refers = c.self.invariant.refers;
+      legal = legal_as g.C.CodeBrand.code (home s lent) _ (home_legal g.C.CodeBrand.code s lent legal by run)
+          (sym (set_view c.self.inside.machine c.set.new.self c.from.result lent.pick.process lent.state c.from.ensures c.set.ensures.processes c.set.ensures.banker))
+          (sym (c.push_silent.ensures.entries ∙ ap (λ (es : List Entry). es ++ silent_picks lent.pick lent.made) c.reserve.ensures.same))
+          refl
+          refl
+          (ap (λ (p : ℕ). slice_set s.slips p None) (sym c.from-2.ensures))
+          refl;
+      machine = c.set.ensures.machine g.C.CodeBrand.code c.self.invariant.machine (subst (λ (p : ℕ). ComesFrom g.C.CodeBrand.code c.self.inside.machine p c.stretch.inside.state) (sym c.from.ensures)
+          (comes_home g.C.CodeBrand.code s lent legal by run c.self.inside.machine c.stretch.inside.state refl refl c.stretch.invariant.process.rooms));
+    }
+
+pub try_visible-requires-clause-machine : goal.try_visible-requires-clause-machine
+try_visible-requires-clause-machine g c =
+    let s = ledger_of c.self.inside in
+    let lent = lent_of c.stretch.inside in
+    let by : IsLentBy s lent = rw (← c.self.view_is, ← c.stretch.view_is) at (c.lent.ensures.0 c.if-not-lent.false) in
+    machine_there g.C.CodeBrand.code c.self.inside.code.now _ (sym c.self.invariant.refers) (c.set.ensures.machine g.C.CodeBrand.code c.self.invariant.machine (subst (λ (p : ℕ). ComesFrom g.C.CodeBrand.code c.self.inside.machine p c.stretch.inside.state) (sym c.from.ensures)
+    (comes_home g.C.CodeBrand.code s lent c.self.invariant.legal by c.stretch.invariant.run c.self.inside.machine c.stretch.inside.state refl refl c.stretch.invariant.process.rooms)))
+
+pub invariant_of-self-2 : goal.invariant_of-self-2
+invariant_of-self-2 g c =
+    let s = ledger_of c.self.inside in
+    let lent = lent_of c.stretch.inside in
+    let run = c.stretch.invariant.run in
+    let by : IsLentBy s lent = rw (← c.self.view_is, ← c.stretch.view_is) at (c.lent.ensures.0 c.if-not-lent.false) in
+    let came : Ledger = record {
+      machine = machine_view c.set.new.self;
+      entries = c.push_silent.new.self.entries;
+      limit = s.limit;
+      left = s.left + (lent.allowance - lent.made);
+      slips = slice_set s.slips c.from-2.result None;
+      refused = s.refused;
+    } in
+    let legal : IsLegal g.C.CodeBrand.code came = legal_as g.C.CodeBrand.code (home s lent) came (home_legal g.C.CodeBrand.code s lent c.self.invariant.legal by run)
+    (sym (set_view c.self.inside.machine c.set.new.self c.from.result lent.pick.process lent.state c.from.ensures c.set.ensures.processes c.set.ensures.banker))
+    (sym (c.push_silent.ensures.entries ∙ ap (λ (es : List Entry). es ++ silent_picks lent.pick lent.made) c.reserve.ensures.same))
+    refl
+    refl
+    (ap (λ (p : ℕ). slice_set s.slips p None) (sym c.from-2.ensures))
+    refl in
+    let unused : 0 < came.left = omega (arith, run.within) in record {
+      refers = c.self.invariant.refers;
+      legal = tries_legal g.C.CodeBrand.code came _ lent.pick c.try_visible.result legal unused (tries_there c.self.inside.code.now g.C.CodeBrand.code came _ lent.pick c.try_visible.result c.self.invariant.refers c.try_visible.ensures.tries refl refl);
+      machine = machine_there c.self.inside.code.now g.C.CodeBrand.code _ c.self.invariant.refers c.try_visible.ensures.machine;
+    }

@@ -1,0 +1,28 @@
+use Rattle.std.proofs.Common.{arith}
+use Rattle.pb_shared.specs.Books.{ledger_of}
+use Rattle.pb_shared.specs.Ledgers.{IsLentBy}
+use Rattle.pb_shared.specs.Stretches.{lent_of}
+use Rattle.pb_shared.proofs.Keeping.{back_fits, given_back_legal, slip_within}
+use Rattle.pb_shared.proofs.book.Book.put_back.Goals as goal
+
+pub index_mut-requires : goal.index_mut-requires
+index_mut-requires g c =
+    let by : IsLentBy (ledger_of c.self.inside) (lent_of c.stretch.inside) = rw (← c.self.view_is, ← c.stretch.view_is) at (c.lent.ensures.0 c.if-not-lent.false) in
+    let lt = slip_within g.C.CodeBrand.code (ledger_of c.self.inside) (lent_of c.stretch.inside) c.self.invariant.legal by in
+    let from = c.from.ensures in
+    omega (arith, lt, from, c.self.inside.slips.ok.0)
+
+pub overflow_add-self : goal.overflow_add-self
+overflow_add-self g c =
+    let by : IsLentBy (ledger_of c.self.inside) (lent_of c.stretch.inside) = rw (← c.self.view_is, ← c.stretch.view_is) at (c.lent.ensures.0 c.if-not-lent.false) in
+    let fits = back_fits g.C.CodeBrand.code (ledger_of c.self.inside) (lent_of c.stretch.inside) c.self.invariant.legal by in
+    let limited = c.self.invariant.legal.limited in
+    omega (arith, fits, limited)
+
+pub invariant_of-self : goal.invariant_of-self
+invariant_of-self g c =
+    let by : IsLentBy (ledger_of c.self.inside) (lent_of c.stretch.inside) = rw (← c.self.view_is, ← c.stretch.view_is) at (c.lent.ensures.0 c.if-not-lent.false) in record {
+      refers = c.self.invariant.refers;
+      legal = rw c.from.ensures (given_back_legal g.C.CodeBrand.code (ledger_of c.self.inside) (lent_of c.stretch.inside) c.self.invariant.legal by);
+      machine = c.self.invariant.machine;
+    }

@@ -1,0 +1,13 @@
+use Rattle.std.proofs.Common.{refl, sym}
+use Rattle.pb_machine.specs.Views.{machine_view}
+use Rattle.pb_shared.proofs.Looking.{blocked_refused}
+use Rattle.pb_shared.proofs.visible.try_visible.Goals as goal
+
+pub returns-in-NotEnabled-clause-tries : goal.returns-in-NotEnabled-clause-tries
+returns-in-NotEnabled-clause-tries c = (
+  blocked_refused c.args.code.now.code (machine_view c.args.machine.now) c.args.pick c.in-NotEnabled.ensures.step.0 (sym c.in-Visible.ensures),
+  c.in-NotEnabled.ensures.step.1,
+  refl,
+  refl,
+  c.mark.ensures,
+)

@@ -1,0 +1,49 @@
+-- What taking a stretch answers.
+use Rattle.std.specs.Prelude.{◌≡◌, ◌≢◌, ◌⊎◌, ℕ, ◌-◌, ◌<◌, ◌≤◌, min, Some, None, true, slice_get, slice_set, ⊤}
+use Rattle.pb_base.specs.declared.pick.Pick.{Pick}
+use Rattle.pb_code.specs.Whole.{Code}
+use Rattle.pb_verifier.specs.Verified.{VerifiedCode}
+use Rattle.pb_shared.specs.Ledgers.{Ledger, IsReady, HasOutcome, all_home}
+use Rattle.pb_shared.specs.Lending.{Lent}
+use Rattle.pb_shared.specs.declared.taken.Taken.{Taken}
+use Rattle.pb_shared.specs.declared.taken.Taken.TheVariants.{Work, Idle, Over}
+
+-- the book after it lent this
+abbrev pub lent_out : Ledger → Lent → Ledger
+lent_out s lent = record s {
+  left = s.left - lent.allowance;
+  slips = slice_set s.slips lent.pick.process (Some (record { arm = lent.pick.arm; allowance = lent.allowance }));
+}
+
+-- the stretch has this arm of the process as the machine has it, with nothing made
+pub record StartsAt (s : Ledger) (pick : Pick) (allowance : ℕ) (lent : Lent) : Type 0 where
+  pub pick_is : lent.pick ≡ pick
+  pub allowance_is : lent.allowance ≡ allowance
+  pub base : slice_get s.machine.processes pick.process ≡ Some lent.base
+  pub state : lent.state ≡ lent.base
+  pub made : lent.made ≡ 0
+
+-- the arm is ready, and may make the lesser of quantum and picks left
+pub record IsFresh (code : Code) (s : Ledger) (quantum : ℕ) (lent : Lent) : Type 0 where
+  pub ready : IsReady code s lent.pick
+  pub some_left : 0 < s.left
+  pub starts : StartsAt s lent.pick (min quantum s.left) lent
+
+-- no arm can be lent
+abbrev pub NoneReady : Code → Ledger → Type 0
+NoneReady code s = (pick : Pick) → IsReady code s pick → ⊥
+
+-- what a take answers, and the book afterwards: a ready arm is lent; or none can be lent, and then some process is
+-- out; or there is an outcome
+abbrev pub Takes : {C : Type 0} → VerifiedCode → Ledger → ℕ → Taken C → Ledger → Type 0
+Takes code s quantum (Work lent) after = HasOutcome s None × IsFresh code.code s quantum lent × (after ≡ lent_out s lent)
+Takes code s quantum Idle after =
+    HasOutcome s None × ((s.left ≡ 0) ⊎ NoneReady code.code s) × (all_home s.slips ≢ true) × (after ≡ s)
+Takes code s quantum (Over outcome) after = HasOutcome s (Some outcome) × (after ≡ s)
+
+-- what a lock hands out: a stretch with nothing made, that may make so many picks at most; or an outcome
+abbrev pub IsHandedOut : {C : Type 0} → ℕ → Taken C → Type 0
+IsHandedOut quantum (Work lent) =
+    (lent.made ≡ 0) × (lent.state ≡ lent.base) × (0 < lent.allowance) × (lent.allowance ≤ quantum)
+IsHandedOut quantum Idle = ⊥
+IsHandedOut quantum (Over outcome) = ⊤

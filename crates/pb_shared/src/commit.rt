@@ -1,0 +1,99 @@
+//! Stretches that come home.
+
+ghost use Rattle.std.specs.Prelude.{◌≡◌, ◌↔◌, IfOk, IfErr, IsTrue, None, slice_index_or};
+ghost use Rattle.pb_shared.specs.Ledgers.{IsLentBy, Commits, given_back};
+ghost use Rattle.pb_shared.specs.declared.fault.CommitFault.TheVariants.{Stranger};
+
+use crate::answer::Answer;
+use crate::book::Book;
+use crate::brand::CodeBrand;
+use crate::fault::CommitFault;
+use crate::slip::Slip;
+use crate::stretch::Stretch;
+use crate::visible::try_visible;
+
+impl<'v, C: CodeBrand> Book<'v, C> {
+    /// Takes a stretch home. Its silent picks are appended, and then, if some of its allowance is left and the arm
+    /// stands at a visible pick, that pick is tried. A stretch that this book did not lend is handed back, and so is
+    /// one for which there was no memory; then the book is as it was.
+    pub fn commit(
+        &mut self,
+        stretch: Stretch<'v, C>,
+    ) -> Result<Answer, (Stretch<'v, C>, CommitFault)>
+        ensures ok { IfOk result (λ answer. IsLentBy self.old stretch.entry
+            × Commits C.code.code self.old stretch.entry answer self.new) }
+        ensures err { IfErr result (λ e. (e.0 ≡ stretch.entry) × (self.new ≡ self.old)
+            × ((e.1 ≡ Stranger) ↔ (IsLentBy self.old stretch.entry → ⊥))) }
+    {
+        if !self.lent(&stretch) {
+            return Err((stretch, CommitFault::Stranger));
+        }
+        if self.trace.reserve(2).is_err() {
+            return Err((stretch, CommitFault::NoMemory));
+        }
+        let Stretch {
+            code: _,
+            pick,
+            allowance,
+            made,
+            base: _,
+            state,
+            brand: _,
+        } = stretch;
+        self.trace.push_silent(pick, made);
+        self.machine.set(usize::from(pick.process), state);
+        self.slips[usize::from(pick.process)] = None;
+        self.left += allowance - made;
+        if made == allowance {
+            return Ok(Answer::Silent);
+        }
+        Ok(try_visible(
+            self.code,
+            &mut self.machine,
+            &mut self.trace,
+            &mut self.left,
+            &mut self.refused,
+            pick,
+        ))
+    }
+
+    /// Takes a stretch back as it was lent. A stretch that this book did not lend is handed back.
+    pub fn put_back(&mut self, stretch: Stretch<'v, C>) -> Result<(), Stretch<'v, C>>
+        ensures ok { IfOk result (λ _. IsLentBy self.old stretch.entry × (self.new ≡ given_back self.old stretch.entry)) }
+        ensures err { IfErr result (λ e. (e ≡ stretch.entry) × (self.new ≡ self.old)
+            × (IsLentBy self.old stretch.entry → ⊥)) }
+    {
+        if !self.lent(&stretch) {
+            return Err(stretch);
+        }
+        self.slips[usize::from(stretch.pick.process)] = None;
+        self.left += stretch.allowance;
+        stretch.forfeit();
+        Ok(())
+    }
+
+    /// Returns whether this book lent the stretch.
+    fn lent(&self, stretch: &Stretch<'v, C>) -> bool
+        ensures { IsTrue result ↔ IsLentBy self.now stretch.now }
+    {
+        let pick = stretch.pick;
+        let process = usize::from(pick.process);
+        let Some(slip) = self.slip(process) else {
+            return false;
+        };
+        if slip.arm != pick.arm {
+            return false;
+        }
+        if slip.allowance != stretch.allowance {
+            return false;
+        }
+        self.machine.proc(process).same(&stretch.base)
+    }
+
+    /// Returns the slip of a process, if it is out.
+    fn slip(&self, process: usize) -> Option<Slip>
+        ensures { result ≡ slice_index_or self.now.slips process None }
+    {
+        self.slips.get(process).copied().unwrap_or(None)
+    }
+}

@@ -1,0 +1,124 @@
+//! Which arms may be lent.
+
+ghost use Rattle.std.specs.Prelude.{◌≡◌, ◌≢◌, ◌↔◌, ◌<◌, ◌≤◌, Some, None, IsTrue, MatchOption, slice_get};
+ghost use Rattle.pb_base.specs.declared.pick.Pick.{Pick};
+ghost use Rattle.pb_machine.specs.Looks.{look_at};
+ghost use Rattle.pb_machine.specs.declared.look.Look.TheVariants.{Stays};
+ghost use Rattle.pb_shared.specs.Ledgers.{IsReady};
+ghost use Rattle.pb_shared.specs.Taking.{NoneReady};
+
+use crate::book::Book;
+use crate::brand::CodeBrand;
+use crate::marks::is_marked;
+use pb_base::Pick;
+use pb_machine::Look;
+
+/// The most processes there are, and the most arms of one.
+const MOST: usize = 64;
+
+impl<'v, C: CodeBrand> Book<'v, C> {
+    /// Returns the first ready arm, from the process whose turn it is.
+    pub(crate) fn find_ready(&self) -> Option<Pick>
+        ensures { MatchOption result (NoneReady C.code.code self.now) (λ pick. IsReady C.code.code self.now pick) }
+    {
+        let processes = self.processes();
+        let next = self.next_process.min(processes);
+        match self.ready_within(next, processes) {
+            Some(pick) => Some(pick),
+            None => self.ready_within(0, next),
+        }
+    }
+
+    /// Returns the first ready arm of the processes from one number on and below another.
+    fn ready_within(&self, from: u8, to: u8) -> Option<Pick>
+        ensures { MatchOption result
+            ((pick : Pick) → from ≤ pick.process → pick.process < to → IsReady C.code.code self.now pick → ⊥)
+            (λ pick. IsReady C.code.code self.now pick) }
+    {
+        for process in from..to {
+            if let Some(arm) = self.ready_arm(process) {
+                return Some(Pick { process, arm });
+            }
+        }
+        None
+    }
+
+    /// Returns the first ready arm of a process, from the one whose turn it is.
+    fn ready_arm(&self, process: u8) -> Option<u8>
+        ensures { MatchOption result
+            ((pick : Pick) → pick.process ≡ process → IsReady C.code.code self.now pick → ⊥)
+            (λ arm. (pick : Pick) → pick.process ≡ process → pick.arm ≡ arm → IsReady C.code.code self.now pick) }
+    {
+        let arms = self.arms(process);
+        let next = self
+            .next_arms
+            .get(usize::from(process))
+            .copied()
+            .unwrap_or(0)
+            .min(arms);
+        match self.ready_arm_within(process, next, arms) {
+            Some(arm) => Some(arm),
+            None => self.ready_arm_within(process, 0, next),
+        }
+    }
+
+    /// Returns the first ready arm of a process from one number on and below another.
+    fn ready_arm_within(&self, process: u8, from: u8, to: u8) -> Option<u8>
+        ensures { MatchOption result
+            ((pick : Pick) → pick.process ≡ process → from ≤ pick.arm → pick.arm < to → IsReady C.code.code self.now pick → ⊥)
+            (λ arm. (pick : Pick) → pick.process ≡ process → pick.arm ≡ arm → IsReady C.code.code self.now pick) }
+    {
+        for arm in from..to {
+            if self.is_ready(Pick { process, arm }) {
+                return Some(arm);
+            }
+        }
+        None
+    }
+
+    /// Returns whether this arm may be lent.
+    fn is_ready(&self, pick: Pick) -> bool
+        ensures { IsTrue result ↔ IsReady C.code.code self.now pick }
+    {
+        self.is_home(pick.process) && self.can_step(pick) && !is_marked(&self.refused, pick)
+    }
+
+    /// Returns whether this process is there and at home.
+    fn is_home(&self, process: u8) -> bool
+        ensures { IsTrue result ↔ (slice_get self.now.slips process ≡ Some None) }
+    {
+        match self.slips.get(usize::from(process)) {
+            Some(None) => true,
+            Some(Some(_)) => false,
+            None => false,
+        }
+    }
+
+    /// Returns whether an arm can step but for the banker.
+    fn can_step(&self, pick: Pick) -> bool
+        ensures { IsTrue result ↔ (look_at C.code.code self.now.machine pick ≢ Stays) }
+    {
+        match self.machine.look(self.code, pick) {
+            Look::Stays => false,
+            Look::Silent => true,
+            Look::Visible => true,
+        }
+    }
+
+    /// Returns how many processes there are.
+    fn processes(&self) -> u8
+        ensures { (pick : Pick) → IsReady C.code.code self.now pick → pick.process < result }
+    {
+        self.slips.len().min(MOST) as u8
+    }
+
+    /// Returns how many arms a process has.
+    fn arms(&self, process: u8) -> u8
+        ensures { (pick : Pick) → pick.process ≡ process → IsReady C.code.code self.now pick → pick.arm < result }
+    {
+        if usize::from(process) >= self.slips.len() {
+            return 0;
+        }
+        self.machine.proc(usize::from(process)).arms().min(MOST) as u8
+    }
+}

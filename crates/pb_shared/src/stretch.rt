@@ -1,0 +1,101 @@
+//! A process lent to one worker, with one arm to step.
+
+ghost use Rattle.std.specs.Prelude.{◌≡◌, ◌+◌, ◌-◌, ◌<◌, ◌≤◌, ◌⊎◌};
+ghost use Rattle.pb_machine.specs.Steps.{StepsAloud};
+ghost use Rattle.pb_machine.specs.Views.{proc_view};
+ghost use Rattle.pb_shared.specs.Lending.{Lent, IsSilentRun};
+
+use crate::brand::CodeBrand;
+use pb_base::Pick;
+use pb_machine::Proc;
+use pb_verifier::Verified;
+use std::marker::{Model, PhantomData};
+
+/// A process lent to one worker, with one arm to step. It refers to the code alone, and so can hold no lock. It has to
+/// be spent, by `commit`, `put_back` or `forfeit`.
+pub struct Stretch<'v, C: CodeBrand> {
+    pub(crate) code: &'v Verified,
+    pub(crate) pick: Pick,
+    pub(crate) allowance: u32,
+    pub(crate) made: u32,
+    pub(crate) base: Proc,
+    pub(crate) state: Proc,
+    pub(crate) brand: PhantomData<C>,
+}
+
+impl<'v, C: CodeBrand> Model for Stretch<'v, C> {
+    ghost use Rattle.pb_shared.specs.Lending.{Lent};
+
+    ghost Value = { Lent };
+
+    ghost use Rattle.pb_shared.specs.Stretches.{lent_of, IsSound};
+
+    ghost view = { lent_of };
+
+    ghost invariant = { λ s. IsSound C.code s };
+}
+
+impl<'v, C: CodeBrand> Stretch<'v, C> {
+    /// Makes silent picks of the arm until `max` are made, the allowance is used, or the next pick is visible or not
+    /// enabled, and returns how many it made. It takes no lock and no memory.
+    pub fn run(&mut self, max: u32) -> u32
+        ensures same { self.new ≡ record self.old { made = self.old.made + result; state = self.new.state } }
+        ensures run { IsSilentRun C.code.code self.new }
+        ensures stops { (result ≡ max) ⊎ ((self.new.made ≡ self.new.allowance)
+            ⊎ StepsAloud C.code.code self.new.pick.process self.new.state self.new.pick.arm) }
+    {
+        let code: &'v Verified = self.code;
+        let most = max.min(self.allowance - self.made);
+        let count = self.state.run_silent(code, self.pick, most);
+        self.made += count;
+        count
+    }
+
+    /// Returns the arm that it steps.
+    pub fn pick(&self) -> Pick
+        ensures { result ≡ self.now.pick }
+    {
+        self.pick
+    }
+
+    /// Returns how many picks it has made.
+    pub fn made(&self) -> u32
+        ensures { result ≡ self.now.made }
+    {
+        self.made
+    }
+
+    /// Returns how many picks it may make.
+    pub fn allowance(&self) -> u32
+        ensures { result ≡ self.now.allowance }
+    {
+        self.allowance
+    }
+
+    /// Returns the process as it was lent.
+    pub fn base(&self) -> &Proc
+        ensures { proc_view result.now ≡ self.now.base }
+    {
+        &self.base
+    }
+
+    /// Returns the process as it is now.
+    pub fn state(&self) -> &Proc
+        ensures { proc_view result.now ≡ self.now.state }
+    {
+        &self.state
+    }
+
+    /// Gives the stretch up. Its process stays out for good.
+    pub fn forfeit(self) {
+        let Stretch {
+            code: _,
+            pick: _,
+            allowance: _,
+            made: _,
+            base: _,
+            state: _,
+            brand: _,
+        } = self;
+    }
+}

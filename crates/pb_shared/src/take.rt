@@ -1,0 +1,77 @@
+//! Lending a process.
+
+ghost use Rattle.std.specs.Prelude.{◌≡◌, ◌-◌, ◌<◌, ◌≤◌, Some, None, IfOk, OnErr, slice_get, slice_set};
+ghost use Rattle.pb_shared.specs.Taking.{Takes, StartsAt};
+
+use crate::book::Book;
+use crate::brand::CodeBrand;
+use crate::slip::Slip;
+use crate::stretch::Stretch;
+use crate::taken::Taken;
+use pb_base::{NoMemory, Pick};
+use std::alloc::Global;
+use std::marker::PhantomData;
+
+impl<'v, C: CodeBrand> Book<'v, C> {
+    /// Lends a ready arm of a process at home, for at most `quantum` picks, if there is one and there are picks left.
+    /// Out of memory leaves the book as it was.
+    pub fn take(&mut self, alloc: Global, quantum: u32) -> Result<Taken<'v, C>, NoMemory>
+        requires { 0 < quantum }
+        ensures ok { IfOk result (λ taken. Takes C.code self.old quantum taken self.new) }
+        ensures err { OnErr result (self.new ≡ self.old) }
+    {
+        if let Some(outcome) = self.outcome() {
+            return Ok(Taken::Over(outcome));
+        }
+        if self.left == 0 {
+            return Ok(Taken::Idle);
+        }
+        let Some(pick) = self.find_ready() else {
+            return Ok(Taken::Idle);
+        };
+        let allowance = quantum.min(self.left);
+        let stretch = self.fresh(alloc, pick, allowance)?;
+        self.lend(pick, allowance);
+        Ok(Taken::Work(stretch))
+    }
+
+    /// Returns a stretch of this arm with nothing made.
+    fn fresh(&self, alloc: Global, pick: Pick, allowance: u32) -> Result<Stretch<'v, C>, NoMemory>
+        requires { slice_get self.now.slips pick.process ≡ Some None }
+        ensures { IfOk result (λ lent. StartsAt self.now pick allowance lent) }
+    {
+        let process = self.machine.proc(usize::from(pick.process));
+        Ok(Stretch {
+            code: self.code,
+            pick,
+            allowance,
+            made: 0,
+            base: process.copy(alloc)?,
+            state: process.copy(alloc)?,
+            brand: PhantomData,
+        })
+    }
+
+    /// Writes the slip of this arm.
+    fn lend(&mut self, pick: Pick, allowance: u32)
+        requires at_home { slice_get self.old.slips pick.process ≡ Some None }
+        requires within { allowance ≤ self.old.left }
+        ensures { self.new ≡ record self.old { left = self.old.left - allowance; slips = slice_set self.old.slips pick.process (Some (record { arm = pick.arm; allowance = allowance })) } }
+    {
+        let process = usize::from(pick.process);
+        self.slips[process] = Some(Slip {
+            arm: pick.arm,
+            allowance,
+        });
+        self.left -= allowance;
+        self.next_process = pick.process.saturating_add(1);
+        set_turn(&mut self.next_arms, process, pick.arm.saturating_add(1));
+    }
+}
+
+/// Sets the arm of a process whose turn it is next.
+fn set_turn(turns: &mut Vec<u8>, process: usize, arm: u8) {
+    if let Some(turn) = turns.get_mut(process) {
+        *turn = arm;
+    }
+}
