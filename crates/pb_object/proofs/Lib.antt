@@ -1,6 +1,9 @@
 pub mod BundleForms
 pub mod Columns
+pub mod Exact
+pub mod FaultLaws
 pub mod Found
+pub mod FreshNames
 pub mod InstrForms
 pub mod Joining
 pub mod LineForms
@@ -9,6 +12,7 @@ pub mod Loops
 pub mod Moving
 pub mod NewNames
 pub mod Numbers
+pub mod ObjectExact
 pub mod ObjectLaws
 pub mod Pairs
 pub mod Parts

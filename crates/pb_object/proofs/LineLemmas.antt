@@ -85,7 +85,7 @@ no_end : (w : Word) (ws : List Word) → AreWords (w ∷ ws) → list_all (λ b.
 no_end w [] h = all_mono is_inner (λ b. not (eqb b 10)) (λ b e. (both_true _ _ e).1) w h.0
 no_end w (v ∷ ws) h = all_then (λ b. not (eqb b 10)) w (32 ∷ join_with_byte 32 (v ∷ ws)) (all_mono is_inner (λ b. not (eqb b 10)) (λ b e. (both_true _ _ e).1) w h.0) (no_end v ws h.1)
 
-prefix_whole : (text rest : List ℕ) → list_all (λ b. not (eqb b 10)) text ≡ true → prefix_len (λ b. not (eqb b 10)) (text ++ 10 ∷ rest) ≡ length text
+pub prefix_whole : (text rest : List ℕ) → list_all (λ b. not (eqb b 10)) text ≡ true → prefix_len (λ b. not (eqb b 10)) (text ++ 10 ∷ rest) ≡ length text
 prefix_whole [] rest h = refl
 prefix_whole (b ∷ text) rest h =
     let s = both_true (not (eqb b 10)) (list_all (λ b. not (eqb b 10)) text) h in

@@ -29,7 +29,7 @@ use Rattle.pb_object.proofs.Columns.{few_processes}
 digit_name : (b : ℕ) → is_ascii_digit b ≡ true → is_name_byte b ≡ true
 digit_name b h = grind (arith, nat_tests)
 
-plain_is_name : (n : ℕ) → n < 64 → is_name (118 ∷ decimal n) ≡ true
+pub plain_is_name : (n : ℕ) → n < 64 → is_name (118 ∷ decimal n) ≡ true
 unfolding is_name
 plain_is_name n small =
     let digits : list_all is_name_byte (decimal n) ≡ true = all_mono is_ascii_digit is_name_byte digit_name (decimal n) (digits_decimal own n (omega arith)) in

@@ -29,7 +29,7 @@ joined x1 x2 x3 x4 x5 bytes b1 b2 b3 b4 rest e1 e2 e3 e4 e5 =
     e1 ∙ ap (λ (t : List ℕ). x1 ++ t) (e2 ∙ ap (λ (t : List ℕ). x2 ++ t) (e3 ∙ ap (λ (t : List ℕ). x3 ++ t) (e4 ∙ ap (λ (t : List ℕ). x4 ++ t) e5)))
     ∙ sym (five x1 x2 x3 x4 x5 rest)
 
-counted_part : (key : Word) (low high : ℕ) → high < 2 ^ 64 → list_all is_inner key ≡ true → IsPart (line (counted key low high)) (λ n. line_text (counted_words key n)) (λ n. (low ≤ n) × (n ≤ high))
+pub counted_part : (key : Word) (low high : ℕ) → high < 2 ^ 64 → list_all is_inner key ≡ true → IsPart (line (counted key low high)) (λ n. line_text (counted_words key n)) (λ n. (low ≤ n) × (n ≤ high))
 counted_part key low high small clean = line_is (counted key low high) (counted_words key) (λ n. (low ≤ n) × (n ≤ high)) (counted_is key low high small clean)
 
 pub resources_part : (n : ℕ) → IsPart (many resource_at [] n) (flat_map (λ r. line_text (resource_words r))) (λ xs. (length xs ≡ n) × Each IsResource [] xs)
@@ -59,7 +59,7 @@ pub few_integers : (format : Format) (names : List Word) → AreIntegers format 
 few_integers One names good = good.1
 few_integers Two names good = good.2
 
-claims_part : (m : ℕ) → IsPart (line (claims m)) (λ ns. line_text (claims_words ns)) (AreClaims m)
+pub claims_part : (m : ℕ) → IsPart (line (claims m)) (λ ns. line_text (claims_words ns)) (AreClaims m)
 claims_part m = line_is (claims m) claims_words (AreClaims m) (claims_is m)
 
 seven : (x1 x2 x3 x4 x5 x6 x7 rest : List ℕ)
@@ -151,7 +151,7 @@ processes_part format m n = many_is (process_at format m) (process_text format) 
 
 -- ---- a whole object
 
-small_processes : (f : Format) → most_processes f < 2 ^ 64
+pub small_processes : (f : Format) → most_processes f < 2 ^ 64
 small_processes One = omega arith
 small_processes Two = omega arith
 

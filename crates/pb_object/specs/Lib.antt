@@ -1,4 +1,5 @@
 pub mod Answers
+pub mod FaultPlaces
 pub mod Formats
 pub mod Instructions
 pub mod Lines

@@ -1,10 +1,9 @@
 -- What contracts see of the lines that were read.
-use Rattle.std.specs.Prelude.{◌≡◌, ◌<◌, ℕ, List, [], ◌∷◌, ◌++◌, length, map, Option, Some, None, ⊤}
+use Rattle.std.specs.Prelude.{◌≡◌, ℕ, List, [], ◌∷◌, length, map, Option, Some, None, ⊤}
 use Rattle.pb_base.specs.declared.pair.Pair.{Pair}
 use Rattle.pb_object.specs.declared.words.Verdict.{Verdict}
 use Rattle.pb_object.specs.declared.words.Verdict.TheVariants as verdict
 use Rattle.pb_code.specs.declared.instr.Instr.{Instr as Given}
-use Rattle.pb_code.specs.declared.instr.Instr.TheVariants as given
 use Rattle.pb_code.specs.Code.{Instr}
 use Rattle.pb_code.specs.View.{instr_view}
 use Rattle.pb_object.specs.declared.reader.Places.{Places}

@@ -1,6 +1,8 @@
 //! Laws of the texts of objects, over their grammar alone.
 
-ghost use Rattle.std.specs.Prelude.{◌≡◌, ◌↔◌, ◌≤◌, ◌++◌, [], List, ℕ, Ok, length};
+ghost use Rattle.std.specs.Prelude.{◌≡◌, ◌↔◌, ◌≤◌, ◌++◌, [], List, ℕ, Ok, Err, length};
+ghost use Rattle.pb_object.specs.declared.fault.ObjectFault.{ObjectFault};
+ghost use Rattle.pb_object.specs.FaultPlaces.{IsPlaced};
 ghost use Rattle.pb_object.specs.declared.format.Format.{Format};
 ghost use Rattle.pb_object.specs.Answers.{HasText, HasTextOne, IsObjectOf, Spells, SpellsOne};
 ghost use Rattle.pb_object.specs.declared.format.Format.TheVariants.{Two};
@@ -46,4 +48,10 @@ pub fn ranges_have_a_text()
 pub fn first_format_fits()
     ensures yes { (code : Code) → KeepsLimits code → PushesFit code → FitsFirst code → HasTextOne code }
     ensures only { (code : Code) → HasTextOne code → FitsFirst code }
+{}
+
+/// The place that a refusal names is known from the grammar alone: the lines before it begin some object, and none
+/// begins with them and the line there. At 0 of a text that is too long nothing is said of its lines.
+pub fn fault_place()
+    ensures { (text : List ℕ) (fault : ObjectFault) → answer_of text ≡ Err fault → IsPlaced text fault }
 {}

@@ -6,6 +6,7 @@ ghost use Rattle.pb_object.specs.declared.format.Format.{Format as Formats};
 ghost use Rattle.pb_object.specs.declared.fault.ObjectFault.TheVariants.{NoMemory};
 ghost use Rattle.pb_object.specs.declared.format.Format.TheVariants.{Two};
 ghost use Rattle.pb_object.specs.Answers.{Spells, SpellsOne, HasText, HasTextOne, AnswersRows, IsAnswer, IsFaultOf, IsAnswerOne, IsFaultOfOne, is_two};
+ghost use Rattle.pb_object.specs.FaultPlaces.{IsPlaced, IsPlacedOne};
 ghost use Rattle.pb_object.specs.Lines.{line};
 ghost use Rattle.pb_object.specs.Reading.{heading};
 ghost use Rattle.pb_object.specs.Rows.{IsRow};
@@ -62,6 +63,8 @@ pub fn read_any(alloc: Global, text: &[u8]) -> Result<(Code, Labels), ObjectFaul
         → Spells format code labels text.now → length text.now ≤ MAX_TEXT → IsAnswer code labels result }
     // A refusal names the first faulty line.
     ensures fault { IfErr result (IsFaultOf text.now) }
+    // By the grammar alone: the lines before the place begin an object, and none begins with the line there too.
+    ensures place { IfErr result (IsPlaced text.now) }
 {
     let rows = rows_of(alloc, text)?;
     let object = assemble(alloc, rows)?;
@@ -92,6 +95,8 @@ pub fn read_object(alloc: Global, text: &[u8]) -> Result<Code, ObjectFault>
         → IsAnswerOne code result }
     // A refusal names the first faulty line.
     ensures fault { IfErr result (IsFaultOfOne text.now) }
+    // By the grammar alone, as in `read_any`, unless the first line names the second format.
+    ensures place { IfErr result (IsPlacedOne text.now) }
 {
     if text.len() > MAX_TEXT {
         return Err(ObjectFault::Limit(0));

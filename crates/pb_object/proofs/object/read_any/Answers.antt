@@ -2,6 +2,7 @@ use Rattle.std.proofs.lemmas.Result.{err_from_is_err_and}
 use Rattle.pb_object.specs.Rows.{object_row}
 use Rattle.pb_code.specs.View.{code_view, labels_view}
 use Rattle.pb_object.proofs.Found.{answer_takes, rows_spelled, only_answer, err_only}
+use Rattle.pb_object.proofs.FaultLaws.{rows_placed}
 use Rattle.pb_object.proofs.Moving.{has_text}
 use Rattle.pb_object.proofs.object.read_any.Goals as goal
 
@@ -26,3 +27,8 @@ returns-clause-writable c =
 pub returns-clause-only : goal.returns-clause-only
 returns-clause-only c =
     only_answer c.args.text.now (object_row c.in_ok-rows.rows) c.in_ok-object.object c.in_ok-rows.ensures.rows c.in_ok-object.ensures.code c.in_ok-object.ensures.labels
+
+pub returns-in_err-rows-clause-place : goal.returns-in_err-rows-clause-place
+returns-in_err-rows-clause-place c =
+    let p = err_from_is_err_and c.from_residual.result c.from_residual.ensures.1 in
+    rw (p.1, p.2) (rows_placed c.args.text.now c.in_err-rows.field-0.0 c.in_err-rows.ensures.rows)
