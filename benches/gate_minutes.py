@@ -3,8 +3,8 @@
 
     benches/gate_minutes.py [COMMAND ..]      .ci/run if no command is given; the table follows its output
 
-Each second it reads the processor time of every running rattle of this session, and takes crate and phase from the
-command line and folder of the process. What a process uses in its last second is missed; the total is exact.
+Each second it reads the processor time of every rattle that the command has running, and takes crate and phase from
+the command line and folder of the process. What a process uses in its last second is missed; the total is exact.
 """
 import collections
 import os
@@ -18,7 +18,7 @@ TICKS = os.sysconf("SC_CLK_TCK")
 
 
 def read(number):
-    """Returns the start, crate, phase and processor seconds of a rattle of this session, or None."""
+    """Returns the start, parent, crate, phase and processor seconds of a process; crate and phase are None if it is no rattle."""
     try:
         with open(f"/proc/{number}/cmdline", "rb") as file:
             words = file.read().decode(errors="replace").split("\0")
@@ -27,11 +27,24 @@ def read(number):
         folder = os.path.basename(os.readlink(f"/proc/{number}/cwd"))
     except OSError:
         return None
-    if os.path.basename(words[0]) != "rattle" or "--crate-name" not in words or int(fields[3]) != os.getsid(0):
-        return None
-    crate = words[words.index("--crate-name") + 1]
-    phase = "edits" if folder.startswith("rt-edit-") else "tests" if "--test" in words else "proof"
-    return fields[19], crate, phase, (int(fields[11]) + int(fields[12])) / TICKS
+    crate = phase = None
+    if os.path.basename(words[0]) == "rattle" and "--crate-name" in words:
+        crate = words[words.index("--crate-name") + 1]
+        phase = "edits" if folder.startswith("rt-edit-") else "tests" if "--test" in words else "proof"
+    return fields[19], int(fields[1]), crate, phase, (int(fields[11]) + int(fields[12])) / TICKS
+
+
+def below(top):
+    """Returns what read says of each rattle that the process top has started, by number and start."""
+    every = {int(it): read(it) for it in os.listdir("/proc") if it.isdigit()}
+    every = {number: it for number, it in every.items() if it}
+
+    def is_below(number):
+        while number in every and number != top:
+            number = every[number][1]
+        return number == top
+
+    return {(number, it[0]): it[2:] for number, it in every.items() if it[2] and is_below(number)}
 
 
 def edits_of(crate):
@@ -43,10 +56,7 @@ def main(words):
     began, seen = time.monotonic(), {}
     ran = subprocess.Popen(words or [f"{TOP}/.ci/run"], cwd=None if words else TOP)
     while ran.poll() is None:
-        for number in filter(str.isdigit, os.listdir("/proc")):
-            found = read(number)
-            if found:
-                seen[number, found[0]] = found[1:]
+        seen.update(below(ran.pid))
         time.sleep(1)
     spent = collections.Counter()
     for crate, phase, seconds in seen.values():
