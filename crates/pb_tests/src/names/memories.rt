@@ -1,9 +1,8 @@
 //! Programs numbered in little memory.
 
-use crate::texts::EXAMPLES;
 use linked_list_allocator::LocalHeap;
 use pb_lexer::lexer::lex;
-use pb_names::{Kind, NameFault, is_complete, resolve};
+use pb_names::{NameFault, is_complete, resolve};
 use pb_parser::parse;
 use pb_tree::Program;
 use std::alloc::Global;
