@@ -7,9 +7,9 @@ ghost use Rattle.pb_engines.specs.Faults.{TellsFaults, TellsWriteFaults};
 use crate::options::{Options, WordsFault};
 use crate::read::options;
 use pb_base::device::{Input, Output};
-use pb_engines::{Page, Status};
-use pb_engines::{check_engine, claims_engine, emit_engine};
-use pb_engines::{exec_engine, migrate_engine, run_engine};
+use pb_engines::{
+    Page, Status, check_engine, claims_engine, emit_engine, exec_engine, migrate_engine, run_engine,
+};
 use std::alloc::Global;
 
 /// Reads the words of a call, of which the first is the program's own name, and does what they say.

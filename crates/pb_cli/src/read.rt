@@ -11,8 +11,8 @@ use crate::command_line::command_line;
 use crate::options::{Options, WordsFault};
 use clap::error::ErrorKind;
 use clap::{ArgMatches, Error};
-use pb_object::Format;
 use pb_engines::{CheckOptions, EmitOptions, RunOptions};
+use pb_object::Format;
 use std::alloc::Global;
 
 // The number of an option, where it was matched with one from `least` to `most`.

@@ -4,10 +4,10 @@ ghost use Rattle.std.specs.Fmt.{decimal};
 ghost use Rattle.pb_engines.specs.Refusals.{at_place, claims_line, kind_line, lex_line, names_line, object_line, parse_line, verify_line};
 
 use pb_base::NoMemory;
-use pb_object::ObjectFault;
 use pb_codegen::ClaimsFault;
 use pb_lexer::LexFault;
 use pb_names::{Kind, NameFault};
+use pb_object::ObjectFault;
 use pb_parser::ParseFault;
 use pb_verifier::VerifyFault;
 use std::alloc::Global;
