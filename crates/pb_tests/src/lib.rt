@@ -16,6 +16,8 @@ mod machine;
 #[cfg(test)]
 mod names;
 #[cfg(test)]
+mod object_limits;
+#[cfg(test)]
 mod objects;
 #[cfg(test)]
 mod parser;
