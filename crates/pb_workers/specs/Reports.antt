@@ -1,0 +1,27 @@
+-- What workers report.
+use Rattle.std.specs.Prelude.{◌≡◌, ℕ, ◌<◌, ◌≤◌, List, length}
+use Rattle.pb_base.specs.Steppers.{State, IsFinished}
+use Rattle.pb_code.specs.Code.{CodeProcess, code_over}
+use Rattle.pb_code.specs.Whole.{Code, code_opening}
+use Rattle.pb_history.specs.Entries.{Entry}
+use Rattle.pb_history.specs.Leads.{Leads}
+use Rattle.pb_shared.specs.declared.outcome.Outcome.{Outcome}
+use Rattle.pb_shared.specs.declared.outcome.Outcome.TheVariants.{Done, Limit}
+use Rattle.pb_workers.specs.declared.report.Report.{Report}
+
+-- the numbers are in their ranges
+abbrev pub InRange : ℕ → ℕ → ℕ → Type 0
+InRange workers quantum limit =
+    (0 < workers) × (workers ≤ 16) × (0 < quantum) × (quantum ≤ 4096) × (limit ≤ 10000000)
+
+-- how a run ended: every process over, or not so after just as many picks as the limit says
+abbrev pub EndsAs : Outcome → ℕ → List Entry → State CodeProcess → Type 0
+EndsAs Done limit entries end = IsFinished code_over end
+EndsAs Limit limit entries end = (IsFinished code_over end → ⊥) × (length entries ≡ limit)
+
+-- the trace has picks of this code and what each made, one after another from the start, and ends as the outcome
+-- says
+pub record IsReport (code : Code) (limit : ℕ) (report : Report) : Type 0 where
+  pub end : State CodeProcess
+  pub leads : Leads code (code_opening code) report.trace.entries end
+  pub ends : EndsAs report.outcome limit report.trace.entries end
