@@ -1,9 +1,8 @@
 -- The lines of refused texts.
-use Rattle.std.proofs.Common.{◌≡◌, ℕ, List, Result, Ok, Err, IfOk, subst, sym}
+use Rattle.std.proofs.Common.{◌≡◌, ℕ, List, Option, Some, Result, Ok, Err, IfOk, subst, sym}
 use Rattle.pb_base.specs.declared.memory.NoMemory.{NoMemory}
 use Rattle.pb_code.specs.Whole.{Code, ProcessLabels}
 use Rattle.pb_codegen.specs.Compiled.{IsCompiled}
-use Rattle.pb_names.specs.Program.{capital_of}
 use Rattle.pb_claims.specs.Fits.{FitCapital}
 use Rattle.pb_engines.specs.Answers.{line}
 use Rattle.pb_engines.specs.Refusals.{IsAcceptedText, RefusesEarly, RefusesWith, SaysOfRefusedText, early, refused as by_line}
@@ -12,16 +11,23 @@ use Rattle.pb_engines.specs.declared.status.Status.{Status}
 use Rattle.pb_engines.specs.declared.status.Status.TheVariants.{Refused}
 
 -- a line that is written is that of the refusal
-pub refuses_by : {V : Type 0} (seen : V → List ℕ) (r : Result V NoMemory) (text l : List ℕ) → IfOk r (λ x. seen x ≡ l) → RefusesWith text l
-    → IfOk r (λ x. RefusesWith text (seen x))
-refuses_by seen (Ok x) text l same is = subst (RefusesWith text) (sym same) is
-refuses_by seen (Err e) text l same is = tt
+pub refuses_by : {V : Type 0} (seen : V → List ℕ) (r : Result V NoMemory) (text : List ℕ) (given : Option (List ℕ))
+    → IfOk r (λ x. given ≡ Some (seen x)) → ((l : List ℕ) → given ≡ Some l → RefusesEarly text l)
+    → IfOk r (λ x. RefusesEarly text (seen x))
+refuses_by seen (Ok x) text given same is = is (seen x) same
+refuses_by seen (Err e) text given same is = tt
 
--- the same of a refusal that comes before the claims
-pub refuses_early_by : {V : Type 0} (seen : V → List ℕ) (r : Result V NoMemory) (text l : List ℕ)
-    → IfOk r (λ x. seen x ≡ l) → RefusesEarly text l → IfOk r (λ x. RefusesEarly text (seen x))
-refuses_early_by seen (Ok x) text l same is = subst (RefusesEarly text) (sym same) is
-refuses_early_by seen (Err e) text l same is = tt
+-- a refusal that comes before the claims is one
+pub is_refusal : {V : Type 0} (seen : V → List ℕ) (r : Result V NoMemory) (text : List ℕ)
+    → IfOk r (λ x. RefusesEarly text (seen x)) → IfOk r (λ x. RefusesWith text (seen x))
+is_refusal seen (Ok x) text is = early (seen x) is
+is_refusal seen (Err e) text is = tt
+
+-- a line of claims that is written is that of the refusal
+pub refuses_claims : {V : Type 0} (seen : V → List ℕ) (r : Result V NoMemory) (text l : List ℕ) → IfOk r (λ x. seen x ≡ l)
+    → RefusesWith text l → IfOk r (λ x. RefusesWith text (seen x))
+refuses_claims seen (Ok x) text l same is = subst (RefusesWith text) (sym same) is
+refuses_claims seen (Err e) text l same is = tt
 
 -- a compiled text is accepted
 pub compiled_is_accepted : (text : List ℕ) (code : Code) (labels : List ProcessLabels) → IsCompiled text code labels

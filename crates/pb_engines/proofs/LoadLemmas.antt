@@ -6,8 +6,7 @@ use Rattle.pb_code.specs.Whole.{Code, ProcessLabels}
 use Rattle.pb_object.specs.declared.format.Format.{Format}
 use Rattle.pb_verifier.specs.Verified.{IsAnnotated}
 use Rattle.pb_engines.specs.Answers.{line}
-use Rattle.pb_engines.specs.Loading.{IsLoaded, IsLoadFault, SaysOfNoCode, WantsNoMemory, load_line, refused}
-use Rattle.pb_engines.specs.declared.load.LoadFault.{LoadFault}
+use Rattle.pb_engines.specs.Loading.{IsLoaded}
 use Rattle.pb_engines.specs.declared.reply.Reply.{Reply}
 use Rattle.pb_engines.specs.declared.status.Status.{Status}
 use Rattle.pb_engines.specs.declared.status.Status.TheVariants.{Refused}
@@ -27,9 +26,3 @@ is_loaded bytes read verified labels (format, spells) same safe = record {
   spelled = subst (λ (code : Code). Spells format code labels bytes) (sym same) spells;
   safe = safe;
 }
-
--- the line of a fault is said
-pub says_fault : (bytes text : List ℕ) (fault : LoadFault) → IsLoadFault bytes fault → text ≡ load_line fault → WantsNoMemory fault
-    → SaysOfNoCode bytes (line text) Refused
-says_fault bytes text fault is same told =
-    subst (λ (t : List ℕ). SaysOfNoCode bytes (line t) Refused) (sym same) (refused fault told is)

@@ -1,11 +1,9 @@
 -- When the bytes of an object give code that is safe to run, and what is said where they don't.
-use Rattle.std.specs.Prelude.{◌≡◌, ℕ, List}
+use Rattle.std.specs.Prelude.{◌≡◌, ℕ, List, Option, Some}
 use Rattle.pb_object.specs.Answers.{Spells, IsFaultOf}
 use Rattle.pb_code.specs.Whole.{Code, ProcessLabels}
-use Rattle.pb_object.specs.declared.fault.ObjectFault.TheVariants as object
 use Rattle.pb_object.specs.declared.format.Format.{Format}
 use Rattle.pb_verifier.specs.Verified.{IsAnnotated, IsRefusedFor}
-use Rattle.pb_verifier.specs.declared.fault.VerifyFault.TheVariants as verify
 use Rattle.pb_engines.specs.Answers.{line}
 use Rattle.pb_engines.specs.Refusals.{object_line, verify_line}
 use Rattle.pb_engines.specs.declared.load.LoadFault.{LoadFault}
@@ -26,16 +24,12 @@ IsLoadFault bytes (Unsafe fault) =
     (format : Format) × (code : Code) × (labels : List ProcessLabels) × Spells format code labels bytes
     × IsRefusedFor code fault
 
--- the fault is one of the bytes, and not want of memory
-abbrev pub WantsNoMemory : LoadFault → Type 0
-WantsNoMemory (Object fault) = fault ≡ object.NoMemory → ⊥
-WantsNoMemory (Unsafe fault) = fault ≡ verify.NoMemory → ⊥
-
-abbrev pub load_line : LoadFault → List ℕ
+-- the line of a fault; there is none if it is out of memory
+abbrev pub load_line : LoadFault → Option (List ℕ)
 load_line (Object fault) = object_line fault
 load_line (Unsafe fault) = verify_line fault
 
 -- what is said of bytes that give no safe code
 pub data SaysOfNoCode (bytes : List ℕ) : List ℕ → Status → Type 0 where
-  refused : (fault : LoadFault) → WantsNoMemory fault → IsLoadFault bytes fault
-      → SaysOfNoCode bytes (line (load_line fault)) Refused
+  refused : (fault : LoadFault) → IsLoadFault bytes fault
+      → (refusal : List ℕ) → load_line fault ≡ Some refusal → SaysOfNoCode bytes (line refusal) Refused

@@ -1,5 +1,5 @@
--- The line of each refusal of a text or of an object.
-use Rattle.std.specs.Prelude.{ℕ, List, ◌∷◌, ◌++◌, codes, ⊤}
+-- The line of each refusal of a text or of an object. A fault that is out of memory has no line.
+use Rattle.std.specs.Prelude.{◌≡◌, ℕ, List, ◌∷◌, ◌++◌, Option, None, Some, codes, ⊤}
 use Rattle.std.specs.Fmt.{decimal}
 use Rattle.pb_base.specs.Steppers.{Table}
 use Rattle.pb_lexer.specs.declared.error.LexFault.{LexFault}
@@ -30,19 +30,22 @@ use Rattle.pb_engines.specs.declared.status.Status.TheVariants.{Refused}
 abbrev pub at_place : List ℕ → ℕ → List ℕ
 at_place cause at = cause ++ codes " at " ++ decimal at
 
-abbrev pub lex_line : LexFault → List ℕ
-lex_line lex.TooLong = codes "refused L1"
-lex_line (lex.BadByte at) = at_place (codes "refused L2") at
-lex_line (lex.NumberTooLarge at) = at_place (codes "refused L3") at
-lex_line (lex.NameTooLong at) = at_place (codes "refused L4") at
-lex_line lex.NoMemory = codes "memory"
+-- the line of a fault of tokens
+abbrev pub lex_line : LexFault → Option (List ℕ)
+lex_line lex.TooLong = Some (codes "refused L1")
+lex_line (lex.BadByte at) = Some (at_place (codes "refused L2") at)
+lex_line (lex.NumberTooLarge at) = Some (at_place (codes "refused L3") at)
+lex_line (lex.NameTooLong at) = Some (at_place (codes "refused L4") at)
+lex_line lex.NoMemory = None
 
-abbrev pub parse_line : ParseFault → List ℕ
-parse_line (parse.Syntax at) = at_place (codes "refused P1") at
-parse_line parse.TooDeep = codes "refused P2"
-parse_line parse.TooLarge = codes "refused P3"
-parse_line parse.NoMemory = codes "memory"
+-- the line of a fault of the grammar
+abbrev pub parse_line : ParseFault → Option (List ℕ)
+parse_line (parse.Syntax at) = Some (at_place (codes "refused P1") at)
+parse_line parse.TooDeep = Some (codes "refused P2")
+parse_line parse.TooLarge = Some (codes "refused P3")
+parse_line parse.NoMemory = None
 
+-- the line of what there is too much of
 abbrev pub kind_line : Kind → List ℕ
 kind_line Processes = codes "refused N1 processes"
 kind_line Resources = codes "refused N1 resources"
@@ -50,13 +53,14 @@ kind_line Integers = codes "refused N1 integers"
 kind_line Fork = codes "refused N1 fork"
 kind_line Arms = codes "refused N1 arms"
 
-abbrev pub names_line : NameFault → List ℕ
-names_line (names.TooMany kind) = kind_line kind
-names_line (names.Twice at) = at_place (codes "refused N2") at
-names_line (names.Unknown at) = at_place (codes "refused N3") at
-names_line (names.Amount at) = at_place (codes "refused N4") at
-names_line (names.Repeated at) = at_place (codes "refused N6") at
-names_line names.NoMemory = codes "memory"
+-- the line of a fault of names
+abbrev pub names_line : NameFault → Option (List ℕ)
+names_line (names.TooMany kind) = Some (kind_line kind)
+names_line (names.Twice at) = Some (at_place (codes "refused N2") at)
+names_line (names.Unknown at) = Some (at_place (codes "refused N3") at)
+names_line (names.Amount at) = Some (at_place (codes "refused N4") at)
+names_line (names.Repeated at) = Some (at_place (codes "refused N6") at)
+names_line names.NoMemory = None
 
 -- a claim that is over its capital, with the names of its process and its resource
 abbrev pub claims_line : ClaimsFault → List ℕ
@@ -66,9 +70,12 @@ claims_line fault =
 
 -- the line of the first fault of a text that spells no program
 pub data RefusesEarly (text : List ℕ) : List ℕ → Type 0 where
-  by_tokens : (fault : LexFault) → IsRefused text (Lex fault) → RefusesEarly text (lex_line fault)
-  by_grammar : (fault : ParseFault) → IsRefused text (Parse fault) → RefusesEarly text (parse_line fault)
-  by_names : (fault : NameFault) → IsRefused text (Names fault) → RefusesEarly text (names_line fault)
+  by_tokens : (fault : LexFault) → IsRefused text (Lex fault)
+      → (refusal : List ℕ) → lex_line fault ≡ Some refusal → RefusesEarly text refusal
+  by_grammar : (fault : ParseFault) → IsRefused text (Parse fault)
+      → (refusal : List ℕ) → parse_line fault ≡ Some refusal → RefusesEarly text refusal
+  by_names : (fault : NameFault) → IsRefused text (Names fault)
+      → (refusal : List ℕ) → names_line fault ≡ Some refusal → RefusesEarly text refusal
 
 -- the line of the first fault of a text: it spells no program, or a claim is over its capital
 pub data RefusesWith (text : List ℕ) : List ℕ → Type 0 where
@@ -82,7 +89,7 @@ pub record IsAcceptedText (text : List ℕ) : Type 0 where
   pub numbered : IsNumbered text program claims
   pub enough : FitCapital claims (capital_of program)
 
--- a refusal is by the line of the first fault, or for want of memory
+-- a refusal is by the line of the first fault, or out of memory
 abbrev pub IsRefusal : List ℕ → Refusal → Type 0
 IsRefusal text (Line line) = RefusesWith text line.items
 IsRefusal text NoMemory = ⊤
@@ -98,19 +105,21 @@ pub data SaysOfRefusedText (text : List ℕ) : List ℕ → Status → Type 0 wh
 
 -- ---- objects
 
-abbrev pub object_line : ObjectFault → List ℕ
-object_line (object.NotObject at) = at_place (codes "refused O1") at
-object_line (object.Limit at) = at_place (codes "refused O2") at
-object_line object.NoMemory = codes "memory"
+-- the line of bytes that are no object
+abbrev pub object_line : ObjectFault → Option (List ℕ)
+object_line (object.NotObject at) = Some (at_place (codes "refused O1") at)
+object_line (object.Limit at) = Some (at_place (codes "refused O2") at)
+object_line object.NoMemory = None
 
-abbrev pub verify_line : VerifyFault → List ℕ
-verify_line verify.OutOfLimits = codes "refused V9"
-verify_line verify.OverCapital = codes "refused V8"
-verify_line verify.OutOfRange = codes "refused V3"
-verify_line verify.WrongArms = codes "refused V1"
-verify_line verify.WrongForks = codes "refused V6"
-verify_line verify.NoDepths = codes "refused V2"
-verify_line verify.NoHoldings = codes "refused V4"
-verify_line verify.LeftAtEnd = codes "refused V5"
-verify_line verify.OverClaim = codes "refused V7"
-verify_line verify.NoMemory = codes "memory"
+-- the line of code that is not safe
+abbrev pub verify_line : VerifyFault → Option (List ℕ)
+verify_line verify.OutOfLimits = Some (codes "refused V9")
+verify_line verify.OverCapital = Some (codes "refused V8")
+verify_line verify.OutOfRange = Some (codes "refused V3")
+verify_line verify.WrongArms = Some (codes "refused V1")
+verify_line verify.WrongForks = Some (codes "refused V6")
+verify_line verify.NoDepths = Some (codes "refused V2")
+verify_line verify.NoHoldings = Some (codes "refused V4")
+verify_line verify.LeftAtEnd = Some (codes "refused V5")
+verify_line verify.OverClaim = Some (codes "refused V7")
+verify_line verify.NoMemory = None

@@ -1,9 +1,9 @@
 //! Objects, read and verified.
-ghost use Rattle.std.specs.Prelude.{◌≡◌, ℕ, IfErr, IfOk, List};
+ghost use Rattle.std.specs.Prelude.{◌≡◌, ℕ, IfErr, IfOk, List, Some};
 ghost use Rattle.pb_object.specs.Answers.{HasText};
 ghost use Rattle.pb_code.specs.View.{labels_view};
 ghost use Rattle.pb_object.specs.declared.format.Format.TheVariants.{Two};
-ghost use Rattle.pb_engines.specs.Loading.{IsLoaded, IsLoadFault, SaysOfNoCode, WantsNoMemory, load_line};
+ghost use Rattle.pb_engines.specs.Loading.{IsLoaded, IsLoadFault, SaysOfNoCode, load_line};
 
 use crate::refusal::{object_text, verify_text};
 use crate::reply::{Reply, refused};
@@ -38,10 +38,9 @@ pub fn load(alloc: Global, bytes: &[u8]) -> Result<(Verified, Labels), LoadFault
     }
 }
 
-// The line of a refusal, without a line feed. Want of memory has none.
+// Returns the line of a refusal, without a line feed. A fault that is out of memory has none.
 fn load_text(alloc: Global, fault: LoadFault) -> Result<Vec<u8>, NoMemory>
-    ensures line { IfOk result (λ text. text.items ≡ load_line fault) }
-    ensures told { IfOk result (λ _. WantsNoMemory fault) }
+    ensures { IfOk result (λ text. load_line fault ≡ Some text.items) }
 {
     match fault {
         LoadFault::Object(fault) => object_text(alloc, fault),
@@ -49,7 +48,8 @@ fn load_text(alloc: Global, fault: LoadFault) -> Result<Vec<u8>, NoMemory>
     }
 }
 
-/// The reply to bytes that have this fault. There is none where memory wanted.
+/// Returns the reply to bytes that have this fault, or out of memory if that is the fault or there is too little for
+/// its line.
 pub fn load_refusal(alloc: Global, fault: LoadFault) -> Result<Reply, NoMemory>
     ensures { (bytes : List ℕ) → IsLoadFault bytes fault
         → IfOk result (λ r. SaysOfNoCode bytes r.text.items r.status) }

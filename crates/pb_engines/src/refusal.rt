@@ -1,5 +1,5 @@
-//! The line of a text or an object that is refused.
-ghost use Rattle.std.specs.Prelude.{◌≡◌, ◌≢◌, ◌++◌, ◌∷◌, IfOk, OnOk, codes};
+//! The line of a text or an object that is refused. A fault that is out of memory has no line: it stays out of memory.
+ghost use Rattle.std.specs.Prelude.{◌≡◌, ◌++◌, IfOk, OnOk, Some};
 ghost use Rattle.std.specs.Fmt.{decimal};
 ghost use Rattle.pb_engines.specs.Refusals.{at_place, claims_line, kind_line, lex_line, names_line, object_line, parse_line, verify_line};
 
@@ -25,26 +25,26 @@ fn at_text(alloc: Global, cause: &[u8], at: usize) -> Result<Vec<u8>, NoMemory>
 
 /// The line of a fault of tokens, without a line feed.
 pub fn lex_text(alloc: Global, fault: LexFault) -> Result<Vec<u8>, NoMemory>
-    ensures { IfOk result (λ text. text.items ≡ lex_line fault) }
+    ensures { IfOk result (λ text. lex_line fault ≡ Some text.items) }
 {
     match fault {
         LexFault::TooLong => Ok(Vec::from_slice(alloc, b"refused L1")?),
         LexFault::BadByte(at) => at_text(alloc, b"refused L2", at),
         LexFault::NumberTooLarge(at) => at_text(alloc, b"refused L3", at),
         LexFault::NameTooLong(at) => at_text(alloc, b"refused L4", at),
-        LexFault::NoMemory => Ok(Vec::from_slice(alloc, b"memory")?),
+        LexFault::NoMemory => Err(NoMemory),
     }
 }
 
 /// The line of a fault of the grammar, without a line feed.
 pub fn parse_text(alloc: Global, fault: ParseFault) -> Result<Vec<u8>, NoMemory>
-    ensures { IfOk result (λ text. text.items ≡ parse_line fault) }
+    ensures { IfOk result (λ text. parse_line fault ≡ Some text.items) }
 {
     match fault {
         ParseFault::Syntax(at) => at_text(alloc, b"refused P1", at),
         ParseFault::TooDeep => Ok(Vec::from_slice(alloc, b"refused P2")?),
         ParseFault::TooLarge => Ok(Vec::from_slice(alloc, b"refused P3")?),
-        ParseFault::NoMemory => Ok(Vec::from_slice(alloc, b"memory")?),
+        ParseFault::NoMemory => Err(NoMemory),
     }
 }
 
@@ -63,7 +63,7 @@ fn kind_text(alloc: Global, kind: Kind) -> Result<Vec<u8>, NoMemory>
 
 /// The line of a fault of names, without a line feed.
 pub fn names_text(alloc: Global, fault: NameFault) -> Result<Vec<u8>, NoMemory>
-    ensures { IfOk result (λ text. text.items ≡ names_line fault) }
+    ensures { IfOk result (λ text. names_line fault ≡ Some text.items) }
 {
     match fault {
         NameFault::TooMany(kind) => kind_text(alloc, kind),
@@ -71,7 +71,7 @@ pub fn names_text(alloc: Global, fault: NameFault) -> Result<Vec<u8>, NoMemory>
         NameFault::Unknown(at) => at_text(alloc, b"refused N3", at),
         NameFault::Amount(at) => at_text(alloc, b"refused N4", at),
         NameFault::Repeated(at) => at_text(alloc, b"refused N6", at),
-        NameFault::NoMemory => Ok(Vec::from_slice(alloc, b"memory")?),
+        NameFault::NoMemory => Err(NoMemory),
     }
 }
 
@@ -98,10 +98,9 @@ pub fn claims_text(alloc: Global, fault: &ClaimsFault) -> Result<Vec<u8>, NoMemo
     Ok(text)
 }
 
-/// The line of an object that is not read, without a line feed. Want of memory has none.
+/// The line of an object that is not read, without a line feed.
 pub fn object_text(alloc: Global, fault: ObjectFault) -> Result<Vec<u8>, NoMemory>
-    ensures line { IfOk result (λ text. text.items ≡ object_line fault) }
-    ensures told { IfOk result (λ _. fault ≢ ObjectFault.NoMemory) }
+    ensures { IfOk result (λ text. object_line fault ≡ Some text.items) }
 {
     match fault {
         ObjectFault::NotObject(at) => at_text(alloc, b"refused O1", at),
@@ -110,10 +109,9 @@ pub fn object_text(alloc: Global, fault: ObjectFault) -> Result<Vec<u8>, NoMemor
     }
 }
 
-/// The line of code that is not safe, without a line feed. Want of memory has none.
+/// The line of code that is not safe, without a line feed.
 pub fn verify_text(alloc: Global, fault: VerifyFault) -> Result<Vec<u8>, NoMemory>
-    ensures line { IfOk result (λ text. text.items ≡ verify_line fault) }
-    ensures told { IfOk result (λ _. fault ≢ VerifyFault.NoMemory) }
+    ensures { IfOk result (λ text. verify_line fault ≡ Some text.items) }
 {
     let text = match fault {
         VerifyFault::OutOfLimits => b"refused V9".as_slice(),
