@@ -66,11 +66,11 @@ module _ (code : ProcessCode) where
 -- ---- the facts
 
 -- whether a number is in a list
-abbrev is_listed : List ℕ → ℕ → Bool
+abbrev pub is_listed : List ℕ → ℕ → Bool
 is_listed [] p = false
 is_listed (x ∷ xs) p = cond (eqb x p) true (is_listed xs p)
 
-listed_from : (xs : List ℕ) (p : ℕ) → is_listed xs p ≡ true → Contains xs p
+pub listed_from : (xs : List ℕ) (p : ℕ) → is_listed xs p ≡ true → Contains xs p
 listed_from [] p e = let n : false ≡ true = e in cc
 listed_from (x ∷ xs) p e = go (eqb x p) refl e (λ rest. listed_from xs p rest)
   where
@@ -78,7 +78,7 @@ listed_from (x ∷ xs) p e = go (eqb x p) refl e (λ rest. listed_from xs p rest
     go true same e later = subst (λ (y : ℕ). Contains (y ∷ xs) p) (sym (eqb-true x p same)) (contains_head p xs)
     go false other e later = contains_tail x p xs (later e)
 
-listed_to : (xs : List ℕ) (p : ℕ) → Contains xs p → is_listed xs p ≡ true
+pub listed_to : (xs : List ℕ) (p : ℕ) → Contains xs p → is_listed xs p ≡ true
 listed_to [] p c = let u : c.0 < 0 = c.1 in absurd (omega arith)
 listed_to (x ∷ xs) p c = go (contains_cases x p xs c) (eqb x p) refl (λ later. listed_to xs p later)
   where

@@ -76,5 +76,8 @@ module _ (code : ProcessCode) (lie : HasArms code) (fork : HasForks code) (some 
           let l1 = l.1 in
           sum_le first count (λ b among. let x = among.0 in let y = among.1 in later b (omega (arith, l0, x)) (omega (arith, l1, y)))
 
+  pub least_of : (a : ℕ) → a < arms code → peak a ≤ other a
+  least_of a u = least_from (arms code) a (omega arith) u
+
   pub least : peak 0 ≤ other 0
-  least = least_from (arms code) 0 (omega arith) some
+  least = least_of 0 some

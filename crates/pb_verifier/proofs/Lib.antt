@@ -5,8 +5,10 @@ pub mod Banking
 pub mod Behaved
 pub mod Bridging
 pub mod Chains
+pub mod Deciding
 pub mod Each
 pub mod Ending
+pub mod Existing
 pub mod Finding
 pub mod Forking
 pub mod Greatest

@@ -10,7 +10,7 @@ use Rattle.pb_code.specs.Whole.{Code, bank_of}
 use Rattle.pb_verifier.specs.declared.fault.VerifyFault.{VerifyFault}
 use Rattle.pb_verifier.specs.declared.fault.VerifyFault.TheVariants.{OverClaim}
 use Rattle.pb_verifier.specs.Faults.{AreDepths, AreHoldings, ArePeaks, PeakFits}
-use Rattle.pb_verifier.specs.Places.{IsInArm, Reached}
+use Rattle.pb_verifier.specs.Places.{IsInArm, Reached, arms}
 use Rattle.pb_verifier.specs.Verified.{IsFreeOf, turn_of}
 
 -- a place is one of the code
@@ -107,3 +107,13 @@ PeaksDecide code =
     → (p r claim : ℕ) (process : ProcessCode) (held : ℕ → List Bundle) (peak : ℕ → ℕ)
     → slice_get code.processes p ≡ Some process
     → AreHoldings process held → ArePeaks process held r peak → (PeakFits process r claim ↔ (peak 0 ≤ claim))
+
+-- in code that has no fault looked for before peaks, each arm of each process has a peak on each resource, and
+-- no other one
+abbrev pub PeaksExist : Code → Type 0
+PeaksExist code =
+    ((fault : VerifyFault) → turn_of fault < turn_of OverClaim → IsFreeOf fault code)
+    → (p r : ℕ) (process : ProcessCode) (held : ℕ → List Bundle)
+    → slice_get code.processes p ≡ Some process → AreHoldings process held
+    → (peak : ℕ → ℕ) × ArePeaks process held r peak
+    × ((other : ℕ → ℕ) → ArePeaks process held r other → (a : ℕ) → a < arms process → other a ≡ peak a)

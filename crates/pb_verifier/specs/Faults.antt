@@ -134,3 +134,15 @@ abbrev pub PeakFits : ProcessCode → (r claim : ℕ) → Type 0
 PeakFits code r claim =
     (held : ℕ → List Bundle) → AreHoldings code held
     → (peak : ℕ → ℕ) × StayUnder code held r peak × (peak 0 ≤ claim)
+
+-- the arms have holdings and peaks, and the peak of arm 0 is within the claim
+abbrev pub HasPeakWithin : ProcessCode → (r claim : ℕ) → Type 0
+HasPeakWithin code r claim =
+    (held : ℕ → List Bundle) × (peak : ℕ → ℕ)
+    × AreHoldings code held × ArePeaks code held r peak × (peak 0 ≤ claim)
+
+-- the arms have holdings and peaks, and the peak of arm 0 is over the claim
+abbrev pub HasPeakOver : ProcessCode → (r claim : ℕ) → Type 0
+HasPeakOver code r claim =
+    (held : ℕ → List Bundle) × (peak : ℕ → ℕ)
+    × AreHoldings code held × ArePeaks code held r peak × (claim < peak 0)

@@ -1,5 +1,5 @@
 -- The plain instructions of a process as it is given.
-use Rattle.std.specs.Prelude.{◌≡◌, ◌↔◌, ℕ, List, [], map, slice_get, slice_index_or, Some, Contains}
+use Rattle.std.specs.Prelude.{◌≡◌, ◌↔◌, ℕ, List, map, slice_get, Some, Contains}
 use Rattle.pb_base.specs.Steppers.{Bundle}
 use Rattle.pb_code.specs.declared.code.ProcessCode.{ProcessCode as GivenProcess}
 use Rattle.pb_code.specs.declared.instr.Instr.{Instr as Given}

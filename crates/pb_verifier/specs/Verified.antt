@@ -8,7 +8,7 @@ use Rattle.pb_verifier.specs.declared.fault.VerifyFault.{VerifyFault}
 use Rattle.pb_verifier.specs.declared.fault.VerifyFault.TheVariants.{OutOfLimits, OverCapital, OutOfRange, WrongArms, WrongForks, NoDepths, NoHoldings, LeftAtEnd, OverClaim, NoMemory}
 use Rattle.pb_verifier.specs.Places.{Reached, IsInArm, arms}
 use Rattle.pb_verifier.specs.Limits.{EachProcess, KeepsLimits, PushesFit}
-use Rattle.pb_verifier.specs.Faults.{FitCapital, IsInRange, HasArms, HasForks, AreDepths, AreHoldings, EndsClear, PeakFits}
+use Rattle.pb_verifier.specs.Faults.{FitCapital, IsInRange, HasArms, HasForks, AreDepths, AreHoldings, EndsClear, PeakFits, HasPeakWithin, HasPeakOver}
 
 -- the code doesn't have this fault; want of memory is none of the code's
 abbrev pub IsFreeOf : VerifyFault → Code → Type 0
@@ -52,6 +52,19 @@ IsFirstFault code fault =
 -- found
 abbrev pub IsRefusedFor : Code → VerifyFault → Type 0
 IsRefusedFor code fault = (fault ≡ NoMemory → ⊥) → IsFirstFault code fault
+
+-- the greatest amount that each process holds of each resource is within its claim
+abbrev pub HasPeaksWithin : Code → Type 0
+HasPeaksWithin code =
+    (p r : ℕ) (process : ProcessCode) → slice_get code.processes p ≡ Some process → r < length code.capital
+    → HasPeakWithin process r (cell code.claims p r)
+
+-- the greatest amount that some process holds of some resource is over its claim
+abbrev pub SomePeakIsOver : Code → Type 0
+SomePeakIsOver code =
+    (p : ℕ) × (r : ℕ) × (process : ProcessCode)
+    × (slice_get code.processes p ≡ Some process) × (r < length code.capital)
+    × HasPeakOver process r (cell code.claims p r)
 
 -- ---- depths
 

@@ -4,7 +4,7 @@ ghost use Rattle.std.specs.Prelude.{◌≡◌, ◌↔◌, ◌⊎◌, ◌<◌, �
 ghost use Rattle.pb_code.specs.View.{code_view};
 ghost use Rattle.pb_verifier.specs.Limits.{PushesFit};
 ghost use Rattle.pb_verifier.specs.Process.{IsEarlier};
-ghost use Rattle.pb_verifier.specs.Verified.{AreArmDepths, IsAnnotated, IsRefusedFor, turn_of};
+ghost use Rattle.pb_verifier.specs.Verified.{AreArmDepths, HasPeaksWithin, IsAnnotated, IsRefusedFor, SomePeakIsOver, turn_of};
 
 use crate::fault::VerifyFault;
 use crate::limits::keeps_limits;
@@ -83,9 +83,12 @@ fn check(alloc: Global, code: &Code) -> Result<Vec<Vec<u16>>, VerifyFault>
 pub fn verify(alloc: Global, code: Code) -> Result<Verified, (Code, VerifyFault)>
     ensures code { IfOk result (λ verified. verified.code ≡ code_view code) }
     ensures annotated { IfOk result (λ verified. IsAnnotated verified.code) }
+    ensures peaks { IfOk result (λ verified. HasPeaksWithin verified.code) }
     ensures depths { IfOk result (λ verified. AreArmDepths verified.code.processes verified.depths) }
     ensures handed_back { IfErr result (λ refusal. refusal.0 ≡ code) }
     ensures refused { IfErr result (λ refusal. IsRefusedFor (code_view code) refusal.1) }
+    // What is over its claim is the greatest amount itself.
+    ensures over { IfErr result (λ refusal. refusal.1 ≡ VerifyFault.OverClaim → SomePeakIsOver (code_view code)) }
 {
     let depths = match check(alloc, &code) {
         Ok(depths) => depths,

@@ -2,7 +2,7 @@
 
 ghost use Rattle.pb_code.specs.Limits.{KeepsLimits, PushesFit};
 ghost use Rattle.pb_code.specs.Whole.{Code};
-ghost use Rattle.pb_verifier.specs.Behaviour.{IsWellBehaved, PeaksDecide};
+ghost use Rattle.pb_verifier.specs.Behaviour.{IsWellBehaved, PeaksDecide, PeaksExist};
 ghost use Rattle.pb_verifier.specs.Requests.{RefusedStays, RefusedStops, SameProcessSameDepths};
 ghost use Rattle.pb_verifier.specs.Verified.{IsAnnotated, IsVerified, VerifiedCode};
 
@@ -18,6 +18,12 @@ pub fn verified_code_is_well_behaved()
 /// The peak of arm 0 is within a claim exactly where the greatest amount that it holds is.
 pub fn greatest_amounts_decide()
     ensures { (code : Code) → PeaksDecide code }
+{}
+
+/// In code that has no fault looked for before peaks, each arm of each process has a peak on each resource, which is
+/// the greatest amount that it and those that it forks hold at any reached place, and no other one.
+pub fn peaks_exist()
+    ensures { (code : Code) → PeaksExist code }
 {}
 
 /// Verified code keeps the limits of code, so that with labels that fit it there is an object that says it.
