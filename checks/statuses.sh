@@ -1,8 +1,12 @@
 #!/bin/sh
 # Runs the built program once for each exit status that can be brought about from outside, and compares the statuses.
+#
+#     checks/statuses.sh [PROGRAM]     PROGRAM is ./parbegin if none is given, which builds the program if it has to
+#
 # It is run by hand; its own status is 0 if all of them are as wanted, and 1 if not.
 set -u
 top=$(CDPATH= cd -- "$(dirname -- "$0")/.." && pwd) || exit 1
+program=${1:-$top/parbegin}
 failed=0
 
 # expect WANTED OUTPUT WORD..: calls the program with the words and the standard input of this call
@@ -10,7 +14,7 @@ expect() {
     wanted=$1
     output=$2
     shift 2
-    "$top/parbegin" "$@" >"$output"
+    "$program" "$@" >"$output"
     status=$?
     if [ "$status" -eq "$wanted" ]; then
         echo "status $status: parbegin $*"
