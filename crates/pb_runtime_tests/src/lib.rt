@@ -1,0 +1,13 @@
+//! Tests of books, stretches and workers, by their public calls, in a crate of their own, since they start threads.
+#![tactic(auto)]
+
+#[cfg(test)]
+mod books;
+#[cfg(test)]
+mod codes;
+#[cfg(test)]
+mod gates;
+#[cfg(test)]
+mod strangers;
+#[cfg(test)]
+mod workers;

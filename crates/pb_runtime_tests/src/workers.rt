@@ -1,0 +1,164 @@
+//! Workers, whatever their number and quantum.
+
+use crate::codes::{DEVICES, DIVIDES, FORKS, PRINT, PRINTS, TURNS, verified};
+use pb_base::{Event, FaultKind, NoMemory, Pick};
+use pb_history::Trace;
+use pb_history::replay::replay;
+use pb_shared::Outcome;
+use pb_verifier::Verified;
+use pb_workers::{Gate, Report, RunFault, run_workers};
+use std::alloc::Global;
+
+/// A gate that is open.
+pub struct Open;
+
+impl Gate for Open {
+    fn between(&self, _worker: usize, _turn: u64) {}
+}
+
+/// A gate that has every second stretch put back.
+struct EverySecond;
+
+impl Gate for EverySecond {
+    fn between(&self, _worker: usize, _turn: u64) {}
+
+    fn give_back(&self, _worker: usize, turn: u64) -> bool {
+        turn % 2 == 0
+    }
+}
+
+/// What an event says, but for the amounts of a bundle.
+#[derive(Clone, Copy, PartialEq, Eq, Debug)]
+enum Seen {
+    Granted(u8, u8),
+    Returned(u8, u8),
+    Printed(u8, u8, i64),
+    Faulted(u8, u8, FaultKind),
+    Finished(u8),
+}
+
+fn seen_in(event: Event) -> Seen {
+    match event {
+        Event::Granted { pick, .. } => Seen::Granted(pick.process, pick.arm),
+        Event::Returned { pick, .. } => Seen::Returned(pick.process, pick.arm),
+        Event::Printed { pick, value } => Seen::Printed(pick.process, pick.arm, value),
+        Event::Faulted { pick, kind } => Seen::Faulted(pick.process, pick.arm, kind),
+        Event::Finished { process } => Seen::Finished(process),
+    }
+}
+
+/// Whether both traces have the same events in the same order.
+fn same_events(one: &Trace, other: &Trace) -> bool {
+    if one.events_len() != other.events_len() {
+        return false;
+    }
+    for i in 0..one.events_len() {
+        if i < other.events_len() && seen_in(one.event(i)) != seen_in(other.event(i)) {
+            return false;
+        }
+    }
+    true
+}
+
+/// Whether the picks of a trace, made once more from the start, make its events.
+fn replays(alloc: Global, code: &Verified, trace: &Trace) -> Result<bool, NoMemory> {
+    let mut picks: Vec<Pick> = Vec::new(alloc);
+    for i in 0..trace.len() {
+        picks.push(trace.pick(i))?;
+    }
+    if picks.len() > 10_000_000 {
+        return Ok(false);
+    }
+    match replay(alloc, code, &picks) {
+        Ok((_, again)) => Ok(same_events(trace, &again)),
+        Err(_) => Ok(false),
+    }
+}
+
+/// Whether a run was reported with this outcome, so many events, and picks that make its events.
+fn is_right(
+    alloc: Global,
+    code: &Verified,
+    report: Result<Report, RunFault>,
+    outcome: Outcome,
+    events: usize,
+) -> bool {
+    let Ok(report) = report else {
+        return false;
+    };
+    report.outcome == outcome
+        && report.trace.events_len() == events
+        && matches!(replays(alloc, code, &report.trace), Ok(true))
+}
+
+#[test]
+fn each_number_of_workers_and_quantum(rt: HostRuntime) {
+    let texts = [
+        (PRINT, 2),
+        (DEVICES, 10),
+        (FORKS, 7),
+        (PRINTS, 6),
+        (DIVIDES, 1),
+    ];
+    for (text, events) in texts {
+        let Some(code) = verified(rt.alloc(), text) else {
+            panic!(rt; "no code")
+        };
+        for workers in [1usize, 4, 16] {
+            for quantum in [1u32, 64, 4096] {
+                let open = run_workers(&rt, rt.alloc(), &code, workers, quantum, 1000, &Open);
+                let right = is_right(rt.alloc(), &code, open, Outcome::Done, events);
+                assert!(rt; right);
+                let second = run_workers(
+                    &rt,
+                    rt.alloc(),
+                    &code,
+                    workers,
+                    quantum,
+                    1000,
+                    &EverySecond,
+                );
+                let right = is_right(rt.alloc(), &code, second, Outcome::Done, events);
+                assert!(rt; right);
+            }
+        }
+    }
+}
+
+#[test]
+fn a_run_keeps_to_its_limit(rt: HostRuntime) {
+    let Some(code) = verified(rt.alloc(), TURNS) else {
+        panic!(rt; "no code")
+    };
+    for workers in [1usize, 4, 16] {
+        for quantum in [1u32, 64, 4096] {
+            let report = run_workers(&rt, rt.alloc(), &code, workers, quantum, 5000, &Open);
+            let Ok(report) = report else {
+                panic!(rt; "no report")
+            };
+            assert!(rt; report.outcome == Outcome::Limit);
+            assert_eq!(rt; report.trace.len(), 5000);
+        }
+    }
+}
+
+#[test]
+fn numbers_out_of_range(rt: HostRuntime) {
+    let Some(code) = verified(rt.alloc(), PRINT) else {
+        panic!(rt; "no code")
+    };
+    let numbers = [
+        (0usize, 1u32, 10u32),
+        (17, 1, 10),
+        (1, 0, 10),
+        (1, 4097, 10),
+        (1, 1, 10_000_001),
+    ];
+    for (workers, quantum, limit) in numbers {
+        let report = run_workers(&rt, rt.alloc(), &code, workers, quantum, limit, &Open);
+        let Err(fault) = report else {
+            panic!(rt; "a report")
+        };
+        assert_eq!(rt; fault, RunFault::Limits);
+    }
+}
