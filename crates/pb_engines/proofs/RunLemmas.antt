@@ -1,5 +1,5 @@
 -- A run that is told, step after step.
-use Rattle.std.proofs.Common.{◌≡◌, ℕ, ◌+◌, ◌<◌, ◌≤◌, List, [], ◌∷◌, ◌++◌, length, Option, Some, None, option_to_list, refl, sym, ap, ◌∙◌, subst, inl, inr, arith, append-nil, length-append, codes}
+use Rattle.std.proofs.Common.{◌≡◌, ℕ, zero, suc, ◌+◌, ◌<◌, ◌≤◌, List, [], ◌∷◌, ◌++◌, length, Option, Some, None, option_to_list, refl, sym, ap, ◌∙◌, subst, inl, inr, arith, append-nil, length-append, codes}
 use Rattle.std.proofs.lemmas.Grind.{flat_map-append}
 use Rattle.std.proofs.lemmas.Bool.{cases_lt}
 use Rattle.std.specs.Prelude.{slice_get}
@@ -19,9 +19,10 @@ use Rattle.pb_machine.proofs.Going.{events_have_names}
 use Rattle.pb_machine.proofs.Reaching.{makes_more}
 use Rattle.pb_engines.specs.Answers.{line, memory_line, Leaves, Says, Tells}
 use Rattle.pb_engines.specs.Runs.{event_lines, Run, IsDone, done, faulted, at_limit, out_of_memory, cut_off, SaysOfCode}
-use Rattle.pb_base.specs.declared.step.Step.TheVariants.{Silent, Did}
+use Rattle.pb_machine.specs.Steps.{MovesSilently}
+use Rattle.pb_engines.specs.declared.schedule.Next.TheVariants.{Silent, Did}
 use Rattle.pb_engines.specs.Schedule.{StepsFirst}
-use Rattle.pb_engines.specs.Steps.{shown, Spoken, TellsEvent, TellsStep, IsTold, SaysOfEnd, all_done, some_fault, used_up}
+use Rattle.pb_engines.specs.Steps.{shown, Spoken, TellsEvent, TellsNext, IsTold, SaysOfEnd, all_done, some_fault, used_up}
 use Rattle.pb_engines.specs.declared.status.Status.{Status}
 use Rattle.pb_engines.specs.declared.status.Status.TheVariants.{Done, Fault, Limit, Memory, Device}
 use Rattle.pb_engines.specs.declared.steps.Progress.{Progress}
@@ -55,21 +56,22 @@ pub leaves_all : (w : Option (List ℕ)) (page : List ℕ) → Leaves w w page p
 leaves_all None page = ([], refl, refl)
 leaves_all (Some held) page = ([], refl, ap Some (sym (append-nil held)))
 
--- a step that shows nothing
-pub silent_step : (code : Code) (before after : State CodeProcess) (now : Spoken) → StepsFirst code before Silent after
-    → TellsStep code before after now now Made
-silent_step code before after now (pick, first, moves) =
-    (pick, None, moves, subst (λ (text : List ℕ). Leaves now.written now.written text now.page) (sym (append-nil now.page)) (leaves_all now.written now.page))
+-- silent picks, told by nothing
+pub silent_picks : (code : Code) (before after : State CodeProcess) (made : ℕ) (now : Spoken)
+    → StepsFirst code before (Silent made) after → TellsNext code before after now now (Made made)
+silent_picks code before after zero now (pick, first, (some, moves)) = absurd (omega (arith, some))
+silent_picks code before after (suc n) now (pick, first, (some, (between, silent, last))) =
+    (pick, None, between, n, omega arith, silent, last, subst (λ (text : List ℕ). Leaves now.written now.written text now.page) (sym (append-nil now.page)) (leaves_all now.written now.page))
 
--- a step that shows an event, which is told
-pub shown_step : (code : Code) (before after : State CodeProcess) (event : Event) (names : NameTable) (old new : Spoken)
+-- a pick that shows an event, which is told
+pub shown_pick : (code : Code) (before after : State CodeProcess) (event : Event) (names : NameTable) (old new : Spoken)
     (r : Progress) → StepsFirst code before (Did event) after → names ≡ code.names → TellsEvent names event old new r
-    → TellsStep code before after old new r
-shown_step code before after event names old new r (pick, first, moves) same told =
+    → TellsNext code before after old new r
+shown_pick code before after event names old new r (pick, first, moves) same told =
     go r (subst (λ n. TellsEvent n event old new r) same told)
   where
-    go : (r : Progress) → TellsEvent code.names event old new r → TellsStep code before after old new r
-    go Made h = (pick, Some event, moves, h)
+    go : (r : Progress) → TellsEvent code.names event old new r → TellsNext code before after old new r
+    go (Made made) (one, h) = (pick, Some event, before, zero, one, refl, moves, h)
     go Finished h = elim h [ ]
     go OutOfMemory h = h
     go Broken h = (pick, event, after, moves, h)
@@ -97,27 +99,56 @@ one_more_line names events (Some event) =
 abbrev CodeMakes : Code → List Pick → List Event → State CodeProcess → Type 0
 CodeMakes code picks events after = Makes (bank_of code) (code_step code.processes) (code_opening code) picks events after
 
+makes_last : (code : Code) (events : List Event) (before after : State CodeProcess) (pick : Pick) (event : Option Event)
+    → (run : Run code events before) → CodeMoves code before pick event after
+    → CodeMakes code (run.picks ++ pick ∷ []) (events ++ option_to_list event) after
+makes_last code events before after pick event run moves =
+    subst (λ (e : Option Event). CodeMakes code (run.picks ++ pick ∷ []) (events ++ option_to_list e) after) moves.3
+    (makes_more (bank_of code) (code_step code.processes) (code_opening code) before run.picks events pick
+    (record { next = after; effect = moves.0 }) run.makes moves.1 moves.2)
+
 run_more : (code : Code) (events : List Event) (before after : State CodeProcess) (pick : Pick) (event : Option Event)
     → Run code events before → CodeMoves code before pick event after → Run code (events ++ option_to_list event) after
 run_more code events before after pick event run moves = record {
   picks = run.picks ++ pick ∷ [];
-  makes =
-      subst (λ (e : Option Event). CodeMakes code (run.picks ++ pick ∷ []) (events ++ option_to_list e) after) moves.3
-      (makes_more (bank_of code) (code_step code.processes) (code_opening code) before run.picks events pick
-      (record { next = after; effect = moves.0 }) run.makes moves.1 moves.2);
+  makes = makes_last code events before after pick event run moves;
 }
 
-pub told_more : (code : Code) (w : Option (List ℕ)) (n : ℕ) (before after : State CodeProcess) (old new : Spoken)
-    → IsTold code w n before old → TellsStep code before after old new Made → IsTold code w (n + 1) after new
+-- picks that make these events and lead to this state, so many
+abbrev MadeSo : Code → List Event → ℕ → State CodeProcess → Type 0
+MadeSo code events n after = (picks : List Pick) × (length picks ≡ n) × CodeMakes code picks events after
+
+-- silent picks make no more events
+silent_more : (code : Code) (events : List Event) (n : ℕ) (before after : State CodeProcess) (pick : Pick) (silent : ℕ)
+    → MadeSo code events n before → MovesSilently code pick silent before after → MadeSo code events (n + silent) after
+silent_more code events n before after pick zero (picks, many, makes) same =
+    (picks, omega (arith, many), subst (CodeMakes code picks events) (sym same) makes)
+silent_more code events n before after pick (suc silent) made (between, so_far, last) =
+    let h : MadeSo code events (n + silent) between = silent_more code events n before between pick silent made so_far in (
+      h.0 ++ pick ∷ [],
+      let all = length-append h.0 (pick ∷ []) in let many = h.1 in omega (arith, all, many),
+      subst (λ (es : List Event). CodeMakes code (h.0 ++ pick ∷ []) es after) (append-nil events)
+          (makes_last code events between after pick None (record { picks = h.0; makes = h.2 }) last),
+    )
+
+pub told_more : (code : Code) (w : Option (List ℕ)) (n made : ℕ) (before after : State CodeProcess) (old new : Spoken)
+    → IsTold code w n before old → TellsNext code before after old new (Made made) → IsTold code w (n + made) after new
 unfolding run_more
-told_more code w n before after old new told step = record {
-  events = told.events ++ option_to_list step.1;
-  run = run_more code told.events before after step.0 step.1 told.run step.2;
-  so_many = length-append told.run.picks (step.0 ∷ []) ∙ ap (λ (k : ℕ). k + 1) told.so_many;
-  said =
-      subst (λ (text : List ℕ). Leaves w new.written text new.page) (sym (one_more_line code.names told.events step.1))
-      (Leaves-more w old.written new.written [] (event_lines code.names told.events) (shown code.names step.1) old.page new.page told.said step.3);
-}
+told_more code w n made before after old new told (pick, event, between, silent, many, moves, last, leaves) =
+    let h : MadeSo code told.events (n + silent) between =
+    silent_more code told.events n before between pick silent (told.run.picks, told.so_many, told.run.makes) moves in record {
+      events = told.events ++ option_to_list event;
+      run = run_more code told.events between after pick event (record { picks = h.0; makes = h.2 }) last;
+      so_many = let all = length-append h.0 (pick ∷ []) in let so_far = h.1 in omega (arith, all, so_far, many);
+      said =
+          subst (λ (text : List ℕ). Leaves w new.written text new.page) (sym (one_more_line code.names told.events event))
+          (Leaves-more w old.written new.written [] (event_lines code.names told.events) (shown code.names event) old.page new.page told.said leaves);
+    }
+
+-- the same number, said in another way
+pub told_left : (code : Code) (w : Option (List ℕ)) (n k : ℕ) (state : State CodeProcess) (now : Spoken)
+    → IsTold code w n state now → n ≡ k → IsTold code w k state now
+told_left code w n k state now told same = subst (λ (i : ℕ). IsTold code w i state now) same told
 
 -- more is said of a run, behind what waits
 say_more : (code : Code) (w : Option (List ℕ)) (n : ℕ) (state : State CodeProcess) (now : Spoken) (more : List ℕ) (new : Option (List ℕ))
@@ -167,7 +198,7 @@ told_memory code steps w n state old now new answered told few same says = (
 
 -- a write failed
 pub told_broken : (code : Code) (steps : ℕ) (w : Option (List ℕ)) (n : ℕ) (before after : State CodeProcess) (old new : Spoken)
-    → IsTold code w n before old → n < steps → TellsStep code before after old new Broken
+    → IsTold code w n before old → n < steps → TellsNext code before after old new Broken
     → Tells (SaysOfCode code steps) w new.written Device
 unfolding run_more
 told_broken code steps w n before after old new told few step =
@@ -197,7 +228,7 @@ no_machine code steps w new page answered empty says =
 -- all were done before
 pub told_finished : (code : Code) (steps : ℕ) (w : Option (List ℕ)) (n : ℕ) (before after : State CodeProcess) (old new : Spoken)
     (final : Option (List ℕ)) (answered : Status) → IsTold code w n before old → n ≤ steps
-    → TellsStep code before after old new Finished
+    → TellsNext code before after old new Finished
     → Tells (SaysOfEnd after steps new.page) new.written final answered → Tells (SaysOfCode code steps) w final answered
 told_finished code steps w n before after old new final answered told few step tells =
     told_end code steps w n after new final answered

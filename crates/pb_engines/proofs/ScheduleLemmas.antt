@@ -1,13 +1,14 @@
 -- Picks that are tried one after another.
-use Rattle.std.proofs.Common.{◌≡◌, ℕ, ◌+◌, ◌≤◌, List, [], length, get_or, Option, Some, None, option_and_then, option_map, refl, sym, ap, ◌∙◌, subst, inl, inr, arith}
+use Rattle.std.proofs.Common.{◌≡◌, ◌≢◌, ℕ, zero, suc, ◌+◌, ◌<◌, ◌≤◌, List, [], length, get_or, Option, Some, None, option_and_then, option_map, refl, sym, ap, ◌∙◌, subst, inl, inr, arith}
 use Rattle.std.proofs.lemmas.Bool.{cases_lt}
 use Rattle.std.proofs.lemmas.List.{get_or_past}
 use Rattle.std.proofs.lemmas.Option.{slice_get_past, slice_get_within, slice_get-get_or}
 use Rattle.std.specs.Prelude.{slice_get}
 use Rattle.pb_base.specs.declared.pick.Pick.{Pick}
-use Rattle.pb_base.specs.declared.step.Step.{Step}
-use Rattle.pb_base.specs.declared.step.Step.TheVariants.{Silent, Did, NotEnabled}
-use Rattle.pb_base.specs.Steppers.{State, move_of, moved}
+use Rattle.pb_engines.specs.declared.schedule.Next.{Next}
+use Rattle.pb_engines.specs.declared.schedule.Next.TheVariants.{Silent, Did, NotEnabled}
+use Rattle.pb_base.specs.Steppers.{Effect, State, move_of, moved}
+use Rattle.pb_base.specs.Steppers as effect
 use Rattle.pb_code.specs.Code.{ProcessCode, CodeProcess, Idle, thread, step_thread, code_step}
 use Rattle.pb_code.specs.Reached.{CodeReaches, CodeStays}
 use Rattle.pb_code.specs.Whole.{Code}
@@ -17,6 +18,9 @@ use Rattle.pb_machine.proofs.Going.{goes_on}
 use Rattle.pb_verifier.proofs.Banking.{kept_reached}
 use Rattle.pb_verifier.specs.declared.fault.VerifyFault.TheVariants.{OutOfLimits}
 use Rattle.pb_verifier.specs.Verified.{VerifiedCode, IsVerified}
+use Rattle.pb_machine.specs.Looks.{look_at, look_of}
+use Rattle.pb_machine.specs.Steps.{MovesSilently}
+use Rattle.pb_machine.specs.declared.look.Look.TheVariants as look
 use Rattle.pb_engines.specs.Schedule.{IsFirst, NoArmBelow, NoProcessBelow, StepsFirst, StepsFirstOf}
 
 -- ---- picks of what is not there
@@ -46,6 +50,33 @@ pub no_such_process : (code : Code) (s : State CodeProcess) (pick : Pick) → le
 no_such_process code s pick long =
     stays_where_none code s pick
     (ap (option_and_then (λ p. option_map (moved s pick) (code_step code.processes pick.process p pick.arm))) (slice_get_past s.processes pick.process long))
+
+-- a pick that looks as if it stays is not enabled
+pub looks_staying : (code : Code) (s : State CodeProcess) (pick : Pick) → look_at code s pick ≡ look.Stays → CodeStays code s pick
+looks_staying code s pick stays = stays_where_none code s pick (go (slice_get s.processes pick.process) stays)
+  where
+    none : (process : CodeProcess) (made : Option (CodeProcess × Effect)) → look_of made ≡ look.Stays
+        → option_map (moved s pick) made ≡ None
+    none process None same = refl
+    none process (Some (after, effect.Silent)) same = cc
+    none process (Some (after, effect.Prints v)) same = cc
+    none process (Some (after, effect.Takes bundle)) same = cc
+    none process (Some (after, effect.Returns bundle)) same = cc
+    none process (Some (after, effect.Faults kind)) same = cc
+    none process (Some (after, effect.Finishes)) same = cc
+
+    go : (process : Option CodeProcess)
+        → look_of (option_and_then (λ p. code_step code.processes pick.process p pick.arm) process) ≡ look.Stays
+        → option_and_then (λ p. option_map (moved s pick) (code_step code.processes pick.process p pick.arm)) process ≡ None
+    go None same = refl
+    go (Some p) same = none p (code_step code.processes pick.process p pick.arm) same
+
+-- a silent run of an arm whose pick looks silent makes one pick at least
+pub some_made : (code : Code) (s after : State CodeProcess) (pick : Pick) (made max : ℕ) → look_at code s pick ≡ look.Silent → 1 ≤ max
+    → MovesSilently code pick made s after → (made < max → look_at code after pick ≢ look.Silent) → 1 ≤ made
+some_made code s after pick zero max silent some same stops =
+    absurd (stops (omega (arith, some)) (subst (λ (t : State CodeProcess). look_at code t pick ≡ look.Silent) (sym same) silent))
+some_made code s after pick (suc made) max silent some moves stops = omega arith
 
 -- ---- one more that is tried
 
@@ -107,7 +138,7 @@ none_at_all v s now n verified reached below same long = (
     ]
 
 -- the first pick of a process is the first of all, where those before it have none
-pub first_of_all : (code : Code) (s mid after : State CodeProcess) (n : ℕ) (answer : Step) → NoProcessBelow code s n → mid ≡ s
+pub first_of_all : (code : Code) (s mid after : State CodeProcess) (n : ℕ) (answer : Next) → NoProcessBelow code s n → mid ≡ s
     → (answer ≡ NotEnabled → ⊥) → StepsFirstOf code mid n answer after → StepsFirst code s answer after
 first_of_all code s mid after n answer below same enabled steps =
     go answer enabled (subst (λ (m : State CodeProcess). StepsFirstOf code m n answer after) same steps)
@@ -118,8 +149,8 @@ first_of_all code s mid after n answer below same enabled steps =
       arms = subst (λ (k : ℕ). NoArmBelow code s k pick.arm) (sym of) arms;
     }
 
-    go : (answer : Step) → (answer ≡ NotEnabled → ⊥) → StepsFirstOf code s n answer after → StepsFirst code s answer after
-    go Silent enabled (pick, of, arms, moves) = (pick, first pick of arms, moves)
+    go : (answer : Next) → (answer ≡ NotEnabled → ⊥) → StepsFirstOf code s n answer after → StepsFirst code s answer after
+    go (Silent made) enabled (pick, of, arms, moves) = (pick, first pick of arms, moves)
     go (Did event) enabled (pick, of, arms, moves) = (pick, first pick of arms, moves)
     go NotEnabled enabled steps = absurd (enabled refl)
 

@@ -1,13 +1,14 @@
 -- Which pick comes next: the enabled one of the least process, and of its arms of the least.
-use Rattle.std.specs.Prelude.{◌≡◌, ◌<◌, ℕ, Some, None}
+use Rattle.std.specs.Prelude.{◌≡◌, ◌<◌, ◌≤◌, ℕ, Some}
 use Rattle.pb_base.specs.declared.pick.Pick.{Pick}
-use Rattle.pb_base.specs.declared.step.Step.{Step}
-use Rattle.pb_base.specs.declared.step.Step.TheVariants.{Silent, Did, NotEnabled}
 use Rattle.pb_base.specs.Steppers.{State}
 use Rattle.pb_code.specs.Code.{CodeProcess}
 use Rattle.pb_code.specs.Reached.{CodeMoves, CodeStays}
 use Rattle.pb_code.specs.Whole.{Code}
 use Rattle.pb_engines.specs.Runs.{IsDone}
+use Rattle.pb_engines.specs.declared.schedule.Next.{Next}
+use Rattle.pb_engines.specs.declared.schedule.Next.TheVariants.{Silent, Did, NotEnabled}
+use Rattle.pb_machine.specs.Steps.{MovesSilently}
 
 -- no pick of an arm of process p below n is enabled
 abbrev pub NoArmBelow : Code → State CodeProcess → (p n : ℕ) → Type 0
@@ -22,21 +23,27 @@ pub record IsFirst (code : Code) (s : State CodeProcess) (pick : Pick) : Type 0 
   pub processes : NoProcessBelow code s pick.process
   pub arms : NoArmBelow code s pick.process pick.arm
 
--- the first pick of process p that is enabled was made; or none of it is
-abbrev pub StepsFirstOf : Code → State CodeProcess → ℕ → Step → State CodeProcess → Type 0
-StepsFirstOf code before p Silent after =
+-- the pick was made, and if it is silent, with more of its arm; or it is not enabled
+abbrev pub StepsArm : Code → State CodeProcess → Pick → Next → State CodeProcess → Type 0
+StepsArm code before pick (Silent made) after = (1 ≤ made) × MovesSilently code pick made before after
+StepsArm code before pick (Did event) after = CodeMoves code before pick (Some event) after
+StepsArm code before pick NotEnabled after = CodeStays code before pick × (after ≡ before)
+
+-- the first pick of process p that is enabled was made, and if it is silent, with more of its arm; or none of it is
+abbrev pub StepsFirstOf : Code → State CodeProcess → ℕ → Next → State CodeProcess → Type 0
+StepsFirstOf code before p (Silent made) after =
     (pick : Pick) × (pick.process ≡ p) × NoArmBelow code before p pick.arm
-    × CodeMoves code before pick None after
+    × StepsArm code before pick (Silent made) after
 StepsFirstOf code before p (Did event) after =
     (pick : Pick) × (pick.process ≡ p) × NoArmBelow code before p pick.arm
     × CodeMoves code before pick (Some event) after
 StepsFirstOf code before p NotEnabled after =
     ((pick : Pick) → pick.process ≡ p → CodeStays code before pick) × (after ≡ before)
 
--- the first pick that is enabled was made; or all is done
-abbrev pub StepsFirst : Code → State CodeProcess → Step → State CodeProcess → Type 0
-StepsFirst code before Silent after =
-    (pick : Pick) × IsFirst code before pick × CodeMoves code before pick None after
+-- the first pick that is enabled was made, and if it is silent, with more of its arm; or all is done
+abbrev pub StepsFirst : Code → State CodeProcess → Next → State CodeProcess → Type 0
+StepsFirst code before (Silent made) after =
+    (pick : Pick) × IsFirst code before pick × StepsArm code before pick (Silent made) after
 StepsFirst code before (Did event) after =
     (pick : Pick) × IsFirst code before pick × CodeMoves code before pick (Some event) after
 StepsFirst code before NotEnabled after = IsDone before × (after ≡ before)

@@ -1,5 +1,5 @@
--- One step of a run that is told: what it does to the state, and what is said of it.
-use Rattle.std.specs.Prelude.{◌≡◌, ◌++◌, ℕ, List, [], Option, Some, None, codes, length}
+-- The next picks of a run that is told: what they do to the state, and what is said of them.
+use Rattle.std.specs.Prelude.{◌≡◌, ◌++◌, ◌+◌, ℕ, List, [], Option, Some, None, codes, length}
 use Rattle.std.specs.Fmt.{decimal}
 use Rattle.pb_base.specs.declared.event.Event.{Event}
 use Rattle.pb_base.specs.declared.pick.Pick.{Pick}
@@ -9,6 +9,7 @@ use Rattle.pb_base.specs.Steppers.{State}
 use Rattle.pb_code.specs.Code.{CodeProcess}
 use Rattle.pb_code.specs.Reached.{CodeMoves}
 use Rattle.pb_code.specs.Whole.{Code}
+use Rattle.pb_machine.specs.Steps.{MovesSilently}
 use Rattle.pb_engines.specs.Answers.{line, Leaves}
 use Rattle.pb_engines.specs.Runs.{Run, IsDone, HasFault, event_lines}
 use Rattle.pb_engines.specs.declared.status.Status.{Status}
@@ -28,22 +29,23 @@ pub record Spoken : Type 0 where
 
 -- what came of telling an event
 abbrev pub TellsEvent : NameTable → Event → Spoken → Spoken → Progress → Type 0
-TellsEvent names event old new Made =
-    Leaves old.written new.written (old.page ++ line (line_of names event)) new.page
+TellsEvent names event old new (Made made) =
+    (made ≡ 1) × Leaves old.written new.written (old.page ++ line (line_of names event)) new.page
 TellsEvent names event old new Finished = ⊥
 TellsEvent names event old new OutOfMemory = new ≡ old
 TellsEvent names event old new Broken =
     AddsPrefix old.written new.written (old.page ++ line (line_of names event))
 
--- what came of one step: it was made and told; or all were done before; or there was no memory for its line;
--- or it was made and a write failed
-abbrev pub TellsStep : Code → State CodeProcess → State CodeProcess → Spoken → Spoken → Progress → Type 0
-TellsStep code before after old new Made =
-    (pick : Pick) × (event : Option Event) × CodeMoves code before pick event after
+-- what came of the next picks: silent ones of one arm and one more of it were made, which is told; or all were done
+-- before; or there was no memory for its line; or one was made and a write failed
+abbrev pub TellsNext : Code → State CodeProcess → State CodeProcess → Spoken → Spoken → Progress → Type 0
+TellsNext code before after old new (Made made) =
+    (pick : Pick) × (event : Option Event) × (between : State CodeProcess) × (silent : ℕ)
+    × (made ≡ silent + 1) × MovesSilently code pick silent before between × CodeMoves code between pick event after
     × Leaves old.written new.written (old.page ++ shown code.names event) new.page
-TellsStep code before after old new Finished = IsDone before × (after ≡ before) × (new ≡ old)
-TellsStep code before after old new OutOfMemory = new ≡ old
-TellsStep code before after old new Broken =
+TellsNext code before after old new Finished = IsDone before × (after ≡ before) × (new ≡ old)
+TellsNext code before after old new OutOfMemory = new ≡ old
+TellsNext code before after old new Broken =
     (pick : Pick) × (event : Event) × (next : State CodeProcess)
     × CodeMoves code before pick (Some event) next
     × AddsPrefix old.written new.written (old.page ++ line (line_of code.names event))

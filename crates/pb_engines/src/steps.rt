@@ -1,28 +1,31 @@
 //! The steps of a run, told line by line.
-ghost use Rattle.std.specs.Prelude.{◌≡◌, ◌≢◌, ◌++◌, ◌↔◌, IsTrue, codes};
+ghost use Rattle.std.specs.Prelude.{◌≡◌, ◌≢◌, ◌≤◌, ◌++◌, ◌↔◌, ℕ, IsTrue, codes};
 ghost use Rattle.std.specs.Fmt.{decimal};
 ghost use Rattle.pb_base.specs.Device.{one_more_failure};
 ghost use Rattle.pb_base.specs.Lines.{names_view, HasNames};
 ghost use Rattle.pb_engines.specs.Answers.{line, Says, Tells};
 ghost use Rattle.pb_engines.specs.Runs.{HasFault, SaysOfCode};
-ghost use Rattle.pb_engines.specs.Steps.{SaysOfEnd, TellsEvent, TellsStep};
+ghost use Rattle.pb_engines.specs.Steps.{SaysOfEnd, TellsEvent, TellsNext};
 ghost use Rattle.pb_machine.specs.Views.{machine_view, IsMachineOf};
 ghost use Rattle.pb_engines.specs.Faults.{TellsWriteFaults};
 
 use crate::page::Page;
-use crate::schedule::step_first;
+use crate::schedule::{Next, step_first};
 use crate::status::Status;
 use pb_base::device::Output;
-use pb_base::{Event, Names, Step, event_line};
+use pb_base::{Event, Names, event_line};
 use pb_machine::Machine;
 use pb_verifier::Verified;
 use std::alloc::Global;
 
-// What came of one step.
+/// The most silent picks that are made at once.
+const LONGEST: u64 = 4_000_000_000;
+
+// What came of the next picks.
 #[derive(Clone, Copy)]
 enum Progress {
-    // It was made, and told if it shows something.
-    Made,
+    // So many were made, and the last is told if it shows something.
+    Made(u32),
     // Every process has ended or faulted, so there is none.
     Finished,
     // There is no memory for its line.
@@ -49,31 +52,34 @@ fn tell_event<O: Output>(
         return Progress::OutOfMemory;
     };
     match page.say_line(output, text.as_slice()) {
-        Ok(()) => Progress::Made,
+        Ok(()) => Progress::Made(1),
         Err(_) => Progress::Broken,
     }
 }
 
-// Makes one step and says what it shows.
-fn tell_step<O: Output>(
+// Makes the next picks, at most `max`, and says what the last shows. All but the last are silent.
+fn tell_next<O: Output>(
     alloc: Global,
     verified: &Verified,
     machine: &mut Machine,
+    max: u32,
     page: &mut Page,
     output: &mut O,
 ) -> Progress
-    requires { IsMachineOf verified.now machine.old }
+    requires machine { IsMachineOf verified.now machine.old }
+    requires max { 1 ≤ max }
     ensures machine { IsMachineOf verified.now machine.new }
-    ensures told { TellsStep verified.now.code (machine_view machine.old) (machine_view machine.new)
+    ensures told { TellsNext verified.now.code (machine_view machine.old) (machine_view machine.new)
         (record { written = O.written output.old; page = page.old }) (record { written = O.written output.new; page = page.new }) result }
+    ensures within { (made : ℕ) → result ≡ Progress.Made made → made ≤ max }
     ensures counted { result ≢ Progress.Broken → O.failures output.new ≡ O.failures output.old }
     ensures fault { result ≡ Progress.Broken → O.failures output.new ≡ one_more_failure (O.failures output.old) }
 {
     let code = verified.code();
-    match step_first(machine, verified) {
-        Step::Silent => Progress::Made,
-        Step::Did(event) => tell_event(alloc, &code.names, &event, page, output),
-        Step::NotEnabled => Progress::Finished,
+    match step_first(machine, verified, max) {
+        Next::Silent(made) => Progress::Made(made),
+        Next::Did(event) => tell_event(alloc, &code.names, &event, page, output),
+        Next::NotEnabled => Progress::Finished,
     }
 }
 
@@ -125,9 +131,11 @@ pub fn tell_run<O: Output>(alloc: Global, verified: &Verified, steps: u64, outpu
     let Ok(mut machine) = Machine::new(alloc, verified) else {
         return page.finish_with(output, b"memory", Status::Memory);
     };
-    for _step in 0..steps {
-        match tell_step(alloc, verified, &mut machine, &mut page, output) {
-            Progress::Made => {}
+    let mut left = steps;
+    while left > 0 {
+        let max = left.min(LONGEST) as u32;
+        match tell_next(alloc, verified, &mut machine, max, &mut page, output) {
+            Progress::Made(made) => left -= u64::from(made),
             Progress::Finished => return tell_end(page, output, &machine, steps),
             Progress::OutOfMemory => return page.finish_with(output, b"memory", Status::Memory),
             Progress::Broken => return Status::Device,

@@ -1,5 +1,5 @@
 use Rattle.std.proofs.Common.{arith}
-use Rattle.pb_base.specs.declared.step.Step.TheVariants.{Did}
+use Rattle.pb_engines.specs.declared.schedule.Next.TheVariants.{Did}
 use Rattle.pb_machine.specs.Views.{machine_view}
 use Rattle.pb_engines.proofs.ScheduleLemmas.{few_processes, first_of_all, none_at_all}
 use Rattle.pb_engines.proofs.schedule.step_first.Goals as goal
