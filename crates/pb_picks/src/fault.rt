@@ -1,0 +1,28 @@
+//! Why bytes are no pick lines.
+
+ghost use Rattle.std.specs.Prelude.{◌≡◌};
+
+use std::alloc::AllocFailed;
+
+/// Why bytes are no pick lines.
+#[derive(Clone, Copy, Debug, PartialEq, Eq, thiserror::Error)]
+pub enum PickFault {
+    /// The line that begins at this byte is not of the form, or names no process or no arm of it.
+    #[error("no pick line at {0}")]
+    NotPicks(usize),
+    /// The counts are more than 10,000,000 in all.
+    #[error("too many picks")]
+    TooMany,
+    #[error("out of memory")]
+    NoMemory,
+}
+
+impl<T: Drop> From<AllocFailed<T>> for PickFault {
+    ghost use Rattle.pb_picks.specs.declared.fault.PickFault.TheVariants.{NoMemory as OutOfMemory};
+
+    ghost from_gives = { λ _ fault. fault ≡ OutOfMemory };
+
+    fn from(_: AllocFailed<T>) -> PickFault {
+        PickFault::NoMemory
+    }
+}
