@@ -1,4 +1,5 @@
-//! Tests of books, stretches and workers, by their public calls, in a crate of their own, since they start threads.
+//! Tests of traces, books, stretches and workers, by their public calls, in a crate of their own, since they start
+//! threads.
 #![tactic(auto)]
 
 #[cfg(test)]
@@ -7,6 +8,8 @@ mod books;
 mod codes;
 #[cfg(test)]
 mod gates;
+#[cfg(test)]
+mod history;
 #[cfg(test)]
 mod strangers;
 #[cfg(test)]

@@ -1,0 +1,244 @@
+//! Traces, and picks that are made again.
+
+ghost use Rattle.std.specs.Prelude.{◌≤◌, length};
+ghost use Rattle.pb_history.specs.Replays.{spread};
+
+use crate::codes::{DEVICES, INCREMENTS, verified};
+use pb_base::{Bundle, Event, NoMemory, Pick};
+use pb_history::replay::{replay, replay_counted};
+use pb_history::{CountedPick, ReplayFault, Span, Trace};
+use pb_verifier::Verified;
+use std::alloc::Global;
+
+/// The most picks of a trace.
+const MOST: u32 = 10_000_000;
+
+/// Adds a pick, if the trace is not full.
+fn add(trace: &mut Trace, pick: Pick, event: Option<Event>) -> Result<(), NoMemory> {
+    if trace.len() < MOST {
+        trace.push(pick, event)?;
+    }
+    Ok(())
+}
+
+/// Adds silent picks, if the trace has room for them.
+fn add_many(trace: &mut Trace, pick: Pick, count: u32) -> Result<(), NoMemory> {
+    let len = trace.len();
+    if len <= MOST && count <= MOST - len {
+        trace.push_many(pick, count)?;
+    }
+    Ok(())
+}
+
+/// Adds silent picks and a print, if the trace has room for them.
+fn add_run(trace: &mut Trace, pick: Pick, silent: u32, value: i64) -> Result<(), NoMemory> {
+    let len = trace.len();
+    trace.reserve(1)?;
+    if len < MOST && silent < MOST - len {
+        trace.push_run(pick, silent, Some(Event::Printed { pick, value }));
+    }
+    Ok(())
+}
+
+fn pick_at(trace: &Trace, i: u32) -> Option<Pick> {
+    if i < trace.len() {
+        Some(trace.pick(i))
+    } else {
+        None
+    }
+}
+
+fn span_at(trace: &Trace, i: usize) -> Option<Span> {
+    if i < trace.spans_len() {
+        Some(trace.span(i))
+    } else {
+        None
+    }
+}
+
+/// The number that the event with this number prints.
+fn printed(trace: &Trace, i: usize) -> Option<i64> {
+    if i >= trace.events_len() {
+        return None;
+    }
+    match trace.event(i) {
+        Event::Printed { value, .. } => Some(value),
+        _ => None,
+    }
+}
+
+/// The first amount that the event with this number grants.
+fn granted(trace: &Trace, i: usize) -> Option<u32> {
+    if i >= trace.events_len() {
+        return None;
+    }
+    match trace.event(i) {
+        Event::Granted { bundle, .. } => Some(bundle.get(0).amount),
+        _ => None,
+    }
+}
+
+const PARENT: Pick = Pick { process: 0, arm: 0 };
+
+const FIRST: Pick = Pick { process: 0, arm: 1 };
+
+const SECOND: Pick = Pick { process: 0, arm: 2 };
+
+const THIRD: Pick = Pick { process: 1, arm: 2 };
+
+/// More than 5,000,000 picks of three arms.
+fn long(alloc: Global) -> Result<Trace, NoMemory> {
+    let mut trace = Trace::new(alloc);
+    add_many(&mut trace, FIRST, 5_000_000)?;
+    add_many(&mut trace, FIRST, 0)?;
+    add(&mut trace, FIRST, None)?;
+    add_run(&mut trace, FIRST, 2, 7)?;
+    add(&mut trace, FIRST, None)?;
+    add(&mut trace, SECOND, None)?;
+    let bundle = Bundle::one(3, 40);
+    add(
+        &mut trace,
+        THIRD,
+        Some(Event::Granted {
+            pick: THIRD,
+            bundle,
+        }),
+    )?;
+    Ok(trace)
+}
+
+/// Whether silent picks of an arm, and its pick that shows, are one span, and others stand apart.
+fn spans_are_right(trace: &Trace) -> bool {
+    let first = Span {
+        pick: FIRST,
+        count: 5_000_004,
+        shows: true,
+    };
+    let second = Span {
+        pick: FIRST,
+        count: 1,
+        shows: false,
+    };
+    let third = Span {
+        pick: SECOND,
+        count: 1,
+        shows: false,
+    };
+    let fourth = Span {
+        pick: THIRD,
+        count: 1,
+        shows: true,
+    };
+    trace.spans_len() == 4
+        && span_at(trace, 0) == Some(first)
+        && span_at(trace, 1) == Some(second)
+        && span_at(trace, 2) == Some(third)
+        && span_at(trace, 3) == Some(fourth)
+}
+
+/// Whether the picks and events stand where they were added.
+fn picks_are_right(trace: &Trace) -> bool {
+    trace.len() == 5_000_007
+        && pick_at(trace, 5_000_004) == Some(FIRST)
+        && pick_at(trace, 5_000_005) == Some(SECOND)
+        && pick_at(trace, 5_000_006) == Some(THIRD)
+        && trace.events_len() == 2
+        && printed(trace, 0) == Some(7)
+        && granted(trace, 1) == Some(40)
+}
+
+#[test]
+fn spans_of_a_trace(rt: HostRuntime) {
+    let Ok(trace) = long(rt.alloc()) else {
+        panic!(rt; "no trace")
+    };
+    assert!(rt; spans_are_right(&trace));
+    assert!(rt; picks_are_right(&trace));
+}
+
+/// What the first print of this code prints when it ends with these picks, of which there are so many.
+fn printed_after(alloc: Global, code: &Verified, picks: &[CountedPick], count: u32) -> Option<i64>
+    requires { length (spread picks.now) ≤ 10000000 }
+{
+    match replay_counted(alloc, code, picks) {
+        Ok((machine, trace)) => {
+            if machine.finished() && trace.len() == count {
+                printed(&trace, 0)
+            } else {
+                None
+            }
+        }
+        Err(_) => None,
+    }
+}
+
+#[test]
+fn a_lost_update(rt: HostRuntime) {
+    let Some(code) = verified(rt.alloc(), INCREMENTS) else {
+        panic!(rt; "no code")
+    };
+    // the first arm loads, the second adds its 1, and the first stores over it
+    let lost = [
+        CountedPick {
+            pick: PARENT,
+            count: 1,
+        },
+        CountedPick {
+            pick: FIRST,
+            count: 1,
+        },
+        CountedPick {
+            pick: SECOND,
+            count: 5,
+        },
+        CountedPick {
+            pick: FIRST,
+            count: 4,
+        },
+        CountedPick {
+            pick: PARENT,
+            count: 4,
+        },
+    ];
+    assert!(rt; printed_after(rt.alloc(), &code, &lost, 15) == Some(1));
+}
+
+#[test]
+fn a_kept_update(rt: HostRuntime) {
+    let Some(code) = verified(rt.alloc(), INCREMENTS) else {
+        panic!(rt; "no code")
+    };
+    let kept = [
+        CountedPick {
+            pick: PARENT,
+            count: 1,
+        },
+        CountedPick {
+            pick: FIRST,
+            count: 5,
+        },
+        CountedPick {
+            pick: SECOND,
+            count: 5,
+        },
+        CountedPick {
+            pick: PARENT,
+            count: 4,
+        },
+    ];
+    assert!(rt; printed_after(rt.alloc(), &code, &kept, 15) == Some(2));
+}
+
+#[test]
+fn a_pick_that_is_not_enabled(rt: HostRuntime) {
+    let Some(code) = verified(rt.alloc(), DEVICES) else {
+        panic!(rt; "no code")
+    };
+    // the second process may not take the disk after the first took the tape
+    let picks = [Pick { process: 0, arm: 0 }, Pick { process: 1, arm: 0 }];
+    let refused = match replay(rt.alloc(), &code, &picks) {
+        Ok(_) => None,
+        Err(fault) => Some(fault),
+    };
+    assert!(rt; refused == Some(ReplayFault::NotEnabled(1)));
+}
