@@ -20,9 +20,9 @@ use std::alloc::{Allocator, Global};
 /// Why a text is not accepted.
 #[derive(Drop)]
 pub enum Refusal {
-    /// By the line of its first fault, without a line feed.
+    /// The line of its first fault, without a line feed.
     Line(Vec<u8>),
-    /// Memory wanted.
+    /// Out of memory.
     NoMemory,
 }
 
@@ -102,7 +102,7 @@ fn refusal_reply(refusal: Refusal) -> Result<Reply, NoMemory>
     }
 }
 
-/// Writes the line of a refusal, or that memory wants.
+/// Writes the line of a refusal, or `memory` if there is no memory for it.
 pub fn refuse<O: Output>(alloc: Global, refusal: Refusal, output: &mut O) -> Status
     ensures text { (text : List ℕ) → length text ≤ 4194304 → IsRefusal text refusal
         → Tells (SaysOfInput SaysOfRefusedText text) (O.written output.old) (O.written output.new) result }

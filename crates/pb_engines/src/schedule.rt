@@ -11,7 +11,7 @@ use pb_verifier::Verified;
 /// What came of the first pick that is enabled.
 #[derive(Clone, Copy)]
 pub enum Next {
-    /// So many picks of its arm were made, at least one, and none shows anything.
+    /// This many picks of its arm were made, at least one, and none shows anything.
     Silent(u32),
     /// It was made, and shows this.
     Did(Event),

@@ -24,7 +24,7 @@ const LONGEST: u64 = 4_000_000_000;
 // What came of the next picks.
 #[derive(Clone, Copy)]
 enum Progress {
-    // So many were made, and the last is told if it shows something.
+    // This many were made, and the last is told if it shows something.
     Made(u32),
     // Every process has ended or faulted, so there is none.
     Finished,
