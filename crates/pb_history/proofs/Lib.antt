@@ -2,5 +2,6 @@ pub mod Laying
 pub mod Leading
 pub mod Replaying
 pub mod Rising
+pub mod Silence
 pub mod Spanning
 pub mod Wholes

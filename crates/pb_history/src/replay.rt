@@ -102,18 +102,16 @@ fn repeat(
 }
 
 /// Makes picks of one arm, at most `max`, up to the first that is not silent: returns how many were silent before it,
-/// and what it came to.
+/// and what it came to. The machine makes all silent ones in one call.
 fn run(verified: &Verified, machine: &mut Machine, pick: Pick, max: u32) -> (u32, Step)
     requires { IsMachineOf verified.now machine.old }
     ensures run { IsRun verified.now.code (machine_view machine.old) pick max result.0 result.1
         (machine_view machine.new) }
     ensures machine { IsMachineOf verified.now machine.new }
 {
-    for made in 0..max {
-        match machine.step(verified, pick) {
-            Step::Silent => {}
-            step => return (made, step),
-        }
+    let made = machine.run_silent(verified, pick, max);
+    if made == max {
+        return (made, Step::Silent);
     }
-    (max, Step::Silent)
+    (made, machine.step(verified, pick))
 }
