@@ -1,4 +1,3 @@
-pub mod Annotation
 pub mod Bundles
 pub mod Code
 pub mod Limits

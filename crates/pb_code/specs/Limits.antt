@@ -26,7 +26,7 @@ pub record IsName (name : List ℕ) : Type 0 where
   pub bytes : EachIndex name (λ k. is_name_byte (slice_index name k) ≡ true)
   pub free : ¬ Contains reserved_words name
 
--- so many names, no two of them the same
+-- `count` names, no two of them the same
 pub record AreNames (count : ℕ) (names : List (List ℕ)) : Type 0 where
   pub all : length names ≡ count
   pub formed : All IsName names

@@ -1,4 +1,4 @@
--- Generated code can be annotated.
+-- Generated code has a depth and holdings at each of its places.
 use Rattle.std.proofs.Common.{◌≡◌, ⊎_elim, ℕ, zero, suc, ◌+◌, ◌<◌, ◌≤◌, List, [], ◌∷◌, ◌++◌, length, get_or}
 use Rattle.std.proofs.Common.{Some, refl, sym, ap, ◌∙◌, subst, arith, append_assoc, length-append}
 use Rattle.std.specs.Prelude.{slice_get}
@@ -8,10 +8,11 @@ use Rattle.pb_names.specs.Program.{Expr, Number, Variable, Unary, Binary, Stmt, 
 use Rattle.pb_names.specs.Program.{Parbegin, Block, Skip, Then, count, Process, arms_of}
 use Rattle.pb_code.specs.Code.{Instr, Push, Load, Store, Compute1, Compute2, Jump, JumpIfZero, PrintTop, Take}
 use Rattle.pb_code.specs.Code.{Give, Fork, Join, End}
+use Rattle.pb_code.proofs.Chains.{get_within}
 use Rattle.pb_codegen.specs.Generate.{expr_code, stmt_code, block_code, arm_code, arms_code, arms_entries}
 use Rattle.pb_codegen.specs.Generate.{process_code}
 use Rattle.pb_codegen.proofs.Placing.{get_back}
-use Rattle.pb_code.specs.Annotation.{Shape, Notes, Leads, Fits, IsAnnotated, CanBeAnnotated}
+use Rattle.pb_codegen.proofs.NotedCode.{Shape, Notes, Leads, Fits, IsNoted}
 
 abbrev pub shape : ℕ → List Bundle → Shape
 shape d hs = record { depth = d; holdings = hs }
@@ -334,11 +335,6 @@ in_all pre (x ∷ xs) =
     let rest = subst (λ l. In l (length (pre ++ x ∷ [])) xs) (append_assoc pre (x ∷ []) xs) (in_all (pre ++ x ∷ []) xs) in
     (ap (slice_get (pre ++ x ∷ xs)) (sym e) ∙ get_back pre (x ∷ xs) 0, subst (λ m. In (pre ++ x ∷ xs) m xs) n rest)
 
-pub get_within : {X : Type 0} (xs : List X) (i : ℕ) (x : X) → slice_get xs i ≡ Some x → i < length xs
-get_within [] i x h = cc
-get_within (y ∷ xs) zero x h = omega arith
-get_within (y ∷ xs) (suc i) x h = let r = get_within xs i x h in omega arith
-
 pub length-arms_shapes : (p : ℕ) (arms : List Block) → length (arms_shapes arms) ≡ length (arms_code p arms)
 length-arms_shapes p [] = refl
 length-arms_shapes p (arm ∷ arms) =
@@ -357,7 +353,7 @@ length-arms_shapes p (arm ∷ arms) =
 abbrev pub process_notes : Process → Notes
 process_notes process p = slice_get (arms_shapes (arms_of process)) p
 
-pub notes_fit : (process : Process) → IsAnnotated (process_code process) (process_notes process)
+pub notes_fit : (process : Process) → IsNoted (process_code process) (process_notes process)
 notes_fit process =
     let arms = arms_of process in
     let is = arms_code 0 arms in
@@ -372,6 +368,3 @@ notes_fit process =
           let same' : shape f.1 f.2 ≡ shape d hs = cc in
           (f.0, f.3, subst (λ s. Fits (λ p. slice_get shapes p) f.0 p s.depth s.holdings) same' f.5);
     }
-
-pub annotated : (process : Process) → CanBeAnnotated (process_code process)
-annotated process = (process_notes process, notes_fit process)

@@ -3,9 +3,8 @@ use Rattle.std.proofs.Common.{◌≡◌, ℕ, zero, suc, ◌+◌, ◌<◌, ◌�
 use Rattle.std.proofs.Common.{get_or, None, arith, ap, sym, refl, ◌∙◌, append_assoc, length-append, All}
 use Rattle.std.proofs.lemmas.List.{append-nil, map_more}
 use Rattle.std.proofs.lemmas.List.Elements.{All-nil, All-cons, All-append, All-weaker}
-use Rattle.pb_code.specs.Code.{End}
 use Rattle.pb_codegen.specs.Emitted.{seen, place, IsSound, HasRoom, Adds}
-use Rattle.pb_codegen.specs.Generate.{block_code, arm_code, arms_code, arms_entries}
+use Rattle.pb_codegen.specs.Generate.{arm_code, arms_code, arms_entries}
 use Rattle.pb_codegen.specs.Lines.{block_lines, arms_lines}
 use Rattle.pb_codegen.specs.declared.writer.Writer.{Writer}
 use Rattle.pb_codegen.proofs.Emitting.{length-seen}
@@ -14,12 +13,6 @@ use Rattle.pb_names.specs.Program.{NoArm, AndArm, Process, arms_list, arms_in, a
 use Rattle.pb_names.specs.Program.{arms_of}
 
 -- ---- the code of one arm
-
-pub room_in_arm : {w : Writer} (arm : Block) → HasRoom w (arm_code (place w) arm)
-    → HasRoom w (block_code (place w) arm)
-room_in_arm {w} arm room =
-    let small = room.small in
-    record { sound = room.sound; small = omega (arith, small, length-append (block_code (place w) arm) (End ∷ [])) }
 
 -- ---- one more arm
 

@@ -1,4 +1,4 @@
--- What the source does, the code does, with at most so many more picks.
+-- What the source does, the code does, with at most `times` picks for one of the source.
 use Rattle.std.proofs.Common.{◌≡◌, ℕ, zero, suc, ◌+◌, ◌*◌, ◌≤◌, true, false, List, [], ◌∷◌, ◌++◌, length}
 use Rattle.std.proofs.Common.{Option, Some, None, option_map, option_and_then, option_to_list, refl, sym, ap}
 use Rattle.std.proofs.Common.{◌∙◌, subst, arith, true≢false, le_trans, mul-le-mul_right}

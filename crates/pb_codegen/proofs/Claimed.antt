@@ -14,13 +14,14 @@ use Rattle.pb_names.specs.Program.{Process, AllWellNumbered}
 use Rattle.pb_names.specs.Source.{Arm, SourceProcess, step_run, source_step, source_process}
 use Rattle.pb_names.specs.Claims.{IsClaim, FreeRun, at_start, and_then, held, start_of}
 use Rattle.pb_code.specs.Code.{CodeProcess, code_process}
+use Rattle.pb_verifier.proofs.States.{slice_set_same, slice_set_other, lent_there}
 use Rattle.pb_codegen.specs.Correct.{generated}
 use Rattle.pb_codegen.proofs.Placing.{listing_of}
 use Rattle.pb_codegen.proofs.Shapes.{SameArm, same_arm, same_arm_trans, same_arm_sym, step_same, held_same}
 use Rattle.pb_codegen.proofs.Shapes.{taken, given, IsFree}
 use Rattle.pb_codegen.proofs.Processes.{RunAlike}
 use Rattle.pb_codegen.proofs.Freeing.{RunFrees, run_frees, located}
-use Rattle.pb_codegen.proofs.Loans.{lent_here, lent_there}
+use Rattle.pb_codegen.proofs.Loans.{lent_here}
 use Rattle.pb_codegen.proofs.Runs.{StatesAlike, AtProcess, absent, present, at_process, opening_alike}
 use Rattle.pb_codegen.proofs.Zips.{mapped_from}
 use Rattle.pb_codegen.proofs.Back.{chain_at, catch_up}
@@ -98,20 +99,6 @@ follow_free : (process : Process) (run new arm : Arm) (effect : Effect) → Free
 follow_free process run new arm effect f s is_free =
     ⊎_elim (λ same. (arm, f, same_arm_trans new run arm (same_arm_sym run new same) s))
     (λ step. let r = step_same run new arm step s in (r.0, and_then arm r.0 f r.1, r.2)) is_free.way
-
-slice_set_same : {X : Type 0} (xs : List X) (i : ℕ) (x y : X) → slice_get (slice_set xs i x) i ≡ Some y
-    → x ≡ y
-slice_set_same [] i x y h = cc
-slice_set_same (z ∷ xs) zero x y h = let same : Some x ≡ Some y = h in cc
-slice_set_same (z ∷ xs) (suc i) x y h = slice_set_same xs i x y h
-
-slice_set_other : {X : Type 0} (xs : List X) (i j : ℕ) (x : X) → j ≢ i
-    → slice_get (slice_set xs i x) j ≡ slice_get xs j
-slice_set_other [] i j x ne = refl
-slice_set_other (z ∷ xs) zero zero x ne = elim (ne refl) [ ]
-slice_set_other (z ∷ xs) zero (suc j) x ne = refl
-slice_set_other (z ∷ xs) (suc i) zero x ne = refl
-slice_set_other (z ∷ xs) (suc i) (suc j) x ne = slice_set_other xs i j x (λ e. ne (ap suc e))
 
 lent_after : (program : List Process) (ss : State SourceProcess) (pick : Pick) (move : Move SourceProcess)
     (o : Opened ss pick move)

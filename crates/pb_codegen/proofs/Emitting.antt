@@ -63,36 +63,6 @@ adds-place {a} {b} {code} h =
 
 -- ---- one instruction
 
--- an instruction, where its bundle is there
-pub put_one : (old new : Writer) (i : Given) (line : Option ℕ)
-    → IsSound old → NamesBelow (length old.bundles.items) i
-    → new.instrs.items ≡ old.instrs.items ++ i ∷ [] → new.lines.items ≡ old.lines.items ++ line ∷ []
-    → new.bundles.items ≡ old.bundles.items
-    → Adds old new (instr_view old.bundles.items i ∷ []) (line ∷ [])
-put_one old new i line sound named instrs lines same =
-    let view : Bundles → List Given → List Instr = λ bs is. map (instr_view bs) is in
-    record {
-      coded =
-          ap (λ bs. view bs new.instrs.items) same ∙ ap (view old.bundles.items) instrs
-          ∙ map-append (instr_view old.bundles.items) old.instrs.items (i ∷ []);
-      lined = lines;
-      kept = ([], same ∙ sym (append-nil old.bundles.items));
-      sound = record {
-        named =
-            subst (λ (bs : Bundles). All (NamesBelow (length bs)) new.instrs.items) (sym same)
-            (subst (All (NamesBelow (length old.bundles.items))) (sym instrs)
-            (All-push (NamesBelow (length old.bundles.items)) old.instrs.items i sound.named named));
-        few =
-            omega (
-              arith,
-              sound.few,
-              ap (λ (bs : Bundles). length bs) same,
-              ap (λ (is : List Given). length is) instrs,
-              length-append old.instrs.items (i ∷ []),
-            );
-      };
-    }
-
 last_at : (xs : Bundles) (x : List Pair) (k : ℕ) → k ≡ length xs → slice_index_or (xs ++ x ∷ []) k [] ≡ x
 last_at xs x k at = grind (arith, common_steps)
 

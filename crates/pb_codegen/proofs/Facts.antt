@@ -4,7 +4,7 @@ use Rattle.std.proofs.Common.{None, refl, sym, ap, ◌∙◌, subst, arith}
 use Rattle.pb_base.specs.Steppers.{Bundle}
 use Rattle.pb_code.specs.Code.{Instr, Push, Load, Store, Compute1, Compute2, Jump, JumpIfZero, PrintTop, Take}
 use Rattle.pb_code.specs.Code.{Give, Fork, Join, End, ProcessCode}
-use Rattle.pb_code.specs.Annotation.{Shape, Notes, Leads, Fits, IsAnnotated}
+use Rattle.pb_codegen.proofs.NotedCode.{Shape, Notes, Leads, Fits, IsNoted}
 use Rattle.pb_verifier.specs.Places.{InstrAt, Follows, Reached, at_entry, from}
 use Rattle.pb_verifier.specs.Faults.{pops, pushes, TurnsDepth, AreDepths, TurnsHoldings, AreHoldings}
 use Rattle.pb_verifier.specs.Faults.{EndsClear}
@@ -68,7 +68,7 @@ turns notes (Join first count) p d hs f =
     (d, hs, omega arith, omega arith, λ l. refl, λ next e. to notes d hs (p + 1) next f e)
 turns notes End p d hs f = (d, hs, omega arith, omega arith, λ l. refl, λ next e. elim e [ ])
 
-module _ (code : ProcessCode) (notes : Notes) (annotated : IsAnnotated code notes) (shallow : (p d : ℕ) (hs : List Bundle) → Leads notes p d hs → (d ≤ 256) × (length hs ≤ 256)) where
+module _ (code : ProcessCode) (notes : Notes) (noted_code : IsNoted code notes) (shallow : (p d : ℕ) (hs : List Bundle) → Leads notes p d hs → (d ≤ 256) × (length hs ≤ 256)) where
   abbrev pub depth : ℕ → ℕ
   depth p = depth_of (notes p)
 
@@ -81,11 +81,11 @@ module _ (code : ProcessCode) (notes : Notes) (annotated : IsAnnotated code note
   turn_at : (p : ℕ) (i : Instr) (d : ℕ) (hs : List Bundle) → InstrAt code p i → Leads notes p d hs
       → Turns notes i p d hs
   turn_at p i d hs at leads =
-      let w = annotated.flows p d hs leads in
+      let w = noted_code.flows p d hs leads in
       turns notes i p d hs (subst (λ k. Fits notes k p d hs) (same_instr code p w.0 i w.1 at) w.2)
 
   pub noted : (p : ℕ) → Reached code p → (d : ℕ) × (hs : List Bundle) × Leads notes p d hs
-  noted p (at_entry a _ u e) = (0, [], subst (λ k. Leads notes k 0 []) (sym e) (annotated.starts a u))
+  noted p (at_entry a _ u e) = (0, [], subst (λ k. Leads notes k 0 []) (sym e) (noted_code.starts a u))
   noted p (from before _ i reached at follows) =
       let w = noted before reached in
       let t = turn_at before i w.0 w.1 at w.2 in
@@ -94,7 +94,7 @@ module _ (code : ProcessCode) (notes : Notes) (annotated : IsAnnotated code note
   -- a shape that an instruction leads to, or that of its own place where it leads nowhere
   pub depths : AreDepths code depth
   depths = record {
-    starts = λ a u. ap depth_of (annotated.starts a u);
+    starts = λ a u. ap depth_of (noted_code.starts a u);
     flows = λ p i reached at.
         let w = noted p reached in
         let t = turn_at p i w.0 w.1 at w.2 in
@@ -125,7 +125,7 @@ module _ (code : ProcessCode) (notes : Notes) (annotated : IsAnnotated code note
 
   pub holdings : AreHoldings code held
   holdings = record {
-    starts = λ a u. ap held_of (annotated.starts a u);
+    starts = λ a u. ap held_of (noted_code.starts a u);
     flows = λ p i reached at.
         let w = noted p reached in
         let t = turn_at p i w.0 w.1 at w.2 in
@@ -139,7 +139,7 @@ module _ (code : ProcessCode) (notes : Notes) (annotated : IsAnnotated code note
   pub clear : EndsClear code
   clear depth' held' depths' holdings' p reached at =
       let w = noted p reached in
-      let v = annotated.flows p w.0 w.1 w.2 in
+      let v = noted_code.flows p w.0 w.1 w.2 in
       let f = subst (λ k. Fits notes k p w.0 w.1) (same_instr code p v.0 End v.1 at) v.2 in (
         spread_once code TurnsDepth 0 depth' depth one_depth depths' depths p reached ∙ (ap depth_of w.2 ∙ f.0),
         spread_once code TurnsHoldings [] held' held one_holdings holdings' holdings p reached ∙ (ap held_of w.2 ∙ f.1),

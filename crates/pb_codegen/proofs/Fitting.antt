@@ -6,7 +6,6 @@ use Rattle.pb_base.specs.Steppers.{Bundle}
 use Rattle.pb_names.specs.Program.{Block, Process, arms_of, IsWellNumbered}
 use Rattle.pb_names.specs.Claims.{peak}
 use Rattle.pb_code.specs.Code.{Instr, End, ProcessCode}
-use Rattle.pb_code.specs.Annotation.{Shape, Leads}
 use Rattle.pb_verifier.specs.Places.{InstrAt, IsInArm}
 use Rattle.pb_verifier.specs.Faults.{AreDepths, AreHoldings, EndsClear, PeakFits, TurnsHoldings, in_holdings}
 use Rattle.pb_verifier.proofs.Greatest.{one_holdings, spread_once}
@@ -17,6 +16,7 @@ use Rattle.pb_codegen.proofs.Bounded.{Under, each_at, arm_each}
 use Rattle.pb_codegen.proofs.Facts.{noted, depths, holdings, clear, held, held_here, depth}
 use Rattle.pb_codegen.proofs.Forks.{arm_with}
 use Rattle.pb_codegen.proofs.Heights.{height}
+use Rattle.pb_codegen.proofs.NotedCode.{Shape, Leads}
 use Rattle.pb_codegen.proofs.Lying.{block_at, within, in_at, lies, in_code, instr_in_arm}
 use Rattle.pb_codegen.proofs.Peaks.{most, all_known, known_at}
 

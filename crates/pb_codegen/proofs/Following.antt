@@ -16,7 +16,8 @@ use Rattle.pb_code.specs.Code.{code_over}
 use Rattle.pb_codegen.proofs.Listing.{Listing, line_at}
 use Rattle.pb_codegen.proofs.Standing.{from_line}
 use Rattle.pb_codegen.proofs.Tree.{Shows, Mine, locate}
-use Rattle.pb_codegen.proofs.Processes.{Alike, RunAlike, thread_past}
+use Rattle.pb_verifier.proofs.Threads.{thread_past}
+use Rattle.pb_codegen.proofs.Processes.{Alike, RunAlike}
 use Rattle.pb_codegen.proofs.Placing.{listing_of}
 use Rattle.pb_codegen.proofs.Runs.{StatesAlike, AtProcess, absent, present, at_process, shadowed}
 use Rattle.pb_codegen.proofs.Runs.{opening_alike}

@@ -26,7 +26,7 @@ use Rattle.pb_codegen.proofs.Back.{chain_at, catch_up}
 use Rattle.pb_codegen.proofs.Catching.{Catches, catches}
 use Rattle.pb_codegen.proofs.Claimed.{asks_at_most, opened}
 use Rattle.pb_codegen.proofs.Instructions.{EachInstr}
-use Rattle.pb_codegen.proofs.Loans.{pair_in}
+use Rattle.pb_verifier.proofs.Banking.{pair_in}
 use Rattle.pb_codegen.proofs.Runs.{StatesAlike, at_process, opening_alike}
 use Rattle.pb_codegen.proofs.Safe.{IsSound, IsFairBank, sound_after, sound_opening}
 use Rattle.pb_codegen.proofs.Tidy.{AsksTidily, IsTidyEffect, asks_tidily, step_tidy}

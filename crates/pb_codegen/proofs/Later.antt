@@ -8,7 +8,7 @@ use Rattle.pb_names.specs.Program.{arms_in_stmt, arms_in_arms, IsNumbered, IsNum
 use Rattle.pb_code.specs.Code.{Instr, Fork}
 use Rattle.pb_codegen.proofs.Instructions.{IsElsewhere, NamesExpr, NamesStmt, Names}
 use Rattle.pb_codegen.proofs.Lying.{block_at}
-use Rattle.pb_codegen.proofs.Owning.{length-arms_list}
+use Rattle.pb_names.proofs.Numbered.{length-arms_list}
 
 -- an instruction forks only arms from n on
 abbrev pub ForksFrom : ℕ → Instr → Type 0

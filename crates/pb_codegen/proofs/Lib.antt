@@ -33,6 +33,7 @@ pub mod Lying
 pub mod Meaning
 pub mod Named
 pub mod Naming
+pub mod NotedCode
 pub mod Once
 pub mod OneCode
 pub mod Owning

@@ -65,13 +65,6 @@ pub line_next : {A : Type 0} (ss : List (Stmt A)) (i : ℕ) (s : Stmt A) (after 
     → line_of (block_view (drop i ss)) after ≡ Some (stmt_line (stmt_view s))
 line_next ss i s after here l = line_left ss i s after here l
 
-pub line_behind : {A : Type 0} (ss : List (Stmt A)) (i : ℕ) (after : Option ℕ) → length ss ≤ i
-    → line_of (block_view (drop i ss)) after ≡ after
-line_behind [] zero after l = refl
-line_behind [] (suc i) after l = refl
-line_behind (t ∷ ss) zero after l = absurd (omega arith)
-line_behind (t ∷ ss) (suc i) after l = line_behind ss i after (omega arith)
-
 -- one more statement is written
 pub block_written : {A : Type 0} {w u v : Writer} (ss : List (Stmt A)) (i : ℕ) (s : Stmt A)
     (after next : Option ℕ)

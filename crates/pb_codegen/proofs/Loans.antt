@@ -1,11 +1,10 @@
 -- What a step changes in the table of loans.
-use Rattle.std.proofs.Common.{◌≡◌, ◌≢◌, ⊎_elim, ℕ, zero, suc, ◌+◌, ◌-◌, ◌<◌, ◌≤◌, Bool, true, false, cond}
+use Rattle.std.proofs.Common.{◌≡◌, ⊎_elim, ℕ, ◌+◌, ◌-◌, ◌≤◌, Bool, true, false, cond}
 use Rattle.std.proofs.Common.{eqb, List, [], ◌∷◌, length, get_or, set, refl, sym, ap, subst, arith}
-use Rattle.std.proofs.Common.{length-set, get_or-set_same, get_or-set_other, eqb-true, eq-eqb}
+use Rattle.std.proofs.Common.{length-set, get_or-set_same, get_or-set_other, eqb-true}
 use Rattle.std.proofs.lemmas.Bool.{cases_lt, eqb-false}
 use Rattle.std.proofs.lemmas.List.{get_or_past}
 use Rattle.pb_base.specs.declared.operators.FaultKind.{FaultKind}
-use Rattle.pb_base.specs.declared.pair.Pair.{Pair}
 use Rattle.pb_base.specs.Banker.{cell, row_of}
 use Rattle.pb_base.specs.Bundle.{amount_in, lend, give_back}
 use Rattle.pb_base.specs.Steppers.{Bundle, Table, Effect, Silent, Prints, Takes, Returns, Faults, Finishes}
@@ -67,21 +66,6 @@ give_back_le (pair ∷ bundle) row r =
         in
         omega (arith, o)
 
--- a pair is part of its bundle
-pub pair_in : (bundle : Bundle) (k : ℕ) (d : Pair) → k < length bundle
-    → (get_or bundle k d).amount ≤ amount_in bundle (get_or bundle k d).resource
-pair_in [] k d u = absurd (omega (arith, u))
-pair_in (pair ∷ bundle) zero d u =
-    let a = amount_in-cons pair bundle pair.resource in
-    let e : cond (eqb pair.resource pair.resource) pair.amount 0 ≡ pair.amount =
-    ap (λ b. cond b pair.amount 0) (eq-eqb pair.resource pair.resource refl)
-    in
-    omega (arith, a, e)
-pair_in (pair ∷ bundle) (suc k) d u =
-    let rest = pair_in bundle k d (omega (arith, u)) in
-    let a = amount_in-cons pair bundle (get_or bundle k d).resource in
-    omega (arith, rest, a)
-
 row_at : (loans : Table) (p : ℕ) (row : List ℕ) (r : ℕ) → cell (set loans p row) p r ≤ get_or row r 0
 row_at loans p row r =
     ⊎_elim
@@ -110,16 +94,3 @@ lent_here loans p (Returns bundle) r ok =
     omega (arith, a, b)
 lent_here loans p (Faults kind) r ok = elim (ok kind refl) [ ]
 lent_here loans p Finishes r ok = omega arith
-
--- of another
-pub lent_there : (loans : Table) (p q : ℕ) (effect : Effect) (r : ℕ) → q ≢ p
-    → cell (loans_after loans p effect) q r ≡ cell loans q r
-lent_there loans p q Silent r ne = refl
-lent_there loans p q (Prints v) r ne = refl
-lent_there loans p q (Takes bundle) r ne =
-    ap (λ (x : List ℕ). get_or x r 0) (get_or-set_other loans p q _ [] ne)
-lent_there loans p q (Returns bundle) r ne =
-    ap (λ (x : List ℕ). get_or x r 0) (get_or-set_other loans p q _ [] ne)
-lent_there loans p q (Faults kind) r ne =
-    ap (λ (x : List ℕ). get_or x r 0) (get_or-set_other loans p q _ [] ne)
-lent_there loans p q Finishes r ne = refl

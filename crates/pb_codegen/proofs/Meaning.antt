@@ -1,26 +1,18 @@
 -- The code of a program means the same as the program.
-use Rattle.std.proofs.Common.{◌≡◌, ℕ, zero, suc, ◌<◌, List, [], ◌∷◌, length, get_or, Some, refl, sym, ◌∙◌}
+use Rattle.std.proofs.Common.{◌≡◌, ℕ, suc, ◌<◌, List, [], ◌∷◌, length, get_or, refl, sym, ◌∙◌}
 use Rattle.std.proofs.Common.{subst, arith}
-use Rattle.std.specs.Prelude.{slice_get}
 use Rattle.pb_base.specs.Banker.{row_of, cell}
 use Rattle.pb_base.specs.Steppers.{Table}
-use Rattle.pb_names.specs.Program.{Process, Program, AllWellNumbered, capital_of}
+use Rattle.pb_names.specs.Program.{Program, AllWellNumbered, capital_of}
 use Rattle.pb_names.specs.Source.{SourceCanUnder}
-use Rattle.pb_names.specs.Claims.{IsClaim}
 use Rattle.pb_names.specs.Meaning.{AreClaims}
+use Rattle.pb_claims.proofs.Bounds.{claim-unique}
+use Rattle.pb_verifier.proofs.Banking.{get_some}
 use Rattle.pb_codegen.specs.Generate.{program_code}
 use Rattle.pb_codegen.specs.Correct.{MeansTheSame}
 use Rattle.pb_codegen.proofs.Back.{implements}
 
 -- ---- a program has one table of claims
-
-one_claim : (process : Process) (r a b : ℕ) → IsClaim process r a → IsClaim process r b → a ≡ b
-one_claim process r a b h k =
-    let below = h.0 k.1.0 k.1.1 in
-    let above = k.0 h.1.0 h.1.1 in
-    let one = h.1.2 in
-    let other = k.1.2 in
-    omega (arith, below, above, one, other)
 
 same_list : {X : Type 0} (d : X) (a b : List X) → length a ≡ length b
     → ((k : ℕ) → k < length a → get_or a k d ≡ get_or b k d) → a ≡ b
@@ -32,20 +24,15 @@ same_list d (x ∷ a) (y ∷ b) n h =
     let rest : a ≡ b = same_list d a b (omega arith) (λ k below. h (suc k) (omega arith)) in
     cc
 
-some_at : {X : Type 0} (xs : List X) (p : ℕ) → p < length xs → (x : X) × (slice_get xs p ≡ Some x)
-some_at [] p h = absurd (omega arith)
-some_at (x ∷ xs) zero h = (x, refl)
-some_at (x ∷ xs) (suc p) h = some_at xs p (omega arith)
-
 pub one_table : (program : Program) (a b : Table) → AreClaims program a → AreClaims program b → a ≡ b
 one_table program a b h k =
     same_list [] a b (h.height ∙ sym k.height) (λ p within.
     let also : p < length b = omega (arith, h.height, k.height) in
-    let process = some_at program.processes p (omega (arith, h.height)) in
+    let process = get_some program.processes p (omega (arith, h.height)) in
     let wide = h.width p within in
     same_list 0 (row_of a p) (row_of b p) (wide ∙ sym (k.width p also)) (λ r below.
     let inside : r < length program.resources = omega (arith, wide) in
-    one_claim process.0 r (cell a p r) (cell b p r) (h.each p r process.0 process.1 inside) (k.each p r process.0 process.1 inside)))
+    claim-unique process.0 r (cell a p r) (cell b p r) (h.each p r process.0 process.1 inside) (k.each p r process.0 process.1 inside)))
 
 -- ---- both directions
 

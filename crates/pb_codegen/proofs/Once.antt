@@ -7,7 +7,7 @@ use Rattle.pb_names.specs.Program.{arms_in_stmt, arms_in_arms, IsNumbered, IsNum
 use Rattle.pb_code.specs.Code.{Store, Compute1, Compute2, Jump, JumpIfZero, PrintTop, Give, End}
 use Rattle.pb_codegen.specs.Generate.{expr_code, stmt_code, block_code, arm_code, arms_code}
 use Rattle.pb_codegen.proofs.Counting.{among, among-add, times_in, times_in-append}
-use Rattle.pb_codegen.proofs.Owning.{length-arms_list}
+use Rattle.pb_names.proofs.Numbered.{length-arms_list}
 
 -- ---- the forks of a block that are not in its arms
 

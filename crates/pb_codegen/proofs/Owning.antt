@@ -1,19 +1,16 @@
 -- The numbers of the arms inside what is left of an arm.
-use Rattle.std.proofs.Common.{◌≡◌, ℕ, suc, ◌+◌, ◌≤◌, ℤ, Bool, true, false, cond, List, [], ◌∷◌, ◌++◌, length}
-use Rattle.std.proofs.Common.{refl, sym, ap, subst, arith, length-append}
+use Rattle.std.proofs.Common.{◌≡◌, ℕ, ◌+◌, ◌≤◌, ℤ, Bool, true, false, cond, List, [], ◌∷◌, ◌++◌, length}
+use Rattle.std.proofs.Common.{sym, subst, arith, length-append}
 use Rattle.pb_base.specs.Arithmetic.{is_zero}
 use Rattle.pb_base.specs.Steppers.{Effect}
 use Rattle.pb_names.specs.Program.{Expr, Block, Skip, Then, Stmt, Set, Write, If, While, HoldDo, Parbegin}
-use Rattle.pb_names.specs.Program.{Arms, NoArm, AndArm, count, arms_list, arms_in, arms_in_stmt, arms_in_arms}
+use Rattle.pb_names.specs.Program.{count, arms_list, arms_in, arms_in_stmt, arms_in_arms}
 use Rattle.pb_names.specs.Program.{IsNumbered, IsNumberedStmt, AreNumbered}
 use Rattle.pb_names.specs.Source.{ExprStep, Is, Becomes, Fails, step_expr, Item, Assign, Print, Choice, Loop}
 use Rattle.pb_names.specs.Source.{Hold, GiveBack, Parallel, item_of, items_of, Doing, Waiting, Ended, ArmStep}
 use Rattle.pb_names.specs.Source.{Goes, Breaks, Ends, evaluate, step_items}
+use Rattle.pb_names.proofs.Numbered.{length-arms_list}
 use Rattle.pb_codegen.proofs.Tree.{OwnsBlock, OwnsItem, Owns}
-
-pub length-arms_list : (arms : Arms) → length (arms_list arms) ≡ count arms
-length-arms_list NoArm = refl
-length-arms_list (AndArm arm arms) = ap suc (length-arms_list arms)
 
 owns_item : (lo hi m : ℕ) (s : Stmt) → lo ≤ m → IsNumberedStmt m s → m + length (arms_in_stmt s) ≤ hi
     → OwnsItem lo hi (item_of s)

@@ -12,7 +12,7 @@ use Rattle.pb_codegen.proofs.Annotated.{In, in_front, in_back, in_all}
 use Rattle.pb_codegen.proofs.Bounded.{KnownStmt, Known}
 use Rattle.pb_codegen.proofs.Heights.{stmt_height, height, arms_height}
 use Rattle.pb_codegen.proofs.Lying.{block_at}
-use Rattle.pb_codegen.proofs.Owning.{length-arms_list}
+use Rattle.pb_names.proofs.Numbered.{length-arms_list}
 
 block_there : (all : List Block) (a : ℕ) (arm : Block) → slice_get all a ≡ Some arm → block_at all a ≡ arm
 block_there [] a arm h = cc

@@ -1,6 +1,6 @@
 -- One step of a process in code, against one step of the process in the source.
-use Rattle.std.proofs.Common.{◌≡◌, ◌⊎◌, inl, inr, ⊎_elim, ℕ, zero, suc, ◌+◌, ◌<◌, ◌≤◌, ℤ, Bool, true, false}
-use Rattle.std.proofs.Common.{cond, ◌&&◌, List, [], ◌∷◌, ◌++◌, length, get_or, set, Option, Some, None}
+use Rattle.std.proofs.Common.{◌≡◌, ◌⊎◌, inl, inr, ⊎_elim, ℕ, suc, ◌+◌, ◌<◌, ◌≤◌, ℤ, Bool, true, false}
+use Rattle.std.proofs.Common.{cond, ◌&&◌, List, [], ◌∷◌, ◌++◌, length, set, Option, Some, None}
 use Rattle.std.proofs.Common.{option_map, option_and_then, refl, sym, ap, ◌∙◌, subst, arith, append-nil}
 use Rattle.std.proofs.Common.{length-append, length-set, get_or-set_same, get_or-set_other}
 use Rattle.std.specs.Prelude.{slice_get}
@@ -14,6 +14,7 @@ use Rattle.pb_names.specs.Source.{SourceProcess, settle, step_run}
 use Rattle.pb_code.specs.Code.{Instr, End, Join, Thread, Idle, Live, Over, CodeProcess, thread, ThreadStep}
 use Rattle.pb_code.specs.Code.{act, is_over, all_over, launch, dismiss, apply_step, step_thread, step_process}
 use Rattle.pb_code.specs.Code.{is_skip, instr_skips, skips_at, is_at_skip}
+use Rattle.pb_verifier.proofs.Threads.{thread_past, length-launch, launch_out, launch_in, length-dismiss, dismiss_out, dismiss_in}
 use Rattle.pb_codegen.specs.Generate.{block_code, arm_code}
 use Rattle.pb_codegen.specs.Lines.{block_lines}
 use Rattle.pb_codegen.proofs.Listing.{Listing, line_at, lines_front, lines_back, length-block_lines}
@@ -24,68 +25,6 @@ use Rattle.pb_codegen.proofs.Standing.{block_stands, Follows, skips, goes, break
 use Rattle.pb_codegen.proofs.Tree.{size, AreIdle, Owns, Shows, AllShow, Mine, all_show_le, outside, Located}
 use Rattle.pb_codegen.proofs.Tree.{locate}
 use Rattle.pb_codegen.proofs.Owning.{owns_block, keeps}
-
--- ---- several threads at once
-
-pub thread_past : (threads : List Thread) (a : ℕ) → length threads ≤ a → thread threads a ≡ Idle
-thread_past [] a h = refl
-thread_past (t ∷ threads) zero h = elim (let w : ⊥ = omega arith in w) [ ]
-thread_past (t ∷ threads) (suc a) h = thread_past threads a (omega arith)
-
-length-launch : (entries : List ℕ) (threads : List Thread) (first n : ℕ)
-    → length (launch entries threads first n) ≡ length threads
-length-launch entries threads first zero = refl
-length-launch entries threads first (suc n) =
-    length-launch entries (set threads first (Live (get_or entries first 0) [])) (first + 1) n
-    ∙ length-set threads first _
-
-launch_out : (entries : List ℕ) (threads : List Thread) (first n b : ℕ) → (b < first) ⊎ (first + n ≤ b)
-    → thread (launch entries threads first n) b ≡ thread threads b
-launch_out entries threads first zero b h = refl
-launch_out entries threads first (suc n) b h =
-    launch_out entries (set threads first (Live (get_or entries first 0) [])) (first + 1) n b (⊎_elim (λ l. inl (omega arith)) (λ l. inr (omega arith)) h)
-    ∙ get_or-set_other threads first b _ Idle (λ e. ⊎_elim (λ l. omega arith) (λ l. omega arith) h)
-
-launch_in : (entries : List ℕ) (threads : List Thread) (first n b : ℕ) → first ≤ b → b < first + n
-    → b < length threads → thread (launch entries threads first n) b ≡ Live (get_or entries b 0) []
-launch_in entries threads first zero b l u within = elim (let w : ⊥ = omega arith in w) [ ]
-launch_in entries threads first (suc n) b l u within = go (cases_lt first b)
-    (λ q. launch_in entries (set threads first (Live (get_or entries first 0) [])) (first + 1) n b (omega arith) (omega arith) (omega (arith, length-set threads first (Live (get_or entries first 0) []))))
-  where
-    go : (first < b) ⊎ (b ≤ first)
-        → (first < b → thread (launch entries threads first (suc n)) b ≡ Live (get_or entries b 0) [])
-        → thread (launch entries threads first (suc n)) b ≡ Live (get_or entries b 0) []
-    go (inl q) later = later q
-    go (inr q) later =
-        let e : first ≡ b = omega arith in
-        launch_out entries (set threads first (Live (get_or entries first 0) [])) (first + 1) n b (inl (omega arith))
-        ∙ subst (λ k. thread (set threads first (Live (get_or entries first 0) [])) k ≡ Live (get_or entries k 0) []) e (get_or-set_same threads first _ Idle (omega arith))
-
-length-dismiss : (threads : List Thread) (first n : ℕ) → length (dismiss threads first n) ≡ length threads
-length-dismiss threads first zero = refl
-length-dismiss threads first (suc n) =
-    length-dismiss (set threads first Idle) (first + 1) n ∙ length-set threads first _
-
-dismiss_out : (threads : List Thread) (first n b : ℕ) → (b < first) ⊎ (first + n ≤ b)
-    → thread (dismiss threads first n) b ≡ thread threads b
-dismiss_out threads first zero b h = refl
-dismiss_out threads first (suc n) b h =
-    dismiss_out (set threads first Idle) (first + 1) n b (⊎_elim (λ l. inl (omega arith)) (λ l. inr (omega arith)) h)
-    ∙ get_or-set_other threads first b _ Idle (λ e. ⊎_elim (λ l. omega arith) (λ l. omega arith) h)
-
-dismiss_in : (threads : List Thread) (first n b : ℕ) → first ≤ b → b < first + n → b < length threads
-    → thread (dismiss threads first n) b ≡ Idle
-dismiss_in threads first zero b l u within = elim (let w : ⊥ = omega arith in w) [ ]
-dismiss_in threads first (suc n) b l u within = go (cases_lt first b)
-    (λ q. dismiss_in (set threads first Idle) (first + 1) n b (omega arith) (omega arith) (omega (arith, length-set threads first Idle)))
-  where
-    go : (first < b) ⊎ (b ≤ first) → (first < b → thread (dismiss threads first (suc n)) b ≡ Idle)
-        → thread (dismiss threads first (suc n)) b ≡ Idle
-    go (inl q) later = later q
-    go (inr q) later =
-        let e : first ≡ b = omega arith in
-        dismiss_out (set threads first Idle) (first + 1) n b (inl (omega arith))
-        ∙ subst (λ k. thread (set threads first Idle) k ≡ Idle) e (get_or-set_same threads first _ Idle (omega arith))
 
 -- ---- arms that begin, and arms that have all ended
 

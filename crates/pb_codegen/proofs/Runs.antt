@@ -12,6 +12,7 @@ use Rattle.pb_names.specs.Program.{AllWellNumbered, Process}
 use Rattle.pb_names.specs.Source.{SourceProcess, source_step, source_process, SourceCanUnder}
 use Rattle.pb_code.specs.Code.{ProcessCode, CodeProcess, step_process, code_step, code_process, is_at_skip}
 use Rattle.pb_code.specs.Code.{is_skipped, shadow, CodeCanUnder}
+use Rattle.pb_verifier.proofs.Requests.{slice_set_here}
 use Rattle.pb_codegen.specs.Generate.{process_code}
 use Rattle.pb_codegen.specs.Correct.{generated}
 use Rattle.pb_code.proofs.Chains.{Chain}
@@ -81,12 +82,6 @@ pub data PicksAlike (program : List Process) (cs : State CodeProcess) (ss : Stat
       → move_of source_step ss pick ≡ Some (record { next = ss'; effect = effect })
       → StatesAlike program cs' ss' → PicksAlike program cs ss pick
 
-get_set : {X : Type 0} (xs : List X) (i : ℕ) (x y : X) → slice_get xs i ≡ Some y
-    → slice_get (slice_set xs i x) i ≡ Some x
-get_set [] i x y h = cc
-get_set (z ∷ xs) zero x y h = refl
-get_set (z ∷ xs) (suc i) x y h = get_set xs i x y h
-
 module _ (program : List Process) (cs : State CodeProcess) (ss : State SourceProcess) (pick : Pick) (h : StatesAlike program cs ss) where
   pick_code_move : (code : ProcessCode) (cp : CodeProcess) (r : Option (CodeProcess × Effect))
       → slice_get (generated program) pick.process ≡ Some code → slice_get cs.processes pick.process ≡ Some cp
@@ -129,7 +124,7 @@ module _ (program : List Process) (cs : State CodeProcess) (ss : State SourcePro
             process_code process,
             cp',
             at,
-            get_set cs.processes pick.process cp' cp c,
+            slice_set_here cs.processes pick.process cp' cp c,
             on k (subst (λ x. Chain x cp pick.arm (suc k)) code_is' (subst (λ x. Chain chain.0 x pick.arm (suc k)) cp_is' chain.4)),
           )
   from_steps process cp sp at c s change keep (both cp' sp' effect skips ce se alike) =

@@ -5,16 +5,17 @@ use Rattle.pb_base.specs.Arithmetic.{is_zero}
 use Rattle.pb_base.specs.Steppers.{Bundle}
 use Rattle.pb_base.specs.Bundle.{amount_in}
 use Rattle.pb_base.specs.Steppers.{Effect, Silent, Prints, Takes, Returns, Faults, Finishes}
-use Rattle.pb_names.specs.Program.{Expr, Block, Skip, Then, Stmt, Set, Write, If, While, HoldDo, Parbegin}
+use Rattle.pb_names.specs.Program.{Expr, Block}
 use Rattle.pb_names.specs.Program.{Arms, NoArm, AndArm}
 use Rattle.pb_names.specs.Source.{ExprStep, Is, Becomes, Fails, step_expr, Item, Assign, Print, Choice, Loop}
-use Rattle.pb_names.specs.Source.{Hold, GiveBack, Parallel, item_of, items_of, Arm, Doing, Waiting, Ended}
+use Rattle.pb_names.specs.Source.{Hold, GiveBack, Parallel, items_of, Arm, Doing, Waiting, Ended}
 use Rattle.pb_names.specs.Source.{Running, Nothing, Beside, begin, is_ended, all_ended, ArmStep, Goes, Breaks}
 use Rattle.pb_names.specs.Source.{Ends, evaluate, step_items}
 use Rattle.pb_names.specs.Claims.{FreeListStep, to_end, past_assign, past_print, to_then, to_else, past_loop}
 use Rattle.pb_names.specs.Claims.{into_loop, into_hold, past_give, into_arms, FreeStep, in_list, join}
 use Rattle.pb_names.specs.Claims.{in_arms, FreeStepAmong, in_first, in_later, held_in, held_in_list, held}
 use Rattle.pb_names.specs.Claims.{held_among}
+use Rattle.pb_claims.proofs.NoMore.{block_held}
 
 pub data SameItem : Item → Item → Type 0 where
   same_assign : (line x : ℕ) (e e' : Expr) → SameItem (Assign line x e) (Assign line x e')
@@ -208,20 +209,6 @@ mutual
   running_held_same r xs ys same_nothing = refl
   running_held_same r xs ys (same_beside a b as' bs' h g) =
       let p = held_same r a b h in let q = running_held_same r as' bs' g in omega (arith, p, q)
-
-pub block_held : (r : ℕ) (block : Block) (rest : List Item)
-    → held_in_list r (items_of block ++ rest) ≡ held_in_list r rest
-block_held r Skip rest = refl
-block_held r (Then s block) rest =
-    let e = block_held r block rest in let z = stmt_held s in omega (arith, e, z)
-  where
-    stmt_held : (s : Stmt) → held_in r (item_of s) ≡ 0
-    stmt_held (Set line x e) = refl
-    stmt_held (Write line e) = refl
-    stmt_held (If line e a b) = refl
-    stmt_held (While line e body) = refl
-    stmt_held (HoldDo line bundle body) = refl
-    stmt_held (Parbegin line first arms) = refl
 
 pub begin_held : (r : ℕ) (arms : Arms) → held_among r (begin arms) ≡ 0
 begin_held r NoArm = refl

@@ -1,14 +1,7 @@
 -- Two lists whose elements belong together, one by one.
-use Rattle.std.proofs.Common.{◌≡◌, ℕ, zero, suc, List, [], ◌∷◌, length, map, Some, refl, ap, subst}
+use Rattle.std.proofs.Common.{◌≡◌, ℕ, zero, suc, List, [], ◌∷◌, map, Some, refl, subst}
 use Rattle.std.specs.Prelude.{slice_get}
 use Rattle.std.specs.List.{AllZip}
-
-pub same_length : {A B : Type 0} (R : A → B → Type 0) (xs : List A) (ys : List B) → AllZip R xs ys
-    → length xs ≡ length ys
-same_length R [] [] h = refl
-same_length R [] (y ∷ ys) h = elim h [ ]
-same_length R (x ∷ xs) [] h = elim h [ ]
-same_length R (x ∷ xs) (y ∷ ys) h = ap suc (same_length R xs ys h.1)
 
 -- what an element of the second list stands in relation with
 pub partner : {A B : Type 0} (R : A → B → Type 0) (xs : List A) (ys : List B) (k : ℕ) (y : B) → AllZip R xs ys

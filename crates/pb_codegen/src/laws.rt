@@ -3,13 +3,12 @@
 ghost use Rattle.std.specs.Prelude.{◌≡◌, ℕ, List};
 ghost use Rattle.pb_base.specs.Steppers.{Bank, State, Table};
 ghost use Rattle.pb_claims.specs.Fits.{FitCapital};
-ghost use Rattle.pb_code.specs.Annotation.{CanBeAnnotated};
 ghost use Rattle.pb_code.specs.Whole.{Code, ProcessLabels};
 ghost use Rattle.pb_codegen.specs.Accepted.{CanBeCompiled, HasSoundCode};
 ghost use Rattle.pb_codegen.specs.Compiled.{IsCompiled};
 ghost use Rattle.pb_codegen.specs.Correct.{ImplementsUnder, IsFollowed, generated};
 ghost use Rattle.pb_codegen.specs.Form.{IsFormed};
-ghost use Rattle.pb_codegen.specs.Generate.{process_code, program_code};
+ghost use Rattle.pb_codegen.specs.Generate.{program_code};
 ghost use Rattle.pb_codegen.specs.Numbered.{IsNumbered};
 ghost use Rattle.pb_codegen.specs.Sizes.{IsGeneratable};
 ghost use Rattle.pb_codegen.specs.SourceBehaviour.{SourceAsksWithin, SourceIsSafe, SourceIsWellFormed, SourceReaches};
@@ -36,11 +35,6 @@ pub fn same_events()
 pub fn lines_follow_the_source()
     ensures { (bank : Bank) (program : List Process)
         → AllWellNumbered program → IsFollowed bank program (generated program) }
-{}
-
-/// Generated code has depths and holdings at all its places that fit one another.
-pub fn generated_code_can_be_annotated()
-    ensures { (process : Process) → CanBeAnnotated (process_code process) }
 {}
 
 /// The tree of a text has names where it declares processes, resources and integers, a pair in each hold, an arm in

@@ -1,5 +1,5 @@
 -- The steps of the parser's loops over names, demands, statements, arms and processes.
-use Rattle.std.proofs.Common.{◌≡◌, ℕ, zero, suc, ◌<◌, List, [], ◌∷◌, length, Some, None, Bool, true, false, refl, sym, ap, ◌∙◌, subst, arith, append_assoc}
+use Rattle.std.proofs.Common.{◌≡◌, ℕ, zero, suc, ◌<◌, List, [], ◌∷◌, length, Some, None, Bool, true, false, refl, sym, ap, ◌∙◌, subst, arith}
 use Rattle.pb_lexer.specs.declared.token.Mark.{Mark}
 use Rattle.pb_base.specs.declared.operators.BinaryOp.{BinaryOp}
 use Rattle.pb_lexer.specs.Tokens.{Token}
@@ -11,10 +11,10 @@ use Rattle.pb_parser.specs.declared.fault.ParseFault.{ParseFault}
 use Rattle.pb_parser.specs.Making.{Fails, Finds, Adds}
 use Rattle.pb_parser.specs.Promises.{TakesMark, TakesOperator}
 use Rattle.pb_parser.specs.ExpressionReader.{joins, joined}
-use Rattle.pb_parser.specs.StatementReader.{between, joined_if, a_pair, concat, an_arm, statement, statement_by}
+use Rattle.pb_parser.specs.StatementReader.{between, joined_if, a_pair, an_arm, statement, statement_by}
 use Rattle.pb_parser.proofs.Chains.{InChain, chain_enters, chain_more, chain_leaves, chain_fails, fails_through, goes_on, found_value, found_rest}
 use Rattle.pb_parser.proofs.StatementLaws.{pair_sound, pair_shorter, statement_sound, stmt_shorter}
-use Rattle.pb_parser.specs.Lists.{append, append_arms}
+use Rattle.pb_parser.specs.Lists.{append}
 
 pub joins_if : {X : Type 0} (m : Mark) (f : X → X → X) (t : Token) → is_mark m t.lexeme ≡ true → between m f t.lexeme ≡ Some f
 unfolding between
@@ -126,17 +126,10 @@ pub append_empty : (a : StmtsSyntax) → append a no_stmt ≡ a
 append_empty no_stmt = refl
 append_empty (stmt_then s a) = ap (stmt_then s) (append_empty a)
 
-pub concat_assoc : {X : Type 0} (a b c : List X) → concat (concat a b) c ≡ concat a (concat b c)
-concat_assoc a b c = append_assoc a b c
-
 pub statement_shorter : (d : ℕ) (ts rest : List Token) (a : StmtsSyntax) → statement d ts ≡ Found a rest → length rest < length ts
 statement_shorter d ts rest a p = stmt_shorter (statement_sound d ts rest a p)
 
 -- ---- arms
-
-pub arms_assoc : (a b c : ArmsSyntax) → append_arms (append_arms a b) c ≡ append_arms a (append_arms b c)
-arms_assoc no_arm b c = refl
-arms_assoc (arm_then s a) b c = ap (arm_then s) (arms_assoc a b c)
 
 pub arm_refused : (d : ℕ) (ts : List Token) → statement d ts ≡ Refused → an_arm (statement d) ts ≡ Refused
 unfolding an_arm

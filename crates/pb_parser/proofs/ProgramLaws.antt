@@ -53,10 +53,6 @@ resources_reach (g.another {ts = ts} {mid = mid} {rest = rest} {t = t} {rs = rs}
     chain_more (between mark.Resource concat) a_resource rs (r ∷ []) concat t (t ∷ mid) mid rest (resources ts) (resources_reach l) refl
     (joins_between mark.Resource concat t is) (resource_read x) (resource_shorter x)
 
-resources_shorter : {ts rest : List Token} {rs : List ResourceSyntax} → ReadsResources ts rs rest → length rest ≤ length ts
-resources_shorter g.none = omega arith
-resources_shorter (g.another l is x) = let a = resources_shorter l in let b = resource_shorter x in omega arith
-
 process_shorter : {ts rest : List Token} {p : ProcessSyntax} → ReadsProcess ts p rest → length rest < length ts
 process_shorter (g.plain x b l e) = let a = list_shorter l in omega arith
 process_shorter (g.integers x b i ns s l e) = let a = list_shorter l in let c = names_shorter ns in omega arith

@@ -309,12 +309,6 @@ pair_rule : (t u v : Token) (ts us vs rest : List Token) (value : ℤ) (text : L
     → ReadsPair ts (record { amount = n; resource = x }) rest
 pair_rule t u v ts us vs rest value text n x is same e of f nm called h = rw (e, f, h, same, called) (g.pair is of nm)
 
-becomes_pair : {ts r rest : List Token} {p q : DemandSyntax} → Found (p ∷ []) r ≡ Found (q ∷ []) rest → ReadsPair ts p r
-    → ReadsPair ts q rest
-becomes_pair {ts = ts} {rest = rest} {p = p} {q = q} e h =
-    let same : p ≡ q = (let f = found_value e in cc) in
-    subst (λ x. ReadsPair ts x rest) same (subst (λ x. ReadsPair ts p x) (found_rest e) h)
-
 pub pair_sound : (ts rest : List Token) (ps : List DemandSyntax) → a_pair ts ≡ Found ps rest
     → (p : DemandSyntax) × (ps ≡ p ∷ []) × (ReadsPair ts p rest)
 unfolding a_pair

@@ -49,16 +49,6 @@ pub record Judged {A : Type 0} (ts : List Token) (r : Result (Program A) ParseFa
   pub too_large : (r ≡ Err fault.TooLarge) ↔ ((¬ NestsTooDeep ts) × IsTooLarge ts)
   pub memory : r ≡ Err fault.NoMemory → IsWithinLimits ts
 
-pub judged_nested : {A : Type 0} (ts : List Token) → NestsTooDeep ts → Judged {A = A} ts (Err fault.TooDeep)
-judged_nested ts nests = record {
-  found = tt;
-  limits = tt;
-  too_deep = (λ _. inl nests, λ _. refl);
-  syntax = (λ s. (let e = s.1 in cc), λ s. absurd (s.0 nests));
-  too_large = (λ e. cc, λ s. absurd (s.0 nests));
-  memory = λ e. cc;
-}
-
 none_reads : (ts : List Token) → (NestsTooDeep ts → ⊥) → program 257 ts ≡ Refused → IsNoProgram ts
 none_reads ts shallow none p reads = let found = program_complete 257 reads (within_depth reads shallow) in cc
 

@@ -27,7 +27,7 @@ fn open_after(count: usize, kind: Kind) -> usize
     }
 }
 
-/// How many signs stand in a row up to a token of the kind, where so many stood before it.
+/// How many signs stand in a row up to a token of the kind, if `count` stood before it.
 fn signs_after(count: usize, kind: Kind) -> usize
     requires { count < 2 ^ 63 }
     ensures { (text : List ℕ)

@@ -26,7 +26,7 @@ const HIGHEST: u64 = 200;
 
 const MOST_NODES: u64 = 16_384;
 
-/// So many parts of a program stand in one another, where at most 256 brackets and statements stand open.
+/// At most this many parts of a program stand in one another if at most 256 brackets and statements stand open.
 const DEPTH: usize = 257;
 
 /// A name, and how much there is of the resource that it declares.

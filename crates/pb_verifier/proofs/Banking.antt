@@ -31,7 +31,7 @@ use Rattle.pb_verifier.proofs.Peaking.{replicate_read}
 use Rattle.pb_verifier.proofs.States.{CodeMove, code_move, checked, Good, asks_within, bundles_small, good_next, good_start}
 use Rattle.pb_verifier.proofs.Turns.{turned}
 
-get_some : {X : Type 0} (xs : List X) (i : ℕ) → i < length xs → (x : X) × (slice_get xs i ≡ Some x)
+pub get_some : {X : Type 0} (xs : List X) (i : ℕ) → i < length xs → (x : X) × (slice_get xs i ≡ Some x)
 get_some [] i u = absurd (omega arith)
 get_some (x ∷ xs) zero u = (x, refl)
 get_some (x ∷ xs) (suc i) u = get_some xs i (omega arith)

@@ -110,9 +110,6 @@ module _ {X : Type 0} (code : ProcessCode) (Turns : Instr → X → X → Type 0
       → (fact : ℕ → X) → Facts fact → IsAnnotation rules code.entries code.instrs (λ p. cond (is_listed order p) (Some (fact p)) None)
   annotation_of order inside reached fact facts = record { starts = starts; flows = λ p x e. flows p x (is_listed order p) refl e }
     where
-      Notes : ℕ → Option X
-      Notes p = cond (is_listed order p) (Some (fact p)) None
-
       here : (p : ℕ) → IsReached code.entries code.instrs p → cond (is_listed order p) (Some (fact p)) None ≡ Some (fact p)
       here p r = ap (λ (b : Bool). cond b (Some (fact p)) None) (listed_to order p ((reached p).1 r))
 
@@ -147,9 +144,6 @@ module _ {X : Type 0} (code : ProcessCode) (Turns : Instr → X → X → Type 0
     agrees = λ fact facts p x e. agrees fact facts p x e;
   }
     where
-      At : ℕ → X
-      At p = unwrap_or (notes p) rules.start
-
       starts : (a : ℕ) → a < arms code → unwrap_or (notes (entry code a)) rules.start ≡ rules.start
       starts a u = ap (λ (o : Option X). unwrap_or o rules.start) (least.annotation.starts (entry code a) (Contains-get_or code.entries a 0 u))
 

@@ -8,7 +8,7 @@ use Rattle.pb_base.specs.Steppers.{Bundle}
 use Rattle.pb_code.specs.declared.instr.Instr.{Instr as Given}
 use Rattle.pb_code.specs.declared.instr.Instr.TheVariants as given
 use Rattle.pb_code.specs.View.{instr_view}
-use Rattle.pb_code.specs.Code.{Instr, Push, Load, Store, Compute1, Compute2, Jump, JumpIfZero, PrintTop, Take, Give, Fork, Join, End, ProcessCode}
+use Rattle.pb_code.specs.Code.{Instr, Jump, JumpIfZero, Fork, Join, ProcessCode}
 use Rattle.pb_verifier.specs.Arms.{EntriesRise, ForksLater, IsPaired, IsNamedBefore, IsOnceBefore, AreNamed}
 use Rattle.pb_verifier.specs.Faults.{HasArms, HasForks}
 use Rattle.pb_verifier.specs.Places.{InstrAt, arms, entry, arm_end, IsInArm, JumpsTo, IsAmong}
@@ -107,21 +107,6 @@ module _ (code : ProcessCode) where
       no_jump : (place target first count : ℕ) (i : Instr) → InstrAt code place i → JumpsTo i target → InstrAt code target (Join first count) → ⊥
       no_jump place target first count i read (inl e) = paired place (Jump target) (read ∙ ap Some e) first count
       no_jump place target first count i read (inr e) = paired place (JumpIfZero target) (read ∙ ap Some e) first count
-
-  pub paired_of : HasForks code → (place : ℕ) (i : Instr) → InstrAt code place i → IsPaired code place i
-  paired_of h place (Push v) read = tt
-  paired_of h place (Load x) read = tt
-  paired_of h place (Store x) read = tt
-  paired_of h place (Compute1 op) read = tt
-  paired_of h place (Compute2 op) read = tt
-  paired_of h place (Jump target) read = λ first count. h.no_jump place target first count (Jump target) read (inl refl)
-  paired_of h place (JumpIfZero target) read = λ first count. h.no_jump place target first count (JumpIfZero target) read (inr refl)
-  paired_of h place PrintTop read = tt
-  paired_of h place (Take bundle) read = tt
-  paired_of h place (Give bundle) read = tt
-  paired_of h place (Fork first count) read = h.then_join place first count read
-  paired_of h place (Join first count) read = h.after_fork place first count read
-  paired_of h place End read = tt
 
   pub named_of : HasForks code → AreNamed code
   named_of h = record { named = h.named; once = h.once }

@@ -72,9 +72,6 @@ IsFoundBefore code n None rows = AreSound code n rows
 IsFoundBefore code n (Some fault) rows = IsFirstBefore code n fault
 
 module _ (code : Code) where
-  pub found_none : IsFoundBefore code 0 None []
-  found_none = record { all = refl; sound = λ p process u. absurd (omega arith) }
-
   at_more : (n : ℕ) (process : ProcessCode) (Holds : ℕ → ProcessCode → Type 0) → slice_get code.processes n ≡ Some process
       → ((p : ℕ) (process : ProcessCode) → p < n → slice_get code.processes p ≡ Some process → Holds p process) → Holds n process
       → (p : ℕ) (process : ProcessCode) → p < n + 1 → slice_get code.processes p ≡ Some process → Holds p process

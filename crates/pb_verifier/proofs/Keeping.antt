@@ -1,14 +1,10 @@
 -- Tables in which whatever was known still means what it meant.
-use Rattle.std.proofs.Common.{◌≡◌, ℕ, List, Option, Some, refl, sym, ap, ◌∙◌}
+use Rattle.std.proofs.Common.{◌≡◌, ℕ, List, Option, Some, sym, ap, ◌∙◌}
 use Rattle.std.specs.Prelude.{option_map}
-use Rattle.pb_verifier.specs.Spread.{notes_of, AllReadable, AgreesAt, IsKept}
+use Rattle.pb_verifier.specs.Spread.{notes_of, AgreesAt, IsKept}
 use Rattle.pb_verifier.proofs.Ending.{fact_of}
 
 module _ {F M : Type 0} (value : List (Option F) → F → M) (IsReadable : List (Option F) → F → Type 0) where
-  pub kept_same : (table : List (Option F)) → AllReadable (IsReadable table) table
-      → IsKept value IsReadable table table
-  kept_same table all = record { sized = refl; readable = all; facts = λ f r. (r, refl); notes = λ p. refl }
-
   pub kept_twice : (table later last : List (Option F)) → IsKept value IsReadable table later
       → IsKept value IsReadable later last → IsKept value IsReadable table last
   kept_twice table later last one two = record {

@@ -6,10 +6,9 @@ use Rattle.std.proofs.Math.ListN.{get_or-map}
 use Rattle.pb_base.specs.declared.operators.FaultKind.{FaultKind}
 use Rattle.pb_base.specs.Steppers.{Effect, Silent, Faults}
 use Rattle.pb_code.specs.Code.{Instr, Fork, Join, End, ProcessCode, Thread, Idle, Live, Over, CodeProcess, thread, code_process}
-use Rattle.pb_code.specs.Annotation.{IsRun, run_start, run_step}
 use Rattle.pb_verifier.specs.Places.{InstrAt, arms, entry, IsInArm, IsAmong, Reached, at_entry, from}
 use Rattle.pb_verifier.proofs.Lying.{Checked, same_instr, IsPlain, entry_in_arm, one_arm, next_in_arm, follows_in_arm, before_join, no_join, no_join_at_entry}
-use Rattle.pb_verifier.proofs.Turns.{Turn, runs, traps, forks, joins, stops, Awaited, InOrder, Fit, Turned, turned, ending_no_fault}
+use Rattle.pb_verifier.proofs.Turns.{Turn, runs, traps, forks, joins, stops, Awaited, InOrder, Fit, Turned, ending_no_fault}
 
 pub same_or_not : (a b : ℕ) → (a ≡ b) ⊎ (a ≢ b)
 same_or_not a b = go (nat_eq a b) refl
@@ -282,9 +281,3 @@ module _ (code : ProcessCode) (ok : Checked code) where
         begun = λ sound idle. let z : Live 0 [] ≡ Idle = sym main ∙ idle in cc;
         gone = λ failed b. cc;
       }
-
-  pub fit_run : (process : CodeProcess) → IsRun code process → Fit code ok process
-  fit_run process run_start = fit_start
-  fit_run process (run_step before after a effect run step) =
-      let fit = fit_run before run in
-      fit_next before after a effect fit (turned code ok before after a effect fit step)

@@ -119,9 +119,6 @@ module _ (code : ProcessCode) (lie : HasArms code) (fork : HasForks code) (some 
         → IsBest peak a (n + 1) later
     best_more peak a n best later i b within reached at which = go (cases_lt b.greatest (held_at table n + in_joined peak i))
       where
-        New : ℕ
-        New = held_at table n + in_joined peak i
-
         above : (most : ℕ) → b.greatest ≤ most → held_at table n + in_joined peak i ≤ most → (place : ℕ) (j : Instr) → IsInArm code a place → place < n + 1 → Reached code place → InstrAt code place j
             → (place < n) ⊎ (n ≤ place) → held_at table place + in_joined peak j ≤ most
         above most u here place j there v r read (inl w) = let x = b.above place j there w r read in omega arith
@@ -217,9 +214,6 @@ module _ (code : ProcessCode) (lie : HasArms code) (fork : HasForks code) (some 
       are = λ b u v. are b u v (cases_eq b arm);
     }
       where
-        Peak : ℕ → ℕ
-        Peak b = cond (eqb b arm) best.0 (h.peak b)
-
         small : (b : ℕ) → (b ≡ arm) ⊎ (b ≢ arm) → get_or later b 0 ≤ 1000001
         small b (inl same) = let x : get_or later b 0 ≡ new = ap (λ (k : ℕ). get_or later k 0) same ∙ here in omega arith
         small b (inr other) = let x = others b other in let y = h.small b in omega (arith, x, y)

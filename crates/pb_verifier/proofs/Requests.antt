@@ -1,7 +1,6 @@
 -- A request that was refused stays refused, until loans come back.
-use Rattle.std.proofs.Common.{◌≡◌, ◌≢◌, inl, ⊎_elim, ℕ, zero, suc, ◌+◌, ◌-◌, ◌<◌, ◌≤◌, ℤ, true, false, List, [], ◌∷◌, length, get_or, set, Option, Some, None, option_map, option_and_then, refl, sym, ap, ◌∙◌, subst, arith}
+use Rattle.std.proofs.Common.{◌≡◌, ◌≢◌, inl, ⊎_elim, ℕ, zero, suc, ◌+◌, ◌-◌, ◌<◌, ◌≤◌, ℤ, true, false, List, [], ◌∷◌, length, get_or, set, Some, option_map, option_and_then, refl, sym, ap, ◌∙◌, subst, arith}
 use Rattle.std.specs.Prelude.{slice_get, slice_set, All}
-use Rattle.std.proofs.lemmas.List.{get_or_past}
 use Rattle.std.proofs.lemmas.Option.{slice_get_within}
 use Rattle.pb_base.specs.declared.operators.FaultKind.{FaultKind}
 use Rattle.pb_base.specs.declared.pick.Pick.{Pick}
@@ -16,9 +15,9 @@ use Rattle.pb_code.specs.Code.{Instr, Take, ProcessCode, Thread, Idle, Live, Ove
 use Rattle.pb_code.specs.Whole.{Code, bank_of}
 use Rattle.pb_verifier.specs.Limits.{IsSmallBundle}
 use Rattle.pb_verifier.specs.Places.{InstrAt}
-use Rattle.pb_verifier.specs.Requests.{IsRefused, frees, RefusedStays, RefusedStops, SameProcessSameDepths}
-use Rattle.pb_verifier.specs.Verified.{IsAnnotated, VerifiedCode}
-use Rattle.pb_verifier.specs.declared.fault.VerifyFault.TheVariants.{OutOfLimits, NoDepths}
+use Rattle.pb_verifier.specs.Requests.{IsRefused, frees, RefusedStays, RefusedStops}
+use Rattle.pb_verifier.specs.Verified.{IsAnnotated}
+use Rattle.pb_verifier.specs.declared.fault.VerifyFault.TheVariants.{OutOfLimits}
 use Rattle.pb_verifier.proofs.Banking.{Kept, kept_next, kept_reached, well_formed}
 use Rattle.pb_verifier.proofs.Lying.{Checked}
 use Rattle.pb_verifier.proofs.Order.{same_or_not, among_or_not, idle_before}
@@ -150,7 +149,7 @@ module _ (codes : List ProcessCode) (s : State CodeProcess) (pick : Pick) (code 
 same_pick : (a b : Pick) → a.process ≡ b.process → a.arm ≡ b.arm → a ≡ b
 same_pick a b p q = λ i. record { process = p i; arm = q i }
 
-slice_set_here : {X : Type 0} (xs : List X) (i : ℕ) (x y : X) → slice_get xs i ≡ Some y → slice_get (slice_set xs i x) i ≡ Some x
+pub slice_set_here : {X : Type 0} (xs : List X) (i : ℕ) (x y : X) → slice_get xs i ≡ Some y → slice_get (slice_set xs i x) i ≡ Some x
 slice_set_here [] i x y h = cc
 slice_set_here (z ∷ xs) zero x y h = refl
 slice_set_here (z ∷ xs) (suc i) x y h = slice_set_here xs i x y h
@@ -240,45 +239,3 @@ module _ (whole : Code) (annotated : IsAnnotated whole) where
         not_allowed = λ allowed. r.not_allowed (less_allowed (banker_state (bank_of whole) s.loans) (banker_state (bank_of whole) next.loans)
             (well_formed whole annotated next kept') (well_formed whole annotated s kept) rise refused.process (omega (arith, there', rows)) r.bundle bundle.0 bundle.1 allowed);
       }
-
--- ---- depths
-
-same_lists : (xs ys : List ℕ) → length xs ≡ length ys → ((i : ℕ) → i < length xs → get_or xs i 0 ≡ get_or ys i 0) → xs ≡ ys
-same_lists [] [] n h = refl
-same_lists [] (y ∷ ys) n h = absurd (omega arith)
-same_lists (x ∷ xs) [] n h = absurd (omega arith)
-same_lists (x ∷ xs) (y ∷ ys) n h =
-    let e : x ≡ y = h 0 (omega arith) in
-    let rest : xs ≡ ys = same_lists xs ys (omega arith) (λ i lt. h (suc i) (omega arith)) in cc
-
-abbrev depth_row : VerifiedCode → ℕ → List ℕ
-depth_row v p = get_or v.depths p []
-
-none_past : {X : Type 0} (xs : List X) (i : ℕ) → slice_get xs i ≡ None → length xs ≤ i
-none_past [] i h = omega arith
-none_past (x ∷ xs) zero h = cc
-none_past (x ∷ xs) (suc i) h = let r = none_past xs i h in omega (arith, r)
-
-pub same_depths : SameProcessSameDepths
-same_depths v w p verified verified' same = at (slice_get v.code.processes p) refl
-  where
-    at : (o : Option ProcessCode) → slice_get v.code.processes p ≡ o → depth_row v p ≡ depth_row w p
-    at None e =
-        let n = verified.depths.all in
-        let n' = verified'.depths.all in
-        let past = none_past v.code.processes p e in
-        let past' = none_past w.code.processes p (sym same ∙ e) in
-        get_or_past v.depths p [] (omega (arith, n, past)) ∙ sym (get_or_past w.depths p [] (omega (arith, n', past')))
-    at (Some code) e =
-        let e' = sym same ∙ e in
-        let n = verified.depths.rows p code e in
-        let n' = verified'.depths.rows p code e' in
-        let depth = verified.annotated NoDepths p code e in
-        same_lists (depth_row v p) (depth_row w p) (n ∙ sym n') (λ a lt.
-        let one = verified.depths.greatest p a code e (omega (arith, lt, n)) depth.0 depth.1 in
-        let two = verified'.depths.greatest p a code e' (omega (arith, lt, n)) depth.0 depth.1 in
-        let x = one.0 two.1.0 two.1.1 two.1.2 in
-        let y = two.0 one.1.0 one.1.1 one.1.2 in
-        let d = one.1.3 in
-        let d' = two.1.3 in
-        omega (arith, x, y, d, d'))

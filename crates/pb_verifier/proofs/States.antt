@@ -10,11 +10,9 @@ use Rattle.pb_base.specs.Bundle.{amount_in, lend, give_back}
 use Rattle.pb_base.specs.Banker.{cell}
 use Rattle.pb_base.specs.Steppers.{Bundle, Table}
 use Rattle.pb_base.proofs.Lending.{AllBelow, get_or-lend, get_or-give_back, length-lend, length-give_back, amount_in-absent}
-use Rattle.pb_code.specs.Whole.{Code, bank_of, code_opening}
-use Rattle.pb_code.specs.Reached.{CodeReaches}
+use Rattle.pb_code.specs.Whole.{Code, code_opening}
 use Rattle.pb_base.specs.declared.pick.Pick.{Pick}
-use Rattle.pb_base.specs.declared.event.Event.{Event}
-use Rattle.pb_base.specs.Steppers.{Effect, Silent, Prints, Takes, Returns, Faults, Finishes, ending, loans_after, State, Move, moved, move_of, Makes}
+use Rattle.pb_base.specs.Steppers.{Effect, Silent, Prints, Takes, Returns, Faults, Finishes, ending, loans_after, State, Move, moved, move_of}
 use Rattle.pb_code.specs.Code.{Instr, Push, Load, Store, Compute1, Compute2, Jump, JumpIfZero, PrintTop, Take, Give, Fork, Join, End, ProcessCode, Thread, Idle, Live, CodeProcess, thread, step_process, code_step, code_process}
 use Rattle.pb_verifier.specs.Limits.{IsSmallBundle}
 use Rattle.pb_verifier.specs.Behaviour.{HasPlace, MeetsWhatItNeeds, PassesTests}
@@ -29,7 +27,7 @@ use Rattle.pb_verifier.proofs.Peaking.{replicate_read}
 use Rattle.pb_verifier.proofs.Order.{same_or_not, idle_before, order_next, fails_or_lives, fit_next, fit_start}
 use Rattle.pb_verifier.proofs.Holding.{holds, holds_next, holds_none, holds_start, part_of, under_peak}
 
-slice_set_same : {X : Type 0} (xs : List X) (i : ℕ) (x y : X) → slice_get (slice_set xs i x) i ≡ Some y → x ≡ y
+pub slice_set_same : {X : Type 0} (xs : List X) (i : ℕ) (x y : X) → slice_get (slice_set xs i x) i ≡ Some y → x ≡ y
 slice_set_same [] i x y h = cc
 slice_set_same (z ∷ xs) zero x y h = let same : Some x ≡ Some y = h in cc
 slice_set_same (z ∷ xs) (suc i) x y h = slice_set_same xs i x y h
@@ -41,7 +39,7 @@ slice_set_other (z ∷ xs) zero (suc j) x ne = refl
 slice_set_other (z ∷ xs) (suc i) zero x ne = refl
 slice_set_other (z ∷ xs) (suc i) (suc j) x ne = slice_set_other xs i j x (λ e. ne (ap suc e))
 
-lent_there : (loans : Table) (p q : ℕ) (effect : Effect) (r : ℕ) → q ≢ p → cell (loans_after loans p effect) q r ≡ cell loans q r
+pub lent_there : (loans : Table) (p q : ℕ) (effect : Effect) (r : ℕ) → q ≢ p → cell (loans_after loans p effect) q r ≡ cell loans q r
 lent_there loans p q Silent r ne = refl
 lent_there loans p q (Prints v) r ne = refl
 lent_there loans p q (Takes bundle) r ne = ap (λ x. get_or x r 0) (get_or-set_other loans p q _ [] ne)
@@ -278,13 +276,6 @@ module _ (whole : Code) (annotated : IsAnnotated whole) where
             no_loans (replicate (length whole.capital) 0) (map code_process codes) p r (replicate_read (length whole.capital) r 0)
             ∙ (sym (holds_start code (checked p code at) r) ∙ ap (λ x. holds code (checked p code at) r (thread x.threads)) (mapped code_process codes p code process at here));
       }
-
-  pub good_makes : (s : State CodeProcess) (picks : List Pick) (events : List Event) (end : State CodeProcess) → Good s → Makes (bank_of whole) (code_step codes) s picks events end → Good end
-  good_makes s [] events end good m = subst Good (sym m.1) good
-  good_makes s (pick ∷ picks) events end good m = good_makes m.0.next picks m.3 end (good_next s pick m.0 good (code_move codes s pick m.0 m.1)) m.5
-
-  pub good_reached : (s : State CodeProcess) → CodeReaches whole s → Good s
-  good_reached s reached = good_makes (code_opening whole) reached.0 reached.1 s good_start reached.2
 
   -- ---- requests
 

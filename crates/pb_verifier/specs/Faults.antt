@@ -72,7 +72,7 @@ pushes (Compute1 op) = 1
 pushes (Compute2 op) = 1
 pushes i = 0
 
--- an instruction finds its operands, at most 256, and leaves so many
+-- an instruction at this depth, of at most 256, finds its operands; the depth is `after` behind it
 abbrev pub TurnsDepth : Instr → ℕ → ℕ → Type 0
 TurnsDepth i depth after = (pops i ≤ depth) × (depth ≤ 256) × (after + pops i ≡ depth + pushes i)
 

@@ -1,5 +1,5 @@
--- Requests that were refused, and that two codes with the same process need as much room for it.
-use Rattle.std.specs.Prelude.{◌≡◌, ℕ, Bool, true, false, Option, Some, None, slice_get, slice_index_or, []}
+-- Requests that were refused.
+use Rattle.std.specs.Prelude.{◌≡◌, Bool, true, false, Option, Some, None}
 use Rattle.pb_base.specs.declared.event.Event.{Event}
 use Rattle.pb_base.specs.declared.event.Event.TheVariants.{Granted, Returned, Printed, Faulted, Finished}
 use Rattle.pb_base.specs.declared.pick.Pick.{Pick}
@@ -8,7 +8,6 @@ use Rattle.pb_base.specs.Steppers.{Bundle, Takes, State, Move, banker_state, mov
 use Rattle.pb_code.specs.Code.{CodeProcess, code_step}
 use Rattle.pb_code.specs.Reached.{CodeReaches, CodeMoves}
 use Rattle.pb_code.specs.Whole.{Code, bank_of}
-use Rattle.pb_verifier.specs.Verified.{IsVerified, VerifiedCode}
 
 -- the arm stands at a request that is not allowed now
 pub record IsRefused (code : Code) (s : State CodeProcess) (pick : Pick) : Type 0 where
@@ -39,10 +38,3 @@ abbrev pub RefusedStops : Code → Type 0
 RefusedStops code =
     (s next : State CodeProcess) (pick : Pick) (event : Option Event)
     → IsRefused code s pick → CodeMoves code s pick event next → ⊥
-
--- what two codes with the same process p say of the depth of its arms
-abbrev pub SameProcessSameDepths : Type 0
-SameProcessSameDepths =
-    (v w : VerifiedCode) (p : ℕ) → IsVerified v → IsVerified w
-    → slice_get v.code.processes p ≡ slice_get w.code.processes p
-    → slice_index_or v.depths p [] ≡ slice_index_or w.depths p []

@@ -3,7 +3,7 @@
 ghost use Rattle.pb_code.specs.Limits.{KeepsLimits, PushesFit};
 ghost use Rattle.pb_code.specs.Whole.{Code};
 ghost use Rattle.pb_verifier.specs.Behaviour.{IsWellBehaved, PeaksDecide, PeaksExist};
-ghost use Rattle.pb_verifier.specs.Requests.{RefusedStays, RefusedStops, SameProcessSameDepths};
+ghost use Rattle.pb_verifier.specs.Requests.{RefusedStays, RefusedStops};
 ghost use Rattle.pb_verifier.specs.Verified.{IsAnnotated, IsVerified, VerifiedCode};
 
 /// Verified code, from wherever it comes, in every state that it reaches: no instruction meets a missing operand,
@@ -37,9 +37,4 @@ pub fn verified_code_keeps_the_limits()
 pub fn refused_requests_stay_refused()
     ensures stops { (code : Code) → IsAnnotated code → RefusedStops code }
     ensures stays { (code : Code) → IsAnnotated code → RefusedStays code }
-{}
-
-/// Two verified codes with the same process have the same depths for its arms.
-pub fn same_process_has_the_same_depths()
-    ensures { SameProcessSameDepths }
 {}

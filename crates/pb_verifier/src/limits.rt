@@ -46,7 +46,7 @@ fn is_new(names: &[Vec<u8>], k: usize) -> bool
     true
 }
 
-/// Whether these are so many names, no two of them the same.
+/// Whether these are `count` names, no two of them the same.
 fn are_names(count: usize, names: &[Vec<u8>]) -> bool
     ensures { (result ≡ true) ↔ AreNames count (map (λ name. name.items) names.now) }
 {

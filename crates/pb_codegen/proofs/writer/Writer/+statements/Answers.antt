@@ -7,7 +7,7 @@ use Rattle.pb_codegen.specs.Emitted.{HasRoom, place}
 use Rattle.pb_codegen.specs.Generate.{stmt_code}
 use Rattle.pb_codegen.proofs.Emitting.{adds_nothing, bundle_kept}
 use Rattle.pb_codegen.proofs.Lists.{block_written, few_arms_in_stmt, room_for_stmt}
-use Rattle.pb_codegen.proofs.Owning.{length-arms_list}
+use Rattle.pb_names.proofs.Numbered.{length-arms_list}
 use Rattle.pb_codegen.proofs.Statements.{adds_if, adds_while, adds_hold}
 use Rattle.pb_codegen.proofs.writer.Writer.+statements.Goals as goal
 

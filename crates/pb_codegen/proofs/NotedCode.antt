@@ -1,15 +1,15 @@
--- Depths and holdings of places: what makes sure that no operand is missing and that holds nest.
-use Rattle.std.specs.Prelude.{◌≡◌, ◌≤◌, ℤ, ℕ, zero, suc, ◌+◌, ◌<◌, List, [], ◌∷◌, length, get_or, slice_get, Option, Some}
+-- A depth and holdings noted at places of code, so that no operand is missing and holds nest.
+use Rattle.std.specs.Prelude.{◌≡◌, ℕ, zero, suc, ◌+◌, ◌<◌, List, [], ◌∷◌, length, get_or, slice_get, Option, Some}
 use Rattle.pb_base.specs.Steppers.{Bundle}
-use Rattle.pb_base.specs.Steppers.{Effect}
-use Rattle.pb_code.specs.Code.{Instr, Push, Load, Store, Compute1, Compute2, Jump, JumpIfZero, PrintTop, Take, Give, Fork, Join, End, ProcessCode, Live, ThreadStep, CodeProcess, thread, act, step_process, code_process}
+use Rattle.pb_code.specs.Code.{Instr, Push, Load, Store, Compute1, Compute2, Jump, JumpIfZero, PrintTop, Take}
+use Rattle.pb_code.specs.Code.{Give, Fork, Join, End, ProcessCode}
 
 -- how many operands there are, and what was taken and not yet given, the last first
 pub record Shape : Type 0 where
   pub depth : ℕ
   pub holdings : List Bundle
 
--- the shape of a place, where it has one
+-- the shape of a place, if it has one
 abbrev pub Notes : Type 0
 Notes = ℕ → Option Shape
 
@@ -40,29 +40,8 @@ Fits notes (Fork first count) p d hs = Leads notes (p + 1) d hs
 Fits notes (Join first count) p d hs = Leads notes (p + 1) d hs
 Fits notes End p d hs = (d ≡ 0) × (hs ≡ [])
 
-pub record IsAnnotated (code : ProcessCode) (notes : Notes) : Type 0 where
+-- each arm starts with nothing, and each instruction at a noted place fits its shape
+pub record IsNoted (code : ProcessCode) (notes : Notes) : Type 0 where
   pub starts : (a : ℕ) → a < length code.entries → Leads notes (get_or code.entries a 0) 0 []
   pub flows : (p d : ℕ) (hs : List Bundle) → Leads notes p d hs
       → (i : Instr) × (slice_get code.instrs p ≡ Some i) × Fits notes i p d hs
-
-abbrev pub CanBeAnnotated : ProcessCode → Type 0
-CanBeAnnotated code = (notes : Notes) × IsAnnotated code notes
-
--- no fork names an arm that isn't there
-abbrev pub ForksInRange : ProcessCode → Type 0
-ForksInRange code =
-    (p first count : ℕ) → slice_get code.instrs p ≡ Some (Fork first count)
-    → first + count ≤ length code.entries
-
--- each live arm stands at an instruction that finds its operands
-abbrev pub HasOperands : ProcessCode → CodeProcess → Type 0
-HasOperands code process =
-    (a place : ℕ) (stack : List ℤ) → thread process.threads a ≡ Live place stack
-    → (i : Instr) × (step : ThreadStep) × (slice_get code.instrs place ≡ Some i)
-    × (act process.vars i place stack ≡ Some step)
-
--- a process that some picks of its code lead to, whatever the banker says
-pub data IsRun (code : ProcessCode) : CodeProcess → Type 0 where
-  run_start : IsRun code (code_process code)
-  run_step : (before after : CodeProcess) (a : ℕ) (effect : Effect) → IsRun code before
-      → step_process code before a ≡ Some (after, effect) → IsRun code after
