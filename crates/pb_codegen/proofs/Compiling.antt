@@ -5,9 +5,7 @@ use Rattle.std.proofs.lemmas.List.Elements.{All-weaker}
 use Rattle.std.proofs.lemmas.Simd.{map-map}
 use Rattle.pb_base.specs.Steppers.{Table}
 use Rattle.pb_base.specs.Tables.{width_of}
-use Rattle.pb_lexer.specs.declared.error.LexFault.{LexFault}
-use Rattle.pb_lexer.specs.declared.error.LexFault.TheVariants as lex
-use Rattle.pb_lexer.specs.Cutting.{AreTokensOf, Refuses}
+use Rattle.pb_lexer.specs.Cutting.{AreTokensOf}
 use Rattle.pb_lexer.specs.Tokens.{Token}
 use Rattle.pb_tree.specs.Syntax as tree
 use Rattle.pb_parser.specs.declared.fault.ParseFault.{ParseFault}
@@ -31,7 +29,7 @@ use Rattle.pb_code.specs.Whole.{bank_of}
 use Rattle.pb_codegen.specs.Accepted.{HasSoundCode}
 use Rattle.pb_codegen.specs.declared.fault.CompileFault.{CompileFault}
 use Rattle.pb_codegen.specs.declared.fault.CompileFault.TheVariants.{Lex, Parse, Names, Claims, Memory}
-use Rattle.pb_codegen.specs.Compiled.{IsBeforeClaims, IsCapitalFault, IsCompiled, IsRefused, of_lex, of_parse, of_names}
+use Rattle.pb_codegen.specs.Compiled.{IsBeforeClaims, IsCapitalFault, IsCompiled, IsRefused, of_parse, of_names}
 use Rattle.pb_codegen.specs.Numbered.{IsNumbered, Spells}
 use Rattle.pb_codegen.specs.Form.{IsFormedProcess, IsFullStmt, IsFull, AreFull}
 use Rattle.pb_codegen.specs.Generate.{program_code}
@@ -98,23 +96,23 @@ complete text tokens written cut read =
 
 -- ---- refusals
 
-pub lex_refused : (text : List ℕ) (fault : LexFault) → Refuses text fault → IsRefused text (of_lex fault)
-lex_refused text lex.TooLong is = is
-lex_refused text (lex.BadByte at) is = is
-lex_refused text (lex.NumberTooLarge at) is = is
-lex_refused text (lex.NameTooLong at) is = is
-lex_refused text lex.NoMemory is = tt
-
 pub parse_refused : (text : List ℕ) (tokens : List Token) (fault : ParseFault) → AreTokensOf text tokens
     → (IsSyntax fault → IsNoProgram tokens) → (fault ≡ parse.TooDeep → NestsTooDeep tokens ⊎ IsTooHigh tokens)
     → (fault ≡ parse.TooLarge → IsTooLarge tokens) → (NestsTooDeep tokens → fault ≡ parse.TooDeep)
-    → IsRefused text (of_parse fault)
-parse_refused text tokens (parse.Syntax at) cut syntax deep large nested =
+    → (IsTooHigh tokens → fault ≡ parse.TooDeep) → IsRefused text (of_parse fault)
+parse_refused text tokens (parse.Syntax at) cut syntax deep large nested high =
     (tokens, cut, ((λ n. let e : parse.Syntax at ≡ parse.TooDeep = nested n in cc), syntax tt))
-parse_refused text tokens parse.TooDeep cut syntax deep large nested = (tokens, cut, deep refl)
-parse_refused text tokens parse.TooLarge cut syntax deep large nested =
-    (tokens, cut, ((λ n. let e : parse.TooLarge ≡ parse.TooDeep = nested n in cc), large refl))
-parse_refused text tokens parse.NoMemory cut syntax deep large nested = tt
+parse_refused text tokens parse.TooDeep cut syntax deep large nested high = (tokens, cut, deep refl)
+parse_refused text tokens parse.TooLarge cut syntax deep large nested high = (
+  tokens,
+  cut,
+  (
+    (λ n. let e : parse.TooLarge ≡ parse.TooDeep = nested n in cc),
+    (λ h. let e : parse.TooLarge ≡ parse.TooDeep = high h in cc),
+    large refl,
+  ),
+)
+parse_refused text tokens parse.NoMemory cut syntax deep large nested high = tt
 
 pub names_refused : (text : List ℕ) (program : tree.ProgramSyntax) (fault : NameFault)
     → Spells text program → IsFault program fault → IsRefused text (of_names fault)

@@ -53,11 +53,12 @@ pub record IsCompiled (text : List ℕ) (code : Code) (labels : List ProcessLabe
 
 -- ---- refusals
 
--- the cause of a fault of the grammar, for the tokens of a text
+-- the cause of a fault of the grammar, for the tokens of a text, and none that is looked for before it: they nest too
+-- deep, are no program, are one that is too high, or are one that is too large
 abbrev pub IsParseFault : List Token → ParseFault → Type 0
 IsParseFault tokens (parse.Syntax at) = (¬ NestsTooDeep tokens) × IsNoProgram tokens
 IsParseFault tokens parse.TooDeep = NestsTooDeep tokens ⊎ IsTooHigh tokens
-IsParseFault tokens parse.TooLarge = (¬ NestsTooDeep tokens) × IsTooLarge tokens
+IsParseFault tokens parse.TooLarge = (¬ NestsTooDeep tokens) × (¬ IsTooHigh tokens) × IsTooLarge tokens
 IsParseFault tokens parse.NoMemory = ⊥
 
 -- the fault tells this claim, with the names of its process and its resource

@@ -15,7 +15,7 @@ returns-in_err-tree-clause-refused g c =
     let p = err_from_is_err_and c.from_residual-in_err-tree.result c.from_residual-in_err-tree.ensures.1 in
     let cut = rw (← c.as_slice.ensures.value) at c.in_ok-tokens.ensures.found in
     let e = c.in_err-tree.ensures in
-    rw (p.1, p.2) (parse_refused _ _ _ cut e.syntax (λ same. e.too_deep (ap Err same)) (λ same. e.too_large (ap Err same)) (λ deep. let same = e.nested deep in cc))
+    rw (p.1, p.2) (parse_refused _ _ _ cut e.syntax (λ same. e.too_deep (ap Err same)) (λ same. e.too_large (ap Err same)) (λ deep. let same = e.nested deep in cc) (λ high. let same = e.high high in cc))
 
 pub returns-in_err-program-clause-refused : goal.returns-in_err-program-clause-refused
 returns-in_err-program-clause-refused g c =
