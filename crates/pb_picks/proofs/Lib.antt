@@ -1,2 +1,4 @@
+pub mod Counting
 pub mod Numbers
 pub mod Reading
+pub mod Spelling

@@ -1,5 +1,5 @@
 -- The parts of a pick line, and one more line that is read.
-use Rattle.std.proofs.Common.{true, get_or, map, ◌≡◌, ◌≢◌, ℕ, ◌+◌, ◌<◌, ◌≤◌, inl, inr, List, [], ◌∷◌, ◌++◌, length, replicate, refl, sym, ap, subst, ◌∙◌, arith, Option, None, Some, Bor}
+use Rattle.std.proofs.Common.{true, false, get_or, map, ◌≡◌, ◌≢◌, ℕ, ◌+◌, ◌<◌, ◌≤◌, inl, inr, List, [], ◌∷◌, ◌++◌, length, replicate, refl, sym, ap, subst, ◌∙◌, arith, Option, None, Some, Bor}
 use Rattle.std.specs.Prelude.{MatchOption, slice_get}
 use Rattle.std.specs.List.{list_all}
 use Rattle.std.specs.Char.{is_ascii_digit}
@@ -41,17 +41,18 @@ pub never_lacks : (m : ℕ) (a b : List ℕ) → Lacks m (a ++ (m ∷ b)) → �
 never_lacks m [] b l = All-head (λ (n : ℕ). n ≢ m) m b l refl
 never_lacks m (c ∷ a) b l = never_lacks m a b (All-tail (λ (n : ℕ). n ≢ m) c (a ++ (m ∷ b)) l)
 
-digits_lack_spaces : (bs : List ℕ) → list_all is_ascii_digit bs ≡ true → Lacks 32 bs
-digits_lack_spaces [] h = All-nil (λ (n : ℕ). n ≢ 32)
-digits_lack_spaces (b ∷ bs) h =
+-- digits have no byte that is not a digit
+pub digits_lack : (m : ℕ) → is_ascii_digit m ≡ false → (bs : List ℕ) → list_all is_ascii_digit bs ≡ true → Lacks m bs
+digits_lack m other [] h = All-nil (λ (n : ℕ). n ≢ m)
+digits_lack m other (b ∷ bs) h =
     let p = both_true (is_ascii_digit b) (list_all is_ascii_digit bs) h in
-    All-cons (λ (n : ℕ). n ≢ 32) b bs (λ e. let t : is_ascii_digit 32 ≡ true = subst (λ (x : ℕ). is_ascii_digit x ≡ true) e p.0 in cc)
-    (digits_lack_spaces bs p.1)
+    All-cons (λ (n : ℕ). n ≢ m) b bs (λ e. let t : is_ascii_digit m ≡ true = subst (λ (x : ℕ). is_ascii_digit x ≡ true) e p.0 in cc)
+    (digits_lack m other bs p.1)
 
 pub parts_are : (text a b : List ℕ) (n m : ℕ) → n ≤ 10000000 → text ≡ a ++ (32 ∷ b) → Lacks 32 a → text ≡ arm_and_count n m
     → (a ≡ decimal n) × (b ≡ decimal m)
 parts_are text a b n m few e la f =
-    same_parts 32 a b (decimal n) (decimal m) la (digits_lack_spaces (decimal n) (digits_decimal own n (omega arith))) (sym e ∙ f)
+    same_parts 32 a b (decimal n) (decimal m) la (digits_lack 32 refl (decimal n) (digits_decimal own n (omega arith))) (sym e ∙ f)
 
 pub same_number : (w : List ℕ) (n m : ℕ) → n ≤ 10000000 → m ≤ 10000000 → w ≡ decimal n → w ≡ decimal m → n ≡ m
 same_number w n m a b e f = decimal_injective n m (omega arith) (omega arith) (sym e ∙ f)

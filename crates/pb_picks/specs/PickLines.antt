@@ -22,6 +22,15 @@ is_plain (b ∷ bytes) = not (b == 43) && (not (b == 48) || (length bytes == 0))
 abbrev pub arm_and_count : ℕ → ℕ → List ℕ
 arm_and_count arm count = decimal arm ++ (32 ∷ decimal count)
 
+-- the line of a counted pick, without its line feed
+abbrev pub pick_line : List (List ℕ) → CountedPick → List ℕ
+pick_line names c = name_of names c.pick.process ++ (46 ∷ arm_and_count c.pick.arm c.count)
+
+-- the lines of counted picks in their order, each with its line feed
+abbrev pub pick_lines : List (List ℕ) → List CountedPick → List ℕ
+pick_lines names [] = []
+pick_lines names (c ∷ picks) = pick_line names c ++ (10 ∷ pick_lines names picks)
+
 -- the line is the name of a process, a point, one of its arms, a space, and a count from 1 to 10,000,000
 pub record Says (code : Code) (line : List ℕ) (c : CountedPick) : Type 0 where
   pub process : ProcessCode
@@ -29,7 +38,7 @@ pub record Says (code : Code) (line : List ℕ) (c : CountedPick) : Type 0 where
   pub arm : c.pick.arm < length process.entries
   pub some : 0 < c.count
   pub most : c.count ≤ 10000000
-  pub spelled : line ≡ name_of code.names.processes c.pick.process ++ (46 ∷ arm_and_count c.pick.arm c.count)
+  pub spelled : line ≡ pick_line code.names.processes c
 
 -- the first line of a text, without its line feed, and what stands behind that; the last line may have none
 abbrev pub IsFirstLine : (text line after : List ℕ) → Type 0

@@ -1,0 +1,5 @@
+use Rattle.pb_picks.proofs.Spelling.{lines_spell}
+use Rattle.pb_picks.proofs.laws.lines_spell.Goals as goal
+
+pub returns : goal.returns
+returns c = lines_spell

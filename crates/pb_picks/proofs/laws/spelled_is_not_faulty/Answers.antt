@@ -1,0 +1,5 @@
+use Rattle.pb_picks.proofs.Spelling.{spelled_is_not_faulty}
+use Rattle.pb_picks.proofs.laws.spelled_is_not_faulty.Goals as goal
+
+pub returns : goal.returns
+returns c = spelled_is_not_faulty

@@ -1,0 +1,31 @@
+//! Picks that are counted as they are made.
+
+ghost use Rattle.std.specs.Prelude.{◌≡◌, ◌+◌, ◌<◌, ◌≤◌, ◌++◌, length, replicate, OnOk};
+ghost use Rattle.pb_history.specs.Replays.{spread};
+ghost use Rattle.pb_picks.specs.Counted.{AreApart};
+
+use pb_base::{NoMemory, Pick};
+use pb_history::CountedPick;
+
+/// Adds so many picks of one arm, at least one, to the last count if that is of the same arm, or as a count of their
+/// own. They are at most 10,000,000 in all. When memory is refused the last count may be missing.
+pub fn count_pick(counted: &mut Vec<CountedPick>, pick: Pick, count: u32) -> Result<(), NoMemory>
+    requires some { 0 < count }
+    requires fits { length (spread counted.old.items) + count ≤ 10000000 }
+    requires apart { AreApart counted.old.items }
+    ensures picks { OnOk result (spread counted.new.items ≡ spread counted.old.items ++ replicate count pick) }
+    ensures apart { OnOk result (AreApart counted.new.items) }
+{
+    match counted.pop() {
+        None => counted.push(CountedPick { pick, count })?,
+        Some(last) if last.pick == pick => counted.push(CountedPick {
+            pick,
+            count: last.count + count,
+        })?,
+        Some(last) => {
+            counted.push(last)?;
+            counted.push(CountedPick { pick, count })?;
+        }
+    }
+    Ok(())
+}

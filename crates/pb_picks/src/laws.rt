@@ -1,0 +1,18 @@
+//! Laws of pick lines, each the contract of a function that does nothing.
+
+ghost use Rattle.pb_picks.specs.Laws.{LinesSpell, SpelledIsNotFaulty, SpellsAtMostOne};
+
+/// The lines that `write_picks` writes say just the picks that were written.
+pub fn lines_spell()
+    ensures { LinesSpell }
+{}
+
+/// A text says at most one list of picks.
+pub fn spells_at_most_one()
+    ensures { SpellsAtMostOne }
+{}
+
+/// A text that says picks is refused by no line, so that `read_picks` of it returns these picks, or runs out of memory.
+pub fn spelled_is_not_faulty()
+    ensures { SpelledIsNotFaulty }
+{}

@@ -1,0 +1,39 @@
+//! Pick lines, written.
+
+ghost use Rattle.std.specs.Prelude.{◌≡◌, ◌++◌, ◌∷◌, [], All, OnOk};
+ghost use Rattle.pb_base.specs.Lines.{names_view, HasProcess};
+ghost use Rattle.pb_picks.specs.PickLines.{pick_line, pick_lines};
+
+use itoa::Buffer;
+use pb_base::{Names, NoMemory};
+use pb_history::CountedPick;
+
+/// Writes the lines of these picks behind a text, `P.a COUNT` each, in their order, and a line feed behind each. Each
+/// pick is of a process that has a name. When memory is refused, a first part of them stands behind the text.
+pub fn write_picks(text: &mut Vec<u8>, names: &Names, picks: &[CountedPick]) -> Result<(), NoMemory>
+    requires { All (λ c. HasProcess (names_view names.now) c.pick.process) picks.now }
+    ensures { OnOk result
+        (text.new.items ≡ text.old.items ++ pick_lines (names_view names.now).processes picks.now) }
+{
+    for i in 0..picks.len() {
+        write_pick(text, names, picks[i])?;
+    }
+    Ok(())
+}
+
+/// Writes the line of a pick behind a text.
+fn write_pick(text: &mut Vec<u8>, names: &Names, counted: CountedPick) -> Result<(), NoMemory>
+    requires { HasProcess (names_view names.now) counted.pick.process }
+    ensures { OnOk result
+        (text.new.items ≡ text.old.items ++ (pick_line (names_view names.now).processes counted ++ (10 ∷ []))) }
+{
+    let mut digits = Buffer::new();
+    let CountedPick { pick, count } = counted;
+    text.extend_from_slice(names.processes[pick.process as usize].as_slice())?;
+    text.push(b'.')?;
+    text.extend_from_slice(digits.format(pick.arm).as_bytes())?;
+    text.push(b' ')?;
+    text.extend_from_slice(digits.format(count).as_bytes())?;
+    text.push(b'\n')?;
+    Ok(())
+}
