@@ -16,7 +16,8 @@ import pathlib
 import sys
 import tempfile
 
-from scratch import build_plain, build_proved, instructions_a_round, least, least_of_rows, print_table, said
+from scratch import MACHINE_NEEDS, build_plain, build_proved, instructions_a_round, least, least_of_rows, \
+    machine_files, machine_main, print_table, said, script_time
 
 TURNS = 9
 CYCLES = 680
@@ -41,22 +42,8 @@ for _ in range(10):
     count()
 """
 
-MAIN = """\
-//! Runs the text that it is given again and again, and says how long each round took.
-#![tactic(auto)]
-
-ghost use Rattle.pb_machine.specs.Views.{IsMachineOf};
-
-use bumpalo::Bump;
-use pb_base::{Event, NoMemory, Pick, Step};
-use pb_codegen::compile;
-use pb_machine::Machine;
-use pb_verifier::Verified;
-use std::alloc::Global;
-use std::io::Read;
-use std::process::ExitCode;
-use std::time::Instant;
-
+ABOUT = "//! Runs the text that it is given again and again, and says how long each round took.\n"
+ITEMS = """\
 /// What was run so far.
 #[derive(Clone, Copy)]
 struct Ran {
@@ -108,51 +95,11 @@ fn run_all(alloc: Global, verified: &Verified, processes: u8, arms: u8) -> Resul
     Ok(ran)
 }
 
-fn main(rt: HostRuntime) -> anyhow::Result<ExitCode> {
-    let alloc = rt.alloc();
-    let words: Vec<String> = std::env::args(&rt)?.collect(alloc)?;
-    if words.len() < 4 {
-        return Ok(ExitCode::FAILURE);
-    }
-    let processes = words[1].as_str().parse::<u8>()?;
-    let arms = words[2].as_str().parse::<u8>()?;
-    let rounds = words[3].as_str().parse::<u64>()?;
-    let mut text = Vec::new(alloc);
-    rt.stdin().read_to_end(&mut text)?;
-    let arena = Bump::new(alloc);
-    let Ok(compiled) = compile(alloc, &arena, text.as_slice()) else {
-        return Ok(ExitCode::FAILURE);
-    };
-    for _ in 0..rounds {
-        let start = Instant::now(&rt)?;
-        let Ok(ran) = run_all(alloc, compiled.verified(), processes, arms) else {
-            return Ok(ExitCode::FAILURE);
-        };
-        let taken = start.elapsed(&rt)?;
-        println!(rt; "{} {} {} {}", taken.as_nanos(), ran.steps, ran.granted, ran.last)?;
-    }
-    Ok(ExitCode::SUCCESS)
-}
 """
-
-
-def invariants(function, loop):
-    """The invariant of a loop over the machine."""
-    return f"""\
-use Rattle.pb_machine.specs.Views.{{IsMachineOf}}
-use Rattle.bench.proofs.{function}.Given as goal
-
-abbrev pub {loop} : goal.{loop}
-{loop} l = IsMachineOf l.verified l.machine
-"""
-
-
 LOOPS = [("step_first", "invariant-loop-arm"), ("run_process", "invariant-loop"), ("run_all", "invariant-loop-process")]
-FILES = {
-    "src/main.rt": MAIN,
-    **{f"proofs/{function}/Invariants.antt": invariants(function, loop) for function, loop in LOOPS},
-}
-NEEDS = ["pb_base", "pb_codegen", "pb_machine", "pb_verifier", "anyhow", "bumpalo"]
+MAIN = machine_main([("processes", "u8"), ("arms", "u8")], "run_all(alloc, compiled.verified(), processes, arms)",
+                    ["steps", "granted", "last"])
+FILES = machine_files(ABOUT, ITEMS, MAIN, LOOPS)
 
 # assignments with most operators, each with the instructions that it becomes
 STATEMENTS = [
@@ -230,7 +177,7 @@ def print_loops(proved, plain):
         return least_round(words, given, ROUNDS)[0] / times, ()
 
     def script_turn(*words):
-        return least_of_rows(said(words), 2)[0] / SCRIPT_TIMES, ()
+        return script_time(*words)[0] / SCRIPT_TIMES, ()
 
     calls = [lambda call=call: machine_turn(*call) for call in commands(proved, plain, count, times)]
     calls.append(lambda: script_turn("lua5.4", "-e", LUA))
@@ -244,7 +191,7 @@ def print_loops(proved, plain):
 def main():
     with tempfile.TemporaryDirectory() as name:
         folder = pathlib.Path(name)
-        proved, plain = build_proved(folder, NEEDS, FILES), build_plain(folder, "machine")
+        proved, plain = build_proved(folder, MACHINE_NEEDS, FILES), build_plain(folder, "machine")
         head = ["text", "proved, million steps a second", "plain Rust", "ratio of times"]
         head += ["proved, instructions a step", "plain Rust", "ratio"]
         print_table(head, [row_of(proved, plain, name) for name in KINDS])

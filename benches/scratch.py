@@ -51,6 +51,85 @@ def build_proved(folder, needs, files):
     return program
 
 
+# the crates over which a small program runs the machine on a text
+MACHINE_NEEDS = ["pb_base", "pb_codegen", "pb_machine", "pb_verifier", "anyhow", "bumpalo"]
+
+MACHINE_HEAD = """\
+#![tactic(auto)]
+
+ghost use Rattle.pb_machine.specs.Views.{IsMachineOf};
+
+use bumpalo::Bump;
+use pb_base::{Event, NoMemory, Pick, Step};
+use pb_codegen::compile;
+use pb_machine::Machine;
+use pb_verifier::Verified;
+use std::alloc::Global;
+use std::io::Read;
+use std::process::ExitCode;
+use std::time::Instant;
+
+"""
+
+
+def machine_main(numbers, call, fields):
+    """The `main` of a small program that compiles the text that it is given and makes this call, in rounds, of which
+    each writes its nanoseconds and these fields of what was run. Its words are these numbers, each a name and a type,
+    and the rounds."""
+    words = [*numbers, ("rounds", "u64")]
+    reads = "".join(f"    let {name} = words[{i}].as_str().parse::<{kind}>()?;\n"
+                    for i, (name, kind) in enumerate(words, 1))
+    shown = "{}" + " {}" * len(fields)
+    return f"""\
+fn main(rt: HostRuntime) -> anyhow::Result<ExitCode> {{
+    let alloc = rt.alloc();
+    let words: Vec<String> = std::env::args(&rt)?.collect(alloc)?;
+    if words.len() < {len(words) + 1} {{
+        return Ok(ExitCode::FAILURE);
+    }}
+{reads}    let mut text = Vec::new(alloc);
+    rt.stdin().read_to_end(&mut text)?;
+    let arena = Bump::new(alloc);
+    let Ok(compiled) = compile(alloc, &arena, text.as_slice()) else {{
+        return Ok(ExitCode::FAILURE);
+    }};
+    for _ in 0..rounds {{
+        let start = Instant::now(&rt)?;
+        let Ok(ran) = {call} else {{
+            return Ok(ExitCode::FAILURE);
+        }};
+        let taken = start.elapsed(&rt)?;
+        println!(rt; "{shown}", taken.as_nanos(), {", ".join(f"ran.{field}" for field in fields)})?;
+    }}
+    Ok(ExitCode::SUCCESS)
+}}
+"""
+
+
+def invariants(function, loop):
+    """The invariant of a loop over the machine."""
+    return f"""\
+use Rattle.pb_machine.specs.Views.{{IsMachineOf}}
+use Rattle.bench.proofs.{function}.Given as goal
+
+abbrev pub {loop} : goal.{loop}
+{loop} l = IsMachineOf l.verified l.machine
+"""
+
+
+def machine_files(about, items, main, loops):
+    """The files of a small program over the machine: the comment at its top, its items, its `main`, and its loops, each
+    with its function."""
+    files = {f"proofs/{function}/Invariants.antt": invariants(function, loop) for function, loop in loops}
+    return {"src/main.rt": about + MACHINE_HEAD + items + main, **files}
+
+
+def script_time(*words):
+    """The least nanoseconds of a round of a script that writes them with one number, and that number."""
+    best, (last,) = least_of_rows(said(words), 2)
+    return best, last
+
+
 def build_plain(folder, bench):
     """Builds the twin of a bench, for the processors that proved programs are built for, and answers where it lies."""
     out = folder / "twin"

@@ -20,7 +20,8 @@ import sys
 import tempfile
 import time
 
-from scratch import build_proved, instructions_a_round, least, least_of_rows, print_table, said
+from scratch import MACHINE_NEEDS, build_proved, instructions_a_round, least, least_of_rows, machine_files, \
+    machine_main, print_table, said, script_time
 
 TURNS = int(sys.argv[1]) if len(sys.argv) > 1 else 9
 ROUNDS = 12
@@ -244,23 +245,11 @@ def user_time(words):
 
 # ---- the proved program
 
-MAIN = """\
-//! Runs the one process of a text again and again, by silent runs of at most so many picks, or pick by pick, and says how
+ABOUT = """\
+//! Runs the one process of a text again and again, by silent runs of a greatest length, or pick by pick, and says how
 //! long each round took.
-#![tactic(auto)]
-
-ghost use Rattle.pb_machine.specs.Views.{IsMachineOf};
-
-use bumpalo::Bump;
-use pb_base::{Event, NoMemory, Pick, Step};
-use pb_codegen::compile;
-use pb_machine::Machine;
-use pb_verifier::Verified;
-use std::alloc::Global;
-use std::io::Read;
-use std::process::ExitCode;
-use std::time::Instant;
-
+"""
+ITEMS = """\
 /// What was run so far.
 #[derive(Clone, Copy)]
 struct Ran {
@@ -294,40 +283,9 @@ fn run_round(alloc: Global, verified: &Verified, max: u32) -> Result<Ran, NoMemo
     Ok(run(&mut machine, verified, max))
 }
 
-fn main(rt: HostRuntime) -> anyhow::Result<ExitCode> {
-    let alloc = rt.alloc();
-    let words: Vec<String> = std::env::args(&rt)?.collect(alloc)?;
-    if words.len() < 3 {
-        return Ok(ExitCode::FAILURE);
-    }
-    let max = words[1].as_str().parse::<u32>()?;
-    let rounds = words[2].as_str().parse::<u64>()?;
-    let mut text = Vec::new(alloc);
-    rt.stdin().read_to_end(&mut text)?;
-    let arena = Bump::new(alloc);
-    let Ok(compiled) = compile(alloc, &arena, text.as_slice()) else {
-        return Ok(ExitCode::FAILURE);
-    };
-    for _ in 0..rounds {
-        let start = Instant::now(&rt)?;
-        let Ok(ran) = run_round(alloc, compiled.verified(), max) else {
-            return Ok(ExitCode::FAILURE);
-        };
-        let taken = start.elapsed(&rt)?;
-        println!(rt; "{} {} {}", taken.as_nanos(), ran.picks, ran.last)?;
-    }
-    Ok(ExitCode::SUCCESS)
-}
 """
-RUN_LOOP = """\
-use Rattle.pb_machine.specs.Views.{IsMachineOf}
-use Rattle.bench.proofs.run.Given as goal
-
-abbrev pub invariant-loop : goal.invariant-loop
-invariant-loop l = IsMachineOf l.verified l.machine
-"""
-FILES = {"src/main.rt": MAIN, "proofs/run/Invariants.antt": RUN_LOOP}
-NEEDS = ["pb_base", "pb_codegen", "pb_machine", "pb_verifier", "anyhow", "bumpalo"]
+MAIN = machine_main([("max", "u32")], "run_round(alloc, compiled.verified(), max)", ["picks", "last"])
+FILES = machine_files(ABOUT, ITEMS, MAIN, [("run", "invariant-loop")])
 
 # ---- what is timed
 
@@ -347,10 +305,6 @@ class Runs:
         best, (_, last) = least_of_rows(said([self.proved, length, ROUNDS], self.text), 3)
         return best, last
 
-    def script(self, *words):
-        best, (last,) = least_of_rows(said(words), 2)
-        return best, last
-
     def wasm(self):
         taken, out = user_time(["wasm-interp", "--run-all-exports", self.module])
         nothing, _ = user_time(["wasm-interp", "--run-all-exports", self.empty])
@@ -359,9 +313,9 @@ class Runs:
     def calls(self):
         return [
             lambda: self.machine(PICK_BY_PICK), lambda: self.machine(SHORT), lambda: self.machine(LONG),
-            lambda: self.script("lua5.4", "-e", self.lua),
-            lambda: self.script("luajit", "-joff", "-e", self.luajit),
-            lambda: self.script(sys.executable, "-c", self.python),
+            lambda: script_time("lua5.4", "-e", self.lua),
+            lambda: script_time("luajit", "-joff", "-e", self.luajit),
+            lambda: script_time(sys.executable, "-c", self.python),
             self.wasm,
         ]
 
@@ -372,7 +326,7 @@ class Runs:
 def main():
     with tempfile.TemporaryDirectory() as name:
         folder = pathlib.Path(name)
-        proved = build_proved(folder, NEEDS, FILES)
+        proved = build_proved(folder, MACHINE_NEEDS, FILES)
         empty = wasm_module(folder, "empty", '(module (func (export "main") (result i64) i64.const 0))')
         times, counts = [], []
         for program in PROGRAMS:
