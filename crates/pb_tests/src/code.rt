@@ -3,86 +3,97 @@
 ghost use Rattle.std.specs.Prelude.{◌≤◌, length};
 
 use crate::objects::{FIRST, MOVED, SECOND};
-use pb_base::{Bundle, Capital, Claims, Names, NoMemory};
-use pb_code::{Code, Instr, ProcessCode, is_name};
+use pb_base::Bundle;
+use pb_code::{Code, Instr, Labels, is_name};
 use pb_object::{
     ObjectFault, fits_first_format, read_any, read_object, write_object, write_object2,
 };
 use std::alloc::Global;
-use std::process::Abort;
-use std::test::*;
 
 /// Two resources and two processes; the second takes both resources at once.
 const JOINT: &[u8] =
     b"PBO 2\nresources 2\nresource r 9\nresource s_1 1000000\nprocesses 2\nprocess p\nvars 0\narms 2\nclaims 1 0\narm 0\narm 3\ncode 4\n1 fork 1 1\n1 join 1 1\n0 end\n0 end\nprocess Q\nvars 2 a b\narms 1\nclaims 9 1000000\narm 0\ncode 5\n2 take 1 1000000 0 9\n3 push -9223372036854775808\n4 jzero 3\n65536 give 1 1000000 0 9\n0 end\n";
 
-/// The place of a refusal that is not of the form.
-fn malformed_at(fault: Option<ObjectFault>) -> Option<usize> {
-    match fault {
-        Some(ObjectFault::NotObject(at)) => Some(at),
-        _ => None,
+/// The fault of an object in either format, if it has one.
+fn object_fault(alloc: Global, text: &[u8]) -> Option<ObjectFault> {
+    match read_any(alloc, text) {
+        Ok(_) => None,
+        Err(fault) => Some(fault),
     }
 }
 
-/// The place of a refusal that is out of range.
-fn beyond_at(fault: Option<ObjectFault>) -> Option<usize> {
-    match fault {
-        Some(ObjectFault::Limit(at)) => Some(at),
-        _ => None,
-    }
-}
+/// The instructions of `FIRST` and `SECOND`.
+const SUM: [Instr; 7] = [
+    Instr::Push(2),
+    Instr::Push(3),
+    Instr::Add,
+    Instr::Store(0),
+    Instr::Load(0),
+    Instr::Print,
+    Instr::End,
+];
 
-fn assert_code(rt: &(impl Abort + AllocGlobal), code: &Code) {
-    assert_eq!(rt; code.processes.len(), 1);
+/// Whether a code is the one of `FIRST` and `SECOND`.
+fn is_sum(code: &Code) -> bool {
+    if code.processes.len() != 1 {
+        return false;
+    }
     let process = &code.processes[0];
-    assert_eq!(rt; process.integers, 1);
-    assert_eq!(rt; process.entries.as_slice(), [0].as_slice());
-    let instrs = [
-        Instr::Push(2),
-        Instr::Push(3),
-        Instr::Add,
-        Instr::Store(0),
-        Instr::Load(0),
-        Instr::Print,
-        Instr::End,
-    ];
-    assert_eq!(rt; process.instrs.as_slice(), instrs.as_slice());
+    process.integers == 1
+        && process.entries.as_slice() == [0].as_slice()
+        && process.instrs.as_slice() == SUM.as_slice()
+}
+
+/// Whether labels are those of one process with one integer of this name, and with these lines.
+fn is_labelled(labels: &Labels, integer: &[u8], lines: &[Option<u32>]) -> bool {
+    if labels.processes.len() != 1 {
+        return false;
+    }
+    let process = &labels.processes[0];
+    process.integers.len() == 1
+        && process.integers[0].as_slice() == integer
+        && process.lines.as_slice() == lines
+}
+
+/// Whether an object in either format is read as that code, with these labels.
+fn is_sum_in(alloc: Global, text: &[u8], integer: &[u8], lines: &[Option<u32>]) -> bool {
+    match read_any(alloc, text) {
+        Ok((code, labels)) => is_sum(&code) && is_labelled(&labels, integer, lines),
+        Err(_) => false,
+    }
+}
+
+/// The fault of a text as an object in the first format, if it has one.
+fn first_fault(alloc: Global, text: &[u8]) -> Option<ObjectFault> {
+    match read_object(alloc, text) {
+        Ok(_) => None,
+        Err(fault) => Some(fault),
+    }
+}
+
+/// Whether an object in the first format is read as that code.
+fn is_sum_in_first(alloc: Global, text: &[u8]) -> bool {
+    match read_object(alloc, text) {
+        Ok(code) => is_sum(&code),
+        Err(_) => false,
+    }
 }
 
 #[test]
-fn reads_the_first_format(rt: HostRuntime) -> Result<(), Fail> {
-    assert_eq!(rt; FIRST.len(), 117);
-    assert_code(&rt, &read_object(rt.alloc(), FIRST)?);
-    let (code, labels) = read_any(rt.alloc(), FIRST)?;
-    assert_code(&rt, &code);
-    assert_eq!(rt; labels.processes.len(), 1);
-    assert_eq!(rt; labels.processes[0].integers.len(), 1);
-    assert_eq!(rt;
-        labels.processes[0].integers[0].as_slice(),
-        b"v0".as_slice()
-    );
-    assert_eq!(rt; labels.processes[0].lines.as_slice(), [None; 7].as_slice());
-    Ok(())
+fn reads_the_first_format(rt: HostRuntime) {
+    assert!(rt; FIRST.len() == 117);
+    assert!(rt; is_sum_in_first(rt.alloc(), FIRST));
+    assert!(rt; is_sum_in(rt.alloc(), FIRST, b"v0", &[None; 7]));
 }
 
+/// The lines of `SECOND`.
+const LINES: [Option<u32>; 7] = [Some(1), Some(1), Some(1), Some(1), Some(1), Some(1), None];
+
 #[test]
-fn reads_the_second_format(rt: HostRuntime) -> Result<(), Fail> {
-    assert_eq!(rt; SECOND.len(), 133);
-    let (code, labels) = read_any(rt.alloc(), SECOND)?;
-    assert_code(&rt, &code);
-    assert_eq!(rt; labels.processes.len(), 1);
-    assert_eq!(rt; labels.processes[0].integers.len(), 1);
-    assert_eq!(rt; labels.processes[0].integers[0].as_slice(), b"x".as_slice());
-    let one = Some(1);
-    assert_eq!(rt;
-        labels.processes[0].lines.as_slice(),
-        [one, one, one, one, one, one, None].as_slice()
-    );
-    assert_eq!(rt;
-        malformed_at(read_object(rt.alloc(), SECOND).err()),
-        Some(0)
-    );
-    Ok(())
+fn reads_the_second_format(rt: HostRuntime) {
+    assert!(rt; SECOND.len() == 133);
+    assert!(rt; is_sum_in(rt.alloc(), SECOND, b"x", &LINES));
+    assert!(rt; first_fault(rt.alloc(), SECOND) == Some(ObjectFault::NotObject(0)));
 }
 
 /// The start of the last line that is begun or missing, where the text is cut to this length.
@@ -101,145 +112,174 @@ fn last_line(text: &[u8], len: usize) -> usize
 #[test]
 fn refuses_each_proper_prefix(rt: HostRuntime) {
     for len in 0..FIRST.len() {
-        let at = malformed_at(read_object(rt.alloc(), &FIRST[..len]).err());
-        assert_eq!(rt; at, Some(last_line(FIRST, len)), "of {len} bytes");
+        let at = last_line(FIRST, len);
+        let fault = first_fault(rt.alloc(), &FIRST[..len]);
+        assert!(rt; fault == Some(ObjectFault::NotObject(at)), "of {len} bytes");
     }
-    assert_eq!(rt; last_line(FIRST, 0), 0);
-    assert_eq!(rt; last_line(FIRST, 5), 0);
-    assert_eq!(rt; last_line(FIRST, 6), 6);
-    assert_eq!(rt; last_line(FIRST, 116), 113);
 }
 
 #[test]
-fn writes_what_it_read(rt: HostRuntime) -> Result<(), Fail> {
-    let code = read_object(rt.alloc(), FIRST)?;
-    assert_eq!(rt; write_object(rt.alloc(), &code)?.as_slice(), FIRST);
-    let (code, labels) = read_any(rt.alloc(), SECOND)?;
-    assert_eq!(rt;
-        write_object2(rt.alloc(), &code, &labels)?.as_slice(),
-        SECOND
-    );
-    let (code, labels) = read_any(rt.alloc(), FIRST)?;
-    assert_eq!(rt; MOVED.len(), 134);
-    assert_eq!(rt;
-        write_object2(rt.alloc(), &code, &labels)?.as_slice(),
-        MOVED
-    );
-    let (code, labels) = read_any(rt.alloc(), JOINT)?;
-    assert_eq!(rt;
-        write_object2(rt.alloc(), &code, &labels)?.as_slice(),
-        JOINT
-    );
-    Ok(())
+fn finds_the_last_line(rt: HostRuntime) {
+    for (len, start) in [(0, 0), (5, 0), (6, 6), (116, 113)] {
+        assert!(rt; last_line(FIRST, len) == start);
+    }
 }
+
+/// Whether the code of an object in the first format is written as this text.
+fn is_written(alloc: Global, object: &[u8], text: &[u8]) -> bool {
+    let Ok(code) = read_object(alloc, object) else {
+        return false;
+    };
+    match write_object(alloc, &code) {
+        Ok(written) => written.as_slice() == text,
+        Err(_) => false,
+    }
+}
+
+/// Whether the code and the labels of an object are written as this text in the second format.
+fn is_written_in_second(alloc: Global, object: &[u8], text: &[u8]) -> bool {
+    let Ok((code, labels)) = read_any(alloc, object) else {
+        return false;
+    };
+    match write_object2(alloc, &code, &labels) {
+        Ok(written) => written.as_slice() == text,
+        Err(_) => false,
+    }
+}
+
+#[test]
+fn writes_what_it_read(rt: HostRuntime) {
+    assert!(rt; is_written(rt.alloc(), FIRST, FIRST));
+    assert!(rt; MOVED.len() == 134);
+    for (object, text) in [(SECOND, SECOND), (FIRST, MOVED), (JOINT, JOINT)] {
+        assert!(rt; is_written_in_second(rt.alloc(), object, text));
+    }
+}
+
+/// Texts, and the fault of the first line that is faulty.
+const FAULTY: [(&[u8], ObjectFault); 10] = [
+    (b"PBO 1\nresources 017\n", ObjectFault::NotObject(6)),
+    (
+        b"PBO 1\nresources 99999999999999999999999",
+        ObjectFault::NotObject(6),
+    ),
+    (
+        b"PBO 1\nresources 1\nresource while 1\n",
+        ObjectFault::NotObject(18),
+    ),
+    (
+        b"PBO 2\nresources 0\nprocesses 1\nprocess p\nvars 65 x y\n",
+        ObjectFault::NotObject(40),
+    ),
+    (
+        b"PBO 2\nresources 0\nprocesses 1\nprocess p\nvars 2 x x\n",
+        ObjectFault::NotObject(40),
+    ),
+    (
+        b"PBO 2\nresources 0\nprocesses 1\nprocess p\nvars 0\narms 1\nclaims\narm 0\ncode 1\n0 take 99 1 99 1\n",
+        ObjectFault::NotObject(74),
+    ),
+    (b"PBO 1\nresources 17\n", ObjectFault::Limit(6)),
+    (
+        b"PBO 1\nresources 0\nprocesses 33\n",
+        ObjectFault::Limit(18),
+    ),
+    (
+        b"PBO 1\nresources 0\nprocesses 1\nprocess p\nvars 65\n",
+        ObjectFault::Limit(40),
+    ),
+    (
+        b"PBO 2\nresources 0\nprocesses 1\nprocess p\nvars 0\narms 1\nclaims\narm 0\ncode 1\n0 take 99 1\n",
+        ObjectFault::Limit(74),
+    ),
+];
 
 #[test]
 fn refuses_the_first_faulty_line(rt: HostRuntime) {
-    let malformed: [(&[u8], usize); 6] = [
-        (b"PBO 1\nresources 017\n", 6),
-        (b"PBO 1\nresources 99999999999999999999999", 6),
-        (b"PBO 1\nresources 1\nresource while 1\n", 18),
-        (
-            b"PBO 2\nresources 0\nprocesses 1\nprocess p\nvars 65 x y\n",
-            40,
-        ),
-        (
-            b"PBO 2\nresources 0\nprocesses 1\nprocess p\nvars 2 x x\n",
-            40,
-        ),
-        (
-            b"PBO 2\nresources 0\nprocesses 1\nprocess p\nvars 0\narms 1\nclaims\narm 0\ncode 1\n0 take 99 1 99 1\n",
-            74,
-        ),
-    ];
-    for (text, at) in malformed {
-        assert_eq!(rt; malformed_at(read_any(rt.alloc(), text).err()), Some(at));
-    }
-    let beyond: [(&[u8], usize); 4] = [
-        (b"PBO 1\nresources 17\n", 6),
-        (b"PBO 1\nresources 0\nprocesses 33\n", 18),
-        (b"PBO 1\nresources 0\nprocesses 1\nprocess p\nvars 65\n", 40),
-        (
-            b"PBO 2\nresources 0\nprocesses 1\nprocess p\nvars 0\narms 1\nclaims\narm 0\ncode 1\n0 take 99 1\n",
-            74,
-        ),
-    ];
-    for (text, at) in beyond {
-        assert_eq!(rt; beyond_at(read_any(rt.alloc(), text).err()), Some(at));
+    for (text, fault) in FAULTY {
+        assert!(rt; object_fault(rt.alloc(), text) == Some(fault));
     }
 }
 
-/// The code of one process that takes and gives one of a resource, which it names by this number of two.
-fn taking(alloc: Global, bundle: u16, amounts: [u32; 2]) -> Result<Code, NoMemory> {
-    let mut bundles = Vec::new(alloc);
-    bundles.push(Bundle::one(0, amounts[0]))?;
-    bundles.push(Bundle::one(0, amounts[1]))?;
-    let mut processes = Vec::new(alloc);
+/// One process that takes and gives.
+const TAKING: &[u8] =
+    b"PBO 1\nresources 1\nresource r 9\nprocesses 1\nprocess p\nvars 0\narms 1\nclaims 9\narm 0\ncode 3\ntake 0 1\ngive 0 1\nend\n";
+
+/// The code of `TAKING` with a list of two bundles that have these amounts, of which it names the one with this
+/// number.
+fn taking(alloc: Global, bundle: u16, amounts: [u32; 2]) -> Option<Code> {
+    let mut code = read_object(alloc, TAKING).ok()?;
+    let process = code.processes.get_mut(0)?;
+    let bundles = [Bundle::one(0, amounts[0]), Bundle::one(0, amounts[1])];
+    process.bundles = Vec::from_slice(alloc, &bundles).ok()?;
     let instrs = [Instr::Take(bundle), Instr::Give(bundle), Instr::End];
-    processes.push(ProcessCode {
-        integers: 0,
-        entries: Vec::from_slice(alloc, &[0])?,
-        bundles,
-        instrs: Vec::from_slice(alloc, &instrs)?,
-    })?;
-    Ok(Code {
-        names: Names {
-            processes: Vec::new(alloc),
-            resources: Vec::new(alloc),
-        },
-        capital: Capital::new(alloc, &[9])?,
-        claims: Claims::new(alloc, &[&[9]])?,
-        processes,
-    })
+    process.instrs = Vec::from_slice(alloc, &instrs).ok()?;
+    Some(code)
+}
+
+/// Whether that code is the same as the one that names the first of the amounts 1 and 2.
+fn takes_one(alloc: Global, bundle: u16, amounts: [u32; 2]) -> Option<bool> {
+    let one = taking(alloc, 0, [1, 2])?;
+    let other = taking(alloc, bundle, amounts)?;
+    Some(one.same(&other))
 }
 
 #[test]
-fn bundles_are_the_same_by_their_pairs(rt: HostRuntime) -> Result<(), Fail> {
-    let code = taking(rt.alloc(), 0, [1, 2])?;
-    assert!(rt; code.same(&taking(rt.alloc(), 1, [2, 1])?));
-    assert!(rt; !code.same(&taking(rt.alloc(), 1, [1, 2])?));
-    Ok(())
+fn bundles_are_the_same_by_their_pairs(rt: HostRuntime) {
+    assert!(rt; takes_one(rt.alloc(), 1, [2, 1]) == Some(true));
+    assert!(rt; takes_one(rt.alloc(), 1, [1, 2]) == Some(false));
 }
 
-/// Whether a process is the same in both, where both have it.
-fn is_same_process(code: &Code, other: &Code, p: usize) -> Option<bool> {
-    if p >= code.processes.len() {
-        return None;
-    }
-    if p >= other.processes.len() {
-        return None;
-    }
-    Some(code.same_process(p, other))
+/// Whether two objects have the same code.
+fn is_same(alloc: Global, one: &[u8], other: &[u8]) -> Option<bool> {
+    let (one, _) = read_any(alloc, one).ok()?;
+    let (other, _) = read_any(alloc, other).ok()?;
+    Some(one.same(&other))
 }
 
-#[test]
-fn codes_and_processes_that_are_the_same(rt: HostRuntime) -> Result<(), Fail> {
-    let (first, _) = read_any(rt.alloc(), FIRST)?;
-    let (second, _) = read_any(rt.alloc(), SECOND)?;
-    let (joint, _) = read_any(rt.alloc(), JOINT)?;
-    assert!(rt; first.same(&second));
-    assert!(rt; !first.same(&joint));
-    let mut changed = Vec::from_slice(rt.alloc(), JOINT)?;
+/// Whether a process is the same in two objects, if both have it.
+fn is_same_process(alloc: Global, one: &[u8], other: &[u8], p: usize) -> Option<bool> {
+    let (one, _) = read_any(alloc, one).ok()?;
+    let (other, _) = read_any(alloc, other).ok()?;
+    if p < one.processes.len() && p < other.processes.len() {
+        Some(one.same_process(p, &other))
+    } else {
+        None
+    }
+}
+
+/// `JOINT` with another amount in the last line but one.
+fn changed_joint(alloc: Global) -> Option<Vec<u8>> {
+    let mut changed = Vec::from_slice(alloc, JOINT).ok()?;
     let last = changed.len() - 8;
     changed[last] = b'8';
-    let Ok((other, _)) = read_any(rt.alloc(), &changed) else {
-        assert!(rt; false);
-        return Ok(());
-    };
-    assert!(rt; !joint.same(&other));
-    assert_eq!(rt; is_same_process(&joint, &other, 0), Some(true));
-    assert_eq!(rt; is_same_process(&joint, &other, 1), Some(false));
-    assert_eq!(rt; is_same_process(&joint, &other, 2), None);
-    Ok(())
+    Some(changed)
 }
 
 #[test]
-fn what_the_first_format_can_say(rt: HostRuntime) -> Result<(), Fail> {
-    let (second, _) = read_any(rt.alloc(), SECOND)?;
-    let (joint, _) = read_any(rt.alloc(), JOINT)?;
-    assert!(rt; fits_first_format(&second));
-    assert!(rt; !fits_first_format(&joint));
-    Ok(())
+fn codes_and_processes_that_are_the_same(rt: HostRuntime) {
+    let alloc = rt.alloc();
+    let Some(changed) = changed_joint(alloc) else {
+        panic!(rt; "out of memory")
+    };
+    assert!(rt; is_same(alloc, FIRST, SECOND) == Some(true));
+    assert!(rt; is_same(alloc, FIRST, JOINT) == Some(false));
+    assert!(rt; is_same(alloc, JOINT, &changed) == Some(false));
+    for (p, same) in [(0, Some(true)), (1, Some(false)), (2, None)] {
+        assert!(rt; is_same_process(alloc, JOINT, &changed, p) == same);
+    }
+}
+
+/// Whether the first format can say the code of an object.
+fn fits_first(alloc: Global, object: &[u8]) -> Option<bool> {
+    let (code, _) = read_any(alloc, object).ok()?;
+    Some(fits_first_format(&code))
+}
+
+#[test]
+fn what_the_first_format_can_say(rt: HostRuntime) {
+    assert!(rt; fits_first(rt.alloc(), SECOND) == Some(true));
+    assert!(rt; fits_first(rt.alloc(), JOINT) == Some(false));
 }
 
 #[test]
