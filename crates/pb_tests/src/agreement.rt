@@ -3,6 +3,7 @@
 mod answers;
 mod draws;
 mod replays;
+mod runs;
 mod schedules;
 mod sides;
 mod states;

@@ -5,7 +5,8 @@ ghost use Rattle.pb_names.specs.View.{resolved_view};
 ghost use Rattle.pb_rewrite.specs.Sources.{Fits, IsSource};
 
 use crate::agreement::draws::Draws;
-use crate::agreement::sides::{Program, Seen, step_both};
+use crate::agreement::runs::{Run, make_run};
+use crate::agreement::sides::Program;
 use crate::agreement::states::{Difference, first_difference};
 use crate::agreement::tally::Tally;
 use pb_base::{NoMemory, Pick};
@@ -14,8 +15,11 @@ use pb_machine::{Machine, Proc, ThreadState};
 use pb_rewrite::Source;
 use std::alloc::Global;
 
-/// The most picks of one schedule: some programs have no end.
-const MOST_PICKS: usize = 500;
+/// The most runs of one schedule: some programs have no end.
+const MOST_RUNS: usize = 500;
+
+/// A silent run is of fewer picks.
+const LONGEST_RUN: usize = 12;
 
 /// Adds the picks of a process's live arms.
 fn push_live(process: &Proc, p: usize, picks: &mut Vec<Pick>) -> Result<(), NoMemory> {
@@ -70,41 +74,48 @@ fn draw(alloc: Global, machine: &Machine, draws: &mut Draws) -> Result<Pick, NoM
 /// Where the two sides first differ.
 #[derive(Clone, Copy, Debug, PartialEq, Eq)]
 pub(super) struct Parting {
-    /// How many picks were made before the one after which they differ.
+    /// How many runs were made before the one after which they differ.
     made: usize,
-    /// That pick; none where they differ before any.
-    pick: Option<Pick>,
+    /// That run; none where they differ before any.
+    run: Option<Run>,
     difference: Difference,
 }
 
+/// The limit of a silent run: 0 half of the time, so that a pick is made alone.
+fn limit(draws: &mut Draws) -> u32 {
+    if draws.below(2) == 0 {
+        return 0;
+    }
+    u32::from(small(draws, LONGEST_RUN))
+}
+
 /// Makes drawn picks on both sides until all processes are over and some picks more, and compares the sides after
-/// each.
+/// each. The machine `beside` makes the same picks by silent runs of drawn lengths, and is compared after each run.
 fn make_picks(
     alloc: Global,
     compiled: &Compiled,
     machine: &mut Machine,
+    beside: &mut Machine,
     source: &mut Source<Global>,
     draws: &mut Draws,
     tally: &mut Tally,
 ) -> Result<Option<Parting>, NoMemory>
     requires machine { IsMachineOf compiled.now.verified machine.old }
+    requires beside { IsMachineOf compiled.now.verified beside.old }
     requires source { IsSource source.old }
 {
-    for made in 0..MOST_PICKS {
+    for made in 0..MOST_RUNS {
         if machine.finished() && draws.below(4) == 0 {
             return Ok(None);
         }
         let pick = draw(alloc, machine, draws)?;
-        let seen = step_both(alloc, compiled.verified(), machine, source, pick)?;
-        tally.count(seen);
-        let difference = match seen {
-            Seen::Differ(..) => Some(Difference::Answer),
-            _ => first_difference(compiled.labels(), machine, source),
-        };
+        let max = limit(draws);
+        let run = Run { pick, max };
+        let difference = make_run(alloc, compiled, machine, beside, source, run, tally)?;
         if let Some(difference) = difference {
             return Ok(Some(Parting {
                 made,
-                pick: Some(pick),
+                run: Some(run),
                 difference,
             }));
         }
@@ -124,11 +135,12 @@ pub(super) fn follow(
     let compiled = &program.compiled;
     let analysis = &program.analysis;
     let mut machine = Machine::new(alloc, compiled.verified())?;
+    let mut beside = Machine::new(alloc, compiled.verified())?;
     let mut source = Source::new(alloc, alloc, &analysis.program, &analysis.claims)?;
     if let Some(difference) = first_difference(compiled.labels(), &machine, &source) {
         return Ok(Some(Parting {
             made: 0,
-            pick: None,
+            run: None,
             difference,
         }));
     }
@@ -137,6 +149,7 @@ pub(super) fn follow(
         alloc,
         compiled,
         &mut machine,
+        &mut beside,
         &mut source,
         &mut draws,
         tally,

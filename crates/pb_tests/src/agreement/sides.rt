@@ -81,7 +81,7 @@ pub(super) enum Seen {
 }
 
 /// What a step shows that both sides make at a pick.
-fn shown(pick: Pick, step: Step) -> Seen {
+pub(super) fn shown(pick: Pick, step: Step) -> Seen {
     match step {
         Step::Silent => Seen::Silent,
         Step::Did(Event::Granted { pick, .. }) => Seen::Granted(pick.process, pick.arm),

@@ -22,6 +22,8 @@ pub(super) enum Difference {
     Loans,
     /// In whether all processes are over.
     Finished,
+    /// Not in these, but in what a silent run makes and in what the same picks make one by one.
+    Run,
 }
 
 fn same_integers(machine: &Machine, source: &Source<Global>) -> bool {
