@@ -23,7 +23,7 @@ impl Model for Stack {
 }
 
 impl Stack {
-    /// An empty stack with room for so many operands.
+    /// An empty stack with room for `depth` operands.
     pub fn with_room(alloc: Global, depth: usize) -> Result<Stack, NoMemory>
         ensures items { IfOk result (λ stack. stack.items ≡ []) }
         ensures room { IfOk result (λ stack. depth ≤ stack.room) }
@@ -65,7 +65,7 @@ impl Stack {
         self.operands.as_slice() == other.operands.as_slice()
     }
 
-    /// The operand below so many others.
+    /// The operand with this many others on top of it.
     #[inline]
     pub fn below(&self, others: usize) -> i64
         requires { others < length self.now.items }
