@@ -4,6 +4,7 @@ mod memories;
 mod places;
 mod texts;
 
+use crate::texts::repeated;
 use linked_list_allocator::LocalHeap;
 use pb_base::{BinaryOp, NoMemory, UnaryOp};
 use pb_lexer::lexer::lex;
@@ -227,36 +228,23 @@ fn fault(alloc: Global, text: &[u8]) -> Option<ParseFault> {
     }
 }
 
+/// Texts, and the places of their syntax errors.
+const WRONG: [(&[u8], usize); 7] = [
+    (b"", 0),
+    (b"process p begin skip; end", 22),
+    (b"process p begin skip", 20),
+    (b"process p begin print 12abc end", 24),
+    (b"process p begin print a < b < c end", 28),
+    (b"process p begin skip end end", 25),
+    (b"resource r = 1;", 15),
+];
+
 #[test]
-fn names_the_place_of_a_syntax_error(rt: HostRuntime) -> Result<(), Fail> {
-    let alloc = rt.alloc();
-    assert_eq!(rt; fault(alloc, b""), Some(ParseFault::Syntax(0)));
-    assert_eq!(rt;
-        fault(alloc, b"process p begin skip; end"),
-        Some(ParseFault::Syntax(22))
-    );
-    assert_eq!(rt;
-        fault(alloc, b"process p begin skip"),
-        Some(ParseFault::Syntax(20))
-    );
-    assert_eq!(rt;
-        fault(alloc, b"process p begin print 12abc end"),
-        Some(ParseFault::Syntax(24))
-    );
-    assert_eq!(rt; fault(alloc, b"process p begin skip end"), None);
-    assert_eq!(rt;
-        fault(alloc, b"process p begin print a < b < c end"),
-        Some(ParseFault::Syntax(28))
-    );
-    assert_eq!(rt;
-        fault(alloc, b"process p begin skip end end"),
-        Some(ParseFault::Syntax(25))
-    );
-    assert_eq!(rt;
-        fault(alloc, b"resource r = 1;"),
-        Some(ParseFault::Syntax(15))
-    );
-    Ok(())
+fn names_the_place_of_a_syntax_error(rt: HostRuntime) {
+    for (text, place) in WRONG {
+        assert!(rt; fault(rt.alloc(), text) == Some(ParseFault::Syntax(place)));
+    }
+    assert!(rt; fault(rt.alloc(), b"process p begin skip end") == None);
 }
 
 /// The text with blanks in place of the token.
@@ -305,66 +293,89 @@ fn finds_the_first_token_that_is_wrong(rt: HostRuntime) -> Result<(), Fail> {
     Ok(())
 }
 
-/// A text of a head, a piece so many times, and a tail.
-fn repeated(
+/// The fault of a text of a head, a piece so many times, and a tail.
+fn repeated_fault(
     alloc: Global,
     head: &[u8],
     piece: &[u8],
     count: usize,
     tail: &[u8],
-) -> Result<Vec<u8, Global>, NoMemory> {
-    let mut text = Vec::from_slice(alloc, head)?;
-    for _ in 0..count {
-        text.extend_from_slice(piece)?;
+) -> Option<ParseFault> {
+    match repeated(alloc, head, piece, count, tail) {
+        Ok(text) => fault(alloc, text.as_slice()),
+        Err(_) => Some(ParseFault::NoMemory),
     }
-    text.extend_from_slice(tail)?;
-    Ok(text)
+}
+
+/// Pieces, how often each stands in a text, the tail of the text, and its fault.
+const DEEP: [(&[u8], usize, &[u8], ParseFault); 5] = [
+    (b"(", 65_536, b"", ParseFault::TooDeep),
+    (b"(", 257, b"", ParseFault::TooDeep),
+    (b"(", 256, b"", ParseFault::Syntax(0)),
+    (b"- not ", 128, b"-", ParseFault::TooDeep),
+    (b"- not ", 128, b"", ParseFault::Syntax(0)),
+];
+
+#[test]
+fn looks_for_depth_before_the_grammar(rt: HostRuntime) {
+    for (piece, count, tail, told) in DEEP {
+        assert!(rt; repeated_fault(rt.alloc(), b"", piece, count, tail) == Some(told));
+    }
+}
+
+/// The heads, pieces and tails of texts, how often the piece stands in each, and the fault.
+const LARGE: [(&[u8], &[u8], usize, &[u8], Option<ParseFault>); 4] = [
+    (b"process p begin print ", b"-", 198, b"1 end", None),
+    (
+        b"process p begin print ",
+        b"-",
+        199,
+        b"1 end",
+        Some(ParseFault::TooDeep),
+    ),
+    (b"process p begin ", b"x:=1;", 8190, b"x:=-1 end", None),
+    (
+        b"process p begin ",
+        b"x:=1;",
+        8191,
+        b"x:=1 end",
+        Some(ParseFault::TooLarge),
+    ),
+];
+
+#[test]
+fn keeps_the_limits_of_the_tree(rt: HostRuntime) {
+    for (head, piece, count, tail, told) in LARGE {
+        assert!(rt; repeated_fault(rt.alloc(), head, piece, count, tail) == told);
+    }
+}
+
+/// The fault of a text of a head, a piece so many times, and a tail, if there is no memory for its tree.
+fn fault_without_room(
+    alloc: Global,
+    head: &[u8],
+    piece: &[u8],
+    count: usize,
+    tail: &[u8],
+) -> Option<ParseFault> {
+    let text = repeated(alloc, head, piece, count, tail).ok()?;
+    let tokens = lex(alloc, text.as_slice()).ok()?;
+    let none = LocalHeap::new(alloc, 64).ok()?;
+    match parse(&none, tokens.as_slice()) {
+        Ok(_) => None,
+        Err(fault) => Some(fault),
+    }
 }
 
 #[test]
-fn looks_for_depth_before_the_grammar(rt: HostRuntime) -> Result<(), Fail> {
+fn takes_no_room_where_it_refuses(rt: HostRuntime) {
     let alloc = rt.alloc();
-    let text = repeated(alloc, b"", b"(", 65_536, b"")?;
-    assert_eq!(rt; fault(alloc, text.as_slice()), Some(ParseFault::TooDeep));
-    let text = repeated(alloc, b"", b"(", 257, b"")?;
-    assert_eq!(rt; fault(alloc, text.as_slice()), Some(ParseFault::TooDeep));
-    let text = repeated(alloc, b"", b"(", 256, b"")?;
-    assert_eq!(rt; fault(alloc, text.as_slice()), Some(ParseFault::Syntax(0)));
-    let text = repeated(alloc, b"", b"- not ", 128, b"-")?;
-    assert_eq!(rt; fault(alloc, text.as_slice()), Some(ParseFault::TooDeep));
-    let text = repeated(alloc, b"", b"- not ", 128, b"")?;
-    assert_eq!(rt; fault(alloc, text.as_slice()), Some(ParseFault::Syntax(0)));
-    Ok(())
-}
-
-#[test]
-fn keeps_the_limits_of_the_tree(rt: HostRuntime) -> Result<(), Fail> {
-    let alloc = rt.alloc();
-    let text = repeated(alloc, b"process p begin print ", b"-", 198, b"1 end")?;
-    assert_eq!(rt; fault(alloc, text.as_slice()), None);
-    let text = repeated(alloc, b"process p begin print ", b"-", 199, b"1 end")?;
-    assert_eq!(rt; fault(alloc, text.as_slice()), Some(ParseFault::TooDeep));
-    let text = repeated(alloc, b"process p begin ", b"x:=1;", 8190, b"x:=-1 end")?;
-    assert_eq!(rt; fault(alloc, text.as_slice()), None);
-    let text = repeated(alloc, b"process p begin ", b"x:=1;", 8191, b"x:=1 end")?;
-    assert_eq!(rt; fault(alloc, text.as_slice()), Some(ParseFault::TooLarge));
-    Ok(())
-}
-
-#[test]
-fn takes_no_room_where_it_refuses(rt: HostRuntime) -> Result<(), Fail> {
-    let alloc = rt.alloc();
-    let none = LocalHeap::new(alloc, 64)?;
-    let text = repeated(alloc, b"process p begin ", b"x:=1;", 8_191, b"x:=1 end")?;
-    let tokens = lex(alloc, text.as_slice())?;
-    assert!(rt; matches!(parse(&none, tokens.as_slice()), Err(ParseFault::TooLarge)));
-    let text = repeated(alloc, b"process p begin print 1", b"+1", 32_000, b" end")?;
-    let tokens = lex(alloc, text.as_slice())?;
-    assert!(rt; matches!(parse(&none, tokens.as_slice()), Err(ParseFault::TooDeep)));
-    let text = repeated(alloc, b"process p begin ", b"x:=1;", 8_000, b" end")?;
-    let tokens = lex(alloc, text.as_slice())?;
-    assert!(rt; matches!(parse(&none, tokens.as_slice()), Err(ParseFault::Syntax(_))));
-    let tokens = lex(alloc, b"process p begin print 1 end")?;
-    assert!(rt; matches!(parse(&none, tokens.as_slice()), Err(ParseFault::NoMemory)));
-    Ok(())
+    let fault = fault_without_room(alloc, b"process p begin ", b"x:=1;", 8_191, b"x:=1 end");
+    assert!(rt; fault == Some(ParseFault::TooLarge));
+    let fault = fault_without_room(alloc, b"process p begin print 1", b"+1", 32_000, b" end");
+    assert!(rt; fault == Some(ParseFault::TooDeep));
+    let fault = fault_without_room(alloc, b"process p begin ", b"x:=1;", 8_000, b" end");
+    assert!(rt; matches!(fault, Some(ParseFault::Syntax(_))));
+    let fault = fault_without_room(alloc, b"process p begin ", b"print 1", 1, b" end");
+    assert!(rt; fault == Some(ParseFault::NoMemory));
 }

@@ -1,5 +1,8 @@
 //! Programs that several of the tests use.
 
+use pb_base::NoMemory;
+use std::alloc::Global;
+
 /// Of `examples/`: each job could wait for the device that the other has.
 #[rattlefmt::skip]
 pub const DEVICES: &[u8] = b"// Two jobs want the same tape and the same disk, in opposite order. Taken one by one, each could end up with one
@@ -221,3 +224,41 @@ begin
 end
 process q begin if 1 and 0 then print 1 else hold 4 of r do skip od fi end",
 ];
+
+/// A text of a head, a piece so many times, and a tail.
+pub fn repeated(
+    alloc: Global,
+    head: &[u8],
+    piece: &[u8],
+    count: usize,
+    tail: &[u8],
+) -> Result<Vec<u8>, NoMemory> {
+    let mut text = Vec::from_slice(alloc, head)?;
+    for _ in 0..count {
+        text.extend_from_slice(piece)?;
+    }
+    text.extend_from_slice(tail)?;
+    Ok(text)
+}
+
+/// So many processes that do nothing.
+pub fn idle(alloc: Global, count: usize) -> Result<Vec<u8>, NoMemory> {
+    let mut text = Vec::new(alloc);
+    for number in 0..count {
+        let process = format!(in alloc; "process p{number} begin skip end\n")?;
+        text.extend_from_slice(process.as_bytes())?;
+    }
+    Ok(text)
+}
+
+/// Four parbegins, of 16 arms each but the last, which has so many and one more.
+pub fn arms(alloc: Global, last: usize) -> Result<Vec<u8>, NoMemory> {
+    let mut text = Vec::from_slice(alloc, b"process p begin ")?;
+    for _turn in 0..3 {
+        let fork = repeated(alloc, b"parbegin ", b"skip;", 15, b"skip parend; ")?;
+        text.extend_from_slice(fork.as_slice())?;
+    }
+    let fork = repeated(alloc, b"parbegin ", b"skip;", last, b"skip parend end")?;
+    text.extend_from_slice(fork.as_slice())?;
+    Ok(text)
+}

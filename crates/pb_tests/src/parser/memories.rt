@@ -1,10 +1,9 @@
 //! The tree of a program is the same in whatever memory it lies.
 
-use super::{places, repeated, texts};
-use crate::texts::{EXAMPLES, PROGRAMS};
+use super::{places, texts};
+use crate::texts::{EXAMPLES, PROGRAMS, arms, idle, repeated};
 use bumpalo::Bump;
 use linked_list_allocator::LocalHeap;
-use pb_base::NoMemory;
 use pb_lexer::lexer::lex;
 use pb_lexer::token::Token;
 use pb_parser::{ParseFault, parse};
@@ -30,28 +29,6 @@ fn assert_same(rt: &(impl Abort + AllocGlobal), heap: &LocalHeap, text: &[u8]) -
     drop(fixed);
     assert_eq!(rt; heap.used(), 0);
     Ok(())
-}
-
-/// So many processes that do nothing.
-fn idle(alloc: Global, count: usize) -> Result<Vec<u8, Global>, NoMemory> {
-    let mut text = Vec::new(alloc);
-    for number in 0..count {
-        let process = format!(in alloc; "process p{number} begin skip end\n")?;
-        text.extend_from_slice(process.as_bytes())?;
-    }
-    Ok(text)
-}
-
-/// Four parbegins, of 16 arms each but the last, which has so many and one more.
-fn arms(alloc: Global, last: usize) -> Result<Vec<u8, Global>, NoMemory> {
-    let mut text = Vec::from_slice(alloc, b"process p begin ")?;
-    for _turn in 0..3 {
-        let fork = repeated(alloc, b"parbegin ", b"skip;", 15, b"skip parend; ")?;
-        text.extend_from_slice(fork.as_slice())?;
-    }
-    let fork = repeated(alloc, b"parbegin ", b"skip;", last, b"skip parend end")?;
-    text.extend_from_slice(fork.as_slice())?;
-    Ok(text)
 }
 
 #[test]
