@@ -1,429 +1,372 @@
-//! Trees built by hand, and their numbered programs or faults.
+//! Programs, and their numbered forms or the faults of their names.
 
 mod memories;
 
+use crate::texts::{arms, idle, repeated};
 use pb_base::{BinaryOp, NoMemory};
+use pb_lexer::lexer::lex;
 use pb_names::{Expr, Kind, NameFault, Resolved, Stmt, is_complete, resolve};
-use pb_tree::{Demand, Name, Number, Process, Program, Resource};
+use pb_parser::parse;
+use pb_tree::Program;
 use std::alloc::Global;
-use std::process::Abort;
-use std::test::Fail;
 
-fn name(alloc: Global, text: &[u8], at: usize) -> Result<Name<Global>, NoMemory> {
-    Ok(Name {
-        text: text.to_vec(alloc)?,
-        at,
-    })
+/// The tree of a text.
+fn tree(alloc: Global, text: &[u8]) -> Option<Program<Global>> {
+    let tokens = lex(alloc, text).ok()?;
+    parse(alloc, tokens.as_slice()).ok()
 }
 
-/// A process with these integers, its name at 8.
-fn process(
-    alloc: Global,
-    text: &[u8],
-    integers: Vec<Name<Global>>,
-    body: Vec<pb_tree::Stmt<Global>>,
-) -> Result<Process<Global>, NoMemory> {
-    Ok(Process {
-        name: name(alloc, text, 8)?,
-        integers,
-        body,
-    })
-}
-
-/// A program of one process named `p`.
-fn program(
-    alloc: Global,
-    integers: Vec<Name<Global>>,
-    body: Vec<pb_tree::Stmt<Global>>,
-) -> Result<Program<Global>, NoMemory> {
-    let mut processes = Vec::new(alloc);
-    processes.push(process(alloc, b"p", integers, body)?)?;
-    Ok(Program {
-        resources: Vec::new(alloc),
-        processes,
-    })
-}
-
-/// Two integers, `x` at 24 and `yy` at 27.
-fn x_and_yy(alloc: Global) -> Result<Vec<Name<Global>>, NoMemory> {
-    let mut integers = Vec::new(alloc);
-    integers.push(name(alloc, b"x", 24)?)?;
-    integers.push(name(alloc, b"yy", 27)?)?;
-    Ok(integers)
-}
-
-/// `target := target + source`, with the places of its three names.
-fn add_to(
-    alloc: Global,
-    target: &[u8],
-    source: &[u8],
-    places: [usize; 3],
-) -> Result<pb_tree::Stmt<Global>, NoMemory> {
-    let left = pb_tree::Expr::Variable(name(alloc, target, places[1])?);
-    let right = pb_tree::Expr::Variable(name(alloc, source, places[2])?);
-    let left = Box::new(alloc, left)?;
-    let right = Box::new(alloc, right)?;
-    Ok(pb_tree::Stmt::Assign {
-        line: 3,
-        target: name(alloc, target, places[0])?,
-        value: pb_tree::Expr::Binary(BinaryOp::Add, left, right),
-    })
-}
-
-/// A list of one statement.
-fn one(alloc: Global, stmt: pb_tree::Stmt<Global>) -> Result<Vec<pb_tree::Stmt<Global>>, NoMemory> {
-    let mut list = Vec::new(alloc);
-    list.push(stmt)?;
-    Ok(list)
-}
-
-/// A parbegin of arms without statements.
-fn fork(alloc: Global, width: usize) -> Result<pb_tree::Stmt<Global>, NoMemory> {
-    let mut arms = Vec::new(alloc);
-    for _ in 0..width {
-        arms.push(Vec::new(alloc))?;
+/// The numbered program of a text, or its fault. There is none if the text has no tree.
+fn numbered(alloc: Global, text: &[u8]) -> Option<Result<Resolved<Global>, NameFault>> {
+    let tree = tree(alloc, text)?;
+    if is_complete(&tree) {
+        Some(resolve(alloc, &tree))
+    } else {
+        None
     }
-    Ok(pb_tree::Stmt::Parbegin { line: 1, arms })
 }
 
-/// A program of parbegins of these widths.
-fn forks(alloc: Global, widths: &[usize]) -> Result<Program<Global>, NoMemory> {
-    let mut body = Vec::new(alloc);
-    for width in widths {
-        body.push(fork(alloc, *width)?)?;
+/// The numbered program of a text that is accepted.
+fn resolved(alloc: Global, text: &[u8]) -> Option<Resolved<Global>> {
+    numbered(alloc, text)?.ok()
+}
+
+/// Whether a text with a tree is accepted, or its fault.
+fn verdict(alloc: Global, text: &[u8]) -> Option<Result<(), NameFault>> {
+    match numbered(alloc, text)? {
+        Ok(_) => Some(Ok(())),
+        Err(fault) => Some(Err(fault)),
     }
-    program(alloc, Vec::new(alloc), body)
-}
-
-/// A pair of a hold, with the places of the amount and of the name.
-fn pair(
-    alloc: Global,
-    amount: i64,
-    resource: &[u8],
-    places: [usize; 2],
-) -> Result<Demand<Global>, NoMemory> {
-    Ok(Demand {
-        amount: Number {
-            value: amount,
-            at: places[0],
-        },
-        resource: name(alloc, resource, places[1])?,
-    })
-}
-
-/// A resource, with the places of its name and its capital.
-fn resource(
-    alloc: Global,
-    text: &[u8],
-    capital: i64,
-    places: [usize; 2],
-) -> Result<Resource<Global>, NoMemory> {
-    Ok(Resource {
-        name: name(alloc, text, places[0])?,
-        capital: Number {
-            value: capital,
-            at: places[1],
-        },
-    })
-}
-
-/// `resource t = 3; resource u = 4; process p begin hold .. do od end`
-fn holding(alloc: Global, demands: Vec<Demand<Global>>) -> Result<Program<Global>, NoMemory> {
-    let hold = pb_tree::Stmt::Hold {
-        line: 2,
-        demands,
-        body: Vec::new(alloc),
-    };
-    let mut program = program(alloc, Vec::new(alloc), one(alloc, hold)?)?;
-    program.resources.push(resource(alloc, b"t", 3, [9, 13])?)?;
-    program.resources.push(resource(alloc, b"u", 4, [25, 29])?)?;
-    Ok(program)
-}
-
-/// The numbered form of a program that has the parts that the grammar asks for.
-fn answer(
-    rt: &(impl Abort + AllocGlobal),
-    program: &Program<Global>,
-) -> Result<Resolved<Global>, NameFault> {
-    assert!(rt; is_complete(program));
-    resolve(rt.alloc(), program)
 }
 
 /// The body of the first process.
-fn body(resolved: &Resolved<Global>) -> Result<&Vec<Stmt<Global>>, Fail> {
-    match resolved.processes.first() {
-        Some(process) => Ok(&process.body),
-        None => Err(Fail::new("no process")),
-    }
-}
-
-/// The first statement of a list.
-fn head(list: &Vec<Stmt<Global>>) -> Result<&Stmt<Global>, Fail> {
-    match list.first() {
-        Some(stmt) => Ok(stmt),
-        None => Err(Fail::new("no statement")),
-    }
+fn body(resolved: &Resolved<Global>) -> Option<&Vec<Stmt<Global>>> {
+    Some(&resolved.processes.first()?.body)
 }
 
 /// The number of the first arm of a parbegin at the head of a list.
-fn first_arm(list: &Vec<Stmt<Global>>) -> Result<u8, Fail> {
-    match head(list)? {
-        Stmt::Parbegin { first, .. } => Ok(*first),
-        _ => Err(Fail::new("no parbegin")),
+fn first_arm(list: &Vec<Stmt<Global>>) -> Option<u8> {
+    match list.first()? {
+        Stmt::Parbegin { first, .. } => Some(*first),
+        _ => None,
     }
 }
 
-fn fault(answer: Result<Resolved<Global>, NameFault>) -> Option<NameFault> {
-    match answer {
-        Ok(_) => None,
-        Err(fault) => Some(fault),
-    }
-}
+/// A program of one assignment.
+const SUM: &[u8] = b"process p begin
+  integer x, yy;
+  yy := yy + x
+end";
 
-#[test]
-fn numbers_names_in_order_of_declaration(rt: HostRuntime) -> Result<(), Fail> {
-    let alloc = rt.alloc();
-    let list = one(alloc, add_to(alloc, b"yy", b"x", [31, 37, 42])?)?;
-    let resolved = answer(&rt, &program(alloc, x_and_yy(alloc)?, list)?)?;
-    assert_eq!(rt; resolved.resources.len(), 0);
-    assert_eq!(rt; resolved.processes.len(), 1);
+/// Whether a program has the one process `p` with two integers, of which the second is `yy`.
+fn has_one_process(resolved: &Resolved<Global>) -> bool {
+    if resolved.resources.len() != 0 || resolved.processes.len() != 1 {
+        return false;
+    }
     let process = &resolved.processes[0];
-    assert!(rt; process.name.as_slice() == b"p".as_slice());
-    assert_eq!(rt; process.integers.len(), 2);
-    assert!(rt; process.integers[1].as_slice() == b"yy".as_slice());
-    let Stmt::Assign {
-        line,
-        target,
-        value,
-    } = head(&process.body)?
-    else {
-        return Err(Fail::new("no assignment"));
-    };
-    assert_eq!(rt; (*line, *target), (3, 1));
-    let Expr::Binary(BinaryOp::Add, left, right) = value else {
-        return Err(Fail::new("no sum"));
-    };
-    assert!(rt; matches!(**left, Expr::Variable(1)));
-    assert!(rt; matches!(**right, Expr::Variable(0)));
-    Ok(())
+    process.name.as_slice() == b"p".as_slice()
+        && process.integers.len() == 2
+        && process.integers[1].as_slice() == b"yy".as_slice()
 }
 
-#[test]
-fn numbers_resources_of_holds(rt: HostRuntime) -> Result<(), Fail> {
-    let alloc = rt.alloc();
-    let mut demands = Vec::new(alloc);
-    demands.push(pair(alloc, 2, b"u", [50, 55])?)?;
-    demands.push(pair(alloc, 1, b"t", [58, 63])?)?;
-    let resolved = answer(&rt, &holding(alloc, demands)?)?;
-    assert_eq!(rt; resolved.resources.len(), 2);
-    assert_eq!(rt; resolved.resources[1].capital, 4);
-    let Stmt::Hold {
-        line,
-        bundle,
-        body: inside,
-    } = head(body(&resolved)?)?
-    else {
-        return Err(Fail::new("no hold"));
-    };
-    assert_eq!(rt; (*line, inside.len()), (2, 0));
-    assert_eq!(rt; bundle.len(), 2);
-    assert_eq!(rt; (bundle.get(0).resource, bundle.get(0).amount), (1, 2));
-    assert_eq!(rt; (bundle.get(1).resource, bundle.get(1).amount), (0, 1));
-    Ok(())
-}
-
-#[test]
-fn numbers_the_arms_of_a_parbegin_before_those_inside(rt: HostRuntime) -> Result<(), Fail> {
-    let alloc = rt.alloc();
-    let mut arms = Vec::new(alloc);
-    arms.push(one(alloc, fork(alloc, 2)?)?)?;
-    arms.push(one(alloc, fork(alloc, 1)?)?)?;
-    let outer = pb_tree::Stmt::Parbegin { line: 1, arms };
-    let resolved = answer(&rt, &program(alloc, Vec::new(alloc), one(alloc, outer)?)?)?;
-    let Stmt::Parbegin { first, arms, .. } = head(body(&resolved)?)? else {
-        return Err(Fail::new("no parbegin"));
-    };
-    assert_eq!(rt; *first, 1);
-    assert_eq!(rt; arms.len(), 2);
-    assert_eq!(rt; first_arm(&arms[0])?, 3);
-    assert_eq!(rt; first_arm(&arms[1])?, 5);
-    Ok(())
-}
-
-#[test]
-fn asks_for_an_arm_a_pair_and_a_process(rt: HostRuntime) -> Result<(), Fail> {
-    let alloc = rt.alloc();
-    assert!(rt; is_complete(&forks(alloc, &[1, 16])?));
-    assert!(rt; !is_complete(&forks(alloc, &[1, 0])?));
-    assert!(rt; !is_complete(&holding(alloc, Vec::new(alloc))?));
-    let nothing = Program {
-        resources: Vec::new(alloc),
-        processes: Vec::new(alloc),
-    };
-    assert!(rt; !is_complete(&nothing));
-    Ok(())
-}
-
-#[test]
-fn tells_the_fault_of_least_place(rt: HostRuntime) -> Result<(), Fail> {
-    let alloc = rt.alloc();
-    let mut twice = x_and_yy(alloc)?;
-    twice.push(name(alloc, b"x", 31)?)?;
-    let list = one(alloc, add_to(alloc, b"x", b"z", [34, 39, 43])?)?;
-    assert!(rt; fault(answer(&rt, &program(alloc, twice, list)?)) == Some(NameFault::Twice(31)));
-    let list = one(alloc, add_to(alloc, b"x", b"x", [16, 21, 25])?)?;
-    let unknown = program(alloc, Vec::new(alloc), list)?;
-    assert!(rt; fault(answer(&rt, &unknown)) == Some(NameFault::Unknown(16)));
-    Ok(())
-}
-
-#[test]
-fn refuses_names_of_other_kinds(rt: HostRuntime) -> Result<(), Fail> {
-    let alloc = rt.alloc();
-    let mut other = program(alloc, x_and_yy(alloc)?, Vec::new(alloc))?;
-    let list = one(alloc, add_to(alloc, b"x", b"x", [60, 65, 69])?)?;
-    other
-        .processes
-        .push(process(alloc, b"q", Vec::new(alloc), list)?)?;
-    assert!(rt; fault(answer(&rt, &other)) == Some(NameFault::Unknown(60)));
-    let mut demands = Vec::new(alloc);
-    demands.push(pair(alloc, 1, b"p", [50, 55])?)?;
-    assert!(rt; fault(answer(&rt, &holding(alloc, demands)?)) == Some(NameFault::Unknown(55)));
-    let mut again = program(alloc, Vec::new(alloc), Vec::new(alloc))?;
-    again
-        .processes
-        .push(process(alloc, b"p", Vec::new(alloc), Vec::new(alloc))?)?;
-    assert!(rt; fault(answer(&rt, &again)) == Some(NameFault::Twice(8)));
-    Ok(())
-}
-
-#[test]
-fn refuses_amounts_out_of_range(rt: HostRuntime) -> Result<(), Fail> {
-    let alloc = rt.alloc();
-    for (amount, told) in [
-        (0, Some(NameFault::Amount(50))),
-        (1, None),
-        (1000000, None),
-        (1000001, Some(NameFault::Amount(50))),
-    ] {
-        let mut demands = Vec::new(alloc);
-        demands.push(pair(alloc, amount, b"t", [50, 55])?)?;
-        assert!(rt; fault(answer(&rt, &holding(alloc, demands)?)) == told);
+/// Whether a value is the sum of integer 1 and integer 0.
+fn is_sum(value: &Expr<Global>) -> bool {
+    match value {
+        Expr::Binary(BinaryOp::Add, left, right) => {
+            matches!(**left, Expr::Variable(1)) && matches!(**right, Expr::Variable(0))
+        }
+        _ => false,
     }
-    for (capital, told) in [
-        (0, None),
-        (1000000, None),
-        (1000001, Some(NameFault::Amount(38))),
-    ] {
-        let mut rich = program(alloc, Vec::new(alloc), Vec::new(alloc))?;
-        rich.resources
-            .push(resource(alloc, b"t", capital, [34, 38])?)?;
-        assert!(rt; fault(answer(&rt, &rich)) == told);
+}
+
+/// Whether a program assigns that sum to integer 1 at line 3.
+fn has_the_sum(resolved: &Resolved<Global>) -> bool {
+    let Some(list) = body(resolved) else {
+        return false;
+    };
+    match list.first() {
+        Some(
+            Stmt::Assign {
+                line: 3,
+                target: 1,
+                value,
+            },
+        ) => is_sum(value),
+        _ => false,
     }
-    Ok(())
 }
 
 #[test]
-fn refuses_a_resource_named_again(rt: HostRuntime) -> Result<(), Fail> {
-    let alloc = rt.alloc();
-    let mut demands = Vec::new(alloc);
-    demands.push(pair(alloc, 1, b"t", [37, 42])?)?;
-    demands.push(pair(alloc, 2, b"t", [45, 50])?)?;
-    assert!(rt; fault(answer(&rt, &holding(alloc, demands)?)) == Some(NameFault::Repeated(50)));
-    let mut demands = Vec::new(alloc);
-    demands.push(pair(alloc, 1, b"v", [37, 42])?)?;
-    demands.push(pair(alloc, 2, b"v", [45, 50])?)?;
-    assert!(rt; fault(answer(&rt, &holding(alloc, demands)?)) == Some(NameFault::Unknown(42)));
-    Ok(())
+fn numbers_names_in_order_of_declaration(rt: HostRuntime) {
+    let Some(resolved) = resolved(rt.alloc(), SUM) else {
+        panic!(rt; "refused")
+    };
+    assert!(rt; has_one_process(&resolved));
+    assert!(rt; has_the_sum(&resolved));
+}
+
+/// A hold of both resources in the other order.
+const HOLD: &[u8] = b"resource t = 3; resource u = 4; process p begin
+  hold 2 of u, 1 of t do skip od
+end";
+
+/// Whether a statement is that hold.
+fn is_hold(stmt: &Stmt<Global>) -> bool {
+    match stmt {
+        Stmt::Hold {
+            line: 2,
+            bundle,
+            body: inside,
+        } => {
+            inside.len() == 0
+                && bundle.len() == 2
+                && (bundle.get(0).resource, bundle.get(0).amount) == (1, 2)
+                && (bundle.get(1).resource, bundle.get(1).amount) == (0, 1)
+        }
+        _ => false,
+    }
+}
+
+/// Whether a program has two resources, of which there are 4 of the second, and that hold.
+fn has_the_hold(resolved: &Resolved<Global>) -> bool {
+    let Some(list) = body(resolved) else {
+        return false;
+    };
+    match list.first() {
+        Some(stmt) => {
+            is_hold(stmt) && resolved.resources.len() == 2 && resolved.resources[1].capital == 4
+        }
+        None => false,
+    }
 }
 
 #[test]
-fn refuses_too_many_processes(rt: HostRuntime) -> Result<(), Fail> {
-    let alloc = rt.alloc();
-    let mut many = program(alloc, Vec::new(alloc), Vec::new(alloc))?;
-    for i in 0..63u8 {
-        let other = process(alloc, &[b'q', i], Vec::new(alloc), Vec::new(alloc))?;
-        many.processes.push(other)?;
+fn numbers_resources_of_holds(rt: HostRuntime) {
+    let Some(resolved) = resolved(rt.alloc(), HOLD) else {
+        panic!(rt; "refused")
+    };
+    assert!(rt; has_the_hold(&resolved));
+}
+
+/// A parbegin in each of the two arms of another.
+const FORKS: &[u8] =
+    b"process p begin parbegin parbegin skip; skip parend; parbegin skip parend parend end";
+
+/// The numbers of the first arms of the outer parbegin and of the two inside.
+fn first_arms(resolved: &Resolved<Global>) -> Option<(u8, u8, u8)> {
+    let Stmt::Parbegin { first, arms, .. } = body(resolved)?.first()? else {
+        return None;
+    };
+    if arms.len() != 2 {
+        return None;
     }
-    let resolved = answer(&rt, &many)?;
-    assert_eq!(rt; resolved.processes.len(), 64);
-    let more = process(alloc, b"r", Vec::new(alloc), Vec::new(alloc))?;
-    many.processes.push(more)?;
-    let told = fault(answer(&rt, &many));
-    assert!(rt; told == Some(NameFault::TooMany(Kind::Processes)));
-    Ok(())
+    Some((*first, first_arm(&arms[0])?, first_arm(&arms[1])?))
 }
 
 #[test]
-fn refuses_too_many_resources_and_integers(rt: HostRuntime) -> Result<(), Fail> {
+fn numbers_the_arms_of_a_parbegin_before_those_inside(rt: HostRuntime) {
+    let Some(resolved) = resolved(rt.alloc(), FORKS) else {
+        panic!(rt; "refused")
+    };
+    assert!(rt; first_arms(&resolved) == Some((1, 3, 5)));
+}
+
+/// Whether the tree of a text is complete without the arms of its second statement, if that is a parbegin, or the
+/// pairs, if it is a hold; else without its processes.
+fn is_complete_without(alloc: Global, text: &[u8]) -> Option<bool> {
+    let mut tree = tree(alloc, text)?;
+    match tree.processes.get_mut(0)?.body.get_mut(1) {
+        Some(pb_tree::Stmt::Parbegin { arms, .. }) => arms.clear(),
+        Some(pb_tree::Stmt::Hold { demands, .. }) => demands.clear(),
+        _ => tree.processes.clear(),
+    }
+    Some(is_complete(&tree))
+}
+
+#[test]
+fn asks_for_an_arm_a_pair_and_a_process(rt: HostRuntime) {
+    let texts: [&[u8]; 3] = [
+        b"process p begin parbegin skip parend; parbegin skip; skip parend end",
+        b"resource t = 1; process p begin print 1; hold 1 of t do skip od end",
+        b"process p begin skip end",
+    ];
+    for text in texts {
+        assert!(rt; verdict(rt.alloc(), text) == Some(Ok(())));
+        assert!(rt; is_complete_without(rt.alloc(), text) == Some(false));
+    }
+}
+
+/// Texts, and whether they are accepted, or the fault of least place.
+const TEXTS: [(&[u8], Result<(), NameFault>); 14] = [
+    // The second `x` is declared twice, and `z` is not declared.
+    (
+        b"process p begin integer x, yy, x; x := x + z end",
+        Err(NameFault::Twice(31)),
+    ),
+    // None of the three is declared.
+    (
+        b"process p begin x := x + x end",
+        Err(NameFault::Unknown(16)),
+    ),
+    // The integers of another process are not declared in this one.
+    (
+        b"process p begin integer x, yy; skip end process q begin x := x + x end",
+        Err(NameFault::Unknown(56)),
+    ),
+    // A process is no resource.
+    (
+        b"resource t = 3; process p begin hold 1 of p do skip od end",
+        Err(NameFault::Unknown(42)),
+    ),
+    (
+        b"process p begin skip end process p begin skip end",
+        Err(NameFault::Twice(33)),
+    ),
+    (
+        b"resource t = 3; process p begin hold 0 of t do skip od end",
+        Err(NameFault::Amount(37)),
+    ),
+    (
+        b"resource t = 3; process p begin hold 1 of t do skip od end",
+        Ok(()),
+    ),
+    (
+        b"resource t = 3; process p begin hold 1000000 of t do skip od end",
+        Ok(()),
+    ),
+    (
+        b"resource t = 3; process p begin hold 1000001 of t do skip od end",
+        Err(NameFault::Amount(37)),
+    ),
+    (b"resource t = 0; process p begin skip end", Ok(())),
+    (b"resource t = 1000000; process p begin skip end", Ok(())),
+    (
+        b"resource t = 1000001; process p begin skip end",
+        Err(NameFault::Amount(13)),
+    ),
+    (
+        b"resource t = 3; process p begin hold 1 of t, 2 of t do skip od end",
+        Err(NameFault::Repeated(50)),
+    ),
+    // The resource that is named again was unknown at its first place.
+    (
+        b"resource t = 3; process p begin hold 1 of v, 2 of v do skip od end",
+        Err(NameFault::Unknown(42)),
+    ),
+];
+
+#[test]
+fn tells_the_fault_of_least_place(rt: HostRuntime) {
+    for (text, told) in TEXTS {
+        assert!(rt; verdict(rt.alloc(), text) == Some(told));
+    }
+}
+
+/// The fault of a text of which there is too much.
+fn too_many(alloc: Global, text: Result<Vec<u8>, NoMemory>) -> Option<Kind> {
+    match verdict(alloc, text.ok()?.as_slice())? {
+        Err(NameFault::TooMany(kind)) => Some(kind),
+        _ => None,
+    }
+}
+
+/// How many processes the numbered program of so many processes has.
+fn processes(alloc: Global, count: usize) -> Option<usize> {
+    let text = idle(alloc, count).ok()?;
+    Some(resolved(alloc, text.as_slice())?.processes.len())
+}
+
+#[test]
+fn refuses_too_many_processes(rt: HostRuntime) {
+    assert!(rt; processes(rt.alloc(), 64) == Some(64));
+    assert!(rt; too_many(rt.alloc(), idle(rt.alloc(), 65)) == Some(Kind::Processes));
+}
+
+/// A process with 65 integers, under so many resources.
+fn integers(alloc: Global, resources: usize) -> Result<Vec<u8>, NoMemory> {
+    let process = repeated(
+        alloc,
+        b"process p begin integer x",
+        b", x",
+        64,
+        b"; skip end",
+    )?;
+    repeated(
+        alloc,
+        b"",
+        b"resource t = 1; ",
+        resources,
+        process.as_slice(),
+    )
+}
+
+#[test]
+fn refuses_too_many_resources_and_integers(rt: HostRuntime) {
+    assert!(rt; too_many(rt.alloc(), integers(rt.alloc(), 0)) == Some(Kind::Integers));
+    assert!(rt; too_many(rt.alloc(), integers(rt.alloc(), 17)) == Some(Kind::Resources));
+}
+
+#[test]
+fn tells_what_there_is_too_much_of(rt: HostRuntime) {
+    let Ok(told) = NameFault::TooMany(Kind::Integers).to_string(rt.alloc()) else {
+        panic!(rt; "out of memory")
+    };
+    assert!(rt; told.as_str() == "too many integers");
+}
+
+#[test]
+fn refuses_too_many_arms(rt: HostRuntime) {
     let alloc = rt.alloc();
-    let mut integers = Vec::new(alloc);
-    for at in 0..65 {
-        integers.push(name(alloc, b"x", at)?)?;
-    }
-    let mut many = program(alloc, integers, Vec::new(alloc))?;
-    let told = fault(answer(&rt, &many));
-    assert!(rt; told == Some(NameFault::TooMany(Kind::Integers)));
-    for at in 0..17 {
-        many.resources.push(resource(alloc, b"t", 1, [at, at])?)?;
-    }
-    let told = fault(answer(&rt, &many));
-    assert!(rt; told == Some(NameFault::TooMany(Kind::Resources)));
-    assert_eq!(rt;
-        NameFault::TooMany(Kind::Integers)
-            .to_string(alloc)?
-            .as_str(),
-        "too many integers"
+    let Ok(text) = arms(alloc, 14) else {
+        panic!(rt; "out of memory")
+    };
+    assert!(rt; verdict(alloc, text.as_slice()) == Some(Ok(())));
+    assert!(rt; too_many(alloc, arms(alloc, 15)) == Some(Kind::Arms));
+    let wide = repeated(
+        alloc,
+        b"process p begin parbegin ",
+        b"skip;",
+        16,
+        b"skip parend end",
     );
-    Ok(())
+    assert!(rt; too_many(alloc, wide) == Some(Kind::Fork));
 }
 
-#[test]
-fn refuses_too_many_arms(rt: HostRuntime) -> Result<(), Fail> {
-    let alloc = rt.alloc();
-    let told = fault(answer(&rt, &forks(alloc, &[16, 16, 16, 15])?));
-    assert!(rt; told.is_none());
-    let told = fault(answer(&rt, &forks(alloc, &[16, 16, 16, 16])?));
-    assert!(rt; told == Some(NameFault::TooMany(Kind::Arms)));
-    let told = fault(answer(&rt, &forks(alloc, &[17])?));
-    assert!(rt; told == Some(NameFault::TooMany(Kind::Fork)));
-    Ok(())
-}
+/// A parbegin of two arms in a loop in a choice, and one of three beside the loop.
+const CHOICE: &[u8] = b"process p begin
+  integer x,
+    yy;
+  if yy then
+    while x do parbegin skip; skip parend od
+  else parbegin skip; skip; skip parend fi
+end";
 
-#[test]
-fn goes_into_loops_and_choices(rt: HostRuntime) -> Result<(), Fail> {
-    let alloc = rt.alloc();
-    let inner = pb_tree::Stmt::While {
-        line: 5,
-        test: pb_tree::Expr::Variable(name(alloc, b"x", 50)?),
-        body: one(alloc, fork(alloc, 2)?)?,
-    };
-    let choice = pb_tree::Stmt::If {
-        line: 4,
-        test: pb_tree::Expr::Variable(name(alloc, b"yy", 40)?),
-        on_true: one(alloc, inner)?,
-        on_false: one(alloc, fork(alloc, 3)?)?,
-    };
-    let list = one(alloc, choice)?;
-    let resolved = answer(&rt, &program(alloc, x_and_yy(alloc)?, list)?)?;
+/// The numbers of the first arms of those parbegins.
+fn arms_inside(resolved: &Resolved<Global>) -> Option<(u8, u8)> {
     let Stmt::If {
         line: 4,
         test: Expr::Variable(1),
         on_true,
         on_false,
-    } = head(body(&resolved)?)?
+    } = body(resolved)?.first()?
     else {
-        return Err(Fail::new("no choice"));
+        return None;
     };
     let Stmt::While {
         line: 5,
         test: Expr::Variable(0),
         body: inside,
-    } = head(on_true)?
+    } = on_true.first()?
     else {
-        return Err(Fail::new("no loop"));
+        return None;
     };
-    assert_eq!(rt; first_arm(inside)?, 1);
-    assert_eq!(rt; first_arm(on_false)?, 3);
-    Ok(())
+    Some((first_arm(inside)?, first_arm(on_false)?))
+}
+
+#[test]
+fn goes_into_loops_and_choices(rt: HostRuntime) {
+    let Some(resolved) = resolved(rt.alloc(), CHOICE) else {
+        panic!(rt; "refused")
+    };
+    assert!(rt; arms_inside(&resolved) == Some((1, 3)));
 }
