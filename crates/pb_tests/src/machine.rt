@@ -5,9 +5,11 @@ ghost use Rattle.pb_machine.specs.Views.{machine_view, IsMachineOf, IsProcessOf}
 
 use pb_base::{Bundle, Capital, Claims, Event, FaultKind, Names, NoMemory, Pick, Step};
 use pb_code::{Code, Instr, ProcessCode};
+use pb_groups::{Group, groups_of_code};
 use pb_machine::{Machine, Proc, ThreadState};
 use pb_verifier::{Verified, verify};
 use std::alloc::Global;
+use std::mem::size_of;
 use std::test::Fail;
 
 /// What a step showed, of the process and the arm.
@@ -438,5 +440,75 @@ fn silent_runs_of_the_machine(rt: HostRuntime) -> Result<(), Fail> {
         return Err(Fail::from(NoMemory));
     };
     assert_eq!(rt; shown(event), Seen::Faulted(0, 0, FaultKind::Overflow));
+    Ok(())
+}
+
+/// How many picks the group at each place of that code makes: a round is two groups, and no group has the jump alone, the
+/// print or the end.
+const COUNTS: [u8; 14] = [4, 3, 2, 1, 5, 4, 3, 2, 0, 3, 2, 1, 0, 0];
+
+/// Whether the group at each place makes as many picks.
+fn have_counts(groups: &[Group], counts: &[u8]) -> bool {
+    if groups.len() != counts.len() {
+        return false;
+    }
+    for (place, group) in groups.iter().enumerate() {
+        if counts.get(place) != Some(&group.count) {
+            return false;
+        }
+    }
+    true
+}
+
+/// Whether verified code has the groups of its first process, and they are those that are found in the code.
+fn have_groups(alloc: Global, verified: &Verified) -> Option<bool> {
+    let code = verified.code();
+    if code.processes.is_empty() {
+        return None;
+    }
+    let tables = groups_of_code(alloc, code).ok()?;
+    let found = tables.as_slice().first()?;
+    Some(have_counts(found.as_slice(), &COUNTS) && have_counts(verified.groups(0), &COUNTS))
+}
+
+/// A group takes 24 bytes at most.
+const _: () = prove!(size_of::<Group>() <= 24);
+
+#[test]
+fn groups_of_a_process(rt: HostRuntime) -> Result<(), Fail> {
+    let alloc = rt.alloc();
+    let Some(verified) = alone(alloc, &[0], &COUNT_AND_OVERFLOW)? else {
+        return Err(Fail::from(NoMemory));
+    };
+    assert!(rt; have_groups(alloc, &verified) == Some(true));
+    Ok(())
+}
+
+/// Whether a copy of the first process that is set to another, seven picks ahead, is in the same state, and was not
+/// before.
+fn takes_over(alloc: Global, verified: &Verified, machine: &Machine) -> Option<bool>
+    requires of { IsMachineOf verified.now machine.now }
+    requires there { 0 < length (machine_view machine.now).processes }
+{
+    let mut spare = apart(alloc, verified, machine).ok()?;
+    let mut ahead = spare.copy(alloc).ok()?;
+    let _ = ahead.run_silent(verified, Pick { process: 0, arm: 0 }, 7);
+    let apart = !spare.same(&ahead);
+    if spare.vars().len() != ahead.vars().len() {
+        return None;
+    }
+    spare.set_to(&ahead);
+    Some(apart && spare.same(&ahead))
+}
+
+#[test]
+fn a_process_is_set_to_another(rt: HostRuntime) -> Result<(), Fail> {
+    let alloc = rt.alloc();
+    let Some(verified) = alone(alloc, &[0], &COUNT_AND_OVERFLOW)? else {
+        return Err(Fail::from(NoMemory));
+    };
+    let machine = Machine::new(alloc, &verified)?;
+    assert!(rt; machine.processes() == 1);
+    assert!(rt; takes_over(alloc, &verified, &machine) == Some(true));
     Ok(())
 }
