@@ -104,6 +104,23 @@ fn run(
     Ok(all)
 }
 
+/// Whether these picks show this, where they are enabled.
+fn shows(
+    alloc: Global,
+    verified: &Verified,
+    machine: &mut Machine,
+    picks: &[Pick],
+    wanted: &[Seen],
+) -> bool
+    requires { IsMachineOf verified.now machine.old }
+    ensures { IsMachineOf verified.now machine.new }
+{
+    match run(alloc, verified, machine, picks) {
+        Ok(all) => all.as_slice() == wanted,
+        Err(_) => false,
+    }
+}
+
 /// What a process holds of a resource, where both are there.
 fn loan(machine: &Machine, p: usize, r: usize) -> Option<u32> {
     let banker = machine.banker();
@@ -128,7 +145,7 @@ fn stands(machine: &Machine, p: usize, arm: usize) -> Option<(ThreadState, Optio
 
 /// Three rounds of two arms, of which one prints the number of the round, and the other ten more.
 #[test]
-fn rounds_of_two_arms(rt: HostRuntime) -> Result<(), Fail> {
+fn rounds_of_two_arms(rt: HostRuntime) {
     let alloc = rt.alloc();
     let instrs = [
         Instr::Load(0),
@@ -152,13 +169,16 @@ fn rounds_of_two_arms(rt: HostRuntime) -> Result<(), Fail> {
         Instr::Print,
         Instr::End,
     ];
-    let Some(verified) = alone(alloc, &[0, 12, 15], &instrs)? else {
-        return Err(Fail::from(NoMemory));
+    let Ok(Some(verified)) = alone(alloc, &[0, 12, 15], &instrs) else {
+        panic!(rt; "refused")
     };
-    let mut machine = Machine::new(alloc, &verified)?;
+    let Ok(mut machine) = Machine::new(alloc, &verified) else {
+        panic!(rt; "out of memory")
+    };
     assert!(rt; !machine.finished());
-    let picks = turns(alloc, 60, 1, 4)?;
-    let all = run(alloc, &verified, &mut machine, &picks)?;
+    let Ok(picks) = turns(alloc, 60, 1, 4) else {
+        panic!(rt; "out of memory")
+    };
     let wanted = [
         Seen::Printed(0, 1, 0),
         Seen::Printed(0, 2, 10),
@@ -168,18 +188,17 @@ fn rounds_of_two_arms(rt: HostRuntime) -> Result<(), Fail> {
         Seen::Printed(0, 2, 12),
         Seen::Finished(0),
     ];
-    assert_eq!(rt; all.as_slice(), wanted.as_slice());
+    assert!(rt; shows(alloc, &verified, &mut machine, &picks, wanted.as_slice()));
     assert!(rt; machine.finished());
     let ended = Some((ThreadState::Ended, None));
     let idle = Some((ThreadState::Idle, None));
-    assert_eq!(rt; stands(&machine, 0, 0), ended);
-    assert_eq!(rt; stands(&machine, 0, 2), idle);
-    Ok(())
+    assert!(rt; stands(&machine, 0, 0) == ended);
+    assert!(rt; stands(&machine, 0, 2) == idle);
 }
 
 /// Two arms hold in the hold of their process.
 #[test]
-fn nested_holds(rt: HostRuntime) -> Result<(), Fail> {
+fn nested_holds(rt: HostRuntime) {
     let alloc = rt.alloc();
     let instrs = [
         Instr::Take(0),
@@ -194,12 +213,15 @@ fn nested_holds(rt: HostRuntime) -> Result<(), Fail> {
         Instr::Give(1),
         Instr::End,
     ];
-    let Some(verified) = alone(alloc, &[0, 5, 8], &instrs)? else {
-        return Err(Fail::from(NoMemory));
+    let Ok(Some(verified)) = alone(alloc, &[0, 5, 8], &instrs) else {
+        panic!(rt; "refused")
     };
-    let mut machine = Machine::new(alloc, &verified)?;
-    let picks = turns(alloc, 3, 1, 3)?;
-    let all = run(alloc, &verified, &mut machine, &picks)?;
+    let Ok(mut machine) = Machine::new(alloc, &verified) else {
+        panic!(rt; "out of memory")
+    };
+    let Ok(picks) = turns(alloc, 3, 1, 3) else {
+        panic!(rt; "out of memory")
+    };
     let wanted = [
         Seen::Granted(0, 0),
         Seen::Granted(0, 1),
@@ -207,19 +229,19 @@ fn nested_holds(rt: HostRuntime) -> Result<(), Fail> {
         Seen::Returned(0, 1),
         Seen::Returned(0, 2),
     ];
-    assert_eq!(rt; all.as_slice(), wanted.as_slice());
-    assert_eq!(rt; loan(&machine, 0, 0), Some(1));
-    let more = turns(alloc, 4, 1, 3)?;
-    let rest = run(alloc, &verified, &mut machine, &more)?;
+    assert!(rt; shows(alloc, &verified, &mut machine, &picks, wanted.as_slice()));
+    assert!(rt; loan(&machine, 0, 0) == Some(1));
+    let Ok(more) = turns(alloc, 4, 1, 3) else {
+        panic!(rt; "out of memory")
+    };
     let last = [Seen::Returned(0, 0), Seen::Finished(0)];
-    assert_eq!(rt; rest.as_slice(), last.as_slice());
-    assert_eq!(rt; loan(&machine, 0, 0), Some(0));
-    Ok(())
+    assert!(rt; shows(alloc, &verified, &mut machine, &more, last.as_slice()));
+    assert!(rt; loan(&machine, 0, 0) == Some(0));
 }
 
 /// One arm divides by zero while the other holds.
 #[test]
-fn a_fault_beside_a_hold(rt: HostRuntime) -> Result<(), Fail> {
+fn a_fault_beside_a_hold(rt: HostRuntime) {
     let alloc = rt.alloc();
     let instrs = [
         Instr::Fork { first: 1, count: 2 },
@@ -234,35 +256,47 @@ fn a_fault_beside_a_hold(rt: HostRuntime) -> Result<(), Fail> {
         Instr::Print,
         Instr::End,
     ];
-    let Some(verified) = alone(alloc, &[0, 3, 6], &instrs)? else {
-        return Err(Fail::from(NoMemory));
+    let Ok(Some(verified)) = alone(alloc, &[0, 3, 6], &instrs) else {
+        panic!(rt; "refused")
     };
-    let mut machine = Machine::new(alloc, &verified)?;
+    let Ok(mut machine) = Machine::new(alloc, &verified) else {
+        panic!(rt; "out of memory")
+    };
     let picks = [
         Pick { process: 0, arm: 0 },
         Pick { process: 0, arm: 1 },
         Pick { process: 0, arm: 2 },
         Pick { process: 0, arm: 2 },
     ];
-    let all = run(alloc, &verified, &mut machine, &picks)?;
-    assert_eq!(rt; all.as_slice(), [Seen::Granted(0, 1)].as_slice());
-    assert_eq!(rt; loan(&machine, 0, 0), Some(2));
+    assert!(rt;
+        shows(
+            alloc,
+            &verified,
+            &mut machine,
+            &picks,
+            [Seen::Granted(0, 1)].as_slice()
+        )
+    );
+    assert!(rt; loan(&machine, 0, 0) == Some(2));
     let later = [
         Pick { process: 0, arm: 2 },
         Pick { process: 0, arm: 1 },
         Pick { process: 0, arm: 0 },
     ];
-    let rest = run(alloc, &verified, &mut machine, &later)?;
-    assert_eq!(rt;
-        rest.as_slice(),
-        [Seen::Faulted(0, 2, FaultKind::Divide)].as_slice()
+    assert!(rt;
+        shows(
+            alloc,
+            &verified,
+            &mut machine,
+            &later,
+            [Seen::Faulted(0, 2, FaultKind::Divide)].as_slice()
+        )
     );
-    assert_eq!(rt; loan(&machine, 0, 0), Some(0));
+    assert!(rt; loan(&machine, 0, 0) == Some(0));
     let idle = Some((ThreadState::Idle, None));
-    assert_eq!(rt; stands(&machine, 0, 0), idle);
-    assert_eq!(rt; stands(&machine, 0, 1), idle);
+    assert!(rt; stands(&machine, 0, 0) == idle);
+    assert!(rt; stands(&machine, 0, 1) == idle);
     assert!(rt; machine.finished());
-    Ok(())
 }
 
 /// Two processes take the two resources in turn, one the first and then the second, the other the other way round.
@@ -297,21 +331,35 @@ fn crossed(alloc: Global) -> Result<Option<Verified>, NoMemory> {
 }
 
 #[test]
-fn a_request_is_refused(rt: HostRuntime) -> Result<(), Fail> {
+fn a_request_is_refused(rt: HostRuntime) {
     let alloc = rt.alloc();
-    let Some(verified) = crossed(alloc)? else {
-        return Err(Fail::from(NoMemory));
+    let Ok(Some(verified)) = crossed(alloc) else {
+        panic!(rt; "refused")
     };
-    let mut machine = Machine::new(alloc, &verified)?;
-    let picks = turns(alloc, 1, 2, 1)?;
-    let all = run(alloc, &verified, &mut machine, &picks)?;
-    assert_eq!(rt; all.as_slice(), [Seen::Granted(0, 0)].as_slice());
+    let Ok(mut machine) = Machine::new(alloc, &verified) else {
+        panic!(rt; "out of memory")
+    };
+    let Ok(picks) = turns(alloc, 1, 2, 1) else {
+        panic!(rt; "out of memory")
+    };
+    assert!(rt;
+        shows(
+            alloc,
+            &verified,
+            &mut machine,
+            &picks,
+            [Seen::Granted(0, 0)].as_slice()
+        )
+    );
     let waiting = Some((ThreadState::Live, Some(0)));
-    assert_eq!(rt; stands(&machine, 1, 0), waiting);
-    assert_eq!(rt; loan(&machine, 1, 1), Some(0));
-    let copy = machine.copy(alloc)?;
-    let again = turns(alloc, 12, 2, 1)?;
-    let rest = run(alloc, &verified, &mut machine, &again)?;
+    assert!(rt; stands(&machine, 1, 0) == waiting);
+    assert!(rt; loan(&machine, 1, 1) == Some(0));
+    let Ok(copy) = machine.copy(alloc) else {
+        panic!(rt; "out of memory")
+    };
+    let Ok(again) = turns(alloc, 12, 2, 1) else {
+        panic!(rt; "out of memory")
+    };
     let wanted = [
         Seen::Granted(0, 0),
         Seen::Returned(0, 0),
@@ -323,11 +371,10 @@ fn a_request_is_refused(rt: HostRuntime) -> Result<(), Fail> {
         Seen::Returned(1, 0),
         Seen::Finished(1),
     ];
-    assert_eq!(rt; rest.as_slice(), wanted.as_slice());
+    assert!(rt; shows(alloc, &verified, &mut machine, &again, wanted.as_slice()));
     assert!(rt; machine.finished());
     assert!(rt; !copy.finished());
-    assert_eq!(rt; loan(&copy, 0, 0), Some(1));
-    Ok(())
+    assert!(rt; loan(&copy, 0, 0) == Some(1));
 }
 
 /// The first process once more, apart from its machine.
@@ -342,7 +389,7 @@ fn apart(alloc: Global, verified: &Verified, machine: &Machine) -> Result<Proc, 
 
 /// Silent picks are made apart from the machine, and those that show something are left to it.
 #[test]
-fn silent_picks_apart(rt: HostRuntime) -> Result<(), Fail> {
+fn silent_picks_apart(rt: HostRuntime) {
     let alloc = rt.alloc();
     let instrs = [
         Instr::Push(1),
@@ -351,25 +398,30 @@ fn silent_picks_apart(rt: HostRuntime) -> Result<(), Fail> {
         Instr::Print,
         Instr::End,
     ];
-    let Some(verified) = alone(alloc, &[0], &instrs)? else {
-        return Err(Fail::from(NoMemory));
+    let Ok(Some(verified)) = alone(alloc, &[0], &instrs) else {
+        panic!(rt; "refused")
     };
-    let mut machine = Machine::new(alloc, &verified)?;
+    let Ok(mut machine) = Machine::new(alloc, &verified) else {
+        panic!(rt; "out of memory")
+    };
     assert!(rt; machine.processes() == 1);
     let pick = Pick { process: 0, arm: 0 };
-    let mut apart = apart(alloc, &verified, &machine)?;
+    let Ok(mut apart) = apart(alloc, &verified, &machine) else {
+        panic!(rt; "out of memory")
+    };
     assert!(rt; apart.same(machine.proc(0)));
     assert!(rt; apart.silent(&verified, pick));
     assert!(rt; apart.silent(&verified, pick));
     assert!(rt; !apart.same(machine.proc(0)));
-    let before = apart.copy(alloc)?;
+    let Ok(before) = apart.copy(alloc) else {
+        panic!(rt; "out of memory")
+    };
     assert!(rt; !apart.silent(&verified, pick));
     assert!(rt; !apart.silent(&verified, Pick { process: 0, arm: 1 }));
     assert!(rt; apart.same(&before));
     machine.set(0, apart);
     assert!(rt; machine.processes() == 1);
     assert!(rt; before.same(machine.proc(0)));
-    Ok(())
 }
 
 /// Counts to three by rounds of nine picks, tests once more by four, puts two operands, and adds them, which overflows.
@@ -393,54 +445,54 @@ const COUNT_AND_OVERFLOW: [Instr; 14] = [
 /// A run stops at its limit, also in the midst of a round, and before the fault, which it leaves to the machine; it
 /// leaves what as many picks leave that are made one by one.
 #[test]
-fn silent_runs_apart(rt: HostRuntime) -> Result<(), Fail> {
+fn silent_runs_apart(rt: HostRuntime) {
     let alloc = rt.alloc();
-    let Some(verified) = alone(alloc, &[0], &COUNT_AND_OVERFLOW)? else {
-        return Err(Fail::from(NoMemory));
+    let Ok(Some(verified)) = alone(alloc, &[0], &COUNT_AND_OVERFLOW) else {
+        panic!(rt; "refused")
     };
-    let machine = Machine::new(alloc, &verified)?;
+    let Ok(machine) = Machine::new(alloc, &verified) else {
+        panic!(rt; "out of memory")
+    };
     assert!(rt; machine.processes() == 1);
     let pick = Pick { process: 0, arm: 0 };
-    let mut run = apart(alloc, &verified, &machine)?;
-    let mut one_by_one = apart(alloc, &verified, &machine)?;
-    assert_eq!(rt; run.run_silent(&verified, pick, 2), 2);
+    let Ok(mut run) = apart(alloc, &verified, &machine) else {
+        panic!(rt; "out of memory")
+    };
+    let Ok(mut one_by_one) = apart(alloc, &verified, &machine) else {
+        panic!(rt; "out of memory")
+    };
+    assert!(rt; run.run_silent(&verified, pick, 2) == 2);
     assert!(rt; one_by_one.silent(&verified, pick));
     assert!(rt; one_by_one.silent(&verified, pick));
     assert!(rt; run.same(&one_by_one));
-    assert_eq!(rt;
-        run.run_silent(&verified, Pick { process: 0, arm: 1 }, 5),
-        0
-    );
-    assert_eq!(rt; run.run_silent(&verified, pick, 30), 30);
+    assert!(rt; run.run_silent(&verified, Pick { process: 0, arm: 1 }, 5) == 0);
+    assert!(rt; run.run_silent(&verified, pick, 30) == 30);
     assert!(rt; !run.same(&one_by_one));
-    assert_eq!(rt; one_by_one.run_silent(&verified, pick, 40), 31);
-    assert_eq!(rt; run.run_silent(&verified, pick, 40), 1);
+    assert!(rt; one_by_one.run_silent(&verified, pick, 40) == 31);
+    assert!(rt; run.run_silent(&verified, pick, 40) == 1);
     assert!(rt; run.same(&one_by_one));
     assert!(rt; !run.silent(&verified, pick));
-    Ok(())
 }
 
 /// The machine makes silent runs of its processes, and faults where a run stopped.
 #[test]
-fn silent_runs_of_the_machine(rt: HostRuntime) -> Result<(), Fail> {
+fn silent_runs_of_the_machine(rt: HostRuntime) {
     let alloc = rt.alloc();
-    let Some(verified) = alone(alloc, &[0], &COUNT_AND_OVERFLOW)? else {
-        return Err(Fail::from(NoMemory));
+    let Ok(Some(verified)) = alone(alloc, &[0], &COUNT_AND_OVERFLOW) else {
+        panic!(rt; "refused")
     };
-    let mut machine = Machine::new(alloc, &verified)?;
+    let Ok(mut machine) = Machine::new(alloc, &verified) else {
+        panic!(rt; "out of memory")
+    };
     let pick = Pick { process: 0, arm: 0 };
-    assert_eq!(rt; machine.run_silent(&verified, pick, 20), 20);
-    assert_eq!(rt; machine.run_silent(&verified, pick, 20), 13);
-    assert_eq!(rt; machine.run_silent(&verified, pick, 20), 0);
-    assert_eq!(rt;
-        machine.run_silent(&verified, Pick { process: 1, arm: 0 }, 20),
-        0
-    );
+    assert!(rt; machine.run_silent(&verified, pick, 20) == 20);
+    assert!(rt; machine.run_silent(&verified, pick, 20) == 13);
+    assert!(rt; machine.run_silent(&verified, pick, 20) == 0);
+    assert!(rt; machine.run_silent(&verified, Pick { process: 1, arm: 0 }, 20) == 0);
     let Step::Did(event) = machine.step(&verified, pick) else {
-        return Err(Fail::from(NoMemory));
+        panic!(rt; "no event")
     };
-    assert_eq!(rt; shown(event), Seen::Faulted(0, 0, FaultKind::Overflow));
-    Ok(())
+    assert!(rt; shown(event) == Seen::Faulted(0, 0, FaultKind::Overflow));
 }
 
 /// How many picks the group at each place of that code makes: a round is two groups, and no group has the jump alone, the
