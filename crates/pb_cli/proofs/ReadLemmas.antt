@@ -5,14 +5,14 @@ use Rattle.clap.specs.Words.{HasKind, IsAmong, Kinds, ReadsOne, Row, Text, Tries
 use Rattle.clap.specs.declared.error.Error.{Error}
 use Rattle.clap.specs.declared.error.kind.ErrorKind.TheVariants.{OutOfMemory}
 use Rattle.clap.proofs.OnLiterals.{clap_on_literals}
-use Rattle.pb_cli.specs.CommandLine.{command_line, with_text_commands, with_code_commands, with_object_commands, check_command, claims_command, emit_command, exec_command, migrate_command, run_command}
+use Rattle.pb_cli.specs.CommandLine.{command_line, with_text_commands, with_code_commands, with_object_commands, with_pick_commands, check_command, claims_command, emit_command, exec_command, migrate_command, replay_command, run_command}
 use Rattle.clap.specs.declared.parser.matches.Found.{Found}
 use Rattle.clap.proofs.WalkLemmas.{one_text-rows}
 use Rattle.pb_object.specs.declared.format.Format.{Format}
 use Rattle.pb_object.specs.declared.format.Format.TheVariants.{One, Two}
 use Rattle.pb_cli.specs.Read.{BlamesWords, HasCheckNumbers, HasEmitNumber, HasNumber, HasNumberIn, HasOptionalNumber, HasRunNumbers, IsReadFrom, IsReadFromMatches, format_number}
 use Rattle.pb_cli.specs.declared.options.Options.{Options}
-use Rattle.pb_cli.specs.declared.options.Options.TheVariants.{Check, Claims, Emit, Exec, Migrate, Run}
+use Rattle.pb_cli.specs.declared.options.Options.TheVariants.{Check, Claims, Emit, Exec, Migrate, Replay, Run}
 use Rattle.pb_engines.specs.declared.options.CheckOptions.{CheckOptions}
 use Rattle.pb_engines.specs.declared.options.EmitOptions.{EmitOptions}
 use Rattle.pb_engines.specs.declared.options.RunOptions.{RunOptions}
@@ -58,6 +58,7 @@ no_check rows none (Exec o) says = let w : codes "check" ≡ codes "exec" = says
 no_check rows none Claims says = let w : codes "check" ≡ codes "claims" = says in cc
 no_check rows none (Emit o) says = let w : codes "check" ≡ codes "emit" = says.0 in cc
 no_check rows none Migrate says = let w : codes "check" ≡ codes "migrate" = says in cc
+no_check rows none Replay says = let w : codes "check" ≡ codes "replay" = says in cc
 no_check rows none (Run o) says = let w : codes "check" ≡ codes "run" = says.0 in cc
 
 pub no_emit : (rows : List Row) → ((o : EmitOptions) → HasEmitNumber rows o → ⊥) → (o : Options)
@@ -68,6 +69,7 @@ no_emit rows none (Emit o) says = none o says.1
 no_emit rows none (Exec o) says =
     let m : 109 ≡ 120 = ap (λ (l : Text). get_or l 1 0) says.0 in omega (arith, m)
 no_emit rows none Migrate says = let w : codes "emit" ≡ codes "migrate" = says in cc
+no_emit rows none Replay says = let w : codes "emit" ≡ codes "replay" = says in cc
 no_emit rows none (Run o) says = let w : codes "emit" ≡ codes "run" = says.0 in cc
 
 pub no_run : (rows : List Row) → ((o : RunOptions) → HasRunNumbers rows o → ⊥) → (o : Options) → IsReadFrom (codes "run") rows o → ⊥
@@ -76,6 +78,7 @@ no_run rows none (Exec o) says = let w : codes "run" ≡ codes "exec" = says.0 i
 no_run rows none Claims says = let w : codes "run" ≡ codes "claims" = says in cc
 no_run rows none (Emit o) says = let w : codes "run" ≡ codes "emit" = says.0 in cc
 no_run rows none Migrate says = let w : codes "run" ≡ codes "migrate" = says in cc
+no_run rows none Replay says = let m : 117 ≡ 101 = ap (λ (l : Text). get_or l 1 0) says in omega (arith, m)
 no_run rows none (Run o) says = none o says.1
 
 pub no_exec : (rows : List Row) → ((o : RunOptions) → HasRunNumbers rows o → ⊥) → (o : Options) → IsReadFrom (codes "exec") rows o → ⊥
@@ -85,6 +88,7 @@ no_exec rows none Claims says = let w : codes "exec" ≡ codes "claims" = says i
 no_exec rows none (Emit o) says =
     let m : 120 ≡ 109 = ap (λ (l : Text). get_or l 1 0) says.0 in omega (arith, m)
 no_exec rows none Migrate says = let w : codes "exec" ≡ codes "migrate" = says in cc
+no_exec rows none Replay says = let w : codes "exec" ≡ codes "replay" = says in cc
 no_exec rows none (Run o) says = let w : codes "exec" ≡ codes "run" = says.0 in cc
 
 -- where neither is read, nothing is
@@ -128,11 +132,11 @@ clap_refused kinds e Memory is memory blames none = blames
 
 -- the matches of this command line are a function of the words
 pub is_simple_command_line : is_simple command_line ≡ true
-unfolding command_line with_text_commands with_code_commands with_object_commands check_command claims_command emit_command exec_command migrate_command run_command clap_on_literals
+unfolding command_line with_text_commands with_code_commands with_object_commands with_pick_commands check_command claims_command emit_command exec_command migrate_command replay_command run_command clap_on_literals
 is_simple_command_line = refl
 
 pub is_free_command_line : is_simple_and_free command_line ≡ true
-unfolding command_line with_text_commands with_code_commands with_object_commands check_command claims_command emit_command exec_command migrate_command run_command clap_on_literals
+unfolding command_line with_text_commands with_code_commands with_object_commands with_pick_commands check_command claims_command emit_command exec_command migrate_command replay_command run_command clap_on_literals
 is_free_command_line = refl
 
 -- a fact that holds anyway holds where there is no value

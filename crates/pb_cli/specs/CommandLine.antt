@@ -33,6 +33,9 @@ exec_command =
 unfoldable pub migrate_command : App
 migrate_command = new_app (codes "migrate")
 
+unfoldable pub replay_command : App
+replay_command = new_app (codes "replay")
+
 unfoldable pub run_command : App
 run_command =
     with_rule (new_app (codes "run")) (number_rule_or (codes "steps") 0 10000000 (codes "1000000"))
@@ -56,11 +59,15 @@ with_code_commands a = with_command (with_command a emit_command) run_command
 unfoldable pub with_object_commands : App → App
 with_object_commands a = with_command (with_command a exec_command) migrate_command
 
+-- the commands over the picks of a run
+unfoldable pub with_pick_commands : App → App
+with_pick_commands a = with_command a replay_command
+
 -- the whole command line
 unfoldable pub command_line : App
 command_line =
-    with_object_commands (with_code_commands (with_text_commands
-    (that_wants_command (new_app (codes "parbegin")))))
+    with_pick_commands (with_object_commands (with_code_commands (with_text_commands
+    (that_wants_command (new_app (codes "parbegin"))))))
 
 -- a command of this form, none of whose options a subcommand inherits
 abbrev pub IsCommand : App → Command → Type 0

@@ -47,6 +47,7 @@ IsReadFrom name rows option.Claims = name ≡ codes "claims"
 IsReadFrom name rows (option.Emit o) = (name ≡ codes "emit") × HasEmitNumber rows o
 IsReadFrom name rows (option.Exec o) = (name ≡ codes "exec") × HasRunNumbers rows o
 IsReadFrom name rows option.Migrate = name ≡ codes "migrate"
+IsReadFrom name rows option.Replay = name ≡ codes "replay"
 IsReadFrom name rows (option.Run o) = (name ≡ codes "run") × HasRunNumbers rows o
 
 -- the same, where the parse entered a subcommand

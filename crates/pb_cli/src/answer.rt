@@ -8,7 +8,8 @@ use crate::options::{Options, WordsFault};
 use crate::read::options;
 use pb_base::device::{Input, Output};
 use pb_engines::{
-    Page, Status, check_engine, claims_engine, emit_engine, exec_engine, migrate_engine, run_engine,
+    Page, Status, check_engine, claims_engine, emit_engine, exec_engine, migrate_engine,
+    replay_engine, run_engine,
 };
 use std::alloc::Global;
 
@@ -31,6 +32,7 @@ pub fn answer<I: Input, O: Output>(
         Ok(Options::Emit(numbers)) => emit_engine(alloc, numbers, input, output),
         Ok(Options::Exec(numbers)) => exec_engine(alloc, numbers, input, output),
         Ok(Options::Migrate) => migrate_engine(alloc, input, output),
+        Ok(Options::Replay) => replay_engine(alloc, input, output),
         Ok(Options::Run(numbers)) => run_engine(alloc, numbers, input, output),
         Err(fault) => refuse(alloc, output, &fault),
     }

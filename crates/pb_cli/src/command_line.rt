@@ -2,8 +2,8 @@
 ghost use Rattle.std.specs.Prelude.{◌≡◌, IfOk, false};
 ghost use Rattle.clap.specs.Words.{app_of, rule_of, with_rule};
 ghost use Rattle.clap.specs.declared.builder.command.Command.TheViews.{out-Command};
-ghost use Rattle.pb_cli.specs.CommandLine.{check_command, claims_command, emit_command, exec_command, migrate_command, number_rule, number_rule_or, run_command, that_wants_command, IsCommand};
-ghost use Rattle.pb_cli.specs.CommandLine.{command_line as whole, with_code_commands, with_command, with_object_commands, with_text_commands};
+ghost use Rattle.pb_cli.specs.CommandLine.{check_command, claims_command, emit_command, exec_command, migrate_command, number_rule, number_rule_or, replay_command, run_command, that_wants_command, IsCommand};
+ghost use Rattle.pb_cli.specs.CommandLine.{command_line as whole, with_code_commands, with_command, with_object_commands, with_pick_commands, with_text_commands};
 
 use clap::builder::ValueParser;
 use clap::{Arg, Command};
@@ -106,6 +106,15 @@ fn migrate_object<'a>(alloc: Global) -> Result<Command<'a>, AllocError>
     ))
 }
 
+#[tactic(auto, unfolding(crate::specs::CommandLine::replay_command))]
+fn replay_picks<'a>(alloc: Global) -> Result<Command<'a>, AllocError>
+    ensures { IfOk result (IsCommand replay_command) }
+{
+    Ok(Command::new(alloc, "replay").about(
+        "Make the picks of the lines that stand behind a program and a line of %% on standard input",
+    ))
+}
+
 #[tactic(auto, unfolding(crate::specs::CommandLine::run_command))]
 fn run_texts<'a>(alloc: Global) -> Result<Command<'a>, AllocError>
     ensures { IfOk result (IsCommand run_command) }
@@ -146,6 +155,13 @@ fn with_objects<'a>(alloc: Global, command: Command<'a>) -> Result<Command<'a>, 
     with_subcommand(command, migrate_object(alloc)?)
 }
 
+#[tactic(auto, unfolding(crate::specs::CommandLine::with_pick_commands))]
+fn with_picks<'a>(alloc: Global, command: Command<'a>) -> Result<Command<'a>, AllocError>
+    ensures { IfOk result (λ c. app_of c ≡ with_pick_commands (app_of command.entry)) }
+{
+    with_subcommand(command, replay_picks(alloc)?)
+}
+
 // The whole command line.
 #[tactic(auto, unfolding(crate::specs::CommandLine::command_line))]
 pub fn command_line<'a>(alloc: Global) -> Result<Command<'a>, AllocError>
@@ -153,5 +169,6 @@ pub fn command_line<'a>(alloc: Global) -> Result<Command<'a>, AllocError>
 {
     let command = wanting_command(Command::new(alloc, "parbegin").bin_name("parbegin")?);
     let command = with_codes(alloc, with_texts(alloc, command)?)?;
-    with_objects(alloc, command)
+    let command = with_objects(alloc, command)?;
+    with_picks(alloc, command)
 }

@@ -10,6 +10,7 @@ pub enum Options {
     Emit(EmitOptions),
     Exec(RunOptions),
     Migrate,
+    Replay,
     Run(RunOptions),
 }
 

@@ -80,6 +80,7 @@ fn read_matches(matches: &ArgMatches<'_>) -> Option<Options>
         "emit" => Some(Options::Emit(emit_options(inner)?)),
         "exec" => Some(Options::Exec(run_options(inner)?)),
         "migrate" => Some(Options::Migrate),
+        "replay" => Some(Options::Replay),
         "run" => Some(Options::Run(run_options(inner)?)),
         _ => None,
     }
@@ -185,8 +186,10 @@ mod tests {
         let alloc = rt.alloc();
         assert_eq!(rt; options(alloc, &["parbegin", "claims"])?, Options::Claims);
         assert_eq!(rt; options(alloc, &["parbegin", "migrate"])?, Options::Migrate);
+        assert_eq!(rt; options(alloc, &["parbegin", "replay"])?, Options::Replay);
         assert!(rt; options(alloc, &["parbegin", "claims", "--steps", "3"]).is_err());
         assert!(rt; options(alloc, &["parbegin", "migrate", "text"]).is_err());
+        assert!(rt; options(alloc, &["parbegin", "replay", "--steps", "3"]).is_err());
         Ok(())
     }
 

@@ -6,6 +6,7 @@ pub mod ExecutionLemmas
 pub mod InputLemmas
 pub mod LoadLemmas
 pub mod PageLemmas
+pub mod ReplayLemmas
 pub mod RunLemmas
 pub mod ScheduleLemmas
 pub mod TextLemmas

@@ -9,6 +9,7 @@ pub mod Loading
 pub mod Migrations
 pub mod Parts
 pub mod Refusals
+pub mod ReplayLines
 pub mod Runs
 pub mod Schedule
 pub mod Statuses

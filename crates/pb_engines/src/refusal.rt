@@ -1,14 +1,17 @@
 //! The line of a text or an object that is refused. A fault that is out of memory has no line: it stays out of memory.
 ghost use Rattle.std.specs.Prelude.{◌≡◌, ◌++◌, IfOk, OnOk, Some};
 ghost use Rattle.std.specs.Fmt.{decimal};
+ghost use Rattle.pb_engines.specs.ReplayLines.{picks_line, stop_line};
 ghost use Rattle.pb_engines.specs.Refusals.{at_place, claims_line, kind_line, lex_line, names_line, object_line, parse_line, verify_line};
 
 use pb_base::NoMemory;
 use pb_codegen::ClaimsFault;
+use pb_history::ReplayFault;
 use pb_lexer::LexFault;
 use pb_names::{Kind, NameFault};
 use pb_object::ObjectFault;
 use pb_parser::ParseFault;
+use pb_picks::PickFault;
 use pb_verifier::VerifyFault;
 use std::alloc::Global;
 
@@ -126,4 +129,25 @@ pub fn verify_text(alloc: Global, fault: VerifyFault) -> Result<Vec<u8>, NoMemor
         VerifyFault::NoMemory => return Err(NoMemory),
     };
     Ok(Vec::from_slice(alloc, text)?)
+}
+
+/// The line of pick lines that are not read, without a line feed.
+pub fn picks_text(alloc: Global, fault: PickFault) -> Result<Vec<u8>, NoMemory>
+    ensures { IfOk result (λ text. picks_line fault ≡ Some text.items) }
+{
+    match fault {
+        PickFault::NotPicks(at) => at_text(alloc, b"refused K1", at),
+        PickFault::TooMany => Ok(Vec::from_slice(alloc, b"refused K2")?),
+        PickFault::NoMemory => Err(NoMemory),
+    }
+}
+
+/// The line of a pick that is not enabled, without a line feed.
+pub fn stop_text(alloc: Global, fault: ReplayFault) -> Result<Vec<u8>, NoMemory>
+    ensures { IfOk result (λ text. stop_line fault ≡ Some text.items) }
+{
+    match fault {
+        ReplayFault::NotEnabled(i) => at_text(alloc, b"refused H1", i as usize),
+        ReplayFault::NoMemory => Err(NoMemory),
+    }
 }

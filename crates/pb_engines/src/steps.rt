@@ -83,8 +83,8 @@ fn tell_next<O: Output>(
     }
 }
 
-// Whether some process has faulted.
-fn has_fault(machine: &Machine) -> bool
+/// Whether some process has faulted.
+pub fn has_fault(machine: &Machine) -> bool
     ensures { IsTrue result ↔ HasFault (machine_view machine.now) }
 {
     for p in 0..machine.processes() {

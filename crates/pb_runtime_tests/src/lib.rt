@@ -1,4 +1,4 @@
-//! Tests of traces, books, stretches and workers, by their public calls, in a crate of their own, since they start
+//! Tests of traces, pick lines, books, stretches and workers, by their public calls, in a crate of their own, since they start
 //! threads.
 #![tactic(auto)]
 
@@ -10,6 +10,8 @@ mod codes;
 mod gates;
 #[cfg(test)]
 mod history;
+#[cfg(test)]
+mod picks;
 #[cfg(test)]
 mod strangers;
 #[cfg(test)]

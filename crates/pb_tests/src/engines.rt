@@ -7,5 +7,6 @@ mod emit;
 mod exec;
 mod migrate;
 mod page;
+mod replay;
 mod run;
 mod status;

@@ -5,7 +5,7 @@ use crate::texts::HELLO;
 use pb_base::device::{FaultyInput, MemoryInput, MemoryOutput};
 use pb_engines::{
     CheckOptions, EmitOptions, RunOptions, Status, check_engine, claims_engine, emit_engine,
-    exec_engine, migrate_engine, run_engine,
+    exec_engine, migrate_engine, replay_engine, run_engine,
 };
 use pb_object::Format;
 use std::process::Abort;
@@ -56,6 +56,15 @@ fn exec_tells_a_failed_read(rt: HostRuntime) -> Result<(), Fail> {
     let mut output = MemoryOutput::new(rt.alloc(), 64)?;
     let options = RunOptions { steps: 7 };
     let status = exec_engine(rt.alloc(), options, &mut input, &mut output);
+    check(&rt, status, &input, &output);
+    Ok(())
+}
+
+#[test]
+fn replay_tells_a_failed_read(rt: HostRuntime) -> Result<(), Fail> {
+    let mut input = FaultyInput::new(HELLO, 2, 8);
+    let mut output = MemoryOutput::new(rt.alloc(), 64)?;
+    let status = replay_engine(rt.alloc(), &mut input, &mut output);
     check(&rt, status, &input, &output);
     Ok(())
 }
