@@ -1,5 +1,5 @@
 -- Picks that are made again, and their events, told one after another.
-use Rattle.std.proofs.Common.{◌≡◌, ℕ, zero, suc, ◌+◌, ◌<◌, ◌≤◌, List, [], ◌∷◌, ◌++◌, length, take, drop, Option, Some, None, All, option_to_list, Result, Ok, Err, IfOk, IfSome, OnErr, refl, sym, ap, ◌∙◌, subst, inl, inr, arith, append_assoc, append-nil, codes}
+use Rattle.std.proofs.Common.{◌≡◌, ℕ, zero, suc, ◌+◌, ◌<◌, ◌≤◌, List, [], ◌∷◌, ◌++◌, length, take, drop, Option, Some, None, All, option_to_list, Result, Ok, Err, IfOk, OnErr, refl, sym, ap, ◌∙◌, subst, inl, inr, arith, append_assoc, append-nil, codes}
 use Rattle.std.proofs.lemmas.Grind.{flat_map-append}
 use Rattle.std.proofs.lemmas.List.{length-map, take_all}
 use Rattle.std.specs.Prelude.{slice_get}
@@ -23,7 +23,6 @@ use Rattle.pb_verifier.specs.Verified.{VerifiedCode, IsVerified}
 use Rattle.pb_engines.specs.Answers.{line, memory_line, Leaves, Says, Tells}
 use Rattle.pb_engines.specs.Inputs.{SaysOfInput, too_long, nothing, not_read, read}
 use Rattle.pb_engines.specs.Inputs as input
-use Rattle.pb_engines.specs.Parts.{IsCutAt}
 use Rattle.pb_engines.specs.Refusals.{SaysOfRefusedText, refused as by_line}
 use Rattle.pb_engines.specs.ReplayLines.{AreReplayed, IsLastLine, IsStatusAt, IsTextWithLines, SaysOfEvents, SaysOfLines, SaysOfReplay, all_told, out_of_memory, refused, no_memory, replayed, no_text, no_picks, made_again}
 use Rattle.pb_engines.specs.Runs.{event_lines}
@@ -99,25 +98,26 @@ pub lines_are_answered : (code : Code) (lines : List ℕ) (reply : Result Reply 
 lines_are_answered code lines (Ok r) old new given is says memory = (r.text.items, r.status, is, says)
 lines_are_answered code lines (Err e) old new given is says memory = (memory_line, Memory, no_memory, memory)
 
--- the first part of an input, and the lines behind it where there are some
-pub cut_in_two : {R : Type 0} (seen : R → List ℕ) (bytes part : List ℕ) (rest : Option R) (r : R) → rest ≡ Some r
-    → IfSome rest (λ r. IsCutAt bytes part (seen r)) → IsTextWithLines bytes part (seen r)
-cut_in_two seen bytes part rest r some cut = inl (subst (λ o. IfSome o (λ r. IsCutAt bytes part (seen r))) some cut)
-
 -- ---- names
+
+-- the event of a pick, if it shows one, and later events
+with_first : (names : NameTable) (event : Option Event) (later : List Event) → ((shown : Event) → event ≡ Some shown → HasNames names shown)
+    → All (HasNames names) later → All (HasNames names) (option_to_list event ++ later)
+with_first names None later named all = all
+with_first names (Some event) later named all = go
+  where
+    go : All (HasNames names) (event ∷ later)
+    go zero d within = named event refl
+    go (suc k) d within = all k d (omega (arith, within))
 
 all_have_names : (v : VerifiedCode) → IsVerified v → (s end : State CodeProcess) (entries : List Entry) → CodeReaches v.code s
     → Leads v.code s entries end → All (HasNames v.code.names) (events_of entries)
-all_have_names v verified s end [] reached h = tt
-all_have_names v verified s end (e ∷ entries) reached (next, moves, rest) = go e.event moves
-  where
-    go : (event : Option Event) → CodeMoves v.code s e.pick event next
-        → All (HasNames v.code.names) (option_to_list event ++ events_of entries)
-    go None m = all_have_names v verified next end entries (reaches_on v.code s next e.pick None reached m) rest
-    go (Some event) m = (
-      events_have_names v verified s reached e.pick event next m,
-      all_have_names v verified next end entries (reaches_on v.code s next e.pick (Some event) reached m) rest,
-    )
+all_have_names v verified s end [] reached h = λ k d within. absurd (omega (arith, within))
+all_have_names v verified s end (e ∷ entries) reached (next, moves, rest) =
+    with_first v.code.names e.event (events_of entries)
+    (λ shown is. events_have_names v verified s reached e.pick shown next
+    (subst (λ (o : Option Event). CodeMoves v.code s e.pick o next) is moves))
+    (all_have_names v verified next end entries (reaches_on v.code s next e.pick e.event reached moves) rest)
 
 -- all that the events of a replay speak of has a name
 pub events_are_named : (v : VerifiedCode) (names : NameTable) (lines : List ℕ) (entries : List Entry) (end : State CodeProcess)

@@ -81,7 +81,12 @@ fn text_and_lines(bytes: &[u8]) -> (&[u8], &[u8])
 }
 
 // Makes the picks that lines say, and says what they show, or writes why they are not made.
-fn replay_lines<O: Output>(alloc: Global, verified: &Verified, lines: &[u8], output: &mut O) -> Status
+fn replay_lines<O: Output>(
+    alloc: Global,
+    verified: &Verified,
+    lines: &[u8],
+    output: &mut O,
+) -> Status
     ensures text { Tells (SaysOfLines verified.now.code lines.now) (O.written output.old) (O.written output.new) result }
     ensures faults { TellsWriteFaults (O.failures output.old) (O.failures output.new) result }
 {

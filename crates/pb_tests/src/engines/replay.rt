@@ -44,10 +44,16 @@ fn updates_are_lost_or_kept(rt: HostRuntime) {
 #[test]
 fn refuses_lines_and_picks(rt: HostRuntime) {
     let table = [
-        (b"p.0 1\np.3 1\n".as_slice(), b"refused K1 at 6\n".as_slice()),
+        (
+            b"p.0 1\np.3 1\n".as_slice(),
+            b"refused K1 at 6\n".as_slice(),
+        ),
         (b"p.0 1\n\n".as_slice(), b"refused K1 at 6\n".as_slice()),
         (b"%%\n".as_slice(), b"refused K1 at 0\n".as_slice()),
-        (b"p.0 10000000\np.0 1\n".as_slice(), b"refused K2\n".as_slice()),
+        (
+            b"p.0 10000000\np.0 1\n".as_slice(),
+            b"refused K2\n".as_slice(),
+        ),
         (b"p.0 2\n".as_slice(), b"refused H1 at 1\n".as_slice()),
     ];
     for (lines, said) in table {
