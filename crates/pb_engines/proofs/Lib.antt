@@ -6,7 +6,9 @@ pub mod ExecutionLemmas
 pub mod InputLemmas
 pub mod LoadLemmas
 pub mod PageLemmas
+pub mod RecordLemmas
 pub mod ReplayLemmas
+pub mod ReplayedRecords
 pub mod RunLemmas
 pub mod ScheduleLemmas
 pub mod TextLemmas

@@ -46,10 +46,10 @@ each_more P xs n x below here p k y within at = elim (cases_lt k n) [
 
 -- ---- one step
 
-pub named : (v : VerifiedCode) (m : Machine) (event : Event) (after : State CodeProcess) (names : NameTable)
-    → IsVerified v → IsMachineOf v m → StepsFirst v.code (machine_view m) (Did event) after → names ≡ v.code.names
+pub named : (v : VerifiedCode) (m : Machine) (pick : Pick) (event : Event) (after : State CodeProcess) (names : NameTable)
+    → IsVerified v → IsMachineOf v m → StepsFirst v.code (machine_view m) (Did pick event) after → names ≡ v.code.names
     → HasNames names event
-named v m event after names verified of (pick, first, moves) same =
+named v m pick event after names verified of (first, moves) same =
     subst (λ n. HasNames n event) (sym same) (events_have_names v verified (machine_view m) of.reached pick event after moves)
 
 pub leaves_all : (w : Option (List ℕ)) (page : List ℕ) → Leaves w w page page
@@ -57,17 +57,17 @@ leaves_all None page = ([], refl, refl)
 leaves_all (Some held) page = ([], refl, ap Some (sym (append-nil held)))
 
 -- silent picks, told by nothing
-pub silent_picks : (code : Code) (before after : State CodeProcess) (made : ℕ) (now : Spoken)
-    → StepsFirst code before (Silent made) after → TellsNext code before after now now (Made made)
-silent_picks code before after zero now (pick, first, (some, moves)) = absurd (omega (arith, some))
-silent_picks code before after (suc n) now (pick, first, (some, (between, silent, last))) =
+pub silent_picks : (code : Code) (before after : State CodeProcess) (pick : Pick) (made : ℕ) (now : Spoken)
+    → StepsFirst code before (Silent pick made) after → TellsNext code before after now now (Made made)
+silent_picks code before after pick zero now (first, some, moves) = absurd (omega (arith, some))
+silent_picks code before after pick (suc n) now (first, some, (between, silent, last)) =
     (pick, None, between, n, omega arith, silent, last, subst (λ (text : List ℕ). Leaves now.written now.written text now.page) (sym (append-nil now.page)) (leaves_all now.written now.page))
 
 -- a pick that shows an event, which is told
-pub shown_pick : (code : Code) (before after : State CodeProcess) (event : Event) (names : NameTable) (old new : Spoken)
-    (r : Progress) → StepsFirst code before (Did event) after → names ≡ code.names → TellsEvent names event old new r
+pub shown_pick : (code : Code) (before after : State CodeProcess) (pick : Pick) (event : Event) (names : NameTable) (old new : Spoken)
+    (r : Progress) → StepsFirst code before (Did pick event) after → names ≡ code.names → TellsEvent names event old new r
     → TellsNext code before after old new r
-shown_pick code before after event names old new r (pick, first, moves) same told =
+shown_pick code before after pick event names old new r (first, moves) same told =
     go r (subst (λ n. TellsEvent n event old new r) same told)
   where
     go : (r : Progress) → TellsEvent code.names event old new r → TellsNext code before after old new r
@@ -96,10 +96,10 @@ one_more_line names events (Some event) =
     flat_map-append (λ e. line (line_of names e)) events (event ∷ [])
     ∙ ap (λ (more : List ℕ). event_lines names events ++ more) (append-nil (line (line_of names event)))
 
-abbrev CodeMakes : Code → List Pick → List Event → State CodeProcess → Type 0
+abbrev pub CodeMakes : Code → List Pick → List Event → State CodeProcess → Type 0
 CodeMakes code picks events after = Makes (bank_of code) (code_step code.processes) (code_opening code) picks events after
 
-makes_last : (code : Code) (events : List Event) (before after : State CodeProcess) (pick : Pick) (event : Option Event)
+pub makes_last : (code : Code) (events : List Event) (before after : State CodeProcess) (pick : Pick) (event : Option Event)
     → (run : Run code events before) → CodeMoves code before pick event after
     → CodeMakes code (run.picks ++ pick ∷ []) (events ++ option_to_list event) after
 makes_last code events before after pick event run moves =

@@ -150,8 +150,8 @@ first_of_all code s mid after n answer below same enabled steps =
     }
 
     go : (answer : Next) → (answer ≡ NotEnabled → ⊥) → StepsFirstOf code s n answer after → StepsFirst code s answer after
-    go (Silent made) enabled (pick, of, arms, moves) = (pick, first pick of arms, moves)
-    go (Did event) enabled (pick, of, arms, moves) = (pick, first pick of arms, moves)
+    go (Silent pick made) enabled (of, arms, some, moves) = (first pick of arms, some, moves)
+    go (Did pick event) enabled (of, arms, moves) = (first pick of arms, moves)
     go NotEnabled enabled steps = absurd (enabled refl)
 
 -- ---- numbers of arms and processes fit a byte

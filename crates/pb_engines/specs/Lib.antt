@@ -8,6 +8,8 @@ pub mod Inputs
 pub mod Loading
 pub mod Migrations
 pub mod Parts
+pub mod RecordLaws
+pub mod Records
 pub mod Refusals
 pub mod ReplayLines
 pub mod Runs

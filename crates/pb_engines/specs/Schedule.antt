@@ -1,5 +1,5 @@
 -- Which pick comes next: the enabled one of the least process, and of its arms of the least.
-use Rattle.std.specs.Prelude.{◌≡◌, ◌<◌, ◌≤◌, ℕ, Some}
+use Rattle.std.specs.Prelude.{◌≡◌, ◌<◌, ◌≤◌, ℕ, Some, ⊤}
 use Rattle.pb_base.specs.declared.pick.Pick.{Pick}
 use Rattle.pb_base.specs.Steppers.{State}
 use Rattle.pb_code.specs.Code.{CodeProcess}
@@ -25,25 +25,36 @@ pub record IsFirst (code : Code) (s : State CodeProcess) (pick : Pick) : Type 0 
 
 -- the pick was made, and if it is silent, with more of its arm; or it is not enabled
 abbrev pub StepsArm : Code → State CodeProcess → Pick → Next → State CodeProcess → Type 0
-StepsArm code before pick (Silent made) after = (1 ≤ made) × MovesSilently code pick made before after
-StepsArm code before pick (Did event) after = CodeMoves code before pick (Some event) after
+StepsArm code before pick (Silent at made) after =
+    (at ≡ pick) × (1 ≤ made) × MovesSilently code pick made before after
+StepsArm code before pick (Did at event) after = (at ≡ pick) × CodeMoves code before pick (Some event) after
 StepsArm code before pick NotEnabled after = CodeStays code before pick × (after ≡ before)
 
 -- the first pick of process p that is enabled was made, and if it is silent, with more of its arm; or none of it is
 abbrev pub StepsFirstOf : Code → State CodeProcess → ℕ → Next → State CodeProcess → Type 0
-StepsFirstOf code before p (Silent made) after =
-    (pick : Pick) × (pick.process ≡ p) × NoArmBelow code before p pick.arm
-    × StepsArm code before pick (Silent made) after
-StepsFirstOf code before p (Did event) after =
-    (pick : Pick) × (pick.process ≡ p) × NoArmBelow code before p pick.arm
-    × CodeMoves code before pick (Some event) after
+StepsFirstOf code before p (Silent pick made) after =
+    (pick.process ≡ p) × NoArmBelow code before p pick.arm × (1 ≤ made) × MovesSilently code pick made before after
+StepsFirstOf code before p (Did pick event) after =
+    (pick.process ≡ p) × NoArmBelow code before p pick.arm × CodeMoves code before pick (Some event) after
 StepsFirstOf code before p NotEnabled after =
     ((pick : Pick) → pick.process ≡ p → CodeStays code before pick) × (after ≡ before)
 
 -- the first pick that is enabled was made, and if it is silent, with more of its arm; or all is done
 abbrev pub StepsFirst : Code → State CodeProcess → Next → State CodeProcess → Type 0
-StepsFirst code before (Silent made) after =
-    (pick : Pick) × IsFirst code before pick × StepsArm code before pick (Silent made) after
-StepsFirst code before (Did event) after =
-    (pick : Pick) × IsFirst code before pick × CodeMoves code before pick (Some event) after
+StepsFirst code before (Silent pick made) after =
+    IsFirst code before pick × (1 ≤ made) × MovesSilently code pick made before after
+StepsFirst code before (Did pick event) after =
+    IsFirst code before pick × CodeMoves code before pick (Some event) after
 StepsFirst code before NotEnabled after = IsDone before × (after ≡ before)
+
+-- some pick that is enabled was made, and if it is silent, with more of its arm; or all is done
+abbrev pub StepsSome : Code → State CodeProcess → Next → State CodeProcess → Type 0
+StepsSome code before (Silent pick made) after = (1 ≤ made) × MovesSilently code pick made before after
+StepsSome code before (Did pick event) after = CodeMoves code before pick (Some event) after
+StepsSome code before NotEnabled after = IsDone before × (after ≡ before)
+
+-- no more silent picks were made than this
+abbrev pub IsWithin : ℕ → Next → Type 0
+IsWithin most (Silent pick made) = made ≤ most
+IsWithin most (Did pick event) = ⊤
+IsWithin most NotEnabled = ⊤

@@ -9,8 +9,8 @@ use crate::status::Status;
 use pb_base::device::{Input, Output, ReadFault, read_whole};
 use std::alloc::Global;
 
-// The greatest length of an input, in bytes.
-const LONGEST_INPUT: usize = 4_194_304;
+/// The greatest length of an input, in bytes.
+pub const LONGEST_INPUT: usize = 4_194_304;
 
 /// The whole input. Where there is none to be had, that is said, and the status of the call is the error.
 pub fn read_input<I: Input, O: Output>(

@@ -3,6 +3,7 @@
 
 mod accept;
 pub mod check;
+mod choice;
 pub mod claims;
 pub mod emit;
 pub mod exec;
@@ -12,6 +13,8 @@ pub mod migrate;
 pub mod options;
 pub mod page;
 mod parts;
+pub mod record;
+pub mod record_laws;
 mod refusal;
 pub mod replay;
 mod reply;
@@ -25,8 +28,9 @@ pub use claims::claims_engine;
 pub use emit::emit_engine;
 pub use exec::exec_engine;
 pub use migrate::migrate_engine;
-pub use options::{CheckOptions, EmitOptions, RunOptions};
+pub use options::{CheckOptions, EmitOptions, RecordOptions, RunOptions};
 pub use page::Page;
+pub use record::record_engine;
 pub use replay::replay_engine;
 pub use run::run_engine;
 pub use status::Status;

@@ -26,3 +26,13 @@ pub struct RunOptions {
     pub steps: u64,
     pub ghost steps_fit: { steps ≤ 10000000 },
 }
+
+/// The options of `record_engine`.
+#[derive(Clone, Copy, Debug, PartialEq, Eq)]
+pub struct RecordOptions {
+    /// The number of picks after which the run stops, at most 10,000,000.
+    pub steps: u64,
+    /// The seed of the generator that draws the picks, if they are to be drawn.
+    pub seed: Option<u64>,
+    pub ghost steps_fit: { steps ≤ 10000000 },
+}

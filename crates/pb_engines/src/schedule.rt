@@ -1,6 +1,6 @@
 //! The plain schedule: each next pick is the enabled one of the least process, and of its arms of the least.
-ghost use Rattle.std.specs.Prelude.{◌≡◌, ◌<◌, ◌≤◌, ℕ, length};
-ghost use Rattle.pb_engines.specs.Schedule.{StepsArm, StepsFirst, StepsFirstOf};
+ghost use Rattle.std.specs.Prelude.{◌≡◌, ◌<◌, ◌≤◌, length};
+ghost use Rattle.pb_engines.specs.Schedule.{IsWithin, StepsArm, StepsFirst, StepsFirstOf};
 ghost use Rattle.pb_machine.specs.Views.{machine_view, IsMachineOf};
 ghost use Rattle.pb_verifier.specs.Verified.{IsVerified};
 
@@ -11,29 +11,29 @@ use pb_verifier::Verified;
 /// What came of the first pick that is enabled.
 #[derive(Clone, Copy)]
 pub enum Next {
-    /// This many picks of its arm were made, at least one, and none shows anything.
-    Silent(u32),
+    /// It and more picks of its arm were made, this many in all, and none shows anything.
+    Silent(Pick, u32),
     /// It was made, and shows this.
-    Did(Event),
+    Did(Pick, Event),
     /// There is none.
     NotEnabled,
 }
 
-// Makes a pick, and if that shows nothing, those behind it of the same arm that show nothing either, at most `max` in
-// all.
-fn step_arm(machine: &mut Machine, verified: &Verified, pick: Pick, max: u32) -> Next
+/// Makes a pick, and if that shows nothing, those behind it of the same arm that show nothing either, at most `max` in
+/// all.
+pub fn step_arm(machine: &mut Machine, verified: &Verified, pick: Pick, max: u32) -> Next
     requires machine { IsMachineOf verified.now machine.old }
     requires max { 1 ≤ max }
     ensures machine { IsMachineOf verified.now machine.new }
     ensures step { StepsArm verified.now.code (machine_view machine.old) pick result (machine_view machine.new) }
-    ensures within { (made : ℕ) → result ≡ Next.Silent made → made ≤ max }
+    ensures within { IsWithin max result }
 {
     match machine.look(verified, pick) {
         Look::Stays => Next::NotEnabled,
-        Look::Silent => Next::Silent(machine.run_silent(verified, pick, max)),
+        Look::Silent => Next::Silent(pick, machine.run_silent(verified, pick, max)),
         Look::Visible => match machine.step(verified, pick) {
-            Step::Silent => Next::Silent(1),
-            Step::Did(event) => Next::Did(event),
+            Step::Silent => Next::Silent(pick, 1),
+            Step::Did(event) => Next::Did(pick, event),
             Step::NotEnabled => Next::NotEnabled,
         },
     }
@@ -48,7 +48,7 @@ fn step_process(machine: &mut Machine, verified: &Verified, process: u8, max: u3
     requires max { 1 ≤ max }
     ensures machine { IsMachineOf verified.now machine.new }
     ensures step { StepsFirstOf verified.now.code (machine_view machine.old) process result (machine_view machine.new) }
-    ensures within { (made : ℕ) → result ≡ Next.Silent made → made ≤ max }
+    ensures within { IsWithin max result }
 {
     for arm in 0..machine.proc(usize::from(process)).arms() {
         let pick = Pick {
@@ -56,8 +56,8 @@ fn step_process(machine: &mut Machine, verified: &Verified, process: u8, max: u3
             arm: arm as u8,
         };
         match step_arm(machine, verified, pick, max) {
-            Next::Silent(made) => return Next::Silent(made),
-            Next::Did(event) => return Next::Did(event),
+            Next::Silent(_, made) => return Next::Silent(pick, made),
+            Next::Did(_, event) => return Next::Did(pick, event),
             Next::NotEnabled => {}
         }
     }
@@ -74,12 +74,12 @@ pub fn step_first(machine: &mut Machine, verified: &Verified, max: u32) -> Next
     requires max { 1 ≤ max }
     ensures machine { IsMachineOf verified.now machine.new }
     ensures step { StepsFirst verified.now.code (machine_view machine.old) result (machine_view machine.new) }
-    ensures within { (made : ℕ) → result ≡ Next.Silent made → made ≤ max }
+    ensures within { IsWithin max result }
 {
     for process in 0..machine.processes() {
         match step_process(machine, verified, process as u8, max) {
-            Next::Silent(made) => return Next::Silent(made),
-            Next::Did(event) => return Next::Did(event),
+            Next::Silent(pick, made) => return Next::Silent(pick, made),
+            Next::Did(pick, event) => return Next::Did(pick, event),
             Next::NotEnabled => {}
         }
     }

@@ -77,8 +77,8 @@ fn tell_next<O: Output>(
 {
     let code = verified.code();
     match step_first(machine, verified, max) {
-        Next::Silent(made) => Progress::Made(made),
-        Next::Did(event) => tell_event(alloc, &code.names, &event, page, output),
+        Next::Silent(_, made) => Progress::Made(made),
+        Next::Did(_, event) => tell_event(alloc, &code.names, &event, page, output),
         Next::NotEnabled => Progress::Finished,
     }
 }

@@ -9,6 +9,7 @@ returns-in-Stays-clause-step c =
 
 pub returns-in-Silent-clause-step : goal.returns-in-Silent-clause-step
 returns-in-Silent-clause-step c = (
+  refl,
   some_made c.args.verified.now.code (machine_view c.args.machine.now) _ c.args.pick c.run_silent.result c.args.max
       (sym c.in-Silent.ensures) c.requires.max c.run_silent.ensures.made c.run_silent.ensures.stops,
   c.run_silent.ensures.made,

@@ -13,7 +13,7 @@ pub returns-in-Did-clause-step : goal.returns-in-Did-clause-step
 returns-in-Did-clause-step c =
     let before = c.loop-process.invariant in
     first_of_all c.args.verified.now.code (machine_view c.args.machine.now) (machine_view c.loop-process.machine) _ c.loop-process.process
-    (Did c.in-Did.event) before.0 before.1 (λ e. cc) c.in-Did.ensures.step
+    (Did c.in-Did.pick c.in-Did.event) before.0 before.1 (λ e. cc) c.in-Did.ensures.step
 
 pub returns-clause-step : goal.returns-clause-step
 returns-clause-step c =

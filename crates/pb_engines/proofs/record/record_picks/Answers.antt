@@ -1,0 +1,18 @@
+use Rattle.pb_engines.proofs.RecordLemmas.{shown_more, silent_more}
+use Rattle.pb_engines.proofs.record.record_picks.Goals as goal
+
+pub loop-left-preserved-in-Silent : goal.loop-left-preserved-in-Silent
+loop-left-preserved-in-Silent c =
+    let before = c.loop-left.invariant in
+    let more = silent_more c.args.verified.now.code c.loop-left.picks.items c.count_pick.new.counted.items _ _ _ c.in-Silent.pick c.in-Silent.made
+    c.loop-left.left c.args.options.steps c.in-Silent.is c.in_ok-pick.ensures.step c.in_ok-pick.ensures.within before.lead before.many
+    c.in_ok-count_pick-in-Silent.ensures.picks in
+    record { lead = more.0; many = more.1; apart = c.in_ok-count_pick-in-Silent.ensures.apart; machine = c.in_ok-pick.ensures.machine }
+
+pub loop-left-preserved : goal.loop-left-preserved
+loop-left-preserved c =
+    let before = c.loop-left.invariant in
+    let more = shown_more c.args.verified.now.code c.loop-left.picks.items c.count_pick-in-Did.new.counted.items _ _ _ c.in-Did.pick c.in-Did.field-1
+    c.loop-left.left c.args.options.steps c.in-Did.is c.in_ok-pick.ensures.step c.loop-left-test.true before.lead before.many
+    c.in_ok-count_pick-in-Did.ensures.picks in
+    record { lead = more.0; many = more.1; apart = c.in_ok-count_pick-in-Did.ensures.apart; machine = c.in_ok-pick.ensures.machine }

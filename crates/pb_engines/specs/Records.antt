@@ -1,0 +1,56 @@
+-- What `record` says of an input, and with which status.
+use Rattle.std.specs.Prelude.{◌≡◌, ◌<◌, ◌≤◌, ◌⊎◌, ◌++◌, ◌-◌, ℕ, List, Some, codes, length, slice_get}
+use Rattle.pb_base.specs.declared.event.Event.{Event}
+use Rattle.pb_base.specs.Lines.{NameTable}
+use Rattle.pb_base.specs.Steppers.{State, Makes}
+use Rattle.pb_code.specs.Code.{CodeProcess, code_step}
+use Rattle.pb_code.specs.Whole.{Code, ProcessLabels, bank_of, code_opening}
+use Rattle.pb_codegen.specs.Compiled.{IsCompiled}
+use Rattle.pb_history.specs.Replays.{spread}
+use Rattle.pb_history.specs.declared.counted.CountedPick.{CountedPick}
+use Rattle.pb_picks.specs.Counted.{AreApart}
+use Rattle.pb_picks.specs.PickLines.{pick_lines}
+use Rattle.pb_engines.specs.Answers.{line}
+use Rattle.pb_engines.specs.Refusals.{SaysOfRefusedText}
+use Rattle.pb_engines.specs.Runs.{IsDone}
+use Rattle.pb_engines.specs.declared.status.Status.{Status}
+use Rattle.pb_engines.specs.declared.status.Status.TheVariants.{Done, Refused}
+
+-- the last byte of the text is a line feed
+abbrev pub EndsLine : List ℕ → Type 0
+EndsLine text = slice_get text (length text - 1) ≡ Some 10
+
+-- the text, with a line feed behind it if it ends in none
+abbrev pub IsEnded : (text ended : List ℕ) → Type 0
+IsEnded text ended = (EndsLine text × (ended ≡ text)) ⊎ ((¬ EndsLine text) × (ended ≡ line text))
+
+-- a text, a line of two percent signs, and the lines of picks
+abbrev pub with_picks : List ℕ → NameTable → List CountedPick → List ℕ
+with_picks text names picks = text ++ (line (codes "%%") ++ pick_lines names.processes picks)
+
+-- picks of a run of the code, each enabled in turn from the start, at most so many; fewer only where all is done. Each
+-- count is as great as can be
+pub record IsRecorded (code : Code) (steps : ℕ) (picks : List CountedPick) : Type 0 where
+  pub events : List Event
+  pub end : State CodeProcess
+  pub makes : Makes (bank_of code) (code_step code.processes) (code_opening code) (spread picks) events end
+  pub few : length (spread picks) ≤ steps
+  pub all : ¬ IsDone end → length (spread picks) ≡ steps
+  pub apart : AreApart picks
+
+-- what is said of the code of a text: the text with the picks of a run; or that this would be too long for an input
+pub data SaysOfRecording (code : Code) (steps : ℕ) (bytes : List ℕ) : List ℕ → Status → Type 0 where
+  written : (ended : List ℕ) (picks : List CountedPick) → IsEnded bytes ended → IsRecorded code steps picks
+      → length (with_picks ended code.names picks) ≤ 4194304
+      → SaysOfRecording code steps bytes (with_picks ended code.names picks) Done
+  too_long : (ended : List ℕ) (picks : List CountedPick) → IsEnded bytes ended → IsRecorded code steps picks
+      → 4194304 < length (with_picks ended code.names picks)
+      → SaysOfRecording code steps bytes (line (codes "refused output")) Refused
+
+-- what is said of a text: it is refused; or it is accepted, and a run of its code is written
+pub data SaysOfRecord (steps : ℕ) (bytes : List ℕ) : List ℕ → Status → Type 0 where
+  refused : (text : List ℕ) (status : Status) → SaysOfRefusedText bytes text status
+      → SaysOfRecord steps bytes text status
+  accepted : (code : Code) (labels : List ProcessLabels) → IsCompiled bytes code labels
+      → (text : List ℕ) (status : Status) → SaysOfRecording code steps bytes text status
+      → SaysOfRecord steps bytes text status

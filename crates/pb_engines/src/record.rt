@@ -1,0 +1,147 @@
+//! The command `record`, over any input and output.
+ghost use Rattle.std.specs.Prelude.{◌≡◌, ◌↔◌, ◌≤◌, ◌⊎◌, IfOk, IfSome, IsTrue, OnOk, length};
+ghost use Rattle.pb_engines.specs.Answers.{Tells};
+ghost use Rattle.pb_engines.specs.Faults.{TellsFaults, TellsWriteFaults};
+ghost use Rattle.pb_engines.specs.Inputs.{SaysOfInput};
+ghost use Rattle.pb_engines.specs.Records.{EndsLine, IsEnded, IsRecorded, SaysOfRecord, SaysOfRecording};
+ghost use Rattle.pb_verifier.specs.Verified.{IsVerified};
+
+use crate::accept::{compile_text, refuse};
+use crate::choice::step_chosen;
+use crate::input::{LONGEST_INPUT, read_input};
+use crate::options::RecordOptions;
+use crate::reply::{Reply, refused, tell};
+use crate::schedule::Next;
+use crate::status::Status;
+use pb_base::NoMemory;
+use pb_base::device::{Input, Output};
+use pb_history::CountedPick;
+use pb_machine::Machine;
+use pb_picks::{count_pick, write_picks};
+use pb_verifier::Verified;
+use rand_pcg::Pcg32;
+use std::alloc::Global;
+
+/// The stream of the generator, which each seed starts at a place of its own.
+const STREAM: u64 = 54;
+
+/// Runs the text that the input holds, and writes what `replay` reads: the text, a line `%%`, and the pick lines of the
+/// run. A text that is refused is answered by its refusal line; if the whole would be longer than an input may be, the
+/// answer is the line `refused output`.
+///
+/// Without a seed the picks are those of `run`; with one each is drawn from those that are enabled. After a read that
+/// failed nothing is written; after a write that failed, a first part of what was being said.
+pub fn record_engine<I: Input, O: Output>(
+    alloc: Global,
+    options: RecordOptions,
+    input: &mut I,
+    output: &mut O,
+) -> Status
+    ensures text { IfSome (I.rest input.old) (λ bytes.
+        Tells (SaysOfInput (SaysOfRecord options.steps) bytes) (O.written output.old) (O.written output.new) result) }
+    ensures faults { TellsFaults
+        (record { reads = I.failures input.old; writes = O.failures output.old; written = O.written output.old })
+        (record { reads = I.failures input.new; writes = O.failures output.new; written = O.written output.new })
+        result }
+{
+    match read_input(alloc, input, output) {
+        Ok(bytes) => record_text(alloc, options, bytes.as_slice(), output),
+        Err(status) => status,
+    }
+}
+
+// Runs a text, and writes it with its picks.
+fn record_text<O: Output>(
+    alloc: Global,
+    options: RecordOptions,
+    text: &[u8],
+    output: &mut O,
+) -> Status
+    requires { length text.now ≤ 4194304 }
+    ensures text { Tells (SaysOfInput (SaysOfRecord options.steps) text.now) (O.written output.old) (O.written output.new) result }
+    ensures faults { TellsWriteFaults (O.failures output.old) (O.failures output.new) result }
+{
+    match compile_text(alloc, text) {
+        Ok(compiled) => tell(
+            alloc,
+            recording(alloc, options, text, compiled.verified()),
+            output,
+        ),
+        Err(refusal) => refuse(alloc, refusal, output),
+    }
+}
+
+// The text and the picks of a run of its code, or the line that they are too long.
+fn recording(
+    alloc: Global,
+    options: RecordOptions,
+    text: &[u8],
+    verified: &Verified,
+) -> Result<Reply, NoMemory>
+    ensures { IfOk result (λ r.
+        SaysOfRecording verified.now.code options.steps text.now r.text.items r.status) }
+{
+    let code = verified.code();
+    let picks = record_picks(alloc, options, verified)?;
+    let mut whole = ended(alloc, text)?;
+    whole.extend_from_slice(b"%%\n")?;
+    write_picks(&mut whole, &code.names, &picks)?;
+    if whole.len() > LONGEST_INPUT {
+        let line = Vec::from_slice(alloc, b"refused output")?;
+        return refused(line);
+    }
+    Ok(Reply {
+        text: whole,
+        status: Status::Done,
+    })
+}
+
+// The text, with a line feed behind it if it ends in none.
+fn ended(alloc: Global, text: &[u8]) -> Result<Vec<u8>, NoMemory>
+    ensures { IfOk result (λ whole. IsEnded text.now whole.items) }
+{
+    let mut whole = Vec::from_slice(alloc, text)?;
+    if !ends_line(text) {
+        whole.push(b'\n')?;
+    }
+    Ok(whole)
+}
+
+// Whether the text ends in a line feed.
+fn ends_line(text: &[u8]) -> bool
+    ensures { IsTrue result ↔ EndsLine text.now }
+{
+    match text.last() {
+        Some(last) => *last == b'\n',
+        None => false,
+    }
+}
+
+// The picks of a run of the code.
+fn record_picks(
+    alloc: Global,
+    options: RecordOptions,
+    verified: &Verified,
+) -> Result<Vec<CountedPick>, NoMemory>
+    requires { IsVerified verified.now }
+    ensures { IfOk result (λ picks. IsRecorded verified.now.code options.steps picks.items) }
+{
+    let mut machine = Machine::new(alloc, verified)?;
+    let mut generator = options.seed.map(|seed| Pcg32::new(seed, STREAM));
+    let mut picks = Vec::new(alloc);
+    let mut left = options.steps as u32;
+    while left > 0 {
+        match step_chosen(alloc, &mut machine, verified, &mut generator, left)? {
+            Next::Silent(pick, made) => {
+                count_pick(&mut picks, pick, made)?;
+                left -= made;
+            }
+            Next::Did(pick, _) => {
+                count_pick(&mut picks, pick, 1)?;
+                left -= 1;
+            }
+            Next::NotEnabled => return Ok(picks),
+        }
+    }
+    Ok(picks)
+}
