@@ -1,3 +1,6 @@
+use Rattle.std.proofs.Common.{subst}
+use Rattle.std.specs.Prelude.{IfOk}
+use Rattle.pb_verifier.specs.Verified.{VerifiedCode}
 use Rattle.pb_engines.specs.Records.{SaysOfRecord, SaysOfRecording, accepted, refused}
 use Rattle.pb_engines.specs.Refusals.{SaysOfRefusedText}
 use Rattle.pb_engines.proofs.InputLemmas.{replied_too, said_too, told_reply}
@@ -10,7 +13,9 @@ returns-in-Ok-clause-text g c =
     let steps = c.args.options.steps in
     told_reply (SaysOfRecord steps) c.args.text.now c.recording.result _ _ c.tell.result c.requires
     (replied_too (SaysOfRecording code steps c.args.text.now) (SaysOfRecord steps c.args.text.now)
-    c.recording.result (accepted code labels c.in-Ok.ensures.compiled) c.recording.ensures)
+    c.recording.result (accepted code labels c.in-Ok.ensures.compiled)
+    (subst (λ (v : VerifiedCode). IfOk c.recording.result (λ r. SaysOfRecording v.code steps c.args.text.now r.text.items r.status)) c.verified.ensures
+    c.recording.ensures))
     c.tell.ensures.said c.tell.ensures.memory
 
 pub returns-in-Err-clause-text : goal.returns-in-Err-clause-text
