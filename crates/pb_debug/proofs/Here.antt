@@ -1,0 +1,60 @@
+-- What is known of a debugger at its position.
+use Rattle.std.proofs.Common.{Vec, Global, ◌≡◌, ℕ, zero, suc, ◌<◌, ℤ, List, [], ◌∷◌, length, map, Some, refl, sym, ap, ◌∙◌, arith}
+use Rattle.std.specs.Prelude.{slice_get}
+use Rattle.std.proofs.lemmas.List.{length-map}
+use Rattle.std.proofs.lemmas.Option.{slice_get_within}
+use Rattle.pb_code.specs.Code.{Thread, Idle, Live, Over, CodeProcess, thread}
+use Rattle.pb_code.specs.declared.labels.ProcessLabels.{ProcessLabels as GivenLabels}
+use Rattle.pb_code.specs.Limits.{FitLabels}
+use Rattle.pb_code.specs.Reached.{CodeReaches}
+use Rattle.pb_code.specs.View.{process_labels_view}
+use Rattle.pb_code.specs.Whole.{ProcessLabels}
+use Rattle.pb_machine.specs.Views.{place_of_thread}
+use Rattle.pb_verifier.proofs.Banking.{kept_reached}
+use Rattle.pb_debug.specs.Value.{Debugging, IsPosition, state_of}
+use Rattle.pb_debug.proofs.Asking.{place_within}
+use Rattle.pb_debug.proofs.Replaying.{position_reached}
+
+-- what a list has at a place within
+pub item : {A : Type 0} (xs : List A) (i : ℕ) → i < length xs → (x : A) × (slice_get xs i ≡ Some x)
+item [] i lt = absurd (omega arith)
+item (x ∷ xs) zero lt = (x, refl)
+item (x ∷ xs) (suc i) lt = item xs i (omega arith)
+
+pub live_at : (t : Thread) (place : ℕ) → Some place ≡ place_of_thread t → (stack : List ℤ) × (t ≡ Live place stack)
+live_at Idle place e = absurd cc
+live_at (Live at stack) place e = let same : place ≡ at = cc in (stack, ap (λ n. Live n stack) (sym same))
+live_at Over place e = absurd cc
+
+module _ (d : Debugging) (h : IsPosition d) where
+  pub reached : CodeReaches d.verified.code (state_of d)
+  reached = position_reached d.verified.code d.picks d.position h.enabled
+
+  pub as_many : length (state_of d).processes ≡ length d.verified.code.processes
+  as_many = (kept_reached d.verified.code h.verified.annotated (state_of d) reached).good.count
+
+  module _ (p : ℕ) (process : CodeProcess) (there : slice_get (state_of d).processes p ≡ Some process) where
+    pub in_code : p < length d.verified.code.processes
+    in_code = let lt = slice_get_within (state_of d).processes p process there in let n = as_many in omega (arith, lt, n)
+
+    pub in_labels : p < length d.labels
+    in_labels = let lt = in_code in omega (arith, lt, h.fit.all)
+
+    -- the place of a live arm has a line, or none
+    pub has_label : (labels : ProcessLabels) → slice_get d.labels p ≡ Some labels → (a place : ℕ)
+        → Some place ≡ place_of_thread (thread process.threads a) → place < length labels.lines
+    has_label labels labels_there a place e =
+        let of = item d.verified.code.processes p in_code in
+        let live = live_at (thread process.threads a) place e in
+        let lt = place_within d.verified h.verified (state_of d) reached p a of.0 process of.1 there place live.0 live.1 in
+        let fit : FitLabels of.0 labels = h.fit.each p of.0 labels of.1 labels_there in
+        omega (arith, lt, fit.lines)
+
+    -- as many names as integers
+    pub named_vars : (l : GivenLabels) → slice_get d.labels p ≡ Some (process_labels_view l) → length l.integers.items ≡ length process.vars
+    named_vars l labels_there =
+        let of = item d.verified.code.processes p in_code in
+        let fit : FitLabels of.0 (process_labels_view l) = h.fit.each p of.0 (process_labels_view l) of.1 labels_there in
+        let vars = ((kept_reached d.verified.code h.verified.annotated (state_of d) reached).good.fit p of.0 process of.1 there).vars in
+        let names : length (map (λ (name : Vec ℕ Global). name.items) l.integers.items) ≡ length l.integers.items = length-map l.integers.items (λ name. name.items) in
+        sym names ∙ (fit.integers.all ∙ sym vars)

@@ -1,0 +1,10 @@
+pub mod Asking
+pub mod Feeding
+pub mod Following
+pub mod Here
+pub mod Lines
+pub mod Replaying
+pub mod Saying
+pub mod Spans
+pub mod Spelling
+pub mod Walking

@@ -1,0 +1,120 @@
+-- The state at each position of a replay, from the one before.
+use Rattle.std.proofs.Common.{◌≡◌, ℕ, zero, suc, ◌+◌, List, [], ◌∷◌, ◌++◌, take, Option, Some, None, option_to_list, refl, sym, ap, ◌∙◌, subst}
+use Rattle.std.specs.Prelude.{slice_get}
+use Rattle.pb_base.specs.declared.event.Event.{Event}
+use Rattle.pb_base.specs.declared.pick.Pick.{Pick}
+use Rattle.pb_base.specs.declared.step.Step.{Step}
+use Rattle.pb_base.specs.declared.step.Step.TheVariants as answer
+use Rattle.pb_base.specs.Steppers.{Bank, State, Stepper, Move, IsGranted, Makes, event_of, move_of}
+use Rattle.pb_code.specs.Code.{CodeProcess, code_step}
+use Rattle.pb_code.specs.Reached.{CodeReaches, CodeMoves, CodeStays}
+use Rattle.pb_code.specs.Whole.{Code, bank_of, code_opening}
+use Rattle.pb_machine.specs.Steps.{IsStep}
+use Rattle.pb_machine.proofs.Growing.{take_at}
+use Rattle.pb_debug.specs.Positions.{next_state, after, state_after, AreEnabled}
+
+pub after-append : {P : Type 0} (step : Stepper P) (s : State P) (xs ys : List Pick)
+    → after step s (xs ++ ys) ≡ after step (after step s xs) ys
+after-append step s [] ys = refl
+after-append step s (x ∷ xs) ys = after-append step (next_state s (move_of step s x)) xs ys
+
+-- picks that are enabled lead to where they are said to lead
+pub makes_after : {P : Type 0} (bank : Bank) (step : Stepper P) (s end : State P) (picks : List Pick) (events : List Event)
+    → Makes bank step s picks events end → after step s picks ≡ end
+makes_after bank step s end [] events h = sym h.1
+makes_after {P = P} bank step s end (pick ∷ picks) events h =
+    ap (λ (o : Option (Move P)). after step (next_state s o) picks) h.1
+    ∙ makes_after bank step h.0.next end picks h.3 h.5
+
+-- what is known of a pick that is enabled in a state
+pub record Enabled {P : Type 0} (bank : Bank) (step : Stepper P) (s : State P) (pick : Pick) : Type 0 where
+  pub move : Move P
+  pub moves : move_of step s pick ≡ Some move
+  pub granted : IsGranted bank s.loans pick.process move.effect
+
+-- each of them is enabled where those before it lead
+pub enabled_at : {P : Type 0} (bank : Bank) (step : Stepper P) (s end : State P) (picks : List Pick) (events : List Event)
+    (i : ℕ) (pick : Pick) → Makes bank step s picks events end → slice_get picks i ≡ Some pick
+    → Enabled bank step (after step s (take i picks)) pick
+enabled_at bank step s end [] events i pick h at = absurd cc
+enabled_at bank step s end (first ∷ picks) events zero pick h at =
+    let same : first ≡ pick = cc in
+    subst (Enabled bank step s) same (record { move = h.0; moves = h.1; granted = h.2 })
+enabled_at {P = P} bank step s end (first ∷ picks) events (suc i) pick h at =
+    subst (λ (o : Option (Move P)). Enabled bank step (after step (next_state s o) (take i picks)) pick) (sym h.1)
+    (enabled_at bank step h.0.next end picks h.3 i pick h.5 at)
+
+module _ (code : Code) (picks : List Pick) where
+  abbrev step : Stepper CodeProcess
+  step = code_step code.processes
+
+  pub state_more : (i : ℕ) (pick : Pick) → slice_get picks i ≡ Some pick
+      → state_after code picks (i + 1) ≡ next_state (state_after code picks i) (move_of step (state_after code picks i) pick)
+  state_more i pick at =
+      ap (after step (code_opening code)) (take_at picks i pick at)
+      ∙ after-append step (code_opening code) (take i picks) (pick ∷ [])
+
+  -- a pick that was made leads to the next position
+  pub moved_more : (i : ℕ) (pick : Pick) (event : Option Event) (next : State CodeProcess)
+      → slice_get picks i ≡ Some pick → CodeMoves code (state_after code picks i) pick event next
+      → next ≡ state_after code picks (i + 1)
+  moved_more i pick event next at m =
+      sym (state_more i pick at ∙ ap (next_state (state_after code picks i)) m.1)
+
+  -- so the next position was reached, unless the pick is not enabled
+  pub stepped_more : (i : ℕ) (pick : Pick) (result : Step) (next : State CodeProcess)
+      → slice_get picks i ≡ Some pick → IsStep code (state_after code picks i) pick result next
+      → (result ≡ answer.NotEnabled → ⊥) → next ≡ state_after code picks (i + 1)
+  stepped_more i pick answer.Silent next at h not = moved_more i pick None next at h
+  stepped_more i pick (answer.Did event) next at h not = moved_more i pick (Some event) next at h
+  stepped_more i pick answer.NotEnabled next at h not = absurd (not refl)
+
+  pub never_stays : AreEnabled code picks → (i : ℕ) (pick : Pick) → slice_get picks i ≡ Some pick
+      → CodeStays code (state_after code picks i) pick → ⊥
+  never_stays all i pick at stays =
+      let e = enabled_at (bank_of code) step (code_opening code) all.end picks all.events i pick all.makes at in
+      stays e.move e.moves e.granted
+
+  -- where all are enabled, no pick is refused
+  pub not_refused : AreEnabled code picks → (i : ℕ) (pick : Pick) (result : Step) (next : State CodeProcess)
+      → slice_get picks i ≡ Some pick → IsStep code (state_after code picks i) pick result next
+      → result ≡ answer.NotEnabled → ⊥
+  not_refused all i pick answer.Silent next at h e = cc
+  not_refused all i pick (answer.Did event) next at h e = cc
+  not_refused all i pick answer.NotEnabled next at h e = never_stays all i pick at h.0
+
+abbrev no_picks : List Pick
+no_picks = []
+
+take_none : (i : ℕ) → take i no_picks ≡ no_picks
+take_none zero = refl
+take_none (suc i) = refl
+
+-- some first picks of enabled ones are enabled, and lead to where they are said to lead
+pub makes_prefix : {P : Type 0} (bank : Bank) (steps : Stepper P) (s end : State P) (picks : List Pick) (events : List Event) (i : ℕ)
+    → Makes bank steps s picks events end
+    → (first : List Event) × Makes bank steps s (take i picks) first (after steps s (take i picks))
+makes_prefix bank steps s end [] events i h =
+    subst (λ (ps : List Pick). (first : List Event) × Makes bank steps s ps first (after steps s ps)) (sym (take_none i)) ([], (refl, refl))
+makes_prefix bank steps s end (pick ∷ picks) events zero h = ([], (refl, refl))
+makes_prefix {P = P} bank steps s end (pick ∷ picks) events (suc i) h =
+    let rest = makes_prefix bank steps h.0.next end picks h.3 i h.5 in
+    let one = option_to_list (event_of pick h.0.effect) in
+    let ends : after steps h.0.next (take i picks) ≡ after steps s (pick ∷ take i picks) =
+    ap (λ (o : Option (Move P)). after steps (next_state s o) (take i picks)) (sym h.1) in (
+      one ++ rest.0,
+      (
+        h.0,
+        h.1,
+        h.2,
+        rest.0,
+        refl,
+        subst (λ (e : State P). Makes bank steps h.0.next (take i picks) rest.0 e) ends rest.1,
+      ),
+    )
+
+-- so the code reaches each position
+pub position_reached : (code : Code) (picks : List Pick) (i : ℕ) → AreEnabled code picks → CodeReaches code (state_after code picks i)
+position_reached code picks i all =
+    let p = makes_prefix (bank_of code) (code_step code.processes) (code_opening code) all.end picks all.events i all.makes in
+    (take i picks, p.0, p.1)

@@ -1,0 +1,32 @@
+-- What a debugger is inside.
+use Rattle.std.specs.Prelude.{◌≡◌, ◌*◌, ◌<◌, ◌≤◌, length}
+use Rattle.pb_code.specs.Limits.{AreLabels}
+use Rattle.pb_code.specs.View.{labels_view}
+use Rattle.pb_history.specs.Entries.{picks_of}
+use Rattle.pb_verifier.specs.Verified.{IsVerified}
+use Rattle.pb_debug.specs.Positions.{AreEnabled, interval_of}
+use Rattle.pb_debug.specs.Value.{Debugging}
+use Rattle.pb_debug.specs.Walks.{AreCheckpoints, Walks}
+use Rattle.pb_debug.specs.declared.debugger.Debugger.TheInside.{Inside}
+
+abbrev pub view_of : Inside → Debugging
+view_of d = record {
+  verified = d.verified.now;
+  labels = labels_view d.labels.now;
+  picks = picks_of d.trace.entries;
+  position = d.walker.at;
+  last_cost = d.last_cost;
+}
+
+-- the code is verified; a machine stands at the position, and one at each multiple of the distance up to the last
+pub record IsSound (d : Inside) : Type 0 where
+  pub verified : IsVerified d.verified.now
+  pub enabled : AreEnabled d.verified.now.code (picks_of d.trace.entries)
+  pub few : length (picks_of d.trace.entries) ≤ 10000000
+  pub within : d.walker.at ≤ length (picks_of d.trace.entries)
+  pub cheap : d.last_cost < interval_of (length (picks_of d.trace.entries))
+  pub fit : AreLabels d.verified.now.code (labels_view d.labels.now)
+  pub interval : d.interval ≡ interval_of (length (picks_of d.trace.entries))
+  pub walks : Walks d.verified.now d.trace.entries d.walker
+  pub checkpoints : AreCheckpoints d.verified.now d.trace.entries d.interval d.checkpoints.items
+  pub enough : length (picks_of d.trace.entries) < length d.checkpoints.items * d.interval

@@ -1,0 +1,60 @@
+-- What a line of a session says.
+use Rattle.std.specs.Prelude.{ℕ, ◌+◌, Bool, false, cond, not, ◌&&◌, ◌||◌, nat_lt, ◌==◌, List, [], ◌∷◌, length, take, drop, codes, Option, Some, None, option_map}
+use Rattle.std.specs.Char.{is_ascii_alphabetic, is_ascii_digit}
+use Rattle.std.specs.List.{list_all, position}
+use Rattle.std.specs.Str.{bytes_eq}
+use Rattle.std.specs.Str.Parse.{digits_value}
+use Rattle.pb_code.specs.Names.{is_name_byte}
+
+pub data Command : Type 0 where
+  To Step Back : (n : ℕ) → Command
+  Vars Threads : (process : List ℕ) → Command
+  Loans : Command
+  Line Why : (process : List ℕ) (arm : ℕ) → Command
+
+-- digits with no zero before others
+abbrev pub is_numeral : List ℕ → Bool
+is_numeral [] = false
+is_numeral (d ∷ ds) = list_all is_ascii_digit (d ∷ ds) && (not (d == 48) || (length ds == 0))
+
+-- one to eight digits, with no zero before others
+abbrev pub number_of : List ℕ → Option ℕ
+number_of word = cond (is_numeral word && nat_lt (length word) 9) (Some (digits_value 10 word)) None
+
+-- a letter, then letters, digits or `_`: what the name of a process looks like
+abbrev pub is_word : List ℕ → Bool
+is_word [] = false
+is_word (b ∷ bs) = is_ascii_alphabetic b && list_all is_name_byte bs
+
+abbrev pub word_of : List ℕ → Option (List ℕ)
+word_of word = cond (is_word word) (Some word) None
+
+-- `P.a`: a process, and the number of an arm
+abbrev pub arm_at : List ℕ → Option ℕ → Option (List ℕ × ℕ)
+arm_at word None = None
+arm_at word (Some dot) =
+    cond (is_word (take dot word)) (option_map (λ arm. (take dot word, arm)) (number_of (drop (dot + 1) word))) None
+
+abbrev pub arm_of : List ℕ → Option (List ℕ × ℕ)
+arm_of word = arm_at word (position (λ b. b == 46) word)
+
+-- a keyword and what it is about
+unfoldable pub keyed : List ℕ → List ℕ → Option Command
+keyed key word =
+    cond (bytes_eq key (codes "to")) (option_map To (number_of word)) (
+    cond (bytes_eq key (codes "step")) (option_map Step (number_of word)) (
+    cond (bytes_eq key (codes "back")) (option_map Back (number_of word)) (
+    cond (bytes_eq key (codes "vars")) (option_map Vars (word_of word)) (
+    cond (bytes_eq key (codes "threads")) (option_map Threads (word_of word)) (
+    cond (bytes_eq key (codes "line")) (option_map (λ p. Line p.0 p.1) (arm_of word)) (
+    cond (bytes_eq key (codes "why")) (option_map (λ p. Why p.0 p.1) (arm_of word)) None))))))
+
+abbrev pub parted : List ℕ → Option ℕ → Option Command
+parted line None = None
+parted line (Some space) = keyed (take space line) (drop (space + 1) line)
+
+-- the command of a line without its line feed, of at most 256 bytes
+unfoldable pub command_of : List ℕ → Option Command
+command_of line =
+    cond (nat_lt 256 (length line)) None (
+    cond (bytes_eq line (codes "loans")) (Some Loans) (parted line (position (λ b. b == 32) line)))

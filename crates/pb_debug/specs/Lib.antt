@@ -1,0 +1,16 @@
+pub mod Answers
+pub mod Asking
+pub mod Buffers
+pub mod Checkpoints
+pub mod Commands
+pub mod Following
+pub mod Positions
+pub mod Refusals
+pub mod Sessions
+pub mod Shown
+pub mod Spellings
+pub mod Texts
+pub mod Value
+pub mod View
+pub mod Walks
+pub mod Whys

@@ -1,0 +1,31 @@
+-- Positions in a run: the state of the code after the first picks of a list, and how far checkpoints are apart.
+use Rattle.std.specs.Prelude.{ℕ, ◌+◌, ◌/◌, max, List, [], ◌∷◌, take, Option, Some, None}
+use Rattle.pb_base.specs.declared.event.Event.{Event}
+use Rattle.pb_base.specs.declared.pick.Pick.{Pick}
+use Rattle.pb_base.specs.Steppers.{State, Stepper, Move, Makes, move_of}
+use Rattle.pb_code.specs.Code.{CodeProcess, code_step}
+use Rattle.pb_code.specs.Whole.{Code, bank_of, code_opening}
+
+-- the state that a pick leads to; one that is not enabled changes nothing
+abbrev pub next_state : {P : Type 0} → State P → Option (Move P) → State P
+next_state s None = s
+next_state s (Some move) = move.next
+
+-- the state that picks lead to, one after another
+abbrev pub after : {P : Type 0} → Stepper P → State P → List Pick → State P
+after step s [] = s
+after step s (pick ∷ picks) = after step (next_state s (move_of step s pick)) picks
+
+-- the state of the code at position i: after the first i picks, from the opening
+abbrev pub state_after : Code → List Pick → ℕ → State CodeProcess
+state_after code picks i = after (code_step code.processes) (code_opening code) (take i picks)
+
+-- each pick is enabled in turn
+pub record AreEnabled (code : Code) (picks : List Pick) : Type 0 where
+  pub events : List Event
+  pub end : State CodeProcess
+  pub makes : Makes (bank_of code) (code_step code.processes) (code_opening code) picks events end
+
+-- how far checkpoints are apart: 4,096 picks, or the number of picks divided by 64, rounded up, if that is more
+abbrev pub interval_of : ℕ → ℕ
+interval_of n = max 4096 ((n + 63) / 64)

@@ -1,0 +1,119 @@
+-- Sessions: the lines of an input, and what is answered to them in turn.
+use Rattle.std.specs.Prelude.{◌≡◌, ◌⊎◌, ℕ, cond, ◌==◌, List, [], ◌∷◌, ◌++◌, take, Option}
+use Rattle.pb_base.specs.Device.{appended, one_more_failure, AddsPrefix}
+use Rattle.pb_debug.specs.Answers.{Answers}
+use Rattle.pb_debug.specs.Buffers.{kept}
+use Rattle.pb_debug.specs.Value.{Debugging}
+use Rattle.pb_debug.specs.declared.fault.DebugFault.{DebugFault}
+use Rattle.pb_debug.specs.declared.fault.DebugFault.TheVariants.{PastEnd, NoProcess, NoArm, BadCommand, NoMemory, Device}
+
+-- lines that a line feed ends, and what stands behind the last
+pub record Cut : Type 0 where
+  pub lines : List (List ℕ)
+  pub rest : List ℕ
+
+abbrev pub one_line_more : List ℕ → Cut → Cut
+one_line_more line c = record { lines = line ∷ c.lines; rest = c.rest }
+
+-- the lines of bytes that come behind the first part of a line
+abbrev pub cut : List ℕ → List ℕ → Cut
+cut part [] = record { lines = []; rest = part }
+cut part (b ∷ bytes) = cond (b == 10) (one_line_more part (cut [] bytes)) (cut (part ++ b ∷ []) bytes)
+
+abbrev pub last_line : List ℕ → List (List ℕ)
+last_line [] = []
+last_line (b ∷ bytes) = (b ∷ bytes) ∷ []
+
+-- all lines of an input; the last line feed may be missing
+abbrev pub lines_of : List ℕ → List (List ℕ)
+lines_of bytes = (cut [] bytes).lines ++ last_line (cut [] bytes).rest
+
+-- the lines are answered in turn by this text, and lead from one position to another
+pub data Session (d : Debugging) : List (List ℕ) → List ℕ → Debugging → Type 0 where
+  nothing : Session d [] [] d
+  one_more : (lines : List (List ℕ)) (text : List ℕ) (mid : Debugging) (line said : List ℕ) (next : Debugging)
+      → Session d lines text mid → Answers mid line said next → Session d (lines ++ line ∷ []) (text ++ said) next
+
+-- the bytes that a session takes from an input
+abbrev pub session_bytes : List ℕ → List ℕ
+session_bytes bytes = take 4194304 bytes
+
+-- all lines are answered and the answers are written
+pub record SaysAll (d : Debugging) (bytes : List ℕ) (old new : Option (List ℕ)) (end : Debugging) : Type 0 where
+  pub text : List ℕ
+  pub session : Session d (lines_of (session_bytes bytes)) text end
+  pub written : new ≡ appended old text
+
+-- how much of its text is written where a session ends early: all if out of memory, a first part if a device
+-- failed
+abbrev pub Leaves : DebugFault → Option (List ℕ) → Option (List ℕ) → List ℕ → Type 0
+Leaves PastEnd old new text = ⊥
+Leaves NoProcess old new text = ⊥
+Leaves NoArm old new text = ⊥
+Leaves BadCommand old new text = ⊥
+Leaves NoMemory old new text = new ≡ appended old text
+Leaves Device old new text = AddsPrefix old new text
+
+-- some first lines are answered, and so much of the answers is written; the debugger stands where the last of these
+-- lines led
+pub record SaysSome (fault : DebugFault) (d : Debugging) (bytes : List ℕ) (old new : Option (List ℕ)) (end : Debugging) : Type 0 where
+  pub lines : List (List ℕ)
+  pub later : List (List ℕ)
+  pub text : List ℕ
+  pub of : lines_of (session_bytes bytes) ≡ lines ++ later
+  pub session : Session d lines text end
+  pub written : Leaves fault old new text
+
+-- ---- parts of a session
+
+-- why an answer was not written, or not whole: out of memory, and nothing was done; or a device failed
+abbrev pub StopsAt : DebugFault → Debugging → List ℕ → Option (List ℕ) → Option (List ℕ) → Debugging → Type 0
+StopsAt PastEnd d line old new next = ⊥
+StopsAt NoProcess d line old new next = ⊥
+StopsAt NoArm d line old new next = ⊥
+StopsAt BadCommand d line old new next = ⊥
+StopsAt NoMemory d line old new next = (next ≡ d) × (new ≡ old)
+StopsAt Device d line old new next = (said : List ℕ) × Answers d line said next × AddsPrefix old new said
+
+-- a line is answered and the answer is written
+abbrev pub IsTold : Debugging → List ℕ → Option (List ℕ) → Option (List ℕ) → Debugging → Type 0
+IsTold d line old new next = (said : List ℕ) × Answers d line said next × (new ≡ appended old said)
+
+-- behind the first part of a line bytes came: the lines that end in them are answered, and so much of the
+-- last one is kept
+pub record Fed (d : Debugging) (part bytes : List ℕ) (old new : Option (List ℕ)) (line : List ℕ) (next : Debugging) : Type 0 where
+  pub text : List ℕ
+  pub session : Session d (cut part bytes).lines text next
+  pub written : new ≡ appended old text
+  pub last : line ≡ kept (cut part bytes).rest
+
+-- some first lines that end in the bytes are answered, and so much of the answers is written
+pub record FedSome (fault : DebugFault) (d : Debugging) (part bytes : List ℕ) (old new : Option (List ℕ)) (next : Debugging) : Type 0 where
+  pub lines : List (List ℕ)
+  pub later : List (List ℕ)
+  pub text : List ℕ
+  pub of : (cut part bytes).lines ≡ lines ++ later
+  pub session : Session d lines text next
+  pub written : Leaves fault old new text
+
+-- ---- failures of devices
+
+-- how many writes have failed, before and after an answer that was not written whole
+abbrev pub CountsWrites : DebugFault → ℕ → ℕ → Type 0
+CountsWrites PastEnd before after = ⊥
+CountsWrites NoProcess before after = ⊥
+CountsWrites NoArm before after = ⊥
+CountsWrites BadCommand before after = ⊥
+CountsWrites NoMemory before after = after ≡ before
+CountsWrites Device before after = after ≡ one_more_failure before
+
+-- how many reads and writes have failed, before and after a session that ended early: one more of them, or out of
+-- memory
+abbrev pub CountsBoth : DebugFault → (reads reads' writes writes' : ℕ) → Type 0
+CountsBoth PastEnd reads reads' writes writes' = ⊥
+CountsBoth NoProcess reads reads' writes writes' = ⊥
+CountsBoth NoArm reads reads' writes writes' = ⊥
+CountsBoth BadCommand reads reads' writes writes' = ⊥
+CountsBoth NoMemory reads reads' writes writes' = (reads' ≡ reads) × (writes' ≡ writes)
+CountsBoth Device reads reads' writes writes' =
+    ((reads' ≡ one_more_failure reads) × (writes' ≡ writes)) ⊎ ((reads' ≡ reads) × (writes' ≡ one_more_failure writes))

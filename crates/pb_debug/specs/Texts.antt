@@ -1,0 +1,105 @@
+-- The lines that a session answers, each with its line feed.
+use Rattle.std.specs.Prelude.{ℕ, zero, suc, ℤ, pos, cond, List, [], ◌∷◌, ◌++◌, length, slice_index, slice_index_or, Option, Some, None, codes, All, ◌<◌, ⊤}
+use Rattle.std.specs.Fmt.{decimal, signed_decimal}
+use Rattle.pb_base.specs.Banker.{BankerState, processes, resources, claim, loan, cash}
+use Rattle.pb_base.specs.Lines.{NameTable, name_of}
+use Rattle.pb_code.specs.Code.{CodeProcess, Thread, Idle, Live, Over, thread}
+use Rattle.pb_debug.specs.declared.fault.DebugFault.{DebugFault}
+use Rattle.pb_debug.specs.declared.fault.DebugFault.TheVariants.{PastEnd, NoProcess, NoArm, BadCommand, NoMemory, Device}
+use Rattle.pb_debug.specs.declared.why.Why.{Why}
+use Rattle.pb_debug.specs.declared.why.Why.TheVariants.{NotAsking, Cash, Order, Rest}
+
+abbrev pub line : List ℕ → List ℕ
+line text = text ++ 10 ∷ []
+
+-- what is said of each number below n, one after another
+abbrev pub each_below : (ℕ → List ℕ) → ℕ → List ℕ
+each_below said zero = []
+each_below said (suc n) = each_below said n ++ said n
+
+-- `at I`
+abbrev pub at_text : ℕ → List ℕ
+at_text i = line (codes "at " ++ decimal i)
+
+-- `NAME V`
+abbrev pub var_text : List ℕ → ℤ → List ℕ
+var_text name value = line (name ++ codes " " ++ signed_decimal value)
+
+abbrev pub vars_text : List (List ℕ) → List ℤ → List ℕ
+vars_text names vars = each_below (λ x. var_text (name_of names x) (slice_index_or vars x (pos 0))) (length vars)
+
+-- where an arm stands
+abbrev pub standing_text : Thread → List ℕ
+standing_text Idle = codes " idle"
+standing_text (Live place stack) = codes " at " ++ decimal place
+standing_text Over = codes " ended"
+
+abbrev pub thread_text : ℕ → Thread → List ℕ
+thread_text a t = line (decimal a ++ standing_text t)
+
+-- `faulted`, or a line for each arm
+abbrev pub threads_text : CodeProcess → List ℕ
+threads_text process =
+    cond process.faulted (line (codes "faulted"))
+    (each_below (λ a. thread_text a (thread process.threads a)) (length process.threads))
+
+-- `P holds K R claim C`
+abbrev pub loan_text : NameTable → BankerState → ℕ → ℕ → List ℕ
+loan_text names s p r = line (
+    name_of names.processes p ++ codes " holds " ++ decimal (loan s p r) ++ codes " "
+    ++ name_of names.resources r ++ codes " claim " ++ decimal (claim s p r))
+
+abbrev pub loans_of : NameTable → BankerState → ℕ → List ℕ
+loans_of names s p = each_below (loan_text names s p) (resources s)
+
+-- `cash K R`
+abbrev pub cash_text : NameTable → ℕ → ℕ → List ℕ
+cash_text names amount r = line (codes "cash " ++ decimal amount ++ codes " " ++ name_of names.resources r)
+
+abbrev pub loans_text : NameTable → BankerState → List ℕ
+loans_text names s =
+    each_below (loans_of names s) (processes s) ++ each_below (λ r. cash_text names (cash s r) r) (resources s)
+
+-- `line N`, `line none`
+abbrev pub number_text : Option ℕ → List ℕ
+number_text None = codes "none"
+number_text (Some n) = decimal n
+
+abbrev pub line_text : Option ℕ → List ℕ
+line_text n = line (codes "line " ++ number_text n)
+
+-- names, each after a space
+abbrev pub names_text : NameTable → List ℕ → List ℕ
+names_text names processes =
+    each_below (λ k. codes " " ++ name_of names.processes (slice_index processes k)) (length processes)
+
+abbrev pub why_text : NameTable → Why → List ℕ
+why_text names NotAsking = line (codes "not asking")
+why_text names (Cash resource amount) = cash_text names amount resource
+why_text names (Order order) = line (codes "order" ++ names_text names order.items)
+why_text names (Rest rest) = line (codes "rest" ++ names_text names rest.items)
+
+-- the refusals of a command
+abbrev pub refusal_text : DebugFault → List ℕ
+refusal_text PastEnd = line (codes "refused G1")
+refusal_text NoProcess = line (codes "refused G2")
+refusal_text NoArm = line (codes "refused G3")
+refusal_text BadCommand = line (codes "refused G4")
+refusal_text NoMemory = []
+refusal_text Device = []
+
+-- a command is refused so, and the session goes on
+abbrev pub IsRefusal : DebugFault → Type 0
+IsRefusal PastEnd = ⊤
+IsRefusal NoProcess = ⊤
+IsRefusal NoArm = ⊤
+IsRefusal BadCommand = ⊤
+IsRefusal NoMemory = ⊥
+IsRefusal Device = ⊥
+
+-- all that a reason speaks of has a name
+abbrev pub HasNamesOf : NameTable → Why → Type 0
+HasNamesOf names NotAsking = ⊤
+HasNamesOf names (Cash resource amount) = resource < length names.resources
+HasNamesOf names (Order order) = All (λ p. p < length names.processes) order.items
+HasNamesOf names (Rest rest) = All (λ p. p < length names.processes) rest.items

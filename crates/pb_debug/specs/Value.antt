@@ -1,0 +1,44 @@
+-- What a contract sees of a debugger.
+use Rattle.std.specs.Prelude.{ℕ, ◌%◌, ◌<◌, ◌≤◌, List, length}
+use Rattle.pb_base.specs.Banker.{BankerState}
+use Rattle.pb_base.specs.declared.pick.Pick.{Pick}
+use Rattle.pb_base.specs.Steppers.{State, banker_state}
+use Rattle.pb_code.specs.Code.{CodeProcess}
+use Rattle.pb_code.specs.Limits.{AreLabels}
+use Rattle.pb_code.specs.Whole.{ProcessLabels, bank_of}
+use Rattle.pb_verifier.specs.Verified.{VerifiedCode, IsVerified}
+use Rattle.pb_debug.specs.Positions.{AreEnabled, state_after, interval_of}
+
+-- the code, its labels and the picks stay; the position moves, and with it the cost of the last move
+pub record Debugging : Type 0 where
+  pub verified : VerifiedCode
+  pub labels : List ProcessLabels
+  pub picks : List Pick
+  pub position : ℕ
+  pub last_cost : ℕ
+
+-- the state of the code at the position
+abbrev pub state_of : Debugging → State CodeProcess
+state_of d = state_after d.verified.code d.picks d.position
+
+-- what the banker knows there
+abbrev pub bank_state : Debugging → BankerState
+bank_state d = banker_state (bank_of d.verified.code) (state_of d).loans
+
+-- the code is verified and all picks are enabled, at most 10,000,000 of them; the position is one of theirs; the last move cost less than
+-- the distance of checkpoints; the labels fit the code
+pub record IsPosition (d : Debugging) : Type 0 where
+  pub verified : IsVerified d.verified
+  pub enabled : AreEnabled d.verified.code d.picks
+  pub few : length d.picks ≤ 10000000
+  pub within : d.position ≤ length d.picks
+  pub cheap : d.last_cost < interval_of (length d.picks)
+  pub fit : AreLabels d.verified.code d.labels
+
+-- before any move
+abbrev pub at_start : VerifiedCode → List ProcessLabels → List Pick → Debugging
+at_start v labels picks = record { verified = v; labels = labels; picks = picks; position = 0; last_cost = 0 }
+
+-- at another position, whose cost is that from the last checkpoint up to it
+abbrev pub moved_to : Debugging → ℕ → Debugging
+moved_to d i = record d { position = i; last_cost = i % interval_of (length d.picks) }

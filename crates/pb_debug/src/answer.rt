@@ -1,0 +1,155 @@
+//! What a session answers to a line.
+
+ghost use Rattle.std.specs.Prelude.{◌≡◌, ◌++◌, ◌<◌, ◌≤◌, ℕ, List, length, map, slice_get, Some, OnOk, OnErr, IfSome, IfNone};
+ghost use Rattle.pb_debug.specs.Answers.{names_of, HasNoName, OfProcess, SaysVars, SaysThreads, SaysLine, SaysWhy};
+ghost use Rattle.pb_debug.specs.Answers.{Answers, AnswersCommand};
+ghost use Rattle.pb_debug.specs.Texts.{at_text, loans_text};
+ghost use Rattle.pb_debug.specs.Value.{IsPosition, bank_state, moved_to, state_of};
+ghost use Rattle.pb_debug.specs.View.{command_view};
+
+use crate::command::{Command, read_command};
+use crate::debugger::Debugger;
+use crate::fault::DebugFault;
+use crate::text::{put_at, put_line, put_loans, put_refusal, put_threads, put_vars, put_why};
+use crate::words::ArmWord;
+use pb_base::NoMemory;
+
+// Returns the number of a name among others.
+fn find_name(names: &[Vec<u8>], word: &[u8]) -> Option<usize>
+    ensures some { IfSome result (λ i. slice_get (map (λ name. name.items) names.now) i ≡ Some word.now) }
+    ensures none { IfNone result ((i : ℕ) → slice_get (map (λ name. name.items) names.now) i ≡ Some word.now → ⊥) }
+{
+    for i in 0..names.len() {
+        if names[i].as_slice() == word {
+            return Some(i);
+        }
+    }
+    None
+}
+
+impl<'c> Debugger<'c> {
+    // Returns the number of the process of this name.
+    fn process(&self, word: &[u8]) -> Option<usize>
+        ensures some { IfSome result (λ p. slice_get (names_of self.now).processes p ≡ Some word.now) }
+        ensures none { IfNone result (HasNoName (names_of self.now) word.now) }
+        ensures within { IfSome result (λ p. p < length (state_of self.now).processes) }
+        ensures placed { IsPosition self.now }
+    {
+        let _ = self.position();
+        find_name(&self.verified.names().processes, word)
+    }
+
+    // Says a position, and goes there. The text is made first, so that the position stays if memory runs out.
+    fn go(&mut self, text: &mut Vec<u8>, position: u32) -> Result<(), NoMemory>
+        requires { position ≤ length self.old.picks }
+        ensures moved { OnOk result (self.new ≡ moved_to self.old position) }
+        ensures text { OnOk result (text.new.items ≡ text.old.items ++ at_text position) }
+        ensures unchanged { OnErr result (self.new ≡ self.old) }
+    {
+        put_at(text, position)?;
+        match self.to(position) {
+            Ok(()) => Ok(()),
+            Err(_) => Err(NoMemory),
+        }
+    }
+
+    fn say_vars(&self, text: &mut Vec<u8>, word: &[u8]) -> Result<(), NoMemory>
+        ensures { OnOk result ((said : List ℕ)
+            × OfProcess (names_of self.now) word.now (SaysVars self.now said) said
+            × (text.new.items ≡ text.old.items ++ said)) }
+    {
+        let Some(p) = self.process(word) else {
+            return put_refusal(text, DebugFault::NoProcess);
+        };
+        let Ok(vars) = self.vars(p) else {
+            unreachable!()
+        };
+        put_vars(text, &self.labels.processes[p].integers, vars)
+    }
+
+    fn say_threads(&self, text: &mut Vec<u8>, word: &[u8]) -> Result<(), NoMemory>
+        ensures { OnOk result ((said : List ℕ)
+            × OfProcess (names_of self.now) word.now (SaysThreads self.now said) said
+            × (text.new.items ≡ text.old.items ++ said)) }
+    {
+        let Some(p) = self.process(word) else {
+            return put_refusal(text, DebugFault::NoProcess);
+        };
+        let Ok(process) = self.threads(p) else {
+            unreachable!()
+        };
+        put_threads(text, process)
+    }
+
+    fn say_loans(&self, text: &mut Vec<u8>) -> Result<(), NoMemory>
+        ensures { OnOk result (text.new.items ≡ text.old.items ++ loans_text (names_of self.now) (bank_state self.now)) }
+    {
+        put_loans(text, self.verified.names(), self.loans())
+    }
+
+    fn say_line(&self, text: &mut Vec<u8>, word: ArmWord) -> Result<(), NoMemory>
+        ensures { OnOk result ((said : List ℕ)
+            × OfProcess (names_of self.now) word.entry.process.now (SaysLine self.now word.entry.arm said) said
+            × (text.new.items ≡ text.old.items ++ said)) }
+    {
+        let Some(p) = self.process(word.process) else {
+            return put_refusal(text, DebugFault::NoProcess);
+        };
+        match self.line(p, word.arm as usize) {
+            Ok(line) => put_line(text, line),
+            Err(_) => put_refusal(text, DebugFault::NoArm),
+        }
+    }
+
+    fn say_why(&self, text: &mut Vec<u8>, word: ArmWord) -> Result<(), NoMemory>
+        ensures { OnOk result ((said : List ℕ)
+            × OfProcess (names_of self.now) word.entry.process.now (SaysWhy self.now word.entry.arm said) said
+            × (text.new.items ≡ text.old.items ++ said)) }
+    {
+        let Some(p) = self.process(word.process) else {
+            return put_refusal(text, DebugFault::NoProcess);
+        };
+        match self.why(p, word.arm as usize) {
+            Ok(why) => put_why(text, self.verified.names(), &why),
+            Err(DebugFault::NoMemory) => Err(NoMemory),
+            Err(_) => put_refusal(text, DebugFault::NoArm),
+        }
+    }
+
+    // Carries out a command, and puts its answer behind a text.
+    fn carry_out(&mut self, text: &mut Vec<u8>, command: Command) -> Result<(), NoMemory>
+        ensures answer { OnOk result ((said : List ℕ)
+            × AnswersCommand self.old (command_view command.entry) said self.new
+            × (text.new.items ≡ text.old.items ++ said)) }
+        ensures unchanged { OnErr result (self.new ≡ self.old) }
+    {
+        let last = self.len();
+        let position = self.position();
+        match command {
+            Command::To(i) if i <= last => self.go(text, i),
+            Command::Step(n) if n <= last - position => self.go(text, position + n),
+            Command::Back(n) if n <= position => self.go(text, position - n),
+            Command::To(_) | Command::Step(_) | Command::Back(_) => {
+                put_refusal(text, DebugFault::PastEnd)
+            }
+            Command::Vars(word) => self.say_vars(text, word),
+            Command::Threads(word) => self.say_threads(text, word),
+            Command::Loans => self.say_loans(text),
+            Command::Line(word) => self.say_line(text, word),
+            Command::Why(word) => self.say_why(text, word),
+        }
+    }
+
+    /// Puts the answer to a line, which is given without its line feed, behind a text. Out of memory: the position is
+    /// as before.
+    pub(crate) fn answer(&mut self, text: &mut Vec<u8>, line: &[u8]) -> Result<(), NoMemory>
+        ensures answer { OnOk result ((said : List ℕ) × Answers self.old line.now said self.new
+            × (text.new.items ≡ text.old.items ++ said)) }
+        ensures unchanged { OnErr result (self.new ≡ self.old) }
+    {
+        match read_command(line) {
+            Some(command) => self.carry_out(text, command),
+            None => put_refusal(text, DebugFault::BadCommand),
+        }
+    }
+}

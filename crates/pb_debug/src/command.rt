@@ -1,0 +1,77 @@
+//! What a line of a session says.
+
+ghost use Rattle.std.specs.Prelude.{◌≡◌, option_map};
+ghost use Rattle.std.specs.Str.{bytes_eq};
+ghost use Rattle.pb_debug.specs.Commands as spec;
+ghost use Rattle.pb_debug.specs.View.{command_view};
+
+use crate::words::{ArmWord, arm_word, find, number, process_word};
+
+/// A command of a session.
+#[derive(Clone, Copy)]
+pub(crate) enum Command<'t> {
+    /// `to I`
+    To(u32),
+    /// `step N`
+    Step(u32),
+    /// `back N`
+    Back(u32),
+    /// `vars P`
+    Vars(&'t [u8]),
+    /// `threads P`
+    Threads(&'t [u8]),
+    /// `loans`
+    Loans,
+    /// `line P.a`
+    Line(ArmWord<'t>),
+    /// `why P.a`
+    Why(ArmWord<'t>),
+}
+
+// The most bytes of a command.
+const LONGEST: usize = 256;
+
+fn is(word: &[u8], text: &str) -> bool
+    ensures { result ≡ bytes_eq word.now text.now }
+{
+    word == text.as_bytes()
+}
+
+// Returns the command of a keyword and what it is about.
+#[tactic(auto, unfolding(crate::specs::Commands::keyed))]
+fn keyed<'t>(key: &[u8], word: &'t [u8]) -> Option<Command<'t>>
+    ensures { option_map command_view result ≡ spec.keyed key.now word.entry.now }
+{
+    if is(key, "to") {
+        Some(Command::To(number(word)?))
+    } else if is(key, "step") {
+        Some(Command::Step(number(word)?))
+    } else if is(key, "back") {
+        Some(Command::Back(number(word)?))
+    } else if is(key, "vars") {
+        Some(Command::Vars(process_word(word)?))
+    } else if is(key, "threads") {
+        Some(Command::Threads(process_word(word)?))
+    } else if is(key, "line") {
+        Some(Command::Line(arm_word(word)?))
+    } else if is(key, "why") {
+        Some(Command::Why(arm_word(word)?))
+    } else {
+        None
+    }
+}
+
+/// Returns the command of a line, which is given without its line feed.
+#[tactic(auto, unfolding(crate::specs::Commands::command_of))]
+pub(crate) fn read_command(line: &[u8]) -> Option<Command>
+    ensures { option_map command_view result ≡ spec.command_of line.now }
+{
+    if LONGEST < line.len() {
+        return None;
+    }
+    if is(line, "loans") {
+        return Some(Command::Loans);
+    }
+    let space = find(line, b' ')?;
+    keyed(&line[..space], &line[space + 1..])
+}

@@ -1,0 +1,224 @@
+//! Positions in the replay of a list of picks.
+
+ghost use Rattle.std.specs.Prelude.{◌≡◌, ◌<◌, ◌≤◌, ◌+◌, ◌-◌, length, IfOk, IfErr, OnOk, OnErr};
+ghost use Rattle.pb_code.specs.Limits.{AreLabels};
+ghost use Rattle.pb_code.specs.View.{labels_view};
+ghost use Rattle.pb_debug.specs.Positions.{AreEnabled};
+ghost use Rattle.pb_history.specs.Entries.{picks_of};
+ghost use Rattle.pb_history.specs.Replays.{IsStopped, spread};
+
+use crate::checkpoints::{interval_for, keep_machines};
+use crate::fault::DebugFault;
+use crate::walker::Walker;
+use pb_base::{NoMemory, Pick};
+use pb_code::Labels;
+use pb_codegen::Compiled;
+use pb_history::replay::{replay, replay_counted};
+use pb_history::{CountedPick, ReplayFault, Trace};
+use pb_verifier::Verified;
+use std::alloc::Global;
+use std::marker::Model;
+
+/// The replay of a list of picks of some code, seen at a position: from 0, before the first pick, up to the number
+/// of picks. Copies of the machine are kept at the multiples of a distance, and a move goes on from the last of them
+/// that is not past its end.
+#[derive(Drop)]
+pub struct Debugger<'c> {
+    pub(crate) alloc: Global,
+    pub(crate) verified: &'c Verified,
+    pub(crate) labels: &'c Labels,
+    trace: Trace,
+    interval: u32,
+    checkpoints: Vec<Walker>,
+    pub(crate) walker: Walker,
+    last_cost: u32,
+}
+
+impl<'c> Model for Debugger<'c> {
+    ghost use Rattle.pb_debug.specs.Value.{Debugging};
+
+    ghost Value = { Debugging };
+
+    ghost use Rattle.pb_debug.specs.Checkpoints.{view_of, IsSound};
+
+    ghost view = { view_of };
+
+    ghost invariant = { IsSound };
+}
+
+impl<'c> Debugger<'c> {
+    ghost use Rattle.pb_debug.specs.Refusals.{IsMoveFault};
+    ghost use Rattle.pb_debug.specs.Value.{IsPosition, at_start, moved_to};
+
+    /// Returns the debugger of a compiled text and these picks, at position 0. It refuses as `replay` does: the first
+    /// pick that is not enabled, or out of memory.
+    pub fn new(
+        alloc: Global,
+        compiled: &'c Compiled,
+        picks: &[Pick],
+    ) -> Result<Debugger<'c>, ReplayFault>
+        requires fit { AreLabels compiled.now.verified.code compiled.now.labels }
+        requires few { length picks.now ≤ 10000000 }
+        ensures opened { IfOk result (λ d. d ≡ at_start compiled.entry.now.verified compiled.entry.now.labels picks.now) }
+        ensures placed { IfOk result IsPosition }
+        ensures stopped { IfErr result (λ fault. IsStopped compiled.entry.now.verified.code picks.now fault) }
+    {
+        Debugger::from_object(alloc, compiled.verified(), compiled.labels(), picks)
+    }
+
+    /// Returns the same as `new` of all the picks one by one, which are never spread out in memory.
+    pub fn new_counted(
+        alloc: Global,
+        compiled: &'c Compiled,
+        picks: &[CountedPick],
+    ) -> Result<Debugger<'c>, ReplayFault>
+        requires fit { AreLabels compiled.now.verified.code compiled.now.labels }
+        requires few { length (spread picks.now) ≤ 10000000 }
+        ensures opened { IfOk result (λ d.
+            d ≡ at_start compiled.entry.now.verified compiled.entry.now.labels (spread picks.now)) }
+        ensures placed { IfOk result IsPosition }
+        ensures stopped { IfErr result (λ fault. IsStopped compiled.entry.now.verified.code (spread picks.now) fault) }
+    {
+        Debugger::from_object_counted(alloc, compiled.verified(), compiled.labels(), picks)
+    }
+
+    /// Returns the debugger of code from anywhere, with labels that fit it, and these picks, at position 0. It
+    /// refuses as `replay` does: the first pick that is not enabled, or out of memory.
+    pub fn from_object(
+        alloc: Global,
+        verified: &'c Verified,
+        labels: &'c Labels,
+        picks: &[Pick],
+    ) -> Result<Debugger<'c>, ReplayFault>
+        requires fit { AreLabels verified.now.code (labels_view labels.now) }
+        requires few { length picks.now ≤ 10000000 }
+        ensures opened { IfOk result (λ d. d ≡ at_start verified.entry.now (labels_view labels.entry.now) picks.now) }
+        ensures placed { IfOk result IsPosition }
+        ensures stopped { IfErr result (λ fault. IsStopped verified.entry.now.code picks.now fault) }
+    {
+        let (_, trace) = replay(alloc, verified, picks)?;
+        Ok(Debugger::of_trace(alloc, verified, labels, trace)?)
+    }
+
+    /// Returns the same as `from_object` of all the picks one by one, which are never spread out in memory.
+    pub fn from_object_counted(
+        alloc: Global,
+        verified: &'c Verified,
+        labels: &'c Labels,
+        picks: &[CountedPick],
+    ) -> Result<Debugger<'c>, ReplayFault>
+        requires fit { AreLabels verified.now.code (labels_view labels.now) }
+        requires few { length (spread picks.now) ≤ 10000000 }
+        ensures opened { IfOk result (λ d.
+            d ≡ at_start verified.entry.now (labels_view labels.entry.now) (spread picks.now)) }
+        ensures placed { IfOk result IsPosition }
+        ensures stopped { IfErr result (λ fault. IsStopped verified.entry.now.code (spread picks.now) fault) }
+    {
+        let (_, trace) = replay_counted(alloc, verified, picks)?;
+        Ok(Debugger::of_trace(alloc, verified, labels, trace)?)
+    }
+
+    // Returns the debugger of a trace of enabled picks, at position 0.
+    fn of_trace(
+        alloc: Global,
+        verified: &'c Verified,
+        labels: &'c Labels,
+        trace: Trace,
+    ) -> Result<Debugger<'c>, NoMemory>
+        requires fit { AreLabels verified.now.code (labels_view labels.now) }
+        requires few { length (picks_of trace.entries) ≤ 10000000 }
+        requires enabled { AreEnabled verified.now.code (picks_of trace.entries) }
+        ensures opened { IfOk result (λ d.
+            d ≡ at_start verified.entry.now (labels_view labels.entry.now) (picks_of trace.entries)) }
+        ensures placed { IfOk result IsPosition }
+    {
+        let _ = verified.code();
+        let interval = interval_for(trace.len());
+        let checkpoints = keep_machines(alloc, verified, &trace, interval)?;
+        let walker = Walker::new(alloc, verified)?;
+        Ok(Debugger {
+            alloc,
+            verified,
+            labels,
+            trace,
+            interval,
+            checkpoints,
+            walker,
+            last_cost: 0,
+        })
+    }
+
+    /// Returns how many picks there are: the last position, at most 10,000,000.
+    pub fn len(&self) -> u32
+        ensures len { result ≡ length self.now.picks }
+        ensures placed { IsPosition self.now }
+    {
+        self.trace.len()
+    }
+
+    /// Returns the position.
+    pub fn position(&self) -> u32
+        ensures position { result ≡ self.now.position }
+        ensures placed { IsPosition self.now }
+    {
+        self.walker.at
+    }
+
+    /// Returns the position that the last move led to, less that of the last checkpoint up to it; 0 before any move.
+    /// A refused move changes nothing.
+    pub fn last_cost(&self) -> u32
+        ensures cost { result ≡ self.now.last_cost }
+        ensures placed { IsPosition self.now }
+    {
+        self.last_cost
+    }
+
+    /// Goes to a position. `PastEnd` if it is past the last; after an error nothing has changed.
+    pub fn to(&mut self, position: u32) -> Result<(), DebugFault>
+        ensures moved { OnOk result (self.new ≡ moved_to self.old position) }
+        ensures within { OnOk result (position ≤ length self.old.picks) }
+        ensures refused { IfErr result (IsMoveFault (length self.old.picks < position)) }
+        ensures unchanged { OnErr result (self.new ≡ self.old) }
+        ensures placed { IsPosition self.new }
+    {
+        if self.trace.len() < position {
+            return Err(DebugFault::PastEnd);
+        }
+        let nearest = (position / self.interval) as usize;
+        let mut walker = self.checkpoints[nearest].copy(self.alloc)?;
+        walker.walk_to(self.verified, &self.trace, position);
+        self.walker = walker;
+        self.last_cost = position % self.interval;
+        Ok(())
+    }
+
+    /// Goes on by so many picks. `PastEnd` if that is past the last; after an error nothing has changed.
+    pub fn step(&mut self, count: u32) -> Result<(), DebugFault>
+        ensures moved { OnOk result (self.new ≡ moved_to self.old (self.old.position + count)) }
+        ensures within { OnOk result (self.old.position + count ≤ length self.old.picks) }
+        ensures refused { IfErr result (IsMoveFault (length self.old.picks < self.old.position + count)) }
+        ensures unchanged { OnErr result (self.new ≡ self.old) }
+        ensures placed { IsPosition self.new }
+    {
+        let left = self.len() - self.position();
+        if left < count {
+            return Err(DebugFault::PastEnd);
+        }
+        self.to(self.position() + count)
+    }
+
+    /// Goes back by so many picks. `PastEnd` if that is before the first; after an error nothing has changed.
+    pub fn back(&mut self, count: u32) -> Result<(), DebugFault>
+        ensures moved { OnOk result (self.new ≡ moved_to self.old (self.old.position - count)) }
+        ensures within { OnOk result (count ≤ self.old.position) }
+        ensures refused { IfErr result (IsMoveFault (self.old.position < count)) }
+        ensures unchanged { OnErr result (self.new ≡ self.old) }
+        ensures placed { IsPosition self.new }
+    {
+        let position = self.position();
+        if position < count {
+            return Err(DebugFault::PastEnd);
+        }
+        self.to(position - count)
+    }
+}

@@ -1,0 +1,20 @@
+//! The debugger: positions in a run, what stands there, and sessions of commands.
+#![tactic(auto)]
+
+mod answer;
+mod buffer;
+mod checkpoints;
+mod command;
+pub mod debugger;
+pub mod fault;
+pub mod laws;
+mod session;
+mod shown;
+mod text;
+mod walker;
+pub mod why;
+mod words;
+
+pub use debugger::Debugger;
+pub use fault::DebugFault;
+pub use why::Why;

@@ -1,0 +1,124 @@
+//! Sessions: the commands of an input, answered one after another.
+
+ghost use Rattle.std.specs.Prelude.{◌≡◌, [], ℕ, List, IfErr, IfSome, OnOk};
+ghost use Rattle.pb_debug.specs.Buffers.{kept};
+ghost use Rattle.pb_debug.specs.Sessions.{SaysAll, SaysSome, IsTold, StopsAt, Fed, FedSome, session_bytes};
+ghost use Rattle.pb_debug.specs.Sessions.{CountsWrites, CountsBoth};
+
+use crate::buffer::LineBuffer;
+use crate::debugger::Debugger;
+use crate::fault::DebugFault;
+use pb_base::device::{Input, Output, write_all};
+
+/// The most bytes that a session takes.
+const MOST_BYTES: usize = 4_194_304;
+
+const BLOCK: usize = 4_096;
+
+impl<'c> Debugger<'c> {
+    // Answers a line.
+    fn answer_line<O: Output>(&mut self, line: &[u8], output: &mut O) -> Result<(), DebugFault>
+        ensures told { OnOk result (IsTold self.old line.now (O.written output.old) (O.written output.new) self.new) }
+        ensures stopped { IfErr result (λ e. StopsAt e self.old line.now (O.written output.old) (O.written output.new) self.new) }
+        ensures counted { OnOk result (O.failures output.new ≡ O.failures output.old) }
+        ensures fault { IfErr result (λ e. CountsWrites e (O.failures output.old) (O.failures output.new)) }
+    {
+        let mut text = Vec::new(self.alloc);
+        self.answer(&mut text, line)?;
+        match write_all(output, &text) {
+            Ok(()) => Ok(()),
+            Err(_) => Err(DebugFault::Device),
+        }
+    }
+
+    // Takes the next bytes, and answers each line that ends among them.
+    fn feed<O: Output>(
+        &mut self,
+        line: &mut LineBuffer,
+        bytes: &[u8],
+        output: &mut O,
+    ) -> Result<(), DebugFault>
+        ensures fed { OnOk result ((part : List ℕ) → line.old ≡ kept part
+            → Fed self.old part bytes.now (O.written output.old) (O.written output.new) line.new self.new) }
+        ensures some { IfErr result (λ e. (part : List ℕ) → line.old ≡ kept part
+            → FedSome e self.old part bytes.now (O.written output.old) (O.written output.new) self.new) }
+        ensures counted { OnOk result (O.failures output.new ≡ O.failures output.old) }
+        ensures fault { IfErr result (λ e. CountsWrites e (O.failures output.old) (O.failures output.new)) }
+    {
+        for i in 0..bytes.len() {
+            if bytes[i] == b'\n' {
+                match self.answer_line(line.as_slice(), output) {
+                    Ok(()) => line.clear(),
+                    Err(fault) => return Err(fault),
+                }
+            } else {
+                line.put(bytes[i]);
+            }
+        }
+        Ok(())
+    }
+
+    // Answers each line that ends in the input, and keeps what is behind the last.
+    fn read_lines<I: Input, O: Output>(
+        &mut self,
+        line: &mut LineBuffer,
+        input: &mut I,
+        output: &mut O,
+    ) -> Result<(), DebugFault>
+        requires { line.old ≡ [] }
+        ensures fed { OnOk result (IfSome (I.rest input.old) (λ bytes.
+            Fed self.old [] (session_bytes bytes) (O.written output.old) (O.written output.new) line.new self.new)) }
+        ensures some { IfErr result (λ e. IfSome (I.rest input.old) (λ bytes.
+            FedSome e self.old [] (session_bytes bytes) (O.written output.old) (O.written output.new) self.new)) }
+        ensures counted_reads { OnOk result (I.failures input.new ≡ I.failures input.old) }
+        ensures counted_writes { OnOk result (O.failures output.new ≡ O.failures output.old) }
+        ensures fault { IfErr result (λ e. CountsBoth e (I.failures input.old) (I.failures input.new)
+            (O.failures output.old) (O.failures output.new)) }
+    {
+        let mut block = [0; BLOCK];
+        let mut left = MOST_BYTES;
+        while 0 < left {
+            let most = left.min(BLOCK);
+            let Ok(count) = input.read(&mut block[..most]) else {
+                return Err(DebugFault::Device);
+            };
+            if count == 0 {
+                return Ok(());
+            }
+            match self.feed(line, &block[..count], output) {
+                Ok(()) => left -= count,
+                Err(fault) => return Err(fault),
+            }
+        }
+        Ok(())
+    }
+
+    /// Reads commands, a line each, and answers each line before it reads on, up to the end of the input or 4,194,304
+    /// bytes. The last line feed may be missing. A refused command is answered so and changes nothing.
+    ///
+    /// `NoMemory`: the command that was read is not carried out. `Device`: a read or a write failed, and the position
+    /// is that of the last command that was carried out, whose answer may be written in part. No other fault comes.
+    pub fn session<I: Input, O: Output>(
+        &mut self,
+        input: &mut I,
+        output: &mut O,
+    ) -> Result<(), DebugFault>
+        ensures all { OnOk result (IfSome (I.rest input.old) (λ bytes.
+            SaysAll self.old bytes (O.written output.old) (O.written output.new) self.new)) }
+        ensures some { IfErr result (λ e. IfSome (I.rest input.old) (λ bytes.
+            SaysSome e self.old bytes (O.written output.old) (O.written output.new) self.new)) }
+        ensures counted_reads { OnOk result (I.failures input.new ≡ I.failures input.old) }
+        ensures counted_writes { OnOk result (O.failures output.new ≡ O.failures output.old) }
+        ensures fault { IfErr result (λ e. CountsBoth e (I.failures input.old) (I.failures input.new)
+            (O.failures output.old) (O.failures output.new)) }
+    {
+        let mut line = LineBuffer::new();
+        if let Err(fault) = self.read_lines(&mut line, input, output) {
+            return Err(fault);
+        }
+        if line.as_slice().is_empty() {
+            return Ok(());
+        }
+        self.answer_line(line.as_slice(), output)
+    }
+}

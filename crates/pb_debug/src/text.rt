@@ -1,0 +1,213 @@
+//! The lines that a session answers.
+
+ghost use Rattle.std.specs.Prelude.{◌≡◌, ◌<◌, ◌≤◌, ◌++◌, ℕ, length, map, codes, OnOk, All};
+ghost use Rattle.pb_base.specs.Banker.{processes, resources, claim, loan, cash};
+ghost use Rattle.pb_base.specs.Lines.{names_view, name_of};
+ghost use Rattle.pb_debug.specs.Texts as said;
+ghost use Rattle.pb_debug.specs.Texts.{HasNamesOf, IsRefusal};
+ghost use Rattle.pb_machine.specs.Views.{proc_view, thread_view};
+
+use crate::fault::DebugFault;
+use crate::why::Why;
+use itoa::{Buffer, Integer};
+use pb_banker::Banker;
+use pb_base::{Names, NoMemory};
+use pb_machine::{Proc, Thread, ThreadState};
+
+// Puts words and a number behind a text.
+fn put_number<I: Integer>(text: &mut Vec<u8>, words: &[u8], number: I) -> Result<(), NoMemory>
+    ensures { OnOk result (text.new.items ≡ text.old.items ++ (words.now ++ I.text number)) }
+{
+    let mut digits = Buffer::new();
+    text.extend_from_slice(words)?;
+    text.extend_from_slice(digits.format(number).as_bytes())?;
+    Ok(())
+}
+
+// Puts words behind a text.
+fn put(text: &mut Vec<u8>, words: &[u8]) -> Result<(), NoMemory>
+    ensures { OnOk result (text.new.items ≡ text.old.items ++ words.now) }
+{
+    text.extend_from_slice(words)?;
+    Ok(())
+}
+
+/// Puts the line of a position behind a text.
+pub(crate) fn put_at(text: &mut Vec<u8>, position: u32) -> Result<(), NoMemory>
+    ensures { OnOk result (text.new.items ≡ text.old.items ++ said.at_text position) }
+{
+    put_number(text, b"at ", position)?;
+    put(text, b"\n")
+}
+
+// Puts the line of one integer behind a text.
+fn put_var(text: &mut Vec<u8>, name: &[u8], value: i64) -> Result<(), NoMemory>
+    ensures { OnOk result (text.new.items ≡ text.old.items ++ said.var_text name.now value) }
+{
+    put(text, name)?;
+    put_number(text, b" ", value)?;
+    put(text, b"\n")
+}
+
+/// Puts the lines of integers with these names behind a text.
+pub(crate) fn put_vars(text: &mut Vec<u8>, names: &[Vec<u8>], vars: &[i64]) -> Result<(), NoMemory>
+    requires { length names.now ≡ length vars.now }
+    ensures { OnOk result (text.new.items
+        ≡ text.old.items ++ said.vars_text (map (λ name. name.items) names.now) vars.now) }
+{
+    for (i, value) in vars.iter().enumerate() {
+        put_var(text, &names[i], *value)?;
+    }
+    Ok(())
+}
+
+// Puts the line of an arm behind a text.
+fn put_thread(text: &mut Vec<u8>, arm: usize, thread: &Thread) -> Result<(), NoMemory>
+    ensures { OnOk result (text.new.items ≡ text.old.items ++ said.thread_text arm (thread_view thread.now)) }
+{
+    put_number(text, b"", arm)?;
+    match thread.place() {
+        Some(place) => put_number(text, b" at ", place)?,
+        None => match thread.state() {
+            ThreadState::Ended => put(text, b" ended")?,
+            ThreadState::Idle | ThreadState::Live => put(text, b" idle")?,
+        },
+    }
+    put(text, b"\n")
+}
+
+/// Puts the lines of the arms of a process behind a text.
+pub(crate) fn put_threads(text: &mut Vec<u8>, process: &Proc) -> Result<(), NoMemory>
+    ensures { OnOk result (text.new.items ≡ text.old.items ++ said.threads_text (proc_view process.now)) }
+{
+    if process.faulted() {
+        return put(text, b"faulted\n");
+    }
+    for arm in 0..process.arms() {
+        put_thread(text, arm, process.thread(arm))?;
+    }
+    Ok(())
+}
+
+// Puts the line of a loan behind a text.
+fn put_loan(
+    text: &mut Vec<u8>,
+    names: &Names,
+    banker: &Banker,
+    p: usize,
+    r: usize,
+) -> Result<(), NoMemory>
+    requires process { p < processes banker.now.state }
+    requires resource { r < resources banker.now.state }
+    requires process_name { p < length (names_view names.now).processes }
+    requires resource_name { r < length (names_view names.now).resources }
+    ensures { OnOk result (text.new.items ≡ text.old.items ++ said.loan_text (names_view names.now) banker.now.state p r) }
+{
+    put(text, &names.processes[p])?;
+    put_number(text, b" holds ", banker.loan(p, r))?;
+    put(text, b" ")?;
+    put(text, &names.resources[r])?;
+    put_number(text, b" claim ", banker.claim(p, r))?;
+    put(text, b"\n")
+}
+
+// Puts the lines of the loans of a process behind a text.
+fn put_loans_of(
+    text: &mut Vec<u8>,
+    names: &Names,
+    banker: &Banker,
+    p: usize,
+) -> Result<(), NoMemory>
+    requires process { p < processes banker.now.state }
+    requires process_names { length (names_view names.now).processes ≡ processes banker.now.state }
+    requires resource_names { length (names_view names.now).resources ≡ resources banker.now.state }
+    ensures { OnOk result (text.new.items ≡ text.old.items ++ said.loans_of (names_view names.now) banker.now.state p) }
+{
+    for r in 0..banker.resources() {
+        put_loan(text, names, banker, p, r)?;
+    }
+    Ok(())
+}
+
+// Puts the line of an amount of cash behind a text.
+fn put_cash(text: &mut Vec<u8>, names: &Names, amount: u32, r: usize) -> Result<(), NoMemory>
+    requires { r < length (names_view names.now).resources }
+    ensures { OnOk result (text.new.items ≡ text.old.items ++ said.cash_text (names_view names.now) amount r) }
+{
+    put_number(text, b"cash ", amount)?;
+    put(text, b" ")?;
+    put(text, &names.resources[r])?;
+    put(text, b"\n")
+}
+
+/// Puts the lines of all loans and of the cash behind a text.
+pub(crate) fn put_loans(text: &mut Vec<u8>, names: &Names, banker: &Banker) -> Result<(), NoMemory>
+    requires process_names { length (names_view names.now).processes ≡ processes banker.now.state }
+    requires resource_names { length (names_view names.now).resources ≡ resources banker.now.state }
+    ensures { OnOk result (text.new.items ≡ text.old.items ++ said.loans_text (names_view names.now) banker.now.state) }
+{
+    for p in 0..banker.processes() {
+        put_loans_of(text, names, banker, p)?;
+    }
+    for r in 0..banker.resources() {
+        put_cash(text, names, banker.cash(r), r)?;
+    }
+    Ok(())
+}
+
+/// Puts the line of a source line behind a text.
+pub(crate) fn put_line(text: &mut Vec<u8>, line: Option<u32>) -> Result<(), NoMemory>
+    ensures { OnOk result (text.new.items ≡ text.old.items ++ said.line_text line) }
+{
+    match line {
+        Some(line) => put_number(text, b"line ", line)?,
+        None => put(text, b"line none")?,
+    }
+    put(text, b"\n")
+}
+
+// Puts a word and the names of processes behind a text.
+fn put_names(
+    text: &mut Vec<u8>,
+    words: &[u8],
+    names: &Names,
+    processes: &[u8],
+) -> Result<(), NoMemory>
+    requires { All (λ p. p < length (names_view names.now).processes) processes.now }
+    ensures { OnOk result (text.new.items
+        ≡ text.old.items ++ said.line (words.now ++ said.names_text (names_view names.now) processes.now)) }
+{
+    put(text, words)?;
+    for p in processes {
+        put(text, b" ")?;
+        put(text, &names.processes[usize::from(*p)])?;
+    }
+    put(text, b"\n")
+}
+
+/// Puts the line of a reason behind a text.
+pub(crate) fn put_why(text: &mut Vec<u8>, names: &Names, why: &Why) -> Result<(), NoMemory>
+    requires { HasNamesOf (names_view names.now) why.now }
+    ensures { OnOk result (text.new.items ≡ text.old.items ++ said.why_text (names_view names.now) why.now) }
+{
+    match why {
+        Why::NotAsking => put(text, b"not asking\n"),
+        Why::Cash { resource, cash } => put_cash(text, names, *cash, usize::from(*resource)),
+        Why::Order(order) => put_names(text, b"order", names, order),
+        Why::Rest(rest) => put_names(text, b"rest", names, rest),
+    }
+}
+
+/// Puts the line of a refusal of a command behind a text.
+pub(crate) fn put_refusal(text: &mut Vec<u8>, fault: DebugFault) -> Result<(), NoMemory>
+    requires { IsRefusal fault }
+    ensures { OnOk result (text.new.items ≡ text.old.items ++ said.refusal_text fault) }
+{
+    match fault {
+        DebugFault::PastEnd => put(text, b"refused G1\n"),
+        DebugFault::NoProcess => put(text, b"refused G2\n"),
+        DebugFault::NoArm => put(text, b"refused G3\n"),
+        DebugFault::BadCommand => put(text, b"refused G4\n"),
+        DebugFault::NoMemory | DebugFault::Device => unreachable!(),
+    }
+}

@@ -1,0 +1,151 @@
+//! Sessions: commands and their answers.
+
+use pb_base::Pick;
+use pb_base::device::{FaultyInput, FaultyOutput, MemoryInput, MemoryOutput};
+use pb_codegen::compile;
+use pb_debug::{DebugFault, Debugger};
+use std::alloc::Global;
+
+const A: Pick = Pick { process: 0, arm: 0 };
+
+const B: Pick = Pick { process: 1, arm: 0 };
+
+const C: Pick = Pick { process: 2, arm: 0 };
+
+const SECOND: Pick = Pick { process: 0, arm: 2 };
+
+/// Two processes that want the same two devices in opposite order.
+const DEVICES: &[u8] = b"resource tape = 1; resource disk = 1;
+process a begin hold 1 of tape do hold 1 of disk do skip od od end
+process b begin hold 1 of disk do hold 1 of tape do skip od od end";
+
+/// Three processes that may not have all they want at once.
+const LOANS: &[u8] = b"resource t = 10;
+process a begin hold 4 of t do hold 4 of t do skip od od end
+process b begin hold 2 of t do hold 1 of t do hold 3 of t do skip od od od end
+process c begin hold 1 of t do hold 3 of t do skip od od end";
+
+/// Two processes that want one device.
+const CASH: &[u8] = b"resource t = 1;
+process a begin hold 1 of t do skip od end
+process b begin hold 1 of t do skip od end";
+
+/// A process that prints.
+const PRINT: &[u8] = b"process p begin print 1 end";
+
+/// Two arms, and integers.
+const ARMS: &[u8] =
+    b"process p begin integer x, y; x := -7; parbegin print x; y := x div 0 parend end";
+
+/// A text, picks, commands and their answers.
+struct Case {
+    text: &'static [u8],
+    picks: &'static [Pick],
+    commands: &'static [u8],
+    said: &'static [u8],
+}
+
+const CASES: [Case; 6] = [
+    Case {
+        text: DEVICES,
+        picks: &[A],
+        commands: b"to 1\nwhy b.0\nwhy a.0\nline b.0\nback 2\nloans",
+        said: b"at 1\nrest a b\norder a b\nline 3\nrefused G1\na holds 1 tape claim 1\na holds 0 disk claim 1\nb holds 0 tape claim 1\nb holds 0 disk claim 1\ncash 0 tape\ncash 1 disk\n",
+    },
+    Case {
+        text: LOANS,
+        picks: &[A, B, C],
+        commands: b"to 2\nwhy c.0\nstep 1\nwhy b.0\nloans\n",
+        said: b"at 2\norder c a b\nat 3\nrest a b c\na holds 4 t claim 8\nb holds 2 t claim 6\nc holds 1 t claim 4\ncash 3 t\n",
+    },
+    Case {
+        text: CASH,
+        picks: &[A],
+        commands: b"step 1\nwhy b.0\nback 1\nwhy b.0",
+        said: b"at 1\ncash 0 t\nat 0\norder b a\n",
+    },
+    Case {
+        text: PRINT,
+        picks: &[A],
+        commands: b"step 1\nthreads p\nline p.0\nstep 1\nwhy p.1\n",
+        said: b"at 1\n0 at 1\nline 1\nrefused G1\nrefused G3\n",
+    },
+    Case {
+        text: ARMS,
+        picks: &[A, A, A, A, SECOND, SECOND, SECOND],
+        commands: b"to 4\nvars p\nthreads p\nto 7\nthreads p\nline p.2\nback 7\nwhy p.0\nloans\n",
+        said: b"at 4\nx -7\ny 0\n0 at 4\n1 at 6\n2 at 9\nat 7\nfaulted\nline none\nat 0\nnot asking\n",
+    },
+    Case {
+        text: PRINT,
+        picks: &[A],
+        commands: b"vars q\nline q.0\nvars 1\n\nto 01\nto 123456789\nto 12345678\nwhy p\nstep -1\n to 1\nto 1 \nloans p\nvars p\nstep 0\n",
+        said: b"refused G2\nrefused G2\nrefused G4\nrefused G4\nrefused G4\nrefused G4\nrefused G1\nrefused G4\nrefused G4\nrefused G4\nrefused G4\nrefused G4\nat 0\n",
+    },
+];
+
+/// Whether the session over these picks of the text answers the commands so.
+fn says(alloc: Global, case: &Case) -> Option<bool> {
+    if case.picks.len() > 100 {
+        return None;
+    }
+    let compiled = compile(alloc, alloc, case.text).ok()?;
+    let mut debugger = Debugger::new(alloc, &compiled, case.picks).ok()?;
+    let mut input = MemoryInput::new(case.commands);
+    let mut output = MemoryOutput::new(alloc, 4096).ok()?;
+    debugger.session(&mut input, &mut output).ok()?;
+    Some(output.as_slice() == case.said)
+}
+
+#[test]
+fn commands_are_answered(rt: HostRuntime) {
+    for case in &CASES {
+        assert!(rt; says(rt.alloc(), case) == Some(true));
+    }
+}
+
+/// Whether a line of so many letters is one that is not a command, and the next line is read.
+fn long_line_is_one(alloc: Global, bytes: usize) -> Option<bool> {
+    let compiled = compile(alloc, alloc, PRINT).ok()?;
+    let mut debugger = Debugger::new(alloc, &compiled, &[A]).ok()?;
+    let mut line = Vec::new(alloc);
+    line.resize(bytes, b'x').ok()?;
+    line.extend_from_slice(b"\nto 1").ok()?;
+    let mut input = MemoryInput::new(&line);
+    let mut output = MemoryOutput::new(alloc, 100).ok()?;
+    debugger.session(&mut input, &mut output).ok()?;
+    Some(output.as_slice() == b"refused G4\nat 1\n".as_slice())
+}
+
+#[test]
+fn long_lines(rt: HostRuntime) {
+    for bytes in [257, 4_096, 1_000_000] {
+        assert!(rt; long_line_is_one(rt.alloc(), bytes) == Some(true));
+    }
+}
+
+/// Whether the lines before a read that fails are answered.
+fn answers_before_a_failed_read(alloc: Global) -> Option<bool> {
+    let compiled = compile(alloc, alloc, PRINT).ok()?;
+    let mut debugger = Debugger::new(alloc, &compiled, &[A, A]).ok()?;
+    let mut input = FaultyInput::new(b"to 1\nto 2\nto 0", 2, 7);
+    let mut output = MemoryOutput::new(alloc, 100).ok()?;
+    let fails = debugger.session(&mut input, &mut output) == Err(DebugFault::Device);
+    Some(fails && debugger.position() == 2 && output.as_slice() == b"at 1\nat 2\n".as_slice())
+}
+
+/// Whether a write that fails ends the session where its command led.
+fn ends_at_a_failed_write(alloc: Global) -> Option<bool> {
+    let compiled = compile(alloc, alloc, PRINT).ok()?;
+    let mut debugger = Debugger::new(alloc, &compiled, &[A, A]).ok()?;
+    let mut input = MemoryInput::new(b"to 1\nto 0\nto 2\n");
+    let mut output = FaultyOutput::new(alloc, 100, 6, 1).ok()?;
+    let fails = debugger.session(&mut input, &mut output) == Err(DebugFault::Device);
+    Some(fails && debugger.position() == 0 && output.as_slice() == b"at 1\na".as_slice())
+}
+
+#[test]
+fn failing_devices(rt: HostRuntime) {
+    assert!(rt; answers_before_a_failed_read(rt.alloc()) == Some(true));
+    assert!(rt; ends_at_a_failed_write(rt.alloc()) == Some(true));
+}
