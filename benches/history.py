@@ -1,0 +1,73 @@
+#!/usr/bin/env python3
+"""Times `run`, `record` and `replay` of the built program on runs of ten million picks, turn by turn in one run.
+
+    python3 benches/history.py [PROGRAM] [TURNS]     the program that ./parbegin has built, if none is given
+
+`run` makes the picks; `record` makes them and writes the text with their pick lines; `replay` reads what `record` wrote
+and makes them again. Says milliseconds of processor time of a whole call, user and system, the least of all turns, from
+which those of `check` on the same text are taken off, since all three compile it; the ratios to `run`; and the bytes
+that `record` wrote. That `replay` writes what `run` does, but for the last line, is checked.
+"""
+import os
+import pathlib
+import subprocess
+import sys
+import tempfile
+
+from scratch import TOP, print_table
+
+PROGRAM = pathlib.Path(sys.argv[1]) if len(sys.argv) > 1 else TOP / "crates" / "pb_cli" / "out" / "pb_cli"
+TURNS = int(sys.argv[2]) if len(sys.argv) > 2 else 9
+STEPS = 10_000_000
+
+# Each runs longer than its steps. The last prints in each round; all but the one of two arms are one pick line.
+TEXTS = {
+    "count": ("process p begin integer i; while i < 100000000 do i := i + 1 od end", STEPS),
+    "nested": ("process p begin integer i, j, s; while i < 100000 do j := 0;"
+               " while j < 400 do s := s + i * j mod 7919; j := j + 1 od; i := i + 1 od end", STEPS),
+    "two arms": ("process p begin integer i, j; parbegin while i < 100000000 do i := i + 1 od;"
+                 " while j < 100000000 do j := j + 1 od parend end", STEPS),
+    "prints": ("process p begin integer i; while i < 100000000 do i := i + 1; print i od end", STEPS // 10),
+}
+
+
+def call(words, given, output):
+    """The processor time of a call in seconds."""
+    with open(given, "rb") as text, open(output, "wb") as said:
+        process = subprocess.Popen([PROGRAM, *words], stdin=text, stdout=said)
+        _, _, used = os.wait4(process.pid, 0)
+    return used.ru_utime + used.ru_stime
+
+
+def lines_but_the_last(file):
+    return file.read_bytes().splitlines()[:-1]
+
+
+def row(folder, name, text, steps):
+    """The times of one text."""
+    given, ran, recorded, replayed = (folder / it for it in ("text", "ran", "recorded", "replayed"))
+    given.write_text(text + "\n")
+    limit = ["--steps", str(steps)]
+    calls = {
+        "check": lambda: call(["check"], given, os.devnull),
+        "run": lambda: call(["run", *limit], given, ran),
+        "record": lambda: call(["record", *limit], given, recorded),
+        "replay": lambda: call(["replay"], recorded, replayed),
+    }
+    best = {it: float("inf") for it in calls}
+    for _ in range(TURNS):
+        for it, made in calls.items():
+            best[it] = min(best[it], made())
+    if lines_but_the_last(ran) != lines_but_the_last(replayed):
+        raise SystemExit(f"replay of {name} does not show what run shows")
+    run, record, replay = (best[it] - best["check"] for it in ("run", "record", "replay"))
+    return [name, 1000 * run, 1000 * record, 1000 * replay, record / run, replay / run, recorded.stat().st_size]
+
+
+def main():
+    with tempfile.TemporaryDirectory() as folder:
+        rows = [row(pathlib.Path(folder), name, *it) for name, it in TEXTS.items()]
+    print_table(["text", "run", "record", "replay", "record by run", "replay by run", "bytes recorded"], rows)
+
+
+main()
