@@ -7,6 +7,7 @@ mod emit;
 mod exec;
 mod migrate;
 mod page;
+mod record;
 mod replay;
 mod run;
 mod status;

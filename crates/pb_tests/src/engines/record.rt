@@ -1,0 +1,118 @@
+//! Texts whose runs are recorded, and replayed.
+
+ghost use Rattle.std.specs.Prelude.{◌≤◌};
+
+use crate::texts::{DEVICES, FAULT, HELLO, INCREMENTS, NESTED};
+use pb_base::device::{MemoryInput, MemoryOutput};
+use pb_engines::{RecordOptions, RunOptions, Status, record_engine, replay_engine, run_engine};
+use std::alloc::Global;
+use std::process::Abort;
+use std::test::Fail;
+
+/// What is written of a text with at most so many picks, drawn with this seed if there is one.
+fn recorded(
+    alloc: Global,
+    text: &[u8],
+    steps: u64,
+    seed: Option<u64>,
+) -> Option<(Status, MemoryOutput)>
+    requires { steps ≤ 10000000 }
+{
+    let mut input = MemoryInput::new(text);
+    let mut output = MemoryOutput::new(alloc, 1_024).ok()?;
+    let options = RecordOptions { steps, seed };
+    let status = record_engine(alloc, options, &mut input, &mut output);
+    Some((status, output))
+}
+
+/// Whether this text, written with the status `Done`, is the answer to a text.
+fn writes(alloc: Global, text: &[u8], steps: u64, seed: Option<u64>, said: &[u8]) -> Option<bool>
+    requires { steps ≤ 10000000 }
+{
+    let (status, output) = recorded(alloc, text, steps, seed)?;
+    Some(status == Status::Done && output.as_slice() == said)
+}
+
+/// What a replay of the record of a whole run says.
+fn replayed(alloc: Global, text: &[u8], seed: Option<u64>) -> Option<(Status, MemoryOutput)> {
+    let (_, written) = recorded(alloc, text, 1_000, seed)?;
+    let mut input = MemoryInput::new(written.as_slice());
+    let mut output = MemoryOutput::new(alloc, 1_024).ok()?;
+    let status = replay_engine(alloc, &mut input, &mut output);
+    Some((status, output))
+}
+
+/// What a run of a text says.
+fn ran(alloc: Global, text: &[u8]) -> Option<(Status, MemoryOutput)> {
+    let mut input = MemoryInput::new(text);
+    let mut output = MemoryOutput::new(alloc, 1_024).ok()?;
+    let options = RunOptions { steps: 1_000 };
+    let status = run_engine(alloc, options, &mut input, &mut output);
+    Some((status, output))
+}
+
+/// Whether a replay of the record of a text without a seed says what its run says.
+fn replays_its_run(alloc: Global, text: &[u8]) -> Option<bool> {
+    let (status, output) = replayed(alloc, text, None)?;
+    let (wanted, said) = ran(alloc, text)?;
+    Some(status == wanted && output.as_slice() == said.as_slice())
+}
+
+/// Whether a replay of the record of a text with this seed says these lines.
+fn replays(alloc: Global, text: &[u8], seed: u64, said: &[u8]) -> Option<bool> {
+    let (status, output) = replayed(alloc, text, Some(seed))?;
+    Some(status == Status::Done && output.as_slice() == said)
+}
+
+#[test]
+fn writes_the_text_and_its_picks(rt: HostRuntime) {
+    let table = [
+        (9, b"process p begin print 1 end\n%%\np.0 3\n".as_slice()),
+        (2, b"process p begin print 1 end\n%%\np.0 2\n".as_slice()),
+        (0, b"process p begin print 1 end\n%%\n".as_slice()),
+    ];
+    for (steps, said) in table {
+        assert_eq!(rt; writes(rt.alloc(), HELLO, steps, None, said), Some(true));
+    }
+}
+
+#[test]
+#[rattlefmt::skip]
+fn adds_a_line_feed_and_draws_picks(rt: HostRuntime) {
+    let whole = b"process p begin integer x; parbegin x := x + 1; x := x + 1 parend; print x end
+%%\np.0 1\np.1 5\np.2 5\np.0 4\n";
+    let three = b"process p begin integer x; parbegin x := x + 1; x := x + 1 parend; print x end
+%%\np.0 1\np.1 2\n";
+    let lost = b"process p begin integer x; parbegin x := x + 1; x := x + 1 parend; print x end
+%%\np.0 1\np.1 2\np.2 1\np.1 3\np.2 4\np.0 4\n";
+    let kept = b"process p begin integer x; parbegin x := x + 1; x := x + 1 parend; print x end
+%%\np.0 1\np.2 4\np.1 1\np.2 1\np.1 4\np.0 4\n";
+    let table = [
+        (1_000, None, whole.as_slice()),
+        (3, None, three.as_slice()),
+        (1_000, Some(3), lost.as_slice()),
+        (1_000, Some(8), kept.as_slice()),
+        (1_000, Some(3), lost.as_slice()),
+    ];
+    for (steps, seed, said) in table {
+        assert_eq!(rt; writes(rt.alloc(), INCREMENTS, steps, seed, said), Some(true));
+    }
+}
+
+#[test]
+fn a_replay_says_what_the_run_says(rt: HostRuntime) {
+    for text in [HELLO, DEVICES, INCREMENTS, FAULT, NESTED] {
+        assert_eq!(rt; replays_its_run(rt.alloc(), text), Some(true));
+    }
+}
+
+#[test]
+fn seeds_lose_or_keep_an_update(rt: HostRuntime) {
+    let table = [
+        (3, b"p.0 print 1\np end\ndone\n".as_slice()),
+        (8, b"p.0 print 2\np end\ndone\n".as_slice()),
+    ];
+    for (seed, said) in table {
+        assert_eq!(rt; replays(rt.alloc(), INCREMENTS, seed, said), Some(true));
+    }
+}
