@@ -1,20 +1,21 @@
 -- What clap's answers say of the rows that it matched, and of this command line.
-use Rattle.std.proofs.Common.{◌≡◌, ◌<◌, ◌≤◌, ◌^◌, ℕ, List, [], Option, Some, None, Result, Ok, Err, refl, sym, ap, subst, ◌∙◌, true, option_map, inl, inr, IfNone, codes, get_or, arith}
+use Rattle.std.proofs.Common.{◌≡◌, ◌<◌, ◌≤◌, ◌^◌, ℕ, List, [], Option, Some, None, Result, Ok, Err, refl, sym, ap, subst, ◌∙◌, true, option_map, inl, inr, IfNone, IfSome, codes, get_or, arith}
 use Rattle.std.specs.Str.Parse.{IsNumeral, digits_value, without_leading_plus}
 use Rattle.clap.specs.Words.{HasKind, IsAmong, Kinds, ReadsOne, Row, Text, TriesOne, is_simple, is_simple_and_free, kind_of, one_of, one_text, rows_of}
 use Rattle.clap.specs.declared.error.Error.{Error}
 use Rattle.clap.specs.declared.error.kind.ErrorKind.TheVariants.{OutOfMemory}
 use Rattle.clap.proofs.OnLiterals.{clap_on_literals}
-use Rattle.pb_cli.specs.CommandLine.{command_line, with_text_commands, with_code_commands, with_object_commands, with_pick_commands, check_command, claims_command, emit_command, exec_command, migrate_command, replay_command, run_command}
+use Rattle.pb_cli.specs.CommandLine.{command_line, with_text_commands, with_code_commands, with_object_commands, with_pick_commands, check_command, claims_command, emit_command, exec_command, migrate_command, record_command, replay_command, run_command}
 use Rattle.clap.specs.declared.parser.matches.Found.{Found}
 use Rattle.clap.proofs.WalkLemmas.{one_text-rows}
 use Rattle.pb_object.specs.declared.format.Format.{Format}
 use Rattle.pb_object.specs.declared.format.Format.TheVariants.{One, Two}
-use Rattle.pb_cli.specs.Read.{BlamesWords, HasCheckNumbers, HasEmitNumber, HasNumber, HasNumberIn, HasOptionalNumber, HasRunNumbers, IsReadFrom, IsReadFromMatches, format_number}
+use Rattle.pb_cli.specs.Read.{BlamesWords, HasCheckNumbers, HasEmitNumber, HasNumber, HasNumberIn, HasOptionalNumber, HasRecordNumbers, HasRunNumbers, IsReadFrom, IsReadFromMatches, format_number}
 use Rattle.pb_cli.specs.declared.options.Options.{Options}
-use Rattle.pb_cli.specs.declared.options.Options.TheVariants.{Check, Claims, Emit, Exec, Migrate, Replay, Run}
+use Rattle.pb_cli.specs.declared.options.Options.TheVariants.{Check, Claims, Emit, Exec, Migrate, Record, Replay, Run}
 use Rattle.pb_engines.specs.declared.options.CheckOptions.{CheckOptions}
 use Rattle.pb_engines.specs.declared.options.EmitOptions.{EmitOptions}
+use Rattle.pb_engines.specs.declared.options.RecordOptions.{RecordOptions}
 use Rattle.pb_engines.specs.declared.options.RunOptions.{RunOptions}
 use Rattle.pb_cli.specs.declared.options.WordsFault.{WordsFault}
 use Rattle.pb_cli.specs.declared.options.WordsFault.TheVariants.{Words, Memory}
@@ -58,6 +59,7 @@ no_check rows none (Exec o) says = let w : codes "check" ≡ codes "exec" = says
 no_check rows none Claims says = let w : codes "check" ≡ codes "claims" = says in cc
 no_check rows none (Emit o) says = let w : codes "check" ≡ codes "emit" = says.0 in cc
 no_check rows none Migrate says = let w : codes "check" ≡ codes "migrate" = says in cc
+no_check rows none (Record o) says = let w : codes "check" ≡ codes "record" = says.0 in cc
 no_check rows none Replay says = let w : codes "check" ≡ codes "replay" = says in cc
 no_check rows none (Run o) says = let w : codes "check" ≡ codes "run" = says.0 in cc
 
@@ -69,6 +71,7 @@ no_emit rows none (Emit o) says = none o says.1
 no_emit rows none (Exec o) says =
     let m : 109 ≡ 120 = ap (λ (l : Text). get_or l 1 0) says.0 in omega (arith, m)
 no_emit rows none Migrate says = let w : codes "emit" ≡ codes "migrate" = says in cc
+no_emit rows none (Record o) says = let w : codes "emit" ≡ codes "record" = says.0 in cc
 no_emit rows none Replay says = let w : codes "emit" ≡ codes "replay" = says in cc
 no_emit rows none (Run o) says = let w : codes "emit" ≡ codes "run" = says.0 in cc
 
@@ -78,8 +81,27 @@ no_run rows none (Exec o) says = let w : codes "run" ≡ codes "exec" = says.0 i
 no_run rows none Claims says = let w : codes "run" ≡ codes "claims" = says in cc
 no_run rows none (Emit o) says = let w : codes "run" ≡ codes "emit" = says.0 in cc
 no_run rows none Migrate says = let w : codes "run" ≡ codes "migrate" = says in cc
+no_run rows none (Record o) says = let m : 117 ≡ 101 = ap (λ (l : Text). get_or l 1 0) says.0 in omega (arith, m)
 no_run rows none Replay says = let m : 117 ≡ 101 = ap (λ (l : Text). get_or l 1 0) says in omega (arith, m)
 no_run rows none (Run o) says = none o says.1
+
+pub no_record : (rows : List Row) → ((o : RecordOptions) → HasRecordNumbers rows o → ⊥) → (o : Options)
+    → IsReadFrom (codes "record") rows o → ⊥
+no_record rows none (Check o) says =
+    let m : 114 ≡ 99 = ap (λ (l : Text). get_or l 0 0) says.0 in omega (arith, m)
+no_record rows none (Exec o) says =
+    let m : 114 ≡ 101 = ap (λ (l : Text). get_or l 0 0) says.0 in omega (arith, m)
+no_record rows none Claims says =
+    let m : 114 ≡ 99 = ap (λ (l : Text). get_or l 0 0) says in omega (arith, m)
+no_record rows none (Emit o) says =
+    let m : 114 ≡ 101 = ap (λ (l : Text). get_or l 0 0) says.0 in omega (arith, m)
+no_record rows none Migrate says =
+    let m : 114 ≡ 109 = ap (λ (l : Text). get_or l 0 0) says in omega (arith, m)
+no_record rows none (Record o) says = none o says.1
+no_record rows none Replay says =
+    let m : 99 ≡ 112 = ap (λ (l : Text). get_or l 2 0) says in omega (arith, m)
+no_record rows none (Run o) says =
+    let m : 101 ≡ 117 = ap (λ (l : Text). get_or l 1 0) says.0 in omega (arith, m)
 
 pub no_exec : (rows : List Row) → ((o : RunOptions) → HasRunNumbers rows o → ⊥) → (o : Options) → IsReadFrom (codes "exec") rows o → ⊥
 no_exec rows none (Check o) says = let w : codes "exec" ≡ codes "check" = says.0 in cc
@@ -88,6 +110,7 @@ no_exec rows none Claims says = let w : codes "exec" ≡ codes "claims" = says i
 no_exec rows none (Emit o) says =
     let m : 120 ≡ 109 = ap (λ (l : Text). get_or l 1 0) says.0 in omega (arith, m)
 no_exec rows none Migrate says = let w : codes "exec" ≡ codes "migrate" = says in cc
+no_exec rows none (Record o) says = let w : codes "exec" ≡ codes "record" = says.0 in cc
 no_exec rows none Replay says = let w : codes "exec" ≡ codes "replay" = says in cc
 no_exec rows none (Run o) says = let w : codes "exec" ≡ codes "run" = says.0 in cc
 
@@ -99,6 +122,20 @@ no_check_numbers rows none given o says = go o.heap refl says
     go : (heap : Option ℕ) → o.heap ≡ heap → HasOptionalNumber rows (codes "heap") heap → ⊥
     go None is h = given h
     go (Some n) is h = none n (h, o.heap_suffices n is, o.heap_fits n is)
+
+-- where no number of steps is read, nothing is
+pub no_record_steps : (rows : List Row) → ((n : ℕ) → HasNumberIn rows (codes "steps") 0 10000000 n → ⊥) → (o : RecordOptions)
+    → HasRecordNumbers rows o → ⊥
+no_record_steps rows none o says = none o.steps (says.0, omega arith, o.steps_fit)
+
+-- where a seed is given and none is read, nothing is
+pub no_record_seed : (rows : List Row) → ((n : ℕ) → HasNumberIn rows (codes "seed") 0 18446744073709551615 n → ⊥)
+    → (one_of (codes "seed") rows ≡ None → ⊥) → (o : RecordOptions) → HasRecordNumbers rows o → ⊥
+no_record_seed rows none given o says = go o.seed says.1 says.2
+  where
+    go : (seed : Option ℕ) → HasOptionalNumber rows (codes "seed") seed → IfSome seed (λ n. n ≤ 18446744073709551615) → ⊥
+    go None h fits = given h
+    go (Some n) h fits = none n (h, omega arith, fits)
 
 -- where no number of a format is read, no format is
 pub no_format : (rows : List Row) → ((n : ℕ) → HasNumberIn rows (codes "object") 1 2 n → ⊥) → (o : EmitOptions)
@@ -132,11 +169,11 @@ clap_refused kinds e Memory is memory blames none = blames
 
 -- the matches of this command line are a function of the words
 pub is_simple_command_line : is_simple command_line ≡ true
-unfolding command_line with_text_commands with_code_commands with_object_commands with_pick_commands check_command claims_command emit_command exec_command migrate_command replay_command run_command clap_on_literals
+unfolding command_line with_text_commands with_code_commands with_object_commands with_pick_commands check_command claims_command emit_command exec_command migrate_command record_command replay_command run_command clap_on_literals
 is_simple_command_line = refl
 
 pub is_free_command_line : is_simple_and_free command_line ≡ true
-unfolding command_line with_text_commands with_code_commands with_object_commands with_pick_commands check_command claims_command emit_command exec_command migrate_command replay_command run_command clap_on_literals
+unfolding command_line with_text_commands with_code_commands with_object_commands with_pick_commands check_command claims_command emit_command exec_command migrate_command record_command replay_command run_command clap_on_literals
 is_free_command_line = refl
 
 -- a fact that holds anyway holds where there is no value

@@ -15,6 +15,7 @@ use Rattle.pb_engines.specs.Emissions.{SaysOfEmission}
 use Rattle.pb_engines.specs.Executions.{SaysOfExecution}
 use Rattle.pb_engines.specs.Inputs.{SaysOfInput}
 use Rattle.pb_engines.specs.Migrations.{SaysOfMigration}
+use Rattle.pb_engines.specs.Records.{SaysOfRecord}
 use Rattle.pb_engines.specs.ReplayLines.{SaysOfReplay}
 use Rattle.pb_engines.specs.Runs.{SaysOf}
 use Rattle.pb_cli.specs.Read.{WordsSay}
@@ -26,6 +27,7 @@ CommandSays option.Claims = SaysOfInput SaysOfClaims
 CommandSays (option.Emit numbers) = SaysOfInput (SaysOfEmission numbers.object)
 CommandSays (option.Exec numbers) = SaysOfInput (SaysOfExecution numbers.steps)
 CommandSays option.Migrate = SaysOfInput SaysOfMigration
+CommandSays (option.Record numbers) = SaysOfInput (SaysOfRecord numbers.steps)
 CommandSays option.Replay = SaysOfInput SaysOfReplay
 CommandSays (option.Run numbers) = SaysOfInput (SaysOf numbers.steps)
 

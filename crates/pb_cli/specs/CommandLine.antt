@@ -33,6 +33,12 @@ exec_command =
 unfoldable pub migrate_command : App
 migrate_command = new_app (codes "migrate")
 
+unfoldable pub record_command : App
+record_command =
+    with_rule
+    (with_rule (new_app (codes "record")) (number_rule_or (codes "steps") 0 10000000 (codes "1000000")))
+    (number_rule (codes "seed") 0 18446744073709551615)
+
 unfoldable pub replay_command : App
 replay_command = new_app (codes "replay")
 
@@ -61,7 +67,7 @@ with_object_commands a = with_command (with_command a exec_command) migrate_comm
 
 -- the commands over the picks of a run
 unfoldable pub with_pick_commands : App → App
-with_pick_commands a = with_command a replay_command
+with_pick_commands a = with_command (with_command a record_command) replay_command
 
 -- the whole command line
 unfoldable pub command_line : App

@@ -1,5 +1,5 @@
 -- What the words of a call say: the command and the numbers that clap matches, where it takes the words.
-use Rattle.std.specs.Prelude.{◌≡◌, ◌≤◌, ℕ, List, [], Option, Some, None, ⊤, codes, map}
+use Rattle.std.specs.Prelude.{◌≡◌, ◌≤◌, ℕ, List, [], Option, Some, None, IfSome, ⊤, codes, map}
 use Rattle.std.specs.Str.Parse.{IsNumeral, digits_value, without_leading_plus}
 use Rattle.clap.specs.Words.{Row, Text, fault_of, one_of, subcommand_of}
 use Rattle.std.specs.Borrow.{Bor}
@@ -10,6 +10,7 @@ use Rattle.pb_cli.specs.declared.options.Options.{Options}
 use Rattle.pb_cli.specs.declared.options.Options.TheVariants as option
 use Rattle.pb_engines.specs.declared.options.CheckOptions.{CheckOptions}
 use Rattle.pb_engines.specs.declared.options.EmitOptions.{EmitOptions}
+use Rattle.pb_engines.specs.declared.options.RecordOptions.{RecordOptions}
 use Rattle.pb_engines.specs.declared.options.RunOptions.{RunOptions}
 use Rattle.pb_cli.specs.declared.options.WordsFault.{WordsFault}
 use Rattle.pb_cli.specs.declared.options.WordsFault.TheVariants as fault
@@ -33,6 +34,10 @@ HasOptionalNumber rows id None = one_of id rows ≡ None
 abbrev pub HasCheckNumbers : List Row → CheckOptions → Type 0
 HasCheckNumbers rows o = HasOptionalNumber rows (codes "heap") o.heap
 
+abbrev pub HasRecordNumbers : List Row → RecordOptions → Type 0
+HasRecordNumbers rows o = HasNumber rows (codes "steps") o.steps × HasOptionalNumber rows (codes "seed") o.seed
+    × IfSome o.seed (λ n. n ≤ 18446744073709551615)
+
 abbrev pub format_number : Format → ℕ
 format_number One = 1
 format_number Two = 2
@@ -47,6 +52,7 @@ IsReadFrom name rows option.Claims = name ≡ codes "claims"
 IsReadFrom name rows (option.Emit o) = (name ≡ codes "emit") × HasEmitNumber rows o
 IsReadFrom name rows (option.Exec o) = (name ≡ codes "exec") × HasRunNumbers rows o
 IsReadFrom name rows option.Migrate = name ≡ codes "migrate"
+IsReadFrom name rows (option.Record o) = (name ≡ codes "record") × HasRecordNumbers rows o
 IsReadFrom name rows option.Replay = name ≡ codes "replay"
 IsReadFrom name rows (option.Run o) = (name ≡ codes "run") × HasRunNumbers rows o
 

@@ -9,7 +9,7 @@ use crate::read::options;
 use pb_base::device::{Input, Output};
 use pb_engines::{
     Page, Status, check_engine, claims_engine, emit_engine, exec_engine, migrate_engine,
-    replay_engine, run_engine,
+    record_engine, replay_engine, run_engine,
 };
 use std::alloc::Global;
 
@@ -32,6 +32,7 @@ pub fn answer<I: Input, O: Output>(
         Ok(Options::Emit(numbers)) => emit_engine(alloc, numbers, input, output),
         Ok(Options::Exec(numbers)) => exec_engine(alloc, numbers, input, output),
         Ok(Options::Migrate) => migrate_engine(alloc, input, output),
+        Ok(Options::Record(numbers)) => record_engine(alloc, numbers, input, output),
         Ok(Options::Replay) => replay_engine(alloc, input, output),
         Ok(Options::Run(numbers)) => run_engine(alloc, numbers, input, output),
         Err(fault) => refuse(alloc, output, &fault),

@@ -2,7 +2,7 @@
 ghost use Rattle.std.specs.Prelude.{◌≡◌, IfOk, false};
 ghost use Rattle.clap.specs.Words.{app_of, rule_of, with_rule};
 ghost use Rattle.clap.specs.declared.builder.command.Command.TheViews.{out-Command};
-ghost use Rattle.pb_cli.specs.CommandLine.{check_command, claims_command, emit_command, exec_command, migrate_command, number_rule, number_rule_or, replay_command, run_command, that_wants_command, IsCommand};
+ghost use Rattle.pb_cli.specs.CommandLine.{check_command, claims_command, emit_command, exec_command, migrate_command, number_rule, number_rule_or, record_command, replay_command, run_command, that_wants_command, IsCommand};
 ghost use Rattle.pb_cli.specs.CommandLine.{command_line as whole, with_code_commands, with_command, with_object_commands, with_pick_commands, with_text_commands};
 
 use clap::builder::ValueParser;
@@ -106,6 +106,20 @@ fn migrate_object<'a>(alloc: Global) -> Result<Command<'a>, AllocError>
     ))
 }
 
+#[tactic(auto, unfolding(crate::specs::CommandLine::record_command))]
+fn record_text<'a>(alloc: Global) -> Result<Command<'a>, AllocError>
+    ensures { IfOk result (IsCommand record_command) }
+{
+    let steps = number_option_or(alloc, "steps", 0, 10_000_000, "1000000");
+    let steps = steps.help("Stop the run after this many steps");
+    let seed = number_option(alloc, "seed", 0, 18_446_744_073_709_551_615);
+    let seed = seed.help("Draw each pick by a generator with this seed");
+    let record = Command::new(alloc, "record").about(
+        "Run the program read from standard input and print it with the picks of the run",
+    );
+    with_option(with_option(record, steps)?, seed)
+}
+
 #[tactic(auto, unfolding(crate::specs::CommandLine::replay_command))]
 fn replay_picks<'a>(alloc: Global) -> Result<Command<'a>, AllocError>
     ensures { IfOk result (IsCommand replay_command) }
@@ -159,6 +173,7 @@ fn with_objects<'a>(alloc: Global, command: Command<'a>) -> Result<Command<'a>, 
 fn with_picks<'a>(alloc: Global, command: Command<'a>) -> Result<Command<'a>, AllocError>
     ensures { IfOk result (λ c. app_of c ≡ with_pick_commands (app_of command.entry)) }
 {
+    let command = with_subcommand(command, record_text(alloc)?)?;
     with_subcommand(command, replay_picks(alloc)?)
 }
 

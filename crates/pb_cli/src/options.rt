@@ -1,6 +1,6 @@
 //! The words of a call, read.
 
-use pb_engines::{CheckOptions, EmitOptions, RunOptions};
+use pb_engines::{CheckOptions, EmitOptions, RecordOptions, RunOptions};
 
 /// A command with its options.
 #[derive(Clone, Copy, Debug, PartialEq, Eq)]
@@ -10,6 +10,7 @@ pub enum Options {
     Emit(EmitOptions),
     Exec(RunOptions),
     Migrate,
+    Record(RecordOptions),
     Replay,
     Run(RunOptions),
 }

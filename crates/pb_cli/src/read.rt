@@ -1,17 +1,18 @@
 //! Reads the words of a call.
 ghost use Rattle.std.specs.Prelude.{◌≡◌, ◌↔◌, IfErr, IfNone, IfOk, IfSome, IsTrue, None, ℕ};
 ghost use Rattle.clap.specs.Words.{found_of, kind_of, one_of, rows_of, subcommand_rows_of};
-ghost use Rattle.pb_cli.specs.Read.{BlamesWords, HasCheckNumbers, HasEmitNumber, HasNumberIn, HasRunNumbers, IsReadFromMatches, WordsSay};
+ghost use Rattle.pb_cli.specs.Read.{BlamesWords, HasCheckNumbers, HasEmitNumber, HasNumberIn, HasRecordNumbers, HasRunNumbers, IsReadFromMatches, WordsSay};
 ghost use Rattle.pb_cli.specs.declared.options.Options.{Options as AnyOptions};
 ghost use Rattle.pb_engines.specs.declared.options.CheckOptions.{CheckOptions as AnyCheckOptions};
 ghost use Rattle.pb_engines.specs.declared.options.EmitOptions.{EmitOptions as AnyEmitOptions};
+ghost use Rattle.pb_engines.specs.declared.options.RecordOptions.{RecordOptions as AnyRecordOptions};
 ghost use Rattle.pb_engines.specs.declared.options.RunOptions.{RunOptions as AnyRunOptions};
 
 use crate::command_line::command_line;
 use crate::options::{Options, WordsFault};
 use clap::error::ErrorKind;
 use clap::{ArgMatches, Error};
-use pb_engines::{CheckOptions, EmitOptions, RunOptions};
+use pb_engines::{CheckOptions, EmitOptions, RecordOptions, RunOptions};
 use pb_object::Format;
 use std::alloc::Global;
 
@@ -60,6 +61,21 @@ fn emit_options(matches: &ArgMatches<'_>) -> Option<EmitOptions>
     Some(EmitOptions { object })
 }
 
+fn record_options(matches: &ArgMatches<'_>) -> Option<RecordOptions>
+    ensures some { IfSome result (HasRecordNumbers (rows_of (found_of matches.now))) }
+    ensures none { IfNone result ((o : AnyRecordOptions) → HasRecordNumbers (rows_of (found_of matches.now)) o → ⊥) }
+{
+    let steps = number(matches, "steps", 0, 10_000_000)?;
+    if is_absent(matches, "seed") {
+        return Some(RecordOptions { steps, seed: None });
+    }
+    let seed = number(matches, "seed", 0, 18_446_744_073_709_551_615)?;
+    Some(RecordOptions {
+        steps,
+        seed: Some(seed),
+    })
+}
+
 fn run_options(matches: &ArgMatches<'_>) -> Option<RunOptions>
     ensures some { IfSome result (HasRunNumbers (rows_of (found_of matches.now))) }
     ensures none { IfNone result ((o : AnyRunOptions) → HasRunNumbers (rows_of (found_of matches.now)) o → ⊥) }
@@ -80,6 +96,7 @@ fn read_matches(matches: &ArgMatches<'_>) -> Option<Options>
         "emit" => Some(Options::Emit(emit_options(inner)?)),
         "exec" => Some(Options::Exec(run_options(inner)?)),
         "migrate" => Some(Options::Migrate),
+        "record" => Some(Options::Record(record_options(inner)?)),
         "replay" => Some(Options::Replay),
         "run" => Some(Options::Run(run_options(inner)?)),
         _ => None,
@@ -177,6 +194,32 @@ mod tests {
         assert_eq!(rt; options(alloc, &["parbegin", "emit", "--object=1"])?, one);
         for words in ["0", "3", "one"] {
             assert!(rt; options(alloc, &["parbegin", "emit", "--object", words]).is_err());
+        }
+        Ok(())
+    }
+
+    #[test]
+    fn reads_record(rt: HostRuntime) -> Result<(), Fail> {
+        let alloc = rt.alloc();
+        let plain = Options::Record(RecordOptions {
+            steps: 1_000_000,
+            seed: None,
+        });
+        let drawn = Options::Record(RecordOptions {
+            steps: 3,
+            seed: Some(18_446_744_073_709_551_615),
+        });
+        assert_eq!(rt; options(alloc, &["parbegin", "record"])?, plain);
+        let words = [
+            "parbegin",
+            "record",
+            "--steps=3",
+            "--seed",
+            "18446744073709551615",
+        ];
+        assert_eq!(rt; options(alloc, words.as_slice())?, drawn);
+        for words in ["-1", "18446744073709551616", "seven"] {
+            assert!(rt; options(alloc, &["parbegin", "record", "--seed", words]).is_err());
         }
         Ok(())
     }

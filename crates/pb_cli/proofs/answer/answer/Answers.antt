@@ -1,5 +1,5 @@
 use Rattle.std.proofs.Common.{inl, subst}
-use Rattle.pb_cli.specs.declared.options.Options.TheVariants.{Check, Emit, Exec, Run}
+use Rattle.pb_cli.specs.declared.options.Options.TheVariants.{Check, Emit, Exec, Record, Run}
 use Rattle.pb_cli.specs.Read.{WordsSay}
 use Rattle.pb_cli.proofs.AnswerLemmas.{CallWrites-refused}
 use Rattle.pb_cli.proofs.answer.answer.Goals as goal
@@ -23,6 +23,11 @@ pub returns-in-Ok-Emit-clause-text : goal.returns-in-Ok-Emit-clause-text
 returns-in-Ok-Emit-clause-text g c =
     let read = subst (WordsSay c.args.words.now) c.in-Ok-Emit.field-0-is c.in-Ok-Emit.ensures.read in
     inl (Emit c.in-Ok-Emit.numbers, read, c.emit_engine.ensures.text)
+
+pub returns-in-Ok-Record-clause-text : goal.returns-in-Ok-Record-clause-text
+returns-in-Ok-Record-clause-text g c =
+    let read = subst (WordsSay c.args.words.now) c.in-Ok-Record.field-0-is c.in-Ok-Record.ensures.read in
+    inl (Record c.in-Ok-Record.numbers, read, c.record_engine.ensures.text)
 
 pub returns-in-Err-clause-text : goal.returns-in-Err-clause-text
 returns-in-Err-clause-text g c =
