@@ -1,12 +1,12 @@
 #!/bin/sh
 # Runs the built program once for each exit status that can be brought about from outside, and compares the statuses.
 #
-#     checks/statuses.sh [PROGRAM]     PROGRAM is ./parbegin if none is given, which builds the program if it has to
+#     checks/statuses.sh [PROGRAM]     PROGRAM is the one that ./parbegin has built if none is given
 #
 # It is run by hand; its own status is 0 if all of them are as wanted, and 1 if not.
 set -u
 top=$(CDPATH= cd -- "$(dirname -- "$0")/.." && pwd) || exit 1
-program=${1:-$top/parbegin}
+program=${1:-$top/crates/pb_cli/out/pb_cli}
 failed=0
 
 # expect WANTED OUTPUT WORD..: calls the program with the words and the standard input of this call
