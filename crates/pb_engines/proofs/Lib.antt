@@ -1,7 +1,11 @@
 pub mod AcceptLemmas
+pub mod AcceptedTexts
 pub mod CheckLemmas
+pub mod ChoiceLemmas
 pub mod ClaimLemmas
+pub mod CutRecords
 pub mod EmissionLemmas
+pub mod EndedTexts
 pub mod ExecutionLemmas
 pub mod InputLemmas
 pub mod LoadLemmas

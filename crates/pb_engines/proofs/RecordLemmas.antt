@@ -1,5 +1,5 @@
 -- Picks of a run that are recorded, one after another, and what is written of them.
-use Rattle.std.proofs.Common.{◌≡◌, ℕ, zero, suc, ◌+◌, ◌-◌, ◌<◌, ◌≤◌, List, [], ◌∷◌, ◌++◌, length, replicate, Option, Some, None, option_to_list, refl, sym, ap, subst, ◌∙◌, append-nil, append_assoc, length-append, inl, inr, arith, codes}
+use Rattle.std.proofs.Common.{◌≡◌, ℕ, zero, suc, ◌+◌, ◌-◌, ◌<◌, ◌≤◌, List, [], ◌∷◌, ◌++◌, length, replicate, Option, Some, None, refl, sym, ap, subst, ◌∙◌, append-nil, append_assoc, length-append, inl, inr, arith, codes}
 use Rattle.std.specs.Prelude.{All, slice_get, slice_index_or}
 use Rattle.std.proofs.lemmas.Option.{slice_get_within}
 use Rattle.pb_base.specs.Lines.{HasProcess, NameTable}
@@ -8,7 +8,7 @@ use Rattle.std.proofs.lemmas.List.{length-replicate}
 use Rattle.std.proofs.lemmas.List.Elements.{All-cons, All-nil}
 use Rattle.pb_base.specs.declared.event.Event.{Event}
 use Rattle.pb_base.specs.declared.pick.Pick.{Pick}
-use Rattle.pb_base.specs.Steppers.{Makes, Move, State, event_of}
+use Rattle.pb_base.specs.Steppers.{Makes, State, event_of}
 use Rattle.pb_code.specs.Code.{CodeProcess, ProcessCode, code_step}
 use Rattle.pb_code.specs.Reached.{CodeMoves, CodeReaches}
 use Rattle.pb_code.specs.Whole.{Code, bank_of, code_opening}

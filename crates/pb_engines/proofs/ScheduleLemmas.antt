@@ -28,7 +28,7 @@ use Rattle.pb_engines.specs.Schedule.{IsFirst, NoArmBelow, NoProcessBelow, Steps
 stays_where_none : (code : Code) (s : State CodeProcess) (pick : Pick) → move_of (code_step code.processes) s pick ≡ None → CodeStays code s pick
 stays_where_none code s pick none move is granted = let both : Some move ≡ None = sym is ∙ none in cc
 
-no_step_beyond : (codes : List ProcessCode) (p : ℕ) (process : CodeProcess) (a : ℕ) → length process.threads ≤ a
+pub no_step_beyond : (codes : List ProcessCode) (p : ℕ) (process : CodeProcess) (a : ℕ) → length process.threads ≤ a
     → code_step codes p process a ≡ None
 no_step_beyond codes p process a long = go (slice_get codes p)
   where
@@ -83,7 +83,7 @@ some_made code s after pick (suc made) max silent some moves stops = omega arith
 pub no_arm_yet : (code : Code) (s : State CodeProcess) (p : ℕ) → NoArmBelow code s p 0
 no_arm_yet code s p pick same less = absurd (omega (arith, less))
 
-same_pick : (a b : Pick) → a.process ≡ b.process → a.arm ≡ b.arm → a ≡ b
+pub same_pick : (a b : Pick) → a.process ≡ b.process → a.arm ≡ b.arm → a ≡ b
 same_pick a b process arm =
     ap (λ p. record { process = p; arm = a.arm }) process ∙ ap (λ n. record { process = b.process; arm = n }) arm
 

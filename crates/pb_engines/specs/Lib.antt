@@ -1,5 +1,6 @@
 pub mod Answers
 pub mod Checks
+pub mod Choices
 pub mod ClaimLines
 pub mod Emissions
 pub mod Executions

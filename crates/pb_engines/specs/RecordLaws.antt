@@ -1,24 +1,33 @@
 -- What `record` wrote can be replayed.
-use Rattle.std.specs.Prelude.{◌≡◌, ℕ, ◌≤◌, List}
-use Rattle.pb_code.specs.Whole.{Code}
-use Rattle.pb_history.specs.Replays.{IsStopped, spread}
+use Rattle.std.specs.Prelude.{◌≢◌, ◌⊎◌, ℕ, ◌<◌, ◌≤◌, List, length}
+use Rattle.pb_code.specs.Whole.{Code, ProcessLabels}
+use Rattle.pb_codegen.specs.Compiled.{IsCompiled}
 use Rattle.pb_history.specs.declared.counted.CountedPick.{CountedPick}
-use Rattle.pb_history.specs.declared.fault.ReplayFault.{ReplayFault}
-use Rattle.pb_history.specs.declared.fault.ReplayFault.TheVariants as replay
-use Rattle.pb_picks.specs.PickLines.{IsFaulty, SpellsPicks, pick_lines}
-use Rattle.pb_picks.specs.declared.fault.PickFault.{PickFault}
-use Rattle.pb_picks.specs.declared.fault.PickFault.TheVariants as lines
-use Rattle.pb_verifier.specs.Verified.{IsAnnotated}
-use Rattle.pb_engines.specs.Records.{IsRecorded}
+use Rattle.pb_picks.specs.PickLines.{SpellsPicks}
+use Rattle.pb_engines.specs.Records.{EndsLine, IsEnded, IsRecorded, SaysOfRecord}
+use Rattle.pb_engines.specs.ReplayLines.{IsTextWithLines, SaysOfReplay}
+use Rattle.pb_engines.specs.declared.status.Status.{Status}
+use Rattle.pb_engines.specs.declared.status.Status.TheVariants.{Done, Refused}
 
--- the lines of recorded picks say these picks, no line of them is refused, and no pick
-pub record CanBeReplayed (code : Code) (picks : List CountedPick) : Type 0 where
-  pub said : SpellsPicks code (pick_lines code.names.processes picks) picks
-  pub read : (fault : PickFault) → IsFaulty code (pick_lines code.names.processes picks) fault → fault ≡ lines.NoMemory
-  pub made : (fault : ReplayFault) → IsStopped code (spread picks) fault → fault ≡ replay.NoMemory
+-- the text is the recorded one, ended by a line feed; the lines say the picks of a run of its code
+pub record HoldsRun (steps : ℕ) (bytes text lines : List ℕ) : Type 0 where
+  pub ended : IsEnded bytes text
+  pub code : Code
+  pub labels : List ProcessLabels
+  pub compiled : IsCompiled bytes code labels
+  pub picks : List CountedPick
+  pub recorded : IsRecorded code steps picks
+  pub said : SpellsPicks code lines picks
 
--- of safe code, as each that is compiled, what is recorded can be replayed
+-- an input is cut by `replay` into the recorded text and the picks of its run, and no line or pick of them is refused;
+-- nor is the text, unless the line feed behind it made it longer than a text may be
+pub record CanBeReplayed (steps : ℕ) (bytes whole : List ℕ) : Type 0 where
+  pub cut : (text lines : List ℕ) → IsTextWithLines whole text lines → HoldsRun steps bytes text lines
+  pub replayed : (length bytes < 65536) ⊎ EndsLine bytes
+      → (said : List ℕ) (status : Status) → SaysOfReplay whole said status → status ≢ Refused
+
+-- what `record` wrote can be replayed
 abbrev pub RecordsCanBeReplayed : Type 0
 RecordsCanBeReplayed =
-    (code : Code) (steps : ℕ) (picks : List CountedPick) → IsAnnotated code → steps ≤ 10000000
-    → IsRecorded code steps picks → CanBeReplayed code picks
+    (steps : ℕ) (bytes whole : List ℕ) → steps ≤ 10000000 → SaysOfRecord steps bytes whole Done
+    → CanBeReplayed steps bytes whole

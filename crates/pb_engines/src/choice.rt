@@ -1,5 +1,6 @@
 //! The next pick: the first that is enabled, or one that is drawn from all.
-ghost use Rattle.std.specs.Prelude.{◌≡◌, ◌<◌, ◌≤◌, IfOk, length};
+ghost use Rattle.std.specs.Prelude.{◌≡◌, ◌+◌, ◌<◌, ◌≤◌, IfOk, OnOk, length};
+ghost use Rattle.pb_engines.specs.Choices.{AreLiveBefore, AreLivePicks};
 ghost use Rattle.pb_engines.specs.Schedule.{IsWithin, StepsSome};
 ghost use Rattle.pb_machine.specs.Views.{machine_view, IsMachineOf};
 ghost use Rattle.pb_verifier.specs.Verified.{IsVerified};
@@ -12,36 +13,57 @@ use rand_core::Rng;
 use rand_pcg::Pcg32;
 use std::alloc::Global;
 
-/// Makes the next pick. Without a generator that is the first that is enabled, and if it shows nothing, those behind it
-/// of its arm that show nothing either, at most `max` in all; with one it is a single pick, drawn from those that are
-/// enabled.
-pub fn step_chosen(
-    alloc: Global,
-    machine: &mut Machine,
-    verified: &Verified,
-    generator: &mut Option<Pcg32>,
-    max: u32,
-) -> Result<Next, NoMemory>
-    requires verified { IsVerified verified.now }
-    requires machine { IsMachineOf verified.now machine.old }
-    requires max { 1 ≤ max }
-    ensures machine { IsMachineOf verified.now machine.new }
-    ensures step { IfOk result (λ next.
-        StepsSome verified.now.code (machine_view machine.old) next (machine_view machine.new)) }
-    ensures within { IfOk result (IsWithin max) }
-{
-    match generator {
-        Some(generator) => step_drawn(alloc, machine, verified, generator),
-        None => Ok(step_first(machine, verified, max)),
+/// The stream of the generator, which each seed starts at a place of its own.
+const STREAM: u64 = 54;
+
+/// Chooses the next pick of a run, again and again.
+#[derive(Drop)]
+pub struct Chooser {
+    generator: Option<Pcg32>,
+    /// The picks that one is drawn from, kept so that their memory is used again.
+    live: Vec<Pick>,
+}
+
+impl Chooser {
+    /// With a seed each pick is drawn; without one it is the first that is enabled. No memory is taken.
+    pub fn new(alloc: Global, seed: Option<u64>) -> Chooser {
+        Chooser {
+            generator: seed.map(|seed| Pcg32::new(seed, STREAM)),
+            live: Vec::new(alloc),
+        }
+    }
+
+    /// Makes the next pick. Without a generator that is the first that is enabled, and if it shows nothing, those behind
+    /// it of its arm that show nothing either, at most `max` in all; with one it is a single pick, drawn from those that
+    /// are enabled.
+    pub fn step(
+        &mut self,
+        machine: &mut Machine,
+        verified: &Verified,
+        max: u32,
+    ) -> Result<Next, NoMemory>
+        requires verified { IsVerified verified.now }
+        requires machine { IsMachineOf verified.now machine.old }
+        requires max { 1 ≤ max }
+        ensures machine { IsMachineOf verified.now machine.new }
+        ensures step { IfOk result (λ next.
+            StepsSome verified.now.code (machine_view machine.old) next (machine_view machine.new)) }
+        ensures within { IfOk result (IsWithin max) }
+    {
+        match &mut self.generator {
+            Some(generator) => step_drawn(machine, verified, generator, &mut self.live),
+            None => Ok(step_first(machine, verified, max)),
+        }
     }
 }
 
-// Makes a pick that is drawn from the arms that can go on. If the banker refuses it, another is drawn from the rest.
+// Makes a pick that is drawn from the live ones. If the banker refuses it, another is drawn from the rest. The list is
+// for the live picks; what it holds before makes no difference.
 fn step_drawn(
-    alloc: Global,
     machine: &mut Machine,
     verified: &Verified,
     generator: &mut Pcg32,
+    live: &mut Vec<Pick>,
 ) -> Result<Next, NoMemory>
     requires verified { IsVerified verified.now }
     requires machine { IsMachineOf verified.now machine.old }
@@ -50,9 +72,9 @@ fn step_drawn(
         StepsSome verified.now.code (machine_view machine.old) next (machine_view machine.new)) }
     ensures within { IfOk result (IsWithin 1) }
 {
-    let mut picks = live_picks(alloc, machine, verified)?;
-    while !picks.is_empty() {
-        let pick = picks.remove(below(generator, picks.len()));
+    live_picks(machine, verified, live)?;
+    while !live.is_empty() {
+        let pick = live.remove(below(generator, live.len()));
         match step_arm(machine, verified, pick, 1) {
             Next::Silent(pick, made) => return Ok(Next::Silent(pick, made)),
             Next::Did(pick, event) => return Ok(Next::Did(pick, event)),
@@ -70,19 +92,20 @@ fn below(generator: &mut Pcg32, end: usize) -> usize
     generator.next_u32() as usize % end
 }
 
-// The picks of all arms that can go on, but for the banker, in the order of their processes and then of their arms.
-fn live_picks(alloc: Global, machine: &Machine, verified: &Verified) -> Result<Vec<Pick>, NoMemory>
+// Puts the live picks in the place of what the list held, in the order of their processes and then of their arms.
+fn live_picks(machine: &Machine, verified: &Verified, picks: &mut Vec<Pick>) -> Result<(), NoMemory>
     requires verified { IsVerified verified.now }
     requires machine { IsMachineOf verified.now machine.now }
+    ensures { OnOk result (AreLivePicks verified.now.code (machine_view machine.now) picks.new.items) }
 {
-    let mut picks = Vec::new(alloc);
+    picks.clear();
     for process in 0..machine.processes() {
-        push_live(machine, verified, process as u8, &mut picks)?;
+        push_live(machine, verified, process as u8, picks)?;
     }
-    Ok(picks)
+    Ok(())
 }
 
-// Adds the picks of the arms of a process that can go on.
+// Adds the live picks of a process, behind those of the processes before it.
 fn push_live(
     machine: &Machine,
     verified: &Verified,
@@ -92,14 +115,17 @@ fn push_live(
     requires verified { IsVerified verified.now }
     requires machine { IsMachineOf verified.now machine.now }
     requires process { process < length (machine_view machine.now).processes }
+    requires before { AreLiveBefore verified.now.code (machine_view machine.now) process 0 picks.old.items }
+    ensures { OnOk result (AreLiveBefore verified.now.code (machine_view machine.now) (process + 1) 0 picks.new.items) }
 {
     for arm in 0..machine.proc(usize::from(process)).arms() {
         let pick = Pick {
             process,
             arm: arm as u8,
         };
-        if machine.look(verified, pick) != Look::Stays {
-            picks.push(pick)?;
+        match machine.look(verified, pick) {
+            Look::Stays => {}
+            Look::Silent | Look::Visible => picks.push(pick)?,
         }
     }
     Ok(())

@@ -7,7 +7,7 @@ ghost use Rattle.pb_engines.specs.Records.{EndsLine, IsEnded, IsRecorded, SaysOf
 ghost use Rattle.pb_verifier.specs.Verified.{IsVerified};
 
 use crate::accept::{compile_text, refuse};
-use crate::choice::step_chosen;
+use crate::choice::Chooser;
 use crate::input::{LONGEST_INPUT, read_input};
 use crate::options::RecordOptions;
 use crate::reply::{Reply, refused, tell};
@@ -19,11 +19,7 @@ use pb_history::CountedPick;
 use pb_machine::Machine;
 use pb_picks::{count_pick, write_picks};
 use pb_verifier::Verified;
-use rand_pcg::Pcg32;
 use std::alloc::Global;
-
-/// The stream of the generator, which each seed starts at a place of its own.
-const STREAM: u64 = 54;
 
 /// Runs the text that the input holds, and writes what `replay` reads: the text, a line `%%`, and the pick lines of the
 /// run. A text that is refused is answered by its refusal line; if the whole would be longer than an input may be, the
@@ -127,11 +123,11 @@ fn record_picks(
     ensures { IfOk result (λ picks. IsRecorded verified.now.code options.steps picks.items) }
 {
     let mut machine = Machine::new(alloc, verified)?;
-    let mut generator = options.seed.map(|seed| Pcg32::new(seed, STREAM));
+    let mut chooser = Chooser::new(alloc, options.seed);
     let mut picks = Vec::new(alloc);
     let mut left = options.steps as u32;
     while left > 0 {
-        match step_chosen(alloc, &mut machine, verified, &mut generator, left)? {
+        match chooser.step(&mut machine, verified, left)? {
             Next::Silent(pick, made) => {
                 count_pick(&mut picks, pick, made)?;
                 left -= made;

@@ -2,8 +2,8 @@
 
 ghost use Rattle.pb_engines.specs.RecordLaws.{RecordsCanBeReplayed};
 
-/// The pick lines that `record` wrote say the picks of its run. So their reader refuses none of them and a replay refuses
-/// none of the picks: both return what was recorded, or run out of memory.
+/// `replay` cuts what `record` wrote into the recorded text, ended by a line feed, and lines that say the picks of its
+/// run. It refuses no line, no pick and not the text, unless that had 65,536 bytes and no line feed behind it.
 pub fn records_can_be_replayed()
     ensures { RecordsCanBeReplayed }
 {}

@@ -1,4 +1,6 @@
 use Rattle.std.proofs.Common.{arith}
+use Rattle.pb_machine.specs.Views.{machine_view}
+use Rattle.pb_engines.proofs.ChoiceLemmas.{all_live}
 use Rattle.pb_engines.proofs.ScheduleLemmas.{few_processes}
 use Rattle.pb_engines.proofs.choice.live_picks.Goals as goal
 
@@ -6,3 +8,10 @@ pub overflow_cast-process : goal.overflow_cast-process
 overflow_cast-process c =
     let few = few_processes c.args.verified.now c.requires.verified c.args.machine.now c.requires.machine in
     omega (arith, few)
+
+pub returns : goal.returns
+returns c =
+    let test = c.loop-process-test.false in
+    let count = c.processes-process-end.ensures in
+    all_live c.args.verified.now.code (machine_view c.args.machine.now) c.loop-process.process c.loop-process.picks.items
+    c.loop-process.invariant (omega (arith, test, count))

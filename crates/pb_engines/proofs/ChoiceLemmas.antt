@@ -1,0 +1,138 @@
+-- Live picks, found arm by arm.
+use Rattle.std.proofs.Common.{◌≡◌, ℕ, ◌+◌, ◌≤◌, ◌⊎◌, inl, inr, List, [], ◌∷◌, ◌++◌, length, length-append, Some, All, refl, sym, ap, ◌∙◌, subst, arith}
+use Rattle.std.specs.Prelude.{Contains, option_and_then, slice_get}
+use Rattle.std.proofs.lemmas.Bool.{cases_lt}
+use Rattle.std.proofs.lemmas.List.{get_or_append_left, get_or_at}
+use Rattle.std.proofs.lemmas.List.Elements.{All-head, All-nil, All-push, All-tail, All-weaker}
+use Rattle.std.proofs.lemmas.Option.{slice_get_past}
+use Rattle.pb_base.specs.declared.pick.Pick.{Pick}
+use Rattle.pb_base.specs.Steppers.{State}
+use Rattle.pb_code.specs.Code.{CodeProcess, code_step}
+use Rattle.pb_code.specs.Whole.{Code}
+use Rattle.pb_machine.specs.Looks.{look_at, look_of}
+use Rattle.pb_machine.specs.declared.look.Look.TheVariants.{Stays}
+use Rattle.pb_engines.specs.Choices.{AreInOrder, AreLiveBefore, AreLivePicks, IsBefore, IsLive}
+use Rattle.pb_engines.proofs.ScheduleLemmas.{no_step_beyond, same_pick}
+
+-- ---- arms and processes that are not there
+
+pub no_arm_lives : (code : Code) (s : State CodeProcess) (pick : Pick) (process : CodeProcess)
+    → slice_get s.processes pick.process ≡ Some process → length process.threads ≤ pick.arm → look_at code s pick ≡ Stays
+no_arm_lives code s pick process there long =
+    ap (λ p. look_of (option_and_then (λ q. code_step code.processes pick.process q pick.arm) p)) there
+    ∙ ap look_of (no_step_beyond code.processes pick.process process pick.arm long)
+
+no_process_lives : (code : Code) (s : State CodeProcess) (pick : Pick) → length s.processes ≤ pick.process
+    → look_at code s pick ≡ Stays
+no_process_lives code s pick long =
+    ap (λ p. look_of (option_and_then (λ q. code_step code.processes pick.process q pick.arm) p))
+    (slice_get_past s.processes pick.process long)
+
+-- ---- one more
+
+contains_more : (picks : List Pick) (last pick : Pick) → Contains picks pick → Contains (picks ++ last ∷ []) pick
+contains_more picks last pick (k, less, is) =
+    let long = length-append picks (last ∷ []) in
+    (k, omega (arith, long, less), get_or_append_left picks (last ∷ []) pick k less ∙ is)
+
+contains_last : (picks : List Pick) (last pick : Pick) → last ≡ pick → Contains (picks ++ last ∷ []) pick
+contains_last picks last pick same =
+    let long = length-append picks (last ∷ []) in
+    (length picks, omega (arith, long), get_or_at picks last [] pick (length picks) refl ∙ same)
+
+in_order_with : (picks : List Pick) (last : Pick) → AreInOrder picks → All (λ p. IsBefore p last.process last.arm) picks
+    → AreInOrder (picks ++ last ∷ [])
+in_order_with [] last order before = (All-nil (λ later. IsBefore last later.process later.arm), tt)
+in_order_with (pick ∷ picks) last order before = (
+  All-push (λ later. IsBefore pick later.process later.arm) picks last order.0 (All-head (λ p. IsBefore p last.process last.arm) pick picks before),
+  in_order_with picks last order.1 (All-tail (λ p. IsBefore p last.process last.arm) pick picks before),
+)
+
+further : (p n : ℕ) (pick : Pick) → IsBefore pick p n → IsBefore pick p (n + 1)
+further p n pick (inl less) = inl less
+further p n pick (inr (same, less)) = inr (same, omega (arith, less))
+
+-- a pick of the first arms is of those before the last, or of the last
+last_or_before : (p n : ℕ) (pick : Pick) → IsBefore pick p (n + 1) → (IsBefore pick p n) ⊎ ((pick.process ≡ p) × (pick.arm ≡ n))
+last_or_before p n pick (inl less) = inl (inl less)
+last_or_before p n pick (inr (same, less)) = elim (cases_lt pick.arm n) [
+  | inl before ↦ inl (inr (same, before))
+  | inr not_before ↦ inr (same, omega (arith, less, not_before))
+]
+
+module _ (code : Code) (s : State CodeProcess) where
+  pub none_live : AreLiveBefore code s 0 0 []
+  none_live = record {
+    live = All-nil _;
+    before = All-nil _;
+    all = λ pick live before. elim before [
+      | inl less ↦ absurd (omega (arith, less))
+      | inr (same, less) ↦ absurd (omega (arith, less))
+    ];
+    order = tt;
+  }
+
+  pub one_live : (pick : Pick) (picks : List Pick) → AreLiveBefore code s pick.process pick.arm picks → IsLive code s pick
+      → AreLiveBefore code s pick.process (pick.arm + 1) (picks ++ pick ∷ [])
+  one_live pick picks are live = record {
+    live = All-push (IsLive code s) picks pick are.live live;
+    before = All-push (λ p. IsBefore p pick.process (pick.arm + 1)) picks pick
+        (All-weaker (λ p. IsBefore p pick.process pick.arm) (λ p. IsBefore p pick.process (pick.arm + 1))
+        (further pick.process pick.arm) picks are.before)
+        (inr (refl, omega arith));
+    all = λ other other_lives before. elim (last_or_before pick.process pick.arm other before) [
+      | inl earlier ↦ contains_more picks pick other (are.all other other_lives earlier)
+      | inr (process, arm) ↦ contains_last picks pick other (same_pick pick other (sym process) (sym arm))
+    ];
+    order = in_order_with picks pick are.order are.before;
+  }
+
+  pub one_stays : (pick : Pick) (picks : List Pick) → AreLiveBefore code s pick.process pick.arm picks → look_at code s pick ≡ Stays
+      → AreLiveBefore code s pick.process (pick.arm + 1) picks
+  one_stays pick picks are stays = record {
+    live = are.live;
+    before = All-weaker _ _ (further pick.process pick.arm) picks are.before;
+    all = λ other live before. elim (last_or_before pick.process pick.arm other before) [
+      | inl earlier ↦ are.all other live earlier
+      | inr (process, arm) ↦
+          absurd (live (ap (look_at code s) (sym (same_pick pick other (sym process) (sym arm))) ∙ stays))
+    ];
+    order = are.order;
+  }
+
+  -- all arms of a process were looked at
+  pub process_is_over : (p n : ℕ) (process : CodeProcess) (picks : List Pick) → AreLiveBefore code s p n picks
+      → slice_get s.processes p ≡ Some process → length process.threads ≤ n → AreLiveBefore code s (p + 1) 0 picks
+  process_is_over p n process picks are there long = record {
+    live = are.live;
+    before = All-weaker _ _ next_process picks are.before;
+    all = λ pick live before. are.all pick live (earlier pick live before);
+    order = are.order;
+  }
+    where
+      next_process : (pick : Pick) → IsBefore pick p n → IsBefore pick (p + 1) 0
+      next_process pick (inl less) = inl (omega (arith, less))
+      next_process pick (inr (same, less)) = inl (omega (arith, same))
+
+      earlier : (pick : Pick) → IsLive code s pick → IsBefore pick (p + 1) 0 → IsBefore pick p n
+      earlier pick live (inr (same, less)) = absurd (omega (arith, less))
+      earlier pick live (inl less) = elim (cases_lt pick.process p) [
+        | inl before ↦ inl before
+        | inr not_before ↦
+            let same : pick.process ≡ p = omega (arith, less, not_before) in
+            elim (cases_lt pick.arm n) [
+              | inl arm ↦ inr (same, arm)
+              | inr past ↦ absurd (live (no_arm_lives code s pick process
+                  (subst (λ (k : ℕ). slice_get s.processes k ≡ Some process) (sym same) there) (omega (arith, long, past))))
+            ]
+      ]
+
+  pub all_live : (n : ℕ) (picks : List Pick) → AreLiveBefore code s n 0 picks → length s.processes ≤ n → AreLivePicks code s picks
+  all_live n picks are long = record {
+    live = are.live;
+    all = λ pick live. elim (cases_lt pick.process n) [
+      | inl before ↦ are.all pick live (inl before)
+      | inr past ↦ absurd (live (no_process_lives code s pick (omega (arith, long, past))))
+    ];
+    order = are.order;
+  }
