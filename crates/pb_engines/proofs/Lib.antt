@@ -13,6 +13,7 @@ pub mod PageLemmas
 pub mod RecordLemmas
 pub mod ReplayLemmas
 pub mod ReplayedRecords
+pub mod ReportLemmas
 pub mod RunLemmas
 pub mod ScheduleLemmas
 pub mod TextLemmas

@@ -13,6 +13,7 @@ pub mod RecordLaws
 pub mod Records
 pub mod Refusals
 pub mod ReplayLines
+pub mod RunLaws
 pub mod Runs
 pub mod Schedule
 pub mod Statuses

@@ -19,6 +19,7 @@ mod refusal;
 pub mod replay;
 mod reply;
 pub mod run;
+pub mod run_laws;
 mod schedule;
 pub mod status;
 mod steps;

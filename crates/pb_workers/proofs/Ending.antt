@@ -1,5 +1,5 @@
 -- What a legal book says of its outcome.
-use Rattle.std.proofs.Common.{◌≡◌, ℕ, List, length, Some, refl, sym, subst}
+use Rattle.std.proofs.Common.{◌≡◌, ℕ, List, length, Some, refl, sym, ap, subst, arith}
 use Rattle.pb_code.specs.Whole.{code_opening}
 use Rattle.pb_history.specs.Entries.{Entry}
 use Rattle.pb_history.specs.Leads.{Leads}
@@ -20,6 +20,9 @@ pub report_of : (code : VerifiedCode) (s : Ledger) (report : Report) (limit : �
 report_of code s report limit legal is_limit made h at_limit = record {
   end = s.machine;
   leads = subst (λ (es : List Entry). Leads code.code (code_opening code.code) es s.machine) (sym made) legal.leads;
+  few = let counted = legal.counted in
+      let many = ap (λ (es : List Entry). length es) made in
+      omega (arith, counted, many, is_limit);
   ends = subst (λ (es : List Entry). EndsAs report.outcome limit es s.machine) (sym made)
       (subst (λ (n : ℕ). EndsAs report.outcome n s.entries s.machine) is_limit (ends s report.outcome h at_limit));
 }

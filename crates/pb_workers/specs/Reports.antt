@@ -19,9 +19,10 @@ abbrev pub EndsAs : Outcome → ℕ → List Entry → State CodeProcess → Typ
 EndsAs Done limit entries end = IsFinished code_over end
 EndsAs Limit limit entries end = (IsFinished code_over end → ⊥) × (length entries ≡ limit)
 
--- the trace has picks of this code and what each made, one after another from the start, and ends as the outcome
--- says
+-- the trace has picks of this code and what each made, one after another from the start, no more than the limit says,
+-- and ends as the outcome says
 pub record IsReport (code : Code) (limit : ℕ) (report : Report) : Type 0 where
   pub end : State CodeProcess
   pub leads : Leads code (code_opening code) report.trace.entries end
+  pub few : length report.trace.entries ≤ limit
   pub ends : EndsAs report.outcome limit report.trace.entries end
