@@ -1,13 +1,14 @@
 //! What a text is compiled to.
 
 ghost use Rattle.std.specs.Prelude.{◌≡◌};
+ghost use Rattle.pb_code.specs.Limits.{AreLabels};
 ghost use Rattle.pb_code.specs.View.{labels_view};
 
 use pb_code::Labels;
 use pb_verifier::Verified;
 use std::marker::Model;
 
-/// The code of a text, and the labels of its places.
+/// The code of a text, and the labels of its places. The labels fit the code.
 #[derive(Drop)]
 pub struct Compiled {
     pub(crate) verified: Verified,
@@ -15,12 +16,15 @@ pub struct Compiled {
 }
 
 impl Model for Compiled {
+    ghost use Rattle.pb_code.specs.Limits.{AreLabels};
     ghost use Rattle.pb_code.specs.View.{labels_view};
     ghost use Rattle.pb_codegen.specs.Compiled.{CompiledText};
 
     ghost Value = { CompiledText };
 
     ghost view = { λ c. record { verified = c.verified; labels = labels_view c.labels } };
+
+    ghost invariant = { λ c. AreLabels c.verified.code (labels_view c.labels) };
 }
 
 impl Compiled {
@@ -33,7 +37,8 @@ impl Compiled {
 
     /// The source line of each place of the code, and the names of the integers.
     pub fn labels(&self) -> &Labels
-        ensures { labels_view result.now ≡ self.now.labels }
+        ensures labels { labels_view result.now ≡ self.now.labels }
+        ensures fit { AreLabels self.now.verified.code self.now.labels }
     {
         &self.labels
     }
@@ -42,6 +47,7 @@ impl Compiled {
     pub fn into_parts(self) -> (Verified, Labels)
         ensures verified { result.0 ≡ self.verified }
         ensures labels { labels_view result.1 ≡ self.labels }
+        ensures fit { AreLabels self.verified.code self.labels }
     {
         let Compiled { verified, labels } = self;
         (verified, labels)

@@ -13,7 +13,7 @@ use Rattle.pb_machine.specs.Views.{place_of_thread}
 use Rattle.pb_verifier.proofs.Banking.{kept_reached}
 use Rattle.pb_debug.specs.Value.{Debugging, IsPosition, state_of}
 use Rattle.pb_debug.proofs.Asking.{place_within}
-use Rattle.pb_debug.proofs.Replaying.{position_reached}
+use Rattle.pb_history.proofs.Positions.{position_reached}
 
 -- what a list has at a place within
 pub item : {A : Type 0} (xs : List A) (i : ℕ) → i < length xs → (x : A) × (slice_get xs i ≡ Some x)

@@ -3,8 +3,6 @@ pub mod Feeding
 pub mod Following
 pub mod Here
 pub mod Lines
-pub mod Replaying
 pub mod Saying
-pub mod Spans
 pub mod Spelling
 pub mod Walking

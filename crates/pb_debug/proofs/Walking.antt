@@ -1,37 +1,30 @@
 -- Machines that walk along a trace.
-use Rattle.std.proofs.Common.{◌≡◌, inl, inr, ℕ, zero, suc, ◌≢◌, ◌+◌, ◌-◌, ◌*◌, ◌/◌, ◌<◌, ◌≤◌, List, [], ◌∷◌, ◌++◌, Some, None, take, length, sym, ap, ◌∙◌, subst, arith}
+use Rattle.std.proofs.Common.{◌≡◌, inl, inr, ℕ, zero, suc, ◌+◌, ◌-◌, ◌*◌, ◌/◌, ◌<◌, ◌≤◌, List, [], ◌∷◌, ◌++◌, Some, None, take, drop, length, replicate, sym, ap, ◌∙◌, subst, append_assoc, length-append, arith}
 use Rattle.std.specs.Prelude.{slice_get}
 use Rattle.std.proofs.lemmas.Bool.{cases_lt}
+use Rattle.std.proofs.lemmas.List.{length-map, length-replicate, take-append-le}
+use Rattle.std.proofs.Math.Nat.{div-lt_iff_lt-mul}
 use Rattle.pb_base.specs.declared.pick.Pick.{Pick}
 use Rattle.pb_base.specs.declared.step.Step.{Step}
 use Rattle.pb_base.specs.Steppers.{State}
-use Rattle.pb_code.specs.Code.{CodeProcess}
+use Rattle.pb_code.specs.Code.{CodeProcess, code_step}
 use Rattle.pb_code.specs.Whole.{Code, code_opening}
 use Rattle.pb_code.specs.Reached.{CodeMoves}
-use Rattle.pb_history.specs.Entries.{Entry, all_picks, events_of, picks_of, size, spans_of}
-use Rattle.pb_history.specs.Replays.{IsReplay}
-use Rattle.pb_history.specs.declared.span.Span.{Span}
-use Rattle.pb_history.proofs.Leading.{traces_make}
-use Rattle.std.proofs.Math.Nat.{div-lt_iff_lt-mul}
+use Rattle.pb_history.specs.Entries.{Entry, picks_of}
+use Rattle.pb_history.specs.Leads.{Leads}
+use Rattle.pb_history.specs.Positions.{AreEnabled, after, state_after}
+use Rattle.pb_history.specs.Replays.{spread}
+use Rattle.pb_history.specs.declared.counted.CountedPick.{CountedPick}
+use Rattle.pb_history.proofs.Laying.{replicate_append}
+use Rattle.pb_history.proofs.Replaying.{spread_take, spread_whole}
+use Rattle.pb_history.proofs.Positions.{leads_to, moved_more, not_refused, stepped_more}
 use Rattle.pb_machine.proofs.Growing.{at_push}
 use Rattle.pb_machine.specs.Steps.{IsStep, MovesSilently}
 use Rattle.pb_machine.specs.Views.{machine_view, IsMachineOf}
 use Rattle.pb_machine.specs.declared.machine.Machine.{Machine}
 use Rattle.pb_verifier.specs.Verified.{VerifiedCode}
-use Rattle.pb_debug.specs.Positions.{AreEnabled, interval_of, state_after}
-use Rattle.pb_debug.specs.Walks.{AreCheckpoints, IsCheckpoint, Repeat, StandsAfter, Walks}
-use Rattle.pb_debug.specs.declared.walker.Walker.{Walker}
-use Rattle.pb_debug.proofs.Replaying.{moved_more, not_refused, stepped_more}
-use Rattle.pb_debug.proofs.Spans.{many_before, pick_in_span, picks_of_spans, size_is, size_more, size_past, spans_have_picks}
-
--- picks that were replayed are enabled
-pub replay_enabled : (code : Code) (picks : List Pick) (entries : List Entry) (end : State CodeProcess) → IsReplay code picks entries end
-    → AreEnabled code (picks_of entries)
-replay_enabled code picks entries end h = record {
-  events = events_of entries;
-  end = end;
-  makes = traces_make code (code_opening code) end entries h.leads;
-}
+use Rattle.pb_debug.specs.Intervals.{interval_of}
+use Rattle.pb_debug.specs.Walks.{AreCheckpoints, IsCheckpoint, Repeat, StandsAfter}
 
 -- silent picks lead from one position to another
 silent_from : (code : Code) (picks : List Pick) (i : ℕ) (pick : Pick) (most made : ℕ) (s t : State CodeProcess)
@@ -66,77 +59,89 @@ module _ (v : VerifiedCode) (picks : List Pick) (i : ℕ) (pick : Pick) (most : 
             ∙ ap (state_after v.code picks) (let e : i + made + 1 ≡ i + (made + 1) = omega arith in e);
       }
 
--- before the last pick there is a span that goes on
-pub span_there : (v : VerifiedCode) (entries : List Entry) (w : Walker) → Walks v entries w → w.at < length (picks_of entries)
-    → w.span < length (spans_of entries)
-span_there v entries w h lt = elim (cases_lt w.span (length (spans_of entries))) [
-  | inl inside ↦ inside
-  | inr past ↦
-      let all = size_past (spans_of entries) w.span past in
-      let many = size_is (spans_of entries) in
-      let same = ap (λ (ps : List Pick). length ps) (picks_of_spans entries) in
-      let place = h.place in
-      absurd (omega (arith, all, many, same, place, lt))
-]
-
--- the picks from the position on are those of its span
-pub span_repeats : (v : VerifiedCode) (entries : List Entry) (w : Walker) (s : Span) (most : ℕ) → Walks v entries w
-    → slice_get (spans_of entries) w.span ≡ Some s → most ≤ s.count - w.into → Repeat (picks_of entries) w.at s.pick most
-span_repeats v entries w s most h there le k lt =
-    let inside = h.inside s there in
-    let place = h.place in
-    let at : w.at + k ≡ size (take w.span (spans_of entries)) + (w.into + k) = omega (arith, place) in
-    ap (λ (ps : List Pick). slice_get ps (w.at + k)) (sym (picks_of_spans entries))
-    ∙ (ap (slice_get (all_picks (spans_of entries))) at
-    ∙ pick_in_span (spans_of entries) w.span s (w.into + k) there (omega (arith, inside, le, lt)))
-
--- the number of a span is small
-pub few_spans : (v : VerifiedCode) (entries : List Entry) (w : Walker) → Walks v entries w → w.span < length (spans_of entries) → w.span ≤ w.at
-few_spans v entries w h lt =
-    let before = many_before (spans_of entries) w.span (spans_have_picks entries) (omega (arith, lt)) in
-    let place = h.place in
-    omega (arith, before, place)
-
-module _ (v : VerifiedCode) (entries : List Entry) (w : Walker) (s : Span) (made : ℕ) (m' : Machine) (h : Walks v entries w)
-    (there : slice_get (spans_of entries) w.span ≡ Some s) (le : made ≤ s.count - w.into) (stands : StandsAfter v (picks_of entries) (w.at + made) m') where
-  -- inside the span
-  pub walked_in : w.into + made ≢ s.count → Walks v entries (record { machine = m'; at = w.at + made; span = w.span; into = w.into + made })
-  walked_in not =
-      let first = h.inside s there in
-      let place = h.place in
-      record {
-        stands = stands;
-        place = omega (arith, place);
-        inside = λ t there'.
-            let both : Some s ≡ Some t = sym there ∙ there' in
-            let same : s ≡ t = cc in
-            let lt : w.into + made < s.count = omega (arith, le, not, first) in
-            subst (λ (x : Span). w.into + made < x.count) same lt;
-      }
-
-  -- and past its end
-  pub walked_on : w.into + made ≡ s.count → Walks v entries (record { machine = m'; at = w.at + made; span = w.span + 1; into = 0 })
-  walked_on end =
-      let more = size_more (spans_of entries) w.span s there in
-      let place = h.place in
-      record {
-        stands = stands;
-        place = omega (arith, place, more, end);
-        inside = λ t there'. spans_have_picks entries (w.span + 1) t there';
-      }
-
 -- ---- checkpoints
 
-pub one_checkpoint_more : (v : VerifiedCode) (entries : List Entry) (interval n : ℕ) (ws : List Walker) (w : Walker) → AreCheckpoints v entries interval ws
-    → length ws ≡ n → IsCheckpoint v entries (n * interval) w → AreCheckpoints v entries interval (ws ++ w ∷ [])
-one_checkpoint_more v entries interval n ws w before many at k w' there =
-    elim (at_push ws w w' k there) [
-      | inl earlier ↦ before k w' earlier
+-- a checkpoint is one whatever picks follow
+checkpoint_before : (v : VerifiedCode) (xs ys : List Pick) (i : ℕ) (m : Machine) → IsCheckpoint v xs i m → IsCheckpoint v (xs ++ ys) i m
+checkpoint_before v xs ys i m h =
+    let same : take i (xs ++ ys) ≡ take i xs = take-append-le i xs ys h.within in
+    let more = length-append xs ys in
+    let within = h.within in
+    record {
+      stands = record {
+        machine = h.stands.machine;
+        state = h.stands.state ∙ ap (after (code_step v.code.processes) (code_opening v.code)) (sym same);
+      };
+      within = omega (arith, within, more);
+    }
+
+pub checkpoints_before : (v : VerifiedCode) (xs ys zs : List Pick) (interval : ℕ) (ms : List Machine) → zs ≡ xs ++ ys
+    → AreCheckpoints v xs interval ms → AreCheckpoints v zs interval ms
+checkpoints_before v xs ys zs interval ms same h =
+    subst (λ (ps : List Pick). AreCheckpoints v ps interval ms) (sym same) (λ k m there. checkpoint_before v xs ys (k * interval) m (h k m there))
+
+-- a machine to which entries led is a checkpoint after them
+pub checkpoint_here : (v : VerifiedCode) (entries : List Entry) (i : ℕ) (m : Machine) → IsMachineOf v m
+    → Leads v.code (code_opening v.code) entries (machine_view m) → i ≡ length entries → IsCheckpoint v (picks_of entries) i m
+checkpoint_here v entries i m of leads at =
+    let many : length (picks_of entries) ≡ length entries = length-map entries (λ (e : Entry). e.pick) in
+    let here : length (picks_of entries) ≡ i = many ∙ sym at in
+    record {
+      stands = record {
+        machine = of;
+        state = leads_to v.code entries (machine_view m) leads ∙ ap (state_after v.code (picks_of entries)) here;
+      };
+      within = omega (arith, here);
+    }
+
+pub one_checkpoint_more : (v : VerifiedCode) (picks : List Pick) (interval n : ℕ) (ms : List Machine) (m : Machine) → AreCheckpoints v picks interval ms
+    → length ms ≡ n → IsCheckpoint v picks (n * interval) m → AreCheckpoints v picks interval (ms ++ m ∷ [])
+one_checkpoint_more v picks interval n ms m before many at k m' there =
+    elim (at_push ms m m' k there) [
+      | inl earlier ↦ before k m' earlier
       | inr last ↦
           let here : n * interval ≡ k * interval = ap (λ j. j * interval) (sym many ∙ sym last.0) in
-          subst (λ (x : Walker). IsCheckpoint v entries (k * interval) x) last.1
-          (subst (λ (j : ℕ). IsCheckpoint v entries j w) here at)
+          subst (λ (x : Machine). IsCheckpoint v picks (k * interval) x) last.1
+          (subst (λ (j : ℕ). IsCheckpoint v picks j m) here at)
     ]
+
+-- ---- counted picks that are made in parts
+
+-- what was made, some more of it, and the rest are all of it
+pub all_made : (old here : List Entry) (pick : Pick) (count left n : ℕ) → picks_of here ≡ picks_of old ++ replicate (count - left) pick
+    → n ≤ left → left ≤ count
+    → (picks_of here ++ replicate n pick) ++ replicate (left - n) pick ≡ picks_of old ++ replicate count pick
+all_made old here pick count left n picks le fewer =
+    append_assoc (picks_of here) (replicate n pick) (replicate (left - n) pick)
+    ∙ (ap (λ (ps : List Pick). picks_of here ++ ps) (replicate_append n (left - n) pick)
+    ∙ (ap (λ (k : ℕ). picks_of here ++ replicate k pick) (let e : n + (left - n) ≡ left = omega (arith, le) in e)
+    ∙ (ap (λ (ps : List Pick). ps ++ replicate left pick) picks
+    ∙ (append_assoc (picks_of old) (replicate (count - left) pick) (replicate left pick)
+    ∙ (ap (λ (ps : List Pick). picks_of old ++ ps) (replicate_append (count - left) left pick)
+    ∙ ap (λ (k : ℕ). picks_of old ++ replicate k pick) (let e : count - left + left ≡ count = omega (arith, fewer) in e))))))
+
+pub more_made : (old here : List Entry) (pick : Pick) (count left n : ℕ) → picks_of here ≡ picks_of old ++ replicate (count - left) pick
+    → n ≤ left → left ≤ count → picks_of here ++ replicate n pick ≡ picks_of old ++ replicate (count - (left - n)) pick
+more_made old here pick count left n picks le fewer =
+    ap (λ (ps : List Pick). ps ++ replicate n pick) picks
+    ∙ (append_assoc (picks_of old) (replicate (count - left) pick) (replicate n pick)
+    ∙ (ap (λ (ps : List Pick). picks_of old ++ ps) (replicate_append (count - left) n pick)
+    ∙ ap (λ (k : ℕ). picks_of old ++ replicate k pick) (let e : count - left + n ≡ count - (left - n) = omega (arith, le, fewer) in e)))
+
+-- how many counted picks are, with one more of them
+pub count_more : (picks : List CountedPick) (i : ℕ) (x : CountedPick) → slice_get picks i ≡ Some x
+    → length (spread (take (i + 1) picks)) ≡ length (spread (take i picks)) + x.count
+count_more picks i x there =
+    let a = ap (λ (ps : List Pick). length ps) (spread_take picks i x there) in
+    let b = length-append (spread (take i picks)) (replicate x.count x.pick) in
+    let c : length (replicate x.count x.pick) ≡ x.count = length-replicate x.count x.pick in
+    omega (arith, a, b, c)
+
+pub count_within : (picks : List CountedPick) (i : ℕ) → length (spread (take i picks)) ≤ length (spread picks)
+count_within picks i =
+    let a = ap (λ (ps : List Pick). length ps) (spread_whole picks i) in
+    let b = length-append (spread (take i picks)) (spread (drop i picks)) in
+    omega (arith, a, b)
 
 -- checkpoints are some way apart
 pub interval_some : (n interval : ℕ) → interval ≡ interval_of n → 0 < interval

@@ -4,7 +4,8 @@ use Rattle.pb_code.specs.Limits.{AreLabels}
 use Rattle.pb_code.specs.View.{labels_view}
 use Rattle.pb_history.specs.Entries.{picks_of}
 use Rattle.pb_verifier.specs.Verified.{IsVerified}
-use Rattle.pb_debug.specs.Positions.{AreEnabled, interval_of}
+use Rattle.pb_history.specs.Positions.{AreEnabled}
+use Rattle.pb_debug.specs.Intervals.{interval_of}
 use Rattle.pb_debug.specs.Value.{Debugging}
 use Rattle.pb_debug.specs.Walks.{AreCheckpoints, Walks}
 use Rattle.pb_debug.specs.declared.debugger.Debugger.TheInside.{Inside}
@@ -27,6 +28,6 @@ pub record IsSound (d : Inside) : Type 0 where
   pub cheap : d.last_cost < interval_of (length (picks_of d.trace.entries))
   pub fit : AreLabels d.verified.now.code (labels_view d.labels.now)
   pub interval : d.interval ≡ interval_of (length (picks_of d.trace.entries))
-  pub walks : Walks d.verified.now d.trace.entries d.walker
-  pub checkpoints : AreCheckpoints d.verified.now d.trace.entries d.interval d.checkpoints.items
+  pub walks : Walks d.verified.now (picks_of d.trace.entries) d.walker
+  pub checkpoints : AreCheckpoints d.verified.now (picks_of d.trace.entries) d.interval d.checkpoints.items
   pub enough : length (picks_of d.trace.entries) < length d.checkpoints.items * d.interval

@@ -10,7 +10,7 @@ use Rattle.pb_codegen.specs.Compiled.{IsCompiled}
 use Rattle.pb_names.specs.HeadLines.{head_line}
 use Rattle.pb_names.specs.Program.{Program}
 use Rattle.pb_names.specs.Source.{Arm, find, SourceProcess, source_process, source_step}
-use Rattle.pb_debug.specs.Positions.{AreEnabled, state_after}
+use Rattle.pb_history.specs.Positions.{AreEnabled, state_after}
 use Rattle.pb_debug.specs.Shown.{line_of}
 
 -- at position i

@@ -4,7 +4,7 @@ pub mod Buffers
 pub mod Checkpoints
 pub mod Commands
 pub mod Following
-pub mod Positions
+pub mod Intervals
 pub mod Refusals
 pub mod Sessions
 pub mod Shown

@@ -54,8 +54,8 @@ Leaves BadCommand old new text = ⊥
 Leaves NoMemory old new text = new ≡ appended old text
 Leaves Device old new text = AddsPrefix old new text
 
--- some first lines are answered, and so much of the answers is written; the debugger stands where the last of these
--- lines led
+-- some first lines are answered, and their answers are written, all or a first part of them; the debugger is at the
+-- position to which the last of these lines led
 pub record SaysSome (fault : DebugFault) (d : Debugging) (bytes : List ℕ) (old new : Option (List ℕ)) (end : Debugging) : Type 0 where
   pub lines : List (List ℕ)
   pub later : List (List ℕ)
@@ -79,15 +79,15 @@ StopsAt Device d line old new next = (said : List ℕ) × Answers d line said ne
 abbrev pub IsTold : Debugging → List ℕ → Option (List ℕ) → Option (List ℕ) → Debugging → Type 0
 IsTold d line old new next = (said : List ℕ) × Answers d line said next × (new ≡ appended old said)
 
--- behind the first part of a line bytes came: the lines that end in them are answered, and so much of the
--- last one is kept
+-- after the first part of a line come some bytes: the lines that end in them are answered, and the first bytes of
+-- the last one are kept
 pub record Fed (d : Debugging) (part bytes : List ℕ) (old new : Option (List ℕ)) (line : List ℕ) (next : Debugging) : Type 0 where
   pub text : List ℕ
   pub session : Session d (cut part bytes).lines text next
   pub written : new ≡ appended old text
   pub last : line ≡ kept (cut part bytes).rest
 
--- some first lines that end in the bytes are answered, and so much of the answers is written
+-- some first lines that end in the bytes are answered, and their answers are written, all or a first part of them
 pub record FedSome (fault : DebugFault) (d : Debugging) (part bytes : List ℕ) (old new : Option (List ℕ)) (next : Debugging) : Type 0 where
   pub lines : List (List ℕ)
   pub later : List (List ℕ)

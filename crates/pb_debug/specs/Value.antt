@@ -7,7 +7,8 @@ use Rattle.pb_code.specs.Code.{CodeProcess}
 use Rattle.pb_code.specs.Limits.{AreLabels}
 use Rattle.pb_code.specs.Whole.{ProcessLabels, bank_of}
 use Rattle.pb_verifier.specs.Verified.{VerifiedCode, IsVerified}
-use Rattle.pb_debug.specs.Positions.{AreEnabled, state_after, interval_of}
+use Rattle.pb_history.specs.Positions.{AreEnabled, state_after}
+use Rattle.pb_debug.specs.Intervals.{interval_of}
 
 -- the code, its labels and the picks stay; the position moves, and with it the cost of the last move
 pub record Debugging : Type 0 where

@@ -1,34 +1,49 @@
--- Machines that stand at positions, and know where the spans of the trace go on from there.
-use Rattle.std.specs.Prelude.{◌≡◌, ℕ, ◌+◌, ◌*◌, ◌<◌, List, Some, slice_get, take}
+-- Machines that have made the first picks of a list.
+use Rattle.std.specs.Prelude.{◌≡◌, ℕ, ◌+◌, ◌*◌, ◌<◌, ◌≤◌, List, Some, length, slice_get}
 use Rattle.pb_base.specs.declared.pick.Pick.{Pick}
-use Rattle.pb_history.specs.Entries.{Entry, picks_of, size, spans_of}
-use Rattle.pb_history.specs.declared.span.Span.{Span}
+use Rattle.pb_code.specs.Whole.{code_opening}
+use Rattle.pb_history.specs.Entries.{picks_of}
+use Rattle.pb_history.specs.Leads.{Leads}
+use Rattle.pb_history.specs.Positions.{state_after}
 use Rattle.pb_machine.specs.Views.{machine_view, IsMachineOf}
 use Rattle.pb_machine.specs.declared.machine.Machine.{Machine}
 use Rattle.pb_verifier.specs.Verified.{VerifiedCode}
-use Rattle.pb_debug.specs.Positions.{state_after}
+use Rattle.pb_debug.specs.declared.checkpoints.Replaying.{Replaying}
 use Rattle.pb_debug.specs.declared.walker.Walker.{Walker}
 
--- a machine of the code that stands at position i
+-- a machine of the code in its state at position i
 pub record StandsAfter (v : VerifiedCode) (picks : List Pick) (i : ℕ) (m : Machine) : Type 0 where
   pub machine : IsMachineOf v m
   pub state : machine_view m ≡ state_after v.code picks i
 
--- the picks from position i on begin with so many of this one
+-- the machine is in the state at its position
+abbrev pub Walks : VerifiedCode → List Pick → Walker → Type 0
+Walks v picks w = StandsAfter v picks w.at w.machine
+
+-- the picks from position i on begin with this one, so often
 abbrev pub Repeat : List Pick → (i : ℕ) → Pick → (count : ℕ) → Type 0
 Repeat picks i pick count = (k : ℕ) → k < count → slice_get picks (i + k) ≡ Some pick
 
--- the machine stands at its position, which is so many picks into the span with its number
-pub record Walks (v : VerifiedCode) (entries : List Entry) (w : Walker) : Type 0 where
-  pub stands : StandsAfter v (picks_of entries) w.at w.machine
-  pub place : w.at ≡ size (take w.span (spans_of entries)) + w.into
-  pub inside : (s : Span) → slice_get (spans_of entries) w.span ≡ Some s → w.into < s.count
+-- a machine at position i, which is not past the picks
+pub record IsCheckpoint (v : VerifiedCode) (picks : List Pick) (i : ℕ) (m : Machine) : Type 0 where
+  pub stands : StandsAfter v picks i m
+  pub within : i ≤ length picks
 
--- these stand at the first so many multiples of the distance
-pub record IsCheckpoint (v : VerifiedCode) (entries : List Entry) (i : ℕ) (w : Walker) : Type 0 where
-  pub walks : Walks v entries w
-  pub at : w.at ≡ i
+-- these machines are at the first multiples of the distance
+abbrev pub AreCheckpoints : VerifiedCode → List Pick → (interval : ℕ) → List Machine → Type 0
+AreCheckpoints v picks interval machines =
+    (k : ℕ) (m : Machine) → slice_get machines k ≡ Some m → IsCheckpoint v picks (k * interval) m
 
-abbrev pub AreCheckpoints : VerifiedCode → List Entry → (interval : ℕ) → List Walker → Type 0
-AreCheckpoints v entries interval walkers =
-    (k : ℕ) (w : Walker) → slice_get walkers k ≡ Some w → IsCheckpoint v entries (k * interval) w
+-- the picks of a replay led its machine to its state, and it has checkpoints up to the last multiple of the distance
+-- before the next
+pub record Keeps (v : VerifiedCode) (r : Replaying) : Type 0 where
+  pub machine : IsMachineOf v r.machine
+  pub leads : Leads v.code (code_opening v.code) r.trace.entries (machine_view r.machine)
+  pub checkpoints : AreCheckpoints v (picks_of r.trace.entries) r.interval r.checkpoints.items
+  pub next : r.next ≡ length r.checkpoints.items * r.interval
+
+-- and the next is the first after the picks that were made
+pub record Replays (v : VerifiedCode) (r : Replaying) : Type 0 where
+  pub keeps : Keeps v r
+  pub before : length r.trace.entries < r.next
+  pub after : r.next ≤ length r.trace.entries + r.interval

@@ -13,7 +13,7 @@ use Rattle.pb_debug.specs.declared.why.Why.TheVariants.{NotAsking, Cash, Order, 
 abbrev pub Asks : Debugging → (p a : ℕ) → Bundle → Type 0
 Asks d p a bundle = StandsIn d.verified.code (state_of d) (record { process = p; arm = a }) (Take bundle)
 
--- the first pair of a bundle whose amount is over the cash, which is so much
+-- the first pair of a bundle whose amount is over the cash: its resource, and the cash of it
 pub record IsFirstOverCash (s : BankerState) (bundle : Bundle) (resource amount : ℕ) : Type 0 where
   pub place : ℕ
   pub pair : Pair

@@ -1,13 +1,16 @@
-//! Machines that are kept on the way.
+//! A replay that keeps copies of its machine on the way.
 
-ghost use Rattle.std.specs.Prelude.{◌≡◌, ◌<◌, ◌≤◌, ◌*◌, length, IfOk};
-ghost use Rattle.pb_debug.specs.Positions.{AreEnabled, interval_of};
-ghost use Rattle.pb_debug.specs.Walks.{AreCheckpoints};
+ghost use Rattle.std.specs.Prelude.{◌≡◌, ◌+◌, ◌<◌, ◌≤◌, ◌++◌, [], length, replicate, IfErr, IfOk, OnOk};
+ghost use Rattle.pb_debug.specs.Intervals.{interval_of};
+ghost use Rattle.pb_debug.specs.Walks.{Keeps, Replays};
 ghost use Rattle.pb_history.specs.Entries.{picks_of};
+ghost use Rattle.pb_history.specs.Replays.{IsStopped, spread};
+ghost use Rattle.pb_verifier.specs.Verified.{VerifiedCode};
 
-use crate::walker::Walker;
-use pb_base::NoMemory;
-use pb_history::Trace;
+use pb_base::{NoMemory, Pick};
+use pb_history::replay::repeat;
+use pb_history::{CountedPick, ReplayFault, Trace};
+use pb_machine::Machine;
 use pb_verifier::Verified;
 use std::alloc::Global;
 
@@ -16,7 +19,7 @@ const LEAST_INTERVAL: u32 = 4_096;
 
 const CHECKPOINTS: u32 = 64;
 
-/// Returns the distance of checkpoints for so many picks.
+/// Returns the distance of checkpoints for this number of picks.
 pub(crate) fn interval_for(picks: u32) -> u32
     requires { picks ≤ 10000000 }
     ensures interval { result ≡ interval_of picks }
@@ -26,24 +29,145 @@ pub(crate) fn interval_for(picks: u32) -> u32
     LEAST_INTERVAL.max((picks + CHECKPOINTS - 1) / CHECKPOINTS)
 }
 
-/// Returns machines at all multiples of the distance, in order. All picks of the trace are enabled.
-pub(crate) fn keep_machines(
+/// A replay that goes on: the machine after the picks made so far, their trace, copies of the machine at the multiples
+/// of a distance, and the next multiple.
+#[derive(Drop)]
+pub(crate) struct Replaying {
+    pub machine: Machine,
+    pub trace: Trace,
+    pub interval: u32,
+    pub checkpoints: Vec<Machine>,
+    pub next: u32,
+}
+
+impl Replaying {
+    /// Returns a replay of no picks, with the checkpoint before the first.
+    pub fn new(alloc: Global, verified: &Verified, interval: u32) -> Result<Replaying, NoMemory>
+        requires some { 0 < interval }
+        ensures replays { IfOk result (Replays verified.now) }
+        ensures none { IfOk result (λ r. r.trace.entries ≡ []) }
+        ensures interval { IfOk result (λ r. r.interval ≡ interval) }
+    {
+        let machine = Machine::new(alloc, verified)?;
+        let mut checkpoints = Vec::new(alloc);
+        checkpoints.push(machine.copy(alloc)?)?;
+        Ok(Replaying {
+            machine,
+            trace: Trace::new(alloc),
+            interval,
+            checkpoints,
+            next: interval,
+        })
+    }
+
+    // Keeps a copy of the machine, if it has come to the next multiple of the distance.
+    fn keep(&mut self, alloc: Global) -> Result<(), NoMemory>
+        requires few { length self.old.trace.entries ≤ 10000000 }
+        requires small { self.old.interval ≤ 10000000 }
+        requires some { 0 < self.old.interval }
+        requires before { length self.old.trace.entries ≤ self.old.next }
+        requires after { self.old.next ≤ length self.old.trace.entries + self.old.interval }
+        ensures replays { OnOk result ((v : VerifiedCode) → Keeps v self.old → Replays v self.new) }
+        ensures same { OnOk result (self.new.trace.entries ≡ self.old.trace.entries) }
+        ensures interval { OnOk result (self.new.interval ≡ self.old.interval) }
+    {
+        if self.trace.len() < self.next {
+            return Ok(());
+        }
+        let machine = self.machine.copy(alloc)?;
+        self.checkpoints.push(machine)?;
+        self.next += self.interval;
+        Ok(())
+    }
+
+    /// Makes a pick as often as its count says, as `repeat` does, and keeps the checkpoints on the way.
+    pub fn make(
+        &mut self,
+        alloc: Global,
+        verified: &Verified,
+        counted: CountedPick,
+    ) -> Result<(), ReplayFault>
+        requires replays { Replays verified.now self.old }
+        requires fits { length self.old.trace.entries + counted.count ≤ 10000000 }
+        requires some { 0 < self.old.interval }
+        requires small { self.old.interval ≤ 10000000 }
+        ensures replays { OnOk result (Replays verified.now self.new) }
+        ensures picks { OnOk result (picks_of self.new.trace.entries
+            ≡ picks_of self.old.trace.entries ++ replicate counted.count counted.pick) }
+        ensures interval { OnOk result (self.new.interval ≡ self.old.interval) }
+        ensures stopped { IfErr result (IsStopped verified.now.code
+            (picks_of self.old.trace.entries ++ replicate counted.count counted.pick)) }
+    {
+        let pick = counted.pick;
+        let mut left = counted.count;
+        while left > 0 {
+            let count = left.min(self.next - self.trace.len());
+            repeat(
+                verified,
+                &mut self.machine,
+                &mut self.trace,
+                CountedPick { pick, count },
+            )?;
+            left -= count;
+            self.keep(alloc)?;
+        }
+        Ok(())
+    }
+}
+
+/// Makes these picks in turn, as `replay` does, and keeps checkpoints on the way.
+pub(crate) fn replay_picks(
     alloc: Global,
     verified: &Verified,
-    trace: &Trace,
-    interval: u32,
-) -> Result<Vec<Walker>, NoMemory>
-    requires enabled { AreEnabled verified.now.code (picks_of trace.now.entries) }
-    requires some { 0 < interval }
-    ensures checkpoints { IfOk result (λ walkers. AreCheckpoints verified.now trace.now.entries interval walkers.items) }
-    ensures enough { IfOk result (λ walkers. length (picks_of trace.now.entries) < length walkers.items * interval) }
+    picks: &[Pick],
+) -> Result<Replaying, ReplayFault>
+    requires { length picks.now ≤ 10000000 }
+    ensures replays { IfOk result (Replays verified.now) }
+    ensures picks { IfOk result (λ r. picks_of r.trace.entries ≡ picks.now) }
+    ensures interval { IfOk result (λ r. r.interval ≡ interval_of (length picks.now)) }
+    ensures stopped { IfErr result (IsStopped verified.now.code picks.now) }
 {
-    let mut walker = Walker::new(alloc, verified)?;
-    let mut walkers = Vec::new(alloc);
-    for k in 0..trace.len() / interval {
-        walkers.push(walker.copy(alloc)?)?;
-        walker.walk_to(verified, trace, (k + 1) * interval);
+    let interval = interval_for(picks.len() as u32);
+    let mut replaying = Replaying::new(alloc, verified, interval)?;
+    for i in 0..picks.len() {
+        let counted = CountedPick {
+            pick: picks[i],
+            count: 1,
+        };
+        replaying.make(alloc, verified, counted)?;
     }
-    walkers.push(walker)?;
-    Ok(walkers)
+    Ok(replaying)
+}
+
+// Returns how many picks these are one by one.
+fn count_all(picks: &[CountedPick]) -> u32
+    requires { length (spread picks.now) ≤ 10000000 }
+    ensures { result ≡ length (spread picks.now) }
+{
+    let mut count: u32 = 0;
+    for i in 0..picks.len() {
+        let counted = picks[i];
+        count += counted.count;
+    }
+    count
+}
+
+/// Makes each of these picks as often as its count says, as `replay_counted` does, and keeps checkpoints on the way.
+pub(crate) fn replay_counted_picks(
+    alloc: Global,
+    verified: &Verified,
+    picks: &[CountedPick],
+) -> Result<Replaying, ReplayFault>
+    requires { length (spread picks.now) ≤ 10000000 }
+    ensures replays { IfOk result (Replays verified.now) }
+    ensures picks { IfOk result (λ r. picks_of r.trace.entries ≡ spread picks.now) }
+    ensures interval { IfOk result (λ r. r.interval ≡ interval_of (length (spread picks.now))) }
+    ensures stopped { IfErr result (IsStopped verified.now.code (spread picks.now)) }
+{
+    let interval = interval_for(count_all(picks));
+    let mut replaying = Replaying::new(alloc, verified, interval)?;
+    for i in 0..picks.len() {
+        replaying.make(alloc, verified, picks[i])?;
+    }
+    Ok(replaying)
 }

@@ -3,18 +3,20 @@
 ghost use Rattle.std.specs.Prelude.{◌≡◌, ◌<◌, ◌≤◌, ◌+◌, ◌-◌, length, IfOk, IfErr, OnOk, OnErr};
 ghost use Rattle.pb_code.specs.Limits.{AreLabels};
 ghost use Rattle.pb_code.specs.View.{labels_view};
-ghost use Rattle.pb_debug.specs.Positions.{AreEnabled};
+ghost use Rattle.pb_history.specs.Positions.{AreEnabled};
 ghost use Rattle.pb_history.specs.Entries.{picks_of};
 ghost use Rattle.pb_history.specs.Replays.{IsStopped, spread};
+ghost use Rattle.pb_debug.specs.Intervals.{interval_of};
+ghost use Rattle.pb_debug.specs.Walks.{Replays, Walks};
 
-use crate::checkpoints::{interval_for, keep_machines};
+use crate::checkpoints::{Replaying, replay_counted_picks, replay_picks};
 use crate::fault::DebugFault;
 use crate::walker::Walker;
 use pb_base::{NoMemory, Pick};
 use pb_code::Labels;
 use pb_codegen::Compiled;
-use pb_history::replay::{replay, replay_counted};
 use pb_history::{CountedPick, ReplayFault, Trace};
+use pb_machine::Machine;
 use pb_verifier::Verified;
 use std::alloc::Global;
 use std::marker::Model;
@@ -29,7 +31,7 @@ pub struct Debugger<'c> {
     pub(crate) labels: &'c Labels,
     trace: Trace,
     interval: u32,
-    checkpoints: Vec<Walker>,
+    checkpoints: Vec<Machine>,
     pub(crate) walker: Walker,
     last_cost: u32,
 }
@@ -57,7 +59,6 @@ impl<'c> Debugger<'c> {
         compiled: &'c Compiled,
         picks: &[Pick],
     ) -> Result<Debugger<'c>, ReplayFault>
-        requires fit { AreLabels compiled.now.verified.code compiled.now.labels }
         requires few { length picks.now ≤ 10000000 }
         ensures opened { IfOk result (λ d. d ≡ at_start compiled.entry.now.verified compiled.entry.now.labels picks.now) }
         ensures placed { IfOk result IsPosition }
@@ -72,7 +73,6 @@ impl<'c> Debugger<'c> {
         compiled: &'c Compiled,
         picks: &[CountedPick],
     ) -> Result<Debugger<'c>, ReplayFault>
-        requires fit { AreLabels compiled.now.verified.code compiled.now.labels }
         requires few { length (spread picks.now) ≤ 10000000 }
         ensures opened { IfOk result (λ d.
             d ≡ at_start compiled.entry.now.verified compiled.entry.now.labels (spread picks.now)) }
@@ -96,8 +96,8 @@ impl<'c> Debugger<'c> {
         ensures placed { IfOk result IsPosition }
         ensures stopped { IfErr result (λ fault. IsStopped verified.entry.now.code picks.now fault) }
     {
-        let (_, trace) = replay(alloc, verified, picks)?;
-        Ok(Debugger::of_trace(alloc, verified, labels, trace)?)
+        let replaying = replay_picks(alloc, verified, picks)?;
+        Ok(Debugger::of_replaying(alloc, verified, labels, replaying)?)
     }
 
     /// Returns the same as `from_object` of all the picks one by one, which are never spread out in memory.
@@ -114,28 +114,33 @@ impl<'c> Debugger<'c> {
         ensures placed { IfOk result IsPosition }
         ensures stopped { IfErr result (λ fault. IsStopped verified.entry.now.code (spread picks.now) fault) }
     {
-        let (_, trace) = replay_counted(alloc, verified, picks)?;
-        Ok(Debugger::of_trace(alloc, verified, labels, trace)?)
+        let replaying = replay_counted_picks(alloc, verified, picks)?;
+        Ok(Debugger::of_replaying(alloc, verified, labels, replaying)?)
     }
 
-    // Returns the debugger of a trace of enabled picks, at position 0.
-    fn of_trace(
+    // Returns the debugger of a replay that has made all its picks, at position 0.
+    fn of_replaying(
         alloc: Global,
         verified: &'c Verified,
         labels: &'c Labels,
-        trace: Trace,
+        replaying: Replaying,
     ) -> Result<Debugger<'c>, NoMemory>
         requires fit { AreLabels verified.now.code (labels_view labels.now) }
-        requires few { length (picks_of trace.entries) ≤ 10000000 }
-        requires enabled { AreEnabled verified.now.code (picks_of trace.entries) }
+        requires few { length (picks_of replaying.trace.entries) ≤ 10000000 }
+        requires replays { Replays verified.now replaying }
+        requires interval { replaying.interval ≡ interval_of (length (picks_of replaying.trace.entries)) }
         ensures opened { IfOk result (λ d.
-            d ≡ at_start verified.entry.now (labels_view labels.entry.now) (picks_of trace.entries)) }
+            d ≡ at_start verified.entry.now (labels_view labels.entry.now) (picks_of replaying.trace.entries)) }
         ensures placed { IfOk result IsPosition }
     {
         let _ = verified.code();
-        let interval = interval_for(trace.len());
-        let checkpoints = keep_machines(alloc, verified, &trace, interval)?;
-        let walker = Walker::new(alloc, verified)?;
+        let machine = Machine::new(alloc, verified)?;
+        let Replaying {
+            trace,
+            interval,
+            checkpoints,
+            ..
+        } = replaying;
         Ok(Debugger {
             alloc,
             verified,
@@ -143,7 +148,7 @@ impl<'c> Debugger<'c> {
             trace,
             interval,
             checkpoints,
-            walker,
+            walker: Walker { machine, at: 0 },
             last_cost: 0,
         })
     }
@@ -173,6 +178,22 @@ impl<'c> Debugger<'c> {
         self.last_cost
     }
 
+    // Returns a machine at a position, from the last checkpoint that is not past it.
+    fn walker_at(&self, position: u32) -> Result<Walker, NoMemory>
+        requires { position ≤ length self.now.picks }
+        ensures walks { IfOk result (Walks self.now.verified self.now.picks) }
+        ensures at { IfOk result (λ w. w.at ≡ position) }
+    {
+        let nearest = position / self.interval;
+        let machine = self.checkpoints[nearest as usize].copy(self.alloc)?;
+        let mut walker = Walker {
+            machine,
+            at: nearest * self.interval,
+        };
+        walker.walk_to(self.verified, &self.trace, position);
+        Ok(walker)
+    }
+
     /// Goes to a position. `PastEnd` if it is past the last; after an error nothing has changed.
     pub fn to(&mut self, position: u32) -> Result<(), DebugFault>
         ensures moved { OnOk result (self.new ≡ moved_to self.old position) }
@@ -184,15 +205,12 @@ impl<'c> Debugger<'c> {
         if self.trace.len() < position {
             return Err(DebugFault::PastEnd);
         }
-        let nearest = (position / self.interval) as usize;
-        let mut walker = self.checkpoints[nearest].copy(self.alloc)?;
-        walker.walk_to(self.verified, &self.trace, position);
-        self.walker = walker;
+        self.walker = self.walker_at(position)?;
         self.last_cost = position % self.interval;
         Ok(())
     }
 
-    /// Goes on by so many picks. `PastEnd` if that is past the last; after an error nothing has changed.
+    /// Goes on by a number of picks. `PastEnd` if that is past the last; after an error nothing has changed.
     pub fn step(&mut self, count: u32) -> Result<(), DebugFault>
         ensures moved { OnOk result (self.new ≡ moved_to self.old (self.old.position + count)) }
         ensures within { OnOk result (self.old.position + count ≤ length self.old.picks) }
@@ -207,7 +225,7 @@ impl<'c> Debugger<'c> {
         self.to(self.position() + count)
     }
 
-    /// Goes back by so many picks. `PastEnd` if that is before the first; after an error nothing has changed.
+    /// Goes back by a number of picks. `PastEnd` if that is before the first; after an error nothing has changed.
     pub fn back(&mut self, count: u32) -> Result<(), DebugFault>
         ensures moved { OnOk result (self.new ≡ moved_to self.old (self.old.position - count)) }
         ensures within { OnOk result (count ≤ self.old.position) }

@@ -30,7 +30,7 @@ const B: Pick = Pick { process: 1, arm: 0 };
 
 const SECOND: Pick = Pick { process: 0, arm: 2 };
 
-/// What moves over a loop of so many picks cost: to this position, back by one, and to the other.
+/// What moves over these picks of a loop cost: none, to the first position, back by one, and to the second.
 fn costs(alloc: Global, picks: &[CountedPick], first: u32, second: u32) -> Option<[u32; 4]>
     requires { length (spread picks.now) ≤ 10000000 }
 {
@@ -60,7 +60,7 @@ fn moves_cost_what_is_made_again(rt: HostRuntime) {
     assert!(rt; costs(rt.alloc(), &picks, 20_001, 0) == None);
 }
 
-/// The position after these moves, each of which may be refused: to here, on by so many, back by so many.
+/// The position after these moves, each of which may be refused: to `to`, on by `on`, back by `back`.
 fn position_after(alloc: Global, picks: &[Pick], to: u32, on: u32, back: u32) -> Option<u32>
     requires { length picks.now ≤ 10000000 }
 {
@@ -120,7 +120,7 @@ fn is_order(why: Result<Why, DebugFault>, processes: &[u8]) -> bool {
     }
 }
 
-/// Whether there is only so much of a resource.
+/// Whether there is too little cash of this resource, and this amount of it.
 fn is_cash(why: Result<Why, DebugFault>, wanted: u8, amount: u32) -> bool {
     match why {
         Ok(Why::Cash { resource, cash }) => resource == wanted && cash == amount,

@@ -104,7 +104,7 @@ fn commands_are_answered(rt: HostRuntime) {
     }
 }
 
-/// Whether a line of so many letters is one that is not a command, and the next line is read.
+/// Whether a line of this number of letters is refused once, and the next line is read.
 fn long_line_is_one(alloc: Global, bytes: usize) -> Option<bool> {
     let compiled = compile(alloc, alloc, PRINT).ok()?;
     let mut debugger = Debugger::new(alloc, &compiled, &[A]).ok()?;

@@ -1,5 +1,6 @@
 pub mod Laying
 pub mod Leading
+pub mod Positions
 pub mod Replaying
 pub mod Rising
 pub mod Silence

@@ -1,6 +1,7 @@
 //! Laws of traces, each the contract of a function that does nothing.
 
 ghost use Rattle.pb_history.specs.Leads.{SilentPicksLead, TracesMake};
+ghost use Rattle.pb_history.specs.Positions.{ReplaysReachPositions};
 
 /// The picks of a trace make its events.
 pub fn traces_make_their_events()
@@ -10,4 +11,9 @@ pub fn traces_make_their_events()
 /// Silent picks of one process, made apart from the others, are picks of the code.
 pub fn silent_picks_lead()
     ensures { SilentPicksLead }
+{}
+
+/// A replay makes enabled picks, and ends in the state at the position after the last of them.
+pub fn replays_reach_positions()
+    ensures { ReplaysReachPositions }
 {}

@@ -62,8 +62,10 @@ pub fn replay_counted(
     Ok((machine, trace))
 }
 
-/// Makes a pick as often as its count says, after those of the trace.
-fn repeat(
+/// Makes a pick as often as its count says, after those of the trace, which have led the machine to its state. The
+/// fault is the first pick that is not enabled, counted with those of the trace, or out of memory; some of the picks
+/// may then have been made.
+pub fn repeat(
     verified: &Verified,
     machine: &mut Machine,
     trace: &mut Trace,

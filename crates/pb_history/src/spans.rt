@@ -1,9 +1,10 @@
 //! Spans, kept by where each ends.
 
-ghost use Rattle.std.specs.Prelude.{◌≡◌, ◌+◌, ◌-◌, ◌<◌, ◌≤◌, [], length, take, slice_get, Some, OnOk};
+ghost use Rattle.std.specs.Prelude.{◌≡◌, ℕ, ◌+◌, ◌-◌, ◌<◌, ◌≤◌, [], length, take, slice_get, Some, OnOk};
 ghost use Rattle.pb_history.specs.Entries.{added, all_picks, size};
 ghost use Rattle.pb_history.specs.Ends.{goes_on};
 
+use crate::counted::CountedPick;
 use crate::span::{Span, are_same};
 use pb_base::{NoMemory, Pick};
 use std::alloc::Global;
@@ -81,10 +82,12 @@ impl Spans {
         Span { pick, count, shows }
     }
 
-    /// The pick with this number, counted from 0. Its span is found by halving.
-    pub(crate) fn pick(&self, i: u32) -> Pick
+    /// The pick with this number, counted from 0, and how many picks its span has from there on. The span is found by
+    /// halving.
+    pub(crate) fn rest(&self, i: u32) -> CountedPick
         requires { i < size self.now.spans }
-        ensures { slice_get (all_picks self.now.spans) i ≡ Some result }
+        ensures some { 0 < result.count }
+        ensures picks { (k : ℕ) → k < result.count → slice_get (all_picks self.now.spans) (i + k) ≡ Some result.pick }
     {
         let mut low = 0;
         let mut high = self.ends.len();
@@ -97,8 +100,9 @@ impl Spans {
                 high = mid;
             }
         }
-        let span = self.ends[low];
-        span.pick
+        let SpanEnd { pick, end, .. } = self.ends[low];
+        let count = end - i;
+        CountedPick { pick, count }
     }
 
     /// Makes room for so many more spans.

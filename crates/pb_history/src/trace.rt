@@ -1,8 +1,9 @@
 //! The picks that were made, and what each showed.
 
-ghost use Rattle.std.specs.Prelude.{◌≡◌, ◌+◌, ◌-◌, ◌<◌, ◌≤◌, ◌++◌, ◌∷◌, [], length, slice_get, option_to_list, Some, None, OnOk, OnErr};
+ghost use Rattle.std.specs.Prelude.{◌≡◌, ℕ, ◌+◌, ◌-◌, ◌<◌, ◌≤◌, ◌++◌, ◌∷◌, [], length, slice_get, option_to_list, Some, None, OnOk, OnErr};
 ghost use Rattle.pb_history.specs.Entries.{Entry, events_of, picks_of, run_of, silent_picks, spans_of};
 
+use crate::counted::CountedPick;
 use crate::events::Events;
 use crate::span::Span;
 use crate::spans::Spans;
@@ -51,7 +52,18 @@ impl Trace {
         requires { i < length self.now.entries }
         ensures { slice_get (picks_of self.now.entries) i ≡ Some result }
     {
-        self.spans.pick(i)
+        let rest = self.spans.rest(i);
+        rest.pick
+    }
+
+    /// The pick with this number, counted from 0, and how many picks its span has from there on. The span is found by
+    /// halving.
+    pub fn rest_of_span(&self, i: u32) -> CountedPick
+        requires { i < length self.now.entries }
+        ensures some { 0 < result.count }
+        ensures picks { (k : ℕ) → k < result.count → slice_get (picks_of self.now.entries) (i + k) ≡ Some result.pick }
+    {
+        self.spans.rest(i)
     }
 
     /// How many picks show an event.

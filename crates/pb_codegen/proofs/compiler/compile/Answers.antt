@@ -61,6 +61,16 @@ returns-in_err-check_capital-clause-refused g c =
     let spelled = spells c.args.text.now _ (program_view c.in_ok-tree.tree) c.in_ok-tree.tree c.parse.result cut e.found e.limits c.in_ok-tree.was c.parse.ensures.nested in
     rw (p.1, p.2) (capital_refused c.args.text.now _ _ _ (numbered _ _ (resolved_view c.in_ok-program.program) _ spelled c.in_ok-program.ensures.resolves c.in_ok-claims.ensures.exact) c.in_err-check_capital.ensures.over)
 
+pub invariant_of-result : goal.invariant_of-result
+invariant_of-result g c =
+    let cut = rw (← c.as_slice.ensures.value) at c.in_ok-tokens.ensures.found in
+    let e = c.in_ok-tree.ensures in
+    let spelled = spells c.args.text.now _ (program_view c.in_ok-tree.tree) c.in_ok-tree.tree c.parse.result cut e.found e.limits c.in_ok-tree.was c.parse.ensures.nested in
+    rw (c.in_ok-verified.ensures, c.in_ok-code.ensures.code, c.in_ok-code.ensures.labels)
+    ((compiled c.args.text.now (resolved_view c.in_ok-program.program) c.in_ok-claims.claims
+    (numbered _ _ (resolved_view c.in_ok-program.program) _ spelled c.in_ok-program.ensures.resolves c.in_ok-claims.ensures.exact)
+    c.in_ok-check_capital.ensures.enough).fit)
+
 pub returns-clause-compiled : goal.returns-clause-compiled
 returns-clause-compiled g c =
     let cut = rw (← c.as_slice.ensures.value) at c.in_ok-tokens.ensures.found in

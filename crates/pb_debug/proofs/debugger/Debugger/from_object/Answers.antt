@@ -1,6 +1,12 @@
-use Rattle.pb_debug.proofs.Walking.{replay_enabled}
+use Rattle.std.proofs.Common.{◌≤◌, List, length, sym, ap, ◌∙◌, subst}
+use Rattle.pb_base.specs.declared.pick.Pick.{Pick}
+use Rattle.pb_debug.specs.Intervals.{interval_of}
 use Rattle.pb_debug.proofs.debugger.Debugger.from_object.Goals as goal
 
-pub of_trace-requires-clause-enabled : goal.of_trace-requires-clause-enabled
-of_trace-requires-clause-enabled c =
-    replay_enabled c.args.verified.now.code _ c.in_ok-trace.trace.entries _ c.in_ok-trace.ensures.replay
+pub of_replaying-requires-clause-few : goal.of_replaying-requires-clause-few
+of_replaying-requires-clause-few c =
+    subst (λ (ps : List Pick). length ps ≤ 10000000) (sym c.in_ok-replaying.ensures.picks) c.requires.few
+
+pub of_replaying-requires-clause-interval : goal.of_replaying-requires-clause-interval
+of_replaying-requires-clause-interval c =
+    c.in_ok-replaying.ensures.interval ∙ ap (λ (ps : List Pick). interval_of (length ps)) (sym c.in_ok-replaying.ensures.picks)

@@ -1,10 +1,11 @@
 use Rattle.std.proofs.Common.{◌-◌, ◌≤◌}
 use Rattle.pb_debug.specs.Walks.{Walks}
+use Rattle.pb_history.specs.Entries.{picks_of}
 use Rattle.pb_debug.proofs.walker.Walker.walk_to.Given as goal
 
 abbrev pub invariant-loop-self : goal.invariant-loop-self
 invariant-loop-self l = record {
-  walks : Walks l.verified l.trace.entries l.self;
+  walks : Walks l.verified (picks_of l.trace.entries) l.self;
   before : l.self.at ≤ l.to;
 }
 

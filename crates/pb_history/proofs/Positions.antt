@@ -1,6 +1,7 @@
 -- The state at each position of a replay, from the one before.
-use Rattle.std.proofs.Common.{◌≡◌, ℕ, zero, suc, ◌+◌, List, [], ◌∷◌, ◌++◌, take, Option, Some, None, option_to_list, refl, sym, ap, ◌∙◌, subst}
+use Rattle.std.proofs.Common.{◌≡◌, ℕ, zero, suc, ◌+◌, List, [], ◌∷◌, ◌++◌, length, take, Option, Some, None, option_to_list, refl, sym, ap, ◌∙◌, subst, arith}
 use Rattle.std.specs.Prelude.{slice_get}
+use Rattle.std.proofs.lemmas.List.{take_all}
 use Rattle.pb_base.specs.declared.event.Event.{Event}
 use Rattle.pb_base.specs.declared.pick.Pick.{Pick}
 use Rattle.pb_base.specs.declared.step.Step.{Step}
@@ -11,7 +12,10 @@ use Rattle.pb_code.specs.Reached.{CodeReaches, CodeMoves, CodeStays}
 use Rattle.pb_code.specs.Whole.{Code, bank_of, code_opening}
 use Rattle.pb_machine.specs.Steps.{IsStep}
 use Rattle.pb_machine.proofs.Growing.{take_at}
-use Rattle.pb_debug.specs.Positions.{next_state, after, state_after, AreEnabled}
+use Rattle.pb_history.specs.Entries.{Entry, events_of, picks_of}
+use Rattle.pb_history.specs.Leads.{Leads}
+use Rattle.pb_history.proofs.Leading.{traces_make}
+use Rattle.pb_history.specs.Positions.{next_state, after, state_after, AreEnabled, ReplaysReachPositions}
 
 pub after-append : {P : Type 0} (step : Stepper P) (s : State P) (xs ys : List Pick)
     → after step s (xs ++ ys) ≡ after step (after step s xs) ys
@@ -118,3 +122,27 @@ pub position_reached : (code : Code) (picks : List Pick) (i : ℕ) → AreEnable
 position_reached code picks i all =
     let p = makes_prefix (bank_of code) (code_step code.processes) (code_opening code) all.end picks all.events i all.makes in
     (take i picks, p.0, p.1)
+
+-- ---- entries that lead somewhere
+
+pub leads_enabled : (code : Code) (entries : List Entry) (end : State CodeProcess) → Leads code (code_opening code) entries end
+    → AreEnabled code (picks_of entries)
+leads_enabled code entries end h = record {
+  events = events_of entries;
+  end = end;
+  makes = traces_make code (code_opening code) end entries h;
+}
+
+-- they lead to the position after the last of their picks
+pub leads_to : (code : Code) (entries : List Entry) (end : State CodeProcess) → Leads code (code_opening code) entries end
+    → end ≡ state_after code (picks_of entries) (length (picks_of entries))
+leads_to code entries end h =
+    let step = code_step code.processes in
+    let makes = traces_make code (code_opening code) end entries h in
+    let all = take_all (length (picks_of entries)) (picks_of entries) (omega arith) in
+    sym (ap (after step (code_opening code)) all ∙ makes_after (bank_of code) step (code_opening code) end (picks_of entries) (events_of entries) makes)
+
+pub replays_reach : ReplaysReachPositions
+replays_reach code picks entries end h =
+    subst (λ (ps : List Pick). AreEnabled code ps × (end ≡ state_after code ps (length ps))) h.made
+    (leads_enabled code entries end h.leads, leads_to code entries end h.leads)

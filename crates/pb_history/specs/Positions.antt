@@ -1,10 +1,12 @@
--- Positions in a run: the state of the code after the first picks of a list, and how far checkpoints are apart.
-use Rattle.std.specs.Prelude.{ℕ, ◌+◌, ◌/◌, max, List, [], ◌∷◌, take, Option, Some, None}
+-- Positions in a run: the state of the code after the first picks of a list.
+use Rattle.std.specs.Prelude.{◌≡◌, ℕ, List, [], ◌∷◌, length, take, Option, Some, None}
 use Rattle.pb_base.specs.declared.event.Event.{Event}
 use Rattle.pb_base.specs.declared.pick.Pick.{Pick}
 use Rattle.pb_base.specs.Steppers.{State, Stepper, Move, Makes, move_of}
 use Rattle.pb_code.specs.Code.{CodeProcess, code_step}
 use Rattle.pb_code.specs.Whole.{Code, bank_of, code_opening}
+use Rattle.pb_history.specs.Entries.{Entry}
+use Rattle.pb_history.specs.Replays.{IsReplay}
 
 -- the state that a pick leads to; one that is not enabled changes nothing
 abbrev pub next_state : {P : Type 0} → State P → Option (Move P) → State P
@@ -26,6 +28,8 @@ pub record AreEnabled (code : Code) (picks : List Pick) : Type 0 where
   pub end : State CodeProcess
   pub makes : Makes (bank_of code) (code_step code.processes) (code_opening code) picks events end
 
--- how far checkpoints are apart: 4,096 picks, or the number of picks divided by 64, rounded up, if that is more
-abbrev pub interval_of : ℕ → ℕ
-interval_of n = max 4096 ((n + 63) / 64)
+-- a replay makes enabled picks, and ends in the state at the position after the last of them
+abbrev pub ReplaysReachPositions : Type 0
+ReplaysReachPositions =
+    (code : Code) (picks : List Pick) (entries : List Entry) (end : State CodeProcess) → IsReplay code picks entries end
+    → AreEnabled code picks × (end ≡ state_after code picks (length picks))
