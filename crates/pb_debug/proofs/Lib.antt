@@ -4,5 +4,6 @@ pub mod Following
 pub mod Here
 pub mod Lines
 pub mod Saying
+pub mod Searching
 pub mod Spelling
 pub mod Walking

@@ -14,7 +14,7 @@ use Rattle.std.proofs.lemmas.Str.{digit_value_digit}
 use Rattle.std.proofs.lemmas.Int.Digits.{digits_value_more}
 use Rattle.pb_code.proofs.Naming.{both_true}
 use Rattle.pb_code.specs.Names.{is_name_byte}
-use Rattle.pb_debug.specs.Commands.{Command, To, Step, Back, Vars, Threads, Loans, Line, Why, arm_at, arm_of, command_of, is_numeral, is_word, keyed, number_of, parted, word_of}
+use Rattle.pb_debug.specs.Commands.{Command, To, Step, Back, Vars, Threads, Loans, Next, Prev, Help, Line, Why, arm_at, arm_of, command_of, is_numeral, is_word, keyed, number_of, parted, word_of}
 use Rattle.pb_debug.specs.Spellings.{CommandsBySpelling, IsProper, spelling}
 
 -- ---- numbers
@@ -274,43 +274,59 @@ short_line : (b : Bool) (x : Option Command) (c : Command) → cond b None x ≡
 short_line true x c h = absurd cc
 short_line false x c h = (refl, h)
 
+alone : (line text : List ℕ) (d c : Command) → bytes_eq line text ≡ true → Some d ≡ Some c → text ≡ spelling d → IsProper d → length line ≤ 256
+    → (line ≡ spelling c) × IsProper c × (length line ≤ 256)
+alone line text d c h e spelled proper short =
+    let same : d ≡ c = cc in
+    subst (λ (x : Command). (line ≡ spelling x) × IsProper x × (length line ≤ 256)) same (bytes_same line text h ∙ spelled, proper, short)
+
 says_what : (line : List ℕ) (c : Command) → command_of line ≡ Some c → (line ≡ spelling c) × IsProper c × (length line ≤ 256)
 unfolding command_of
 says_what line c h =
     let s = short_line (ltb 256 (length line)) _ c h in
     let short : length line ≤ 256 = ltb-false 256 (length line) s.0 in
     elim (chosen (bytes_eq line (codes "loans")) _ _ c s.1) [
-      | inl l ↦ (
-          let same : Loans ≡ c = cc in
-          let e : line ≡ codes "loans" = bytes_same line (codes "loans") l.0 in
-          subst (λ (x : Command). (line ≡ spelling x) × IsProper x × (length line ≤ 256)) same (e, tt, short))
-      | inr p ↦ (
-          let r = parted_is line (first_at 32 line) c refl (subst (λ (o : Option ℕ). parted line o ≡ Some c) (position_is 32 line) p) in
-          (r.0, r.1, short))
+      | inl l ↦ alone line (codes "loans") Loans c l.0 l.1 refl tt short
+      | inr p ↦ elim (chosen (bytes_eq line (codes "next")) _ _ c p) [
+        | inl l ↦ alone line (codes "next") Next c l.0 l.1 refl tt short
+        | inr p ↦ elim (chosen (bytes_eq line (codes "prev")) _ _ c p) [
+          | inl l ↦ alone line (codes "prev") Prev c l.0 l.1 refl tt short
+          | inr p ↦ elim (chosen (bytes_eq line (codes "help")) _ _ c p) [
+            | inl l ↦ alone line (codes "help") Help c l.0 l.1 refl tt short
+            | inr p ↦ (
+                let r = parted_is line (first_at 32 line) c refl (subst (λ (o : Option ℕ). parted line o ≡ Some c) (position_is 32 line) p) in
+                (r.0, r.1, short))
+          ]
+        ]
+      ]
     ]
 
 -- ---- spellings are read again
 
-said_short : (line : List ℕ) (c : Command) → length line ≤ 256 → bytes_eq line (codes "loans") ≡ false → parted line (first_at 32 line) ≡ Some c
+said_short : (line : List ℕ) (c : Command) → length line ≤ 256 → bytes_eq line (codes "loans") ≡ false
+    → bytes_eq line (codes "next") ≡ false → bytes_eq line (codes "prev") ≡ false → bytes_eq line (codes "help") ≡ false → parted line (first_at 32 line) ≡ Some c
     → command_of line ≡ Some c
 unfolding command_of
-said_short line c short other h =
+said_short line c short loans next prev help h =
     let s : ltb 256 (length line) ≡ false = le-ltb 256 (length line) short in
     let p : parted line (position (λ b. eqb b 32) line) ≡ Some c = ap (parted line) (position_is 32 line) ∙ h in
-    rw (s, other, p) refl
+    rw (s, loans, next, prev, help, p) refl
 
 said_again : (c : Command) → IsProper c → length (spelling c) ≤ 256 → command_of (spelling c) ≡ Some c
 unfolding command_of keyed
-said_again (To n) lt short = said_short (spelling (To n)) (To n) short refl (ap (option_map To) (number_again n lt))
-said_again (Step n) lt short = said_short (spelling (Step n)) (Step n) short refl (ap (option_map Step) (number_again n lt))
-said_again (Back n) lt short = said_short (spelling (Back n)) (Back n) short refl (ap (option_map Back) (number_again n lt))
-said_again (Vars p) word short = said_short (spelling (Vars p)) (Vars p) short refl (ap (option_map Vars) (word_again p word))
-said_again (Threads p) word short = said_short (spelling (Threads p)) (Threads p) short refl (ap (option_map Threads) (word_again p word))
+said_again (To n) lt short = said_short (spelling (To n)) (To n) short refl refl refl refl (ap (option_map To) (number_again n lt))
+said_again (Step n) lt short = said_short (spelling (Step n)) (Step n) short refl refl refl refl (ap (option_map Step) (number_again n lt))
+said_again (Back n) lt short = said_short (spelling (Back n)) (Back n) short refl refl refl refl (ap (option_map Back) (number_again n lt))
+said_again (Vars p) word short = said_short (spelling (Vars p)) (Vars p) short refl refl refl refl (ap (option_map Vars) (word_again p word))
+said_again (Threads p) word short = said_short (spelling (Threads p)) (Threads p) short refl refl refl refl (ap (option_map Threads) (word_again p word))
 said_again Loans proper short = refl
+said_again Next proper short = refl
+said_again Prev proper short = refl
+said_again Help proper short = refl
 said_again (Line p a) proper short =
-    said_short (spelling (Line p a)) (Line p a) short refl (ap (option_map (λ (x : ArmWord). Line x.0 x.1)) (arm_again p a proper.0 proper.1))
+    said_short (spelling (Line p a)) (Line p a) short refl refl refl refl (ap (option_map (λ (x : ArmWord). Line x.0 x.1)) (arm_again p a proper.0 proper.1))
 said_again (Why p a) proper short =
-    said_short (spelling (Why p a)) (Why p a) short refl (ap (option_map (λ (x : ArmWord). Why x.0 x.1)) (arm_again p a proper.0 proper.1))
+    said_short (spelling (Why p a)) (Why p a) short refl refl refl refl (ap (option_map (λ (x : ArmWord). Why x.0 x.1)) (arm_again p a proper.0 proper.1))
 
 pub commands_by_spelling : CommandsBySpelling
 commands_by_spelling line c = (

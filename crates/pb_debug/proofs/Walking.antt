@@ -38,6 +38,15 @@ silent_from code picks i pick most (suc made) s t same le at h =
     moved_more code picks (i + made) pick None t (same made (omega (arith, le))) moves
     ∙ ap (state_after code picks) (let e : i + made + 1 ≡ i + suc made = omega arith in e)
 
+-- an enabled pick leads to the next position
+pub stands_next : (v : VerifiedCode) (picks : List Pick) (i : ℕ) (pick : Pick) (m m' : Machine) (result : Step) → AreEnabled v.code picks
+    → slice_get picks i ≡ Some pick → StandsAfter v picks i m → IsStep v.code (machine_view m) pick result (machine_view m') → IsMachineOf v m'
+    → StandsAfter v picks (i + 1) m'
+stands_next v picks i pick m m' result all there at h of =
+    let here = subst (λ (s : State CodeProcess). IsStep v.code s pick result (machine_view m')) at.state h in
+    let not = not_refused v.code picks all i pick result (machine_view m') there here in
+    record { machine = of; state = stepped_more v.code picks i pick result (machine_view m') there here not }
+
 module _ (v : VerifiedCode) (picks : List Pick) (i : ℕ) (pick : Pick) (most : ℕ) (same : Repeat picks i pick most) where
   pub stands_silent : (made : ℕ) (m m' : Machine) → made ≤ most → StandsAfter v picks i m
       → MovesSilently v.code pick made (machine_view m) (machine_view m') → IsMachineOf v m' → StandsAfter v picks (i + made) m'
@@ -50,13 +59,10 @@ module _ (v : VerifiedCode) (picks : List Pick) (i : ℕ) (pick : Pick) (most : 
   pub stands_one : (made : ℕ) (m m' : Machine) (result : Step) → AreEnabled v.code picks → made < most → StandsAfter v picks (i + made) m
       → IsStep v.code (machine_view m) pick result (machine_view m') → IsMachineOf v m' → StandsAfter v picks (i + (made + 1)) m'
   stands_one made m m' result all lt at h of =
-      let there = same made lt in
-      let here = subst (λ (s : State CodeProcess). IsStep v.code s pick result (machine_view m')) at.state h in
-      let not = not_refused v.code picks all (i + made) pick result (machine_view m') there here in
+      let next = stands_next v picks (i + made) pick m m' result all (same made lt) at h of in
       record {
         machine = of;
-        state = stepped_more v.code picks (i + made) pick result (machine_view m') there here not
-            ∙ ap (state_after v.code picks) (let e : i + made + 1 ≡ i + (made + 1) = omega arith in e);
+        state = next.state ∙ ap (state_after v.code picks) (let e : i + made + 1 ≡ i + (made + 1) = omega arith in e);
       }
 
 -- ---- checkpoints

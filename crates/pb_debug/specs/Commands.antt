@@ -9,7 +9,7 @@ use Rattle.pb_code.specs.Names.{is_name_byte}
 pub data Command : Type 0 where
   To Step Back : (n : ℕ) → Command
   Vars Threads : (process : List ℕ) → Command
-  Loans : Command
+  Loans Next Prev Help : Command
   Line Why : (process : List ℕ) (arm : ℕ) → Command
 
 -- digits with no zero before others
@@ -57,4 +57,7 @@ parted line (Some space) = keyed (take space line) (drop (space + 1) line)
 unfoldable pub command_of : List ℕ → Option Command
 command_of line =
     cond (nat_lt 256 (length line)) None (
-    cond (bytes_eq line (codes "loans")) (Some Loans) (parted line (position (λ b. b == 32) line)))
+    cond (bytes_eq line (codes "loans")) (Some Loans) (
+    cond (bytes_eq line (codes "next")) (Some Next) (
+    cond (bytes_eq line (codes "prev")) (Some Prev) (
+    cond (bytes_eq line (codes "help")) (Some Help) (parted line (position (λ b. b == 32) line))))))

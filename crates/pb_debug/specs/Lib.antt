@@ -6,6 +6,7 @@ pub mod Commands
 pub mod Following
 pub mod Intervals
 pub mod Refusals
+pub mod Searches
 pub mod Sessions
 pub mod Shown
 pub mod Spellings

@@ -1,7 +1,7 @@
 -- How each command is spelled.
 use Rattle.std.specs.Prelude.{◌≡◌, ◌↔◌, ℕ, ◌<◌, ◌≤◌, true, List, ◌∷◌, ◌++◌, length, codes, Some, ⊤}
 use Rattle.std.specs.Fmt.{decimal}
-use Rattle.pb_debug.specs.Commands.{Command, To, Step, Back, Vars, Threads, Loans, Line, Why, command_of, is_word}
+use Rattle.pb_debug.specs.Commands.{Command, To, Step, Back, Vars, Threads, Loans, Next, Prev, Help, Line, Why, command_of, is_word}
 
 -- the bytes of a command: a word, and behind a space a number, a process, or a process and an arm with a point between
 abbrev pub spelling : Command → List ℕ
@@ -11,6 +11,9 @@ spelling (Back n) = codes "back " ++ decimal n
 spelling (Vars process) = codes "vars " ++ process
 spelling (Threads process) = codes "threads " ++ process
 spelling Loans = codes "loans"
+spelling Next = codes "next"
+spelling Prev = codes "prev"
+spelling Help = codes "help"
 spelling (Line process arm) = codes "line " ++ (process ++ 46 ∷ decimal arm)
 spelling (Why process arm) = codes "why " ++ (process ++ 46 ∷ decimal arm)
 
@@ -22,6 +25,9 @@ IsProper (Back n) = n < 100000000
 IsProper (Vars process) = is_word process ≡ true
 IsProper (Threads process) = is_word process ≡ true
 IsProper Loans = ⊤
+IsProper Next = ⊤
+IsProper Prev = ⊤
+IsProper Help = ⊤
 IsProper (Line process arm) = (is_word process ≡ true) × (arm < 100000000)
 IsProper (Why process arm) = (is_word process ≡ true) × (arm < 100000000)
 

@@ -2,7 +2,8 @@
 use Rattle.std.specs.Prelude.{ℕ, zero, suc, ℤ, pos, cond, List, [], ◌∷◌, ◌++◌, length, slice_index, slice_index_or, Option, Some, None, codes, All, ◌<◌, ⊤}
 use Rattle.std.specs.Fmt.{decimal, signed_decimal}
 use Rattle.pb_base.specs.Banker.{BankerState, processes, resources, claim, loan, cash}
-use Rattle.pb_base.specs.Lines.{NameTable, name_of}
+use Rattle.pb_base.specs.declared.event.Event.{Event}
+use Rattle.pb_base.specs.Lines.{NameTable, name_of, line_of as event_line}
 use Rattle.pb_code.specs.Code.{CodeProcess, Thread, Idle, Live, Over, thread}
 use Rattle.pb_debug.specs.declared.fault.DebugFault.{DebugFault}
 use Rattle.pb_debug.specs.declared.fault.DebugFault.TheVariants.{PastEnd, NoProcess, NoArm, BadCommand, NoMemory, Device}
@@ -20,6 +21,20 @@ each_below said (suc n) = each_below said n ++ said n
 -- `at I`
 abbrev pub at_text : ℕ → List ℕ
 at_text i = line (codes "at " ++ decimal i)
+
+-- `at I LINE`, with the line of an event
+abbrev pub event_text : NameTable → ℕ → Event → List ℕ
+event_text names i event = line (codes "at " ++ decimal i ++ codes " " ++ event_line names event)
+
+abbrev pub no_event_text : List ℕ
+no_event_text = line (codes "no event")
+
+-- the commands
+abbrev pub help_text : List ℕ
+help_text =
+    line (codes "to I") ++ line (codes "step N") ++ line (codes "back N") ++ line (codes "next") ++ line (codes "prev")
+    ++ line (codes "vars P") ++ line (codes "threads P") ++ line (codes "loans") ++ line (codes "line P.a")
+    ++ line (codes "why P.a") ++ line (codes "help")
 
 -- `NAME V`
 abbrev pub var_text : List ℕ → ℤ → List ℕ

@@ -2,7 +2,7 @@
 
 ghost use Rattle.std.specs.Prelude.{◌≡◌, ◌++◌, ◌<◌, ◌≤◌, ℕ, List, length, map, slice_get, Some, OnOk, OnErr, IfSome, IfNone};
 ghost use Rattle.pb_debug.specs.Answers.{names_of, HasNoName, OfProcess, SaysVars, SaysThreads, SaysLine, SaysWhy};
-ghost use Rattle.pb_debug.specs.Answers.{Answers, AnswersCommand};
+ghost use Rattle.pb_debug.specs.Answers.{Answers, AnswersCommand, AnswersNext, AnswersPrev, SaysEvent, ShowsAny};
 ghost use Rattle.pb_debug.specs.Texts.{at_text, loans_text};
 ghost use Rattle.pb_debug.specs.Value.{IsPosition, bank_state, moved_to, state_of};
 ghost use Rattle.pb_debug.specs.View.{command_view};
@@ -10,7 +10,11 @@ ghost use Rattle.pb_debug.specs.View.{command_view};
 use crate::command::{Command, read_command};
 use crate::debugger::Debugger;
 use crate::fault::DebugFault;
-use crate::text::{put_at, put_line, put_loans, put_refusal, put_threads, put_vars, put_why};
+use crate::search::Watch;
+use crate::text::{
+    put_at, put_event, put_help, put_line, put_loans, put_no_event, put_refusal, put_threads,
+    put_vars, put_why,
+};
 use crate::words::ArmWord;
 use pb_base::NoMemory;
 
@@ -51,6 +55,44 @@ impl<'c> Debugger<'c> {
             Ok(()) => Ok(()),
             Err(_) => Err(NoMemory),
         }
+    }
+
+    // Says the event of a pick and goes to just after it, or says that there is none.
+    fn go_to_event(&mut self, text: &mut Vec<u8>, found: Option<u32>) -> Result<(), NoMemory>
+        requires within { IfSome found (λ k. k < length self.old.picks) }
+        requires shows { IfSome found (λ k. ShowsAny self.old k) }
+        ensures said { OnOk result ((said : List ℕ) × SaysEvent self.old found said self.new
+            × (text.new.items ≡ text.old.items ++ said)) }
+        ensures unchanged { OnErr result (self.new ≡ self.old) }
+    {
+        let Some(k) = found else {
+            return put_no_event(text);
+        };
+        let event = self.event_of(k)?;
+        put_event(text, self.alloc, self.verified.names(), k + 1, &event)?;
+        match self.to(k + 1) {
+            Ok(()) => Ok(()),
+            Err(_) => Err(NoMemory),
+        }
+    }
+
+    fn say_next(&mut self, text: &mut Vec<u8>) -> Result<(), NoMemory>
+        ensures said { OnOk result ((said : List ℕ) × AnswersNext self.old said self.new
+            × (text.new.items ≡ text.old.items ++ said)) }
+        ensures unchanged { OnErr result (self.new ≡ self.old) }
+    {
+        let found = self.find_next(Watch::Event)?;
+        self.go_to_event(text, found)
+    }
+
+    fn say_prev(&mut self, text: &mut Vec<u8>) -> Result<(), NoMemory>
+        ensures said { OnOk result ((said : List ℕ) × AnswersPrev self.old said self.new
+            × (text.new.items ≡ text.old.items ++ said)) }
+        ensures unchanged { OnErr result (self.new ≡ self.old) }
+    {
+        let position = self.position();
+        let found = self.find_last(position - position.min(1), Watch::Event)?;
+        self.go_to_event(text, found)
     }
 
     fn say_vars(&self, text: &mut Vec<u8>, word: &[u8]) -> Result<(), NoMemory>
@@ -135,6 +177,9 @@ impl<'c> Debugger<'c> {
             Command::Vars(word) => self.say_vars(text, word),
             Command::Threads(word) => self.say_threads(text, word),
             Command::Loans => self.say_loans(text),
+            Command::Next => self.say_next(text),
+            Command::Prev => self.say_prev(text),
+            Command::Help => put_help(text),
             Command::Line(word) => self.say_line(text, word),
             Command::Why(word) => self.say_why(text, word),
         }

@@ -22,6 +22,12 @@ pub(crate) enum Command<'t> {
     Threads(&'t [u8]),
     /// `loans`
     Loans,
+    /// `next`
+    Next,
+    /// `prev`
+    Prev,
+    /// `help`
+    Help,
     /// `line P.a`
     Line(ArmWord<'t>),
     /// `why P.a`
@@ -71,6 +77,15 @@ pub(crate) fn read_command(line: &[u8]) -> Option<Command>
     }
     if is(line, "loans") {
         return Some(Command::Loans);
+    }
+    if is(line, "next") {
+        return Some(Command::Next);
+    }
+    if is(line, "prev") {
+        return Some(Command::Prev);
+    }
+    if is(line, "help") {
+        return Some(Command::Help);
     }
     let space = find(line, b' ')?;
     keyed(&line[..space], &line[space + 1..])

@@ -29,8 +29,8 @@ pub struct Debugger<'c> {
     pub(crate) alloc: Global,
     pub(crate) verified: &'c Verified,
     pub(crate) labels: &'c Labels,
-    trace: Trace,
-    interval: u32,
+    pub(crate) trace: Trace,
+    pub(crate) interval: u32,
     checkpoints: Vec<Machine>,
     pub(crate) walker: Walker,
     last_cost: u32,
@@ -179,7 +179,7 @@ impl<'c> Debugger<'c> {
     }
 
     // Returns a machine at a position, from the last checkpoint that is not past it.
-    fn walker_at(&self, position: u32) -> Result<Walker, NoMemory>
+    pub(crate) fn walker_at(&self, position: u32) -> Result<Walker, NoMemory>
         requires { position ≤ length self.now.picks }
         ensures walks { IfOk result (Walks self.now.verified self.now.picks) }
         ensures at { IfOk result (λ w. w.at ≡ position) }

@@ -8,6 +8,7 @@ mod command;
 pub mod debugger;
 pub mod fault;
 pub mod laws;
+mod search;
 mod session;
 mod shown;
 mod text;

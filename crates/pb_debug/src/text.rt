@@ -2,7 +2,7 @@
 
 ghost use Rattle.std.specs.Prelude.{◌≡◌, ◌<◌, ◌≤◌, ◌++◌, ℕ, length, map, codes, OnOk, All};
 ghost use Rattle.pb_base.specs.Banker.{processes, resources, claim, loan, cash};
-ghost use Rattle.pb_base.specs.Lines.{names_view, name_of};
+ghost use Rattle.pb_base.specs.Lines.{HasNames, names_view, name_of};
 ghost use Rattle.pb_debug.specs.Texts as said;
 ghost use Rattle.pb_debug.specs.Texts.{HasNamesOf, IsRefusal};
 ghost use Rattle.pb_machine.specs.Views.{proc_view, thread_view};
@@ -11,8 +11,9 @@ use crate::fault::DebugFault;
 use crate::why::Why;
 use itoa::{Buffer, Integer};
 use pb_banker::Banker;
-use pb_base::{Names, NoMemory};
+use pb_base::{Event, Names, NoMemory, event_line};
 use pb_machine::{Proc, Thread, ThreadState};
+use std::alloc::Global;
 
 // Puts words and a number behind a text.
 fn put_number<I: Integer>(text: &mut Vec<u8>, words: &[u8], number: I) -> Result<(), NoMemory>
@@ -38,6 +39,42 @@ pub(crate) fn put_at(text: &mut Vec<u8>, position: u32) -> Result<(), NoMemory>
 {
     put_number(text, b"at ", position)?;
     put(text, b"\n")
+}
+
+/// Puts the line of a position and of the event that led to it behind a text.
+pub(crate) fn put_event(
+    text: &mut Vec<u8>,
+    alloc: Global,
+    names: &Names,
+    position: u32,
+    event: &Event,
+) -> Result<(), NoMemory>
+    requires { HasNames (names_view names.now) event.now }
+    ensures { OnOk result (text.new.items
+        ≡ text.old.items ++ said.event_text (names_view names.now) position event.now) }
+{
+    let said = event_line(alloc, names, event)?;
+    put_number(text, b"at ", position)?;
+    put(text, b" ")?;
+    put(text, &said)?;
+    put(text, b"\n")
+}
+
+/// Puts the line that says that there is no event behind a text.
+pub(crate) fn put_no_event(text: &mut Vec<u8>) -> Result<(), NoMemory>
+    ensures { OnOk result (text.new.items ≡ text.old.items ++ said.no_event_text) }
+{
+    put(text, b"no event\n")
+}
+
+/// Puts the lines of all commands behind a text.
+pub(crate) fn put_help(text: &mut Vec<u8>) -> Result<(), NoMemory>
+    ensures { OnOk result (text.new.items ≡ text.old.items ++ said.help_text) }
+{
+    put(
+        text,
+        b"to I\nstep N\nback N\nnext\nprev\nvars P\nthreads P\nloans\nline P.a\nwhy P.a\nhelp\n",
+    )
 }
 
 // Puts the line of one integer behind a text.

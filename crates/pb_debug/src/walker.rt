@@ -2,12 +2,13 @@
 
 ghost use Rattle.std.specs.Prelude.{◌≡◌, ◌+◌, ◌<◌, ◌≤◌, ℕ, List, length, IfOk};
 ghost use Rattle.pb_base.specs.declared.pick.Pick.{Pick as AnyPick};
+ghost use Rattle.pb_debug.specs.Searches.{StepsAt};
 ghost use Rattle.pb_debug.specs.Walks.{Repeat, StandsAfter, Walks};
 ghost use Rattle.pb_history.specs.Entries.{picks_of};
 ghost use Rattle.pb_history.specs.Positions.{AreEnabled};
 ghost use Rattle.pb_machine.specs.Views.{IsMachineOf};
 
-use pb_base::Pick;
+use pb_base::{Pick, Step};
 use pb_history::Trace;
 use pb_machine::Machine;
 use pb_verifier::Verified;
@@ -20,6 +21,22 @@ pub(crate) struct Walker {
 }
 
 impl Walker {
+    /// Makes the next pick, and returns what it came to. All picks of the trace are enabled.
+    pub fn advance(&mut self, verified: &Verified, trace: &Trace) -> Step
+        requires enabled { AreEnabled verified.now.code (picks_of trace.now.entries) }
+        requires walks { Walks verified.now (picks_of trace.now.entries) self.old }
+        requires within { self.old.at < length (picks_of trace.now.entries) }
+        requires few { length (picks_of trace.now.entries) ≤ 10000000 }
+        ensures walks { Walks verified.now (picks_of trace.now.entries) self.new }
+        ensures at { self.new.at ≡ self.old.at + 1 }
+        ensures steps { StepsAt verified.now.code (picks_of trace.now.entries) self.old.at result }
+    {
+        let pick = trace.pick(self.at);
+        let step = self.machine.step(verified, pick);
+        self.at += 1;
+        step
+    }
+
     /// Makes the picks up to a later position. All picks of the trace are enabled.
     pub fn walk_to(&mut self, verified: &Verified, trace: &Trace, to: u32)
         requires enabled { AreEnabled verified.now.code (picks_of trace.now.entries) }

@@ -33,6 +33,9 @@ process b begin hold 1 of t do skip od end";
 /// A process that prints.
 const PRINT: &[u8] = b"process p begin print 1 end";
 
+/// A process that prints twice.
+const TWICE: &[u8] = b"process p begin print 1; print 2 end";
+
 /// Two arms, and integers.
 const ARMS: &[u8] =
     b"process p begin integer x, y; x := -7; parbegin print x; y := x div 0 parend end";
@@ -45,7 +48,7 @@ struct Case {
     said: &'static [u8],
 }
 
-const CASES: [Case; 6] = [
+const CASES: [Case; 7] = [
     Case {
         text: DEVICES,
         picks: &[A],
@@ -75,6 +78,12 @@ const CASES: [Case; 6] = [
         picks: &[A, A, A, A, SECOND, SECOND, SECOND],
         commands: b"to 4\nvars p\nthreads p\nto 7\nthreads p\nline p.2\nback 7\nwhy p.0\nloans\n",
         said: b"at 4\nx -7\ny 0\n0 at 4\n1 at 6\n2 at 9\nat 7\nfaulted\nline none\nat 0\nnot asking\n",
+    },
+    Case {
+        text: TWICE,
+        picks: &[A, A, A, A, A],
+        commands: b"prev\nnext\nnext\nnext\nnext\nprev\nprev\nprev\nhelp\n",
+        said: b"no event\nat 2 p.0 print 1\nat 4 p.0 print 2\nat 5 p end\nno event\nat 4 p.0 print 2\nat 2 p.0 print 1\nno event\nto I\nstep N\nback N\nnext\nprev\nvars P\nthreads P\nloans\nline P.a\nwhy P.a\nhelp\n",
     },
     Case {
         text: PRINT,

@@ -1,0 +1,122 @@
+//! Searches along the picks.
+
+ghost use Rattle.std.specs.Prelude.{◌≡◌, ◌↔◌, ◌+◌, ◌<◌, ◌≤◌, length, IfOk, IfSome, IsTrue};
+ghost use Rattle.pb_debug.specs.Searches.{Does, IsFirst, IsLast, Shows};
+ghost use Rattle.pb_debug.specs.Walks.{Walks};
+ghost use Rattle.pb_history.specs.Entries.{picks_of};
+ghost use Rattle.pb_history.specs.Positions.{AreEnabled};
+
+use crate::debugger::Debugger;
+use crate::walker::Walker;
+use pb_base::{Event, NoMemory, Step};
+use pb_history::Trace;
+use pb_verifier::Verified;
+
+/// What a search looks for.
+#[derive(Clone, Copy)]
+pub(crate) enum Watch {
+    /// A pick that shows an event.
+    Event,
+}
+
+/// Makes the next pick of a trace. Returns whether it does what is looked for.
+fn does(walker: &mut Walker, verified: &Verified, trace: &Trace, watch: Watch) -> bool
+    requires enabled { AreEnabled verified.now.code (picks_of trace.now.entries) }
+    requires few { length (picks_of trace.now.entries) ≤ 10000000 }
+    requires walks { Walks verified.now (picks_of trace.now.entries) walker.old }
+    requires within { walker.old.at < length (picks_of trace.now.entries) }
+    ensures walks { Walks verified.now (picks_of trace.now.entries) walker.new }
+    ensures at { walker.new.at ≡ walker.old.at + 1 }
+    ensures does { IsTrue result ↔ Does verified.now.code (picks_of trace.now.entries) watch walker.old.at }
+{
+    match watch {
+        Watch::Event => match walker.advance(verified, trace) {
+            Step::Did(_) => true,
+            Step::Silent | Step::NotEnabled => false,
+        },
+    }
+}
+
+/// Makes the picks of a trace up to the first that does what is looked for, or to the last. Returns its number.
+fn first_in(walker: &mut Walker, verified: &Verified, trace: &Trace, watch: Watch) -> Option<u32>
+    requires enabled { AreEnabled verified.now.code (picks_of trace.now.entries) }
+    requires few { length (picks_of trace.now.entries) ≤ 10000000 }
+    requires walks { Walks verified.now (picks_of trace.now.entries) walker.old }
+    ensures { IsFirst (Does verified.now.code (picks_of trace.now.entries) watch) walker.old.at
+        (length (picks_of trace.now.entries)) result }
+{
+    while walker.at < trace.len() {
+        let at = walker.at;
+        if does(walker, verified, trace, watch) {
+            return Some(at);
+        }
+    }
+    None
+}
+
+/// Makes the picks of a trace up to a position. Returns the number of the last that does what is looked for.
+fn last_in(
+    walker: &mut Walker,
+    verified: &Verified,
+    trace: &Trace,
+    past: u32,
+    watch: Watch,
+) -> Option<u32>
+    requires enabled { AreEnabled verified.now.code (picks_of trace.now.entries) }
+    requires few { length (picks_of trace.now.entries) ≤ 10000000 }
+    requires walks { Walks verified.now (picks_of trace.now.entries) walker.old }
+    requires before { walker.old.at ≤ past }
+    requires within { past ≤ length (picks_of trace.now.entries) }
+    ensures { IsLast (Does verified.now.code (picks_of trace.now.entries) watch) walker.old.at past result }
+{
+    let mut last = None;
+    while walker.at < past {
+        let at = walker.at;
+        if does(walker, verified, trace, watch) {
+            last = Some(at);
+        }
+    }
+    last
+}
+
+impl<'c> Debugger<'c> {
+    /// Returns the number of the first pick from the position on that does what is looked for.
+    pub(crate) fn find_next(&self, watch: Watch) -> Result<Option<u32>, NoMemory>
+        ensures { IfOk result (IsFirst (Does self.now.verified.code self.now.picks watch) self.now.position
+            (length self.now.picks)) }
+    {
+        let mut walker = self.walker_at(self.position())?;
+        Ok(first_in(&mut walker, self.verified, &self.trace, watch))
+    }
+
+    /// Returns the number of the last pick before a position that does what is looked for.
+    pub(crate) fn find_last(&self, past: u32, watch: Watch) -> Result<Option<u32>, NoMemory>
+        requires { past ≤ length self.now.picks }
+        ensures { IfOk result (IsLast (Does self.now.verified.code self.now.picks watch) 0 past) }
+    {
+        let mut end = past;
+        while 0 < end {
+            let start = (end - 1) / self.interval * self.interval;
+            let mut walker = self.walker_at(start)?;
+            let last = last_in(&mut walker, self.verified, &self.trace, end, watch);
+            if last.is_some() {
+                return Ok(last);
+            }
+            end = start;
+        }
+        Ok(None)
+    }
+
+    /// Returns the event of a pick that shows one.
+    pub(crate) fn event_of(&self, k: u32) -> Result<Event, NoMemory>
+        requires within { k < length self.now.picks }
+        requires shows { Does self.now.verified.code self.now.picks Watch.Event k }
+        ensures { IfOk result (Shows self.now.verified.code self.now.picks k) }
+    {
+        let mut walker = self.walker_at(k)?;
+        match walker.advance(self.verified, &self.trace) {
+            Step::Did(event) => Ok(event),
+            Step::Silent | Step::NotEnabled => unreachable!(),
+        }
+    }
+}
