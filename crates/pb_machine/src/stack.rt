@@ -1,6 +1,6 @@
 //! The operands of an arm.
 
-ghost use Rattle.std.specs.Prelude.{◌≡◌, ◌↔◌, ◌<◌, ◌≤◌, [], ◌∷◌, length, slice_get, Some, IsTrue, IfOk};
+ghost use Rattle.std.specs.Prelude.{◌≡◌, ◌↔◌, ◌<◌, ◌≤◌, [], ◌∷◌, length, reverse, slice_get, Some, IsTrue, IfOk};
 
 use pb_base::NoMemory;
 use smallvec::SmallVec;
@@ -63,6 +63,13 @@ impl Stack {
         ensures { IsTrue result ↔ (self.now.items ≡ other.now.items) }
     {
         self.operands.as_slice() == other.operands.as_slice()
+    }
+
+    /// The operands, the lowest first.
+    pub fn as_slice(&self) -> &[i64]
+        ensures { result.now ≡ reverse self.now.items }
+    {
+        self.operands.as_slice()
     }
 
     /// The operand with this many others on top of it.
