@@ -71,8 +71,8 @@ pub data IsStatusAt (end : State CodeProcess) : Status → Type 0 where
   some_fault : HasFault end → IsStatusAt end Fault
   no_fault : ¬ HasFault end → IsStatusAt end Done
 
--- what is said of picks that made these events and led to this state: the line of each event and the last line; or,
--- where memory wants, the lines of the first so many, and then `memory`
+-- what is said of picks that made these events and led to this state: the line of each event and the last line; or, if
+-- memory runs out, the lines of the first of them, and then `memory`
 pub data SaysOfEvents (names : NameTable) (events : List Event) (end : State CodeProcess) : List ℕ → Status → Type 0 where
   all_told : (last : List ℕ) → IsLastLine end last → (status : Status) → IsStatusAt end status
       → SaysOfEvents names events end (event_lines names events ++ line last) status

@@ -76,7 +76,7 @@ picks_run pick n event =
     ∙ (ap (λ (ps : List Pick). replicate n pick ++ ps) (picks_shown pick (option_to_list event))
     ∙ replicate_append n (length (option_to_list event)) pick))
 
--- some of the picks of one arm were made before, and so many more now
+-- some of the picks of one arm were made before, and `n` more now, the last of which may show an event
 pub picks_on : (before entries : List Entry) (pick : Pick) (done n : ℕ) (event : Option Event) → picks_of entries ≡ picks_of before ++ replicate done pick
     → picks_of (entries ++ run_of pick n event) ≡ picks_of before ++ replicate (done + (n + length (option_to_list event))) pick
 picks_on before entries pick done n event h =
@@ -97,7 +97,7 @@ length_on before entries pick done picks =
     let e = length-map before (λ (e : Entry). e.pick) in
     omega (arith, a, b, c, d, e)
 
--- the pick after those made and so many silent ones is not enabled
+-- the pick after those made and `n` silent ones is not enabled
 pub stops_here : (code : Code) (before entries : List Entry) (pick : Pick) (count done n : ℕ) (here end : State CodeProcess)
     → picks_of entries ≡ picks_of before ++ replicate done pick → Leads code (code_opening code) entries here → Leads code here (silent_picks pick n) end
     → done + n < count → CodeStays code end pick

@@ -141,7 +141,7 @@ rise_more start len [] e h lt = (omega (arith, h, lt), refl)
 rise_more start len (d ∷ []) e h lt = rise_one (not d.shows && are_same d.pick e.pick) start len d e h lt
 rise_more start len (d ∷ (f ∷ ends)) e h lt = (h.0, rise_more d.end len (f ∷ ends) e h.1 lt)
 
--- the end of a span after so many picks
+-- the end of a span that comes after `len` picks
 abbrev pub end_for : ℕ → Span → SpanEnd
 end_for len s = record { pick = s.pick; shows = s.shows; end = len + s.count }
 

@@ -11,7 +11,7 @@ pub record SpanRow : Type 0 where
   pub spans : List Span
   pub room : ℕ
 
--- the spans after so many picks
+-- the spans that these ends make, the first of which begins after `start` picks
 abbrev pub spans_from : ℕ → List SpanEnd → List Span
 spans_from start [] = []
 spans_from start (e ∷ ends) =

@@ -26,11 +26,11 @@ silent pick = record { pick = pick; event = None }
 abbrev pub shown : Pick → Event → Entry
 shown pick event = record { pick = pick; event = Some event }
 
--- so many picks of one arm that show nothing
+-- `count` picks of one arm that show nothing
 abbrev pub silent_picks : Pick → ℕ → List Entry
 silent_picks pick count = replicate count (silent pick)
 
--- so many picks of one arm that show nothing, and one that shows this event, if there is one
+-- `count` picks of one arm that show nothing, and one that shows this event, if there is one
 abbrev pub run_of : Pick → ℕ → Option Event → List Entry
 run_of pick count event = silent_picks pick count ++ map (shown pick) (option_to_list event)
 

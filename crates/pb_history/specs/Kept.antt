@@ -20,7 +20,7 @@ whole bundles (Printed pick value) = event.Printed pick value
 whole bundles (Faulted pick kind) = event.Faulted pick kind
 whole bundles (Finished process) = event.Finished process
 
--- the bundle of the event is one of so many
+-- the number of its bundle, if it has one, is below this count
 abbrev pub HasBundle : ℕ → KeptEvent → Type 0
 HasBundle count (Granted pick bundle) = bundle < count
 HasBundle count (Returned pick bundle) = bundle < count

@@ -39,13 +39,13 @@ IsStopped code picks NoMemory = ⊤
 
 -- ---- picks of one arm up to the first that is not silent
 
--- what the pick after so many silent ones came to; none was made if those are all
+-- what the pick after the silent ones came to; none was made if those are all
 abbrev pub EndsRun : Code → State CodeProcess → Pick → (max made : ℕ) → Step → State CodeProcess → Type 0
 EndsRun code between pick max made step.Silent after = (made ≡ max) × (after ≡ between)
 EndsRun code between pick max made (step.Did event) after = (made < max) × CodeMoves code between pick (Some event) after
 EndsRun code between pick max made step.NotEnabled after = (made < max) × CodeStays code between pick
 
--- so many silent picks, and what came after them
+-- the silent picks that were made, and what came after them
 pub record IsRun (code : Code) (before : State CodeProcess) (pick : Pick) (max made : ℕ) (step : Step) (after : State CodeProcess) : Type 0 where
   pub between : State CodeProcess
   pub leads : Leads code before (silent_picks pick made) between

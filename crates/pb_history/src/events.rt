@@ -7,7 +7,7 @@ use pb_base::{Bundle, Event, FaultKind, NoMemory, Pick};
 use std::alloc::Global;
 use std::marker::Model;
 
-/// An event, which names its bundle by number.
+/// An event, which names its bundle by number, so that none takes more than 16 bytes.
 #[derive(Clone, Copy)]
 pub(crate) enum KeptEvent {
     Granted { pick: Pick, bundle: u32 },
@@ -17,7 +17,9 @@ pub(crate) enum KeptEvent {
     Finished { process: u8 },
 }
 
-/// Events in their order. The bundles of grants and returns stand apart, so that a print costs no room for one.
+const _: () = prove!(size_of::<KeptEvent>() <= 16);
+
+/// Events in their order. The bundles of grants and returns are kept apart, so that a print takes no room for one.
 #[derive(Drop)]
 pub(crate) struct Events {
     events: Vec<KeptEvent>,
@@ -72,7 +74,7 @@ impl Events {
         }
     }
 
-    /// Makes room for so many more events.
+    /// Makes room for `more` further events.
     pub(crate) fn reserve(&mut self, more: usize) -> Result<(), NoMemory>
         ensures events { self.new.events ≡ self.old.events }
         ensures room { OnOk result (more ≤ self.new.room) }

@@ -60,7 +60,7 @@ impl Spans {
         self.ends.len()
     }
 
-    /// How many picks stand before the span with this number.
+    /// How many picks come before the span with this number.
     fn start(&self, i: usize) -> u32
         requires { i < length self.now.spans }
         ensures { result ≡ size (take i self.now.spans) }
@@ -105,7 +105,7 @@ impl Spans {
         CountedPick { pick, count }
     }
 
-    /// Makes room for so many more spans.
+    /// Makes room for `more` further spans.
     pub(crate) fn reserve(&mut self, more: usize) -> Result<(), NoMemory>
         ensures spans { self.new.spans ≡ self.old.spans }
         ensures room { OnOk result (more ≤ self.new.room) }

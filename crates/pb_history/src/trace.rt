@@ -96,8 +96,8 @@ impl Trace {
         self.spans.get(i)
     }
 
-    /// Makes room for so many more calls of `push_run`, `push_silent` and `push_shown`. The entries stay the same,
-    /// also when memory is refused.
+    /// Makes room for `more` further calls of `push_run`, `push_silent` and `push_shown`. The entries stay the same,
+    /// even if memory is refused.
     pub fn reserve(&mut self, more: usize) -> Result<(), NoMemory>
         ensures same { self.new.entries ≡ self.old.entries }
         ensures room { OnOk result (more ≤ self.new.room) }
@@ -106,7 +106,7 @@ impl Trace {
         self.events.reserve(more)
     }
 
-    /// Adds a pick, with its event or with none. When memory is refused the trace is unchanged.
+    /// Adds a pick, with its event or with none. If memory is refused the trace is unchanged.
     pub fn push(&mut self, pick: Pick, event: Option<Event>) -> Result<(), NoMemory>
         requires { length self.old.entries < 10000000 }
         ensures ok { OnOk result
@@ -121,7 +121,7 @@ impl Trace {
         Ok(())
     }
 
-    /// Adds so many picks of one arm that show nothing. When memory is refused the trace is unchanged.
+    /// Adds `count` picks of one arm that show nothing. If memory is refused the trace is unchanged.
     pub fn push_many(&mut self, pick: Pick, count: u32) -> Result<(), NoMemory>
         requires { length self.old.entries + count ≤ 10000000 }
         ensures ok { OnOk result (self.new.entries ≡ self.old.entries ++ silent_picks pick count) }
@@ -132,7 +132,7 @@ impl Trace {
         Ok(())
     }
 
-    /// Adds so many picks of one arm that show nothing. There is room.
+    /// Adds `count` picks of one arm that show nothing. There is room.
     pub fn push_silent(&mut self, pick: Pick, count: u32)
         requires room { 0 < self.old.room }
         requires fits { length self.old.entries + count ≤ 10000000 }
@@ -153,8 +153,8 @@ impl Trace {
         self.push_run(pick, 0, Some(event));
     }
 
-    /// Adds so many picks of one arm that show nothing, and then, if there is an event, one of that arm which shows
-    /// it. There is room.
+    /// Adds `silent` picks of one arm that show nothing, and then, if there is an event, one of that arm which shows it.
+    /// There is room.
     pub fn push_run(&mut self, pick: Pick, silent: u32, event: Option<Event>)
         requires room { 0 < self.old.room }
         requires fits { length self.old.entries + silent + length (option_to_list event) ≤ 10000000 }

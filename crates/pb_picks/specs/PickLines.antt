@@ -40,7 +40,7 @@ pub record Says (code : Code) (line : List ℕ) (c : CountedPick) : Type 0 where
   pub most : c.count ≤ 10000000
   pub spelled : line ≡ pick_line code.names.processes c
 
--- the first line of a text, without its line feed, and what stands behind that; the last line may have none
+-- the first line of a text, without its line feed, and what follows it; the last line may have no line feed
 abbrev pub IsFirstLine : (text line after : List ℕ) → Type 0
 IsFirstLine text line after =
     Lacks 10 line × ((text ≡ line ++ (10 ∷ after)) ⊎ ((text ≡ line) × (after ≡ [])))

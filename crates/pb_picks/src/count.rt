@@ -7,8 +7,8 @@ ghost use Rattle.pb_picks.specs.Counted.{AreApart};
 use pb_base::{NoMemory, Pick};
 use pb_history::CountedPick;
 
-/// Adds so many picks of one arm, at least one, to the last count if that is of the same arm, or as a count of their
-/// own. They are at most 10,000,000 in all. When memory is refused the last count may be missing.
+/// Counts further picks of one arm, at least one: adds them to the last entry if that is of the same arm, or as an entry
+/// of their own. All picks together are at most 10,000,000. If memory is refused, the last entry may be missing.
 pub fn count_pick(counted: &mut Vec<CountedPick>, pick: Pick, count: u32) -> Result<(), NoMemory>
     requires some { 0 < count }
     requires fits { length (spread counted.old.items) + count ≤ 10000000 }

@@ -1,14 +1,14 @@
-//! Why bytes are no pick lines.
+//! Why a text says no picks.
 
 ghost use Rattle.std.specs.Prelude.{◌≡◌};
 
 use std::alloc::AllocFailed;
 
-/// Why bytes are no pick lines.
+/// Why a text says no picks.
 #[derive(Clone, Copy, Debug, PartialEq, Eq, thiserror::Error)]
 pub enum PickFault {
-    /// The line that begins at this byte is not of the form, or names no process or no arm of it.
-    #[error("no pick line at {0}")]
+    /// The line that begins at this byte is not of the form, or its process or its arm does not exist.
+    #[error("not a pick line at {0}")]
     NotPicks(usize),
     /// The counts are more than 10,000,000 in all.
     #[error("too many picks")]

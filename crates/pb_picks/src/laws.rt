@@ -12,7 +12,7 @@ pub fn spells_at_most_one()
     ensures { SpellsAtMostOne }
 {}
 
-/// A text that says picks is refused by no line, so that `read_picks` of it returns these picks, or runs out of memory.
+/// A text that says picks has no faulty line, so `read_picks` returns these picks, or runs out of memory.
 pub fn spelled_is_not_faulty()
     ensures { SpelledIsNotFaulty }
 {}

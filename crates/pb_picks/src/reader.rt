@@ -17,7 +17,7 @@ use std::alloc::Global;
 const MOST: u32 = 10_000_000;
 
 /// Reads pick lines, `P.a COUNT` each, of the processes and arms of this code. The last line feed may be missing. The
-/// first faulty line decides: `NotPicks` at its start if it is not of the form, or its process or arm is not there;
+/// first faulty line decides: `NotPicks` at its start if it is not of the form, or its process or arm does not exist;
 /// `TooMany` if the counts up to it are more than 10,000,000.
 pub fn read_picks(alloc: Global, code: &Code, text: &[u8]) -> Result<Vec<CountedPick>, PickFault>
     requires { KeepsLimits (code_view code.now) }
@@ -42,7 +42,7 @@ pub fn read_picks(alloc: Global, code: &Code, text: &[u8]) -> Result<Vec<Counted
     Ok(picks)
 }
 
-/// The first line, without its line feed, and what stands behind it.
+/// Splits a text into its first line, without the line feed, and the rest.
 fn first_line(text: &[u8]) -> (&[u8], &[u8])
     ensures { IsFirstLine text.now result.0.now result.1.now }
 {
@@ -52,7 +52,7 @@ fn first_line(text: &[u8]) -> (&[u8], &[u8])
     }
 }
 
-/// What stands before and behind the first such byte.
+/// Splits a text at the first byte that is the mark.
 fn split_first(text: &[u8], mark: u8) -> Option<(&[u8], &[u8])>
     ensures { MatchOption result (Lacks mark text.now)
         (λ parts. Lacks mark parts.0.now × (text.now ≡ parts.0.now ++ (mark ∷ parts.1.now))) }
@@ -65,7 +65,7 @@ fn split_first(text: &[u8], mark: u8) -> Option<(&[u8], &[u8])>
     None
 }
 
-/// The pick that a line says, if it says one.
+/// Returns the pick that a line says, if it says one.
 fn pick_of(code: &Code, line: &[u8]) -> Option<CountedPick>
     requires { KeepsLimits (code_view code.now) }
     ensures { MatchOption result ((c : AnyPick) → Says (code_view code.now) line.now c → ⊥)
@@ -87,7 +87,7 @@ fn pick_of(code: &Code, line: &[u8]) -> Option<CountedPick>
     None
 }
 
-/// The arm and the count of a line, if it begins with this name and says one of so many arms.
+/// Returns the arm and the count of a line, if it begins with this name and its arm is below `arms`.
 fn pick_of_process(line: &[u8], name: &[u8], arms: usize) -> Option<(u8, u32)>
     requires { arms ≤ 64 }
     ensures { MatchOption result
@@ -101,7 +101,7 @@ fn pick_of_process(line: &[u8], name: &[u8], arms: usize) -> Option<(u8, u32)>
     Some((arm, count))
 }
 
-/// What stands behind the name and a point, if the line begins so.
+/// Returns what follows the name and a point, if the line begins with them.
 fn behind<'t>(line: &'t [u8], name: &[u8]) -> Option<&'t [u8]>
     ensures { MatchOption result ((rest : List ℕ) → line.now ≡ name.now ++ (46 ∷ rest) → ⊥)
         (λ rest. line.now ≡ name.now ++ (46 ∷ rest.now)) }
@@ -110,7 +110,7 @@ fn behind<'t>(line: &'t [u8], name: &[u8]) -> Option<&'t [u8]>
     after(rest, b".")
 }
 
-/// What stands behind these bytes, if the text begins with them.
+/// Returns what follows these bytes, if the text begins with them.
 fn after<'t>(text: &'t [u8], start: &[u8]) -> Option<&'t [u8]>
     ensures { MatchOption result ((rest : List ℕ) → text.now ≢ start.now ++ rest)
         (λ rest. text.now ≡ start.now ++ rest.now) }
@@ -118,7 +118,7 @@ fn after<'t>(text: &'t [u8], start: &[u8]) -> Option<&'t [u8]>
     text.strip_prefix(start)
 }
 
-/// The arm, one of so many, and the count.
+/// Reads the arm, below `arms`, and the count.
 fn read_arm_and_count(text: &[u8], arms: usize) -> Option<(u8, u32)>
     requires { arms ≤ 64 }
     ensures { MatchOption result
@@ -134,7 +134,7 @@ fn read_arm_and_count(text: &[u8], arms: usize) -> Option<(u8, u32)>
     Some((arm as u8, count))
 }
 
-/// The number that is written in decimal, up to 10,000,000, with no sign and no zero before it.
+/// Reads a decimal number up to 10,000,000, without a sign and without zeros before it.
 fn number(word: &[u8]) -> Option<u32>
     ensures { MatchOption result ((n : ℕ) → n ≤ 10000000 → word.now ≡ decimal n → ⊥)
         (λ n. (n ≤ 10000000) × (word.now ≡ decimal n)) }
@@ -159,7 +159,7 @@ fn is_plain(word: &[u8]) -> bool
     }
 }
 
-/// The number that is written in decimal, perhaps with a sign and zeros before it.
+/// Reads a decimal number, which may have a sign and zeros before it.
 fn parsed(word: &[u8]) -> Option<u32>
     ensures complete { (n : ℕ) → n ≤ 10000000 → word.now ≡ decimal n → result ≡ Some n }
     ensures sound { IfSome result (λ n. is_plain word.now ≡ true → word.now ≡ decimal n) }

@@ -8,8 +8,8 @@ use itoa::Buffer;
 use pb_base::{Names, NoMemory};
 use pb_history::CountedPick;
 
-/// Writes the lines of these picks behind a text, `P.a COUNT` each, in their order, and a line feed behind each. Each
-/// pick is of a process that has a name. When memory is refused, a first part of them stands behind the text.
+/// Appends the lines of these picks to a text, `P.a COUNT` and a line feed each, in their order. Each pick is of a
+/// process that has a name. If memory is refused, a first part of them was appended.
 pub fn write_picks(text: &mut Vec<u8>, names: &Names, picks: &[CountedPick]) -> Result<(), NoMemory>
     requires { All (λ c. HasProcess (names_view names.now) c.pick.process) picks.now }
     ensures { OnOk result
@@ -21,7 +21,7 @@ pub fn write_picks(text: &mut Vec<u8>, names: &Names, picks: &[CountedPick]) -> 
     Ok(())
 }
 
-/// Writes the line of a pick behind a text.
+/// Appends the line of a pick to a text.
 fn write_pick(text: &mut Vec<u8>, names: &Names, counted: CountedPick) -> Result<(), NoMemory>
     requires { HasProcess (names_view names.now) counted.pick.process }
     ensures { OnOk result
