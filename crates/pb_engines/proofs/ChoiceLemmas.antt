@@ -1,4 +1,4 @@
--- Live picks, found arm by arm.
+-- Candidates for the next pick, found arm by arm.
 use Rattle.std.proofs.Common.{◌≡◌, ℕ, ◌+◌, ◌≤◌, ◌⊎◌, inl, inr, List, [], ◌∷◌, ◌++◌, length, length-append, Some, All, refl, sym, ap, ◌∙◌, subst, arith}
 use Rattle.std.specs.Prelude.{Contains, option_and_then, slice_get}
 use Rattle.std.proofs.lemmas.Bool.{cases_lt}
@@ -11,20 +11,20 @@ use Rattle.pb_code.specs.Code.{CodeProcess, code_step}
 use Rattle.pb_code.specs.Whole.{Code}
 use Rattle.pb_machine.specs.Looks.{look_at, look_of}
 use Rattle.pb_machine.specs.declared.look.Look.TheVariants.{Stays}
-use Rattle.pb_engines.specs.Choices.{AreInOrder, AreLiveBefore, AreLivePicks, IsBefore, IsLive}
+use Rattle.pb_engines.specs.Choices.{AreInOrder, AreCandidatesBefore, AreCandidates, IsBefore, IsCandidate}
 use Rattle.pb_engines.proofs.ScheduleLemmas.{no_step_beyond, same_pick}
 
 -- ---- arms and processes that are not there
 
-pub no_arm_lives : (code : Code) (s : State CodeProcess) (pick : Pick) (process : CodeProcess)
+pub no_such_candidate_arm : (code : Code) (s : State CodeProcess) (pick : Pick) (process : CodeProcess)
     → slice_get s.processes pick.process ≡ Some process → length process.threads ≤ pick.arm → look_at code s pick ≡ Stays
-no_arm_lives code s pick process there long =
+no_such_candidate_arm code s pick process there long =
     ap (λ p. look_of (option_and_then (λ q. code_step code.processes pick.process q pick.arm) p)) there
     ∙ ap look_of (no_step_beyond code.processes pick.process process pick.arm long)
 
-no_process_lives : (code : Code) (s : State CodeProcess) (pick : Pick) → length s.processes ≤ pick.process
+no_such_candidate_process : (code : Code) (s : State CodeProcess) (pick : Pick) → length s.processes ≤ pick.process
     → look_at code s pick ≡ Stays
-no_process_lives code s pick long =
+no_such_candidate_process code s pick long =
     ap (λ p. look_of (option_and_then (λ q. code_step code.processes pick.process q pick.arm) p))
     (slice_get_past s.processes pick.process long)
 
@@ -61,52 +61,52 @@ last_or_before p n pick (inr (same, less)) = elim (cases_lt pick.arm n) [
 ]
 
 module _ (code : Code) (s : State CodeProcess) where
-  pub none_live : AreLiveBefore code s 0 0 []
-  none_live = record {
-    live = All-nil _;
+  pub none_yet : AreCandidatesBefore code s 0 0 []
+  none_yet = record {
+    each = All-nil _;
     before = All-nil _;
-    all = λ pick live before. elim before [
+    all = λ pick is before. elim before [
       | inl less ↦ absurd (omega (arith, less))
       | inr (same, less) ↦ absurd (omega (arith, less))
     ];
     order = tt;
   }
 
-  pub one_live : (pick : Pick) (picks : List Pick) → AreLiveBefore code s pick.process pick.arm picks → IsLive code s pick
-      → AreLiveBefore code s pick.process (pick.arm + 1) (picks ++ pick ∷ [])
-  one_live pick picks are live = record {
-    live = All-push (IsLive code s) picks pick are.live live;
+  pub one_candidate : (pick : Pick) (picks : List Pick) → AreCandidatesBefore code s pick.process pick.arm picks → IsCandidate code s pick
+      → AreCandidatesBefore code s pick.process (pick.arm + 1) (picks ++ pick ∷ [])
+  one_candidate pick picks are is = record {
+    each = All-push (IsCandidate code s) picks pick are.each is;
     before = All-push (λ p. IsBefore p pick.process (pick.arm + 1)) picks pick
         (All-weaker (λ p. IsBefore p pick.process pick.arm) (λ p. IsBefore p pick.process (pick.arm + 1))
         (further pick.process pick.arm) picks are.before)
         (inr (refl, omega arith));
-    all = λ other other_lives before. elim (last_or_before pick.process pick.arm other before) [
-      | inl earlier ↦ contains_more picks pick other (are.all other other_lives earlier)
+    all = λ other is before. elim (last_or_before pick.process pick.arm other before) [
+      | inl earlier ↦ contains_more picks pick other (are.all other is earlier)
       | inr (process, arm) ↦ contains_last picks pick other (same_pick pick other (sym process) (sym arm))
     ];
     order = in_order_with picks pick are.order are.before;
   }
 
-  pub one_stays : (pick : Pick) (picks : List Pick) → AreLiveBefore code s pick.process pick.arm picks → look_at code s pick ≡ Stays
-      → AreLiveBefore code s pick.process (pick.arm + 1) picks
+  pub one_stays : (pick : Pick) (picks : List Pick) → AreCandidatesBefore code s pick.process pick.arm picks → look_at code s pick ≡ Stays
+      → AreCandidatesBefore code s pick.process (pick.arm + 1) picks
   one_stays pick picks are stays = record {
-    live = are.live;
+    each = are.each;
     before = All-weaker _ _ (further pick.process pick.arm) picks are.before;
-    all = λ other live before. elim (last_or_before pick.process pick.arm other before) [
-      | inl earlier ↦ are.all other live earlier
+    all = λ other is before. elim (last_or_before pick.process pick.arm other before) [
+      | inl earlier ↦ are.all other is earlier
       | inr (process, arm) ↦
-          absurd (live (ap (look_at code s) (sym (same_pick pick other (sym process) (sym arm))) ∙ stays))
+          absurd (is (ap (look_at code s) (sym (same_pick pick other (sym process) (sym arm))) ∙ stays))
     ];
     order = are.order;
   }
 
   -- all arms of a process were looked at
-  pub process_is_over : (p n : ℕ) (process : CodeProcess) (picks : List Pick) → AreLiveBefore code s p n picks
-      → slice_get s.processes p ≡ Some process → length process.threads ≤ n → AreLiveBefore code s (p + 1) 0 picks
+  pub process_is_over : (p n : ℕ) (process : CodeProcess) (picks : List Pick) → AreCandidatesBefore code s p n picks
+      → slice_get s.processes p ≡ Some process → length process.threads ≤ n → AreCandidatesBefore code s (p + 1) 0 picks
   process_is_over p n process picks are there long = record {
-    live = are.live;
+    each = are.each;
     before = All-weaker _ _ next_process picks are.before;
-    all = λ pick live before. are.all pick live (earlier pick live before);
+    all = λ pick is before. are.all pick is (earlier pick is before);
     order = are.order;
   }
     where
@@ -114,25 +114,25 @@ module _ (code : Code) (s : State CodeProcess) where
       next_process pick (inl less) = inl (omega (arith, less))
       next_process pick (inr (same, less)) = inl (omega (arith, same))
 
-      earlier : (pick : Pick) → IsLive code s pick → IsBefore pick (p + 1) 0 → IsBefore pick p n
-      earlier pick live (inr (same, less)) = absurd (omega (arith, less))
-      earlier pick live (inl less) = elim (cases_lt pick.process p) [
+      earlier : (pick : Pick) → IsCandidate code s pick → IsBefore pick (p + 1) 0 → IsBefore pick p n
+      earlier pick is (inr (same, less)) = absurd (omega (arith, less))
+      earlier pick is (inl less) = elim (cases_lt pick.process p) [
         | inl before ↦ inl before
         | inr not_before ↦
             let same : pick.process ≡ p = omega (arith, less, not_before) in
             elim (cases_lt pick.arm n) [
               | inl arm ↦ inr (same, arm)
-              | inr past ↦ absurd (live (no_arm_lives code s pick process
+              | inr past ↦ absurd (is (no_such_candidate_arm code s pick process
                   (subst (λ (k : ℕ). slice_get s.processes k ≡ Some process) (sym same) there) (omega (arith, long, past))))
             ]
       ]
 
-  pub all_live : (n : ℕ) (picks : List Pick) → AreLiveBefore code s n 0 picks → length s.processes ≤ n → AreLivePicks code s picks
-  all_live n picks are long = record {
-    live = are.live;
-    all = λ pick live. elim (cases_lt pick.process n) [
-      | inl before ↦ are.all pick live (inl before)
-      | inr past ↦ absurd (live (no_process_lives code s pick (omega (arith, long, past))))
+  pub all_found : (n : ℕ) (picks : List Pick) → AreCandidatesBefore code s n 0 picks → length s.processes ≤ n → AreCandidates code s picks
+  all_found n picks are long = record {
+    each = are.each;
+    all = λ pick is. elim (cases_lt pick.process n) [
+      | inl before ↦ are.all pick is (inl before)
+      | inr past ↦ absurd (is (no_such_candidate_process code s pick (omega (arith, long, past))))
     ];
     order = are.order;
   }

@@ -9,6 +9,7 @@ pub mod EndedTexts
 pub mod ExecutionLemmas
 pub mod InputLemmas
 pub mod LoadLemmas
+pub mod LongRecords
 pub mod PageLemmas
 pub mod RecordLemmas
 pub mod ReplayLemmas

@@ -7,9 +7,9 @@ use Rattle.pb_code.specs.Whole.{Code}
 use Rattle.pb_machine.specs.Looks.{look_at}
 use Rattle.pb_machine.specs.declared.look.Look.TheVariants.{Stays}
 
--- the arm can go on, unless the banker refuses what it asks for
-abbrev pub IsLive : Code → State CodeProcess → Pick → Type 0
-IsLive code s pick = look_at code s pick ≢ Stays
+-- a candidate for the next pick: its arm can go on, unless the banker refuses what it asks for
+abbrev pub IsCandidate : Code → State CodeProcess → Pick → Type 0
+IsCandidate code s pick = look_at code s pick ≢ Stays
 
 -- the pick is of an earlier process, or of an earlier arm of the same
 abbrev pub IsBefore : (pick : Pick) → (process arm : ℕ) → Type 0
@@ -20,15 +20,15 @@ abbrev pub AreInOrder : List Pick → Type 0
 AreInOrder [] = ⊤
 AreInOrder (pick ∷ picks) = All (λ later. IsBefore pick later.process later.arm) picks × AreInOrder picks
 
--- all live picks and no others, in the order of their processes and then of their arms
-pub record AreLivePicks (code : Code) (s : State CodeProcess) (picks : List Pick) : Type 0 where
-  pub live : All (IsLive code s) picks
-  pub all : (pick : Pick) → IsLive code s pick → Contains picks pick
+-- all candidates and no others, in the order of their processes and then of their arms
+pub record AreCandidates (code : Code) (s : State CodeProcess) (picks : List Pick) : Type 0 where
+  pub each : All (IsCandidate code s) picks
+  pub all : (pick : Pick) → IsCandidate code s pick → Contains picks pick
   pub order : AreInOrder picks
 
 -- the same of the picks before this arm
-pub record AreLiveBefore (code : Code) (s : State CodeProcess) (process arm : ℕ) (picks : List Pick) : Type 0 where
-  pub live : All (IsLive code s) picks
+pub record AreCandidatesBefore (code : Code) (s : State CodeProcess) (process arm : ℕ) (picks : List Pick) : Type 0 where
+  pub each : All (IsCandidate code s) picks
   pub before : All (λ pick. IsBefore pick process arm) picks
-  pub all : (pick : Pick) → IsLive code s pick → IsBefore pick process arm → Contains picks pick
+  pub all : (pick : Pick) → IsCandidate code s pick → IsBefore pick process arm → Contains picks pick
   pub order : AreInOrder picks

@@ -28,8 +28,8 @@ IsEnded text ended = (EndsLine text × (ended ≡ text)) ⊎ ((¬ EndsLine text)
 abbrev pub with_picks : List ℕ → NameTable → List CountedPick → List ℕ
 with_picks text names picks = text ++ (line (codes "%%") ++ pick_lines names.processes picks)
 
--- picks of a run of the code, each enabled in turn from the start, at most so many; fewer only where all is done. Each
--- count is as great as can be
+-- picks of a run of the code, each enabled in turn from the start: `steps` of them, or fewer if all is done. Each count
+-- is as great as can be
 pub record IsRecorded (code : Code) (steps : ℕ) (picks : List CountedPick) : Type 0 where
   pub events : List Event
   pub end : State CodeProcess
@@ -37,6 +37,11 @@ pub record IsRecorded (code : Code) (steps : ℕ) (picks : List CountedPick) : T
   pub few : length (spread picks) ≤ steps
   pub all : ¬ IsDone end → length (spread picks) ≡ steps
   pub apart : AreApart picks
+
+-- the lines of a run of the code are too long for an input, whatever its text
+abbrev pub IsTooLong : Code → ℕ → Type 0
+IsTooLong code steps =
+    (picks : List CountedPick) × IsRecorded code steps picks × (4194304 < length (pick_lines code.names.processes picks))
 
 -- what is said of the code of a text: the text with the picks of a run; or that this would be too long for an input
 pub data SaysOfRecording (code : Code) (steps : ℕ) (bytes : List ℕ) : List ℕ → Status → Type 0 where

@@ -1,6 +1,6 @@
 //! The next pick: the first that is enabled, or one that is drawn from all.
 ghost use Rattle.std.specs.Prelude.{◌≡◌, ◌+◌, ◌<◌, ◌≤◌, IfOk, OnOk, length};
-ghost use Rattle.pb_engines.specs.Choices.{AreLiveBefore, AreLivePicks};
+ghost use Rattle.pb_engines.specs.Choices.{AreCandidatesBefore, AreCandidates};
 ghost use Rattle.pb_engines.specs.Schedule.{IsWithin, StepsSome};
 ghost use Rattle.pb_machine.specs.Views.{machine_view, IsMachineOf};
 ghost use Rattle.pb_verifier.specs.Verified.{IsVerified};
@@ -20,8 +20,8 @@ const STREAM: u64 = 54;
 #[derive(Drop)]
 pub struct Chooser {
     generator: Option<Pcg32>,
-    /// The picks that one is drawn from, kept so that their memory is used again.
-    live: Vec<Pick>,
+    /// The candidates of a pick that is drawn, kept so that their memory is used again.
+    candidates: Vec<Pick>,
 }
 
 impl Chooser {
@@ -29,7 +29,7 @@ impl Chooser {
     pub fn new(alloc: Global, seed: Option<u64>) -> Chooser {
         Chooser {
             generator: seed.map(|seed| Pcg32::new(seed, STREAM)),
-            live: Vec::new(alloc),
+            candidates: Vec::new(alloc),
         }
     }
 
@@ -51,19 +51,19 @@ impl Chooser {
         ensures within { IfOk result (IsWithin max) }
     {
         match &mut self.generator {
-            Some(generator) => step_drawn(machine, verified, generator, &mut self.live),
+            Some(generator) => step_drawn(machine, verified, generator, &mut self.candidates),
             None => Ok(step_first(machine, verified, max)),
         }
     }
 }
 
-// Makes a pick that is drawn from the live ones. If the banker refuses it, another is drawn from the rest. The list is
-// for the live picks; what it holds before makes no difference.
+// Makes a pick that is drawn from the candidates. If the banker refuses it, another is drawn from the rest. The list is
+// for the candidates; what it holds before makes no difference.
 fn step_drawn(
     machine: &mut Machine,
     verified: &Verified,
     generator: &mut Pcg32,
-    live: &mut Vec<Pick>,
+    candidates: &mut Vec<Pick>,
 ) -> Result<Next, NoMemory>
     requires verified { IsVerified verified.now }
     requires machine { IsMachineOf verified.now machine.old }
@@ -72,9 +72,9 @@ fn step_drawn(
         StepsSome verified.now.code (machine_view machine.old) next (machine_view machine.new)) }
     ensures within { IfOk result (IsWithin 1) }
 {
-    live_picks(machine, verified, live)?;
-    while !live.is_empty() {
-        let pick = live.remove(below(generator, live.len()));
+    find_candidates(machine, verified, candidates)?;
+    while !candidates.is_empty() {
+        let pick = candidates.remove(below(generator, candidates.len()));
         match step_arm(machine, verified, pick, 1) {
             Next::Silent(pick, made) => return Ok(Next::Silent(pick, made)),
             Next::Did(pick, event) => return Ok(Next::Did(pick, event)),
@@ -92,21 +92,25 @@ fn below(generator: &mut Pcg32, end: usize) -> usize
     generator.next_u32() as usize % end
 }
 
-// Puts the live picks in the place of what the list held, in the order of their processes and then of their arms.
-fn live_picks(machine: &Machine, verified: &Verified, picks: &mut Vec<Pick>) -> Result<(), NoMemory>
+// Puts the candidates in the place of what the list held, in the order of their processes and then of their arms.
+fn find_candidates(
+    machine: &Machine,
+    verified: &Verified,
+    picks: &mut Vec<Pick>,
+) -> Result<(), NoMemory>
     requires verified { IsVerified verified.now }
     requires machine { IsMachineOf verified.now machine.now }
-    ensures { OnOk result (AreLivePicks verified.now.code (machine_view machine.now) picks.new.items) }
+    ensures { OnOk result (AreCandidates verified.now.code (machine_view machine.now) picks.new.items) }
 {
     picks.clear();
     for process in 0..machine.processes() {
-        push_live(machine, verified, process as u8, picks)?;
+        push_candidates(machine, verified, process as u8, picks)?;
     }
     Ok(())
 }
 
-// Adds the live picks of a process, behind those of the processes before it.
-fn push_live(
+// Adds the candidates of a process behind those of the processes before it.
+fn push_candidates(
     machine: &Machine,
     verified: &Verified,
     process: u8,
@@ -115,8 +119,8 @@ fn push_live(
     requires verified { IsVerified verified.now }
     requires machine { IsMachineOf verified.now machine.now }
     requires process { process < length (machine_view machine.now).processes }
-    requires before { AreLiveBefore verified.now.code (machine_view machine.now) process 0 picks.old.items }
-    ensures { OnOk result (AreLiveBefore verified.now.code (machine_view machine.now) (process + 1) 0 picks.new.items) }
+    requires before { AreCandidatesBefore verified.now.code (machine_view machine.now) process 0 picks.old.items }
+    ensures { OnOk result (AreCandidatesBefore verified.now.code (machine_view machine.now) (process + 1) 0 picks.new.items) }
 {
     for arm in 0..machine.proc(usize::from(process)).arms() {
         let pick = Pick {

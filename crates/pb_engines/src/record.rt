@@ -1,9 +1,10 @@
 //! The command `record`, over any input and output.
-ghost use Rattle.std.specs.Prelude.{◌≡◌, ◌↔◌, ◌≤◌, ◌⊎◌, IfOk, IfSome, IsTrue, OnOk, length};
-ghost use Rattle.pb_engines.specs.Answers.{Tells};
+ghost use Rattle.std.specs.Prelude.{◌≡◌, ◌↔◌, ◌≤◌, ◌⊎◌, IfOk, IfSome, IsTrue, MatchOption, OnOk, codes, length};
+ghost use Rattle.pb_engines.specs.Answers.{Tells, line};
 ghost use Rattle.pb_engines.specs.Faults.{TellsFaults, TellsWriteFaults};
 ghost use Rattle.pb_engines.specs.Inputs.{SaysOfInput};
-ghost use Rattle.pb_engines.specs.Records.{EndsLine, IsEnded, IsRecorded, SaysOfRecord, SaysOfRecording};
+ghost use Rattle.pb_engines.specs.Records.{EndsLine, IsEnded, IsRecorded, IsTooLong, SaysOfRecord, SaysOfRecording};
+ghost use Rattle.pb_engines.specs.declared.status.Status.TheVariants.{Refused};
 ghost use Rattle.pb_verifier.specs.Verified.{IsVerified};
 
 use crate::accept::{compile_text, refuse};
@@ -20,6 +21,9 @@ use pb_machine::Machine;
 use pb_picks::{count_pick, write_picks};
 use pb_verifier::Verified;
 use std::alloc::Global;
+
+/// The most counted picks that an input can have, since the line of each takes at least 5 bytes.
+const MOST_LINES: usize = 838_860;
 
 /// Runs the text that the input holds, and writes what `replay` reads: the text, a line `%%`, and the pick lines of the
 /// run. A text that is refused is answered by its refusal line; if the whole would be longer than an input may be, the
@@ -78,18 +82,28 @@ fn recording(
         SaysOfRecording verified.now.code options.steps text.now r.text.items r.status) }
 {
     let code = verified.code();
-    let picks = record_picks(alloc, options, verified)?;
     let mut whole = ended(alloc, text)?;
+    let Some(picks) = record_picks(alloc, options, verified)? else {
+        return too_long(alloc);
+    };
     whole.extend_from_slice(b"%%\n")?;
     write_picks(&mut whole, &code.names, &picks)?;
     if whole.len() > LONGEST_INPUT {
-        let line = Vec::from_slice(alloc, b"refused output")?;
-        return refused(line);
+        return too_long(alloc);
     }
     Ok(Reply {
         text: whole,
         status: Status::Done,
     })
+}
+
+// The reply that a run is too long.
+fn too_long(alloc: Global) -> Result<Reply, NoMemory>
+    ensures { IfOk result (λ r.
+        (r.text.items ≡ line (codes "refused output")) × (r.status ≡ Refused)) }
+{
+    let line = Vec::from_slice(alloc, b"refused output")?;
+    refused(line)
 }
 
 // The text, with a line feed behind it if it ends in none.
@@ -113,20 +127,24 @@ fn ends_line(text: &[u8]) -> bool
     }
 }
 
-// The picks of a run of the code.
+// The picks of a run of the code; nothing if their lines would be too long for an input. It ends as soon as they are.
 fn record_picks(
     alloc: Global,
     options: RecordOptions,
     verified: &Verified,
-) -> Result<Vec<CountedPick>, NoMemory>
+) -> Result<Option<Vec<CountedPick>>, NoMemory>
     requires { IsVerified verified.now }
-    ensures { IfOk result (λ picks. IsRecorded verified.now.code options.steps picks.items) }
+    ensures { IfOk result (λ picks. MatchOption picks (IsTooLong verified.now.code options.steps)
+        (λ picks. IsRecorded verified.now.code options.steps picks.items)) }
 {
     let mut machine = Machine::new(alloc, verified)?;
     let mut chooser = Chooser::new(alloc, options.seed);
     let mut picks = Vec::new(alloc);
     let mut left = options.steps as u32;
     while left > 0 {
+        if picks.len() > MOST_LINES {
+            return Ok(None);
+        }
         match chooser.step(&mut machine, verified, left)? {
             Next::Silent(pick, made) => {
                 count_pick(&mut picks, pick, made)?;
@@ -136,8 +154,8 @@ fn record_picks(
                 count_pick(&mut picks, pick, 1)?;
                 left -= 1;
             }
-            Next::NotEnabled => return Ok(picks),
+            Next::NotEnabled => return Ok(Some(picks)),
         }
     }
-    Ok(picks)
+    Ok(Some(picks))
 }

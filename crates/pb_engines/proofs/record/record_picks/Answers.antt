@@ -1,3 +1,6 @@
+use Rattle.std.proofs.Common.{arith}
+use Rattle.pb_machine.specs.Views.{machine_view}
+use Rattle.pb_engines.proofs.LongRecords.{too_many_picks}
 use Rattle.pb_engines.proofs.RecordLemmas.{shown_more, silent_more}
 use Rattle.pb_engines.proofs.record.record_picks.Goals as goal
 
@@ -16,3 +19,9 @@ loop-left-preserved c =
     c.loop-left.left c.args.options.steps c.in-Did.is c.in_ok-pick.ensures.step c.loop-left-test.true before.lead before.many
     c.in_ok-count_pick-in-Did.ensures.picks in
     record { lead = more.0; many = more.1; apart = c.in_ok-count_pick-in-Did.ensures.apart; machine = c.in_ok-pick.ensures.machine }
+
+pub returns-then-len-gt-MOST_LINES : goal.returns-then-len-gt-MOST_LINES
+returns-then-len-gt-MOST_LINES c =
+    let before = c.loop-left.invariant in
+    too_many_picks c.args.verified.now c.requires c.loop-left.left c.args.options.steps c.loop-left.picks.items (machine_view c.loop-left.machine)
+    c.args.options.steps_fit before.lead before.apart before.many (omega arith)

@@ -1,8 +1,8 @@
 use Rattle.std.proofs.Common.{arith}
 use Rattle.pb_machine.specs.Views.{machine_view}
-use Rattle.pb_engines.proofs.ChoiceLemmas.{all_live}
+use Rattle.pb_engines.proofs.ChoiceLemmas.{all_found}
 use Rattle.pb_engines.proofs.ScheduleLemmas.{few_processes}
-use Rattle.pb_engines.proofs.choice.live_picks.Goals as goal
+use Rattle.pb_engines.proofs.choice.find_candidates.Goals as goal
 
 pub overflow_cast-process : goal.overflow_cast-process
 overflow_cast-process c =
@@ -13,5 +13,5 @@ pub returns : goal.returns
 returns c =
     let test = c.loop-process-test.false in
     let count = c.processes-process-end.ensures in
-    all_live c.args.verified.now.code (machine_view c.args.machine.now) c.loop-process.process c.loop-process.picks.items
+    all_found c.args.verified.now.code (machine_view c.args.machine.now) c.loop-process.process c.loop-process.picks.items
     c.loop-process.invariant (omega (arith, test, count))

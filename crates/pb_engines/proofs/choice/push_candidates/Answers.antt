@@ -2,11 +2,11 @@ use Rattle.std.proofs.Common.{◌≡◌, ◌+◌, ℕ, List, Some, sym, ap, ◌�
 use Rattle.std.specs.Prelude.{slice_get}
 use Rattle.pb_base.specs.declared.pick.Pick.{Pick}
 use Rattle.pb_machine.specs.Views.{machine_view, proc_view}
-use Rattle.pb_engines.specs.Choices.{AreLiveBefore}
-use Rattle.pb_engines.proofs.ChoiceLemmas.{one_live, one_stays, process_is_over}
+use Rattle.pb_engines.specs.Choices.{AreCandidatesBefore}
+use Rattle.pb_engines.proofs.ChoiceLemmas.{one_candidate, one_stays, process_is_over}
 use Rattle.pb_engines.proofs.ScheduleLemmas.{few_arms}
-use Rattle.pb_engines.proofs.choice.push_live.Goals as goal
-use Rattle.pb_engines.proofs.choice.push_live.Goals.{in-Stays, in-Silent+in_ok-push-in-Silent}
+use Rattle.pb_engines.proofs.choice.push_candidates.Goals as goal
+use Rattle.pb_engines.proofs.choice.push_candidates.Goals.{in-Stays, in-Silent+in_ok-push-in-Silent}
 
 pub overflow_cast-pick : goal.overflow_cast-pick
 overflow_cast-pick c =
@@ -18,14 +18,14 @@ loop-arm-preserved c =
     let code = c.args.verified.now.code in
     let s = machine_view c.args.machine.now in
     let pick : Pick = record { process = c.args.process; arm = c.loop-arm.arm } in
-    let now : List Pick → Type 0 = λ picks. AreLiveBefore code s c.args.process (c.loop-arm.arm + 1) picks in
+    let now : List Pick → Type 0 = λ picks. AreCandidatesBefore code s c.args.process (c.loop-arm.arm + 1) picks in
     elim c.match-look.branch [
       | in-Stays w ↦
           subst now (ap (λ v. v.items) (sym w.picks-is))
           (one_stays code s pick c.loop-arm.picks.items c.loop-arm.invariant (sym c.look.ensures ∙ w.in-Stays.is))
       | in-Silent+in_ok-push-in-Silent w ↦
           subst now (sym (ap (λ v. v.items) w.picks-is ∙ w.in_ok-push-in-Silent.ensures.items))
-          (one_live code s pick c.loop-arm.picks.items c.loop-arm.invariant
+          (one_candidate code s pick c.loop-arm.picks.items c.loop-arm.invariant
           (λ stays. elim w.in-Silent.is [
             | inl silent ↦ let both = sym silent ∙ (c.look.ensures ∙ stays) in cc
             | inr visible ↦ let both = sym visible ∙ (c.look.ensures ∙ stays) in cc

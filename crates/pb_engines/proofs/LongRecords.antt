@@ -1,0 +1,175 @@
+-- A run of too many counted picks, however it goes on, is too long for an input.
+use Rattle.std.proofs.Common.{◌≡◌, ◌≢◌, ℕ, zero, suc, ◌+◌, ◌*◌, ◌<◌, ◌≤◌, ◌⊎◌, inl, inr, Result, Ok, Err, IfOk, List, [], ◌∷◌, ◌++◌, length, replicate, option_to_list, refl, sym, ap, subst, ◌∙◌, append-nil, append_assoc, length-append, arith, codes}
+use Rattle.std.proofs.lemmas.Bool.{cases_order}
+use Rattle.std.proofs.lemmas.Fmt.{decimal_nonempty}
+use Rattle.std.proofs.lemmas.List.{replicate_more}
+use Rattle.std.proofs.lemmas.List.Elements.{All-head, All-tail}
+use Rattle.std.specs.Fmt.{decimal}
+use Rattle.pb_base.specs.declared.event.Event.{Event}
+use Rattle.pb_base.specs.declared.memory.NoMemory.{NoMemory}
+use Rattle.pb_base.specs.declared.pick.Pick.{Pick}
+use Rattle.pb_base.specs.Lines.{name_of}
+use Rattle.pb_base.specs.Steppers.{State, event_of}
+use Rattle.pb_code.specs.Code.{CodeProcess}
+use Rattle.pb_code.specs.Limits.{KeepsLimits}
+use Rattle.pb_code.specs.Whole.{Code}
+use Rattle.pb_history.specs.Replays.{spread}
+use Rattle.pb_history.specs.declared.counted.CountedPick.{CountedPick}
+use Rattle.pb_machine.proofs.Going.{goes_on}
+use Rattle.pb_picks.specs.Counted.{AreApart}
+use Rattle.pb_picks.specs.Laws.{CanBeSaid}
+use Rattle.pb_picks.specs.PickLines.{Says, pick_line, pick_lines}
+use Rattle.pb_verifier.specs.Verified.{VerifiedCode, IsVerified}
+use Rattle.pb_verifier.specs.declared.fault.VerifyFault.TheVariants.{OutOfLimits}
+use Rattle.pb_engines.specs.Answers.{line}
+use Rattle.pb_engines.specs.Records.{IsEnded, IsRecorded, IsTooLong, SaysOfRecording, too_long}
+use Rattle.pb_engines.specs.Runs.{Run}
+use Rattle.pb_engines.specs.declared.reply.Reply.{Reply}
+use Rattle.pb_engines.specs.declared.status.Status.{Status}
+use Rattle.pb_engines.specs.declared.status.Status.TheVariants.{Refused}
+use Rattle.pb_engines.proofs.RecordLemmas.{LeadTo, is_recorded, recorded_can_be_said}
+use Rattle.pb_engines.proofs.RunLemmas.{CodeMakes, makes_last}
+use Rattle.pb_engines.proofs.ScheduleLemmas.{same_pick}
+
+-- ---- one more pick, counted
+
+same_or_not : (a b : Pick) → (a ≡ b) ⊎ (a ≢ b)
+same_or_not a b = elim (cases_order a.process b.process) [
+  | inl process ↦ elim (cases_order a.arm b.arm) [
+    | inl arm ↦ inl (same_pick a b process arm)
+    | inr other ↦ inr (λ same. let arm = ap (λ (p : Pick). p.arm) same in elim other [
+      | inl less ↦ omega (arith, arm, less)
+      | inr less ↦ omega (arith, arm, less)
+    ])
+  ]
+  | inr other ↦ inr (λ same. let process = ap (λ (p : Pick). p.process) same in elim other [
+    | inl less ↦ omega (arith, process, less)
+    | inr less ↦ omega (arith, process, less)
+  ])
+]
+
+-- counts that say the same and one more pick, no fewer than before
+pub record OneMore (picks : List CountedPick) (pick : Pick) (more : List CountedPick) : Type 0 where
+  pub spread : spread more ≡ spread picks ++ pick ∷ []
+  pub apart : AreApart more
+  pub longer : length picks ≤ length more
+
+-- the same of counts that are not empty, whose first pick stays the same
+one_more_behind : (c : CountedPick) (picks : List CountedPick) (pick : Pick) → AreApart (c ∷ picks)
+    → (d : CountedPick) × (more : List CountedPick) × (d.pick ≡ c.pick) × OneMore (c ∷ picks) pick (d ∷ more)
+one_more_behind c [] pick apart = elim (same_or_not c.pick pick) [
+  | inl same ↦ (
+    record { pick = c.pick; count = c.count + 1 },
+    [],
+    refl,
+    record {
+      spread = append-nil (replicate (c.count + 1) c.pick)
+          ∙ (sym (replicate_more c.count c.pick)
+          ∙ (ap (λ (p : Pick). replicate c.count c.pick ++ p ∷ []) same
+          ∙ ap (λ (ps : List Pick). ps ++ pick ∷ []) (sym (append-nil (replicate c.count c.pick)))));
+      apart = omega (arith, apart);
+      longer = omega arith;
+    },
+  )
+  | inr other ↦ (
+    c,
+    record { pick = pick; count = 1 } ∷ [],
+    refl,
+    record {
+      spread = ap (λ (ps : List Pick). ps ++ pick ∷ []) (sym (append-nil (replicate c.count c.pick)));
+      apart = (apart, other, omega arith);
+      longer = omega arith;
+    },
+  )
+]
+one_more_behind c (d ∷ picks) pick (some, other, apart) =
+    let (e, more, head, rest) = one_more_behind d picks pick apart in
+    let longer = rest.longer in (
+      c,
+      e ∷ more,
+      refl,
+      record {
+        spread = ap (λ (ps : List Pick). replicate c.count c.pick ++ ps) rest.spread
+            ∙ sym (append_assoc (replicate c.count c.pick) (spread (d ∷ picks)) (pick ∷ []));
+        apart = (some, subst (λ (p : Pick). c.pick ≢ p) (sym head) other, rest.apart);
+        longer = omega (arith, longer);
+      },
+    )
+
+one_more : (picks : List CountedPick) (pick : Pick) → AreApart picks → (more : List CountedPick) × OneMore picks pick more
+one_more [] pick apart =
+    (record { pick = pick; count = 1 } ∷ [], record { spread = refl; apart = omega arith; longer = omega arith })
+one_more (c ∷ picks) pick apart =
+    let (d, more, head, is) = one_more_behind c picks pick apart in (d ∷ more, is)
+
+-- ---- a run goes on to its end
+
+goes_to_its_end : (v : VerifiedCode) → IsVerified v → (left steps : ℕ) (picks : List CountedPick) (state : State CodeProcess)
+    → LeadTo v.code picks state → AreApart picks → length (spread picks) + left ≡ steps
+    → (more : List CountedPick) × IsRecorded v.code steps more × (length picks ≤ length more)
+goes_to_its_end v verified zero steps picks state lead apart many =
+    (picks, is_recorded v.code steps zero picks state lead many apart (λ not_done. refl), omega arith)
+goes_to_its_end v verified (suc left) steps picks state lead apart many =
+    elim (goes_on v verified state (spread picks, lead.events, lead.makes)) [
+      | inl done ↦ (picks, is_recorded v.code steps (suc left) picks state lead many apart (λ not_done. absurd (not_done done)), omega arith)
+      | inr (pick, move, is, granted) ↦
+          let event = event_of pick move.effect in
+          let run : Run v.code lead.events state = record { picks = spread picks; makes = lead.makes } in
+          let makes = makes_last v.code lead.events state move.next pick event run (move.effect, is, granted, refl) in
+          let (more, one) = one_more picks pick apart in
+          let longer = one.longer in
+          let count = ap (λ (ps : List Pick). length ps) one.spread in
+          let all = length-append (spread picks) (pick ∷ []) in
+          let next : LeadTo v.code more move.next = record {
+            events = lead.events ++ option_to_list event;
+            makes = subst (λ (ps : List Pick). CodeMakes v.code ps (lead.events ++ option_to_list event) move.next) (sym one.spread) makes;
+          } in
+          let (rest, recorded, longest) =
+          goes_to_its_end v verified left steps more move.next next one.apart (omega (arith, many, count, all)) in
+          (rest, recorded, omega (arith, longer, longest))
+    ]
+
+-- ---- the lines of counted picks
+
+-- a line has a point, a space, a line feed and two numbers
+lines_are_long : (code : Code) → KeepsLimits code → (picks : List CountedPick) → CanBeSaid code picks
+    → 5 * length picks ≤ length (pick_lines code.names.processes picks)
+lines_are_long code limits [] said = omega arith
+lines_are_long code limits (c ∷ picks) said =
+    let names = code.names.processes in
+    let says = All-head (λ (d : CountedPick). Says code (pick_line names d) d) c picks said in
+    let rest = lines_are_long code limits picks (All-tail (λ (d : CountedPick). Says code (pick_line names d) d) c picks said) in
+    let few = (limits.each c.pick.process says.process says.there).some_arms.1 in
+    let below = says.arm in
+    let most = says.most in
+    let arm = decimal_nonempty c.pick.arm (omega (arith, few, below)) in
+    let count = decimal_nonempty c.count (omega (arith, most)) in
+    let all = length-append (pick_line names c) (10 ∷ pick_lines names picks) in
+    let first = length-append (name_of names c.pick.process) (46 ∷ (decimal c.pick.arm ++ (32 ∷ decimal c.count))) in
+    let second = length-append (decimal c.pick.arm) (32 ∷ decimal c.count) in
+    omega (arith, rest, all, first, second, arm, count)
+
+pub too_many_picks : (v : VerifiedCode) → IsVerified v → (left steps : ℕ) (picks : List CountedPick) (state : State CodeProcess)
+    → steps ≤ 10000000 → LeadTo v.code picks state → AreApart picks → length (spread picks) + left ≡ steps → 838860 < length picks
+    → IsTooLong v.code steps
+too_many_picks v verified left steps picks state most lead apart count many =
+    let (more, recorded, longer) = goes_to_its_end v verified left steps picks state lead apart count in
+    let limits = verified.annotated OutOfLimits in
+    let long = lines_are_long v.code limits more (recorded_can_be_said v.code verified.annotated steps more most recorded) in
+    (more, recorded, omega (arith, many, longer, long))
+
+pub lines_are_too_long : (code : Code) (steps : ℕ) (bytes ended : List ℕ) → IsEnded bytes ended → IsTooLong code steps
+    → SaysOfRecording code steps bytes (line (codes "refused output")) Refused
+lines_are_too_long code steps bytes ended is (picks, recorded, long) =
+    let lines = pick_lines code.names.processes picks in
+    let text = length-append ended (line (codes "%%") ++ lines) in
+    let mark = length-append (line (codes "%%")) lines in
+    too_long ended picks is recorded (omega (arith, long, text, mark))
+
+-- a reply with the line that a run is too long
+pub reply_is_too_long : (r : Result Reply NoMemory) (SaysOf : List ℕ → Status → Type 0)
+    → IfOk r (λ x. (x.text.items ≡ line (codes "refused output")) × (x.status ≡ Refused))
+    → SaysOf (line (codes "refused output")) Refused → IfOk r (λ x. SaysOf x.text.items x.status)
+reply_is_too_long (Ok r) SaysOf (text, status) says =
+    subst (λ (t : List ℕ). SaysOf t r.status) (sym text) (subst (λ (s : Status). SaysOf (line (codes "refused output")) s) (sym status) says)
+reply_is_too_long (Err e) SaysOf same says = tt
