@@ -1,19 +1,25 @@
 -- Searches along the picks.
-use Rattle.std.proofs.Common.{◌≡◌, ℕ, ◌+◌, ◌<◌, ◌≤◌, inl, inr, List, Option, Some, None, sym, ap, ◌∙◌, subst, arith}
+use Rattle.std.proofs.Common.{◌≡◌, ◌↔◌, Bool, ℤ, ℕ, ◌+◌, ◌<◌, ◌≤◌, inl, inr, List, Option, Some, None, sym, ap, ◌∙◌, subst, arith, slice_get, IsTrue, length}
 use Rattle.std.proofs.lemmas.Bool.{cases_lt}
 use Rattle.pb_base.specs.declared.event.Event.{Event}
 use Rattle.pb_base.specs.declared.pick.Pick.{Pick}
 use Rattle.pb_base.specs.declared.step.Step.TheVariants as answer
 use Rattle.pb_base.specs.Steppers.{State, Move, event_of}
-use Rattle.pb_code.specs.Code.{CodeProcess}
+use Rattle.pb_code.specs.Code.{CodeProcess, code_step}
 use Rattle.pb_code.specs.Reached.{CodeMoves}
-use Rattle.pb_code.specs.Whole.{Code}
+use Rattle.pb_code.specs.Whole.{Code, bank_of, code_opening}
 use Rattle.pb_history.specs.Positions.{AreEnabled, state_after}
 use Rattle.pb_base.specs.Lines.{HasNames}
-use Rattle.pb_history.proofs.Positions.{never_stays, position_reached}
+use Rattle.pb_history.proofs.Positions.{enabled_at, never_stays, position_reached}
 use Rattle.pb_machine.proofs.Going.{events_have_names}
+use Rattle.pb_verifier.proofs.States.{code_move}
+use Rattle.pb_verifier.specs.declared.fault.VerifyFault.TheVariants.{OutOfLimits}
+use Rattle.std.proofs.lemmas.Option.{slice_get_within}
+use Rattle.pb_machine.specs.Views.{machine_view}
+use Rattle.pb_machine.specs.declared.machine.Machine.{Machine}
+use Rattle.pb_debug.specs.Walks.{StandsAfter}
 use Rattle.pb_verifier.specs.Verified.{VerifiedCode, IsVerified}
-use Rattle.pb_debug.specs.Searches.{IsFirst, IsLast, Shows, StepsAt}
+use Rattle.pb_debug.specs.Searches.{IsFirst, IsLast, Shows, StepsAt, value_at, value_in}
 
 -- a pick shows one event, or none
 moves_once : (code : Code) (s n m : State CodeProcess) (pick : Pick) (e f : Option Event) → CodeMoves code s pick e n → CodeMoves code s pick f m → e ≡ f
@@ -102,3 +108,23 @@ pub shown_named : (v : VerifiedCode) (picks : List Pick) (k : ℕ) (event : Even
     → Shows v.code picks k event → HasNames v.code.names event
 shown_named v picks k event verified all s =
     events_have_names v verified (state_after v.code picks k) (position_reached v.code picks k all) s.pick event (state_after v.code picks (k + 1)) s.moves
+
+-- ---- integers
+
+-- an integer of a machine at a position is that at the position
+pub value_here : (v : VerifiedCode) (picks : List Pick) (i p x : ℕ) (m : Machine) → StandsAfter v picks i m
+    → value_in (slice_get (machine_view m).processes p) x ≡ value_at v.code picks i p x
+value_here v picks i p x m h = ap (λ (s : State CodeProcess). value_in (slice_get s.processes p) x) h.state
+
+pub differ_here : (b : Bool) (x y x' y' : Option ℤ) → x ≡ x' → y ≡ y' → IsTrue b ↔ (x ≡ y → ⊥) → IsTrue b ↔ (x' ≡ y' → ⊥)
+differ_here b x y x' y' e f h = (λ t q. h.0 t (e ∙ (q ∙ sym f)), λ not. h.1 (λ q. not (sym e ∙ (q ∙ f))))
+
+-- the process of each of the picks has a name
+pub pick_named : (v : VerifiedCode) (picks : List Pick) (k : ℕ) (pick : Pick) → IsVerified v → AreEnabled v.code picks → slice_get picks k ≡ Some pick
+    → pick.process < length v.code.names.processes
+pick_named v picks k pick verified all there =
+    let e = enabled_at (bank_of v.code) (code_step v.code.processes) (code_opening v.code) all.end picks all.events k pick all.makes there in
+    let m = code_move v.code.processes (state_after v.code picks k) pick e.move e.moves in
+    let within = slice_get_within v.code.processes pick.process m.code m.at in
+    let many = (verified.annotated OutOfLimits).process_names.all in
+    omega (arith, within, many)

@@ -14,7 +14,7 @@ use Rattle.std.proofs.lemmas.Str.{digit_value_digit}
 use Rattle.std.proofs.lemmas.Int.Digits.{digits_value_more}
 use Rattle.pb_code.proofs.Naming.{both_true}
 use Rattle.pb_code.specs.Names.{is_name_byte}
-use Rattle.pb_debug.specs.Commands.{Command, To, Step, Back, Vars, Threads, Loans, Next, Prev, Help, Line, Why, arm_at, arm_of, command_of, is_numeral, is_word, keyed, number_of, parted, word_of}
+use Rattle.pb_debug.specs.Commands.{Command, To, Step, Back, Vars, Threads, Wrote, Loans, Next, Prev, Help, Line, Why, arm_at, arm_of, both_of, integer_at, integer_of, command_of, is_numeral, is_word, keyed, number_of, parted, word_of}
 use Rattle.pb_debug.specs.Spellings.{CommandsBySpelling, IsProper, spelling}
 
 -- ---- numbers
@@ -198,6 +198,57 @@ arm_again p a word lt =
         → arm_at w (Some (length p)) ≡ Some (p, a)
     whole w p a before behind word lt = rw (before, behind, word, number_again a lt) refl
 
+-- ---- an integer of a process
+
+name_byte_no_space : (b : ℕ) → is_name_byte b ≡ true → eqb b 32 ≡ false
+name_byte_no_space b h = grind (arith, nat_tests)
+
+letter_no_space : (b : ℕ) → is_ascii_alphabetic b ≡ true → eqb b 32 ≡ false
+letter_no_space b h = grind (arith, nat_tests)
+
+space_behind : (bs rest : List ℕ) → list_all is_name_byte bs ≡ true → first_at 32 (bs ++ 32 ∷ rest) ≡ Some (length bs)
+space_behind [] rest h = refl
+space_behind (b ∷ bs) rest h =
+    let p = both_true (is_name_byte b) (list_all is_name_byte bs) h in
+    rw (name_byte_no_space b p.0, space_behind bs rest p.1) refl
+
+space_behind_word : (w rest : List ℕ) → is_word w ≡ true → first_at 32 (w ++ 32 ∷ rest) ≡ Some (length w)
+space_behind_word [] rest h = absurd cc
+space_behind_word (b ∷ bs) rest h =
+    let p = both_true (is_ascii_alphabetic b) (list_all is_name_byte bs) h in
+    rw (letter_no_space b p.0, space_behind bs rest p.1) refl
+
+abbrev IntegerWord : Type 0
+IntegerWord = List ℕ × List ℕ
+
+both_are : (a b : Option (List ℕ)) (x : IntegerWord) → both_of a b ≡ Some x → (a ≡ Some x.0) × (b ≡ Some x.1)
+both_are None b x h = absurd cc
+both_are (Some a) None x h = absurd cc
+both_are (Some a) (Some b) x h = let same : (a, b) ≡ x = cc in (ap (λ (y : IntegerWord). Some y.0) same, ap (λ (y : IntegerWord). Some y.1) same)
+
+integer_from : (w : List ℕ) (o : Option ℕ) (x : IntegerWord) → first_at 32 w ≡ o → integer_at w o ≡ Some x
+    → (w ≡ x.0 ++ 32 ∷ x.1) × (is_word x.0 ≡ true) × (is_word x.1 ≡ true)
+integer_from w None x at h = absurd cc
+integer_from w (Some i) x at h =
+    let both = both_are (word_of (take i w)) (word_of (drop (i + 1) w)) x h in
+    let first = word_is (take i w) x.0 both.0 in
+    let second = word_is (drop (i + 1) w) x.1 both.1 in
+    let parts = parts_at 32 w i at in
+    (parts ∙ (ap (λ (xs : List ℕ). xs ++ 32 ∷ drop (i + 1) w) first.0 ∙ ap (λ (xs : List ℕ). x.0 ++ 32 ∷ xs) second.0), first.1, second.1)
+
+integer_is : (w : List ℕ) (x : IntegerWord) → integer_of w ≡ Some x → (w ≡ x.0 ++ 32 ∷ x.1) × (is_word x.0 ≡ true) × (is_word x.1 ≡ true)
+integer_is w x h = integer_from w (first_at 32 w) x refl (subst (λ (o : Option ℕ). integer_at w o ≡ Some x) (position_is 32 w) h)
+
+integer_again : (p x : List ℕ) → is_word p ≡ true → is_word x ≡ true → integer_of (p ++ 32 ∷ x) ≡ Some (p, x)
+integer_again p x first second =
+    let w : List ℕ = p ++ 32 ∷ x in
+    let at : position (λ b. eqb b 32) w ≡ Some (length p) = position_is 32 w ∙ space_behind_word p x first in
+    ap (integer_at w) at ∙ whole w p x (take_word p (32 ∷ x)) (drop_word p x 32) first second
+  where
+    whole : (w p x : List ℕ) → take (length p) w ≡ p → drop (length p + 1) w ≡ x → is_word p ≡ true → is_word x ≡ true
+        → integer_at w (Some (length p)) ≡ Some (p, x)
+    whole w p x before behind first second = rw (before, behind, first, second) refl
+
 -- ---- lines
 
 abbrev SaysIt : List ℕ → Command → Type 0
@@ -239,6 +290,15 @@ module _ (key word : List ℕ) (c : Command) where
       let e : text ++ 32 ∷ word ≡ spelling (f m.0) = ap (λ (w : List ℕ). text ++ 32 ∷ w) n.0 ∙ sym (spelled m.0) in
       with_key text h (subst (SaysIt (text ++ 32 ∷ word)) m.2 (e, proper m.0 n.1 n.2))
 
+  written : (text : List ℕ) (f : IntegerWord → Command) → ((x : IntegerWord) → spelling (f x) ≡ text ++ 32 ∷ (x.0 ++ 32 ∷ x.1))
+      → ((x : IntegerWord) → is_word x.0 ≡ true → is_word x.1 ≡ true → IsProper (f x))
+      → bytes_eq key text ≡ true → option_map f (integer_of word) ≡ Some c → Here
+  written text f spelled proper h o =
+      let m = mapped f (integer_of word) c o in
+      let n = integer_is word m.0 m.1 in
+      let e : text ++ 32 ∷ word ≡ spelling (f m.0) = ap (λ (w : List ℕ). text ++ 32 ∷ w) n.0 ∙ sym (spelled m.0) in
+      with_key text h (subst (SaysIt (text ++ 32 ∷ word)) m.2 (e, proper m.0 n.1 n.2))
+
   keyed_is : keyed key word ≡ Some c → Here
   unfolding keyed
   keyed_is h =
@@ -252,11 +312,14 @@ module _ (key word : List ℕ) (c : Command) where
               | inl s ↦ named (codes "vars") Vars (λ w. refl) (λ w e. e) s.0 s.1
               | inr h ↦ elim (chosen (bytes_eq key (codes "threads")) _ _ c h) [
                 | inl s ↦ named (codes "threads") Threads (λ w. refl) (λ w e. e) s.0 s.1
-                | inr h ↦ elim (chosen (bytes_eq key (codes "line")) _ _ c h) [
-                  | inl s ↦ armed (codes "line") (λ p. Line p.0 p.1) (λ x. refl) (λ x e lt. (e, lt)) s.0 s.1
-                  | inr h ↦ elim (chosen (bytes_eq key (codes "why")) _ _ c h) [
-                    | inl s ↦ armed (codes "why") (λ p. Why p.0 p.1) (λ x. refl) (λ x e lt. (e, lt)) s.0 s.1
-                    | inr h ↦ absurd cc
+                | inr h ↦ elim (chosen (bytes_eq key (codes "wrote")) _ _ c h) [
+                  | inl s ↦ written (codes "wrote") (λ p. Wrote p.0 p.1) (λ x. refl) (λ x e f. (e, f)) s.0 s.1
+                  | inr h ↦ elim (chosen (bytes_eq key (codes "line")) _ _ c h) [
+                    | inl s ↦ armed (codes "line") (λ p. Line p.0 p.1) (λ x. refl) (λ x e lt. (e, lt)) s.0 s.1
+                    | inr h ↦ elim (chosen (bytes_eq key (codes "why")) _ _ c h) [
+                      | inl s ↦ armed (codes "why") (λ p. Why p.0 p.1) (λ x. refl) (λ x e lt. (e, lt)) s.0 s.1
+                      | inr h ↦ absurd cc
+                    ]
                   ]
                 ]
               ]
@@ -319,6 +382,9 @@ said_again (Step n) lt short = said_short (spelling (Step n)) (Step n) short ref
 said_again (Back n) lt short = said_short (spelling (Back n)) (Back n) short refl refl refl refl (ap (option_map Back) (number_again n lt))
 said_again (Vars p) word short = said_short (spelling (Vars p)) (Vars p) short refl refl refl refl (ap (option_map Vars) (word_again p word))
 said_again (Threads p) word short = said_short (spelling (Threads p)) (Threads p) short refl refl refl refl (ap (option_map Threads) (word_again p word))
+said_again (Wrote p x) proper short =
+    said_short (spelling (Wrote p x)) (Wrote p x) short refl refl refl refl
+    (ap (option_map (λ (y : IntegerWord). Wrote y.0 y.1)) (integer_again p x proper.0 proper.1))
 said_again Loans proper short = refl
 said_again Next proper short = refl
 said_again Prev proper short = refl

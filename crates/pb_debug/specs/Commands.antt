@@ -9,6 +9,7 @@ use Rattle.pb_code.specs.Names.{is_name_byte}
 pub data Command : Type 0 where
   To Step Back : (n : ℕ) → Command
   Vars Threads : (process : List ℕ) → Command
+  Wrote : (process integer : List ℕ) → Command
   Loans Next Prev Help : Command
   Line Why : (process : List ℕ) (arm : ℕ) → Command
 
@@ -38,6 +39,19 @@ arm_at word (Some dot) =
 abbrev pub arm_of : List ℕ → Option (List ℕ × ℕ)
 arm_of word = arm_at word (position (λ b. b == 46) word)
 
+-- `P X`: a process, and one of its integers
+abbrev pub both_of : Option (List ℕ) → Option (List ℕ) → Option (List ℕ × List ℕ)
+both_of None second = None
+both_of (Some first) None = None
+both_of (Some first) (Some second) = Some (first, second)
+
+abbrev pub integer_at : List ℕ → Option ℕ → Option (List ℕ × List ℕ)
+integer_at word None = None
+integer_at word (Some space) = both_of (word_of (take space word)) (word_of (drop (space + 1) word))
+
+abbrev pub integer_of : List ℕ → Option (List ℕ × List ℕ)
+integer_of word = integer_at word (position (λ b. b == 32) word)
+
 -- a keyword and what it is about
 unfoldable pub keyed : List ℕ → List ℕ → Option Command
 keyed key word =
@@ -46,8 +60,9 @@ keyed key word =
     cond (bytes_eq key (codes "back")) (option_map Back (number_of word)) (
     cond (bytes_eq key (codes "vars")) (option_map Vars (word_of word)) (
     cond (bytes_eq key (codes "threads")) (option_map Threads (word_of word)) (
+    cond (bytes_eq key (codes "wrote")) (option_map (λ p. Wrote p.0 p.1) (integer_of word)) (
     cond (bytes_eq key (codes "line")) (option_map (λ p. Line p.0 p.1) (arm_of word)) (
-    cond (bytes_eq key (codes "why")) (option_map (λ p. Why p.0 p.1) (arm_of word)) None))))))
+    cond (bytes_eq key (codes "why")) (option_map (λ p. Why p.0 p.1) (arm_of word)) None)))))))
 
 abbrev pub parted : List ℕ → Option ℕ → Option Command
 parted line None = None

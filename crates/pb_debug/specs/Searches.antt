@@ -1,12 +1,14 @@
 -- What is looked for along the picks, and where it is found.
-use Rattle.std.specs.Prelude.{◌≡◌, ℕ, ◌+◌, ◌<◌, ◌≤◌, List, Option, Some, None, slice_get}
+use Rattle.std.specs.Prelude.{◌≡◌, ℕ, ℤ, ◌+◌, ◌<◌, ◌≤◌, List, Option, Some, None, slice_get}
 use Rattle.pb_base.specs.declared.event.Event.{Event}
 use Rattle.pb_base.specs.declared.pick.Pick.{Pick}
 use Rattle.pb_base.specs.declared.step.Step.{Step}
+use Rattle.pb_code.specs.Code.{CodeProcess, thread}
 use Rattle.pb_code.specs.Reached.{CodeMoves}
-use Rattle.pb_code.specs.Whole.{Code}
+use Rattle.pb_code.specs.Whole.{Code, ProcessLabels}
 use Rattle.pb_history.specs.Positions.{state_after}
 use Rattle.pb_machine.specs.Steps.{IsStep}
+use Rattle.pb_debug.specs.Shown.{line_of}
 use Rattle.pb_debug.specs.declared.search.Watch.{Watch}
 use Rattle.pb_debug.specs.declared.search.Watch.TheVariants as watch
 
@@ -22,9 +24,29 @@ pub record Shows (code : Code) (picks : List Pick) (k : ℕ) (event : Event) : T
   pub there : slice_get picks k ≡ Some pick
   pub moves : CodeMoves code (state_after code picks k) pick (Some event) (state_after code picks (k + 1))
 
--- pick k does what is looked for
+-- an integer of a process, if both are there
+abbrev pub value_in : Option CodeProcess → ℕ → Option ℤ
+value_in None x = None
+value_in (Some process) x = slice_get process.vars x
+
+-- an integer of a process at position k
+abbrev pub value_at : Code → List Pick → (k p x : ℕ) → Option ℤ
+value_at code picks k p x = value_in (slice_get (state_after code picks k).processes p) x
+
+-- the line of an arm, if it is live and its place has one
+abbrev pub line_in : Option ProcessLabels → Option CodeProcess → ℕ → Option ℕ
+line_in None process a = None
+line_in (Some labels) None a = None
+line_in (Some labels) (Some process) a = line_of labels.lines (thread process.threads a)
+
+-- the line of an arm of a process at position k
+abbrev pub line_at : Code → List ProcessLabels → List Pick → (k p a : ℕ) → Option ℕ
+line_at code labels picks k p a = line_in (slice_get labels p) (slice_get (state_after code picks k).processes p) a
+
+-- pick k does what is looked for: it shows an event; it changes an integer of a process
 abbrev pub Does : Code → List Pick → Watch → ℕ → Type 0
 Does code picks watch.Event k = (event : Event) × Shows code picks k event
+Does code picks (watch.Integer p x) k = value_at code picks k p x ≡ value_at code picks (k + 1) p x → ⊥
 
 -- the first number, from one on and below another, of which this holds; none if there is none
 abbrev pub IsFirst : (ℕ → Type 0) → (from past : ℕ) → Option ℕ → Type 0

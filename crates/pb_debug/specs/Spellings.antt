@@ -1,7 +1,7 @@
 -- How each command is spelled.
 use Rattle.std.specs.Prelude.{◌≡◌, ◌↔◌, ℕ, ◌<◌, ◌≤◌, true, List, ◌∷◌, ◌++◌, length, codes, Some, ⊤}
 use Rattle.std.specs.Fmt.{decimal}
-use Rattle.pb_debug.specs.Commands.{Command, To, Step, Back, Vars, Threads, Loans, Next, Prev, Help, Line, Why, command_of, is_word}
+use Rattle.pb_debug.specs.Commands.{Command, To, Step, Back, Vars, Threads, Wrote, Loans, Next, Prev, Help, Line, Why, command_of, is_word}
 
 -- the bytes of a command: a word, and behind a space a number, a process, or a process and an arm with a point between
 abbrev pub spelling : Command → List ℕ
@@ -10,6 +10,7 @@ spelling (Step n) = codes "step " ++ decimal n
 spelling (Back n) = codes "back " ++ decimal n
 spelling (Vars process) = codes "vars " ++ process
 spelling (Threads process) = codes "threads " ++ process
+spelling (Wrote process integer) = codes "wrote " ++ (process ++ 32 ∷ integer)
 spelling Loans = codes "loans"
 spelling Next = codes "next"
 spelling Prev = codes "prev"
@@ -24,6 +25,7 @@ IsProper (Step n) = n < 100000000
 IsProper (Back n) = n < 100000000
 IsProper (Vars process) = is_word process ≡ true
 IsProper (Threads process) = is_word process ≡ true
+IsProper (Wrote process integer) = (is_word process ≡ true) × (is_word integer ≡ true)
 IsProper Loans = ⊤
 IsProper Next = ⊤
 IsProper Prev = ⊤

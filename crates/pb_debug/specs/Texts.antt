@@ -3,7 +3,8 @@ use Rattle.std.specs.Prelude.{ℕ, zero, suc, ℤ, pos, cond, List, [], ◌∷�
 use Rattle.std.specs.Fmt.{decimal, signed_decimal}
 use Rattle.pb_base.specs.Banker.{BankerState, processes, resources, claim, loan, cash}
 use Rattle.pb_base.specs.declared.event.Event.{Event}
-use Rattle.pb_base.specs.Lines.{NameTable, name_of, line_of as event_line}
+use Rattle.pb_base.specs.declared.pick.Pick.{Pick}
+use Rattle.pb_base.specs.Lines.{NameTable, name_of, pick_text, line_of as event_line}
 use Rattle.pb_code.specs.Code.{CodeProcess, Thread, Idle, Live, Over, thread}
 use Rattle.pb_debug.specs.declared.fault.DebugFault.{DebugFault}
 use Rattle.pb_debug.specs.declared.fault.DebugFault.TheVariants.{PastEnd, NoProcess, NoArm, BadCommand, NoMemory, Device}
@@ -29,11 +30,24 @@ event_text names i event = line (codes "at " ++ decimal i ++ codes " " ++ event_
 abbrev pub no_event_text : List ℕ
 no_event_text = line (codes "no event")
 
+-- a line, or `none`
+abbrev pub number_text : Option ℕ → List ℕ
+number_text None = codes "none"
+number_text (Some n) = decimal n
+
+-- `at I P.a line N`: a pick, the position just after it, and the line at which its arm was before it
+abbrev pub wrote_text : NameTable → ℕ → Pick → Option ℕ → List ℕ
+wrote_text names i pick n =
+    line (codes "at " ++ decimal i ++ codes " " ++ pick_text names pick ++ codes " line " ++ number_text n)
+
+abbrev pub never_text : List ℕ
+never_text = line (codes "never")
+
 -- the commands
 abbrev pub help_text : List ℕ
 help_text =
     line (codes "to I") ++ line (codes "step N") ++ line (codes "back N") ++ line (codes "next") ++ line (codes "prev")
-    ++ line (codes "vars P") ++ line (codes "threads P") ++ line (codes "loans") ++ line (codes "line P.a")
+    ++ line (codes "vars P") ++ line (codes "wrote P X") ++ line (codes "threads P") ++ line (codes "loans") ++ line (codes "line P.a")
     ++ line (codes "why P.a") ++ line (codes "help")
 
 -- `NAME V`
@@ -76,10 +90,6 @@ loans_text names s =
     each_below (loans_of names s) (processes s) ++ each_below (λ r. cash_text names (cash s r) r) (resources s)
 
 -- `line N`, `line none`
-abbrev pub number_text : Option ℕ → List ℕ
-number_text None = codes "none"
-number_text (Some n) = decimal n
-
 abbrev pub line_text : Option ℕ → List ℕ
 line_text n = line (codes "line " ++ number_text n)
 

@@ -2,7 +2,7 @@
 
 ghost use Rattle.std.specs.Prelude.{◌≡◌, ◌++◌, ◌<◌, ◌≤◌, ℕ, List, length, map, slice_get, Some, OnOk, OnErr, IfSome, IfNone};
 ghost use Rattle.pb_debug.specs.Answers.{names_of, HasNoName, OfProcess, SaysVars, SaysThreads, SaysLine, SaysWhy};
-ghost use Rattle.pb_debug.specs.Answers.{Answers, AnswersCommand, AnswersNext, AnswersPrev, SaysEvent, ShowsAny};
+ghost use Rattle.pb_debug.specs.Answers.{Answers, AnswersCommand, AnswersNext, AnswersPrev, SaysEvent, SaysWrite, SaysWrote, ShowsAny};
 ghost use Rattle.pb_debug.specs.Texts.{at_text, loans_text};
 ghost use Rattle.pb_debug.specs.Value.{IsPosition, bank_state, moved_to, state_of};
 ghost use Rattle.pb_debug.specs.View.{command_view};
@@ -10,12 +10,12 @@ ghost use Rattle.pb_debug.specs.View.{command_view};
 use crate::command::{Command, read_command};
 use crate::debugger::Debugger;
 use crate::fault::DebugFault;
-use crate::search::Watch;
+use crate::search::{Watch, line_of_arm};
 use crate::text::{
-    put_at, put_event, put_help, put_line, put_loans, put_no_event, put_refusal, put_threads,
-    put_vars, put_why,
+    put_at, put_event, put_help, put_line, put_loans, put_never, put_no_event, put_refusal,
+    put_threads, put_vars, put_why, put_wrote,
 };
-use crate::words::ArmWord;
+use crate::words::{ArmWord, IntegerWord};
 use pb_base::NoMemory;
 
 // Returns the number of a name among others.
@@ -109,6 +109,36 @@ impl<'c> Debugger<'c> {
         put_vars(text, &self.labels.processes[p].integers, vars)
     }
 
+    // Says the pick with a number, and the line of its arm before it.
+    fn say_write(&self, text: &mut Vec<u8>, k: u32) -> Result<(), NoMemory>
+        requires { k < length self.now.picks }
+        ensures { OnOk result ((said : List ℕ) × SaysWrite self.now (Some k) said
+            × (text.new.items ≡ text.old.items ++ said)) }
+    {
+        let walker = self.walker_at(k)?;
+        let pick = self.trace.pick(k);
+        let p = usize::from(pick.process);
+        let line = line_of_arm(self.labels, &walker.machine, p, usize::from(pick.arm));
+        put_wrote(text, self.verified.names(), k + 1, pick, line)
+    }
+
+    fn say_wrote(&self, text: &mut Vec<u8>, word: IntegerWord) -> Result<(), NoMemory>
+        ensures { OnOk result ((said : List ℕ)
+            × OfProcess (names_of self.now) word.entry.process.now (SaysWrote self.now word.entry.integer.now said) said
+            × (text.new.items ≡ text.old.items ++ said)) }
+    {
+        let Some(process) = self.process(word.process) else {
+            return put_refusal(text, DebugFault::NoProcess);
+        };
+        let Some(integer) = find_name(&self.labels.processes[process].integers, word.integer) else {
+            return put_refusal(text, DebugFault::BadCommand);
+        };
+        match self.find_last(self.position(), Watch::Integer { process, integer })? {
+            Some(k) => self.say_write(text, k),
+            None => put_never(text),
+        }
+    }
+
     fn say_threads(&self, text: &mut Vec<u8>, word: &[u8]) -> Result<(), NoMemory>
         ensures { OnOk result ((said : List ℕ)
             × OfProcess (names_of self.now) word.now (SaysThreads self.now said) said
@@ -175,6 +205,7 @@ impl<'c> Debugger<'c> {
                 put_refusal(text, DebugFault::PastEnd)
             }
             Command::Vars(word) => self.say_vars(text, word),
+            Command::Wrote(word) => self.say_wrote(text, word),
             Command::Threads(word) => self.say_threads(text, word),
             Command::Loans => self.say_loans(text),
             Command::Next => self.say_next(text),

@@ -5,7 +5,7 @@ ghost use Rattle.std.specs.Str.{bytes_eq};
 ghost use Rattle.pb_debug.specs.Commands as spec;
 ghost use Rattle.pb_debug.specs.View.{command_view};
 
-use crate::words::{ArmWord, arm_word, find, number, process_word};
+use crate::words::{ArmWord, IntegerWord, arm_word, find, integer_word, number, process_word};
 
 /// A command of a session.
 #[derive(Clone, Copy)]
@@ -20,6 +20,8 @@ pub(crate) enum Command<'t> {
     Vars(&'t [u8]),
     /// `threads P`
     Threads(&'t [u8]),
+    /// `wrote P X`
+    Wrote(IntegerWord<'t>),
     /// `loans`
     Loans,
     /// `next`
@@ -58,6 +60,8 @@ fn keyed<'t>(key: &[u8], word: &'t [u8]) -> Option<Command<'t>>
         Some(Command::Vars(process_word(word)?))
     } else if is(key, "threads") {
         Some(Command::Threads(process_word(word)?))
+    } else if is(key, "wrote") {
+        Some(Command::Wrote(integer_word(word)?))
     } else if is(key, "line") {
         Some(Command::Line(arm_word(word)?))
     } else if is(key, "why") {

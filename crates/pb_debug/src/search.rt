@@ -1,15 +1,19 @@
 //! Searches along the picks.
 
-ghost use Rattle.std.specs.Prelude.{◌≡◌, ◌↔◌, ◌+◌, ◌<◌, ◌≤◌, length, IfOk, IfSome, IsTrue};
-ghost use Rattle.pb_debug.specs.Searches.{Does, IsFirst, IsLast, Shows};
+ghost use Rattle.std.specs.Prelude.{◌≡◌, ◌↔◌, ◌+◌, ◌<◌, ◌≤◌, length, slice_get, IfOk, IfSome, IsTrue};
+ghost use Rattle.pb_code.specs.View.{labels_view};
+ghost use Rattle.pb_debug.specs.Searches.{Does, IsFirst, IsLast, Shows, line_in, value_at, value_in};
 ghost use Rattle.pb_debug.specs.Walks.{Walks};
 ghost use Rattle.pb_history.specs.Entries.{picks_of};
 ghost use Rattle.pb_history.specs.Positions.{AreEnabled};
+ghost use Rattle.pb_machine.specs.Views.{machine_view};
 
 use crate::debugger::Debugger;
 use crate::walker::Walker;
 use pb_base::{Event, NoMemory, Step};
+use pb_code::Labels;
 use pb_history::Trace;
+use pb_machine::Machine;
 use pb_verifier::Verified;
 
 /// What a search looks for.
@@ -17,6 +21,76 @@ use pb_verifier::Verified;
 pub(crate) enum Watch {
     /// A pick that shows an event.
     Event,
+    /// A pick that changes an integer of a process.
+    Integer { process: usize, integer: usize },
+}
+
+// Returns an integer of a process of a machine, if both are there.
+fn value_of(machine: &Machine, p: usize, x: usize) -> Option<i64>
+    ensures { result ≡ value_in (slice_get (machine_view machine.now).processes p) x }
+{
+    if machine.processes() <= p {
+        return None;
+    }
+    let vars = machine.proc(p).vars();
+    if vars.len() <= x {
+        return None;
+    }
+    Some(vars[x])
+}
+
+/// Returns the line of an arm of a process of a machine, if it is live and its place has one.
+pub(crate) fn line_of_arm(labels: &Labels, machine: &Machine, p: usize, arm: usize) -> Option<u32>
+    ensures { result ≡ line_in (slice_get (labels_view labels.now) p)
+        (slice_get (machine_view machine.now).processes p) arm }
+{
+    if labels.processes.len() <= p || machine.processes() <= p {
+        return None;
+    }
+    let process = machine.proc(p);
+    if process.arms() <= arm {
+        return None;
+    }
+    let place = usize::from(process.thread(arm).place()?);
+    let lines = &labels.processes[p].lines;
+    if lines.len() <= place {
+        return None;
+    }
+    lines[place]
+}
+
+// Returns whether two values differ.
+fn differ(a: Option<i64>, b: Option<i64>) -> bool
+    ensures { IsTrue result ↔ (a ≡ b → ⊥) }
+{
+    match a {
+        Some(a) => match b {
+            Some(b) => a != b,
+            None => true,
+        },
+        None => match b {
+            Some(_) => true,
+            None => false,
+        },
+    }
+}
+
+// Makes the next pick of a trace. Returns whether it changes an integer of a process.
+fn changes(walker: &mut Walker, verified: &Verified, trace: &Trace, p: usize, x: usize) -> bool
+    requires enabled { AreEnabled verified.now.code (picks_of trace.now.entries) }
+    requires few { length (picks_of trace.now.entries) ≤ 10000000 }
+    requires walks { Walks verified.now (picks_of trace.now.entries) walker.old }
+    requires within { walker.old.at < length (picks_of trace.now.entries) }
+    ensures walks { Walks verified.now (picks_of trace.now.entries) walker.new }
+    ensures at { walker.new.at ≡ walker.old.at + 1 }
+    ensures changes { IsTrue result
+        ↔ (value_at verified.now.code (picks_of trace.now.entries) walker.old.at p x
+        ≡ value_at verified.now.code (picks_of trace.now.entries) (walker.old.at + 1) p x → ⊥) }
+{
+    let before = value_of(&walker.machine, p, x);
+    let _ = walker.advance(verified, trace);
+    let after = value_of(&walker.machine, p, x);
+    differ(before, after)
 }
 
 /// Makes the next pick of a trace. Returns whether it does what is looked for.
@@ -34,6 +108,7 @@ fn does(walker: &mut Walker, verified: &Verified, trace: &Trace, watch: Watch) -
             Step::Did(_) => true,
             Step::Silent | Step::NotEnabled => false,
         },
+        Watch::Integer { process, integer } => changes(walker, verified, trace, process, integer),
     }
 }
 

@@ -2,7 +2,7 @@
 
 ghost use Rattle.std.specs.Prelude.{◌≡◌, ◌<◌, ◌≤◌, ◌++◌, ℕ, length, map, codes, OnOk, All};
 ghost use Rattle.pb_base.specs.Banker.{processes, resources, claim, loan, cash};
-ghost use Rattle.pb_base.specs.Lines.{HasNames, names_view, name_of};
+ghost use Rattle.pb_base.specs.Lines.{HasNames, names_view, name_of, pick_text};
 ghost use Rattle.pb_debug.specs.Texts as said;
 ghost use Rattle.pb_debug.specs.Texts.{HasNamesOf, IsRefusal};
 ghost use Rattle.pb_machine.specs.Views.{proc_view, thread_view};
@@ -11,7 +11,7 @@ use crate::fault::DebugFault;
 use crate::why::Why;
 use itoa::{Buffer, Integer};
 use pb_banker::Banker;
-use pb_base::{Event, Names, NoMemory, event_line};
+use pb_base::{Event, Names, NoMemory, Pick, event_line};
 use pb_machine::{Proc, Thread, ThreadState};
 use std::alloc::Global;
 
@@ -67,13 +67,51 @@ pub(crate) fn put_no_event(text: &mut Vec<u8>) -> Result<(), NoMemory>
     put(text, b"no event\n")
 }
 
+// Puts the name of an arm behind a text.
+fn put_pick(text: &mut Vec<u8>, names: &Names, pick: Pick) -> Result<(), NoMemory>
+    requires { pick.process < length (names_view names.now).processes }
+    ensures { OnOk result (text.new.items ≡ text.old.items ++ pick_text (names_view names.now) pick) }
+{
+    put(text, &names.processes[usize::from(pick.process)])?;
+    put_number(text, b".", pick.arm)
+}
+
+/// Puts the line of a pick, the position just after it, and the line of its arm before it behind a text.
+pub(crate) fn put_wrote(
+    text: &mut Vec<u8>,
+    names: &Names,
+    position: u32,
+    pick: Pick,
+    line: Option<u32>,
+) -> Result<(), NoMemory>
+    requires { pick.process < length (names_view names.now).processes }
+    ensures { OnOk result (text.new.items
+        ≡ text.old.items ++ said.wrote_text (names_view names.now) position pick line) }
+{
+    put_number(text, b"at ", position)?;
+    put(text, b" ")?;
+    put_pick(text, names, pick)?;
+    match line {
+        Some(line) => put_number(text, b" line ", line)?,
+        None => put(text, b" line none")?,
+    }
+    put(text, b"\n")
+}
+
+/// Puts the line that says that nothing was written behind a text.
+pub(crate) fn put_never(text: &mut Vec<u8>) -> Result<(), NoMemory>
+    ensures { OnOk result (text.new.items ≡ text.old.items ++ said.never_text) }
+{
+    put(text, b"never\n")
+}
+
 /// Puts the lines of all commands behind a text.
 pub(crate) fn put_help(text: &mut Vec<u8>) -> Result<(), NoMemory>
     ensures { OnOk result (text.new.items ≡ text.old.items ++ said.help_text) }
 {
     put(
         text,
-        b"to I\nstep N\nback N\nnext\nprev\nvars P\nthreads P\nloans\nline P.a\nwhy P.a\nhelp\n",
+        b"to I\nstep N\nback N\nnext\nprev\nvars P\nwrote P X\nthreads P\nloans\nline P.a\nwhy P.a\nhelp\n",
     )
 }
 

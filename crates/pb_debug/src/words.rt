@@ -6,13 +6,20 @@ ghost use Rattle.std.specs.List.{list_all, position};
 ghost use Rattle.std.specs.Str.Parse.{digits_value};
 ghost use Rattle.pb_code.specs.Names as names;
 ghost use Rattle.pb_debug.specs.Commands as spec;
-ghost use Rattle.pb_debug.specs.View.{arm_view};
+ghost use Rattle.pb_debug.specs.View.{arm_view, integer_view};
 
 /// An arm, by the name of its process and its number.
 #[derive(Clone, Copy)]
 pub(crate) struct ArmWord<'t> {
     pub process: &'t [u8],
     pub arm: u32,
+}
+
+/// An integer of a process, by their names.
+#[derive(Clone, Copy)]
+pub(crate) struct IntegerWord<'t> {
+    pub process: &'t [u8],
+    pub integer: &'t [u8],
 }
 
 fn are_digits(word: &[u8]) -> bool
@@ -102,4 +109,14 @@ pub(crate) fn arm_word(word: &[u8]) -> Option<ArmWord>
     }
     let arm = number(&word[dot + 1..])?;
     Some(ArmWord { process, arm })
+}
+
+/// Returns the process and the integer of a word `P X`.
+pub(crate) fn integer_word(word: &[u8]) -> Option<IntegerWord>
+    ensures { option_map integer_view result ≡ spec.integer_of word.now }
+{
+    let space = find(word, b' ')?;
+    let process = process_word(&word[..space])?;
+    let integer = process_word(&word[space + 1..])?;
+    Some(IntegerWord { process, integer })
 }

@@ -76,14 +76,14 @@ const CASES: [Case; 7] = [
     Case {
         text: ARMS,
         picks: &[A, A, A, A, SECOND, SECOND, SECOND],
-        commands: b"to 4\nvars p\nthreads p\nto 7\nthreads p\nline p.2\nback 7\nwhy p.0\nloans\n",
-        said: b"at 4\nx -7\ny 0\n0 at 4\n1 at 6\n2 at 9\nat 7\nfaulted\nline none\nat 0\nnot asking\n",
+        commands: b"wrote p x\nto 4\nwrote p x\nwrote p y\nwrote p z\nwrote q x\nvars p\nthreads p\nto 7\nthreads p\nline p.2\nback 7\nwhy p.0\nloans\n",
+        said: b"never\nat 4\nat 2 p.0 line 1\nnever\nrefused G4\nrefused G2\nx -7\ny 0\n0 at 4\n1 at 6\n2 at 9\nat 7\nfaulted\nline none\nat 0\nnot asking\n",
     },
     Case {
         text: TWICE,
         picks: &[A, A, A, A, A],
         commands: b"prev\nnext\nnext\nnext\nnext\nprev\nprev\nprev\nhelp\n",
-        said: b"no event\nat 2 p.0 print 1\nat 4 p.0 print 2\nat 5 p end\nno event\nat 4 p.0 print 2\nat 2 p.0 print 1\nno event\nto I\nstep N\nback N\nnext\nprev\nvars P\nthreads P\nloans\nline P.a\nwhy P.a\nhelp\n",
+        said: b"no event\nat 2 p.0 print 1\nat 4 p.0 print 2\nat 5 p end\nno event\nat 4 p.0 print 2\nat 2 p.0 print 1\nno event\nto I\nstep N\nback N\nnext\nprev\nvars P\nwrote P X\nthreads P\nloans\nline P.a\nwhy P.a\nhelp\n",
     },
     Case {
         text: PRINT,
