@@ -77,7 +77,7 @@ const CASES: [Case; 7] = [
         text: ARMS,
         picks: &[A, A, A, A, SECOND, SECOND, SECOND],
         commands: b"wrote p x\nto 4\nwrote p x\nwrote p y\nwrote p z\nwrote q x\nvars p\nthreads p\nto 7\nthreads p\nline p.2\nback 7\nwhy p.0\nloans\n",
-        said: b"never\nat 4\nat 2 p.0 line 1\nnever\nrefused G4\nrefused G2\nx -7\ny 0\n0 at 4\n1 at 6\n2 at 9\nat 7\nfaulted\nline none\nat 0\nnot asking\n",
+        said: b"never\nat 4\nat 3 p.0 line 1\nnever\nrefused G4\nrefused G2\nx -7\ny 0\n0 at 4\n1 at 6\n2 at 9\nat 7\nfaulted\nline none\nat 0\nnot asking\n",
     },
     Case {
         text: TWICE,
