@@ -36,7 +36,8 @@ def build_proved(folder, needs, files):
     crates = needed(needs)
     for name in crates:
         copy_crate(name, folder)
-    lines = [line for line in (TOP / "crates.txt").read_text().splitlines() if line.split(":")[0] in crates]
+    lines = [line for line in (TOP / "crates.txt").read_text().splitlines()
+             if ":" in line and line.split(":")[0].split()[0] in crates]
     (folder / "crates.txt").write_text("\n".join(lines + [f"bench: {' '.join(needs)}"]) + "\n")
     shutil.copy(TOP / "HANDLES", folder)
     crate = folder / "crates" / "bench"

@@ -10,7 +10,9 @@ pub mod Quietly
 pub mod Reaching
 pub mod SilentRuns
 pub mod Silently
+pub mod Spares
 pub mod Standing
+pub mod Staying
 pub mod Stepping
 pub mod Threads
 pub mod Turning

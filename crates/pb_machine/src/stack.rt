@@ -45,13 +45,12 @@ impl Stack {
         Ok(Stack { operands })
     }
 
-    /// Takes over the operands of a stack with the same room.
+    /// Takes over the operands of a stack, for which there is room.
     pub fn set_to(&mut self, other: &Stack)
-        requires { self.old.room ≡ other.now.room }
+        requires { length other.now.items ≤ self.old.room }
         ensures items { self.new.items ≡ other.now.items }
         ensures room { self.new.room ≡ self.old.room }
     {
-        let _ = other.operands.len();
         self.operands.clear();
         for value in other.operands.as_slice() {
             self.operands.push_reserved(*value);

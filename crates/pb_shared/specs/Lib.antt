@@ -2,6 +2,8 @@ pub mod Books
 pub mod Brands
 pub mod Ledgers
 pub mod Lending
+pub mod Ready
+pub mod Spares
 pub mod Stretches
 pub mod Taking
 pub mod Trying

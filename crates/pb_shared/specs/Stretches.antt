@@ -15,9 +15,10 @@ lent_of s = record {
   state = proc_view s.state;
 }
 
--- the stretch refers to this code, its picks are silent, and the process is in a state that the code may have, with
--- room for all operands
+-- the stretch refers to this code, its picks are silent, and the process, as it was lent and as it is now, is in a
+-- state that the code may have, with room for all operands
 pub record IsSound {C : Type 0} (code : VerifiedCode) (s : Inside C) : Type 0 where
   pub refers : s.code.now ≡ code
   pub run : IsSilentRun code.code (lent_of s)
+  pub base : IsProcessOf code s.pick.process s.base
   pub process : IsProcessOf code s.pick.process s.state

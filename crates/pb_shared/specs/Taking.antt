@@ -1,11 +1,14 @@
--- What taking a stretch answers.
-use Rattle.std.specs.Prelude.{◌≡◌, ◌≢◌, ◌⊎◌, ℕ, ◌-◌, ◌<◌, ◌≤◌, min, Some, None, true, slice_get, slice_set, ⊤}
+-- What a take returns.
+use Rattle.std.specs.Prelude.{◌≡◌, ◌≢◌, ◌⊎◌, ℕ, ◌-◌, ◌<◌, ◌≤◌, min, Some, None, Result, Ok, Err, true, slice_get, slice_set, ⊤}
 use Rattle.pb_base.specs.declared.pick.Pick.{Pick}
 use Rattle.pb_code.specs.Whole.{Code}
 use Rattle.pb_verifier.specs.Verified.{VerifiedCode}
-use Rattle.pb_shared.specs.Ledgers.{Ledger, IsReady, HasOutcome, all_home}
+use Rattle.pb_base.specs.declared.memory.NoMemory.{NoMemory}
+use Rattle.pb_shared.specs.Ledgers.{Ledger, Commits, IsReady, HasOutcome, all_home}
 use Rattle.pb_shared.specs.Lending.{Lent}
+use Rattle.pb_shared.specs.declared.answer.Answer.{Answer}
 use Rattle.pb_shared.specs.declared.taken.Taken.{Taken}
+use Rattle.pb_shared.specs.declared.answer.Answer.{Answer}
 use Rattle.pb_shared.specs.declared.taken.Taken.TheVariants.{Work, Idle, Over}
 
 -- the book after it lent this
@@ -33,7 +36,7 @@ pub record IsFresh (code : Code) (s : Ledger) (quantum : ℕ) (lent : Lent) : Ty
 abbrev pub NoneReady : Code → Ledger → Type 0
 NoneReady code s = (pick : Pick) → IsReady code s pick → ⊥
 
--- what a take answers, and the book afterwards: a ready arm is lent; or none can be lent, and then some process is
+-- what a take returns, and the book afterwards: a ready arm is lent; or none can be lent, and then some process is
 -- out; or there is an outcome
 abbrev pub Takes : {C : Type 0} → VerifiedCode → Ledger → ℕ → Taken C → Ledger → Type 0
 Takes code s quantum (Work lent) after = HasOutcome s None × IsFresh code.code s quantum lent × (after ≡ lent_out s lent)
@@ -41,7 +44,17 @@ Takes code s quantum Idle after =
     HasOutcome s None × ((s.left ≡ 0) ⊎ NoneReady code.code s) × (all_home s.slips ≢ true) × (after ≡ s)
 Takes code s quantum (Over outcome) after = HasOutcome s (Some outcome) × (after ≡ s)
 
--- what a lock hands out: a stretch with nothing made, that may make so many picks at most; or an outcome
+-- the same of a take that may run out of memory, which leaves the book as it was
+abbrev pub TakesIfRoom : {C : Type 0} → VerifiedCode → Ledger → ℕ → Result (Taken C) NoMemory → Ledger → Type 0
+TakesIfRoom code s quantum (Ok taken) after = Takes code s quantum taken after
+TakesIfRoom code s quantum (Err fault) after = after ≡ s
+
+-- a commit, and then a take
+abbrev pub CommitsAndTakes : {C : Type 0} → VerifiedCode → Ledger → Lent → ℕ → Answer → Result (Taken C) NoMemory → Ledger → Type 0
+CommitsAndTakes code s lent quantum answer taken after =
+    (between : Ledger) × Commits code.code s lent answer between × TakesIfRoom code between quantum taken after
+
+-- what a lock hands out: a stretch with nothing made, that may make at most `quantum` picks; or an outcome
 abbrev pub IsHandedOut : {C : Type 0} → ℕ → Taken C → Type 0
 IsHandedOut quantum (Work lent) =
     (lent.made ≡ 0) × (lent.state ≡ lent.base) × (0 < lent.allowance) × (lent.allowance ≤ quantum)

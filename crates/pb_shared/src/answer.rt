@@ -1,4 +1,4 @@
-//! What a commit answers.
+//! What a commit comes to.
 
 /// What became of the visible pick of a commit.
 #[derive(Clone, Copy, Debug, PartialEq, Eq)]

@@ -9,6 +9,7 @@ use crate::brand::CodeBrand;
 use crate::marks::MARKS;
 use crate::outcome::Outcome;
 use crate::slip::Slip;
+use crate::spare::Spare;
 use pb_base::NoMemory;
 use pb_history::Trace;
 use pb_machine::Machine;
@@ -25,6 +26,7 @@ pub struct Book<'v, C: CodeBrand> {
     pub(crate) limit: u32,
     pub(crate) left: u32,
     pub(crate) slips: Vec<Option<Slip>>,
+    pub(crate) spares: Vec<Option<Spare>>,
     pub(crate) refused: Vec<bool>,
     pub(crate) next_process: u8,
     pub(crate) next_arms: Vec<u8>,
@@ -44,7 +46,7 @@ impl<'v, C: CodeBrand> Model for Book<'v, C> {
 }
 
 impl<'v, C: CodeBrand> Book<'v, C> {
-    /// Opens a book at the start of the brand's code, for so many picks, up to 10,000,000.
+    /// Opens a book at the start of the brand's code, for at most `limit` picks. A limit is at most 10,000,000.
     pub fn new(alloc: Global, code: &'v Verified, limit: u32) -> Result<Book<'v, C>, NoMemory>
         requires brand { code.now ≡ C.code }
         requires limit { limit ≤ 10000000 }
@@ -54,6 +56,7 @@ impl<'v, C: CodeBrand> Book<'v, C> {
         let machine = Machine::new(alloc, code)?;
         let count = machine.processes();
         let slips = no_slips(alloc, count)?;
+        let spares = no_spares(alloc, count)?;
         let refused = no_marks(alloc, count)?;
         let next_arms: Vec<u8> = vec![in alloc; 0; count]?;
         Ok(Book {
@@ -63,6 +66,7 @@ impl<'v, C: CodeBrand> Book<'v, C> {
             limit,
             left: limit,
             slips,
+            spares,
             refused,
             next_process: 0,
             next_arms,
@@ -130,7 +134,7 @@ impl<'v, C: CodeBrand> Book<'v, C> {
     }
 }
 
-/// Returns slips for so many processes, all of which are at home.
+/// Returns the slips of `count` processes, all of which are at home.
 fn no_slips(alloc: Global, count: usize) -> Result<Vec<Option<Slip>>, NoMemory>
     ensures { IfOk result (λ v. v.items ≡ replicate count None) }
 {
@@ -139,7 +143,18 @@ fn no_slips(alloc: Global, count: usize) -> Result<Vec<Option<Slip>>, NoMemory>
     Ok(slips)
 }
 
-/// Returns marks for so many processes, none of which is set.
+/// Returns the spares of `count` processes, none of which was lent yet.
+fn no_spares(alloc: Global, count: usize) -> Result<Vec<Option<Spare>>, NoMemory>
+    ensures { IfOk result (λ v. v.items ≡ replicate count None) }
+{
+    let mut spares = Vec::with_capacity(alloc, count)?;
+    for process in 0..count {
+        spares.push(None)?;
+    }
+    Ok(spares)
+}
+
+/// Returns the marks of `count` processes, none of which is set.
 fn no_marks(alloc: Global, count: usize) -> Result<Vec<bool>, NoMemory>
     requires { count ≤ 64 }
     ensures { IfOk result (λ v. v.items ≡ replicate (64 * count) false) }

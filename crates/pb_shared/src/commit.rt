@@ -1,7 +1,8 @@
 //! Stretches that come home.
 
-ghost use Rattle.std.specs.Prelude.{◌≡◌, ◌↔◌, IfOk, IfErr, IsTrue, None, slice_index_or};
+ghost use Rattle.std.specs.Prelude.{◌≡◌, ◌↔◌, ◌<◌, IfOk, IfErr, IsTrue, None, slice_index_or};
 ghost use Rattle.pb_shared.specs.Ledgers.{IsLentBy, Commits, given_back};
+ghost use Rattle.pb_shared.specs.Taking.{CommitsAndTakes};
 ghost use Rattle.pb_shared.specs.declared.fault.CommitFault.TheVariants.{Stranger};
 
 use crate::answer::Answer;
@@ -9,8 +10,12 @@ use crate::book::Book;
 use crate::brand::CodeBrand;
 use crate::fault::CommitFault;
 use crate::slip::Slip;
+use crate::spare::Spare;
 use crate::stretch::Stretch;
+use crate::taken::Taken;
 use crate::visible::try_visible;
+use pb_base::NoMemory;
+use std::alloc::Global;
 
 impl<'v, C: CodeBrand> Book<'v, C> {
     /// Takes a stretch home. Its silent picks are appended, and then, if some of its allowance is left and the arm
@@ -36,13 +41,18 @@ impl<'v, C: CodeBrand> Book<'v, C> {
             pick,
             allowance,
             made,
-            base: _,
+            base,
             state,
             brand: _,
         } = stretch;
+        let process = usize::from(pick.process);
         self.trace.push_silent(pick, made);
-        self.machine.set(usize::from(pick.process), state);
-        self.slips[usize::from(pick.process)] = None;
+        let before = self.machine.replace(process, state);
+        self.spares[process] = Some(Spare {
+            base,
+            state: before,
+        });
+        self.slips[process] = None;
         self.left += allowance - made;
         if made == allowance {
             return Ok(Answer::Silent);
@@ -57,6 +67,26 @@ impl<'v, C: CodeBrand> Book<'v, C> {
         ))
     }
 
+    /// Takes a stretch home as `commit` does, and then lends the next as `take` does. A stretch that is handed back leaves
+    /// the book as it was; out of memory in the take leaves it as the commit did.
+    pub fn commit_and_take(
+        &mut self,
+        stretch: Stretch<'v, C>,
+        alloc: Global,
+        quantum: u32,
+    ) -> Result<(Answer, Result<Taken<'v, C>, NoMemory>), (Stretch<'v, C>, CommitFault)>
+        requires { 0 < quantum }
+        ensures ok { IfOk result (λ made. IsLentBy self.old stretch.entry
+            × CommitsAndTakes C.code self.old stretch.entry quantum made.0 made.1 self.new) }
+        ensures err { IfErr result (λ e. (e.0 ≡ stretch.entry) × (self.new ≡ self.old)
+            × ((e.1 ≡ Stranger) ↔ (IsLentBy self.old stretch.entry → ⊥))) }
+    {
+        match self.commit(stretch) {
+            Ok(answer) => Ok((answer, self.take(alloc, quantum))),
+            Err(back) => Err(back),
+        }
+    }
+
     /// Takes a stretch back as it was lent. A stretch that this book did not lend is handed back.
     pub fn put_back(&mut self, stretch: Stretch<'v, C>) -> Result<(), Stretch<'v, C>>
         ensures ok { IfOk result (λ _. IsLentBy self.old stretch.entry × (self.new ≡ given_back self.old stretch.entry)) }
@@ -66,9 +96,19 @@ impl<'v, C: CodeBrand> Book<'v, C> {
         if !self.lent(&stretch) {
             return Err(stretch);
         }
-        self.slips[usize::from(stretch.pick.process)] = None;
-        self.left += stretch.allowance;
-        stretch.forfeit();
+        let Stretch {
+            code: _,
+            pick,
+            allowance,
+            made: _,
+            base,
+            state,
+            brand: _,
+        } = stretch;
+        let process = usize::from(pick.process);
+        self.spares[process] = Some(Spare { base, state });
+        self.slips[process] = None;
+        self.left += allowance;
         Ok(())
     }
 

@@ -62,6 +62,28 @@ impl<'v, C: CodeBrand> Shared<'v, C> {
         answer
     }
 
+    /// Takes a stretch home and lends the next, as the book's own call does, with one lock for both, and wakes those that
+    /// wait. It waits while the book is idle.
+    pub fn commit_and_take<R: Wait>(
+        &self,
+        rt: &R,
+        stretch: Stretch<'v, C>,
+        alloc: Global,
+        quantum: u32,
+    ) -> Result<Result<Taken<'v, C>, NoMemory>, (Stretch<'v, C>, CommitFault)>
+        requires { 0 < quantum }
+        ensures ok { IfOk result (λ taken. IfOk taken (λ taken. IsHandedOut quantum taken)) }
+        ensures err { IfErr result (λ e. e.0 ≡ stretch.entry) }
+    {
+        let made = self.book.lock(rt).commit_and_take(stretch, alloc, quantum);
+        self.came_home.notify_all();
+        match made {
+            Ok((_, Ok(Taken::Idle))) => Ok(self.take(rt, alloc, quantum)),
+            Ok((_, taken)) => Ok(taken),
+            Err(back) => Err(back),
+        }
+    }
+
     /// Takes a stretch back as it was lent, as the book's own call does, and wakes those that wait.
     pub fn put_back<R: Wait>(&self, rt: &R, stretch: Stretch<'v, C>) -> Result<(), Stretch<'v, C>>
         ensures { IfErr result (λ e. e ≡ stretch.entry) }

@@ -1,11 +1,13 @@
 //! Lending a process.
 
 ghost use Rattle.std.specs.Prelude.{◌≡◌, ◌-◌, ◌<◌, ◌≤◌, Some, None, IfOk, OnErr, slice_get, slice_set};
+ghost use Rattle.pb_shared.specs.Spares.{IsSpareOf};
 ghost use Rattle.pb_shared.specs.Taking.{Takes, StartsAt};
 
 use crate::book::Book;
 use crate::brand::CodeBrand;
 use crate::slip::Slip;
+use crate::spare::Spare;
 use crate::stretch::Stretch;
 use crate::taken::Taken;
 use pb_base::{NoMemory, Pick};
@@ -35,21 +37,48 @@ impl<'v, C: CodeBrand> Book<'v, C> {
         Ok(Taken::Work(stretch))
     }
 
-    /// Returns a stretch of this arm with nothing made.
-    fn fresh(&self, alloc: Global, pick: Pick, allowance: u32) -> Result<Stretch<'v, C>, NoMemory>
-        requires { slice_get self.now.slips pick.process ≡ Some None }
-        ensures { IfOk result (λ lent. StartsAt self.now pick allowance lent) }
+    /// Returns a stretch of this arm with nothing made. It takes memory only if the process was never lent before.
+    fn fresh(
+        &mut self,
+        alloc: Global,
+        pick: Pick,
+        allowance: u32,
+    ) -> Result<Stretch<'v, C>, NoMemory>
+        requires { slice_get self.old.slips pick.process ≡ Some None }
+        ensures same { self.new ≡ self.old }
+        ensures starts { IfOk result (λ lent. StartsAt self.old pick allowance lent) }
     {
-        let process = self.machine.proc(usize::from(pick.process));
+        let number = usize::from(pick.process);
+        let spare = self.spare(alloc, number)?;
+        let Spare {
+            mut base,
+            mut state,
+        } = spare;
+        let process = self.machine.proc(number);
+        base.set_to(process);
+        state.set_to(process);
         Ok(Stretch {
             code: self.code,
             pick,
             allowance,
             made: 0,
-            base: process.copy(alloc)?,
-            state: process.copy(alloc)?,
+            base,
+            state,
             brand: PhantomData,
         })
+    }
+
+    /// Takes the spare of a process, or copies it if it was never lent before.
+    fn spare(&mut self, alloc: Global, process: usize) -> Result<Spare, NoMemory>
+        requires { slice_get self.old.slips process ≡ Some None }
+        ensures same { self.new ≡ self.old }
+        ensures spare { IfOk result (IsSpareOf C.code process) }
+    {
+        let kept = self.spares[process].take();
+        if let Some(spare) = kept {
+            return Ok(spare);
+        }
+        Spare::copies_of(alloc, self.machine.proc(process))
     }
 
     /// Writes the slip of this arm.

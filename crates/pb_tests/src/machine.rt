@@ -419,7 +419,7 @@ fn silent_picks_apart(rt: HostRuntime) {
     assert!(rt; !apart.silent(&verified, pick));
     assert!(rt; !apart.silent(&verified, Pick { process: 0, arm: 1 }));
     assert!(rt; apart.same(&before));
-    machine.set(0, apart);
+    let _ = machine.replace(0, apart);
     assert!(rt; machine.processes() == 1);
     assert!(rt; before.same(machine.proc(0)));
 }
@@ -533,34 +533,5 @@ fn groups_of_a_process(rt: HostRuntime) -> Result<(), Fail> {
         return Err(Fail::from(NoMemory));
     };
     assert!(rt; have_groups(alloc, &verified) == Some(true));
-    Ok(())
-}
-
-/// Whether a copy of the first process that is set to another, seven picks ahead, is in the same state, and was not
-/// before.
-fn takes_over(alloc: Global, verified: &Verified, machine: &Machine) -> Option<bool>
-    requires of { IsMachineOf verified.now machine.now }
-    requires there { 0 < length (machine_view machine.now).processes }
-{
-    let mut spare = apart(alloc, verified, machine).ok()?;
-    let mut ahead = spare.copy(alloc).ok()?;
-    let _ = ahead.run_silent(verified, Pick { process: 0, arm: 0 }, 7);
-    let apart = !spare.same(&ahead);
-    if spare.vars().len() != ahead.vars().len() {
-        return None;
-    }
-    spare.set_to(&ahead);
-    Some(apart && spare.same(&ahead))
-}
-
-#[test]
-fn a_process_is_set_to_another(rt: HostRuntime) -> Result<(), Fail> {
-    let alloc = rt.alloc();
-    let Some(verified) = alone(alloc, &[0], &COUNT_AND_OVERFLOW)? else {
-        return Err(Fail::from(NoMemory));
-    };
-    let machine = Machine::new(alloc, &verified)?;
-    assert!(rt; machine.processes() == 1);
-    assert!(rt; takes_over(alloc, &verified, &machine) == Some(true));
     Ok(())
 }

@@ -21,39 +21,43 @@ pub fn work<'v, C: CodeBrand, G: Gate, R: Wait>(
     requires { 0 < quantum }
 {
     let mut turn = 0u64;
+    let mut taken = shared.take(rt, alloc, quantum);
     for _ in rt.forever() {
-        match shared.take(rt, alloc, quantum) {
+        let mut stretch = match taken {
             Err(NoMemory) => return NO_MEMORY,
             Ok(Taken::Over(_)) => return NOTHING,
             Ok(Taken::Idle) => return NOTHING,
-            Ok(Taken::Work(mut stretch)) => {
-                let _made = stretch.run(quantum);
-                gate.between(worker, turn);
-                let ended = if gate.give_back(worker, turn) {
-                    give_back(rt, shared, stretch, NOTHING)
-                } else {
-                    bring_home(rt, shared, stretch)
-                };
-                if ended.no_memory || ended.stranger {
-                    return ended;
-                }
+            Ok(Taken::Work(stretch)) => stretch,
+        };
+        let _made = stretch.run(quantum);
+        gate.between(worker, turn);
+        if gate.give_back(worker, turn) {
+            let ended = give_back(rt, shared, stretch, NOTHING);
+            if ended.stranger {
+                return ended;
             }
+            taken = shared.take(rt, alloc, quantum);
+        } else {
+            taken = match shared.commit_and_take(rt, stretch, alloc, quantum) {
+                Ok(next) => next,
+                Err((stretch, fault)) => return hand_back(rt, shared, stretch, fault),
+            };
         }
         turn = turn.wrapping_add(1);
     }
     unreachable!()
 }
 
-/// Commits a stretch. It is given back if there is no memory.
-fn bring_home<'v, C: CodeBrand, R: Wait>(
+/// Deals with a stretch that was not committed: it is given back if there was no memory, and given up if it is a stranger.
+fn hand_back<'v, C: CodeBrand, R: Wait>(
     rt: &R,
     shared: &Shared<'v, C>,
     stretch: Stretch<'v, C>,
+    fault: CommitFault,
 ) -> Met {
-    match shared.commit(rt, stretch) {
-        Ok(_) => NOTHING,
-        Err((stretch, CommitFault::NoMemory)) => give_back(rt, shared, stretch, NO_MEMORY),
-        Err((stretch, CommitFault::Stranger)) => {
+    match fault {
+        CommitFault::NoMemory => give_back(rt, shared, stretch, NO_MEMORY),
+        CommitFault::Stranger => {
             stretch.forfeit();
             STRANGER
         }

@@ -1,11 +1,12 @@
 use Rattle.std.proofs.Common.{◌≡◌, ◌<◌, ◌+◌, ◌-◌, ◌++◌, ℕ, List, None, length, slice_set, refl, sym, ap, ◌∙◌, subst, arith}
 use Rattle.pb_history.specs.Entries.{Entry, silent_picks}
 use Rattle.pb_machine.specs.Steps.{ComesFrom}
-use Rattle.pb_machine.specs.Views.{machine_view}
+use Rattle.pb_machine.specs.Views.{machine_view, IsProcessOf}
 use Rattle.pb_shared.specs.Books.{ledger_of}
 use Rattle.pb_shared.specs.Ledgers.{Ledger, IsLegal, IsLentBy, home}
 use Rattle.pb_shared.specs.Stretches.{lent_of}
 use Rattle.pb_shared.proofs.Keeping.{back_fits, comes_home, home_legal, legal_as, process_within, set_view, slip_within, machine_there, tries_legal, tries_there}
+use Rattle.pb_shared.proofs.Sparing.{spare_at, spares_stay, spares_with}
 use Rattle.pb_shared.proofs.book.Book.commit.Goals as goal
 
 pub push_silent-requires-clause-fits : goal.push_silent-requires-clause-fits
@@ -19,13 +20,13 @@ push_silent-requires-clause-fits g c =
     let same = ap (λ (es : List Entry). length es) c.reserve.ensures.same in
     omega (arith, fits, limited, within, same)
 
-pub set-requires : goal.set-requires
-set-requires g c =
+pub replace-before-requires : goal.replace-before-requires
+replace-before-requires g c =
     let s = ledger_of c.self.inside in
     let lent = lent_of c.stretch.inside in
     let by : IsLentBy s lent = rw (← c.self.view_is, ← c.stretch.view_is) at (c.lent.ensures.0 c.if-not-lent.false) in
     let lt = process_within g.C.CodeBrand.code s lent c.self.invariant.legal by in
-    let from = c.from.ensures in
+    let from = c.from-process.ensures in
     omega (arith, lt, from)
 
 pub index_mut-requires : goal.index_mut-requires
@@ -34,7 +35,17 @@ index_mut-requires g c =
     let lent = lent_of c.stretch.inside in
     let by : IsLentBy s lent = rw (← c.self.view_is, ← c.stretch.view_is) at (c.lent.ensures.0 c.if-not-lent.false) in
     let lt = slip_within g.C.CodeBrand.code s lent c.self.invariant.legal by in
-    let from = c.from-2.ensures in
+    let from = c.from-process.ensures in
+    let all = c.self.invariant.spares.all in
+    omega (arith, lt, from, all, c.self.inside.slips.ok.0)
+
+pub index_mut-requires-2 : goal.index_mut-requires-2
+index_mut-requires-2 g c =
+    let s = ledger_of c.self.inside in
+    let lent = lent_of c.stretch.inside in
+    let by : IsLentBy s lent = rw (← c.self.view_is, ← c.stretch.view_is) at (c.lent.ensures.0 c.if-not-lent.false) in
+    let lt = slip_within g.C.CodeBrand.code s lent c.self.invariant.legal by in
+    let from = c.from-process.ensures in
     omega (arith, lt, from, c.self.inside.slips.ok.0)
 
 pub overflow_add-self : goal.overflow_add-self
@@ -67,14 +78,18 @@ invariant_of-self-then-made-allowance g c =
     let by : IsLentBy s lent = rw (← c.self.view_is, ← c.stretch.view_is) at (c.lent.ensures.0 c.if-not-lent.false) in record {
       refers = c.self.invariant.refers;
       legal = legal_as g.C.CodeBrand.code (home s lent) _ (home_legal g.C.CodeBrand.code s lent legal by run)
-          (sym (set_view c.self.inside.machine c.set.new.self c.from.result lent.pick.process lent.state c.from.ensures c.set.ensures.processes c.set.ensures.banker))
+          (sym (set_view c.self.inside.machine c.replace-before.new.self c.from-process.result lent.pick.process lent.state c.from-process.ensures c.replace-before.ensures.processes c.replace-before.ensures.banker))
           (sym (c.push_silent.ensures.entries ∙ ap (λ (es : List Entry). es ++ silent_picks lent.pick lent.made) c.reserve.ensures.same))
           refl
           refl
-          (ap (λ (p : ℕ). slice_set s.slips p None) (sym c.from-2.ensures))
+          (ap (λ (p : ℕ). slice_set s.slips p None) (sym c.from-process.ensures))
           refl;
-      machine = c.set.ensures.machine g.C.CodeBrand.code c.self.invariant.machine (subst (λ (p : ℕ). ComesFrom g.C.CodeBrand.code c.self.inside.machine p c.stretch.inside.state) (sym c.from.ensures)
+      machine = c.replace-before.ensures.machine g.C.CodeBrand.code c.self.invariant.machine (subst (λ (p : ℕ). ComesFrom g.C.CodeBrand.code c.self.inside.machine p c.stretch.inside.state) (sym c.from-process.ensures)
           (comes_home g.C.CodeBrand.code s lent legal by run c.self.inside.machine c.stretch.inside.state refl refl c.stretch.invariant.process.rooms));
+      spares = spares_with g.C.CodeBrand.code _ _ (spares_stay g.C.CodeBrand.code _ _ c.self.invariant.spares _ None) _ _ (spare_at g.C.CodeBrand.code c.from-process.result _ (record {
+        base = subst (λ (p : ℕ). IsProcessOf g.C.CodeBrand.code p c.stretch.inside.base) (sym c.from-process.ensures) c.stretch.invariant.base;
+        state = c.replace-before.ensures.process g.C.CodeBrand.code c.self.invariant.machine;
+      }));
     }
 
 pub try_visible-requires-clause-machine : goal.try_visible-requires-clause-machine
@@ -82,7 +97,7 @@ try_visible-requires-clause-machine g c =
     let s = ledger_of c.self.inside in
     let lent = lent_of c.stretch.inside in
     let by : IsLentBy s lent = rw (← c.self.view_is, ← c.stretch.view_is) at (c.lent.ensures.0 c.if-not-lent.false) in
-    machine_there g.C.CodeBrand.code c.self.inside.code.now _ (sym c.self.invariant.refers) (c.set.ensures.machine g.C.CodeBrand.code c.self.invariant.machine (subst (λ (p : ℕ). ComesFrom g.C.CodeBrand.code c.self.inside.machine p c.stretch.inside.state) (sym c.from.ensures)
+    machine_there g.C.CodeBrand.code c.self.inside.code.now _ (sym c.self.invariant.refers) (c.replace-before.ensures.machine g.C.CodeBrand.code c.self.invariant.machine (subst (λ (p : ℕ). ComesFrom g.C.CodeBrand.code c.self.inside.machine p c.stretch.inside.state) (sym c.from-process.ensures)
     (comes_home g.C.CodeBrand.code s lent c.self.invariant.legal by c.stretch.invariant.run c.self.inside.machine c.stretch.inside.state refl refl c.stretch.invariant.process.rooms)))
 
 pub invariant_of-self-2 : goal.invariant_of-self-2
@@ -92,22 +107,26 @@ invariant_of-self-2 g c =
     let run = c.stretch.invariant.run in
     let by : IsLentBy s lent = rw (← c.self.view_is, ← c.stretch.view_is) at (c.lent.ensures.0 c.if-not-lent.false) in
     let came : Ledger = record {
-      machine = machine_view c.set.new.self;
+      machine = machine_view c.replace-before.new.self;
       entries = c.push_silent.new.self.entries;
       limit = s.limit;
       left = s.left + (lent.allowance - lent.made);
-      slips = slice_set s.slips c.from-2.result None;
+      slips = slice_set s.slips c.from-process.result None;
       refused = s.refused;
     } in
     let legal : IsLegal g.C.CodeBrand.code came = legal_as g.C.CodeBrand.code (home s lent) came (home_legal g.C.CodeBrand.code s lent c.self.invariant.legal by run)
-    (sym (set_view c.self.inside.machine c.set.new.self c.from.result lent.pick.process lent.state c.from.ensures c.set.ensures.processes c.set.ensures.banker))
+    (sym (set_view c.self.inside.machine c.replace-before.new.self c.from-process.result lent.pick.process lent.state c.from-process.ensures c.replace-before.ensures.processes c.replace-before.ensures.banker))
     (sym (c.push_silent.ensures.entries ∙ ap (λ (es : List Entry). es ++ silent_picks lent.pick lent.made) c.reserve.ensures.same))
     refl
     refl
-    (ap (λ (p : ℕ). slice_set s.slips p None) (sym c.from-2.ensures))
+    (ap (λ (p : ℕ). slice_set s.slips p None) (sym c.from-process.ensures))
     refl in
     let unused : 0 < came.left = omega (arith, run.within) in record {
       refers = c.self.invariant.refers;
       legal = tries_legal g.C.CodeBrand.code came _ lent.pick c.try_visible.result legal unused (tries_there c.self.inside.code.now g.C.CodeBrand.code came _ lent.pick c.try_visible.result c.self.invariant.refers c.try_visible.ensures.tries refl refl);
       machine = machine_there c.self.inside.code.now g.C.CodeBrand.code _ c.self.invariant.refers c.try_visible.ensures.machine;
+      spares = spares_with g.C.CodeBrand.code _ _ (spares_stay g.C.CodeBrand.code _ _ c.self.invariant.spares _ None) _ _ (spare_at g.C.CodeBrand.code c.from-process.result _ (record {
+        base = subst (λ (p : ℕ). IsProcessOf g.C.CodeBrand.code p c.stretch.inside.base) (sym c.from-process.ensures) c.stretch.invariant.base;
+        state = c.replace-before.ensures.process g.C.CodeBrand.code c.self.invariant.machine;
+      }));
     }

@@ -2,6 +2,7 @@ use Rattle.std.proofs.Common.{◌≡◌, ◌≤◌, Some, None, slice_get}
 use Rattle.pb_shared.specs.declared.slip.Slip.{Slip}
 use Rattle.pb_shared.specs.Books.{ledger_of}
 use Rattle.pb_shared.proofs.Keeping.{lent_legal}
+use Rattle.pb_shared.proofs.Sparing.{spares_stay}
 use Rattle.pb_shared.proofs.book.Book.lend.Goals as goal
 
 pub invariant_of-self : goal.invariant_of-self
@@ -13,4 +14,5 @@ invariant_of-self g c =
       refers = c.self.invariant.refers;
       legal = rw c.from-process.ensures (lent_legal g.C.CodeBrand.code (ledger_of c.self.inside) c.args.pick.process slip c.self.invariant.legal at_home within);
       machine = c.self.invariant.machine;
+      spares = spares_stay g.C.CodeBrand.code _ _ c.self.invariant.spares _ _;
     }

@@ -1,15 +1,26 @@
-use Rattle.std.proofs.Common.{arith}
+use Rattle.std.proofs.Common.{ℕ, Some, None, sym, subst, arith}
 use Rattle.pb_shared.specs.Books.{ledger_of}
 use Rattle.pb_shared.specs.Ledgers.{IsLentBy}
 use Rattle.pb_shared.specs.Stretches.{lent_of}
 use Rattle.pb_shared.proofs.Keeping.{back_fits, given_back_legal, slip_within}
+use Rattle.pb_shared.specs.Spares.{IsSpareOf}
+use Rattle.pb_shared.specs.declared.spare.Spare.{Spare}
+use Rattle.pb_shared.proofs.Sparing.{spare_at, spares_stay, spares_with}
 use Rattle.pb_shared.proofs.book.Book.put_back.Goals as goal
 
 pub index_mut-requires : goal.index_mut-requires
 index_mut-requires g c =
     let by : IsLentBy (ledger_of c.self.inside) (lent_of c.stretch.inside) = rw (← c.self.view_is, ← c.stretch.view_is) at (c.lent.ensures.0 c.if-not-lent.false) in
     let lt = slip_within g.C.CodeBrand.code (ledger_of c.self.inside) (lent_of c.stretch.inside) c.self.invariant.legal by in
-    let from = c.from.ensures in
+    let from = c.from-process.ensures in
+    let all = c.self.invariant.spares.all in
+    omega (arith, lt, from, all, c.self.inside.slips.ok.0)
+
+pub index_mut-requires-2 : goal.index_mut-requires-2
+index_mut-requires-2 g c =
+    let by : IsLentBy (ledger_of c.self.inside) (lent_of c.stretch.inside) = rw (← c.self.view_is, ← c.stretch.view_is) at (c.lent.ensures.0 c.if-not-lent.false) in
+    let lt = slip_within g.C.CodeBrand.code (ledger_of c.self.inside) (lent_of c.stretch.inside) c.self.invariant.legal by in
+    let from = c.from-process.ensures in
     omega (arith, lt, from, c.self.inside.slips.ok.0)
 
 pub overflow_add-self : goal.overflow_add-self
@@ -21,8 +32,11 @@ overflow_add-self g c =
 
 pub invariant_of-self : goal.invariant_of-self
 invariant_of-self g c =
-    let by : IsLentBy (ledger_of c.self.inside) (lent_of c.stretch.inside) = rw (← c.self.view_is, ← c.stretch.view_is) at (c.lent.ensures.0 c.if-not-lent.false) in record {
+    let by : IsLentBy (ledger_of c.self.inside) (lent_of c.stretch.inside) = rw (← c.self.view_is, ← c.stretch.view_is) at (c.lent.ensures.0 c.if-not-lent.false) in
+    let spare : Spare = record { base = c.stretch.inside.base; state = c.stretch.inside.state } in record {
       refers = c.self.invariant.refers;
-      legal = rw c.from.ensures (given_back_legal g.C.CodeBrand.code (ledger_of c.self.inside) (lent_of c.stretch.inside) c.self.invariant.legal by);
+      legal = rw c.from-process.ensures (given_back_legal g.C.CodeBrand.code (ledger_of c.self.inside) (lent_of c.stretch.inside) c.self.invariant.legal by);
       machine = c.self.invariant.machine;
+      spares = spares_with g.C.CodeBrand.code _ _ (spares_stay g.C.CodeBrand.code _ _ c.self.invariant.spares _ None) _ (Some spare)
+          (spare_at g.C.CodeBrand.code c.from-process.result spare (subst (λ (p : ℕ). IsSpareOf g.C.CodeBrand.code p spare) (sym c.from-process.ensures) (record { base = c.stretch.invariant.base; state = c.stretch.invariant.process })));
     }

@@ -16,6 +16,7 @@ invariant_of-self g c =
         runs = makes_more g.C.CodeBrand.code.code s.pick.process s.pick.arm s.made c.run_silent-count.result (proc_view s.base) (proc_view s.state) (proc_view c.run_silent-count.new.self)
             c.self.invariant.run.runs (subst (λ (v : VerifiedCode). MakesSilently v.code s.pick.process s.pick.arm c.run_silent-count.result (proc_view s.state) (proc_view c.run_silent-count.new.self)) c.self.invariant.refers c.run_silent-count.ensures.made);
       };
+      base = c.self.invariant.base;
       process = subst (λ (v : VerifiedCode). IsProcessOf v s.pick.process c.run_silent-count.new.self) c.self.invariant.refers c.run_silent-count.ensures.process;
     }
 
