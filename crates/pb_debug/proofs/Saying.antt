@@ -25,6 +25,10 @@ pub on_ok : {A E : Type 0} (r : Result A E) (P Q : Type 0) → OnOk r P → (P �
 on_ok (Ok x) P Q h f = f h
 on_ok (Err e) P Q h f = h
 
+pub on_both : {A E : Type 0} (r : Result A E) (P Q R : Type 0) → OnOk r P → OnOk r Q → (P → Q → R) → OnOk r R
+on_both (Ok x) P Q R h k f = f h k
+on_both (Err e) P Q R h k f = h
+
 pub if_some : {A : Type 0} (o : Option A) (P Q : A → Type 0) → IfSome o P → ((x : A) → P x → Q x) → IfSome o Q
 if_some (Some x) P Q h f = f x h
 if_some None P Q h f = h

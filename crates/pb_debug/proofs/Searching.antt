@@ -7,7 +7,7 @@ use Rattle.pb_base.specs.declared.step.Step.TheVariants as answer
 use Rattle.pb_base.specs.Steppers.{State, Move, event_of}
 use Rattle.pb_code.specs.Code.{CodeProcess, code_step}
 use Rattle.pb_code.specs.Reached.{CodeMoves}
-use Rattle.pb_code.specs.Whole.{Code, bank_of, code_opening}
+use Rattle.pb_code.specs.Whole.{Code, ProcessLabels, bank_of, code_opening}
 use Rattle.pb_history.specs.Positions.{AreEnabled, state_after}
 use Rattle.pb_base.specs.Lines.{HasNames}
 use Rattle.pb_history.proofs.Positions.{enabled_at, never_stays, position_reached}
@@ -19,7 +19,7 @@ use Rattle.pb_machine.specs.Views.{machine_view}
 use Rattle.pb_machine.specs.declared.machine.Machine.{Machine}
 use Rattle.pb_debug.specs.Walks.{StandsAfter}
 use Rattle.pb_verifier.specs.Verified.{VerifiedCode, IsVerified}
-use Rattle.pb_debug.specs.Searches.{IsFirst, IsLast, Shows, StepsAt, value_at, value_in}
+use Rattle.pb_debug.specs.Searches.{IsFirst, IsLast, Shows, StepsAt, line_at, line_in, value_at, value_in}
 
 -- a pick shows one event, or none
 moves_once : (code : Code) (s n m : State CodeProcess) (pick : Pick) (e f : Option Event) → CodeMoves code s pick e n → CodeMoves code s pick f m → e ≡ f
@@ -128,3 +128,16 @@ pick_named v picks k pick verified all there =
     let within = slice_get_within v.code.processes pick.process m.code m.at in
     let many = (verified.annotated OutOfLimits).process_names.all in
     omega (arith, within, many)
+
+-- ---- lines
+
+pub line_here : (v : VerifiedCode) (labels : List ProcessLabels) (picks : List Pick) (i p a : ℕ) (m : Machine) → StandsAfter v picks i m
+    → line_in (slice_get labels p) (slice_get (machine_view m).processes p) a ≡ line_at v.code labels picks i p a
+line_here v labels picks i p a m h = ap (λ (s : State CodeProcess). line_in (slice_get labels p) (slice_get s.processes p) a) h.state
+
+pub begins_here : (b before after : Bool) (x y x' y' : Option ℕ) (n : ℕ) → x ≡ x' → y ≡ y' → IsTrue before ↔ (x ≡ Some n) → IsTrue after ↔ (y ≡ Some n)
+    → IsTrue b ↔ ((IsTrue before → ⊥) × IsTrue after) → IsTrue b ↔ ((x' ≡ Some n → ⊥) × (y' ≡ Some n))
+begins_here b before after x y x' y' n e f one two h = (
+  λ t. (λ q. (h.0 t).0 (one.1 (e ∙ q)), sym f ∙ two.0 (h.0 t).1),
+  λ q. h.1 (λ t. q.0 (sym e ∙ one.0 t), two.1 (f ∙ q.1)),
+)

@@ -14,7 +14,7 @@ use Rattle.std.proofs.lemmas.Str.{digit_value_digit}
 use Rattle.std.proofs.lemmas.Int.Digits.{digits_value_more}
 use Rattle.pb_code.proofs.Naming.{both_true}
 use Rattle.pb_code.specs.Names.{is_name_byte}
-use Rattle.pb_debug.specs.Commands.{Command, To, Step, Back, Vars, Threads, Wrote, Loans, Next, Prev, Help, Line, Why, arm_at, arm_of, both_of, integer_at, integer_of, command_of, is_numeral, is_word, keyed, number_of, parted, word_of}
+use Rattle.pb_debug.specs.Commands.{Command, To, Step, Back, Vars, Threads, Wrote, Until, Loans, Next, Prev, Help, Line, Why, arm_at, arm_of, both_of, integer_at, integer_of, stop_at, stop_from, stop_of, command_of, is_numeral, is_word, keyed, number_of, parted, word_of}
 use Rattle.pb_debug.specs.Spellings.{CommandsBySpelling, IsProper, spelling}
 
 -- ---- numbers
@@ -249,6 +249,75 @@ integer_again p x first second =
         → integer_at w (Some (length p)) ≡ Some (p, x)
     whole w p x before behind first second = rw (before, behind, first, second) refl
 
+-- ---- an arm and a line
+
+digit_no_space : (b : ℕ) → is_ascii_digit b ≡ true → eqb b 32 ≡ false
+digit_no_space b h = grind (arith, nat_tests)
+
+space_behind_digits : (bs rest : List ℕ) → list_all is_ascii_digit bs ≡ true → first_at 32 (bs ++ 32 ∷ rest) ≡ Some (length bs)
+space_behind_digits [] rest h = refl
+space_behind_digits (b ∷ bs) rest h =
+    let p = both_true (is_ascii_digit b) (list_all is_ascii_digit bs) h in
+    rw (digit_no_space b p.0, space_behind_digits bs rest p.1) refl
+
+space_behind_names : (bs digits rest : List ℕ) → list_all is_name_byte bs ≡ true → list_all is_ascii_digit digits ≡ true
+    → first_at 32 ((bs ++ 46 ∷ digits) ++ 32 ∷ rest) ≡ Some (length (bs ++ 46 ∷ digits))
+space_behind_names [] digits rest h d = rw (space_behind_digits digits rest d) refl
+space_behind_names (b ∷ bs) digits rest h d =
+    let p = both_true (is_name_byte b) (list_all is_name_byte bs) h in
+    rw (name_byte_no_space b p.0, space_behind_names bs digits rest p.1 d) refl
+
+space_behind_arm : (w digits rest : List ℕ) → is_word w ≡ true → list_all is_ascii_digit digits ≡ true
+    → first_at 32 ((w ++ 46 ∷ digits) ++ 32 ∷ rest) ≡ Some (length (w ++ 46 ∷ digits))
+space_behind_arm [] digits rest h d = absurd cc
+space_behind_arm (b ∷ bs) digits rest h d =
+    let p = both_true (is_ascii_alphabetic b) (list_all is_name_byte bs) h in
+    rw (letter_no_space b p.0, space_behind_names bs digits rest p.1 d) refl
+
+abbrev SaysStop : List ℕ → Command → Type 0
+SaysStop w c = (p : List ℕ) × (a : ℕ) × (n : ℕ) × (w ≡ (p ++ 46 ∷ decimal a) ++ 32 ∷ decimal n) × (is_word p ≡ true) × (a < 100000000)
+    × (n < 100000000) × (Until p a n ≡ c)
+
+stop_parts : (first second : List ℕ) (a : Option ArmWord) (n : Option ℕ) (c : Command) → arm_of first ≡ a → number_of second ≡ n → stop_from a n ≡ Some c
+    → SaysStop (first ++ 32 ∷ second) c
+stop_parts first second None n c e f h = absurd cc
+stop_parts first second (Some x) None c e f h = absurd cc
+stop_parts first second (Some x) (Some n) c e f h =
+    let arm = arm_is first x e in
+    let number = number_is second n f in
+    let same : Until x.0 x.1 n ≡ c = cc in (
+      x.0,
+      x.1,
+      n,
+      ap (λ (xs : List ℕ). xs ++ 32 ∷ second) arm.0 ∙ ap (λ (xs : List ℕ). (x.0 ++ 46 ∷ decimal x.1) ++ 32 ∷ xs) number.0,
+      arm.1,
+      arm.2,
+      number.1,
+      same,
+    )
+
+stop_cut : (w : List ℕ) (o : Option ℕ) (c : Command) → first_at 32 w ≡ o → stop_at w o ≡ Some c → SaysStop w c
+stop_cut w None c at h = absurd cc
+stop_cut w (Some i) c at h =
+    subst (λ (xs : List ℕ). SaysStop xs c) (sym (parts_at 32 w i at))
+    (stop_parts (take i w) (drop (i + 1) w) (arm_of (take i w)) (number_of (drop (i + 1) w)) c refl refl h)
+
+stop_is : (w : List ℕ) (c : Command) → stop_of w ≡ Some c → SaysStop w c
+stop_is w c h = stop_cut w (first_at 32 w) c refl (subst (λ (o : Option ℕ). stop_at w o ≡ Some c) (position_is 32 w) h)
+
+stop_again : (p : List ℕ) (a n : ℕ) → is_word p ≡ true → a < 100000000 → n < 100000000
+    → stop_of ((p ++ 46 ∷ decimal a) ++ 32 ∷ decimal n) ≡ Some (Until p a n)
+stop_again p a n word few small =
+    let first : List ℕ = p ++ 46 ∷ decimal a in
+    let w : List ℕ = first ++ 32 ∷ decimal n in
+    let digits = digits_decimal own a (omega (arith, few)) in
+    let at : position (λ b. eqb b 32) w ≡ Some (length first) = position_is 32 w ∙ space_behind_arm p (decimal a) (decimal n) word digits in
+    ap (stop_at w) at ∙ whole w first p a n (take_word first (32 ∷ decimal n)) (drop_word first (decimal n) 32) (arm_again p a word few) (number_again n small)
+  where
+    whole : (w first p : List ℕ) (a n : ℕ) → take (length first) w ≡ first → drop (length first + 1) w ≡ decimal n → arm_of first ≡ Some (p, a)
+        → number_of (decimal n) ≡ Some n → stop_at w (Some (length first)) ≡ Some (Until p a n)
+    whole w first p a n before behind arm number = rw (before, behind, arm, number) refl
+
 -- ---- lines
 
 abbrev SaysIt : List ℕ → Command → Type 0
@@ -299,6 +368,12 @@ module _ (key word : List ℕ) (c : Command) where
       let e : text ++ 32 ∷ word ≡ spelling (f m.0) = ap (λ (w : List ℕ). text ++ 32 ∷ w) n.0 ∙ sym (spelled m.0) in
       with_key text h (subst (SaysIt (text ++ 32 ∷ word)) m.2 (e, proper m.0 n.1 n.2))
 
+  stopped : bytes_eq key (codes "until") ≡ true → stop_of word ≡ Some c → Here
+  stopped h o =
+      let m = stop_is word c o in
+      let e : codes "until" ++ 32 ∷ word ≡ spelling (Until m.0 m.1 m.2) = ap (λ (w : List ℕ). codes "until" ++ 32 ∷ w) m.3 in
+      with_key (codes "until") h (subst (SaysIt (codes "until" ++ 32 ∷ word)) m.7 (e, (m.4, m.5, m.6)))
+
   keyed_is : keyed key word ≡ Some c → Here
   unfolding keyed
   keyed_is h =
@@ -312,13 +387,16 @@ module _ (key word : List ℕ) (c : Command) where
               | inl s ↦ named (codes "vars") Vars (λ w. refl) (λ w e. e) s.0 s.1
               | inr h ↦ elim (chosen (bytes_eq key (codes "threads")) _ _ c h) [
                 | inl s ↦ named (codes "threads") Threads (λ w. refl) (λ w e. e) s.0 s.1
-                | inr h ↦ elim (chosen (bytes_eq key (codes "wrote")) _ _ c h) [
-                  | inl s ↦ written (codes "wrote") (λ p. Wrote p.0 p.1) (λ x. refl) (λ x e f. (e, f)) s.0 s.1
-                  | inr h ↦ elim (chosen (bytes_eq key (codes "line")) _ _ c h) [
-                    | inl s ↦ armed (codes "line") (λ p. Line p.0 p.1) (λ x. refl) (λ x e lt. (e, lt)) s.0 s.1
-                    | inr h ↦ elim (chosen (bytes_eq key (codes "why")) _ _ c h) [
-                      | inl s ↦ armed (codes "why") (λ p. Why p.0 p.1) (λ x. refl) (λ x e lt. (e, lt)) s.0 s.1
-                      | inr h ↦ absurd cc
+                | inr h ↦ elim (chosen (bytes_eq key (codes "until")) _ _ c h) [
+                  | inl s ↦ stopped s.0 s.1
+                  | inr h ↦ elim (chosen (bytes_eq key (codes "wrote")) _ _ c h) [
+                    | inl s ↦ written (codes "wrote") (λ p. Wrote p.0 p.1) (λ x. refl) (λ x e f. (e, f)) s.0 s.1
+                    | inr h ↦ elim (chosen (bytes_eq key (codes "line")) _ _ c h) [
+                      | inl s ↦ armed (codes "line") (λ p. Line p.0 p.1) (λ x. refl) (λ x e lt. (e, lt)) s.0 s.1
+                      | inr h ↦ elim (chosen (bytes_eq key (codes "why")) _ _ c h) [
+                        | inl s ↦ armed (codes "why") (λ p. Why p.0 p.1) (λ x. refl) (λ x e lt. (e, lt)) s.0 s.1
+                        | inr h ↦ absurd cc
+                      ]
                     ]
                   ]
                 ]
@@ -385,6 +463,8 @@ said_again (Threads p) word short = said_short (spelling (Threads p)) (Threads p
 said_again (Wrote p x) proper short =
     said_short (spelling (Wrote p x)) (Wrote p x) short refl refl refl refl
     (ap (option_map (λ (y : IntegerWord). Wrote y.0 y.1)) (integer_again p x proper.0 proper.1))
+said_again (Until p a n) proper short =
+    said_short (spelling (Until p a n)) (Until p a n) short refl refl refl refl (stop_again p a n proper.0 proper.1 proper.2)
 said_again Loans proper short = refl
 said_again Next proper short = refl
 said_again Prev proper short = refl

@@ -10,6 +10,7 @@ pub data Command : Type 0 where
   To Step Back : (n : ℕ) → Command
   Vars Threads : (process : List ℕ) → Command
   Wrote : (process integer : List ℕ) → Command
+  Until : (process : List ℕ) (arm line : ℕ) → Command
   Loans Next Prev Help : Command
   Line Why : (process : List ℕ) (arm : ℕ) → Command
 
@@ -52,6 +53,19 @@ integer_at word (Some space) = both_of (word_of (take space word)) (word_of (dro
 abbrev pub integer_of : List ℕ → Option (List ℕ × List ℕ)
 integer_of word = integer_at word (position (λ b. b == 32) word)
 
+-- `P.a N`: an arm, and a line
+abbrev pub stop_from : Option (List ℕ × ℕ) → Option ℕ → Option Command
+stop_from None n = None
+stop_from (Some arm) None = None
+stop_from (Some arm) (Some n) = Some (Until arm.0 arm.1 n)
+
+abbrev pub stop_at : List ℕ → Option ℕ → Option Command
+stop_at word None = None
+stop_at word (Some space) = stop_from (arm_of (take space word)) (number_of (drop (space + 1) word))
+
+abbrev pub stop_of : List ℕ → Option Command
+stop_of word = stop_at word (position (λ b. b == 32) word)
+
 -- a keyword and what it is about
 unfoldable pub keyed : List ℕ → List ℕ → Option Command
 keyed key word =
@@ -60,9 +74,10 @@ keyed key word =
     cond (bytes_eq key (codes "back")) (option_map Back (number_of word)) (
     cond (bytes_eq key (codes "vars")) (option_map Vars (word_of word)) (
     cond (bytes_eq key (codes "threads")) (option_map Threads (word_of word)) (
+    cond (bytes_eq key (codes "until")) (stop_of word) (
     cond (bytes_eq key (codes "wrote")) (option_map (λ p. Wrote p.0 p.1) (integer_of word)) (
     cond (bytes_eq key (codes "line")) (option_map (λ p. Line p.0 p.1) (arm_of word)) (
-    cond (bytes_eq key (codes "why")) (option_map (λ p. Why p.0 p.1) (arm_of word)) None)))))))
+    cond (bytes_eq key (codes "why")) (option_map (λ p. Why p.0 p.1) (arm_of word)) None))))))))
 
 abbrev pub parted : List ℕ → Option ℕ → Option Command
 parted line None = None

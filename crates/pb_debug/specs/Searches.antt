@@ -43,10 +43,13 @@ line_in (Some labels) (Some process) a = line_of labels.lines (thread process.th
 abbrev pub line_at : Code → List ProcessLabels → List Pick → (k p a : ℕ) → Option ℕ
 line_at code labels picks k p a = line_in (slice_get labels p) (slice_get (state_after code picks k).processes p) a
 
--- pick k does what is looked for: it shows an event; it changes an integer of a process
-abbrev pub Does : Code → List Pick → Watch → ℕ → Type 0
-Does code picks watch.Event k = (event : Event) × Shows code picks k event
-Does code picks (watch.Integer p x) k = value_at code picks k p x ≡ value_at code picks (k + 1) p x → ⊥
+-- pick k does what is looked for: it shows an event; it changes an integer of a process;
+-- an arm is at a line after it, and is not before it
+abbrev pub Does : Code → List ProcessLabels → List Pick → Watch → ℕ → Type 0
+Does code labels picks watch.Event k = (event : Event) × Shows code picks k event
+Does code labels picks (watch.Integer p x) k = value_at code picks k p x ≡ value_at code picks (k + 1) p x → ⊥
+Does code labels picks (watch.Line p a n) k =
+    (line_at code labels picks k p a ≡ Some n → ⊥) × (line_at code labels picks (k + 1) p a ≡ Some n)
 
 -- the first number, from one on and below another, of which this holds; none if there is none
 abbrev pub IsFirst : (ℕ → Type 0) → (from past : ℕ) → Option ℕ → Type 0

@@ -1,7 +1,7 @@
 -- How each command is spelled.
 use Rattle.std.specs.Prelude.{◌≡◌, ◌↔◌, ℕ, ◌<◌, ◌≤◌, true, List, ◌∷◌, ◌++◌, length, codes, Some, ⊤}
 use Rattle.std.specs.Fmt.{decimal}
-use Rattle.pb_debug.specs.Commands.{Command, To, Step, Back, Vars, Threads, Wrote, Loans, Next, Prev, Help, Line, Why, command_of, is_word}
+use Rattle.pb_debug.specs.Commands.{Command, To, Step, Back, Vars, Threads, Wrote, Until, Loans, Next, Prev, Help, Line, Why, command_of, is_word}
 
 -- the bytes of a command: a word, and behind a space a number, a process, or a process and an arm with a point between
 abbrev pub spelling : Command → List ℕ
@@ -11,6 +11,7 @@ spelling (Back n) = codes "back " ++ decimal n
 spelling (Vars process) = codes "vars " ++ process
 spelling (Threads process) = codes "threads " ++ process
 spelling (Wrote process integer) = codes "wrote " ++ (process ++ 32 ∷ integer)
+spelling (Until process arm n) = codes "until " ++ ((process ++ 46 ∷ decimal arm) ++ 32 ∷ decimal n)
 spelling Loans = codes "loans"
 spelling Next = codes "next"
 spelling Prev = codes "prev"
@@ -26,6 +27,7 @@ IsProper (Back n) = n < 100000000
 IsProper (Vars process) = is_word process ≡ true
 IsProper (Threads process) = is_word process ≡ true
 IsProper (Wrote process integer) = (is_word process ≡ true) × (is_word integer ≡ true)
+IsProper (Until process arm n) = (is_word process ≡ true) × (arm < 100000000) × (n < 100000000)
 IsProper Loans = ⊤
 IsProper Next = ⊤
 IsProper Prev = ⊤

@@ -43,11 +43,14 @@ wrote_text names i pick n =
 abbrev pub never_text : List ℕ
 never_text = line (codes "never")
 
+abbrev pub not_reached_text : List ℕ
+not_reached_text = line (codes "not reached")
+
 -- the commands
 abbrev pub help_text : List ℕ
 help_text =
     line (codes "to I") ++ line (codes "step N") ++ line (codes "back N") ++ line (codes "next") ++ line (codes "prev")
-    ++ line (codes "vars P") ++ line (codes "wrote P X") ++ line (codes "threads P") ++ line (codes "loans") ++ line (codes "line P.a")
+    ++ line (codes "vars P") ++ line (codes "wrote P X") ++ line (codes "until P.a N") ++ line (codes "threads P") ++ line (codes "loans") ++ line (codes "line P.a")
     ++ line (codes "why P.a") ++ line (codes "help")
 
 -- `NAME V`

@@ -2,7 +2,7 @@
 
 ghost use Rattle.std.specs.Prelude.{◌≡◌, ◌++◌, ◌<◌, ◌≤◌, ℕ, List, length, map, slice_get, Some, OnOk, OnErr, IfSome, IfNone};
 ghost use Rattle.pb_debug.specs.Answers.{names_of, HasNoName, OfProcess, SaysVars, SaysThreads, SaysLine, SaysWhy};
-ghost use Rattle.pb_debug.specs.Answers.{Answers, AnswersCommand, AnswersNext, AnswersPrev, SaysEvent, SaysWrite, SaysWrote, ShowsAny};
+ghost use Rattle.pb_debug.specs.Answers.{Answers, AnswersCommand, AnswersNext, AnswersPrev, AnswersUntil, SaysEvent, SaysWrite, SaysWrote, ShowsAny};
 ghost use Rattle.pb_debug.specs.Texts.{at_text, loans_text};
 ghost use Rattle.pb_debug.specs.Value.{IsPosition, bank_state, moved_to, state_of};
 ghost use Rattle.pb_debug.specs.View.{command_view};
@@ -12,10 +12,10 @@ use crate::debugger::Debugger;
 use crate::fault::DebugFault;
 use crate::search::{Watch, line_of_arm};
 use crate::text::{
-    put_at, put_event, put_help, put_line, put_loans, put_never, put_no_event, put_refusal,
-    put_threads, put_vars, put_why, put_wrote,
+    put_at, put_event, put_help, put_line, put_loans, put_never, put_no_event, put_not_reached,
+    put_refusal, put_threads, put_vars, put_why, put_wrote,
 };
-use crate::words::{ArmWord, IntegerWord};
+use crate::words::{ArmWord, IntegerWord, StopWord};
 use pb_base::NoMemory;
 
 // Returns the number of a name among others.
@@ -139,6 +139,30 @@ impl<'c> Debugger<'c> {
         }
     }
 
+    fn say_until(&mut self, text: &mut Vec<u8>, word: StopWord) -> Result<(), NoMemory>
+        ensures said { OnOk result ((said : List ℕ)
+            × AnswersUntil self.old word.entry.process.now word.entry.arm word.entry.line said self.new
+            × (text.new.items ≡ text.old.items ++ said)) }
+        ensures unchanged { OnErr result (self.new ≡ self.old) }
+    {
+        let Some(process) = self.process(word.process) else {
+            return put_refusal(text, DebugFault::NoProcess);
+        };
+        let arm = word.arm as usize;
+        match self.line(process, arm) {
+            Ok(_) => {}
+            Err(_) => return put_refusal(text, DebugFault::NoArm),
+        }
+        match self.find_next(Watch::Line {
+            process,
+            arm,
+            line: word.line,
+        })? {
+            Some(k) => self.go(text, k + 1),
+            None => put_not_reached(text),
+        }
+    }
+
     fn say_threads(&self, text: &mut Vec<u8>, word: &[u8]) -> Result<(), NoMemory>
         ensures { OnOk result ((said : List ℕ)
             × OfProcess (names_of self.now) word.now (SaysThreads self.now said) said
@@ -206,6 +230,7 @@ impl<'c> Debugger<'c> {
             }
             Command::Vars(word) => self.say_vars(text, word),
             Command::Wrote(word) => self.say_wrote(text, word),
+            Command::Until(word) => self.say_until(text, word),
             Command::Threads(word) => self.say_threads(text, word),
             Command::Loans => self.say_loans(text),
             Command::Next => self.say_next(text),

@@ -5,7 +5,9 @@ ghost use Rattle.std.specs.Str.{bytes_eq};
 ghost use Rattle.pb_debug.specs.Commands as spec;
 ghost use Rattle.pb_debug.specs.View.{command_view};
 
-use crate::words::{ArmWord, IntegerWord, arm_word, find, integer_word, number, process_word};
+use crate::words::{
+    ArmWord, IntegerWord, StopWord, arm_word, find, integer_word, number, process_word,
+};
 
 /// A command of a session.
 #[derive(Clone, Copy)]
@@ -22,6 +24,8 @@ pub(crate) enum Command<'t> {
     Threads(&'t [u8]),
     /// `wrote P X`
     Wrote(IntegerWord<'t>),
+    /// `until P.a N`
+    Until(StopWord<'t>),
     /// `loans`
     Loans,
     /// `next`
@@ -45,6 +49,16 @@ fn is(word: &[u8], text: &str) -> bool
     word == text.as_bytes()
 }
 
+// Returns the command `until` of a word `P.a N`.
+fn stop(word: &[u8]) -> Option<Command>
+    ensures { option_map command_view result ≡ spec.stop_of word.now }
+{
+    let space = find(word, b' ')?;
+    let ArmWord { process, arm } = arm_word(&word[..space])?;
+    let line = number(&word[space + 1..])?;
+    Some(Command::Until(StopWord { process, arm, line }))
+}
+
 // Returns the command of a keyword and what it is about.
 #[tactic(auto, unfolding(crate::specs::Commands::keyed))]
 fn keyed<'t>(key: &[u8], word: &'t [u8]) -> Option<Command<'t>>
@@ -60,6 +74,8 @@ fn keyed<'t>(key: &[u8], word: &'t [u8]) -> Option<Command<'t>>
         Some(Command::Vars(process_word(word)?))
     } else if is(key, "threads") {
         Some(Command::Threads(process_word(word)?))
+    } else if is(key, "until") {
+        stop(word)
     } else if is(key, "wrote") {
         Some(Command::Wrote(integer_word(word)?))
     } else if is(key, "line") {

@@ -22,7 +22,16 @@ pub(crate) enum Watch {
     /// A pick that shows an event.
     Event,
     /// A pick that changes an integer of a process.
-    Integer { process: usize, integer: usize },
+    Integer {
+        process: usize,
+        integer: usize,
+    },
+    /// A pick after which an arm is at a line, and before which it is not.
+    Line {
+        process: usize,
+        arm: usize,
+        line: u32,
+    },
 }
 
 // Returns an integer of a process of a machine, if both are there.
@@ -93,15 +102,63 @@ fn changes(walker: &mut Walker, verified: &Verified, trace: &Trace, p: usize, x:
     differ(before, after)
 }
 
-/// Makes the next pick of a trace. Returns whether it does what is looked for.
-fn does(walker: &mut Walker, verified: &Verified, trace: &Trace, watch: Watch) -> bool
+// Returns whether a line is this one.
+fn is_line(line: Option<u32>, wanted: u32) -> bool
+    ensures { IsTrue result ↔ (line ≡ Some wanted) }
+{
+    match line {
+        Some(line) => line == wanted,
+        None => false,
+    }
+}
+
+// Returns whether a first is false and a second true.
+fn begins(before: bool, after: bool) -> bool
+    ensures { IsTrue result ↔ ((IsTrue before → ⊥) × IsTrue after) }
+{
+    !before && after
+}
+
+// Makes the next pick of a trace. Returns whether an arm comes to a line with it.
+fn comes_to(
+    walker: &mut Walker,
+    verified: &Verified,
+    labels: &Labels,
+    trace: &Trace,
+    p: usize,
+    arm: usize,
+    line: u32,
+) -> bool
     requires enabled { AreEnabled verified.now.code (picks_of trace.now.entries) }
     requires few { length (picks_of trace.now.entries) ≤ 10000000 }
     requires walks { Walks verified.now (picks_of trace.now.entries) walker.old }
     requires within { walker.old.at < length (picks_of trace.now.entries) }
     ensures walks { Walks verified.now (picks_of trace.now.entries) walker.new }
     ensures at { walker.new.at ≡ walker.old.at + 1 }
-    ensures does { IsTrue result ↔ Does verified.now.code (picks_of trace.now.entries) watch walker.old.at }
+    ensures comes { IsTrue result ↔ Does verified.now.code (labels_view labels.now) (picks_of trace.now.entries)
+        (Watch.Line p arm line) walker.old.at }
+{
+    let before = line_of_arm(labels, &walker.machine, p, arm);
+    let _ = walker.advance(verified, trace);
+    let after = line_of_arm(labels, &walker.machine, p, arm);
+    begins(is_line(before, line), is_line(after, line))
+}
+
+/// Makes the next pick of a trace. Returns whether it does what is looked for.
+fn does(
+    walker: &mut Walker,
+    verified: &Verified,
+    labels: &Labels,
+    trace: &Trace,
+    watch: Watch,
+) -> bool
+    requires enabled { AreEnabled verified.now.code (picks_of trace.now.entries) }
+    requires few { length (picks_of trace.now.entries) ≤ 10000000 }
+    requires walks { Walks verified.now (picks_of trace.now.entries) walker.old }
+    requires within { walker.old.at < length (picks_of trace.now.entries) }
+    ensures walks { Walks verified.now (picks_of trace.now.entries) walker.new }
+    ensures at { walker.new.at ≡ walker.old.at + 1 }
+    ensures does { IsTrue result ↔ Does verified.now.code (labels_view labels.now) (picks_of trace.now.entries) watch walker.old.at }
 {
     match watch {
         Watch::Event => match walker.advance(verified, trace) {
@@ -109,20 +166,29 @@ fn does(walker: &mut Walker, verified: &Verified, trace: &Trace, watch: Watch) -
             Step::Silent | Step::NotEnabled => false,
         },
         Watch::Integer { process, integer } => changes(walker, verified, trace, process, integer),
+        Watch::Line { process, arm, line } => comes_to(
+            walker, verified, labels, trace, process, arm, line,
+        ),
     }
 }
 
 /// Makes the picks of a trace up to the first that does what is looked for, or to the last. Returns its number.
-fn first_in(walker: &mut Walker, verified: &Verified, trace: &Trace, watch: Watch) -> Option<u32>
+fn first_in(
+    walker: &mut Walker,
+    verified: &Verified,
+    labels: &Labels,
+    trace: &Trace,
+    watch: Watch,
+) -> Option<u32>
     requires enabled { AreEnabled verified.now.code (picks_of trace.now.entries) }
     requires few { length (picks_of trace.now.entries) ≤ 10000000 }
     requires walks { Walks verified.now (picks_of trace.now.entries) walker.old }
-    ensures { IsFirst (Does verified.now.code (picks_of trace.now.entries) watch) walker.old.at
+    ensures { IsFirst (Does verified.now.code (labels_view labels.now) (picks_of trace.now.entries) watch) walker.old.at
         (length (picks_of trace.now.entries)) result }
 {
     while walker.at < trace.len() {
         let at = walker.at;
-        if does(walker, verified, trace, watch) {
+        if does(walker, verified, labels, trace, watch) {
             return Some(at);
         }
     }
@@ -133,6 +199,7 @@ fn first_in(walker: &mut Walker, verified: &Verified, trace: &Trace, watch: Watc
 fn last_in(
     walker: &mut Walker,
     verified: &Verified,
+    labels: &Labels,
     trace: &Trace,
     past: u32,
     watch: Watch,
@@ -142,12 +209,12 @@ fn last_in(
     requires walks { Walks verified.now (picks_of trace.now.entries) walker.old }
     requires before { walker.old.at ≤ past }
     requires within { past ≤ length (picks_of trace.now.entries) }
-    ensures { IsLast (Does verified.now.code (picks_of trace.now.entries) watch) walker.old.at past result }
+    ensures { IsLast (Does verified.now.code (labels_view labels.now) (picks_of trace.now.entries) watch) walker.old.at past result }
 {
     let mut last = None;
     while walker.at < past {
         let at = walker.at;
-        if does(walker, verified, trace, watch) {
+        if does(walker, verified, labels, trace, watch) {
             last = Some(at);
         }
     }
@@ -157,23 +224,30 @@ fn last_in(
 impl<'c> Debugger<'c> {
     /// Returns the number of the first pick from the position on that does what is looked for.
     pub(crate) fn find_next(&self, watch: Watch) -> Result<Option<u32>, NoMemory>
-        ensures { IfOk result (IsFirst (Does self.now.verified.code self.now.picks watch) self.now.position
+        ensures { IfOk result (IsFirst (Does self.now.verified.code self.now.labels self.now.picks watch) self.now.position
             (length self.now.picks)) }
     {
         let mut walker = self.walker_at(self.position())?;
-        Ok(first_in(&mut walker, self.verified, &self.trace, watch))
+        Ok(first_in(&mut walker, self.verified, self.labels, &self.trace, watch))
     }
 
     /// Returns the number of the last pick before a position that does what is looked for.
     pub(crate) fn find_last(&self, past: u32, watch: Watch) -> Result<Option<u32>, NoMemory>
         requires { past ≤ length self.now.picks }
-        ensures { IfOk result (IsLast (Does self.now.verified.code self.now.picks watch) 0 past) }
+        ensures { IfOk result (IsLast (Does self.now.verified.code self.now.labels self.now.picks watch) 0 past) }
     {
         let mut end = past;
         while 0 < end {
             let start = (end - 1) / self.interval * self.interval;
             let mut walker = self.walker_at(start)?;
-            let last = last_in(&mut walker, self.verified, &self.trace, end, watch);
+            let last = last_in(
+                &mut walker,
+                self.verified,
+                self.labels,
+                &self.trace,
+                end,
+                watch,
+            );
             if last.is_some() {
                 return Ok(last);
             }
@@ -185,7 +259,7 @@ impl<'c> Debugger<'c> {
     /// Returns the event of a pick that shows one.
     pub(crate) fn event_of(&self, k: u32) -> Result<Event, NoMemory>
         requires within { k < length self.now.picks }
-        requires shows { Does self.now.verified.code self.now.picks Watch.Event k }
+        requires shows { Does self.now.verified.code self.now.labels self.now.picks Watch.Event k }
         ensures { IfOk result (Shows self.now.verified.code self.now.picks k) }
     {
         let mut walker = self.walker_at(k)?;

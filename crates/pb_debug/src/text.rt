@@ -105,13 +105,20 @@ pub(crate) fn put_never(text: &mut Vec<u8>) -> Result<(), NoMemory>
     put(text, b"never\n")
 }
 
+/// Puts the line that says that a line is not reached behind a text.
+pub(crate) fn put_not_reached(text: &mut Vec<u8>) -> Result<(), NoMemory>
+    ensures { OnOk result (text.new.items ≡ text.old.items ++ said.not_reached_text) }
+{
+    put(text, b"not reached\n")
+}
+
 /// Puts the lines of all commands behind a text.
 pub(crate) fn put_help(text: &mut Vec<u8>) -> Result<(), NoMemory>
     ensures { OnOk result (text.new.items ≡ text.old.items ++ said.help_text) }
 {
     put(
         text,
-        b"to I\nstep N\nback N\nnext\nprev\nvars P\nwrote P X\nthreads P\nloans\nline P.a\nwhy P.a\nhelp\n",
+        b"to I\nstep N\nback N\nnext\nprev\nvars P\nwrote P X\nuntil P.a N\nthreads P\nloans\nline P.a\nwhy P.a\nhelp\n",
     )
 }
 

@@ -22,6 +22,14 @@ pub(crate) struct IntegerWord<'t> {
     pub integer: &'t [u8],
 }
 
+/// An arm, and a line.
+#[derive(Clone, Copy)]
+pub(crate) struct StopWord<'t> {
+    pub process: &'t [u8],
+    pub arm: u32,
+    pub line: u32,
+}
+
 fn are_digits(word: &[u8]) -> bool
     ensures { result ≡ list_all is_ascii_digit word.now }
 {

@@ -34,7 +34,7 @@ process b begin hold 1 of t do skip od end";
 const PRINT: &[u8] = b"process p begin print 1 end";
 
 /// A process that prints twice.
-const TWICE: &[u8] = b"process p begin print 1; print 2 end";
+const TWICE: &[u8] = b"process p begin print 1;\nprint 2 end";
 
 /// Two arms, and integers.
 const ARMS: &[u8] =
@@ -70,8 +70,8 @@ const CASES: [Case; 7] = [
     Case {
         text: PRINT,
         picks: &[A],
-        commands: b"step 1\nthreads p\nline p.0\nstep 1\nwhy p.1\n",
-        said: b"at 1\n0 at 1\nline 1\nrefused G1\nrefused G3\n",
+        commands: b"step 1\nthreads p\nline p.0\nstep 1\nwhy p.1\nuntil p.0 1\nuntil p.1 1\nuntil q.0 1\n",
+        said: b"at 1\n0 at 1\nline 1\nrefused G1\nrefused G3\nnot reached\nrefused G3\nrefused G2\n",
     },
     Case {
         text: ARMS,
@@ -82,8 +82,8 @@ const CASES: [Case; 7] = [
     Case {
         text: TWICE,
         picks: &[A, A, A, A, A],
-        commands: b"prev\nnext\nnext\nnext\nnext\nprev\nprev\nprev\nhelp\n",
-        said: b"no event\nat 2 p.0 print 1\nat 4 p.0 print 2\nat 5 p end\nno event\nat 4 p.0 print 2\nat 2 p.0 print 1\nno event\nto I\nstep N\nback N\nnext\nprev\nvars P\nwrote P X\nthreads P\nloans\nline P.a\nwhy P.a\nhelp\n",
+        commands: b"until p.0 2\nuntil p.0 2\nback 2\nprev\nnext\nnext\nnext\nnext\nprev\nprev\nprev\nhelp\n",
+        said: b"at 2\nnot reached\nat 0\nno event\nat 2 p.0 print 1\nat 4 p.0 print 2\nat 5 p end\nno event\nat 4 p.0 print 2\nat 2 p.0 print 1\nno event\nto I\nstep N\nback N\nnext\nprev\nvars P\nwrote P X\nuntil P.a N\nthreads P\nloans\nline P.a\nwhy P.a\nhelp\n",
     },
     Case {
         text: PRINT,

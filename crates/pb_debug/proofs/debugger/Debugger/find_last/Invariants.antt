@@ -5,7 +5,7 @@ use Rattle.pb_debug.proofs.debugger.Debugger.find_last.Given as goal
 abbrev pub invariant-loop-end : goal.invariant-loop-end
 invariant-loop-end l = record {
   within : l.end ≤ l.past;
-  none : (j : ℕ) → l.end ≤ j → j < l.past → Does l.self.verified.code l.self.picks l.watch j → ⊥;
+  none : (j : ℕ) → l.end ≤ j → j < l.past → Does l.self.verified.code l.self.labels l.self.picks l.watch j → ⊥;
 }
 
 abbrev pub decreases-loop-end : goal.decreases-loop-end

@@ -60,7 +60,7 @@ returns-in-Some-2 c =
     let x = c.in-Some-find_name.integer in
     let x_there : slice_get (map (λ (name : Vec ℕ Global). name.items) l.integers.items) x ≡ Some name =
     ap (λ (ns : List (Vec ℕ Global)). slice_get (map (λ name. name.items) ns) x) (sym c.deref.ensures.value) ∙ c.in-Some-find_name.ensures.some in
-    let holds : ℕ → Type 0 = Does d.verified.code d.picks (watch.Integer p x) in
+    let holds : ℕ → Type 0 = Does d.verified.code d.labels d.picks (watch.Integer p x) in
     let k = c.in-Some-2.k in
     let last : IsLast holds 0 d.position (Some k) =
     subst (λ (n : ℕ). IsLast holds 0 n (Some k)) c.position.ensures.position
@@ -87,7 +87,7 @@ returns-in-None c =
     let x = c.in-Some-find_name.integer in
     let x_there : slice_get (map (λ (name : Vec ℕ Global). name.items) l.integers.items) x ≡ Some name =
     ap (λ (ns : List (Vec ℕ Global)). slice_get (map (λ name. name.items) ns) x) (sym c.deref.ensures.value) ∙ c.in-Some-find_name.ensures.some in
-    let holds : ℕ → Type 0 = Does d.verified.code d.picks (watch.Integer p x) in
+    let holds : ℕ → Type 0 = Does d.verified.code d.labels d.picks (watch.Integer p x) in
     let last : IsLast holds 0 d.position None =
     subst (λ (n : ℕ). IsLast holds 0 n None) c.position.ensures.position
     (subst (λ (o : Option ℕ). IsLast holds 0 c.position.result o) c.in-None.is c.in_ok-k.ensures) in

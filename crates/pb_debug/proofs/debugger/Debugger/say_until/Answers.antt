@@ -1,0 +1,33 @@
+use Rattle.std.proofs.Common.{◌≡◌, ◌+◌, ℕ, Option, Some, None, length, inl, inr, refl, subst}
+use Rattle.pb_debug.specs.Searches.{Does, IsFirst}
+use Rattle.pb_debug.specs.Texts.{at_text, not_reached_text}
+use Rattle.pb_debug.specs.declared.search.Watch.TheVariants as watch
+use Rattle.pb_debug.proofs.Saying.{on_both, on_ok}
+use Rattle.pb_debug.proofs.debugger.Debugger.say_until.Goals as goal
+
+pub returns-in-Some-2-clause-said : goal.returns-in-Some-2-clause-said
+returns-in-Some-2-clause-said c =
+    let d = c.args.self.now in
+    let p = c.in-Some.process in
+    let k = c.in-Some-2.k in
+    let holds : ℕ → Type 0 = Does d.verified.code d.labels d.picks (watch.Line p c.args.word.arm c.args.word.line) in
+    let first : IsFirst holds d.position (length d.picks) (Some k) =
+    subst (λ (o : Option ℕ). IsFirst holds d.position (length d.picks) o) c.in-Some-2.is c.in_ok-k.ensures in
+    on_both c.go.result _ _ _ c.go.ensures.moved c.go.ensures.text (λ m t. (
+      at_text (k + 1),
+      inl (p, c.in-Some.ensures.some, inr (c.in-Ok.ensures.arm, (Some k, first, (refl, m)))),
+      t,
+    ))
+
+pub returns-in-None-clause-said : goal.returns-in-None-clause-said
+returns-in-None-clause-said c =
+    let d = c.args.self.now in
+    let p = c.in-Some.process in
+    let holds : ℕ → Type 0 = Does d.verified.code d.labels d.picks (watch.Line p c.args.word.arm c.args.word.line) in
+    let first : IsFirst holds d.position (length d.picks) None =
+    subst (λ (o : Option ℕ). IsFirst holds d.position (length d.picks) o) c.in-None.is c.in_ok-k.ensures in
+    on_ok c.put_not_reached.result _ _ c.put_not_reached.ensures (λ e. (
+      not_reached_text,
+      inl (p, c.in-Some.ensures.some, inr (c.in-Ok.ensures.arm, (None, first, (refl, refl)))),
+      e,
+    ))
