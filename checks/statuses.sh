@@ -36,6 +36,7 @@ long_program() {
 }
 
 expect 0 /dev/null run <"$top/examples/hello.pb"
+expect 0 /dev/null replay <"$top/examples/lost.run"
 echo "process p begin" | {
     expect 1 /dev/null run
     exit "$failed"

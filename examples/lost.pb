@@ -1,5 +1,5 @@
-// Two arms add one to the same integer. To read it and to assign to it are two steps, so where both arms read before
-// either assigns, one of the two additions is lost. Run arm by arm, as here, none is.
+// Two arms add one to the same integer. To read it and to assign to it are two steps, so if both arms read it before
+// either assigns, one of the two additions is lost. `run` goes arm by arm and loses none; the run of lost.run loses one.
 process p
 begin
   integer x;

@@ -24,6 +24,40 @@ end
 pub const HELLO: &[u8] = b"process p begin print 1 end
 ";
 
+/// Of `examples/`: two arms add 1 to the same integer.
+pub const LOST: &[u8] = b"// Two arms add one to the same integer. To read it and to assign to it are two steps, so if both arms read it before
+// either assigns, one of the two additions is lost. `run` goes arm by arm and loses none; the run of lost.run loses one.
+process p
+begin
+  integer x;
+  parbegin
+    x := x + 1;
+    x := x + 1
+  parend;
+  print x
+end
+";
+
+/// Of `examples/`: a run of that text in which an addition is lost, as a seed draws it.
+pub const LOST_RUN: &[u8] = b"// Two arms add one to the same integer. To read it and to assign to it are two steps, so if both arms read it before
+// either assigns, one of the two additions is lost. `run` goes arm by arm and loses none; the run of lost.run loses one.
+process p
+begin
+  integer x;
+  parbegin
+    x := x + 1;
+    x := x + 1
+  parend;
+  print x
+end
+%%
+p.0 1
+p.2 2
+p.1 5
+p.2 3
+p.0 4
+";
+
 /// Prints a sum.
 #[rattlefmt::skip]
 pub const SUM: &[u8] = b"process p begin integer x; x := 2 + 3; print x end";
@@ -79,18 +113,7 @@ begin
 end
 ",
     HELLO,
-    b"// Two arms add one to the same integer. To read it and to assign to it are two steps, so where both arms read before
-// either assigns, one of the two additions is lost. Run arm by arm, as here, none is.
-process p
-begin
-  integer x;
-  parbegin
-    x := x + 1;
-    x := x + 1
-  parend;
-  print x
-end
-",
+    LOST,
     b"// Three philosophers at a round table, with a fork between each two of them. Each takes one fork and then another;
 // with one fork each they would wait for ever, so the banker keeps the last one back.
 resource north = 1;

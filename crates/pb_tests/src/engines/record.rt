@@ -2,7 +2,7 @@
 
 ghost use Rattle.std.specs.Prelude.{◌≤◌};
 
-use crate::texts::{DEVICES, FAULT, HELLO, INCREMENTS, NESTED};
+use crate::texts::{DEVICES, FAULT, HELLO, INCREMENTS, LOST, LOST_RUN, NESTED};
 use pb_base::device::{MemoryInput, MemoryOutput};
 use pb_engines::{RecordOptions, RunOptions, Status, record_engine, replay_engine, run_engine};
 use std::alloc::Global;
@@ -97,6 +97,11 @@ fn adds_a_line_feed_and_draws_picks(rt: HostRuntime) {
     for (steps, seed, said) in table {
         assert_eq!(rt; writes(rt.alloc(), INCREMENTS, steps, seed, said), Some(true));
     }
+}
+
+#[test]
+fn a_seed_draws_the_recorded_example(rt: HostRuntime) {
+    assert_eq!(rt; writes(rt.alloc(), LOST, 1_000, Some(5), LOST_RUN), Some(true));
 }
 
 #[test]

@@ -1,6 +1,6 @@
 //! Picks behind texts, made again.
 
-use crate::texts::DEVICES;
+use crate::texts::{DEVICES, LOST_RUN};
 use pb_base::device::{MemoryInput, MemoryOutput};
 use pb_engines::{Status, replay_engine};
 use std::alloc::Global;
@@ -39,6 +39,15 @@ fn updates_are_lost_or_kept(rt: HostRuntime) {
             Some(true)
         );
     }
+}
+
+#[test]
+fn replays_the_recorded_example(rt: HostRuntime) {
+    let said = b"p.0 print 1\np end\ndone\n";
+    assert_eq!(rt;
+        answers(rt.alloc(), LOST_RUN, b"", Status::Done, said),
+        Some(true)
+    );
 }
 
 #[test]
