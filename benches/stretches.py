@@ -1,14 +1,14 @@
 #!/usr/bin/env python3
 """Times what a stretch costs beside its picks: the take, the commit, the lock for both and the span.
 
-A scratch repository in a temporary folder gets copies of the crates and a small proved program, which runs an object by
-one worker. The object counts, by rounds of nine silent picks. Processor time of a whole call, user and system, is taken
+A scratch repository in a temporary folder gets copies of the crates and a small proved program, which runs code that it
+makes by one worker. The code counts, by rounds of nine silent picks. Processor time of a whole call, user and system, is taken
 at quantum 64 and at quantum 4096; the least of all turns counts. Both make as many picks, so their difference by that of
 their numbers of stretches is what a stretch costs. The rows are
 
 one arm        a process of one arm and one integer
 long code      the same, with 30,000 instructions more that are never reached
-64 arms        the same, with 63 arms more that never begin
+16 arms        the same, with 16 arms, of which 15 never begin
 
 Wants `rt`.
 
@@ -25,16 +25,18 @@ from scratch import build_proved, print_table
 TURNS = int(sys.argv[1]) if len(sys.argv) > 1 else 15
 PICKS = 10_000_000
 SHORT, LONG = 64, 4096
-NEEDS = ["pb_object", "pb_verifier", "pb_workers", "pb_shared", "anyhow"]
+NEEDS = ["pb_base", "pb_code", "pb_verifier", "pb_history", "pb_workers", "anyhow"]
 
 MAIN = """\
-//! Runs the object that it is given by one worker, and says how many picks and spans there are.
+//! Runs a process that counts, by one worker, and says how many picks and spans there are. Its words are how many
+//! instructions follow that are never reached, how many arms there are besides the first, the quantum and the limit.
 #![tactic(auto)]
 
-use pb_object::read_object;
-use pb_verifier::verify;
+use pb_base::{Capital, Claims, Names, NoMemory};
+use pb_code::{Code, Instr, ProcessCode};
+use pb_verifier::{Verified, verify};
 use pb_workers::{Gate, run_workers};
-use std::io::Read;
+use std::alloc::Global;
 use std::process::ExitCode;
 
 /// A gate that is open.
@@ -44,58 +46,86 @@ impl Gate for Open {
     fn between(&self, _worker: usize, _turn: u64) {}
 }
 
+/// Counts by rounds of nine picks.
+const COUNT: [Instr; 9] = [
+    Instr::Load(0),
+    Instr::Push(100_000_000),
+    Instr::Lt,
+    Instr::JumpIfZero(9),
+    Instr::Load(0),
+    Instr::Push(1),
+    Instr::Add,
+    Instr::Store(0),
+    Instr::Jump(0),
+];
+
+/// The code of a process that counts, and at the end forks the other arms and waits for them.
+fn process(alloc: Global, idle: u16, arms: u8) -> Result<ProcessCode, NoMemory> {
+    let mut instrs = Vec::from_slice(alloc, &COUNT)?;
+    if arms > 0 {
+        instrs.push(Instr::Fork { first: 1, count: arms })?;
+        instrs.push(Instr::Join { first: 1, count: arms })?;
+    }
+    instrs.push(Instr::End)?;
+    let mut entries = Vec::new(alloc);
+    entries.push(0u16)?;
+    let mut entry = 12u16;
+    for _ in 0..arms {
+        instrs.push(Instr::End)?;
+        entries.push(entry)?;
+        entry = entry.saturating_add(1);
+    }
+    for _ in 0..idle {
+        instrs.push(Instr::Jump(0))?;
+    }
+    Ok(ProcessCode { integers: 1, entries, bundles: Vec::new(alloc), instrs })
+}
+
+/// The verified code of that process alone.
+fn verified(alloc: Global, idle: u16, arms: u8) -> Result<Option<Verified>, NoMemory> {
+    let mut processes = Vec::new(alloc);
+    processes.push(process(alloc, idle, arms)?)?;
+    let mut names = Vec::new(alloc);
+    names.push(Vec::from_slice(alloc, b"p")?)?;
+    let code = Code {
+        names: Names { processes: names, resources: Vec::new(alloc) },
+        capital: Capital::new(alloc, &[])?,
+        claims: Claims::new(alloc, &[&[]])?,
+        processes,
+    };
+    Ok(verify(alloc, code).ok())
+}
+
 fn main(rt: HostRuntime) -> anyhow::Result<ExitCode> {
     let alloc = rt.alloc();
     let words: Vec<String> = std::env::args(&rt)?.collect(alloc)?;
-    if words.len() < 3 {
+    if words.len() < 5 {
         return Ok(ExitCode::FAILURE);
     }
-    let quantum = words[1].as_str().parse::<u32>()?;
-    let limit = words[2].as_str().parse::<u32>()?;
-    let mut text = Vec::new(alloc);
-    rt.stdin().read_to_end(&mut text)?;
-    let Ok(code) = read_object(alloc, text.as_slice()) else {
+    let idle = words[1].as_str().parse::<u16>()?;
+    let arms = words[2].as_str().parse::<u8>()?;
+    let quantum = words[3].as_str().parse::<u32>()?;
+    let limit = words[4].as_str().parse::<u32>()?;
+    let Ok(Some(code)) = verified(alloc, idle, arms) else {
         return Ok(ExitCode::FAILURE);
     };
-    let Ok(verified) = verify(alloc, code) else {
-        return Ok(ExitCode::FAILURE);
-    };
-    let Ok(report) = run_workers(&rt, alloc, &verified, 1, quantum, limit, &Open) else {
+    let Ok(report) = run_workers(&rt, alloc, &code, 1, quantum, limit, &Open) else {
         return Ok(ExitCode::FAILURE);
     };
     println!(rt; "{} {}", report.trace.len(), report.trace.spans_len())?;
     Ok(ExitCode::SUCCESS)
 }
 """
-COUNT = ["load 0", "push 100000000", "lt", "jzero 9", "load 0", "push 1", "add", "store 0", "jump 0"]
+
+# each with how many instructions are never reached, and how many arms there are besides the first
+PROCESSES = {"one arm": (0, 0), "long code": (30_000, 0), "16 arms": (0, 15)}
 
 
-def text_of(code, entries):
-    """An object of one process with one integer."""
-    head = ["PBO 1", "resources 0", "processes 1", "process p", "vars 1", f"arms {len(entries)}", "claims"]
-    lines = [*head, *(f"arm {entry}" for entry in entries), f"code {len(code)}", *code]
-    return "".join(line + "\n" for line in lines).encode()
-
-
-def many_arms(arms):
-    """The counting loop, and then a fork of all other arms, each of which ends at once."""
-    code = [*COUNT, f"fork 1 {arms - 1}", f"join 1 {arms - 1}", "end", *["end"] * (arms - 1)]
-    return text_of(code, [0, *range(len(COUNT) + 3, len(code))])
-
-
-TEXTS = {
-    "one arm": text_of([*COUNT, "end"], [0]),
-    "long code": text_of([*COUNT, "end", *["jump 0"] * 30_000], [0]),
-    "64 arms": many_arms(64),
-}
-
-
-def call(program, quantum, text):
+def call(program, shape, quantum):
     """The processor time of a call in seconds."""
-    with tempfile.TemporaryFile() as given, tempfile.TemporaryFile() as said:
-        given.write(text)
-        given.seek(0)
-        process = subprocess.Popen([program, str(quantum), str(PICKS)], stdin=given, stdout=said)
+    with tempfile.TemporaryFile() as said:
+        words = [program, *(str(number) for number in (*shape, quantum, PICKS))]
+        process = subprocess.Popen(words, stdin=subprocess.DEVNULL, stdout=said)
         _, status, used = os.wait4(process.pid, 0)
         said.seek(0)
         if status != 0 or said.read().split() != [str(PICKS).encode(), b"1"]:
@@ -103,12 +133,12 @@ def call(program, quantum, text):
     return used.ru_utime + used.ru_stime
 
 
-def row(program, name, text):
-    """The times of one object."""
+def row(program, name, shape):
+    """The times of one process."""
     best = {quantum: float("inf") for quantum in (SHORT, LONG)}
     for _ in range(TURNS):
         for quantum in best:
-            best[quantum] = min(best[quantum], call(program, quantum, text))
+            best[quantum] = min(best[quantum], call(program, shape, quantum))
     stretches = PICKS / SHORT - PICKS / LONG
     return [name, best[SHORT] * 1e3, best[LONG] * 1e3, best[SHORT] / best[LONG],
             (best[SHORT] - best[LONG]) * 1e9 / stretches]
@@ -118,7 +148,7 @@ def main():
     with tempfile.TemporaryDirectory() as name:
         program = build_proved(pathlib.Path(name), NEEDS, {"src/main.rt": MAIN})
         head = ["process", f"quantum {SHORT}, milliseconds", f"quantum {LONG}", "ratio", "nanoseconds a stretch"]
-        print_table(head, [row(program, name, text) for name, text in TEXTS.items()])
+        print_table(head, [row(program, name, shape) for name, shape in PROCESSES.items()])
 
 
 if __name__ == "__main__":
