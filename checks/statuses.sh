@@ -50,5 +50,11 @@ long_program | {
     exit "$failed"
 } || failed=1
 expect 6 /dev/full run <"$top/examples/hello.pb"
+# the stacks of sixteen threads do not fit into 80 MB of addresses
+(
+    ulimit -v 80000
+    expect 7 /dev/null run --workers 16 <"$top/examples/hello.pb"
+    exit "$failed"
+) || failed=1
 expect 6 /dev/null run <"$top"
 exit "$failed"

@@ -5,7 +5,7 @@ use Rattle.clap.specs.Words.{HasKind, IsAmong, Kinds, ReadsOne, Row, Text, Tries
 use Rattle.clap.specs.declared.error.Error.{Error}
 use Rattle.clap.specs.declared.error.kind.ErrorKind.TheVariants.{OutOfMemory}
 use Rattle.clap.proofs.OnLiterals.{clap_on_literals}
-use Rattle.pb_cli.specs.CommandLine.{command_line, with_text_commands, with_code_commands, with_object_commands, with_pick_commands, check_command, claims_command, emit_command, exec_command, migrate_command, record_command, replay_command, run_command}
+use Rattle.pb_cli.specs.CommandLine.{command_line, with_text_commands, with_code_commands, with_object_commands, with_pick_commands, check_command, claims_command, emit_command, exec_command, migrate_command, record_command, replay_command, run_command, with_run_rules}
 use Rattle.clap.specs.declared.parser.matches.Found.{Found}
 use Rattle.clap.proofs.WalkLemmas.{one_text-rows}
 use Rattle.pb_object.specs.declared.format.Format.{Format}
@@ -123,11 +123,6 @@ no_check_numbers rows none given o says = go o.heap refl says
     go None is h = given h
     go (Some n) is h = none n (h, o.heap_suffices n is, o.heap_fits n is)
 
--- where no number of steps is read, nothing is
-pub no_record_steps : (rows : List Row) → ((n : ℕ) → HasNumberIn rows (codes "steps") 0 10000000 n → ⊥) → (o : RecordOptions)
-    → HasRecordNumbers rows o → ⊥
-no_record_steps rows none o says = none o.steps (says.0, omega arith, o.steps_fit)
-
 -- where a seed is given and none is read, nothing is
 pub no_record_seed : (rows : List Row) → ((n : ℕ) → HasNumberIn rows (codes "seed") 0 18446744073709551615 n → ⊥)
     → (one_of (codes "seed") rows ≡ None → ⊥) → (o : RecordOptions) → HasRecordNumbers rows o → ⊥
@@ -169,11 +164,11 @@ clap_refused kinds e Memory is memory blames none = blames
 
 -- the matches of this command line are a function of the words
 pub is_simple_command_line : is_simple command_line ≡ true
-unfolding command_line with_text_commands with_code_commands with_object_commands with_pick_commands check_command claims_command emit_command exec_command migrate_command record_command replay_command run_command clap_on_literals
+unfolding command_line with_text_commands with_code_commands with_object_commands with_pick_commands check_command claims_command emit_command exec_command migrate_command record_command replay_command run_command with_run_rules clap_on_literals
 is_simple_command_line = refl
 
 pub is_free_command_line : is_simple_and_free command_line ≡ true
-unfolding command_line with_text_commands with_code_commands with_object_commands with_pick_commands check_command claims_command emit_command exec_command migrate_command record_command replay_command run_command clap_on_literals
+unfolding command_line with_text_commands with_code_commands with_object_commands with_pick_commands check_command claims_command emit_command exec_command migrate_command record_command replay_command run_command with_run_rules clap_on_literals
 is_free_command_line = refl
 
 -- a fact that holds anyway holds where there is no value

@@ -27,7 +27,7 @@ CommandSays option.Claims = SaysOfInput SaysOfClaims
 CommandSays (option.Emit numbers) = SaysOfInput (SaysOfEmission numbers.object)
 CommandSays (option.Exec numbers) = SaysOfInput (SaysOfExecution numbers.steps)
 CommandSays option.Migrate = SaysOfInput SaysOfMigration
-CommandSays (option.Record numbers) = SaysOfInput (SaysOfRecord numbers.steps)
+CommandSays (option.Record numbers) = SaysOfInput (SaysOfRecord numbers.run.steps)
 CommandSays option.Replay = SaysOfInput SaysOfReplay
 CommandSays (option.Run numbers) = SaysOfInput (SaysOf numbers.steps)
 

@@ -17,6 +17,13 @@ abbrev pub number_rule_or : Text → ℕ → ℕ → Text → Rule
 number_rule_or name least most default =
     record (number_rule name least most) { defaults = default ∷ [] }
 
+-- the options of a run by workers
+unfoldable pub with_run_rules : App → App
+with_run_rules a =
+    with_rule
+    (with_rule (with_rule a (number_rule_or (codes "workers") 1 16 (codes "1"))) (number_rule_or (codes "quantum") 1 4096 (codes "64")))
+    (number_rule_or (codes "steps") 0 10000000 (codes "1000000"))
+
 unfoldable pub check_command : App
 check_command = with_rule (new_app (codes "check")) (number_rule (codes "heap") 1024 16777216)
 
@@ -27,24 +34,20 @@ unfoldable pub emit_command : App
 emit_command = with_rule (new_app (codes "emit")) (number_rule_or (codes "object") 1 2 (codes "2"))
 
 unfoldable pub exec_command : App
-exec_command =
-    with_rule (new_app (codes "exec")) (number_rule_or (codes "steps") 0 10000000 (codes "1000000"))
+exec_command = with_run_rules (new_app (codes "exec"))
 
 unfoldable pub migrate_command : App
 migrate_command = new_app (codes "migrate")
 
 unfoldable pub record_command : App
 record_command =
-    with_rule
-    (with_rule (new_app (codes "record")) (number_rule_or (codes "steps") 0 10000000 (codes "1000000")))
-    (number_rule (codes "seed") 0 18446744073709551615)
+    with_rule (with_run_rules (new_app (codes "record"))) (number_rule (codes "seed") 0 18446744073709551615)
 
 unfoldable pub replay_command : App
 replay_command = new_app (codes "replay")
 
 unfoldable pub run_command : App
-run_command =
-    with_rule (new_app (codes "run")) (number_rule_or (codes "steps") 0 10000000 (codes "1000000"))
+run_command = with_run_rules (new_app (codes "run"))
 
 abbrev pub with_command : App → App → App
 with_command a sub = with_subcommand a sub.top

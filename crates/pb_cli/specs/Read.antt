@@ -24,7 +24,8 @@ abbrev pub HasNumberIn : List Row → Text → ℕ → ℕ → ℕ → Type 0
 HasNumberIn rows id least most n = HasNumber rows id n × (least ≤ n) × (n ≤ most)
 
 abbrev pub HasRunNumbers : List Row → RunOptions → Type 0
-HasRunNumbers rows o = HasNumber rows (codes "steps") o.steps
+HasRunNumbers rows o = HasNumber rows (codes "workers") o.workers × HasNumber rows (codes "quantum") o.quantum
+    × HasNumber rows (codes "steps") o.steps
 
 -- the number of an option that need not be given
 abbrev pub HasOptionalNumber : List Row → Text → Option ℕ → Type 0
@@ -35,7 +36,7 @@ abbrev pub HasCheckNumbers : List Row → CheckOptions → Type 0
 HasCheckNumbers rows o = HasOptionalNumber rows (codes "heap") o.heap
 
 abbrev pub HasRecordNumbers : List Row → RecordOptions → Type 0
-HasRecordNumbers rows o = HasNumber rows (codes "steps") o.steps × HasOptionalNumber rows (codes "seed") o.seed
+HasRecordNumbers rows o = HasRunNumbers rows o.run × HasOptionalNumber rows (codes "seed") o.seed
     × IfSome o.seed (λ n. n ≤ 18446744073709551615)
 
 abbrev pub format_number : Format → ℕ

@@ -12,9 +12,12 @@ use pb_engines::{
     record_engine, replay_engine, run_engine,
 };
 use std::alloc::Global;
+use std::sync::Wait;
+use std::thread::Threads;
 
 /// Reads the words of a call, of which the first is the program's own name, and does what they say.
-pub fn answer<I: Input, O: Output>(
+pub fn answer<I: Input, O: Output, R: Threads + Wait + Sync>(
+    rt: &R,
     alloc: Global,
     words: &[&str],
     input: &mut I,
@@ -30,11 +33,11 @@ pub fn answer<I: Input, O: Output>(
         Ok(Options::Check(numbers)) => check_engine(alloc, numbers, input, output),
         Ok(Options::Claims) => claims_engine(alloc, input, output),
         Ok(Options::Emit(numbers)) => emit_engine(alloc, numbers, input, output),
-        Ok(Options::Exec(numbers)) => exec_engine(alloc, numbers, input, output),
+        Ok(Options::Exec(numbers)) => exec_engine(rt, alloc, numbers, input, output),
         Ok(Options::Migrate) => migrate_engine(alloc, input, output),
-        Ok(Options::Record(numbers)) => record_engine(alloc, numbers, input, output),
+        Ok(Options::Record(numbers)) => record_engine(rt, alloc, numbers, input, output),
         Ok(Options::Replay) => replay_engine(alloc, input, output),
-        Ok(Options::Run(numbers)) => run_engine(alloc, numbers, input, output),
+        Ok(Options::Run(numbers)) => run_engine(rt, alloc, numbers, input, output),
         Err(fault) => refuse(alloc, output, &fault),
     }
 }
@@ -66,7 +69,7 @@ mod tests {
         let mut input = MemoryInput::new(b"process p begin print 1 end");
         let mut output = MemoryOutput::new(alloc, 64)?;
         let words = ["parbegin", "run", "--steps", "1"];
-        let status = answer(alloc, words.as_slice(), &mut input, &mut output);
+        let status = answer(&rt, alloc, words.as_slice(), &mut input, &mut output);
         assert_eq!(rt; status, Status::Limit);
         assert_eq!(rt; output.as_slice(), b"limit 1\n".as_slice());
         Ok(())
@@ -78,7 +81,7 @@ mod tests {
         let mut input = MemoryInput::new(b"");
         let mut output = MemoryOutput::new(alloc, 1_024)?;
         let words = ["parbegin", "fly"];
-        let status = answer(alloc, words.as_slice(), &mut input, &mut output);
+        let status = answer(&rt, alloc, words.as_slice(), &mut input, &mut output);
         assert_eq!(rt; status, Status::Words);
         assert!(rt; output.as_slice().starts_with(b"error: "));
         assert!(rt; output.as_slice().ends_with(b"\n"));

@@ -3,7 +3,7 @@ ghost use Rattle.std.specs.Prelude.{◌≡◌, IfOk, false};
 ghost use Rattle.clap.specs.Words.{app_of, rule_of, with_rule};
 ghost use Rattle.clap.specs.declared.builder.command.Command.TheViews.{out-Command};
 ghost use Rattle.pb_cli.specs.CommandLine.{check_command, claims_command, emit_command, exec_command, migrate_command, number_rule, number_rule_or, record_command, replay_command, run_command, that_wants_command, IsCommand};
-ghost use Rattle.pb_cli.specs.CommandLine.{command_line as whole, with_code_commands, with_command, with_object_commands, with_pick_commands, with_text_commands};
+ghost use Rattle.pb_cli.specs.CommandLine.{command_line as whole, with_code_commands, with_command, with_object_commands, with_pick_commands, with_run_rules, with_text_commands};
 
 use clap::builder::ValueParser;
 use clap::{Arg, Command};
@@ -54,6 +54,22 @@ fn with_subcommand<'a>(
     command.subcommand(subcommand)
 }
 
+// Adds the options of a run by workers.
+#[tactic(auto, unfolding(crate::specs::CommandLine::with_run_rules))]
+fn with_run_options<'a>(alloc: Global, command: Command<'a>) -> Result<Command<'a>, AllocError>
+    ensures app { IfOk result (λ c. app_of c ≡ with_run_rules (app_of command.entry)) }
+    ensures own { IfOk result (λ c. (out-Command c).has_globals ≡ (out-Command command.entry).has_globals) }
+{
+    let workers = number_option_or(alloc, "workers", 1, 16, "1");
+    let workers = workers.help("Run with this many worker threads, 1 to 16");
+    let quantum = number_option_or(alloc, "quantum", 1, 4_096, "64");
+    let quantum = quantum.help("The most steps a worker makes at once, 1 to 4096");
+    let steps = number_option_or(alloc, "steps", 0, 10_000_000, "1000000");
+    let steps = steps.help("Stop the run after this many steps, 0 to 10000000");
+    let command = with_option(with_option(command, workers)?, quantum)?;
+    with_option(command, steps)
+}
+
 #[tactic(auto, unfolding(crate::specs::CommandLine::check_command))]
 fn check_texts<'a>(alloc: Global) -> Result<Command<'a>, AllocError>
     ensures { IfOk result (IsCommand check_command) }
@@ -91,10 +107,8 @@ fn emit_object<'a>(alloc: Global) -> Result<Command<'a>, AllocError>
 fn exec_object<'a>(alloc: Global) -> Result<Command<'a>, AllocError>
     ensures { IfOk result (IsCommand exec_command) }
 {
-    let steps = number_option_or(alloc, "steps", 0, 10_000_000, "1000000");
-    let steps = steps.help("Stop the run after this many steps");
     let exec = Command::new(alloc, "exec").about("Run the object read from standard input");
-    with_option(exec, steps)
+    with_run_options(alloc, exec)
 }
 
 #[tactic(auto, unfolding(crate::specs::CommandLine::migrate_command))]
@@ -110,14 +124,12 @@ fn migrate_object<'a>(alloc: Global) -> Result<Command<'a>, AllocError>
 fn record_text<'a>(alloc: Global) -> Result<Command<'a>, AllocError>
     ensures { IfOk result (IsCommand record_command) }
 {
-    let steps = number_option_or(alloc, "steps", 0, 10_000_000, "1000000");
-    let steps = steps.help("Stop the run after this many steps");
     let seed = number_option(alloc, "seed", 0, 18_446_744_073_709_551_615);
-    let seed = seed.help("Draw each pick by a generator with this seed");
+    let seed = seed.help("Draw each step by a generator with this seed, without worker threads");
     let record = Command::new(alloc, "record").about(
         "Run the program read from standard input and print it with the picks of the run",
     );
-    with_option(with_option(record, steps)?, seed)
+    with_option(with_run_options(alloc, record)?, seed)
 }
 
 #[tactic(auto, unfolding(crate::specs::CommandLine::replay_command))]
@@ -133,10 +145,8 @@ fn replay_picks<'a>(alloc: Global) -> Result<Command<'a>, AllocError>
 fn run_texts<'a>(alloc: Global) -> Result<Command<'a>, AllocError>
     ensures { IfOk result (IsCommand run_command) }
 {
-    let steps = number_option_or(alloc, "steps", 0, 10_000_000, "1000000");
-    let steps = steps.help("Stop the run after this many steps");
     let run = Command::new(alloc, "run").about("Run the program read from standard input");
-    with_option(run, steps)
+    with_run_options(alloc, run)
 }
 
 fn wanting_command<'a>(command: Command<'a>) -> Command<'a>

@@ -65,13 +65,13 @@ fn record_options(matches: &ArgMatches<'_>) -> Option<RecordOptions>
     ensures some { IfSome result (HasRecordNumbers (rows_of (found_of matches.now))) }
     ensures none { IfNone result ((o : AnyRecordOptions) → HasRecordNumbers (rows_of (found_of matches.now)) o → ⊥) }
 {
-    let steps = number(matches, "steps", 0, 10_000_000)?;
+    let run = run_options(matches)?;
     if is_absent(matches, "seed") {
-        return Some(RecordOptions { steps, seed: None });
+        return Some(RecordOptions { run, seed: None });
     }
     let seed = number(matches, "seed", 0, 18_446_744_073_709_551_615)?;
     Some(RecordOptions {
-        steps,
+        run,
         seed: Some(seed),
     })
 }
@@ -80,8 +80,14 @@ fn run_options(matches: &ArgMatches<'_>) -> Option<RunOptions>
     ensures some { IfSome result (HasRunNumbers (rows_of (found_of matches.now))) }
     ensures none { IfNone result ((o : AnyRunOptions) → HasRunNumbers (rows_of (found_of matches.now)) o → ⊥) }
 {
+    let workers = number(matches, "workers", 1, 16)?;
+    let quantum = number(matches, "quantum", 1, 4_096)?;
     let steps = number(matches, "steps", 0, 10_000_000)?;
-    Some(RunOptions { steps })
+    Some(RunOptions {
+        workers: workers as usize,
+        quantum: quantum as u32,
+        steps: steps as u32,
+    })
 }
 
 // The options that the matches of the words name.
@@ -139,9 +145,9 @@ mod tests {
     use super::*;
     use std::test::Fail;
 
-    fn steps_of(alloc: Global, words: &[&str]) -> Option<u64> {
+    fn numbers_of(alloc: Global, words: &[&str]) -> Option<(usize, u32, u32)> {
         match options(alloc, words) {
-            Ok(Options::Run(RunOptions { steps })) => Some(steps),
+            Ok(Options::Run(o)) => Some((o.workers, o.quantum, o.steps)),
             _ => None,
         }
     }
@@ -149,19 +155,22 @@ mod tests {
     #[test]
     fn reads_run(rt: HostRuntime) {
         let alloc = rt.alloc();
+        let plain = numbers_of(alloc, &["parbegin", "run"]);
+        assert_eq!(rt; plain, Some((1, 64, 1_000_000)));
+        let some = numbers_of(alloc, &["parbegin", "run", "--steps", "3", "--workers=4"]);
+        assert_eq!(rt; some, Some((4, 64, 3)));
+        let least = ["parbegin", "run", "--workers=1", "--quantum=1", "--steps=0"];
+        assert_eq!(rt; numbers_of(alloc, least.as_slice()), Some((1, 1, 0)));
+        let most = [
+            "parbegin",
+            "run",
+            "--workers=16",
+            "--quantum=4096",
+            "--steps=10000000",
+        ];
         assert_eq!(rt;
-            steps_of(alloc, &["parbegin", "run", "--steps", "3"]),
-            Some(3)
-        );
-        assert_eq!(rt; steps_of(alloc, &["parbegin", "run", "--steps=3"]), Some(3));
-        assert_eq!(rt; steps_of(alloc, &["parbegin", "run"]), Some(1_000_000));
-        assert_eq!(rt;
-            steps_of(alloc, &["parbegin", "run", "--steps", "0"]),
-            Some(0)
-        );
-        assert_eq!(rt;
-            steps_of(alloc, &["parbegin", "run", "--steps", "10000000"]),
-            Some(10_000_000)
+            numbers_of(alloc, most.as_slice()),
+            Some((16, 4_096, 10_000_000))
         );
     }
 
@@ -201,18 +210,26 @@ mod tests {
     #[test]
     fn reads_record(rt: HostRuntime) -> Result<(), Fail> {
         let alloc = rt.alloc();
-        let plain = Options::Record(RecordOptions {
+        let run = RunOptions {
+            workers: 1,
+            quantum: 64,
             steps: 1_000_000,
-            seed: None,
-        });
-        let drawn = Options::Record(RecordOptions {
+        };
+        let plain = Options::Record(RecordOptions { run, seed: None });
+        let run = RunOptions {
+            workers: 2,
+            quantum: 64,
             steps: 3,
+        };
+        let drawn = Options::Record(RecordOptions {
+            run,
             seed: Some(18_446_744_073_709_551_615),
         });
         assert_eq!(rt; options(alloc, &["parbegin", "record"])?, plain);
         let words = [
             "parbegin",
             "record",
+            "--workers=2",
             "--steps=3",
             "--seed",
             "18446744073709551615",
@@ -239,22 +256,23 @@ mod tests {
     #[test]
     fn refuses(rt: HostRuntime) {
         let alloc = rt.alloc();
-        assert_eq!(rt;
-            steps_of(alloc, &["parbegin", "run", "--steps", "10000001"]),
-            None
-        );
-        assert_eq!(rt;
-            steps_of(alloc, &["parbegin", "run", "--steps", "three"]),
-            None
-        );
-        assert_eq!(rt;
-            steps_of(alloc, &["parbegin", "run", "--steps", "3", "--steps", "3"]),
-            None
-        );
-        assert_eq!(rt; steps_of(alloc, &["parbegin", "run", "text"]), None);
-        assert_eq!(rt; steps_of(alloc, &["parbegin", "fly"]), None);
-        assert_eq!(rt; steps_of(alloc, &["parbegin", "help"]), None);
-        assert_eq!(rt; steps_of(alloc, &["parbegin"]), None);
+        let table = [
+            "--steps=10000001",
+            "--steps=three",
+            "--workers=0",
+            "--workers=17",
+            "--quantum=0",
+            "--quantum=4097",
+            "text",
+        ];
+        for word in table {
+            assert_eq!(rt; numbers_of(alloc, &["parbegin", "run", word]), None);
+        }
+        let twice = numbers_of(alloc, &["parbegin", "run", "--steps=3", "--steps=3"]);
+        assert_eq!(rt; twice, None);
+        assert_eq!(rt; numbers_of(alloc, &["parbegin", "fly"]), None);
+        assert_eq!(rt; numbers_of(alloc, &["parbegin", "help"]), None);
+        assert_eq!(rt; numbers_of(alloc, &["parbegin"]), None);
     }
 
     #[test]

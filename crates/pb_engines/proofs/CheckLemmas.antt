@@ -2,16 +2,14 @@
 use Rattle.std.proofs.Common.{◌≡◌, ℕ, ◌+◌, ◌-◌, ◌<◌, ◌≤◌, Bool, true, false, List, [], ◌∷◌, ◌++◌, length, drop, Option, Some, None, IfSome, IfNone, refl, sym, ap, ◌∙◌, subst, inl, inr, arith, append_assoc, append-nil, ◌||◌}
 use Rattle.std.proofs.lemmas.List.{length-drop}
 use Rattle.pb_base.specs.Device.{AddsPrefix}
-use Rattle.pb_engines.specs.Answers.{line, memory_line, Leaves, Says, Tells}
+use Rattle.pb_engines.specs.Answers.{line, memory_line, Leaves, Says, Tells, Spoken}
 use Rattle.pb_engines.specs.Checks.{ill, AnswersTo, none, then, IsLeft, AreFirstParts, check_status, SaysOfChecks, answered, out_of_memory, cut_off, TellsAnswer, AreTold}
 use Rattle.pb_engines.specs.Parts.{IsMark, IsMarkAt, IsCutAt, AreParts, last, more}
 use Rattle.pb_engines.specs.Refusals.{RefusesWith}
-use Rattle.pb_engines.specs.Steps.{Spoken}
 use Rattle.pb_engines.specs.declared.check.Told.TheVariants as told
 use Rattle.pb_engines.specs.declared.status.Status.{Status}
 use Rattle.pb_engines.specs.declared.status.Status.TheVariants.{Memory, Device}
-use Rattle.pb_engines.proofs.PageLemmas.{Leaves-more, AddsPrefix-more, Says-more}
-use Rattle.pb_engines.proofs.RunLemmas.{leaves_all}
+use Rattle.pb_engines.proofs.PageLemmas.{Leaves-more, AddsPrefix-more, Says-more, leaves_all}
 
 -- ---- one text
 

@@ -6,7 +6,9 @@ pub mod ClaimLemmas
 pub mod CutRecords
 pub mod EmissionLemmas
 pub mod EndedTexts
+pub mod EventLemmas
 pub mod ExecutionLemmas
+pub mod FaultLemmas
 pub mod InputLemmas
 pub mod LoadLemmas
 pub mod LongRecords
@@ -17,4 +19,5 @@ pub mod ReplayedRecords
 pub mod ReportLemmas
 pub mod RunLemmas
 pub mod ScheduleLemmas
+pub mod SpanLemmas
 pub mod TextLemmas

@@ -1,5 +1,5 @@
 -- Texts that are said one after another.
-use Rattle.std.proofs.Common.{◌≡◌, ◌++◌, ℕ, List, [], Option, refl, subst, ap, sym, ◌∙◌, append_assoc, append-nil, inl, inr, Result, Ok, Err, OnErr}
+use Rattle.std.proofs.Common.{◌≡◌, ◌++◌, ℕ, List, [], Option, Some, None, refl, subst, ap, sym, ◌∙◌, append_assoc, append-nil, inl, inr, Result, Ok, Err, OnErr}
 use Rattle.pb_base.specs.Device.{appended, one_more_failure, AddsPrefix}
 use Rattle.pb_base.proofs.DeviceLemmas.{appended-appended}
 use Rattle.pb_engines.specs.declared.status.Status.{Status}
@@ -39,6 +39,11 @@ Says-then old now new text rest status answered first (inl all) =
     inl (added old now new first.0 rest first.2 all.0 ∙ ap (appended old) (sym first.1), all.1)
 Says-then old now new text rest status answered first (inr part) =
     inr (AddsPrefix-then old now new text rest first part.0, part.1)
+
+-- what waits on a page is left of it
+pub leaves_all : (w : Option (List ℕ)) (page : List ℕ) → Leaves w w page page
+leaves_all None page = ([], refl, refl)
+leaves_all (Some held) page = ([], refl, ap Some (sym (append-nil held)))
 
 -- more is said after a text
 more-after : (old now : Option (List ℕ)) (text rest more : List ℕ) → Leaves old now text rest → Leaves old now (text ++ more) (rest ++ more)

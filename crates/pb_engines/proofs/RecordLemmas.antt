@@ -1,5 +1,5 @@
 -- Picks of a run that are recorded, one after another, and what is written of them.
-use Rattle.std.proofs.Common.{◌≡◌, ℕ, zero, suc, ◌+◌, ◌-◌, ◌<◌, ◌≤◌, List, [], ◌∷◌, ◌++◌, length, replicate, Option, Some, None, refl, sym, ap, subst, ◌∙◌, append-nil, append_assoc, length-append, inl, inr, arith, codes}
+use Rattle.std.proofs.Common.{◌≡◌, ℕ, zero, suc, ◌+◌, ◌-◌, ◌<◌, ◌≤◌, List, [], ◌∷◌, ◌++◌, length, replicate, Option, Some, None, refl, sym, ap, subst, ◌∙◌, append-nil, append_assoc, length-append, inl, inr, arith, codes, Result, Ok, Err, IfOk}
 use Rattle.std.specs.Prelude.{All, slice_get, slice_index_or}
 use Rattle.std.proofs.lemmas.Option.{slice_get_within}
 use Rattle.pb_base.specs.Lines.{HasProcess, NameTable}
@@ -7,6 +7,7 @@ use Rattle.std.proofs.lemmas.Bool.{cases_lt}
 use Rattle.std.proofs.lemmas.List.{length-replicate}
 use Rattle.std.proofs.lemmas.List.Elements.{All-cons, All-nil}
 use Rattle.pb_base.specs.declared.event.Event.{Event}
+use Rattle.pb_base.specs.declared.memory.NoMemory.{NoMemory}
 use Rattle.pb_base.specs.declared.pick.Pick.{Pick}
 use Rattle.pb_base.specs.Steppers.{Makes, State, event_of}
 use Rattle.pb_code.specs.Code.{CodeProcess, ProcessCode, code_step}
@@ -26,10 +27,12 @@ use Rattle.pb_verifier.specs.declared.fault.VerifyFault.TheVariants.{OutOfLimits
 use Rattle.pb_engines.specs.Answers.{line}
 use Rattle.pb_engines.specs.Schedule.{IsWithin, StepsSome}
 use Rattle.pb_engines.specs.declared.schedule.Next.{Next}
-use Rattle.pb_engines.specs.declared.schedule.Next.TheVariants.{Silent, Did}
-use Rattle.pb_engines.specs.Records.{IsEnded, IsRecorded, SaysOfRecording, too_long, with_picks, written}
+use Rattle.pb_engines.specs.declared.schedule.Next.TheVariants.{Silent, Did, NotEnabled}
+use Rattle.pb_engines.specs.Records.{IsEnded, IsRecorded, SaysOfRecording, no_threads, too_long, with_picks, written}
 use Rattle.pb_engines.specs.Runs.{IsDone, Run}
-use Rattle.pb_engines.specs.declared.status.Status.TheVariants.{Done, Refused}
+use Rattle.pb_engines.specs.declared.reply.Reply.{Reply}
+use Rattle.pb_engines.specs.declared.status.Status.{Status}
+use Rattle.pb_engines.specs.declared.status.Status.TheVariants.{Done, Refused, Threads}
 use Rattle.pb_engines.proofs.RunLemmas.{CodeMakes, makes_last}
 use Rattle.pb_engines.proofs.ScheduleLemmas.{no_such_arm, no_such_process}
 
@@ -85,6 +88,12 @@ more_picks picks more pick n same =
     let a = length-append (spread picks) (replicate n pick) in
     let r = length-replicate n pick in
     omega (arith, l, a, r)
+
+-- where one pick is left, a single one is within what is left
+pub within_left : (left : ℕ) (next : Next) → 0 < left → IsWithin 1 next → IsWithin left next
+within_left left (Silent pick made) some within = omega (arith, some, within)
+within_left left (Did pick event) some within = tt
+within_left left NotEnabled some within = tt
 
 -- silent picks that were made and counted
 pub silent_more : (code : Code) (picks more : List CountedPick) (before after : State CodeProcess) (next : Next) (pick : Pick) (made left steps : ℕ)
@@ -246,3 +255,11 @@ pub says_too_long : (code : Code) (steps : ℕ) (bytes ended whole : List ℕ) (
 says_too_long code steps bytes ended whole picks is recorded e long =
     let same : whole ≡ with_picks ended code.names picks = whole_is ended (pick_lines code.names.processes picks) whole e in
     too_long ended picks is recorded (subst (λ (t : List ℕ). 4194304 < length t) same long)
+
+pub says_no_threads : (code : Code) (steps : ℕ) (bytes : List ℕ) (reply : Result Reply NoMemory)
+    → IfOk reply (λ r. (r.text.items ≡ line (codes "threads")) × (r.status ≡ Threads))
+    → IfOk reply (λ r. SaysOfRecording code steps bytes r.text.items r.status)
+says_no_threads code steps bytes (Ok r) (text, status) =
+    subst (λ (t : List ℕ). SaysOfRecording code steps bytes t r.status) (sym text)
+    (subst (λ (s : Status). SaysOfRecording code steps bytes (line (codes "threads")) s) (sym status) no_threads)
+says_no_threads code steps bytes (Err e) is = tt

@@ -1,11 +1,9 @@
 -- Picks that are made again, and their events, told one after another.
-use Rattle.std.proofs.Common.{◌≡◌, ℕ, zero, suc, ◌+◌, ◌≤◌, List, [], ◌∷◌, ◌++◌, length, take, drop, Option, Some, None, All, option_to_list, Result, Ok, Err, IfOk, OnErr, refl, sym, ap, ◌∙◌, subst, inl, inr, arith, append_assoc, append-nil}
-use Rattle.std.proofs.lemmas.Grind.{flat_map-append}
-use Rattle.std.proofs.lemmas.List.{length-map, take_all}
+use Rattle.std.proofs.Common.{◌≡◌, ℕ, zero, suc, ◌+◌, ◌<◌, ◌≤◌, List, [], ◌∷◌, ◌++◌, length, take, drop, Option, Some, None, All, option_to_list, Result, Ok, Err, IfOk, OnErr, refl, sym, ap, ◌∙◌, subst, inl, inr, arith, append_assoc, append-nil, codes}
+use Rattle.std.proofs.lemmas.List.{length-map}
 use Rattle.std.specs.Prelude.{slice_get}
 use Rattle.pb_base.specs.declared.event.Event.{Event}
 use Rattle.pb_base.specs.declared.memory.NoMemory.{NoMemory}
-use Rattle.pb_base.specs.Device.{AddsPrefix}
 use Rattle.pb_base.specs.Lines.{NameTable, HasNames, line_of}
 use Rattle.pb_base.specs.Steppers.{State}
 use Rattle.pb_code.specs.Code.{CodeProcess}
@@ -14,13 +12,13 @@ use Rattle.pb_code.specs.Whole.{Code, CodeCan, ProcessLabels, code_opening}
 use Rattle.pb_codegen.specs.Compiled.{IsCompiled}
 use Rattle.pb_history.specs.Entries.{Entry, events_of, picks_of}
 use Rattle.pb_history.specs.Leads.{Leads}
-use Rattle.pb_history.proofs.Laying.{take_drop}
 use Rattle.pb_history.proofs.Leading.{traces_make}
 use Rattle.pb_machine.proofs.Going.{events_have_names}
-use Rattle.pb_machine.proofs.Growing.{take_at}
 use Rattle.pb_machine.proofs.Reaching.{reaches_on}
 use Rattle.pb_verifier.specs.Verified.{VerifiedCode, IsVerified}
 use Rattle.pb_engines.specs.Answers.{line, memory_line, Leaves, Says, Tells}
+use Rattle.pb_engines.specs.EventLines.{StopsIn}
+use Rattle.pb_engines.specs.EventLines as stop
 use Rattle.pb_engines.specs.Inputs.{SaysOfInput, too_long, nothing, not_read, read}
 use Rattle.pb_engines.specs.Inputs as input
 use Rattle.pb_engines.specs.Refusals.{SaysOfRefusedText, refused as by_line}
@@ -29,7 +27,7 @@ use Rattle.pb_engines.specs.Runs.{event_lines}
 use Rattle.pb_engines.specs.declared.reply.Reply.{Reply}
 use Rattle.pb_engines.specs.declared.status.Status.{Status}
 use Rattle.pb_engines.specs.declared.status.Status.TheVariants.{Device, Memory}
-use Rattle.pb_engines.proofs.PageLemmas.{AddsPrefix-longer, AddsPrefix-more, Leaves-more, Says-more}
+use Rattle.pb_engines.proofs.PageLemmas.{AddsPrefix-longer, Says-more}
 
 -- ---- the parts of an input
 
@@ -110,7 +108,7 @@ with_first names (Some event) later named all = go
     go zero d within = named event refl
     go (suc k) d within = all k d (omega (arith, within))
 
-all_have_names : (v : VerifiedCode) → IsVerified v → (s end : State CodeProcess) (entries : List Entry) → CodeReaches v.code s
+pub all_have_names : (v : VerifiedCode) → IsVerified v → (s end : State CodeProcess) (entries : List Entry) → CodeReaches v.code s
     → Leads v.code s entries end → All (HasNames v.code.names) (events_of entries)
 all_have_names v verified s end [] reached h = λ k d within. absurd (omega (arith, within))
 all_have_names v verified s end (e ∷ entries) reached (next, moves, rest) =
@@ -128,69 +126,29 @@ events_are_named v names lines entries end verified same are =
 
 -- ---- the lines of events
 
--- the lines of the first events and of one more
-one_more_event : (names : NameTable) (events : List Event) (i : ℕ) (event : Event) → slice_get events i ≡ Some event
-    → event_lines names (take (i + 1) events) ≡ event_lines names (take i events) ++ line (line_of names event)
-one_more_event names events i event there =
-    ap (event_lines names) (take_at events i event there)
-    ∙ (flat_map-append (λ e. line (line_of names e)) (take i events) (event ∷ [])
-    ∙ ap (λ (more : List ℕ). event_lines names (take i events) ++ more) (append-nil (line (line_of names event))))
-
--- the lines of all events are those of the first and of the others
-lines_in_two : (names : NameTable) (events : List Event) (n : ℕ)
-    → event_lines names events ≡ event_lines names (take n events) ++ event_lines names (drop n events)
-lines_in_two names events n =
-    ap (event_lines names) (sym (take_drop n events)) ∙ flat_map-append (λ e. line (line_of names e)) (take n events) (drop n events)
-
-pub told_one_event : (names : NameTable) (events : List Event) (i : ℕ) (event : Event) (text : List ℕ) (w a b : Option (List ℕ))
-    (page left : List ℕ) → slice_get events i ≡ Some event → text ≡ line_of names event
-    → Leaves w a (event_lines names (take i events)) page → Leaves a b (page ++ line text) left
-    → Leaves w b (event_lines names (take (i + 1) events)) left
-told_one_event names events i event text w a b page left there is before now =
-    subst (λ (t : List ℕ). Leaves w b t left)
-    (ap (λ (t : List ℕ). event_lines names (take i events) ++ line t) is ∙ sym (one_more_event names events i event there))
-    (Leaves-more w a b [] (event_lines names (take i events)) (line text) page left before now)
-
--- a write failed
-pub told_until_broken : (names : NameTable) (events : List Event) (end : State CodeProcess) (last : List ℕ) (status : Status) (i : ℕ)
-    (event : Event) (text : List ℕ) (w a b : Option (List ℕ)) (page : List ℕ) → IsLastLine end last → IsStatusAt end status
-    → slice_get events i ≡ Some event → text ≡ line_of names event
-    → Leaves w a (event_lines names (take i events)) page → AddsPrefix a b (page ++ line text)
-    → Tells (SaysOfEvents names events end) w b Device
-told_until_broken names events end last status i event text w a b page its_last its_status there is before part =
-    let first = event_lines names (take (i + 1) events) in
-    let rest = event_lines names (drop (i + 1) events) in
-    let so_far : AddsPrefix w b first =
-    subst (AddsPrefix w b) (ap (λ (t : List ℕ). event_lines names (take i events) ++ line t) is ∙ sym (one_more_event names events i event there))
-    (AddsPrefix-more w a b [] (event_lines names (take i events)) (line text) page before part) in
-    let whole : first ++ (rest ++ line last) ≡ event_lines names events ++ line last =
-    sym (append_assoc first rest (line last)) ∙ ap (λ (t : List ℕ). t ++ line last) (sym (lines_in_two names events (i + 1))) in (
-      event_lines names events ++ line last,
-      status,
-      all_told last its_last status its_status,
-      inr (subst (AddsPrefix w b) whole (AddsPrefix-longer w b first (rest ++ line last) so_far), refl),
-    )
-
--- there is no memory for the next line
-pub told_until_out : (names : NameTable) (events : List Event) (end : State CodeProcess) (i : ℕ) (w a b : Option (List ℕ)) (page : List ℕ)
-    (given : Status) → Leaves w a (event_lines names (take i events)) page → Says a b (page ++ memory_line) Memory given
-    → Tells (SaysOfEvents names events end) w b given
-told_until_out names events end i w a b page given before says = (
-  event_lines names (take i events) ++ memory_line,
-  Memory,
-  out_of_memory i,
-  Says-more w a b [] (event_lines names (take i events)) memory_line page Memory given before says,
-)
-
 -- all are told, and the last line
-pub told_all_events : (names : NameTable) (events : List Event) (end : State CodeProcess) (last : List ℕ) (status : Status) (i : ℕ)
-    (w a b : Option (List ℕ)) (page : List ℕ) (given : Status) → IsLastLine end last → IsStatusAt end status → length events ≤ i
-    → Leaves w a (event_lines names (take i events)) page → Says a b (page ++ line last) status given
+pub replay_is_told : (names : NameTable) (events : List Event) (end : State CodeProcess) (last : List ℕ) (status : Status)
+    (w a b : Option (List ℕ)) (page : List ℕ) (given : Status) → IsLastLine end last → IsStatusAt end status
+    → Leaves w a (event_lines names events) page → Says a b (page ++ line last) status given
     → Tells (SaysOfEvents names events end) w b given
-told_all_events names events end last status i w a b page given its_last its_status all before says = (
+replay_is_told names events end last status w a b page given its_last its_status told says = (
   event_lines names events ++ line last,
   status,
   all_told last its_last status its_status,
-  Says-more w a b [] (event_lines names events) (line last) page status given
-      (subst (λ (es : List Event). Leaves w a (event_lines names es) page) (take_all i events all) before) says,
+  Says-more w a b [] (event_lines names events) (line last) page status given told says,
 )
+
+-- the lines stop before the last
+pub replay_stops : (names : NameTable) (events : List Event) (end : State CodeProcess) (last : List ℕ) (status : Status)
+    (w b : Option (List ℕ)) (given : Status) → IsLastLine end last → IsStatusAt end status
+    → Tells (StopsIn names events) w b given → Tells (SaysOfEvents names events end) w b given
+replay_stops names events end last status w b given its_last its_status (text, told, stops, says) = go text told stops says
+  where
+    cut : Says w b (event_lines names events) Device given → Says w b (event_lines names events ++ line last) status given
+    cut (inl (all, is)) = inr ((event_lines names events, line last, refl, all), is)
+    cut (inr (part, is)) = inr (AddsPrefix-longer w b (event_lines names events) (line last) part, is)
+
+    go : (text : List ℕ) (told : Status) → StopsIn names events text told → Says w b text told given
+        → Tells (SaysOfEvents names events end) w b given
+    go _ _ (stop.out_of_memory n) says = (event_lines names (take n events) ++ memory_line, Memory, out_of_memory n, says)
+    go _ _ stop.cut_off says = (event_lines names events ++ line last, status, all_told last its_last status its_status, cut says)

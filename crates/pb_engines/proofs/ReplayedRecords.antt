@@ -25,7 +25,7 @@ use Rattle.pb_picks.specs.PickLines.{SpellsPicks, pick_lines}
 use Rattle.pb_verifier.specs.Verified.{IsAnnotated}
 use Rattle.pb_verifier.specs.declared.fault.VerifyFault.TheVariants.{OutOfLimits}
 use Rattle.pb_engines.specs.RecordLaws.{HoldsRun, RecordsCanBeReplayed}
-use Rattle.pb_engines.specs.Records.{EndsLine, IsEnded, IsRecorded, SaysOfRecord, SaysOfRecording, accepted, refused, too_long, with_picks, written}
+use Rattle.pb_engines.specs.Records.{EndsLine, IsEnded, IsRecorded, SaysOfRecord, SaysOfRecording, accepted, no_threads, refused, too_long, with_picks, written}
 use Rattle.pb_engines.specs.Refusals.{RefusesWith, refused as by_line}
 use Rattle.pb_engines.specs.ReplayLines.{IsLinesFault, IsTextWithLines, SaysOfEvents, SaysOfReplay, all_told, lines_line, made_again, no_fault, no_picks, no_text, out_of_memory, picks_line, some_fault, stop_line}
 use Rattle.pb_engines.specs.declared.replay.LinesFault.{LinesFault}
@@ -132,6 +132,7 @@ module _ (steps : ℕ) (bytes : List ℕ) (most : steps ≤ 10000000) where
       go : (text : List ℕ) (status : Status) → SaysOfRecording code steps bytes text status → status ≡ Done → Wrote text
       go _ _ (written ended picks is recorded short) done = (code, labels, compiled, ended, picks, is, recorded, refl)
       go _ _ (too_long ended picks is recorded long) done = absurd cc
+      go _ _ no_threads done = absurd cc
 
   module _ (code : Code) (labels : List ProcessLabels) (compiled : IsCompiled bytes code labels) (ended : List ℕ)
       (picks : List CountedPick) (is : IsEnded bytes ended) (recorded : IsRecorded code steps picks) where

@@ -1,11 +1,11 @@
 -- From what is said of code, or of a fault, to what is said of a text.
 use Rattle.std.proofs.Common.{◌≡◌, ℕ, ◌≤◌, List, [], length, Option, Some, None, refl, sym, ap, subst, inl, arith, append-nil}
 use Rattle.pb_base.specs.declared.event.Event.{Event}
-use Rattle.pb_code.specs.Whole.{Code, ProcessLabels, CodeCan}
+use Rattle.pb_code.specs.Whole.{Code, ProcessLabels, CodeCan, code_opening}
 use Rattle.pb_codegen.specs.Compiled.{IsCompiled}
 use Rattle.pb_engines.specs.Answers.{Says, Tells}
 use Rattle.pb_engines.specs.Refusals.{SaysOfRefusedText, refused as by_line}
-use Rattle.pb_engines.specs.Runs.{SaysOfRun, done, faulted, at_limit, out_of_memory, cut_off, SaysOfCode, SaysOf, refused, accepted}
+use Rattle.pb_engines.specs.Runs.{SaysOfRun, done, faulted, at_limit, out_of_memory, cut_off, no_threads, SaysOfCode, SaysOf, refused, accepted}
 use Rattle.pb_engines.specs.Inputs.{SaysOfInput, read}
 use Rattle.pb_engines.specs.declared.status.Status.{Status}
 use Rattle.pb_engines.specs.declared.status.Status.TheVariants.{Device}
@@ -18,6 +18,7 @@ can_make code steps events _ _ _ (faulted end run few is fault) = (run.picks, en
 can_make code steps events _ _ _ (at_limit end run not_done all) = (run.picks, end, omega arith, run.makes)
 can_make code steps events _ _ _ (out_of_memory end run few) = (run.picks, end, omega arith, run.makes)
 can_make code steps events _ _ _ (cut_off end run few) = (run.picks, end, omega arith, run.makes)
+can_make code steps events _ _ _ (no_threads none) = ([], code_opening code, omega arith, (none, refl))
 
 -- an accepted text, whose code is run
 pub text_is_run : (steps : ℕ) (bytes : List ℕ) (code given : Code) (labels : List ProcessLabels) (old new : Option (List ℕ)) (answered : Status)

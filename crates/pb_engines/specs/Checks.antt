@@ -1,10 +1,9 @@
 -- What `check` says of an input, and with which status.
 use Rattle.std.specs.Prelude.{◌≡◌, ◌++◌, ◌||◌, ◌⊎◌, ℕ, Bool, true, false, List, [], ◌∷◌, Option, codes}
-use Rattle.pb_engines.specs.Answers.{line, memory_line, Leaves}
+use Rattle.pb_engines.specs.Answers.{line, memory_line, Leaves, Spoken}
 use Rattle.pb_base.specs.Device.{AddsPrefix}
 use Rattle.pb_engines.specs.Parts.{AreParts}
 use Rattle.pb_engines.specs.Refusals.{IsAcceptedText, RefusesWith}
-use Rattle.pb_engines.specs.Steps.{Spoken}
 use Rattle.pb_engines.specs.declared.check.Told.{Told}
 use Rattle.pb_engines.specs.declared.check.Told.TheVariants as told
 use Rattle.pb_engines.specs.declared.status.Status.{Status}

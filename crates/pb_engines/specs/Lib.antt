@@ -3,11 +3,13 @@ pub mod Checks
 pub mod Choices
 pub mod ClaimLines
 pub mod Emissions
+pub mod EventLines
 pub mod Executions
 pub mod Faults
 pub mod Inputs
 pub mod Loading
 pub mod Migrations
+pub mod Outcomes
 pub mod Parts
 pub mod RecordLaws
 pub mod Records
@@ -17,4 +19,3 @@ pub mod RunLaws
 pub mod Runs
 pub mod Schedule
 pub mod Statuses
-pub mod Steps

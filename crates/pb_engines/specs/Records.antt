@@ -14,7 +14,7 @@ use Rattle.pb_engines.specs.Answers.{line}
 use Rattle.pb_engines.specs.Refusals.{SaysOfRefusedText}
 use Rattle.pb_engines.specs.Runs.{IsDone}
 use Rattle.pb_engines.specs.declared.status.Status.{Status}
-use Rattle.pb_engines.specs.declared.status.Status.TheVariants.{Done, Refused}
+use Rattle.pb_engines.specs.declared.status.Status.TheVariants.{Done, Refused, Threads}
 
 -- the last byte of the text is a line feed
 abbrev pub EndsLine : List ℕ → Type 0
@@ -43,7 +43,8 @@ abbrev pub IsTooLong : Code → ℕ → Type 0
 IsTooLong code steps =
     (picks : List CountedPick) × IsRecorded code steps picks × (4194304 < length (pick_lines code.names.processes picks))
 
--- what is said of the code of a text: the text with the picks of a run; or that this would be too long for an input
+-- what is said of the code of a text: the text with the picks of a run; or that this would be too long for an input; or
+-- that a thread could not be started
 pub data SaysOfRecording (code : Code) (steps : ℕ) (bytes : List ℕ) : List ℕ → Status → Type 0 where
   written : (ended : List ℕ) (picks : List CountedPick) → IsEnded bytes ended → IsRecorded code steps picks
       → length (with_picks ended code.names picks) ≤ 4194304
@@ -51,6 +52,7 @@ pub data SaysOfRecording (code : Code) (steps : ℕ) (bytes : List ℕ) : List �
   too_long : (ended : List ℕ) (picks : List CountedPick) → IsEnded bytes ended → IsRecorded code steps picks
       → 4194304 < length (with_picks ended code.names picks)
       → SaysOfRecording code steps bytes (line (codes "refused output")) Refused
+  no_threads : SaysOfRecording code steps bytes (line (codes "threads")) Threads
 
 -- what is said of a text: it is refused; or it is accepted, and a run of its code is written
 pub data SaysOfRecord (steps : ℕ) (bytes : List ℕ) : List ℕ → Status → Type 0 where

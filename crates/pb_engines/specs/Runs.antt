@@ -1,5 +1,5 @@
 -- What `run` says of an input, and with which status.
-use Rattle.std.specs.Prelude.{◌≡◌, ◌≤◌, ◌++◌, ℕ, List, codes, length, slice_get, Some, true}
+use Rattle.std.specs.Prelude.{◌≡◌, ◌≤◌, ◌++◌, ℕ, List, [], codes, length, slice_get, Some, true}
 use Rattle.std.specs.Fmt.{decimal}
 use Rattle.std.specs.List.{flat_map}
 use Rattle.pb_base.specs.declared.event.Event.{Event}
@@ -13,7 +13,7 @@ use Rattle.pb_names.specs.Meaning.{SourceCan}
 use Rattle.pb_engines.specs.Answers.{line, memory_line}
 use Rattle.pb_engines.specs.Refusals.{RefusesWith}
 use Rattle.pb_engines.specs.declared.status.Status.{Status}
-use Rattle.pb_engines.specs.declared.status.Status.TheVariants.{Done, Refused, Limit, Fault, Memory, Device}
+use Rattle.pb_engines.specs.declared.status.Status.TheVariants.{Done, Refused, Limit, Fault, Memory, Device, Threads}
 
 -- the lines of events, in their order
 abbrev pub event_lines : NameTable → List Event → List ℕ
@@ -33,7 +33,8 @@ HasFault end =
     (p : ℕ) × (process : CodeProcess) × (slice_get end.processes p ≡ Some process) × (process.faulted ≡ true)
 
 -- what is said of a run of n picks with these events: at its end `done`, or `limit` where all steps were used
--- up before; the lines so far, and then `memory`, where memory wants; the lines so far where a write failed
+-- up before; the lines so far, and then `memory`, where memory wants; the lines so far where a write failed;
+-- `threads` alone where a thread could not be started
 pub data SaysOfRun (code : Code) (steps : ℕ) (events : List Event) : ℕ → List ℕ → Status → Type 0 where
   done : (end : State CodeProcess) (run : Run code events end) → length run.picks ≤ steps → IsDone end
       → ¬ HasFault end
@@ -48,6 +49,7 @@ pub data SaysOfRun (code : Code) (steps : ℕ) (events : List Event) : ℕ → L
       → SaysOfRun code steps events (length run.picks) (event_lines code.names events ++ memory_line) Memory
   cut_off : (end : State CodeProcess) (run : Run code events end) → length run.picks ≤ steps
       → SaysOfRun code steps events (length run.picks) (event_lines code.names events) Device
+  no_threads : events ≡ [] → SaysOfRun code steps events 0 (line (codes "threads")) Threads
 
 -- what is said of a text: it is refused; or it is accepted, and some run of its code is told, of which the
 -- program can make the same events with as many picks

@@ -1,4 +1,4 @@
-//! The next pick: the first that is enabled, or one that is drawn from all.
+//! The next pick, drawn from all that are enabled.
 ghost use Rattle.std.specs.Prelude.{◌≡◌, ◌+◌, ◌<◌, ◌≤◌, IfOk, OnOk, length};
 ghost use Rattle.pb_engines.specs.Choices.{AreCandidatesBefore, AreCandidates};
 ghost use Rattle.pb_engines.specs.Schedule.{IsWithin, StepsSome};
@@ -16,44 +16,33 @@ use std::alloc::Global;
 /// The stream of the generator, which each seed starts at a place of its own.
 const STREAM: u64 = 54;
 
-/// Chooses the next pick of a run, again and again.
+/// Draws the next pick of a run, again and again.
 #[derive(Drop)]
 pub struct Chooser {
-    generator: Option<Pcg32>,
+    generator: Pcg32,
     /// The candidates of a pick that is drawn, kept so that their memory is used again.
     candidates: Vec<Pick>,
 }
 
 impl Chooser {
-    /// With a seed each pick is drawn; without one it is the first that is enabled. No memory is taken.
-    pub fn new(alloc: Global, seed: Option<u64>) -> Chooser {
+    /// Draws by a generator with this seed. No memory is taken.
+    pub fn new(alloc: Global, seed: u64) -> Chooser {
         Chooser {
-            generator: seed.map(|seed| Pcg32::new(seed, STREAM)),
+            generator: Pcg32::new(seed, STREAM),
             candidates: Vec::new(alloc),
         }
     }
 
-    /// Makes the next pick. Without a generator that is the first that is enabled, and if it shows nothing, those behind
-    /// it of its arm that show nothing either, at most `max` in all; with one it is a single pick, drawn from those that
-    /// are enabled.
-    pub fn step(
-        &mut self,
-        machine: &mut Machine,
-        verified: &Verified,
-        max: u32,
-    ) -> Result<Next, NoMemory>
+    /// Makes the next pick, drawn from those that are enabled.
+    pub fn step(&mut self, machine: &mut Machine, verified: &Verified) -> Result<Next, NoMemory>
         requires verified { IsVerified verified.now }
         requires machine { IsMachineOf verified.now machine.old }
-        requires max { 1 ≤ max }
         ensures machine { IsMachineOf verified.now machine.new }
         ensures step { IfOk result (λ next.
             StepsSome verified.now.code (machine_view machine.old) next (machine_view machine.new)) }
-        ensures within { IfOk result (IsWithin max) }
+        ensures within { IfOk result (IsWithin 1) }
     {
-        match &mut self.generator {
-            Some(generator) => step_drawn(machine, verified, generator, &mut self.candidates),
-            None => Ok(step_first(machine, verified, max)),
-        }
+        step_drawn(machine, verified, &mut self.generator, &mut self.candidates)
     }
 }
 

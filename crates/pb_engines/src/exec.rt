@@ -9,29 +9,38 @@ use crate::input::read_input;
 use crate::load::{load, load_refusal};
 use crate::options::RunOptions;
 use crate::reply::tell;
+use crate::report::tell_run;
 use crate::status::Status;
-use crate::steps::tell_run;
 use pb_base::device::{Input, Output};
 use std::alloc::Global;
+use std::sync::Wait;
+use std::thread::Threads;
 
 // Runs the code of an object, or writes why there is none.
-fn run_object<O: Output>(alloc: Global, steps: u64, bytes: &[u8], output: &mut O) -> Status
+fn run_object<O: Output, R: Threads + Wait + Sync>(
+    rt: &R,
+    alloc: Global,
+    options: RunOptions,
+    bytes: &[u8],
+    output: &mut O,
+) -> Status
     requires { length bytes.now ≤ 4194304 }
-    ensures text { Tells (SaysOfInput (SaysOfExecution steps) bytes.now) (O.written output.old) (O.written output.new) result }
+    ensures text { Tells (SaysOfInput (SaysOfExecution options.steps) bytes.now) (O.written output.old) (O.written output.new) result }
     ensures faults { TellsWriteFaults (O.failures output.old) (O.failures output.new) result }
 {
     match load(alloc, bytes) {
-        Ok((verified, _)) => tell_run(alloc, &verified, steps, output),
+        Ok((verified, _)) => tell_run(rt, alloc, &verified, options, output),
         Err(fault) => tell(alloc, load_refusal(alloc, fault), output),
     }
 }
 
-/// Runs the object that the input holds, in either format: writes the line of each event, and at the end `done`, or
-/// `limit` with the number of steps where they were used up before. Bytes that are no object, or whose code is not
-/// safe, are answered by their refusal line.
+/// Runs the object that the input holds, in either format, by worker threads: writes the line of each event, and at the
+/// end `done`, or `limit` with the number of steps where they were used up before. Bytes that are no object, or whose code
+/// is not safe, are answered by their refusal line. If a thread could not be started the line is `threads`.
 ///
 /// After a read that failed nothing is written; after a write that failed, a first part of what was being said.
-pub fn exec_engine<I: Input, O: Output>(
+pub fn exec_engine<I: Input, O: Output, R: Threads + Wait + Sync>(
+    rt: &R,
     alloc: Global,
     options: RunOptions,
     input: &mut I,
@@ -45,7 +54,7 @@ pub fn exec_engine<I: Input, O: Output>(
         result }
 {
     match read_input(alloc, input, output) {
-        Ok(bytes) => run_object(alloc, options.steps, bytes.as_slice(), output),
+        Ok(bytes) => run_object(rt, alloc, options, bytes.as_slice(), output),
         Err(status) => status,
     }
 }

@@ -22,17 +22,24 @@ pub struct EmitOptions {
 /// The options of `run_engine` and of `exec_engine`.
 #[derive(Clone, Copy, Debug, PartialEq, Eq)]
 pub struct RunOptions {
+    /// The number of worker threads, from 1 to 16.
+    pub workers: usize,
+    /// The most picks that a worker makes of an arm before it takes another, from 1 to 4,096.
+    pub quantum: u32,
     /// The number of picks after which the run stops, at most 10,000,000.
-    pub steps: u64,
+    pub steps: u32,
+    pub ghost some_worker: { 1 ≤ workers },
+    pub ghost workers_fit: { workers ≤ 16 },
+    pub ghost some_quantum: { 1 ≤ quantum },
+    pub ghost quantum_fits: { quantum ≤ 4096 },
     pub ghost steps_fit: { steps ≤ 10000000 },
 }
 
 /// The options of `record_engine`.
 #[derive(Clone, Copy, Debug, PartialEq, Eq)]
 pub struct RecordOptions {
-    /// The number of picks after which the run stops, at most 10,000,000.
-    pub steps: u64,
+    /// How the run is made. If there is a seed, its picks are made one after another, by no worker.
+    pub run: RunOptions,
     /// The seed of the generator that draws the picks, if they are to be drawn.
     pub seed: Option<u64>,
-    pub ghost steps_fit: { steps ≤ 10000000 },
 }

@@ -8,82 +8,89 @@ ghost use Rattle.pb_engines.specs.declared.status.Status.TheVariants.{Refused};
 ghost use Rattle.pb_verifier.specs.Verified.{IsVerified};
 
 use crate::accept::{compile_text, refuse};
-use crate::choice::Chooser;
 use crate::input::{LONGEST_INPUT, read_input};
 use crate::options::RecordOptions;
+use crate::picks::{draw_picks, report_picks};
 use crate::reply::{Reply, refused, tell};
-use crate::schedule::Next;
 use crate::status::Status;
 use pb_base::NoMemory;
 use pb_base::device::{Input, Output};
 use pb_history::CountedPick;
-use pb_machine::Machine;
-use pb_picks::{count_pick, write_picks};
+use pb_picks::write_picks;
 use pb_verifier::Verified;
+use pb_workers::RunFault;
 use std::alloc::Global;
-
-/// The most counted picks that an input can have, since the line of each takes at least 5 bytes.
-const MOST_LINES: usize = 838_860;
+use std::sync::Wait;
+use std::thread::Threads;
 
 /// Runs the text that the input holds, and writes what `replay` reads: the text, a line `%%`, and the pick lines of the
 /// run. A text that is refused is answered by its refusal line; if the whole would be longer than an input may be, the
 /// answer is the line `refused output`.
 ///
-/// Without a seed the picks are those of `run`; with one each is drawn from those that are enabled. After a read that
-/// failed nothing is written; after a write that failed, a first part of what was being said.
-pub fn record_engine<I: Input, O: Output>(
+/// Without a seed the picks are those that workers make, as in `run`; with one each is drawn from those that are enabled,
+/// and no thread is started. If one could not be started the answer is the line `threads`. After a read that failed
+/// nothing is written; after a write that failed, a first part of what was being said.
+pub fn record_engine<I: Input, O: Output, R: Threads + Wait + Sync>(
+    rt: &R,
     alloc: Global,
     options: RecordOptions,
     input: &mut I,
     output: &mut O,
 ) -> Status
     ensures text { IfSome (I.rest input.old) (λ bytes.
-        Tells (SaysOfInput (SaysOfRecord options.steps) bytes) (O.written output.old) (O.written output.new) result) }
+        Tells (SaysOfInput (SaysOfRecord options.run.steps) bytes) (O.written output.old) (O.written output.new) result) }
     ensures faults { TellsFaults
         (record { reads = I.failures input.old; writes = O.failures output.old; written = O.written output.old })
         (record { reads = I.failures input.new; writes = O.failures output.new; written = O.written output.new })
         result }
 {
     match read_input(alloc, input, output) {
-        Ok(bytes) => record_text(alloc, options, bytes.as_slice(), output),
+        Ok(bytes) => record_text(rt, alloc, options, bytes.as_slice(), output),
         Err(status) => status,
     }
 }
 
 // Runs a text, and writes it with its picks.
-fn record_text<O: Output>(
+fn record_text<O: Output, R: Threads + Wait + Sync>(
+    rt: &R,
     alloc: Global,
     options: RecordOptions,
     text: &[u8],
     output: &mut O,
 ) -> Status
     requires { length text.now ≤ 4194304 }
-    ensures text { Tells (SaysOfInput (SaysOfRecord options.steps) text.now) (O.written output.old) (O.written output.new) result }
+    ensures text { Tells (SaysOfInput (SaysOfRecord options.run.steps) text.now) (O.written output.old) (O.written output.new) result }
     ensures faults { TellsWriteFaults (O.failures output.old) (O.failures output.new) result }
 {
     match compile_text(alloc, text) {
         Ok(compiled) => tell(
             alloc,
-            recording(alloc, options, text, compiled.verified()),
+            recording(rt, alloc, options, text, compiled.verified()),
             output,
         ),
         Err(refusal) => refuse(alloc, refusal, output),
     }
 }
 
-// The text and the picks of a run of its code, or the line that they are too long.
-fn recording(
+// The text and the picks of a run of its code, or the line that they are too long or that there is no thread.
+fn recording<R: Threads + Wait + Sync>(
+    rt: &R,
     alloc: Global,
     options: RecordOptions,
     text: &[u8],
     verified: &Verified,
 ) -> Result<Reply, NoMemory>
     ensures { IfOk result (λ r.
-        SaysOfRecording verified.now.code options.steps text.now r.text.items r.status) }
+        SaysOfRecording verified.now.code options.run.steps text.now r.text.items r.status) }
 {
     let code = verified.code();
     let mut whole = ended(alloc, text)?;
-    let Some(picks) = record_picks(alloc, options, verified)? else {
+    let picks = match record_picks(rt, alloc, options, verified) {
+        Ok(picks) => picks,
+        Err(RunFault::NoMemory) => return Err(NoMemory),
+        Err(_) => return no_threads(alloc),
+    };
+    let Some(picks) = picks else {
         return too_long(alloc);
     };
     whole.extend_from_slice(b"%%\n")?;
@@ -127,35 +134,34 @@ fn ends_line(text: &[u8]) -> bool
     }
 }
 
-// The picks of a run of the code; nothing if their lines would be too long for an input. It ends as soon as they are.
-fn record_picks(
+// The picks of a run of the code: those that workers report, or drawn ones; nothing if their lines would be too long for
+// an input.
+fn record_picks<R: Threads + Wait + Sync>(
+    rt: &R,
     alloc: Global,
     options: RecordOptions,
     verified: &Verified,
-) -> Result<Option<Vec<CountedPick>>, NoMemory>
+) -> Result<Option<Vec<CountedPick>>, RunFault>
     requires { IsVerified verified.now }
-    ensures { IfOk result (λ picks. MatchOption picks (IsTooLong verified.now.code options.steps)
-        (λ picks. IsRecorded verified.now.code options.steps picks.items)) }
+    ensures { IfOk result (λ picks. MatchOption picks (IsTooLong verified.now.code options.run.steps)
+        (λ picks. IsRecorded verified.now.code options.run.steps picks.items)) }
 {
-    let mut machine = Machine::new(alloc, verified)?;
-    let mut chooser = Chooser::new(alloc, options.seed);
-    let mut picks = Vec::new(alloc);
-    let mut left = options.steps as u32;
-    while left > 0 {
-        if picks.len() > MOST_LINES {
-            return Ok(None);
-        }
-        match chooser.step(&mut machine, verified, left)? {
-            Next::Silent(pick, made) => {
-                count_pick(&mut picks, pick, made)?;
-                left -= made;
-            }
-            Next::Did(pick, _) => {
-                count_pick(&mut picks, pick, 1)?;
-                left -= 1;
-            }
-            Next::NotEnabled => return Ok(Some(picks)),
-        }
+    let Some(seed) = options.seed else {
+        let picks = report_picks(rt, alloc, options.run, verified)?;
+        return Ok(Some(picks));
+    };
+    match draw_picks(alloc, options.run.steps, seed, verified) {
+        Ok(picks) => Ok(picks),
+        Err(_) => Err(RunFault::NoMemory),
     }
-    Ok(Some(picks))
+}
+
+// The line that a thread could not be started.
+fn no_threads(alloc: Global) -> Result<Reply, NoMemory>
+    ensures { IfOk result (λ r. (r.text.items ≡ line (codes "threads")) × (r.status ≡ Status.Threads)) }
+{
+    Ok(Reply {
+        text: Vec::from_slice(alloc, b"threads\n")?,
+        status: Status::Threads,
+    })
 }

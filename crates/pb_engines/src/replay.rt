@@ -11,15 +11,15 @@ ghost use Rattle.pb_machine.specs.Views.{machine_view};
 ghost use Rattle.pb_engines.specs.declared.status.Status.TheVariants.{Device};
 
 use crate::accept::{compile_text, refuse};
+use crate::events::tell_events;
+use crate::faults::has_fault;
 use crate::input::read_input;
-use crate::page::Page;
 use crate::parts::first_part;
 use crate::refusal::{picks_text, stop_text};
 use crate::reply::{Reply, refused, tell};
 use crate::status::Status;
-use crate::steps::has_fault;
 use pb_base::device::{Input, Output};
-use pb_base::{Names, NoMemory, event_line};
+use pb_base::{Names, NoMemory};
 use pb_history::replay::replay_counted;
 use pb_history::{ReplayFault, Trace};
 use pb_machine::Machine;
@@ -93,7 +93,7 @@ fn replay_lines<O: Output>(
     match make_lines(alloc, verified, lines) {
         Ok((machine, trace)) => {
             let names = &verified.code().names;
-            tell_events(alloc, names, &trace, &machine, output)
+            tell_replay(alloc, names, &trace, &machine, output)
         }
         Err(fault) => tell(alloc, lines_refusal(alloc, fault), output),
     }
@@ -160,7 +160,7 @@ fn status_at(machine: &Machine) -> Status
 }
 
 // Says the line of each event, and the last line of a replay that stands here.
-fn tell_events<O: Output>(
+fn tell_replay<O: Output>(
     alloc: Global,
     names: &Names,
     trace: &Trace,
@@ -174,15 +174,8 @@ fn tell_events<O: Output>(
 {
     let last = last_line(machine);
     let status = status_at(machine);
-    let mut page = Page::new(alloc);
-    for i in 0..trace.events_len() {
-        let Ok(text) = event_line(alloc, names, &trace.event(i)) else {
-            return page.finish_with(output, b"memory", Status::Memory);
-        };
-        match page.say_line(output, text.as_slice()) {
-            Ok(()) => {}
-            Err(_) => return Status::Device,
-        }
+    match tell_events(alloc, names, trace, output) {
+        Ok(page) => page.finish_with(output, last, status),
+        Err(status) => status,
     }
-    page.finish_with(output, last, status)
 }

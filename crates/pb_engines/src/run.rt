@@ -8,17 +8,20 @@ ghost use Rattle.pb_engines.specs.Faults.{TellsFaults, TellsWriteFaults};
 use crate::accept::{compile_text, refuse};
 use crate::input::read_input;
 use crate::options::RunOptions;
+use crate::report::tell_run;
 use crate::status::Status;
-use crate::steps::tell_run;
 use pb_base::device::{Input, Output};
 use std::alloc::Global;
+use std::sync::Wait;
+use std::thread::Threads;
 
-/// Runs the text that the input holds: writes the line of each event, and at the end `done`, or `limit` with the
-/// number of steps where they were used up before. A text that is refused is answered by its refusal line.
+/// Runs the text that the input holds, by worker threads: writes the line of each event, and at the end `done`, or `limit`
+/// with the number of steps where they were used up before. A text that is refused is answered by its refusal line. If a
+/// thread could not be started the line is `threads`.
 ///
-/// The pick is always the enabled one of the least process, and of its arms of the least. After a read that failed
-/// nothing is written; after a write that failed, a first part of what was being said.
-pub fn run_engine<I: Input, O: Output>(
+/// After a read that failed nothing is written; after a write that failed, a first part of what was being said.
+pub fn run_engine<I: Input, O: Output, R: Threads + Wait + Sync>(
+    rt: &R,
     alloc: Global,
     options: RunOptions,
     input: &mut I,
@@ -32,19 +35,25 @@ pub fn run_engine<I: Input, O: Output>(
         result }
 {
     match read_input(alloc, input, output) {
-        Ok(bytes) => run_text(alloc, options.steps, bytes.as_slice(), output),
+        Ok(bytes) => run_text(rt, alloc, options, bytes.as_slice(), output),
         Err(status) => status,
     }
 }
 
 // Runs a text.
-fn run_text<O: Output>(alloc: Global, steps: u64, text: &[u8], output: &mut O) -> Status
+fn run_text<O: Output, R: Threads + Wait + Sync>(
+    rt: &R,
+    alloc: Global,
+    options: RunOptions,
+    text: &[u8],
+    output: &mut O,
+) -> Status
     requires { length text.now ≤ 4194304 }
-    ensures text { Tells (SaysOfInput (SaysOf steps) text.now) (O.written output.old) (O.written output.new) result }
+    ensures text { Tells (SaysOfInput (SaysOf options.steps) text.now) (O.written output.old) (O.written output.new) result }
     ensures faults { TellsWriteFaults (O.failures output.old) (O.failures output.new) result }
 {
     match compile_text(alloc, text) {
-        Ok(compiled) => tell_run(alloc, compiled.verified(), steps, output),
+        Ok(compiled) => tell_run(rt, alloc, compiled.verified(), options, output),
         Err(refusal) => refuse(alloc, refusal, output),
     }
 }

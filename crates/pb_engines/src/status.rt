@@ -20,10 +20,12 @@ pub enum Status {
     Memory,
     /// A read or a write failed.
     Device,
+    /// A worker's thread could not be started.
+    Threads,
 }
 
 impl Status {
-    /// Returns the exit status of the program, from 0 to 6.
+    /// Returns the exit status of the program, from 0 to 7.
     pub fn number(self) -> u8
         ensures { result ≡ status_number self }
     {
@@ -35,6 +37,7 @@ impl Status {
             Status::Fault => 4,
             Status::Memory => 5,
             Status::Device => 6,
+            Status::Threads => 7,
         }
     }
 }

@@ -25,7 +25,8 @@ pub const HELLO: &[u8] = b"process p begin print 1 end
 ";
 
 /// Of `examples/`: two arms add 1 to the same integer.
-pub const LOST: &[u8] = b"// Two arms add one to the same integer. To read it and to assign to it are two steps, so if both arms read it before
+pub const LOST: &[u8] =
+    b"// Two arms add one to the same integer. To read it and to assign to it are two steps, so if both arms read it before
 // either assigns, one of the two additions is lost. `run` goes arm by arm and loses none; the run of lost.run loses one.
 process p
 begin
@@ -39,7 +40,8 @@ end
 ";
 
 /// Of `examples/`: a run of that text in which an addition is lost, as a seed draws it.
-pub const LOST_RUN: &[u8] = b"// Two arms add one to the same integer. To read it and to assign to it are two steps, so if both arms read it before
+pub const LOST_RUN: &[u8] =
+    b"// Two arms add one to the same integer. To read it and to assign to it are two steps, so if both arms read it before
 // either assigns, one of the two additions is lost. `run` goes arm by arm and loses none; the run of lost.run loses one.
 process p
 begin

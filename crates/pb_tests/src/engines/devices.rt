@@ -11,6 +11,13 @@ use pb_object::Format;
 use std::process::Abort;
 use std::test::Fail;
 
+/// At most seven picks, by one worker.
+const SEVEN: RunOptions = RunOptions {
+    workers: 1,
+    quantum: 64,
+    steps: 7,
+};
+
 /// Sees that an engine told the one read that failed, and wrote nothing.
 fn check(rt: &impl Abort, status: Status, input: &FaultyInput<'_>, output: &MemoryOutput) {
     assert_eq!(rt; status, Status::Device);
@@ -54,8 +61,7 @@ fn emit_tells_a_failed_read(rt: HostRuntime) -> Result<(), Fail> {
 fn exec_tells_a_failed_read(rt: HostRuntime) -> Result<(), Fail> {
     let mut input = FaultyInput::new(FIRST, 2, 8);
     let mut output = MemoryOutput::new(rt.alloc(), 64)?;
-    let options = RunOptions { steps: 7 };
-    let status = exec_engine(rt.alloc(), options, &mut input, &mut output);
+    let status = exec_engine(&rt, rt.alloc(), SEVEN, &mut input, &mut output);
     check(&rt, status, &input, &output);
     Ok(())
 }
@@ -82,8 +88,7 @@ fn migrate_tells_a_failed_read(rt: HostRuntime) -> Result<(), Fail> {
 fn run_tells_a_failed_read(rt: HostRuntime) -> Result<(), Fail> {
     let mut input = FaultyInput::new(HELLO, 2, 8);
     let mut output = MemoryOutput::new(rt.alloc(), 64)?;
-    let options = RunOptions { steps: 7 };
-    let status = run_engine(rt.alloc(), options, &mut input, &mut output);
+    let status = run_engine(&rt, rt.alloc(), SEVEN, &mut input, &mut output);
     check(&rt, status, &input, &output);
     Ok(())
 }
@@ -92,8 +97,7 @@ fn run_tells_a_failed_read(rt: HostRuntime) -> Result<(), Fail> {
 fn run_stops_at_a_full_output(rt: HostRuntime) -> Result<(), Fail> {
     let mut input = MemoryInput::new(HELLO);
     let mut output = MemoryOutput::new(rt.alloc(), 3)?;
-    let options = RunOptions { steps: 7 };
-    let status = run_engine(rt.alloc(), options, &mut input, &mut output);
+    let status = run_engine(&rt, rt.alloc(), SEVEN, &mut input, &mut output);
     assert_eq!(rt; status, Status::Device);
     assert_eq!(rt; output.as_slice(), b"p.0".as_slice());
     assert_eq!(rt; output.failures(), 1);

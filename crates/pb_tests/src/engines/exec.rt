@@ -4,11 +4,13 @@ use crate::objects::FIRST;
 use pb_base::device::{MemoryInput, MemoryOutput};
 use pb_engines::{RunOptions, Status, exec_engine};
 use std::process::Abort;
+use std::sync::Wait;
 use std::test::Fail;
+use std::thread::Threads;
 
 /// Runs an object for at most seven picks, and compares what is written.
 fn check(
-    rt: &(impl Abort + AllocGlobal),
+    rt: &(impl Abort + AllocGlobal + Threads + Wait + Sync),
     object: &[u8],
     status: Status,
     said: &[u8],
@@ -16,8 +18,12 @@ fn check(
     let alloc = rt.alloc();
     let mut input = MemoryInput::new(object);
     let mut output = MemoryOutput::new(alloc, 64)?;
-    let options = RunOptions { steps: 7 };
-    let answered = exec_engine(alloc, options, &mut input, &mut output);
+    let options = RunOptions {
+        workers: 1,
+        quantum: 64,
+        steps: 7,
+    };
+    let answered = exec_engine(rt, alloc, options, &mut input, &mut output);
     assert_eq!(rt; answered, status);
     assert_eq!(rt; output.as_slice(), said);
     Ok(())

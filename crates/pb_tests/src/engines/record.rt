@@ -1,66 +1,99 @@
 //! Texts whose runs are recorded, and replayed.
 
-ghost use Rattle.std.specs.Prelude.{◌≤◌};
+ghost use Rattle.std.specs.Prelude.{◌≡◌, ◌≤◌};
 
 use crate::texts::{DEVICES, FAULT, HELLO, INCREMENTS, LOST, LOST_RUN, NESTED};
 use pb_base::device::{MemoryInput, MemoryOutput};
 use pb_engines::{RecordOptions, RunOptions, Status, record_engine, replay_engine, run_engine};
-use std::alloc::Global;
 use std::process::Abort;
+use std::sync::Wait;
 use std::test::Fail;
+use std::thread::Threads;
+
+/// One worker, and at most so many picks.
+fn numbers(steps: u32) -> RunOptions
+    requires { steps ≤ 10000000 }
+    ensures { result.steps ≡ steps }
+{
+    RunOptions {
+        workers: 1,
+        quantum: 64,
+        steps,
+    }
+}
 
 /// What is written of a text with at most so many picks, drawn with this seed if there is one.
 fn recorded(
-    alloc: Global,
+    rt: &(impl AllocGlobal + Threads + Wait + Sync),
     text: &[u8],
-    steps: u64,
+    steps: u32,
     seed: Option<u64>,
 ) -> Option<(Status, MemoryOutput)>
     requires { steps ≤ 10000000 }
 {
     let mut input = MemoryInput::new(text);
-    let mut output = MemoryOutput::new(alloc, 1_024).ok()?;
-    let options = RecordOptions { steps, seed };
-    let status = record_engine(alloc, options, &mut input, &mut output);
+    let mut output = MemoryOutput::new(rt.alloc(), 1_024).ok()?;
+    let options = RecordOptions {
+        run: numbers(steps),
+        seed,
+    };
+    let status = record_engine(rt, rt.alloc(), options, &mut input, &mut output);
     Some((status, output))
 }
 
 /// Whether this text, written with the status `Done`, is the answer to a text.
-fn writes(alloc: Global, text: &[u8], steps: u64, seed: Option<u64>, said: &[u8]) -> Option<bool>
+fn writes(
+    rt: &(impl AllocGlobal + Threads + Wait + Sync),
+    text: &[u8],
+    steps: u32,
+    seed: Option<u64>,
+    said: &[u8],
+) -> Option<bool>
     requires { steps ≤ 10000000 }
 {
-    let (status, output) = recorded(alloc, text, steps, seed)?;
+    let (status, output) = recorded(rt, text, steps, seed)?;
     Some(status == Status::Done && output.as_slice() == said)
 }
 
 /// What a replay of the record of a whole run says.
-fn replayed(alloc: Global, text: &[u8], seed: Option<u64>) -> Option<(Status, MemoryOutput)> {
-    let (_, written) = recorded(alloc, text, 1_000, seed)?;
+fn replayed(
+    rt: &(impl AllocGlobal + Threads + Wait + Sync),
+    text: &[u8],
+    seed: Option<u64>,
+) -> Option<(Status, MemoryOutput)> {
+    let (_, written) = recorded(rt, text, 1_000, seed)?;
     let mut input = MemoryInput::new(written.as_slice());
-    let mut output = MemoryOutput::new(alloc, 1_024).ok()?;
-    let status = replay_engine(alloc, &mut input, &mut output);
+    let mut output = MemoryOutput::new(rt.alloc(), 1_024).ok()?;
+    let status = replay_engine(rt.alloc(), &mut input, &mut output);
     Some((status, output))
 }
 
 /// What a run of a text says.
-fn ran(alloc: Global, text: &[u8]) -> Option<(Status, MemoryOutput)> {
+fn ran(
+    rt: &(impl AllocGlobal + Threads + Wait + Sync),
+    text: &[u8],
+) -> Option<(Status, MemoryOutput)> {
     let mut input = MemoryInput::new(text);
-    let mut output = MemoryOutput::new(alloc, 1_024).ok()?;
-    let options = RunOptions { steps: 1_000 };
-    let status = run_engine(alloc, options, &mut input, &mut output);
+    let mut output = MemoryOutput::new(rt.alloc(), 1_024).ok()?;
+    let status = run_engine(rt, rt.alloc(), numbers(1_000), &mut input, &mut output);
     Some((status, output))
 }
 
 /// Whether a replay of the record of a text without a seed says what its run says.
-fn replays_its_run(alloc: Global, text: &[u8]) -> Option<bool> {
-    let (status, output) = replayed(alloc, text, None)?;
-    let (wanted, said) = ran(alloc, text)?;
+fn replays_its_run(rt: &(impl AllocGlobal + Threads + Wait + Sync), text: &[u8]) -> Option<bool> {
+    let (status, output) = replayed(rt, text, None)?;
+    let (wanted, said) = ran(rt, text)?;
     Some(status == wanted && output.as_slice() == said.as_slice())
 }
 
 /// Whether a replay of the record of a text with this seed says these lines.
-fn replays(alloc: Global, text: &[u8], seed: u64, said: &[u8]) -> Option<bool> {
-    let (status, output) = replayed(alloc, text, Some(seed))?;
+fn replays(
+    rt: &(impl AllocGlobal + Threads + Wait + Sync),
+    text: &[u8],
+    seed: u64,
+    said: &[u8],
+) -> Option<bool> {
+    let (status, output) = replayed(rt, text, Some(seed))?;
     Some(status == Status::Done && output.as_slice() == said)
 }
 
@@ -72,7 +105,7 @@ fn writes_the_text_and_its_picks(rt: HostRuntime) {
         (0, b"process p begin print 1 end\n%%\n".as_slice()),
     ];
     for (steps, said) in table {
-        assert_eq!(rt; writes(rt.alloc(), HELLO, steps, None, said), Some(true));
+        assert_eq!(rt; writes(&rt, HELLO, steps, None, said), Some(true));
     }
 }
 
@@ -95,19 +128,19 @@ fn adds_a_line_feed_and_draws_picks(rt: HostRuntime) {
         (1_000, Some(3), lost.as_slice()),
     ];
     for (steps, seed, said) in table {
-        assert_eq!(rt; writes(rt.alloc(), INCREMENTS, steps, seed, said), Some(true));
+        assert_eq!(rt; writes(&rt, INCREMENTS, steps, seed, said), Some(true));
     }
 }
 
 #[test]
 fn a_seed_draws_the_recorded_example(rt: HostRuntime) {
-    assert_eq!(rt; writes(rt.alloc(), LOST, 1_000, Some(5), LOST_RUN), Some(true));
+    assert_eq!(rt; writes(&rt, LOST, 1_000, Some(5), LOST_RUN), Some(true));
 }
 
 #[test]
 fn a_replay_says_what_the_run_says(rt: HostRuntime) {
     for text in [HELLO, DEVICES, INCREMENTS, FAULT, NESTED] {
-        assert_eq!(rt; replays_its_run(rt.alloc(), text), Some(true));
+        assert_eq!(rt; replays_its_run(&rt, text), Some(true));
     }
 }
 
@@ -118,6 +151,6 @@ fn seeds_lose_or_keep_an_update(rt: HostRuntime) {
         (8, b"p.0 print 2\np end\ndone\n".as_slice()),
     ];
     for (seed, said) in table {
-        assert_eq!(rt; replays(rt.alloc(), INCREMENTS, seed, said), Some(true));
+        assert_eq!(rt; replays(&rt, INCREMENTS, seed, said), Some(true));
     }
 }

@@ -2,11 +2,13 @@
 
 ghost use Rattle.std.specs.Prelude.{◌≤◌};
 
-use crate::texts::{EXAMPLES, FAULT, HELLO, PROGRAMS};
+use crate::texts::{EXAMPLES, FAULT, HELLO, INCREMENTS, PROGRAMS};
 use pb_base::device::{MemoryInput, MemoryOutput};
 use pb_engines::{RunOptions, Status, run_engine};
 use std::process::Abort;
+use std::sync::Wait;
 use std::test::Fail;
+use std::thread::Threads;
 
 /// What is written of each of the programs of `examples/`, in their order.
 const EVENTS: [(Status, &[u8]); 9] = [
@@ -22,22 +24,22 @@ done
     (
         Status::Done,
         b"a.0 grant 4 florin
-a.0 grant 4 florin
-a.0 return 4 florin
-a.0 return 4 florin
-a end
 b.0 grant 2 florin
-b.0 grant 1 florin
-b.0 grant 3 florin
-b.0 return 3 florin
-b.0 return 1 florin
-b.0 return 2 florin
-b end
 c.0 grant 1 florin
 c.0 grant 3 florin
 c.0 return 3 florin
 c.0 return 1 florin
+a.0 grant 4 florin
 c end
+a.0 return 4 florin
+b.0 grant 1 florin
+a.0 return 4 florin
+b.0 grant 3 florin
+a end
+b.0 return 3 florin
+b.0 return 1 florin
+b.0 return 2 florin
+b end
 done
 ",
     ),
@@ -48,8 +50,8 @@ a.0 grant 1 disk
 a.0 print 1
 a.0 return 1 disk
 a.0 return 1 tape
-a end
 b.0 grant 1 disk
+a end
 b.0 grant 1 tape
 b.0 print 2
 b.0 return 1 tape
@@ -86,34 +88,34 @@ done
     (
         Status::Done,
         b"hypatia.0 grant 1 north
-hypatia.0 grant 1 east
-hypatia.0 print 1
-hypatia.0 return 1 east
-hypatia.0 return 1 north
-hypatia.0 grant 1 north
-hypatia.0 grant 1 east
-hypatia.0 print 2
-hypatia.0 return 1 east
-hypatia.0 return 1 north
-hypatia end
 plato.0 grant 1 east
 plato.0 grant 1 west
 plato.0 print 1
 plato.0 return 1 west
 plato.0 return 1 east
-plato.0 grant 1 east
-plato.0 grant 1 west
-plato.0 print 2
-plato.0 return 1 west
-plato.0 return 1 east
-plato end
 spinoza.0 grant 1 west
+hypatia.0 grant 1 east
+hypatia.0 print 1
+hypatia.0 return 1 east
+hypatia.0 return 1 north
+plato.0 grant 1 east
 spinoza.0 grant 1 north
 spinoza.0 print 1
 spinoza.0 return 1 north
 spinoza.0 return 1 west
+hypatia.0 grant 1 north
+plato.0 grant 1 west
+plato.0 print 2
+plato.0 return 1 west
+plato.0 return 1 east
 spinoza.0 grant 1 west
+hypatia.0 grant 1 east
+plato end
+hypatia.0 print 2
+hypatia.0 return 1 east
+hypatia.0 return 1 north
 spinoza.0 grant 1 north
+hypatia end
 spinoza.0 print 2
 spinoza.0 return 1 north
 spinoza.0 return 1 west
@@ -138,8 +140,8 @@ done
         b"a.0 grant 1 tape 1 disk
 a.0 print 1
 a.0 return 1 tape 1 disk
-a end
 b.0 grant 1 disk 1 tape
+a end
 b.0 print 2
 b.0 return 1 disk 1 tape
 b end
@@ -148,21 +150,28 @@ done
     ),
 ];
 
-/// Runs a text for at most so many picks, and compares what is written.
+/// Runs a text by one worker for at most so many picks, and compares what is written.
 fn check(
-    rt: &(impl Abort + AllocGlobal),
-    steps: u64,
+    rt: &(impl Abort + AllocGlobal + Threads + Wait + Sync),
+    quantum: u32,
+    steps: u32,
     text: &[u8],
     status: Status,
     said: &[u8],
 ) -> Result<(), Fail>
-    requires { steps ≤ 10000000 }
+    requires quantum { 1 ≤ quantum }
+    requires fits { quantum ≤ 4096 }
+    requires steps { steps ≤ 10000000 }
 {
     let alloc = rt.alloc();
     let mut input = MemoryInput::new(text);
-    let mut output = MemoryOutput::new(alloc, 1_024)?;
-    let options = RunOptions { steps };
-    let answered = run_engine(alloc, options, &mut input, &mut output);
+    let mut output = MemoryOutput::new(alloc, 2_048)?;
+    let options = RunOptions {
+        workers: 1,
+        quantum,
+        steps,
+    };
+    let answered = run_engine(rt, alloc, options, &mut input, &mut output);
     assert_eq!(rt; answered, status);
     assert_eq!(rt; output.as_slice(), said);
     Ok(())
@@ -171,7 +180,7 @@ fn check(
 #[test]
 fn runs_the_examples(rt: HostRuntime) -> Result<(), Fail> {
     for (text, (status, said)) in EXAMPLES.iter().zip(EVENTS.iter()) {
-        check(&rt, 1_000_000, text, *status, said)?;
+        check(&rt, 64, 1_000_000, text, *status, said)?;
     }
     Ok(())
 }
@@ -179,20 +188,28 @@ fn runs_the_examples(rt: HostRuntime) -> Result<(), Fail> {
 #[test]
 fn stops_after_its_steps(rt: HostRuntime) -> Result<(), Fail> {
     let done = b"p.0 print 1\np end\ndone\n";
-    check(&rt, 3, HELLO, Status::Done, done)?;
+    check(&rt, 64, 3, HELLO, Status::Done, done)?;
     let printed = b"p.0 print 1\nlimit 2\n";
-    check(&rt, 2, HELLO, Status::Limit, printed)?;
-    check(&rt, 0, HELLO, Status::Limit, b"limit 0\n")
+    check(&rt, 64, 2, HELLO, Status::Limit, printed)?;
+    check(&rt, 64, 0, HELLO, Status::Limit, b"limit 0\n")
+}
+
+#[test]
+fn a_quantum_of_one_loses_an_update(rt: HostRuntime) -> Result<(), Fail> {
+    let kept = b"p.0 print 2\np end\ndone\n";
+    check(&rt, 64, 1_000, INCREMENTS, Status::Done, kept)?;
+    let lost = b"p.0 print 1\np end\ndone\n";
+    check(&rt, 1, 1_000, INCREMENTS, Status::Done, lost)
 }
 
 #[test]
 fn tells_branches_and_faults(rt: HostRuntime) -> Result<(), Fail> {
     let branches = b"p.0 print 9\np.0 print 8\np end\ndone\n";
-    check(&rt, 1_000, PROGRAMS[19], Status::Done, branches)?;
+    check(&rt, 64, 1_000, PROGRAMS[19], Status::Done, branches)?;
     let divided = b"p.0 grant 1 t\np.0 fault divide\ndone\n";
-    check(&rt, 1_000, PROGRAMS[5], Status::Fault, divided)?;
-    let in_an_arm = b"p.1 grant 1 t\np.1 print 5\np.1 return 1 t\np.2 fault divide\ndone\n";
-    check(&rt, 1_000, FAULT, Status::Fault, in_an_arm)
+    check(&rt, 64, 1_000, PROGRAMS[5], Status::Fault, divided)?;
+    let in_an_arm = b"p.1 grant 1 t\np.2 fault divide\ndone\n";
+    check(&rt, 64, 1_000, FAULT, Status::Fault, in_an_arm)
 }
 
 #[test]
@@ -208,7 +225,7 @@ fn refuses_texts(rt: HostRuntime) -> Result<(), Fail> {
         ),
     ];
     for (text, line) in refused {
-        check(&rt, 17, text, Status::Refused, line)?;
+        check(&rt, 64, 17, text, Status::Refused, line)?;
     }
     Ok(())
 }
@@ -219,6 +236,7 @@ fn refuses_a_long_input(rt: HostRuntime) -> Result<(), Fail> {
     let text = vec![in alloc; b' '; 4_194_305]?;
     check(
         &rt,
+        64,
         17,
         text.as_slice(),
         Status::Refused,

@@ -11,4 +11,5 @@ fn each_status_has_its_number(rt: HostRuntime) {
     assert_eq!(rt; Status::Fault.number(), 4);
     assert_eq!(rt; Status::Memory.number(), 5);
     assert_eq!(rt; Status::Device.number(), 6);
+    assert_eq!(rt; Status::Threads.number(), 7);
 }

@@ -10,7 +10,7 @@ pub returns-in-Ok-clause-text : goal.returns-in-Ok-clause-text
 returns-in-Ok-clause-text g c =
     let code = c.in-Ok.compiled.verified.code in
     let labels = c.in-Ok.compiled.labels in
-    let steps = c.args.options.steps in
+    let steps = c.args.options.run.steps in
     told_reply (SaysOfRecord steps) c.args.text.now c.recording.result _ _ c.tell.result c.requires
     (replied_too (SaysOfRecording code steps c.args.text.now) (SaysOfRecord steps c.args.text.now)
     c.recording.result (accepted code labels c.in-Ok.ensures.compiled)
@@ -20,5 +20,5 @@ returns-in-Ok-clause-text g c =
 
 pub returns-in-Err-clause-text : goal.returns-in-Err-clause-text
 returns-in-Err-clause-text g c =
-    said_too SaysOfRefusedText (SaysOfRecord c.args.options.steps) c.args.text.now _ _ c.refuse.result refused
+    said_too SaysOfRefusedText (SaysOfRecord c.args.options.run.steps) c.args.text.now _ _ c.refuse.result refused
     (c.refuse.ensures.text c.args.text.now c.requires c.in-Err.ensures.refused)

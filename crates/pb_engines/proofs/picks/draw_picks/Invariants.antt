@@ -3,12 +3,12 @@ use Rattle.pb_history.specs.Replays.{spread}
 use Rattle.pb_machine.specs.Views.{machine_view, IsMachineOf}
 use Rattle.pb_picks.specs.Counted.{AreApart}
 use Rattle.pb_engines.proofs.RecordLemmas.{LeadTo}
-use Rattle.pb_engines.proofs.record.record_picks.Given as goal
+use Rattle.pb_engines.proofs.picks.draw_picks.Given as goal
 
 abbrev pub invariant-loop-left : goal.invariant-loop-left
 invariant-loop-left l = record {
   lead : LeadTo l.verified.code l.picks.items (machine_view l.machine);
-  many : length (spread l.picks.items) + l.left ≡ l.fn.options.steps;
+  many : length (spread l.picks.items) + l.left ≡ l.fn.steps;
   apart : AreApart l.picks.items;
   machine : IsMachineOf l.verified l.machine;
 }

@@ -2,7 +2,7 @@ use Rattle.std.proofs.Common.{◌≡◌, ◌<◌, ℕ, false}
 use Rattle.std.specs.Prelude.{slice_get, Some}
 use Rattle.pb_code.specs.Code.{CodeProcess}
 use Rattle.pb_machine.specs.Views.{machine_view}
-use Rattle.pb_engines.proofs.steps.has_fault.Given as goal
+use Rattle.pb_engines.proofs.faults.has_fault.Given as goal
 
 abbrev pub invariant-loop-p : goal.invariant-loop-p
 invariant-loop-p l =

@@ -3,7 +3,7 @@ use Rattle.std.specs.Fmt.{decimal}
 use Rattle.pb_engines.specs.declared.status.Status.TheVariants.{Limit}
 use Rattle.pb_engines.specs.Answers.{Says, line}
 use Rattle.pb_engines.proofs.PageLemmas.{AddsPrefix-shorter, Says-more}
-use Rattle.pb_engines.proofs.steps.tell_limit.Goals as goal
+use Rattle.pb_engines.proofs.report.tell_limit.Goals as goal
 
 pub returns-in-Ok-clause-text : goal.returns-in-Ok-clause-text
 returns-in-Ok-clause-text g c =

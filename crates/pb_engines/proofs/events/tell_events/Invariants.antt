@@ -3,7 +3,7 @@ use Rattle.pb_base.specs.Lines.{names_view}
 use Rattle.pb_history.specs.Entries.{events_of}
 use Rattle.pb_engines.specs.Answers.{Leaves}
 use Rattle.pb_engines.specs.Runs.{event_lines}
-use Rattle.pb_engines.proofs.replay.tell_events.Given as goal
+use Rattle.pb_engines.proofs.events.tell_events.Given as goal
 
 abbrev pub invariant-loop-i : goal.invariant-loop-i
 invariant-loop-i g l =

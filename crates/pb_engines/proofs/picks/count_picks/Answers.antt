@@ -1,0 +1,23 @@
+use Rattle.std.proofs.Common.{arith}
+use Rattle.pb_engines.proofs.SpanLemmas.{counted_all, counted_one, next_fits, some_picks}
+use Rattle.pb_engines.proofs.picks.count_picks.Goals as goal
+
+pub count_pick-requires-clause-some : goal.count_pick-requires-clause-some
+count_pick-requires-clause-some c = some_picks c.args.trace.now.entries c.loop-i.i c.span-span.result c.span-span.ensures
+
+pub count_pick-requires-clause-fits : goal.count_pick-requires-clause-fits
+count_pick-requires-clause-fits c =
+    next_fits c.loop-i.picks.items c.args.trace.now.entries c.loop-i.i c.span-span.result c.loop-i.invariant.0 c.span-span.ensures c.requires
+
+pub loop-i-preserved : goal.loop-i-preserved
+loop-i-preserved c = (
+  counted_one c.loop-i.picks.items c.count_pick.new.counted.items c.args.trace.now.entries c.loop-i.i c.span-span.result c.loop-i.invariant.0
+      c.span-span.ensures c.in_ok-count_pick.ensures.picks,
+  c.in_ok-count_pick.ensures.apart,
+)
+
+pub returns-clause-picks : goal.returns-clause-picks
+returns-clause-picks c =
+    let len = c.spans_len-i-end.ensures in
+    let test = c.loop-i-test.false in
+    counted_all c.loop-i.picks.items c.args.trace.now.entries c.loop-i.i c.loop-i.invariant.0 (omega (arith, len, test))

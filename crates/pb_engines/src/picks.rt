@@ -1,0 +1,98 @@
+//! The picks of a run, counted.
+ghost use Rattle.std.specs.Prelude.{◌≡◌, ◌≤◌, IfOk, MatchOption, length};
+ghost use Rattle.pb_engines.specs.Records.{IsRecorded, IsTooLong};
+ghost use Rattle.pb_history.specs.Entries.{picks_of};
+ghost use Rattle.pb_history.specs.Replays.{spread};
+ghost use Rattle.pb_picks.specs.Counted.{AreApart};
+ghost use Rattle.pb_verifier.specs.Verified.{IsVerified};
+
+use crate::choice::Chooser;
+use crate::open::Open;
+use crate::options::RunOptions;
+use crate::schedule::Next;
+use pb_base::NoMemory;
+use pb_history::{CountedPick, Trace};
+use pb_machine::Machine;
+use pb_picks::count_pick;
+use pb_verifier::Verified;
+use pb_workers::{RunFault, run_workers};
+use std::alloc::Global;
+use std::sync::Wait;
+use std::thread::Threads;
+
+/// The most counted picks that an input can have, since the line of each takes at least 5 bytes.
+const MOST_LINES: usize = 838_860;
+
+/// Returns the picks of a run of the code by workers.
+pub fn report_picks<R: Threads + Wait + Sync>(
+    rt: &R,
+    alloc: Global,
+    options: RunOptions,
+    verified: &Verified,
+) -> Result<Vec<CountedPick>, RunFault>
+    ensures { IfOk result (λ picks. IsRecorded verified.now.code options.steps picks.items) }
+{
+    let report = run_workers(
+        rt,
+        alloc,
+        verified,
+        options.workers,
+        options.quantum,
+        options.steps,
+        &Open,
+    )?;
+    match count_picks(alloc, &report.trace) {
+        Ok(picks) => Ok(picks),
+        Err(_) => Err(RunFault::NoMemory),
+    }
+}
+
+// The picks of a trace.
+fn count_picks(alloc: Global, trace: &Trace) -> Result<Vec<CountedPick>, NoMemory>
+    requires { length trace.now.entries ≤ 10000000 }
+    ensures picks { IfOk result (λ picks. spread picks.items ≡ picks_of trace.now.entries) }
+    ensures apart { IfOk result (λ picks. AreApart picks.items) }
+{
+    let mut picks = Vec::new(alloc);
+    for i in 0..trace.spans_len() {
+        let span = trace.span(i);
+        count_pick(&mut picks, span.pick, span.count)?;
+    }
+    Ok(picks)
+}
+
+/// Returns the picks of a run of the code, each drawn from those that are enabled by a generator with this seed; nothing if
+/// their lines would be too long for an input. It ends as soon as they are.
+pub fn draw_picks(
+    alloc: Global,
+    steps: u32,
+    seed: u64,
+    verified: &Verified,
+) -> Result<Option<Vec<CountedPick>>, NoMemory>
+    requires verified { IsVerified verified.now }
+    requires steps { steps ≤ 10000000 }
+    ensures { IfOk result (λ picks. MatchOption picks (IsTooLong verified.now.code steps)
+        (λ picks. IsRecorded verified.now.code steps picks.items)) }
+{
+    let mut machine = Machine::new(alloc, verified)?;
+    let mut chooser = Chooser::new(alloc, seed);
+    let mut picks = Vec::new(alloc);
+    let mut left = steps;
+    while left > 0 {
+        if picks.len() > MOST_LINES {
+            return Ok(None);
+        }
+        match chooser.step(&mut machine, verified)? {
+            Next::Silent(pick, made) => {
+                count_pick(&mut picks, pick, made)?;
+                left -= made;
+            }
+            Next::Did(pick, _) => {
+                count_pick(&mut picks, pick, 1)?;
+                left -= 1;
+            }
+            Next::NotEnabled => return Ok(Some(picks)),
+        }
+    }
+    Ok(Some(picks))
+}
