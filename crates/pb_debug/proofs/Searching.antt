@@ -1,16 +1,14 @@
 -- Searches along the picks.
-use Rattle.std.proofs.Common.{◌≡◌, ◌↔◌, Bool, ℤ, ℕ, ◌+◌, ◌<◌, ◌≤◌, inl, inr, List, Option, Some, None, sym, ap, ◌∙◌, subst, arith, slice_get, IsTrue, length}
+use Rattle.std.proofs.Common.{◌≡◌, ◌↔◌, Bool, ℤ, ℕ, ◌+◌, ◌<◌, inl, inr, List, Option, Some, None, sym, ap, ◌∙◌, subst, arith, slice_get, IsTrue, length}
 use Rattle.std.proofs.lemmas.Bool.{cases_lt}
 use Rattle.pb_base.specs.declared.event.Event.{Event}
 use Rattle.pb_base.specs.declared.pick.Pick.{Pick}
-use Rattle.pb_base.specs.declared.step.Step.TheVariants as answer
-use Rattle.pb_base.specs.Steppers.{State, Move, event_of}
+use Rattle.pb_base.specs.Steppers.{State}
 use Rattle.pb_code.specs.Code.{CodeProcess, code_step}
-use Rattle.pb_code.specs.Reached.{CodeMoves}
-use Rattle.pb_code.specs.Whole.{Code, ProcessLabels, bank_of, code_opening}
+use Rattle.pb_code.specs.Whole.{ProcessLabels, bank_of, code_opening}
 use Rattle.pb_history.specs.Positions.{AreEnabled, state_after}
 use Rattle.pb_base.specs.Lines.{HasNames}
-use Rattle.pb_history.proofs.Positions.{enabled_at, never_stays, position_reached}
+use Rattle.pb_history.proofs.Positions.{enabled_at, position_reached}
 use Rattle.pb_machine.proofs.Going.{events_have_names}
 use Rattle.pb_verifier.proofs.States.{code_move}
 use Rattle.pb_verifier.specs.declared.fault.VerifyFault.TheVariants.{OutOfLimits}
@@ -19,53 +17,9 @@ use Rattle.pb_machine.specs.Views.{machine_view}
 use Rattle.pb_machine.specs.declared.machine.Machine.{Machine}
 use Rattle.pb_debug.specs.Walks.{StandsAfter}
 use Rattle.pb_verifier.specs.Verified.{VerifiedCode, IsVerified}
-use Rattle.pb_debug.specs.Searches.{IsFirst, IsLast, Shows, StepsAt, line_at, line_in, value_at, value_in}
-
--- a pick shows one event, or none
-moves_once : (code : Code) (s n m : State CodeProcess) (pick : Pick) (e f : Option Event) → CodeMoves code s pick e n → CodeMoves code s pick f m → e ≡ f
-moves_once code s n m pick e f h g =
-    let one : Move CodeProcess = record { next = n; effect = h.0 } in
-    let other : Move CodeProcess = record { next = m; effect = g.0 } in
-    let both : Some one ≡ Some other = sym h.1 ∙ g.1 in
-    let same : one ≡ other = cc in
-    sym h.3 ∙ (ap (λ (x : Move CodeProcess). event_of pick x.effect) same ∙ g.3)
-
-pub shows_event : (code : Code) (picks : List Pick) (k : ℕ) (event : Event) → StepsAt code picks k (answer.Did event) → Shows code picks k event
-shows_event code picks k event h = record { pick = h.pick; there = h.there; moves = h.steps }
-
-pub shows_none : (code : Code) (picks : List Pick) (k : ℕ) → StepsAt code picks k answer.Silent → (event : Event) → Shows code picks k event → ⊥
-shows_none code picks k h event s =
-    let both : Some h.pick ≡ Some s.pick = sym h.there ∙ s.there in
-    let same : h.pick ≡ s.pick = cc in
-    let moves = subst (λ (p : Pick). CodeMoves code (state_after code picks k) p None (state_after code picks (k + 1))) same h.steps in
-    let e = moves_once code _ _ _ s.pick None (Some event) moves s.moves in
-    cc
-
-pub never_stopped : (code : Code) (picks : List Pick) (k : ℕ) → AreEnabled code picks → StepsAt code picks k answer.NotEnabled → ⊥
-never_stopped code picks k all h = never_stays code picks all k h.pick h.there h.steps.0
+use Rattle.pb_debug.specs.Searches.{IsLast, Shows, line_at, line_in, value_at, value_in}
 
 -- ---- the first and the last
-
--- none from here on, and so none from one before that is not
-pub first_on : (Holds : ℕ → Type 0) (from here past : ℕ) (o : Option ℕ) → from ≤ here → ((j : ℕ) → from ≤ j → j < here → Holds j → ⊥)
-    → IsFirst Holds here past o → IsFirst Holds from past o
-first_on Holds from here past None le none h = λ k a b holds. elim (cases_lt k here) [
-  | inl lt ↦ none k a lt holds
-  | inr past ↦ h k past b holds
-]
-first_on Holds from here past (Some k) le none (a, b, holds, first) = (
-  omega (arith, le, a),
-  b,
-  holds,
-  λ j c d other. elim (cases_lt j here) [
-    | inl lt ↦ none j c lt other
-    | inr past ↦ first j past d other
-  ],
-)
-
--- one number more that is
-pub last_here : (Holds : ℕ → Type 0) (from at : ℕ) → from ≤ at → Holds at → IsLast Holds from (at + 1) (Some at)
-last_here Holds from at le holds = (le, omega arith, holds, λ j a b other. absurd (omega (arith, a, b)))
 
 -- one number more that is not
 pub last_more : (Holds : ℕ → Type 0) (from at : ℕ) (o : Option ℕ) → IsLast Holds from at o → (Holds at → ⊥) → IsLast Holds from (at + 1) o
@@ -80,26 +34,6 @@ last_more Holds from at (Some k) (a, b, holds, last) not = (
   λ j c d other. elim (cases_lt j at) [
     | inl lt ↦ last j c lt other
     | inr le ↦ (let same : j ≡ at = omega (arith, le, d) in not (subst Holds same other))
-  ],
-)
-
--- none from a place on: the last is one before it
-pub last_back : (Holds : ℕ → Type 0) (start end past : ℕ) → end ≤ past → ((j : ℕ) → end ≤ j → j < past → Holds j → ⊥)
-    → IsLast Holds start end None → ((j : ℕ) → start ≤ j → j < past → Holds j → ⊥)
-last_back Holds start end past le none h j a b holds = elim (cases_lt j end) [
-  | inl lt ↦ h j a lt holds
-  | inr le ↦ none j le b holds
-]
-
-pub last_found : (Holds : ℕ → Type 0) (start end past k : ℕ) → end ≤ past → ((j : ℕ) → end ≤ j → j < past → Holds j → ⊥)
-    → IsLast Holds start end (Some k) → IsLast Holds 0 past (Some k)
-last_found Holds start end past k le none (a, b, holds, last) = (
-  omega arith,
-  omega (arith, b, le),
-  holds,
-  λ j c d other. elim (cases_lt j end) [
-    | inl lt ↦ last j c lt other
-    | inr le ↦ none j le d other
   ],
 )
 

@@ -1,9 +1,7 @@
 -- Machines that walk along a trace.
-use Rattle.std.proofs.Common.{◌≡◌, inl, inr, ℕ, zero, suc, ◌+◌, ◌-◌, ◌*◌, ◌/◌, ◌<◌, ◌≤◌, List, [], ◌∷◌, ◌++◌, Some, None, take, drop, length, replicate, sym, ap, ◌∙◌, subst, append_assoc, length-append, arith}
+use Rattle.std.proofs.Common.{◌≡◌, inl, inr, ℕ, zero, suc, ◌+◌, ◌-◌, ◌*◌, ◌<◌, ◌≤◌, List, [], ◌∷◌, ◌++◌, Some, None, take, drop, length, replicate, sym, ap, ◌∙◌, subst, append_assoc, length-append, arith}
 use Rattle.std.specs.Prelude.{slice_get}
-use Rattle.std.proofs.lemmas.Bool.{cases_lt}
 use Rattle.std.proofs.lemmas.List.{length-map, length-replicate, take-append-le}
-use Rattle.std.proofs.Math.Nat.{div-lt_iff_lt-mul}
 use Rattle.pb_base.specs.declared.pick.Pick.{Pick}
 use Rattle.pb_base.specs.declared.step.Step.{Step}
 use Rattle.pb_base.specs.Steppers.{State}
@@ -152,13 +150,3 @@ count_within picks i =
 -- checkpoints are some way apart
 pub interval_some : (n interval : ℕ) → interval ≡ interval_of n → 0 < interval
 interval_some n interval e = omega (arith, e)
-
--- whole distances
-pub distance_within : (n d k : ℕ) → 0 < d → k ≤ n / d → k * d ≤ n
-distance_within n d k some le = elim (cases_lt n (k * d)) [
-  | inl lt ↦ (let past : n / d < k = (div-lt_iff_lt-mul some).1 lt in absurd (omega (arith, past, le)))
-  | inr le ↦ le
-]
-
-pub distance_past : (n d : ℕ) → 0 < d → n < (n / d + 1) * d
-distance_past n d some = (div-lt_iff_lt-mul some).0 (omega arith)

@@ -1,4 +1,4 @@
-use Rattle.std.proofs.Common.{◌≡◌, ◌+◌, ◌∙◌, ap, sym, subst}
+use Rattle.std.proofs.Common.{◌+◌, ◌∙◌, subst}
 use Rattle.pb_history.specs.Entries.{picks_of}
 use Rattle.pb_debug.specs.Searches.{value_at}
 use Rattle.pb_debug.specs.Walks.{StandsAfter}

@@ -1,4 +1,4 @@
-use Rattle.std.proofs.Common.{◌≡◌, ◌+◌, ℕ, Option, Some, None, length, inl, inr, refl, subst}
+use Rattle.std.proofs.Common.{◌+◌, ℕ, Option, Some, None, length, inl, inr, refl, subst}
 use Rattle.pb_debug.specs.Searches.{Does, IsFirst}
 use Rattle.pb_debug.specs.Texts.{at_text, not_reached_text}
 use Rattle.pb_debug.specs.declared.search.Watch.TheVariants as watch
