@@ -1,6 +1,5 @@
 -- Searches along the picks.
-use Rattle.std.proofs.Common.{◌≡◌, ◌↔◌, Bool, ℤ, ℕ, ◌+◌, ◌<◌, inl, inr, List, Option, Some, None, sym, ap, ◌∙◌, subst, arith, slice_get, IsTrue, length}
-use Rattle.std.proofs.lemmas.Bool.{cases_lt}
+use Rattle.std.proofs.Common.{◌≡◌, ◌↔◌, Bool, ℤ, ℕ, ◌+◌, ◌<◌, List, Option, Some, sym, ap, ◌∙◌, arith, slice_get, IsTrue, length}
 use Rattle.pb_base.specs.declared.event.Event.{Event}
 use Rattle.pb_base.specs.declared.pick.Pick.{Pick}
 use Rattle.pb_base.specs.Steppers.{State}
@@ -17,25 +16,7 @@ use Rattle.pb_machine.specs.Views.{machine_view}
 use Rattle.pb_machine.specs.declared.machine.Machine.{Machine}
 use Rattle.pb_debug.specs.Walks.{StandsAfter}
 use Rattle.pb_verifier.specs.Verified.{VerifiedCode, IsVerified}
-use Rattle.pb_debug.specs.Searches.{IsLast, Shows, line_at, line_in, value_at, value_in}
-
--- ---- the first and the last
-
--- one number more that is not
-pub last_more : (Holds : ℕ → Type 0) (from at : ℕ) (o : Option ℕ) → IsLast Holds from at o → (Holds at → ⊥) → IsLast Holds from (at + 1) o
-last_more Holds from at None h not = λ k a b holds. elim (cases_lt k at) [
-  | inl lt ↦ h k a lt holds
-  | inr le ↦ (let same : k ≡ at = omega (arith, le, b) in not (subst Holds same holds))
-]
-last_more Holds from at (Some k) (a, b, holds, last) not = (
-  a,
-  omega (arith, b),
-  holds,
-  λ j c d other. elim (cases_lt j at) [
-    | inl lt ↦ last j c lt other
-    | inr le ↦ (let same : j ≡ at = omega (arith, le, d) in not (subst Holds same other))
-  ],
-)
+use Rattle.pb_debug.specs.Searches.{Shows, line_at, line_in, value_at, value_in}
 
 -- all that an event of the picks speaks of has a name
 pub shown_named : (v : VerifiedCode) (picks : List Pick) (k : ℕ) (event : Event) → IsVerified v → AreEnabled v.code picks
