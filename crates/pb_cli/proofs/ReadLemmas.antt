@@ -8,9 +8,7 @@ use Rattle.clap.proofs.OnLiterals.{clap_on_literals}
 use Rattle.pb_cli.specs.CommandLine.{command_line, with_text_commands, with_code_commands, with_object_commands, with_pick_commands, check_command, claims_command, emit_command, exec_command, migrate_command, record_command, replay_command, run_command, with_run_rules}
 use Rattle.clap.specs.declared.parser.matches.Found.{Found}
 use Rattle.clap.proofs.WalkLemmas.{one_text-rows}
-use Rattle.pb_object.specs.declared.format.Format.{Format}
-use Rattle.pb_object.specs.declared.format.Format.TheVariants.{One, Two}
-use Rattle.pb_cli.specs.Read.{BlamesWords, HasCheckNumbers, HasEmitNumber, HasNumber, HasNumberIn, HasOptionalNumber, HasRecordNumbers, HasRunNumbers, IsReadFrom, IsReadFromMatches, format_number}
+use Rattle.pb_cli.specs.Read.{BlamesWords, HasCheckNumbers, HasEmitNumber, HasNumber, HasNumberIn, HasOptionalNumber, HasRecordNumbers, HasRunNumbers, IsReadFrom, IsReadFromMatches}
 use Rattle.pb_cli.specs.declared.options.Options.{Options}
 use Rattle.pb_cli.specs.declared.options.Options.TheVariants.{Check, Claims, Emit, Exec, Migrate, Record, Replay, Run}
 use Rattle.pb_engines.specs.declared.options.CheckOptions.{CheckOptions}
@@ -131,15 +129,6 @@ no_record_seed rows none given o says = go o.seed says.1 says.2
     go : (seed : Option ℕ) → HasOptionalNumber rows (codes "seed") seed → IfSome seed (λ n. n ≤ 18446744073709551615) → ⊥
     go None h fits = given h
     go (Some n) h fits = none n (h, omega arith, fits)
-
--- where no number of a format is read, no format is
-pub no_format : (rows : List Row) → ((n : ℕ) → HasNumberIn rows (codes "object") 1 2 n → ⊥) → (o : EmitOptions)
-    → HasEmitNumber rows o → ⊥
-no_format rows none o says = none (format_number o.object) (says, (within o.object).0, (within o.object).1)
-  where
-    within : (format : Format) → (1 ≤ format_number format) × (format_number format ≤ 2)
-    within One = (omega arith, omega arith)
-    within Two = (omega arith, omega arith)
 
 -- where nothing is read of an option, the rows have no text for it
 pub no_text : {E : Type 0} (gives : Text → Result ℕ E → Type 0) (f : Found) (id : Text) (read : Result (Option ℕ) E) → read ≡ Ok None

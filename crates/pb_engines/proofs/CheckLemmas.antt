@@ -1,10 +1,9 @@
 -- Texts that are looked at one after another, and their answers.
-use Rattle.std.proofs.Common.{◌≡◌, ℕ, ◌+◌, ◌-◌, ◌<◌, ◌≤◌, Bool, true, false, List, [], ◌∷◌, ◌++◌, length, drop, Option, Some, None, IfSome, IfNone, refl, sym, ap, ◌∙◌, subst, inl, inr, arith, append_assoc, append-nil, ◌||◌}
-use Rattle.std.proofs.lemmas.List.{length-drop}
+use Rattle.std.proofs.Common.{◌≡◌, ℕ, ◌+◌, ◌-◌, Bool, true, false, List, [], ◌∷◌, ◌++◌, drop, Option, Some, None, IfSome, IfNone, refl, sym, subst, inl, inr, append_assoc, append-nil, ◌||◌}
 use Rattle.pb_base.specs.Device.{AddsPrefix}
 use Rattle.pb_engines.specs.Answers.{line, memory_line, Leaves, Says, Tells, Spoken}
 use Rattle.pb_engines.specs.Checks.{ill, AnswersTo, none, then, IsLeft, AreFirstParts, check_status, SaysOfChecks, answered, out_of_memory, cut_off, TellsAnswer, AreTold}
-use Rattle.pb_engines.specs.Parts.{IsMark, IsMarkAt, IsCutAt, AreParts, last, more}
+use Rattle.pb_engines.specs.Parts.{IsMarkAt, IsCutAt, AreParts, last, more}
 use Rattle.pb_engines.specs.Refusals.{RefusesWith}
 use Rattle.pb_engines.specs.declared.check.Told.TheVariants as told
 use Rattle.pb_engines.specs.declared.status.Status.{Status}
@@ -22,18 +21,6 @@ pub refusal_broken : (text refusal : List ℕ) (old new : Spoken) → RefusesWit
 refusal_broken text refusal old new is part = (line refusal, true, ill refusal is, part)
 
 -- ---- the texts so far
-
--- behind a mark there is less than before it
-pub cut_is_shorter : (text part rest : List ℕ) → IsCutAt text part rest → length rest < length text
-cut_is_shorter text part rest (at, mark, first, part_is, rest_is) =
-    let long : 2 ≤ length (drop at text) = go (drop at text) mark.marks in
-    let behind : length (drop at text) ≡ length text - at = length-drop at text in
-    let left : length rest ≡ length text - (at + 3) = ap (λ (r : List ℕ). length r) rest_is ∙ length-drop (at + 3) text in
-    omega (arith, long, behind, left)
-  where
-    go : (line : List ℕ) → IsMark line → 2 ≤ length line
-    go line (inl is) = subst (λ (l : List ℕ). 2 ≤ length l) (sym is) (omega arith)
-    go line (inr (after, is)) = subst (λ (l : List ℕ). 2 ≤ length l) (sym is) (omega arith)
 
 pub told_none : (bytes : List ℕ) (w : Option (List ℕ)) (page : List ℕ) → page ≡ [] → AreTold bytes bytes w false (record { written = w; page = page })
 told_none bytes w page empty = record {

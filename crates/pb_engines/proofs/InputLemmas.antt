@@ -41,14 +41,6 @@ fails bytes w = ([], Device, nothing, said_nothing w)
 
 -- ---- what is said of an input
 
-pub told_not_read : (SaysOf : List ℕ → List ℕ → Status → Type 0) (bytes : List ℕ) (old new : Option (List ℕ)) (given : Status)
-    → Tells (SaysOfReading bytes) old new given → Tells (SaysOfInput SaysOf bytes) old new given
-told_not_read SaysOf bytes old new given (text, status, says, said) = (text, status, not_read says, said)
-
-pub told_read : (SaysOf : List ℕ → List ℕ → Status → Type 0) (bytes : List ℕ) (old new : Option (List ℕ)) (given : Status)
-    → length bytes ≤ 4194304 → Tells (SaysOf bytes) old new given → Tells (SaysOfInput SaysOf bytes) old new given
-told_read SaysOf bytes old new given short (text, status, says, said) = (text, status, read short says, said)
-
 -- a reply that was made, or for which there was no memory
 pub told_reply : (SaysOf : List ℕ → List ℕ → Status → Type 0) (bytes : List ℕ) (reply : Result Reply NoMemory) (old new : Option (List ℕ))
     (given : Status) → length bytes ≤ 4194304 → IfOk reply (λ r. SaysOf bytes r.text.items r.status)

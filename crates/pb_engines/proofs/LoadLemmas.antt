@@ -1,12 +1,7 @@
 -- From what reading and verifying answer to what is said of an object.
 use Rattle.std.proofs.Common.{◌≡◌, ℕ, List, Result, Ok, Err, IfOk, subst, sym}
 use Rattle.pb_base.specs.declared.memory.NoMemory.{NoMemory}
-use Rattle.pb_object.specs.Answers.{Spells}
-use Rattle.pb_code.specs.Whole.{Code, ProcessLabels}
-use Rattle.pb_object.specs.declared.format.Format.{Format}
-use Rattle.pb_verifier.specs.Verified.{IsAnnotated}
 use Rattle.pb_engines.specs.Answers.{line}
-use Rattle.pb_engines.specs.Loading.{IsLoaded}
 use Rattle.pb_engines.specs.declared.reply.Reply.{Reply}
 use Rattle.pb_engines.specs.declared.status.Status.{Status}
 use Rattle.pb_engines.specs.declared.status.Status.TheVariants.{Refused}
@@ -17,12 +12,3 @@ pub of_refusal : (reply : Result Reply NoMemory) (text : List ℕ) (Says : List 
 of_refusal (Ok r) text Says says (same, status) =
     subst (λ (t : List ℕ). Says t r.status) (sym same) (subst (λ (s : Status). Says (line text) s) (sym status) says)
 of_refusal (Err e) text Says says is = tt
-
--- what was read, and then verified
-pub is_loaded : (bytes : List ℕ) (read verified : Code) (labels : List ProcessLabels)
-    → (format : Format) × Spells format read labels bytes → verified ≡ read → IsAnnotated verified → IsLoaded bytes verified labels
-is_loaded bytes read verified labels (format, spells) same safe = record {
-  format = format;
-  spelled = subst (λ (code : Code). Spells format code labels bytes) (sym same) spells;
-  safe = safe;
-}

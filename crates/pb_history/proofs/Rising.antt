@@ -193,7 +193,3 @@ goes_on_last (d ∷ []) pick e h =
 goes_on_last (d ∷ (f ∷ ends)) pick e h =
     let n : suc (suc (length ends)) - 1 ≡ suc (suc (length ends) - 1) = omega arith in
     goes_on_last (f ∷ ends) pick e (ap (slice_get (d ∷ (f ∷ ends))) (sym n) ∙ h)
-
-pub goes_on_none : (ends : List SpanEnd) (pick : Pick) → length ends ≡ 0 → goes_on ends pick ≡ false
-goes_on_none [] pick h = refl
-goes_on_none (e ∷ ends) pick h = absurd (omega arith)

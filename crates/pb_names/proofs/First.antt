@@ -4,7 +4,7 @@ use Rattle.std.proofs.Common.{option_map, ◌⊎◌, inl, inr, arith, ap, sym, �
 use Rattle.std.specs.Prelude.{slice_get}
 use Rattle.std.proofs.lemmas.Bool.{cases_lt}
 use Rattle.std.proofs.lemmas.Bool.Decides.{leb_tells}
-use Rattle.std.proofs.lemmas.Option.{slice_get-map, slice_get_read, slice_get_within, slice_get-get_or}
+use Rattle.std.proofs.lemmas.Option.{slice_get-map, slice_get_read, slice_get_within}
 use Rattle.pb_names.specs.Causes.{Causes, Either, Among}
 use Rattle.pb_names.specs.Search.{IsFirst, IsFree, earlier_of}
 use Rattle.pb_names.specs.declared.causes.Cause.{Cause}
@@ -65,9 +65,6 @@ free_right none = record { free = λ c h. none.free c (inr h) }
 abbrev pub AmongBelow : {T : Type 0} → (List T → T → Causes) → List T → ℕ → Causes
 AmongBelow of xs n cause = (found : Among of xs cause) × (found.place < n)
 
-pub among_none : {T : Type 0} (of : List T → T → Causes) (xs : List T) → IsFirst (AmongBelow of xs 0) None
-among_none of xs = first_none _ (λ c h. absurd (omega (arith, h.1)))
-
 -- at the next element
 at_place : {T : Type 0} (of : List T → T → Causes) (xs : List T) (i k : ℕ) (x y : T) (c : Cause)
     → slice_get xs i ≡ Some x → slice_get xs k ≡ Some y → k ≡ i → of (take k xs) y c → of (take i xs) x c
@@ -114,13 +111,6 @@ pub view_read : {S T : Type 0} (view : S → T) (all xs : List S) (i : ℕ) (x :
 view_read view all xs i x list below here =
     ap (λ ys. slice_get (map view ys) i) (sym list)
     ∙ slice_get-map view xs i ∙ ap (option_map view) (slice_get_read xs _ i x refl below here)
-
--- as a loop over references reads it
-pub read_at : {S T : Type 0} (view : S → T) (all xs : List S) (i : ℕ) (d : S) → xs ≡ all → i < length xs
-    → slice_get (map view all) i ≡ Some (view (get_or xs i d))
-read_at view all xs i d list below =
-    ap (λ ys. slice_get (map view ys) i) (sym list)
-    ∙ slice_get-map view xs i ∙ ap (option_map view) (slice_get-get_or xs i d below)
 
 pub some_same : {X : Type 0} {x y : X} → Some x ≡ Some y → x ≡ y
 some_same e = cc

@@ -1,20 +1,17 @@
 -- Names, their numbers, and names that have none.
-use Rattle.std.proofs.Common.{◌≡◌, ◌≢◌, ℕ, zero, suc, ◌<◌, ◌≤◌, List, [], ◌∷◌, map, take}
-use Rattle.std.proofs.Common.{Option, Some, None, ◌⊎◌, inl, inr, arith, ap, ◌∙◌, refl, pos, option_map}
+use Rattle.std.proofs.Common.{◌≡◌, ◌≢◌, ℕ, zero, suc, ◌<◌, List, [], ◌∷◌, map, take}
+use Rattle.std.proofs.Common.{Some, None, arith, ap, ◌∙◌, refl, option_map}
 use Rattle.std.specs.Prelude.{slice_get}
-use Rattle.std.proofs.lemmas.Bool.{cases_lt}
 use Rattle.std.proofs.lemmas.List.{take-map}
 use Rattle.std.proofs.lemmas.Option.{slice_get_within, slice_get-map}
-use Rattle.pb_tree.specs.Syntax.{NameSyntax, NumberSyntax}
+use Rattle.pb_tree.specs.Syntax.{NameSyntax}
 use Rattle.pb_tree.specs.View.{demand_view}
 use Rattle.pb_tree.specs.declared.stmt.Demand.{Demand}
-use Rattle.pb_names.specs.Causes.{IsUnknown, IsAgain, IsOutside}
+use Rattle.pb_names.specs.Causes.{IsAgain}
 use Rattle.pb_names.specs.Program.{Name}
 use Rattle.pb_names.specs.Resolves.{texts}
-use Rattle.pb_names.specs.Index.{IsFirstNumber}
 use Rattle.pb_names.specs.Search.{IsFirst}
 use Rattle.pb_names.specs.declared.causes.Wrong.{Wrong}
-use Rattle.pb_names.specs.declared.causes.Wrong.TheVariants.{Unknown, Amount}
 use Rattle.pb_names.proofs.First.{first_none, first_one}
 
 -- ---- the first elements of a list
@@ -55,15 +52,6 @@ taken_names name xs i = taken_texts (map name xs) i ∙ ap texts (take-map name 
 
 -- ---- names that are not declared, and names that are declared before
 
-pub name_known : (declared : List Name) (x : NameSyntax) (i : ℕ)
-    → IsFirstNumber declared x.text (Some i) → IsFirst (IsUnknown declared x) None
-name_known declared x i first = first_none _ (λ c h. h.undeclared i first.0)
-
-pub name_unknown : (declared : List Name) (x : NameSyntax) → IsFirstNumber declared x.text None
-    → IsFirst (IsUnknown declared x) (Some (record { at = x.at; wrong = Unknown }))
-name_unknown declared x none =
-    first_one _ _ (record { undeclared = none; is = refl }) (λ c h. let e = ap (λ d. d.at) h.is in omega arith)
-
 -- a name that stands among the first n, at this place
 pub again_here : (wrong : Wrong) (names : List Name) (n k : ℕ) (x : NameSyntax) → k < n
     → slice_get names k ≡ Some x.text
@@ -78,22 +66,6 @@ pub again_nowhere : (wrong : Wrong) (names : List Name) (n : ℕ) (x : NameSynta
 again_nowhere wrong names n x other =
     first_none _ (λ c h. let r = take_read names n h.first x.text h.again in other h.first r.0 r.1)
 
--- a name whose first number is not its own stands before it
-pub again_before : (wrong : Wrong) (declared : List Name) (i : ℕ) (x : NameSyntax) (o : Option ℕ)
-    → slice_get declared i ≡ Some x.text → IsFirstNumber declared x.text o → o ≢ Some i
-    → IsFirst (IsAgain wrong (take i declared) x) (Some (record { at = x.at; wrong = wrong }))
-again_before wrong declared i x None here first other = absurd (first i here)
-again_before wrong declared i x (Some j) here first other =
-    again_here wrong declared i j x (before (cases_lt j i)) first.0
-  where
-    before : (j < i) ⊎ (i ≤ j) → j < i
-    before (inl less) = less
-    before (inr most) = late (cases_lt i j)
-      where
-        late : (i < j) ⊎ (j ≤ i) → j < i
-        late (inl more) = absurd (first.1 i more here)
-        late (inr least) = let e : j ≡ i = omega arith in absurd (other (ap (λ k. Some k) e))
-
 -- the names in the first pairs of a hold
 pub demand_texts : {A : Type 0} (ds : List (Demand A)) (n : ℕ)
     → texts (map (λ d. d.resource) (take n (map demand_view ds)))
@@ -102,15 +74,3 @@ demand_texts [] zero = refl
 demand_texts [] (suc n) = refl
 demand_texts (d ∷ ds) zero = refl
 demand_texts (d ∷ ds) (suc n) = ap (λ rest. d.resource.text.items ∷ rest) (demand_texts ds n)
-
--- ---- numbers
-
-pub number_inside : (least : ℕ) (n : NumberSyntax) (k : ℕ) → n.value ≡ pos k → (least ≤ k) × (k ≤ 1000000)
-    → IsFirst (IsOutside least n) None
-number_inside least n k value range = first_none _ (λ c h. h.outside k range.0 range.1 value)
-
-pub number_outside : (least : ℕ) (n : NumberSyntax)
-    → ((k : ℕ) → least ≤ k → k ≤ 1000000 → n.value ≢ pos k)
-    → IsFirst (IsOutside least n) (Some (record { at = n.at; wrong = Amount }))
-number_outside least n none =
-    first_one _ _ (record { outside = none; is = refl }) (λ c h. let e = ap (λ d. d.at) h.is in omega arith)

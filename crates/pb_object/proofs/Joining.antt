@@ -7,12 +7,11 @@ use Rattle.std.proofs.lemmas.List.Concat.{flat_map-cons}
 use Rattle.pb_base.specs.declared.pair.Pair.{Pair}
 use Rattle.pb_base.specs.declared.operators.UnaryOp.TheVariants as unary
 use Rattle.pb_base.specs.declared.operators.BinaryOp.TheVariants as binary
-use Rattle.pb_code.specs.Code.{Instr, Push, Load, Store, Compute1, Compute2, Jump, JumpIfZero, PrintTop, Take, Give, Fork, Join, End}
 use Rattle.pb_object.specs.Rows.{side_by_side}
 use Rattle.pb_code.specs.Names.{Word}
 use Rattle.pb_object.proofs.Sides.{side_push}
 use Rattle.pb_object.proofs.Turns.{up_to_here}
-use Rattle.pb_object.specs.Instructions.{pair_words, instr_words}
+use Rattle.pb_object.specs.Instructions.{pair_words}
 
 pub join_push : (k : Word) (ws : List Word) (w : Word) → join_with_byte 32 (k ∷ (ws ++ w ∷ [])) ≡ join_with_byte 32 (k ∷ ws) ++ 32 ∷ w
 join_push k [] w = refl
@@ -33,35 +32,6 @@ join_pair k ps i d lt =
     ∙ ap (λ (ws : List Word). join_with_byte 32 (k ∷ ws)) (pair_words_push (take i ps) p)
     ∙ join_push k (pair_words (take i ps) ++ decimal p.resource ∷ []) (decimal p.amount)
     ∙ ap (λ (t : List ℕ). t ++ 32 ∷ decimal p.amount) (join_push k (pair_words (take i ps)) (decimal p.resource))
-
--- an instruction has a keyword, so a word before it is followed by a space
-pub join_instr : (w : Word) (i : Instr) → join_with_byte 32 (w ∷ instr_words i) ≡ w ++ 32 ∷ join_with_byte 32 (instr_words i)
-join_instr w (Push v) = refl
-join_instr w (Load x) = refl
-join_instr w (Store x) = refl
-join_instr w (Compute1 unary.Negate) = refl
-join_instr w (Compute1 unary.Not) = refl
-join_instr w (Compute2 binary.Add) = refl
-join_instr w (Compute2 binary.Subtract) = refl
-join_instr w (Compute2 binary.Multiply) = refl
-join_instr w (Compute2 binary.Quotient) = refl
-join_instr w (Compute2 binary.Remainder) = refl
-join_instr w (Compute2 binary.Equal) = refl
-join_instr w (Compute2 binary.Unequal) = refl
-join_instr w (Compute2 binary.Less) = refl
-join_instr w (Compute2 binary.AtMost) = refl
-join_instr w (Compute2 binary.Greater) = refl
-join_instr w (Compute2 binary.AtLeast) = refl
-join_instr w (Compute2 binary.And) = refl
-join_instr w (Compute2 binary.Or) = refl
-join_instr w (Jump t) = refl
-join_instr w (JumpIfZero t) = refl
-join_instr w PrintTop = refl
-join_instr w (Take ps) = refl
-join_instr w (Give ps) = refl
-join_instr w (Fork f n) = refl
-join_instr w (Join f n) = refl
-join_instr w End = refl
 
 regroup : (a b c d : List ℕ) → ((a ++ b) ++ c) ++ d ≡ a ++ ((b ++ c) ++ d)
 regroup a b c d = simp append_assoc

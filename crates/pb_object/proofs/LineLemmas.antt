@@ -68,9 +68,6 @@ all_by_index p xs each h = All-from_recursion (λ b. p b ≡ false) xs (all_rec 
 inner_space : (b : ℕ) → is_inner b ≡ true → eqb b 32 ≡ false
 inner_space b h = not_true (eqb b 32) (both_true _ _ h).0
 
-inner_end : (b : ℕ) → is_inner b ≡ true → eqb b 10 ≡ false
-inner_end b h = not_true (eqb b 10) (both_true _ _ h).1
-
 split_again : (w : Word) (ws : List Word) → AreWords (w ∷ ws) → slice_split (λ b. eqb b 32) (join_with_byte 32 (w ∷ ws)) ≡ w ∷ ws
 split_again w [] h = slice_split_none (λ b. eqb b 32) w (all_by_index (λ b. eqb b 32) w inner_space h.0)
 split_again w (v ∷ ws) h =

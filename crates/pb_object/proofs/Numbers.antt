@@ -26,10 +26,6 @@ digit_more ds i all lt =
     let d : digit_value (get_or ds i 0) + 48 ≡ get_or ds i 0 = digit_value_digit (get_or ds i 0) (digit_at ds i (own.to ds all) lt) in
     (omega (arith, more, d), omega (arith, d))
 
-either : (a b : Bool) → (a || b) ≡ true → a ≡ false → b ≡ true
-either true b e h = absurd cc
-either false b e h = e
-
 pub none_of : (a b : Bool) → (a || b) ≡ false → (a ≡ false) × (b ≡ false)
 none_of true b e = absurd cc
 none_of false b e = (refl, e)

@@ -50,9 +50,6 @@ gathered false front (Read xs) = Read (front ++ xs)
 abbrev cons_of : {A : Type 0} → Verdict A → Verdict (List A) → Verdict (List A)
 cons_of x xs = mapped (λ p. p.0 ∷ p.1) (paired x xs)
 
-pub gathered_bad : {A : Type 0} (b : Bool) (front : List A) (v : Verdict (List A)) → gathered b front (cons_of Malformed v) ≡ Malformed
-gathered_bad b front v = refl
-
 pub gathered_beyond : {A : Type 0} (b : Bool) (front : List A) (v : Verdict (List A)) → gathered b front (cons_of Beyond v) ≡ gathered true front v
 gathered_beyond b front Malformed = refl
 gathered_beyond b front Beyond = refl

@@ -1,19 +1,10 @@
 -- One step at each kind of item, by what the step of its expression is.
-use Rattle.std.proofs.Common.{◌≡◌, ◌≢◌, ℕ, zero, suc, ℤ, pos, negsuc, true, false, cond, List, ◌∷◌, ◌++◌, set, ap, refl}
+use Rattle.std.proofs.Common.{◌≡◌, ℕ, ℤ, cond, List, ◌∷◌, ◌++◌, set, ap}
 use Rattle.pb_base.specs.Arithmetic.{is_zero}
 use Rattle.pb_base.specs.Steppers.{Silent, Prints}
-use Rattle.pb_base.specs.declared.operators.FaultKind.{FaultKind}
 use Rattle.pb_names.specs.Program.{Expr, Number, Block}
-use Rattle.pb_names.specs.Source.{Item, Assign, Print, Choice, Loop, items_of, Doing, Goes, Breaks, evaluate}
-use Rattle.pb_names.specs.Source.{step_expr, step_items, Becomes, Fails}
-
-pub zero_is : (v : ℤ) → v ≡ pos 0 → is_zero v ≡ true
-zero_is v h = ap is_zero h
-
-pub nonzero_is : (v : ℤ) → v ≢ pos 0 → is_zero v ≡ false
-nonzero_is (pos zero) h = absurd (h refl)
-nonzero_is (pos (suc n)) h = refl
-nonzero_is (negsuc n) h = refl
+use Rattle.pb_names.specs.Source.{Item, Assign, Print, Choice, Loop, items_of, Doing, Goes, evaluate}
+use Rattle.pb_names.specs.Source.{step_expr, step_items, Becomes}
 
 module _ (vars : List ℤ) (line : ℕ) (rest : List Item) where
   module _ (x : ℕ) where
@@ -26,11 +17,6 @@ module _ (vars : List ℤ) (line : ℕ) (rest : List Item) where
     assign_becomes e e' h =
         ap (λ r. evaluate r (λ y. Goes vars (Doing (Assign line x y ∷ rest)) Silent) (λ v. Goes (set vars x v) (Doing rest) Silent)) h
 
-    pub assign_fails : (e : Expr) (kind : FaultKind) → step_expr vars e ≡ Fails kind
-        → step_items vars (Assign line x e ∷ rest) ≡ Breaks kind
-    assign_fails e kind h =
-        ap (λ r. evaluate r (λ y. Goes vars (Doing (Assign line x y ∷ rest)) Silent) (λ v. Goes (set vars x v) (Doing rest) Silent)) h
-
   pub print_is : (e : Expr) (v : ℤ) → e ≡ Number v
       → step_items vars (Print line e ∷ rest) ≡ Goes vars (Doing rest) (Prints v)
   print_is e v h = ap (λ y. step_items vars (Print line y ∷ rest)) h
@@ -38,11 +24,6 @@ module _ (vars : List ℤ) (line : ℕ) (rest : List Item) where
   pub print_becomes : (e e' : Expr) → step_expr vars e ≡ Becomes e'
       → step_items vars (Print line e ∷ rest) ≡ Goes vars (Doing (Print line e' ∷ rest)) Silent
   print_becomes e e' h =
-      ap (λ r. evaluate r (λ y. Goes vars (Doing (Print line y ∷ rest)) Silent) (λ v. Goes vars (Doing rest) (Prints v))) h
-
-  pub print_fails : (e : Expr) (kind : FaultKind) → step_expr vars e ≡ Fails kind
-      → step_items vars (Print line e ∷ rest) ≡ Breaks kind
-  print_fails e kind h =
       ap (λ r. evaluate r (λ y. Goes vars (Doing (Print line y ∷ rest)) Silent) (λ v. Goes vars (Doing rest) (Prints v))) h
 
   module _ (a b : Block) where
@@ -56,12 +37,6 @@ module _ (vars : List ℤ) (line : ℕ) (rest : List Item) where
         ap (λ r. evaluate r (λ y. Goes vars (Doing (Choice line y a b ∷ rest)) Silent)
         (λ v. Goes vars (Doing (items_of (cond (is_zero v) b a) ++ rest)) Silent)) h
 
-    pub choice_fails : (e : Expr) (kind : FaultKind) → step_expr vars e ≡ Fails kind
-        → step_items vars (Choice line e a b ∷ rest) ≡ Breaks kind
-    choice_fails e kind h =
-        ap (λ r. evaluate r (λ y. Goes vars (Doing (Choice line y a b ∷ rest)) Silent)
-        (λ v. Goes vars (Doing (items_of (cond (is_zero v) b a) ++ rest)) Silent)) h
-
   module _ (test : Expr) (body : Block) where
     pub loop_is : (e : Expr) (v : ℤ) → e ≡ Number v
         → step_items vars (Loop line test e body ∷ rest)
@@ -71,11 +46,5 @@ module _ (vars : List ℤ) (line : ℕ) (rest : List Item) where
     pub loop_becomes : (e e' : Expr) → step_expr vars e ≡ Becomes e'
         → step_items vars (Loop line test e body ∷ rest) ≡ Goes vars (Doing (Loop line test e' body ∷ rest)) Silent
     loop_becomes e e' h =
-        ap (λ r. evaluate r (λ y. Goes vars (Doing (Loop line test y body ∷ rest)) Silent)
-        (λ v. Goes vars (Doing (cond (is_zero v) rest (items_of body ++ Loop line test test body ∷ rest))) Silent)) h
-
-    pub loop_fails : (e : Expr) (kind : FaultKind) → step_expr vars e ≡ Fails kind
-        → step_items vars (Loop line test e body ∷ rest) ≡ Breaks kind
-    loop_fails e kind h =
         ap (λ r. evaluate r (λ y. Goes vars (Doing (Loop line test y body ∷ rest)) Silent)
         (λ v. Goes vars (Doing (cond (is_zero v) rest (items_of body ++ Loop line test test body ∷ rest))) Silent)) h

@@ -10,7 +10,7 @@ use Rattle.pb_base.specs.declared.operators.FaultKind.{FaultKind}
 use Rattle.pb_base.specs.declared.pick.Pick.{Pick}
 use Rattle.pb_base.specs.declared.step.Step.{Step}
 use Rattle.pb_base.specs.declared.step.Step.TheVariants as step
-use Rattle.pb_names.specs.Source.{Arm, Ended, ArmStep, Goes, Breaks, Ends, step_arm, find, put, SourceProcess, settle, step_run, source_step}
+use Rattle.pb_names.specs.Source.{Arm, Ended, ArmStep, Goes, Breaks, Ends, step_arm, find, put, SourceProcess, settle, source_step}
 use Rattle.pb_rewrite.specs.Sound.{IsSingle}
 use Rattle.pb_rewrite.specs.Steps.{CannotStep, IsArmStep, IsProcessStep, IsRunStep, IsSettled}
 use Rattle.pb_rewrite.specs.Steps as steps
@@ -157,15 +157,3 @@ module _ (s : BankerState) (pick : Pick) (vars : List ℤ) (run : Arm) where
           told.1 ∙ ap₂ (λ vs r. process_of vs (Some r)) h.2 h.3,
           told.2 ∙ h.4,
         )
-
-no_step : (s : BankerState) (pick : Pick) (process : SourceProcess) → process.run ≡ None → source_step pick.process process pick.arm ≡ None
-no_step s pick process none = ap (option_and_then (step_run process.vars pick.arm)) none
-
--- a process without a run takes no step
-pub nothing_left : (s : BankerState) (pick : Pick) (process : SourceProcess) → process.run ≡ None
-    → IsProcessStep s process pick step.NotEnabled process s
-nothing_left s pick process none = (
-  λ next effect steps granted. nothing_made next effect (sym (no_step s pick process none) ∙ steps),
-  refl,
-  refl,
-)
