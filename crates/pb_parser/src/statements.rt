@@ -44,7 +44,11 @@ impl<'a, 't, B: Builder> Parser<'a, 't, B> {
         Ok(self.build.add_demand(out, pair.amount, text, at)?)
     }
 
+    // The calls that are not inlined are no part of the recursion of statements: their locals would lie in each of its
+    // frames, and a deep program would need more stack.
+
     /// The pairs of a hold.
+    #[inline(never)]
     fn pairs(&mut self) -> Result<B::Demands, ParseFault>
         ensures { Makes B.wants B.is_demands result
             (reads.pairs (tokens self.old.rest.now)) (tokens self.new.rest.now) }
@@ -146,6 +150,7 @@ impl<'a, 't, B: Builder> Parser<'a, 't, B> {
         }
     }
 
+    #[inline(never)]
     fn assignment(
         &mut self,
         depth: usize,
@@ -162,6 +167,7 @@ impl<'a, 't, B: Builder> Parser<'a, 't, B> {
         Ok(self.build.assign(out, line, text, at, value)?)
     }
 
+    #[inline(never)]
     fn printing(&mut self, depth: usize, line: u32, out: &mut B::Stmts) -> Result<(), ParseFault>
         ensures { Makes B.wants (λ _. Adds B.is_stmts append out.old out.new) result
             (reads.printing depth line (tokens self.old.rest.now))
