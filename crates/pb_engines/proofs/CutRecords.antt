@@ -6,9 +6,8 @@ use Rattle.std.proofs.lemmas.Option.{get_or_from_slice_get, slice_get-get_or, sl
 use Rattle.pb_lexer.specs.Cutting.{Cuts}
 use Rattle.pb_lexer.specs.Tokens.{Token}
 use Rattle.pb_engines.specs.Answers.{line}
-use Rattle.pb_engines.specs.Parts.{IsMark, IsMarkAt}
+use Rattle.pb_engines.specs.Parts.{AreTwoParts, IsMark, IsMarkAt}
 use Rattle.pb_engines.specs.Records.{IsEnded}
-use Rattle.pb_engines.specs.ReplayLines.{IsTextWithLines}
 use Rattle.pb_engines.proofs.EndedTexts.{PercentLine, ended_is_cut, no_percent_line}
 
 -- ---- what begins at a mark
@@ -74,7 +73,7 @@ module _ (bytes ended lines : List ℕ) (tokens : List Token) (is_ended : IsEnde
       sym (drop-drop 3 (length ended) whole)
       ∙ ap (λ (xs : List ℕ). drop 3 xs) (drop_at ended (line (codes "%%") ++ lines) (length ended) refl)
 
-  pub cut_as_written : (text behind : List ℕ) → IsTextWithLines whole text behind → (text ≡ ended) × (behind ≡ lines)
+  pub cut_as_written : (text behind : List ℕ) → AreTwoParts whole text behind → (text ≡ ended) × (behind ≡ lines)
   cut_as_written text behind (inl (at, mark, first, part, rest)) = elim (cases_order at (length ended)) [
     | inl same ↦ (
       part ∙ ap (λ (n : ℕ). take n whole) same ∙ take_at ended (line (codes "%%") ++ lines) (length ended) refl,

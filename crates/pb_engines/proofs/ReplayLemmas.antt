@@ -19,10 +19,11 @@ use Rattle.pb_verifier.specs.Verified.{VerifiedCode, IsVerified}
 use Rattle.pb_engines.specs.Answers.{line, memory_line, Leaves, Says, Tells}
 use Rattle.pb_engines.specs.EventLines.{StopsIn}
 use Rattle.pb_engines.specs.EventLines as stop
+use Rattle.pb_engines.specs.Parts.{AreTwoParts}
 use Rattle.pb_engines.specs.Inputs.{SaysOfInput, too_long, nothing, not_read, read}
 use Rattle.pb_engines.specs.Inputs as input
 use Rattle.pb_engines.specs.Refusals.{SaysOfRefusedText, refused as by_line}
-use Rattle.pb_engines.specs.ReplayLines.{AreReplayed, IsLastLine, IsStatusAt, IsTextWithLines, SaysOfEvents, SaysOfLines, SaysOfReplay, all_told, out_of_memory, refused, no_memory, replayed, no_text, no_picks, made_again}
+use Rattle.pb_engines.specs.ReplayLines.{AreReplayed, IsLastLine, IsStatusAt, SaysOfEvents, SaysOfLines, SaysOfNoPicks, SaysOfReplay, all_told, out_of_memory, not_made, no_memory, replayed, no_text, no_picks, made_again}
 use Rattle.pb_engines.specs.Runs.{event_lines}
 use Rattle.pb_engines.specs.declared.reply.Reply.{Reply}
 use Rattle.pb_engines.specs.declared.status.Status.{Status}
@@ -37,14 +38,14 @@ take_is_short (suc n) [] = omega arith
 take_is_short (suc n) (x ∷ xs) = let le = take_is_short n xs in omega (arith, le)
 
 -- the text of an input is no longer than that
-pub text_is_short : (bytes text lines : List ℕ) → IsTextWithLines bytes text lines → length bytes ≤ 4194304 → length text ≤ 4194304
+pub text_is_short : (bytes text lines : List ℕ) → AreTwoParts bytes text lines → length bytes ≤ 4194304 → length text ≤ 4194304
 text_is_short bytes text lines (inl (at, mark, first, part, rest)) short =
     let le = take_is_short at bytes in let same = ap (λ (t : List ℕ). length t) part in omega (arith, le, same, short)
 text_is_short bytes text lines (inr (same, none, no_mark)) short = subst (λ (t : List ℕ). length t ≤ 4194304) (sym same) short
 
 -- a refused text
 pub text_is_refused : (bytes text lines : List ℕ) (old new : Option (List ℕ)) (given : Status) → length bytes ≤ 4194304
-    → length text ≤ 4194304 → IsTextWithLines bytes text lines → Tells (SaysOfInput SaysOfRefusedText text) old new given
+    → length text ≤ 4194304 → AreTwoParts bytes text lines → Tells (SaysOfInput SaysOfRefusedText text) old new given
     → Tells (SaysOfInput SaysOfReplay bytes) old new given
 text_is_refused bytes text lines old new given short few cut (said, status, is, written) = (said, status, go said status is, written)
   where
@@ -63,14 +64,13 @@ can_make_again code lines entries end are =
 
 -- an accepted text, and what is said of the lines behind it
 pub text_is_replayed : (bytes text lines : List ℕ) (code given : Code) (labels : List ProcessLabels) (old new : Option (List ℕ))
-    (answered : Status) → length bytes ≤ 4194304 → IsTextWithLines bytes text lines → IsCompiled text code labels → given ≡ code
+    (answered : Status) → length bytes ≤ 4194304 → AreTwoParts bytes text lines → IsCompiled text code labels → given ≡ code
     → Tells (SaysOfLines given lines) old new answered → Tells (SaysOfInput SaysOfReplay bytes) old new answered
 text_is_replayed bytes text lines code given labels old new answered short cut compiled same tells =
     go (subst (λ (c : Code). Tells (SaysOfLines c lines) old new answered) same tells)
   where
     of_lines : (said : List ℕ) (status : Status) → SaysOfLines code lines said status → SaysOfInput SaysOfReplay bytes said status
-    of_lines _ _ (refused fault is refusal its_line) =
-        read short (no_picks text lines cut code labels compiled fault is refusal its_line)
+    of_lines _ _ (not_made said status says) = read short (no_picks text lines cut code labels compiled said status says)
     of_lines _ _ no_memory = not_read input.no_memory
     of_lines _ _ (replayed entries end are said status says) =
         read short (made_again text lines cut code labels compiled entries end are said status says
@@ -91,9 +91,9 @@ events_are_told code names lines entries end old new answered are same tells =
 
 -- a reply to lines that was made, or for which there was no memory
 pub lines_are_answered : (code : Code) (lines : List ℕ) (reply : Result Reply NoMemory) (old new : Option (List ℕ)) (given : Status)
-    → IfOk reply (λ r. SaysOfLines code lines r.text.items r.status) → IfOk reply (λ r. Says old new r.text.items r.status given)
+    → IfOk reply (λ r. SaysOfNoPicks code lines r.text.items r.status) → IfOk reply (λ r. Says old new r.text.items r.status given)
     → OnErr reply (Says old new memory_line Memory given) → Tells (SaysOfLines code lines) old new given
-lines_are_answered code lines (Ok r) old new given is says memory = (r.text.items, r.status, is, says)
+lines_are_answered code lines (Ok r) old new given is says memory = (r.text.items, r.status, not_made r.text.items r.status is, says)
 lines_are_answered code lines (Err e) old new given is says memory = (memory_line, Memory, no_memory, memory)
 
 -- ---- names

@@ -25,9 +25,10 @@ use Rattle.pb_picks.specs.PickLines.{SpellsPicks, pick_lines}
 use Rattle.pb_verifier.specs.Verified.{IsAnnotated}
 use Rattle.pb_verifier.specs.declared.fault.VerifyFault.TheVariants.{OutOfLimits}
 use Rattle.pb_engines.specs.RecordLaws.{HoldsRun, RecordsCanBeReplayed}
+use Rattle.pb_engines.specs.Parts.{AreTwoParts}
 use Rattle.pb_engines.specs.Records.{EndsLine, IsEnded, IsRecorded, SaysOfRecord, SaysOfRecording, accepted, no_threads, refused, too_long, with_picks, written}
 use Rattle.pb_engines.specs.Refusals.{RefusesWith, refused as by_line}
-use Rattle.pb_engines.specs.ReplayLines.{IsLinesFault, IsTextWithLines, SaysOfEvents, SaysOfReplay, all_told, lines_line, made_again, no_fault, no_picks, no_text, out_of_memory, picks_line, some_fault, stop_line}
+use Rattle.pb_engines.specs.ReplayLines.{IsLinesFault, SaysOfEvents, SaysOfReplay, all_told, lines_line, made_again, no_fault, no_picks, no_text, out_of_memory, picks_line, refused as not_made, some_fault, stop_line}
 use Rattle.pb_engines.specs.declared.replay.LinesFault.{LinesFault}
 use Rattle.pb_engines.specs.declared.replay.LinesFault.TheVariants.{NotMade, NotRead}
 use Rattle.pb_engines.specs.declared.status.Status.{Status}
@@ -142,10 +143,10 @@ module _ (steps : ℕ) (bytes : List ℕ) (most : steps ≤ 10000000) where
     abbrev lines_of : List ℕ
     lines_of = pick_lines code.names.processes picks
 
-    cut_of : (text lines : List ℕ) → IsTextWithLines (with_picks ended code.names picks) text lines → (text ≡ ended) × (lines ≡ lines_of)
+    cut_of : (text lines : List ℕ) → AreTwoParts (with_picks ended code.names picks) text lines → (text ≡ ended) × (lines ≡ lines_of)
     cut_of = cut_as_written bytes ended lines_of compiled.numbered.spelled.tokens is compiled.numbered.spelled.cut.cuts
 
-    holds : (text lines : List ℕ) → IsTextWithLines (with_picks ended code.names picks) text lines → HoldsRun steps bytes text lines
+    holds : (text lines : List ℕ) → AreTwoParts (with_picks ended code.names picks) text lines → HoldsRun steps bytes text lines
     holds text lines cut =
         let same = cut_of text lines cut in record {
           ended = subst (IsEnded bytes) (sym same.0) is;
@@ -161,11 +162,11 @@ module _ (steps : ℕ) (bytes : List ℕ) (most : steps ≤ 10000000) where
     never_refused : (length bytes < 65536) ⊎ EndsLine bytes → (whole said : List ℕ) (status : Status) → whole ≡ with_picks ended code.names picks
         → SaysOfReplay whole said status → status ≢ Refused
     never_refused room whole _ _ e (no_text text lines cut refusal is_refused) refuses =
-        let same = cut_of text lines (subst (λ (w : List ℕ). IsTextWithLines w text lines) e cut) in
+        let same = cut_of text lines (subst (λ (w : List ℕ). AreTwoParts w text lines) e cut) in
         let here = ended_is_compiled bytes ended code labels is (ended_is_short bytes ended is compiled.numbered.spelled.cut.short room) compiled in
         absurd (accepted_is_not_refused ended (compiled_is_accepted ended code labels here) refusal (subst (λ (t : List ℕ). RefusesWith t refusal) same.0 is_refused))
-    never_refused room whole _ _ e (no_picks text lines cut other others is_other fault faulty refusal its_line) refuses =
-        let same = cut_of text lines (subst (λ (w : List ℕ). IsTextWithLines w text lines) e cut) in
+    never_refused room whole _ _ e (no_picks text lines cut other others is_other _ _ (not_made fault faulty refusal its_line)) refuses =
+        let same = cut_of text lines (subst (λ (w : List ℕ). AreTwoParts w text lines) e cut) in
         let here = ended_is_compiled bytes ended code labels is (ended_is_short bytes ended is compiled.numbered.spelled.cut.short room) compiled in
         let one = one_code ended other code others labels (subst (λ (t : List ℕ). IsCompiled t other others) same.0 is_other) here in
         let its_fault : IsLinesFault code lines_of fault =
@@ -181,7 +182,7 @@ pub records_can_be_replayed : RecordsCanBeReplayed
 records_can_be_replayed steps bytes whole most says =
     let (code, labels, compiled, ended, picks, is, recorded, same) = wrote steps bytes most whole Done says refl in record {
       cut = λ text lines cut. holds steps bytes most code labels compiled ended picks is recorded text lines
-          (subst (λ (w : List ℕ). IsTextWithLines w text lines) same cut);
+          (subst (λ (w : List ℕ). AreTwoParts w text lines) same cut);
       replayed = λ room said status replay.
           never_refused steps bytes most code labels compiled ended picks is recorded room whole said status same replay;
     }

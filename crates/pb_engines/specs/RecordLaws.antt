@@ -4,8 +4,9 @@ use Rattle.pb_code.specs.Whole.{Code, ProcessLabels}
 use Rattle.pb_codegen.specs.Compiled.{IsCompiled}
 use Rattle.pb_history.specs.declared.counted.CountedPick.{CountedPick}
 use Rattle.pb_picks.specs.PickLines.{SpellsPicks}
+use Rattle.pb_engines.specs.Parts.{AreTwoParts}
 use Rattle.pb_engines.specs.Records.{EndsLine, IsEnded, IsRecorded, SaysOfRecord}
-use Rattle.pb_engines.specs.ReplayLines.{IsTextWithLines, SaysOfReplay}
+use Rattle.pb_engines.specs.ReplayLines.{SaysOfReplay}
 use Rattle.pb_engines.specs.declared.status.Status.{Status}
 use Rattle.pb_engines.specs.declared.status.Status.TheVariants.{Done, Refused}
 
@@ -22,7 +23,7 @@ pub record HoldsRun (steps : ℕ) (bytes text lines : List ℕ) : Type 0 where
 -- an input is cut by `replay` into the recorded text and the picks of its run, and no line or pick of them is refused;
 -- nor is the text, unless the line feed behind it made it longer than a text may be
 pub record CanBeReplayed (steps : ℕ) (bytes whole : List ℕ) : Type 0 where
-  pub cut : (text lines : List ℕ) → IsTextWithLines whole text lines → HoldsRun steps bytes text lines
+  pub cut : (text lines : List ℕ) → AreTwoParts whole text lines → HoldsRun steps bytes text lines
   pub replayed : (length bytes < 65536) ⊎ EndsLine bytes
       → (said : List ℕ) (status : Status) → SaysOfReplay whole said status → status ≢ Refused
 

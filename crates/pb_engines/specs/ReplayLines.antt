@@ -16,18 +16,13 @@ use Rattle.pb_picks.specs.PickLines.{IsFaulty, SpellsPicks}
 use Rattle.pb_picks.specs.declared.fault.PickFault.{PickFault}
 use Rattle.pb_picks.specs.declared.fault.PickFault.TheVariants as picks
 use Rattle.pb_engines.specs.Answers.{line, memory_line}
-use Rattle.pb_engines.specs.Parts.{IsCutAt, IsMarkAt}
+use Rattle.pb_engines.specs.Parts.{AreTwoParts}
 use Rattle.pb_engines.specs.Refusals.{RefusesWith, at_place}
 use Rattle.pb_engines.specs.Runs.{HasFault, IsDone, event_lines}
 use Rattle.pb_engines.specs.declared.replay.LinesFault.{LinesFault}
 use Rattle.pb_engines.specs.declared.replay.LinesFault.TheVariants.{NotRead, NotMade}
 use Rattle.pb_engines.specs.declared.status.Status.{Status}
 use Rattle.pb_engines.specs.declared.status.Status.TheVariants.{Done, Fault, Memory, Refused}
-
--- an input is a text and, behind its first line `%%`, pick lines; without such a line there are none
-abbrev pub IsTextWithLines : (bytes text lines : List ℕ) → Type 0
-IsTextWithLines bytes text lines =
-    IsCutAt bytes text lines ⊎ ((text ≡ bytes) × (lines ≡ []) × ((at : ℕ) → ¬ IsMarkAt bytes at))
 
 -- the lines say picks, and these, each enabled in turn from the start, make these entries and lead to this state
 pub record AreReplayed (code : Code) (lines : List ℕ) (entries : List Entry) (end : State CodeProcess) : Type 0 where
@@ -59,6 +54,11 @@ abbrev pub lines_line : LinesFault → Option (List ℕ)
 lines_line (NotRead fault) = picks_line fault
 lines_line (NotMade fault) = stop_line fault
 
+-- what is said of lines that have a fault
+pub data SaysOfNoPicks (code : Code) (lines : List ℕ) : List ℕ → Status → Type 0 where
+  refused : (fault : LinesFault) → IsLinesFault code lines fault
+      → (refusal : List ℕ) → lines_line fault ≡ Some refusal → SaysOfNoPicks code lines (line refusal) Refused
+
 -- ---- answers
 
 -- the last line: `done` if every process has ended or faulted, else `open`
@@ -80,23 +80,22 @@ pub data SaysOfEvents (names : NameTable) (events : List Event) (end : State Cod
 
 -- what is said of the lines behind an accepted text, by its code
 pub data SaysOfLines (code : Code) (lines : List ℕ) : List ℕ → Status → Type 0 where
-  refused : (fault : LinesFault) → IsLinesFault code lines fault
-      → (refusal : List ℕ) → lines_line fault ≡ Some refusal → SaysOfLines code lines (line refusal) Refused
+  not_made : (said : List ℕ) (status : Status) → SaysOfNoPicks code lines said status
+      → SaysOfLines code lines said status
   no_memory : SaysOfLines code lines memory_line Memory
   replayed : (entries : List Entry) (end : State CodeProcess) → AreReplayed code lines entries end
       → (said : List ℕ) (status : Status) → SaysOfEvents code.names (events_of entries) end said status
       → SaysOfLines code lines said status
 
--- what is said of an input: its text is refused; or the text is accepted, and its lines or their picks are refused;
--- or all picks are made, and their events are told, of which the program can make the same with as many picks
+-- what is said of an input, which is a text and pick lines behind it: its text is refused; or the text is accepted,
+-- and its lines or their picks are refused; or all picks are made, and their events are told, of which the program can make the same with as many picks
 pub data SaysOfReplay (bytes : List ℕ) : List ℕ → Status → Type 0 where
-  no_text : (text lines : List ℕ) → IsTextWithLines bytes text lines
+  no_text : (text lines : List ℕ) → AreTwoParts bytes text lines
       → (refusal : List ℕ) → RefusesWith text refusal → SaysOfReplay bytes (line refusal) Refused
-  no_picks : (text lines : List ℕ) → IsTextWithLines bytes text lines
+  no_picks : (text lines : List ℕ) → AreTwoParts bytes text lines
       → (code : Code) (labels : List ProcessLabels) → IsCompiled text code labels
-      → (fault : LinesFault) → IsLinesFault code lines fault
-      → (refusal : List ℕ) → lines_line fault ≡ Some refusal → SaysOfReplay bytes (line refusal) Refused
-  made_again : (text lines : List ℕ) → IsTextWithLines bytes text lines
+      → (said : List ℕ) (status : Status) → SaysOfNoPicks code lines said status → SaysOfReplay bytes said status
+  made_again : (text lines : List ℕ) → AreTwoParts bytes text lines
       → (code : Code) (labels : List ProcessLabels) (compiled : IsCompiled text code labels)
       → (entries : List Entry) (end : State CodeProcess) → AreReplayed code lines entries end
       → (said : List ℕ) (status : Status) → SaysOfEvents code.names (events_of entries) end said status

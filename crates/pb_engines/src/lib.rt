@@ -1,7 +1,7 @@
 //! The engines: what each command does over any input and output.
 #![tactic(auto)]
 
-mod accept;
+pub mod accept;
 pub mod check;
 mod choice;
 pub mod claims;
@@ -9,19 +9,19 @@ pub mod emit;
 mod events;
 pub mod exec;
 mod faults;
-mod input;
-mod load;
+pub mod input;
+pub mod load;
 pub mod migrate;
 mod open;
 pub mod options;
 pub mod page;
-mod parts;
+pub mod parts;
 mod picks;
 pub mod record;
 pub mod record_laws;
 mod refusal;
 pub mod replay;
-mod reply;
+pub mod reply;
 mod report;
 pub mod run;
 pub mod run_laws;

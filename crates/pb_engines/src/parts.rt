@@ -1,6 +1,6 @@
 //! Inputs of several parts, which lines `%%` part.
 ghost use Rattle.std.specs.Prelude.{◌≡◌, ◌+◌, ◌<◌, ◌↔◌, ℕ, IfSome, IfNone, IsTrue, drop, length, take};
-ghost use Rattle.pb_engines.specs.Parts.{HasNoMarkBelow, IsCutAt, IsMark, IsMarkAt};
+ghost use Rattle.pb_engines.specs.Parts.{AreTwoParts, HasNoMarkBelow, IsCutAt, IsMark, IsMarkAt};
 
 // Whether a text begins with a line of the two bytes `%%`.
 fn is_mark(text: &[u8]) -> bool
@@ -9,8 +9,8 @@ fn is_mark(text: &[u8]) -> bool
     matches!(text, [b'%', b'%'] | [b'%', b'%', b'\n', ..])
 }
 
-// Whether such a line begins at a place.
-fn is_mark_at(text: &[u8], at: usize) -> bool
+/// Returns whether such a line begins at a place.
+pub fn is_mark_at(text: &[u8], at: usize) -> bool
     requires { at < length text.now }
     ensures { IsTrue result ↔ IsMarkAt text.now at }
 {
@@ -55,5 +55,16 @@ pub fn first_part<'t>(text: &'t [u8]) -> FirstPart<'t>
             part: text,
             rest: None,
         },
+    }
+}
+
+/// Returns what a text has before its first line `%%` and what it has behind that line: nothing if it has no such line.
+pub fn two_parts(text: &[u8]) -> (&[u8], &[u8])
+    ensures { AreTwoParts text.now result.0.now result.1.now }
+{
+    let cut = first_part(text);
+    match cut.rest {
+        Some(rest) => (cut.part, rest),
+        None => (cut.part, &text[text.len()..]),
     }
 }

@@ -4,7 +4,7 @@ ghost use Rattle.pb_base.specs.Lines.{HasNames, names_view};
 ghost use Rattle.pb_engines.specs.Answers.{Tells};
 ghost use Rattle.pb_engines.specs.Faults.{TellsFaults, TellsWriteFaults};
 ghost use Rattle.pb_engines.specs.Inputs.{SaysOfInput};
-ghost use Rattle.pb_engines.specs.ReplayLines.{AreReplayed, IsLastLine, IsLinesFault, IsStatusAt, IsTextWithLines, SaysOfEvents, SaysOfLines, SaysOfReplay, lines_line};
+ghost use Rattle.pb_engines.specs.ReplayLines.{AreReplayed, IsLastLine, IsLinesFault, IsStatusAt, SaysOfEvents, SaysOfLines, SaysOfNoPicks, SaysOfReplay, lines_line};
 ghost use Rattle.pb_history.specs.Entries.{events_of};
 ghost use Rattle.pb_code.specs.Whole.{Code};
 ghost use Rattle.pb_machine.specs.Views.{machine_view};
@@ -14,7 +14,7 @@ use crate::accept::{compile_text, refuse};
 use crate::events::tell_events;
 use crate::faults::has_fault;
 use crate::input::read_input;
-use crate::parts::first_part;
+use crate::parts::two_parts;
 use crate::refusal::{picks_text, stop_text};
 use crate::reply::{Reply, refused, tell};
 use crate::status::Status;
@@ -62,21 +62,10 @@ fn replay_text<O: Output>(alloc: Global, bytes: &[u8], output: &mut O) -> Status
     ensures text { Tells (SaysOfInput SaysOfReplay bytes.now) (O.written output.old) (O.written output.new) result }
     ensures faults { TellsWriteFaults (O.failures output.old) (O.failures output.new) result }
 {
-    let (text, lines) = text_and_lines(bytes);
+    let (text, lines) = two_parts(bytes);
     match compile_text(alloc, text) {
         Ok(compiled) => replay_lines(alloc, compiled.verified(), lines, output),
         Err(refusal) => refuse(alloc, refusal, output),
-    }
-}
-
-// The text, and the pick lines behind it.
-fn text_and_lines(bytes: &[u8]) -> (&[u8], &[u8])
-    ensures { IsTextWithLines bytes.now result.0.now result.1.now }
-{
-    let cut = first_part(bytes);
-    match cut.rest {
-        Some(lines) => (cut.part, lines),
-        None => (cut.part, &bytes[bytes.len()..]),
     }
 }
 
@@ -129,10 +118,11 @@ fn lines_text(alloc: Global, fault: LinesFault) -> Result<Vec<u8>, NoMemory>
     }
 }
 
-// The reply to lines that have this fault, or out of memory if that is the fault or there is too little for its line.
-fn lines_refusal(alloc: Global, fault: LinesFault) -> Result<Reply, NoMemory>
+/// Returns the reply to pick lines that have this fault, or out of memory if that is the fault or there is too little
+/// for its line.
+pub fn lines_refusal(alloc: Global, fault: LinesFault) -> Result<Reply, NoMemory>
     ensures { (code : Code) (lines : List ℕ) → IsLinesFault code lines fault
-        → IfOk result (λ r. SaysOfLines code lines r.text.items r.status) }
+        → IfOk result (λ r. SaysOfNoPicks code lines r.text.items r.status) }
 {
     let text = lines_text(alloc, fault)?;
     refused(text)

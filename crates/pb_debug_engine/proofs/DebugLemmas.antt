@@ -1,0 +1,110 @@
+-- From what is said of each part of an input to what is said of it all.
+use Rattle.std.proofs.Common.{◌≡◌, ◌≢◌, ◌<◌, ◌≤◌, ◌++◌, ℕ, List, [], length, Option, Some, Result, Ok, Err, IfOk, OnErr, refl, sym, ap, ◌∙◌, subst, inl, inr, arith}
+use Rattle.pb_base.specs.Device.{one_more_failure, AddsPrefix, appended}
+use Rattle.pb_base.specs.declared.memory.NoMemory.{NoMemory}
+use Rattle.pb_code.specs.Whole.{Code, ProcessLabels}
+use Rattle.pb_codegen.specs.Compiled.{IsCompiled}
+use Rattle.pb_debug.specs.Value.{Debugging, IsPosition, at_start}
+use Rattle.pb_debug_engine.specs.Debugs.{AreThreeParts, GivesCode, IsObject, IsOpened, SaysOfCode, SaysOfDebug, SaysOfParts, SaysOfSession, debugged, no_memory, no_picks, no_room, no_source, with_code}
+use Rattle.pb_debug_engine.specs.Faults.{OneReadFailed, TellsAnyFault}
+use Rattle.pb_engines.proofs.PageLemmas.{AddsPrefix-longer}
+use Rattle.pb_engines.specs.Answers.{Says, Tells, memory_line}
+use Rattle.pb_engines.specs.Faults.{Devices, TellsWriteFaults, WriteFailed}
+use Rattle.pb_engines.specs.Inputs.{SaysOfInput, too_long, nothing, not_read, read}
+use Rattle.pb_engines.specs.Inputs as input
+use Rattle.pb_engines.specs.Loading.{IsLoaded, SaysOfNoCode}
+use Rattle.pb_engines.specs.Parts.{AreTwoParts}
+use Rattle.pb_engines.specs.Refusals.{SaysOfRefusedText}
+use Rattle.pb_engines.specs.ReplayLines.{SaysOfNoPicks}
+use Rattle.pb_engines.specs.declared.reply.Reply.{Reply}
+use Rattle.pb_engines.specs.declared.status.Status.{Status}
+use Rattle.pb_engines.specs.declared.status.Status.TheVariants.{Device, Memory}
+use Rattle.pb_verifier.specs.Verified.{VerifiedCode}
+
+-- ---- the code of the first part
+
+-- a reply to lines that say no picks, or for which there was no memory
+pub no_picks_told : (verified : VerifiedCode) (labels : List ProcessLabels) (lines commands : List ℕ) (reply : Result Reply NoMemory)
+    (old new : Option (List ℕ)) (given : Status) → IfOk reply (λ r. SaysOfNoPicks verified.code lines r.text.items r.status)
+    → IfOk reply (λ r. Says old new r.text.items r.status given) → OnErr reply (Says old new memory_line Memory given)
+    → Tells (SaysOfCode verified labels lines commands) old new given
+no_picks_told verified labels lines commands (Ok r) old new given is says memory =
+    (r.text.items, r.status, no_picks r.text.items r.status is, says)
+no_picks_told verified labels lines commands (Err e) old new given is says memory = (memory_line, Memory, no_memory, memory)
+
+-- the commands are answered
+pub session_told : (verified : VerifiedCode) (labels : List ProcessLabels) (lines commands : List ℕ) (d : Debugging)
+    (old new : Option (List ℕ)) (given : Status) → IsOpened verified labels lines d → Tells (SaysOfSession d commands) old new given
+    → Tells (SaysOfCode verified labels lines commands) old new given
+session_told verified labels lines commands d old new given opened (text, status, is, says) =
+    (text, status, debugged d opened text status is, says)
+
+-- ---- the three parts
+
+pub code_told : (source lines commands : List ℕ) (verified : VerifiedCode) (labels : List ProcessLabels) (old new : Option (List ℕ))
+    (given : Status) → GivesCode source verified.code labels → Tells (SaysOfCode verified labels lines commands) old new given
+    → Tells (SaysOfParts source lines commands) old new given
+code_told source lines commands verified labels old new given gives (text, status, is, says) =
+    (text, status, with_code verified labels gives text status is, says)
+
+-- the same, of code and labels that are seen so
+pub code_of_text_told : (source lines commands : List ℕ) (seen verified : VerifiedCode) (shown labels : List ProcessLabels)
+    (old new : Option (List ℕ)) (given : Status) → ¬ IsObject source → IsCompiled source verified.code labels → seen ≡ verified
+    → shown ≡ labels → Tells (SaysOfCode seen shown lines commands) old new given → Tells (SaysOfParts source lines commands) old new given
+code_of_text_told source lines commands seen verified shown labels old new given none compiled same same_labels tells =
+    code_told source lines commands verified labels old new given (inr (none, compiled))
+    (subst (λ (v : VerifiedCode). Tells (SaysOfCode v labels lines commands) old new given) same
+    (subst (λ (l : List ProcessLabels). Tells (SaysOfCode seen l lines commands) old new given) same_labels tells))
+
+-- a reply to an object that gives no code, or for which there was no memory
+pub no_code_told : (source lines commands : List ℕ) (reply : Result Reply NoMemory) (old new : Option (List ℕ)) (given : Status)
+    → IsObject source → IfOk reply (λ r. SaysOfNoCode source r.text.items r.status)
+    → IfOk reply (λ r. Says old new r.text.items r.status given) → OnErr reply (Says old new memory_line Memory given)
+    → Tells (SaysOfParts source lines commands) old new given
+no_code_told source lines commands (Ok r) old new given object is says memory =
+    (r.text.items, r.status, no_source r.text.items r.status (inl (object, is)), says)
+no_code_told source lines commands (Err e) old new given object is says memory = (memory_line, Memory, no_room, memory)
+
+-- nothing is said since a write failed
+part_of_line : (old new : Option (List ℕ)) (given : Status) → Says old new [] Device given → Says old new memory_line Memory given
+part_of_line old new given (inl (is, device)) = inr (([], memory_line, refl, is), device)
+part_of_line old new given (inr (part, device)) = inr (AddsPrefix-longer old new [] memory_line part, device)
+
+-- a refused text
+pub text_refused : (source lines commands : List ℕ) (old new : Option (List ℕ)) (given : Status) → length source ≤ 4194304
+    → ¬ IsObject source → Tells (SaysOfInput SaysOfRefusedText source) old new given → Tells (SaysOfParts source lines commands) old new given
+text_refused source lines commands old new given short none (said, status, is, says) = go said status is says
+  where
+    go : (said : List ℕ) (status : Status) → SaysOfInput SaysOfRefusedText source said status → Says old new said status given
+        → Tells (SaysOfParts source lines commands) old new given
+    go _ _ (not_read (too_long long)) says = absurd (omega (arith, long, short))
+    go _ _ (not_read input.no_memory) says = (memory_line, Memory, no_room, says)
+    go _ _ (not_read nothing) says = (memory_line, Memory, no_room, part_of_line old new given says)
+    go said status (read within of_text) says = (said, status, no_source said status (inr (none, of_text)), says)
+
+-- ---- a whole input
+
+pub bytes_told : (bytes source rest lines commands : List ℕ) (old new : Option (List ℕ)) (given : Status) → length bytes ≤ 4194304
+    → AreTwoParts bytes source rest → AreTwoParts rest lines commands → Tells (SaysOfParts source lines commands) old new given
+    → Tells (SaysOfInput SaysOfDebug bytes) old new given
+bytes_told bytes source rest lines commands old new given short first second (text, status, is, says) =
+    (text, status, read short (source, lines, commands, (rest, first, second), is), says)
+
+-- where no read can fail, a fault is one of a write
+pub only_writes_fail : (old new : ℕ) (written written' : Option (List ℕ)) (status : Status)
+    → TellsAnyFault (record { reads = 0; writes = old; written = written }) (record { reads = 0; writes = new; written = written' }) status
+    → TellsWriteFaults old new status
+only_writes_fail old new written written' status (none, one) = (
+  λ no_device. (none no_device).1,
+  λ device. elim (one device) [
+    | inl failed ↦ (let more : 0 ≡ 1 = failed.0 in absurd (omega (arith, more)))
+    | inr failed ↦ failed.1
+  ],
+)
+
+-- nothing was read or written yet
+pub not_read_yet : (reads reads' old new : ℕ) (written written' : Option (List ℕ)) (status : Status) → reads' ≡ reads
+    → TellsWriteFaults old new status
+    → TellsAnyFault (record { reads = reads; writes = old; written = written }) (record { reads = reads'; writes = new; written = written' }) status
+not_read_yet reads reads' old new written written' status same (none, one) =
+    (λ no_device. (same, none no_device), λ device. inr (same, one device))

@@ -1,0 +1,4 @@
+pub mod DebugLemmas
+pub mod LiveLemmas
+pub mod PartLemmas
+pub mod SessionLemmas

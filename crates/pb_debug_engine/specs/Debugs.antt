@@ -1,0 +1,84 @@
+-- What `debug` says of an input, and with which status.
+use Rattle.std.specs.Prelude.{◌≡◌, ◌++◌, ◌⊎◌, ℕ, List, codes, take}
+use Rattle.pb_code.specs.Whole.{Code, ProcessLabels}
+use Rattle.pb_codegen.specs.Compiled.{IsCompiled}
+use Rattle.pb_debug.specs.Sessions.{Session, lines_of, session_bytes}
+use Rattle.pb_debug.specs.Value.{Debugging, IsPosition, at_start}
+use Rattle.pb_engines.specs.Answers.{memory_line}
+use Rattle.pb_engines.specs.Loading.{IsLoaded, SaysOfNoCode}
+use Rattle.pb_engines.specs.Parts.{AreTwoParts}
+use Rattle.pb_engines.specs.Refusals.{SaysOfRefusedText}
+use Rattle.pb_engines.specs.ReplayLines.{SaysOfNoPicks}
+use Rattle.pb_engines.specs.declared.status.Status.{Status}
+use Rattle.pb_engines.specs.declared.status.Status.TheVariants.{Done, Memory, Device}
+use Rattle.pb_history.specs.Replays.{spread}
+use Rattle.pb_history.specs.declared.counted.CountedPick.{CountedPick}
+use Rattle.pb_picks.specs.PickLines.{SpellsPicks}
+use Rattle.pb_verifier.specs.Verified.{VerifiedCode}
+
+-- ---- the three parts of an input
+
+-- a text or an object; pick lines behind the first line `%%`; and commands behind the next one. Without such a line the
+-- parts behind it are empty
+abbrev pub AreThreeParts : (bytes source lines commands : List ℕ) → Type 0
+AreThreeParts bytes source lines commands =
+    (rest : List ℕ) × AreTwoParts bytes source rest × AreTwoParts rest lines commands
+
+-- the first part is an object exactly if it begins with these four bytes
+abbrev pub IsObject : List ℕ → Type 0
+IsObject source = take 4 source ≡ codes "PBO "
+
+-- the code and the labels that the first part gives
+abbrev pub GivesCode : (source : List ℕ) → Code → List ProcessLabels → Type 0
+GivesCode source code labels =
+    (IsObject source × IsLoaded source code labels) ⊎ ((¬ IsObject source) × IsCompiled source code labels)
+
+-- what is said of a first part that gives none
+abbrev pub SaysOfNoSource : (source : List ℕ) → List ℕ → Status → Type 0
+SaysOfNoSource source text status =
+    (IsObject source × SaysOfNoCode source text status) ⊎ ((¬ IsObject source) × SaysOfRefusedText source text status)
+
+-- the debugger of the code and of the picks that the lines say, each enabled in turn, before the first of them
+pub record IsOpened (verified : VerifiedCode) (labels : List ProcessLabels) (lines : List ℕ) (d : Debugging) : Type 0 where
+  pub counted : List CountedPick
+  pub spelled : SpellsPicks verified.code lines counted
+  pub opened : d ≡ at_start verified labels (spread counted)
+  pub placed : IsPosition d
+
+-- ---- what is said
+
+-- of commands: the answers to all of their lines; or, out of memory, those to some first lines and then `memory`; or those
+-- to some first lines where a device failed
+pub data SaysOfSession (d : Debugging) (commands : List ℕ) : List ℕ → Status → Type 0 where
+  answered : (text : List ℕ) (end : Debugging) → Session d (lines_of (session_bytes commands)) text end
+      → SaysOfSession d commands text Done
+  out_of_memory : (lines later : List (List ℕ)) → lines_of (session_bytes commands) ≡ lines ++ later
+      → (text : List ℕ) (end : Debugging) → Session d lines text end
+      → SaysOfSession d commands (text ++ memory_line) Memory
+  broken_off : (lines later : List (List ℕ)) → lines_of (session_bytes commands) ≡ lines ++ later
+      → (text : List ℕ) (end : Debugging) → Session d lines text end → SaysOfSession d commands text Device
+
+-- of the code of the first part: the lines say no picks, or one of these is not enabled; or the commands are answered
+pub data SaysOfCode (verified : VerifiedCode) (labels : List ProcessLabels) (lines commands : List ℕ)
+    : List ℕ → Status → Type 0 where
+  no_picks : (text : List ℕ) (status : Status) → SaysOfNoPicks verified.code lines text status
+      → SaysOfCode verified labels lines commands text status
+  no_memory : SaysOfCode verified labels lines commands memory_line Memory
+  debugged : (d : Debugging) → IsOpened verified labels lines d
+      → (text : List ℕ) (status : Status) → SaysOfSession d commands text status
+      → SaysOfCode verified labels lines commands text status
+
+-- of the three parts: the first gives no code; or it gives some
+pub data SaysOfParts (source lines commands : List ℕ) : List ℕ → Status → Type 0 where
+  no_source : (text : List ℕ) (status : Status) → SaysOfNoSource source text status
+      → SaysOfParts source lines commands text status
+  no_room : SaysOfParts source lines commands memory_line Memory
+  with_code : (verified : VerifiedCode) (labels : List ProcessLabels) → GivesCode source verified.code labels
+      → (text : List ℕ) (status : Status) → SaysOfCode verified labels lines commands text status
+      → SaysOfParts source lines commands text status
+
+-- of an input
+abbrev pub SaysOfDebug : (bytes : List ℕ) → List ℕ → Status → Type 0
+SaysOfDebug bytes text status =
+    (source : List ℕ) × (lines : List ℕ) × (commands : List ℕ)
+    × AreThreeParts bytes source lines commands × SaysOfParts source lines commands text status

@@ -1,0 +1,3 @@
+pub mod Debugs
+pub mod Faults
+pub mod Live

@@ -1,0 +1,51 @@
+//! The command `debug`, over any input and output.
+
+ghost use Rattle.std.specs.Prelude.{◌≤◌, IfSome, length};
+ghost use Rattle.pb_debug_engine.specs.Debugs.{SaysOfDebug};
+ghost use Rattle.pb_engines.specs.Answers.{Tells};
+ghost use Rattle.pb_engines.specs.Faults.{TellsFaults, TellsWriteFaults};
+ghost use Rattle.pb_engines.specs.Inputs.{SaysOfInput};
+
+use crate::parts::debug_parts;
+use pb_base::device::{Input, MemoryInput, Output};
+use pb_engines::Status;
+use pb_engines::input::read_input;
+use pb_engines::parts::two_parts;
+use std::alloc::Global;
+
+/// Debugs the text or the object that the input begins with: makes the picks that the pick lines behind its first line
+/// `%%` say, and answers the commands behind the second. It is an object if it begins with `PBO `. A first part, pick
+/// lines or picks that are refused are answered by their refusal line alone.
+///
+/// The status is `Done` at the end of the commands, whatever they were. After a read that failed nothing is written;
+/// after a write that failed, a first part of what was being said.
+pub fn debug_engine<I: Input, O: Output>(alloc: Global, input: &mut I, output: &mut O) -> Status
+    ensures text { IfSome (I.rest input.old) (λ bytes.
+        Tells (SaysOfInput SaysOfDebug bytes) (O.written output.old) (O.written output.new) result) }
+    ensures faults { TellsFaults
+        (record { reads = I.failures input.old; writes = O.failures output.old; written = O.written output.old })
+        (record { reads = I.failures input.new; writes = O.failures output.new; written = O.written output.new })
+        result }
+{
+    match read_input(alloc, input, output) {
+        Ok(bytes) => debug_bytes(alloc, bytes.as_slice(), output),
+        Err(status) => status,
+    }
+}
+
+// Debugs a whole input.
+fn debug_bytes<O: Output>(alloc: Global, bytes: &[u8], output: &mut O) -> Status
+    requires { length bytes.now ≤ 4194304 }
+    ensures text { Tells (SaysOfInput SaysOfDebug bytes.now) (O.written output.old) (O.written output.new) result }
+    ensures faults { TellsWriteFaults (O.failures output.old) (O.failures output.new) result }
+{
+    let (source, rest) = two_parts(bytes);
+    let (lines, commands) = two_parts(rest);
+    debug_parts(
+        alloc,
+        source,
+        lines,
+        &mut MemoryInput::new(commands),
+        output,
+    )
+}

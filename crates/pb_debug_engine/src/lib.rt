@@ -1,0 +1,13 @@
+//! The engines behind the command `debug`: sessions of commands over the picks of a text or of an object.
+#![tactic(auto)]
+
+pub mod debug;
+pub mod live;
+pub mod options;
+mod part;
+mod parts;
+mod session;
+
+pub use debug::debug_engine;
+pub use live::debug_live_engine;
+pub use options::DebugOptions;

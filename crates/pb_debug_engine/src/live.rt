@@ -1,0 +1,59 @@
+//! The command `debug --live`, over any input and output.
+
+ghost use Rattle.std.specs.Prelude.{◌≡◌, ◌≢◌, IfSome};
+ghost use Rattle.pb_debug_engine.specs.Faults.{TellsAnyFault};
+ghost use Rattle.pb_debug_engine.specs.Live.{SaysOfLive, unread_status, unread_text};
+ghost use Rattle.pb_engines.specs.Answers.{Says, Tells};
+ghost use Rattle.pb_engines.specs.Faults.{TellsWriteFaults};
+
+use crate::part::read_first_parts;
+use crate::parts::debug_parts;
+use pb_base::device::{Input, Output, ReadFault};
+use pb_engines::{Page, Status};
+use std::alloc::Global;
+
+/// Debugs as `debug_engine` does, but reads the commands as they come: the answer to each is written before more is
+/// read. The two parts before the commands are read up to their lines `%%`, and none of them may be over 4,194,304
+/// bytes; of the commands as many bytes are read.
+///
+/// A read may fail behind some commands: their answers are written then.
+pub fn debug_live_engine<I: Input, O: Output>(
+    alloc: Global,
+    input: &mut I,
+    output: &mut O,
+) -> Status
+    ensures text { IfSome (I.rest input.old) (λ bytes.
+        Tells (SaysOfLive bytes) (O.written output.old) (O.written output.new) result) }
+    ensures faults { TellsAnyFault
+        (record { reads = I.failures input.old; writes = O.failures output.old; written = O.written output.old })
+        (record { reads = I.failures input.new; writes = O.failures output.new; written = O.written output.new })
+        result }
+{
+    match read_first_parts(alloc, input) {
+        Ok(parts) => {
+            debug_parts(
+                alloc,
+                parts.source.as_slice(),
+                parts.lines.as_slice(),
+                input,
+                output,
+            )
+        }
+        Err(fault) => tell_unread(alloc, fault, output),
+    }
+}
+
+// Says why the first parts of an input were not read.
+fn tell_unread<O: Output>(alloc: Global, fault: ReadFault, output: &mut O) -> Status
+    ensures text { Says (O.written output.old) (O.written output.new) (unread_text fault) (unread_status fault) result }
+    ensures device { fault ≡ ReadFault.Device → O.failures output.new ≡ O.failures output.old }
+    ensures faults { fault ≢ ReadFault.Device → TellsWriteFaults (O.failures output.old) (O.failures output.new) result }
+{
+    match fault {
+        ReadFault::Device => Status::Device,
+        ReadFault::TooLong => {
+            Page::new(alloc).finish_with(output, b"refused input", Status::Refused)
+        }
+        ReadFault::Memory => Page::new(alloc).finish_with(output, b"memory", Status::Memory),
+    }
+}

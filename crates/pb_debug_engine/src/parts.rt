@@ -1,0 +1,106 @@
+//! The three parts of what is debugged: a text or an object, pick lines, and commands.
+
+ghost use Rattle.std.specs.Prelude.{◌≡◌, ◌≤◌, ◌↔◌, IfSome, IsTrue, length};
+ghost use Rattle.pb_code.specs.Limits.{AreLabels};
+ghost use Rattle.pb_code.specs.View.{labels_view};
+ghost use Rattle.pb_debug_engine.specs.Debugs.{IsObject, SaysOfCode, SaysOfParts};
+ghost use Rattle.pb_debug_engine.specs.Faults.{TellsAnyFault};
+ghost use Rattle.pb_engines.specs.Answers.{Tells};
+
+use crate::session::tell_session;
+use pb_base::device::{Input, Output};
+use pb_code::Labels;
+use pb_debug::Debugger;
+use pb_engines::Status;
+use pb_engines::accept::{compile_text, refuse};
+use pb_engines::load::{load, load_refusal};
+use pb_engines::replay::{LinesFault, lines_refusal};
+use pb_engines::reply::tell;
+use pb_picks::read_picks;
+use pb_verifier::Verified;
+use std::alloc::Global;
+
+// Whether a first part is an object. No text begins so.
+fn is_object(source: &[u8]) -> bool
+    ensures { IsTrue result ↔ IsObject source.now }
+{
+    source.starts_with(b"PBO ")
+}
+
+// Debugs the code that a first part gave.
+fn debug_code<I: Input, O: Output>(
+    alloc: Global,
+    verified: &Verified,
+    labels: &Labels,
+    lines: &[u8],
+    commands: &mut I,
+    output: &mut O,
+) -> Status
+    requires { AreLabels verified.now.code (labels_view labels.now) }
+    ensures text { IfSome (I.rest commands.old) (λ bytes.
+        Tells (SaysOfCode verified.now (labels_view labels.now) lines.now bytes)
+        (O.written output.old) (O.written output.new) result) }
+    ensures faults { TellsAnyFault
+        (record { reads = I.failures commands.old; writes = O.failures output.old; written = O.written output.old })
+        (record { reads = I.failures commands.new; writes = O.failures output.new; written = O.written output.new })
+        result }
+{
+    let picks = match read_picks(alloc, verified.code(), lines) {
+        Ok(picks) => picks,
+        Err(fault) => {
+            return tell(
+                alloc,
+                lines_refusal(alloc, LinesFault::NotRead(fault)),
+                output,
+            );
+        }
+    };
+    match Debugger::from_object_counted(alloc, verified, labels, picks.as_slice()) {
+        Ok(mut debugger) => tell_session(alloc, &mut debugger, commands, output),
+        Err(fault) => tell(
+            alloc,
+            lines_refusal(alloc, LinesFault::NotMade(fault)),
+            output,
+        ),
+    }
+}
+
+/// Debugs a text or an object by the picks of pick lines: answers the commands, or writes the line of the first
+/// refusal, of the first part before the pick lines and of these before the picks.
+pub fn debug_parts<I: Input, O: Output>(
+    alloc: Global,
+    source: &[u8],
+    lines: &[u8],
+    commands: &mut I,
+    output: &mut O,
+) -> Status
+    requires { length source.now ≤ 4194304 }
+    ensures text { IfSome (I.rest commands.old) (λ bytes.
+        Tells (SaysOfParts source.now lines.now bytes) (O.written output.old) (O.written output.new) result) }
+    ensures faults { TellsAnyFault
+        (record { reads = I.failures commands.old; writes = O.failures output.old; written = O.written output.old })
+        (record { reads = I.failures commands.new; writes = O.failures output.new; written = O.written output.new })
+        result }
+{
+    if is_object(source) {
+        return match load(alloc, source) {
+            Ok((verified, labels)) => {
+                debug_code(alloc, &verified, &labels, lines, commands, output)
+            }
+            Err(fault) => tell(alloc, load_refusal(alloc, fault), output),
+        };
+    }
+    match compile_text(alloc, source) {
+        Ok(compiled) => {
+            debug_code(
+                alloc,
+                compiled.verified(),
+                compiled.labels(),
+                lines,
+                commands,
+                output,
+            )
+        }
+        Err(refusal) => refuse(alloc, refusal, output),
+    }
+}

@@ -1,0 +1,36 @@
+//! A session, with the status that it comes to.
+
+ghost use Rattle.std.specs.Prelude.{IfSome};
+ghost use Rattle.pb_debug_engine.specs.Debugs.{SaysOfSession};
+ghost use Rattle.pb_debug_engine.specs.Faults.{TellsAnyFault};
+ghost use Rattle.pb_engines.specs.Answers.{Tells};
+
+use pb_base::device::{Input, Output};
+use pb_debug::{DebugFault, Debugger};
+use pb_engines::{Page, Status};
+use std::alloc::Global;
+
+/// Answers the commands of an input, and says `memory` if there is too little of it for an answer.
+pub fn tell_session<I: Input, O: Output>(
+    alloc: Global,
+    debugger: &mut Debugger<'_>,
+    commands: &mut I,
+    output: &mut O,
+) -> Status
+    ensures text { IfSome (I.rest commands.old) (λ bytes.
+        Tells (SaysOfSession debugger.old bytes) (O.written output.old) (O.written output.new) result) }
+    ensures faults { TellsAnyFault
+        (record { reads = I.failures commands.old; writes = O.failures output.old; written = O.written output.old })
+        (record { reads = I.failures commands.new; writes = O.failures output.new; written = O.written output.new })
+        result }
+{
+    match debugger.session(commands, output) {
+        Ok(()) => Status::Done,
+        Err(fault) => match fault {
+            DebugFault::NoMemory => {
+                Page::new(alloc).finish_with(output, b"memory", Status::Memory)
+            }
+            _ => Status::Device,
+        },
+    }
+}
