@@ -1,0 +1,95 @@
+"""What the checks share: calls of the built program, and the inputs that they give it."""
+import os
+import pathlib
+import subprocess
+import sys
+import tempfile
+
+TOP = pathlib.Path(__file__).resolve().parent.parent
+EXAMPLES = sorted((TOP / "examples").glob("*.pb"))
+DONE, REFUSED, WORDS, LIMIT, FAULT, MEMORY, DEVICE = range(7)
+# The longest input that a command reads, and the longest text.
+MOST_INPUT, MOST_TEXT = 4_194_304, 65_536
+# A call that takes longer hangs.
+WATCHDOG = 120
+
+
+def program():
+    """Returns the program that is named on the command line, or that ./parbegin has built."""
+    given = pathlib.Path(sys.argv[1]).resolve() if len(sys.argv) > 1 else TOP / "crates/pb_cli/out/pb_cli"
+    if not os.access(given, os.X_OK):
+        sys.exit(f"{given} is not there: ./parbegin builds it")
+    return str(given)
+
+
+def call(words, given, environment=None, of=None):
+    """Calls the program with these words on these bytes, and returns its status, and what it wrote."""
+    ran = subprocess.run(
+        [of or program(), *words], input=given, stdout=subprocess.PIPE, stderr=subprocess.PIPE, timeout=WATCHDOG,
+        env={**os.environ, **(environment or {})}, check=False,
+    )
+    return ran.returncode, ran.stdout
+
+
+def preload(source):
+    """Compiles a C source to a library that LD_PRELOAD puts before the C library, and returns its path."""
+    folder = tempfile.mkdtemp(prefix="parbegin-checks-")
+    library = f"{folder}/calls.so"
+    words = ["cc", "-shared", "-fPIC", "-O1", "-o", library, "-xc", "-", "-ldl"]
+    subprocess.run(words, input=source.encode(), check=True)
+    return library
+
+
+class Tally:
+    """Counts what was tried, and tells what was not as wanted."""
+
+    def __init__(self):
+        self.tried, self.wrong = 0, 0
+
+    def expect(self, is_right, *what):
+        self.tried += 1
+        if not is_right:
+            self.wrong += 1
+            print("wrong:", *what, file=sys.stderr)
+
+    def end(self, name):
+        print(f"{name}: {self.tried} tried, {self.wrong} wrong")
+        sys.exit(1 if self.wrong else 0)
+
+
+def many_prints(count):
+    """Returns a text that prints so often."""
+    return f"process p begin integer i; while i < {count} do print i; i := i + 1 od end\n".encode()
+
+
+def object_of(text):
+    """Returns the object of a text."""
+    status, made = call(["emit"], text)
+    assert status == DONE, (status, made)
+    return made
+
+
+def first_object_of(text):
+    """Returns the object of a text in the first format, or in the second if it has a hold of two resources."""
+    status, made = call(["emit", "--object", "1"], text)
+    return made if status == DONE else object_of(text)
+
+
+def recorded(text, *words):
+    """Returns the text with the picks of a run of it."""
+    status, made = call(["record", *words], text)
+    assert status == DONE, (status, made)
+    return made
+
+
+def inputs():
+    """Returns for each command some words and inputs that it accepts, each with a name."""
+    texts = [(file.name, file.read_bytes()) for file in EXAMPLES] + [("2,000 prints", many_prints(2000))]
+    for name, text in texts:
+        for command in ("run", "claims", "check", "emit", "record"):
+            yield f"{command} {name}", [command], text
+        yield f"emit --object 1 {name}", ["emit", "--object", "1"], text
+        yield f"record --seed 7 {name}", ["record", "--seed", "7"], text
+        yield f"replay {name}", ["replay"], recorded(text)
+        yield f"exec {name}", ["exec"], object_of(text)
+        yield f"migrate {name}", ["migrate"], first_object_of(text)

@@ -1,0 +1,46 @@
+#!/usr/bin/env python3
+"""Runs the built program on every example under valgrind.
+
+    checks/memory_use.py [PROGRAM]     PROGRAM is the one that ./parbegin has built if none is given
+
+memcheck looks at each command for reads and writes outside of what was allocated, for jumps that depend on bytes that
+were never written, and for memory that is lost; helgrind and drd look at runs of four workers for data races. It is
+run by hand on Linux with valgrind; its status is 0 if nothing was found, and 1 if not.
+"""
+import subprocess
+
+from calls import EXAMPLES, Tally, first_object_of, object_of, program, recorded
+
+FOUND = 99
+TOOLS = {
+    "memcheck": ["--tool=memcheck", "--leak-check=full", "--show-leak-kinds=definite,indirect,possible",
+                 "--errors-for-leak-kinds=definite,indirect,possible"],
+    "helgrind": ["--tool=helgrind"],
+    "drd": ["--tool=drd"],
+}
+
+
+def look(tally, tool, words, given, name):
+    """Runs the program under a tool of valgrind."""
+    how = ["valgrind", "-q", f"--error-exitcode={FOUND}", *TOOLS[tool], program(), *words]
+    ran = subprocess.run(how, input=given, stdout=subprocess.DEVNULL, stderr=subprocess.PIPE, check=False)
+    tally.expect(ran.returncode != FOUND and not ran.stderr, tool, name, words, ran.stderr.decode(errors="replace")[:2000])
+
+
+def main():
+    tally = Tally()
+    for file in EXAMPLES:
+        text = file.read_bytes()
+        for words in (["check"], ["check", "--heap", "1048576"], ["claims"], ["run"], ["emit"], ["emit", "--object", "1"],
+                      ["record"], ["record", "--seed", "7"], ["run", "--workers", "4", "--quantum", "1"]):
+            look(tally, "memcheck", words, text, file.name)
+        look(tally, "memcheck", ["exec"], object_of(text), file.name)
+        look(tally, "memcheck", ["migrate"], first_object_of(text), file.name)
+        look(tally, "memcheck", ["replay"], recorded(text), file.name)
+        for tool in ("helgrind", "drd"):
+            for quantum in ("1", "64"):
+                look(tally, tool, ["run", "--workers", "4", "--quantum", quantum], text, file.name)
+    tally.end("memory use")
+
+
+main()
