@@ -58,7 +58,7 @@ class Tally:
 
 
 def many_prints(count):
-    """Returns a text that prints so often."""
+    """Returns a text that prints this number of times."""
     return f"process p begin integer i; while i < {count} do print i; i := i + 1 od end\n".encode()
 
 

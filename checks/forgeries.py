@@ -58,12 +58,12 @@ def entries(arms, body):
 
 
 def nested_holds(count):
-    """Returns code that holds so many times in one arm."""
+    """Returns code whose only arm takes one of a resource this number of times before it gives any back."""
     return ["take 0 1"] * count + ["give 0 1"] * count + ["end"]
 
 
 def many_operands(count):
-    """Returns code that puts so many operands on the stack and takes them away."""
+    """Returns code that puts this number of operands on the stack and takes them away."""
     return ["push 1"] * count + [f"jzero {count + it}" for it in range(1, count + 1)] + ["end"]
 
 

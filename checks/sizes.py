@@ -63,12 +63,12 @@ def printed(expression):
 
 
 def parbegins(depth, arms):
-    """Returns so many parbegins, each the first arm of the one before."""
+    """Returns this number of parbegins, each the first arm of the one before."""
     return "skip" if depth == 0 else f"parbegin {parbegins(depth - 1, arms)}{'; skip' * (arms - 1)} parend"
 
 
 def many(kind, count):
-    """Returns a text with so many of a kind."""
+    """Returns a text with this number of a kind."""
     return {
         "brackets": lambda: printed("(" * count + "1" + ")" * count),
         "minus signs": lambda: printed("- " * count + "1"),

@@ -54,7 +54,7 @@ Leaves BadCommand old new text = ⊥
 Leaves NoMemory old new text = new ≡ appended old text
 Leaves Device old new text = AddsPrefix old new text
 
--- some first lines are answered, and their answers are written, all or a first part of them; the debugger is at the
+-- the answers to the first lines are written, all or a first part of them; the debugger is at the
 -- position to which the last of these lines led
 pub record SaysSome (fault : DebugFault) (d : Debugging) (bytes : List ℕ) (old new : Option (List ℕ)) (end : Debugging) : Type 0 where
   pub lines : List (List ℕ)
@@ -87,7 +87,7 @@ pub record Fed (d : Debugging) (part bytes : List ℕ) (old new : Option (List �
   pub written : new ≡ appended old text
   pub last : line ≡ kept (cut part bytes).rest
 
--- some first lines that end in the bytes are answered, and their answers are written, all or a first part of them
+-- the answers to the first lines that end in the bytes are written, all or a first part of them
 pub record FedSome (fault : DebugFault) (d : Debugging) (part bytes : List ℕ) (old new : Option (List ℕ)) (next : Debugging) : Type 0 where
   pub lines : List (List ℕ)
   pub later : List (List ℕ)

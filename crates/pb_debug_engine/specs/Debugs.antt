@@ -47,8 +47,8 @@ pub record IsOpened (verified : VerifiedCode) (labels : List ProcessLabels) (lin
 
 -- ---- what is said
 
--- of commands: the answers to all of their lines; or, out of memory, those to some first lines and then `memory`; or those
--- to some first lines where a device failed
+-- of commands: the answers to all of their lines; if memory runs out, the answers to the first lines and then `memory`; if a
+-- device fails, the answers to the first lines
 pub data SaysOfSession (d : Debugging) (commands : List ℕ) : List ℕ → Status → Type 0 where
   answered : (text : List ℕ) (end : Debugging) → Session d (lines_of (session_bytes commands)) text end
       → SaysOfSession d commands text Done
@@ -58,7 +58,7 @@ pub data SaysOfSession (d : Debugging) (commands : List ℕ) : List ℕ → Stat
   broken_off : (lines later : List (List ℕ)) → lines_of (session_bytes commands) ≡ lines ++ later
       → (text : List ℕ) (end : Debugging) → Session d lines text end → SaysOfSession d commands text Device
 
--- of the code of the first part: the lines say no picks, or one of these is not enabled; or the commands are answered
+-- of the code of the first part: the lines say no picks, or one of these is not enabled; or the answers to the commands are written
 pub data SaysOfCode (verified : VerifiedCode) (labels : List ProcessLabels) (lines commands : List ℕ)
     : List ℕ → Status → Type 0 where
   no_picks : (text : List ℕ) (status : Status) → SaysOfNoPicks verified.code lines text status

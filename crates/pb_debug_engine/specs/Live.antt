@@ -12,7 +12,7 @@ use Rattle.pb_engines.specs.declared.status.Status.TheVariants.{Refused, Memory,
 abbrev pub EndsInMark : List ℕ → Type 0
 EndsInMark text = (3 ≤ length text) × IsMarkAt text (length text - 3)
 
--- there are more than 4,194,304 bytes, and no line `%%` ends in the first so many
+-- there are more than 4,194,304 bytes, and no line `%%` ends in the first 4,194,304
 pub record IsLong (bytes : List ℕ) : Type 0 where
   pub more : 4194304 < length bytes
   pub unmarked : (at : ℕ) → at + 3 ≤ 4194304 → ¬ IsMarkAt bytes at

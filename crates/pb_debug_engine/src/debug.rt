@@ -13,9 +13,9 @@ use pb_engines::input::read_input;
 use pb_engines::parts::two_parts;
 use std::alloc::Global;
 
-/// Debugs the text or the object that the input begins with: makes the picks that the pick lines behind its first line
-/// `%%` say, and answers the commands behind the second. It is an object if it begins with `PBO `. A first part, pick
-/// lines or picks that are refused are answered by their refusal line alone.
+/// Debugs the text or the object that the input begins with: makes the picks of the pick lines behind the first line `%%`,
+/// and writes the answers to the commands behind the second. The first part is an object if it begins with `PBO `. If it,
+/// the pick lines or their picks are refused, only the refusal line is written.
 ///
 /// The status is `Done` at the end of the commands, whatever they were. After a read that failed nothing is written;
 /// after a write that failed, a first part of what was being said.

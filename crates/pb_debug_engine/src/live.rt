@@ -13,10 +13,10 @@ use pb_engines::{Page, Status};
 use std::alloc::Global;
 
 /// Debugs as `debug_engine` does, but reads the commands as they come: the answer to each is written before more is
-/// read. The two parts before the commands are read up to their lines `%%`, and none of them may be over 4,194,304
-/// bytes; of the commands as many bytes are read.
+/// read. The two parts before the commands are read up to their lines `%%`, and neither may be over 4,194,304
+/// bytes; of the commands at most 4,194,304 bytes are read.
 ///
-/// A read may fail behind some commands: their answers are written then.
+/// If a read fails, the answers to the commands before it are already written.
 pub fn debug_live_engine<I: Input, O: Output>(
     alloc: Global,
     input: &mut I,

@@ -65,8 +65,8 @@ fn debug_code<I: Input, O: Output>(
     }
 }
 
-/// Debugs a text or an object by the picks of pick lines: answers the commands, or writes the line of the first
-/// refusal, of the first part before the pick lines and of these before the picks.
+/// Debugs a text or an object after the picks of the pick lines: writes the answers to the commands, or the line of the
+/// first refusal. The text or object is judged first, then the pick lines, then the picks.
 pub fn debug_parts<I: Input, O: Output>(
     alloc: Global,
     source: &[u8],
