@@ -8,10 +8,8 @@ kept   granted, since the kept order still finishes: one walk over all processes
 chain  refused after the whole search: in each round the process of greatest number is the only one that fits, and at
        last two are left of which neither does: P (P + 1) / 2 comparisons of P processes
 """
-import pathlib
-import tempfile
 
-from scratch import build_plain, build_proved, least, print_table, said
+from scratch import build_plain, build_proved, least, print_table, said, scratch_folder
 
 SIZES = [(processes, resources) for processes in (4, 16, 64) for resources in (1, 16)]
 TURNS = 61
@@ -315,8 +313,7 @@ def compare(proved, plain, kind, processes, resources):
 
 
 def main():
-    with tempfile.TemporaryDirectory() as name:
-        folder = pathlib.Path(name)
+    with scratch_folder() as folder:
         proved = build_proved(folder, ["pb_base", "pb_banker", "anyhow"], {"src/main.rt": MAIN, **FILES})
         plain = build_plain(folder, "banker")
         rows = []

@@ -6,11 +6,10 @@ A scratch repository in a temporary folder gets copies of the crates and a small
 again and again on a text. Wants `rt`, `rustc`, `luac5.4` and `valgrind`. Says megabytes a second, and million
 instructions of the processor a round.
 """
-import pathlib
-import tempfile
 import time
 
-from scratch import build_plain, build_proved, instructions_a_round, least, least_of_rows, print_table, said
+from scratch import build_plain, build_proved, instructions_a_round, least, least_of_rows, print_table, said, \
+    scratch_folder
 
 ROUNDS = 60
 TURNS = 9
@@ -235,8 +234,7 @@ def print_parts(proved, kinds, parts):
 
 
 def main():
-    with tempfile.TemporaryDirectory() as name:
-        folder = pathlib.Path(name)
+    with scratch_folder() as folder:
         proved, plain = build_proved(folder, NEEDS, FILES), build_plain(folder, "front_end")
         print_parsing(proved, plain)
         print_luac(folder)

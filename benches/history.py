@@ -12,9 +12,8 @@ import os
 import pathlib
 import subprocess
 import sys
-import tempfile
 
-from scratch import TOP, print_table
+from scratch import TOP, print_table, scratch_folder
 
 PROGRAM = pathlib.Path(sys.argv[1]) if len(sys.argv) > 1 else TOP / "crates" / "pb_cli" / "out" / "pb_cli"
 TURNS = int(sys.argv[2]) if len(sys.argv) > 2 else 9
@@ -65,8 +64,8 @@ def row(folder, name, text, steps):
 
 
 def main():
-    with tempfile.TemporaryDirectory() as folder:
-        rows = [row(pathlib.Path(folder), name, *it) for name, it in TEXTS.items()]
+    with scratch_folder() as folder:
+        rows = [row(folder, name, *it) for name, it in TEXTS.items()]
     print_table(["text", "run", "record", "replay", "record by run", "replay by run", "bytes recorded"], rows)
 
 

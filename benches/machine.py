@@ -12,12 +12,10 @@ arms      a loop starts two arms, and waits for them
 holds     each of four processes, one after the other, takes and gives back a hold in a loop
 straight  680 times four assignments with most operators, one after another
 """
-import pathlib
 import sys
-import tempfile
 
 from scratch import MACHINE_NEEDS, build_plain, build_proved, instructions_a_round, least, least_of_rows, \
-    machine_files, machine_main, print_table, said, script_time
+    machine_files, machine_main, print_table, said, scratch_folder, script_time
 
 TURNS = 9
 CYCLES = 680
@@ -189,8 +187,7 @@ def print_loops(proved, plain):
 
 
 def main():
-    with tempfile.TemporaryDirectory() as name:
-        folder = pathlib.Path(name)
+    with scratch_folder() as folder:
         proved, plain = build_proved(folder, MACHINE_NEEDS, FILES), build_plain(folder, "machine")
         head = ["text", "proved, million steps a second", "plain Rust", "ratio of times"]
         head += ["proved, instructions a step", "plain Rust", "ratio"]

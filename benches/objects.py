@@ -6,13 +6,11 @@ A scratch repository in a temporary folder gets copies of the crates and a small
 `wasm-validate` (of the package wabt). Says megabytes and million instructions a second; the least time of each counts.
 Numbers of processes can be given, 64 and 2 where they are not.
 """
-import pathlib
 import subprocess
 import sys
-import tempfile
 import time
 
-from scratch import build_plain, build_proved, print_table, said
+from scratch import build_plain, build_proved, print_table, said, scratch_folder
 
 ROUNDS = "5"
 TURNS = 3
@@ -163,8 +161,7 @@ def print_times(proved, plain, folder, processes):
 
 def main():
     sizes = [int(word) for word in sys.argv[1:]] or [64, 2]
-    with tempfile.TemporaryDirectory() as name:
-        folder = pathlib.Path(name)
+    with scratch_folder() as folder:
         proved, plain = build_proved(folder, NEEDS, FILES), build_plain(folder, "objects")
         for processes in sizes:
             print_times(proved, plain, folder, processes)

@@ -3,10 +3,12 @@ turn by turn of which the least time counts, counts of instructions, and tables.
 
 A crate that was built in this repository is taken as it was built; another is proved first.
 """
+import contextlib
 import pathlib
 import re
 import shutil
 import subprocess
+import tempfile
 
 TOP = pathlib.Path(__file__).resolve().parent.parent
 
@@ -29,6 +31,13 @@ def copy_crate(name, folder):
     source = TOP / "crates" / name
     skipped = ["must-fail"] + ["incremental"] * (source / "out" / "rlib" / "stamp").exists()
     shutil.copytree(source, folder / "crates" / name, ignore=shutil.ignore_patterns(*skipped))
+
+
+@contextlib.contextmanager
+def scratch_folder():
+    """A folder for a scratch repository, which is deleted in the end."""
+    with tempfile.TemporaryDirectory() as name:
+        yield pathlib.Path(name)
 
 
 def build_proved(folder, needs, files):

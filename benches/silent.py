@@ -14,14 +14,12 @@ Says milliseconds a round (the least of all turns), the ratios to Lua, and instr
 times and not the instructions: take final times on a quiet machine, and say its load.
 """
 import os
-import pathlib
 import subprocess
 import sys
-import tempfile
 import time
 
 from scratch import MACHINE_NEEDS, build_proved, instructions_a_round, least, least_of_rows, machine_files, \
-    machine_main, print_table, said, script_time
+    machine_main, print_table, said, scratch_folder, script_time
 
 TURNS = int(sys.argv[1]) if len(sys.argv) > 1 else 9
 ROUNDS = 12
@@ -324,8 +322,7 @@ class Runs:
 
 
 def main():
-    with tempfile.TemporaryDirectory() as name:
-        folder = pathlib.Path(name)
+    with scratch_folder() as folder:
         proved = build_proved(folder, MACHINE_NEEDS, FILES)
         empty = wasm_module(folder, "empty", '(module (func (export "main") (result i64) i64.const 0))')
         times, counts = [], []

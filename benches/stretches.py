@@ -15,12 +15,11 @@ Wants `rt`.
     python3 benches/stretches.py [TURNS]
 """
 import os
-import pathlib
 import subprocess
 import sys
 import tempfile
 
-from scratch import build_proved, print_table
+from scratch import build_proved, print_table, scratch_folder
 
 TURNS = int(sys.argv[1]) if len(sys.argv) > 1 else 15
 PICKS = 10_000_000
@@ -145,8 +144,8 @@ def row(program, name, shape):
 
 
 def main():
-    with tempfile.TemporaryDirectory() as name:
-        program = build_proved(pathlib.Path(name), NEEDS, {"src/main.rt": MAIN})
+    with scratch_folder() as folder:
+        program = build_proved(folder, NEEDS, {"src/main.rt": MAIN})
         head = ["process", f"quantum {SHORT}, milliseconds", f"quantum {LONG}", "ratio", "nanoseconds a stretch"]
         print_table(head, [row(program, name, shape) for name, shape in PROCESSES.items()])
 
