@@ -1,0 +1,43 @@
+# Completion of parbegin for bash. To use it: source this file, or let install.sh put it in its place.
+_parbegin() {
+    local word=${COMP_WORDS[COMP_CWORD]} before=${COMP_WORDS[COMP_CWORD - 1]} at=1 options
+    if [[ ${COMP_WORDS[1]} == --unproved ]]; then
+        at=2
+    fi
+    if ((COMP_CWORD <= at)); then
+        local commands="check claims emit exec migrate record replay run help --help --version"
+        if ((at == 1)); then
+            commands+=" --unproved"
+        fi
+        mapfile -t COMPREPLY < <(compgen -W "$commands" -- "$word")
+        return
+    fi
+    # the value of an option is a number
+    case $before in
+    --object)
+        mapfile -t COMPREPLY < <(compgen -W "1 2" -- "$word")
+        return
+        ;;
+    --heap | --workers | --quantum | --steps | --seed)
+        return
+        ;;
+    esac
+    case ${COMP_WORDS[at]} in
+    check) options="--heap" ;;
+    claims) options="" ;;
+    emit) options="--object" ;;
+    exec) options="--workers --quantum --steps" ;;
+    migrate) options="" ;;
+    record) options="--workers --quantum --steps --seed" ;;
+    replay) options="" ;;
+    run) options="--workers --quantum --steps" ;;
+    *) return ;;
+    esac
+    if [[ $word == -* ]]; then
+        mapfile -t COMPREPLY < <(compgen -W "$options --help" -- "$word")
+    else
+        compopt -o filenames 2>/dev/null
+        mapfile -t COMPREPLY < <(compgen -f -- "$word")
+    fi
+}
+complete -F _parbegin parbegin ./parbegin

@@ -1,0 +1,24 @@
+# Completion of parbegin for fish. To use it: copy this file to ~/.config/fish/completions, or let install.sh do it.
+set -l commands check claims emit exec migrate record replay run help
+
+complete -c parbegin -n "not __fish_seen_subcommand_from $commands" -f
+complete -c parbegin -n "not __fish_seen_subcommand_from $commands" -l unproved -d "Run the sources with no proof"
+complete -c parbegin -n "not __fish_seen_subcommand_from $commands" -l version -d "Print the version"
+complete -c parbegin -l help -d "Print help"
+
+complete -c parbegin -n "not __fish_seen_subcommand_from $commands" -a check -d "Check whether texts are programs"
+complete -c parbegin -n "not __fish_seen_subcommand_from $commands" -a claims -d "Print the inferred claims"
+complete -c parbegin -n "not __fish_seen_subcommand_from $commands" -a emit -d "Print the object of a program"
+complete -c parbegin -n "not __fish_seen_subcommand_from $commands" -a exec -d "Run an object"
+complete -c parbegin -n "not __fish_seen_subcommand_from $commands" -a migrate -d "Print an object in format 2"
+complete -c parbegin -n "not __fish_seen_subcommand_from $commands" -a record -d "Run a program and print its picks"
+complete -c parbegin -n "not __fish_seen_subcommand_from $commands" -a replay -d "Make recorded picks again"
+complete -c parbegin -n "not __fish_seen_subcommand_from $commands" -a run -d "Run a program"
+complete -c parbegin -n "not __fish_seen_subcommand_from $commands" -a help -d "Print help of a command"
+
+complete -c parbegin -n "__fish_seen_subcommand_from check" -l heap -x -d "Bytes of the heap of each text"
+complete -c parbegin -n "__fish_seen_subcommand_from emit" -l object -x -a "1 2" -d "Format of the object"
+complete -c parbegin -n "__fish_seen_subcommand_from exec record run" -l workers -x -d "Worker threads, 1 to 16"
+complete -c parbegin -n "__fish_seen_subcommand_from exec record run" -l quantum -x -d "Most steps at once, 1 to 4096"
+complete -c parbegin -n "__fish_seen_subcommand_from exec record run" -l steps -x -d "Most steps of the run"
+complete -c parbegin -n "__fish_seen_subcommand_from record" -l seed -x -d "Draw the run by this seed"
