@@ -1,0 +1,77 @@
+#!/usr/bin/env python3
+"""Types the commands that the documents show, and compares what they write; and looks whether each path in them is there.
+
+    checks/documents.py [PROGRAM]     PROGRAM is the one that ./parbegin has built if none is given
+
+A command is a line of a block that begins with `$ `, with the lines behind it that begin with `> `; what it writes is
+the lines up to the next command or the end of the block. The commands run in a folder with the script, as it is
+installed, and the examples. A path is a word of a document, in backquotes or not, that begins with the name of a folder
+at the top of the repository. Its status is 0 if all is as wanted, and 1 if not.
+"""
+import pathlib
+import re
+import shutil
+import subprocess
+import tempfile
+
+from calls import TOP, Tally, program
+
+DOCUMENTS = [TOP / "README.md", TOP / "examples/README.md", *sorted((TOP / "docs").glob("*.md"))]
+BLOCK = re.compile(r"^( *)```\n(.*?)^\1```$", re.M | re.S)
+PATH = re.compile(r"(?<![\w/.])(?:crates|docs|examples|checks|benches|extras)/[\w./{},*-]*\w\.\w+")
+
+
+def commands_of(text):
+    """Returns the commands of a document, each with what it is shown to write."""
+    for indent, block in BLOCK.findall(text):
+        lines = [line.removeprefix(indent) for line in block.splitlines()]
+        if not lines or not lines[0].startswith("$ "):
+            continue
+        found = []
+        for line in lines:
+            if line.startswith("$ "):
+                found.append([[line[2:]], []])
+            elif line.startswith("> ") and not found[-1][1]:
+                found[-1][0].append(line[2:])
+            else:
+                found[-1][1].append(line)
+        for command, written in found:
+            yield "\n".join(command), written
+
+
+def install(folder):
+    """Puts the script, the program and the examples into a folder, and returns where commands run."""
+    top = folder / "top"
+    shutil.copytree(TOP / "examples", top / "examples")
+    shutil.copy(TOP / "parbegin", top)
+    (folder / "libexec/parbegin").mkdir(parents=True)
+    shutil.copy(program(), folder / "libexec/parbegin/pb_cli")
+    return top
+
+
+def is_there(path):
+    """Whether a path with braces or stars names files that are all there."""
+    braces = re.search(r"\{(.*?)\}", path)
+    if braces:
+        return all(is_there(path.replace(braces[0], it)) for it in braces[1].split(","))
+    return any(TOP.glob(path))
+
+
+def main():
+    tally, typed = Tally(), 0
+    with tempfile.TemporaryDirectory() as folder:
+        top = install(pathlib.Path(folder))
+        for document in DOCUMENTS:
+            text = document.read_text()
+            for command, written in commands_of(text):
+                typed += 1
+                ran = subprocess.run(["bash", "-c", command], cwd=top, stdout=subprocess.PIPE, stderr=subprocess.STDOUT)
+                got = ran.stdout.decode().splitlines()
+                tally.expect(got == written, f"{document.name}: `{command}` writes", *got)
+            for path in PATH.findall(text):
+                tally.expect(is_there(path), f"{document.name}: there is no {path}")
+    print(f"{len(DOCUMENTS)} documents, {typed} commands")
+    tally.end("documents")
+
+
+main()
