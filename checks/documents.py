@@ -69,6 +69,9 @@ def main():
                 got = ran.stdout.decode().splitlines()
                 tally.expect(got == written, f"{document.name}: `{command}` writes", *got)
             for path in PATH.findall(text):
+                if "NAME" in path:
+                    # (any crate or file)
+                    continue
                 tally.expect(is_there(path), f"{document.name}: there is no {path}")
     print(f"{len(DOCUMENTS)} documents, {typed} commands")
     tally.end("documents")
