@@ -1,3 +1,4 @@
+pub mod Adds
 pub mod Causes
 pub mod Claims
 pub mod Faults

@@ -1,23 +1,26 @@
 //! How a syntax tree becomes a numbered program.
 
-ghost use Rattle.std.specs.Prelude.{◌≡◌, ◌+◌, ◌≤◌, pos, length, map, All, IfOk, IfErr, OnOk};
+ghost use Rattle.std.specs.Prelude.{◌≡◌, ℕ, ◌+◌, ◌≤◌, pos, List, length, map, All, IfOk, IfErr, OnOk};
 ghost use Rattle.std.specs.List.{AllZip};
+ghost use Rattle.pb_tree.specs.Syntax as tree;
 ghost use Rattle.pb_tree.specs.View.{name_view, number_view, expr_view, demand_view, stmt_view, stmts_view};
 ghost use Rattle.pb_tree.specs.View.{arms_view, process_view, resource_view, program_view};
+ghost use Rattle.pb_names.specs.Adds.{Adds};
 ghost use Rattle.pb_names.specs.Causes.{IsUnknown, IsOutside, InExpr, InDemand, InsideProcess, InProgram, Among};
 ghost use Rattle.pb_names.specs.Causes.{InResource, InProcess};
 ghost use Rattle.pb_names.specs.Faults.{IsFault};
-ghost use Rattle.pb_names.specs.Limits.{IsTooMany, IsWithinLimits, widest_in, inner_arms_of_stmt, inner_arms};
+ghost use Rattle.pb_names.specs.Limits.{IsTooMany, IsWithinLimits, width, widest_in, inner_arms_of_stmt, inner_arms};
 ghost use Rattle.pb_names.specs.Limits.{inner_arms_of_arms};
-ghost use Rattle.pb_names.specs.Program.{IsNumberedStmt, IsNumbered, AreNumbered};
+ghost use Rattle.pb_names.specs.Program as plain;
+ghost use Rattle.pb_names.specs.Program.{IsNumbered, AreNumbered};
 ghost use Rattle.pb_names.specs.Ready.{IsReadyStmt, AreReady, AreReadyArms, AreComplete, IsFitting};
 ghost use Rattle.pb_names.specs.Ready.{IsComplete};
-ghost use Rattle.pb_names.specs.Resolves.{Resolves, ResolvesExpr, ResolvesStmt, ResolvesStmts, ResolvesArms};
+ghost use Rattle.pb_names.specs.Resolves.{Resolves, ResolvesExpr, ResolvesStmts, ResolvesArms};
 ghost use Rattle.pb_names.specs.Resolves.{ResolvesDemand, ResolvesDemands, ResolvesProcess, ResolvesResource};
 ghost use Rattle.pb_names.specs.Resolves.{IsNumber, texts};
 ghost use Rattle.pb_names.specs.Search.{IsFree, names_in};
 ghost use Rattle.pb_names.specs.View.{resolved_view};
-ghost use Rattle.pb_names.specs.View.{expr_view as expr_of, stmt_view as stmt_of, block_view};
+ghost use Rattle.pb_names.specs.View.{expr_view as expr_of, block_view};
 ghost use Rattle.pb_names.specs.View.{arms_view as arms_of, process_view as process_of};
 ghost use Rattle.pb_names.specs.View.{resource_view as resource_of};
 
@@ -118,8 +121,150 @@ fn number_hold<A: Allocator, B: Allocator>(
     bundle
 }
 
-/// A statement with numbers in place of its names. Its arms get the numbers from `next` on, which is left
-/// past them.
+// Each of the next calls adds one statement to a list. They are not inlined, and they number the expressions and the
+// pairs of the statement: those locals would otherwise be in each frame of the recursion of statements, and a deep
+// program would need more stack.
+
+/// Adds an assignment to `out`.
+#[inline(never)]
+fn add_assign<A: Allocator + Clone>(
+    alloc: &A,
+    integers: &Declared<'_, A>,
+    line: u32,
+    target: &Name<A>,
+    value: &pb_tree::Expr<A>,
+    out: &mut Vec<Stmt<A>, A>,
+) -> Result<(), NoMemory>
+    requires few { length (names_in integers.now) ≤ MAX_INTEGERS }
+    requires known { IsFree (IsUnknown (names_in integers.now) (name_view target.now)) }
+    requires free { IsFree (InExpr (names_in integers.now) (expr_view value.now)) }
+    ensures { (rs : List plain.Name) (n : ℕ) → IfOk result (λ _. Adds (names_in integers.now) rs n
+        (tree.assign line (name_view target.now) (expr_view value.now)) out.old.items out.new.items) }
+{
+    let target = number_in(integers, target);
+    let value = number_expr(alloc, integers, value)?;
+    out.push(Stmt::Assign {
+        line,
+        target,
+        value,
+    })?;
+    Ok(())
+}
+
+/// Adds a statement that prints to `out`.
+#[inline(never)]
+fn add_print<A: Allocator + Clone>(
+    alloc: &A,
+    integers: &Declared<'_, A>,
+    line: u32,
+    value: &pb_tree::Expr<A>,
+    out: &mut Vec<Stmt<A>, A>,
+) -> Result<(), NoMemory>
+    requires few { length (names_in integers.now) ≤ MAX_INTEGERS }
+    requires free { IsFree (InExpr (names_in integers.now) (expr_view value.now)) }
+    ensures { (rs : List plain.Name) (n : ℕ) → IfOk result (λ _. Adds (names_in integers.now) rs n
+        (tree.print line (expr_view value.now)) out.old.items out.new.items) }
+{
+    let value = number_expr(alloc, integers, value)?;
+    out.push(Stmt::Print { line, value })?;
+    Ok(())
+}
+
+/// Adds a choice between two lists to `out`.
+#[inline(never)]
+fn add_if<A: Allocator + Clone>(
+    alloc: &A,
+    integers: &Declared<'_, A>,
+    line: u32,
+    test: &pb_tree::Expr<A>,
+    on_true: Vec<Stmt<A>, A>,
+    on_false: Vec<Stmt<A>, A>,
+    out: &mut Vec<Stmt<A>, A>,
+) -> Result<(), NoMemory>
+    requires few { length (names_in integers.now) ≤ MAX_INTEGERS }
+    requires free { IsFree (InExpr (names_in integers.now) (expr_view test.now)) }
+    ensures { (rs : List plain.Name) (n m : ℕ) (a b : tree.StmtsSyntax)
+        → ResolvesStmts (names_in integers.now) rs a (block_view on_true.items)
+        → ResolvesStmts (names_in integers.now) rs b (block_view on_false.items)
+        → IsNumbered n (block_view on_true.items)
+        → m ≡ n + inner_arms a → IsNumbered m (block_view on_false.items)
+        → IfOk result (λ _. Adds (names_in integers.now) rs n
+        (tree.if_else line (expr_view test.now) a b) out.old.items out.new.items) }
+{
+    let test = number_expr(alloc, integers, test)?;
+    out.push(Stmt::If {
+        line,
+        test,
+        on_true,
+        on_false,
+    })?;
+    Ok(())
+}
+
+/// Adds a loop to `out`.
+#[inline(never)]
+fn add_while<A: Allocator + Clone>(
+    alloc: &A,
+    integers: &Declared<'_, A>,
+    line: u32,
+    test: &pb_tree::Expr<A>,
+    body: Vec<Stmt<A>, A>,
+    out: &mut Vec<Stmt<A>, A>,
+) -> Result<(), NoMemory>
+    requires few { length (names_in integers.now) ≤ MAX_INTEGERS }
+    requires free { IsFree (InExpr (names_in integers.now) (expr_view test.now)) }
+    ensures { (rs : List plain.Name) (n : ℕ) (a : tree.StmtsSyntax)
+        → ResolvesStmts (names_in integers.now) rs a (block_view body.items)
+        → IsNumbered n (block_view body.items)
+        → IfOk result (λ _. Adds (names_in integers.now) rs n
+        (tree.while_do line (expr_view test.now) a) out.old.items out.new.items) }
+{
+    let test = number_expr(alloc, integers, test)?;
+    out.push(Stmt::While { line, test, body })?;
+    Ok(())
+}
+
+/// Adds a hold to `out`.
+#[inline(never)]
+fn add_hold<A: Allocator>(
+    resources: &Declared<'_, A>,
+    line: u32,
+    demands: &Vec<Demand<A>, A>,
+    body: Vec<Stmt<A>, A>,
+    out: &mut Vec<Stmt<A>, A>,
+) -> Result<(), NoMemory>
+    requires few { length (names_in resources.now) ≤ MAX_RESOURCES }
+    requires some { 1 ≤ length demands.now.items }
+    requires free { IsFree (Among (InDemand (names_in resources.now)) (map demand_view demands.now.items)) }
+    ensures { (is : List plain.Name) (n : ℕ) (a : tree.StmtsSyntax)
+        → ResolvesStmts is (names_in resources.now) a (block_view body.items)
+        → IsNumbered n (block_view body.items)
+        → IfOk result (λ _. Adds is (names_in resources.now) n
+        (tree.hold line (map demand_view demands.now.items) a) out.old.items out.new.items) }
+{
+    let bundle = number_hold(resources, demands);
+    out.push(Stmt::Hold { line, bundle, body })?;
+    Ok(())
+}
+
+/// Adds a parbegin, whose arms have the numbers from `first` on, to `out`.
+#[inline(never)]
+fn add_parbegin<A: Allocator>(
+    line: u32,
+    first: u8,
+    arms: Vec<Vec<Stmt<A>, A>, A>,
+    out: &mut Vec<Stmt<A>, A>,
+) -> Result<(), NoMemory>
+    ensures { (is rs : List plain.Name) (a : tree.ArmsSyntax) (m : ℕ) → 1 ≤ width a → width a ≤ MAX_FORK
+        → ResolvesArms is rs a (arms_of arms.items) → m ≡ first + width a → AreNumbered m (arms_of arms.items)
+        → IfOk result (λ _. Adds is rs first (tree.parbegin line a) out.old.items out.new.items) }
+{
+    out.push(Stmt::Parbegin { line, first, arms })?;
+    Ok(())
+}
+
+/// Adds a statement with numbers in place of its names to `out`. Its arms get the numbers from `next` on, which is
+/// left past them.
 #[cycle(numbering)]
 #[tactic(auto, using(pb_tree::proofs::Views::stmt_views))]
 fn number_stmt<A: Allocator + Clone>(
@@ -128,13 +273,13 @@ fn number_stmt<A: Allocator + Clone>(
     resources: &Declared<'_, A>,
     next: &mut usize,
     stmt: &pb_tree::Stmt<A>,
-) -> Result<Stmt<A>, NoMemory>
+    out: &mut Vec<Stmt<A>, A>,
+) -> Result<(), NoMemory>
     requires few_integers { length (names_in integers.now) ≤ MAX_INTEGERS }
     requires few_resources { length (names_in resources.now) ≤ MAX_RESOURCES }
     requires ready { IsReadyStmt (names_in integers.now) (names_in resources.now) next.old (stmt_view stmt.now) }
-    ensures resolves { IfOk result
-        (λ s. ResolvesStmt (names_in integers.now) (names_in resources.now) (stmt_view stmt.now) (stmt_of s)) }
-    ensures numbered { IfOk result (λ s. IsNumberedStmt next.old (stmt_of s)) }
+    ensures added { IfOk result (λ _. Adds (names_in integers.now) (names_in resources.now) next.old
+        (stmt_view stmt.now) out.old.items out.new.items) }
     ensures next { OnOk result (next.new ≡ next.old + inner_arms_of_stmt (stmt_view stmt.now)) }
 {
     match stmt {
@@ -142,66 +287,35 @@ fn number_stmt<A: Allocator + Clone>(
             line,
             target,
             value,
-        } => {
-            let target = number_in(integers, target);
-            let value = number_expr(alloc, integers, value)?;
-            Ok(Stmt::Assign {
-                line: *line,
-                target,
-                value,
-            })
-        }
-        pb_tree::Stmt::Print { line, value } => {
-            let value = number_expr(alloc, integers, value)?;
-            Ok(Stmt::Print { line: *line, value })
-        }
+        } => add_assign(alloc, integers, *line, target, value, out),
+        pb_tree::Stmt::Print { line, value } => add_print(alloc, integers, *line, value, out),
         pb_tree::Stmt::If {
             line,
             test,
             on_true,
             on_false,
         } => {
-            let test = number_expr(alloc, integers, test)?;
             let on_true = number_list(alloc, integers, resources, next, on_true)?;
             let on_false = number_list(alloc, integers, resources, next, on_false)?;
-            Ok(Stmt::If {
-                line: *line,
-                test,
-                on_true,
-                on_false,
-            })
+            add_if(alloc, integers, *line, test, on_true, on_false, out)
         }
         pb_tree::Stmt::While { line, test, body } => {
-            let test = number_expr(alloc, integers, test)?;
             let body = number_list(alloc, integers, resources, next, body)?;
-            Ok(Stmt::While {
-                line: *line,
-                test,
-                body,
-            })
+            add_while(alloc, integers, *line, test, body, out)
         }
         pb_tree::Stmt::Hold {
             line,
             demands,
             body,
         } => {
-            let bundle = number_hold(resources, demands);
             let body = number_list(alloc, integers, resources, next, body)?;
-            Ok(Stmt::Hold {
-                line: *line,
-                bundle,
-                body,
-            })
+            add_hold(resources, *line, demands, body, out)
         }
         pb_tree::Stmt::Parbegin { line, arms } => {
             let first = *next as u8;
             *next += arms.len();
             let arms = number_arms(alloc, integers, resources, next, arms)?;
-            Ok(Stmt::Parbegin {
-                line: *line,
-                first,
-                arms,
-            })
+            add_parbegin(*line, first, arms, out)
         }
     }
 }
@@ -228,7 +342,7 @@ fn number_list<A: Allocator + Clone>(
 {
     let mut list = Vec::with_capacity(alloc.clone()?, stmts.len())?;
     for stmt in stmts {
-        list.push(number_stmt(alloc, integers, resources, next, stmt)?)?;
+        number_stmt(alloc, integers, resources, next, stmt, &mut list)?;
     }
     Ok(list)
 }

@@ -44,8 +44,8 @@ impl<'a, 't, B: Builder> Parser<'a, 't, B> {
         Ok(self.build.add_demand(out, pair.amount, text, at)?)
     }
 
-    // The calls that are not inlined are no part of the recursion of statements: their locals would lie in each of its
-    // frames, and a deep program would need more stack.
+    // Each kind of statement is read by a call of its own that is not inlined: the locals of all kinds would lie in
+    // each frame of the recursion of statements, and a deep program would need more stack.
 
     /// The pairs of a hold.
     #[inline(never)]
@@ -177,6 +177,7 @@ impl<'a, 't, B: Builder> Parser<'a, 't, B> {
         Ok(self.build.print(out, line, value)?)
     }
 
+    #[inline(never)]
     #[cycle(statement)]
     fn choice(&mut self, depth: usize, line: u32, out: &mut B::Stmts) -> Result<(), ParseFault>
         ensures { Makes B.wants (λ _. Adds B.is_stmts append out.old out.new) result
@@ -205,6 +206,7 @@ impl<'a, 't, B: Builder> Parser<'a, 't, B> {
         }
     }
 
+    #[inline(never)]
     #[cycle(statement)]
     fn looping(&mut self, depth: usize, line: u32, out: &mut B::Stmts) -> Result<(), ParseFault>
         ensures { Makes B.wants (λ _. Adds B.is_stmts append out.old out.new) result
@@ -218,6 +220,7 @@ impl<'a, 't, B: Builder> Parser<'a, 't, B> {
         Ok(self.build.repeat(out, line, test, body)?)
     }
 
+    #[inline(never)]
     #[cycle(statement)]
     fn holding(&mut self, depth: usize, line: u32, out: &mut B::Stmts) -> Result<(), ParseFault>
         ensures { Makes B.wants (λ _. Adds B.is_stmts append out.old out.new) result
@@ -231,6 +234,7 @@ impl<'a, 't, B: Builder> Parser<'a, 't, B> {
         Ok(self.build.hold(out, line, demands, body)?)
     }
 
+    #[inline(never)]
     #[cycle(statement)]
     fn forking(&mut self, depth: usize, line: u32, out: &mut B::Stmts) -> Result<(), ParseFault>
         ensures { Makes B.wants (λ _. Adds B.is_stmts append out.old out.new) result

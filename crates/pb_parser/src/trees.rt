@@ -26,6 +26,8 @@ impl<A: Allocator + Clone> Trees<A> {
     }
 }
 
+// The calls that build what nests are not inlined: their locals would lie in each frame of the parser's recursion, and a
+// deep program would need more stack.
 #[tactic(auto, using(pb_tree::proofs::Views::stmt_views))]
 impl<A: Allocator + Clone> Builder for Trees<A> {
     type Expr = Expr<A>;
@@ -68,16 +70,19 @@ impl<A: Allocator + Clone> Builder for Trees<A> {
     }
 
     #[tactic(auto, using(pb_tree::proofs::Views::expr_views))]
+    #[inline(never)]
     fn variable(&self, text: &[u8], at: usize) -> Result<Expr<A>, NoMemory> {
         Ok(Expr::Variable(self.name(text, at)?))
     }
 
     #[tactic(auto, using(pb_tree::proofs::Views::expr_views))]
+    #[inline(never)]
     fn unary(&self, op: UnaryOp, operand: Expr<A>) -> Result<Expr<A>, NoMemory> {
         Ok(Expr::Unary(op, Box::new(self.alloc.clone()?, operand)?))
     }
 
     #[tactic(auto, using(pb_tree::proofs::Views::expr_views))]
+    #[inline(never)]
     fn binary(&self, op: BinaryOp, left: Expr<A>, right: Expr<A>) -> Result<Expr<A>, NoMemory> {
         let left = Box::new(self.alloc.clone()?, left)?;
         Ok(Expr::Binary(op, left, Box::new(self.alloc.clone()?, right)?))
@@ -87,6 +92,7 @@ impl<A: Allocator + Clone> Builder for Trees<A> {
         Ok(Vec::new(self.alloc.clone()?))
     }
 
+    #[inline(never)]
     fn assign(
         &self,
         out: &mut Vec<Stmt<A>, A>,
@@ -104,11 +110,13 @@ impl<A: Allocator + Clone> Builder for Trees<A> {
         Ok(())
     }
 
+    #[inline(never)]
     fn print(&self, out: &mut Vec<Stmt<A>, A>, line: u32, value: Expr<A>) -> Result<(), NoMemory> {
         out.push(Stmt::Print { line, value })?;
         Ok(())
     }
 
+    #[inline(never)]
     fn choice(
         &self,
         out: &mut Vec<Stmt<A>, A>,
@@ -126,6 +134,7 @@ impl<A: Allocator + Clone> Builder for Trees<A> {
         Ok(())
     }
 
+    #[inline(never)]
     fn repeat(
         &self,
         out: &mut Vec<Stmt<A>, A>,
@@ -137,6 +146,7 @@ impl<A: Allocator + Clone> Builder for Trees<A> {
         Ok(())
     }
 
+    #[inline(never)]
     fn hold(
         &self,
         out: &mut Vec<Stmt<A>, A>,
@@ -152,6 +162,7 @@ impl<A: Allocator + Clone> Builder for Trees<A> {
         Ok(())
     }
 
+    #[inline(never)]
     fn fork(
         &self,
         out: &mut Vec<Stmt<A>, A>,
@@ -166,6 +177,7 @@ impl<A: Allocator + Clone> Builder for Trees<A> {
         Ok(Vec::new(self.alloc.clone()?))
     }
 
+    #[inline(never)]
     fn add_arm(
         &self,
         out: &mut Vec<Vec<Stmt<A>, A>, A>,

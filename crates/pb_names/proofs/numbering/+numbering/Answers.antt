@@ -1,18 +1,17 @@
-use Rattle.std.proofs.Common.{arith, rules, ◌+◌, ap, ◌∙◌, map, refl}
+use Rattle.std.proofs.Common.{arith, rules, ◌+◌, ap, ◌∙◌, map}
 use Rattle.std.proofs.lemmas.List.{take_all, length-map}
+use Rattle.std.proofs.lemmas.Result.{on_ok_weaker}
 use Rattle.pb_tree.specs.View.{expr_view, stmt_view, stmts_view, arms_view, demand_view}
 use Rattle.pb_tree.proofs.Smaller.{stmt_within, arm_within, arms_within}
 use Rattle.pb_tree.proofs.Views as tree
 use Rattle.pb_names.specs.Limits.{inner_arms_of_stmt}
-use Rattle.pb_names.specs.Resolves.{assign, print, if_else, while_do, hold, parbegin, no_stmt, no_arm}
+use Rattle.pb_names.specs.Resolves.{no_stmt, no_arm}
 use Rattle.pb_names.specs.Search.{names_in}
 use Rattle.pb_names.proofs.First.{free_left, free_right}
 use Rattle.pb_names.proofs.Forks.{width-view, inner_more, arms_inner_more}
 use Rattle.pb_names.proofs.Numbered.{resolves_more, numbered_more, resolves_more_arm, numbered_more_arm}
-use Rattle.pb_names.proofs.Numbered.{numbered_if, numbered_parbegin, arms_in_range}
 use Rattle.pb_names.proofs.Ready.{ready_true, ready_false, ready_while, ready_hold, ready_arms, ready_at}
 use Rattle.pb_names.proofs.Ready.{arm_ready_at, true_within, false_within, loop_within, hold_within}
-use Rattle.pb_names.proofs.Views.{view-Assign, view-Print, view-If, view-While, view-Hold, view-Parbegin}
 use Rattle.pb_names.proofs.numbering.+numbering.Goals as goal
 
 -- ---- lists and arms
@@ -42,10 +41,10 @@ number_list-loop-stmt-preserved g t c =
     let inner = inner_more items i c.stmt-item.result c.stmt-item.is (omega arith) in
     let done = c.in_ok-number_stmt.ensures in
     record {
-      resolves = resolves_more _ _ items i _ _ _ _ (omega arith) c.stmt-item.is c.in_ok-push.ensures.items
-          c.loop-stmt.invariant.resolves done.resolves;
-      numbered = numbered_more _ _ _ _ _ _ _ _ c.in_ok-push.ensures.items c.loop-stmt.invariant.next
-          c.loop-stmt.invariant.resolves c.loop-stmt.invariant.numbered done.numbered;
+      resolves = resolves_more _ _ items i _ _ _ _ (omega arith) c.stmt-item.is done.added.pushed
+          c.loop-stmt.invariant.resolves done.added.resolves;
+      numbered = numbered_more _ _ _ _ _ _ _ _ done.added.pushed c.loop-stmt.invariant.next
+          c.loop-stmt.invariant.resolves c.loop-stmt.invariant.numbered done.added.numbered;
       next = let now = done.next in let before = c.loop-stmt.invariant.next in omega arith;
     }
 
@@ -81,33 +80,33 @@ number_arms-number_list-requires g t c κs within =
 
 -- ---- what calls ask
 
-pub number_stmt-number_in-target-requires-clause-known : goal.number_stmt-number_in-target-requires-clause-known
-number_stmt-number_in-target-requires-clause-known g t c =
+pub number_stmt-add_assign-requires-clause-known : goal.number_stmt-add_assign-requires-clause-known
+number_stmt-add_assign-requires-clause-known g t c =
     let a = c.in-Assign in
     free_left (rw (ap stmt_view a.is ∙ tree.view-Assign a.line a.target a.value) at c.requires.ready.free)
 
-pub number_stmt-number_expr-requires-clause-known : goal.number_stmt-number_expr-requires-clause-known
-number_stmt-number_expr-requires-clause-known g t c =
+pub number_stmt-add_assign-requires-clause-free : goal.number_stmt-add_assign-requires-clause-free
+number_stmt-add_assign-requires-clause-free g t c =
     let a = c.in-Assign in
     free_right (rw (ap stmt_view a.is ∙ tree.view-Assign a.line a.target a.value) at c.requires.ready.free)
 
-pub number_stmt-number_expr-requires-in-If-clause-known : goal.number_stmt-number_expr-requires-in-If-clause-known
-number_stmt-number_expr-requires-in-If-clause-known g t c =
+pub number_stmt-add_if-requires-clause-free : goal.number_stmt-add_if-requires-clause-free
+number_stmt-add_if-requires-clause-free g t c =
     let a = c.in-If in
     free_left (rw (ap stmt_view a.is ∙ tree.view-If a.line a.test a.on_true a.on_false) at c.requires.ready.free)
 
-pub number_stmt-number_expr-requires-in-While-clause-known : goal.number_stmt-number_expr-requires-in-While-clause-known
-number_stmt-number_expr-requires-in-While-clause-known g t c =
+pub number_stmt-add_while-requires-clause-free : goal.number_stmt-add_while-requires-clause-free
+number_stmt-add_while-requires-clause-free g t c =
     let a = c.in-While in
     free_left (rw (ap stmt_view a.is ∙ tree.view-While a.line a.test a.body) at c.requires.ready.free)
 
-pub number_stmt-number_hold-bundle-requires-clause-free : goal.number_stmt-number_hold-bundle-requires-clause-free
-number_stmt-number_hold-bundle-requires-clause-free g t c =
+pub number_stmt-add_hold-requires-clause-free : goal.number_stmt-add_hold-requires-clause-free
+number_stmt-add_hold-requires-clause-free g t c =
     let a = c.in-Hold in
     free_left (rw (ap stmt_view a.is ∙ tree.view-Hold a.line a.demands a.body) at c.requires.ready.free)
 
-pub number_stmt-number_hold-bundle-requires-clause-some : goal.number_stmt-number_hold-bundle-requires-clause-some
-number_stmt-number_hold-bundle-requires-clause-some g t c =
+pub number_stmt-add_hold-requires-clause-some : goal.number_stmt-add_hold-requires-clause-some
+number_stmt-add_hold-requires-clause-some g t c =
     let a = c.in-Hold in
     let pairs = rw (ap stmt_view a.is ∙ tree.view-Hold a.line a.demands a.body) at c.requires.ready.complete in
     omega (arith, pairs.0, length-map a.demands.items demand_view)
@@ -163,87 +162,91 @@ number_stmt-number_arms-requires g t c κs within =
 
 -- ---- statements
 
-pub number_stmt-returns-in_ok-value-in-Assign-clause-resolves : goal.number_stmt-returns-in_ok-value-in-Assign-clause-resolves
-number_stmt-returns-in_ok-value-in-Assign-clause-resolves g t c =
+pub number_stmt-returns-in-Assign-clause-added : goal.number_stmt-returns-in-Assign-clause-added
+number_stmt-returns-in-Assign-clause-added g t c =
     let a = c.in-Assign in
-    rw (ap stmt_view a.is ∙ tree.view-Assign a.line a.target a.value, view-Assign)
-    (assign _ _ _ _ _ c.number_in-target.ensures c.in_ok-value-in-Assign.ensures)
+    rw (ap stmt_view a.is ∙ tree.view-Assign a.line a.target a.value) (c.add_assign.ensures _ _)
 
-pub number_stmt-returns-in_ok-value-in-Print-clause-resolves : goal.number_stmt-returns-in_ok-value-in-Print-clause-resolves
-number_stmt-returns-in_ok-value-in-Print-clause-resolves g t c =
+pub number_stmt-returns-in-Print-clause-added : goal.number_stmt-returns-in-Print-clause-added
+number_stmt-returns-in-Print-clause-added g t c =
     let a = c.in-Print in
-    rw (ap stmt_view a.is ∙ tree.view-Print a.line a.value, view-Print) (print _ _ _ c.in_ok-value-in-Print.ensures)
+    rw (ap stmt_view a.is ∙ tree.view-Print a.line a.value) (c.add_print.ensures _ _)
 
-pub number_stmt-returns-in_ok-on_false-in-If-clause-resolves : goal.number_stmt-returns-in_ok-on_false-in-If-clause-resolves
-number_stmt-returns-in_ok-on_false-in-If-clause-resolves g t c =
+pub number_stmt-returns-in_ok-on_false-in-If-clause-added : goal.number_stmt-returns-in_ok-on_false-in-If-clause-added
+number_stmt-returns-in_ok-on_false-in-If-clause-added g t c =
     let a = c.in-If in
-    rw (ap stmt_view a.is ∙ tree.view-If a.line a.test a.on_true a.on_false, view-If)
-    (if_else _ _ _ _ _ _ _ c.in_ok-test-in-If.ensures
-    c.in_ok-on_true-in-If.ensures.resolves c.in_ok-on_false-in-If.ensures.resolves)
-
-pub number_stmt-returns-in_ok-on_false-in-If-clause-numbered : goal.number_stmt-returns-in_ok-on_false-in-If-clause-numbered
-number_stmt-returns-in_ok-on_false-in-If-clause-numbered g t c =
-    rw view-If
-    (numbered_if (names_in c.args.integers.now) (names_in c.args.resources.now) (stmts_view c.in-If.on_true.items) _ _ _ _
-    c.in_ok-on_true-in-If.ensures.next c.in_ok-on_true-in-If.ensures.resolves
-    c.in_ok-on_true-in-If.ensures.numbered c.in_ok-on_false-in-If.ensures.numbered)
+    let first = c.in_ok-on_true-in-If.ensures in
+    let second = c.in_ok-on_false-in-If.ensures in
+    rw (ap stmt_view a.is ∙ tree.view-If a.line a.test a.on_true a.on_false)
+    (c.add_if.ensures _ _ _ _ _ first.resolves second.resolves first.numbered first.next second.numbered)
 
 pub number_stmt-returns-in_ok-on_false-in-If-clause-next : goal.number_stmt-returns-in_ok-on_false-in-If-clause-next
 number_stmt-returns-in_ok-on_false-in-If-clause-next g t c =
     let a = c.in-If in
-    let first = c.in_ok-on_true-in-If.ensures.next in
-    let second = c.in_ok-on_false-in-If.ensures.next in
-    omega (
-      arith,
-      ap inner_arms_of_stmt (ap stmt_view a.is ∙ tree.view-If a.line a.test a.on_true a.on_false),
-    )
+    let first = c.in_ok-on_true-in-If.ensures in
+    let second = c.in_ok-on_false-in-If.ensures in
+    let then = first.next in
+    let next = second.next in
+    on_ok_weaker c.add_if.result
+    (λ _. omega (arith, ap inner_arms_of_stmt (ap stmt_view a.is ∙ tree.view-If a.line a.test a.on_true a.on_false)))
+    (c.add_if.ensures _ _ _ _ _ first.resolves second.resolves first.numbered first.next second.numbered)
 
-pub number_stmt-returns-in_ok-body-in-While-clause-resolves : goal.number_stmt-returns-in_ok-body-in-While-clause-resolves
-number_stmt-returns-in_ok-body-in-While-clause-resolves g t c =
+pub number_stmt-returns-in_ok-body-in-While-clause-added : goal.number_stmt-returns-in_ok-body-in-While-clause-added
+number_stmt-returns-in_ok-body-in-While-clause-added g t c =
     let a = c.in-While in
-    rw (ap stmt_view a.is ∙ tree.view-While a.line a.test a.body, view-While)
-    (while_do _ _ _ _ _ c.in_ok-test-in-While.ensures c.in_ok-body-in-While.ensures.resolves)
+    let inside = c.in_ok-body-in-While.ensures in
+    rw (ap stmt_view a.is ∙ tree.view-While a.line a.test a.body)
+    (c.add_while.ensures _ _ _ inside.resolves inside.numbered)
 
 pub number_stmt-returns-in_ok-body-in-While-clause-next : goal.number_stmt-returns-in_ok-body-in-While-clause-next
 number_stmt-returns-in_ok-body-in-While-clause-next g t c =
     let a = c.in-While in
-    let inside = c.in_ok-body-in-While.ensures.next in
-    omega (arith, ap inner_arms_of_stmt (ap stmt_view a.is ∙ tree.view-While a.line a.test a.body))
+    let inside = c.in_ok-body-in-While.ensures in
+    let next = inside.next in
+    on_ok_weaker c.add_while.result
+    (λ _. omega (arith, ap inner_arms_of_stmt (ap stmt_view a.is ∙ tree.view-While a.line a.test a.body)))
+    (c.add_while.ensures _ _ _ inside.resolves inside.numbered)
 
-pub number_stmt-returns-in_ok-body-in-Hold-clause-resolves : goal.number_stmt-returns-in_ok-body-in-Hold-clause-resolves
-number_stmt-returns-in_ok-body-in-Hold-clause-resolves g t c =
+pub number_stmt-returns-in_ok-body-in-Hold-clause-added : goal.number_stmt-returns-in_ok-body-in-Hold-clause-added
+number_stmt-returns-in_ok-body-in-Hold-clause-added g t c =
     let a = c.in-Hold in
-    rw (ap stmt_view a.is ∙ tree.view-Hold a.line a.demands a.body, view-Hold)
-    (hold _ _ _ _ _ c.number_hold-bundle.ensures c.in_ok-body-in-Hold.ensures.resolves)
+    let inside = c.in_ok-body-in-Hold.ensures in
+    rw (ap stmt_view a.is ∙ tree.view-Hold a.line a.demands a.body)
+    (c.add_hold.ensures _ _ _ inside.resolves inside.numbered)
 
 pub number_stmt-returns-in_ok-body-in-Hold-clause-next : goal.number_stmt-returns-in_ok-body-in-Hold-clause-next
 number_stmt-returns-in_ok-body-in-Hold-clause-next g t c =
     let a = c.in-Hold in
-    let inside = c.in_ok-body-in-Hold.ensures.next in
-    omega (arith, ap inner_arms_of_stmt (ap stmt_view a.is ∙ tree.view-Hold a.line a.demands a.body))
+    let inside = c.in_ok-body-in-Hold.ensures in
+    let next = inside.next in
+    on_ok_weaker c.add_hold.result
+    (λ _. omega (arith, ap inner_arms_of_stmt (ap stmt_view a.is ∙ tree.view-Hold a.line a.demands a.body)))
+    (c.add_hold.ensures _ _ _ inside.resolves inside.numbered)
 
-pub number_stmt-returns-in_ok-arms-in-Parbegin-clause-resolves : goal.number_stmt-returns-in_ok-arms-in-Parbegin-clause-resolves
-number_stmt-returns-in_ok-arms-in-Parbegin-clause-resolves g t c =
+pub number_stmt-returns-in_ok-arms-in-Parbegin-clause-added : goal.number_stmt-returns-in_ok-arms-in-Parbegin-clause-added
+number_stmt-returns-in_ok-arms-in-Parbegin-clause-added g t c =
     let a = c.in-Parbegin in
     let narrow = rw (ap stmt_view a.is ∙ tree.view-Parbegin a.line a.arms) at c.requires.ready.narrow in
     let whole = rw (ap stmt_view a.is ∙ tree.view-Parbegin a.line a.arms) at c.requires.ready.complete in
-    let inside = c.in_ok-arms-in-Parbegin.ensures.resolves in
-    rw (ap stmt_view a.is ∙ tree.view-Parbegin a.line a.arms, view-Parbegin)
-    (parbegin _ _ _ _ (arms_in_range _ _ (arms_view a.arms.items) _ inside whole.0 (omega arith)) inside)
-
-pub number_stmt-returns-in_ok-arms-in-Parbegin-clause-numbered : goal.number_stmt-returns-in_ok-arms-in-Parbegin-clause-numbered
-number_stmt-returns-in_ok-arms-in-Parbegin-clause-numbered g t c =
-    let a = c.in-Parbegin in
-    rw view-Parbegin
-    (numbered_parbegin (names_in c.args.integers.now) (names_in c.args.resources.now) (arms_view a.arms.items) _ _ c.args.next.now _
-    refl (let n = c.len.ensures in omega (arith, width-view a.arms.items)) c.in_ok-arms-in-Parbegin.ensures.resolves c.in_ok-arms-in-Parbegin.ensures.numbered)
+    let inside = c.in_ok-arms-in-Parbegin.ensures in
+    let n = c.len.ensures in
+    rw (ap stmt_view a.is ∙ tree.view-Parbegin a.line a.arms)
+    (c.add_parbegin.ensures _ _ _ _ whole.0 (omega arith) inside.resolves
+    (omega (arith, width-view a.arms.items)) inside.numbered)
 
 pub number_stmt-returns-in_ok-arms-in-Parbegin-clause-next : goal.number_stmt-returns-in_ok-arms-in-Parbegin-clause-next
 number_stmt-returns-in_ok-arms-in-Parbegin-clause-next g t c =
     let a = c.in-Parbegin in
-    let inside = c.in_ok-arms-in-Parbegin.ensures.next in
-    omega (
+    let narrow = rw (ap stmt_view a.is ∙ tree.view-Parbegin a.line a.arms) at c.requires.ready.narrow in
+    let whole = rw (ap stmt_view a.is ∙ tree.view-Parbegin a.line a.arms) at c.requires.ready.complete in
+    let inside = c.in_ok-arms-in-Parbegin.ensures in
+    let next = inside.next in
+    let n = c.len.ensures in
+    on_ok_weaker c.add_parbegin.result
+    (λ _. omega (
       arith,
       width-view a.arms.items,
       ap inner_arms_of_stmt (ap stmt_view a.is ∙ tree.view-Parbegin a.line a.arms),
-    )
+    ))
+    (c.add_parbegin.ensures _ _ _ _ whole.0 (omega arith) inside.resolves
+    (omega (arith, width-view a.arms.items)) inside.numbered)
