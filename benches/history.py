@@ -29,6 +29,20 @@ TEXTS = {
     "prints": ("process p begin integer i; while i < 100000000 do i := i + 1; print i od end", STEPS // 10),
 }
 
+# How many picks are drawn.
+DRAWN = 400_000
+
+# Texts whose picks are drawn: of one arm, of two, of the two of each of four processes, and of two jobs that often wait for
+# one another.
+SEEDED = {
+    "count": TEXTS["count"][0],
+    "two arms": TEXTS["two arms"][0],
+    "eight arms": " ".join(TEXTS["two arms"][0].replace("process p", f"process p{it}") for it in range(4)),
+    "two devices": "resource tape = 1; resource disk = 1;"
+                   " process a begin integer i; while 1 do hold 1 of tape do hold 1 of disk do i := i + 1 od od od end"
+                   " process b begin integer i; while 1 do hold 1 of disk do hold 1 of tape do i := i + 1 od od od end",
+}
+
 
 def call(words, given, output):
     """The processor time of a call in seconds."""
@@ -63,10 +77,32 @@ def row(folder, name, text, steps):
     return [name, 1000 * run, 1000 * record, 1000 * replay, record / run, replay / run, recorded.stat().st_size]
 
 
+def drawn_row(folder, name, text):
+    """The times of one text with a seed and without."""
+    given, drawn = (folder / it for it in ("text", "drawn"))
+    given.write_text(text + "\n")
+    record = ["record", "--steps", str(DRAWN)]
+    calls = {
+        "check": lambda: call(["check"], given, os.devnull),
+        "plain": lambda: call(record, given, os.devnull),
+        "seeded": lambda: call([*record, "--seed", "7"], given, drawn),
+    }
+    best = {it: float("inf") for it in calls}
+    for _ in range(TURNS):
+        for it, made in calls.items():
+            best[it] = min(best[it], made())
+    with open(drawn, "rb") as picks:
+        subprocess.run([PROGRAM, "replay"], stdin=picks, stdout=subprocess.DEVNULL, check=True)
+    plain, seeded = (best[it] - best["check"] for it in ("plain", "seeded"))
+    return [name, 1000 * plain, 1000 * seeded, seeded / plain, 1e9 * (seeded - plain) / DRAWN, drawn.stat().st_size]
+
+
 def main():
     with scratch_folder() as folder:
         rows = [row(folder, name, *it) for name, it in TEXTS.items()]
+        drawn = [drawn_row(folder, name, text) for name, text in SEEDED.items()]
     print_table(["text", "run", "record", "replay", "record by run", "replay by run", "bytes recorded"], rows)
+    print_table(["text", "record", "record --seed", "ratio", "ns more a pick", "bytes recorded"], drawn)
 
 
 main()

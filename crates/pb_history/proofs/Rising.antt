@@ -58,6 +58,15 @@ starts_before start len (x ∷ ends) (suc k) e h there =
     let l = h.0 in
     omega (arith, r, l)
 
+-- a span begins by a number if those before it end by it
+pub begins_by : (start len i : ℕ) (ends : List SpanEnd) (k : ℕ) → Rise start ends len → k < length ends → start ≤ i
+    → ((j : ℕ) → j < k → end_of ends j ≤ i) → start + size (take k (spans_from start ends)) ≤ i
+begins_by start len i ends zero h lt le before = omega (arith, le)
+begins_by start len i ends (suc k) h lt le before =
+    let r = start_is start len ends k h (omega (arith, lt)) in
+    let b = before k (omega arith) in
+    omega (arith, r, b)
+
 abbrev pub span_to : ℕ → SpanEnd → Span
 span_to start e = record { pick = e.pick; count = e.end - start; shows = e.shows }
 

@@ -1,7 +1,8 @@
 -- Entries, the picks of a run each with what it shows, and the spans that they fall into.
-use Rattle.std.specs.Prelude.{ℕ, ◌+◌, ◌-◌, ◌==◌, List, [], ◌∷◌, ◌++◌, map, take, drop, replicate, Bool, true, false, cond, not, ◌&&◌, Option, Some, None, option_to_list}
+use Rattle.std.specs.Prelude.{◌≡◌, ℕ, ◌+◌, ◌-◌, ◌≤◌, ◌==◌, List, [], ◌∷◌, ◌++◌, map, take, drop, replicate, Bool, true, false, cond, not, ◌&&◌, Option, Some, None, option_to_list, slice_get}
 use Rattle.pb_base.specs.declared.event.Event.{Event}
 use Rattle.pb_base.specs.declared.pick.Pick.{Pick}
+use Rattle.pb_history.specs.declared.counted.CountedPick.{CountedPick}
 use Rattle.pb_history.specs.declared.span.Span.{Span}
 
 -- a pick, and the event that it shows, if it shows one
@@ -70,6 +71,15 @@ added (t ∷ (u ∷ spans)) s = t ∷ added (u ∷ spans) s
 abbrev pub size : List Span → ℕ
 size [] = 0
 size (s ∷ spans) = s.count + size spans
+
+-- the pick with number i, counted from 0, is of the span with number k; this is what that span has from there on
+pub record IsRest (spans : List Span) (i : ℕ) (rest : CountedPick) : Type 0 where
+  pub k : ℕ
+  pub span : Span
+  pub there : slice_get spans k ≡ Some span
+  pub pick : rest.pick ≡ span.pick
+  pub before : size (take k spans) ≤ i
+  pub left : i + rest.count ≡ size (take k spans) + span.count
 
 -- the picks of spans
 abbrev pub all_picks : List Span → List Pick

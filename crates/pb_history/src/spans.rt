@@ -1,7 +1,7 @@
 //! Spans, kept by where each ends.
 
 ghost use Rattle.std.specs.Prelude.{◌≡◌, ℕ, ◌+◌, ◌-◌, ◌<◌, ◌≤◌, [], length, take, slice_get, Some, OnOk};
-ghost use Rattle.pb_history.specs.Entries.{added, all_picks, size};
+ghost use Rattle.pb_history.specs.Entries.{added, all_picks, size, IsRest};
 ghost use Rattle.pb_history.specs.Ends.{goes_on};
 
 use crate::counted::CountedPick;
@@ -88,6 +88,7 @@ impl Spans {
         requires { i < size self.now.spans }
         ensures some { 0 < result.count }
         ensures picks { (k : ℕ) → k < result.count → slice_get (all_picks self.now.spans) (i + k) ≡ Some result.pick }
+        ensures span { IsRest self.now.spans i result }
     {
         let mut low = 0;
         let mut high = self.ends.len();

@@ -1,7 +1,7 @@
 //! The picks that were made, and what each showed.
 
 ghost use Rattle.std.specs.Prelude.{◌≡◌, ℕ, ◌+◌, ◌-◌, ◌<◌, ◌≤◌, ◌++◌, ◌∷◌, [], length, slice_get, option_to_list, Some, None, OnOk, OnErr};
-ghost use Rattle.pb_history.specs.Entries.{Entry, events_of, picks_of, run_of, silent_picks, spans_of};
+ghost use Rattle.pb_history.specs.Entries.{Entry, IsRest, events_of, picks_of, run_of, silent_picks, spans_of};
 
 use crate::counted::CountedPick;
 use crate::events::Events;
@@ -62,6 +62,7 @@ impl Trace {
         requires { i < length self.now.entries }
         ensures some { 0 < result.count }
         ensures picks { (k : ℕ) → k < result.count → slice_get (picks_of self.now.entries) (i + k) ≡ Some result.pick }
+        ensures span { IsRest (spans_of self.now.entries) i result }
     {
         self.spans.rest(i)
     }

@@ -3,10 +3,11 @@
 ghost use Rattle.std.specs.Prelude.{◌≤◌, length};
 ghost use Rattle.pb_history.specs.Replays.{spread};
 
-use crate::codes::{DEVICES, INCREMENTS, verified};
+use crate::codes::{DEVICES, INCREMENTS, PRINT, verified};
 use pb_base::{Bundle, Event, NoMemory, Pick};
-use pb_history::replay::{replay, replay_counted};
+use pb_history::replay::{repeat, replay, replay_counted};
 use pb_history::{CountedPick, ReplayFault, Span, Trace};
+use pb_machine::Machine;
 use pb_verifier::Verified;
 use std::alloc::Global;
 
@@ -51,6 +52,15 @@ fn pick_at(trace: &Trace, i: u32) -> Option<Pick> {
 fn span_at(trace: &Trace, i: usize) -> Option<Span> {
     if i < trace.spans_len() {
         Some(trace.span(i))
+    } else {
+        None
+    }
+}
+
+/// How many picks the span of this pick has from it on, and of which arm, if there is such a pick.
+fn rest_at(trace: &Trace, i: u32) -> Option<CountedPick> {
+    if i < trace.len() {
+        Some(trace.rest_of_span(i))
     } else {
         None
     }
@@ -147,6 +157,21 @@ fn picks_are_right(trace: &Trace) -> bool {
         && granted(trace, 1) == Some(40)
 }
 
+/// A pick of an arm, made this often.
+const fn times(pick: Pick, count: u32) -> CountedPick {
+    CountedPick { pick, count }
+}
+
+/// Whether the rest of a span is found at its first pick, within it, and at its last.
+fn rests_are_right(trace: &Trace) -> bool {
+    rest_at(trace, 0) == Some(times(FIRST, 5_000_004))
+        && rest_at(trace, 5_000_001) == Some(times(FIRST, 3))
+        && rest_at(trace, 5_000_003) == Some(times(FIRST, 1))
+        && rest_at(trace, 5_000_004) == Some(times(FIRST, 1))
+        && rest_at(trace, 5_000_006) == Some(times(THIRD, 1))
+        && rest_at(trace, 5_000_007) == None
+}
+
 #[test]
 fn spans_of_a_trace(rt: HostRuntime) {
     let Ok(trace) = long(rt.alloc()) else {
@@ -154,6 +179,60 @@ fn spans_of_a_trace(rt: HostRuntime) {
     };
     assert!(rt; spans_are_right(&trace));
     assert!(rt; picks_are_right(&trace));
+    assert!(rt; rests_are_right(&trace));
+}
+
+/// Two silent picks of an arm and one that prints, for which room was asked for before.
+fn in_room(alloc: Global) -> Result<Trace, NoMemory> {
+    let mut trace = Trace::new(alloc);
+    trace.reserve(2)?;
+    trace.push_silent(SECOND, 2);
+    trace.push_shown(
+        SECOND,
+        Event::Printed {
+            pick: SECOND,
+            value: 5,
+        },
+    );
+    Ok(trace)
+}
+
+/// Whether these are the three picks of one span, the last of which prints 5.
+fn is_in_room(trace: &Trace) -> bool {
+    let span = Span {
+        pick: SECOND,
+        count: 3,
+        shows: true,
+    };
+    trace.len() == 3 && span_at(trace, 0) == Some(span) && printed(trace, 0) == Some(5)
+}
+
+#[test]
+fn picks_that_have_room(rt: HostRuntime) {
+    let Ok(trace) = in_room(rt.alloc()) else {
+        panic!(rt; "no trace")
+    };
+    assert!(rt; is_in_room(&trace));
+}
+
+/// How many picks a trace has after the first arm was picked this often from the start.
+fn repeated(alloc: Global, code: &Verified, count: u32) -> Result<u32, ReplayFault>
+    requires { count ≤ 10000000 }
+{
+    let mut machine = Machine::new(alloc, code)?;
+    let mut trace = Trace::new(alloc);
+    let pick = PARENT;
+    repeat(code, &mut machine, &mut trace, CountedPick { pick, count })?;
+    Ok(trace.len())
+}
+
+#[test]
+fn a_pick_that_is_repeated(rt: HostRuntime) {
+    let Some(code) = verified(rt.alloc(), PRINT) else {
+        panic!(rt; "no code")
+    };
+    assert!(rt; repeated(rt.alloc(), &code, 3).ok() == Some(3));
+    assert!(rt; repeated(rt.alloc(), &code, 4).err() == Some(ReplayFault::NotEnabled(3)));
 }
 
 /// What the first print of this code prints when it ends with these picks, of which there are so many.

@@ -1,6 +1,8 @@
-use Rattle.std.proofs.Common.{◌+◌, ◌<◌, List, length, ap, ◌∙◌, slice_get, arith}
+use Rattle.std.proofs.Common.{◌+◌, ◌<◌, List, length, sym, ap, ◌∙◌, subst, slice_get, arith}
 use Rattle.pb_base.specs.declared.pick.Pick.{Pick}
+use Rattle.pb_history.specs.Entries.{IsRest}
 use Rattle.pb_history.specs.Traces.{trail_of}
+use Rattle.pb_history.specs.declared.span.Span.{Span}
 use Rattle.pb_history.proofs.Laying.{laid_picks, laid_size}
 use Rattle.pb_history.proofs.trace.Trace.rest_of_span.Goals as goal
 
@@ -17,3 +19,8 @@ returns-clause-picks c =
     rw (← c.self.view_is) (λ k few.
     ap (λ (ps : List Pick). slice_get ps (c.args.i + k)) (laid_picks t.spans.spans t.events.events c.self.invariant.laid)
     ∙ c.rest.ensures.picks k few)
+
+pub returns-clause-span : goal.returns-clause-span
+returns-clause-span c =
+    let t = c.self.inside in
+    rw (← c.self.view_is) (subst (λ (spans : List Span). IsRest spans c.args.i c.rest.result) (sym c.self.invariant.apart) c.rest.ensures.span)
