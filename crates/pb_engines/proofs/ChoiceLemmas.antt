@@ -1,18 +1,26 @@
 -- Candidates for the next pick, found arm by arm.
-use Rattle.std.proofs.Common.{◌≡◌, ℕ, ◌+◌, ◌≤◌, ◌⊎◌, inl, inr, List, [], ◌∷◌, ◌++◌, length, length-append, Some, All, refl, sym, ap, ◌∙◌, subst, arith}
-use Rattle.std.specs.Prelude.{Contains, option_and_then, slice_get}
+use Rattle.std.proofs.Common.{◌≡◌, ◌≢◌, ℕ, zero, suc, ◌+◌, ◌<◌, ◌≤◌, ◌⊎◌, inl, inr, List, [], ◌∷◌, ◌++◌, length, length-append, Some, All, refl, sym, ap, ◌∙◌, subst, arith}
+use Rattle.std.specs.Prelude.{Contains, option_and_then, remove, slice_get}
 use Rattle.std.proofs.lemmas.Bool.{cases_lt}
 use Rattle.std.proofs.lemmas.List.{get_or_append_left, get_or_at}
 use Rattle.std.proofs.lemmas.List.Elements.{All-head, All-nil, All-push, All-tail, All-weaker}
-use Rattle.std.proofs.lemmas.Option.{slice_get_past}
+use Rattle.std.proofs.lemmas.Option.{get_or_from_slice_get, slice_get-get_or, slice_get_past, slice_get_within}
 use Rattle.pb_base.specs.declared.pick.Pick.{Pick}
 use Rattle.pb_base.specs.Steppers.{State}
 use Rattle.pb_code.specs.Code.{CodeProcess, code_step}
+use Rattle.pb_code.specs.Reached.{CodeReaches, CodeStays}
 use Rattle.pb_code.specs.Whole.{Code}
+use Rattle.pb_machine.proofs.Going.{goes_on}
 use Rattle.pb_machine.specs.Looks.{look_at, look_of}
-use Rattle.pb_machine.specs.declared.look.Look.TheVariants.{Stays}
+use Rattle.pb_machine.specs.declared.look.Look.{Look}
+use Rattle.pb_machine.specs.declared.look.Look.TheVariants.{Stays, Silent, Visible}
+use Rattle.pb_verifier.specs.Verified.{VerifiedCode, IsVerified}
+use Rattle.rand_pcg.specs.Lcg.{Lcg}
+use Rattle.rand_pcg.specs.Pcg.{pcg32}
 use Rattle.pb_engines.specs.Choices.{AreInOrder, AreCandidatesBefore, AreCandidates, IsBefore, IsCandidate}
-use Rattle.pb_engines.proofs.ScheduleLemmas.{no_step_beyond, same_pick}
+use Rattle.pb_engines.specs.Draws.{Draws, DrawsPick, drawn_number, hit, struck}
+use Rattle.pb_engines.specs.Runs.{IsDone}
+use Rattle.pb_engines.proofs.ScheduleLemmas.{looks_staying, no_step_beyond, same_pick}
 
 -- ---- arms and processes that are not there
 
@@ -136,3 +144,104 @@ module _ (code : Code) (s : State CodeProcess) where
     ];
     order = are.order;
   }
+
+-- ---- one is drawn
+
+-- what stands in a list stands in it without another number
+stays_in : (picks : List Pick) (i k : ℕ) (pick : Pick) → slice_get picks k ≡ Some pick → k ≢ i
+    → (j : ℕ) × (slice_get (remove picks i) j ≡ Some pick)
+stays_in [] i k pick there other = cc
+stays_in (p ∷ picks) zero zero pick there other = absurd (other refl)
+stays_in (p ∷ picks) zero (suc k) pick there other = (k, there)
+stays_in (p ∷ picks) (suc i) zero pick there other = (0, there)
+stays_in (p ∷ picks) (suc i) (suc k) pick there other =
+    let (j, at) = stays_in picks i k pick there (λ e. other (ap suc e)) in (suc j, at)
+
+-- the candidates without those that were drawn first, none of which is enabled
+pub record AreLeft (code : Code) (s : State CodeProcess) (first : Lcg) (left : List Pick) (now : Lcg) : Type 0 where
+  pub start : List Pick
+  pub candidates : AreCandidates code s start
+  pub on : (pick : Pick) (after : Lcg) → Draws code s now left pick after → Draws code s first start pick after
+  pub others : (pick : Pick) → Contains start pick → (Contains left pick) ⊎ CodeStays code s pick
+
+module _ (code : Code) (s : State CodeProcess) (first : Lcg) where
+  pub all_left : (picks : List Pick) → AreCandidates code s picks → AreLeft code s first picks first
+  all_left picks are = record {
+    start = picks;
+    candidates = are;
+    on = λ pick after draws. draws;
+    others = λ pick there. inl there;
+  }
+
+  -- one that is not enabled is struck out
+  pub one_struck : (left fewer : List Pick) (now next : Lcg) (i : ℕ) (pick : Pick) → AreLeft code s first left now → i ≡ drawn_number now left
+      → slice_get left i ≡ Some pick → fewer ≡ remove left i → next ≡ (pcg32 now).1 → CodeStays code s pick → AreLeft code s first fewer next
+  one_struck left fewer now next i pick are number there rest is stays =
+      subst (λ (g : Lcg). AreLeft code s first fewer g) (sym is)
+      (subst (λ (ps : List Pick). AreLeft code s first ps (pcg32 now).1) (sym (rest ∙ ap (remove left) number)) (record {
+        start = are.start;
+        candidates = are.candidates;
+        on = λ other after draws. are.on other after (struck now after left other pick at stays draws);
+        others = λ other within. elim (are.others other within) [
+          | inr not_enabled ↦ inr not_enabled
+          | inl here ↦ left_or_struck other here
+        ];
+      }))
+    where
+      at : slice_get left (drawn_number now left) ≡ Some pick
+      at = ap (slice_get left) (sym number) ∙ there
+
+      left_or_struck : (other : Pick) → Contains left other → (Contains (remove left (drawn_number now left)) other) ⊎ CodeStays code s other
+      left_or_struck other (k, less, is_it) =
+          let found : slice_get left k ≡ Some other = slice_get-get_or left k other less ∙ ap Some is_it in
+          elim (cases_lt k (drawn_number now left)) [
+            | inl before ↦ moved other k found (λ e. omega (arith, before, e))
+            | inr past ↦ elim (cases_lt (drawn_number now left) k) [
+              | inl behind ↦ moved other k found (λ e. omega (arith, behind, e))
+              | inr same ↦
+                  let one : k ≡ drawn_number now left = omega (arith, past, same) in
+                  let both : Some other ≡ Some pick = sym found ∙ (ap (slice_get left) one ∙ at) in
+                  let is_pick : pick ≡ other = cc in
+                  inr (subst (CodeStays code s) is_pick stays)
+            ]
+          ]
+        where
+          moved : (other : Pick) (k : ℕ) → slice_get left k ≡ Some other → k ≢ drawn_number now left
+              → (Contains (remove left (drawn_number now left)) other) ⊎ CodeStays code s other
+          moved other k found differs =
+              let (j, at_j) = stays_in left (drawn_number now left) k other found differs in
+              let fewer = remove left (drawn_number now left) in
+              inl (j, slice_get_within fewer j other at_j, get_or_from_slice_get fewer j other other at_j)
+
+  -- the one that is made is drawn
+  pub one_drawn : (left : List Pick) (now next : Lcg) (i : ℕ) (pick : Pick) → AreLeft code s first left now → i ≡ drawn_number now left
+      → slice_get left i ≡ Some pick → next ≡ (pcg32 now).1 → DrawsPick code s first pick next
+  one_drawn left now next i pick are number there is =
+      subst (DrawsPick code s first pick) (sym is)
+      (are.start, are.candidates, are.on pick (pcg32 now).1 (hit now left pick (ap (slice_get left) (sym number) ∙ there)))
+
+  -- where none is left, none is enabled
+  none_enabled : (left : List Pick) (now : Lcg) → AreLeft code s first left now → length left ≡ 0 → (pick : Pick) → CodeStays code s pick
+  none_enabled left now are none pick = go (look_at code s pick) refl
+    where
+      candidate : look_at code s pick ≢ Stays → CodeStays code s pick
+      candidate is = elim (are.others pick (are.candidates.all pick is)) [
+        | inr stays ↦ stays
+        | inl (k, less, is_it) ↦ absurd (omega (arith, less, none))
+      ]
+
+      go : (look : Look) → look_at code s pick ≡ look → CodeStays code s pick
+      go Stays is = looks_staying code s pick is
+      go Silent is = candidate (λ stays. let both : Silent ≡ Stays = sym is ∙ stays in cc)
+      go Visible is = candidate (λ stays. let both : Visible ≡ Stays = sym is ∙ stays in cc)
+
+-- so all is done
+pub all_struck : (v : VerifiedCode) → IsVerified v → (s now_state : State CodeProcess) (first : Lcg) (left : List Pick) (now : Lcg) → CodeReaches v.code s
+    → AreLeft v.code s first left now → length left ≡ 0 → now_state ≡ s → IsDone s × (now_state ≡ s)
+all_struck v verified s now_state first left now reached are none same = (
+  elim (goes_on v verified s reached) [
+    | inl done ↦ done
+    | inr (pick, move, is, granted) ↦ absurd (none_enabled v.code s first left now are none pick move is granted)
+  ],
+  same,
+)

@@ -4,6 +4,7 @@ pub mod CheckLemmas
 pub mod ChoiceLemmas
 pub mod ClaimLemmas
 pub mod CutRecords
+pub mod DrawLemmas
 pub mod EmissionLemmas
 pub mod EndedTexts
 pub mod EventLemmas

@@ -1,5 +1,6 @@
 -- A run of too many counted picks, however it goes on, is too long for an input.
-use Rattle.std.proofs.Common.{◌≡◌, ◌≢◌, ℕ, zero, suc, ◌+◌, ◌*◌, ◌<◌, ◌≤◌, ◌⊎◌, inl, inr, Result, Ok, Err, IfOk, List, [], ◌∷◌, ◌++◌, length, replicate, option_to_list, refl, sym, ap, subst, ◌∙◌, append-nil, append_assoc, length-append, arith, codes}
+use Rattle.std.proofs.Common.{◌≡◌, ◌≢◌, ℕ, zero, suc, ◌+◌, ◌*◌, ◌<◌, ◌≤◌, ◌⊎◌, inl, inr, Result, Ok, Err, IfOk, List, [], ◌∷◌, ◌++◌, length, replicate, take, Option, Some, None, option_to_list, refl, sym, ap, subst, ◌∙◌, append-nil, append_assoc, length-append, arith, codes}
+use Rattle.std.specs.Prelude.{MatchOption}
 use Rattle.std.proofs.lemmas.Bool.{cases_order}
 use Rattle.std.proofs.lemmas.Fmt.{decimal_nonempty}
 use Rattle.std.proofs.lemmas.List.{replicate_more}
@@ -13,23 +14,29 @@ use Rattle.pb_base.specs.Steppers.{State, event_of}
 use Rattle.pb_code.specs.Code.{CodeProcess}
 use Rattle.pb_code.specs.Limits.{KeepsLimits}
 use Rattle.pb_code.specs.Whole.{Code}
+use Rattle.pb_history.specs.Entries.{Entry, all_picks, spans_of}
 use Rattle.pb_history.specs.Replays.{spread}
 use Rattle.pb_history.specs.declared.counted.CountedPick.{CountedPick}
+use Rattle.pb_history.specs.declared.span.Span.{Span}
 use Rattle.pb_machine.proofs.Going.{goes_on}
 use Rattle.pb_picks.specs.Counted.{AreApart}
 use Rattle.pb_picks.specs.Laws.{CanBeSaid}
 use Rattle.pb_picks.specs.PickLines.{Says, pick_line, pick_lines}
 use Rattle.pb_verifier.specs.Verified.{VerifiedCode, IsVerified}
 use Rattle.pb_verifier.specs.declared.fault.VerifyFault.TheVariants.{OutOfLimits}
+use Rattle.pb_workers.specs.Reports.{IsReport}
+use Rattle.pb_workers.specs.declared.report.Report.{Report}
 use Rattle.pb_engines.specs.Answers.{line}
-use Rattle.pb_engines.specs.Records.{IsEnded, IsRecorded, IsTooLong, SaysOfRecording, too_long}
+use Rattle.pb_engines.specs.Records.{AreCounts, AreTooMany, IsEnded, IsRecorded, IsTooLong, SaysOfRecording, too_long}
 use Rattle.pb_engines.specs.Runs.{Run}
 use Rattle.pb_engines.specs.declared.reply.Reply.{Reply}
 use Rattle.pb_engines.specs.declared.status.Status.{Status}
 use Rattle.pb_engines.specs.declared.status.Status.TheVariants.{Refused}
 use Rattle.pb_engines.proofs.RecordLemmas.{LeadTo, is_recorded, recorded_can_be_said}
+use Rattle.pb_engines.proofs.ReportLemmas.{report_is_recorded}
 use Rattle.pb_engines.proofs.RunLemmas.{CodeMakes, makes_last}
 use Rattle.pb_engines.proofs.ScheduleLemmas.{same_pick}
+use Rattle.pb_engines.proofs.SpanLemmas.{AreCounted, picks_of_spans}
 
 -- ---- one more pick, counted
 
@@ -165,6 +172,57 @@ lines_are_too_long code steps bytes ended is (picks, recorded, long) =
     let text = length-append ended (line (codes "%%") ++ lines) in
     let mark = length-append (line (codes "%%")) lines in
     too_long ended picks is recorded (omega (arith, long, text, mark))
+
+-- ---- the picks of a trace
+
+-- counts that say some picks go on to counts that say more
+counts_go_on : (picks : List CountedPick) (rest : List Pick) → AreApart picks
+    → (more : List CountedPick) × (spread more ≡ spread picks ++ rest) × AreApart more × (length picks ≤ length more)
+counts_go_on picks [] apart = (picks, sym (append-nil (spread picks)), apart, omega arith)
+counts_go_on picks (pick ∷ rest) apart =
+    let (one, is) = one_more picks pick apart in
+    let (more, same, apart_too, longer) = counts_go_on one rest is.apart in
+    let first = is.longer in (
+      more,
+      same ∙ (ap (λ (ps : List Pick). ps ++ rest) is.spread ∙ append_assoc (spread picks) (pick ∷ []) rest),
+      apart_too,
+      omega (arith, first, longer),
+    )
+
+-- the picks behind those of the first spans
+picks_behind : (n : ℕ) (spans : List Span) → (rest : List Pick) × (all_picks (take n spans) ++ rest ≡ all_picks spans)
+picks_behind zero spans = (all_picks spans, refl)
+picks_behind (suc n) [] = ([], refl)
+picks_behind (suc n) (s ∷ spans) =
+    let (rest, is) = picks_behind n spans in
+    (rest, append_assoc (replicate s.count s.pick) (all_picks (take n spans)) rest ∙ ap (λ (ps : List Pick). replicate s.count s.pick ++ ps) is)
+
+-- too many counts of the first spans are too many of all
+pub counts_too_many : (entries : List Entry) (n : ℕ) (picks : List CountedPick) → AreCounted picks entries n → AreApart picks
+    → 838860 < length picks → AreTooMany entries
+counts_too_many entries n picks counted apart many =
+    let (rest, all) = picks_behind n (spans_of entries) in
+    let (more, same, apart_too, longer) = counts_go_on picks rest apart in (
+      more,
+      record {
+        same = same ∙ (ap (λ (ps : List Pick). ps ++ rest) counted ∙ (all ∙ picks_of_spans entries));
+        apart = apart_too;
+      },
+      omega (arith, many, longer),
+    )
+
+-- the picks of a report, or that their lines are too long
+pub report_is_counted : {V : Type 0} (v : VerifiedCode) → IsVerified v → (steps : ℕ) (report : Report) (items : V → List CountedPick) (picks : Option V)
+    → steps ≤ 10000000 → IsReport v.code steps report
+    → MatchOption picks (AreTooMany report.trace.entries) (λ x. AreCounts report.trace.entries (items x))
+    → MatchOption picks (IsTooLong v.code steps) (λ x. IsRecorded v.code steps (items x))
+report_is_counted v verified steps report items (Some x) most is counts =
+    report_is_recorded v.code steps report (items x) is counts.same counts.apart
+report_is_counted v verified steps report items None most is (picks, counts, many) =
+    let recorded = report_is_recorded v.code steps report picks is counts.same counts.apart in
+    let limits = verified.annotated OutOfLimits in
+    let long = lines_are_long v.code limits picks (recorded_can_be_said v.code verified.annotated steps picks most recorded) in
+    (picks, recorded, omega (arith, many, long))
 
 -- a reply with the line that a run is too long
 pub reply_is_too_long : (r : Result Reply NoMemory) (SaysOf : List ℕ → Status → Type 0)

@@ -1,27 +1,23 @@
--- Picks that are tried one after another.
+-- Picks that are tried.
 use Rattle.std.proofs.Common.{◌≡◌, ◌≢◌, ℕ, zero, suc, ◌+◌, ◌<◌, ◌≤◌, List, [], length, get_or, Option, Some, None, option_and_then, option_map, refl, sym, ap, ◌∙◌, subst, inl, inr, arith}
 use Rattle.std.proofs.lemmas.Bool.{cases_lt}
 use Rattle.std.proofs.lemmas.List.{get_or_past}
 use Rattle.std.proofs.lemmas.Option.{slice_get_past, slice_get_within, slice_get-get_or}
 use Rattle.std.specs.Prelude.{slice_get}
 use Rattle.pb_base.specs.declared.pick.Pick.{Pick}
-use Rattle.pb_engines.specs.declared.schedule.Next.{Next}
-use Rattle.pb_engines.specs.declared.schedule.Next.TheVariants.{Silent, Did, NotEnabled}
 use Rattle.pb_base.specs.Steppers.{Effect, State, move_of, moved}
 use Rattle.pb_base.specs.Steppers as effect
 use Rattle.pb_code.specs.Code.{ProcessCode, CodeProcess, Idle, thread, step_thread, code_step}
-use Rattle.pb_code.specs.Reached.{CodeReaches, CodeStays}
+use Rattle.pb_code.specs.Reached.{CodeStays}
 use Rattle.pb_code.specs.Whole.{Code}
 use Rattle.pb_machine.specs.Views.{machine_view, IsMachineOf}
 use Rattle.pb_machine.specs.declared.machine.Machine.{Machine}
-use Rattle.pb_machine.proofs.Going.{goes_on}
 use Rattle.pb_verifier.proofs.Banking.{kept_reached}
 use Rattle.pb_verifier.specs.declared.fault.VerifyFault.TheVariants.{OutOfLimits}
 use Rattle.pb_verifier.specs.Verified.{VerifiedCode, IsVerified}
 use Rattle.pb_machine.specs.Looks.{look_at, look_of}
 use Rattle.pb_machine.specs.Steps.{MovesSilently}
 use Rattle.pb_machine.specs.declared.look.Look.TheVariants as look
-use Rattle.pb_engines.specs.Schedule.{IsFirst, NoArmBelow, NoProcessBelow, StepsFirst, StepsFirstOf}
 
 -- ---- picks of what is not there
 
@@ -78,81 +74,11 @@ some_made code s after pick zero max silent some same stops =
     absurd (stops (omega (arith, some)) (subst (λ (t : State CodeProcess). look_at code t pick ≡ look.Silent) (sym same) silent))
 some_made code s after pick (suc made) max silent some moves stops = omega arith
 
--- ---- one more that is tried
-
-pub no_arm_yet : (code : Code) (s : State CodeProcess) (p : ℕ) → NoArmBelow code s p 0
-no_arm_yet code s p pick same less = absurd (omega (arith, less))
+-- ---- numbers of picks
 
 pub same_pick : (a b : Pick) → a.process ≡ b.process → a.arm ≡ b.arm → a ≡ b
 same_pick a b process arm =
     ap (λ p. record { process = p; arm = a.arm }) process ∙ ap (λ n. record { process = b.process; arm = n }) arm
-
-pub one_more_arm : (code : Code) (s : State CodeProcess) (p n : ℕ) (pick : Pick) → NoArmBelow code s p n → pick.process ≡ p → pick.arm ≡ n
-    → CodeStays code s pick → NoArmBelow code s p (n + 1)
-one_more_arm code s p n pick below of at stays other other_of less = elim (cases_lt other.arm n) [
-  | inl before ↦ below other other_of before
-  | inr not_before ↦
-      let arm : other.arm ≡ pick.arm = omega (arith, at, not_before, less) in
-      let same : other ≡ pick = same_pick other pick (other_of ∙ sym of) arm in
-      subst (λ (o : Pick). CodeStays code s o) (sym same) stays
-]
-
-pub no_process_yet : (code : Code) (s : State CodeProcess) → NoProcessBelow code s 0
-no_process_yet code s pick less = absurd (omega (arith, less))
-
-pub one_more_process : (code : Code) (s : State CodeProcess) (n : ℕ) → NoProcessBelow code s n
-    → ((pick : Pick) → pick.process ≡ n → CodeStays code s pick) → NoProcessBelow code s (n + 1)
-one_more_process code s n below none pick less = elim (cases_lt pick.process n) [
-  | inl before ↦ below pick before
-  | inr not_before ↦ none pick (omega (arith, not_before, less))
-]
-
--- ---- what was made
-
--- no arm of a process is enabled
-pub none_of : (code : Code) (s now : State CodeProcess) (p n : ℕ) (process : CodeProcess) → NoArmBelow code s p n → now ≡ s
-    → slice_get s.processes p ≡ Some process → length process.threads ≤ n → StepsFirstOf code s p NotEnabled now
-none_of code s now p n process below same there long = (
-  λ pick of. elim (cases_lt pick.arm n) [
-    | inl before ↦ below pick of before
-    | inr not_before ↦ no_such_arm code s pick process (subst (λ (k : ℕ). slice_get s.processes k ≡ Some process) (sym of) there) (omega (arith, long, not_before))
-  ],
-  same,
-)
-
--- no process has a pick that is enabled, so all is done
-pub none_at_all : (v : VerifiedCode) (s now : State CodeProcess) (n : ℕ) → IsVerified v → CodeReaches v.code s → NoProcessBelow v.code s n
-    → now ≡ s → length s.processes ≤ n → StepsFirst v.code s NotEnabled now
-none_at_all v s now n verified reached below same long = (
-  elim (goes_on v verified s reached) [
-    | inl done ↦ done
-    | inr (pick, move, is, granted) ↦ absurd (stays pick move is granted)
-  ],
-  same,
-)
-  where
-    stays : (pick : Pick) → CodeStays v.code s pick
-    stays pick = elim (cases_lt pick.process n) [
-      | inl before ↦ below pick before
-      | inr not_before ↦ no_such_process v.code s pick (omega (arith, long, not_before))
-    ]
-
--- the first pick of a process is the first of all, where those before it have none
-pub first_of_all : (code : Code) (s mid after : State CodeProcess) (n : ℕ) (answer : Next) → NoProcessBelow code s n → mid ≡ s
-    → (answer ≡ NotEnabled → ⊥) → StepsFirstOf code mid n answer after → StepsFirst code s answer after
-first_of_all code s mid after n answer below same enabled steps =
-    go answer enabled (subst (λ (m : State CodeProcess). StepsFirstOf code m n answer after) same steps)
-  where
-    first : (pick : Pick) → pick.process ≡ n → NoArmBelow code s n pick.arm → IsFirst code s pick
-    first pick of arms = record {
-      processes = subst (NoProcessBelow code s) (sym of) below;
-      arms = subst (λ (k : ℕ). NoArmBelow code s k pick.arm) (sym of) arms;
-    }
-
-    go : (answer : Next) → (answer ≡ NotEnabled → ⊥) → StepsFirstOf code s n answer after → StepsFirst code s answer after
-    go (Silent pick made) enabled (of, arms, some, moves) = (first pick of arms, some, moves)
-    go (Did pick event) enabled (of, arms, moves) = (first pick of arms, moves)
-    go NotEnabled enabled steps = absurd (enabled refl)
 
 -- ---- numbers of arms and processes fit a byte
 

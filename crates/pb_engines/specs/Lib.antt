@@ -2,6 +2,7 @@ pub mod Answers
 pub mod Checks
 pub mod Choices
 pub mod ClaimLines
+pub mod Draws
 pub mod Emissions
 pub mod EventLines
 pub mod Executions

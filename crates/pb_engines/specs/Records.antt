@@ -6,6 +6,7 @@ use Rattle.pb_base.specs.Steppers.{State, Makes}
 use Rattle.pb_code.specs.Code.{CodeProcess, code_step}
 use Rattle.pb_code.specs.Whole.{Code, ProcessLabels, bank_of, code_opening}
 use Rattle.pb_codegen.specs.Compiled.{IsCompiled}
+use Rattle.pb_history.specs.Entries.{Entry, picks_of}
 use Rattle.pb_history.specs.Replays.{spread}
 use Rattle.pb_history.specs.declared.counted.CountedPick.{CountedPick}
 use Rattle.pb_picks.specs.Counted.{AreApart}
@@ -37,6 +38,15 @@ pub record IsRecorded (code : Code) (steps : ℕ) (picks : List CountedPick) : T
   pub few : length (spread picks) ≤ steps
   pub all : ¬ IsDone end → length (spread picks) ≡ steps
   pub apart : AreApart picks
+
+-- counted picks that say the picks of these entries, each count as great as can be
+pub record AreCounts (entries : List Entry) (picks : List CountedPick) : Type 0 where
+  pub same : spread picks ≡ picks_of entries
+  pub apart : AreApart picks
+
+-- there are more of them than an input can have pick lines
+abbrev pub AreTooMany : List Entry → Type 0
+AreTooMany entries = (picks : List CountedPick) × AreCounts entries picks × (838860 < length picks)
 
 -- the lines of a run of the code are too long for an input, whatever its text
 abbrev pub IsTooLong : Code → ℕ → Type 0

@@ -1,15 +1,17 @@
 //! The next pick, drawn from all that are enabled.
-ghost use Rattle.std.specs.Prelude.{◌≡◌, ◌+◌, ◌<◌, ◌≤◌, IfOk, OnOk, length};
+ghost use Rattle.std.specs.Prelude.{◌≡◌, ◌+◌, ◌%◌, ◌<◌, ◌≤◌, IfOk, OnOk, length};
 ghost use Rattle.pb_engines.specs.Choices.{AreCandidatesBefore, AreCandidates};
+ghost use Rattle.pb_engines.specs.Draws.{IsDrawn, generator_of};
 ghost use Rattle.pb_engines.specs.Schedule.{IsWithin, StepsSome};
 ghost use Rattle.pb_machine.specs.Views.{machine_view, IsMachineOf};
 ghost use Rattle.pb_verifier.specs.Verified.{IsVerified};
+ghost use Rattle.rand_pcg.specs.Pcg.{pcg32};
 
-use crate::schedule::{Next, step_arm, step_first};
+use crate::schedule::{Next, step_arm};
 use pb_base::{NoMemory, Pick};
 use pb_machine::{Look, Machine};
 use pb_verifier::Verified;
-use rand_core::Rng;
+use rand_core::utils::NextWord;
 use rand_pcg::Pcg32;
 use std::alloc::Global;
 
@@ -26,7 +28,9 @@ pub struct Chooser {
 
 impl Chooser {
     /// Draws by a generator with this seed. No memory is taken.
-    pub fn new(alloc: Global, seed: u64) -> Chooser {
+    pub fn new(alloc: Global, seed: u64) -> Chooser
+        ensures { result.generator ≡ generator_of seed }
+    {
         Chooser {
             generator: Pcg32::new(seed, STREAM),
             candidates: Vec::new(alloc),
@@ -40,6 +44,8 @@ impl Chooser {
         ensures machine { IsMachineOf verified.now machine.new }
         ensures step { IfOk result (λ next.
             StepsSome verified.now.code (machine_view machine.old) next (machine_view machine.new)) }
+        ensures drawn { IfOk result (λ next.
+            IsDrawn verified.now.code (machine_view machine.old) self.old.generator next self.new.generator) }
         ensures within { IfOk result (IsWithin 1) }
     {
         step_drawn(machine, verified, &mut self.generator, &mut self.candidates)
@@ -59,26 +65,30 @@ fn step_drawn(
     ensures machine { IsMachineOf verified.now machine.new }
     ensures step { IfOk result (λ next.
         StepsSome verified.now.code (machine_view machine.old) next (machine_view machine.new)) }
+    ensures drawn { IfOk result (λ next.
+        IsDrawn verified.now.code (machine_view machine.old) generator.old next generator.new) }
     ensures within { IfOk result (IsWithin 1) }
 {
     find_candidates(machine, verified, candidates)?;
     while !candidates.is_empty() {
         let pick = candidates.remove(below(generator, candidates.len()));
         match step_arm(machine, verified, pick, 1) {
-            Next::Silent(pick, made) => return Ok(Next::Silent(pick, made)),
-            Next::Did(pick, event) => return Ok(Next::Did(pick, event)),
+            Next::Silent(_, made) => return Ok(Next::Silent(pick, made)),
+            Next::Did(_, event) => return Ok(Next::Did(pick, event)),
             Next::NotEnabled => {}
         }
     }
-    Ok(step_first(machine, verified, 1))
+    Ok(Next::NotEnabled)
 }
 
 // A drawn number below this one: the rest of the next word.
 fn below(generator: &mut Pcg32, end: usize) -> usize
     requires { 0 < end }
-    ensures { result < end }
+    ensures number { result ≡ (pcg32 generator.old).0 % end }
+    ensures generator { generator.new ≡ (pcg32 generator.old).1 }
+    ensures below { result < end }
 {
-    generator.next_u32() as usize % end
+    generator.next_word() as usize % end
 }
 
 // Puts the candidates in the place of what the list held, in the order of their processes and then of their arms.

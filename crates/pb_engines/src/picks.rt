@@ -1,9 +1,8 @@
 //! The picks of a run, counted.
-ghost use Rattle.std.specs.Prelude.{◌≡◌, ◌≤◌, IfOk, MatchOption, length};
-ghost use Rattle.pb_engines.specs.Records.{IsRecorded, IsTooLong};
-ghost use Rattle.pb_history.specs.Entries.{picks_of};
+ghost use Rattle.std.specs.Prelude.{◌≤◌, IfOk, IfSome, MatchOption, length};
+ghost use Rattle.pb_engines.specs.Draws.{IsDrawnRun};
+ghost use Rattle.pb_engines.specs.Records.{AreCounts, AreTooMany, IsRecorded, IsTooLong};
 ghost use Rattle.pb_history.specs.Replays.{spread};
-ghost use Rattle.pb_picks.specs.Counted.{AreApart};
 ghost use Rattle.pb_verifier.specs.Verified.{IsVerified};
 
 use crate::choice::Chooser;
@@ -23,14 +22,16 @@ use std::thread::Threads;
 /// The most counted picks that an input can have, since the line of each takes at least 5 bytes.
 const MOST_LINES: usize = 838_860;
 
-/// Returns the picks of a run of the code by workers.
+/// Returns the picks of a run of the code by workers; nothing if their lines would be too long for an input.
 pub fn report_picks<R: Threads + Wait + Sync>(
     rt: &R,
     alloc: Global,
     options: RunOptions,
     verified: &Verified,
-) -> Result<Vec<CountedPick>, RunFault>
-    ensures { IfOk result (λ picks. IsRecorded verified.now.code options.steps picks.items) }
+) -> Result<Option<Vec<CountedPick>>, RunFault>
+    requires { IsVerified verified.now }
+    ensures { IfOk result (λ picks. MatchOption picks (IsTooLong verified.now.code options.steps)
+        (λ picks. IsRecorded verified.now.code options.steps picks.items)) }
 {
     let report = run_workers(
         rt,
@@ -47,18 +48,21 @@ pub fn report_picks<R: Threads + Wait + Sync>(
     }
 }
 
-// The picks of a trace.
-fn count_picks(alloc: Global, trace: &Trace) -> Result<Vec<CountedPick>, NoMemory>
+// The picks of a trace; nothing as soon as they are too many for an input.
+fn count_picks(alloc: Global, trace: &Trace) -> Result<Option<Vec<CountedPick>>, NoMemory>
     requires { length trace.now.entries ≤ 10000000 }
-    ensures picks { IfOk result (λ picks. spread picks.items ≡ picks_of trace.now.entries) }
-    ensures apart { IfOk result (λ picks. AreApart picks.items) }
+    ensures { IfOk result (λ picks. MatchOption picks (AreTooMany trace.now.entries)
+        (λ picks. AreCounts trace.now.entries picks.items)) }
 {
     let mut picks = Vec::new(alloc);
     for i in 0..trace.spans_len() {
+        if picks.len() > MOST_LINES {
+            return Ok(None);
+        }
         let span = trace.span(i);
         count_pick(&mut picks, span.pick, span.count)?;
     }
-    Ok(picks)
+    Ok(Some(picks))
 }
 
 /// Returns the picks of a run of the code, each drawn from those that are enabled by a generator with this seed; nothing if
@@ -71,8 +75,9 @@ pub fn draw_picks(
 ) -> Result<Option<Vec<CountedPick>>, NoMemory>
     requires verified { IsVerified verified.now }
     requires steps { steps ≤ 10000000 }
-    ensures { IfOk result (λ picks. MatchOption picks (IsTooLong verified.now.code steps)
+    ensures recorded { IfOk result (λ picks. MatchOption picks (IsTooLong verified.now.code steps)
         (λ picks. IsRecorded verified.now.code steps picks.items)) }
+    ensures drawn { IfOk result (λ picks. IfSome picks (λ picks. IsDrawnRun verified.now.code seed (spread picks.items))) }
 {
     let mut machine = Machine::new(alloc, verified)?;
     let mut chooser = Chooser::new(alloc, seed);

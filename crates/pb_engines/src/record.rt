@@ -147,8 +147,7 @@ fn record_picks<R: Threads + Wait + Sync>(
         (λ picks. IsRecorded verified.now.code options.run.steps picks.items)) }
 {
     let Some(seed) = options.seed else {
-        let picks = report_picks(rt, alloc, options.run, verified)?;
-        return Ok(Some(picks));
+        return report_picks(rt, alloc, options.run, verified);
     };
     match draw_picks(alloc, options.run.steps, seed, verified) {
         Ok(picks) => Ok(picks),

@@ -1,4 +1,5 @@
 use Rattle.std.proofs.Common.{arith}
+use Rattle.pb_engines.proofs.LongRecords.{counts_too_many}
 use Rattle.pb_engines.proofs.SpanLemmas.{counted_all, counted_one, next_fits, some_picks}
 use Rattle.pb_engines.proofs.picks.count_picks.Goals as goal
 
@@ -16,8 +17,14 @@ loop-i-preserved c = (
   c.in_ok-count_pick.ensures.apart,
 )
 
-pub returns-clause-picks : goal.returns-clause-picks
-returns-clause-picks c =
+pub returns-then-len-gt-MOST_LINES : goal.returns-then-len-gt-MOST_LINES
+returns-then-len-gt-MOST_LINES c =
+    counts_too_many c.args.trace.now.entries c.loop-i.i c.loop-i.picks.items c.loop-i.invariant.0 c.loop-i.invariant.1 (omega arith)
+
+pub returns : goal.returns
+returns c =
     let len = c.spans_len-i-end.ensures in
-    let test = c.loop-i-test.false in
-    counted_all c.loop-i.picks.items c.args.trace.now.entries c.loop-i.i c.loop-i.invariant.0 (omega (arith, len, test))
+    let test = c.loop-i-test.false in record {
+      same = counted_all c.loop-i.picks.items c.args.trace.now.entries c.loop-i.i c.loop-i.invariant.0 (omega (arith, len, test));
+      apart = c.loop-i.invariant.1;
+    }

@@ -2,6 +2,7 @@ use Rattle.std.proofs.Common.{◌≡◌, ◌+◌, length}
 use Rattle.pb_history.specs.Replays.{spread}
 use Rattle.pb_machine.specs.Views.{machine_view, IsMachineOf}
 use Rattle.pb_picks.specs.Counted.{AreApart}
+use Rattle.pb_engines.specs.Draws.{DrawsRun, generator_of}
 use Rattle.pb_engines.proofs.RecordLemmas.{LeadTo}
 use Rattle.pb_engines.proofs.picks.draw_picks.Given as goal
 
@@ -11,6 +12,7 @@ invariant-loop-left l = record {
   many : length (spread l.picks.items) + l.left ≡ l.fn.steps;
   apart : AreApart l.picks.items;
   machine : IsMachineOf l.verified l.machine;
+  drawn : DrawsRun l.verified.code (generator_of l.fn.seed) (spread l.picks.items) (machine_view l.machine) l.chooser.generator;
 }
 
 abbrev pub decreases-loop-left : goal.decreases-loop-left

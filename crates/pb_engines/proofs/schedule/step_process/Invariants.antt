@@ -1,9 +1,0 @@
-use Rattle.std.proofs.Common.{◌≡◌}
-use Rattle.pb_machine.specs.Views.{machine_view, IsMachineOf}
-use Rattle.pb_engines.specs.Schedule.{NoArmBelow}
-use Rattle.pb_engines.proofs.schedule.step_process.Given as goal
-
-abbrev pub invariant-loop-arm : goal.invariant-loop-arm
-invariant-loop-arm l =
-    NoArmBelow l.verified.code (machine_view l.initial.machine) l.process l.arm
-    × (machine_view l.machine ≡ machine_view l.initial.machine) × IsMachineOf l.verified l.machine
