@@ -1,13 +1,17 @@
 //! Workers, whatever their number and quantum.
 
 use crate::codes::{DEVICES, DIVIDES, FORKS, PRINT, PRINTS, TURNS, verified};
+use crate::examples::EXAMPLES;
 use pb_base::{Event, FaultKind, NoMemory, Pick};
+use pb_codegen::compile;
 use pb_history::Trace;
 use pb_history::replay::replay;
 use pb_shared::Outcome;
 use pb_verifier::Verified;
 use pb_workers::{Gate, Report, RunFault, run_workers};
-use std::alloc::Global;
+use std::alloc::{AllocGlobal, Global};
+use std::sync::Wait;
+use std::thread::Threads;
 
 /// A gate that is open.
 pub struct Open;
@@ -91,6 +95,55 @@ fn is_right(
         && matches!(replays(alloc, code, &report.trace), Ok(true))
 }
 
+/// Numbers of workers, each with a quantum.
+const NUMBERS: [(usize, u32); 9] = [
+    (1, 1),
+    (1, 64),
+    (1, 4096),
+    (4, 1),
+    (4, 64),
+    (4, 4096),
+    (16, 1),
+    (16, 64),
+    (16, 4096),
+];
+
+/// Whether a run to its end is right, whatever the number of workers and the quantum.
+fn are_right<G: Gate, R: AllocGlobal + Threads + Wait + Sync>(
+    rt: &R,
+    code: &Verified,
+    gate: &G,
+    events: usize,
+) -> bool {
+    for (workers, quantum) in NUMBERS {
+        let report = run_workers(rt, rt.alloc(), code, workers, quantum, 1000, gate);
+        if !is_right(rt.alloc(), code, report, Outcome::Done, events) {
+            return false;
+        }
+    }
+    true
+}
+
+/// The same of a text.
+fn text_is_right<R: AllocGlobal + Threads + Wait + Sync>(
+    rt: &R,
+    text: &[u8],
+    events: usize,
+) -> bool {
+    match compile(rt.alloc(), rt.alloc(), text) {
+        Ok(compiled) => are_right(rt, compiled.verified(), &Open, events),
+        Err(_) => false,
+    }
+}
+
+#[test]
+fn each_example(rt: HostRuntime) {
+    for (text, events) in EXAMPLES {
+        let right = text_is_right(&rt, text, events);
+        assert!(rt; right);
+    }
+}
+
 #[test]
 fn each_number_of_workers_and_quantum(rt: HostRuntime) {
     let texts = [
@@ -104,24 +157,10 @@ fn each_number_of_workers_and_quantum(rt: HostRuntime) {
         let Some(code) = verified(rt.alloc(), text) else {
             panic!(rt; "no code")
         };
-        for workers in [1usize, 4, 16] {
-            for quantum in [1u32, 64, 4096] {
-                let open = run_workers(&rt, rt.alloc(), &code, workers, quantum, 1000, &Open);
-                let right = is_right(rt.alloc(), &code, open, Outcome::Done, events);
-                assert!(rt; right);
-                let second = run_workers(
-                    &rt,
-                    rt.alloc(),
-                    &code,
-                    workers,
-                    quantum,
-                    1000,
-                    &EverySecond,
-                );
-                let right = is_right(rt.alloc(), &code, second, Outcome::Done, events);
-                assert!(rt; right);
-            }
-        }
+        let open = are_right(&rt, &code, &Open, events);
+        assert!(rt; open);
+        let second = are_right(&rt, &code, &EverySecond, events);
+        assert!(rt; second);
     }
 }
 
@@ -130,15 +169,13 @@ fn a_run_keeps_to_its_limit(rt: HostRuntime) {
     let Some(code) = verified(rt.alloc(), TURNS) else {
         panic!(rt; "no code")
     };
-    for workers in [1usize, 4, 16] {
-        for quantum in [1u32, 64, 4096] {
-            let report = run_workers(&rt, rt.alloc(), &code, workers, quantum, 5000, &Open);
-            let Ok(report) = report else {
-                panic!(rt; "no report")
-            };
-            assert!(rt; report.outcome == Outcome::Limit);
-            assert_eq!(rt; report.trace.len(), 5000);
-        }
+    for (workers, quantum) in NUMBERS {
+        let report = run_workers(&rt, rt.alloc(), &code, workers, quantum, 5000, &Open);
+        let Ok(report) = report else {
+            panic!(rt; "no report")
+        };
+        assert!(rt; report.outcome == Outcome::Limit);
+        assert_eq!(rt; report.trace.len(), 5000);
     }
 }
 

@@ -303,15 +303,6 @@ slip_there [] p slip h = cc
 slip_there (x ∷ slips) zero slip h = ap Some (sym h)
 slip_there (x ∷ slips) (suc p) slip h = slip_there slips p slip h
 
-pub slip_found : (slips : List (Option Slip)) (p : ℕ) (slip : Slip) → slice_get slips p ≡ Some (Some slip) → slice_index_or slips p None ≡ Some slip
-slip_found [] p slip h = cc
-slip_found (x ∷ slips) zero slip h = cc
-slip_found (x ∷ slips) (suc p) slip h = slip_found slips p slip h
-
--- the slip that a book has of a stretch that it lent is that of the stretch
-pub slip_is : (s : Ledger) (lent : Lent) (slip : Slip) → IsLentBy s lent → Some slip ≡ slice_index_or s.slips lent.pick.process None → slip ≡ slip_of lent
-slip_is s lent slip by h = let both : Some slip ≡ Some (slip_of lent) = h ∙ slip_found s.slips lent.pick.process (slip_of lent) by.slip in cc
-
 pub same_slip : (a b : Slip) → a.arm ≡ b.arm → a.allowance ≡ b.allowance → a ≡ b
 same_slip a b p q = λ i. record { arm = p i; allowance = q i }
 
