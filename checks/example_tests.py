@@ -1,0 +1,119 @@
+#!/usr/bin/env python3
+"""Writes the tests that run the examples in the gate, which reads no file beside its crates.
+
+    checks/example_tests.py            says whether crates/pb_example_tests has what examples/ has
+    checks/example_tests.py --write    writes it anew, after a change of an example or of examples/expected
+
+Each section of examples/expected/calls.txt becomes a file of that crate, with the texts, the calls and what is expected
+of each. Its status is 0 if all is as wanted, and 1 if not.
+"""
+import re
+import sys
+
+from calls import TOP
+
+FOLDER = TOP / "examples"
+EXPECTED = FOLDER / "expected"
+CRATE = TOP / "crates/pb_example_tests/src"
+STATUSES = ("Done", "Refused", "Words", "Limit", "Fault", "Memory", "Device", "Threads")
+KINDS = {".pb": "", ".pbo": "_OBJECT", ".run": "_RUN"}
+# A longer input is left to checks/examples.py: pb_tests makes texts of that length itself.
+LONGEST = 6_000
+# A constant has at most 10,000 parts, of which each byte of a text is one.
+LARGEST = 9_000
+# What `run`, `exec` and `record` are told if no word says otherwise.
+QUANTUM, STEPS = 64, 1_000_000
+
+
+def size(name, file):
+    """Returns the bytes of an input and of its output."""
+    return (FOLDER / file).stat().st_size + (EXPECTED / f"{name}.out").stat().st_size
+
+
+def sections():
+    """Returns the sections of the list, each with its heading and its rows."""
+    found = []
+    for line in (EXPECTED / "calls.txt").read_text().splitlines():
+        if line.startswith("# "):
+            found.append((line[2:], []))
+        elif line:
+            name, status, file, *words = line.split()
+            if size(name, file) <= LONGEST:
+                found[-1][1].append((name, int(status), file, words))
+    return [(heading, rows) for heading, rows in found if rows]
+
+
+def literal(data):
+    """Returns the bytes as a literal."""
+    return 'b"' + data.decode("ascii").replace("\\", "\\\\").replace('"', '\\"') + '"'
+
+
+def constant(file):
+    path = FOLDER / file
+    return path.stem.upper() + KINDS[path.suffix]
+
+
+def number(given):
+    return f"{int(given):_}"
+
+
+def command(words):
+    """Returns the words of a call as a value of `Command`."""
+    word, options = words[0], dict(zip(words[1::2], words[2::2]))
+    quantum, steps = number(options.get("--quantum", QUANTUM)), number(options.get("--steps", STEPS))
+    if word in ("run", "exec"):
+        return f"Command::{word.title()} {{ quantum: {quantum}, steps: {steps} }}"
+    if word == "record":
+        return f"Command::Record {{ seed: {number(options['--seed'])} }}"
+    return f"Command::{word.title()}"
+
+
+def parts(rows):
+    """Returns the rows in parts, each for one constant."""
+    found, left = [], 0
+    for row in rows:
+        needs = size(row[0], row[2]) + 50
+        if needs > left:
+            found.append([])
+            left = LARGEST
+        found[-1].append(row)
+        left -= needs
+    return found
+
+
+def table(name, rows):
+    lines = ["#[rattlefmt::skip]", f"const {name}: [Call; {len(rows)}] = ["]
+    for name, status, file, words in rows:
+        lines += ["    Call {", f'        name: "{name}",', f"        command: {command(words)},", f"        input: {constant(file)},"]
+        output = literal((EXPECTED / f"{name}.out").read_bytes())
+        lines += [f"        status: Status::{STATUSES[status]},", f"        output: {output},", "    },"]
+    return [*lines, "];", ""]
+
+
+def test_file(heading, rows):
+    lines = [f"//! {heading}, by the calls of `examples/expected/calls.txt`. Written by checks/example_tests.py.", ""]
+    lines += ["use crate::calls::{Call, Command, first_wrong};", "use pb_engines::Status;", "use std::test::Fail;", ""]
+    for file in dict.fromkeys(row[2] for row in rows):
+        lines += [f"/// The file {file}.", "#[rattlefmt::skip]"]
+        lines += [f"const {constant(file)}: &[u8] = {literal((FOLDER / file).read_bytes())};", ""]
+    for at, part in enumerate(parts(rows), 1):
+        lines += table(f"CALLS_{at}", part)
+        lines += ["#[test]", f"fn are_as_expected_{at}(rt: HostRuntime) -> Result<(), Fail> {{"]
+        lines += [f"    assert_eq!(rt; first_wrong(&rt, CALLS_{at}.as_slice()), None);", "    Ok(())", "}", ""]
+    return "\n".join(lines)
+
+
+def main():
+    wrong = []
+    for heading, rows in sections():
+        file = CRATE / (re.sub(r"\W+", "_", heading).lower().removeprefix("the_") + ".rt")
+        text = test_file(heading, rows)
+        if "--write" in sys.argv[1:]:
+            file.write_text(text)
+        elif not file.is_file() or file.read_text() != text:
+            wrong.append(file.name)
+    print("wrong:" if wrong else "as examples/ has it", *wrong)
+    sys.exit(1 if wrong else 0)
+
+
+main()
