@@ -6,6 +6,8 @@ mod calls;
 #[cfg(test)]
 mod first_examples;
 #[cfg(test)]
+mod forged_objects;
+#[cfg(test)]
 mod lesson_1;
 #[cfg(test)]
 mod lesson_2;
@@ -19,5 +21,7 @@ mod lesson_5;
 mod lesson_6;
 #[cfg(test)]
 mod limits;
+#[cfg(test)]
+mod replayed_solutions;
 #[cfg(test)]
 mod solutions;
