@@ -37,6 +37,8 @@ long_program() {
 
 expect 0 /dev/null run <"$top/examples/hello.pb"
 expect 0 /dev/null replay <"$top/examples/lost.run"
+expect 0 /dev/null debug <"$top/examples/lost.run"
+expect 0 /dev/null debug --live <"$top/examples/lost.run"
 echo "process p begin" | {
     expect 1 /dev/null run
     exit "$failed"

@@ -5,7 +5,7 @@ _parbegin() {
         at=2
     fi
     if ((COMP_CWORD <= at)); then
-        local commands="check claims emit exec migrate record replay run help --help --version"
+        local commands="check claims debug emit exec migrate record replay run help --help --version"
         if ((at == 1)); then
             commands+=" --unproved"
         fi
@@ -25,6 +25,7 @@ _parbegin() {
     case ${COMP_WORDS[at]} in
     check) options="--heap" ;;
     claims) options="" ;;
+    debug) options="--live" ;;
     emit) options="--object" ;;
     exec) options="--workers --quantum --steps" ;;
     migrate) options="" ;;

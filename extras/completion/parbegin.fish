@@ -1,5 +1,5 @@
 # Completion of parbegin for fish. To use it: copy this file to ~/.config/fish/completions, or let install.sh do it.
-set -l commands check claims emit exec migrate record replay run help
+set -l commands check claims debug emit exec migrate record replay run help
 
 complete -c parbegin -n "not __fish_seen_subcommand_from $commands" -f
 complete -c parbegin -n "not __fish_seen_subcommand_from $commands" -l unproved -d "Run the sources with no proof"
@@ -8,6 +8,7 @@ complete -c parbegin -l help -d "Print help"
 
 complete -c parbegin -n "not __fish_seen_subcommand_from $commands" -a check -d "Check whether texts are programs"
 complete -c parbegin -n "not __fish_seen_subcommand_from $commands" -a claims -d "Print the inferred claims"
+complete -c parbegin -n "not __fish_seen_subcommand_from $commands" -a debug -d "Debug a recorded run by commands"
 complete -c parbegin -n "not __fish_seen_subcommand_from $commands" -a emit -d "Print the object of a program"
 complete -c parbegin -n "not __fish_seen_subcommand_from $commands" -a exec -d "Run an object"
 complete -c parbegin -n "not __fish_seen_subcommand_from $commands" -a migrate -d "Print an object in format 2"
@@ -17,6 +18,7 @@ complete -c parbegin -n "not __fish_seen_subcommand_from $commands" -a run -d "R
 complete -c parbegin -n "not __fish_seen_subcommand_from $commands" -a help -d "Print help of a command"
 
 complete -c parbegin -n "__fish_seen_subcommand_from check" -l heap -x -d "Bytes of the heap of each text"
+complete -c parbegin -n "__fish_seen_subcommand_from debug" -l live -d "Answer each command as it comes"
 complete -c parbegin -n "__fish_seen_subcommand_from emit" -l object -x -a "1 2" -d "Format of the object"
 complete -c parbegin -n "__fish_seen_subcommand_from exec record run" -l workers -x -d "Worker threads, 1 to 16"
 complete -c parbegin -n "__fish_seen_subcommand_from exec record run" -l quantum -x -d "Most steps at once, 1 to 4096"

@@ -1,12 +1,15 @@
 -- From what was said to what a command writes.
-use Rattle.std.proofs.Common.{ℕ, List, Option, inl, inr}
+use Rattle.std.proofs.Common.{◌≡◌, ℕ, Bool, true, false, List, Option, inl, inr, refl, subst}
 use Rattle.std.specs.Borrow.{Bor}
 use Rattle.pb_cli.specs.declared.options.Options.{Options}
 use Rattle.pb_cli.specs.declared.options.WordsFault.{WordsFault}
 use Rattle.pb_cli.specs.declared.options.WordsFault.TheVariants as fault
 use Rattle.pb_engines.specs.declared.status.Status.{Status}
+use Rattle.pb_cli.specs.declared.options.Options.TheVariants.{Debug}
+use Rattle.pb_debug_engine.specs.declared.options.DebugOptions.{DebugOptions}
 use Rattle.pb_engines.specs.Answers.{Says}
-use Rattle.pb_cli.specs.Calls.{CallWrites, fault_status, fault_text}
+use Rattle.pb_engines.specs.Faults.{Devices}
+use Rattle.pb_cli.specs.Calls.{CallTellsFaults, CallWrites, TellsDebugFaults, fault_status, fault_text}
 use Rattle.pb_cli.specs.Read.{BlamesWords, WordsSay}
 
 -- what is written where the words were not read
@@ -15,3 +18,12 @@ pub CallWrites-refused : (words : List (Bor (List ℕ))) (rest old new : Option 
     → CallWrites words rest old new status
 CallWrites-refused words rest old new status (fault.Words text) none says = inr (inl (none tt, (fault_text (fault.Words text), says)))
 CallWrites-refused words rest old new status fault.Memory none says = inr (inr says)
+
+-- what `debug` tells of its devices is what a call with its words may tell
+pub CallTellsFaults-debug : (words : List (Bor (List ℕ))) (flags : DebugOptions) (old new : Devices) (status : Status)
+    → WordsSay words (Debug flags) → TellsDebugFaults flags.live old new status → CallTellsFaults words old new status
+CallTellsFaults-debug words flags old new status says tells = go flags.live refl tells
+  where
+    go : (live : Bool) → flags.live ≡ live → TellsDebugFaults live old new status → CallTellsFaults words old new status
+    go true is tells = inr (subst (λ (live : Bool). WordsSay words (Debug (record { live = live }))) is says, tells)
+    go false is tells = inl tells

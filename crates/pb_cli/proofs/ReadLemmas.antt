@@ -1,16 +1,16 @@
 -- What clap's answers say of the rows that it matched, and of this command line.
-use Rattle.std.proofs.Common.{◌≡◌, ◌<◌, ◌≤◌, ◌^◌, ℕ, List, [], Option, Some, None, Result, Ok, Err, refl, sym, ap, subst, ◌∙◌, true, option_map, inl, inr, IfNone, IfSome, codes, get_or, arith}
-use Rattle.std.specs.Str.Parse.{IsNumeral, digits_value, without_leading_plus}
+use Rattle.std.proofs.Common.{◌≡◌, ◌↔◌, ◌<◌, ◌≤◌, ◌^◌, ℕ, List, [], Option, Some, None, Result, Ok, Err, refl, sym, ap, subst, ◌∙◌, true, false, Bool, MatchBool, option_map, inl, inr, IfNone, IfSome, codes, get_or, unwrap_or, arith}
+use Rattle.std.specs.Str.Parse.{IsNumeral, digits_value, false_text, true_text, without_leading_plus}
 use Rattle.clap.specs.Words.{HasKind, IsAmong, Kinds, ReadsOne, Row, Text, TriesOne, is_simple, is_simple_and_free, kind_of, one_of, one_text, rows_of}
 use Rattle.clap.specs.declared.error.Error.{Error}
 use Rattle.clap.specs.declared.error.kind.ErrorKind.TheVariants.{OutOfMemory}
 use Rattle.clap.proofs.OnLiterals.{clap_on_literals}
-use Rattle.pb_cli.specs.CommandLine.{command_line, with_text_commands, with_code_commands, with_object_commands, with_pick_commands, check_command, claims_command, emit_command, exec_command, migrate_command, record_command, replay_command, run_command, with_run_rules}
+use Rattle.pb_cli.specs.CommandLine.{command_line, with_text_commands, with_code_commands, with_object_commands, with_pick_commands, check_command, claims_command, debug_command, emit_command, exec_command, migrate_command, record_command, replay_command, run_command, with_run_rules}
 use Rattle.clap.specs.declared.parser.matches.Found.{Found}
 use Rattle.clap.proofs.WalkLemmas.{one_text-rows}
-use Rattle.pb_cli.specs.Read.{BlamesWords, HasCheckNumbers, HasEmitNumber, HasNumber, HasNumberIn, HasOptionalNumber, HasRecordNumbers, HasRunNumbers, IsReadFrom, IsReadFromMatches}
+use Rattle.pb_cli.specs.Read.{BlamesWords, HasCheckNumbers, HasEmitNumber, HasFlag, HasNumber, HasNumberIn, HasOptionalNumber, HasRecordNumbers, HasRunNumbers, IsReadFrom, IsReadFromMatches}
 use Rattle.pb_cli.specs.declared.options.Options.{Options}
-use Rattle.pb_cli.specs.declared.options.Options.TheVariants.{Check, Claims, Emit, Exec, Migrate, Record, Replay, Run}
+use Rattle.pb_cli.specs.declared.options.Options.TheVariants.{Check, Claims, Debug, Emit, Exec, Migrate, Record, Replay, Run}
 use Rattle.pb_engines.specs.declared.options.CheckOptions.{CheckOptions}
 use Rattle.pb_engines.specs.declared.options.EmitOptions.{EmitOptions}
 use Rattle.pb_engines.specs.declared.options.RecordOptions.{RecordOptions}
@@ -43,6 +43,36 @@ one_number rows id m n (t, is_t, numeral_t, m_is) (u, is_u, numeral_u, n_is) =
     let same : t ≡ u = cc (is_t, is_u) in
     m_is ∙ ap (λ text. digits_value 10 (without_leading_plus text)) same ∙ sym n_is
 
+-- a flag that is read is set exactly if its text is that of one that is given
+pub flag_read : (f : Found) (id : Text) (set : Bool) → (one_text f id ≡ None → Some set ≡ None)
+    → ((t : Text) → one_text f id ≡ Some t → MatchBool set (t ≡ true_text) (t ≡ false_text)) → HasFlag (rows_of f) id set
+flag_read f id set none value = go (one_text f id) refl
+  where
+    text_is : (set : Bool) (t : Text) → MatchBool set (t ≡ true_text) (t ≡ false_text) → (set ≡ true) ↔ (Some t ≡ Some (codes "true"))
+    text_is true t is = (λ yes. ap Some is, λ given. refl)
+    text_is false t is = (
+      λ yes. let w : false ≡ true = yes in cc,
+      λ given.
+          let letter : 102 ≡ 116 = ap (λ (o : Option Text). get_or (unwrap_or o []) 0 0) (ap Some (sym is) ∙ given) in
+          absurd (omega (arith, letter)),
+    )
+
+    go : (o : Option Text) → one_text f id ≡ o → HasFlag (rows_of f) id set
+    go None is = absurd (cc (none is))
+    go (Some t) is =
+        let here : one_of id (rows_of f) ≡ Some t = sym (one_text-rows f id) ∙ is in
+        let says = text_is set t (value t is) in
+        (λ yes. here ∙ says.0 yes, λ given. says.1 (sym here ∙ given))
+
+-- where none is read, no flag is given
+pub flag_unread : {E : Type 0} (gives : Text → Result Bool E → Type 0) (f : Found) (id : Text)
+    → ((t : Text) (e : E) → gives t (Err e) → t ≡ codes "true" → ⊥)
+    → ((t : Text) → one_text f id ≡ Some t → ReadsOne gives t None) → HasFlag (rows_of f) id false
+flag_unread gives f id refused value = (
+  λ yes. let w : false ≡ true = yes in cc,
+  λ given. let read = value (codes "true") (one_text-rows f id ∙ given) in absurd (refused (codes "true") read.0 read.1 refl),
+)
+
 -- where nothing is read from the name and the rows of the subcommand that was entered, nothing is read from the matches
 pub nothing_read : (m : Option (Text × List Row)) (name : Text) (rows : List Row) → Some name ≡ option_map (λ p. p.0) m
     → Some rows ≡ option_map (λ p. p.1) m → ((o : Options) → IsReadFrom name rows o → ⊥) → (o : Options) → IsReadFromMatches m o → ⊥
@@ -53,6 +83,7 @@ nothing_read m name rows named is none o (other, found, entered, says) =
 
 pub no_check : (rows : List Row) → ((o : CheckOptions) → HasCheckNumbers rows o → ⊥) → (o : Options) → IsReadFrom (codes "check") rows o → ⊥
 no_check rows none (Check o) says = none o says.1
+no_check rows none (Debug o) says = let m : 99 ≡ 100 = ap (λ (l : Text). get_or l 0 0) says.0 in omega (arith, m)
 no_check rows none (Exec o) says = let w : codes "check" ≡ codes "exec" = says.0 in cc
 no_check rows none Claims says = let w : codes "check" ≡ codes "claims" = says in cc
 no_check rows none (Emit o) says = let w : codes "check" ≡ codes "emit" = says.0 in cc
@@ -65,6 +96,8 @@ pub no_emit : (rows : List Row) → ((o : EmitOptions) → HasEmitNumber rows o 
     → IsReadFrom (codes "emit") rows o → ⊥
 no_emit rows none (Check o) says = let w : codes "emit" ≡ codes "check" = says.0 in cc
 no_emit rows none Claims says = let w : codes "emit" ≡ codes "claims" = says in cc
+no_emit rows none (Debug o) says =
+    let m : 101 ≡ 100 = ap (λ (l : Text). get_or l 0 0) says.0 in omega (arith, m)
 no_emit rows none (Emit o) says = none o says.1
 no_emit rows none (Exec o) says =
     let m : 109 ≡ 120 = ap (λ (l : Text). get_or l 1 0) says.0 in omega (arith, m)
@@ -75,6 +108,7 @@ no_emit rows none (Run o) says = let w : codes "emit" ≡ codes "run" = says.0 i
 
 pub no_run : (rows : List Row) → ((o : RunOptions) → HasRunNumbers rows o → ⊥) → (o : Options) → IsReadFrom (codes "run") rows o → ⊥
 no_run rows none (Check o) says = let w : codes "run" ≡ codes "check" = says.0 in cc
+no_run rows none (Debug o) says = let m : 114 ≡ 100 = ap (λ (l : Text). get_or l 0 0) says.0 in omega (arith, m)
 no_run rows none (Exec o) says = let w : codes "run" ≡ codes "exec" = says.0 in cc
 no_run rows none Claims says = let w : codes "run" ≡ codes "claims" = says in cc
 no_run rows none (Emit o) says = let w : codes "run" ≡ codes "emit" = says.0 in cc
@@ -87,6 +121,8 @@ pub no_record : (rows : List Row) → ((o : RecordOptions) → HasRecordNumbers 
     → IsReadFrom (codes "record") rows o → ⊥
 no_record rows none (Check o) says =
     let m : 114 ≡ 99 = ap (λ (l : Text). get_or l 0 0) says.0 in omega (arith, m)
+no_record rows none (Debug o) says =
+    let m : 114 ≡ 100 = ap (λ (l : Text). get_or l 0 0) says.0 in omega (arith, m)
 no_record rows none (Exec o) says =
     let m : 114 ≡ 101 = ap (λ (l : Text). get_or l 0 0) says.0 in omega (arith, m)
 no_record rows none Claims says =
@@ -103,6 +139,8 @@ no_record rows none (Run o) says =
 
 pub no_exec : (rows : List Row) → ((o : RunOptions) → HasRunNumbers rows o → ⊥) → (o : Options) → IsReadFrom (codes "exec") rows o → ⊥
 no_exec rows none (Check o) says = let w : codes "exec" ≡ codes "check" = says.0 in cc
+no_exec rows none (Debug o) says =
+    let m : 101 ≡ 100 = ap (λ (l : Text). get_or l 0 0) says.0 in omega (arith, m)
 no_exec rows none (Exec o) says = none o says.1
 no_exec rows none Claims says = let w : codes "exec" ≡ codes "claims" = says in cc
 no_exec rows none (Emit o) says =
@@ -153,11 +191,11 @@ clap_refused kinds e Memory is memory blames none = blames
 
 -- the matches of this command line are a function of the words
 pub is_simple_command_line : is_simple command_line ≡ true
-unfolding command_line with_text_commands with_code_commands with_object_commands with_pick_commands check_command claims_command emit_command exec_command migrate_command record_command replay_command run_command with_run_rules clap_on_literals
+unfolding command_line with_text_commands with_code_commands with_object_commands with_pick_commands check_command claims_command debug_command emit_command exec_command migrate_command record_command replay_command run_command with_run_rules clap_on_literals
 is_simple_command_line = refl
 
 pub is_free_command_line : is_simple_and_free command_line ≡ true
-unfolding command_line with_text_commands with_code_commands with_object_commands with_pick_commands check_command claims_command emit_command exec_command migrate_command record_command replay_command run_command with_run_rules clap_on_literals
+unfolding command_line with_text_commands with_code_commands with_object_commands with_pick_commands check_command claims_command debug_command emit_command exec_command migrate_command record_command replay_command run_command with_run_rules clap_on_literals
 is_free_command_line = refl
 
 -- a fact that holds anyway holds where there is no value

@@ -1,11 +1,14 @@
 -- What a call of the program writes, with its words and its input.
-use Rattle.std.specs.Prelude.{◌⊎◌, ℕ, IfSome, List, Option}
+use Rattle.std.specs.Prelude.{◌⊎◌, ℕ, IfSome, Bool, true, false, List, Option}
 use Rattle.std.specs.Borrow.{Bor}
 use Rattle.clap.specs.Words.{Text}
 use Rattle.pb_cli.specs.declared.options.Options.{Options}
 use Rattle.pb_cli.specs.declared.options.Options.TheVariants as option
 use Rattle.pb_cli.specs.declared.options.WordsFault.{WordsFault}
 use Rattle.pb_cli.specs.declared.options.WordsFault.TheVariants as fault
+use Rattle.pb_debug_engine.specs.Debugs.{SaysOfDebug}
+use Rattle.pb_debug_engine.specs.Faults.{TellsAnyFault}
+use Rattle.pb_debug_engine.specs.Live.{SaysOfLive}
 use Rattle.pb_engines.specs.declared.status.Status.{Status}
 use Rattle.pb_engines.specs.declared.status.Status.TheVariants.{Words, Memory}
 use Rattle.pb_engines.specs.Answers.{Says, Tells, memory_line}
@@ -13,6 +16,7 @@ use Rattle.pb_engines.specs.Checks.{SaysOfChecks}
 use Rattle.pb_engines.specs.ClaimLines.{SaysOfClaims}
 use Rattle.pb_engines.specs.Emissions.{SaysOfEmission}
 use Rattle.pb_engines.specs.Executions.{SaysOfExecution}
+use Rattle.pb_engines.specs.Faults.{Devices, TellsFaults}
 use Rattle.pb_engines.specs.Inputs.{SaysOfInput}
 use Rattle.pb_engines.specs.Migrations.{SaysOfMigration}
 use Rattle.pb_engines.specs.Records.{SaysOfRecord}
@@ -20,10 +24,16 @@ use Rattle.pb_engines.specs.ReplayLines.{SaysOfReplay}
 use Rattle.pb_engines.specs.Runs.{SaysOf}
 use Rattle.pb_cli.specs.Read.{WordsSay}
 
+-- what `debug` may say of an input, of which it reads the commands as they come, or all before it writes
+abbrev pub SaysOfCommands : (live : Bool) → List ℕ → List ℕ → Status → Type 0
+SaysOfCommands true = SaysOfLive
+SaysOfCommands false = SaysOfInput SaysOfDebug
+
 -- what a command may say of an input
 abbrev pub CommandSays : Options → List ℕ → List ℕ → Status → Type 0
 CommandSays (option.Check numbers) = SaysOfInput SaysOfChecks
 CommandSays option.Claims = SaysOfInput SaysOfClaims
+CommandSays (option.Debug flags) = SaysOfCommands flags.live
 CommandSays (option.Emit numbers) = SaysOfInput (SaysOfEmission numbers.object)
 CommandSays (option.Exec numbers) = SaysOfInput (SaysOfExecution numbers.steps)
 CommandSays option.Migrate = SaysOfInput SaysOfMigration
@@ -55,3 +65,15 @@ abbrev pub CallWrites : List (Bor Text) → Option (List ℕ) → Option (List �
 CallWrites words rest old new status =
     CommandWrites words rest old new status
     ⊎ (RefusesWords words old new status ⊎ Says old new memory_line Memory status)
+
+-- what `debug` tells of its devices: if it reads the commands as they come, something may be written before a read fails
+abbrev pub TellsDebugFaults : (live : Bool) → Devices → Devices → Status → Type 0
+TellsDebugFaults true = TellsAnyFault
+TellsDebugFaults false = TellsFaults
+
+-- a device that fails is told, and nothing is written if a read fails; only if the words say `debug --live` the answers to the
+-- commands before it may be written
+abbrev pub CallTellsFaults : List (Bor Text) → Devices → Devices → Status → Type 0
+CallTellsFaults words old new status =
+    TellsFaults old new status
+    ⊎ (WordsSay words (option.Debug (record { live = true })) × TellsAnyFault old new status)

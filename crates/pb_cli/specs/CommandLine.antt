@@ -1,6 +1,7 @@
 -- The command line, as clap's rules: the subcommands with their options, ranges and defaults.
 use Rattle.std.specs.Prelude.{◌≡◌, ℕ, false, [], ◌∷◌, Some, codes, true}
 use Rattle.clap.specs.Words.{App, Rule, Text, app_of, new_app, new_rule, with_rule, with_subcommand}
+use Rattle.clap.specs.declared.builder.ArgAction.TheVariants.{SetTrue}
 use Rattle.clap.specs.declared.builder.command.Command.{Command}
 use Rattle.clap.specs.declared.builder.command.Command.TheViews.{out-Command}
 use Rattle.clap.specs.declared.builder.value_parser.ValueParser.TheVariants as vp
@@ -17,6 +18,10 @@ abbrev pub number_rule_or : Text → ℕ → ℕ → Text → Rule
 number_rule_or name least most default =
     record (number_rule name least most) { defaults = default ∷ [] }
 
+-- `--NAME` alone
+abbrev pub flag_rule : Text → Rule
+flag_rule name = record (new_rule name) { long = Some name; action = Some SetTrue }
+
 -- the options of a run by workers
 unfoldable pub with_run_rules : App → App
 with_run_rules a =
@@ -29,6 +34,9 @@ check_command = with_rule (new_app (codes "check")) (number_rule (codes "heap") 
 
 unfoldable pub claims_command : App
 claims_command = new_app (codes "claims")
+
+unfoldable pub debug_command : App
+debug_command = with_rule (new_app (codes "debug")) (flag_rule (codes "live"))
 
 unfoldable pub emit_command : App
 emit_command = with_rule (new_app (codes "emit")) (number_rule_or (codes "object") 1 2 (codes "2"))
@@ -70,7 +78,7 @@ with_object_commands a = with_command (with_command a exec_command) migrate_comm
 
 -- the commands over the picks of a run
 unfoldable pub with_pick_commands : App → App
-with_pick_commands a = with_command (with_command a record_command) replay_command
+with_pick_commands a = with_command (with_command (with_command a record_command) replay_command) debug_command
 
 -- the whole command line
 unfoldable pub command_line : App

@@ -1,5 +1,5 @@
 -- What the words of a call say: the command and the numbers that clap matches, where it takes the words.
-use Rattle.std.specs.Prelude.{◌≡◌, ◌≤◌, ℕ, List, [], Option, Some, None, IfSome, ⊤, codes, map}
+use Rattle.std.specs.Prelude.{◌≡◌, ◌≤◌, ◌↔◌, IsTrue, ℕ, Bool, List, [], Option, Some, None, IfSome, ⊤, codes, map}
 use Rattle.std.specs.Str.Parse.{IsNumeral, digits_value, without_leading_plus}
 use Rattle.clap.specs.Words.{Row, Text, fault_of, one_of, subcommand_of}
 use Rattle.std.specs.Borrow.{Bor}
@@ -8,6 +8,7 @@ use Rattle.pb_object.specs.declared.format.Format.TheVariants.{One, Two}
 use Rattle.pb_cli.specs.CommandLine.{command_line}
 use Rattle.pb_cli.specs.declared.options.Options.{Options}
 use Rattle.pb_cli.specs.declared.options.Options.TheVariants as option
+use Rattle.pb_debug_engine.specs.declared.options.DebugOptions.{DebugOptions}
 use Rattle.pb_engines.specs.declared.options.CheckOptions.{CheckOptions}
 use Rattle.pb_engines.specs.declared.options.EmitOptions.{EmitOptions}
 use Rattle.pb_engines.specs.declared.options.RecordOptions.{RecordOptions}
@@ -35,6 +36,13 @@ HasOptionalNumber rows id None = one_of id rows ≡ None
 abbrev pub HasCheckNumbers : List Row → CheckOptions → Type 0
 HasCheckNumbers rows o = HasOptionalNumber rows (codes "heap") o.heap
 
+-- the flag is set exactly if it was matched with the text that clap has for one that is given
+abbrev pub HasFlag : List Row → Text → Bool → Type 0
+HasFlag rows id set = IsTrue set ↔ (one_of id rows ≡ Some (codes "true"))
+
+abbrev pub HasDebugFlag : List Row → DebugOptions → Type 0
+HasDebugFlag rows o = HasFlag rows (codes "live") o.live
+
 abbrev pub HasRecordNumbers : List Row → RecordOptions → Type 0
 HasRecordNumbers rows o = HasRunNumbers rows o.run × HasOptionalNumber rows (codes "seed") o.seed
     × IfSome o.seed (λ n. n ≤ 18446744073709551615)
@@ -50,6 +58,7 @@ HasEmitNumber rows o = HasNumber rows (codes "object") (format_number o.object)
 abbrev pub IsReadFrom : Text → List Row → Options → Type 0
 IsReadFrom name rows (option.Check o) = (name ≡ codes "check") × HasCheckNumbers rows o
 IsReadFrom name rows option.Claims = name ≡ codes "claims"
+IsReadFrom name rows (option.Debug o) = (name ≡ codes "debug") × HasDebugFlag rows o
 IsReadFrom name rows (option.Emit o) = (name ≡ codes "emit") × HasEmitNumber rows o
 IsReadFrom name rows (option.Exec o) = (name ≡ codes "exec") × HasRunNumbers rows o
 IsReadFrom name rows option.Migrate = name ≡ codes "migrate"

@@ -1,12 +1,13 @@
 //! The whole program, over any words, input and output.
-ghost use Rattle.std.specs.Prelude.{◌≡◌};
-ghost use Rattle.pb_engines.specs.Answers.{Says};
-ghost use Rattle.pb_cli.specs.Calls.{fault_status, fault_text, CallWrites};
-ghost use Rattle.pb_engines.specs.Faults.{TellsFaults, TellsWriteFaults};
+ghost use Rattle.std.specs.Prelude.{◌≡◌, IfSome};
+ghost use Rattle.pb_engines.specs.Answers.{Says, Tells};
+ghost use Rattle.pb_cli.specs.Calls.{fault_status, fault_text, CallTellsFaults, CallWrites, SaysOfCommands, TellsDebugFaults};
+ghost use Rattle.pb_engines.specs.Faults.{TellsWriteFaults};
 
 use crate::options::{Options, WordsFault};
 use crate::read::options;
 use pb_base::device::{Input, Output};
+use pb_debug_engine::{DebugOptions, debug_engine, debug_live_engine};
 use pb_engines::{
     Page, Status, check_engine, claims_engine, emit_engine, exec_engine, migrate_engine,
     record_engine, replay_engine, run_engine,
@@ -24,7 +25,7 @@ pub fn answer<I: Input, O: Output, R: Threads + Wait + Sync>(
     output: &mut O,
 ) -> Status
     ensures text { CallWrites words.now (I.rest input.old) (O.written output.old) (O.written output.new) result }
-    ensures faults { TellsFaults
+    ensures faults { CallTellsFaults words.now
         (record { reads = I.failures input.old; writes = O.failures output.old; written = O.written output.old })
         (record { reads = I.failures input.new; writes = O.failures output.new; written = O.written output.new })
         result }
@@ -32,6 +33,7 @@ pub fn answer<I: Input, O: Output, R: Threads + Wait + Sync>(
     match options(alloc, words) {
         Ok(Options::Check(numbers)) => check_engine(alloc, numbers, input, output),
         Ok(Options::Claims) => claims_engine(alloc, input, output),
+        Ok(Options::Debug(flags)) => debug(alloc, flags, input, output),
         Ok(Options::Emit(numbers)) => emit_engine(alloc, numbers, input, output),
         Ok(Options::Exec(numbers)) => exec_engine(rt, alloc, numbers, input, output),
         Ok(Options::Migrate) => migrate_engine(alloc, input, output),
@@ -39,6 +41,27 @@ pub fn answer<I: Input, O: Output, R: Threads + Wait + Sync>(
         Ok(Options::Replay) => replay_engine(alloc, input, output),
         Ok(Options::Run(numbers)) => run_engine(rt, alloc, numbers, input, output),
         Err(fault) => refuse(alloc, output, &fault),
+    }
+}
+
+// Debugs by the engine that reads the commands as they come, or by the one that reads its input whole.
+fn debug<I: Input, O: Output>(
+    alloc: Global,
+    flags: DebugOptions,
+    input: &mut I,
+    output: &mut O,
+) -> Status
+    ensures text { IfSome (I.rest input.old) (λ bytes.
+        Tells (SaysOfCommands flags.live bytes) (O.written output.old) (O.written output.new) result) }
+    ensures faults { TellsDebugFaults flags.live
+        (record { reads = I.failures input.old; writes = O.failures output.old; written = O.written output.old })
+        (record { reads = I.failures input.new; writes = O.failures output.new; written = O.written output.new })
+        result }
+{
+    if flags.live {
+        debug_live_engine(alloc, input, output)
+    } else {
+        debug_engine(alloc, input, output)
     }
 }
 
@@ -72,6 +95,22 @@ mod tests {
         let status = answer(&rt, alloc, words.as_slice(), &mut input, &mut output);
         assert_eq!(rt; status, Status::Limit);
         assert_eq!(rt; output.as_slice(), b"limit 1\n".as_slice());
+        Ok(())
+    }
+
+    #[test]
+    fn debugs(rt: HostRuntime) -> Result<(), Fail> {
+        let alloc = rt.alloc();
+        let whole = ["parbegin", "debug"];
+        let live = ["parbegin", "debug", "--live"];
+        for words in [whole.as_slice(), live.as_slice()] {
+            let bytes = b"process p begin print 1 end\n%%\np.0 2\n%%\nto 2\nstep 1\n";
+            let mut input = MemoryInput::new(bytes);
+            let mut output = MemoryOutput::new(alloc, 64)?;
+            let status = answer(&rt, alloc, words, &mut input, &mut output);
+            assert_eq!(rt; status, Status::Done);
+            assert_eq!(rt; output.as_slice(), b"at 2\nrefused G1\n".as_slice());
+        }
         Ok(())
     }
 

@@ -2,11 +2,11 @@
 ghost use Rattle.std.specs.Prelude.{◌≡◌, IfOk, false};
 ghost use Rattle.clap.specs.Words.{app_of, rule_of, with_rule};
 ghost use Rattle.clap.specs.declared.builder.command.Command.TheViews.{out-Command};
-ghost use Rattle.pb_cli.specs.CommandLine.{check_command, claims_command, emit_command, exec_command, migrate_command, number_rule, number_rule_or, record_command, replay_command, run_command, that_wants_command, IsCommand};
+ghost use Rattle.pb_cli.specs.CommandLine.{check_command, claims_command, debug_command, emit_command, flag_rule, exec_command, migrate_command, number_rule, number_rule_or, record_command, replay_command, run_command, that_wants_command, IsCommand};
 ghost use Rattle.pb_cli.specs.CommandLine.{command_line as whole, with_code_commands, with_command, with_object_commands, with_pick_commands, with_run_rules, with_text_commands};
 
 use clap::builder::ValueParser;
-use clap::{Arg, Command};
+use clap::{Arg, ArgAction, Command};
 use std::alloc::{AllocError, Global};
 
 // The version, and the line of `rt version` of the kit that it was proved with.
@@ -32,6 +32,13 @@ fn number_option_or<'a>(
     ensures own { result.global ≡ false }
 {
     number_option(alloc, name, least, most).default_value(default)
+}
+
+fn flag<'a>(alloc: Global, name: &'a str) -> Arg<'a>
+    ensures rule { rule_of result ≡ flag_rule name.entry.now }
+    ensures own { result.global ≡ false }
+{
+    Arg::new(alloc, name).long(name).action(ArgAction::SetTrue)
 }
 
 // Adds an argument, which no subcommand inherits.
@@ -89,6 +96,17 @@ fn claims_of_text<'a>(alloc: Global) -> Result<Command<'a>, AllocError>
     Ok(Command::new(alloc, "claims").about(
         "Print the claims of the program read from standard input",
     ))
+}
+
+#[tactic(auto, unfolding(crate::specs::CommandLine::debug_command))]
+fn debug_picks<'a>(alloc: Global) -> Result<Command<'a>, AllocError>
+    ensures { IfOk result (IsCommand debug_command) }
+{
+    let live = flag(alloc, "live").help("Answer each command as it comes");
+    let debug = Command::new(alloc, "debug").about(
+        "Answer the commands that stand behind a program, its picks and lines of %% on standard input",
+    );
+    with_option(debug, live)
 }
 
 #[tactic(auto, unfolding(crate::specs::CommandLine::emit_command))]
@@ -184,7 +202,8 @@ fn with_picks<'a>(alloc: Global, command: Command<'a>) -> Result<Command<'a>, Al
     ensures { IfOk result (λ c. app_of c ≡ with_pick_commands (app_of command.entry)) }
 {
     let command = with_subcommand(command, record_text(alloc)?)?;
-    with_subcommand(command, replay_picks(alloc)?)
+    let command = with_subcommand(command, replay_picks(alloc)?)?;
+    with_subcommand(command, debug_picks(alloc)?)
 }
 
 // The whole command line.

@@ -1,5 +1,6 @@
 //! The words of a call, read.
 
+use pb_debug_engine::DebugOptions;
 use pb_engines::{CheckOptions, EmitOptions, RecordOptions, RunOptions};
 
 /// A command with its options.
@@ -7,6 +8,7 @@ use pb_engines::{CheckOptions, EmitOptions, RecordOptions, RunOptions};
 pub enum Options {
     Check(CheckOptions),
     Claims,
+    Debug(DebugOptions),
     Emit(EmitOptions),
     Exec(RunOptions),
     Migrate,

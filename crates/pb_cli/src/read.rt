@@ -1,7 +1,7 @@
 //! Reads the words of a call.
 ghost use Rattle.std.specs.Prelude.{◌≡◌, ◌↔◌, IfErr, IfNone, IfOk, IfSome, IsTrue, None, ℕ};
 ghost use Rattle.clap.specs.Words.{found_of, kind_of, one_of, rows_of, subcommand_rows_of};
-ghost use Rattle.pb_cli.specs.Read.{BlamesWords, HasCheckNumbers, HasEmitNumber, HasNumberIn, HasRecordNumbers, HasRunNumbers, IsReadFromMatches, WordsSay};
+ghost use Rattle.pb_cli.specs.Read.{BlamesWords, HasCheckNumbers, HasDebugFlag, HasEmitNumber, HasFlag, HasNumberIn, HasRecordNumbers, HasRunNumbers, IsReadFromMatches, WordsSay};
 ghost use Rattle.pb_cli.specs.declared.options.Options.{Options as AnyOptions};
 ghost use Rattle.pb_engines.specs.declared.options.CheckOptions.{CheckOptions as AnyCheckOptions};
 ghost use Rattle.pb_engines.specs.declared.options.EmitOptions.{EmitOptions as AnyEmitOptions};
@@ -12,6 +12,7 @@ use crate::command_line::command_line;
 use crate::options::{Options, WordsFault};
 use clap::error::ErrorKind;
 use clap::{ArgMatches, Error};
+use pb_debug_engine::DebugOptions;
 use pb_engines::{CheckOptions, EmitOptions, RecordOptions, RunOptions};
 use pb_object::Format;
 use std::alloc::Global;
@@ -48,6 +49,24 @@ fn check_options(matches: &ArgMatches<'_>) -> Option<CheckOptions>
     }
     let size = number(matches, "heap", 1_024, 16_777_216)?;
     Some(CheckOptions { heap: Some(size) })
+}
+
+// Whether a flag was matched with the text of one that is given.
+fn flag(matches: &ArgMatches<'_>, id: &str) -> bool
+    ensures { HasFlag (rows_of (found_of matches.now)) id.now result }
+{
+    match matches.get_one::<bool>(id) {
+        Some(set) => set,
+        None => false,
+    }
+}
+
+fn debug_options(matches: &ArgMatches<'_>) -> DebugOptions
+    ensures { HasDebugFlag (rows_of (found_of matches.now)) result }
+{
+    DebugOptions {
+        live: flag(matches, "live"),
+    }
 }
 
 fn emit_options(matches: &ArgMatches<'_>) -> Option<EmitOptions>
@@ -99,6 +118,7 @@ fn read_matches(matches: &ArgMatches<'_>) -> Option<Options>
     match name {
         "check" => Some(Options::Check(check_options(inner)?)),
         "claims" => Some(Options::Claims),
+        "debug" => Some(Options::Debug(debug_options(inner))),
         "emit" => Some(Options::Emit(emit_options(inner)?)),
         "exec" => Some(Options::Exec(run_options(inner)?)),
         "migrate" => Some(Options::Migrate),
@@ -183,6 +203,19 @@ mod tests {
         assert_eq!(rt; heap, Options::Check(CheckOptions { heap: Some(1_024) }));
         assert!(rt; options(alloc, &["parbegin", "check", "--heap", "1023"]).is_err());
         assert!(rt; options(alloc, &["parbegin", "check", "--heap", "16777217"]).is_err());
+        Ok(())
+    }
+
+    #[test]
+    fn reads_debug(rt: HostRuntime) -> Result<(), Fail> {
+        let alloc = rt.alloc();
+        let whole = options(alloc, &["parbegin", "debug"])?;
+        assert_eq!(rt; whole, Options::Debug(DebugOptions { live: false }));
+        let live = options(alloc, &["parbegin", "debug", "--live"])?;
+        assert_eq!(rt; live, Options::Debug(DebugOptions { live: true }));
+        for word in ["--live=true", "--steps=3", "text"] {
+            assert!(rt; options(alloc, &["parbegin", "debug", word]).is_err());
+        }
         Ok(())
     }
 

@@ -1,13 +1,23 @@
 use Rattle.std.proofs.Common.{inl, subst}
-use Rattle.pb_cli.specs.declared.options.Options.TheVariants.{Check, Emit, Exec, Record, Run}
+use Rattle.pb_cli.specs.declared.options.Options.TheVariants.{Check, Debug, Emit, Exec, Record, Run}
 use Rattle.pb_cli.specs.Read.{WordsSay}
-use Rattle.pb_cli.proofs.AnswerLemmas.{CallWrites-refused}
+use Rattle.pb_cli.proofs.AnswerLemmas.{CallTellsFaults-debug, CallWrites-refused}
 use Rattle.pb_cli.proofs.answer.answer.Goals as goal
 
 pub returns-in-Ok-Check-clause-text : goal.returns-in-Ok-Check-clause-text
 returns-in-Ok-Check-clause-text g c =
     let read = subst (WordsSay c.args.words.now) c.in-Ok-Check.field-0-is c.in-Ok-Check.ensures.read in
     inl (Check c.in-Ok-Check.numbers, read, c.check_engine.ensures.text)
+
+pub returns-in-Ok-Debug-clause-text : goal.returns-in-Ok-Debug-clause-text
+returns-in-Ok-Debug-clause-text g c =
+    let read = subst (WordsSay c.args.words.now) c.in-Ok-Debug.field-0-is c.in-Ok-Debug.ensures.read in
+    inl (Debug c.in-Ok-Debug.flags, read, c.debug.ensures.text)
+
+pub returns-in-Ok-Debug-clause-faults : goal.returns-in-Ok-Debug-clause-faults
+returns-in-Ok-Debug-clause-faults g c =
+    let read = subst (WordsSay c.args.words.now) c.in-Ok-Debug.field-0-is c.in-Ok-Debug.ensures.read in
+    CallTellsFaults-debug c.args.words.now c.in-Ok-Debug.flags _ _ c.debug.result read c.debug.ensures.faults
 
 pub returns-in-Ok-Run-clause-text : goal.returns-in-Ok-Run-clause-text
 returns-in-Ok-Run-clause-text g c =
