@@ -16,7 +16,7 @@ import tempfile
 
 from calls import TOP, Tally, program
 
-DOCUMENTS = [TOP / "README.md", TOP / "examples/README.md", *sorted((TOP / "docs").glob("*.md"))]
+DOCUMENTS = [TOP / "README.md", TOP / "examples/README.md", TOP / "extras/README.md", *sorted((TOP / "docs").glob("*.md"))]
 BLOCK = re.compile(r"^( *)```\n(.*?)^\1```$", re.M | re.S)
 PATH = re.compile(r"(?<![\w/.])(?:crates|docs|examples|checks|benches|extras)/[\w./{},*-]*\w\.\w+")
 
