@@ -1,29 +1,39 @@
 #!/usr/bin/env python3
-"""Times seven programs in the proved machine, pick by pick and by silent runs, beside Lua, LuaJIT's interpreter, CPython
-and wabt's wasm-interp, turn by turn in one run.
+"""Times seven programs in the proved machine, pick by pick and by silent runs, and by `run` as a whole, beside Lua,
+LuaJIT's interpreter, CPython and wabt's wasm-interp, turn by turn in one run.
 
 Each program is written down once, below, and put into five languages: its text, Lua, Python, and WebAssembly with the
-same operators on a stack. A scratch repository in a temporary folder gets copies of the crates and a small proved
-program, which compiles the text and runs it to its end. That all print the same number is checked. Wants `rt`,
-`lua5.4`, `luajit`, `wat2wasm`, `wasm-interp` and `valgrind`: apt-get install lua5.4 luajit wabt valgrind
+same operators on a stack. That all print the same number is checked. Wants `rt`, `lua5.4`, `luajit`, `wat2wasm`,
+`wasm-interp` and `valgrind`: apt-get install lua5.4 luajit wabt valgrind
 
-    python3 benches/silent.py [TURNS]
+    python3 benches/silent.py machine [TURNS]
+    python3 benches/silent.py whole [TURNS] [PROGRAM]     the program that ./parbegin has built, if none is given
 
-Says milliseconds a round (the least of all turns), the ratios to Lua, and instructions of the processor for each pick.
-`wasm-interp` is timed as a whole, with the time of an empty module taken off. Other work on the machine disturbs the
-times and not the instructions: take final times on a quiet machine, and say its load.
+`machine` builds a small proved program in a temporary folder, over copies of the crates, which compiles a text and runs
+it to its end, and says milliseconds a round (the least of all turns), the ratios to Lua, and instructions of the
+processor for each pick. `wasm-interp` is timed as a whole, with the time of an empty module taken off.
+
+`whole` calls `run` with quantum 4,096 and with quantum 64 on programs of nearly 10,000,000 picks, and says milliseconds
+of user time of whole calls (the middle of all turns), and instructions of the processor for each pick, with the start of
+each program taken off.
+
+Other work on the machine disturbs the times and not the instructions: take final times on a quiet machine, and say its
+load.
 """
 import os
+import pathlib
+import statistics
 import subprocess
 import sys
+import tempfile
 import time
 
-from scratch import MACHINE_NEEDS, build_proved, instructions_a_round, least, least_of_rows, machine_files, \
-    machine_main, print_table, said, scratch_folder, script_time
+from scratch import MACHINE_NEEDS, TOP, build_proved, instructions, instructions_a_round, least, least_of_rows, \
+    machine_files, machine_main, print_table, said, scratch_folder, script_time
 
-TURNS = int(sys.argv[1]) if len(sys.argv) > 1 else 9
 ROUNDS = 12
 PICK_BY_PICK, SHORT, LONG = 0, 64, 4096
+STEPS = 10_000_000
 
 # ---- the programs: ("set", name, expression), ("while", condition, statements), ("if", condition, statements,
 # statements); an expression is a number, a name, or an operator between two
@@ -41,42 +51,72 @@ def mixed():
 
 
 POLYNOMIAL = ("+", "s", ("-", ("*", ("*", "i", "i"), 3), ("+", ("*", "i", 5), 7)))
-COUNT = [("while", ("<", "i", 200_000), [add("i")])]
-NESTED = [("set", "k", 7919),
-          ("while", ("<", "i", 500), [
-              ("set", "j", 0),
-              ("while", ("<", "j", 400), [("set", "s", ("+", "s", ("mod", ("*", "i", "j"), "k"))), add("j")]),
-              add("i")])]
-COLLATZ = [("set", "i", 1),
-           ("while", ("<", "i", 3000), [
-               ("set", "x", "i"),
-               ("while", ("<>", "x", 1), [
-                   ("if", ("=", ("mod", "x", 2), 0),
-                    [("set", "x", ("div", "x", 2))], [("set", "x", ("+", ("*", 3, "x"), 1))]),
-                   add("s")]),
-               add("i")])]
-PRIMES = [("set", "i", 2),
-          ("while", ("<", "i", 6000), [
-              ("set", "d", 2), ("set", "ok", 1),
-              ("while", ("and", "ok", ("<=", ("*", "d", "d"), "i")), [
-                  ("if", ("=", ("mod", "i", "d"), 0), [("set", "ok", 0)], []), add("d")]),
-              ("set", "c", ("+", "c", "ok")), add("i")])]
-STRAIGHT = [("while", ("<", "t", 50), [*(statement for _ in range(680) for statement in mixed()), add("t")])]
-FIBONACCI = [("set", "b", 1),
-             ("while", ("<", "i", 100_000), [
-                 ("set", "c", ("mod", ("+", "a", "b"), 1000000007)), ("set", "a", "b"), ("set", "b", "c"), add("i")])]
-POLY = [("while", ("<", "i", 100_000), [("set", "s", ("mod", POLYNOMIAL, 1000003)), add("i")])]
 
-# each with its integers and the one that it prints
+
+def count(turns):
+    return [("while", ("<", "i", turns), [add("i")])]
+
+
+def nested(turns):
+    return [("set", "k", 7919),
+            ("while", ("<", "i", turns), [
+                ("set", "j", 0),
+                ("while", ("<", "j", 400), [("set", "s", ("+", "s", ("mod", ("*", "i", "j"), "k"))), add("j")]),
+                add("i")])]
+
+
+def collatz(limit):
+    return [("set", "i", 1),
+            ("while", ("<", "i", limit), [
+                ("set", "x", "i"),
+                ("while", ("<>", "x", 1), [
+                    ("if", ("=", ("mod", "x", 2), 0),
+                     [("set", "x", ("div", "x", 2))], [("set", "x", ("+", ("*", 3, "x"), 1))]),
+                    add("s")]),
+                add("i")])]
+
+
+def primes(limit):
+    return [("set", "i", 2),
+            ("while", ("<", "i", limit), [
+                ("set", "d", 2), ("set", "ok", 1),
+                ("while", ("and", "ok", ("<=", ("*", "d", "d"), "i")), [
+                    ("if", ("=", ("mod", "i", "d"), 0), [("set", "ok", 0)], []), add("d")]),
+                ("set", "c", ("+", "c", "ok")), add("i")])]
+
+
+def straight(turns):
+    return [("while", ("<", "t", turns), [*(statement for _ in range(680) for statement in mixed()), add("t")])]
+
+
+def fibonacci(turns):
+    return [("set", "b", 1),
+            ("while", ("<", "i", turns), [
+                ("set", "c", ("mod", ("+", "a", "b"), 1000000007)), ("set", "a", "b"), ("set", "b", "c"), add("i")])]
+
+
+def polynomial(turns):
+    return [("while", ("<", "i", turns), [("set", "s", ("mod", POLYNOMIAL, 1000003)), add("i")])]
+
+
+# each with its integers, the one that it prints, its limit in the machine, and that of nearly 10,000,000 picks
 PROGRAMS = {
-    "count": (COUNT, ["i"], "i"),
-    "nested": (NESTED, ["i", "j", "k", "s"], "s"),
-    "collatz": (COLLATZ, ["i", "x", "s"], "s"),
-    "primes": (PRIMES, ["i", "d", "ok", "c"], "c"),
-    "straight": (STRAIGHT, ["i", "s", "b", "t"], "s"),
-    "fibonacci": (FIBONACCI, ["a", "b", "c", "i"], "a"),
-    "polynomial": (POLY, ["i", "s"], "s"),
+    "count": (count, ["i"], "i", 200_000, 1_100_000),
+    "nested": (nested, ["i", "j", "k", "s"], "s", 500, 1_450),
+    "collatz": (collatz, ["i", "x", "s"], "s", 3_000, 6_000),
+    "primes": (primes, ["i", "d", "ok", "c"], "c", 6_000, 28_000),
+    "straight": (straight, ["i", "s", "b", "t"], "s", 50, 600),
+    "fibonacci": (fibonacci, ["a", "b", "c", "i"], "a", 100_000, 520_000),
+    "polynomial": (polynomial, ["i", "s"], "s", 100_000, 390_000),
 }
+
+
+def program_of(name, whole):
+    """The statements of a program, its integers, and the one that it prints."""
+    body, names, printed, short, long = PROGRAMS[name]
+    return body(long if whole else short), names, printed
+
+
 COMPARISONS = {"<", "<=", "=", "<>"}
 
 # ---- the text
@@ -156,8 +196,8 @@ def lua_statements(script, statements):
     return lines
 
 
-def lua_program(script, body, names, printed):
-    head = ["for round = 1, 5 do", f"local start, {', '.join(names)} = os.clock(), {', '.join('0' for _ in names)}"]
+def lua_program(script, rounds, body, names, printed):
+    head = [f"for round = 1, {rounds} do", f"local start, {', '.join(names)} = os.clock(), {', '.join('0' for _ in names)}"]
     tail = [f"print(string.format('%.0f %.0f', (os.clock() - start) * 1e9, {printed}))", "end"]
     return "\n".join([*head, *lua_statements(script, body), *tail])
 
@@ -176,10 +216,10 @@ def python_statements(statements, depth):
     return lines
 
 
-def python_program(body, names, printed):
+def python_program(rounds, body, names, printed):
     lines = ["import time", "def main():", "    start = time.process_time_ns()"]
     lines += [f"    {' = '.join(names)} = 0", *python_statements(body, 1)]
-    lines += [f"    print(time.process_time_ns() - start, {printed})", "for _ in range(3):", "    main()"]
+    lines += [f"    print(time.process_time_ns() - start, {printed})", f"for _ in range({rounds}):", "    main()"]
     return "\n".join(lines)
 
 
@@ -234,11 +274,17 @@ def wasm_module(folder, name, text):
     return module
 
 
-def user_time(words):
-    """The user time of a call, in nanoseconds, and what it writes."""
-    before = os.times().children_user
-    out = subprocess.run(words, stdout=subprocess.PIPE, check=True).stdout.decode()
-    return (os.times().children_user - before) * 1e9, out
+def user_time(words, given=b""):
+    """The user time of a call, in nanoseconds, and the words that it writes."""
+    with tempfile.TemporaryFile() as text, tempfile.TemporaryFile() as out:
+        text.write(given)
+        text.seek(0)
+        process = subprocess.Popen([str(word) for word in words], stdin=text, stdout=out)
+        _, status, used = os.wait4(process.pid, 0)
+        if status != 0:
+            raise SystemExit(f"{words[0]} ended with {status}")
+        out.seek(0)
+        return used.ru_utime * 1e9, out.read().decode().split()
 
 
 # ---- the proved program
@@ -289,55 +335,161 @@ FILES = machine_files(ABOUT, ITEMS, MAIN, [("run", "invariant-loop")])
 
 
 class Runs:
-    """The calls of one program in each language."""
+    """One program in each language."""
 
-    def __init__(self, folder, proved, empty, name):
-        program = PROGRAMS[name]
-        self.name, self.proved, self.empty = name, proved, empty
+    def __init__(self, folder, empty, name, whole):
+        program = program_of(name, whole)
+        self.folder, self.empty = folder, empty
         self.text = text_program(*program).encode()
-        self.lua, self.luajit = lua_program(LUA, *program), lua_program(LUAJIT, *program)
-        self.python = python_program(*program)
+        lua, python = (1, 1) if whole else (5, 3)
+        self.scripts = {
+            "lua5.4": ["lua5.4", self.script("a.lua", lua_program(LUA, lua, *program))],
+            "luajit": ["luajit", "-joff", self.script("b.lua", lua_program(LUAJIT, lua, *program))],
+            "CPython": [sys.executable, self.script("c.py", python_program(python, *program))],
+        }
         self.module = wasm_module(folder, name, wasm_program(*program))
 
-    def machine(self, length):
-        best, (_, last) = least_of_rows(said([self.proved, length, ROUNDS], self.text), 3)
-        return best, last
+    def script(self, name, text):
+        file = self.folder / name
+        file.write_text(text)
+        return file
 
     def wasm(self):
-        taken, out = user_time(["wasm-interp", "--run-all-exports", self.module])
-        nothing, _ = user_time(["wasm-interp", "--run-all-exports", self.empty])
-        return max(taken - nothing, 1.0), out.strip().split(":")[-1]
+        taken, out = user_time(wasm_words(self.module))
+        nothing, _ = user_time(wasm_words(self.empty))
+        return max(taken - nothing, 1.0), printed_by_wasm(out)
 
-    def calls(self):
-        return [
-            lambda: self.machine(PICK_BY_PICK), lambda: self.machine(SHORT), lambda: self.machine(LONG),
-            lambda: script_time("lua5.4", "-e", self.lua),
-            lambda: script_time("luajit", "-joff", "-e", self.luajit),
-            lambda: script_time(sys.executable, "-c", self.python),
-            self.wasm,
-        ]
 
-    def picks(self):
-        return int(least_of_rows(said([self.proved, LONG, 1], self.text), 3)[1][0])
+def wasm_words(module):
+    return ["wasm-interp", "--run-all-exports", module]
+
+
+def printed_by_wasm(words):
+    return words[-1].split(":")[-1]
+
+
+def empty_module(folder):
+    return wasm_module(folder, "empty", '(module (func (export "main") (result i64) i64.const 0))')
+
+
+# ---- the machine
+
+
+def machine(proved, text, length, rounds):
+    """The least nanoseconds of a round, and the picks of a round and the number that it prints."""
+    return least_of_rows(said([proved, length, rounds], text), 3)
+
+
+def machine_round(proved, text, length):
+    best, (_, last) = machine(proved, text, length, ROUNDS)
+    return best, last
+
+
+def machine_rows(turns, proved, runs, name):
+    """A program's row of times, and that of instructions."""
+    lengths = (PICK_BY_PICK, SHORT, LONG)
+    calls = [lambda length=length: machine_round(proved, runs.text, length) for length in lengths]
+    calls += [lambda words=words: script_time(*words) for words in runs.scripts.values()]
+    best = least(turns, [*calls, runs.wasm])
+    picks = int(machine(proved, runs.text, LONG, 1)[1][0])
+    _, short, long, lua, luajit, *_ = best
+    times = [name, picks, *(taken / 1e6 for taken in best), short / lua, long / lua, long / luajit]
+    return times, [name, *(instructions_a_round([proved, length], runs.text, 2) / picks for length in lengths)]
+
+
+def machine_tables(turns, folder):
+    proved = build_proved(folder, MACHINE_NEEDS, FILES)
+    empty = empty_module(folder)
+    rows = [machine_rows(turns, proved, Runs(folder, empty, name, False), name) for name in PROGRAMS]
+    print_table(["text", "picks", "pick by pick", "runs of 64", "runs of 4,096", "Lua 5.4", "luajit -joff", "CPython",
+                 "wasm-interp", "64 by Lua", "4,096 by Lua", "4,096 by luajit"], [times for times, _ in rows])
+    print_table(["text", "instructions a pick, pick by pick", "runs of 64", "runs of 4,096"],
+                [counts for _, counts in rows])
+
+
+# ---- `run` as a whole
+
+
+def run_words(program, quantum):
+    return [program, "run", "--steps", STEPS, "--quantum", quantum]
+
+
+def picks_recorded(program, text):
+    """How many picks a run makes, by its pick lines."""
+    lines = said([program, "record", "--steps", STEPS, "--quantum", LONG], text)
+    return sum(int(word) for word in lines[lines.index("%%") + 2::2])
+
+
+class Whole:
+    """The calls of one program, each as a whole, by the names of their columns. A call is its words, what it is given,
+    and which of the words that it writes is the number that the program prints."""
+
+    def __init__(self, program, runs):
+        self.calls = {
+            "quantum 4,096": (run_words(program, LONG), runs.text, lambda words: words[2]),
+            "quantum 64": (run_words(program, SHORT), runs.text, lambda words: words[2]),
+            "check": ([program, "check"], runs.text, None),
+            **{name: (words, b"", lambda words: words[1]) for name, words in runs.scripts.items()},
+            "wasm-interp": (wasm_words(runs.module), b"", printed_by_wasm),
+        }
+
+    def times(self, turns):
+        """The middle user time of each call, in milliseconds."""
+        found, taken = set(), {name: [] for name in self.calls}
+        for _ in range(turns):
+            for name, (words, given, printed) in self.calls.items():
+                time, out = user_time(words, given)
+                taken[name].append(time / 1e6)
+                if printed is not None:
+                    found.add(printed(out))
+        if len(found) != 1:
+            raise SystemExit(f"two programs disagree: {found}")
+        return [statistics.median(times) for times in taken.values()]
+
+    def counts(self, picks, starts):
+        """The instructions for each pick, without those of the start."""
+        return [(instructions(*self.calls[name][:2]) - start) / picks for name, start in starts.items()]
+
+
+def starts_of(program, folder):
+    """The instructions of each program on as good as nothing."""
+    nothing = folder / "nothing"
+    nothing.write_text("")
+    text = b"process p begin integer i; print i end"
+    return {
+        "quantum 4,096": instructions(run_words(program, LONG), text),
+        "quantum 64": instructions(run_words(program, SHORT), text),
+        "check": instructions([program, "check"], text),
+        "lua5.4": instructions(["lua5.4", nothing]),
+        "luajit": instructions(["luajit", "-joff", nothing]),
+    }
+
+
+def whole_tables(turns, folder, program):
+    starts, times, counts = starts_of(program, folder), [], []
+    empty = empty_module(folder)
+    for name in PROGRAMS:
+        runs = Runs(folder, empty, name, True)
+        whole, picks = Whole(program, runs), picks_recorded(program, runs.text)
+        taken = whole.times(turns)
+        long, short, _, lua, luajit, *_ = taken
+        times.append([name, picks, *taken, long / lua, short / lua, short / long, long / luajit])
+        counts.append([name, *whole.counts(picks, starts)])
+    print_table(["text", "picks", *whole.calls, "4,096 by Lua", "64 by Lua", "64 by 4,096", "4,096 by luajit"], times)
+    print_table(["text", *(f"{name}, instructions a pick" for name in starts)], counts)
 
 
 def main():
+    kind, *words = sys.argv[1:]
+    turns = int(words[0]) if words else 9
     with scratch_folder() as folder:
-        proved = build_proved(folder, MACHINE_NEEDS, FILES)
-        empty = wasm_module(folder, "empty", '(module (func (export "main") (result i64) i64.const 0))')
-        times, counts = [], []
-        for program in PROGRAMS:
-            runs = Runs(folder, proved, empty, program)
-            best, picks = least(TURNS, runs.calls()), runs.picks()
-            lua = best[3]
-            times.append([program, picks, *(taken / 1e6 for taken in best), best[1] / lua, best[2] / lua,
-                          best[2] / best[4]])
-            words = [[proved, length] for length in (PICK_BY_PICK, SHORT, LONG)]
-            counts.append([program, *(instructions_a_round(word, runs.text, 2) / picks for word in words)])
-        print("load", os.getloadavg(), time.strftime("%Y-%m-%d %H:%M"))
-        print_table(["text", "picks", "pick by pick", "runs of 64", "runs of 4,096", "Lua 5.4", "luajit -joff", "CPython",
-                     "wasm-interp", "64 by Lua", "4,096 by Lua", "4,096 by luajit"], times)
-        print_table(["text", "instructions a pick, pick by pick", "runs of 64", "runs of 4,096"], counts)
+        print("load", os.getloadavg(), time.strftime("%Y-%m-%d %H:%M"), flush=True)
+        if kind == "machine":
+            machine_tables(turns, folder)
+        else:
+            program = words[1] if len(words) > 1 else TOP / "crates" / "pb_cli" / "out" / "pb_cli"
+            whole_tables(turns, folder, pathlib.Path(program).resolve())
+        print("load", os.getloadavg())
 
 
 if __name__ == "__main__":
