@@ -7,7 +7,7 @@ import tempfile
 
 TOP = pathlib.Path(__file__).resolve().parent.parent
 EXAMPLES = sorted((TOP / "examples").glob("*.pb"))
-DONE, REFUSED, WORDS, LIMIT, FAULT, MEMORY, DEVICE = range(7)
+DONE, REFUSED, WORDS, LIMIT, FAULT, MEMORY, DEVICE, THREADS = range(8)
 # The longest input that a command reads, and the longest text.
 MOST_INPUT, MOST_TEXT = 4_194_304, 65_536
 # A call that takes longer hangs.

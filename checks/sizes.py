@@ -12,6 +12,7 @@ import resource
 import subprocess
 
 from calls import DONE, LIMIT, MOST_INPUT, MOST_TEXT, REFUSED, Tally, program
+from texts import LIMITS, in_process, many
 
 STACK = 256 * 1024
 SECONDS = 1.0
@@ -54,44 +55,6 @@ class Trial:
         self.tally.expect(status == wanted, name, words, status, said[:60])
 
 
-def in_process(statement):
-    return f"process p begin integer x; {statement} end".encode()
-
-
-def printed(expression):
-    return in_process(f"print {expression}")
-
-
-def parbegins(depth, arms):
-    """Returns this number of parbegins, each the first arm of the one before."""
-    return "skip" if depth == 0 else f"parbegin {parbegins(depth - 1, arms)}{'; skip' * (arms - 1)} parend"
-
-
-def many(kind, count):
-    """Returns a text with this number of a kind."""
-    return {
-        "brackets": lambda: printed("(" * count + "1" + ")" * count),
-        "minus signs": lambda: printed("- " * count + "1"),
-        "nots": lambda: printed("not " * count + "1"),
-        "begins": lambda: in_process("begin " * count + "skip" + " end" * count),
-        "whiles": lambda: in_process("while 0 do " * count + "skip" + " od" * count),
-        "ifs": lambda: in_process("if 0 then " * count + "skip" + " fi" * count),
-        "holds": lambda: b"resource r = 1000; " + in_process("hold 1 of r do " * count + "skip" + " od" * count),
-        "parbegins": lambda: in_process(parbegins(count, 2)),
-        "arms of a parbegin": lambda: in_process(f"parbegin skip{'; skip' * (count - 1)} parend"),
-        "processes": lambda: "".join(f"process p{it} begin skip end\n" for it in range(count)).encode(),
-        "resources": lambda: "".join(f"resource r{it} = 1; " for it in range(count)).encode() + in_process("skip"),
-        "integers": lambda: f"process p begin integer {', '.join(f'x{it}' for it in range(count))}; skip end".encode(),
-        "letters of a name": lambda: f"process {'n' * count} begin skip end".encode(),
-    }[kind]()
-
-
-# The most of each kind that is accepted.
-LIMITS = {
-    "brackets": 255, "minus signs": 198, "nots": 198, "begins": 255, "whiles": 199, "ifs": 199, "holds": 200,
-    "parbegins": 31, "arms of a parbegin": 16, "processes": 64, "resources": 16, "integers": 64,
-    "letters of a name": 32,
-}
 FULL_TEXTS = ["(", ")", "-", "not ", "begin ", "parbegin ", "1+", "x:=1;", "while 1 do ", "if 1 then ", "hold 1 of r do ",
               "print 1;", "// ", "\n", " ", "process p ", "9", "a", "\0", "\xff", "%%\n"]
 COMMANDS = [["check"], ["check", "--heap", "16777216"], ["claims"], ["run"], ["emit"], ["emit", "--object", "1"], ["record"],
@@ -103,6 +66,9 @@ def at_the_limits(trial):
         for command in ("check", "run", "emit", "claims", "record"):
             trial.expect(f"{most} {kind}", [command], many(kind, most), DONE)
             trial.expect(f"{most + 1} {kind}", [command], many(kind, most + 1), REFUSED)
+    # (refused for its height, which is measured by the same recursion)
+    kind = "brackets behind an operator of each kind"
+    trial.expect(f"255 {kind}", ["check"], many(kind, 255), REFUSED)
 
 
 def full_texts(trial):

@@ -3,25 +3,40 @@
 
     checks/two_builds.py PROGRAM OTHER
 
-Both are called by every command on every example, on each forged object of checks/forged_objects.py, and on texts that
-are refused; each call must end with the same status and write the same bytes. `rt ci` leaves both builds in
-crates/pb_cli/out: pb_cli, which LLVM compiled, and pb_cli.by-rattle, which Rattle's own compiler did. It is run by
-hand; its status is 0 if all is as wanted, and 1 if not.
+Both are called by every command on every example, by each call of examples/expected/calls.txt, on each forged object of
+checks/forged_objects.py, on a text at each limit of the language and one beyond it, and on texts that are refused; each
+call must end with the same status and write the same bytes. `rt ci` leaves both builds in crates/pb_cli/out: pb_cli,
+which LLVM compiled, and pb_cli.by-rattle, which Rattle's own compiler did. `rt run --backend rattle` in crates/pb_cli
+makes the second alone, as out/pb_cli. It is run by hand; its status is 0 if all is as wanted, and 1 if not.
 """
 import concurrent.futures
 import os
 import sys
 
-from calls import EXAMPLES, Tally, call, inputs
+import texts
+from calls import EXAMPLES, TOP, Tally, call, inputs
 from forgeries import LIMITS, forgeries, objects
 
 STEPS = ["--steps", "10000"]
 
 
+def calls_of_examples():
+    """Yields the calls of examples whose output is kept."""
+    folder = TOP / "examples"
+    for line in (folder / "expected/calls.txt").read_text().splitlines():
+        if line and not line.startswith("#"):
+            _, _, file, *words = line.split()
+            yield file, words, (folder / file).read_bytes()
+
+
 def cases():
     """Yields words and what they are called on."""
-    for name, words, given in inputs():
-        yield name, words, given
+    yield from inputs()
+    yield from calls_of_examples()
+    for kind, most in texts.LIMITS.items():
+        for count in (most, most + 1):
+            for command in ("check", "claims", "emit", "run", "record"):
+                yield f"{count} {kind}", [command, *(STEPS if command in ("run", "record") else [])], texts.many(kind, count)
     for given in objects():
         for forgery in forgeries(given):
             yield "a forgery", ["exec", *STEPS], forgery

@@ -131,6 +131,8 @@ fn read_matches(matches: &ArgMatches<'_>) -> Option<Options>
 
 /// Reads the words of a call, of which the first is the program's own name. The words are refused only
 /// where they name no command with its numbers.
+// It is not inlined: its locals would be on the stack while an engine runs.
+#[inline(never)]
 pub fn options(alloc: Global, words: &[&str]) -> Result<Options, WordsFault>
     ensures read { IfOk result (WordsSay words.now) }
     ensures refused { IfErr result (λ e. BlamesWords e → (o : AnyOptions) → WordsSay words.now o → ⊥) }
