@@ -4,17 +4,18 @@
     checks/memory_use.py [PROGRAM]     PROGRAM is the one that ./parbegin has built if none is given
 
 memcheck looks at each command for reads and writes outside of what was allocated, for jumps that depend on bytes that
-were never written, and for memory that is lost; helgrind and drd look at runs of four workers for data races. It is
-run by hand on Linux with valgrind; its status is 0 if nothing was found, and 1 if not.
+were never written, and for memory that is lost (threads.supp names what the C library keeps for a thread, which is not);
+helgrind and drd look at runs of four workers for data races. It is run by hand on Linux with valgrind; its status is 0
+if nothing was found, and 1 if not.
 """
 import subprocess
 
-from calls import EXAMPLES, Tally, first_object_of, object_of, program, recorded
+from calls import EXAMPLES, TOP, Tally, first_object_of, object_of, program, recorded
 
 FOUND = 99
 TOOLS = {
     "memcheck": ["--tool=memcheck", "--leak-check=full", "--show-leak-kinds=definite,indirect,possible",
-                 "--errors-for-leak-kinds=definite,indirect,possible"],
+                 "--errors-for-leak-kinds=definite,indirect,possible", f"--suppressions={TOP}/checks/threads.supp"],
     "helgrind": ["--tool=helgrind"],
     "drd": ["--tool=drd"],
 }
