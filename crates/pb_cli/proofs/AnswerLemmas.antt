@@ -1,16 +1,16 @@
 -- From what was said to what a command writes.
 use Rattle.std.proofs.Common.{◌≡◌, ℕ, Bool, true, false, List, Option, inl, inr, refl, subst}
 use Rattle.std.specs.Borrow.{Bor}
-use Rattle.pb_cli.specs.declared.options.Options.{Options}
-use Rattle.pb_cli.specs.declared.options.WordsFault.{WordsFault}
-use Rattle.pb_cli.specs.declared.options.WordsFault.TheVariants as fault
+use Rattle.pb_words.specs.declared.words.Options.{Options}
+use Rattle.pb_words.specs.declared.words.WordsFault.{WordsFault}
+use Rattle.pb_words.specs.declared.words.WordsFault.TheVariants as fault
 use Rattle.pb_engines.specs.declared.status.Status.{Status}
-use Rattle.pb_cli.specs.declared.options.Options.TheVariants.{Debug}
-use Rattle.pb_debug_engine.specs.declared.options.DebugOptions.{DebugOptions}
+use Rattle.pb_words.specs.declared.words.Options.TheVariants.{Debug}
+use Rattle.pb_options.specs.declared.options.DebugOptions.{DebugOptions}
 use Rattle.pb_engines.specs.Answers.{Says}
 use Rattle.pb_engines.specs.Faults.{Devices}
 use Rattle.pb_cli.specs.Calls.{CallTellsFaults, CallWrites, TellsDebugFaults, fault_status, fault_text}
-use Rattle.pb_cli.specs.Read.{BlamesWords, WordsSay}
+use Rattle.pb_words.specs.Read.{BlamesWords, WordsSay}
 
 -- what is written where the words were not read
 pub CallWrites-refused : (words : List (Bor (List ℕ))) (rest old new : Option (List ℕ)) (status : Status) (e : WordsFault)

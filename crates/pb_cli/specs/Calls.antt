@@ -2,10 +2,10 @@
 use Rattle.std.specs.Prelude.{◌⊎◌, ℕ, IfSome, Bool, true, false, List, Option}
 use Rattle.std.specs.Borrow.{Bor}
 use Rattle.clap.specs.Words.{Text}
-use Rattle.pb_cli.specs.declared.options.Options.{Options}
-use Rattle.pb_cli.specs.declared.options.Options.TheVariants as option
-use Rattle.pb_cli.specs.declared.options.WordsFault.{WordsFault}
-use Rattle.pb_cli.specs.declared.options.WordsFault.TheVariants as fault
+use Rattle.pb_words.specs.declared.words.Options.{Options}
+use Rattle.pb_words.specs.declared.words.Options.TheVariants as option
+use Rattle.pb_words.specs.declared.words.WordsFault.{WordsFault}
+use Rattle.pb_words.specs.declared.words.WordsFault.TheVariants as fault
 use Rattle.pb_debug_engine.specs.Debugs.{SaysOfDebug}
 use Rattle.pb_debug_engine.specs.Faults.{TellsAnyFault}
 use Rattle.pb_debug_engine.specs.Live.{SaysOfLive}
@@ -22,7 +22,7 @@ use Rattle.pb_engines.specs.Migrations.{SaysOfMigration}
 use Rattle.pb_engines.specs.Records.{SaysOfRecord}
 use Rattle.pb_engines.specs.ReplayLines.{SaysOfReplay}
 use Rattle.pb_engines.specs.Runs.{SaysOf}
-use Rattle.pb_cli.specs.Read.{WordsSay}
+use Rattle.pb_words.specs.Read.{WordsSay}
 
 -- what `debug` may say of an input, of which it reads the commands as they come, or all before it writes
 abbrev pub SaysOfCommands : (live : Bool) → List ℕ → List ℕ → Status → Type 0

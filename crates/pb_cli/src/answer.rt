@@ -4,14 +4,14 @@ ghost use Rattle.pb_engines.specs.Answers.{Says, Tells};
 ghost use Rattle.pb_cli.specs.Calls.{fault_status, fault_text, CallTellsFaults, CallWrites, SaysOfCommands, TellsDebugFaults};
 ghost use Rattle.pb_engines.specs.Faults.{TellsWriteFaults};
 
-use crate::options::{Options, WordsFault};
-use crate::read::options;
 use pb_base::device::{Input, Output};
-use pb_debug_engine::{DebugOptions, debug_engine, debug_live_engine};
+use pb_debug_engine::{debug_engine, debug_live_engine};
 use pb_engines::{
     Page, Status, check_engine, claims_engine, emit_engine, exec_engine, migrate_engine,
     record_engine, replay_engine, run_engine,
 };
+use pb_options::DebugOptions;
+use pb_words::{Options, WordsFault, options};
 use std::alloc::Global;
 use std::sync::Wait;
 use std::thread::Threads;

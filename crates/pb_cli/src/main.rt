@@ -2,9 +2,6 @@
 #![tactic(auto)]
 
 mod answer;
-mod command_line;
-mod options;
-mod read;
 
 use crate::answer::answer;
 use pb_base::device::{StandardInput, StandardOutput};

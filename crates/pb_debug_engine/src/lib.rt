@@ -3,11 +3,9 @@
 
 pub mod debug;
 pub mod live;
-pub mod options;
 mod part;
 mod parts;
 mod session;
 
 pub use debug::debug_engine;
 pub use live::debug_live_engine;
-pub use options::DebugOptions;

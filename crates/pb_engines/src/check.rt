@@ -9,13 +9,13 @@ ghost use Rattle.pb_engines.specs.Faults.{TellsFaults, TellsWriteFaults};
 
 use crate::accept::{Refusal, compile_within};
 use crate::input::read_input;
-use crate::options::CheckOptions;
 use crate::page::Page;
 use crate::parts::first_part;
 use crate::status::Status;
 use bumpalo::Bump;
 use linked_list_allocator::LocalHeap;
 use pb_base::device::{Input, Output};
+use pb_options::CheckOptions;
 use std::alloc::{Allocator, Global};
 
 // What came of telling the answer to one text.

@@ -10,13 +10,13 @@ ghost use Rattle.pb_engines.specs.Faults.{TellsFaults, TellsWriteFaults};
 
 use crate::accept::{compile_text, refuse};
 use crate::input::read_input;
-use crate::options::EmitOptions;
 use crate::reply::{Reply, refused, tell};
 use crate::status::Status;
 use pb_base::NoMemory;
 use pb_base::device::{Input, Output};
 use pb_codegen::Compiled;
 use pb_object::{Format, fits_first_format, write_object, write_object2};
+use pb_options::EmitOptions;
 use pb_verifier::Verified;
 use std::alloc::Global;
 

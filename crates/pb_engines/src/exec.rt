@@ -7,11 +7,11 @@ ghost use Rattle.pb_engines.specs.Faults.{TellsFaults, TellsWriteFaults};
 
 use crate::input::read_input;
 use crate::load::{load, load_refusal};
-use crate::options::RunOptions;
 use crate::reply::tell;
 use crate::report::tell_run;
 use crate::status::Status;
 use pb_base::device::{Input, Output};
+use pb_options::RunOptions;
 use std::alloc::Global;
 use std::sync::Wait;
 use std::thread::Threads;

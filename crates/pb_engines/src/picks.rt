@@ -7,11 +7,11 @@ ghost use Rattle.pb_verifier.specs.Verified.{IsVerified};
 
 use crate::choice::Chooser;
 use crate::open::Open;
-use crate::options::RunOptions;
 use crate::schedule::Next;
 use pb_base::NoMemory;
 use pb_history::{CountedPick, Trace};
 use pb_machine::Machine;
+use pb_options::RunOptions;
 use pb_picks::count_pick;
 use pb_verifier::Verified;
 use pb_workers::{RunFault, run_workers};

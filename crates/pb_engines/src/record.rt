@@ -9,13 +9,13 @@ ghost use Rattle.pb_verifier.specs.Verified.{IsVerified};
 
 use crate::accept::{compile_text, refuse};
 use crate::input::{LONGEST_INPUT, read_input};
-use crate::options::RecordOptions;
 use crate::picks::{draw_picks, report_picks};
 use crate::reply::{Reply, refused, tell};
 use crate::status::Status;
 use pb_base::NoMemory;
 use pb_base::device::{Input, Output};
 use pb_history::CountedPick;
+use pb_options::RecordOptions;
 use pb_picks::write_picks;
 use pb_verifier::Verified;
 use pb_workers::RunFault;

@@ -7,10 +7,10 @@ ghost use Rattle.pb_engines.specs.Faults.{TellsFaults, TellsWriteFaults};
 
 use crate::accept::{compile_text, refuse};
 use crate::input::read_input;
-use crate::options::RunOptions;
 use crate::report::tell_run;
 use crate::status::Status;
 use pb_base::device::{Input, Output};
+use pb_options::RunOptions;
 use std::alloc::Global;
 use std::sync::Wait;
 use std::thread::Threads;

@@ -1,8 +1,8 @@
 use Rattle.std.proofs.Common.{◌∙◌, Ok, ap, refl}
 use Rattle.std.specs.Str.Parse.{ParsesUnsigned, ExplainsUnsignedError, HasUnsignedDigitsIfOk}
 use Rattle.clap.specs.Words.{found_of}
-use Rattle.pb_cli.proofs.ReadLemmas.{no_text, some_text}
-use Rattle.pb_cli.proofs.read.is_absent.Goals as goal
+use Rattle.pb_words.proofs.ReadLemmas.{no_text, some_text}
+use Rattle.pb_words.proofs.read.is_absent.Goals as goal
 
 pub returns-in-Ok-None : goal.returns-in-Ok-None
 returns-in-Ok-None c = (

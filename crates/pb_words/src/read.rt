@@ -1,20 +1,19 @@
 //! Reads the words of a call.
 ghost use Rattle.std.specs.Prelude.{◌≡◌, ◌↔◌, IfErr, IfNone, IfOk, IfSome, IsTrue, None, ℕ};
 ghost use Rattle.clap.specs.Words.{found_of, kind_of, one_of, rows_of, subcommand_rows_of};
-ghost use Rattle.pb_cli.specs.Read.{BlamesWords, HasCheckNumbers, HasDebugFlag, HasEmitNumber, HasFlag, HasNumberIn, HasRecordNumbers, HasRunNumbers, IsReadFromMatches, WordsSay};
-ghost use Rattle.pb_cli.specs.declared.options.Options.{Options as AnyOptions};
-ghost use Rattle.pb_engines.specs.declared.options.CheckOptions.{CheckOptions as AnyCheckOptions};
-ghost use Rattle.pb_engines.specs.declared.options.EmitOptions.{EmitOptions as AnyEmitOptions};
-ghost use Rattle.pb_engines.specs.declared.options.RecordOptions.{RecordOptions as AnyRecordOptions};
-ghost use Rattle.pb_engines.specs.declared.options.RunOptions.{RunOptions as AnyRunOptions};
+ghost use Rattle.pb_words.specs.Read.{BlamesWords, HasCheckNumbers, HasDebugFlag, HasEmitNumber, HasFlag, HasNumberIn, HasRecordNumbers, HasRunNumbers, IsReadFromMatches, WordsSay};
+ghost use Rattle.pb_words.specs.declared.words.Options.{Options as AnyOptions};
+ghost use Rattle.pb_options.specs.declared.options.CheckOptions.{CheckOptions as AnyCheckOptions};
+ghost use Rattle.pb_options.specs.declared.options.EmitOptions.{EmitOptions as AnyEmitOptions};
+ghost use Rattle.pb_options.specs.declared.options.RecordOptions.{RecordOptions as AnyRecordOptions};
+ghost use Rattle.pb_options.specs.declared.options.RunOptions.{RunOptions as AnyRunOptions};
 
 use crate::command_line::command_line;
-use crate::options::{Options, WordsFault};
+use crate::words::{Options, WordsFault};
 use clap::error::ErrorKind;
 use clap::{ArgMatches, Error};
-use pb_debug_engine::DebugOptions;
-use pb_engines::{CheckOptions, EmitOptions, RecordOptions, RunOptions};
 use pb_object::Format;
+use pb_options::{CheckOptions, DebugOptions, EmitOptions, RecordOptions, RunOptions};
 use std::alloc::Global;
 
 // The number of an option, where it was matched with one from `least` to `most`.

@@ -1,8 +1,8 @@
 use Rattle.std.proofs.Common.{List, ℕ, ◌∙◌, ap, sym, map, subst}
 use Rattle.clap.specs.Words.{App, fault_of, is_simple, is_simple_and_free, subcommand_of}
-use Rattle.pb_cli.specs.Read.{IsReadFromMatches}
-use Rattle.pb_cli.proofs.ReadLemmas.{clap_refused, is_free_command_line, is_simple_command_line}
-use Rattle.pb_cli.proofs.read.options.Goals as goal
+use Rattle.pb_words.specs.Read.{IsReadFromMatches}
+use Rattle.pb_words.proofs.ReadLemmas.{clap_refused, is_free_command_line, is_simple_command_line}
+use Rattle.pb_words.proofs.read.options.Goals as goal
 
 pub returns-in-Err-clause-refused : goal.returns-in-Err-clause-refused
 returns-in-Err-clause-refused c blames o says =

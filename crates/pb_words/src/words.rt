@@ -1,7 +1,6 @@
 //! The words of a call, read.
 
-use pb_debug_engine::DebugOptions;
-use pb_engines::{CheckOptions, EmitOptions, RecordOptions, RunOptions};
+use pb_options::{CheckOptions, DebugOptions, EmitOptions, RecordOptions, RunOptions};
 
 /// A command with its options.
 #[derive(Clone, Copy, Debug, PartialEq, Eq)]

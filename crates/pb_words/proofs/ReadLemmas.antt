@@ -5,18 +5,18 @@ use Rattle.clap.specs.Words.{HasKind, IsAmong, Kinds, ReadsOne, Row, Text, Tries
 use Rattle.clap.specs.declared.error.Error.{Error}
 use Rattle.clap.specs.declared.error.kind.ErrorKind.TheVariants.{OutOfMemory}
 use Rattle.clap.proofs.OnLiterals.{clap_on_literals}
-use Rattle.pb_cli.specs.CommandLine.{command_line, with_text_commands, with_code_commands, with_object_commands, with_pick_commands, check_command, claims_command, debug_command, emit_command, exec_command, migrate_command, record_command, replay_command, run_command, with_run_rules}
+use Rattle.pb_words.specs.CommandLine.{command_line, with_text_commands, with_code_commands, with_object_commands, with_pick_commands, check_command, claims_command, debug_command, emit_command, exec_command, migrate_command, record_command, replay_command, run_command, with_run_rules}
 use Rattle.clap.specs.declared.parser.matches.Found.{Found}
 use Rattle.clap.proofs.WalkLemmas.{one_text-rows}
-use Rattle.pb_cli.specs.Read.{BlamesWords, HasCheckNumbers, HasEmitNumber, HasFlag, HasNumber, HasNumberIn, HasOptionalNumber, HasRecordNumbers, HasRunNumbers, IsReadFrom, IsReadFromMatches}
-use Rattle.pb_cli.specs.declared.options.Options.{Options}
-use Rattle.pb_cli.specs.declared.options.Options.TheVariants.{Check, Claims, Debug, Emit, Exec, Migrate, Record, Replay, Run}
-use Rattle.pb_engines.specs.declared.options.CheckOptions.{CheckOptions}
-use Rattle.pb_engines.specs.declared.options.EmitOptions.{EmitOptions}
-use Rattle.pb_engines.specs.declared.options.RecordOptions.{RecordOptions}
-use Rattle.pb_engines.specs.declared.options.RunOptions.{RunOptions}
-use Rattle.pb_cli.specs.declared.options.WordsFault.{WordsFault}
-use Rattle.pb_cli.specs.declared.options.WordsFault.TheVariants.{Words, Memory}
+use Rattle.pb_words.specs.Read.{BlamesWords, HasCheckNumbers, HasEmitNumber, HasFlag, HasNumber, HasNumberIn, HasOptionalNumber, HasRecordNumbers, HasRunNumbers, IsReadFrom, IsReadFromMatches}
+use Rattle.pb_words.specs.declared.words.Options.{Options}
+use Rattle.pb_words.specs.declared.words.Options.TheVariants.{Check, Claims, Debug, Emit, Exec, Migrate, Record, Replay, Run}
+use Rattle.pb_options.specs.declared.options.CheckOptions.{CheckOptions}
+use Rattle.pb_options.specs.declared.options.EmitOptions.{EmitOptions}
+use Rattle.pb_options.specs.declared.options.RecordOptions.{RecordOptions}
+use Rattle.pb_options.specs.declared.options.RunOptions.{RunOptions}
+use Rattle.pb_words.specs.declared.words.WordsFault.{WordsFault}
+use Rattle.pb_words.specs.declared.words.WordsFault.TheVariants.{Words, Memory}
 
 pub number_read : {E : Type 0} (gives : Text → Result ℕ E → Type 0) (f : Found) (id : Text) (n : ℕ)
     → ((t : Text) → gives t (Ok n) → IsNumeral 10 (without_leading_plus t) × (n ≡ digits_value 10 (without_leading_plus t)))

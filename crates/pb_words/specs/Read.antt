@@ -5,16 +5,16 @@ use Rattle.clap.specs.Words.{Row, Text, fault_of, one_of, subcommand_of}
 use Rattle.std.specs.Borrow.{Bor}
 use Rattle.pb_object.specs.declared.format.Format.{Format}
 use Rattle.pb_object.specs.declared.format.Format.TheVariants.{One, Two}
-use Rattle.pb_cli.specs.CommandLine.{command_line}
-use Rattle.pb_cli.specs.declared.options.Options.{Options}
-use Rattle.pb_cli.specs.declared.options.Options.TheVariants as option
-use Rattle.pb_debug_engine.specs.declared.options.DebugOptions.{DebugOptions}
-use Rattle.pb_engines.specs.declared.options.CheckOptions.{CheckOptions}
-use Rattle.pb_engines.specs.declared.options.EmitOptions.{EmitOptions}
-use Rattle.pb_engines.specs.declared.options.RecordOptions.{RecordOptions}
-use Rattle.pb_engines.specs.declared.options.RunOptions.{RunOptions}
-use Rattle.pb_cli.specs.declared.options.WordsFault.{WordsFault}
-use Rattle.pb_cli.specs.declared.options.WordsFault.TheVariants as fault
+use Rattle.pb_words.specs.CommandLine.{command_line}
+use Rattle.pb_words.specs.declared.words.Options.{Options}
+use Rattle.pb_words.specs.declared.words.Options.TheVariants as option
+use Rattle.pb_options.specs.declared.options.DebugOptions.{DebugOptions}
+use Rattle.pb_options.specs.declared.options.CheckOptions.{CheckOptions}
+use Rattle.pb_options.specs.declared.options.EmitOptions.{EmitOptions}
+use Rattle.pb_options.specs.declared.options.RecordOptions.{RecordOptions}
+use Rattle.pb_options.specs.declared.options.RunOptions.{RunOptions}
+use Rattle.pb_words.specs.declared.words.WordsFault.{WordsFault}
+use Rattle.pb_words.specs.declared.words.WordsFault.TheVariants as fault
 
 -- the option was matched with a text that spells this number, given or by default
 abbrev pub HasNumber : List Row → Text → ℕ → Type 0

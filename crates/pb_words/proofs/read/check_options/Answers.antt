@@ -1,7 +1,7 @@
 use Rattle.std.proofs.Common.{◌≡◌, false, true}
 use Rattle.clap.specs.Words.{found_of, rows_of}
-use Rattle.pb_cli.proofs.ReadLemmas.{IfNone-of, no_check_numbers}
-use Rattle.pb_cli.proofs.read.check_options.Goals as goal
+use Rattle.pb_words.proofs.ReadLemmas.{IfNone-of, no_check_numbers}
+use Rattle.pb_words.proofs.read.check_options.Goals as goal
 
 pub returns-in_err-size-clause-none : goal.returns-in_err-size-clause-none
 returns-in_err-size-clause-none c =

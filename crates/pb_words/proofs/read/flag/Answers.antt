@@ -1,7 +1,7 @@
 use Rattle.std.specs.Str.Parse.{ParsesBool}
 use Rattle.clap.specs.Words.{found_of}
-use Rattle.pb_cli.proofs.ReadLemmas.{flag_read, flag_unread}
-use Rattle.pb_cli.proofs.read.flag.Goals as goal
+use Rattle.pb_words.proofs.ReadLemmas.{flag_read, flag_unread}
+use Rattle.pb_words.proofs.read.flag.Goals as goal
 
 pub returns-in-Some : goal.returns-in-Some
 returns-in-Some c =

@@ -43,3 +43,10 @@ pub struct RecordOptions {
     /// The seed of the generator that draws the picks, if they are to be drawn.
     pub seed: Option<u64>,
 }
+
+/// The options of the engines behind `debug`.
+#[derive(Clone, Copy, Debug, PartialEq, Eq)]
+pub struct DebugOptions {
+    /// Whether the commands are read as they come, by `debug_live_engine`.
+    pub live: bool,
+}

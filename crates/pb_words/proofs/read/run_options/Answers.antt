@@ -1,6 +1,6 @@
 use Rattle.std.proofs.Common.{arith}
-use Rattle.pb_cli.proofs.ReadLemmas.{IfNone-of}
-use Rattle.pb_cli.proofs.read.run_options.Goals as goal
+use Rattle.pb_words.proofs.ReadLemmas.{IfNone-of}
+use Rattle.pb_words.proofs.read.run_options.Goals as goal
 
 pub returns-in_err-workers-clause-none : goal.returns-in_err-workers-clause-none
 returns-in_err-workers-clause-none c =

@@ -2,8 +2,8 @@
 ghost use Rattle.std.specs.Prelude.{◌≡◌, IfOk, false};
 ghost use Rattle.clap.specs.Words.{app_of, rule_of, with_rule};
 ghost use Rattle.clap.specs.declared.builder.command.Command.TheViews.{out-Command};
-ghost use Rattle.pb_cli.specs.CommandLine.{check_command, claims_command, debug_command, emit_command, flag_rule, exec_command, migrate_command, number_rule, number_rule_or, record_command, replay_command, run_command, that_wants_command, IsCommand};
-ghost use Rattle.pb_cli.specs.CommandLine.{command_line as whole, with_code_commands, with_command, with_object_commands, with_pick_commands, with_run_rules, with_text_commands};
+ghost use Rattle.pb_words.specs.CommandLine.{check_command, claims_command, debug_command, emit_command, flag_rule, exec_command, migrate_command, number_rule, number_rule_or, record_command, replay_command, run_command, that_wants_command, IsCommand};
+ghost use Rattle.pb_words.specs.CommandLine.{command_line as whole, with_code_commands, with_command, with_object_commands, with_pick_commands, with_run_rules, with_text_commands};
 
 use clap::builder::ValueParser;
 use clap::{Arg, ArgAction, Command};

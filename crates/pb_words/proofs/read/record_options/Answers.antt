@@ -1,7 +1,7 @@
 use Rattle.std.proofs.Common.{◌≡◌, false, true}
 use Rattle.clap.specs.Words.{found_of, rows_of}
-use Rattle.pb_cli.proofs.ReadLemmas.{IfNone-of, no_record_seed}
-use Rattle.pb_cli.proofs.read.record_options.Goals as goal
+use Rattle.pb_words.proofs.ReadLemmas.{IfNone-of, no_record_seed}
+use Rattle.pb_words.proofs.read.record_options.Goals as goal
 
 pub returns-in_err-run-clause-none : goal.returns-in_err-run-clause-none
 returns-in_err-run-clause-none c = IfNone-of c.from_residual.result (λ o says. c.in_err-run.ensures.none o.run says.0)

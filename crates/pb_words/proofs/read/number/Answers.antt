@@ -1,9 +1,9 @@
 use Rattle.std.proofs.Common.{arith}
 use Rattle.std.specs.Str.Parse.{ParsesUnsigned, ExplainsUnsignedError, HasUnsignedDigitsIfOk}
 use Rattle.clap.specs.Words.{found_of, rows_of}
-use Rattle.pb_cli.specs.Read.{HasNumber}
-use Rattle.pb_cli.proofs.ReadLemmas.{IfNone-of, no_number, number_read, one_number}
-use Rattle.pb_cli.proofs.read.number.Goals as goal
+use Rattle.pb_words.specs.Read.{HasNumber}
+use Rattle.pb_words.proofs.ReadLemmas.{IfNone-of, no_number, number_read, one_number}
+use Rattle.pb_words.proofs.read.number.Goals as goal
 
 pub returns-in_err-number-clause-none : goal.returns-in_err-number-clause-none
 returns-in_err-number-clause-none c =

@@ -1,0 +1,7 @@
+//! What the commands of the program are told beside their input. The words of a call are read into these options by
+//! pb_words, and the engines take them, so that neither of the two stands on the other.
+#![tactic(auto)]
+
+pub mod options;
+
+pub use options::{CheckOptions, DebugOptions, EmitOptions, RecordOptions, RunOptions};

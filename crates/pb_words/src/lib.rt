@@ -1,0 +1,9 @@
+//! Reads the words of a call of the program: the command and its options, as clap takes them.
+#![tactic(auto)]
+
+mod command_line;
+mod read;
+mod words;
+
+pub use read::options;
+pub use words::{Options, WordsFault};
