@@ -52,9 +52,9 @@ long_program | {
     exit "$failed"
 } || failed=1
 expect 6 /dev/full run <"$top/examples/hello.pb"
-# the stacks of sixteen threads do not fit into 80 MB of addresses
+# not even two stacks of threads fit into 24 MB of addresses, so it does not matter when the first of them ends
 (
-    ulimit -v 80000
+    ulimit -v 24000
     expect 7 /dev/null run --workers 16 <"$top/examples/hello.pb"
     exit "$failed"
 ) || failed=1
