@@ -14,8 +14,8 @@ it to its end, and says milliseconds a round (the least of all turns), the ratio
 processor for each pick. `wasm-interp` is timed as a whole, with the time of an empty module taken off.
 
 `whole` calls `run` with quantum 4,096 and with quantum 64 on programs of nearly 10,000,000 picks, and says milliseconds
-of user time of whole calls (the middle of all turns), and instructions of the processor for each pick, with the start of
-each program taken off.
+of user time of whole calls (the middle of all turns), their ratios (the middle of those of each turn, since the clock of
+a machine changes), and instructions of the processor for each pick, with the start of each program taken off.
 
 Other work on the machine disturbs the times and not the instructions: take final times on a quiet machine, and say its
 load.
@@ -434,7 +434,7 @@ class Whole:
         }
 
     def times(self, turns):
-        """The middle user time of each call, in milliseconds."""
+        """The user times of each call, turn by turn, in milliseconds."""
         found, taken = set(), {name: [] for name in self.calls}
         for _ in range(turns):
             for name, (words, given, printed) in self.calls.items():
@@ -444,11 +444,16 @@ class Whole:
                     found.add(printed(out))
         if len(found) != 1:
             raise SystemExit(f"two programs disagree: {found}")
-        return [statistics.median(times) for times in taken.values()]
+        return taken
 
     def counts(self, picks, starts):
         """The instructions for each pick, without those of the start."""
         return [(instructions(*self.calls[name][:2]) - start) / picks for name, start in starts.items()]
+
+
+def middle_ratio(times, others):
+    """The middle of the ratios of two calls, each of one turn: the clock of a machine changes from turn to turn."""
+    return statistics.median(time / other for time, other in zip(times, others))
 
 
 def starts_of(program, folder):
@@ -472,8 +477,9 @@ def whole_tables(turns, folder, program):
         runs = Runs(folder, empty, name, True)
         whole, picks = Whole(program, runs), picks_recorded(program, runs.text)
         taken = whole.times(turns)
-        long, short, _, lua, luajit, *_ = taken
-        times.append([name, picks, *taken, long / lua, short / lua, short / long, long / luajit])
+        long, short, _, lua, luajit, *_ = taken.values()
+        ratios = [middle_ratio(*pair) for pair in [(long, lua), (short, lua), (short, long), (long, luajit)]]
+        times.append([name, picks, *map(statistics.median, taken.values()), *ratios])
         counts.append([name, *whole.counts(picks, starts)])
     print_table(["text", "picks", *whole.calls, "4,096 by Lua", "64 by Lua", "64 by 4,096", "4,096 by luajit"], times)
     print_table(["text", *(f"{name}, instructions a pick" for name in starts)], counts)
