@@ -3,10 +3,11 @@
 
     python3 benches/history.py [PROGRAM] [TURNS]     the program that ./parbegin has built, if none is given
 
-`run` makes the picks; `record` makes them and writes the text with their pick lines; `replay` reads what `record` wrote
-and makes them again. Says milliseconds of processor time of a whole call, user and system, the least of all turns, from
-which those of `check` on the same text are taken off, since all three compile it; the ratios to `run`; and the bytes
-that `record` wrote. That `replay` writes what `run` does, but for the last line, is checked.
+`run` makes the picks, with one worker at quantum 4,096; `record` makes them so too, and writes the text with their pick
+lines; `replay` reads what `record` wrote and makes them again. Says milliseconds of processor time of a whole call, user
+and system, the least of all turns, from which those of `check` on the same text are taken off, since all three compile
+it; the ratios to `run`; and the bytes that `record` wrote. That `replay` writes what `run` does, except for the last line,
+is checked.
 
 A second table says what `--seed` costs: milliseconds of `record` without a seed and with one, taken the same way, their ratio,
 and the nanoseconds that each drawn pick takes more. That `replay` accepts what was drawn is checked.
@@ -21,6 +22,8 @@ from scratch import TOP, print_table, scratch_folder
 PROGRAM = pathlib.Path(sys.argv[1]) if len(sys.argv) > 1 else TOP / "crates" / "pb_cli" / "out" / "pb_cli"
 TURNS = int(sys.argv[2]) if len(sys.argv) > 2 else 9
 STEPS = 10_000_000
+# The greatest, at which `run` takes hardly more than the machine alone.
+QUANTUM = ["--quantum", "4096"]
 
 # Each runs longer than its steps. The last prints in each round; all but the one of two arms are one pick line.
 TEXTS = {
@@ -63,7 +66,7 @@ def row(folder, name, text, steps):
     """The times of one text."""
     given, ran, recorded, replayed = (folder / it for it in ("text", "ran", "recorded", "replayed"))
     given.write_text(text + "\n")
-    limit = ["--steps", str(steps)]
+    limit = ["--steps", str(steps), *QUANTUM]
     calls = {
         "check": lambda: call(["check"], given, os.devnull),
         "run": lambda: call(["run", *limit], given, ran),
@@ -84,7 +87,7 @@ def drawn_row(folder, name, text):
     """The times of one text with a seed and without."""
     given, drawn = (folder / it for it in ("text", "drawn"))
     given.write_text(text + "\n")
-    record = ["record", "--steps", str(DRAWN)]
+    record = ["record", "--steps", str(DRAWN), *QUANTUM]
     calls = {
         "check": lambda: call(["check"], given, os.devnull),
         "plain": lambda: call(record, given, os.devnull),
