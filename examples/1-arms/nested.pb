@@ -1,4 +1,4 @@
-// A parbegin in an arm of another. What stands behind a parbegin begins when all its arms have ended, and the outer one
+// A parbegin in an arm of another. What comes behind a parbegin begins when all its arms have ended, and the outer one
 // waits for the inner one: 3 comes after 1 and 2, 5 after 3 and 4.
 process p
 begin

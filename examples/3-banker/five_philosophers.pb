@@ -1,5 +1,5 @@
 // Five philosophers at a round table, with a fork between each two of them. Each takes the fork at the left and then
-// the one at the right. The fifth waits for his first fork, although it lies there: with it each would have one fork,
+// the one at the right. The fifth waits for his first fork, although it is free: with it each would have one fork,
 // and nobody could eat.
 resource fork1 = 1;
 resource fork2 = 1;

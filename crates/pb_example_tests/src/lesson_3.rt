@@ -50,7 +50,7 @@ end
 /// The file 3-banker/five_philosophers.pb.
 #[rattlefmt::skip]
 const FIVE_PHILOSOPHERS: &[u8] = b"// Five philosophers at a round table, with a fork between each two of them. Each takes the fork at the left and then
-// the one at the right. The fifth waits for his first fork, although it lies there: with it each would have one fork,
+// the one at the right. The fifth waits for his first fork, although it is free: with it each would have one fork,
 // and nobody could eat.
 resource fork1 = 1;
 resource fork2 = 1;

@@ -185,8 +185,8 @@ process reader3 begin hold 1 of permit do print 3 od end
 
 /// The file solutions/waits_four.pb.
 #[rattlefmt::skip]
-const WAITS_FOUR: &[u8] = b"// Lesson 3, exercise 2: with four florins no request waits but for the cash. Whoever asks for two more finds two there,
-// or the other one has all three and will give them back.
+const WAITS_FOUR: &[u8] = b"// Lesson 3, exercise 2: with four florins a request waits for nothing except the cash. Whoever asks for two more finds
+// two there, or the other one has all three and will give them back.
 resource florin = 4;
 process a begin hold 1 of florin do print 1; hold 2 of florin do print 2 od od end
 process b begin hold 1 of florin do print 3; hold 2 of florin do print 4 od od end
