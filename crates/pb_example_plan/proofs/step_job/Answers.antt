@@ -1,0 +1,20 @@
+use Rattle.std.proofs.Common.{◌∙◌, arith, refl, subst}
+use Rattle.pb_code.specs.Reached.{CodeStays}
+use Rattle.pb_machine.specs.Views.{machine_view}
+use Rattle.pb_example_plan.proofs.Trying.{few_arms, one_more_arm}
+use Rattle.pb_example_plan.proofs.step_job.Goals as goal
+
+pub overflow_cast-pick : goal.overflow_cast-pick
+overflow_cast-pick c =
+    let few = few_arms c.args.verified.now c.requires.verified c.args.machine.now c.requires.machine c.from.result _ c.proc.ensures.state in
+    omega (arith, few)
+
+pub loop-arm-preserved : goal.loop-arm-preserved
+loop-arm-preserved c =
+    let before = c.loop-arm.invariant in
+    let stays = c.in-NotEnabled.ensures.step in (
+      one_more_arm c.args.verified.now.code (machine_view c.args.machine.now) c.args.job c.loop-arm.arm (record { process = c.args.job; arm = c.loop-arm.arm }) before.0 refl refl
+          (subst (λ s. CodeStays c.args.verified.now.code s (record { process = c.args.job; arm = c.loop-arm.arm })) before.1 stays.0),
+      stays.1 ∙ before.1,
+      c.in-NotEnabled.ensures.machine,
+    )
