@@ -14,7 +14,7 @@ TOP = pathlib.Path(__file__).resolve().parent.parent
 
 
 def needed(names):
-    """These crates of the repository, and those that they stand on."""
+    """These crates of the repository, and those that they depend on."""
     lines = [line.split(":") for line in (TOP / "crates.txt").read_text().splitlines() if ":" in line]
     below = {name.split()[0]: words.split() for name, words in lines}
     found, waiting = [], list(names)
@@ -41,7 +41,7 @@ def scratch_folder():
 
 
 def build_proved(folder, needs, files):
-    """Builds a small program of these files over the libraries that it needs, and answers where it lies."""
+    """Builds a small program of these files over the libraries that it needs, and returns its path."""
     crates = needed(needs)
     for name in crates:
         copy_crate(name, folder)
@@ -141,7 +141,7 @@ def script_time(*words):
 
 
 def build_plain(folder, bench):
-    """Builds the twin of a bench, for the processors that proved programs are built for, and answers where it lies."""
+    """Builds the twin of a bench, for the processors that proved programs are built for, and returns its path."""
     out = folder / "twin"
     source = TOP / "benches" / bench / "twin.rs"
     subprocess.run(["rustc", "-O", "-C", "target-cpu=x86-64-v2", "--edition", "2021", "-o", out, source], check=True)
