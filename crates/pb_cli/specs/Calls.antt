@@ -37,7 +37,7 @@ CommandSays (option.Debug flags) = SaysOfCommands flags.live
 CommandSays (option.Emit numbers) = SaysOfInput (SaysOfEmission numbers.object)
 CommandSays (option.Exec numbers) = SaysOfInput (SaysOfExecution numbers.steps)
 CommandSays option.Migrate = SaysOfInput SaysOfMigration
-CommandSays (option.Record numbers) = SaysOfInput (SaysOfRecord numbers.run.steps)
+CommandSays (option.Record numbers) = SaysOfInput (SaysOfRecord numbers.run.steps numbers.seed)
 CommandSays option.Replay = SaysOfInput SaysOfReplay
 CommandSays (option.Run numbers) = SaysOfInput (SaysOf numbers.steps)
 

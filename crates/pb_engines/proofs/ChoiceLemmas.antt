@@ -3,8 +3,10 @@ use Rattle.std.proofs.Common.{◌≡◌, ◌≢◌, ℕ, zero, suc, ◌+◌, ◌
 use Rattle.std.specs.Prelude.{Contains, option_and_then, remove, slice_get}
 use Rattle.std.proofs.lemmas.Bool.{cases_lt}
 use Rattle.std.proofs.lemmas.List.{get_or_append_left, get_or_at}
+use Rattle.std.proofs.lemmas.List.Edits.{length-remove}
 use Rattle.std.proofs.lemmas.List.Elements.{All-head, All-nil, All-push, All-tail, All-weaker}
 use Rattle.std.proofs.lemmas.Option.{get_or_from_slice_get, slice_get-get_or, slice_get_past, slice_get_within}
+use Rattle.std.proofs.lemmas.Nat.{mod_below}
 use Rattle.pb_base.specs.declared.pick.Pick.{Pick}
 use Rattle.pb_base.specs.Steppers.{State}
 use Rattle.pb_code.specs.Code.{CodeProcess, code_step}
@@ -14,12 +16,14 @@ use Rattle.pb_machine.proofs.Going.{goes_on}
 use Rattle.pb_machine.specs.Looks.{look_at, look_of}
 use Rattle.pb_machine.specs.declared.look.Look.{Look}
 use Rattle.pb_machine.specs.declared.look.Look.TheVariants.{Stays, Silent, Visible}
+use Rattle.pb_verifier.proofs.Banking.{get_some}
 use Rattle.pb_verifier.specs.Verified.{VerifiedCode, IsVerified}
 use Rattle.rand_pcg.specs.Lcg.{Lcg}
 use Rattle.rand_pcg.specs.Pcg.{pcg32}
 use Rattle.pb_engines.specs.Choices.{AreInOrder, AreCandidatesBefore, AreCandidates, IsBefore, IsCandidate}
 use Rattle.pb_engines.specs.Draws.{Draws, DrawsPick, drawn_number, hit, struck}
 use Rattle.pb_engines.specs.Runs.{IsDone}
+use Rattle.pb_engines.proofs.GrantLemmas.{IsEnabled, enabled_or_not}
 use Rattle.pb_engines.proofs.ScheduleLemmas.{looks_staying, no_step_beyond, same_pick}
 
 -- ---- arms and processes that are not there
@@ -145,6 +149,44 @@ module _ (code : Code) (s : State CodeProcess) where
     order = are.order;
   }
 
+-- ---- there are such lists
+
+module _ (code : Code) (s : State CodeProcess) where
+  arms_found : (p n : ℕ) (picks : List Pick) → AreCandidatesBefore code s p 0 picks → (more : List Pick) × AreCandidatesBefore code s p n more
+  arms_found p zero picks are = (picks, are)
+  arms_found p (suc n) picks are =
+      let (more, found) = arms_found p n picks are in
+      let pick : Pick = record { process = p; arm = n } in
+      let (all, all_are) = go pick more found (look_at code s pick) refl in
+      let next : n + 1 ≡ suc n = omega arith in
+      (all, subst (λ (k : ℕ). AreCandidatesBefore code s p k all) next all_are)
+    where
+      go : (pick : Pick) (more : List Pick) → AreCandidatesBefore code s pick.process pick.arm more → (look : Look) → look_at code s pick ≡ look
+          → (all : List Pick) × AreCandidatesBefore code s pick.process (pick.arm + 1) all
+      go pick more found Stays is = (more, one_stays code s pick more found is)
+      go pick more found Silent is =
+          (more ++ pick ∷ [], one_candidate code s pick more found (λ stays. let both : Silent ≡ Stays = sym is ∙ stays in cc))
+      go pick more found Visible is =
+          (more ++ pick ∷ [], one_candidate code s pick more found (λ stays. let both : Visible ≡ Stays = sym is ∙ stays in cc))
+
+  processes_found : (n : ℕ) → n ≤ length s.processes → (picks : List Pick) × AreCandidatesBefore code s n 0 picks
+  processes_found zero few = ([], none_yet code s)
+  processes_found (suc n) few =
+      let (picks, are) = processes_found n (omega (arith, few)) in
+      let (process, there) = get_some s.processes n (omega (arith, few)) in
+      let (more, more_are) = arms_found n (length process.threads) picks are in
+      let next : n + 1 ≡ suc n = omega arith in (
+        more,
+        subst (λ (k : ℕ). AreCandidatesBefore code s k 0 more) next
+            (process_is_over code s n (length process.threads) process more more_are there (omega arith)),
+      )
+
+  -- each state has its candidates
+  candidates : (picks : List Pick) × AreCandidates code s picks
+  candidates =
+      let (picks, are) = processes_found (length s.processes) (omega arith) in
+      (picks, all_found code s (length s.processes) picks are (omega arith))
+
 -- ---- one is drawn
 
 -- what stands in a list stands in it without another number
@@ -235,7 +277,37 @@ module _ (code : Code) (s : State CodeProcess) (first : Lcg) where
       go Silent is = candidate (λ stays. let both : Silent ≡ Stays = sym is ∙ stays in cc)
       go Visible is = candidate (λ stays. let both : Visible ≡ Stays = sym is ∙ stays in cc)
 
--- so all is done
+-- from what is left one is drawn that is enabled, or none of all is
+drawn_or_none : (code : Code) (s : State CodeProcess) (first : Lcg) (n : ℕ) (left : List Pick) (now : Lcg) → length left ≡ n
+    → AreLeft code s first left now
+    → ((pick : Pick) × (after : Lcg) × IsEnabled code s pick × DrawsPick code s first pick after) ⊎ ((pick : Pick) → CodeStays code s pick)
+drawn_or_none code s first zero left now none are = inr (none_enabled code s first left now are none)
+drawn_or_none code s first (suc n) left now some are =
+    let i = drawn_number now left in
+    let less : i < length left = mod_below (pcg32 now).0 (length left) (omega (arith, some)) in
+    let (pick, there) = get_some left i less in
+    elim (enabled_or_not code s pick) [
+      | inl enabled ↦ inl (pick, (pcg32 now).1, enabled, one_drawn code s first left now (pcg32 now).1 i pick are refl there refl)
+      | inr stays ↦
+          let fewer = length-remove left i less in
+          drawn_or_none code s first n (remove left i) (pcg32 now).1 (omega (arith, fewer, some))
+          (one_struck code s first left (remove left i) now (pcg32 now).1 i pick are refl there refl refl stays)
+    ]
+
+-- if not all is done, the generator draws a pick that is enabled
+pub draws_on : (v : VerifiedCode) → IsVerified v → (s : State CodeProcess) (now : Lcg) → CodeReaches v.code s
+    → IsDone s ⊎ ((pick : Pick) × (after : Lcg) × IsEnabled v.code s pick × DrawsPick v.code s now pick after)
+draws_on v verified s now reached = elim (goes_on v verified s reached) [
+  | inl done ↦ inl done
+  | inr (pick, move, is, granted) ↦
+      let (picks, are) = candidates v.code s in
+      elim (drawn_or_none v.code s now (length picks) picks now refl (all_left v.code s now picks are)) [
+        | inl drawn ↦ inr drawn
+        | inr none ↦ absurd (none pick move is granted)
+      ]
+]
+
+-- where none is enabled, all is done
 pub all_struck : (v : VerifiedCode) → IsVerified v → (s now_state : State CodeProcess) (first : Lcg) (left : List Pick) (now : Lcg) → CodeReaches v.code s
     → AreLeft v.code s first left now → length left ≡ 0 → now_state ≡ s → IsDone s × (now_state ≡ s)
 all_struck v verified s now_state first left now reached are none same = (

@@ -1,5 +1,5 @@
 -- Drawn runs, pick by pick.
-use Rattle.std.proofs.Common.{◌≡◌, ℕ, zero, suc, ◌≤◌, List, ◌++◌, ◌∷◌, [], replicate, Option, Some, None, sym, subst, arith}
+use Rattle.std.proofs.Common.{◌≡◌, ℕ, zero, suc, List, ◌++◌, [], replicate, Some, None, sym, subst, arith}
 use Rattle.pb_base.specs.declared.event.Event.{Event}
 use Rattle.pb_base.specs.declared.pick.Pick.{Pick}
 use Rattle.pb_base.specs.Steppers.{State}
@@ -8,7 +8,6 @@ use Rattle.pb_code.specs.Reached.{CodeMoves}
 use Rattle.pb_code.specs.Whole.{Code, code_opening}
 use Rattle.pb_history.specs.Replays.{spread}
 use Rattle.pb_history.specs.declared.counted.CountedPick.{CountedPick}
-use Rattle.pb_machine.specs.Steps.{MovesSilently}
 use Rattle.pb_engines.specs.Draws.{DrawsRun, IsDrawn, one_more, opening}
 use Rattle.pb_engines.specs.Schedule.{IsWithin, StepsSome}
 use Rattle.pb_engines.specs.declared.schedule.Next.{Next}

@@ -1,5 +1,5 @@
 -- A process has faulted exactly if a fault was shown.
-use Rattle.std.proofs.Common.{◌≡◌, ◌≢◌, ◌⊎◌, ℕ, zero, suc, ◌+◌, List, [], ◌∷◌, ◌++◌, Option, Some, None, Bool, true, false, map, option_to_list, refl, sym, ap, ◌∙◌, subst, inl, inr, ⊎_elim, arith}
+use Rattle.std.proofs.Common.{◌≡◌, ◌≢◌, ◌⊎◌, ℕ, zero, suc, ◌+◌, List, [], ◌∷◌, ◌++◌, Option, Some, None, true, false, map, option_to_list, refl, sym, ap, ◌∙◌, subst, inl, inr, arith}
 use Rattle.std.specs.Prelude.{slice_get, slice_set}
 use Rattle.std.proofs.lemmas.Bool.{cases_lt}
 use Rattle.pb_base.specs.declared.event.Event.{Event}
@@ -10,7 +10,7 @@ use Rattle.pb_base.specs.Steppers.{Effect, Faults, State, event_of}
 use Rattle.pb_base.specs.Steppers as effect
 use Rattle.pb_code.specs.Code.{CodeProcess, ProcessCode, code_process}
 use Rattle.pb_code.specs.Reached.{CodeMoves, CodeReaches}
-use Rattle.pb_code.specs.Whole.{Code, code_opening}
+use Rattle.pb_code.specs.Whole.{code_opening}
 use Rattle.pb_history.specs.Entries.{Entry, events_of}
 use Rattle.pb_history.specs.Leads.{Leads}
 use Rattle.pb_machine.proofs.Reaching.{reaches_on}

@@ -10,6 +10,7 @@ pub mod EndedTexts
 pub mod EventLemmas
 pub mod ExecutionLemmas
 pub mod FaultLemmas
+pub mod GrantLemmas
 pub mod InputLemmas
 pub mod LoadLemmas
 pub mod LongRecords

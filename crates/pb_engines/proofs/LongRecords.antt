@@ -6,19 +6,18 @@ use Rattle.std.proofs.lemmas.Fmt.{decimal_nonempty}
 use Rattle.std.proofs.lemmas.List.{replicate_more}
 use Rattle.std.proofs.lemmas.List.Elements.{All-head, All-tail}
 use Rattle.std.specs.Fmt.{decimal}
-use Rattle.pb_base.specs.declared.event.Event.{Event}
 use Rattle.pb_base.specs.declared.memory.NoMemory.{NoMemory}
 use Rattle.pb_base.specs.declared.pick.Pick.{Pick}
 use Rattle.pb_base.specs.Lines.{name_of}
 use Rattle.pb_base.specs.Steppers.{State, event_of}
 use Rattle.pb_code.specs.Code.{CodeProcess}
+use Rattle.pb_code.specs.Reached.{CodeMoves}
 use Rattle.pb_code.specs.Limits.{KeepsLimits}
 use Rattle.pb_code.specs.Whole.{Code}
 use Rattle.pb_history.specs.Entries.{Entry, all_picks, spans_of}
 use Rattle.pb_history.specs.Replays.{spread}
 use Rattle.pb_history.specs.declared.counted.CountedPick.{CountedPick}
 use Rattle.pb_history.specs.declared.span.Span.{Span}
-use Rattle.pb_machine.proofs.Going.{goes_on}
 use Rattle.pb_picks.specs.Counted.{AreApart}
 use Rattle.pb_picks.specs.Laws.{CanBeSaid}
 use Rattle.pb_picks.specs.PickLines.{Says, pick_line, pick_lines}
@@ -27,16 +26,19 @@ use Rattle.pb_verifier.specs.declared.fault.VerifyFault.TheVariants.{OutOfLimits
 use Rattle.pb_workers.specs.Reports.{IsReport}
 use Rattle.pb_workers.specs.declared.report.Report.{Report}
 use Rattle.pb_engines.specs.Answers.{line}
+use Rattle.pb_engines.specs.Draws.{DrawsRun, generator_of, one_more as draws_one_more}
 use Rattle.pb_engines.specs.Records.{AreCounts, AreTooMany, IsEnded, IsRecorded, IsTooLong, SaysOfRecording, too_long}
 use Rattle.pb_engines.specs.Runs.{Run}
 use Rattle.pb_engines.specs.declared.reply.Reply.{Reply}
 use Rattle.pb_engines.specs.declared.status.Status.{Status}
 use Rattle.pb_engines.specs.declared.status.Status.TheVariants.{Refused}
+use Rattle.pb_engines.proofs.ChoiceLemmas.{draws_on}
 use Rattle.pb_engines.proofs.RecordLemmas.{LeadTo, is_recorded, recorded_can_be_said}
 use Rattle.pb_engines.proofs.ReportLemmas.{report_is_recorded}
 use Rattle.pb_engines.proofs.RunLemmas.{CodeMakes, makes_last}
 use Rattle.pb_engines.proofs.ScheduleLemmas.{same_pick}
 use Rattle.pb_engines.proofs.SpanLemmas.{AreCounted, picks_of_spans}
+use Rattle.rand_pcg.specs.Lcg.{Lcg}
 
 -- ---- one more pick, counted
 
@@ -109,20 +111,26 @@ one_more [] pick apart =
 one_more (c ∷ picks) pick apart =
     let (d, more, head, is) = one_more_behind c picks pick apart in (d ∷ more, is)
 
--- ---- a run goes on to its end
+-- ---- a drawn run goes on to its end
 
-goes_to_its_end : (v : VerifiedCode) → IsVerified v → (left steps : ℕ) (picks : List CountedPick) (state : State CodeProcess)
+draws_to_its_end : (v : VerifiedCode) → IsVerified v → (seed left steps : ℕ) (picks : List CountedPick) (state : State CodeProcess) (now : Lcg)
     → LeadTo v.code picks state → AreApart picks → length (spread picks) + left ≡ steps
-    → (more : List CountedPick) × IsRecorded v.code steps more × (length picks ≤ length more)
-goes_to_its_end v verified zero steps picks state lead apart many =
-    (picks, is_recorded v.code steps zero picks state lead many apart (λ not_done. refl), omega arith)
-goes_to_its_end v verified (suc left) steps picks state lead apart many =
-    elim (goes_on v verified state (spread picks, lead.events, lead.makes)) [
-      | inl done ↦ (picks, is_recorded v.code steps (suc left) picks state lead many apart (λ not_done. absurd (not_done done)), omega arith)
-      | inr (pick, move, is, granted) ↦
+    → DrawsRun v.code (generator_of seed) (spread picks) state now
+    → (more : List CountedPick) × IsRecorded v.code steps (Some seed) more × (length picks ≤ length more)
+draws_to_its_end v verified seed zero steps picks state now lead apart many drawn =
+    (picks, is_recorded v.code steps zero (Some seed) picks state lead many apart (λ not_done. refl) (state, now, drawn), omega arith)
+draws_to_its_end v verified seed (suc left) steps picks state now lead apart many drawn =
+    elim (draws_on v verified state now (spread picks, lead.events, lead.makes)) [
+      | inl done ↦ (
+        picks,
+        is_recorded v.code steps (suc left) (Some seed) picks state lead many apart (λ not_done. absurd (not_done done)) (state, now, drawn),
+        omega arith,
+      )
+      | inr (pick, after, (move, is, granted), draws) ↦
           let event = event_of pick move.effect in
+          let moves : CodeMoves v.code state pick event move.next = (move.effect, is, granted, refl) in
           let run : Run v.code lead.events state = record { picks = spread picks; makes = lead.makes } in
-          let makes = makes_last v.code lead.events state move.next pick event run (move.effect, is, granted, refl) in
+          let makes = makes_last v.code lead.events state move.next pick event run moves in
           let (more, one) = one_more picks pick apart in
           let longer = one.longer in
           let count = ap (λ (ps : List Pick). length ps) one.spread in
@@ -131,8 +139,11 @@ goes_to_its_end v verified (suc left) steps picks state lead apart many =
             events = lead.events ++ option_to_list event;
             makes = subst (λ (ps : List Pick). CodeMakes v.code ps (lead.events ++ option_to_list event) move.next) (sym one.spread) makes;
           } in
+          let draws_more : DrawsRun v.code (generator_of seed) (spread more) move.next after =
+          subst (λ (ps : List Pick). DrawsRun v.code (generator_of seed) ps move.next after) (sym one.spread)
+          (draws_one_more (spread picks) state move.next now after pick event drawn draws moves) in
           let (rest, recorded, longest) =
-          goes_to_its_end v verified left steps more move.next next one.apart (omega (arith, many, count, all)) in
+          draws_to_its_end v verified seed left steps more move.next after next one.apart (omega (arith, many, count, all)) draws_more in
           (rest, recorded, omega (arith, longer, longest))
     ]
 
@@ -156,18 +167,18 @@ lines_are_long code limits (c ∷ picks) said =
     let second = length-append (decimal c.pick.arm) (32 ∷ decimal c.count) in
     omega (arith, rest, all, first, second, arm, count)
 
-pub too_many_picks : (v : VerifiedCode) → IsVerified v → (left steps : ℕ) (picks : List CountedPick) (state : State CodeProcess)
-    → steps ≤ 10000000 → LeadTo v.code picks state → AreApart picks → length (spread picks) + left ≡ steps → 838860 < length picks
-    → IsTooLong v.code steps
-too_many_picks v verified left steps picks state most lead apart count many =
-    let (more, recorded, longer) = goes_to_its_end v verified left steps picks state lead apart count in
+pub too_many_picks : (v : VerifiedCode) → IsVerified v → (seed left steps : ℕ) (picks : List CountedPick) (state : State CodeProcess) (now : Lcg)
+    → steps ≤ 10000000 → LeadTo v.code picks state → AreApart picks → length (spread picks) + left ≡ steps
+    → DrawsRun v.code (generator_of seed) (spread picks) state now → 838860 < length picks → IsTooLong v.code steps (Some seed)
+too_many_picks v verified seed left steps picks state now most lead apart count drawn many =
+    let (more, recorded, longer) = draws_to_its_end v verified seed left steps picks state now lead apart count drawn in
     let limits = verified.annotated OutOfLimits in
-    let long = lines_are_long v.code limits more (recorded_can_be_said v.code verified.annotated steps more most recorded) in
+    let long = lines_are_long v.code limits more (recorded_can_be_said v.code verified.annotated steps (Some seed) more most recorded) in
     (more, recorded, omega (arith, many, longer, long))
 
-pub lines_are_too_long : (code : Code) (steps : ℕ) (bytes ended : List ℕ) → IsEnded bytes ended → IsTooLong code steps
-    → SaysOfRecording code steps bytes (line (codes "refused output")) Refused
-lines_are_too_long code steps bytes ended is (picks, recorded, long) =
+pub lines_are_too_long : (code : Code) (steps : ℕ) (seed : Option ℕ) (bytes ended : List ℕ) → IsEnded bytes ended → IsTooLong code steps seed
+    → SaysOfRecording code steps seed bytes (line (codes "refused output")) Refused
+lines_are_too_long code steps seed bytes ended is (picks, recorded, long) =
     let lines = pick_lines code.names.processes picks in
     let text = length-append ended (line (codes "%%") ++ lines) in
     let mark = length-append (line (codes "%%")) lines in
@@ -215,13 +226,13 @@ counts_too_many entries n picks counted apart many =
 pub report_is_counted : {V : Type 0} (v : VerifiedCode) → IsVerified v → (steps : ℕ) (report : Report) (items : V → List CountedPick) (picks : Option V)
     → steps ≤ 10000000 → IsReport v.code steps report
     → MatchOption picks (AreTooMany report.trace.entries) (λ x. AreCounts report.trace.entries (items x))
-    → MatchOption picks (IsTooLong v.code steps) (λ x. IsRecorded v.code steps (items x))
+    → MatchOption picks (IsTooLong v.code steps None) (λ x. IsRecorded v.code steps None (items x))
 report_is_counted v verified steps report items (Some x) most is counts =
     report_is_recorded v.code steps report (items x) is counts.same counts.apart
 report_is_counted v verified steps report items None most is (picks, counts, many) =
     let recorded = report_is_recorded v.code steps report picks is counts.same counts.apart in
     let limits = verified.annotated OutOfLimits in
-    let long = lines_are_long v.code limits picks (recorded_can_be_said v.code verified.annotated steps picks most recorded) in
+    let long = lines_are_long v.code limits picks (recorded_can_be_said v.code verified.annotated steps None picks most recorded) in
     (picks, recorded, omega (arith, many, long))
 
 -- a reply with the line that a run is too long

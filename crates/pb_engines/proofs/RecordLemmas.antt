@@ -1,5 +1,5 @@
 -- Picks of a run that are recorded, one after another, and what is written of them.
-use Rattle.std.proofs.Common.{◌≡◌, ℕ, zero, suc, ◌+◌, ◌-◌, ◌<◌, ◌≤◌, List, [], ◌∷◌, ◌++◌, length, replicate, Option, Some, None, refl, sym, ap, subst, ◌∙◌, append-nil, append_assoc, length-append, inl, inr, arith, codes, Result, Ok, Err, IfOk}
+use Rattle.std.proofs.Common.{◌≡◌, ◌≢◌, ℕ, zero, suc, ◌+◌, ◌-◌, ◌<◌, ◌≤◌, List, [], ◌∷◌, ◌++◌, length, replicate, Option, Some, None, IfErr, IfSome, MatchOption, refl, sym, ap, subst, ◌∙◌, append-nil, append_assoc, length-append, inl, inr, arith, codes, Result, Ok, Err, IfOk}
 use Rattle.std.specs.Prelude.{All, slice_get, slice_index_or}
 use Rattle.std.proofs.lemmas.Option.{slice_get_within}
 use Rattle.pb_base.specs.Lines.{HasProcess, NameTable}
@@ -24,11 +24,14 @@ use Rattle.pb_picks.specs.PickLines.{Says, pick_line, pick_lines}
 use Rattle.pb_verifier.proofs.Banking.{kept_reached}
 use Rattle.pb_verifier.specs.Verified.{IsAnnotated}
 use Rattle.pb_verifier.specs.declared.fault.VerifyFault.TheVariants.{OutOfLimits}
+use Rattle.pb_workers.specs.declared.fault.RunFault.{RunFault}
+use Rattle.pb_workers.specs.declared.fault.RunFault.TheVariants.{NoMemory as OutOfMemory}
 use Rattle.pb_engines.specs.Answers.{line}
+use Rattle.pb_engines.specs.Draws.{IsDrawnRun}
 use Rattle.pb_engines.specs.Schedule.{IsWithin, StepsSome}
 use Rattle.pb_engines.specs.declared.schedule.Next.{Next}
 use Rattle.pb_engines.specs.declared.schedule.Next.TheVariants.{Silent, Did, NotEnabled}
-use Rattle.pb_engines.specs.Records.{IsEnded, IsRecorded, SaysOfRecording, no_threads, too_long, with_picks, written}
+use Rattle.pb_engines.specs.Records.{IsEnded, IsRecorded, IsTooLong, SaysOfRecording, no_threads, too_long, with_picks, written}
 use Rattle.pb_engines.specs.Runs.{IsDone, Run}
 use Rattle.pb_engines.specs.declared.reply.Reply.{Reply}
 use Rattle.pb_engines.specs.declared.status.Status.{Status}
@@ -116,14 +119,16 @@ shown_more code picks more before after next pick event left steps same step som
     let all = more_picks picks more pick 1 counted in
     (lead_shown code picks more before after pick event lead counted moves, omega (arith, all, some, many))
 
-pub is_recorded : (code : Code) (steps left : ℕ) (picks : List CountedPick) (state : State CodeProcess) → LeadTo code picks state
-    → length (spread picks) + left ≡ steps → AreApart picks → (¬ IsDone state → left ≡ 0) → IsRecorded code steps picks
-is_recorded code steps left picks state lead many apart used = record {
+pub is_recorded : (code : Code) (steps left : ℕ) (seed : Option ℕ) (picks : List CountedPick) (state : State CodeProcess) → LeadTo code picks state
+    → length (spread picks) + left ≡ steps → AreApart picks → (¬ IsDone state → left ≡ 0)
+    → IfSome seed (λ number. IsDrawnRun code number (spread picks)) → IsRecorded code steps seed picks
+is_recorded code steps left seed picks state lead many apart used drawn = record {
   events = lead.events;
   end = state;
   makes = lead.makes;
   few = omega (arith, many);
   all = λ not_done. let none = used not_done in omega (arith, many, none);
+  drawn = drawn;
   apart = apart;
 }
 
@@ -209,17 +214,17 @@ module _ (code : Code) (annotated : IsAnnotated code) where
       All-cons (λ (d : CountedPick). Says code (pick_line code.names.processes d) d) c picks says
       (said_from rest.0 end picks rest.1 (apart_rest c picks apart) (omega (arith, all, few)) rest.2 rest.3)
 
-  pub recorded_can_be_said : (steps : ℕ) (picks : List CountedPick) → steps ≤ 10000000 → IsRecorded code steps picks → CanBeSaid code picks
-  recorded_can_be_said steps picks most recorded =
+  pub recorded_can_be_said : (steps : ℕ) (seed : Option ℕ) (picks : List CountedPick) → steps ≤ 10000000 → IsRecorded code steps seed picks → CanBeSaid code picks
+  recorded_can_be_said steps seed picks most recorded =
       let few = recorded.few in
       said_from (code_opening code) recorded.end picks recorded.events recorded.apart (omega (arith, few, most))
       ([], [], (refl, refl)) recorded.makes
 
 -- the process of each recorded pick has a name
-pub have_processes : (code : Code) (steps : ℕ) (picks given : List CountedPick) (names : NameTable) → IsAnnotated code → steps ≤ 10000000
-    → IsRecorded code steps picks → given ≡ picks → names ≡ code.names → All (λ c. HasProcess names c.pick.process) given
-have_processes code steps picks given names annotated most recorded same of =
-    let said = recorded_can_be_said code annotated steps picks most recorded in
+pub have_processes : (code : Code) (steps : ℕ) (seed : Option ℕ) (picks given : List CountedPick) (names : NameTable) → IsAnnotated code → steps ≤ 10000000
+    → IsRecorded code steps seed picks → given ≡ picks → names ≡ code.names → All (λ c. HasProcess names c.pick.process) given
+have_processes code steps seed picks given names annotated most recorded same of =
+    let said = recorded_can_be_said code annotated steps seed picks most recorded in
     let all : All (λ c. HasProcess code.names c.pick.process) picks = λ k d lt.
     let says = said k d lt in
     let within = slice_get_within code.processes (slice_index_or picks k d).pick.process says.process says.there in
@@ -241,25 +246,59 @@ lines_behind ended text whole names code picks given mark lines of same =
 whole_is : (ended more whole : List ℕ) → whole ≡ (ended ++ codes "%%\n") ++ more → whole ≡ ended ++ (line (codes "%%") ++ more)
 whole_is ended more whole e = e ∙ append_assoc ended (codes "%%\n") more
 
-pub says_written : (code : Code) (steps : ℕ) (bytes ended whole : List ℕ) (picks : List CountedPick) → IsEnded bytes ended
-    → IsRecorded code steps picks → whole ≡ (ended ++ codes "%%\n") ++ pick_lines code.names.processes picks → length whole ≤ 4194304
-    → SaysOfRecording code steps bytes whole Done
-says_written code steps bytes ended whole picks is recorded e few =
+pub says_written : (code : Code) (steps : ℕ) (seed : Option ℕ) (bytes ended whole : List ℕ) (picks : List CountedPick) → IsEnded bytes ended
+    → IsRecorded code steps seed picks → whole ≡ (ended ++ codes "%%\n") ++ pick_lines code.names.processes picks → length whole ≤ 4194304
+    → SaysOfRecording code steps seed bytes whole Done
+says_written code steps seed bytes ended whole picks is recorded e few =
     let same : whole ≡ with_picks ended code.names picks = whole_is ended (pick_lines code.names.processes picks) whole e in
-    subst (λ (t : List ℕ). SaysOfRecording code steps bytes t Done) (sym same)
+    subst (λ (t : List ℕ). SaysOfRecording code steps seed bytes t Done) (sym same)
     (written ended picks is recorded (subst (λ (t : List ℕ). length t ≤ 4194304) same few))
 
-pub says_too_long : (code : Code) (steps : ℕ) (bytes ended whole : List ℕ) (picks : List CountedPick) → IsEnded bytes ended
-    → IsRecorded code steps picks → whole ≡ (ended ++ codes "%%\n") ++ pick_lines code.names.processes picks → 4194304 < length whole
-    → SaysOfRecording code steps bytes (line (codes "refused output")) Refused
-says_too_long code steps bytes ended whole picks is recorded e long =
+pub says_too_long : (code : Code) (steps : ℕ) (seed : Option ℕ) (bytes ended whole : List ℕ) (picks : List CountedPick) → IsEnded bytes ended
+    → IsRecorded code steps seed picks → whole ≡ (ended ++ codes "%%\n") ++ pick_lines code.names.processes picks → 4194304 < length whole
+    → SaysOfRecording code steps seed bytes (line (codes "refused output")) Refused
+says_too_long code steps seed bytes ended whole picks is recorded e long =
     let same : whole ≡ with_picks ended code.names picks = whole_is ended (pick_lines code.names.processes picks) whole e in
     too_long ended picks is recorded (subst (λ (t : List ℕ). 4194304 < length t) same long)
 
-pub says_no_threads : (code : Code) (steps : ℕ) (bytes : List ℕ) (reply : Result Reply NoMemory)
-    → IfOk reply (λ r. (r.text.items ≡ line (codes "threads")) × (r.status ≡ Threads))
-    → IfOk reply (λ r. SaysOfRecording code steps bytes r.text.items r.status)
-says_no_threads code steps bytes (Ok r) (text, status) =
-    subst (λ (t : List ℕ). SaysOfRecording code steps bytes t r.status) (sym text)
-    (subst (λ (s : Status). SaysOfRecording code steps bytes (line (codes "threads")) s) (sym status) no_threads)
-says_no_threads code steps bytes (Err e) is = tt
+-- a fault that is not out of memory comes without a seed
+no_seed : (seed : Option ℕ) (f : RunFault) → IfSome seed (λ number. f ≡ OutOfMemory) → f ≢ OutOfMemory → seed ≡ None
+no_seed None f only other = refl
+no_seed (Some number) f only other = absurd (other only)
+
+pub says_no_threads : (code : Code) (steps : ℕ) (seed : Option ℕ) (bytes : List ℕ) (f : RunFault) (reply : Result Reply NoMemory)
+    → IfSome seed (λ number. f ≡ OutOfMemory)
+    → IfOk reply (λ r. (f ≢ OutOfMemory) × (r.text.items ≡ line (codes "threads")) × (r.status ≡ Threads))
+    → IfOk reply (λ r. SaysOfRecording code steps seed bytes r.text.items r.status)
+says_no_threads code steps seed bytes f (Ok r) only (other, text, status) =
+    subst (λ (t : List ℕ). SaysOfRecording code steps seed bytes t r.status) (sym text)
+    (subst (λ (s : Status). SaysOfRecording code steps seed bytes (line (codes "threads")) s) (sym status)
+    (no_threads (no_seed seed f only other)))
+says_no_threads code steps seed bytes f (Err e) only is = tt
+
+-- ---- with a seed and without
+
+-- what holds of the answer of workers, where there is no seed
+pub answered_without : {V : Type 0} (code : Code) (steps : ℕ) (seed : Option ℕ) (items : V → List CountedPick)
+    (answer : Result (Option V) RunFault) → seed ≡ None
+    → IfOk answer (λ o. MatchOption o (IsTooLong code steps None) (λ v. IsRecorded code steps None (items v)))
+    → IfOk answer (λ o. MatchOption o (IsTooLong code steps seed) (λ v. IsRecorded code steps seed (items v)))
+answered_without code steps seed items answer none holds =
+    subst (λ s. IfOk answer (λ o. MatchOption o (IsTooLong code steps s) (λ v. IsRecorded code steps s (items v)))) (sym none) holds
+
+pub any_fault_without : {V : Type 0} (seed : Option ℕ) (answer : Result V RunFault) → seed ≡ None
+    → IfErr answer (λ f. IfSome seed (λ number. f ≡ OutOfMemory))
+any_fault_without seed (Ok v) none = tt
+any_fault_without seed (Err f) none = subst (λ s. IfSome s (λ number. f ≡ OutOfMemory)) (sym none) tt
+
+-- what holds of drawn picks, where there is this seed
+pub drawn_with : {V : Type 0} (code : Code) (steps number : ℕ) (seed : Option ℕ) (items : V → List CountedPick) (o : Option V)
+    → seed ≡ Some number → MatchOption o (IsTooLong code steps (Some number)) (λ v. IsRecorded code steps (Some number) (items v))
+    → MatchOption o (IsTooLong code steps seed) (λ v. IsRecorded code steps seed (items v))
+drawn_with code steps number seed items o is holds =
+    subst (λ s. MatchOption o (IsTooLong code steps s) (λ v. IsRecorded code steps s (items v))) (sym is) holds
+
+-- out of memory is the one fault with a seed
+pub no_memory_with : (seed : Option ℕ) → IfSome seed (λ number. OutOfMemory ≡ OutOfMemory)
+no_memory_with None = tt
+no_memory_with (Some number) = refl

@@ -1,5 +1,5 @@
 -- What was recorded can be replayed.
-use Rattle.std.proofs.Common.{◌≡◌, ◌≢◌, ℕ, zero, suc, ◌<◌, ◌≤◌, ◌⊎◌, List, [], ◌∷◌, length, length-append, take, Some, None, refl, sym, ap, subst, ◌∙◌, inl, inr, arith}
+use Rattle.std.proofs.Common.{◌≡◌, ◌≢◌, ℕ, zero, suc, ◌<◌, ◌≤◌, ◌⊎◌, List, [], ◌∷◌, length, length-append, take, Option, Some, None, refl, sym, ap, subst, ◌∙◌, inl, inr, arith}
 use Rattle.std.specs.Prelude.{slice_get}
 use Rattle.pb_base.specs.declared.event.Event.{Event}
 use Rattle.pb_base.specs.declared.pick.Pick.{Pick}
@@ -63,17 +63,17 @@ never_stops code s end (p ∷ picks) events makes (x ∷ entries) here (suc i) p
     (subst (λ (t : State CodeProcess). Makes (bank_of code) (code_step code.processes) t picks makes.3 end) next makes.5)
     entries here i pick rest leads.2 there stays
 
-recorded_never_stops : (code : Code) (steps : ℕ) (picks : List CountedPick) → IsRecorded code steps picks → (fault : ReplayFault)
+recorded_never_stops : (code : Code) (steps : ℕ) (seed : Option ℕ) (picks : List CountedPick) → IsRecorded code steps seed picks → (fault : ReplayFault)
     → IsStopped code (spread picks) fault → fault ≡ NoMemory
-recorded_never_stops code steps picks recorded (NotEnabled i) stops =
+recorded_never_stops code steps seed picks recorded (NotEnabled i) stops =
     absurd (never_stops code (code_opening code) recorded.end (spread picks) recorded.events recorded.makes stops.entries stops.end i stops.pick
     stops.replay.made stops.replay.leads stops.there stops.stays)
-recorded_never_stops code steps picks recorded NoMemory stops = refl
+recorded_never_stops code steps seed picks recorded NoMemory stops = refl
 
 -- ---- lines of recorded picks
 
-module _ (code : Code) (annotated : IsAnnotated code) (steps : ℕ) (most : steps ≤ 10000000) (picks : List CountedPick)
-    (recorded : IsRecorded code steps picks) where
+module _ (code : Code) (annotated : IsAnnotated code) (steps : ℕ) (most : steps ≤ 10000000) (seed : Option ℕ)
+    (picks : List CountedPick) (recorded : IsRecorded code steps seed picks) where
   limits : KeepsLimits code
   limits = annotated OutOfLimits
 
@@ -83,14 +83,14 @@ module _ (code : Code) (annotated : IsAnnotated code) (steps : ℕ) (most : step
   pub said_lines : SpellsPicks code lines picks
   said_lines =
       let few = recorded.few in
-      lines_spell code picks limits (recorded_can_be_said code annotated steps picks most recorded) (omega (arith, few, most))
+      lines_spell code picks limits (recorded_can_be_said code annotated steps seed picks most recorded) (omega (arith, few, most))
 
   pub no_line_is_refused : (fault : LinesFault) → IsLinesFault code lines fault → lines_line fault ≡ None
   no_line_is_refused (NotRead fault) faulty =
       ap picks_line (spelled_is_not_faulty code lines picks fault limits said_lines faulty)
   no_line_is_refused (NotMade fault) (counted, spelled, stopped) =
       let same : counted ≡ picks = spells_at_most_one code lines counted picks limits spelled said_lines in
-      ap stop_line (recorded_never_stops code steps picks recorded fault
+      ap stop_line (recorded_never_stops code steps seed picks recorded fault
       (subst (λ (cs : List CountedPick). IsStopped code (spread cs) fault) same stopped))
 
 -- ---- what `record` wrote
@@ -119,24 +119,24 @@ is_annotated text code labels compiled =
     subst (λ (c : List ℕ). FitCapital code.claims c) capital compiled.enough in
     subst IsAnnotated (sym compiled.generated) (sound text compiled.program code.claims compiled.numbered enough).annotated
 
-module _ (steps : ℕ) (bytes : List ℕ) (most : steps ≤ 10000000) where
+module _ (steps : ℕ) (seed : Option ℕ) (bytes : List ℕ) (most : steps ≤ 10000000) where
   -- the code of a text, and what was written of it
   abbrev Wrote : List ℕ → Type 0
   Wrote whole =
       (code : Code) × (labels : List ProcessLabels) × IsCompiled bytes code labels × (ended : List ℕ) × (picks : List CountedPick)
-      × IsEnded bytes ended × IsRecorded code steps picks × (whole ≡ with_picks ended code.names picks)
+      × IsEnded bytes ended × IsRecorded code steps seed picks × (whole ≡ with_picks ended code.names picks)
 
-  wrote : (whole : List ℕ) (status : Status) → SaysOfRecord steps bytes whole status → status ≡ Done → Wrote whole
+  wrote : (whole : List ℕ) (status : Status) → SaysOfRecord steps seed bytes whole status → status ≡ Done → Wrote whole
   wrote _ _ (refused _ _ (by_line refusal is)) done = absurd cc
   wrote whole status (accepted code labels compiled _ _ says) done = go whole status says done
     where
-      go : (text : List ℕ) (status : Status) → SaysOfRecording code steps bytes text status → status ≡ Done → Wrote text
+      go : (text : List ℕ) (status : Status) → SaysOfRecording code steps seed bytes text status → status ≡ Done → Wrote text
       go _ _ (written ended picks is recorded short) done = (code, labels, compiled, ended, picks, is, recorded, refl)
       go _ _ (too_long ended picks is recorded long) done = absurd cc
-      go _ _ no_threads done = absurd cc
+      go _ _ (no_threads none) done = absurd cc
 
   module _ (code : Code) (labels : List ProcessLabels) (compiled : IsCompiled bytes code labels) (ended : List ℕ)
-      (picks : List CountedPick) (is : IsEnded bytes ended) (recorded : IsRecorded code steps picks) where
+      (picks : List CountedPick) (is : IsEnded bytes ended) (recorded : IsRecorded code steps seed picks) where
     annotated : IsAnnotated code
     annotated = is_annotated bytes code labels compiled
 
@@ -146,7 +146,7 @@ module _ (steps : ℕ) (bytes : List ℕ) (most : steps ≤ 10000000) where
     cut_of : (text lines : List ℕ) → AreTwoParts (with_picks ended code.names picks) text lines → (text ≡ ended) × (lines ≡ lines_of)
     cut_of = cut_as_written bytes ended lines_of compiled.numbered.spelled.tokens is compiled.numbered.spelled.cut.cuts
 
-    holds : (text lines : List ℕ) → AreTwoParts (with_picks ended code.names picks) text lines → HoldsRun steps bytes text lines
+    holds : (text lines : List ℕ) → AreTwoParts (with_picks ended code.names picks) text lines → HoldsRun steps seed bytes text lines
     holds text lines cut =
         let same = cut_of text lines cut in record {
           ended = subst (IsEnded bytes) (sym same.0) is;
@@ -155,7 +155,7 @@ module _ (steps : ℕ) (bytes : List ℕ) (most : steps ≤ 10000000) where
           compiled = compiled;
           picks = picks;
           recorded = recorded;
-          said = subst (λ (t : List ℕ). SpellsPicks code t picks) (sym same.1) (said_lines code annotated steps most picks recorded);
+          said = subst (λ (t : List ℕ). SpellsPicks code t picks) (sym same.1) (said_lines code annotated steps most seed picks recorded);
         }
 
     -- what `replay` says of it is no refusal
@@ -172,17 +172,17 @@ module _ (steps : ℕ) (bytes : List ℕ) (most : steps ≤ 10000000) where
         let its_fault : IsLinesFault code lines_of fault =
         subst (λ (c : Code). IsLinesFault c lines_of fault) one.0
         (subst (λ (ls : List ℕ). IsLinesFault other ls fault) same.1 faulty) in
-        let none = no_line_is_refused code annotated steps most picks recorded fault its_fault in
+        let none = no_line_is_refused code annotated steps most seed picks recorded fault its_fault in
         let both : Some refusal ≡ None = sym its_line ∙ none in
         absurd cc
     never_refused room whole _ _ e (made_again text lines cut other others is_other entries end are said status says can) refuses =
         no_refusal_told other.names (events_of entries) end said status says refuses
 
 pub records_can_be_replayed : RecordsCanBeReplayed
-records_can_be_replayed steps bytes whole most says =
-    let (code, labels, compiled, ended, picks, is, recorded, same) = wrote steps bytes most whole Done says refl in record {
-      cut = λ text lines cut. holds steps bytes most code labels compiled ended picks is recorded text lines
+records_can_be_replayed steps seed bytes whole most says =
+    let (code, labels, compiled, ended, picks, is, recorded, same) = wrote steps seed bytes most whole Done says refl in record {
+      cut = λ text lines cut. holds steps seed bytes most code labels compiled ended picks is recorded text lines
           (subst (λ (w : List ℕ). AreTwoParts w text lines) same cut);
       replayed = λ room said status replay.
-          never_refused steps bytes most code labels compiled ended picks is recorded room whole said status same replay;
+          never_refused steps seed bytes most code labels compiled ended picks is recorded room whole said status same replay;
     }

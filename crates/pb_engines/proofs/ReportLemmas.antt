@@ -1,10 +1,9 @@
 -- What workers report, as a run of the code, and what is said of it.
-use Rattle.std.proofs.Common.{◌≡◌, ℕ, zero, suc, ◌≤◌, List, [], ◌∷◌, ◌++◌, length, take, All, Option, Some, None, option_to_list, refl, sym, ap, ◌∙◌, subst, inl, inr, arith, codes}
+use Rattle.std.proofs.Common.{◌≡◌, ℕ, zero, suc, ◌≤◌, List, [], ◌∷◌, ◌++◌, length, take, All, Option, Some, None, option_to_list, refl, sym, ap, ◌∙◌, subst, arith, codes}
 use Rattle.std.specs.Fmt.{decimal}
 use Rattle.std.proofs.lemmas.List.{length-map}
 use Rattle.pb_base.specs.declared.event.Event.{Event}
 use Rattle.pb_base.specs.declared.pick.Pick.{Pick}
-use Rattle.pb_base.specs.Device.{AddsPrefix}
 use Rattle.pb_base.specs.Lines.{NameTable, HasNames}
 use Rattle.pb_base.specs.Steppers.{State}
 use Rattle.pb_code.specs.Code.{CodeProcess}
@@ -28,7 +27,7 @@ use Rattle.pb_engines.specs.RunLaws.{ReportsFollowTheSource}
 use Rattle.pb_engines.specs.Records.{IsRecorded}
 use Rattle.pb_engines.specs.Runs.{IsDone, Run, SaysOfCode, event_lines, at_limit, cut_off, done, faulted, no_threads, out_of_memory}
 use Rattle.pb_engines.specs.declared.status.Status.{Status}
-use Rattle.pb_engines.specs.declared.status.Status.TheVariants.{Device, Done, Fault, Limit, Memory, Threads}
+use Rattle.pb_engines.specs.declared.status.Status.TheVariants.{Done, Fault, Limit, Memory, Threads}
 use Rattle.pb_engines.proofs.FaultLemmas.{faults_are_shown, shown_faults_are}
 use Rattle.pb_engines.proofs.PageLemmas.{Says-first, Says-more}
 use Rattle.pb_engines.proofs.ReplayLemmas.{all_have_names}
@@ -194,7 +193,7 @@ told_no_threads code steps w new page answered empty says =
 -- ---- what is recorded of it
 
 pub report_is_recorded : (code : Code) (steps : ℕ) (report : Report) (picks : List CountedPick) → IsReport code steps report
-    → spread picks ≡ picks_of report.trace.entries → AreApart picks → IsRecorded code steps picks
+    → spread picks ≡ picks_of report.trace.entries → AreApart picks → IsRecorded code steps None picks
 report_is_recorded code steps report picks is same apart =
     let entries = report.trace.entries in
     let many : length (spread picks) ≡ length entries = ap (λ (ps : List Pick). length ps) same ∙ length-map entries (λ (e : Entry). e.pick) in
@@ -205,6 +204,7 @@ report_is_recorded code steps report picks is same apart =
           (traces_make code (code_opening code) is.end entries is.leads);
       few = omega (arith, many, few);
       all = λ not_done. many ∙ all_made report.outcome is.ends not_done;
+      drawn = tt;
       apart = apart;
     }
   where

@@ -1,5 +1,5 @@
 -- Picks of a run, one after another.
-use Rattle.std.proofs.Common.{◌≡◌, List, [], ◌∷◌, ◌++◌, Option, Some, option_to_list, subst}
+use Rattle.std.proofs.Common.{List, [], ◌∷◌, ◌++◌, Option, option_to_list, subst}
 use Rattle.pb_base.specs.declared.event.Event.{Event}
 use Rattle.pb_base.specs.declared.pick.Pick.{Pick}
 use Rattle.pb_base.specs.Steppers.{State, Makes}

@@ -1,5 +1,5 @@
 -- What `record` wrote can be replayed.
-use Rattle.std.specs.Prelude.{◌≢◌, ◌⊎◌, ℕ, ◌<◌, ◌≤◌, List, length}
+use Rattle.std.specs.Prelude.{◌≢◌, ◌⊎◌, ℕ, ◌<◌, ◌≤◌, List, Option, length}
 use Rattle.pb_code.specs.Whole.{Code, ProcessLabels}
 use Rattle.pb_codegen.specs.Compiled.{IsCompiled}
 use Rattle.pb_history.specs.declared.counted.CountedPick.{CountedPick}
@@ -10,25 +10,26 @@ use Rattle.pb_engines.specs.ReplayLines.{SaysOfReplay}
 use Rattle.pb_engines.specs.declared.status.Status.{Status}
 use Rattle.pb_engines.specs.declared.status.Status.TheVariants.{Done, Refused}
 
--- the text is the recorded one, ended by a line feed; the lines say the picks of a run of its code
-pub record HoldsRun (steps : ℕ) (bytes text lines : List ℕ) : Type 0 where
+-- the text is the recorded one, ended by a line feed; the lines say the picks of a run of its code, the drawn one if there
+-- is a seed
+pub record HoldsRun (steps : ℕ) (seed : Option ℕ) (bytes text lines : List ℕ) : Type 0 where
   pub ended : IsEnded bytes text
   pub code : Code
   pub labels : List ProcessLabels
   pub compiled : IsCompiled bytes code labels
   pub picks : List CountedPick
-  pub recorded : IsRecorded code steps picks
+  pub recorded : IsRecorded code steps seed picks
   pub said : SpellsPicks code lines picks
 
 -- an input is cut by `replay` into the recorded text and the picks of its run, and no line or pick of them is refused;
 -- nor is the text, unless the line feed behind it made it longer than a text may be
-pub record CanBeReplayed (steps : ℕ) (bytes whole : List ℕ) : Type 0 where
-  pub cut : (text lines : List ℕ) → AreTwoParts whole text lines → HoldsRun steps bytes text lines
+pub record CanBeReplayed (steps : ℕ) (seed : Option ℕ) (bytes whole : List ℕ) : Type 0 where
+  pub cut : (text lines : List ℕ) → AreTwoParts whole text lines → HoldsRun steps seed bytes text lines
   pub replayed : (length bytes < 65536) ⊎ EndsLine bytes
       → (said : List ℕ) (status : Status) → SaysOfReplay whole said status → status ≢ Refused
 
 -- what `record` wrote can be replayed
 abbrev pub RecordsCanBeReplayed : Type 0
 RecordsCanBeReplayed =
-    (steps : ℕ) (bytes whole : List ℕ) → steps ≤ 10000000 → SaysOfRecord steps bytes whole Done
-    → CanBeReplayed steps bytes whole
+    (steps : ℕ) (seed : Option ℕ) (bytes whole : List ℕ) → steps ≤ 10000000 → SaysOfRecord steps seed bytes whole Done
+    → CanBeReplayed steps seed bytes whole

@@ -1,5 +1,5 @@
 -- What `replay` says of an input, and with which status.
-use Rattle.std.specs.Prelude.{◌≡◌, ◌⊎◌, ◌++◌, ℕ, List, [], Option, Some, None, codes, length, take}
+use Rattle.std.specs.Prelude.{◌≡◌, ◌++◌, ℕ, List, Option, Some, None, codes, length, take}
 use Rattle.pb_base.specs.declared.event.Event.{Event}
 use Rattle.pb_base.specs.Lines.{NameTable}
 use Rattle.pb_base.specs.Steppers.{State}

@@ -1,5 +1,5 @@
 //! The next pick, drawn from all that are enabled.
-ghost use Rattle.std.specs.Prelude.{◌≡◌, ◌+◌, ◌%◌, ◌<◌, ◌≤◌, IfOk, OnOk, length};
+ghost use Rattle.std.specs.Prelude.{◌≡◌, ◌+◌, ◌%◌, ◌<◌, IfOk, OnOk, length};
 ghost use Rattle.pb_engines.specs.Choices.{AreCandidatesBefore, AreCandidates};
 ghost use Rattle.pb_engines.specs.Draws.{IsDrawn, generator_of};
 ghost use Rattle.pb_engines.specs.Schedule.{IsWithin, StepsSome};

@@ -1,8 +1,6 @@
 //! The picks of a run, counted.
-ghost use Rattle.std.specs.Prelude.{◌≤◌, IfOk, IfSome, MatchOption, length};
-ghost use Rattle.pb_engines.specs.Draws.{IsDrawnRun};
+ghost use Rattle.std.specs.Prelude.{◌≤◌, IfOk, MatchOption, None, Some, length};
 ghost use Rattle.pb_engines.specs.Records.{AreCounts, AreTooMany, IsRecorded, IsTooLong};
-ghost use Rattle.pb_history.specs.Replays.{spread};
 ghost use Rattle.pb_verifier.specs.Verified.{IsVerified};
 
 use crate::choice::Chooser;
@@ -30,8 +28,8 @@ pub fn report_picks<R: Threads + Wait + Sync>(
     verified: &Verified,
 ) -> Result<Option<Vec<CountedPick>>, RunFault>
     requires { IsVerified verified.now }
-    ensures { IfOk result (λ picks. MatchOption picks (IsTooLong verified.now.code options.steps)
-        (λ picks. IsRecorded verified.now.code options.steps picks.items)) }
+    ensures { IfOk result (λ picks. MatchOption picks (IsTooLong verified.now.code options.steps None)
+        (λ picks. IsRecorded verified.now.code options.steps None picks.items)) }
 {
     let report = run_workers(
         rt,
@@ -75,9 +73,8 @@ pub fn draw_picks(
 ) -> Result<Option<Vec<CountedPick>>, NoMemory>
     requires verified { IsVerified verified.now }
     requires steps { steps ≤ 10000000 }
-    ensures recorded { IfOk result (λ picks. MatchOption picks (IsTooLong verified.now.code steps)
-        (λ picks. IsRecorded verified.now.code steps picks.items)) }
-    ensures drawn { IfOk result (λ picks. IfSome picks (λ picks. IsDrawnRun verified.now.code seed (spread picks.items))) }
+    ensures { IfOk result (λ picks. MatchOption picks (IsTooLong verified.now.code steps (Some seed))
+        (λ picks. IsRecorded verified.now.code steps (Some seed) picks.items)) }
 {
     let mut machine = Machine::new(alloc, verified)?;
     let mut chooser = Chooser::new(alloc, seed);

@@ -1,5 +1,5 @@
 //! The command `record`, over any input and output.
-ghost use Rattle.std.specs.Prelude.{◌≡◌, ◌↔◌, ◌≤◌, ◌⊎◌, IfOk, IfSome, IsTrue, MatchOption, OnOk, codes, length};
+ghost use Rattle.std.specs.Prelude.{◌≡◌, ◌≢◌, ◌↔◌, ◌≤◌, IfErr, IfOk, IfSome, IsTrue, MatchOption, codes, length};
 ghost use Rattle.pb_engines.specs.Answers.{Tells, line};
 ghost use Rattle.pb_engines.specs.Faults.{TellsFaults, TellsWriteFaults};
 ghost use Rattle.pb_engines.specs.Inputs.{SaysOfInput};
@@ -38,7 +38,7 @@ pub fn record_engine<I: Input, O: Output, R: Threads + Wait + Sync>(
     output: &mut O,
 ) -> Status
     ensures text { IfSome (I.rest input.old) (λ bytes.
-        Tells (SaysOfInput (SaysOfRecord options.run.steps) bytes) (O.written output.old) (O.written output.new) result) }
+        Tells (SaysOfInput (SaysOfRecord options.run.steps options.seed) bytes) (O.written output.old) (O.written output.new) result) }
     ensures faults { TellsFaults
         (record { reads = I.failures input.old; writes = O.failures output.old; written = O.written output.old })
         (record { reads = I.failures input.new; writes = O.failures output.new; written = O.written output.new })
@@ -59,7 +59,8 @@ fn record_text<O: Output, R: Threads + Wait + Sync>(
     output: &mut O,
 ) -> Status
     requires { length text.now ≤ 4194304 }
-    ensures text { Tells (SaysOfInput (SaysOfRecord options.run.steps) text.now) (O.written output.old) (O.written output.new) result }
+    ensures text { Tells (SaysOfInput (SaysOfRecord options.run.steps options.seed) text.now)
+        (O.written output.old) (O.written output.new) result }
     ensures faults { TellsWriteFaults (O.failures output.old) (O.failures output.new) result }
 {
     match compile_text(alloc, text) {
@@ -81,14 +82,13 @@ fn recording<R: Threads + Wait + Sync>(
     verified: &Verified,
 ) -> Result<Reply, NoMemory>
     ensures { IfOk result (λ r.
-        SaysOfRecording verified.now.code options.run.steps text.now r.text.items r.status) }
+        SaysOfRecording verified.now.code options.run.steps options.seed text.now r.text.items r.status) }
 {
     let code = verified.code();
     let mut whole = ended(alloc, text)?;
     let picks = match record_picks(rt, alloc, options, verified) {
         Ok(picks) => picks,
-        Err(RunFault::NoMemory) => return Err(NoMemory),
-        Err(_) => return no_threads(alloc),
+        Err(fault) => return no_run(alloc, fault),
     };
     let Some(picks) = picks else {
         return too_long(alloc);
@@ -134,8 +134,8 @@ fn ends_line(text: &[u8]) -> bool
     }
 }
 
-// The picks of a run of the code: those that workers report, or drawn ones; nothing if their lines would be too long for
-// an input.
+// The picks of a run of the code: drawn ones if there is a seed, else those that workers report; nothing if their lines
+// would be too long for an input. With a seed the only fault is out of memory.
 fn record_picks<R: Threads + Wait + Sync>(
     rt: &R,
     alloc: Global,
@@ -143,8 +143,9 @@ fn record_picks<R: Threads + Wait + Sync>(
     verified: &Verified,
 ) -> Result<Option<Vec<CountedPick>>, RunFault>
     requires { IsVerified verified.now }
-    ensures { IfOk result (λ picks. MatchOption picks (IsTooLong verified.now.code options.run.steps)
-        (λ picks. IsRecorded verified.now.code options.run.steps picks.items)) }
+    ensures picks { IfOk result (λ picks. MatchOption picks (IsTooLong verified.now.code options.run.steps options.seed)
+        (λ picks. IsRecorded verified.now.code options.run.steps options.seed picks.items)) }
+    ensures fault { IfErr result (λ fault. IfSome options.seed (λ seed. fault ≡ RunFault.NoMemory)) }
 {
     let Some(seed) = options.seed else {
         return report_picks(rt, alloc, options.run, verified);
@@ -155,12 +156,16 @@ fn record_picks<R: Threads + Wait + Sync>(
     }
 }
 
-// The line that a thread could not be started.
-fn no_threads(alloc: Global) -> Result<Reply, NoMemory>
-    ensures { IfOk result (λ r. (r.text.items ≡ line (codes "threads")) × (r.status ≡ Status.Threads)) }
+// Out of memory, or the line that a thread could not be started.
+fn no_run(alloc: Global, fault: RunFault) -> Result<Reply, NoMemory>
+    ensures { IfOk result (λ r.
+        (fault ≢ RunFault.NoMemory) × (r.text.items ≡ line (codes "threads")) × (r.status ≡ Status.Threads)) }
 {
-    Ok(Reply {
-        text: Vec::from_slice(alloc, b"threads\n")?,
-        status: Status::Threads,
-    })
+    match fault {
+        RunFault::NoMemory => Err(NoMemory),
+        _ => Ok(Reply {
+            text: Vec::from_slice(alloc, b"threads\n")?,
+            status: Status::Threads,
+        }),
+    }
 }

@@ -11,14 +11,15 @@ returns-in-Ok-clause-text g c =
     let code = c.in-Ok.compiled.verified.code in
     let labels = c.in-Ok.compiled.labels in
     let steps = c.args.options.run.steps in
-    told_reply (SaysOfRecord steps) c.args.text.now c.recording.result _ _ c.tell.result c.requires
-    (replied_too (SaysOfRecording code steps c.args.text.now) (SaysOfRecord steps c.args.text.now)
+    let seed = c.args.options.seed in
+    told_reply (SaysOfRecord steps seed) c.args.text.now c.recording.result _ _ c.tell.result c.requires
+    (replied_too (SaysOfRecording code steps seed c.args.text.now) (SaysOfRecord steps seed c.args.text.now)
     c.recording.result (accepted code labels c.in-Ok.ensures.compiled)
-    (subst (λ (v : VerifiedCode). IfOk c.recording.result (λ r. SaysOfRecording v.code steps c.args.text.now r.text.items r.status)) c.verified.ensures
+    (subst (λ (v : VerifiedCode). IfOk c.recording.result (λ r. SaysOfRecording v.code steps seed c.args.text.now r.text.items r.status)) c.verified.ensures
     c.recording.ensures))
     c.tell.ensures.said c.tell.ensures.memory
 
 pub returns-in-Err-clause-text : goal.returns-in-Err-clause-text
 returns-in-Err-clause-text g c =
-    said_too SaysOfRefusedText (SaysOfRecord c.args.options.run.steps) c.args.text.now _ _ c.refuse.result refused
+    said_too SaysOfRefusedText (SaysOfRecord c.args.options.run.steps c.args.options.seed) c.args.text.now _ _ c.refuse.result refused
     (c.refuse.ensures.text c.args.text.now c.requires c.in-Err.ensures.refused)

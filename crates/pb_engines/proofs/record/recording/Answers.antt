@@ -1,4 +1,4 @@
-use Rattle.std.proofs.Common.{ℕ, List, Option, MatchOption, ap, subst, arith}
+use Rattle.std.proofs.Common.{MatchOption, ap, subst, arith}
 use Rattle.pb_engines.specs.Records.{IsRecorded, IsTooLong, SaysOfRecording}
 use Rattle.pb_engines.proofs.LongRecords.{lines_are_too_long, reply_is_too_long}
 use Rattle.pb_engines.proofs.RecordLemmas.{have_processes, lines_behind, says_no_threads, says_too_long, says_written}
@@ -8,18 +8,20 @@ pub returns-in_default : goal.returns-in_default
 returns-in_default g c =
     let code = c.args.verified.now.code in
     let steps = c.args.options.run.steps in
-    let long : IsTooLong code steps =
-    subst (λ o. MatchOption o (IsTooLong code steps) (λ v. IsRecorded code steps v.items)) c.in_default.is c.in-Ok.ensures in
-    reply_is_too_long c.too_long.result (SaysOfRecording code steps c.args.text.now) c.too_long.ensures
-    (lines_are_too_long code steps c.args.text.now c.in_ok-whole.whole.items c.in_ok-whole.ensures long)
+    let seed = c.args.options.seed in
+    let long : IsTooLong code steps seed =
+    subst (λ o. MatchOption o (IsTooLong code steps seed) (λ v. IsRecorded code steps seed v.items)) c.in_default.is c.in-Ok.ensures.picks in
+    reply_is_too_long c.too_long.result (SaysOfRecording code steps seed c.args.text.now) c.too_long.ensures
+    (lines_are_too_long code steps seed c.args.text.now c.in_ok-whole.whole.items c.in_ok-whole.ensures long)
 
 pub write_picks-requires : goal.write_picks-requires
 write_picks-requires g c =
     let code = c.args.verified.now.code in
     let steps = c.args.options.run.steps in
-    let recorded : IsRecorded code steps c.in-Some.picks.items =
-    subst (λ o. MatchOption o (IsTooLong code steps) (λ v. IsRecorded code steps v.items)) c.in-Some.is c.in-Ok.ensures in
-    have_processes code steps c.in-Some.picks.items _ _ c.code-code.ensures.verified.annotated
+    let seed = c.args.options.seed in
+    let recorded : IsRecorded code steps seed c.in-Some.picks.items =
+    subst (λ o. MatchOption o (IsTooLong code steps seed) (λ v. IsRecorded code steps seed v.items)) c.in-Some.is c.in-Ok.ensures.picks in
+    have_processes code steps seed c.in-Some.picks.items _ _ c.code-code.ensures.verified.annotated
     c.args.options.run.steps_fit recorded c.deref.ensures.value (ap (λ code. code.names) c.code-code.ensures.code)
 
 pub returns-then-len-gt-LONGEST_INPUT : goal.returns-then-len-gt-LONGEST_INPUT
@@ -27,24 +29,28 @@ returns-then-len-gt-LONGEST_INPUT g c =
     let code = c.args.verified.now.code in
     let text = c.args.text.now in
     let steps = c.args.options.run.steps in
-    let recorded : IsRecorded code steps c.in-Some.picks.items =
-    subst (λ o. MatchOption o (IsTooLong code steps) (λ v. IsRecorded code steps v.items)) c.in-Some.is c.in-Ok.ensures in
+    let seed = c.args.options.seed in
+    let recorded : IsRecorded code steps seed c.in-Some.picks.items =
+    subst (λ o. MatchOption o (IsTooLong code steps seed) (λ v. IsRecorded code steps seed v.items)) c.in-Some.is c.in-Ok.ensures.picks in
     let whole = lines_behind c.in_ok-whole.whole.items c.extend_from_slice.new.self.items c.write_picks.new.text.items _ code c.in-Some.picks.items _
     c.in_ok-extend_from_slice.ensures.items c.in_ok-write_picks.ensures (ap (λ code. code.names) c.code-code.ensures.code) c.deref.ensures.value in
-    reply_is_too_long c.too_long-then-len-gt-LONGEST_INPUT.result (SaysOfRecording code steps text) c.too_long-then-len-gt-LONGEST_INPUT.ensures
-    (says_too_long code steps text c.in_ok-whole.whole.items c.write_picks.new.text.items c.in-Some.picks.items c.in_ok-whole.ensures
+    reply_is_too_long c.too_long-then-len-gt-LONGEST_INPUT.result (SaysOfRecording code steps seed text) c.too_long-then-len-gt-LONGEST_INPUT.ensures
+    (says_too_long code steps seed text c.in_ok-whole.whole.items c.write_picks.new.text.items c.in-Some.picks.items c.in_ok-whole.ensures
     recorded whole (omega arith))
 
 pub returns : goal.returns
 returns g c =
     let code = c.args.verified.now.code in
     let steps = c.args.options.run.steps in
-    let recorded : IsRecorded code steps c.in-Some.picks.items =
-    subst (λ o. MatchOption o (IsTooLong code steps) (λ v. IsRecorded code steps v.items)) c.in-Some.is c.in-Ok.ensures in
+    let seed = c.args.options.seed in
+    let recorded : IsRecorded code steps seed c.in-Some.picks.items =
+    subst (λ o. MatchOption o (IsTooLong code steps seed) (λ v. IsRecorded code steps seed v.items)) c.in-Some.is c.in-Ok.ensures.picks in
     let whole = lines_behind c.in_ok-whole.whole.items c.extend_from_slice.new.self.items c.write_picks.new.text.items _ code c.in-Some.picks.items _
     c.in_ok-extend_from_slice.ensures.items c.in_ok-write_picks.ensures (ap (λ code. code.names) c.code-code.ensures.code) c.deref.ensures.value in
-    says_written code steps c.args.text.now c.in_ok-whole.whole.items c.write_picks.new.text.items c.in-Some.picks.items
+    says_written code steps seed c.args.text.now c.in_ok-whole.whole.items c.write_picks.new.text.items c.in-Some.picks.items
     c.in_ok-whole.ensures recorded whole (omega arith)
 
 pub returns-in-Err : goal.returns-in-Err
-returns-in-Err g c = says_no_threads c.args.verified.now.code c.args.options.run.steps c.args.text.now c.no_threads.result c.no_threads.ensures
+returns-in-Err g c =
+    says_no_threads c.args.verified.now.code c.args.options.run.steps c.args.options.seed c.args.text.now c.in-Err.fault c.no_run.result
+    c.in-Err.ensures.fault c.no_run.ensures
