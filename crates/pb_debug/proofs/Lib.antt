@@ -2,6 +2,7 @@ pub mod Asking
 pub mod Feeding
 pub mod Following
 pub mod Here
+pub mod Holding
 pub mod Lines
 pub mod Saying
 pub mod Searching

@@ -14,7 +14,7 @@ use Rattle.std.proofs.lemmas.Str.{digit_value_digit}
 use Rattle.std.proofs.lemmas.Int.Digits.{digits_value_more}
 use Rattle.pb_code.proofs.Naming.{both_true}
 use Rattle.pb_code.specs.Names.{is_name_byte}
-use Rattle.pb_debug.specs.Commands.{Command, To, Step, Back, Vars, Threads, Wrote, Until, Loans, Next, Prev, Help, Line, Why, arm_at, arm_of, both_of, integer_at, integer_of, stop_at, stop_from, stop_of, command_of, is_numeral, is_word, keyed, number_of, parted, word_of}
+use Rattle.pb_debug.specs.Commands.{Command, To, Step, Back, Vars, Threads, Wrote, Until, Loans, Next, Prev, Help, Line, Why, Who, arm_at, arm_of, both_of, integer_at, integer_of, stop_at, stop_from, stop_of, command_of, is_numeral, is_word, keyed, number_of, parted, word_of}
 use Rattle.pb_debug.specs.Spellings.{CommandsBySpelling, IsProper, spelling}
 
 -- ---- numbers
@@ -395,7 +395,10 @@ module _ (key word : List ℕ) (c : Command) where
                       | inl s ↦ armed (codes "line") (λ p. Line p.0 p.1) (λ x. refl) (λ x e lt. (e, lt)) s.0 s.1
                       | inr h ↦ elim (chosen (bytes_eq key (codes "why")) _ _ c h) [
                         | inl s ↦ armed (codes "why") (λ p. Why p.0 p.1) (λ x. refl) (λ x e lt. (e, lt)) s.0 s.1
-                        | inr h ↦ absurd cc
+                        | inr h ↦ elim (chosen (bytes_eq key (codes "who")) _ _ c h) [
+                          | inl s ↦ named (codes "who") Who (λ w. refl) (λ w e. e) s.0 s.1
+                          | inr h ↦ absurd cc
+                        ]
                       ]
                     ]
                   ]
@@ -469,6 +472,7 @@ said_again Loans proper short = refl
 said_again Next proper short = refl
 said_again Prev proper short = refl
 said_again Help proper short = refl
+said_again (Who r) word short = said_short (spelling (Who r)) (Who r) short refl refl refl refl (ap (option_map Who) (word_again r word))
 said_again (Line p a) proper short =
     said_short (spelling (Line p a)) (Line p a) short refl refl refl refl (ap (option_map (λ (x : ArmWord). Line x.0 x.1)) (arm_again p a proper.0 proper.1))
 said_again (Why p a) proper short =

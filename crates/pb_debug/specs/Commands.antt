@@ -12,6 +12,7 @@ pub data Command : Type 0 where
   Wrote : (process integer : List ℕ) → Command
   Until : (process : List ℕ) (arm line : ℕ) → Command
   Loans Next Prev Help : Command
+  Who : (resource : List ℕ) → Command
   Line Why : (process : List ℕ) (arm : ℕ) → Command
 
 -- digits with no zero before others
@@ -23,7 +24,7 @@ is_numeral (d ∷ ds) = list_all is_ascii_digit (d ∷ ds) && (not (d == 48) || 
 abbrev pub number_of : List ℕ → Option ℕ
 number_of word = cond (is_numeral word && nat_lt (length word) 9) (Some (digits_value 10 word)) None
 
--- a letter, then letters, digits or `_`: what the name of a process looks like
+-- a letter, then letters, digits or `_`: what a name looks like
 abbrev pub is_word : List ℕ → Bool
 is_word [] = false
 is_word (b ∷ bs) = is_ascii_alphabetic b && list_all is_name_byte bs
@@ -77,7 +78,8 @@ keyed key word =
     cond (bytes_eq key (codes "until")) (stop_of word) (
     cond (bytes_eq key (codes "wrote")) (option_map (λ p. Wrote p.0 p.1) (integer_of word)) (
     cond (bytes_eq key (codes "line")) (option_map (λ p. Line p.0 p.1) (arm_of word)) (
-    cond (bytes_eq key (codes "why")) (option_map (λ p. Why p.0 p.1) (arm_of word)) None))))))))
+    cond (bytes_eq key (codes "why")) (option_map (λ p. Why p.0 p.1) (arm_of word)) (
+    cond (bytes_eq key (codes "who")) (option_map Who (word_of word)) None)))))))))
 
 abbrev pub parted : List ℕ → Option ℕ → Option Command
 parted line None = None

@@ -6,6 +6,7 @@ pub mod Commands
 pub mod Following
 pub mod Intervals
 pub mod Refusals
+pub mod Resources
 pub mod Searches
 pub mod Sessions
 pub mod Shown

@@ -1,9 +1,9 @@
 -- How each command is spelled.
 use Rattle.std.specs.Prelude.{◌≡◌, ◌↔◌, ℕ, ◌<◌, ◌≤◌, true, List, ◌∷◌, ◌++◌, length, codes, Some, ⊤}
 use Rattle.std.specs.Fmt.{decimal}
-use Rattle.pb_debug.specs.Commands.{Command, To, Step, Back, Vars, Threads, Wrote, Until, Loans, Next, Prev, Help, Line, Why, command_of, is_word}
+use Rattle.pb_debug.specs.Commands.{Command, To, Step, Back, Vars, Threads, Wrote, Until, Loans, Next, Prev, Help, Line, Why, Who, command_of, is_word}
 
--- the bytes of a command: a word, and behind a space a number, a process, or a process and an arm with a point between
+-- the bytes of a command: a word, and behind a space a number, a name, or a process and an arm with a point between
 abbrev pub spelling : Command → List ℕ
 spelling (To n) = codes "to " ++ decimal n
 spelling (Step n) = codes "step " ++ decimal n
@@ -16,10 +16,11 @@ spelling Loans = codes "loans"
 spelling Next = codes "next"
 spelling Prev = codes "prev"
 spelling Help = codes "help"
+spelling (Who resource) = codes "who " ++ resource
 spelling (Line process arm) = codes "line " ++ (process ++ 46 ∷ decimal arm)
 spelling (Why process arm) = codes "why " ++ (process ++ 46 ∷ decimal arm)
 
--- its numbers have at most eight digits, and its process looks like a name
+-- its numbers have at most eight digits, and its names look like names
 abbrev pub IsProper : Command → Type 0
 IsProper (To n) = n < 100000000
 IsProper (Step n) = n < 100000000
@@ -32,6 +33,7 @@ IsProper Loans = ⊤
 IsProper Next = ⊤
 IsProper Prev = ⊤
 IsProper Help = ⊤
+IsProper (Who resource) = is_word resource ≡ true
 IsProper (Line process arm) = (is_word process ≡ true) × (arm < 100000000)
 IsProper (Why process arm) = (is_word process ≡ true) × (arm < 100000000)
 

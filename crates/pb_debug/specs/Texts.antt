@@ -50,8 +50,8 @@ not_reached_text = line (codes "not reached")
 abbrev pub help_text : List ℕ
 help_text =
     line (codes "to I") ++ line (codes "step N") ++ line (codes "back N") ++ line (codes "next") ++ line (codes "prev")
-    ++ line (codes "vars P") ++ line (codes "wrote P X") ++ line (codes "until P.a N") ++ line (codes "threads P") ++ line (codes "loans") ++ line (codes "line P.a")
-    ++ line (codes "why P.a") ++ line (codes "help")
+    ++ line (codes "vars P") ++ line (codes "wrote P X") ++ line (codes "until P.a N") ++ line (codes "threads P") ++ line (codes "loans") ++ line (codes "who R")
+    ++ line (codes "line P.a") ++ line (codes "why P.a") ++ line (codes "help")
 
 -- `NAME V`
 abbrev pub var_text : List ℕ → ℤ → List ℕ

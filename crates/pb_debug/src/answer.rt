@@ -1,7 +1,7 @@
 //! What a session answers to a line.
 
 ghost use Rattle.std.specs.Prelude.{◌≡◌, ◌++◌, ◌<◌, ◌≤◌, ℕ, List, length, map, slice_get, Some, OnOk, OnErr, IfSome, IfNone};
-ghost use Rattle.pb_debug.specs.Answers.{names_of, HasNoName, OfProcess, SaysVars, SaysThreads, SaysLine, SaysWhy};
+ghost use Rattle.pb_debug.specs.Answers.{names_of, HasNoName, OfProcess, SaysVars, SaysThreads, SaysLine, SaysWho, SaysWhy};
 ghost use Rattle.pb_debug.specs.Answers.{Answers, AnswersCommand, AnswersNext, AnswersPrev, AnswersUntil, SaysEvent, SaysWrite, SaysWrote, ShowsAny};
 ghost use Rattle.pb_debug.specs.Texts.{at_text, loans_text};
 ghost use Rattle.pb_debug.specs.Value.{IsPosition, bank_state, moved_to, state_of};
@@ -15,6 +15,7 @@ use crate::text::{
     put_at, put_event, put_help, put_line, put_loans, put_never, put_no_event, put_not_reached,
     put_refusal, put_threads, put_vars, put_why, put_wrote,
 };
+use crate::who::put_who;
 use crate::words::{ArmWord, IntegerWord, StopWord};
 use pb_base::NoMemory;
 
@@ -183,6 +184,16 @@ impl<'c> Debugger<'c> {
         put_loans(text, self.verified.names(), self.loans())
     }
 
+    fn say_who(&self, text: &mut Vec<u8>, word: &[u8]) -> Result<(), NoMemory>
+        ensures { OnOk result ((said : List ℕ) × SaysWho self.now word.now said × (text.new.items ≡ text.old.items ++ said)) }
+    {
+        let code = self.verified.code();
+        let Some(r) = find_name(&code.names.resources, word) else {
+            return put_refusal(text, DebugFault::BadCommand);
+        };
+        put_who(text, code, &self.walker.machine, r)
+    }
+
     fn say_line(&self, text: &mut Vec<u8>, word: ArmWord) -> Result<(), NoMemory>
         ensures { OnOk result ((said : List ℕ)
             × OfProcess (names_of self.now) word.entry.process.now (SaysLine self.now word.entry.arm said) said
@@ -233,6 +244,7 @@ impl<'c> Debugger<'c> {
             Command::Until(word) => self.say_until(text, word),
             Command::Threads(word) => self.say_threads(text, word),
             Command::Loans => self.say_loans(text),
+            Command::Who(word) => self.say_who(text, word),
             Command::Next => self.say_next(text),
             Command::Prev => self.say_prev(text),
             Command::Help => put_help(text),

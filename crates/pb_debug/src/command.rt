@@ -6,7 +6,7 @@ ghost use Rattle.pb_debug.specs.Commands as spec;
 ghost use Rattle.pb_debug.specs.View.{command_view};
 
 use crate::words::{
-    ArmWord, IntegerWord, StopWord, arm_word, find, integer_word, number, process_word,
+    ArmWord, IntegerWord, StopWord, arm_word, find, integer_word, name_word, number,
 };
 
 /// A command of a session.
@@ -34,6 +34,8 @@ pub(crate) enum Command<'t> {
     Prev,
     /// `help`
     Help,
+    /// `who R`
+    Who(&'t [u8]),
     /// `line P.a`
     Line(ArmWord<'t>),
     /// `why P.a`
@@ -71,9 +73,9 @@ fn keyed<'t>(key: &[u8], word: &'t [u8]) -> Option<Command<'t>>
     } else if is(key, "back") {
         Some(Command::Back(number(word)?))
     } else if is(key, "vars") {
-        Some(Command::Vars(process_word(word)?))
+        Some(Command::Vars(name_word(word)?))
     } else if is(key, "threads") {
-        Some(Command::Threads(process_word(word)?))
+        Some(Command::Threads(name_word(word)?))
     } else if is(key, "until") {
         stop(word)
     } else if is(key, "wrote") {
@@ -82,6 +84,8 @@ fn keyed<'t>(key: &[u8], word: &'t [u8]) -> Option<Command<'t>>
         Some(Command::Line(arm_word(word)?))
     } else if is(key, "why") {
         Some(Command::Why(arm_word(word)?))
+    } else if is(key, "who") {
+        Some(Command::Who(name_word(word)?))
     } else {
         None
     }

@@ -13,6 +13,7 @@ mod session;
 mod shown;
 mod text;
 mod walker;
+mod who;
 pub mod why;
 mod words;
 

@@ -15,8 +15,12 @@ use pb_base::{Event, Names, NoMemory, Pick, event_line};
 use pb_machine::{Proc, Thread, ThreadState};
 use std::alloc::Global;
 
-// Puts words and a number behind a text.
-fn put_number<I: Integer>(text: &mut Vec<u8>, words: &[u8], number: I) -> Result<(), NoMemory>
+/// Puts words and a number behind a text.
+pub(crate) fn put_number<I: Integer>(
+    text: &mut Vec<u8>,
+    words: &[u8],
+    number: I,
+) -> Result<(), NoMemory>
     ensures { OnOk result (text.new.items ≡ text.old.items ++ (words.now ++ I.text number)) }
 {
     let mut digits = Buffer::new();
@@ -25,8 +29,8 @@ fn put_number<I: Integer>(text: &mut Vec<u8>, words: &[u8], number: I) -> Result
     Ok(())
 }
 
-// Puts words behind a text.
-fn put(text: &mut Vec<u8>, words: &[u8]) -> Result<(), NoMemory>
+/// Puts words behind a text.
+pub(crate) fn put(text: &mut Vec<u8>, words: &[u8]) -> Result<(), NoMemory>
     ensures { OnOk result (text.new.items ≡ text.old.items ++ words.now) }
 {
     text.extend_from_slice(words)?;
@@ -118,7 +122,7 @@ pub(crate) fn put_help(text: &mut Vec<u8>) -> Result<(), NoMemory>
 {
     put(
         text,
-        b"to I\nstep N\nback N\nnext\nprev\nvars P\nwrote P X\nuntil P.a N\nthreads P\nloans\nline P.a\nwhy P.a\nhelp\n",
+        b"to I\nstep N\nback N\nnext\nprev\nvars P\nwrote P X\nuntil P.a N\nthreads P\nloans\nwho R\nline P.a\nwhy P.a\nhelp\n",
     )
 }
 
@@ -171,8 +175,8 @@ pub(crate) fn put_threads(text: &mut Vec<u8>, process: &Proc) -> Result<(), NoMe
     Ok(())
 }
 
-// Puts the line of a loan behind a text.
-fn put_loan(
+/// Puts the line of a loan behind a text.
+pub(crate) fn put_loan(
     text: &mut Vec<u8>,
     names: &Names,
     banker: &Banker,
@@ -211,8 +215,13 @@ fn put_loans_of(
     Ok(())
 }
 
-// Puts the line of an amount of cash behind a text.
-fn put_cash(text: &mut Vec<u8>, names: &Names, amount: u32, r: usize) -> Result<(), NoMemory>
+/// Puts the line of an amount of cash behind a text.
+pub(crate) fn put_cash(
+    text: &mut Vec<u8>,
+    names: &Names,
+    amount: u32,
+    r: usize,
+) -> Result<(), NoMemory>
     requires { r < length (names_view names.now).resources }
     ensures { OnOk result (text.new.items ≡ text.old.items ++ said.cash_text (names_view names.now) amount r) }
 {

@@ -79,8 +79,8 @@ fn reason(alloc: Global, banker: &Banker, p: usize, bundle: &Bundle) -> Result<W
     }
 }
 
-// Returns the bundle for which an arm asks, if it stands at a request.
-fn asked<'c>(code: &'c ProcessCode, thread: &Thread) -> Option<&'c Bundle>
+/// Returns the bundle for which an arm asks, if it stands at a request.
+pub(crate) fn asked<'c>(code: &'c ProcessCode, thread: &Thread) -> Option<&'c Bundle>
     requires { NamesBundles code.now }
     ensures some { IfSome result (λ bundle. StandsAtTake (process_view code.entry.now) (thread_view thread.now) bundle.now) }
     ensures none { IfNone result ((bundle : Bundle) → StandsAtTake (process_view code.entry.now) (thread_view thread.now) bundle → ⊥) }

@@ -92,7 +92,7 @@ pub(crate) fn is_word(word: &[u8]) -> bool
 }
 
 /// Returns the word, if it looks like a name.
-pub(crate) fn process_word(word: &[u8]) -> Option<&[u8]>
+pub(crate) fn name_word(word: &[u8]) -> Option<&[u8]>
     ensures { option_map (λ w. w.now) result ≡ spec.word_of word.now }
 {
     if is_word(word) { Some(word) } else { None }
@@ -124,7 +124,7 @@ pub(crate) fn integer_word(word: &[u8]) -> Option<IntegerWord>
     ensures { option_map integer_view result ≡ spec.integer_of word.now }
 {
     let space = find(word, b' ')?;
-    let process = process_word(&word[..space])?;
-    let integer = process_word(&word[space + 1..])?;
+    let process = name_word(&word[..space])?;
+    let integer = name_word(&word[space + 1..])?;
     Some(IntegerWord { process, integer })
 }

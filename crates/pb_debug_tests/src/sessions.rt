@@ -12,6 +12,8 @@ const B: Pick = Pick { process: 1, arm: 0 };
 
 const C: Pick = Pick { process: 2, arm: 0 };
 
+const FIRST: Pick = Pick { process: 0, arm: 1 };
+
 const SECOND: Pick = Pick { process: 0, arm: 2 };
 
 /// Two processes that want the same two devices in opposite order.
@@ -24,6 +26,11 @@ const LOANS: &[u8] = b"resource t = 10;
 process a begin hold 4 of t do hold 4 of t do skip od od end
 process b begin hold 2 of t do hold 1 of t do hold 3 of t do skip od od od end
 process c begin hold 1 of t do hold 3 of t do skip od od end";
+
+/// Two arms that ask for one resource, one of them together with another.
+const BOTH: &[u8] = b"resource t = 3; resource d = 5;
+process p begin parbegin hold 2 of t, 1 of d do skip od; hold 4 of d do skip od parend end
+process q begin hold 1 of t do skip od end";
 
 /// Two processes that want one device.
 const CASH: &[u8] = b"resource t = 1;
@@ -48,7 +55,7 @@ struct Case {
     said: &'static [u8],
 }
 
-const CASES: [Case; 7] = [
+const CASES: [Case; 9] = [
     Case {
         text: DEVICES,
         picks: &[A],
@@ -60,6 +67,18 @@ const CASES: [Case; 7] = [
         picks: &[A, B, C],
         commands: b"to 2\nwhy c.0\nstep 1\nwhy b.0\nloans\n",
         said: b"at 2\norder c a b\nat 3\nrest a b c\na holds 4 t claim 8\nb holds 2 t claim 6\nc holds 1 t claim 4\ncash 3 t\n",
+    },
+    Case {
+        text: LOANS,
+        picks: &[A, B],
+        commands: b"who t\nto 2\nwho t\nwho tt\nwho a\nwho\nwho t t\n",
+        said: b"a.0 asks 4 t\nb.0 asks 2 t\nc.0 asks 1 t\ncash 10 t\nat 2\na holds 4 t claim 8\nb holds 2 t claim 6\na.0 asks 4 t\nb.0 asks 1 t\nc.0 asks 1 t\ncash 4 t\nrefused G4\nrefused G4\nrefused G4\nrefused G4\n",
+    },
+    Case {
+        text: BOTH,
+        picks: &[A, FIRST],
+        commands: b"who d\nto 1\nwho t\nwho d\nto 2\nwho t\nwho d\n",
+        said: b"cash 5 d\nat 1\np.1 asks 2 t\nq.0 asks 1 t\ncash 3 t\np.1 asks 1 d\np.2 asks 4 d\ncash 5 d\nat 2\np holds 2 t claim 2\nq.0 asks 1 t\ncash 1 t\np holds 1 d claim 5\np.2 asks 4 d\ncash 4 d\n",
     },
     Case {
         text: CASH,
@@ -83,7 +102,7 @@ const CASES: [Case; 7] = [
         text: TWICE,
         picks: &[A, A, A, A, A],
         commands: b"until p.0 2\nuntil p.0 2\nback 2\nprev\nnext\nnext\nnext\nnext\nprev\nprev\nprev\nhelp\n",
-        said: b"at 2\nnot reached\nat 0\nno event\nat 2 p.0 print 1\nat 4 p.0 print 2\nat 5 p end\nno event\nat 4 p.0 print 2\nat 2 p.0 print 1\nno event\nto I\nstep N\nback N\nnext\nprev\nvars P\nwrote P X\nuntil P.a N\nthreads P\nloans\nline P.a\nwhy P.a\nhelp\n",
+        said: b"at 2\nnot reached\nat 0\nno event\nat 2 p.0 print 1\nat 4 p.0 print 2\nat 5 p end\nno event\nat 4 p.0 print 2\nat 2 p.0 print 1\nno event\nto I\nstep N\nback N\nnext\nprev\nvars P\nwrote P X\nuntil P.a N\nthreads P\nloans\nwho R\nline P.a\nwhy P.a\nhelp\n",
     },
     Case {
         text: PRINT,
