@@ -1,0 +1,100 @@
+-- Step curves that grow.
+use Rattle.std.proofs.Common.{◌≡◌, ◌⊎◌, ℕ, ◌+◌, ◌-◌, ◌<◌, ◌≤◌, Bool, true, false, cond, List, [], ◌∷◌, ◌++◌, refl, sym, ap, ◌∙◌, subst, inl, inr, arith}
+use Rattle.std.specs.Prelude.{nat_le}
+use Rattle.std.proofs.lemmas.Bool.{le-leb, lt-leb, leb-true, leb-false}
+use Rattle.pb_draw.specs.Curves.{IsCurve, NoneBehind, shown_at}
+
+last_or_before : (i n : ℕ) → i ≤ n + 1 → (i ≤ n) ⊎ (i ≡ n + 1)
+last_or_before i n within = go (nat_le i n) refl
+  where
+    go : (b : Bool) → nat_le i n ≡ b → (i ≤ n) ⊎ (i ≡ n + 1)
+    go true e = inl (leb-true i n e)
+    go false e = (let past : n < i = leb-false i n e in inr (omega (arith, past, within)))
+
+module _ {S V : Type 0} (at : S → ℕ) (value : S → V) where
+  -- one more step decides from its position on
+  shown_more : (v : V) (steps : List S) (s : S) (i : ℕ)
+      → shown_at at value v (steps ++ s ∷ []) i ≡ cond (nat_le (at s) i) (value s) (shown_at at value v steps i)
+  shown_more v [] s i = refl
+  shown_more v (t ∷ steps) s i = shown_more (cond (nat_le (at t) i) (value t) v) steps s i
+
+  -- behind its last step a curve stays
+  shown_later : (v : V) (steps : List S) (n i : ℕ) → NoneBehind at n steps → n ≤ i
+      → shown_at at value v steps i ≡ shown_at at value v steps n
+  shown_later v [] n i early le = refl
+  shown_later v (s ∷ steps) n i early le =
+      let first : at s ≤ n = early.0 in
+      let here : nat_le (at s) i ≡ true = le-leb (at s) i (omega (arith, first, le)) in
+      let there : nat_le (at s) n ≡ true = le-leb (at s) n first in
+      ap (λ (b : Bool). shown_at at value (cond b (value s) v) steps i) here
+      ∙ (shown_later (value s) steps n i early.1 le
+      ∙ sym (ap (λ (b : Bool). shown_at at value (cond b (value s) v) steps n) there))
+
+  none_behind_later : (steps : List S) (n m : ℕ) → n ≤ m → NoneBehind at n steps → NoneBehind at m steps
+  none_behind_later [] n m le early = early
+  none_behind_later (s ∷ steps) n m le early =
+      let first : at s ≤ n = early.0 in
+      (omega (arith, first, le), none_behind_later steps n m le early.1)
+
+  none_behind_more : (steps : List S) (s : S) (n : ℕ) → NoneBehind at n steps → at s ≤ n → NoneBehind at n (steps ++ s ∷ [])
+  none_behind_more [] s n early le = (le, tt)
+  none_behind_more (t ∷ steps) s n early le = (early.0, none_behind_more steps s n early.1 le)
+
+  -- the first step of a curve
+  pub curve_begins : (v : V) (f : ℕ → V) (s : S) → at s ≡ 0 → value s ≡ f 0 → IsCurve at value v f 0 (s ∷ [])
+  curve_begins v f s here is =
+      let le : at s ≤ 0 = omega (arith, here) in
+      record {
+        shows = λ i within.
+            let none : i ≡ 0 = omega (arith, within) in
+            let past : nat_le (at s) i ≡ true = le-leb (at s) i (omega (arith, le)) in
+            ap (λ (b : Bool). cond b (value s) v) past ∙ (is ∙ ap f (sym none));
+        early = (le, tt);
+      }
+
+  -- a position more at which nothing changes
+  pub curve_stays : (v : V) (f : ℕ → V) (n : ℕ) (steps : List S) → IsCurve at value v f n steps → f (n + 1) ≡ f n
+      → IsCurve at value v f (n + 1) steps
+  curve_stays v f n steps c same = record {
+    shows = λ i within. elim (last_or_before i n within) [
+      | inl before ↦ c.shows i before
+      | inr last ↦
+          ap (shown_at at value v steps) last
+          ∙ (shown_later v steps n (n + 1) c.early (omega arith)
+          ∙ (c.shows n (omega arith) ∙ (sym same ∙ ap f (sym last))))
+    ];
+    early = none_behind_later steps n (n + 1) (omega arith) c.early;
+  }
+
+  -- and one at which it changes
+  pub curve_changes : (v : V) (f : ℕ → V) (n : ℕ) (steps : List S) (s : S) → IsCurve at value v f n steps → at s ≡ n + 1
+      → value s ≡ f (n + 1) → IsCurve at value v f (n + 1) (steps ++ s ∷ [])
+  curve_changes v f n steps s c here is = record {
+    shows = λ i within. elim (last_or_before i n within) [
+      | inl before ↦
+          let later : n < at s = omega (arith, here) in
+          let not : nat_le (at s) i ≡ false = lt-leb (at s) i (omega (arith, later, before)) in
+          shown_more v steps s i
+          ∙ (ap (λ (b : Bool). cond b (value s) (shown_at at value v steps i)) not ∙ c.shows i before)
+      | inr last ↦
+          let le : at s ≤ i = omega (arith, here, last) in
+          shown_more v steps s i
+          ∙ (ap (λ (b : Bool). cond b (value s) (shown_at at value v steps i)) (le-leb (at s) i le)
+          ∙ (is ∙ ap f (sym last)))
+    ];
+    early = none_behind_more steps s (n + 1) (none_behind_later steps n (n + 1) (omega arith) c.early) (omega (arith, here));
+  }
+
+  -- the same, of a position that is counted from the one behind it
+  pub curve_stays_at : (v : V) (f : ℕ → V) (n : ℕ) (steps : List S) → 0 < n → IsCurve at value v f (n - 1) steps → f n ≡ f (n - 1)
+      → IsCurve at value v f n steps
+  curve_stays_at v f n steps some c same =
+      let e : n - 1 + 1 ≡ n = omega (arith, some) in
+      subst (λ (k : ℕ). IsCurve at value v f k steps) e (curve_stays v f (n - 1) steps c (ap f e ∙ same))
+
+  pub curve_changes_at : (v : V) (f : ℕ → V) (n : ℕ) (steps : List S) (s : S) → 0 < n → IsCurve at value v f (n - 1) steps
+      → at s ≡ n → value s ≡ f n → IsCurve at value v f n (steps ++ s ∷ [])
+  curve_changes_at v f n steps s some c here is =
+      let e : n - 1 + 1 ≡ n = omega (arith, some) in
+      subst (λ (k : ℕ). IsCurve at value v f k (steps ++ s ∷ [])) e
+      (curve_changes v f (n - 1) steps s c (here ∙ sym e) (is ∙ ap f (sym e)))

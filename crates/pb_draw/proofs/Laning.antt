@@ -1,0 +1,17 @@
+-- One lane more.
+use Rattle.std.proofs.Common.{◌≡◌, ℕ, List, [], ◌∷◌, ◌++◌, Some, inl, inr, subst}
+use Rattle.std.specs.Prelude.{slice_get}
+use Rattle.pb_base.specs.declared.pick.Pick.{Pick}
+use Rattle.pb_code.specs.Whole.{Code}
+use Rattle.pb_draw.specs.Drawings.{AreLanes}
+use Rattle.pb_draw.specs.Lanes.{IsLane}
+use Rattle.pb_draw.specs.declared.drawing.Lane.{Lane}
+use Rattle.pb_machine.proofs.Growing.{at_push}
+
+pub lanes_more : (code : Code) (picks : List Pick) (lanes : List Lane) (lane : Lane) → AreLanes code picks lanes
+    → IsLane code picks lane.pick.process lane.pick.arm lane → AreLanes code picks (lanes ++ lane ∷ [])
+lanes_more code picks lanes lane before here = λ k x there.
+    elim (at_push lanes lane x k there) [
+      | inl earlier ↦ before k x earlier
+      | inr last ↦ subst (λ (y : Lane). IsLane code picks y.pick.process y.pick.arm y) last.1 here
+    ]

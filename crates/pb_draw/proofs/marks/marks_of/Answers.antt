@@ -1,0 +1,18 @@
+use Rattle.std.proofs.Common.{length, ◌≤◌, ap, ◌∙◌, arith}
+use Rattle.pb_history.specs.Entries.{picks_of}
+use Rattle.pb_draw.specs.Marks.{marks_before}
+use Rattle.pb_draw.proofs.Marking.{marks_more}
+use Rattle.pb_draw.proofs.marks.marks_of.Goals as goal
+
+pub loop-at-init : goal.loop-at-init
+loop-at-init c = record {
+  stands = record { machine = c.in_ok-machine.ensures.machine; state = c.in_ok-machine.ensures.opening };
+  marks = c.new-marks.ensures.items;
+}
+
+pub loop-at-preserved : goal.loop-at-preserved
+loop-at-preserved c = record {
+  stands = c.advance-event.ensures.stands;
+  marks = marks_more c.args.verified.now.code (picks_of c.args.trace.now.entries) c.loop-at.at c.pick-pick.result c.advance-event.result
+      _ _ c.loop-at.invariant.marks c.pick-pick.ensures c.advance-event.ensures.event c.in_ok-add_mark.ensures;
+}

@@ -1,0 +1,15 @@
+use Rattle.std.proofs.Common.{append_assoc}
+use Rattle.pb_draw.specs.Svg.{head_text}
+use Rattle.pb_draw.proofs.svg.put_head.Goals as goal
+
+pub returns : goal.returns
+unfolding head_text
+returns c =
+    rw (
+      c.in_ok-put.ensures,
+      c.style-looks.ensures,
+      c.in_ok-put_number-4.ensures,
+      c.in_ok-put_number-3.ensures,
+      c.in_ok-put_number-2.ensures,
+      c.in_ok-put_number.ensures,
+    ) (simp append_assoc)

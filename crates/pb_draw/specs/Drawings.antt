@@ -1,0 +1,30 @@
+-- What a drawing says of a run.
+use Rattle.std.specs.Prelude.{◌≡◌, ℕ, List, length, Some, slice_get}
+use Rattle.pb_base.specs.declared.pick.Pick.{Pick}
+use Rattle.pb_code.specs.Whole.{Code}
+use Rattle.pb_draw.specs.Bars.{bars_of}
+use Rattle.pb_draw.specs.Cash.{IsCashCurve}
+use Rattle.pb_draw.specs.Lanes.{IsLane}
+use Rattle.pb_draw.specs.Marks.{marks_before}
+use Rattle.pb_draw.specs.declared.drawing.CashCurve.{CashCurve}
+use Rattle.pb_draw.specs.declared.drawing.Drawing.{Drawing}
+use Rattle.pb_draw.specs.declared.drawing.Lane.{Lane}
+
+-- each curve shows the cash of its resource, by its number, after each first part of the picks
+pub record AreCashCurves (code : Code) (picks : List Pick) (curves : List CashCurve) : Type 0 where
+  pub all : length curves ≡ length code.capital
+  pub each : (r : ℕ) (curve : CashCurve) → slice_get curves r ≡ Some curve → IsCashCurve code picks r curve
+
+-- each lane shows how its arm stands after each first part of the picks
+abbrev pub AreLanes : Code → List Pick → List Lane → Type 0
+AreLanes code picks lanes =
+    (k : ℕ) (lane : Lane) → slice_get lanes k ≡ Some lane → IsLane code picks lane.pick.process lane.pick.arm lane
+
+-- a drawing shows each event of the picks at its pick, and no other; a bar for each grant, up to where it is given
+-- back; how each arm stands, and the cash of each resource, after each first part of the picks
+pub record IsDrawing (code : Code) (picks : List Pick) (d : Drawing) : Type 0 where
+  pub many : d.picks ≡ length picks
+  pub marks : d.marks.items ≡ marks_before code picks (length picks)
+  pub bars : d.bars.items ≡ bars_of d.marks.items
+  pub lanes : AreLanes code picks d.lanes.items
+  pub curves : AreCashCurves code picks d.curves.items

@@ -1,0 +1,10 @@
+pub mod Bars
+pub mod Cash
+pub mod Curves
+pub mod Drawings
+pub mod Lanes
+pub mod Marks
+pub mod Pictures
+pub mod Svg
+pub mod Texts
+pub mod Walks

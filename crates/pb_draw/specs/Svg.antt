@@ -1,0 +1,84 @@
+-- A picture as SVG.
+use Rattle.std.specs.Prelude.{ℕ, List, ◌++◌, codes}
+use Rattle.std.specs.Fmt.{decimal}
+use Rattle.std.specs.List.{flat_map}
+use Rattle.pb_draw.specs.declared.svg.TheConstants.{STYLE}
+use Rattle.pb_draw.specs.declared.picture.LabelKind.{LabelKind}
+use Rattle.pb_draw.specs.declared.picture.LabelKind.TheVariants.{Name, Number, Silent, Bundle, Amount, Note}
+use Rattle.pb_draw.specs.declared.picture.RectKind.{RectKind}
+use Rattle.pb_draw.specs.declared.picture.RectKind.TheVariants.{Gap, Going, Waiting, Hold, Cash, Level}
+use Rattle.pb_draw.specs.declared.picture.TickKind.{TickKind}
+use Rattle.pb_draw.specs.declared.picture.TickKind.TheVariants.{Grant, Return, Print, Fault, End}
+use Rattle.pb_draw.specs.declared.picture.Label.{Label}
+use Rattle.pb_draw.specs.declared.picture.Picture.{Picture}
+use Rattle.pb_draw.specs.declared.picture.Rect.{Rect}
+use Rattle.pb_draw.specs.declared.picture.Tick.{Tick}
+
+-- the word for what a rectangle stands for
+abbrev pub rect_word : RectKind → List ℕ
+rect_word Gap = codes "gap"
+rect_word Going = codes "going"
+rect_word Waiting = codes "waiting"
+rect_word Hold = codes "hold"
+rect_word Cash = codes "cash"
+rect_word Level = codes "level"
+
+-- the word for what a text stands for
+abbrev pub label_word : LabelKind → List ℕ
+label_word Name = codes "name"
+label_word Number = codes "number"
+label_word Silent = codes "silent"
+label_word Bundle = codes "bundle"
+label_word Amount = codes "amount"
+label_word Note = codes "note"
+
+-- the word for what an event is
+abbrev pub tick_word : TickKind → List ℕ
+tick_word Grant = codes "grant"
+tick_word Return = codes "return"
+tick_word Print = codes "print"
+tick_word Fault = codes "fault"
+tick_word End = codes "end"
+
+-- the outline of a mark, from its place on
+abbrev pub outline : TickKind → List ℕ
+outline Grant = codes "m0-6v12l7-6z"
+outline Return = codes "m0-6v12l-7-6z"
+outline Print = codes "m-4 0a4 4 0 1 0 8 0a4 4 0 1 0-8 0z"
+outline Fault = codes "m-5-5l10 10m0-10l-10 10"
+outline End = codes "m-4-4h8v8h-8z"
+
+-- a rectangle
+unfoldable pub rect_text : Rect → List ℕ
+rect_text r =
+    codes "<rect class=\"" ++ rect_word r.kind ++ codes "\" x=\"" ++ decimal r.x ++ codes "\" y=\"" ++ decimal r.y
+    ++ codes "\" width=\"" ++ decimal r.width ++ codes "\" height=\"" ++ decimal r.height ++ codes "\"/>\n"
+
+-- a text
+unfoldable pub label_text : Label → List ℕ
+label_text l =
+    codes "<text class=\"" ++ label_word l.kind ++ codes "\" x=\"" ++ decimal l.x ++ codes "\" y=\"" ++ decimal l.y
+    ++ codes "\">" ++ l.text.items ++ codes "</text>\n"
+
+-- the mark of an event: its line as a title, its outline, and the text beside it
+unfoldable pub tick_text : Tick → List ℕ
+tick_text t =
+    codes "<g class=\"" ++ tick_word t.kind ++ codes "\"><title>" ++ t.title.items ++ codes "</title><path d=\"M"
+    ++ decimal t.x ++ codes " " ++ decimal t.y ++ outline t.kind ++ codes "\"/><text x=\"" ++ decimal t.label_x
+    ++ codes "\" y=\"" ++ decimal t.label_y ++ codes "\">" ++ t.label.items ++ codes "</text></g>\n"
+
+-- what each kind of shape looks like
+unfoldable pub style : List ℕ
+style = STYLE.now
+
+-- what a picture begins with: its size, and its style
+unfoldable pub head_text : Picture → List ℕ
+head_text p =
+    codes "<svg xmlns=\"http://www.w3.org/2000/svg\" width=\"" ++ decimal p.width ++ codes "\" height=\""
+    ++ decimal p.height ++ codes "\" viewBox=\"0 0 " ++ decimal p.width ++ codes " " ++ decimal p.height ++ style
+
+-- a picture: a line for each shape, the rectangles first, then the texts, and then the marks of events
+abbrev pub svg : Picture → List ℕ
+svg p =
+    head_text p ++ flat_map rect_text p.rects.items ++ flat_map label_text p.labels.items
+    ++ flat_map tick_text p.ticks.items ++ codes "</svg>\n"

@@ -1,0 +1,109 @@
+//! What a run shows over its picks.
+
+ghost use Rattle.std.specs.Prelude.{◌≡◌, ◌≤◌, All, IfOk, length};
+ghost use Rattle.pb_base.specs.Lines.{HasNames};
+ghost use Rattle.pb_draw.specs.Drawings.{IsDrawing};
+ghost use Rattle.pb_history.specs.Entries.{picks_of};
+ghost use Rattle.pb_history.specs.Positions.{AreEnabled};
+
+use crate::bars::bars_of;
+use crate::cash::cash_curves;
+use crate::lanes::lanes_of;
+use crate::marks::marks_of;
+use pb_base::{Bundle, Event, NoMemory, Pick};
+use pb_history::Trace;
+use pb_verifier::Verified;
+use std::alloc::Global;
+
+/// An event, and the number of the pick that shows it, counted from 0.
+#[derive(Clone, Copy)]
+pub struct Mark {
+    pub at: u32,
+    pub pick: Pick,
+    pub event: Event,
+}
+
+/// A hold of an arm, with the number of the pick that takes it and that of the pick that gives it back, if one does.
+#[derive(Clone, Copy)]
+pub struct Bar {
+    pub pick: Pick,
+    pub bundle: Bundle,
+    pub taken: u32,
+    pub returned: Option<u32>,
+}
+
+/// How an arm stands.
+#[derive(Clone, Copy, Debug, PartialEq, Eq)]
+pub enum Standing {
+    /// It is not live.
+    Away,
+    /// It is live, and its next instruction asks for nothing.
+    Going,
+    /// It is live, and its next instruction asks for a bundle.
+    Waiting,
+}
+
+/// From a position on an arm stands so.
+#[derive(Clone, Copy)]
+pub struct LaneStep {
+    pub at: u32,
+    pub standing: Standing,
+}
+
+/// How an arm stands at each position.
+#[derive(Drop)]
+pub struct Lane {
+    pub pick: Pick,
+    pub steps: Vec<LaneStep>,
+}
+
+/// From a position on there is so much cash.
+#[derive(Clone, Copy)]
+pub struct CashStep {
+    pub at: u32,
+    pub cash: u32,
+}
+
+/// The cash of a resource at each position.
+#[derive(Drop)]
+pub struct CashCurve {
+    pub steps: Vec<CashStep>,
+}
+
+/// What a run shows over its picks. Position i is after the first i picks.
+#[derive(Drop)]
+pub struct Drawing {
+    /// How many picks there are, at most 10,000,000.
+    pub picks: u32,
+    /// Each event, in the order of the picks.
+    pub marks: Vec<Mark>,
+    /// Each hold, in the order in which they begin.
+    pub bars: Vec<Bar>,
+    /// Each arm of each process, process by process.
+    pub lanes: Vec<Lane>,
+    /// Each resource, by its number.
+    pub curves: Vec<CashCurve>,
+}
+
+/// Returns what the run with this trace shows over its picks. The trace is of a replay of the code.
+pub fn draw(alloc: Global, verified: &Verified, trace: &Trace) -> Result<Drawing, NoMemory>
+    requires enabled { AreEnabled verified.now.code (picks_of trace.now.entries) }
+    requires few { length trace.now.entries ≤ 10000000 }
+    ensures drawing { IfOk result (IsDrawing verified.now.code (picks_of trace.now.entries)) }
+    ensures named { IfOk result (λ d. All (λ m. HasNames verified.now.code.names m.event) d.marks.items) }
+    ensures curves { IfOk result (λ d. length d.curves.items ≡ length verified.now.code.capital) }
+{
+    let _ = verified.code();
+    let picks = trace.len();
+    let marks = marks_of(alloc, verified, trace)?;
+    let bars = bars_of(alloc, marks.as_slice())?;
+    let lanes = lanes_of(alloc, verified, trace)?;
+    let curves = cash_curves(alloc, verified, trace)?;
+    Ok(Drawing {
+        picks,
+        marks,
+        bars,
+        lanes,
+        curves,
+    })
+}

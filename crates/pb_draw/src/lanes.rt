@@ -1,0 +1,172 @@
+//! How each arm stands over a run.
+
+ghost use Rattle.std.specs.Prelude.{◌≡◌, ◌↔◌, ◌-◌, ◌<◌, ℕ, List, IfOk, IsTrue, OnOk, length, slice_get};
+ghost use Rattle.pb_code.specs.View.{instr_view};
+ghost use Rattle.pb_draw.specs.Drawings.{AreLanes};
+ghost use Rattle.pb_draw.specs.Lanes.{IsLane, ShowsStandings, is_request, standing_in};
+ghost use Rattle.pb_base.specs.declared.pair.Pair.{Pair};
+ghost use Rattle.pb_history.specs.Entries.{picks_of};
+ghost use Rattle.pb_history.specs.Positions.{AreEnabled};
+ghost use Rattle.pb_machine.specs.Views.{machine_view};
+
+use crate::drawing::{Lane, LaneStep, Standing};
+use crate::walk::advance;
+use pb_base::{NoMemory, Pick};
+use pb_code::Instr;
+use pb_history::Trace;
+use pb_machine::Machine;
+use pb_verifier::Verified;
+use std::alloc::Global;
+
+// No code has as many processes, and no process as many arms.
+const MOST: usize = 255;
+
+// Whether an instruction asks for a bundle.
+fn asks(instr: Instr) -> bool
+    ensures { (bundles : List (List Pair)) → result ≡ is_request (instr_view bundles instr) }
+{
+    match instr {
+        Instr::Push(_) => false,
+        Instr::Load(_) => false,
+        Instr::Store(_) => false,
+        Instr::Neg => false,
+        Instr::Not => false,
+        Instr::Add => false,
+        Instr::Sub => false,
+        Instr::Mul => false,
+        Instr::Div => false,
+        Instr::Mod => false,
+        Instr::Eq => false,
+        Instr::Ne => false,
+        Instr::Lt => false,
+        Instr::Le => false,
+        Instr::Gt => false,
+        Instr::Ge => false,
+        Instr::And => false,
+        Instr::Or => false,
+        Instr::Jump(_) => false,
+        Instr::JumpIfZero(_) => false,
+        Instr::Print => false,
+        Instr::Take(_) => true,
+        Instr::Give(_) => false,
+        Instr::Fork { .. } => false,
+        Instr::Join { .. } => false,
+        Instr::End => false,
+    }
+}
+
+// Returns how an arm stands.
+fn standing_of(verified: &Verified, machine: &Machine, p: usize, arm: usize) -> Standing
+    ensures { result ≡ standing_in (slice_get verified.now.code.processes p)
+        (slice_get (machine_view machine.now).processes p) arm }
+{
+    let code = verified.code();
+    if code.processes.len() <= p || machine.processes() <= p {
+        return Standing::Away;
+    }
+    if machine.proc(p).arms() <= arm {
+        return Standing::Away;
+    }
+    let Some(place) = machine.proc(p).thread(arm).place() else {
+        return Standing::Away;
+    };
+    match code.processes[p].instrs.get(usize::from(place)) {
+        Some(instr) if asks(*instr) => Standing::Waiting,
+        _ => Standing::Going,
+    }
+}
+
+// Returns a lane that begins so.
+fn first_step(alloc: Global, standing: Standing) -> Result<Vec<LaneStep>, NoMemory>
+    ensures { IfOk result (λ steps. (f : ℕ → Standing) → standing ≡ f 0 → ShowsStandings f 0 steps.items) }
+{
+    let mut steps = Vec::new(alloc);
+    steps.push(LaneStep { at: 0, standing })?;
+    Ok(steps)
+}
+
+// Returns whether both are the same.
+fn is_same(a: Standing, b: Standing) -> bool
+    ensures { IsTrue result ↔ (a ≡ b) }
+{
+    a == b
+}
+
+// Adds a step to a lane if its arm stands otherwise than it did.
+fn add_step(
+    steps: &mut Vec<LaneStep>,
+    last: Standing,
+    at: u32,
+    standing: Standing,
+) -> Result<(), NoMemory>
+    requires { 0 < at }
+    ensures { OnOk result ((f : ℕ → Standing) → last ≡ f (at - 1) → standing ≡ f at
+        → ShowsStandings f (at - 1) steps.old.items → ShowsStandings f at steps.new.items) }
+{
+    if is_same(standing, last) {
+        return Ok(());
+    }
+    steps.push(LaneStep { at, standing })?;
+    Ok(())
+}
+
+// Returns how an arm stands at each position.
+fn lane_of(alloc: Global, verified: &Verified, trace: &Trace, pick: Pick) -> Result<Lane, NoMemory>
+    requires { AreEnabled verified.now.code (picks_of trace.now.entries) }
+    ensures lane { IfOk result (IsLane verified.now.code (picks_of trace.now.entries) pick.process pick.arm) }
+    ensures arm { IfOk result (λ lane. lane.pick ≡ pick) }
+{
+    let p = usize::from(pick.process);
+    let arm = usize::from(pick.arm);
+    let mut machine = Machine::new(alloc, verified)?;
+    let mut last = standing_of(verified, &machine, p, arm);
+    let mut steps = first_step(alloc, last)?;
+    for i in 0..trace.len() {
+        let _ = advance(verified, trace, &mut machine, i);
+        let standing = standing_of(verified, &machine, p, arm);
+        add_step(&mut steps, last, i + 1, standing)?;
+        last = standing;
+    }
+    Ok(Lane { pick, steps })
+}
+
+// Adds the lanes of a process.
+fn add_lanes(
+    alloc: Global,
+    verified: &Verified,
+    trace: &Trace,
+    process: u8,
+    lanes: &mut Vec<Lane>,
+) -> Result<(), NoMemory>
+    requires enabled { AreEnabled verified.now.code (picks_of trace.now.entries) }
+    requires lanes { AreLanes verified.now.code (picks_of trace.now.entries) lanes.old.items }
+    requires process { process < length verified.now.code.processes }
+    ensures { OnOk result (AreLanes verified.now.code (picks_of trace.now.entries) lanes.new.items) }
+{
+    let arms = verified.code().processes[usize::from(process)]
+        .entries
+        .len();
+    for arm in 0..arms.min(MOST) as u8 {
+        let pick = Pick { process, arm };
+        let lane = lane_of(alloc, verified, trace, pick)?;
+        lanes.push(lane)?;
+    }
+    Ok(())
+}
+
+/// Returns how each arm of each process stands at each position.
+pub(crate) fn lanes_of(
+    alloc: Global,
+    verified: &Verified,
+    trace: &Trace,
+) -> Result<Vec<Lane>, NoMemory>
+    requires { AreEnabled verified.now.code (picks_of trace.now.entries) }
+    ensures { IfOk result (λ lanes. AreLanes verified.now.code (picks_of trace.now.entries) lanes.items) }
+{
+    let mut lanes = Vec::new(alloc);
+    let processes = verified.code().processes.len();
+    for process in 0..processes.min(MOST) as u8 {
+        add_lanes(alloc, verified, trace, process, &mut lanes)?;
+    }
+    Ok(lanes)
+}

@@ -1,0 +1,88 @@
+//! Shapes with their places, in pixels from the upper left corner.
+
+/// What a rectangle stands for.
+#[derive(Clone, Copy, Debug, PartialEq, Eq)]
+pub enum RectKind {
+    /// A silent stretch that is shortened.
+    Gap,
+    /// An arm that is live and asks for nothing.
+    Going,
+    /// An arm that waits for a request.
+    Waiting,
+    /// A hold.
+    Hold,
+    /// The cash of a resource: the area below its step curve.
+    Cash,
+    /// The curve itself.
+    Level,
+}
+
+/// A rectangle.
+#[derive(Clone, Copy)]
+pub struct Rect {
+    pub kind: RectKind,
+    pub x: u64,
+    pub y: u64,
+    pub width: u64,
+    pub height: u64,
+}
+
+/// What a text stands for.
+#[derive(Clone, Copy, Debug, PartialEq, Eq)]
+pub enum LabelKind {
+    /// The name of an arm or a resource.
+    Name,
+    /// The number of a pick.
+    Number,
+    /// How many silent picks a shortened stretch has.
+    Silent,
+    /// The bundle of a hold.
+    Bundle,
+    /// An amount of cash.
+    Amount,
+    /// What the picture shows.
+    Note,
+}
+
+/// A text that begins at a place.
+#[derive(Drop)]
+pub struct Label {
+    pub kind: LabelKind,
+    pub x: u64,
+    pub y: u64,
+    pub text: Vec<u8>,
+}
+
+/// What an event is.
+#[derive(Clone, Copy, Debug, PartialEq, Eq)]
+pub enum TickKind {
+    Grant,
+    Return,
+    Print,
+    Fault,
+    End,
+}
+
+/// The mark of an event.
+#[derive(Drop)]
+pub struct Tick {
+    pub kind: TickKind,
+    pub x: u64,
+    pub y: u64,
+    /// The line of the event, which a viewer shows when it is pointed at.
+    pub title: Vec<u8>,
+    /// What is written beside the mark, if anything.
+    pub label: Vec<u8>,
+    pub label_x: u64,
+    pub label_y: u64,
+}
+
+/// A picture.
+#[derive(Drop)]
+pub struct Picture {
+    pub width: u64,
+    pub height: u64,
+    pub rects: Vec<Rect>,
+    pub labels: Vec<Label>,
+    pub ticks: Vec<Tick>,
+}

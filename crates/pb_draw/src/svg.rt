@@ -1,0 +1,189 @@
+//! A picture as SVG.
+
+ghost use Rattle.std.specs.Prelude.{◌≡◌, ◌++◌, IfOk, OnOk};
+ghost use Rattle.std.specs.List.{flat_map};
+ghost use Rattle.pb_draw.specs.Svg as spec;
+
+use crate::picture::{Label, LabelKind, Picture, Rect, RectKind, Tick, TickKind};
+use crate::texts::{put, put_number};
+use pb_base::NoMemory;
+use std::alloc::Global;
+
+// Returns the word for what a rectangle stands for.
+fn rect_word(kind: RectKind) -> &'static [u8]
+    ensures { result.now ≡ spec.rect_word kind }
+{
+    match kind {
+        RectKind::Gap => b"gap",
+        RectKind::Going => b"going",
+        RectKind::Waiting => b"waiting",
+        RectKind::Hold => b"hold",
+        RectKind::Cash => b"cash",
+        RectKind::Level => b"level",
+    }
+}
+
+// Returns the word for what a text stands for.
+fn label_word(kind: LabelKind) -> &'static [u8]
+    ensures { result.now ≡ spec.label_word kind }
+{
+    match kind {
+        LabelKind::Name => b"name",
+        LabelKind::Number => b"number",
+        LabelKind::Silent => b"silent",
+        LabelKind::Bundle => b"bundle",
+        LabelKind::Amount => b"amount",
+        LabelKind::Note => b"note",
+    }
+}
+
+// Returns the word for what an event is.
+fn tick_word(kind: TickKind) -> &'static [u8]
+    ensures { result.now ≡ spec.tick_word kind }
+{
+    match kind {
+        TickKind::Grant => b"grant",
+        TickKind::Return => b"return",
+        TickKind::Print => b"print",
+        TickKind::Fault => b"fault",
+        TickKind::End => b"end",
+    }
+}
+
+// Returns the outline of a mark, from its place on.
+fn outline(kind: TickKind) -> &'static [u8]
+    ensures { result.now ≡ spec.outline kind }
+{
+    match kind {
+        TickKind::Grant => b"m0-6v12l7-6z",
+        TickKind::Return => b"m0-6v12l-7-6z",
+        TickKind::Print => b"m-4 0a4 4 0 1 0 8 0a4 4 0 1 0-8 0z",
+        TickKind::Fault => b"m-5-5l10 10m0-10l-10 10",
+        TickKind::End => b"m-4-4h8v8h-8z",
+    }
+}
+
+// Puts a rectangle behind a text.
+fn put_rect(text: &mut Vec<u8>, rect: &Rect) -> Result<(), NoMemory>
+    ensures { OnOk result (text.new.items ≡ text.old.items ++ spec.rect_text rect.now) }
+{
+    let word = rect_word(rect.kind);
+    put(text, b"<rect class=\"")?;
+    put(text, word)?;
+    put_number(text, b"\" x=\"", rect.x)?;
+    put_number(text, b"\" y=\"", rect.y)?;
+    put_number(text, b"\" width=\"", rect.width)?;
+    put_number(text, b"\" height=\"", rect.height)?;
+    put(text, b"\"/>\n")?;
+    Ok(())
+}
+
+// Puts a label behind a text.
+fn put_label(text: &mut Vec<u8>, label: &Label) -> Result<(), NoMemory>
+    ensures { OnOk result (text.new.items ≡ text.old.items ++ spec.label_text label.now) }
+{
+    let word = label_word(label.kind);
+    let said = label.text.as_slice();
+    put(text, b"<text class=\"")?;
+    put(text, word)?;
+    put_number(text, b"\" x=\"", label.x)?;
+    put_number(text, b"\" y=\"", label.y)?;
+    put(text, b"\">")?;
+    put(text, said)?;
+    put(text, b"</text>\n")?;
+    Ok(())
+}
+
+// Puts the mark of an event behind a text.
+fn put_tick(text: &mut Vec<u8>, tick: &Tick) -> Result<(), NoMemory>
+    ensures { OnOk result (text.new.items ≡ text.old.items ++ spec.tick_text tick.now) }
+{
+    let word = tick_word(tick.kind);
+    let title = tick.title.as_slice();
+    let path = outline(tick.kind);
+    let label = tick.label.as_slice();
+    put(text, b"<g class=\"")?;
+    put(text, word)?;
+    put(text, b"\"><title>")?;
+    put(text, title)?;
+    put_number(text, b"</title><path d=\"M", tick.x)?;
+    put_number(text, b" ", tick.y)?;
+    put(text, path)?;
+    put_number(text, b"\"/><text x=\"", tick.label_x)?;
+    put_number(text, b"\" y=\"", tick.label_y)?;
+    put(text, b"\">")?;
+    put(text, label)?;
+    put(text, b"</text></g>\n")?;
+    Ok(())
+}
+
+// Returns what each kind of shape looks like.
+fn style() -> &'static [u8]
+    ensures { result.now ≡ spec.style }
+{
+    STYLE
+}
+
+// Puts what a picture begins with behind a text.
+fn put_head(text: &mut Vec<u8>, picture: &Picture) -> Result<(), NoMemory>
+    ensures { OnOk result (text.new.items ≡ text.old.items ++ spec.head_text picture.now) }
+{
+    let looks = style();
+    put_number(
+        text,
+        b"<svg xmlns=\"http://www.w3.org/2000/svg\" width=\"",
+        picture.width,
+    )?;
+    put_number(text, b"\" height=\"", picture.height)?;
+    put_number(text, b"\" viewBox=\"0 0 ", picture.width)?;
+    put_number(text, b" ", picture.height)?;
+    put(text, looks)?;
+    Ok(())
+}
+
+// What each kind of shape looks like.
+const STYLE: &[u8] =
+    b"\">\n<title>A run, pick by pick</title>\n<style>\ntext{font:11px monospace;fill:#000}\n.name{font-weight:bold}\n.number,.silent,.note{fill:#555;font-size:10px}\n.amount{font-size:10px}\n.paper{fill:#fff}\n.gap{fill:#eee}\n.going{fill:#999}\n.waiting{fill:url(#hatch);stroke:#000;stroke-width:.5}\n.hold{fill:#cde;stroke:#000;stroke-width:.5}\n.cash{fill:#ded}\n.level{fill:#262}\n.print path{fill:#fff;stroke:#000;stroke-width:1.5}\n.fault path{stroke:#c00;stroke-width:2.5}\n</style>\n<defs><pattern id=\"hatch\" width=\"5\" height=\"5\" patternUnits=\"userSpaceOnUse\"><path d=\"M0 5L5 0\" stroke=\"#000\"/></pattern></defs>\n<rect class=\"paper\" width=\"100%\" height=\"100%\"/>\n";
+
+// Puts rectangles behind a text.
+fn put_rects(text: &mut Vec<u8>, rects: &[Rect]) -> Result<(), NoMemory>
+    ensures { OnOk result (text.new.items ≡ text.old.items ++ flat_map spec.rect_text rects.now) }
+{
+    for i in 0..rects.len() {
+        put_rect(text, &rects[i])?;
+    }
+    Ok(())
+}
+
+// Puts labels behind a text.
+fn put_labels(text: &mut Vec<u8>, labels: &[Label]) -> Result<(), NoMemory>
+    ensures { OnOk result (text.new.items ≡ text.old.items ++ flat_map spec.label_text labels.now) }
+{
+    for i in 0..labels.len() {
+        put_label(text, &labels[i])?;
+    }
+    Ok(())
+}
+
+// Puts the marks of events behind a text.
+fn put_ticks(text: &mut Vec<u8>, ticks: &[Tick]) -> Result<(), NoMemory>
+    ensures { OnOk result (text.new.items ≡ text.old.items ++ flat_map spec.tick_text ticks.now) }
+{
+    for i in 0..ticks.len() {
+        put_tick(text, &ticks[i])?;
+    }
+    Ok(())
+}
+
+/// Returns a picture as SVG: a line for each shape, the rectangles first, then the texts, and then the marks of events.
+pub fn write_svg(alloc: Global, picture: &Picture) -> Result<Vec<u8>, NoMemory>
+    ensures { IfOk result (λ text. text.items ≡ spec.svg picture.now) }
+{
+    let mut text = Vec::new(alloc);
+    put_head(&mut text, picture)?;
+    put_rects(&mut text, picture.rects.as_slice())?;
+    put_labels(&mut text, picture.labels.as_slice())?;
+    put_ticks(&mut text, picture.ticks.as_slice())?;
+    put(&mut text, b"</svg>\n")?;
+    Ok(text)
+}
