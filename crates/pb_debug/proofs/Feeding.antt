@@ -1,6 +1,6 @@
 -- Lines that come in parts.
-use Rattle.std.proofs.Common.{◌≡◌, inl, inr, ℕ, suc, ◌+◌, ◌-◌, ◌<◌, ◌≤◌, ◌++◌, eqb, Bool, true, false, cond, List, [], ◌∷◌, length, take, drop, get_or, Option, Some, None, Result, Ok, Err, refl, sym, ap, ◌∙◌, subst, arith, append_assoc, append-nil}
-use Rattle.std.specs.Prelude.{OnErr, IfSome}
+use Rattle.std.proofs.Common.{◌≡◌, inl, inr, ℕ, suc, ◌+◌, ◌-◌, ◌<◌, ◌≤◌, ◌++◌, eqb, Bool, true, false, cond, List, [], ◌∷◌, length, take, drop, get_or, Option, Some, None, refl, sym, ap, ◌∙◌, subst, arith, append_assoc, append-nil}
+use Rattle.std.specs.Prelude.{IfSome}
 use Rattle.std.proofs.lemmas.Bool.{cases_lt, lt-ltb}
 use Rattle.std.proofs.lemmas.List.{take_all, take-append-le, length-take-le, take-append-drop, length-drop}
 use Rattle.std.proofs.Math.Seq.{drop-cons, take-add}
@@ -327,10 +327,6 @@ pub fed_as : (d : Debugging) (part : List ℕ) (old : Option (List ℕ)) (next n
 fed_as d part old next next' xs xs' new new' line line' fed a b c e =
     subst (λ n. Fed d part xs' old new' line' n) e (subst (λ l. Fed d part xs' old new' l next) c
     (subst (λ o. Fed d part xs' old o line next) b (subst (λ x. Fed d part x old new line next) a fed)))
-
-pub always_err : {A E : Type 0} (r : Result A E) (P : Type 0) → P → OnErr r P
-always_err (Ok x) P h = tt
-always_err (Err e) P h = h
 
 -- bytes, parted at one of them
 pub split_at : (bytes : List ℕ) (i b : ℕ) → i < length bytes → get_or bytes i 0 ≡ b → take i bytes ++ b ∷ drop (i + 1) bytes ≡ bytes

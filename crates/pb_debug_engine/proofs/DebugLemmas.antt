@@ -101,10 +101,3 @@ only_writes_fail old new written written' status (none, one) = (
     | inr failed ↦ failed.1
   ],
 )
-
--- nothing was read or written yet
-pub not_read_yet : (reads reads' old new : ℕ) (written written' : Option (List ℕ)) (status : Status) → reads' ≡ reads
-    → TellsWriteFaults old new status
-    → TellsAnyFault (record { reads = reads; writes = old; written = written }) (record { reads = reads'; writes = new; written = written' }) status
-not_read_yet reads reads' old new written written' status same (none, one) =
-    (λ no_device. (same, none no_device), λ device. inr (same, one device))

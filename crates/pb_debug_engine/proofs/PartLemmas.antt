@@ -72,9 +72,6 @@ module _ (xs ys : List ℕ) (at : ℕ) (within : at + 3 ≤ length xs) where
 abbrev pub IsUnmarked : List ℕ → Type 0
 IsUnmarked text = (at : ℕ) → at + 3 ≤ length text → ¬ IsMarkAt text at
 
-pub unmarked_first : IsUnmarked []
-unmarked_first at within = absurd (omega (arith, within))
-
 -- one more byte, with which the text does not end in a mark
 pub unmarked_more : (text : List ℕ) (b : ℕ) → IsUnmarked text → (EndsInMark (text ++ b ∷ []) → ⊥) → IsUnmarked (text ++ b ∷ [])
 unmarked_more text b none other at within mark =
