@@ -1,8 +1,8 @@
 -- Machines that walk along a trace, and what its picks show.
 use Rattle.std.proofs.Common.{◌≡◌, ℕ, ◌+◌, List, Option, Some, None, refl, sym, ap, ◌∙◌, subst}
 use Rattle.std.specs.Prelude.{option_and_then, slice_get}
-use Rattle.pb_base.specs.Banker.{BankerState, cash}
-use Rattle.pb_base.specs.Steppers.{State, Move, banker_state, event_of, move_of}
+use Rattle.pb_base.specs.Banker.{cash}
+use Rattle.pb_base.specs.Steppers.{State, Move, banker_state, event_of}
 use Rattle.pb_base.specs.declared.event.Event.{Event}
 use Rattle.pb_base.specs.declared.pick.Pick.{Pick}
 use Rattle.pb_base.specs.declared.step.Step.{Step}
@@ -13,7 +13,6 @@ use Rattle.pb_code.specs.Whole.{Code, bank_of}
 use Rattle.pb_draw.specs.Cash.{cash_after}
 use Rattle.pb_draw.specs.Lanes.{standing_after, standing_in}
 use Rattle.pb_draw.specs.Walks.{StandsAfter, event_at, shown_in, step_event}
-use Rattle.pb_draw.specs.declared.drawing.Standing.{Standing}
 use Rattle.pb_history.proofs.Positions.{not_refused, stepped_more}
 use Rattle.pb_history.specs.Positions.{AreEnabled, state_after}
 use Rattle.pb_machine.specs.Steps.{IsStep}

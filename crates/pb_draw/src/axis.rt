@@ -18,6 +18,9 @@ pub(crate) const CHARACTER: u64 = 7;
 
 const SIDE: u64 = 16;
 
+// How wide the time before any pick is.
+const START: u64 = 48;
+
 const MOST_CHARACTERS: usize = 100;
 
 /// An event on the axis: the position just after it, where that begins, how wide its pick is, and how many silent
@@ -72,7 +75,7 @@ pub(crate) fn axis_of(
     let mut knot = Knot {
         position: 0,
         x: left,
-        width: SIDE,
+        width: START,
         silent: 0,
     };
     for (i, mark) in marks.iter().enumerate() {

@@ -243,8 +243,14 @@ impl Shapes {
     }
 }
 
+// What is said below a picture, and how wide it is at least, so that there is room for it.
 const NOTE: &[u8] =
-    b"picks from left to right, those with an event by their numbers; hatched: waits for a request; more than 15 silent picks in a row are shortened";
+    b"pick after pick, from left to right; a pick with an event has its number above it";
+
+const OTHER_NOTE: &[u8] =
+    b"hatched: the arm is at a request; grey ground: more than 15 silent picks, shortened";
+
+const LEAST_WIDTH: u64 = 560;
 
 // Returns how the line of an arm is drawn that stands so; it has none unless it is live.
 fn line_kind(step: LaneStep) -> Option<RectKind> {
@@ -298,10 +304,11 @@ pub fn lay_out(
     shapes.add_bars(drawing, &lines, &rows, &knots)?;
     shapes.add_curves(names, capital, &drawing.curves, rows.end, &knots)?;
     shapes.add_note(bottom.saturating_add(24), NOTE)?;
+    shapes.add_note(bottom.saturating_add(38), OTHER_NOTE)?;
     let ticks = ticks_of(alloc, &drawing.marks, &lines, &knots, &rows.rows)?;
     Ok(Picture {
-        width: right_of(&knots).saturating_add(20),
-        height: bottom.saturating_add(40),
+        width: right_of(&knots).saturating_add(20).max(LEAST_WIDTH),
+        height: bottom.saturating_add(50),
         rects: shapes.rects,
         labels: shapes.labels,
         ticks,

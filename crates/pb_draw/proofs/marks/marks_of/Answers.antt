@@ -1,6 +1,4 @@
-use Rattle.std.proofs.Common.{length, ◌≤◌, ap, ◌∙◌, arith}
 use Rattle.pb_history.specs.Entries.{picks_of}
-use Rattle.pb_draw.specs.Marks.{marks_before}
 use Rattle.pb_draw.proofs.Marking.{marks_more}
 use Rattle.pb_draw.proofs.marks.marks_of.Goals as goal
 
