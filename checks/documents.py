@@ -1,12 +1,15 @@
 #!/usr/bin/env python3
-"""Types the commands that the documents show, and compares what they write; and looks whether each path in them is there.
+"""Types the commands that the documents show, and compares what they write; compares the files that they show; and looks
+whether each path in them is there.
 
     checks/documents.py [PROGRAM]     PROGRAM is the one that ./parbegin has built if none is given
 
 A command is a line of a block that begins with `$ `, with the lines behind it that begin with `> `; what it writes is
 the lines up to the next command or the end of the block. The commands run in a folder with the script, as it is
-installed, and the examples. A path is a word of a document, in backquotes or not, that begins with the name of a folder
-at the top of the repository. Its status is 0 if all is as wanted, and 1 if not.
+installed, and the examples. A block that names a language and a path behind its opening backquotes, as in
+"rust crates/NAME/src/main.rt", shows a file, and has to be that file. A path is a word of a document, in backquotes or
+not, that begins with the name of a folder at the top of the repository. Its status is 0 if all is as wanted, and 1 if
+not.
 """
 import pathlib
 import re
@@ -17,15 +20,15 @@ import tempfile
 from calls import TOP, Tally, program
 
 DOCUMENTS = [TOP / "README.md", TOP / "examples/README.md", TOP / "extras/README.md", *sorted((TOP / "docs").glob("*.md"))]
-BLOCK = re.compile(r"^( *)```\n(.*?)^\1```$", re.M | re.S)
+BLOCK = re.compile(r"^( *)```([^\n]*)\n(.*?)^\1```$", re.M | re.S)
 PATH = re.compile(r"(?<![\w/.])(?:crates|docs|examples|checks|benches|extras)/[\w./{},*-]*\w\.\w+")
 
 
 def commands_of(text):
     """Returns the commands of a document, each with what it is shown to write."""
-    for indent, block in BLOCK.findall(text):
+    for indent, label, block in BLOCK.findall(text):
         lines = [line.removeprefix(indent) for line in block.splitlines()]
-        if not lines or not lines[0].startswith("$ "):
+        if label or not lines or not lines[0].startswith("$ "):
             continue
         found = []
         for line in lines:
@@ -37,6 +40,14 @@ def commands_of(text):
                 found[-1][1].append(line)
         for command, written in found:
             yield "\n".join(command), written
+
+
+def files_of(text):
+    """Returns the paths of the files that a document shows, each with the text that it shows."""
+    for _, label, block in BLOCK.findall(text):
+        _, space, path = label.partition(" ")
+        if space:
+            yield path, block
 
 
 def install(folder):
@@ -68,6 +79,9 @@ def main():
                 ran = subprocess.run(["bash", "-c", command], cwd=top, stdout=subprocess.PIPE, stderr=subprocess.STDOUT)
                 got = ran.stdout.decode().splitlines()
                 tally.expect(got == written, f"{document.name}: `{command}` writes", *got)
+            for path, shown in files_of(text):
+                is_same = (TOP / path).is_file() and (TOP / path).read_text() == shown
+                tally.expect(is_same, f"{document.name} shows {path} as it is not")
             for path in PATH.findall(text):
                 if "NAME" in path:
                     # (any crate or file)
