@@ -1,0 +1,39 @@
+-- From the reply of `explain` to what is written, and the list so far with one code more.
+use Rattle.std.proofs.Common.{◌≡◌, ◌+◌, ◌<◌, ◌≤◌, ◌++◌, ◌∷◌, ◌∙◌, ℕ, List, [], Option, Result, Ok, Err, IfOk, OnErr, ap, append_assoc, get_or, length, sym, take}
+use Rattle.std.proofs.lemmas.List.{flat_map_more, take_all, take_more}
+use Rattle.pb_base.specs.declared.memory.NoMemory.{NoMemory}
+use Rattle.pb_engines.specs.Answers.{Says, Tells, memory_line}
+use Rattle.pb_engines.specs.declared.reply.Reply.{Reply}
+use Rattle.pb_engines.specs.declared.status.Status.{Status}
+use Rattle.pb_engines.specs.declared.status.Status.TheVariants.{Memory}
+use Rattle.pb_refusals.specs.declared.code.Code.{Code}
+use Rattle.pb_explain.specs.Entries.{entry_of}
+use Rattle.pb_explain.specs.Pages.{SaysOfExplain, first_line, list_of_codes, no_memory}
+
+pub told_explanation : (asked : Option Code) (reply : Result Reply NoMemory) (old new : Option (List ℕ)) (answered : Status)
+    → IfOk reply (λ r. SaysOfExplain asked r.text.items r.status)
+    → IfOk reply (λ r. Says old new r.text.items r.status answered)
+    → OnErr reply (Says old new memory_line Memory answered) → Tells (SaysOfExplain asked) old new answered
+told_explanation asked (Ok r) old new answered says said memory = (r.text.items, r.status, says, said)
+told_explanation asked (Err e) old new answered says said memory = (memory_line, Memory, no_memory, memory)
+
+pub one_line_more : (listed : List Code) (i : ℕ) (code : Code) (old so_far new : List ℕ) → i < length listed
+    → get_or listed i code ≡ code → so_far ≡ old ++ list_of_codes (take i listed)
+    → new ≡ so_far ++ first_line code (entry_of code) → new ≡ old ++ list_of_codes (take (i + 1) listed)
+one_line_more listed i code old so_far new within at before now =
+    now ∙ ap (λ (t : List ℕ). t ++ first_line code (entry_of code)) before
+    ∙ flat_map_more (λ c. first_line c (entry_of c)) old (take i listed) code
+    ∙ ap (λ l. old ++ list_of_codes l) (sym (take_more listed i code within ∙ ap (λ c. take i listed ++ c ∷ []) at))
+
+pub all_lines : (listed : List Code) (i : ℕ) (old new : List ℕ) → length listed ≤ i
+    → new ≡ old ++ list_of_codes (take i listed) → new ≡ old ++ list_of_codes listed
+all_lines listed i old new end is = is ∙ ap (λ l. old ++ list_of_codes l) (take_all i listed end)
+
+-- four texts that were put behind a text, one after another
+pub four_texts : (old a b c d one two three four : List ℕ) → one ≡ old ++ a → two ≡ one ++ b → three ≡ two ++ c → four ≡ three ++ d
+    → four ≡ old ++ (((a ++ b) ++ c) ++ d)
+four_texts old a b c d one two three four first second third fourth =
+    fourth
+    ∙ ap (λ (t : List ℕ). t ++ d)
+    (third ∙ ap (λ (t : List ℕ). t ++ c) (second ∙ ap (λ (t : List ℕ). t ++ b) first))
+    ∙ simp append_assoc

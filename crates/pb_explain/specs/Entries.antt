@@ -1,0 +1,44 @@
+-- What there is to say of each code.
+use Rattle.pb_refusals.specs.declared.code.Code.{Code}
+use Rattle.pb_refusals.specs.declared.code.Code.TheVariants as code
+use Rattle.pb_explain.specs.Explanation.{Explanation}
+use Rattle.pb_explain.specs.Texts.{l1-entry, l2-entry, l3-entry, l4-entry, p1-entry, p2-entry, p3-entry, input-entry, output-entry}
+use Rattle.pb_explain.specs.Names.{n1-entry, n2-entry, n3-entry, n4-entry, n6-entry, c1-entry, e1-entry}
+use Rattle.pb_explain.specs.Objects.{o1-entry, o2-entry, v1-entry, v2-entry, v3-entry, v4-entry, v5-entry, v6-entry, v7-entry, v8-entry, v9-entry}
+use Rattle.pb_explain.specs.Runs.{k1-entry, k2-entry, h1-entry, g1-entry, g2-entry, g3-entry, g4-entry}
+
+unfoldable pub entry_of : Code → Explanation
+entry_of code.L1 = l1-entry
+entry_of code.L2 = l2-entry
+entry_of code.L3 = l3-entry
+entry_of code.L4 = l4-entry
+entry_of code.P1 = p1-entry
+entry_of code.P2 = p2-entry
+entry_of code.P3 = p3-entry
+entry_of code.N1 = n1-entry
+entry_of code.N2 = n2-entry
+entry_of code.N3 = n3-entry
+entry_of code.N4 = n4-entry
+entry_of code.N6 = n6-entry
+entry_of code.C1 = c1-entry
+entry_of code.E1 = e1-entry
+entry_of code.O1 = o1-entry
+entry_of code.O2 = o2-entry
+entry_of code.V1 = v1-entry
+entry_of code.V2 = v2-entry
+entry_of code.V3 = v3-entry
+entry_of code.V4 = v4-entry
+entry_of code.V5 = v5-entry
+entry_of code.V6 = v6-entry
+entry_of code.V7 = v7-entry
+entry_of code.V8 = v8-entry
+entry_of code.V9 = v9-entry
+entry_of code.K1 = k1-entry
+entry_of code.K2 = k2-entry
+entry_of code.H1 = h1-entry
+entry_of code.G1 = g1-entry
+entry_of code.G2 = g2-entry
+entry_of code.G3 = g3-entry
+entry_of code.G4 = g4-entry
+entry_of code.Input = input-entry
+entry_of code.Output = output-entry

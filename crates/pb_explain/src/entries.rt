@@ -1,0 +1,92 @@
+//! What there is to say of each refusal.
+ghost use Rattle.std.specs.Prelude.{◌≡◌};
+ghost use Rattle.pb_explain.specs.Entries.{entry_of};
+ghost use Rattle.pb_explain.specs.Explanation.{plain_entry};
+
+mod names;
+mod objects;
+mod runs;
+mod texts;
+
+use pb_refusals::Code;
+
+/// What there is to say of the refusals with one code. Its texts are lines of at most 84 bytes, with no line feed
+/// behind the last one.
+#[derive(Clone, Copy, Debug)]
+pub struct Entry {
+    /// The meaning in a few words.
+    pub summary: &'static str,
+    /// What the refusal means.
+    pub meaning: &'static str,
+    /// A call that is refused so, if an input of the program can be.
+    pub example: Option<Example>,
+    /// What to do about it.
+    pub mend: &'static str,
+}
+
+/// A call of the program that is refused.
+#[derive(Clone, Copy, Debug)]
+pub struct Example {
+    /// The words behind the name of the program, with single spaces.
+    pub command: &'static str,
+    /// What the call reads.
+    pub input: ExampleInput,
+    /// The refusal line, without its line feed.
+    pub line: &'static str,
+}
+
+/// What a call reads.
+#[derive(Clone, Copy, Debug)]
+pub enum ExampleInput {
+    /// Lines, each ended by a line feed.
+    Text(&'static str),
+    /// The line `process p begin`, then a line that is repeated, and then the line `print 1 end`.
+    Repeated {
+        /// The line, without its line feed.
+        line: &'static str,
+        /// How often it is repeated.
+        times: u32,
+    },
+}
+
+/// Returns what there is to say of the refusals with this code.
+pub fn entry_for(code: Code) -> Entry
+    ensures { plain_entry result ≡ entry_of code }
+{
+    match code {
+        Code::L1 => texts::L1,
+        Code::L2 => texts::L2,
+        Code::L3 => texts::L3,
+        Code::L4 => texts::L4,
+        Code::P1 => texts::P1,
+        Code::P2 => texts::P2,
+        Code::P3 => texts::P3,
+        Code::N1 => names::N1,
+        Code::N2 => names::N2,
+        Code::N3 => names::N3,
+        Code::N4 => names::N4,
+        Code::N6 => names::N6,
+        Code::C1 => names::C1,
+        Code::E1 => names::E1,
+        Code::O1 => objects::O1,
+        Code::O2 => objects::O2,
+        Code::V1 => objects::V1,
+        Code::V2 => objects::V2,
+        Code::V3 => objects::V3,
+        Code::V4 => objects::V4,
+        Code::V5 => objects::V5,
+        Code::V6 => objects::V6,
+        Code::V7 => objects::V7,
+        Code::V8 => objects::V8,
+        Code::V9 => objects::V9,
+        Code::K1 => runs::K1,
+        Code::K2 => runs::K2,
+        Code::H1 => runs::H1,
+        Code::G1 => runs::G1,
+        Code::G2 => runs::G2,
+        Code::G3 => runs::G3,
+        Code::G4 => runs::G4,
+        Code::Input => texts::INPUT,
+        Code::Output => texts::OUTPUT,
+    }
+}

@@ -1,0 +1,173 @@
+//! The command `explain`, over any output.
+ghost use Rattle.std.specs.Prelude.{◌≡◌, ◌++◌, IfOk, OnOk, option_map};
+ghost use Rattle.pb_engines.specs.Answers.{line as line_of, Tells};
+ghost use Rattle.pb_engines.specs.Faults.{TellsWriteFaults};
+ghost use Rattle.pb_explain.specs.Explanation.{plain_entry, plain_example, plain_input, Text, Repeated};
+ghost use Rattle.pb_explain.specs.Pages.{example_text, examples_text, explanation_of, first_line, list_of_codes, meaning_text, page_of, page_of_entry, repetition_text, shell_text, SaysOfExplain};
+
+use crate::entries::{Entry, Example, ExampleInput, entry_for};
+use pb_base::NoMemory;
+use pb_base::device::Output;
+use pb_engines::Status;
+use pb_engines::reply::{Reply, tell};
+use pb_refusals::Code;
+use std::alloc::Global;
+
+// Puts a line behind a text.
+fn put_line(text: &mut Vec<u8>, line: &str) -> Result<(), NoMemory>
+    ensures { OnOk result (text.new.items ≡ text.old.items ++ line_of line.now) }
+{
+    text.extend_from_slice(line.as_bytes())?;
+    text.push(b'\n')?;
+    Ok(())
+}
+
+// Puts the first line of a page behind a text.
+fn put_first_line(text: &mut Vec<u8>, code: Code, entry: &Entry) -> Result<(), NoMemory>
+    ensures { OnOk result (text.new.items ≡ text.old.items ++ first_line code (plain_entry entry.now)) }
+{
+    text.extend_from_slice(code.name().as_bytes())?;
+    text.extend_from_slice(b": ")?;
+    put_line(text, entry.summary)
+}
+
+// Puts a call that reads a text behind a text, as a shell takes it.
+fn put_call_with_text(text: &mut Vec<u8>, command: &str, given: &str) -> Result<(), NoMemory>
+    ensures { OnOk result (text.new.items ≡ text.old.items ++ shell_text command.now (Text given.now)) }
+{
+    text.extend_from_slice(b"parbegin ")?;
+    text.extend_from_slice(command.as_bytes())?;
+    text.extend_from_slice(b" <<END\n")?;
+    text.extend_from_slice(given.as_bytes())?;
+    text.extend_from_slice(b"END\n")?;
+    Ok(())
+}
+
+// Puts what makes the first line and a repeated line behind a text, as a shell takes it.
+fn put_repetition(text: &mut Vec<u8>, repeated: &str, times: u32) -> Result<(), NoMemory>
+    ensures { OnOk result (text.new.items ≡ text.old.items ++ repetition_text repeated.now times) }
+{
+    let mut digits = itoa::Buffer::new();
+    text.extend_from_slice(b"(echo process p begin; yes '")?;
+    text.extend_from_slice(repeated.as_bytes())?;
+    text.extend_from_slice(b"' | head -n ")?;
+    text.extend_from_slice(digits.format(times).as_bytes())?;
+    Ok(())
+}
+
+// Puts a call that reads a repeated line behind a text, as a shell takes it.
+fn put_call_with_lines(
+    text: &mut Vec<u8>,
+    command: &str,
+    repeated: &str,
+    times: u32,
+) -> Result<(), NoMemory>
+    ensures { OnOk result (text.new.items ≡ text.old.items ++ shell_text command.now (Repeated repeated.now times)) }
+{
+    put_repetition(text, repeated, times)?;
+    text.extend_from_slice(b"; echo print 1 end) | parbegin ")?;
+    put_line(text, command)?;
+    Ok(())
+}
+
+// Puts a call behind a text, as a shell takes it.
+fn put_call(text: &mut Vec<u8>, command: &str, input: ExampleInput) -> Result<(), NoMemory>
+    ensures { OnOk result (text.new.items ≡ text.old.items ++ shell_text command.now (plain_input input)) }
+{
+    match input {
+        ExampleInput::Text(given) => put_call_with_text(text, command, given),
+        ExampleInput::Repeated { line, times } => put_call_with_lines(text, command, line, times),
+    }
+}
+
+// Puts a call that is refused behind a text, with its refusal line.
+fn put_example(text: &mut Vec<u8>, example: &Example) -> Result<(), NoMemory>
+    ensures { OnOk result (text.new.items ≡ text.old.items ++ example_text (plain_example example.now)) }
+{
+    text.extend_from_slice(b"\nFor example, a shell that is told\n\n")?;
+    put_call(text, example.command, example.input)?;
+    text.extend_from_slice(b"\nshows\n\n")?;
+    put_line(text, example.line)?;
+    Ok(())
+}
+
+// Puts the example of a page behind a text, if it has one.
+fn put_any_example(text: &mut Vec<u8>, example: Option<Example>) -> Result<(), NoMemory>
+    ensures { OnOk result (text.new.items ≡ text.old.items ++ examples_text (option_map plain_example example)) }
+{
+    match example {
+        Some(example) => put_example(text, &example),
+        None => Ok(()),
+    }
+}
+
+// Puts the first line and the meaning behind a text.
+fn put_meaning(text: &mut Vec<u8>, code: Code, entry: &Entry) -> Result<(), NoMemory>
+    ensures { OnOk result (text.new.items ≡ text.old.items ++ meaning_text code (plain_entry entry.now)) }
+{
+    put_first_line(text, code, entry)?;
+    text.push(b'\n')?;
+    put_line(text, entry.meaning)?;
+    Ok(())
+}
+
+// Puts the page of an entry behind a text.
+fn put_entry(text: &mut Vec<u8>, code: Code, entry: &Entry) -> Result<(), NoMemory>
+    ensures { OnOk result (text.new.items ≡ text.old.items ++ page_of_entry code (plain_entry entry.now)) }
+{
+    put_meaning(text, code, entry)?;
+    put_any_example(text, entry.example)?;
+    text.push(b'\n')?;
+    put_line(text, entry.mend)?;
+    Ok(())
+}
+
+// Puts the page of a code behind a text.
+fn put_page(text: &mut Vec<u8>, code: Code) -> Result<(), NoMemory>
+    ensures { OnOk result (text.new.items ≡ text.old.items ++ page_of code) }
+{
+    put_entry(text, code, &entry_for(code))
+}
+
+// Puts a line for each of these codes behind a text.
+fn put_lines(text: &mut Vec<u8>, listed: &[Code]) -> Result<(), NoMemory>
+    ensures { OnOk result (text.new.items ≡ text.old.items ++ list_of_codes listed.now) }
+{
+    for code in listed {
+        put_first_line(text, *code, &entry_for(*code))?;
+    }
+    Ok(())
+}
+
+// Puts the page of the code that is asked for behind a text, or the list of all codes.
+fn put_explanation(text: &mut Vec<u8>, asked: Option<Code>) -> Result<(), NoMemory>
+    ensures { OnOk result (text.new.items ≡ text.old.items ++ explanation_of asked) }
+{
+    match asked {
+        Some(code) => put_page(text, code),
+        None => put_lines(text, Code::ALL.as_slice()),
+    }
+}
+
+// All that is said.
+fn explanation(alloc: Global, asked: Option<Code>) -> Result<Reply, NoMemory>
+    ensures { IfOk result (λ reply. SaysOfExplain asked reply.text.items reply.status) }
+{
+    let mut text = Vec::new(alloc);
+    put_explanation(&mut text, asked)?;
+    Ok(Reply {
+        text,
+        status: Status::Done,
+    })
+}
+
+/// Writes what refusals with a code mean, an example of one, and what to do about it; or, if no code is given, a line
+/// for each code, in the order of `Code::ALL`.
+///
+/// After a write that failed a first part of it is written.
+pub fn explain_engine<O: Output>(alloc: Global, asked: Option<Code>, output: &mut O) -> Status
+    ensures text { Tells (SaysOfExplain asked) (O.written output.old) (O.written output.new) result }
+    ensures faults { TellsWriteFaults (O.failures output.old) (O.failures output.new) result }
+{
+    tell(alloc, explanation(alloc, asked), output)
+}
