@@ -1,0 +1,44 @@
+-- What `draw` says of an input, and with which status.
+use Rattle.std.specs.Prelude.{◌≡◌, ℕ, List}
+use Rattle.pb_base.specs.Steppers.{State}
+use Rattle.pb_code.specs.Code.{CodeProcess}
+use Rattle.pb_code.specs.Whole.{Code, ProcessLabels}
+use Rattle.pb_codegen.specs.Compiled.{IsCompiled}
+use Rattle.pb_draw.specs.Drawings.{IsDrawing}
+use Rattle.pb_draw.specs.Pictures.{ShowsEvents}
+use Rattle.pb_draw.specs.Svg.{svg}
+use Rattle.pb_draw.specs.declared.drawing.Drawing.{Drawing}
+use Rattle.pb_draw.specs.declared.picture.Picture.{Picture}
+use Rattle.pb_engines.specs.Answers.{line, memory_line}
+use Rattle.pb_engines.specs.Parts.{AreTwoParts}
+use Rattle.pb_engines.specs.Refusals.{RefusesWith}
+use Rattle.pb_engines.specs.ReplayLines.{AreReplayed, IsStatusAt, SaysOfNoPicks}
+use Rattle.pb_engines.specs.declared.status.Status.{Status}
+use Rattle.pb_engines.specs.declared.status.Status.TheVariants.{Memory, Refused}
+use Rattle.pb_history.specs.Entries.{Entry, picks_of}
+
+-- a text is the picture of these entries as SVG, in which each event has its mark
+pub record IsPictured (code : Code) (entries : List Entry) (text : List ℕ) : Type 0 where
+  pub drawing : Drawing
+  pub picture : Picture
+  pub drawn : IsDrawing code (picks_of entries) drawing
+  pub shows : ShowsEvents code.names drawing.marks.items picture
+  pub written : text ≡ svg picture
+
+-- what is said of the lines behind an accepted text, by its code: their picks are refused; or all are made, and the
+-- picture of them is written, with the status of `replay`
+pub data SaysOfDrawnLines (code : Code) (lines : List ℕ) : List ℕ → Status → Type 0 where
+  not_made : (said : List ℕ) (status : Status) → SaysOfNoPicks code lines said status
+      → SaysOfDrawnLines code lines said status
+  no_memory : SaysOfDrawnLines code lines memory_line Memory
+  drawn : (entries : List Entry) (end : State CodeProcess) → AreReplayed code lines entries end
+      → (said : List ℕ) → IsPictured code entries said → (status : Status) → IsStatusAt end status
+      → SaysOfDrawnLines code lines said status
+
+-- what is said of an input, which is a text and pick lines behind it: its text is refused; or it is accepted
+pub data SaysOfDraw (bytes : List ℕ) : List ℕ → Status → Type 0 where
+  no_text : (text lines : List ℕ) → AreTwoParts bytes text lines
+      → (refusal : List ℕ) → RefusesWith text refusal → SaysOfDraw bytes (line refusal) Refused
+  with_code : (text lines : List ℕ) → AreTwoParts bytes text lines
+      → (code : Code) (labels : List ProcessLabels) → IsCompiled text code labels
+      → (said : List ℕ) (status : Status) → SaysOfDrawnLines code lines said status → SaysOfDraw bytes said status

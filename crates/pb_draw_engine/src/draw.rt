@@ -1,0 +1,141 @@
+//! The command `draw`, over any input and output.
+
+ghost use Rattle.std.specs.Prelude.{◌≡◌, ◌≢◌, ◌↔◌, ◌≤◌, IfErr, IfOk, IfSome, IsTrue, length};
+ghost use Rattle.pb_draw_engine.specs.Draws.{IsPictured, SaysOfDraw, SaysOfDrawnLines};
+ghost use Rattle.pb_engines.specs.Answers.{Tells};
+ghost use Rattle.pb_engines.specs.Faults.{TellsFaults, TellsWriteFaults};
+ghost use Rattle.pb_engines.specs.Inputs.{SaysOfInput};
+ghost use Rattle.pb_engines.specs.ReplayLines.{AreReplayed, IsLinesFault, IsStatusAt};
+ghost use Rattle.pb_engines.specs.Runs.{HasFault};
+ghost use Rattle.pb_engines.specs.declared.status.Status.TheVariants.{Device};
+ghost use Rattle.pb_history.specs.Entries.{picks_of};
+ghost use Rattle.pb_history.specs.Positions.{AreEnabled};
+ghost use Rattle.pb_machine.specs.Views.{machine_view};
+
+use pb_base::NoMemory;
+use pb_base::device::{Input, Output};
+use pb_draw::{draw, lay_out, write_svg};
+use pb_engines::Status;
+use pb_engines::accept::{compile_text, refuse};
+use pb_engines::input::read_input;
+use pb_engines::parts::two_parts;
+use pb_engines::replay::{LinesFault, lines_refusal};
+use pb_engines::reply::{Reply, tell};
+use pb_history::Trace;
+use pb_history::replay::replay_counted;
+use pb_machine::Machine;
+use pb_picks::read_picks;
+use pb_verifier::Verified;
+use std::alloc::Global;
+
+/// Makes the picks that the pick lines behind the text of the input say, from the start of the text, and writes a
+/// picture of that run as SVG. A line `%%` stands between the text and the pick lines. A text, lines or picks that are
+/// refused are answered by their refusal line alone, as `replay` answers them.
+///
+/// The status is `Fault` if a process faulted. After a read that failed nothing is written; after a write that failed,
+/// a first part of what was being said.
+pub fn draw_engine<I: Input, O: Output>(alloc: Global, input: &mut I, output: &mut O) -> Status
+    ensures text { IfSome (I.rest input.old) (λ bytes.
+        Tells (SaysOfInput SaysOfDraw bytes) (O.written output.old) (O.written output.new) result) }
+    ensures faults { TellsFaults
+        (record { reads = I.failures input.old; writes = O.failures output.old; written = O.written output.old })
+        (record { reads = I.failures input.new; writes = O.failures output.new; written = O.written output.new })
+        result }
+{
+    match read_input(alloc, input, output) {
+        Ok(bytes) => draw_bytes(alloc, bytes.as_slice(), output),
+        Err(status) => status,
+    }
+}
+
+// Draws the run of a whole input.
+fn draw_bytes<O: Output>(alloc: Global, bytes: &[u8], output: &mut O) -> Status
+    requires { length bytes.now ≤ 4194304 }
+    ensures text { Tells (SaysOfInput SaysOfDraw bytes.now) (O.written output.old) (O.written output.new) result }
+    ensures faults { TellsWriteFaults (O.failures output.old) (O.failures output.new) result }
+{
+    let (text, lines) = two_parts(bytes);
+    match compile_text(alloc, text) {
+        Ok(compiled) => draw_lines(alloc, compiled.verified(), lines, output),
+        Err(refusal) => refuse(alloc, refusal, output),
+    }
+}
+
+// Makes the picks that lines say: returns the machine behind them, and their trace.
+fn make_lines(
+    alloc: Global,
+    verified: &Verified,
+    lines: &[u8],
+) -> Result<(Machine, Trace), LinesFault>
+    ensures made { IfOk result (λ made.
+        AreReplayed verified.now.code lines.now made.1.entries (machine_view made.0)) }
+    ensures fault { IfErr result (IsLinesFault verified.now.code lines.now) }
+{
+    let picks = match read_picks(alloc, verified.code(), lines) {
+        Ok(picks) => picks,
+        Err(fault) => return Err(LinesFault::NotRead(fault)),
+    };
+    match replay_counted(alloc, verified, picks.as_slice()) {
+        Ok(made) => Ok(made),
+        Err(fault) => Err(LinesFault::NotMade(fault)),
+    }
+}
+
+// Draws the run that lines say, or writes why their picks are not made.
+fn draw_lines<O: Output>(alloc: Global, verified: &Verified, lines: &[u8], output: &mut O) -> Status
+    ensures text { Tells (SaysOfDrawnLines verified.now.code lines.now) (O.written output.old) (O.written output.new) result }
+    ensures faults { TellsWriteFaults (O.failures output.old) (O.failures output.new) result }
+{
+    match make_lines(alloc, verified, lines) {
+        Ok((machine, trace)) => {
+            let reply = drawn(alloc, verified, &trace, &machine);
+            tell(alloc, reply, output)
+        }
+        Err(fault) => tell(alloc, lines_refusal(alloc, fault), output),
+    }
+}
+
+// Returns whether some process has faulted.
+fn has_fault(machine: &Machine) -> bool
+    ensures { IsTrue result ↔ HasFault (machine_view machine.now) }
+{
+    for p in 0..machine.processes() {
+        if machine.proc(p).faulted() {
+            return true;
+        }
+    }
+    false
+}
+
+// Returns the status of a replay that stands here.
+#[tactic(auto, using(crate::proofs::Ending::faulted, crate::proofs::Ending::whole))]
+fn status_at(machine: &Machine) -> Status
+    ensures status { IsStatusAt (machine_view machine.now) result }
+    ensures no_device { result ≢ Device }
+{
+    if has_fault(machine) {
+        Status::Fault
+    } else {
+        Status::Done
+    }
+}
+
+// Returns the picture of a replay.
+fn drawn(
+    alloc: Global,
+    verified: &Verified,
+    trace: &Trace,
+    machine: &Machine,
+) -> Result<Reply, NoMemory>
+    requires enabled { AreEnabled verified.now.code (picks_of trace.now.entries) }
+    requires few { length trace.now.entries ≤ 10000000 }
+    ensures text { IfOk result (λ r. IsPictured verified.now.code trace.now.entries r.text.items) }
+    ensures status { IfOk result (λ r. IsStatusAt (machine_view machine.now) r.status) }
+{
+    let code = verified.code();
+    let drawing = draw(alloc, verified, trace)?;
+    let picture = lay_out(alloc, &code.names, &code.capital, &drawing)?;
+    let text = write_svg(alloc, &picture)?;
+    let status = status_at(machine);
+    Ok(Reply { text, status })
+}
