@@ -5,6 +5,7 @@ pub mod Growing
 pub mod Looks
 pub mod Machines
 pub mod Openings
+pub mod Operands
 pub mod Picks
 pub mod Quietly
 pub mod Reaching

@@ -1,25 +1,52 @@
 //! The operands of an arm.
 
-ghost use Rattle.std.specs.Prelude.{◌≡◌, ◌↔◌, ◌<◌, ◌≤◌, [], ◌∷◌, length, reverse, slice_get, Some, IsTrue, IfOk};
+ghost use Rattle.std.specs.Prelude.{◌≡◌, ◌↔◌, ◌+◌, ◌-◌, ◌<◌, ◌≤◌, [], ◌∷◌, length, reverse, slice_get, Some, IsTrue, IfOk};
+ghost use Rattle.pb_machine.specs.Operands.{held};
 
 use pb_base::NoMemory;
 use smallvec::SmallVec;
 use std::alloc::Global;
 use std::marker::Model;
 
-/// The operands of an arm, of which usually eight or fewer are there at a time.
+/// The operands of an arm. All slots that it may need are there from the start, usually eight or fewer, so that a run
+/// can have them as one slice.
 #[derive(Drop)]
 pub struct Stack {
-    operands: SmallVec<i64, 8>,
+    /// The operands, the lowest first, and behind them whatever was left there.
+    pub(crate) slots: SmallVec<i64, 8>,
+    /// How many operands there are.
+    pub(crate) depth: usize,
 }
 
 impl Model for Stack {
-    ghost use Rattle.std.specs.Prelude.{reverse};
-    ghost use Rattle.pb_machine.specs.Operands.{Operands};
+    ghost use Rattle.std.specs.Prelude.{◌≤◌, length};
+    ghost use Rattle.pb_machine.specs.Operands.{Operands, held};
 
     ghost Value = { Operands };
 
-    ghost view = { λ s. record { items = reverse s.operands.items; room = s.operands.capacity } };
+    ghost view = { λ s. record { items = held s.depth s.slots.items; room = length s.slots.items } };
+
+    ghost invariant = { λ s. s.depth ≤ length s.slots.items };
+}
+
+/// Puts an operand on the first `depth`, for which there is a slot.
+#[inline(always)]
+pub(crate) fn put(slots: &mut [i64], depth: usize, value: i64)
+    requires { depth < length slots.old }
+    ensures items { held (depth + 1) slots.new ≡ value ∷ held depth slots.old }
+    ensures room { length slots.new ≡ length slots.old }
+{
+    slots[depth] = value;
+}
+
+/// The top one of the first `depth` operands.
+#[inline(always)]
+pub(crate) fn top(slots: &[i64], depth: usize) -> i64
+    requires some { 0 < depth }
+    requires within { depth ≤ length slots.now }
+    ensures { held depth slots.now ≡ result ∷ held (depth - 1) slots.now }
+{
+    slots[depth - 1]
 }
 
 impl Stack {
@@ -28,8 +55,8 @@ impl Stack {
         ensures items { IfOk result (λ stack. stack.items ≡ []) }
         ensures room { IfOk result (λ stack. depth ≤ stack.room) }
     {
-        let operands = SmallVec::with_capacity(alloc, depth)?;
-        Ok(Stack { operands })
+        let slots = SmallVec::from_elem(alloc, 0, depth)?;
+        Ok(Stack { slots, depth: 0 })
     }
 
     /// The same operands, with the same room.
@@ -37,12 +64,11 @@ impl Stack {
         ensures items { IfOk result (λ stack. stack.items ≡ self.now.items) }
         ensures room { IfOk result (λ stack. stack.room ≡ self.now.room) }
     {
-        let _ = self.operands.len();
-        let mut operands = SmallVec::with_capacity(alloc, self.operands.capacity())?;
-        for value in self.operands.as_slice() {
-            operands.push_reserved(*value);
-        }
-        Ok(Stack { operands })
+        let slots = SmallVec::from_slice(alloc, self.slots.as_slice())?;
+        Ok(Stack {
+            slots,
+            depth: self.depth,
+        })
     }
 
     /// Takes over the operands of a stack, for which there is room.
@@ -51,9 +77,9 @@ impl Stack {
         ensures items { self.new.items ≡ other.now.items }
         ensures room { self.new.room ≡ self.old.room }
     {
-        self.operands.clear();
-        for value in other.operands.as_slice() {
-            self.operands.push_reserved(*value);
+        self.clear();
+        for value in other.as_slice() {
+            self.push(*value);
         }
     }
 
@@ -61,14 +87,14 @@ impl Stack {
     pub fn same(&self, other: &Stack) -> bool
         ensures { IsTrue result ↔ (self.now.items ≡ other.now.items) }
     {
-        self.operands.as_slice() == other.operands.as_slice()
+        self.as_slice() == other.as_slice()
     }
 
     /// The operands, the lowest first.
     pub fn as_slice(&self) -> &[i64]
         ensures { result.now ≡ reverse self.now.items }
     {
-        self.operands.as_slice()
+        &self.slots.as_slice()[..self.depth]
     }
 
     /// The operand with this many others on top of it.
@@ -77,7 +103,7 @@ impl Stack {
         requires { others < length self.now.items }
         ensures { slice_get self.now.items others ≡ Some result }
     {
-        let operands = self.operands.as_slice();
+        let operands = self.as_slice();
         operands[operands.len() - 1 - others]
     }
 
@@ -88,7 +114,8 @@ impl Stack {
         ensures items { self.new.items ≡ value ∷ self.old.items }
         ensures room { self.new.room ≡ self.old.room }
     {
-        self.operands.push_reserved(value);
+        put(self.slots.as_mut_slice(), self.depth, value);
+        self.depth += 1;
     }
 
     /// Takes the top operand, where there is one.
@@ -98,9 +125,8 @@ impl Stack {
         ensures items { self.old.items ≡ result ∷ self.new.items }
         ensures room { self.new.room ≡ self.old.room }
     {
-        let Some(value) = self.operands.pop() else {
-            unreachable!()
-        };
+        let value = top(self.slots.as_slice(), self.depth);
+        self.depth -= 1;
         value
     }
 
@@ -109,6 +135,6 @@ impl Stack {
         ensures items { self.new.items ≡ [] }
         ensures room { self.new.room ≡ self.old.room }
     {
-        self.operands.clear();
+        self.depth = 0;
     }
 }
