@@ -1,0 +1,4 @@
+pub mod Causes
+pub mod Kept
+pub mod Messages
+pub mod Places

@@ -1,0 +1,23 @@
+-- What a message says of a refusal.
+use Rattle.std.specs.Prelude.{◌≡◌, ℕ, List, [], Option, None, Some, length, min}
+use Rattle.pb_engines.specs.Refusals.{RefusesWith}
+use Rattle.pb_messages.specs.Causes.{TellsCause}
+use Rattle.pb_messages.specs.Places.{IsPlace, excerpt, message}
+use Rattle.pb_messages.specs.declared.cause.Cause.{Cause}
+use Rattle.pb_messages.specs.declared.place.Place.{Place}
+
+-- the place of a fault as it is shown: nothing if it has none; one behind the text is that of its end
+abbrev pub IsShown : (label text : List ℕ) → Option ℕ → List ℕ → Type 0
+IsShown label text None shown = shown ≡ []
+IsShown label text (Some at) shown =
+    (place : Place) × IsPlace text (min at (length text)) place × (shown ≡ excerpt label text place)
+
+-- the message of a cause, with its place in the text
+abbrev pub IsMessage : (label text : List ℕ) → Cause → List ℕ → Type 0
+IsMessage label text cause told =
+    (summary : List ℕ) × (shown : List ℕ) × (details : List ℕ)
+    × IsShown label text cause.at shown × (told ≡ message cause.code.now summary shown details)
+
+-- the message tells a refusal line that the text has: its code and its place
+abbrev pub TellsRefusal : (label text told : List ℕ) → Type 0
+TellsRefusal label text told = (cause : Cause) × TellsCause text cause × IsMessage label text cause told

@@ -1,0 +1,81 @@
+//! The message of a text whose code the first format can't say.
+
+use crate::cause::Cause;
+use crate::texts::text_message;
+use crate::tokens::is_at;
+use crate::wording::{Wording, worded};
+use pb_base::NoMemory;
+use pb_lexer::{Mark, Token, lex};
+use std::alloc::Global;
+
+const MOST_PROCESSES: usize = 32;
+
+/// Returns the message of a text, or of what the first format can't say of it; nothing if it can say all.
+pub fn first_format_message(alloc: Global, text: &[u8]) -> Result<Vec<u8>, NoMemory> {
+    if let Err(message) = text_message(alloc, "", text)? {
+        return Ok(message);
+    }
+    let Ok(tokens) = lex(alloc, text) else {
+        return Err(NoMemory);
+    };
+    let mut wording = if let Some(number) = process_past(&tokens) {
+        let summary = format!(in alloc; "the first format has at most 32 processes")?;
+        pointing(alloc, summary, &tokens, number)?
+    } else if let Some(number) = joint_hold(&tokens) {
+        let summary = format!(in alloc; "the first format has no hold of several resources")?;
+        pointing(alloc, summary, &tokens, number)?
+    } else {
+        return Ok(Vec::new(alloc));
+    };
+    wording.note(format!(in alloc;
+        "hint: the second format says it: emit --object 2, or emit alone"
+    )?)?;
+    let cause = Cause {
+        code: b"E1",
+        at: None,
+    };
+    worded(alloc, "", text, &cause, &wording)
+}
+
+// Returns the wording that points at a token.
+fn pointing(
+    alloc: Global,
+    summary: String,
+    tokens: &[Token],
+    number: usize,
+) -> Result<Wording, NoMemory> {
+    let mut wording = Wording::new(alloc, summary);
+    if let Some(token) = tokens.get(number) {
+        wording.spot(String::new(alloc), token.start())?;
+    }
+    Ok(wording)
+}
+
+// Returns the number of the word `process` before the first process that is too many.
+fn process_past(tokens: &[Token]) -> Option<usize> {
+    let mut count = 0usize;
+    for number in 0..tokens.len() {
+        if is_at(tokens, number, Mark::Process) {
+            count = count.saturating_add(1);
+            if count > MOST_PROCESSES {
+                return Some(number);
+            }
+        }
+    }
+    None
+}
+
+// Returns the number of the first token of the first hold of several resources.
+fn joint_hold(tokens: &[Token]) -> Option<usize> {
+    let mut hold = None;
+    for number in 0..tokens.len() {
+        if is_at(tokens, number, Mark::Hold) {
+            hold = Some(number);
+        } else if is_at(tokens, number, Mark::Do) {
+            hold = None;
+        } else if is_at(tokens, number, Mark::Comma) && hold.is_some() {
+            return hold;
+        }
+    }
+    None
+}

@@ -1,0 +1,214 @@
+//! The wording of a claim over its capital: the holds that add up to it.
+
+use crate::names::{closes, opens};
+use crate::tokens::{is_at, text_at};
+use crate::wording::{Shown, Wording};
+use pb_base::NoMemory;
+use pb_codegen::ClaimsFault;
+use pb_lexer::{Kind, Mark, Token};
+use std::alloc::Global;
+
+// The most holds that are shown.
+const MOST_SHOWN: usize = 12;
+
+// The greatest amount of a resource that is held at once, and the tokens of the holds of which it is the sum.
+#[derive(Drop)]
+struct Peak {
+    amount: u64,
+    holds: Vec<usize>,
+}
+
+// A statement that is open: what it adds itself, the greatest peak of its parts, and of a parbegin the peaks of the arms
+// before this one together.
+#[derive(Drop)]
+struct Frame {
+    is_parbegin: bool,
+    own: Peak,
+    greatest: Peak,
+    together: Peak,
+}
+
+impl Peak {
+    fn none(alloc: Global) -> Peak {
+        Peak {
+            amount: 0,
+            holds: Vec::new(alloc),
+        }
+    }
+
+    // Adds another peak, which is held at the same time.
+    fn add(&mut self, other: &Peak) -> Result<(), NoMemory> {
+        self.amount = self.amount.saturating_add(other.amount);
+        self.holds.extend_from_slice(&other.holds)?;
+        Ok(())
+    }
+}
+
+impl Frame {
+    fn new(alloc: Global, is_parbegin: bool, own: Peak) -> Frame {
+        Frame {
+            is_parbegin,
+            own,
+            greatest: Peak::none(alloc),
+            together: Peak::none(alloc),
+        }
+    }
+
+    // Ends an arm of a parbegin.
+    fn end_arm(&mut self, alloc: Global) -> Result<(), NoMemory> {
+        self.together.add(&self.greatest)?;
+        self.greatest = Peak::none(alloc);
+        Ok(())
+    }
+
+    // Returns the peak of the whole statement.
+    fn whole(self) -> Result<Peak, NoMemory> {
+        let Frame {
+            own: mut peak,
+            greatest,
+            together,
+            is_parbegin: _,
+        } = self;
+        peak.add(&together)?;
+        peak.add(&greatest)?;
+        Ok(peak)
+    }
+}
+
+/// Returns the wording of a claim over its capital, with the holds that add up to the claim.
+pub fn claims_wording(
+    alloc: Global,
+    tokens: &[Token],
+    fault: &ClaimsFault,
+) -> Result<Wording, NoMemory> {
+    let resource = Shown(&fault.resource);
+    let summary = format!(in alloc;
+        "process {} may come to hold {} of {} at once, of which there are {}",
+        Shown(&fault.process),
+        fault.claim,
+        resource,
+        fault.capital
+    )?;
+    let mut wording = Wording::new(alloc, summary);
+    let peak = process_peak(alloc, tokens, &fault.process, &fault.resource)?;
+    for hold in peak.holds.iter().take(MOST_SHOWN) {
+        if let Some(token) = tokens.get(*hold) {
+            let amount = own_amount(tokens, *hold, &fault.resource);
+            let label = format!(in alloc; "{} of {}: ", amount, resource)?;
+            wording.spot(label, token.start())?;
+        }
+    }
+    if peak.holds.len() > MOST_SHOWN {
+        wording.note(format!(in alloc; "{} more holds", peak.holds.len() - MOST_SHOWN)?)?;
+    }
+    wording.note(format!(in alloc;
+        "hint: hold less, or one after the other, or declare more: resource {} = {};",
+        resource, fault.claim
+    )?)?;
+    Ok(wording)
+}
+
+// Returns the peak of a process on a resource.
+fn process_peak(
+    alloc: Global,
+    tokens: &[Token],
+    process: &[u8],
+    resource: &[u8],
+) -> Result<Peak, NoMemory> {
+    let mut open = Vec::new(alloc);
+    open.push(Frame::new(alloc, false, Peak::none(alloc)))?;
+    let mut is_here = false;
+    for number in 0..tokens.len() {
+        if is_at(tokens, number, Mark::Process) {
+            is_here = text_at(tokens, number.saturating_add(1)) == process;
+        }
+        if is_here {
+            follow(alloc, tokens, number, resource, &mut open)?;
+        }
+    }
+    match open.pop() {
+        Some(frame) => frame.whole(),
+        None => Ok(Peak::none(alloc)),
+    }
+}
+
+// Goes on by a token.
+fn follow(
+    alloc: Global,
+    tokens: &[Token],
+    number: usize,
+    resource: &[u8],
+    open: &mut Vec<Frame>,
+) -> Result<(), NoMemory> {
+    if opens(tokens, number) {
+        let own = own_peak(alloc, tokens, number, resource)?;
+        let is_parbegin = is_at(tokens, number, Mark::Parbegin);
+        open.push(Frame::new(alloc, is_parbegin, own))?;
+    } else if closes(tokens, number) {
+        close(open)?;
+    } else if is_at(tokens, number, Mark::Semicolon) {
+        if let Some(frame) = open.last_mut() {
+            if frame.is_parbegin {
+                frame.end_arm(alloc)?;
+            }
+        }
+    }
+    Ok(())
+}
+
+// Closes the statement that was opened last: its peak is one of the statement in which it is.
+fn close(open: &mut Vec<Frame>) -> Result<(), NoMemory> {
+    let Some(frame) = open.pop() else {
+        return Ok(());
+    };
+    let peak = frame.whole()?;
+    if let Some(outer) = open.last_mut() {
+        if peak.amount > outer.greatest.amount {
+            outer.greatest = peak;
+        }
+    }
+    Ok(())
+}
+
+// Returns what a statement adds to the peaks of its parts.
+fn own_peak(
+    alloc: Global,
+    tokens: &[Token],
+    number: usize,
+    resource: &[u8],
+) -> Result<Peak, NoMemory> {
+    let mut peak = Peak::none(alloc);
+    if is_at(tokens, number, Mark::Hold) {
+        peak.amount = own_amount(tokens, number, resource);
+        if peak.amount > 0 {
+            peak.holds.push(number)?;
+        }
+    }
+    Ok(peak)
+}
+
+// Returns how much of a resource the hold asks for that begins with this token.
+fn own_amount(tokens: &[Token], hold: usize, resource: &[u8]) -> u64 {
+    for number in hold..tokens.len() {
+        if is_at(tokens, number, Mark::Do) {
+            return 0;
+        }
+        if is_at(tokens, number, Mark::Of)
+            && text_at(tokens, number.saturating_add(1)) == resource
+        {
+            return number_at(tokens, number.saturating_sub(1));
+        }
+    }
+    0
+}
+
+// Returns the number that a token is.
+fn number_at(tokens: &[Token], number: usize) -> u64 {
+    match tokens.get(number) {
+        Some(token) => match token.kind() {
+            Kind::Number(value) => u64::try_from(value).unwrap_or(0),
+            _ => 0,
+        },
+        None => 0,
+    }
+}

@@ -1,0 +1,88 @@
+//! The message of a refused input.
+
+use crate::first_format::first_format_message;
+use crate::objects::object_message;
+use crate::texts::{early_message, text_message};
+use pb_base::NoMemory;
+use pb_engines::input::LONGEST_INPUT;
+use pb_engines::parts::first_part;
+use std::alloc::Global;
+
+// What is said of an input that is too long.
+const LONG_INPUT: &[u8] = b"error input: the input is over 4,194,304 bytes\n";
+
+// What is said of a run that is too long.
+const LONG_OUTPUT: &[u8] = b"error output: the run is over 4,194,304 bytes\n";
+
+/// What a command reads.
+#[derive(Clone, Copy, Debug, PartialEq, Eq)]
+pub enum Reading {
+    /// A text.
+    Text,
+    /// A text whose capital does not matter.
+    Claims,
+    /// A text of which a run is to be written, which may be too long.
+    Recorded,
+    /// A text that is to become an object in the first format.
+    FirstFormat,
+    /// Texts, which lines `%%` part.
+    Texts,
+    /// An object.
+    Object,
+}
+
+/// Returns the message of a refused input, or one for each refused text of it; nothing if there is nothing to be said of
+/// these bytes.
+pub fn message_of(alloc: Global, reading: Reading, bytes: &[u8]) -> Result<Vec<u8>, NoMemory> {
+    if bytes.len() > LONGEST_INPUT {
+        return Ok(Vec::from_slice(alloc, LONG_INPUT)?);
+    }
+    match reading {
+        Reading::Text => match text_message(alloc, "", bytes)? {
+            Ok(_) => Ok(Vec::new(alloc)),
+            Err(message) => Ok(message),
+        },
+        Reading::Recorded => recorded_message(alloc, bytes),
+        Reading::Claims => Ok(early_message(alloc, bytes)?.unwrap_or(Vec::new(alloc))),
+        Reading::FirstFormat => first_format_message(alloc, bytes),
+        Reading::Texts => texts_messages(alloc, bytes),
+        Reading::Object => match object_message(alloc, bytes)? {
+            Ok(_) => Ok(Vec::new(alloc)),
+            Err(message) => Ok(message),
+        },
+    }
+}
+
+// Returns the message of a text, or of its run that is too long.
+fn recorded_message(alloc: Global, text: &[u8]) -> Result<Vec<u8>, NoMemory> {
+    match text_message(alloc, "", text)? {
+        Ok(_) => Ok(Vec::from_slice(alloc, LONG_OUTPUT)?),
+        Err(message) => Ok(message),
+    }
+}
+
+// Returns the messages of the texts of an input that are refused.
+fn texts_messages(alloc: Global, bytes: &[u8]) -> Result<Vec<u8>, NoMemory> {
+    let mut out = Vec::new(alloc);
+    let mut rest = bytes;
+    for number in 1..u64::MAX {
+        let cut = first_part(rest);
+        let label = part_label(alloc, number, cut.rest.is_none())?;
+        if let Err(message) = text_message(alloc, label.as_str(), cut.part)? {
+            out.extend_from_slice(&message)?;
+        }
+        let Some(more) = cut.rest else {
+            break;
+        };
+        rest = more;
+    }
+    Ok(out)
+}
+
+// Returns what is said before the line of a text: its number, unless it is the only one.
+fn part_label(alloc: Global, number: u64, is_last: bool) -> Result<String, NoMemory> {
+    if number == 1 && is_last {
+        return Ok(String::new(alloc));
+    }
+    Ok(format!(in alloc; "text {number}, ")?)
+}

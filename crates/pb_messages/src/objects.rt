@@ -1,0 +1,218 @@
+//! The message of an object that is refused.
+
+ghost use Rattle.std.specs.Prelude.{IfOk};
+ghost use Rattle.pb_code.specs.Limits.{AreLabels};
+ghost use Rattle.pb_code.specs.View.{labels_view};
+
+use crate::cause::{object_cause, verify_cause};
+use crate::place::line_end;
+use crate::wording::{Shown, Wording, worded};
+use pb_base::NoMemory;
+use pb_code::{Code, Instr, Labels, ProcessCode};
+use pb_engines::load::{LoadFault, load};
+use pb_object::{ObjectFault, read_any};
+use pb_verifier::{Verified, VerifyFault, verify};
+use std::alloc::Global;
+
+/// Safe code with its labels, or the message of what is wrong with an object.
+pub type Loaded = Result<(Verified, Labels), Vec<u8>>;
+
+/// Returns the safe code of an object, or the message of its first fault.
+pub fn object_message(alloc: Global, bytes: &[u8]) -> Result<Loaded, NoMemory>
+    ensures { IfOk result (λ loaded. IfOk loaded (λ x. AreLabels x.0.code (labels_view x.1))) }
+{
+    match load(alloc, bytes) {
+        Ok((verified, labels)) => Ok(Ok((verified, labels))),
+        Err(LoadFault::Object(fault)) => Ok(Err(unread_message(alloc, bytes, fault)?)),
+        Err(LoadFault::Unsafe(fault)) => Ok(Err(unsafe_message(alloc, bytes, fault)?)),
+    }
+}
+
+// Returns the message of bytes that are no object.
+fn unread_message(alloc: Global, bytes: &[u8], fault: ObjectFault) -> Result<Vec<u8>, NoMemory> {
+    let Some(cause) = object_cause(fault) else {
+        return Err(NoMemory);
+    };
+    let summary = match fault {
+        ObjectFault::Limit(_) => format!(in alloc; "a number of this line is out of its range")?,
+        _ => format!(in alloc; "this is not the line that an object has here")?,
+    };
+    let mut wording = Wording::new(alloc, summary);
+    wording.note(format!(in alloc;
+        "hint: an object is not written by hand: emit writes it; docs/FORMATS.md, \"Object text\", has the lines in order"
+    )?)?;
+    worded(alloc, "", bytes, &cause, &wording)
+}
+
+// Returns the message of code that is not safe.
+fn unsafe_message(alloc: Global, bytes: &[u8], fault: VerifyFault) -> Result<Vec<u8>, NoMemory> {
+    let Some(cause) = verify_cause(fault) else {
+        return Err(NoMemory);
+    };
+    let summary = String::from_str(alloc, in_words(fault))?;
+    let mut wording = Wording::new(alloc, summary);
+    if let Some(process) = faulty_process(alloc, bytes, fault)? {
+        let name = name_of(alloc, bytes, process)?;
+        match first_faulty_place(alloc, bytes, process, fault)? {
+            Some(place) => {
+                let label = format!(in alloc; "process {}, place {}: ", Shown(&name), place)?;
+                wording.spot(label, instruction_offset(bytes, process, place))?;
+            }
+            None => wording.note(format!(in alloc; "it is in process {}", Shown(&name))?)?,
+        }
+    }
+    worded(alloc, "", bytes, &cause, &wording)
+}
+
+// Returns a fault of code in words.
+fn in_words(fault: VerifyFault) -> &'static str {
+    match fault {
+        VerifyFault::OutOfLimits => "a count, a number or a name is out of its limits",
+        VerifyFault::OverCapital => "a process claims more of a resource than there is",
+        VerifyFault::OutOfRange => "an integer or a resource is named that is not there",
+        VerifyFault::WrongArms => "an arm has unsound bounds, or a jump leaves it",
+        VerifyFault::WrongForks => "forks and joins do not fit",
+        VerifyFault::NoDepths => "a place is reached with too few, too many or unlike operands",
+        VerifyFault::NoHoldings => "holdings differ at a place, or a give has not its take",
+        VerifyFault::LeftAtEnd => "operands or holdings are left at an end",
+        VerifyFault::OverClaim => "a process may hold more than it claims",
+        VerifyFault::NoMemory => "out of memory",
+    }
+}
+
+// Returns the fault of the code of an object of which one process alone is left, and of that the first instructions: the
+// others jump to themselves, but for forks and joins.
+fn fault_of_part(
+    alloc: Global,
+    bytes: &[u8],
+    process: usize,
+    kept: usize,
+) -> Result<Option<VerifyFault>, NoMemory> {
+    let Ok((mut code, _)) = read_any(alloc, bytes) else {
+        return Err(NoMemory);
+    };
+    for (p, other) in code.processes.iter_mut().enumerate() {
+        if p == process {
+            cut(other, kept);
+        } else {
+            *other = nothing(alloc)?;
+        }
+    }
+    match verify(alloc, code) {
+        Ok(_) => Ok(None),
+        Err((_, VerifyFault::NoMemory)) => Err(NoMemory),
+        Err((_, fault)) => Ok(Some(fault)),
+    }
+}
+
+// Returns the code of a process that ends at once.
+fn nothing(alloc: Global) -> Result<ProcessCode, NoMemory> {
+    Ok(ProcessCode {
+        integers: 0,
+        entries: Vec::from_slice(alloc, &[0u16])?,
+        bundles: Vec::new(alloc),
+        instrs: Vec::from_slice(alloc, &[Instr::End])?,
+    })
+}
+
+// Makes the instructions behind the first ones jump to themselves, but for forks and joins.
+fn cut(code: &mut ProcessCode, kept: usize) {
+    for (place, instr) in code.instrs.iter_mut().enumerate() {
+        if place >= kept && !is_fork_or_join(*instr) {
+            *instr = jump_to(place);
+        }
+    }
+}
+
+fn is_fork_or_join(instr: Instr) -> bool {
+    matches!(instr, Instr::Fork { .. } | Instr::Join { .. })
+}
+
+// Returns a jump to a place.
+fn jump_to(place: usize) -> Instr {
+    match u16::try_from(place) {
+        Ok(target) => Instr::Jump(target),
+        Err(_) => Instr::End,
+    }
+}
+
+// Returns the number of the first process whose code has this fault by itself.
+fn faulty_process(
+    alloc: Global,
+    bytes: &[u8],
+    fault: VerifyFault,
+) -> Result<Option<usize>, NoMemory> {
+    for process in 0..64 {
+        if fault_of_part(alloc, bytes, process, usize::MAX)? == Some(fault) {
+            return Ok(Some(process));
+        }
+    }
+    Ok(None)
+}
+
+// Returns the first place of a process such that the code up to it has the fault; nothing if it has it without any.
+fn first_faulty_place(
+    alloc: Global,
+    bytes: &[u8],
+    process: usize,
+    fault: VerifyFault,
+) -> Result<Option<usize>, NoMemory> {
+    let mut low = 0usize;
+    let mut high = 40_000usize;
+    for _ in 0..17 {
+        let middle = low.saturating_add(high) / 2;
+        if middle >= high {
+            break;
+        }
+        if fault_of_part(alloc, bytes, process, middle)? == Some(fault) {
+            high = middle;
+        } else {
+            low = middle.saturating_add(1);
+        }
+    }
+    Ok(high.checked_sub(1))
+}
+
+// Returns the name of a process of an object.
+fn name_of(alloc: Global, bytes: &[u8], process: usize) -> Result<Vec<u8>, NoMemory> {
+    let Ok((code, _)) = read_any(alloc, bytes) else {
+        return Err(NoMemory);
+    };
+    match process_name(&code, process) {
+        Some(name) => Ok(Vec::from_slice(alloc, name)?),
+        None => Ok(Vec::new(alloc)),
+    }
+}
+
+fn process_name(code: &Code, process: usize) -> Option<&[u8]> {
+    let name = code.names.processes.get(process)?;
+    Some(name.as_slice())
+}
+
+// Returns the offset of the line of an instruction in an object.
+fn instruction_offset(bytes: &[u8], process: usize, place: usize) -> usize {
+    let mut processes = 0usize;
+    let mut left = None;
+    let mut at = 0usize;
+    for _ in 0..bytes.len() {
+        if left == Some(0) || at >= bytes.len() {
+            break;
+        }
+        let end = line_end(bytes, at);
+        let line = &bytes[at..end];
+        if line.starts_with(b"process ") {
+            processes = processes.saturating_add(1);
+        }
+        left = match left {
+            Some(lines) => Some(lines_left(lines)),
+            None if line.starts_with(b"code ") && processes > process => Some(place),
+            None => None,
+        };
+        at = end.saturating_add(1);
+    }
+    at.min(bytes.len())
+}
+
+fn lines_left(lines: usize) -> usize {
+    lines.saturating_sub(1)
+}

@@ -1,0 +1,311 @@
+//! The wording of a fault of the grammar: what may stand where the text goes wrong.
+
+use crate::tokens::{is_at, text_at, token_at};
+use crate::wording::{Shown, Wording};
+use pb_base::NoMemory;
+use pb_lexer::{Kind, LexFault, Mark, Token, lex};
+use pb_parser::{ParseFault, parse};
+use std::alloc::Global;
+
+// What may stand at a place, tried by one spelling of it.
+struct Probe {
+    spelling: &'static str,
+    name: &'static str,
+    part_of: Part,
+}
+
+// The longer phrases of which a token may be the beginning.
+#[derive(Clone, Copy, PartialEq, Eq)]
+enum Part {
+    // It is told wherever it may stand.
+    Alone,
+    // It is not told where a statement may stand.
+    Statement,
+    // It is not told where an expression may stand.
+    Expression,
+    // It is not told where a statement or an expression may stand.
+    Either,
+    // It is not told where an operator may stand.
+    Operator,
+}
+
+const STATEMENT: &str = "skip";
+
+const EXPRESSION: &str = "(";
+
+const OPERATOR: &str = "*";
+
+const PROBES: [Probe; 19] = [
+    Probe {
+        spelling: "x",
+        name: "a name",
+        part_of: Part::Either,
+    },
+    Probe {
+        spelling: "1",
+        name: "a number",
+        part_of: Part::Expression,
+    },
+    Probe {
+        spelling: ":=",
+        name: "`:=`",
+        part_of: Part::Alone,
+    },
+    Probe {
+        spelling: "=",
+        name: "`=`",
+        part_of: Part::Operator,
+    },
+    Probe {
+        spelling: ";",
+        name: "`;`",
+        part_of: Part::Alone,
+    },
+    Probe {
+        spelling: ",",
+        name: "`,`",
+        part_of: Part::Alone,
+    },
+    Probe {
+        spelling: ")",
+        name: "`)`",
+        part_of: Part::Alone,
+    },
+    Probe {
+        spelling: "begin",
+        name: "`begin`",
+        part_of: Part::Statement,
+    },
+    Probe {
+        spelling: "do",
+        name: "`do`",
+        part_of: Part::Alone,
+    },
+    Probe {
+        spelling: "else",
+        name: "`else`",
+        part_of: Part::Alone,
+    },
+    Probe {
+        spelling: "end",
+        name: "`end`",
+        part_of: Part::Alone,
+    },
+    Probe {
+        spelling: "fi",
+        name: "`fi`",
+        part_of: Part::Alone,
+    },
+    Probe {
+        spelling: "integer",
+        name: "`integer`",
+        part_of: Part::Alone,
+    },
+    Probe {
+        spelling: "od",
+        name: "`od`",
+        part_of: Part::Alone,
+    },
+    Probe {
+        spelling: "of",
+        name: "`of`",
+        part_of: Part::Alone,
+    },
+    Probe {
+        spelling: "parend",
+        name: "`parend`",
+        part_of: Part::Alone,
+    },
+    Probe {
+        spelling: "process",
+        name: "`process`",
+        part_of: Part::Alone,
+    },
+    Probe {
+        spelling: "resource",
+        name: "`resource`",
+        part_of: Part::Alone,
+    },
+    Probe {
+        spelling: "then",
+        name: "`then`",
+        part_of: Part::Alone,
+    },
+];
+
+// Which phrases may begin at a place.
+#[derive(Clone, Copy)]
+struct Phrases {
+    statement: bool,
+    expression: bool,
+    operator: bool,
+}
+
+/// Returns the wording of a fault of the grammar of a text.
+pub fn parse_wording(alloc: Global, text: &[u8], fault: ParseFault) -> Result<Wording, NoMemory> {
+    match fault {
+        ParseFault::Syntax(at) => syntax_wording(alloc, text, at),
+        ParseFault::TooDeep => too_deep(alloc),
+        ParseFault::TooLarge => {
+            let summary = format!(in alloc;
+                "the program has over 16,384 expressions, statements and processes"
+            )?;
+            Ok(Wording::new(alloc, summary))
+        }
+        ParseFault::NoMemory => Err(NoMemory),
+    }
+}
+
+fn too_deep(alloc: Global) -> Result<Wording, NoMemory> {
+    let summary = format!(in alloc; "the text is nested too deep")?;
+    let mut wording = Wording::new(alloc, summary);
+    wording.note(format!(in alloc;
+        "hint: at most 256 brackets and statements are open at once, at most 256 signs stand in a row, and the tree is at most 200 high"
+    )?)?;
+    Ok(wording)
+}
+
+fn syntax_wording(alloc: Global, text: &[u8], at: usize) -> Result<Wording, NoMemory> {
+    let tokens = match lex(alloc, text) {
+        Ok(tokens) => tokens,
+        Err(_) => return Err(NoMemory),
+    };
+    let found = token_at(&tokens, at);
+    let summary = match found {
+        Some(number) => {
+            format!(in alloc; "`{}` cannot stand here", Shown(text_at(&tokens, number)))?
+        }
+        None => format!(in alloc; "the text ends too early")?,
+    };
+    let mut wording = Wording::new(alloc, summary);
+    if let Some(expected) = expected(alloc, &text[..at.min(text.len())])? {
+        wording.note(expected)?;
+    }
+    if let Some(number) = found {
+        if let Some(hint) = usual_mistake(&tokens, number) {
+            wording.note(format!(in alloc; "hint: {}", hint)?)?;
+        }
+    }
+    Ok(wording)
+}
+
+// Returns the line that tells what may stand behind the first part of a text; nothing if no token may.
+fn expected(alloc: Global, text: &[u8]) -> Result<Option<String>, NoMemory> {
+    let phrases = Phrases {
+        statement: may_follow(alloc, text, STATEMENT)?,
+        expression: may_follow(alloc, text, EXPRESSION)?,
+        operator: may_follow(alloc, text, OPERATOR)?,
+    };
+    let mut line = String::from_str(alloc, "expected: ")?;
+    let empty = line.len();
+    put_choice(&mut line, empty, phrases.statement, "a statement")?;
+    put_choice(&mut line, empty, phrases.expression, "an expression")?;
+    put_choice(&mut line, empty, phrases.operator, "an operator")?;
+    for probe in &PROBES {
+        let is_told = is_told(probe.part_of, phrases) && may_follow(alloc, text, probe.spelling)?;
+        put_choice(&mut line, empty, is_told, probe.name)?;
+    }
+    if line.len() == empty {
+        return Ok(None);
+    }
+    Ok(Some(line))
+}
+
+// Puts one more choice behind a line that was `empty` bytes long, if it is one.
+fn put_choice(line: &mut String, empty: usize, is_one: bool, choice: &str) -> Result<(), NoMemory> {
+    if !is_one {
+        return Ok(());
+    }
+    if line.len() > empty {
+        line.push_str(" or ")?;
+    }
+    line.push_str(choice)?;
+    Ok(())
+}
+
+// Returns whether what is part of these phrases is told beside them.
+fn is_told(part_of: Part, phrases: Phrases) -> bool {
+    match part_of {
+        Part::Alone => true,
+        Part::Statement => !phrases.statement,
+        Part::Expression => !phrases.expression,
+        Part::Either => !phrases.statement && !phrases.expression,
+        Part::Operator => !phrases.operator,
+    }
+}
+
+// Returns whether a token may stand behind the first part of a text: some program begins so.
+fn may_follow(alloc: Global, text: &[u8], token: &str) -> Result<bool, NoMemory> {
+    let mut longer = Vec::from_slice(alloc, text)?;
+    longer.push(b' ')?;
+    longer.extend_from_slice(token.as_bytes())?;
+    let tokens = match lex(alloc, &longer) {
+        Ok(tokens) => tokens,
+        Err(LexFault::NoMemory) => return Err(NoMemory),
+        Err(_) => return Ok(false),
+    };
+    match parse(alloc, &tokens) {
+        Ok(_) => Ok(true),
+        Err(ParseFault::Syntax(at)) => Ok(at == longer.len()),
+        Err(ParseFault::NoMemory) => Err(NoMemory),
+        Err(_) => Ok(false),
+    }
+}
+
+// Returns what is usually meant where this token cannot stand.
+fn usual_mistake(tokens: &[Token], number: usize) -> Option<&'static str> {
+    let before = number.checked_sub(1)?;
+    if is_at(tokens, before, Mark::Semicolon) && closes(tokens, number) {
+        return Some("a semicolon is between statements, and not behind the last one");
+    }
+    if is_at(tokens, before, Mark::Semicolon) && is_at(tokens, number, Mark::Integer) {
+        return Some("integers are declared once, right behind begin: integer x, y;");
+    }
+    if is_at(tokens, number, Mark::Equal) && is_name(tokens, before) {
+        return Some("to assign is written with a colon, x := 1; with no colon it is a comparison");
+    }
+    if begins_statement(tokens, number) && ends_statement(tokens, before) {
+        return Some("a semicolon is missing between this statement and the one before");
+    }
+    None
+}
+
+fn is_name(tokens: &[Token], number: usize) -> bool {
+    match tokens.get(number) {
+        Some(token) => token.kind() == Kind::Name,
+        None => false,
+    }
+}
+
+fn closes(tokens: &[Token], number: usize) -> bool {
+    is_at(tokens, number, Mark::End)
+        || is_at(tokens, number, Mark::Od)
+        || is_at(tokens, number, Mark::Fi)
+        || is_at(tokens, number, Mark::Else)
+        || is_at(tokens, number, Mark::Parend)
+}
+
+fn begins_statement(tokens: &[Token], number: usize) -> bool {
+    is_name(tokens, number)
+        || is_at(tokens, number, Mark::Print)
+        || is_at(tokens, number, Mark::Skip)
+        || is_at(tokens, number, Mark::If)
+        || is_at(tokens, number, Mark::While)
+        || is_at(tokens, number, Mark::Hold)
+        || is_at(tokens, number, Mark::Parbegin)
+}
+
+// Returns whether a statement may end with this token.
+fn ends_statement(tokens: &[Token], number: usize) -> bool {
+    match tokens.get(number) {
+        Some(token) => match token.kind() {
+            Kind::Name | Kind::Number(_) => true,
+            Kind::Mark(_) => {
+                is_at(tokens, number, Mark::Close)
+                    || is_at(tokens, number, Mark::Skip)
+                    || (closes(tokens, number) && !is_at(tokens, number, Mark::Else))
+            }
+        },
+        None => false,
+    }
+}

@@ -1,0 +1,132 @@
+//! The message of a text that is refused.
+
+ghost use Rattle.std.specs.Prelude.{ℕ, List, IfOk, IfSome, IfErr};
+ghost use Rattle.pb_codegen.specs.Compiled.{IsRefused};
+ghost use Rattle.pb_messages.specs.Messages.{TellsRefusal};
+
+use crate::cause::text_cause;
+use crate::holds::claims_wording;
+use crate::names::names_wording;
+use crate::syntax::parse_wording;
+use crate::wording::{Shown, Wording, worded};
+use bumpalo::Bump;
+use pb_base::NoMemory;
+use pb_codegen::{CompileFault, Compiled, analyze, compile};
+use pb_lexer::{LexFault, lex};
+use std::alloc::Global;
+
+/// Returns the message of the first fault of a text, or its code if there is none. A label is put before the line of the
+/// place.
+pub fn text_message(
+    alloc: Global,
+    label: &str,
+    text: &[u8],
+) -> Result<Result<Compiled, Vec<u8>>, NoMemory>
+    ensures { IfOk result (λ looked. IfErr looked (λ message. TellsRefusal label.now text.now message.items)) }
+{
+    let arena = Bump::new(alloc);
+    match compile(alloc, &arena, text) {
+        Ok(compiled) => Ok(Ok(compiled)),
+        Err(fault) => Ok(Err(fault_message(alloc, label, text, &fault)?)),
+    }
+}
+
+/// Returns the message of the first fault of a text whose capital does not matter; nothing if there is none.
+pub fn early_message(alloc: Global, text: &[u8]) -> Result<Option<Vec<u8>>, NoMemory>
+    ensures { IfOk result (λ looked. IfSome looked (λ message. (label : List ℕ) × TellsRefusal label text.now message.items)) }
+{
+    let arena = Bump::new(alloc);
+    match analyze(alloc, &arena, text) {
+        Ok(_) => Ok(None),
+        Err(fault) => Ok(Some(fault_message(alloc, "", text, &fault)?)),
+    }
+}
+
+// Returns the message of a fault of a text.
+fn fault_message(
+    alloc: Global,
+    label: &str,
+    text: &[u8],
+    fault: &CompileFault,
+) -> Result<Vec<u8>, NoMemory>
+    requires { IsRefused text.now fault.now }
+    ensures { IfOk result (λ message. TellsRefusal label.now text.now message.items) }
+{
+    let Some(cause) = text_cause(fault) else {
+        return Err(NoMemory);
+    };
+    let wording = text_wording(alloc, text, fault)?;
+    worded(alloc, label, text, &cause, &wording)
+}
+
+fn text_wording(alloc: Global, text: &[u8], fault: &CompileFault) -> Result<Wording, NoMemory> {
+    if let CompileFault::Lex(fault) = fault {
+        return lex_wording(alloc, text, *fault);
+    }
+    let Ok(tokens) = lex(alloc, text) else {
+        return Err(NoMemory);
+    };
+    match fault {
+        CompileFault::Parse(fault) => parse_wording(alloc, text, *fault),
+        CompileFault::Names(fault) => names_wording(alloc, &tokens, *fault),
+        CompileFault::Claims(fault) => claims_wording(alloc, &tokens, fault),
+        CompileFault::Lex(_) | CompileFault::Memory => Err(NoMemory),
+    }
+}
+
+fn lex_wording(alloc: Global, text: &[u8], fault: LexFault) -> Result<Wording, NoMemory> {
+    match fault {
+        LexFault::TooLong => {
+            let length = text.len();
+            let summary = format!(in alloc; "the text has {length} bytes, and 65,536 is the most")?;
+            Ok(Wording::new(alloc, summary))
+        }
+        LexFault::BadByte(at) => bad_byte(alloc, text.get(at).copied().unwrap_or(0)),
+        LexFault::NumberTooLarge(_) => {
+            let summary = format!(in alloc; "the number is over 9223372036854775807")?;
+            let mut wording = Wording::new(alloc, summary);
+            wording.note(format!(in alloc;
+                "hint: the least integer is written -9223372036854775807 - 1"
+            )?)?;
+            Ok(wording)
+        }
+        LexFault::NameTooLong(_) => {
+            let summary = format!(in alloc; "the name is over 32 bytes long")?;
+            Ok(Wording::new(alloc, summary))
+        }
+        LexFault::NoMemory => Err(NoMemory),
+    }
+}
+
+// Returns the wording of a byte that is not allowed, or at which nothing begins.
+fn bad_byte(alloc: Global, byte: u8) -> Result<Wording, NoMemory> {
+    let summary = if 32 <= byte && byte <= 126 {
+        format!(in alloc; "nothing begins with `{}`", Shown(&[byte]))?
+    } else {
+        format!(in alloc; "the byte {byte} is not allowed in a text")?
+    };
+    let mut wording = Wording::new(alloc, summary);
+    wording.note(format!(in alloc; "hint: {}", usual_meaning(byte))?)?;
+    Ok(wording)
+}
+
+// Returns what is usually meant by a byte that is not allowed.
+fn usual_meaning(byte: u8) -> &'static str {
+    match byte {
+        b':' => "an assignment is written x := 1, with no blank between : and =",
+        b'/' => "a quotient is written a div b, and a comment begins with //",
+        b'%' =>
+            "a remainder is written a mod b; a line %% parts the texts of an input, and nothing else is in it",
+        b'!' => "unlike is written a <> b, and no is written not a",
+        b'&' | b'|' => "both is written a and b, and one of both a or b",
+        b'{' | b'}' => "a list of statements is between begin and end",
+        b'#' => "a comment begins with //",
+        b'_' => "a name begins with a letter",
+        b'.' => "there are integers alone, and no fractions",
+        b'"' | b'\'' => "there are no strings: print writes integers",
+        b'[' | b']' => "there are no arrays: each integer has a name",
+        32..=126 => "a text has names, numbers, reserved words and := ; , ( ) + - * = <> < <= > >=",
+        _ =>
+            "a text has the bytes 32 to 126, tabs and ends of lines, in comments too: no accents and no curly quotes",
+    }
+}

@@ -1,0 +1,135 @@
+//! A message, put together.
+
+ghost use Rattle.std.specs.Prelude.{IfOk};
+ghost use Rattle.pb_messages.specs.Messages.{IsMessage, IsShown};
+
+use crate::cause::Cause;
+use crate::excerpt::{compose, printable_byte, show_place};
+use crate::place::place_of;
+use pb_base::NoMemory;
+use std::alloc::Global;
+use std::fmt;
+
+/// Bytes of an input, as a message shows them: with a question mark for each that is neither printable nor a tab.
+#[derive(Clone, Copy)]
+pub struct Shown<'t>(pub &'t [u8]);
+
+impl fmt::Display for Shown<'_> {
+    fn fmt<W: fmt::Write>(&self, f: &mut fmt::Formatter<W>) -> fmt::Result {
+        for byte in self.0 {
+            f.write_char(char::from(printable_byte(*byte)))?;
+        }
+        Ok(())
+    }
+}
+
+/// Another place that has to do with a fault.
+#[derive(Drop)]
+pub struct Spot {
+    /// What is before the number of its line.
+    pub label: String,
+    /// Its offset.
+    pub at: usize,
+}
+
+/// What a message says beside the code and the place of a fault.
+#[derive(Drop)]
+pub struct Wording {
+    /// The fault in words, without a line feed.
+    pub summary: String,
+    /// Other places.
+    pub spots: Vec<Spot>,
+    /// What is expected or usually meant, a line each.
+    pub notes: Vec<String>,
+}
+
+impl Wording {
+    /// Returns the wording of a fault with no other place and no note.
+    pub fn new(alloc: Global, summary: String) -> Wording {
+        Wording {
+            summary,
+            spots: Vec::new(alloc),
+            notes: Vec::new(alloc),
+        }
+    }
+
+    /// Adds a note.
+    pub fn note(&mut self, note: String) -> Result<(), NoMemory> {
+        self.notes.push(note)?;
+        Ok(())
+    }
+
+    /// Adds another place.
+    pub fn spot(&mut self, label: String, at: usize) -> Result<(), NoMemory> {
+        self.spots.push(Spot { label, at })?;
+        Ok(())
+    }
+
+    // Returns the offset at which the message points first.
+    fn first_place(&self, cause: &Cause) -> usize {
+        match (cause.at, self.spots.first()) {
+            (Some(at), _) => at,
+            (None, Some(spot)) => spot.at,
+            (None, None) => 0,
+        }
+    }
+}
+
+/// Returns the message of a cause: its code, what is wrong in words, its place in the text, and details. A label is put
+/// before the line of the place.
+pub fn worded(
+    alloc: Global,
+    label: &str,
+    text: &[u8],
+    cause: &Cause,
+    wording: &Wording,
+) -> Result<Vec<u8>, NoMemory>
+    ensures { IfOk result (λ message. IsMessage label.now text.now cause.now message.items) }
+{
+    let shown = show_cause(alloc, label, text, cause)?;
+    let details = details(alloc, label, text, cause, wording)?;
+    compose(alloc, cause, wording.summary.as_bytes(), &shown, &details)
+}
+
+// Returns the place of a cause, if it has one, as a message shows it.
+fn show_cause(alloc: Global, label: &str, text: &[u8], cause: &Cause) -> Result<Vec<u8>, NoMemory>
+    ensures { IfOk result (λ shown. IsShown label.now text.now cause.now.at shown.items) }
+{
+    match cause.at {
+        Some(at) => show_place(alloc, label.as_bytes(), text, at.min(text.len())),
+        None => Ok(Vec::new(alloc)),
+    }
+}
+
+// Returns the lines behind the place of a fault.
+fn details(
+    alloc: Global,
+    label: &str,
+    text: &[u8],
+    cause: &Cause,
+    wording: &Wording,
+) -> Result<Vec<u8>, NoMemory> {
+    let mut out = Vec::new(alloc);
+    for spot in &wording.spots {
+        let label = format!(in alloc; "{}{}", spot.label, label)?;
+        let shown = show_place(alloc, label.as_bytes(), text, spot.at.min(text.len()))?;
+        out.extend_from_slice(&shown)?;
+    }
+    let first = place_of(text, wording.first_place(cause).min(text.len()));
+    let width = format!(in alloc; "{}", first.line)?.len();
+    for note in &wording.notes {
+        put_note(&mut out, width, note)?;
+    }
+    Ok(out)
+}
+
+// Puts a note behind a message, behind a margin of this width and a space.
+fn put_note(out: &mut Vec<u8>, width: usize, note: &String) -> Result<(), NoMemory> {
+    for _ in 0..width {
+        out.push(b' ')?;
+    }
+    out.extend_from_slice(b" = ")?;
+    out.extend_from_slice(note.as_bytes())?;
+    out.push(b'\n')?;
+    Ok(())
+}
