@@ -12,6 +12,7 @@ pub enum FaultKind {
 }
 
 /// An operator on one number.
+// To add one: as in BinaryOp.
 #[derive(Clone, Copy, Debug, PartialEq, Eq)]
 pub enum UnaryOp {
     /// `-`
@@ -21,6 +22,7 @@ pub enum UnaryOp {
 }
 
 /// An operator on two numbers.
+// To add one: specs/Arithmetic, arithmetic.rt, pb_lexer, pb_parser, an Instr, pb_codegen; docs/CHANGING.md.
 #[derive(Clone, Copy, Debug, PartialEq, Eq)]
 pub enum BinaryOp {
     /// `+`

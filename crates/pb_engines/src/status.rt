@@ -4,6 +4,7 @@ ghost use Rattle.std.specs.Prelude.{◌≡◌};
 ghost use Rattle.pb_engines.specs.Statuses.{status_number};
 
 /// What a command came to.
+// To add one: specs/Statuses, pb_tests, checks/statuses.sh, docs/FORMATS.md; docs/CHANGING.md.
 #[derive(Clone, Copy, Debug, PartialEq, Eq)]
 pub enum Status {
     /// All was done.

@@ -7,6 +7,7 @@ use pb_base::NoMemory;
 use std::alloc::{AllocError, AllocFailed};
 
 /// What a program has too many of. Declarations are counted, also those of one name.
+// To add or change a limit: specs/Limits, limits.rt, pb_code, pb_verifier, pb_object; docs/CHANGING.md.
 #[derive(Clone, Copy, Debug, PartialEq, Eq, thiserror::Error)]
 pub enum Kind {
     /// The program declares more than 64 processes.

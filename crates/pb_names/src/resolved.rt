@@ -14,6 +14,7 @@ pub enum Expr<A: Allocator> {
 
 /// A statement, with the line of its first token, from 1. A target is the number of an integer of its
 /// process; the arms of a parbegin have consecutive numbers from `first` on.
+// To add one: first Stmt of pb_tree, and specs/{Program,Source,Claims} here; docs/CHANGING.md.
 #[derive(Drop)]
 pub enum Stmt<A: Allocator> {
     Assign {

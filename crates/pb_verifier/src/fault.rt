@@ -1,6 +1,7 @@
 //! Why code is refused.
 
 /// Why code is refused. The faults are looked for in this order, each over all processes before the next.
+// To add one: specs/Verified, checking.rt, Refusals and refusal.rt of pb_engines; docs/CHANGING.md.
 #[derive(Clone, Copy, Debug, PartialEq, Eq, thiserror::Error)]
 pub enum VerifyFault {
     /// A count, a number or a name is outside its limits.

@@ -3,6 +3,7 @@
 use pb_options::{CheckOptions, DebugOptions, EmitOptions, RecordOptions, RunOptions};
 
 /// A command with its options.
+// To add one: pb_engines, pb_options, command_line.rt, read.rt, pb_cli, pb_tests, docs/; docs/CHANGING.md.
 #[derive(Clone, Copy, Debug, PartialEq, Eq)]
 pub enum Options {
     Check(CheckOptions),
