@@ -3,7 +3,7 @@
 ghost use Rattle.std.specs.Prelude.{◌≡◌};
 ghost use Rattle.pb_lexer.specs.Tokens.{lexeme, token};
 
-/// A symbol or a reserved word. Its spelling stands above it.
+/// A symbol or a reserved word. Its spelling is above it.
 #[derive(Clone, Copy, Debug, PartialEq, Eq)]
 pub enum Mark {
     /// `:=`
