@@ -1,4 +1,4 @@
-//! What the banker answers.
+//! What the banker returns.
 
 /// The answer to a request.
 #[derive(Clone, Copy, Debug, PartialEq, Eq)]

@@ -19,7 +19,7 @@ use std::alloc::{Allocator, Global};
 ///
 /// It is found by one pass over the body for each resource: a hold adds its amount to the most that its body
 /// holds, of lists and branches the greatest counts, the arms of a parbegin are summed. A claim beyond 64 bits
-/// is answered as the greatest `u64`; no program of at most 16,384 nodes has one. The error comes only if
+/// is returned as the greatest `u64`; no program of at most 16,384 nodes has one. The error comes only if
 /// `alloc` is out of memory.
 pub fn infer<A: Allocator>(alloc: Global, program: &Resolved<A>) -> Result<Claims, NoMemory>
     requires some_processes { 1 ≤ length (resolved_view program.now).processes }

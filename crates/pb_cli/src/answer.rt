@@ -65,7 +65,7 @@ fn debug<I: Input, O: Output>(
     }
 }
 
-// Writes the text of a fault, and answers its status.
+// Writes the text of a fault, and returns its status.
 fn refuse<O: Output>(alloc: Global, output: &mut O, fault: &WordsFault) -> Status
     ensures text { Says (O.written output.old) (O.written output.new) (fault_text fault.now) (fault_status fault.now) result }
     ensures faults { TellsWriteFaults (O.failures output.old) (O.failures output.new) result }

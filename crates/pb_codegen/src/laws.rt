@@ -30,7 +30,7 @@ pub fn same_events()
         → AllWellNumbered program → ImplementsUnder bank program (generated program) }
 {}
 
-/// After any picks of the code the source stands after their shadow, and the line at the place of each live
+/// After any picks of the code the source has made their shadow, and the line at the place of each live
 /// arm is the line of that arm's first item there.
 pub fn lines_follow_the_source()
     ensures { (bank : Bank) (program : List Process)

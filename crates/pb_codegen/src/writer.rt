@@ -52,7 +52,7 @@ impl Writer {
         Ok(())
     }
 
-    /// Appends a `take`, and answers the place of its bundle.
+    /// Appends a `take`, and returns the place of its bundle.
     pub(crate) fn put_take(&mut self, line: u32, bundle: &Bundle) -> Result<u16, NoMemory>
         requires { HasRoom self.old (Take bundle.now ∷ []) }
         ensures added { OnOk result (Adds self.old self.new (Take bundle.now ∷ []) (Some line ∷ [])) }

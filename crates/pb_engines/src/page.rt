@@ -82,7 +82,7 @@ impl Page {
         Ok(())
     }
 
-    /// Writes what waits, and answers the status where no write failed.
+    /// Writes what waits, and returns the status if no write failed.
     pub fn finish<O: Output>(self, output: &mut O, status: Status) -> Status
         requires { status ≢ Status.Device }
         ensures text { Says (O.written output.old) (O.written output.new) self status result }
@@ -94,7 +94,7 @@ impl Page {
         }
     }
 
-    /// Writes what waits and a last line, and answers the status where no write failed.
+    /// Writes what waits and a last line, and returns the status if no write failed.
     pub fn finish_with<O: Output>(mut self, output: &mut O, last: &[u8], status: Status) -> Status
         requires { status ≢ Status.Device }
         ensures text { Says (O.written output.old) (O.written output.new) (self ++ line last.now) status result }

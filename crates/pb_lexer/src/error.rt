@@ -11,7 +11,7 @@ pub enum LexFault {
     /// The text is over 65,536 bytes.
     #[error("the text is over 65,536 bytes")]
     TooLong,
-    /// At this place stands a byte that no text may have, or one at which no token, blank or comment begins.
+    /// At this place is a byte that no text may have, or one at which no token, blank or comment begins.
     #[error("bad byte at {0}")]
     BadByte(usize),
     /// At this place begins a number over 9223372036854775807.
@@ -20,7 +20,7 @@ pub enum LexFault {
     /// At this place begins a name over 32 bytes.
     #[error("the name at {0} is over 32 bytes")]
     NameTooLong(usize),
-    /// The allocator is out of memory. It is answered only if it refused a growth.
+    /// The allocator is out of memory. It is returned only if it refused a growth.
     #[error("out of memory")]
     NoMemory,
 }

@@ -21,7 +21,7 @@ pub const LONGEST_TEXT: usize = 65_536;
 /// The most bytes of a name.
 pub const LONGEST_NAME: usize = 32;
 
-/// Whether `//` stands here.
+/// Whether `//` is here.
 fn begins_comment(text: &[u8], at: usize) -> bool
     requires { at < length text.now }
     ensures yes { result ≡ true
@@ -167,11 +167,11 @@ fn cut<'t, A: Allocator>(alloc: A, text: &'t [u8]) -> Result<Vec<Token<'t>, A>, 
 }
 
 /// Cuts a text into its tokens, in memory of `alloc`: names, numbers, symbols and reserved words, each the
-/// longest that begins where it stands. Between them may stand blanks (space, tab, line feed, carriage
+/// longest that begins at its place. Between them may be blanks (space, tab, line feed, carriage
 /// return) and comments, which go from `//` to the next line feed or the end, whatever bytes they have. Lines
 /// count from 1.
 ///
-/// A text over 65,536 bytes is `TooLong`. Else the fault with the least place is answered: `BadByte` at a
+/// A text over 65,536 bytes is `TooLong`. Else the fault with the least place is returned: `BadByte` at a
 /// byte that is not allowed (allowed are 32 to 126, tab, line feed and carriage return), in a comment too,
 /// or where nothing begins; `NumberTooLarge` at a number over 9223372036854775807; `NameTooLong` at a name
 /// over 32 bytes. `NoMemory` comes if `alloc` is out of memory, and never for a text that is too long.
@@ -179,10 +179,10 @@ pub fn lex<'t, A: Allocator>(alloc: A, text: &'t [u8]) -> Result<Vec<Token<'t>, 
     ensures found { IfOk result (λ v. AreTokensOf text.now (tokens v.items)) }
     // A text over the limit, or the fault with the least place.
     ensures fault { IfErr result (λ e. Refuses text.now e) }
-    // Where the text has tokens, these are answered, unless memory runs out.
+    // If the text has tokens, these are returned, unless memory runs out.
     ensures only { (ts : List spec_tokens.Token) → AreTokensOf text.now ts
         → Answers (λ v. tokens v.items) result ts }
-    // Where it has a fault, that is answered, unless memory runs out.
+    // If it has a fault, that is returned, unless memory runs out.
     ensures exact { (e : LexFault) → (e ≡ LexFault.NoMemory → ⊥) → Refuses text.now e
         → IsFault result e }
     // A text over the limit takes no memory.

@@ -3,7 +3,7 @@
 ghost use Rattle.std.specs.Prelude.{◌≡◌};
 ghost use Rattle.pb_lexer.specs.Tokens.{lexeme, token};
 
-/// A symbol or a reserved word. Its spelling stands above it.
+/// A symbol or a reserved word. Its spelling is above it.
 // To add one: specs/Forms, words.rt, tests.rt, names.rt of pb_code, LANGUAGE.md, extras/; docs/CHANGING.md.
 #[derive(Clone, Copy, Debug, PartialEq, Eq)]
 pub enum Mark {

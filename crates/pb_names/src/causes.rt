@@ -173,7 +173,7 @@ fn first_in_resources<A: Allocator, B: Allocator>(
     first
 }
 
-/// A resource that stands in one of the first `n` pairs of a hold.
+/// A resource that is in one of the first `n` pairs of a hold.
 fn first_repeated<A: Allocator>(
     demands: &Vec<Demand<A>, A>,
     n: usize,

@@ -40,13 +40,13 @@ pub enum NameFault {
     /// At this place a name is used that is not declared: no integer of its process, or no resource.
     #[error("unknown name at {0}")]
     Unknown(usize),
-    /// At this place stands a capital over 1,000,000, or an amount of a hold that is 0 or over 1,000,000.
+    /// At this place is a capital over 1,000,000, or an amount of a hold that is 0 or over 1,000,000.
     #[error("amount out of range at {0}")]
     Amount(usize),
     /// At this place a hold names a resource that it has named before.
     #[error("resource named again at {0}")]
     Repeated(usize),
-    /// The allocator is out of memory. It is answered only if it refused a growth.
+    /// The allocator is out of memory. It is returned only if it refused a growth.
     #[error("out of memory")]
     NoMemory,
 }

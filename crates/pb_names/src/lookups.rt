@@ -98,7 +98,7 @@ fn slot_of(name: &[u8], greatest: usize) -> usize
     (len + 7 * byte_at(name, 0) + 11 * byte_at(name, len - 2) + byte_at(name, len - 1)) & greatest
 }
 
-/// The greatest slot in an index of so many names. The names of one slot are looked through one after the other.
+/// The greatest slot in an index of `count` names. The names of one slot are looked through one after the other.
 fn greatest_slot(count: usize) -> usize
     ensures { result < 64 }
 {

@@ -10,7 +10,7 @@ use std::alloc::{AllocError, AllocFailed};
 /// Why a text is no object: its first faulty line, by the place in the text at which that line begins.
 #[derive(Clone, Copy, Debug, PartialEq, Eq, thiserror::Error)]
 pub enum ObjectFault {
-    /// The line there is not of the form that it must have, is not ended, is missing, or stands after the end.
+    /// The line there is not of the form that it must have, is not ended, is missing, or comes after the end.
     #[error("not an object at {0}")]
     NotObject(usize),
     /// The line there is of its form, with a number out of range. At 0 also: the text is too long.

@@ -31,7 +31,7 @@ pub fn no_proper_prefix()
         → Spells f c l text → Spells g d m (text ++ more) → more ≡ [] }
 {}
 
-/// What a text spells is what reading it answers, where it is not too long.
+/// What a text spells is what reading it returns, if it is not too long.
 pub fn read_again()
     ensures { (f : Format) (c : Code) (l : List ProcessLabels) (text : List ℕ)
         → Spells f c l text → length text ≤ 4194304

@@ -215,7 +215,7 @@ fn has_name(names: &[Vec<u8>], name: &[u8]) -> bool
     names.iter().any(|n| same(name, n))
 }
 
-/// The words, if no one stands there twice.
+/// The words, if no word is there twice.
 fn distinct(alloc: Global, words: &[&[u8]]) -> Result<Option<Vec<Vec<u8>>>, AllocError>
     ensures { IfOk result (λ names. option_map (λ names. map (λ name. name.items) names.items) names
         ≡ cond (are_new [] (map (λ w. w.now) words.now)) (Some (map (λ w. w.now) words.now)) None) }

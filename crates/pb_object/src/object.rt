@@ -49,16 +49,16 @@ fn rows_of(alloc: Global, text: &[u8]) -> Result<Rows, ObjectFault>
 /// process are named `v0`, `v1` and so on, and no place has a source line.
 ///
 /// Else the first line that is not as it must be: `NotObject` where it is not of its form, is not ended by a line
-/// feed, is missing, or stands after the end; `Limit` where it is of its form and a number is out of range. The
+/// feed, is missing, or comes after the end; `Limit` if it is of its form and a number is out of range. The
 /// place is that of the start of the line, or the length of the text where a line is missing. A text of more than
 /// `MAX_TEXT` bytes is `Limit` at 0. `NoMemory` comes wherever a growth is refused.
 pub fn read_any(alloc: Global, text: &[u8]) -> Result<(Code, Labels), ObjectFault>
-    // The text spells what is answered.
+    // The text spells what is returned.
     ensures found { IfOk result (λ x. (format : Formats)
         × Spells format (code_view x.0) (labels_view x.1) text.now) }
-    // What is answered has a text in the second format.
+    // What is returned has a text in the second format.
     ensures writable { IfOk result (λ x. HasText Two (code_view x.0) (labels_view x.1)) }
-    // What a text spells is answered.
+    // What a text spells is returned.
     ensures only { (format : Formats) (code : PlainCode) (labels : List PlainLabels)
         → Spells format code labels text.now → length text.now ≤ MAX_TEXT → IsAnswer code labels result }
     // A refusal names the first faulty line.
@@ -86,11 +86,11 @@ fn begins_two(alloc: Global, text: &[u8]) -> Result<bool, ObjectFault>
 /// The code that the text spells in the first format, else the first faulty line, as in `read_any`; the first line
 /// of the second format is no line of an object.
 pub fn read_object(alloc: Global, text: &[u8]) -> Result<Code, ObjectFault>
-    // The text spells the code that is answered.
+    // The text spells the code that is returned.
     ensures found { IfOk result (λ code. SpellsOne (code_view code) text.now) }
     // It has a text in the first format.
     ensures writable { IfOk result (λ code. HasTextOne (code_view code)) }
-    // The code that a text spells is answered.
+    // The code that a text spells is returned.
     ensures only { (code : PlainCode) → SpellsOne code text.now → length text.now ≤ MAX_TEXT
         → IsAnswerOne code result }
     // A refusal names the first faulty line.

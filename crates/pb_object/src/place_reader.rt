@@ -117,7 +117,7 @@ fn bundle(format: Format, words: &[&[u8]]) -> Verdict<Bundle>
     pairs(words)
 }
 
-/// Adds a bundle, and answers its place.
+/// Adds a bundle, and returns its place.
 fn added(bundles: &mut Vec<Bundle>, bundle: Bundle) -> Result<u16, AllocError>
     requires room { length bundles.old.items < 65536 }
     ensures place { IfOk result (λ place. place ≡ length bundles.old.items) }
@@ -128,7 +128,7 @@ fn added(bundles: &mut Vec<Bundle>, bundle: Bundle) -> Result<u16, AllocError>
     Ok(place)
 }
 
-/// An instruction, whose bundle now stands among those of its process.
+/// An instruction, whose bundle is now among those of its process.
 #[tactic(auto, unfolding(crate::specs::Instructions::instr_of))]
 fn instr_of(
     bundles: &mut Vec<Bundle>,
@@ -199,7 +199,7 @@ fn labelled(line: Verdict<u64>, instr: Verdict<Instr>) -> Verdict<(Option<u32>, 
     }
 }
 
-/// A place: its source line, where the format has lines, and its instruction, whose bundle now stands among those of
+/// A place: its source line, if the format has lines, and its instruction, whose bundle is now among those of
 /// its process.
 #[tactic(auto, unfolding(crate::specs::Instructions::place))]
 pub(crate) fn place(

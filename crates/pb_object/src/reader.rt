@@ -51,7 +51,7 @@ fn entries_of(alloc: Global, count: u64, text: &[u8]) -> Result<(Vec<u16>, &[u8]
 
 // ---- places
 
-/// A place, and what follows the line, whose words are now in `words`; the bundle that the place names now stands
+/// A place, and what follows the line, whose words are now in `words`; the bundle that the place names is now
 /// among those of its process.
 #[tactic(auto, unfolding(crate::specs::Lines::line))]
 fn place_at<'t>(

@@ -21,7 +21,7 @@ pub(crate) enum Verdict<T> {
     Read(T),
 }
 
-/// Leaves in `words` the words of the first line, and answers what follows its end.
+/// Leaves in `words` the words of the first line, and returns what follows its end.
 pub(crate) fn words_into<'t>(
     words: &mut Vec<&'t [u8]>,
     text: &'t [u8],

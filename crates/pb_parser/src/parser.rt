@@ -330,7 +330,7 @@ impl<'a, 't, B: Builder> Parser<'a, 't, B> {
         Ok(self.build.binary(op, left, right)?)
     }
 
-    /// A sum, and another one if a relation stands between them.
+    /// A sum, and another one if a relation is between them.
     #[cycle(expression)]
     #[tactic(auto, using(crate::proofs::Levels::one_sum, crate::proofs::Levels::two_sums))]
     fn relation(&mut self, depth: usize, left: B::Expr) -> Result<B::Expr, ParseFault>

@@ -176,7 +176,7 @@ pub fn parse<A: Allocator + Clone>(alloc: A, tokens: &[Token<'_>]) -> Result<Pro
     ensures too_deep { result ≡ Err ParseFault.TooDeep
         → NestsTooDeep (spec_tokens.tokens tokens.now) ⊎ IsTooHigh (spec_tokens.tokens tokens.now) }
     ensures too_large { result ≡ Err ParseFault.TooLarge → IsTooLarge (spec_tokens.tokens tokens.now) }
-    // and each cause is answered, whatever memory there is.
+    // and each cause is returned, whatever memory there is.
     ensures no_program { (¬ NestsTooDeep (spec_tokens.tokens tokens.now))
         → IsNoProgram (spec_tokens.tokens tokens.now) → (at : ℕ) × (result ≡ Err (ParseFault.Syntax at)) }
     ensures high { IsTooHigh (spec_tokens.tokens tokens.now) → result ≡ Err ParseFault.TooDeep }

@@ -192,7 +192,7 @@ impl<'a, 't, B: Builder> Parser<'a, 't, B> {
         Ok(self.build.choice(out, line, test, on_true, on_false)?)
     }
 
-    /// What stands behind `else`, if that comes next.
+    /// What follows `else`, if that comes next.
     #[cycle(statement)]
     #[tactic(auto, unfolding(crate::specs::StatementReader::otherwise))]
     fn otherwise(&mut self, depth: usize) -> Result<B::Stmts, ParseFault>

@@ -149,7 +149,7 @@ fn number(word: &[u8]) -> Option<u32>
     Some(number)
 }
 
-/// Whether no sign stands first, and no zero before more bytes.
+/// Whether no sign is first, and no zero before more bytes.
 fn is_plain(word: &[u8]) -> bool
     ensures { result ≡ is_plain word.now }
 {

@@ -1,4 +1,4 @@
-//! What stands in the list of an arm.
+//! What is in the list of an arm.
 
 ghost use Rattle.std.specs.Prelude.{◌≡◌};
 ghost use Rattle.pb_names.specs.HeadLines.{item_line};
@@ -13,7 +13,7 @@ use std::alloc::Allocator;
 /// What an arm has yet to do.
 #[derive(Drop)]
 pub enum Item<A: Allocator> {
-    /// A statement, with what is left of its expression. A loop stands here before its test has begun.
+    /// A statement, with what is left of its expression. A loop is here before its test has begun.
     Left(Stmt<A>),
     /// A loop whose test has begun: its whole test, what is left of it, and its body.
     Loop {

@@ -24,7 +24,7 @@ pub struct SourceProcess<A: Allocator> {
 }
 
 impl<A: Allocator> SourceProcess<A> {
-    /// The process before its first step: so many integers, all 0, and its body.
+    /// The process before its first step: its integers, all 0, and its body.
     pub(crate) fn new(
         alloc: Global,
         integers: usize,
@@ -138,7 +138,7 @@ impl<A: Allocator + Clone> SourceProcess<A> {
     }
 }
 
-/// So many integers, all 0.
+/// `count` integers, all 0.
 fn zeros(alloc: Global, count: usize) -> Result<Vec<i64>, NoMemory>
     ensures { IfOk result (λ vars. vars.items ≡ replicate count (pos 0)) }
 {

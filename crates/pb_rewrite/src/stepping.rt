@@ -116,7 +116,7 @@ fn step_fresh<A: Allocator + Clone>(
     }
 }
 
-/// An empty list with room for so many items.
+/// An empty list with room for `room` items.
 fn list_for<A: Allocator + Clone>(room: usize, alloc: &A) -> Result<Vec<Item<A>, A>, NoMemory>
     ensures none { IfOk result (λ list. list.items ≡ []) }
     ensures len { IfOk result (λ list. vec_len list ≡ 0) }
@@ -414,7 +414,7 @@ fn fork<A: Allocator + Clone>(
     }
 }
 
-/// No arms, with room for so many.
+/// No arms, with room for `room`.
 fn arms_for<A: Allocator + Clone>(room: usize, alloc: &A) -> Result<Vec<Arm<A>, A>, NoMemory>
     ensures none { IfOk result (λ arms. vec_len arms ≡ 0) }
     ensures room { IfOk result (λ arms. room ≤ vec_capacity arms) }

@@ -235,7 +235,7 @@ fn a_pick_that_is_repeated(rt: HostRuntime) {
     assert!(rt; repeated(rt.alloc(), &code, 4).err() == Some(ReplayFault::NotEnabled(3)));
 }
 
-/// What the first print of this code prints when it ends with these picks, of which there are so many.
+/// What the first print of this code prints when it ends with these picks, of which there are `count`.
 fn printed_after(alloc: Global, code: &Verified, picks: &[CountedPick], count: u32) -> Option<i64>
     requires { length (spread picks.now) ≤ 10000000 }
 {

@@ -31,7 +31,7 @@ impl Gate for EverySecond {
     }
 }
 
-/// What an event says, but for the amounts of a bundle.
+/// What an event says, except for the amounts of a bundle.
 #[derive(Clone, Copy, PartialEq, Eq, Debug)]
 enum Seen {
     Granted(u8, u8),
@@ -79,7 +79,7 @@ fn replays(alloc: Global, code: &Verified, trace: &Trace) -> Result<bool, NoMemo
     }
 }
 
-/// Whether a run was reported with this outcome, so many events, and picks that make its events.
+/// Whether a run was reported with this outcome, `events` events, and picks that make them.
 fn is_right(
     alloc: Global,
     code: &Verified,

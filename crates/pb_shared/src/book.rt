@@ -125,7 +125,7 @@ impl<'v, C: CodeBrand> Book<'v, C> {
         &self.trace
     }
 
-    /// Returns its trace: picks from the start to the machine, each of which made just what stands beside it.
+    /// Returns its trace: picks from the start to the machine, each of which made just what is beside it.
     pub fn into_trace(self) -> Trace
         ensures entries { result.entries ≡ self.entry.entries }
         ensures legal { IsLegal C.code self.entry }

@@ -94,7 +94,7 @@ impl<'v, C: CodeBrand> Book<'v, C> {
         }
     }
 
-    /// Returns whether an arm can step but for the banker.
+    /// Returns whether an arm can step if the banker lets it.
     fn can_step(&self, pick: Pick) -> bool
         ensures { IsTrue result ↔ (look_at C.code.code self.now.machine pick ≢ Stays) }
     {

@@ -12,7 +12,7 @@ use pb_history::Trace;
 use pb_machine::{Look, Machine};
 use pb_verifier::Verified;
 
-/// Tries the visible pick of an arm, if it stands at one.
+/// Tries the visible pick of an arm, if it is at one.
 pub fn try_visible(
     code: &Verified,
     machine: &mut Machine,

@@ -250,7 +250,7 @@ end
 process q begin if 1 and 0 then print 1 else hold 4 of r do skip od fi end",
 ];
 
-/// A text of a head, a piece so many times, and a tail.
+/// A text of a head, a piece again and again, and a tail.
 pub fn repeated(
     alloc: Global,
     head: &[u8],

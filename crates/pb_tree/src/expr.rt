@@ -5,7 +5,7 @@ ghost use Rattle.std.specs.Prelude.{◌≡◌, ◌↔◌, IfOk, IsTrue};
 use pb_base::{BinaryOp, NoMemory, UnaryOp};
 use std::alloc::Allocator;
 
-/// A name, and where it stands in the text.
+/// A name, and where it is in the text.
 #[derive(Drop)]
 pub struct Name<A: Allocator> {
     /// Its bytes.
@@ -14,7 +14,7 @@ pub struct Name<A: Allocator> {
     pub at: usize,
 }
 
-/// A number, and where it stands in the text.
+/// A number, and where it is in the text.
 #[derive(Clone, Copy, Debug, PartialEq, Eq)]
 pub struct Number {
     /// Its value.

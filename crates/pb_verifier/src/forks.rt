@@ -44,7 +44,7 @@ fn forks_later(code: &ProcessCode, arm: usize) -> bool
     true
 }
 
-/// Whether this join stands at a place.
+/// Whether this join is at a place.
 fn is_join(code: &ProcessCode, place: usize, first: u8, count: u8) -> bool
     ensures { (result ≡ true) ↔ InstrAt (process_view code.now) place (Join first count) }
 {
@@ -57,7 +57,7 @@ fn is_join(code: &ProcessCode, place: usize, first: u8, count: u8) -> bool
     }
 }
 
-/// Whether this fork stands at a place.
+/// Whether this fork is at a place.
 fn is_fork(code: &ProcessCode, place: usize, first: u8, count: u8) -> bool
     ensures { (result ≡ true) ↔ InstrAt (process_view code.now) place (Fork first count) }
 {
@@ -70,7 +70,7 @@ fn is_fork(code: &ProcessCode, place: usize, first: u8, count: u8) -> bool
     }
 }
 
-/// Whether no join stands at a place.
+/// Whether no join is at a place.
 fn has_no_join(code: &ProcessCode, place: usize) -> bool
     ensures { (result ≡ true)
         ↔ ((first count : ℕ) → InstrAt (process_view code.now) place (Join first count) → ⊥) }
@@ -94,7 +94,7 @@ fn is_paired(code: &ProcessCode, place: usize, instr: Instr) -> bool
     }
 }
 
-/// Marks the arms from one on, as long as none of them is marked, and answers whether none was.
+/// Marks the arms from one on, as long as none of them is marked, and returns whether none was.
 fn mark(marks: &mut [bool], first: usize, end: usize) -> bool
     requires rise { first ≤ end }
     requires inside { end ≤ length marks.old }

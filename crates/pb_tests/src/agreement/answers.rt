@@ -1,4 +1,4 @@
-//! Whether two answers are the same.
+//! Whether two results are the same.
 
 use pb_base::{Bundle, Event, Step};
 

@@ -47,7 +47,7 @@ pub(super) fn place_of(machine: &Machine, p: usize, arm: usize) -> Option<u16> {
     process.thread(arm).place()
 }
 
-/// Whether the arm of a pick stands at an instruction that only moves numbers about: the source has no step for it.
+/// Whether the arm of a pick is at an instruction that only moves numbers about: the source has no step for it.
 fn is_skipped(code: &Code, machine: &Machine, pick: Pick) -> bool {
     let p = usize::from(pick.process);
     let Some(place) = place_of(machine, p, usize::from(pick.arm)) else {

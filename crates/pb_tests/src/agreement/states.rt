@@ -16,7 +16,7 @@ pub(super) enum Difference {
     Answer,
     /// In the integers of a process.
     Integers,
-    /// In the line at which an arm stands, or whether it stands at one.
+    /// In the line at which an arm is, or whether it is at one.
     Lines,
     /// In what is lent.
     Loans,
@@ -38,13 +38,13 @@ fn same_integers(machine: &Machine, source: &Source<Global>) -> bool {
     true
 }
 
-/// The line of a place of the code, where an arm stands at one that has a line.
+/// The line of a place of the code, if an arm is at one that has a line.
 fn line_at(labels: &Labels, p: usize, place: Option<u16>) -> Option<u32> {
     let lines = &labels.processes.get(p)?.lines;
     *lines.get(usize::from(place?))?
 }
 
-/// Whether each arm of a process stands at the same line on both sides, those that are not live at none.
+/// Whether each arm of a process is at the same line on both sides, those that are not live at none.
 fn same_lines_in(labels: &Labels, process: &Proc, source: &Source<Global>, p: usize) -> bool {
     for arm in 0..process.arms() {
         if line_at(labels, p, process.thread(arm).place()) != source.head_line(p, arm) {

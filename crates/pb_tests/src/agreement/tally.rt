@@ -1,4 +1,4 @@
-//! How often each answer was given: a comparison says nothing of answers that never came.
+//! How often each result came: a comparison says nothing of results that never came.
 
 use crate::agreement::sides::Seen;
 

@@ -1,6 +1,6 @@
 //! Long programs that are stepped on both sides.
 
-/// Programs of a head, a piece so many times, and a tail: 64 arms, a long expression, many statements.
+/// Programs of a head, a piece again and again, and a tail: 64 arms, a long expression, many statements.
 #[rattlefmt::skip]
 pub(super) const LONG: [(&[u8], &[u8], usize, &[u8]); 3] = [
     (

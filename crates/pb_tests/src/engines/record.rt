@@ -10,7 +10,7 @@ use std::sync::Wait;
 use std::test::Fail;
 use std::thread::Threads;
 
-/// One worker, and at most so many picks.
+/// One worker, and at most `steps` picks.
 fn numbers(steps: u32) -> RunOptions
     requires { steps ≤ 10000000 }
     ensures { result.steps ≡ steps }

@@ -1,5 +1,5 @@
 //! A program that uses every production, and the place of the fault where one of its tokens is left out or
-//! stands twice.
+//! is there twice.
 
 /// Resources and processes, both forms of each production, and an operator of each level.
 pub(super) const TEXT: &[u8] = b"resource r = 3;
@@ -17,7 +17,7 @@ process q begin if a > b then skip fi; print a <= b end
 /// No fault: the tokens are a program still.
 pub(super) const FINE: usize = 65_537;
 
-/// For each token: the place of the fault where it is left out, and where it stands twice.
+/// For each token: the place of the fault if it is left out, and if it is there twice.
 ///
 /// The place is where the first token starts with which the tokens so far begin no program, found by a chart
 /// of all readings of the grammar.

@@ -10,7 +10,7 @@ pub(super) const REFUSED: [&[u8]; 5] = [
     b"resource t = 3; process p begin hold 1 of t, 2 of t do skip od end",
 ];
 
-/// Programs of a head, a piece so many times, and a tail.
+/// Programs of a head, a piece again and again, and a tail.
 pub(super) const LONG: [(&[u8], &[u8], usize, &[u8]); 3] = [
     (
         b"process p begin parbegin ",
