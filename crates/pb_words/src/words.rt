@@ -1,6 +1,7 @@
 //! The words of a call, read.
 
 use pb_options::{CheckOptions, DebugOptions, EmitOptions, RecordOptions, RunOptions};
+use pb_refusals::Code;
 
 /// A command with its options.
 #[derive(Clone, Copy, Debug, PartialEq, Eq)]
@@ -10,6 +11,7 @@ pub enum Options {
     Debug(DebugOptions),
     Emit(EmitOptions),
     Exec(RunOptions),
+    Explain(Option<Code>),
     Migrate,
     Record(RecordOptions),
     Replay,
