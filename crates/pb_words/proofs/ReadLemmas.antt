@@ -5,7 +5,7 @@ use Rattle.clap.specs.Words.{HasKind, IsAmong, Kinds, ReadsOne, Row, Text, Tries
 use Rattle.clap.specs.declared.error.Error.{Error}
 use Rattle.clap.specs.declared.error.kind.ErrorKind.TheVariants.{OutOfMemory}
 use Rattle.clap.proofs.OnLiterals.{clap_on_literals}
-use Rattle.pb_words.specs.CommandLine.{command_line, with_text_commands, with_code_commands, with_object_commands, with_pick_commands, check_command, claims_command, debug_command, emit_command, exec_command, explain_command, migrate_command, record_command, replay_command, run_command, with_run_rules}
+use Rattle.pb_words.specs.CommandLine.{command_line, with_text_commands, with_code_commands, with_object_commands, with_explanations, with_pick_commands, check_command, claims_command, debug_command, emit_command, exec_command, explain_command, migrate_command, record_command, replay_command, run_command, with_run_rules}
 use Rattle.clap.specs.declared.parser.matches.Found.{Found}
 use Rattle.clap.proofs.WalkLemmas.{one_text-rows}
 use Rattle.pb_words.specs.Read.{BlamesWords, HasCheckNumbers, HasCode, HasEmitNumber, HasFlag, HasNumber, HasNumberIn, HasOptionalNumber, HasRecordNumbers, HasRunNumbers, IsReadFrom, IsReadFromMatches}
@@ -186,7 +186,7 @@ no_explain rows none (Run o) says =
 
 -- the rows have the name of the code that is read, or nothing if none is
 pub code_read : {E : Type 0} (f : Found) (id : Text) (code : Option Code)
-    → (one_text f id ≡ None → Ok {E = E} code ≡ Ok None)
+    → (one_text f id ≡ None → ◌≡◌ {A = Result (Option Code) E} (Ok code) (Ok None))
     → ((t : Text) → one_text f id ≡ Some t → TriesOne {E = E} (λ t r. IsCodeOf t r) t (Ok code))
     → one_of id (rows_of f) ≡ option_map code_name code
 code_read {E} f id code none value = sym (one_text-rows f id) ∙ go (one_text f id) refl
@@ -195,7 +195,7 @@ code_read {E} f id code none value = sym (one_text-rows f id) ∙ go (one_text f
     named t (Some c) says = ap Some (sym says)
     named t None says = elim says [ ]
 
-    unnamed : (code : Option Code) → Ok {E = E} code ≡ Ok None → None ≡ option_map code_name code
+    unnamed : (code : Option Code) → ◌≡◌ {A = Result (Option Code) E} (Ok code) (Ok None) → None ≡ option_map code_name code
     unnamed None same = refl
     unnamed (Some c) same = absurd (cc same)
 
@@ -204,7 +204,7 @@ code_read {E} f id code none value = sym (one_text-rows f id) ∙ go (one_text f
     go (Some t) text = text ∙ named t code (value t text)
 
 -- if none can be read, the rows have the name of no code
-pub code_unread : {E : Type 0} (f : Found) (id : Text) (e : E) → (one_text f id ≡ None → Err e ≡ Ok None)
+pub code_unread : {E : Type 0} (f : Found) (id : Text) (e : E) → (one_text f id ≡ None → ◌≡◌ {A = Result (Option Code) E} (Err e) (Ok None))
     → ((t : Text) → one_text f id ≡ Some t → TriesOne (λ t r. IsCodeOf t r) t (Err e))
     → (code : Option Code) → one_of id (rows_of f) ≡ option_map code_name code → ⊥
 code_unread f id e none value code has = go (one_text f id) refl
@@ -258,11 +258,11 @@ clap_refused kinds e Memory is memory blames none = blames
 
 -- the matches of this command line are a function of the words
 pub is_simple_command_line : is_simple command_line ≡ true
-unfolding command_line with_text_commands with_code_commands with_object_commands with_pick_commands check_command claims_command debug_command emit_command exec_command migrate_command record_command replay_command run_command with_run_rules clap_on_literals
+unfolding command_line with_text_commands with_code_commands with_object_commands with_pick_commands check_command claims_command debug_command emit_command exec_command migrate_command record_command replay_command run_command with_explanations explain_command with_run_rules clap_on_literals
 is_simple_command_line = refl
 
 pub is_free_command_line : is_simple_and_free command_line ≡ true
-unfolding command_line with_text_commands with_code_commands with_object_commands with_pick_commands check_command claims_command debug_command emit_command exec_command migrate_command record_command replay_command run_command with_run_rules clap_on_literals
+unfolding command_line with_text_commands with_code_commands with_object_commands with_pick_commands check_command claims_command debug_command emit_command exec_command migrate_command record_command replay_command run_command with_explanations explain_command with_run_rules clap_on_literals
 is_free_command_line = refl
 
 -- a fact that holds anyway holds where there is no value

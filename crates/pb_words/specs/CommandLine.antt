@@ -84,11 +84,15 @@ with_object_commands a = with_command (with_command a exec_command) migrate_comm
 unfoldable pub with_pick_commands : App → App
 with_pick_commands a = with_command (with_command (with_command a record_command) replay_command) debug_command
 
+-- the command that says what a refusal means
+unfoldable pub with_explanations : App → App
+with_explanations a = with_command a explain_command
+
 -- the whole command line
 unfoldable pub command_line : App
 command_line =
-    with_command (with_pick_commands (with_object_commands (with_code_commands (with_text_commands
-    (that_wants_command (new_app (codes "parbegin"))))))) explain_command
+    with_explanations (with_pick_commands (with_object_commands (with_code_commands (with_text_commands
+    (that_wants_command (new_app (codes "parbegin")))))))
 
 -- a command of this form, none of whose options a subcommand inherits
 abbrev pub IsCommand : App → Command → Type 0
