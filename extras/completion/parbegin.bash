@@ -5,7 +5,7 @@ _parbegin() {
         at=2
     fi
     if ((COMP_CWORD <= at)); then
-        local commands="check claims debug emit exec migrate record replay run help --help --version"
+        local commands="check claims debug emit exec explain migrate record replay run help --help --version"
         if ((at == 1)); then
             commands+=" --unproved"
         fi
@@ -28,6 +28,13 @@ _parbegin() {
     debug) options="--live" ;;
     emit) options="--object" ;;
     exec) options="--workers --quantum --steps" ;;
+    explain)
+        # its word is a code, and never a file
+        local codes="L1 L2 L3 L4 P1 P2 P3 N1 N2 N3 N4 N6 C1 E1 O1 O2 V1 V2 V3 V4 V5 V6 V7 V8 V9 K1 K2 H1"
+        codes+=" G1 G2 G3 G4 input output"
+        mapfile -t COMPREPLY < <(compgen -W "$codes --help" -- "$word")
+        return
+        ;;
     migrate) options="" ;;
     record) options="--workers --quantum --steps --seed" ;;
     replay) options="" ;;

@@ -1,5 +1,5 @@
 -- What a call of the program writes, with its words and its input.
-use Rattle.std.specs.Prelude.{◌⊎◌, ℕ, IfSome, Bool, true, false, List, Option}
+use Rattle.std.specs.Prelude.{◌⊎◌, ℕ, IfSome, Bool, true, false, List, [], Option, Some}
 use Rattle.std.specs.Borrow.{Bor}
 use Rattle.clap.specs.Words.{Text}
 use Rattle.pb_words.specs.declared.words.Options.{Options}
@@ -22,6 +22,7 @@ use Rattle.pb_engines.specs.Migrations.{SaysOfMigration}
 use Rattle.pb_engines.specs.Records.{SaysOfRecord}
 use Rattle.pb_engines.specs.ReplayLines.{SaysOfReplay}
 use Rattle.pb_engines.specs.Runs.{SaysOf}
+use Rattle.pb_explain.specs.Pages.{SaysOfExplain}
 use Rattle.pb_words.specs.Read.{WordsSay}
 
 -- what `debug` may say of an input, of which it reads the commands as they come, or all before it writes
@@ -36,6 +37,7 @@ CommandSays option.Claims = SaysOfInput SaysOfClaims
 CommandSays (option.Debug flags) = SaysOfCommands flags.live
 CommandSays (option.Emit numbers) = SaysOfInput (SaysOfEmission numbers.object)
 CommandSays (option.Exec numbers) = SaysOfInput (SaysOfExecution numbers.steps)
+CommandSays (option.Explain code) = λ bytes. SaysOfExplain code
 CommandSays option.Migrate = SaysOfInput SaysOfMigration
 CommandSays (option.Record numbers) = SaysOfInput (SaysOfRecord numbers.run.steps numbers.seed)
 CommandSays option.Replay = SaysOfInput SaysOfReplay
@@ -50,10 +52,15 @@ abbrev pub fault_status : WordsFault → Status
 fault_status (fault.Words text) = Words
 fault_status fault.Memory = Memory
 
--- the words say a command, which tells of the bytes of its input, where these are known, what it may
+-- the bytes that a command says something of, where they are known: those of its input, and none for `explain`
+abbrev pub bytes_for : Options → Option (List ℕ) → Option (List ℕ)
+bytes_for (option.Explain code) rest = Some []
+bytes_for _ rest = rest
+
+-- the words say a command, which tells of these bytes what it may
 abbrev pub CommandWrites : List (Bor Text) → Option (List ℕ) → Option (List ℕ) → Option (List ℕ) → Status → Type 0
 CommandWrites words rest old new status =
-    (o : Options) × WordsSay words o × IfSome rest (λ bytes. Tells (CommandSays o bytes) old new status)
+    (o : Options) × WordsSay words o × IfSome (bytes_for o rest) (λ bytes. Tells (CommandSays o bytes) old new status)
 
 -- the words say nothing, and some text of theirs is written
 abbrev pub RefusesWords : List (Bor Text) → Option (List ℕ) → Option (List ℕ) → Status → Type 0

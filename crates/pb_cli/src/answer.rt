@@ -10,6 +10,7 @@ use pb_engines::{
     Page, Status, check_engine, claims_engine, emit_engine, exec_engine, migrate_engine,
     record_engine, replay_engine, run_engine,
 };
+use pb_explain::explain_engine;
 use pb_options::DebugOptions;
 use pb_words::{Options, WordsFault, options};
 use std::alloc::Global;
@@ -36,6 +37,7 @@ pub fn answer<I: Input, O: Output, R: Threads + Wait + Sync>(
         Ok(Options::Debug(flags)) => debug(alloc, flags, input, output),
         Ok(Options::Emit(numbers)) => emit_engine(alloc, numbers, input, output),
         Ok(Options::Exec(numbers)) => exec_engine(rt, alloc, numbers, input, output),
+        Ok(Options::Explain(code)) => explain_engine(alloc, code, output),
         Ok(Options::Migrate) => migrate_engine(alloc, input, output),
         Ok(Options::Record(numbers)) => record_engine(rt, alloc, numbers, input, output),
         Ok(Options::Replay) => replay_engine(alloc, input, output),
@@ -83,7 +85,10 @@ fn refuse<O: Output>(alloc: Global, output: &mut O, fault: &WordsFault) -> Statu
 #[cfg(test)]
 mod tests {
     use super::*;
-    use pb_base::device::{MemoryInput, MemoryOutput};
+    use pb_base::device::{FaultyInput, MemoryInput, MemoryOutput};
+    use pb_explain::{Example, ExampleInput, entry_for};
+    use pb_refusals::Code;
+    use std::alloc::AllocError;
     use std::test::Fail;
 
     #[test]
@@ -112,6 +117,73 @@ mod tests {
             assert_eq!(rt; output.as_slice(), b"at 2\nrefused G1\n".as_slice());
         }
         Ok(())
+    }
+
+    #[test]
+    fn explains(rt: HostRuntime) -> Result<(), Fail> {
+        let alloc = rt.alloc();
+        let mut input = FaultyInput::new(b"", 0, 1);
+        let mut output = MemoryOutput::new(alloc, 4_096)?;
+        let words = ["parbegin", "explain", "N3"];
+        let status = answer(&rt, alloc, words.as_slice(), &mut input, &mut output);
+        assert_eq!(rt; status, Status::Done);
+        let said = output.as_slice();
+        assert!(rt; said.starts_with(b"N3: a name that is not declared\n\n"));
+        let mut output = MemoryOutput::new(alloc, 4_096)?;
+        let words = ["parbegin", "explain"];
+        let status = answer(&rt, alloc, words.as_slice(), &mut input, &mut output);
+        assert_eq!(rt; status, Status::Done);
+        let said = output.as_slice();
+        assert!(rt; said.starts_with(b"L1: the text is too long\nL2: a byte"));
+        Ok(())
+    }
+
+    // The bytes that the call of an example reads.
+    fn bytes_of(alloc: Global, input: ExampleInput) -> Result<Vec<u8>, AllocError> {
+        let mut bytes = Vec::new(alloc);
+        match input {
+            ExampleInput::Text(text) => bytes.extend_from_slice(text.as_bytes())?,
+            ExampleInput::Repeated { line, times } => {
+                bytes.extend_from_slice(b"process p begin\n")?;
+                for _ in 0..times {
+                    bytes.extend_from_slice(line.as_bytes())?;
+                    bytes.push(b'\n')?;
+                }
+                bytes.extend_from_slice(b"print 1 end\n")?;
+            }
+        }
+        Ok(bytes)
+    }
+
+    // Whether the call of an example writes its refusal line alone, and this line has the code.
+    fn is_refused<R: AllocGlobal + Threads + Wait + Sync>(
+        rt: &R,
+        code: Code,
+        example: &Example,
+    ) -> Option<bool> {
+        let alloc = rt.alloc();
+        let mut words = Vec::new(alloc);
+        words.push("parbegin").ok()?;
+        for word in example.command.split(' ') {
+            words.push(word).ok()?;
+        }
+        let bytes = bytes_of(alloc, example.input).ok()?;
+        let mut input = MemoryInput::new(bytes.as_slice());
+        let mut output = MemoryOutput::new(alloc, 64).ok()?;
+        answer(rt, alloc, words.as_slice(), &mut input, &mut output);
+        let line = output.as_slice().strip_suffix(b"\n")?;
+        let cause = example.line.strip_prefix("refused ")?;
+        let named = cause.split(' ').next()?;
+        Some(line == example.line.as_bytes() && named == code.name())
+    }
+
+    #[test]
+    fn examples_are_refused(rt: HostRuntime) {
+        for code in Code::ALL {
+            if let Some(example) = entry_for(code).example {
+                assert!(rt; is_refused(&rt, code, &example) == Some(true), "{code}");
+            }
+        }
     }
 
     #[test]

@@ -5,16 +5,18 @@ use Rattle.clap.specs.Words.{HasKind, IsAmong, Kinds, ReadsOne, Row, Text, Tries
 use Rattle.clap.specs.declared.error.Error.{Error}
 use Rattle.clap.specs.declared.error.kind.ErrorKind.TheVariants.{OutOfMemory}
 use Rattle.clap.proofs.OnLiterals.{clap_on_literals}
-use Rattle.pb_words.specs.CommandLine.{command_line, with_text_commands, with_code_commands, with_object_commands, with_pick_commands, check_command, claims_command, debug_command, emit_command, exec_command, migrate_command, record_command, replay_command, run_command, with_run_rules}
+use Rattle.pb_words.specs.CommandLine.{command_line, with_text_commands, with_code_commands, with_object_commands, with_explanations, with_pick_commands, check_command, claims_command, debug_command, emit_command, exec_command, explain_command, migrate_command, record_command, replay_command, run_command, with_run_rules}
 use Rattle.clap.specs.declared.parser.matches.Found.{Found}
 use Rattle.clap.proofs.WalkLemmas.{one_text-rows}
-use Rattle.pb_words.specs.Read.{BlamesWords, HasCheckNumbers, HasEmitNumber, HasFlag, HasNumber, HasNumberIn, HasOptionalNumber, HasRecordNumbers, HasRunNumbers, IsReadFrom, IsReadFromMatches}
+use Rattle.pb_words.specs.Read.{BlamesWords, HasCheckNumbers, HasCode, HasEmitNumber, HasFlag, HasNumber, HasNumberIn, HasOptionalNumber, HasRecordNumbers, HasRunNumbers, IsReadFrom, IsReadFromMatches}
 use Rattle.pb_words.specs.declared.words.Options.{Options}
-use Rattle.pb_words.specs.declared.words.Options.TheVariants.{Check, Claims, Debug, Emit, Exec, Migrate, Record, Replay, Run}
+use Rattle.pb_words.specs.declared.words.Options.TheVariants.{Check, Claims, Debug, Emit, Exec, Explain, Migrate, Record, Replay, Run}
 use Rattle.pb_options.specs.declared.options.CheckOptions.{CheckOptions}
 use Rattle.pb_options.specs.declared.options.EmitOptions.{EmitOptions}
 use Rattle.pb_options.specs.declared.options.RecordOptions.{RecordOptions}
 use Rattle.pb_options.specs.declared.options.RunOptions.{RunOptions}
+use Rattle.pb_refusals.specs.Codes.{IsCodeOf, code_name}
+use Rattle.pb_refusals.specs.declared.code.Code.{Code}
 use Rattle.pb_words.specs.declared.words.WordsFault.{WordsFault}
 use Rattle.pb_words.specs.declared.words.WordsFault.TheVariants.{Words, Memory}
 
@@ -85,6 +87,8 @@ pub no_check : (rows : List Row) → ((o : CheckOptions) → HasCheckNumbers row
 no_check rows none (Check o) says = none o says.1
 no_check rows none (Debug o) says = let m : 99 ≡ 100 = ap (λ (l : Text). get_or l 0 0) says.0 in omega (arith, m)
 no_check rows none (Exec o) says = let w : codes "check" ≡ codes "exec" = says.0 in cc
+no_check rows none (Explain o) says =
+    let m : 99 ≡ 101 = ap (λ (l : Text). get_or l 0 0) says.0 in omega (arith, m)
 no_check rows none Claims says = let w : codes "check" ≡ codes "claims" = says in cc
 no_check rows none (Emit o) says = let w : codes "check" ≡ codes "emit" = says.0 in cc
 no_check rows none Migrate says = let w : codes "check" ≡ codes "migrate" = says in cc
@@ -101,6 +105,8 @@ no_emit rows none (Debug o) says =
 no_emit rows none (Emit o) says = none o says.1
 no_emit rows none (Exec o) says =
     let m : 109 ≡ 120 = ap (λ (l : Text). get_or l 1 0) says.0 in omega (arith, m)
+no_emit rows none (Explain o) says =
+    let m : 109 ≡ 120 = ap (λ (l : Text). get_or l 1 0) says.0 in omega (arith, m)
 no_emit rows none Migrate says = let w : codes "emit" ≡ codes "migrate" = says in cc
 no_emit rows none (Record o) says = let w : codes "emit" ≡ codes "record" = says.0 in cc
 no_emit rows none Replay says = let w : codes "emit" ≡ codes "replay" = says in cc
@@ -110,6 +116,8 @@ pub no_run : (rows : List Row) → ((o : RunOptions) → HasRunNumbers rows o �
 no_run rows none (Check o) says = let w : codes "run" ≡ codes "check" = says.0 in cc
 no_run rows none (Debug o) says = let m : 114 ≡ 100 = ap (λ (l : Text). get_or l 0 0) says.0 in omega (arith, m)
 no_run rows none (Exec o) says = let w : codes "run" ≡ codes "exec" = says.0 in cc
+no_run rows none (Explain o) says =
+    let m : 114 ≡ 101 = ap (λ (l : Text). get_or l 0 0) says.0 in omega (arith, m)
 no_run rows none Claims says = let w : codes "run" ≡ codes "claims" = says in cc
 no_run rows none (Emit o) says = let w : codes "run" ≡ codes "emit" = says.0 in cc
 no_run rows none Migrate says = let w : codes "run" ≡ codes "migrate" = says in cc
@@ -124,6 +132,8 @@ no_record rows none (Check o) says =
 no_record rows none (Debug o) says =
     let m : 114 ≡ 100 = ap (λ (l : Text). get_or l 0 0) says.0 in omega (arith, m)
 no_record rows none (Exec o) says =
+    let m : 114 ≡ 101 = ap (λ (l : Text). get_or l 0 0) says.0 in omega (arith, m)
+no_record rows none (Explain o) says =
     let m : 114 ≡ 101 = ap (λ (l : Text). get_or l 0 0) says.0 in omega (arith, m)
 no_record rows none Claims says =
     let m : 114 ≡ 99 = ap (λ (l : Text). get_or l 0 0) says in omega (arith, m)
@@ -142,6 +152,8 @@ no_exec rows none (Check o) says = let w : codes "exec" ≡ codes "check" = says
 no_exec rows none (Debug o) says =
     let m : 101 ≡ 100 = ap (λ (l : Text). get_or l 0 0) says.0 in omega (arith, m)
 no_exec rows none (Exec o) says = none o says.1
+no_exec rows none (Explain o) says =
+    let m : 101 ≡ 112 = ap (λ (l : Text). get_or l 2 0) says.0 in omega (arith, m)
 no_exec rows none Claims says = let w : codes "exec" ≡ codes "claims" = says in cc
 no_exec rows none (Emit o) says =
     let m : 120 ≡ 109 = ap (λ (l : Text). get_or l 1 0) says.0 in omega (arith, m)
@@ -149,6 +161,61 @@ no_exec rows none Migrate says = let w : codes "exec" ≡ codes "migrate" = says
 no_exec rows none (Record o) says = let w : codes "exec" ≡ codes "record" = says.0 in cc
 no_exec rows none Replay says = let w : codes "exec" ≡ codes "replay" = says in cc
 no_exec rows none (Run o) says = let w : codes "exec" ≡ codes "run" = says.0 in cc
+
+pub no_explain : (rows : List Row) → ((c : Option Code) → HasCode rows c → ⊥) → (o : Options)
+    → IsReadFrom (codes "explain") rows o → ⊥
+no_explain rows none (Check o) says =
+    let m : 101 ≡ 99 = ap (λ (l : Text). get_or l 0 0) says.0 in omega (arith, m)
+no_explain rows none Claims says =
+    let m : 101 ≡ 99 = ap (λ (l : Text). get_or l 0 0) says in omega (arith, m)
+no_explain rows none (Debug o) says =
+    let m : 101 ≡ 100 = ap (λ (l : Text). get_or l 0 0) says.0 in omega (arith, m)
+no_explain rows none (Emit o) says =
+    let m : 120 ≡ 109 = ap (λ (l : Text). get_or l 1 0) says.0 in omega (arith, m)
+no_explain rows none (Exec o) says =
+    let m : 112 ≡ 101 = ap (λ (l : Text). get_or l 2 0) says.0 in omega (arith, m)
+no_explain rows none (Explain o) says = none o says.1
+no_explain rows none Migrate says =
+    let m : 101 ≡ 109 = ap (λ (l : Text). get_or l 0 0) says in omega (arith, m)
+no_explain rows none (Record o) says =
+    let m : 101 ≡ 114 = ap (λ (l : Text). get_or l 0 0) says.0 in omega (arith, m)
+no_explain rows none Replay says =
+    let m : 101 ≡ 114 = ap (λ (l : Text). get_or l 0 0) says in omega (arith, m)
+no_explain rows none (Run o) says =
+    let m : 101 ≡ 114 = ap (λ (l : Text). get_or l 0 0) says.0 in omega (arith, m)
+
+-- the rows have the name of the code that is read, or nothing if none is
+pub code_read : {E : Type 0} (f : Found) (id : Text) (code : Option Code)
+    → (one_text f id ≡ None → ◌≡◌ {A = Result (Option Code) E} (Ok code) (Ok None))
+    → ((t : Text) → one_text f id ≡ Some t → TriesOne {E = E} (λ t r. IsCodeOf t r) t (Ok code))
+    → one_of id (rows_of f) ≡ option_map code_name code
+code_read {E} f id code none value = sym (one_text-rows f id) ∙ go (one_text f id) refl
+  where
+    named : (t : Text) (code : Option Code) → TriesOne {E = E} (λ t r. IsCodeOf t r) t (Ok code) → Some t ≡ option_map code_name code
+    named t (Some c) says = ap Some (sym says)
+    named t None says = elim says [ ]
+
+    unnamed : (code : Option Code) → ◌≡◌ {A = Result (Option Code) E} (Ok code) (Ok None) → None ≡ option_map code_name code
+    unnamed None same = refl
+    unnamed (Some c) same = absurd (cc same)
+
+    go : (o : Option Text) → one_text f id ≡ o → one_text f id ≡ option_map code_name code
+    go None empty = empty ∙ unnamed code (none empty)
+    go (Some t) text = text ∙ named t code (value t text)
+
+-- if none can be read, the rows have the name of no code
+pub code_unread : {E : Type 0} (f : Found) (id : Text) (e : E) → (one_text f id ≡ None → ◌≡◌ {A = Result (Option Code) E} (Err e) (Ok None))
+    → ((t : Text) → one_text f id ≡ Some t → TriesOne (λ t r. IsCodeOf t r) t (Err e))
+    → (code : Option Code) → one_of id (rows_of f) ≡ option_map code_name code → ⊥
+code_unread f id e none value code has = go (one_text f id) refl
+  where
+    unnamed : (t : Text) (code : Option Code) → ((c : Code) → code_name c ≡ t → ⊥) → Some t ≡ option_map code_name code → ⊥
+    unnamed t (Some c) no_one same = no_one c (cc same)
+    unnamed t None no_one same = absurd (cc same)
+
+    go : (o : Option Text) → one_text f id ≡ o → ⊥
+    go None empty = absurd (cc (none empty))
+    go (Some t) text = unnamed t code (value t text) (sym text ∙ one_text-rows f id ∙ has)
 
 -- where neither is read, nothing is
 pub no_check_numbers : (rows : List Row) → ((n : ℕ) → HasNumberIn rows (codes "heap") 1024 16777216 n → ⊥)
@@ -191,11 +258,11 @@ clap_refused kinds e Memory is memory blames none = blames
 
 -- the matches of this command line are a function of the words
 pub is_simple_command_line : is_simple command_line ≡ true
-unfolding command_line with_text_commands with_code_commands with_object_commands with_pick_commands check_command claims_command debug_command emit_command exec_command migrate_command record_command replay_command run_command with_run_rules clap_on_literals
+unfolding command_line with_text_commands with_code_commands with_object_commands with_pick_commands check_command claims_command debug_command emit_command exec_command migrate_command record_command replay_command run_command with_explanations explain_command with_run_rules clap_on_literals
 is_simple_command_line = refl
 
 pub is_free_command_line : is_simple_and_free command_line ≡ true
-unfolding command_line with_text_commands with_code_commands with_object_commands with_pick_commands check_command claims_command debug_command emit_command exec_command migrate_command record_command replay_command run_command with_run_rules clap_on_literals
+unfolding command_line with_text_commands with_code_commands with_object_commands with_pick_commands check_command claims_command debug_command emit_command exec_command migrate_command record_command replay_command run_command with_explanations explain_command with_run_rules clap_on_literals
 is_free_command_line = refl
 
 -- a fact that holds anyway holds where there is no value

@@ -44,6 +44,10 @@ emit_command = with_rule (new_app (codes "emit")) (number_rule_or (codes "object
 unfoldable pub exec_command : App
 exec_command = with_run_rules (new_app (codes "exec"))
 
+-- a code by its place, which need not be given
+unfoldable pub explain_command : App
+explain_command = with_rule (new_app (codes "explain")) (new_rule (codes "CODE"))
+
 unfoldable pub migrate_command : App
 migrate_command = new_app (codes "migrate")
 
@@ -80,11 +84,15 @@ with_object_commands a = with_command (with_command a exec_command) migrate_comm
 unfoldable pub with_pick_commands : App → App
 with_pick_commands a = with_command (with_command (with_command a record_command) replay_command) debug_command
 
+-- the command that says what a refusal means
+unfoldable pub with_explanations : App → App
+with_explanations a = with_command a explain_command
+
 -- the whole command line
 unfoldable pub command_line : App
 command_line =
-    with_pick_commands (with_object_commands (with_code_commands (with_text_commands
-    (that_wants_command (new_app (codes "parbegin"))))))
+    with_explanations (with_pick_commands (with_object_commands (with_code_commands (with_text_commands
+    (that_wants_command (new_app (codes "parbegin")))))))
 
 -- a command of this form, none of whose options a subcommand inherits
 abbrev pub IsCommand : App → Command → Type 0

@@ -1,5 +1,5 @@
 -- What the words of a call say: the command and the numbers that clap matches, where it takes the words.
-use Rattle.std.specs.Prelude.{◌≡◌, ◌≤◌, ◌↔◌, IsTrue, ℕ, Bool, List, [], Option, Some, None, IfSome, ⊤, codes, map}
+use Rattle.std.specs.Prelude.{◌≡◌, ◌≤◌, ◌↔◌, IsTrue, ℕ, Bool, List, [], Option, Some, None, IfSome, ⊤, codes, map, option_map}
 use Rattle.std.specs.Str.Parse.{IsNumeral, digits_value, without_leading_plus}
 use Rattle.clap.specs.Words.{Row, Text, fault_of, one_of, subcommand_of}
 use Rattle.std.specs.Borrow.{Bor}
@@ -13,6 +13,8 @@ use Rattle.pb_options.specs.declared.options.CheckOptions.{CheckOptions}
 use Rattle.pb_options.specs.declared.options.EmitOptions.{EmitOptions}
 use Rattle.pb_options.specs.declared.options.RecordOptions.{RecordOptions}
 use Rattle.pb_options.specs.declared.options.RunOptions.{RunOptions}
+use Rattle.pb_refusals.specs.Codes.{code_name}
+use Rattle.pb_refusals.specs.declared.code.Code.{Code}
 use Rattle.pb_words.specs.declared.words.WordsFault.{WordsFault}
 use Rattle.pb_words.specs.declared.words.WordsFault.TheVariants as fault
 
@@ -54,6 +56,10 @@ format_number Two = 2
 abbrev pub HasEmitNumber : List Row → EmitOptions → Type 0
 HasEmitNumber rows o = HasNumber rows (codes "object") (format_number o.object)
 
+-- the name of the code was matched, or nothing if there is no code
+abbrev pub HasCode : List Row → Option Code → Type 0
+HasCode rows code = one_of (codes "CODE") rows ≡ option_map code_name code
+
 -- the options are those of this subcommand with these matches
 abbrev pub IsReadFrom : Text → List Row → Options → Type 0
 IsReadFrom name rows (option.Check o) = (name ≡ codes "check") × HasCheckNumbers rows o
@@ -61,6 +67,7 @@ IsReadFrom name rows option.Claims = name ≡ codes "claims"
 IsReadFrom name rows (option.Debug o) = (name ≡ codes "debug") × HasDebugFlag rows o
 IsReadFrom name rows (option.Emit o) = (name ≡ codes "emit") × HasEmitNumber rows o
 IsReadFrom name rows (option.Exec o) = (name ≡ codes "exec") × HasRunNumbers rows o
+IsReadFrom name rows (option.Explain code) = (name ≡ codes "explain") × HasCode rows code
 IsReadFrom name rows option.Migrate = name ≡ codes "migrate"
 IsReadFrom name rows (option.Record o) = (name ≡ codes "record") × HasRecordNumbers rows o
 IsReadFrom name rows option.Replay = name ≡ codes "replay"

@@ -2,8 +2,8 @@
 ghost use Rattle.std.specs.Prelude.{◌≡◌, IfOk, false};
 ghost use Rattle.clap.specs.Words.{app_of, rule_of, with_rule};
 ghost use Rattle.clap.specs.declared.builder.command.Command.TheViews.{out-Command};
-ghost use Rattle.pb_words.specs.CommandLine.{check_command, claims_command, debug_command, emit_command, flag_rule, exec_command, migrate_command, number_rule, number_rule_or, record_command, replay_command, run_command, that_wants_command, IsCommand};
-ghost use Rattle.pb_words.specs.CommandLine.{command_line as whole, with_code_commands, with_command, with_object_commands, with_pick_commands, with_run_rules, with_text_commands};
+ghost use Rattle.pb_words.specs.CommandLine.{check_command, claims_command, debug_command, emit_command, flag_rule, exec_command, explain_command, migrate_command, number_rule, number_rule_or, record_command, replay_command, run_command, that_wants_command, IsCommand};
+ghost use Rattle.pb_words.specs.CommandLine.{command_line as whole, with_code_commands, with_command, with_explanations, with_object_commands, with_pick_commands, with_run_rules, with_text_commands};
 
 use clap::builder::ValueParser;
 use clap::{Arg, ArgAction, Command};
@@ -129,6 +129,18 @@ fn exec_object<'a>(alloc: Global) -> Result<Command<'a>, AllocError>
     with_run_options(alloc, exec)
 }
 
+#[tactic(auto, unfolding(crate::specs::CommandLine::explain_command))]
+fn explain_code<'a>(alloc: Global) -> Result<Command<'a>, AllocError>
+    ensures { IfOk result (IsCommand explain_command) }
+{
+    let code = Arg::new(alloc, "CODE");
+    let code = code.help("The code of a refusal, such as N3; without it all codes are listed");
+    let explain = Command::new(alloc, "explain").about(
+        "Print what a refusal means, with an example and what to do",
+    );
+    with_option(explain, code)
+}
+
 #[tactic(auto, unfolding(crate::specs::CommandLine::migrate_command))]
 fn migrate_object<'a>(alloc: Global) -> Result<Command<'a>, AllocError>
     ensures { IfOk result (IsCommand migrate_command) }
@@ -206,6 +218,13 @@ fn with_picks<'a>(alloc: Global, command: Command<'a>) -> Result<Command<'a>, Al
     with_subcommand(command, debug_picks(alloc)?)
 }
 
+#[tactic(auto, unfolding(crate::specs::CommandLine::with_explanations))]
+fn with_explanations<'a>(alloc: Global, command: Command<'a>) -> Result<Command<'a>, AllocError>
+    ensures { IfOk result (λ c. app_of c ≡ with_explanations (app_of command.entry)) }
+{
+    with_subcommand(command, explain_code(alloc)?)
+}
+
 // The whole command line.
 #[tactic(auto, unfolding(crate::specs::CommandLine::command_line))]
 pub fn command_line<'a>(alloc: Global) -> Result<Command<'a>, AllocError>
@@ -213,6 +232,6 @@ pub fn command_line<'a>(alloc: Global) -> Result<Command<'a>, AllocError>
 {
     let command = wanting_command(Command::new(alloc, "parbegin").bin_name("parbegin")?);
     let command = with_codes(alloc, with_texts(alloc, command)?)?;
-    let command = with_objects(alloc, command)?;
-    with_picks(alloc, command)
+    let command = with_picks(alloc, with_objects(alloc, command)?)?;
+    with_explanations(alloc, command)
 }

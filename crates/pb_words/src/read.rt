@@ -1,10 +1,11 @@
 //! Reads the words of a call.
-ghost use Rattle.std.specs.Prelude.{◌≡◌, ◌↔◌, IfErr, IfNone, IfOk, IfSome, IsTrue, None, ℕ};
+ghost use Rattle.std.specs.Prelude.{◌≡◌, ◌↔◌, IfErr, IfNone, IfOk, IfSome, IsTrue, None, Option, ℕ};
 ghost use Rattle.clap.specs.Words.{found_of, kind_of, one_of, rows_of, subcommand_rows_of};
-ghost use Rattle.pb_words.specs.Read.{BlamesWords, HasCheckNumbers, HasDebugFlag, HasEmitNumber, HasFlag, HasNumberIn, HasRecordNumbers, HasRunNumbers, IsReadFromMatches, WordsSay};
+ghost use Rattle.pb_words.specs.Read.{BlamesWords, HasCheckNumbers, HasCode, HasDebugFlag, HasEmitNumber, HasFlag, HasNumberIn, HasRecordNumbers, HasRunNumbers, IsReadFromMatches, WordsSay};
 ghost use Rattle.pb_words.specs.declared.words.Options.{Options as AnyOptions};
 ghost use Rattle.pb_options.specs.declared.options.CheckOptions.{CheckOptions as AnyCheckOptions};
 ghost use Rattle.pb_options.specs.declared.options.EmitOptions.{EmitOptions as AnyEmitOptions};
+ghost use Rattle.pb_refusals.specs.declared.code.Code.{Code as AnyCode};
 ghost use Rattle.pb_options.specs.declared.options.RecordOptions.{RecordOptions as AnyRecordOptions};
 ghost use Rattle.pb_options.specs.declared.options.RunOptions.{RunOptions as AnyRunOptions};
 
@@ -14,7 +15,8 @@ use clap::error::ErrorKind;
 use clap::{ArgMatches, Error};
 use pb_object::Format;
 use pb_options::{CheckOptions, DebugOptions, EmitOptions, RecordOptions, RunOptions};
-use std::alloc::Global;
+use pb_refusals::Code;
+use std::alloc::{AllocError, Global};
 
 // The number of an option, where it was matched with one from `least` to `most`.
 fn number(matches: &ArgMatches<'_>, id: &str, least: u64, most: u64) -> Option<u64>
@@ -79,6 +81,17 @@ fn emit_options(matches: &ArgMatches<'_>) -> Option<EmitOptions>
     Some(EmitOptions { object })
 }
 
+// The code that was given, or none if none was; nothing is returned if what was given is not a code.
+fn code_given(matches: &ArgMatches<'_>) -> Option<Option<Code>>
+    ensures some { IfSome result (HasCode (rows_of (found_of matches.now))) }
+    ensures none { IfNone result ((c : Option AnyCode) → HasCode (rows_of (found_of matches.now)) c → ⊥) }
+{
+    match matches.try_get_one::<Code>("CODE") {
+        Ok(code) => Some(code),
+        Err(_) => None,
+    }
+}
+
 fn record_options(matches: &ArgMatches<'_>) -> Option<RecordOptions>
     ensures some { IfSome result (HasRecordNumbers (rows_of (found_of matches.now))) }
     ensures none { IfNone result ((o : AnyRecordOptions) → HasRecordNumbers (rows_of (found_of matches.now)) o → ⊥) }
@@ -120,6 +133,7 @@ fn read_matches(matches: &ArgMatches<'_>) -> Option<Options>
         "debug" => Some(Options::Debug(debug_options(inner))),
         "emit" => Some(Options::Emit(emit_options(inner)?)),
         "exec" => Some(Options::Exec(run_options(inner)?)),
+        "explain" => Some(Options::Explain(code_given(inner)?)),
         "migrate" => Some(Options::Migrate),
         "record" => Some(Options::Record(record_options(inner)?)),
         "replay" => Some(Options::Replay),
@@ -145,8 +159,24 @@ pub fn options(alloc: Global, words: &[&str]) -> Result<Options, WordsFault>
     };
     match read_matches(&matches) {
         Some(options) => Ok(options),
-        None => Err(WordsFault::Words(String::new(alloc))),
+        // clap has looked at the numbers: only a code is left that is not there.
+        None => match codes_text(alloc) {
+            Ok(text) => Err(WordsFault::Words(text)),
+            Err(_) => Err(WordsFault::Memory),
+        },
     }
+}
+
+// The text of a code that is not there, with those that are.
+fn codes_text(alloc: Global) -> Result<String, AllocError> {
+    let mut text = String::new(alloc);
+    text.push_str("error: no refusal has this code\n\n  codes:")?;
+    for code in Code::ALL {
+        text.push(' ')?;
+        text.push_str(code.name())?;
+    }
+    text.push_str("\n\nFor more information, try '--help'.\n")?;
+    Ok(text)
 }
 
 fn words_fault(alloc: Global, error: &Error) -> WordsFault
@@ -238,6 +268,31 @@ mod tests {
         for words in ["0", "3", "one"] {
             assert!(rt; options(alloc, &["parbegin", "emit", "--object", words]).is_err());
         }
+        Ok(())
+    }
+
+    #[test]
+    fn reads_explain(rt: HostRuntime) -> Result<(), Fail> {
+        let alloc = rt.alloc();
+        let all = options(alloc, &["parbegin", "explain"])?;
+        assert_eq!(rt; all, Options::Explain(None));
+        let one = options(alloc, &["parbegin", "explain", "N3"])?;
+        assert_eq!(rt; one, Options::Explain(Some(Code::N3)));
+        for word in ["", "n3", "N5", "--code"] {
+            assert!(rt; options(alloc, &["parbegin", "explain", word]).is_err());
+        }
+        assert!(rt; options(alloc, &["parbegin", "explain", "N3", "N4"]).is_err());
+        Ok(())
+    }
+
+    #[test]
+    fn lists_codes(rt: HostRuntime) -> Result<(), Fail> {
+        let words = ["parbegin", "explain", "N5"];
+        let Err(WordsFault::Words(text)) = options(rt.alloc(), words.as_slice()) else {
+            panic!(rt; "the code was taken");
+        };
+        assert!(rt; text.as_str().contains("error: no refusal has this code"));
+        assert!(rt; text.as_str().contains(" N1 N2 N3 N4 N6 C1 "), "{text}");
         Ok(())
     }
 

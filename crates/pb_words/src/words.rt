@@ -1,6 +1,7 @@
 //! The words of a call, read.
 
 use pb_options::{CheckOptions, DebugOptions, EmitOptions, RecordOptions, RunOptions};
+use pb_refusals::Code;
 
 /// A command with its options.
 // To add one: pb_engines, pb_options, command_line.rt, read.rt, pb_cli, pb_tests, docs/; docs/CHANGING.md.
@@ -11,6 +12,7 @@ pub enum Options {
     Debug(DebugOptions),
     Emit(EmitOptions),
     Exec(RunOptions),
+    Explain(Option<Code>),
     Migrate,
     Record(RecordOptions),
     Replay,

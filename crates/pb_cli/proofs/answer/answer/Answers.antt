@@ -1,5 +1,5 @@
 use Rattle.std.proofs.Common.{inl, subst}
-use Rattle.pb_words.specs.declared.words.Options.TheVariants.{Check, Debug, Emit, Exec, Record, Run}
+use Rattle.pb_words.specs.declared.words.Options.TheVariants.{Check, Debug, Emit, Exec, Explain, Record, Run}
 use Rattle.pb_words.specs.Read.{WordsSay}
 use Rattle.pb_cli.proofs.AnswerLemmas.{CallTellsFaults-debug, CallWrites-refused}
 use Rattle.pb_cli.proofs.answer.answer.Goals as goal
@@ -28,6 +28,11 @@ pub returns-in-Ok-Exec-clause-text : goal.returns-in-Ok-Exec-clause-text
 returns-in-Ok-Exec-clause-text g c =
     let read = subst (WordsSay c.args.words.now) c.in-Ok-Exec.field-0-is c.in-Ok-Exec.ensures.read in
     inl (Exec c.in-Ok-Exec.numbers, read, c.exec_engine.ensures.text)
+
+pub returns-in-Ok-Explain-clause-text : goal.returns-in-Ok-Explain-clause-text
+returns-in-Ok-Explain-clause-text g c =
+    let read = subst (WordsSay c.args.words.now) c.in-Ok-Explain.field-0-is c.in-Ok-Explain.ensures.read in
+    inl (Explain c.in-Ok-Explain.code, read, c.explain_engine.ensures.text)
 
 pub returns-in-Ok-Emit-clause-text : goal.returns-in-Ok-Emit-clause-text
 returns-in-Ok-Emit-clause-text g c =

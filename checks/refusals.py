@@ -1,0 +1,94 @@
+#!/usr/bin/env python3
+"""Compares docs/REFUSALS.md with what the program's `explain` says, and makes the call of each example.
+
+    checks/refusals.py [PROGRAM]             PROGRAM is the one that ./parbegin has built if none is given
+    checks/refusals.py --write [PROGRAM]     writes docs/REFUSALS.md anew, after a change of crates/pb_explain
+
+The list that `explain` writes must be the first lines of the pages, and each example must be refused with its line. Every
+refusal line of docs/FORMATS.md must have a page, and both completions every code. Its status is 0 if all is as wanted,
+and 1 if not.
+"""
+import os
+import pathlib
+import re
+import subprocess
+import sys
+import tempfile
+
+from calls import DONE, TOP, WORDS, Tally, call, program
+
+DOCUMENT = TOP / "docs/REFUSALS.md"
+FORMATS = TOP / "docs/FORMATS.md"
+COMPLETIONS = TOP / "extras/completion/parbegin.bash", TOP / "extras/completion/parbegin.fish"
+# The page of a code: its first line, the meaning, an example with its refusal line, and what to do.
+PAGE = re.compile(
+    r"(?P<first>[^\n]*)\n\n(?P<meaning>(?:[^\n]+\n)+)"
+    r"(?:\nFor example, a shell that is told\n\n(?P<call>(?:[^\n]+\n)+)\nshows\n\n(?P<line>[^\n]*)\n)?"
+    r"\n(?P<mend>(?:[^\n]+\n)+)"
+)
+HEAD = """# Refusals
+
+What each refusal of an input means, an example that is refused so, and what to do about it. checks/refusals.py writes
+this page from what `parbegin explain` says, and makes the calls. docs/FORMATS.md has the order in which the causes are
+looked for.
+"""
+
+
+def pages():
+    """Returns the pages of all codes in the order of the list, and the list."""
+    status, listed = call(["explain"], b"")
+    assert status == DONE, status
+    listed = listed.decode().splitlines()
+    return {line.split(":")[0]: call(["explain", line.split(":")[0]], b"")[1].decode() for line in listed}, listed
+
+
+def section(page):
+    """Returns a page as a section of the document."""
+    it = PAGE.fullmatch(page)
+    parts = [f"## {it['first']}", it["meaning"].strip()]
+    if it["call"]:
+        parts += ["For example, a shell that is told", f"```\n{it['call']}```", "shows", f"```\n{it['line']}\n```"]
+    return "\n\n".join([*parts, it["mend"]])
+
+
+def try_example(tally, code, page, folder):
+    it = PAGE.fullmatch(page)
+    if not it or not it["call"]:
+        return
+    where = {**os.environ, "PATH": f"{folder}:{os.environ['PATH']}"}
+    words = ["bash", "-o", "pipefail", "-c", it["call"]]
+    ran = subprocess.run(words, env=where, stdout=subprocess.PIPE, stderr=subprocess.STDOUT, check=False)
+    said = ran.stdout.decode()
+    tally.expect(said == it["line"] + "\n", code, "the example shows", said)
+    begins = it["line"].split()[:2] == ["refused", code]
+    tally.expect(begins, code, "the example is refused with", it["line"])
+
+
+def main():
+    writes = "--write" in sys.argv
+    sys.argv = [word for word in sys.argv if word != "--write"]
+    tally = Tally()
+    found, listed = pages()
+    tally.expect([page.splitlines()[0] for page in found.values()] == listed, "the list is not the first lines")
+    with tempfile.TemporaryDirectory() as folder:
+        (pathlib.Path(folder) / "parbegin").symlink_to(program())
+        for code, page in found.items():
+            tally.expect(PAGE.fullmatch(page), code, "the page is not of its form:", page)
+            try_example(tally, code, page, folder)
+    told = set(re.findall(r"^\| `refused (\w+)", FORMATS.read_text(), re.M))
+    tally.expect(told == set(found), "the codes of docs/FORMATS.md:", told ^ set(found))
+    for file in COMPLETIONS:
+        missing = [code for code in found if not re.search(rf"\b{code}\b", file.read_text())]
+        tally.expect(not missing, file.name, "has not the codes", missing)
+    status, said = call(["explain", "N5"], b"")
+    lists_all = all(f" {code}" in said.decode() for code in found)
+    tally.expect(status == WORDS and lists_all, "a code that is not there:", status, said)
+    text = "\n".join([HEAD, *map(section, found.values())])
+    if writes:
+        DOCUMENT.write_text(text)
+    tally.expect(DOCUMENT.is_file() and DOCUMENT.read_text() == text, "docs/REFUSALS.md is not what `explain` says")
+    print(f"{len(found)} codes")
+    tally.end("refusals")
+
+
+main()
