@@ -4,4 +4,6 @@
 
 pub mod options;
 
-pub use options::{CheckOptions, DebugOptions, EmitOptions, RecordOptions, RunOptions};
+pub use options::{
+    CheckOptions, DebugOptions, EmitOptions, OutcomesOptions, RecordOptions, RunOptions,
+};

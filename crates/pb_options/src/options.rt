@@ -50,3 +50,12 @@ pub struct DebugOptions {
     /// Whether the commands are read as they come, by `debug_live_engine`.
     pub live: bool,
 }
+
+/// The options of `outcomes_engine`.
+#[derive(Clone, Copy, Debug, PartialEq, Eq)]
+pub struct OutcomesOptions {
+    /// The most configurations that are kept, from 1 to 4,000,000.
+    pub states: u32,
+    pub ghost some_state: { 1 ≤ states },
+    pub ghost states_fit: { states ≤ 4000000 },
+}
