@@ -1,7 +1,7 @@
 -- The lines of outcomes, one more at a time.
 use Rattle.std.proofs.Common.{◌≡◌, ℕ, suc, ◌+◌, ◌<◌, ◌≤◌, ℤ, pos, false, List, [], ◌∷◌, ◌++◌, ◌∙◌, append_assoc, length, take, get_or, map, sym, ap, subst, arith}
 use Rattle.std.specs.Prelude.{slice_index_or}
-use Rattle.std.proofs.lemmas.List.{get_or-map, get_or_default, length-map, length-take-le, take_all, take_more}
+use Rattle.std.proofs.lemmas.List.{get_or-map, length-map, length-take-le, take_all, take_more}
 use Rattle.pb_base.specs.Lines.{NameTable, name_of}
 use Rattle.pb_code.specs.View.{process_labels_view}
 use Rattle.pb_code.specs.Whole.{ProcessLabels}
@@ -11,7 +11,7 @@ use Rattle.pb_explore.specs.Outcomes.{Found, ProcessOutcome}
 use Rattle.pb_explore.specs.declared.found.Found.{Found as GivenFound}
 use Rattle.pb_explore.specs.declared.found.ProcessOutcome.{ProcessOutcome as GivenOutcome}
 use Rattle.pb_history.specs.declared.counted.CountedPick.{CountedPick}
-use Rattle.pb_outcome_engine.specs.OutcomeLines.{AreCounted, AreOutcomeLines, each_below, integer_line, integer_names, one_more, outcome_at, outcome_lines, process_lines}
+use Rattle.pb_outcome_engine.specs.OutcomeLines.{AreCounted, AreOutcomeLines, each_below, integer_line, integer_names, none, one_more, outcome_at, outcome_lines, process_lines}
 use Rattle.pb_outcome_engine.specs.Showing.{AreNamed}
 
 -- what is seen of an element that was read
@@ -30,18 +30,16 @@ each_more said n now old so_far new is before added =
     ∙ ap (λ (k : ℕ). old ++ each_below said k) (sym next))))
 
 -- the line of one integer more
-pub integer_more : {A : Type 0} (f : A → List ℕ) (process : List ℕ) (names : List A) (values : List ℤ) (x : ℕ) (name : A) (value : ℤ)
-    (old so_far new : List ℕ) → x < length names → x < length values → name ≡ get_or names x name → value ≡ get_or values x value
+pub integer_more : {A : Type 0} (f : A → List ℕ) (process : List ℕ) (names : List A) (values : List ℤ) (x : ℕ) (name : A)
+    (old so_far new : List ℕ) → x < length names → name ≡ get_or names x name
     → so_far ≡ old ++ each_below (λ k. integer_line process (name_of (map f names) k) (slice_index_or values k (pos 0))) x
-    → new ≡ so_far ++ integer_line process (f name) value
+    → new ≡ so_far ++ integer_line process (f name) (slice_index_or values x (pos 0))
     → new ≡ old ++ each_below (λ k. integer_line process (name_of (map f names) k) (slice_index_or values k (pos 0))) (x + 1)
-integer_more f process names values x name value old so_far new in_names in_values at_name at_value before added =
+integer_more f process names values x name old so_far new in_names at_name before added =
     let named : name_of (map f names) x ≡ f name = get_or-map f names x name [] in_names ∙ ap f (sym at_name) in
-    let is : slice_index_or values x (pos 0) ≡ value = get_or_default values x (pos 0) value in_values ∙ sym at_value in
-    each_more (λ k. integer_line process (name_of (map f names) k) (slice_index_or values k (pos 0))) x (integer_line process (f name) value)
-    old so_far new
-    (ap (λ (n : List ℕ). integer_line process n (slice_index_or values x (pos 0))) named ∙ ap (λ (v : ℤ). integer_line process (f name) v) is)
-    before added
+    each_more (λ k. integer_line process (name_of (map f names) k) (slice_index_or values k (pos 0))) x
+    (integer_line process (f name) (slice_index_or values x (pos 0))) old so_far new
+    (ap (λ (n : List ℕ). integer_line process n (slice_index_or values x (pos 0))) named) before added
 
 -- the lines of one process more
 module _ {A : Type 0} (f : A → List ℕ) (names : List A) (labels : List GivenLabels) (outcome : List GivenOutcome) where
@@ -80,6 +78,11 @@ module _ {A : Type 0} (f : A → List ℕ) (names : List A) (labels : List Given
         ∙ (ap (λ (x : List (List ℕ)). length x) (sym integers_are)
         ∙ (named.integers p (omega (arith, all, in_outcome))
         ∙ ap (λ (x : ProcessOutcome). length x.integers) outcome_is))
+
+-- no outcome yet
+pub no_outcomes : (names : NameTable) (labels : List ProcessLabels) (found : List Found) (text : List ℕ) → text ≡ []
+    → AreOutcomeLines names labels (take 0 found) text
+no_outcomes names labels found text empty = subst (λ (t : List ℕ). AreOutcomeLines names labels [] t) (sym empty) none
 
 -- the lines of one outcome more
 pub outcome_more : (names : NameTable) (labels : List ProcessLabels) (found : List GivenFound) (i : ℕ) (f : GivenFound)

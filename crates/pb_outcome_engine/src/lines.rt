@@ -32,8 +32,9 @@ pub fn outcomes_text(
 {
     let mut text = Vec::new(alloc);
     for i in 0..found.len() {
-        let picks = count_picks(alloc, &found[i].picks)?;
-        put_outcome(&mut text, names, labels, i + 1, &found[i], &picks)?;
+        let one = &found[i];
+        let picks = count_picks(alloc, &one.picks)?;
+        put_outcome(&mut text, names, labels, i + 1, one, &picks)?;
     }
     put_count(&mut text, found.len())?;
     Ok(text)

@@ -1,6 +1,5 @@
-use Rattle.std.proofs.Common.{◌≡◌, ℕ, ◌≤◌, length, ◌∙◌, sym, ap, arith}
-use Rattle.pb_history.specs.Replays.{spread}
-use Rattle.pb_outcome_engine.proofs.CountLemmas.{counted_few, counted_more}
+use Rattle.std.proofs.Common.{arith}
+use Rattle.pb_outcome_engine.proofs.CountLemmas.{counted_few}
 use Rattle.pb_outcome_engine.proofs.counts.count_picks.Goals as goal
 
 pub count_pick-requires-clause-fits : goal.count_pick-requires-clause-fits

@@ -1,4 +1,4 @@
-use Rattle.std.proofs.Common.{◌<◌, ◌++◌, List, ℕ, ◌∙◌, length, ap, arith}
+use Rattle.std.proofs.Common.{◌++◌, List, ℕ, ◌∙◌, ap, arith}
 use Rattle.std.proofs.lemmas.List.{length-map}
 use Rattle.pb_code.specs.View.{process_labels_view}
 use Rattle.pb_explore.specs.Endings.{process_outcome_view}
