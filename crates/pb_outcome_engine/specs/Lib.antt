@@ -1,0 +1,3 @@
+pub mod OutcomeLines
+pub mod SaysOutcomes
+pub mod Showing

@@ -1,0 +1,10 @@
+//! The engine behind the command `outcomes`: every way in which a small program can end.
+#![tactic(auto)]
+
+mod counts;
+mod lines;
+pub mod options;
+pub mod outcomes;
+
+pub use options::OutcomesOptions;
+pub use outcomes::outcomes_engine;

@@ -1,0 +1,157 @@
+//! The lines of outcomes.
+
+ghost use Rattle.std.specs.Prelude.{◌≡◌, ◌++◌, ℕ, List, All, IfOk, OnOk, codes, length, map};
+ghost use Rattle.std.specs.Fmt.{decimal};
+ghost use Rattle.pb_base.specs.Lines.{HasProcess, names_view};
+ghost use Rattle.pb_code.specs.View.{labels_view, process_labels_view};
+ghost use Rattle.pb_engines.specs.Answers.{line};
+ghost use Rattle.pb_explore.specs.Endings.{found_view, process_outcome_view};
+ghost use Rattle.pb_outcome_engine.specs.OutcomeLines.{AreOutcomeLines, all_line, end_lines, integer_line, integer_lines, outcome_lines, process_lines};
+ghost use Rattle.pb_outcome_engine.specs.Showing.{AreNamed, IsShown};
+
+use crate::counts::count_picks;
+use itoa::{Buffer, Integer};
+use pb_base::{Names, NoMemory};
+use pb_code::{Labels, ProcessLabels};
+use pb_explore::{Found, ProcessOutcome};
+use pb_history::CountedPick;
+use pb_picks::write_picks;
+use std::alloc::Global;
+
+/// Returns the lines of these outcomes, each with its picks, and the line that says how many they are.
+pub fn outcomes_text(
+    alloc: Global,
+    names: &Names,
+    labels: &Labels,
+    found: &[Found],
+) -> Result<Vec<u8>, NoMemory>
+    requires { All (IsShown (names_view names.now) (labels_view labels.now)) found.now }
+    ensures { IfOk result (λ text. (lines : List ℕ)
+        × AreOutcomeLines (names_view names.now) (labels_view labels.now) (map found_view found.now) lines
+        × (text.items ≡ lines ++ all_line (length found.now))) }
+{
+    let mut text = Vec::new(alloc);
+    for i in 0..found.len() {
+        let one = &found[i];
+        let picks = count_picks(alloc, &one.picks)?;
+        put_outcome(&mut text, names, labels, i + 1, one, &picks)?;
+    }
+    put_count(&mut text, found.len())?;
+    Ok(text)
+}
+
+// Puts the lines of an outcome with this number behind a text, reached by these picks.
+fn put_outcome(
+    text: &mut Vec<u8>,
+    names: &Names,
+    labels: &Labels,
+    number: usize,
+    found: &Found,
+    picks: &[CountedPick],
+) -> Result<(), NoMemory>
+    requires named { AreNamed (names_view names.now).processes (labels_view labels.now) (found_view found.now).outcome }
+    requires picks { All (λ c. HasProcess (names_view names.now) c.pick.process) picks.now }
+    ensures { OnOk result (text.new.items ≡ text.old.items
+        ++ outcome_lines (names_view names.now) (labels_view labels.now) number (found_view found.now).outcome picks.now) }
+{
+    put_head(text, number)?;
+    put_processes(text, &names.processes, &labels.processes, &found.outcome)?;
+    text.extend_from_slice(b"reached by\n")?;
+    write_picks(text, names, picks)?;
+    Ok(())
+}
+
+// Puts the first line of an outcome behind a text.
+fn put_head(text: &mut Vec<u8>, number: usize) -> Result<(), NoMemory>
+    ensures { OnOk result (text.new.items ≡ text.old.items ++ line (codes "outcome " ++ decimal number)) }
+{
+    put_number(text, b"outcome ", number)?;
+    text.push(b'\n')?;
+    Ok(())
+}
+
+// Puts the line that says how many outcomes there are behind a text.
+fn put_count(text: &mut Vec<u8>, count: usize) -> Result<(), NoMemory>
+    ensures { OnOk result (text.new.items ≡ text.old.items ++ all_line count) }
+{
+    put_number(text, b"all ", count)?;
+    text.extend_from_slice(b" outcomes\n")?;
+    Ok(())
+}
+
+// Puts how each process ended behind a text.
+fn put_processes(
+    text: &mut Vec<u8>,
+    names: &[Vec<u8>],
+    labels: &[ProcessLabels],
+    outcome: &[ProcessOutcome],
+) -> Result<(), NoMemory>
+    requires { AreNamed (map (λ name. name.items) names.now) (map process_labels_view labels.now)
+        (map process_outcome_view outcome.now) }
+    ensures { OnOk result (text.new.items ≡ text.old.items ++ end_lines (map (λ name. name.items) names.now)
+        (map process_labels_view labels.now) (map process_outcome_view outcome.now)) }
+{
+    for p in 0..outcome.len() {
+        put_process(text, &names[p], &labels[p], &outcome[p])?;
+    }
+    Ok(())
+}
+
+// Puts how a process ended behind a text, and its integers.
+fn put_process(
+    text: &mut Vec<u8>,
+    name: &[u8],
+    labels: &ProcessLabels,
+    outcome: &ProcessOutcome,
+) -> Result<(), NoMemory>
+    requires { length labels.now.integers.items ≡ length outcome.now.integers.items }
+    ensures { OnOk result (text.new.items ≡ text.old.items
+        ++ process_lines name.now (process_labels_view labels.now).integers (process_outcome_view outcome.now)) }
+{
+    text.extend_from_slice(name)?;
+    if outcome.faulted {
+        text.extend_from_slice(b" faulted\n")?;
+    } else {
+        text.extend_from_slice(b" ended\n")?;
+    }
+    put_integers(text, name, &labels.integers, &outcome.integers)
+}
+
+// Puts the lines of the integers of a process behind a text.
+fn put_integers(
+    text: &mut Vec<u8>,
+    process: &[u8],
+    names: &[Vec<u8>],
+    values: &[i64],
+) -> Result<(), NoMemory>
+    requires { length names.now ≡ length values.now }
+    ensures { OnOk result (text.new.items
+        ≡ text.old.items ++ integer_lines process.now (map (λ name. name.items) names.now) values.now) }
+{
+    for x in 0..values.len() {
+        put_integer(text, process, &names[x], values[x])?;
+    }
+    Ok(())
+}
+
+// Puts the line of an integer of a process behind a text.
+fn put_integer(text: &mut Vec<u8>, process: &[u8], name: &[u8], value: i64) -> Result<(), NoMemory>
+    ensures { OnOk result (text.new.items ≡ text.old.items ++ integer_line process.now name.now value) }
+{
+    text.extend_from_slice(process)?;
+    text.extend_from_slice(b".")?;
+    text.extend_from_slice(name)?;
+    put_number(text, b" ", value)?;
+    text.extend_from_slice(b"\n")?;
+    Ok(())
+}
+
+// Puts words and a number behind a text.
+fn put_number<I: Integer>(text: &mut Vec<u8>, words: &[u8], number: I) -> Result<(), NoMemory>
+    ensures { OnOk result (text.new.items ≡ text.old.items ++ (words.now ++ I.text number)) }
+{
+    let mut digits = Buffer::new();
+    text.extend_from_slice(words)?;
+    text.extend_from_slice(digits.format(number).as_bytes())?;
+    Ok(())
+}

@@ -1,0 +1,99 @@
+//! The command `outcomes`, over any input and output.
+
+ghost use Rattle.std.specs.Prelude.{◌≡◌, ◌≤◌, IfOk, IfSome, length};
+ghost use Rattle.pb_code.specs.Limits.{AreLabels};
+ghost use Rattle.pb_engines.specs.Answers.{Tells};
+ghost use Rattle.pb_engines.specs.Faults.{TellsFaults, TellsWriteFaults};
+ghost use Rattle.pb_engines.specs.Inputs.{SaysOfInput};
+ghost use Rattle.pb_engines.specs.declared.status.Status.TheVariants.{Limit};
+ghost use Rattle.pb_outcome_engine.specs.OutcomeLines.{excess_line};
+ghost use Rattle.pb_outcome_engine.specs.SaysOutcomes.{SaysOfCode, SaysOfOutcomes};
+
+use crate::lines::outcomes_text;
+use crate::options::OutcomesOptions;
+use itoa::Buffer;
+use pb_base::NoMemory;
+use pb_base::device::{Input, Output};
+use pb_codegen::Compiled;
+use pb_engines::Status;
+use pb_engines::accept::{compile_text, refuse};
+use pb_engines::input::read_input;
+use pb_engines::reply::{Reply, tell};
+use pb_explore::ExploreFault;
+use pb_explore::explore::explore;
+use std::alloc::Global;
+
+/// Writes every outcome of the text that the input holds, under the banker: how each process ended, its integers, and
+/// picks that lead there; and at the end how many outcomes there are. If more configurations than `options.states` are
+/// needed, the answer is the line that says so, and the status `Limit`. A text that is refused is answered by its
+/// refusal line.
+///
+/// After a read that failed nothing is written; after a write that failed, a first part of what was being said.
+pub fn outcomes_engine<I: Input, O: Output>(
+    alloc: Global,
+    options: OutcomesOptions,
+    input: &mut I,
+    output: &mut O,
+) -> Status
+    ensures text { IfSome (I.rest input.old) (λ bytes.
+        Tells (SaysOfInput (SaysOfOutcomes options.states) bytes) (O.written output.old) (O.written output.new) result) }
+    ensures faults { TellsFaults
+        (record { reads = I.failures input.old; writes = O.failures output.old; written = O.written output.old })
+        (record { reads = I.failures input.new; writes = O.failures output.new; written = O.written output.new })
+        result }
+{
+    match read_input(alloc, input, output) {
+        Ok(bytes) => tell_outcomes(alloc, options, bytes.as_slice(), output),
+        Err(status) => status,
+    }
+}
+
+// Writes the outcomes of a text.
+fn tell_outcomes<O: Output>(
+    alloc: Global,
+    options: OutcomesOptions,
+    text: &[u8],
+    output: &mut O,
+) -> Status
+    requires { length text.now ≤ 4194304 }
+    ensures text { Tells (SaysOfInput (SaysOfOutcomes options.states) text.now) (O.written output.old) (O.written output.new) result }
+    ensures faults { TellsWriteFaults (O.failures output.old) (O.failures output.new) result }
+{
+    match compile_text(alloc, text) {
+        Ok(compiled) => tell(alloc, reply(alloc, options.states, &compiled), output),
+        Err(refusal) => refuse(alloc, refusal, output),
+    }
+}
+
+// The lines of all outcomes of a compiled text, or the line that more configurations are reached.
+fn reply(alloc: Global, states: u32, compiled: &Compiled) -> Result<Reply, NoMemory>
+    requires { AreLabels compiled.now.verified.code compiled.now.labels }
+    ensures { IfOk result (λ r.
+        SaysOfCode compiled.now.verified.code compiled.now.labels states r.text.items r.status) }
+{
+    let verified = compiled.verified();
+    let code = verified.code();
+    match explore(alloc, verified, states) {
+        Ok(found) => Ok(Reply {
+            text: outcomes_text(alloc, &code.names, compiled.labels(), &found)?,
+            status: Status::Done,
+        }),
+        Err(ExploreFault::TooMany) => too_many(alloc, states),
+        Err(ExploreFault::NoMemory) => Err(NoMemory),
+    }
+}
+
+// The reply that more configurations than these are reached.
+fn too_many(alloc: Global, states: u32) -> Result<Reply, NoMemory>
+    ensures { IfOk result (λ r.
+        (r.text.items ≡ excess_line states) × (r.status ≡ Limit)) }
+{
+    let mut digits = Buffer::new();
+    let mut text = Vec::from_slice(alloc, b"more than ")?;
+    text.extend_from_slice(digits.format(states).as_bytes())?;
+    text.extend_from_slice(b" configurations\n")?;
+    Ok(Reply {
+        text,
+        status: Status::Limit,
+    })
+}

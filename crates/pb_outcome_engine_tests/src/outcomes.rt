@@ -1,0 +1,119 @@
+//! Whole inputs, and what is said of them.
+
+use pb_base::device::{MemoryInput, MemoryOutput};
+use pb_engines::{Status, replay_engine};
+use pb_outcome_engine::{OutcomesOptions, outcomes_engine};
+use std::alloc::Global;
+
+/// A text, how many configurations may be kept, what is said of it, and the status.
+struct Case {
+    text: &'static [u8],
+    options: OutcomesOptions,
+    said: &'static [u8],
+    status: Status,
+}
+
+const MANY: OutcomesOptions = OutcomesOptions { states: 1_000_000 };
+
+/// Two additions, of which one may be lost: 61 configurations.
+const LOST: &[u8] =
+    b"process p begin integer x; parbegin x := x + 1; x := x + 1 parend; print x end\n";
+
+const CASES: [Case; 9] = [
+    Case {
+        text: LOST,
+        options: MANY,
+        said: b"outcome 1\np ended\np.x 2\nreached by\np.0 1\np.1 5\np.2 5\np.0 4\noutcome 2\np ended\np.x 1\nreached by\np.0 1\np.1 3\np.2 1\np.1 2\np.2 4\np.0 4\nall 2 outcomes\n",
+        status: Status::Done,
+    },
+    Case {
+        text: b"resource tape = 1; resource disk = 1;\nprocess a begin hold 1 of tape do hold 1 of disk do print 1 od od end\nprocess b begin hold 1 of disk do hold 1 of tape do print 2 od od end\n",
+        options: MANY,
+        said: b"outcome 1\na ended\nb ended\nreached by\na.0 7\nb.0 7\nall 1 outcomes\n",
+        status: Status::Done,
+    },
+    Case {
+        text: b"process p begin integer x; parbegin print 1 div x; x := 1 parend end\n",
+        options: MANY,
+        said: b"outcome 1\np faulted\np.x 0\nreached by\np.0 1\np.1 3\noutcome 2\np faulted\np.x 1\nreached by\np.0 1\np.1 2\np.2 2\np.1 1\noutcome 3\np ended\np.x 1\nreached by\np.0 1\np.1 1\np.2 2\np.1 4\np.2 1\np.0 2\nall 3 outcomes\n",
+        status: Status::Done,
+    },
+    Case {
+        text: b"process p begin integer x, y; x := 2; y := -3 end process q begin print 1 end",
+        options: MANY,
+        said: b"outcome 1\np ended\np.x 2\np.y -3\nq ended\nreached by\np.0 6\nq.0 3\nall 1 outcomes\n",
+        status: Status::Done,
+    },
+    Case {
+        text: b"process p begin integer x; while 1 do x := 0 od end",
+        options: MANY,
+        said: b"all 0 outcomes\n",
+        status: Status::Done,
+    },
+    Case {
+        text: LOST,
+        options: OutcomesOptions { states: 61 },
+        said: b"outcome 1\np ended\np.x 2\nreached by\np.0 1\np.1 5\np.2 5\np.0 4\noutcome 2\np ended\np.x 1\nreached by\np.0 1\np.1 3\np.2 1\np.1 2\np.2 4\np.0 4\nall 2 outcomes\n",
+        status: Status::Done,
+    },
+    Case {
+        text: LOST,
+        options: OutcomesOptions { states: 60 },
+        said: b"more than 60 configurations\n",
+        status: Status::Limit,
+    },
+    Case {
+        text: b"process p begin print 1 end process",
+        options: MANY,
+        said: b"refused P1 at 35\n",
+        status: Status::Refused,
+    },
+    Case {
+        text: b"resource tape = 1; process p begin hold 2 of tape do skip od end",
+        options: MANY,
+        said: b"refused C1 p tape claim 2 capital 1\n",
+        status: Status::Refused,
+    },
+];
+
+/// Whether this is said of a text.
+fn says(alloc: Global, case: &Case) -> Option<bool> {
+    let mut input = MemoryInput::new(case.text);
+    let mut output = MemoryOutput::new(alloc, 4_096).ok()?;
+    let status = outcomes_engine(alloc, case.options, &mut input, &mut output);
+    Some(status == case.status && output.as_slice() == case.said)
+}
+
+#[test]
+fn outcomes_are_told(rt: HostRuntime) {
+    for case in &CASES {
+        assert!(rt; says(rt.alloc(), case) == Some(true));
+    }
+}
+
+/// The text of the lost update with the picks of its two outcomes, what `replay` says, and its status.
+const REPLAYS: [(&[u8], &[u8]); 2] = [
+    (
+        b"process p begin integer x; parbegin x := x + 1; x := x + 1 parend; print x end\n%%\np.0 1\np.1 5\np.2 5\np.0 4\n",
+        b"p.0 print 2\np end\ndone\n",
+    ),
+    (
+        b"process p begin integer x; parbegin x := x + 1; x := x + 1 parend; print x end\n%%\np.0 1\np.1 3\np.2 1\np.1 2\np.2 4\np.0 4\n",
+        b"p.0 print 1\np end\ndone\n",
+    ),
+];
+
+/// Whether `replay` says this of an input.
+fn replays(alloc: Global, input: &[u8], said: &[u8]) -> Option<bool> {
+    let mut input = MemoryInput::new(input);
+    let mut output = MemoryOutput::new(alloc, 4_096).ok()?;
+    let status = replay_engine(alloc, &mut input, &mut output);
+    Some(status == Status::Done && output.as_slice() == said)
+}
+
+#[test]
+fn pick_lines_are_replayed(rt: HostRuntime) {
+    for (input, said) in &REPLAYS {
+        assert!(rt; replays(rt.alloc(), input, said) == Some(true));
+    }
+}
