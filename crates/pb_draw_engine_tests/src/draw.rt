@@ -1,0 +1,108 @@
+//! Whole inputs, and the pictures or the refusals that are written of them.
+
+use pb_base::device::{MemoryInput, MemoryOutput};
+use pb_draw_engine::draw_engine;
+use pb_engines::{Status, replay_engine};
+use std::alloc::Global;
+
+/// An input, the size that its picture begins with, the shapes behind [`LOOKS`], and the status.
+struct Case {
+    input: &'static [u8],
+    head: &'static [u8],
+    shapes: &'static [u8],
+    status: Status,
+}
+
+/// What stands in each picture between its size and its shapes.
+const LOOKS: &[u8] =
+    b"\">\n<title>A run, pick by pick</title>\n<style>\ntext{font:11px monospace;fill:#000}\n.name{font-weight:bold}\n.number,.silent,.note{fill:#555;font-size:10px}\n.amount{font-size:10px}\n.paper{fill:#fff}\n.gap{fill:#eee}\n.going{fill:#999}\n.waiting{fill:url(#hatch);stroke:#000;stroke-width:.5}\n.hold{fill:#cde;stroke:#000;stroke-width:.5}\n.cash{fill:#ded}\n.level{fill:#262}\n.print path{fill:#fff;stroke:#000;stroke-width:1.5}\n.fault path{stroke:#c00;stroke-width:2.5}\n</style>\n<defs><pattern id=\"hatch\" width=\"5\" height=\"5\" patternUnits=\"userSpaceOnUse\"><path d=\"M0 5L5 0\" stroke=\"#000\"/></pattern></defs>\n<rect class=\"paper\" width=\"100%\" height=\"100%\"/>\n";
+
+/// A run to its end, and a run whose hold is not given back.
+const RUNS: [Case; 2] = [
+    Case {
+        input: b"process p begin print 1 end\n%%\np.0 3\n",
+        head: b"<svg xmlns=\"http://www.w3.org/2000/svg\" width=\"560\" height=\"128\" viewBox=\"0 0 560 128",
+        shapes: b"<rect class=\"going\" x=\"107\" y=\"58\" width=\"119\" height=\"8\"/>\n<text class=\"number\" x=\"161\" y=\"28\">1</text>\n<text class=\"number\" x=\"226\" y=\"28\">2</text>\n<text class=\"name\" x=\"8\" y=\"66\">p.0</text>\n<text class=\"note\" x=\"8\" y=\"102\">pick after pick, from left to right; a pick with an event has its number above it</text>\n<text class=\"note\" x=\"8\" y=\"116\">hatched: the arm is at a request; grey ground: more than 15 silent picks, shortened</text>\n<g class=\"print\"><title>p.0 print 1</title><path d=\"M161 62m-4 0a4 4 0 1 0 8 0a4 4 0 1 0-8 0z\"/><text x=\"157\" y=\"53\">print 1</text></g>\n<g class=\"end\"><title>p end</title><path d=\"M226 62m-4-4h8v8h-8z\"/><text x=\"222\" y=\"53\">end</text></g>\n</svg>\n",
+        status: Status::Done,
+    },
+    Case {
+        input: b"resource tape = 1;\nprocess a begin hold 1 of tape do print 1 od end\n%%\na.0 3\n",
+        head: b"<svg xmlns=\"http://www.w3.org/2000/svg\" width=\"560\" height=\"222\" viewBox=\"0 0 560 222",
+        shapes: b"<rect class=\"waiting\" x=\"128\" y=\"58\" width=\"48\" height=\"8\"/>\n<rect class=\"going\" x=\"176\" y=\"58\" width=\"129\" height=\"8\"/>\n<rect class=\"hold\" x=\"176\" y=\"68\" width=\"129\" height=\"15\"/>\n<rect class=\"cash\" x=\"128\" y=\"124\" width=\"48\" height=\"48\"/>\n<rect class=\"level\" x=\"128\" y=\"123\" width=\"48\" height=\"2\"/>\n<rect class=\"cash\" x=\"176\" y=\"172\" width=\"129\" height=\"0\"/>\n<rect class=\"level\" x=\"176\" y=\"171\" width=\"129\" height=\"2\"/>\n<text class=\"number\" x=\"176\" y=\"28\">0</text>\n<text class=\"number\" x=\"240\" y=\"28\">2</text>\n<text class=\"name\" x=\"8\" y=\"66\">a.0</text>\n<text class=\"bundle\" x=\"183\" y=\"79\">1 tape</text>\n<text class=\"name\" x=\"8\" y=\"172\">tape of 1</text>\n<text class=\"amount\" x=\"130\" y=\"120\">1</text>\n<text class=\"amount\" x=\"178\" y=\"168\">0</text>\n<text class=\"note\" x=\"8\" y=\"196\">pick after pick, from left to right; a pick with an event has its number above it</text>\n<text class=\"note\" x=\"8\" y=\"210\">hatched: the arm is at a request; grey ground: more than 15 silent picks, shortened</text>\n<g class=\"grant\"><title>a.0 grant 1 tape</title><path d=\"M176 62m0-6v12l7-6z\"/><text x=\"172\" y=\"53\"></text></g>\n<g class=\"print\"><title>a.0 print 1</title><path d=\"M240 62m-4 0a4 4 0 1 0 8 0a4 4 0 1 0-8 0z\"/><text x=\"236\" y=\"53\">print 1</text></g>\n</svg>\n",
+        status: Status::Done,
+    },
+];
+
+/// A run that ends with a fault, which gives its hold back.
+const FAULT: Case = Case {
+    input: b"resource tape = 1;\nprocess a begin hold 1 of tape do print 1 div 0 od end\n%%\na.0 4\n",
+    head: b"<svg xmlns=\"http://www.w3.org/2000/svg\" width=\"560\" height=\"222\" viewBox=\"0 0 560 222",
+    shapes: b"<rect class=\"waiting\" x=\"128\" y=\"58\" width=\"48\" height=\"8\"/>\n<rect class=\"going\" x=\"176\" y=\"58\" width=\"70\" height=\"8\"/>\n<rect class=\"hold\" x=\"176\" y=\"68\" width=\"70\" height=\"15\"/>\n<rect class=\"cash\" x=\"128\" y=\"124\" width=\"48\" height=\"48\"/>\n<rect class=\"level\" x=\"128\" y=\"123\" width=\"48\" height=\"2\"/>\n<rect class=\"cash\" x=\"176\" y=\"172\" width=\"70\" height=\"0\"/>\n<rect class=\"level\" x=\"176\" y=\"171\" width=\"70\" height=\"2\"/>\n<rect class=\"cash\" x=\"246\" y=\"124\" width=\"100\" height=\"48\"/>\n<rect class=\"level\" x=\"246\" y=\"123\" width=\"100\" height=\"2\"/>\n<text class=\"number\" x=\"176\" y=\"28\">0</text>\n<text class=\"number\" x=\"246\" y=\"28\">3</text>\n<text class=\"name\" x=\"8\" y=\"66\">a.0</text>\n<text class=\"bundle\" x=\"183\" y=\"79\">1 tape</text>\n<text class=\"name\" x=\"8\" y=\"172\">tape of 1</text>\n<text class=\"amount\" x=\"130\" y=\"120\">1</text>\n<text class=\"amount\" x=\"178\" y=\"168\">0</text>\n<text class=\"amount\" x=\"248\" y=\"120\">1</text>\n<text class=\"note\" x=\"8\" y=\"196\">pick after pick, from left to right; a pick with an event has its number above it</text>\n<text class=\"note\" x=\"8\" y=\"210\">hatched: the arm is at a request; grey ground: more than 15 silent picks, shortened</text>\n<g class=\"grant\"><title>a.0 grant 1 tape</title><path d=\"M176 62m0-6v12l7-6z\"/><text x=\"172\" y=\"53\"></text></g>\n<g class=\"fault\"><title>a.0 fault divide</title><path d=\"M246 62m-5-5l10 10m0-10l-10 10\"/><text x=\"242\" y=\"53\">fault divide</text></g>\n</svg>\n",
+    status: Status::Fault,
+};
+
+/// An input that is refused, and its refusal line.
+struct Refusal {
+    input: &'static [u8],
+    said: &'static [u8],
+}
+
+/// One each of a text, of pick lines and of their sum, and of a pick that is not enabled.
+const REFUSALS: [Refusal; 4] = [
+    Refusal {
+        input: b"process p begin print 1 end process\n%%\nq.0 1\n",
+        said: b"refused P1 at 35\n",
+    },
+    Refusal {
+        input: b"process p begin print 1 end\n%%\np.0 9\nq.0 1\n",
+        said: b"refused K1 at 6\n",
+    },
+    Refusal {
+        input: b"process p begin print 1 end\n%%\np.0 9\np.0 10000000\n",
+        said: b"refused K2\n",
+    },
+    Refusal {
+        input: b"process p begin print 1 end\n%%\np.0 9\n",
+        said: b"refused H1 at 3\n",
+    },
+];
+
+/// Returns whether exactly the picture of a case is written, with its status.
+fn draws(alloc: Global, case: &Case) -> Option<bool> {
+    let mut picture = Vec::from_slice(alloc, case.head).ok()?;
+    picture.extend_from_slice(LOOKS).ok()?;
+    picture.extend_from_slice(case.shapes).ok()?;
+    let mut output = MemoryOutput::new(alloc, 16_384).ok()?;
+    let status = draw_engine(alloc, &mut MemoryInput::new(case.input), &mut output);
+    Some(status == case.status && output.as_slice() == picture.as_slice())
+}
+
+/// Returns whether `draw` and `replay` both write this refusal line alone, with the same status.
+fn refuses(alloc: Global, refusal: &Refusal) -> Option<bool> {
+    let mut drawn = MemoryOutput::new(alloc, 4_096).ok()?;
+    let mut replayed = MemoryOutput::new(alloc, 4_096).ok()?;
+    let draw_status = draw_engine(alloc, &mut MemoryInput::new(refusal.input), &mut drawn);
+    let replay_status = replay_engine(alloc, &mut MemoryInput::new(refusal.input), &mut replayed);
+    let by_draw = draw_status == Status::Refused && drawn.as_slice() == refusal.said;
+    let by_replay = replay_status == Status::Refused && replayed.as_slice() == refusal.said;
+    Some(by_draw && by_replay)
+}
+
+#[test]
+fn runs_are_drawn(rt: HostRuntime) {
+    for case in &RUNS {
+        assert!(rt; draws(rt.alloc(), case) == Some(true));
+    }
+}
+
+#[test]
+fn a_fault_is_drawn_with_its_status(rt: HostRuntime) {
+    assert!(rt; draws(rt.alloc(), &FAULT) == Some(true));
+}
+
+#[test]
+fn refusals_are_those_of_replay(rt: HostRuntime) {
+    for refusal in &REFUSALS {
+        assert!(rt; refuses(rt.alloc(), refusal) == Some(true));
+    }
+}
