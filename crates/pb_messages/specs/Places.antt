@@ -18,9 +18,9 @@ pub record IsPlace (text : List ℕ) (offset : ℕ) (place : Place) : Type 0 whe
   pub first : (place.begin ≡ 0) ⊎ ((0 < place.begin) × (slice_index text (place.begin - 1) ≡ 10))
   pub last : (place.end ≡ length text) ⊎ (slice_index text place.end ≡ 10)
 
--- a byte as it is shown: itself if it is printable or a tab, and else a question mark
+-- a byte as it is shown: itself if it is printable or a tab, a space for a carriage return, and else a question mark
 abbrev pub shown_byte : ℕ → ℕ
-shown_byte b = if (b == 9) || (nat_le 32 b && nat_le b 126) then b else 63
+shown_byte b = if (b == 9) || (nat_le 32 b && nat_le b 126) then b else (if b == 13 then 32 else 63)
 
 -- what is below a byte before the mark: a tab below a tab, and else a space
 abbrev pub below_byte : ℕ → ℕ

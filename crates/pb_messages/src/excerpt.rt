@@ -123,7 +123,8 @@ fn show_mark(alloc: Global, text: &[u8], place: &Place) -> Result<Vec<u8>, NoMem
     Ok(line)
 }
 
-/// Returns bytes as a message shows them, with a question mark for each that is neither printable nor a tab.
+/// Returns bytes as a message shows them: a carriage return as a space, and a question mark for each other byte that is
+/// neither printable nor a tab.
 pub fn printable(alloc: Global, bytes: &[u8]) -> Result<Vec<u8>, NoMemory>
     ensures { IfOk result (λ shown. shown.items ≡ map shown_byte bytes.now) }
 {
@@ -140,6 +141,8 @@ pub fn printable_byte(byte: u8) -> u8
 {
     if byte == b'\t' || (32 <= byte && byte <= 126) {
         byte
+    } else if byte == b'\r' {
+        b' '
     } else {
         b'?'
     }

@@ -28,7 +28,7 @@ pub fn first_format_message(alloc: Global, text: &[u8]) -> Result<Vec<u8>, NoMem
         return Ok(Vec::new(alloc));
     };
     wording.note(format!(in alloc;
-        "hint: the second format says it: emit --object 2, or emit alone"
+        "hint: the second format has it: emit --object 2, or emit with no option"
     )?)?;
     let cause = Cause {
         code: b"E1",

@@ -9,7 +9,7 @@ use pb_lexer::{Kind, Mark, Token};
 use std::alloc::Global;
 
 // The most holds that are shown.
-const MOST_SHOWN: usize = 12;
+const MOST_SHOWN: usize = 6;
 
 // The greatest amount of a resource that is held at once, and the tokens of the holds of which it is the sum.
 #[derive(Drop)]
@@ -83,7 +83,7 @@ pub fn claims_wording(
 ) -> Result<Wording, NoMemory> {
     let resource = Shown(&fault.resource);
     let summary = format!(in alloc;
-        "process {} may come to hold {} of {} at once, of which there are {}",
+        "process {} may hold {} of {} at once, and the capital is {}",
         Shown(&fault.process),
         fault.claim,
         resource,
@@ -99,10 +99,10 @@ pub fn claims_wording(
         }
     }
     if peak.holds.len() > MOST_SHOWN {
-        wording.note(format!(in alloc; "{} more holds", peak.holds.len() - MOST_SHOWN)?)?;
+        wording.note(format!(in alloc; "and {} more holds", peak.holds.len() - MOST_SHOWN)?)?;
     }
     wording.note(format!(in alloc;
-        "hint: hold less, or one after the other, or declare more: resource {} = {};",
+        "hint: hold less at once, or declare a greater capital: resource {} = {};",
         resource, fault.claim
     )?)?;
     Ok(wording)

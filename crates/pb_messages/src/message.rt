@@ -9,10 +9,11 @@ use pb_engines::parts::first_part;
 use std::alloc::Global;
 
 // What is said of an input that is too long.
-const LONG_INPUT: &[u8] = b"error input: the input is over 4,194,304 bytes\n";
+const LONG_INPUT: &[u8] = b"error input: the input is longer than 4194304 bytes\n";
 
 // What is said of a run that is too long.
-const LONG_OUTPUT: &[u8] = b"error output: the run is over 4,194,304 bytes\n";
+const LONG_OUTPUT: &[u8] =
+    b"error output: the text with its run is longer than 4194304 bytes\n  = hint: record fewer steps: --steps 100000\n";
 
 /// What a command reads.
 #[derive(Clone, Copy, Debug, PartialEq, Eq)]
@@ -69,6 +70,9 @@ fn texts_messages(alloc: Global, bytes: &[u8]) -> Result<Vec<u8>, NoMemory> {
         let cut = first_part(rest);
         let label = part_label(alloc, number, cut.rest.is_none())?;
         if let Err(message) = text_message(alloc, label.as_str(), cut.part)? {
+            if !out.is_empty() {
+                out.push(b'\n')?;
+            }
             out.extend_from_slice(&message)?;
         }
         let Some(more) = cut.rest else {

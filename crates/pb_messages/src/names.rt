@@ -53,24 +53,24 @@ fn kind_name(named: Named) -> &'static str {
 
 fn too_many(alloc: Global, tokens: &[Token], kind: Limited) -> Result<Wording, NoMemory> {
     let summary = match kind {
-        Limited::Processes => format!(in alloc; "the program has over 64 processes")?,
-        Limited::Resources => format!(in alloc; "the program has over 16 resources")?,
-        Limited::Integers => format!(in alloc; "a process has over 64 integers")?,
-        Limited::Fork => format!(in alloc; "a parbegin has over 16 arms")?,
-        Limited::Arms => format!(in alloc; "a process has over 64 arms, its body counted")?,
+        Limited::Processes => format!(in alloc; "the program has more than 64 processes")?,
+        Limited::Resources => format!(in alloc; "the program has more than 16 resources")?,
+        Limited::Integers => format!(in alloc; "a process has more than 64 integers")?,
+        Limited::Fork => format!(in alloc; "a parbegin has more than 16 arms")?,
+        Limited::Arms => format!(in alloc; "a process has more than 64 arms, counting its body")?,
     };
     let mut wording = Wording::new(alloc, summary);
     if let Some(number) = first_too_many(alloc, tokens, kind)? {
         if let Some(token) = tokens.get(number) {
             wording.spot(
-                String::from_str(alloc, "the first too many: ")?,
+                String::from_str(alloc, "the first over the limit: ")?,
                 token.start(),
             )?;
         }
     }
     if kind == Limited::Fork || kind == Limited::Arms {
         wording.note(format!(in alloc;
-            "hint: an arm may be a loop or a parbegin itself; what is in sequence needs no arm of its own"
+            "hint: statements that need not run side by side can be one arm: begin a; b end"
         )?)?;
     }
     Ok(wording)
@@ -132,7 +132,7 @@ fn integers_behind(tokens: &[Token], number: usize, before: Option<usize>) -> Op
     Some(before?.saturating_add(1))
 }
 
-// Returns the number of the semicolon before the first arm of a parbegin that has too many.
+// Returns the number of the first token of the first arm of a parbegin that has too many.
 fn arm_past_limit(alloc: Global, tokens: &[Token], most: usize) -> Result<Option<usize>, NoMemory> {
     let mut open = Vec::new(alloc);
     for number in 0..tokens.len() {
@@ -146,7 +146,7 @@ fn arm_past_limit(alloc: Global, tokens: &[Token], most: usize) -> Result<Option
             if let Some(Some(arms)) = open.last_mut() {
                 *arms = arms.saturating_add(1);
                 if *arms > most {
-                    return Ok(Some(number));
+                    return Ok(Some(number.saturating_add(1)));
                 }
             }
         }
@@ -193,7 +193,7 @@ fn twice(alloc: Global, tokens: &[Token], number: usize) -> Result<Wording, NoMe
         }
     }
     wording.note(format!(in alloc;
-        "hint: take another name; a resource, a process and an integer may have one name in common"
+        "hint: choose another name; a resource, a process and an integer may share a name"
     )?)?;
     Ok(wording)
 }
@@ -216,32 +216,46 @@ fn first_declaration(tokens: &[Token], number: usize, named: Named) -> Option<us
 fn unknown(alloc: Global, tokens: &[Token], number: usize) -> Result<Wording, NoMemory> {
     let name = text_at(tokens, number);
     if is_at(tokens, number.saturating_sub(1), Mark::Of) {
-        let summary = format!(in alloc; "no resource {} is declared", Shown(name))?;
+        let summary = format!(in alloc; "resource {} is not declared", Shown(name))?;
         let mut wording = Wording::new(alloc, summary);
         wording.note(format!(in alloc;
-            "hint: declare it before the first process, with how much of it there is: resource {} = 1;",
+            "hint: declare it before the first process, with the amount of it: resource {} = 1;",
             Shown(name)
         )?)?;
         return Ok(wording);
     }
     let process = process_name(tokens, number);
     let summary = format!(in alloc;
-        "no integer {} is declared in process {}",
+        "integer {} is not declared in process {}",
         Shown(name),
         Shown(process)
     )?;
     let mut wording = Wording::new(alloc, summary);
-    wording.note(format!(in alloc;
-        "hint: declare it at the beginning of the process: integer {};",
-        Shown(name)
-    )?)?;
+    let hint = if declares_integers(tokens, number) {
+        format!(in alloc; "hint: add it to the integers that the process declares")?
+    } else {
+        format!(in alloc;
+            "hint: declare it after the first begin of the process: integer {};",
+            Shown(name)
+        )?
+    };
+    wording.note(hint)?;
     if let Some(other) = other_owner(tokens, name) {
         wording.note(format!(in alloc;
-            "hint: process {} has an integer of this name, and no other process can use it",
+            "hint: the integer {} of process {} cannot be used in another process",
+            Shown(name),
             Shown(other)
         )?)?;
     }
     Ok(wording)
+}
+
+// Returns whether the process in which a token is declares any integer.
+fn declares_integers(tokens: &[Token], number: usize) -> bool {
+    match process_before(tokens, number) {
+        Some(process) => is_at(tokens, process.saturating_add(3), Mark::Integer),
+        None => false,
+    }
 }
 
 // Returns the name of a process that declares an integer of this name.
@@ -262,13 +276,13 @@ fn amount(alloc: Global, tokens: &[Token], number: usize) -> Result<Wording, NoM
     let summary = if is_capital {
         let name = Shown(text_at(tokens, number.saturating_sub(2)));
         format!(in alloc;
-            "there cannot be {} of resource {}: 1,000,000 is the most",
-            value, name
+            "resource {} cannot have the capital {}: at most 1000000 is allowed",
+            name, value
         )?
     } else {
         let name = Shown(text_at(tokens, number.saturating_add(2)));
         format!(in alloc;
-            "a hold cannot be of {} of {}: it is of 1 to 1,000,000",
+            "a hold cannot be {} of {}: an amount is 1 to 1000000",
             value, name
         )?
     };
@@ -280,7 +294,7 @@ fn repeated(alloc: Global, tokens: &[Token], number: usize) -> Result<Wording, N
     let summary = format!(in alloc; "the hold names resource {} twice", name)?;
     let mut wording = Wording::new(alloc, summary);
     wording.note(format!(in alloc;
-        "hint: a hold has one amount of each resource: add the two, or hold one inside the other"
+        "hint: a hold has one amount of each resource: add the two amounts, or put one hold inside the other"
     )?)?;
     Ok(wording)
 }

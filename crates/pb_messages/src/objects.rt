@@ -34,13 +34,16 @@ fn unread_message(alloc: Global, bytes: &[u8], fault: ObjectFault) -> Result<Vec
         return Err(NoMemory);
     };
     let summary = match fault {
-        ObjectFault::Limit(_) => format!(in alloc; "a number of this line is out of its range")?,
-        _ => format!(in alloc; "this is not the line that an object has here")?,
+        ObjectFault::Limit(_) => format!(in alloc; "a number in this line is out of range")?,
+        _ => format!(in alloc; "an object cannot have this line here")?,
     };
     let mut wording = Wording::new(alloc, summary);
-    wording.note(format!(in alloc;
-        "hint: an object is not written by hand: emit writes it; docs/FORMATS.md, \"Object text\", has the lines in order"
-    )?)?;
+    let hint = if bytes.starts_with(b"PBO ") {
+        "hint: emit writes objects; docs/FORMATS.md, \"Object text\", lists their lines"
+    } else {
+        "hint: this is not an object: emit writes the object of a text"
+    };
+    wording.note(String::from_str(alloc, hint)?)?;
     worded(alloc, "", bytes, &cause, &wording)
 }
 
@@ -53,12 +56,12 @@ fn unsafe_message(alloc: Global, bytes: &[u8], fault: VerifyFault) -> Result<Vec
     let mut wording = Wording::new(alloc, summary);
     if let Some(process) = faulty_process(alloc, bytes, fault)? {
         let name = name_of(alloc, bytes, process)?;
-        match first_faulty_place(alloc, bytes, process, fault)? {
+        match place_to_show(alloc, bytes, process, fault)? {
             Some(place) => {
                 let label = format!(in alloc; "process {}, place {}: ", Shown(&name), place)?;
                 wording.spot(label, instruction_offset(bytes, process, place))?;
             }
-            None => wording.note(format!(in alloc; "it is in process {}", Shown(&name))?)?,
+            None => wording.note(format!(in alloc; "in process {}", Shown(&name))?)?,
         }
     }
     worded(alloc, "", bytes, &cause, &wording)
@@ -68,13 +71,16 @@ fn unsafe_message(alloc: Global, bytes: &[u8], fault: VerifyFault) -> Result<Vec
 fn in_words(fault: VerifyFault) -> &'static str {
     match fault {
         VerifyFault::OutOfLimits => "a count, a number or a name is out of its limits",
-        VerifyFault::OverCapital => "a process claims more of a resource than there is",
-        VerifyFault::OutOfRange => "an integer or a resource is named that is not there",
-        VerifyFault::WrongArms => "an arm has unsound bounds, or a jump leaves it",
-        VerifyFault::WrongForks => "forks and joins do not fit",
-        VerifyFault::NoDepths => "a place is reached with too few, too many or unlike operands",
-        VerifyFault::NoHoldings => "holdings differ at a place, or a give has not its take",
-        VerifyFault::LeftAtEnd => "operands or holdings are left at an end",
+        VerifyFault::OverCapital => "a process claims more than the capital of a resource",
+        VerifyFault::OutOfRange =>
+            "an instruction uses an integer or a resource that does not exist",
+        VerifyFault::WrongArms => "an arm has wrong bounds, or a jump leaves its arm",
+        VerifyFault::WrongForks => "forks and joins do not match",
+        VerifyFault::NoDepths =>
+            "a place is reached with too few or too many operands, or with different numbers of them",
+        VerifyFault::NoHoldings =>
+            "a place is reached with different holdings, or a give does not match its take",
+        VerifyFault::LeftAtEnd => "an arm ends with operands or holdings left",
         VerifyFault::OverClaim => "a process may hold more than it claims",
         VerifyFault::NoMemory => "out of memory",
     }
@@ -148,6 +154,19 @@ fn faulty_process(
         }
     }
     Ok(None)
+}
+
+// Returns the place at which a message points; nothing of faults of a process as a whole.
+fn place_to_show(
+    alloc: Global,
+    bytes: &[u8],
+    process: usize,
+    fault: VerifyFault,
+) -> Result<Option<usize>, NoMemory> {
+    match fault {
+        VerifyFault::OverCapital | VerifyFault::WrongForks => Ok(None),
+        _ => first_faulty_place(alloc, bytes, process, fault),
+    }
 }
 
 // Returns the first place of a process such that the code up to it has the fault; nothing if it has it without any.

@@ -1,6 +1,6 @@
 //! The wording of a fault of the grammar: what may stand where the text goes wrong.
 
-use crate::tokens::{is_at, text_at, token_at};
+use crate::tokens::{is_at, process_before, text_at, token_at};
 use crate::wording::{Shown, Wording};
 use pb_base::NoMemory;
 use pb_lexer::{Kind, LexFault, Mark, Token, lex};
@@ -148,7 +148,7 @@ pub fn parse_wording(alloc: Global, text: &[u8], fault: ParseFault) -> Result<Wo
         ParseFault::TooDeep => too_deep(alloc),
         ParseFault::TooLarge => {
             let summary = format!(in alloc;
-                "the program has over 16,384 expressions, statements and processes"
+                "the program has more than 16384 expressions, statements and processes"
             )?;
             Ok(Wording::new(alloc, summary))
         }
@@ -157,10 +157,10 @@ pub fn parse_wording(alloc: Global, text: &[u8], fault: ParseFault) -> Result<Wo
 }
 
 fn too_deep(alloc: Global) -> Result<Wording, NoMemory> {
-    let summary = format!(in alloc; "the text is nested too deep")?;
+    let summary = format!(in alloc; "the text is nested too deeply")?;
     let mut wording = Wording::new(alloc, summary);
     wording.note(format!(in alloc;
-        "hint: at most 256 brackets and statements are open at once, at most 256 signs stand in a row, and the tree is at most 200 high"
+        "hint: the limits are 256 open brackets and statements, 256 of `-` and `not` in a row, and a tree 200 high"
     )?)?;
     Ok(wording)
 }
@@ -172,10 +172,8 @@ fn syntax_wording(alloc: Global, text: &[u8], at: usize) -> Result<Wording, NoMe
     };
     let found = token_at(&tokens, at);
     let summary = match found {
-        Some(number) => {
-            format!(in alloc; "`{}` cannot stand here", Shown(text_at(&tokens, number)))?
-        }
-        None => format!(in alloc; "the text ends too early")?,
+        Some(number) => { format!(in alloc; "unexpected `{}`", Shown(text_at(&tokens, number)))? }
+        None => format!(in alloc; "unexpected end of the text")?,
     };
     let mut wording = Wording::new(alloc, summary);
     if let Some(expected) = expected(alloc, &text[..at.min(text.len())])? {
@@ -256,13 +254,24 @@ fn may_follow(alloc: Global, text: &[u8], token: &str) -> Result<bool, NoMemory>
 fn usual_mistake(tokens: &[Token], number: usize) -> Option<&'static str> {
     let before = number.checked_sub(1)?;
     if is_at(tokens, before, Mark::Semicolon) && closes(tokens, number) {
-        return Some("a semicolon is between statements, and not behind the last one");
+        return Some("a semicolon separates statements; the last one has none");
     }
     if is_at(tokens, before, Mark::Semicolon) && is_at(tokens, number, Mark::Integer) {
-        return Some("integers are declared once, right behind begin: integer x, y;");
+        return Some(
+            "a process declares all its integers at once, after its first begin: integer x, y;",
+        );
+    }
+    if is_at(tokens, before, Mark::End) && is_at(tokens, number, Mark::Semicolon) {
+        return Some("a process ends with end, and no semicolon is behind it");
+    }
+    if is_at(tokens, number, Mark::Resource) && process_before(tokens, number).is_some() {
+        return Some("resources are declared before the first process");
+    }
+    if is_at(tokens, number, Mark::Assign) {
+        return Some("a comparison is written x = 1; `:=` is an assignment");
     }
     if is_at(tokens, number, Mark::Equal) && is_name(tokens, before) {
-        return Some("to assign is written with a colon, x := 1; with no colon it is a comparison");
+        return Some("an assignment is written x := 1; `=` alone is a comparison");
     }
     if begins_statement(tokens, number) && ends_statement(tokens, before) {
         return Some("a semicolon is missing between this statement and the one before");

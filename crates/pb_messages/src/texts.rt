@@ -78,20 +78,22 @@ fn lex_wording(alloc: Global, text: &[u8], fault: LexFault) -> Result<Wording, N
     match fault {
         LexFault::TooLong => {
             let length = text.len();
-            let summary = format!(in alloc; "the text has {length} bytes, and 65,536 is the most")?;
+            let summary = format!(in alloc;
+                "the text is {length} bytes long, and at most 65536 are allowed"
+            )?;
             Ok(Wording::new(alloc, summary))
         }
         LexFault::BadByte(at) => bad_byte(alloc, text.get(at).copied().unwrap_or(0)),
         LexFault::NumberTooLarge(_) => {
-            let summary = format!(in alloc; "the number is over 9223372036854775807")?;
+            let summary = format!(in alloc; "the number is greater than 9223372036854775807")?;
             let mut wording = Wording::new(alloc, summary);
             wording.note(format!(in alloc;
-                "hint: the least integer is written -9223372036854775807 - 1"
+                "hint: the smallest integer is written -9223372036854775807 - 1"
             )?)?;
             Ok(wording)
         }
         LexFault::NameTooLong(_) => {
-            let summary = format!(in alloc; "the name is over 32 bytes long")?;
+            let summary = format!(in alloc; "the name is longer than 32 bytes")?;
             Ok(Wording::new(alloc, summary))
         }
         LexFault::NoMemory => Err(NoMemory),
@@ -101,7 +103,7 @@ fn lex_wording(alloc: Global, text: &[u8], fault: LexFault) -> Result<Wording, N
 // Returns the wording of a byte that is not allowed, or at which nothing begins.
 fn bad_byte(alloc: Global, byte: u8) -> Result<Wording, NoMemory> {
     let summary = if 32 <= byte && byte <= 126 {
-        format!(in alloc; "nothing begins with `{}`", Shown(&[byte]))?
+        format!(in alloc; "unexpected character `{}`", Shown(&[byte]))?
     } else {
         format!(in alloc; "the byte {byte} is not allowed in a text")?
     };
@@ -113,20 +115,21 @@ fn bad_byte(alloc: Global, byte: u8) -> Result<Wording, NoMemory> {
 // Returns what is usually meant by a byte that is not allowed.
 fn usual_meaning(byte: u8) -> &'static str {
     match byte {
-        b':' => "an assignment is written x := 1, with no blank between : and =",
-        b'/' => "a quotient is written a div b, and a comment begins with //",
+        b':' => "an assignment is written x := 1, with no blank between `:` and `=`",
+        b'/' => "a quotient is written a div b; a comment begins with //",
         b'%' =>
-            "a remainder is written a mod b; a line %% parts the texts of an input, and nothing else is in it",
-        b'!' => "unlike is written a <> b, and no is written not a",
-        b'&' | b'|' => "both is written a and b, and one of both a or b",
-        b'{' | b'}' => "a list of statements is between begin and end",
+            "a remainder is written a mod b; a line that separates texts is %% alone, with no blank",
+        b'!' => "not equal is written a <> b, and negation not a",
+        b'&' | b'|' => "the logical operators are written a and b, a or b",
+        b'{' | b'}' => "statements are grouped by begin and end",
         b'#' => "a comment begins with //",
         b'_' => "a name begins with a letter",
-        b'.' => "there are integers alone, and no fractions",
-        b'"' | b'\'' => "there are no strings: print writes integers",
-        b'[' | b']' => "there are no arrays: each integer has a name",
-        32..=126 => "a text has names, numbers, reserved words and := ; , ( ) + - * = <> < <= > >=",
+        b'.' => "numbers are integers: they have no decimal point",
+        b'"' | b'\'' => "the language has no strings: print writes integers",
+        b'[' | b']' => "the language has no arrays: each integer has a name of its own",
+        32..=126 =>
+            "a text consists of names, numbers, reserved words and := ; , ( ) + - * = <> < <= > >=",
         _ =>
-            "a text has the bytes 32 to 126, tabs and ends of lines, in comments too: no accents and no curly quotes",
+            "a text consists of the bytes 32 to 126, tabs and ends of lines, also in comments: no accented letters, no curly quotes",
     }
 }

@@ -10,7 +10,8 @@ use pb_base::NoMemory;
 use std::alloc::Global;
 use std::fmt;
 
-/// Bytes of an input, as a message shows them: with a question mark for each that is neither printable nor a tab.
+/// Bytes of an input, as a message shows them: a carriage return as a space, and a question mark for each other byte that
+/// is neither printable nor a tab.
 #[derive(Clone, Copy)]
 pub struct Shown<'t>(pub &'t [u8]);
 
