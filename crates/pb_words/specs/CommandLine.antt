@@ -51,6 +51,10 @@ explain_command = with_rule (new_app (codes "explain")) (new_rule (codes "CODE")
 unfoldable pub migrate_command : App
 migrate_command = new_app (codes "migrate")
 
+unfoldable pub outcomes_command : App
+outcomes_command =
+    with_rule (new_app (codes "outcomes")) (number_rule_or (codes "states") 1 4000000 (codes "1000000"))
+
 unfoldable pub record_command : App
 record_command =
     with_rule (with_run_rules (new_app (codes "record"))) (number_rule (codes "seed") 0 18446744073709551615)
@@ -80,9 +84,10 @@ with_code_commands a = with_command (with_command a emit_command) run_command
 unfoldable pub with_object_commands : App → App
 with_object_commands a = with_command (with_command a exec_command) migrate_command
 
--- the commands over the picks of a run
+-- the commands over the picks of runs
 unfoldable pub with_pick_commands : App → App
-with_pick_commands a = with_command (with_command (with_command a record_command) replay_command) debug_command
+with_pick_commands a =
+    with_command (with_command (with_command (with_command a outcomes_command) record_command) replay_command) debug_command
 
 -- the command that says what a refusal means
 unfoldable pub with_explanations : App → App
