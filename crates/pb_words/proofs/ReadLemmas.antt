@@ -5,7 +5,7 @@ use Rattle.clap.specs.Words.{HasKind, IsAmong, Kinds, ReadsOne, Row, Text, Tries
 use Rattle.clap.specs.declared.error.Error.{Error}
 use Rattle.clap.specs.declared.error.kind.ErrorKind.TheVariants.{OutOfMemory}
 use Rattle.clap.proofs.OnLiterals.{clap_on_literals}
-use Rattle.pb_words.specs.CommandLine.{command_line, with_text_commands, with_code_commands, with_object_commands, with_explanations, with_pick_commands, check_command, claims_command, debug_command, emit_command, exec_command, explain_command, migrate_command, outcomes_command, record_command, replay_command, run_command, with_run_rules}
+use Rattle.pb_words.specs.CommandLine.{command_line, with_text_commands, with_code_commands, with_object_commands, with_other_commands, with_pick_commands, check_command, claims_command, debug_command, emit_command, exec_command, explain_command, migrate_command, outcomes_command, record_command, replay_command, run_command, with_run_rules}
 use Rattle.clap.specs.declared.parser.matches.Found.{Found}
 use Rattle.clap.proofs.WalkLemmas.{one_text-rows}
 use Rattle.pb_words.specs.Read.{BlamesWords, HasCheckNumbers, HasCode, HasEmitNumber, HasFlag, HasNumber, HasNumberIn, HasOptionalNumber, HasStates, HasRecordNumbers, HasRunNumbers, IsReadFrom, IsReadFromMatches}
@@ -295,11 +295,11 @@ clap_refused kinds e Memory is memory blames none = blames
 
 -- the matches of this command line are a function of the words
 pub is_simple_command_line : is_simple command_line ≡ true
-unfolding command_line with_text_commands with_code_commands with_object_commands with_pick_commands check_command claims_command debug_command emit_command exec_command migrate_command outcomes_command record_command replay_command run_command with_explanations explain_command with_run_rules clap_on_literals
+unfolding command_line with_text_commands with_code_commands with_object_commands with_pick_commands check_command claims_command debug_command emit_command exec_command migrate_command outcomes_command record_command replay_command run_command with_other_commands explain_command with_run_rules clap_on_literals
 is_simple_command_line = refl
 
 pub is_free_command_line : is_simple_and_free command_line ≡ true
-unfolding command_line with_text_commands with_code_commands with_object_commands with_pick_commands check_command claims_command debug_command emit_command exec_command migrate_command outcomes_command record_command replay_command run_command with_explanations explain_command with_run_rules clap_on_literals
+unfolding command_line with_text_commands with_code_commands with_object_commands with_pick_commands check_command claims_command debug_command emit_command exec_command migrate_command outcomes_command record_command replay_command run_command with_other_commands explain_command with_run_rules clap_on_literals
 is_free_command_line = refl
 
 -- a fact that holds anyway holds where there is no value

@@ -84,19 +84,18 @@ with_code_commands a = with_command (with_command a emit_command) run_command
 unfoldable pub with_object_commands : App → App
 with_object_commands a = with_command (with_command a exec_command) migrate_command
 
--- the commands over the picks of runs
+-- the commands over the picks of a run
 unfoldable pub with_pick_commands : App → App
-with_pick_commands a =
-    with_command (with_command (with_command (with_command a outcomes_command) record_command) replay_command) debug_command
+with_pick_commands a = with_command (with_command (with_command a record_command) replay_command) debug_command
 
--- the command that says what a refusal means
-unfoldable pub with_explanations : App → App
-with_explanations a = with_command a explain_command
+-- the command over all runs, and the one that says what a refusal means
+unfoldable pub with_other_commands : App → App
+with_other_commands a = with_command (with_command a outcomes_command) explain_command
 
 -- the whole command line
 unfoldable pub command_line : App
 command_line =
-    with_explanations (with_pick_commands (with_object_commands (with_code_commands (with_text_commands
+    with_other_commands (with_pick_commands (with_object_commands (with_code_commands (with_text_commands
     (that_wants_command (new_app (codes "parbegin")))))))
 
 -- a command of this form, none of whose options a subcommand inherits
