@@ -5,7 +5,7 @@ _parbegin() {
         at=2
     fi
     if ((COMP_CWORD <= at)); then
-        local commands="check claims debug emit exec explain migrate record replay run help --help --version"
+        local commands="check claims debug emit exec explain migrate outcomes record replay run help --help --version"
         if ((at == 1)); then
             commands+=" --unproved"
         fi
@@ -18,7 +18,7 @@ _parbegin() {
         mapfile -t COMPREPLY < <(compgen -W "1 2" -- "$word")
         return
         ;;
-    --heap | --workers | --quantum | --steps | --seed)
+    --heap | --workers | --quantum | --steps | --seed | --states)
         return
         ;;
     esac
@@ -36,6 +36,7 @@ _parbegin() {
         return
         ;;
     migrate) options="" ;;
+    outcomes) options="--states" ;;
     record) options="--workers --quantum --steps --seed" ;;
     replay) options="" ;;
     run) options="--workers --quantum --steps" ;;

@@ -1,5 +1,5 @@
 # Completion of parbegin for fish. To use it: copy this file to ~/.config/fish/completions, or let install.sh do it.
-set -l commands check claims debug emit exec explain migrate record replay run help
+set -l commands check claims debug emit exec explain migrate outcomes record replay run help
 
 complete -c parbegin -n "not __fish_seen_subcommand_from $commands" -f
 complete -c parbegin -n "not __fish_seen_subcommand_from $commands" -l unproved -d "Run the sources with no proof"
@@ -14,6 +14,7 @@ complete -c parbegin -n "not __fish_seen_subcommand_from $commands" -a exec -d "
 set -l codes L1 L2 L3 L4 P1 P2 P3 N1 N2 N3 N4 N6 C1 E1 O1 O2 V1 V2 V3 V4 V5 V6 V7 V8 V9 K1 K2 H1 G1 G2 G3 G4 input output
 complete -c parbegin -n "not __fish_seen_subcommand_from $commands" -a explain -d "Print what a refusal means"
 complete -c parbegin -n "not __fish_seen_subcommand_from $commands" -a migrate -d "Print an object in format 2"
+complete -c parbegin -n "not __fish_seen_subcommand_from $commands" -a outcomes -d "Print every way in which a program can end"
 complete -c parbegin -n "not __fish_seen_subcommand_from $commands" -a record -d "Run a program and print its picks"
 complete -c parbegin -n "not __fish_seen_subcommand_from $commands" -a replay -d "Make recorded picks again"
 complete -c parbegin -n "not __fish_seen_subcommand_from $commands" -a run -d "Run a program"
@@ -26,4 +27,5 @@ complete -c parbegin -n "__fish_seen_subcommand_from exec record run" -l workers
 complete -c parbegin -n "__fish_seen_subcommand_from exec record run" -l quantum -x -d "Most steps at once, 1 to 4096"
 complete -c parbegin -n "__fish_seen_subcommand_from exec record run" -l steps -x -d "Most steps of the run"
 complete -c parbegin -n "__fish_seen_subcommand_from explain" -f -a "$codes"
+complete -c parbegin -n "__fish_seen_subcommand_from outcomes" -l states -x -d "Most configurations, 1 to 4000000"
 complete -c parbegin -n "__fish_seen_subcommand_from record" -l seed -x -d "Draw the run by this seed"

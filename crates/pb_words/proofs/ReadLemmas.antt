@@ -5,14 +5,15 @@ use Rattle.clap.specs.Words.{HasKind, IsAmong, Kinds, ReadsOne, Row, Text, Tries
 use Rattle.clap.specs.declared.error.Error.{Error}
 use Rattle.clap.specs.declared.error.kind.ErrorKind.TheVariants.{OutOfMemory}
 use Rattle.clap.proofs.OnLiterals.{clap_on_literals}
-use Rattle.pb_words.specs.CommandLine.{command_line, with_text_commands, with_code_commands, with_object_commands, with_explanations, with_pick_commands, check_command, claims_command, debug_command, emit_command, exec_command, explain_command, migrate_command, record_command, replay_command, run_command, with_run_rules}
+use Rattle.pb_words.specs.CommandLine.{command_line, with_text_commands, with_code_commands, with_object_commands, with_other_commands, with_pick_commands, check_command, claims_command, debug_command, emit_command, exec_command, explain_command, migrate_command, outcomes_command, record_command, replay_command, run_command, with_run_rules}
 use Rattle.clap.specs.declared.parser.matches.Found.{Found}
 use Rattle.clap.proofs.WalkLemmas.{one_text-rows}
-use Rattle.pb_words.specs.Read.{BlamesWords, HasCheckNumbers, HasCode, HasEmitNumber, HasFlag, HasNumber, HasNumberIn, HasOptionalNumber, HasRecordNumbers, HasRunNumbers, IsReadFrom, IsReadFromMatches}
+use Rattle.pb_words.specs.Read.{BlamesWords, HasCheckNumbers, HasCode, HasEmitNumber, HasFlag, HasNumber, HasNumberIn, HasOptionalNumber, HasStates, HasRecordNumbers, HasRunNumbers, IsReadFrom, IsReadFromMatches}
 use Rattle.pb_words.specs.declared.words.Options.{Options}
-use Rattle.pb_words.specs.declared.words.Options.TheVariants.{Check, Claims, Debug, Emit, Exec, Explain, Migrate, Record, Replay, Run}
+use Rattle.pb_words.specs.declared.words.Options.TheVariants.{Check, Claims, Debug, Emit, Exec, Explain, Migrate, Outcomes, Record, Replay, Run}
 use Rattle.pb_options.specs.declared.options.CheckOptions.{CheckOptions}
 use Rattle.pb_options.specs.declared.options.EmitOptions.{EmitOptions}
+use Rattle.pb_options.specs.declared.options.OutcomesOptions.{OutcomesOptions}
 use Rattle.pb_options.specs.declared.options.RecordOptions.{RecordOptions}
 use Rattle.pb_options.specs.declared.options.RunOptions.{RunOptions}
 use Rattle.pb_refusals.specs.Codes.{IsCodeOf, code_name}
@@ -92,6 +93,8 @@ no_check rows none (Explain o) says =
 no_check rows none Claims says = let w : codes "check" ≡ codes "claims" = says in cc
 no_check rows none (Emit o) says = let w : codes "check" ≡ codes "emit" = says.0 in cc
 no_check rows none Migrate says = let w : codes "check" ≡ codes "migrate" = says in cc
+no_check rows none (Outcomes o) says =
+    let m : 99 ≡ 111 = ap (λ (l : Text). get_or l 0 0) says.0 in omega (arith, m)
 no_check rows none (Record o) says = let w : codes "check" ≡ codes "record" = says.0 in cc
 no_check rows none Replay says = let w : codes "check" ≡ codes "replay" = says in cc
 no_check rows none (Run o) says = let w : codes "check" ≡ codes "run" = says.0 in cc
@@ -108,6 +111,8 @@ no_emit rows none (Exec o) says =
 no_emit rows none (Explain o) says =
     let m : 109 ≡ 120 = ap (λ (l : Text). get_or l 1 0) says.0 in omega (arith, m)
 no_emit rows none Migrate says = let w : codes "emit" ≡ codes "migrate" = says in cc
+no_emit rows none (Outcomes o) says =
+    let m : 101 ≡ 111 = ap (λ (l : Text). get_or l 0 0) says.0 in omega (arith, m)
 no_emit rows none (Record o) says = let w : codes "emit" ≡ codes "record" = says.0 in cc
 no_emit rows none Replay says = let w : codes "emit" ≡ codes "replay" = says in cc
 no_emit rows none (Run o) says = let w : codes "emit" ≡ codes "run" = says.0 in cc
@@ -121,6 +126,8 @@ no_run rows none (Explain o) says =
 no_run rows none Claims says = let w : codes "run" ≡ codes "claims" = says in cc
 no_run rows none (Emit o) says = let w : codes "run" ≡ codes "emit" = says.0 in cc
 no_run rows none Migrate says = let w : codes "run" ≡ codes "migrate" = says in cc
+no_run rows none (Outcomes o) says =
+    let m : 114 ≡ 111 = ap (λ (l : Text). get_or l 0 0) says.0 in omega (arith, m)
 no_run rows none (Record o) says = let m : 117 ≡ 101 = ap (λ (l : Text). get_or l 1 0) says.0 in omega (arith, m)
 no_run rows none Replay says = let m : 117 ≡ 101 = ap (λ (l : Text). get_or l 1 0) says in omega (arith, m)
 no_run rows none (Run o) says = none o says.1
@@ -141,6 +148,8 @@ no_record rows none (Emit o) says =
     let m : 114 ≡ 101 = ap (λ (l : Text). get_or l 0 0) says.0 in omega (arith, m)
 no_record rows none Migrate says =
     let m : 114 ≡ 109 = ap (λ (l : Text). get_or l 0 0) says in omega (arith, m)
+no_record rows none (Outcomes o) says =
+    let m : 114 ≡ 111 = ap (λ (l : Text). get_or l 0 0) says.0 in omega (arith, m)
 no_record rows none (Record o) says = none o says.1
 no_record rows none Replay says =
     let m : 99 ≡ 112 = ap (λ (l : Text). get_or l 2 0) says in omega (arith, m)
@@ -158,6 +167,8 @@ no_exec rows none Claims says = let w : codes "exec" ≡ codes "claims" = says i
 no_exec rows none (Emit o) says =
     let m : 120 ≡ 109 = ap (λ (l : Text). get_or l 1 0) says.0 in omega (arith, m)
 no_exec rows none Migrate says = let w : codes "exec" ≡ codes "migrate" = says in cc
+no_exec rows none (Outcomes o) says =
+    let m : 101 ≡ 111 = ap (λ (l : Text). get_or l 0 0) says.0 in omega (arith, m)
 no_exec rows none (Record o) says = let w : codes "exec" ≡ codes "record" = says.0 in cc
 no_exec rows none Replay says = let w : codes "exec" ≡ codes "replay" = says in cc
 no_exec rows none (Run o) says = let w : codes "exec" ≡ codes "run" = says.0 in cc
@@ -177,12 +188,38 @@ no_explain rows none (Exec o) says =
 no_explain rows none (Explain o) says = none o says.1
 no_explain rows none Migrate says =
     let m : 101 ≡ 109 = ap (λ (l : Text). get_or l 0 0) says in omega (arith, m)
+no_explain rows none (Outcomes o) says =
+    let m : 101 ≡ 111 = ap (λ (l : Text). get_or l 0 0) says.0 in omega (arith, m)
 no_explain rows none (Record o) says =
     let m : 101 ≡ 114 = ap (λ (l : Text). get_or l 0 0) says.0 in omega (arith, m)
 no_explain rows none Replay says =
     let m : 101 ≡ 114 = ap (λ (l : Text). get_or l 0 0) says in omega (arith, m)
 no_explain rows none (Run o) says =
     let m : 101 ≡ 114 = ap (λ (l : Text). get_or l 0 0) says.0 in omega (arith, m)
+
+pub no_outcomes : (rows : List Row) → ((o : OutcomesOptions) → HasStates rows o → ⊥) → (o : Options)
+    → IsReadFrom (codes "outcomes") rows o → ⊥
+no_outcomes rows none (Check o) says =
+    let m : 111 ≡ 99 = ap (λ (l : Text). get_or l 0 0) says.0 in omega (arith, m)
+no_outcomes rows none Claims says =
+    let m : 111 ≡ 99 = ap (λ (l : Text). get_or l 0 0) says in omega (arith, m)
+no_outcomes rows none (Debug o) says =
+    let m : 111 ≡ 100 = ap (λ (l : Text). get_or l 0 0) says.0 in omega (arith, m)
+no_outcomes rows none (Emit o) says =
+    let m : 111 ≡ 101 = ap (λ (l : Text). get_or l 0 0) says.0 in omega (arith, m)
+no_outcomes rows none (Exec o) says =
+    let m : 111 ≡ 101 = ap (λ (l : Text). get_or l 0 0) says.0 in omega (arith, m)
+no_outcomes rows none (Explain o) says =
+    let m : 111 ≡ 101 = ap (λ (l : Text). get_or l 0 0) says.0 in omega (arith, m)
+no_outcomes rows none Migrate says =
+    let m : 111 ≡ 109 = ap (λ (l : Text). get_or l 0 0) says in omega (arith, m)
+no_outcomes rows none (Outcomes o) says = none o says.1
+no_outcomes rows none (Record o) says =
+    let m : 111 ≡ 114 = ap (λ (l : Text). get_or l 0 0) says.0 in omega (arith, m)
+no_outcomes rows none Replay says =
+    let m : 111 ≡ 114 = ap (λ (l : Text). get_or l 0 0) says in omega (arith, m)
+no_outcomes rows none (Run o) says =
+    let m : 111 ≡ 114 = ap (λ (l : Text). get_or l 0 0) says.0 in omega (arith, m)
 
 -- the rows have the name of the code that is read, or nothing if none is
 pub code_read : {E : Type 0} (f : Found) (id : Text) (code : Option Code)
@@ -258,11 +295,11 @@ clap_refused kinds e Memory is memory blames none = blames
 
 -- the matches of this command line are a function of the words
 pub is_simple_command_line : is_simple command_line ≡ true
-unfolding command_line with_text_commands with_code_commands with_object_commands with_pick_commands check_command claims_command debug_command emit_command exec_command migrate_command record_command replay_command run_command with_explanations explain_command with_run_rules clap_on_literals
+unfolding command_line with_text_commands with_code_commands with_object_commands with_pick_commands check_command claims_command debug_command emit_command exec_command migrate_command outcomes_command record_command replay_command run_command with_other_commands explain_command with_run_rules clap_on_literals
 is_simple_command_line = refl
 
 pub is_free_command_line : is_simple_and_free command_line ≡ true
-unfolding command_line with_text_commands with_code_commands with_object_commands with_pick_commands check_command claims_command debug_command emit_command exec_command migrate_command record_command replay_command run_command with_explanations explain_command with_run_rules clap_on_literals
+unfolding command_line with_text_commands with_code_commands with_object_commands with_pick_commands check_command claims_command debug_command emit_command exec_command migrate_command outcomes_command record_command replay_command run_command with_other_commands explain_command with_run_rules clap_on_literals
 is_free_command_line = refl
 
 -- a fact that holds anyway holds where there is no value

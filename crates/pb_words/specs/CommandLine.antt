@@ -51,6 +51,10 @@ explain_command = with_rule (new_app (codes "explain")) (new_rule (codes "CODE")
 unfoldable pub migrate_command : App
 migrate_command = new_app (codes "migrate")
 
+unfoldable pub outcomes_command : App
+outcomes_command =
+    with_rule (new_app (codes "outcomes")) (number_rule_or (codes "states") 1 4000000 (codes "1000000"))
+
 unfoldable pub record_command : App
 record_command =
     with_rule (with_run_rules (new_app (codes "record"))) (number_rule (codes "seed") 0 18446744073709551615)
@@ -84,14 +88,14 @@ with_object_commands a = with_command (with_command a exec_command) migrate_comm
 unfoldable pub with_pick_commands : App → App
 with_pick_commands a = with_command (with_command (with_command a record_command) replay_command) debug_command
 
--- the command that says what a refusal means
-unfoldable pub with_explanations : App → App
-with_explanations a = with_command a explain_command
+-- the command over all runs, and the one that says what a refusal means
+unfoldable pub with_other_commands : App → App
+with_other_commands a = with_command (with_command a outcomes_command) explain_command
 
 -- the whole command line
 unfoldable pub command_line : App
 command_line =
-    with_explanations (with_pick_commands (with_object_commands (with_code_commands (with_text_commands
+    with_other_commands (with_pick_commands (with_object_commands (with_code_commands (with_text_commands
     (that_wants_command (new_app (codes "parbegin")))))))
 
 -- a command of this form, none of whose options a subcommand inherits

@@ -11,6 +11,7 @@ use Rattle.pb_words.specs.declared.words.Options.TheVariants as option
 use Rattle.pb_options.specs.declared.options.DebugOptions.{DebugOptions}
 use Rattle.pb_options.specs.declared.options.CheckOptions.{CheckOptions}
 use Rattle.pb_options.specs.declared.options.EmitOptions.{EmitOptions}
+use Rattle.pb_options.specs.declared.options.OutcomesOptions.{OutcomesOptions}
 use Rattle.pb_options.specs.declared.options.RecordOptions.{RecordOptions}
 use Rattle.pb_options.specs.declared.options.RunOptions.{RunOptions}
 use Rattle.pb_refusals.specs.Codes.{code_name}
@@ -60,6 +61,9 @@ HasEmitNumber rows o = HasNumber rows (codes "object") (format_number o.object)
 abbrev pub HasCode : List Row → Option Code → Type 0
 HasCode rows code = one_of (codes "CODE") rows ≡ option_map code_name code
 
+abbrev pub HasStates : List Row → OutcomesOptions → Type 0
+HasStates rows o = HasNumber rows (codes "states") o.states
+
 -- the options are those of this subcommand with these matches
 abbrev pub IsReadFrom : Text → List Row → Options → Type 0
 IsReadFrom name rows (option.Check o) = (name ≡ codes "check") × HasCheckNumbers rows o
@@ -69,6 +73,7 @@ IsReadFrom name rows (option.Emit o) = (name ≡ codes "emit") × HasEmitNumber 
 IsReadFrom name rows (option.Exec o) = (name ≡ codes "exec") × HasRunNumbers rows o
 IsReadFrom name rows (option.Explain code) = (name ≡ codes "explain") × HasCode rows code
 IsReadFrom name rows option.Migrate = name ≡ codes "migrate"
+IsReadFrom name rows (option.Outcomes o) = (name ≡ codes "outcomes") × HasStates rows o
 IsReadFrom name rows (option.Record o) = (name ≡ codes "record") × HasRecordNumbers rows o
 IsReadFrom name rows option.Replay = name ≡ codes "replay"
 IsReadFrom name rows (option.Run o) = (name ≡ codes "run") × HasRunNumbers rows o

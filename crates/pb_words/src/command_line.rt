@@ -2,8 +2,8 @@
 ghost use Rattle.std.specs.Prelude.{◌≡◌, IfOk, false};
 ghost use Rattle.clap.specs.Words.{app_of, rule_of, with_rule};
 ghost use Rattle.clap.specs.declared.builder.command.Command.TheViews.{out-Command};
-ghost use Rattle.pb_words.specs.CommandLine.{check_command, claims_command, debug_command, emit_command, flag_rule, exec_command, explain_command, migrate_command, number_rule, number_rule_or, record_command, replay_command, run_command, that_wants_command, IsCommand};
-ghost use Rattle.pb_words.specs.CommandLine.{command_line as whole, with_code_commands, with_command, with_explanations, with_object_commands, with_pick_commands, with_run_rules, with_text_commands};
+ghost use Rattle.pb_words.specs.CommandLine.{check_command, claims_command, debug_command, emit_command, flag_rule, exec_command, explain_command, migrate_command, number_rule, number_rule_or, outcomes_command, record_command, replay_command, run_command, that_wants_command, IsCommand};
+ghost use Rattle.pb_words.specs.CommandLine.{command_line as whole, with_code_commands, with_command, with_object_commands, with_other_commands, with_pick_commands, with_run_rules, with_text_commands};
 
 use clap::builder::ValueParser;
 use clap::{Arg, ArgAction, Command};
@@ -150,6 +150,18 @@ fn migrate_object<'a>(alloc: Global) -> Result<Command<'a>, AllocError>
     ))
 }
 
+#[tactic(auto, unfolding(crate::specs::CommandLine::outcomes_command))]
+fn outcomes_of_text<'a>(alloc: Global) -> Result<Command<'a>, AllocError>
+    ensures { IfOk result (IsCommand outcomes_command) }
+{
+    let states = number_option_or(alloc, "states", 1, 4_000_000, "1000000");
+    let states = states.help("Give up after this many configurations, 1 to 4000000");
+    let outcomes = Command::new(alloc, "outcomes").about(
+        "Print every way in which the program read from standard input can end",
+    );
+    with_option(outcomes, states)
+}
+
 #[tactic(auto, unfolding(crate::specs::CommandLine::record_command))]
 fn record_text<'a>(alloc: Global) -> Result<Command<'a>, AllocError>
     ensures { IfOk result (IsCommand record_command) }
@@ -218,10 +230,11 @@ fn with_picks<'a>(alloc: Global, command: Command<'a>) -> Result<Command<'a>, Al
     with_subcommand(command, debug_picks(alloc)?)
 }
 
-#[tactic(auto, unfolding(crate::specs::CommandLine::with_explanations))]
-fn with_explanations<'a>(alloc: Global, command: Command<'a>) -> Result<Command<'a>, AllocError>
-    ensures { IfOk result (λ c. app_of c ≡ with_explanations (app_of command.entry)) }
+#[tactic(auto, unfolding(crate::specs::CommandLine::with_other_commands))]
+fn with_others<'a>(alloc: Global, command: Command<'a>) -> Result<Command<'a>, AllocError>
+    ensures { IfOk result (λ c. app_of c ≡ with_other_commands (app_of command.entry)) }
 {
+    let command = with_subcommand(command, outcomes_of_text(alloc)?)?;
     with_subcommand(command, explain_code(alloc)?)
 }
 
@@ -233,5 +246,5 @@ pub fn command_line<'a>(alloc: Global) -> Result<Command<'a>, AllocError>
     let command = wanting_command(Command::new(alloc, "parbegin").bin_name("parbegin")?);
     let command = with_codes(alloc, with_texts(alloc, command)?)?;
     let command = with_picks(alloc, with_objects(alloc, command)?)?;
-    with_explanations(alloc, command)
+    with_others(alloc, command)
 }

@@ -1,11 +1,12 @@
 //! Reads the words of a call.
 ghost use Rattle.std.specs.Prelude.{◌≡◌, ◌↔◌, IfErr, IfNone, IfOk, IfSome, IsTrue, None, Option, ℕ};
 ghost use Rattle.clap.specs.Words.{found_of, kind_of, one_of, rows_of, subcommand_rows_of};
-ghost use Rattle.pb_words.specs.Read.{BlamesWords, HasCheckNumbers, HasCode, HasDebugFlag, HasEmitNumber, HasFlag, HasNumberIn, HasRecordNumbers, HasRunNumbers, IsReadFromMatches, WordsSay};
+ghost use Rattle.pb_words.specs.Read.{BlamesWords, HasCheckNumbers, HasCode, HasDebugFlag, HasEmitNumber, HasFlag, HasNumberIn, HasRecordNumbers, HasRunNumbers, HasStates, IsReadFromMatches, WordsSay};
 ghost use Rattle.pb_words.specs.declared.words.Options.{Options as AnyOptions};
 ghost use Rattle.pb_options.specs.declared.options.CheckOptions.{CheckOptions as AnyCheckOptions};
 ghost use Rattle.pb_options.specs.declared.options.EmitOptions.{EmitOptions as AnyEmitOptions};
 ghost use Rattle.pb_refusals.specs.declared.code.Code.{Code as AnyCode};
+ghost use Rattle.pb_options.specs.declared.options.OutcomesOptions.{OutcomesOptions as AnyOutcomesOptions};
 ghost use Rattle.pb_options.specs.declared.options.RecordOptions.{RecordOptions as AnyRecordOptions};
 ghost use Rattle.pb_options.specs.declared.options.RunOptions.{RunOptions as AnyRunOptions};
 
@@ -14,7 +15,9 @@ use crate::words::{Options, WordsFault};
 use clap::error::ErrorKind;
 use clap::{ArgMatches, Error};
 use pb_object::Format;
-use pb_options::{CheckOptions, DebugOptions, EmitOptions, RecordOptions, RunOptions};
+use pb_options::{
+    CheckOptions, DebugOptions, EmitOptions, OutcomesOptions, RecordOptions, RunOptions,
+};
 use pb_refusals::Code;
 use std::alloc::{AllocError, Global};
 
@@ -92,6 +95,16 @@ fn code_given(matches: &ArgMatches<'_>) -> Option<Option<Code>>
     }
 }
 
+fn outcomes_options(matches: &ArgMatches<'_>) -> Option<OutcomesOptions>
+    ensures some { IfSome result (HasStates (rows_of (found_of matches.now))) }
+    ensures none { IfNone result ((o : AnyOutcomesOptions) → HasStates (rows_of (found_of matches.now)) o → ⊥) }
+{
+    let states = number(matches, "states", 1, 4_000_000)?;
+    Some(OutcomesOptions {
+        states: states as u32,
+    })
+}
+
 fn record_options(matches: &ArgMatches<'_>) -> Option<RecordOptions>
     ensures some { IfSome result (HasRecordNumbers (rows_of (found_of matches.now))) }
     ensures none { IfNone result ((o : AnyRecordOptions) → HasRecordNumbers (rows_of (found_of matches.now)) o → ⊥) }
@@ -135,6 +148,7 @@ fn read_matches(matches: &ArgMatches<'_>) -> Option<Options>
         "exec" => Some(Options::Exec(run_options(inner)?)),
         "explain" => Some(Options::Explain(code_given(inner)?)),
         "migrate" => Some(Options::Migrate),
+        "outcomes" => Some(Options::Outcomes(outcomes_options(inner)?)),
         "record" => Some(Options::Record(record_options(inner)?)),
         "replay" => Some(Options::Replay),
         "run" => Some(Options::Run(run_options(inner)?)),
@@ -294,6 +308,25 @@ mod tests {
         assert!(rt; text.as_str().contains("error: no refusal has this code"));
         assert!(rt; text.as_str().contains(" N1 N2 N3 N4 N6 C1 "), "{text}");
         Ok(())
+    }
+
+    fn states_of(alloc: Global, words: &[&str]) -> Option<u32> {
+        match options(alloc, words) {
+            Ok(Options::Outcomes(o)) => Some(o.states),
+            _ => None,
+        }
+    }
+
+    #[test]
+    fn reads_outcomes(rt: HostRuntime) {
+        let alloc = rt.alloc();
+        let plain = states_of(alloc, &["parbegin", "outcomes"]);
+        assert_eq!(rt; plain, Some(1_000_000));
+        let most = states_of(alloc, &["parbegin", "outcomes", "--states=4000000"]);
+        assert_eq!(rt; most, Some(4_000_000));
+        for word in ["--states=0", "--states=4000001", "text"] {
+            assert_eq!(rt; states_of(alloc, &["parbegin", "outcomes", word]), None);
+        }
     }
 
     #[test]

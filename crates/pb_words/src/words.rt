@@ -1,6 +1,8 @@
 //! The words of a call, read.
 
-use pb_options::{CheckOptions, DebugOptions, EmitOptions, RecordOptions, RunOptions};
+use pb_options::{
+    CheckOptions, DebugOptions, EmitOptions, OutcomesOptions, RecordOptions, RunOptions,
+};
 use pb_refusals::Code;
 
 /// A command with its options.
@@ -14,6 +16,7 @@ pub enum Options {
     Exec(RunOptions),
     Explain(Option<Code>),
     Migrate,
+    Outcomes(OutcomesOptions),
     Record(RecordOptions),
     Replay,
     Run(RunOptions),

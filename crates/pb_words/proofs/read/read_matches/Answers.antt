@@ -1,6 +1,6 @@
 use Rattle.std.proofs.Common.{rules}
 use Rattle.clap.specs.Words.{found_of, rows_of, subcommand_rows_of}
-use Rattle.pb_words.proofs.ReadLemmas.{IfNone-of, no_check, no_emit, no_exec, no_explain, no_record, no_run, nothing_read}
+use Rattle.pb_words.proofs.ReadLemmas.{IfNone-of, no_check, no_emit, no_exec, no_explain, no_outcomes, no_record, no_run, nothing_read}
 use Rattle.pb_words.proofs.read.read_matches.Goals as goal
 
 pub returns-in_err-check_options-in-check-clause-none : goal.returns-in_err-check_options-in-check-clause-none
@@ -38,3 +38,9 @@ returns-in_err-code_given-in-explain-clause-none c =
     IfNone-of c.from_residual-in_err-code_given-in-explain.result
     (nothing_read (subcommand_rows_of c.args.matches.now) _ (rows_of (found_of c.in_ok-name.inner.now)) (search rules) c.in_ok-name.ensures.rows
     (no_explain (rows_of (found_of c.in_ok-name.inner.now)) c.in_err-code_given-in-explain.ensures.none))
+
+pub returns-in_err-outcomes_options-in-outcomes-clause-none : goal.returns-in_err-outcomes_options-in-outcomes-clause-none
+returns-in_err-outcomes_options-in-outcomes-clause-none c =
+    IfNone-of c.from_residual-in_err-outcomes_options-in-outcomes.result
+    (nothing_read (subcommand_rows_of c.args.matches.now) _ (rows_of (found_of c.in_ok-name.inner.now)) (search rules) c.in_ok-name.ensures.rows
+    (no_outcomes (rows_of (found_of c.in_ok-name.inner.now)) c.in_err-outcomes_options-in-outcomes.ensures.none))

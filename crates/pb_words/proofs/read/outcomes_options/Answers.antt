@@ -1,0 +1,6 @@
+use Rattle.pb_words.proofs.ReadLemmas.{IfNone-of}
+use Rattle.pb_words.proofs.read.outcomes_options.Goals as goal
+
+pub returns-in_err-states-clause-none : goal.returns-in_err-states-clause-none
+returns-in_err-states-clause-none c =
+    IfNone-of c.from_residual.result (λ o h. c.in_err-states.ensures.none o.states (h, o.some_state, o.states_fit))
