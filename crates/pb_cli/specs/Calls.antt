@@ -23,6 +23,7 @@ use Rattle.pb_engines.specs.Records.{SaysOfRecord}
 use Rattle.pb_engines.specs.ReplayLines.{SaysOfReplay}
 use Rattle.pb_engines.specs.Runs.{SaysOf}
 use Rattle.pb_explain.specs.Pages.{SaysOfExplain}
+use Rattle.pb_outcome_engine.specs.SaysOutcomes.{SaysOfOutcomes}
 use Rattle.pb_words.specs.Read.{WordsSay}
 
 -- what `debug` may say of an input, of which it reads the commands as they come, or all before it writes
@@ -39,6 +40,7 @@ CommandSays (option.Emit numbers) = SaysOfInput (SaysOfEmission numbers.object)
 CommandSays (option.Exec numbers) = SaysOfInput (SaysOfExecution numbers.steps)
 CommandSays (option.Explain code) = λ bytes. SaysOfExplain code
 CommandSays option.Migrate = SaysOfInput SaysOfMigration
+CommandSays (option.Outcomes numbers) = SaysOfInput (SaysOfOutcomes numbers.states)
 CommandSays (option.Record numbers) = SaysOfInput (SaysOfRecord numbers.run.steps numbers.seed)
 CommandSays option.Replay = SaysOfInput SaysOfReplay
 CommandSays (option.Run numbers) = SaysOfInput (SaysOf numbers.steps)

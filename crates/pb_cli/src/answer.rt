@@ -12,6 +12,7 @@ use pb_engines::{
 };
 use pb_explain::explain_engine;
 use pb_options::DebugOptions;
+use pb_outcome_engine::outcomes_engine;
 use pb_words::{Options, WordsFault, options};
 use std::alloc::Global;
 use std::sync::Wait;
@@ -39,6 +40,7 @@ pub fn answer<I: Input, O: Output, R: Threads + Wait + Sync>(
         Ok(Options::Exec(numbers)) => exec_engine(rt, alloc, numbers, input, output),
         Ok(Options::Explain(code)) => explain_engine(alloc, code, output),
         Ok(Options::Migrate) => migrate_engine(alloc, input, output),
+        Ok(Options::Outcomes(numbers)) => outcomes_engine(alloc, numbers, input, output),
         Ok(Options::Record(numbers)) => record_engine(rt, alloc, numbers, input, output),
         Ok(Options::Replay) => replay_engine(alloc, input, output),
         Ok(Options::Run(numbers)) => run_engine(rt, alloc, numbers, input, output),

@@ -3,8 +3,6 @@
 
 mod counts;
 mod lines;
-pub mod options;
 pub mod outcomes;
 
-pub use options::OutcomesOptions;
 pub use outcomes::outcomes_engine;

@@ -10,7 +10,6 @@ ghost use Rattle.pb_outcome_engine.specs.OutcomeLines.{excess_line};
 ghost use Rattle.pb_outcome_engine.specs.SaysOutcomes.{SaysOfCode, SaysOfOutcomes};
 
 use crate::lines::outcomes_text;
-use crate::options::OutcomesOptions;
 use itoa::Buffer;
 use pb_base::NoMemory;
 use pb_base::device::{Input, Output};
@@ -21,6 +20,7 @@ use pb_engines::input::read_input;
 use pb_engines::reply::{Reply, tell};
 use pb_explore::ExploreFault;
 use pb_explore::explore::explore;
+use pb_options::OutcomesOptions;
 use std::alloc::Global;
 
 /// Writes every outcome of the text that the input holds, under the banker: how each process ended, its integers, and

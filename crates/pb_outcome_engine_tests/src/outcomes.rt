@@ -2,7 +2,8 @@
 
 use pb_base::device::{MemoryInput, MemoryOutput};
 use pb_engines::{Status, replay_engine};
-use pb_outcome_engine::{OutcomesOptions, outcomes_engine};
+use pb_options::OutcomesOptions;
+use pb_outcome_engine::outcomes_engine;
 use std::alloc::Global;
 
 /// A text, how many configurations may be kept, what is said of it, and the status.

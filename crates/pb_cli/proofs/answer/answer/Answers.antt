@@ -1,5 +1,5 @@
 use Rattle.std.proofs.Common.{inl, subst}
-use Rattle.pb_words.specs.declared.words.Options.TheVariants.{Check, Debug, Emit, Exec, Explain, Record, Run}
+use Rattle.pb_words.specs.declared.words.Options.TheVariants.{Check, Debug, Emit, Exec, Explain, Outcomes, Record, Run}
 use Rattle.pb_words.specs.Read.{WordsSay}
 use Rattle.pb_cli.proofs.AnswerLemmas.{CallTellsFaults-debug, CallWrites-refused}
 use Rattle.pb_cli.proofs.answer.answer.Goals as goal
@@ -38,6 +38,11 @@ pub returns-in-Ok-Emit-clause-text : goal.returns-in-Ok-Emit-clause-text
 returns-in-Ok-Emit-clause-text g c =
     let read = subst (WordsSay c.args.words.now) c.in-Ok-Emit.field-0-is c.in-Ok-Emit.ensures.read in
     inl (Emit c.in-Ok-Emit.numbers, read, c.emit_engine.ensures.text)
+
+pub returns-in-Ok-Outcomes-clause-text : goal.returns-in-Ok-Outcomes-clause-text
+returns-in-Ok-Outcomes-clause-text g c =
+    let read = subst (WordsSay c.args.words.now) c.in-Ok-Outcomes.field-0-is c.in-Ok-Outcomes.ensures.read in
+    inl (Outcomes c.in-Ok-Outcomes.numbers, read, c.outcomes_engine.ensures.text)
 
 pub returns-in-Ok-Record-clause-text : goal.returns-in-Ok-Record-clause-text
 returns-in-Ok-Record-clause-text g c =
