@@ -61,7 +61,7 @@ fn width_of(line: &[u8], number: &[u8], mark: &Mark) -> u64 {
     SIDE + characters.min(MOST_CHARACTERS) as u64 * CHARACTER
 }
 
-/// Returns the axis of these events, of a run of so many picks. `left` is where it begins.
+/// Returns the axis of these events, of a run of `picks` picks. `left` is where it begins.
 pub(crate) fn axis_of(
     alloc: Global,
     marks: &[Mark],

@@ -29,11 +29,11 @@ use pb_verifier::Verified;
 use std::alloc::Global;
 
 /// Makes the picks that the pick lines behind the text of the input say, from the start of the text, and writes a
-/// picture of that run as SVG. A line `%%` stands between the text and the pick lines. A text, lines or picks that are
-/// refused are answered by their refusal line alone, as `replay` answers them.
+/// picture of that run as SVG. A line `%%` separates the text from the pick lines. If the text, a line or a pick is
+/// refused, only the refusal line is written, as by `replay`.
 ///
 /// The status is `Fault` if a process faulted. After a read that failed nothing is written; after a write that failed,
-/// a first part of what was being said.
+/// a prefix of the output.
 pub fn draw_engine<I: Input, O: Output>(alloc: Global, input: &mut I, output: &mut O) -> Status
     ensures text { IfSome (I.rest input.old) (λ bytes.
         Tells (SaysOfInput SaysOfDraw bytes) (O.written output.old) (O.written output.new) result) }

@@ -87,7 +87,7 @@ fn in_words(fault: VerifyFault) -> &'static str {
 }
 
 // Returns the fault of the code of an object of which one process alone is left, and of that the first instructions: the
-// others jump to themselves, but for forks and joins.
+// others jump to themselves, except forks and joins.
 fn fault_of_part(
     alloc: Global,
     bytes: &[u8],
@@ -121,7 +121,7 @@ fn nothing(alloc: Global) -> Result<ProcessCode, NoMemory> {
     })
 }
 
-// Makes the instructions behind the first ones jump to themselves, but for forks and joins.
+// Makes the instructions behind the first ones jump to themselves, except forks and joins.
 fn cut(code: &mut ProcessCode, kept: usize) {
     for (place, instr) in code.instrs.iter_mut().enumerate() {
         if place >= kept && !is_fork_or_join(*instr) {
