@@ -1,5 +1,4 @@
 pub mod Beginning
-pub mod CopyLoops
 pub mod Expressions
 pub mod Heads
 pub mod Holding

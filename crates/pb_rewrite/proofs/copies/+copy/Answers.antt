@@ -1,7 +1,7 @@
 use Rattle.std.proofs.Common.{arith, rules, ap, ◌∙◌}
 use Rattle.pb_names.specs.View.{stmt_view, block_view, arm_view, arms_view, block_of, arms_from}
 use Rattle.pb_names.proofs.Views.{view-If, view-While, view-Hold, view-Parbegin}
-use Rattle.pb_rewrite.proofs.CopyLoops.{copied_more, copied_all}
+use Rattle.pb_tree.proofs.Copies.{copied_more, copied_all}
 use Rattle.pb_rewrite.proofs.Sizes.{stmt_within, arm_within, arms_within}
 use Rattle.pb_rewrite.proofs.copies.+copy.Goals as goal
 
