@@ -91,5 +91,6 @@ def inputs():
         yield f"emit --object 1 {name}", ["emit", "--object", "1"], text
         yield f"record --seed 7 {name}", ["record", "--seed", "7"], text
         yield f"replay {name}", ["replay"], recorded(text)
+        yield f"draw {name}", ["draw"], recorded(text)
         yield f"exec {name}", ["exec"], object_of(text)
         yield f"migrate {name}", ["migrate"], first_object_of(text)

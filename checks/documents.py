@@ -76,7 +76,7 @@ def main():
             text = document.read_text()
             for command, written in commands_of(text):
                 typed += 1
-                ran = subprocess.run(["bash", "-c", command], cwd=top, stdout=subprocess.PIPE, stderr=subprocess.STDOUT)
+                ran = subprocess.run(["bash", "-c", command], cwd=top, stdout=subprocess.PIPE, stderr=subprocess.DEVNULL)
                 got = ran.stdout.decode().splitlines()
                 tally.expect(got == written, f"{document.name}: `{command}` writes", *got)
             for path, shown in files_of(text):

@@ -57,7 +57,7 @@ def try_example(tally, code, page, folder):
         return
     where = {**os.environ, "PATH": f"{folder}:{os.environ['PATH']}"}
     words = ["bash", "-o", "pipefail", "-c", it["call"]]
-    ran = subprocess.run(words, env=where, stdout=subprocess.PIPE, stderr=subprocess.STDOUT, check=False)
+    ran = subprocess.run(words, env=where, stdout=subprocess.PIPE, stderr=subprocess.DEVNULL, check=False)
     said = ran.stdout.decode()
     tally.expect(said == it["line"] + "\n", code, "the example shows", said)
     begins = it["line"].split()[:2] == ["refused", code]

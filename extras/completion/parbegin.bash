@@ -5,7 +5,7 @@ _parbegin() {
         at=2
     fi
     if ((COMP_CWORD <= at)); then
-        local commands="check claims debug emit exec explain migrate outcomes record replay run help --help --version"
+        local commands="check claims debug draw emit exec explain migrate outcomes record replay run help --help --version"
         if ((at == 1)); then
             commands+=" --unproved"
         fi
@@ -26,6 +26,7 @@ _parbegin() {
     check) options="--heap" ;;
     claims) options="" ;;
     debug) options="--live" ;;
+    draw) options="" ;;
     emit) options="--object" ;;
     exec) options="--workers --quantum --steps" ;;
     explain)

@@ -1,5 +1,5 @@
 # Completion of parbegin for fish. To use it: copy this file to ~/.config/fish/completions, or let install.sh do it.
-set -l commands check claims debug emit exec explain migrate outcomes record replay run help
+set -l commands check claims debug draw emit exec explain migrate outcomes record replay run help
 
 complete -c parbegin -n "not __fish_seen_subcommand_from $commands" -f
 complete -c parbegin -n "not __fish_seen_subcommand_from $commands" -l unproved -d "Run the sources with no proof"
@@ -9,6 +9,7 @@ complete -c parbegin -l help -d "Print help"
 complete -c parbegin -n "not __fish_seen_subcommand_from $commands" -a check -d "Check whether texts are programs"
 complete -c parbegin -n "not __fish_seen_subcommand_from $commands" -a claims -d "Print the inferred claims"
 complete -c parbegin -n "not __fish_seen_subcommand_from $commands" -a debug -d "Debug a recorded run by commands"
+complete -c parbegin -n "not __fish_seen_subcommand_from $commands" -a draw -d "Draw recorded picks as SVG"
 complete -c parbegin -n "not __fish_seen_subcommand_from $commands" -a emit -d "Print the object of a program"
 complete -c parbegin -n "not __fish_seen_subcommand_from $commands" -a exec -d "Run an object"
 set -l codes L1 L2 L3 L4 P1 P2 P3 N1 N2 N3 N4 N6 C1 E1 O1 O2 V1 V2 V3 V4 V5 V6 V7 V8 V9 K1 K2 H1 G1 G2 G3 G4 input output

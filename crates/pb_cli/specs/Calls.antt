@@ -9,6 +9,7 @@ use Rattle.pb_words.specs.declared.words.WordsFault.TheVariants as fault
 use Rattle.pb_debug_engine.specs.Debugs.{SaysOfDebug}
 use Rattle.pb_debug_engine.specs.Faults.{TellsAnyFault}
 use Rattle.pb_debug_engine.specs.Live.{SaysOfLive}
+use Rattle.pb_draw_engine.specs.Draws.{SaysOfDraw}
 use Rattle.pb_engines.specs.declared.status.Status.{Status}
 use Rattle.pb_engines.specs.declared.status.Status.TheVariants.{Words, Memory}
 use Rattle.pb_engines.specs.Answers.{Says, Tells, memory_line}
@@ -36,6 +37,7 @@ abbrev pub CommandSays : Options → List ℕ → List ℕ → Status → Type 0
 CommandSays (option.Check numbers) = SaysOfInput SaysOfChecks
 CommandSays option.Claims = SaysOfInput SaysOfClaims
 CommandSays (option.Debug flags) = SaysOfCommands flags.live
+CommandSays option.Draw = SaysOfInput SaysOfDraw
 CommandSays (option.Emit numbers) = SaysOfInput (SaysOfEmission numbers.object)
 CommandSays (option.Exec numbers) = SaysOfInput (SaysOfExecution numbers.steps)
 CommandSays (option.Explain code) = λ bytes. SaysOfExplain code

@@ -6,6 +6,7 @@ ghost use Rattle.pb_engines.specs.Faults.{TellsWriteFaults};
 
 use pb_base::device::{Input, Output};
 use pb_debug_engine::{debug_engine, debug_live_engine};
+use pb_draw_engine::draw_engine;
 use pb_engines::{
     Page, Status, check_engine, claims_engine, emit_engine, exec_engine, migrate_engine,
     record_engine, replay_engine, run_engine,
@@ -36,6 +37,7 @@ pub fn answer<I: Input, O: Output, R: Threads + Wait + Sync>(
         Ok(Options::Check(numbers)) => check_engine(alloc, numbers, input, output),
         Ok(Options::Claims) => claims_engine(alloc, input, output),
         Ok(Options::Debug(flags)) => debug(alloc, flags, input, output),
+        Ok(Options::Draw) => draw_engine(alloc, input, output),
         Ok(Options::Emit(numbers)) => emit_engine(alloc, numbers, input, output),
         Ok(Options::Exec(numbers)) => exec_engine(rt, alloc, numbers, input, output),
         Ok(Options::Explain(code)) => explain_engine(alloc, code, output),
@@ -117,6 +119,46 @@ mod tests {
             let status = answer(&rt, alloc, words, &mut input, &mut output);
             assert_eq!(rt; status, Status::Done);
             assert_eq!(rt; output.as_slice(), b"at 2\nrefused G1\n".as_slice());
+        }
+        Ok(())
+    }
+
+    #[test]
+    fn draws(rt: HostRuntime) -> Result<(), Fail> {
+        let alloc = rt.alloc();
+        let mut input = MemoryInput::new(b"process p begin print 1 div 0 end\n%%\np.0 3\n");
+        let mut output = MemoryOutput::new(alloc, 4_096)?;
+        let words = ["parbegin", "draw"];
+        let status = answer(&rt, alloc, words.as_slice(), &mut input, &mut output);
+        assert_eq!(rt; status, Status::Fault);
+        assert!(rt; output.as_slice().starts_with(b"<svg xmlns="));
+        assert!(rt; output.as_slice().ends_with(b"</svg>\n"));
+        Ok(())
+    }
+
+    #[test]
+    fn tells_outcomes(rt: HostRuntime) -> Result<(), Fail> {
+        let alloc = rt.alloc();
+        let bytes = b"process p begin integer x; parbegin x := 1; x := 2 parend end";
+        let table = [
+            (
+                "--states=1000",
+                Status::Done,
+                b"all 2 outcomes\n".as_slice(),
+            ),
+            (
+                "--states=2",
+                Status::Limit,
+                b"more than 2 configurations\n".as_slice(),
+            ),
+        ];
+        for (word, status, last) in table {
+            let mut input = MemoryInput::new(bytes);
+            let mut output = MemoryOutput::new(alloc, 4_096)?;
+            let words = ["parbegin", "outcomes", word];
+            let said = answer(&rt, alloc, words.as_slice(), &mut input, &mut output);
+            assert_eq!(rt; said, status);
+            assert!(rt; output.as_slice().ends_with(last));
         }
         Ok(())
     }

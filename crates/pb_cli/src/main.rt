@@ -2,11 +2,14 @@
 #![tactic(auto)]
 
 mod answer;
+mod explain_refusal;
 
 use crate::answer::answer;
+use crate::explain_refusal::explain_refusal;
 use pb_base::device::{StandardInput, StandardOutput};
 use pb_engines::{Page, Status};
-use std::alloc::AllocError;
+use pb_messages::{KeptInput, StandardError};
+use std::alloc::{AllocError, Global};
 use std::env;
 use std::io::ErrorKind;
 use std::process::ExitCode;
@@ -16,8 +19,9 @@ use std::thread::Threads;
 // Reads the words of the call, and does what they say.
 fn start<R: env::Env + AllocGlobal + Threads + Wait + Sync>(
     rt: &R,
-    input: &mut StandardInput,
+    input: &mut KeptInput<StandardInput>,
     output: &mut StandardOutput,
+    error: &mut StandardError,
 ) -> Status {
     let alloc = rt.alloc();
     let words = match env::args(rt) {
@@ -33,13 +37,34 @@ fn start<R: env::Env + AllocGlobal + Threads + Wait + Sync>(
     };
     let texts = words.iter().map(|word| word.as_str());
     match texts.collect::<Vec<&str>>(alloc) {
-        Ok(texts) => answer(rt, alloc, texts.as_slice(), input, output),
+        Ok(texts) => answer_and_explain(rt, alloc, texts.as_slice(), input, output, error),
         Err(_) => Page::new(alloc).finish_with(output, b"memory", Status::Memory),
     }
 }
 
+// Does what the words say, and explains a refusal on standard error, unless the first word is `--quiet`. (It is then in
+// the place of the program's name, which is not looked at.)
+fn answer_and_explain<R: AllocGlobal + Threads + Wait + Sync>(
+    rt: &R,
+    alloc: Global,
+    words: &[&str],
+    input: &mut KeptInput<StandardInput>,
+    output: &mut StandardOutput,
+    error: &mut StandardError,
+) -> Status {
+    if words.len() > 1 && words[1] == "--quiet" {
+        return answer(rt, alloc, &words[1..], input, output);
+    }
+    let status = answer(rt, alloc, words, input, output);
+    if let (Status::Refused, Some(bytes)) = (status, input.kept()) {
+        explain_refusal(alloc, words, bytes, error);
+    }
+    status
+}
+
 fn main(rt: HostRuntime) -> ExitCode {
-    let mut input = StandardInput::new(rt.stdin());
+    let mut input = KeptInput::new(rt.alloc(), StandardInput::new(rt.stdin()));
     let mut output = StandardOutput::new(rt.stdout());
-    ExitCode::from(start(&rt, &mut input, &mut output).number())
+    let mut error = StandardError::new(rt.stderr());
+    ExitCode::from(start(&rt, &mut input, &mut output, &mut error).number())
 }

@@ -29,7 +29,8 @@ same_after xs more (given.Give k) h = ap Give (get_before xs more k h)
 same_after xs more i h = refl
 
 -- instructions keep what they do
-pub views_kept : (xs ys : List (List Pair)) (is : List Given) → Extends xs ys → All (NamesBelow (length xs)) is → map (instr_view ys) is ≡ map (instr_view xs) is
+pub views_kept : (xs ys : List (List Pair)) (is : List Given) → Extends xs ys → All (NamesBelow (length xs)) is → map
+    (instr_view ys) is ≡ map (instr_view xs) is
 views_kept xs ys [] e h = refl
 views_kept xs ys (i ∷ is) e h =
     let one : instr_view ys i ≡ instr_view xs i = ap (λ (zs : List (List Pair)). instr_view zs i) e.1 ∙ same_after xs e.0 i (h 0 i (omega arith)) in

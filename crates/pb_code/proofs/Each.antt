@@ -12,7 +12,8 @@ EachBelow {A = A} xs n Holds = (k : ℕ) (x : A) → k < n → slice_get xs k �
 pub same_read : {A : Type 0} (xs : List A) (k : ℕ) (x y : A) → slice_get xs k ≡ Some x → slice_get xs k ≡ Some y → x ≡ y
 same_read xs k x y a b = let both : Some x ≡ Some y = sym a ∙ b in cc
 
-pub each_more : {A : Type 0} (xs : List A) (n : ℕ) (x : A) (Holds : ℕ → A → Type 0) → slice_get xs n ≡ Some x → EachBelow xs n Holds → Holds n x → EachBelow xs (n + 1) Holds
+pub each_more : {A : Type 0} (xs : List A) (n : ℕ) (x : A) (Holds : ℕ → A → Type 0) → slice_get xs n ≡ Some x →
+    EachBelow xs n Holds → Holds n x → EachBelow xs (n + 1) Holds
 each_more {A = A} xs n x Holds read before here k y u at = go (cases_lt k n)
   where
     go : (k < n) ⊎ (n ≤ k) → Holds k y
@@ -22,7 +23,8 @@ each_more {A = A} xs n x Holds read before here k y u at = go (cases_lt k n)
         let read' : slice_get xs k ≡ Some x = ap (slice_get xs) (sym e) ∙ read in
         subst (λ (m : ℕ). Holds m y) e (subst (λ (z : A). Holds n z) (same_read xs k x y read' at) here)
 
-pub each_all : {A : Type 0} (xs : List A) (n : ℕ) (Holds : ℕ → A → Type 0) → length xs ≤ n → EachBelow xs n Holds → (k : ℕ) (x : A) → slice_get xs k ≡ Some x → Holds k x
+pub each_all : {A : Type 0} (xs : List A) (n : ℕ) (Holds : ℕ → A → Type 0) → length xs ≤ n → EachBelow xs n Holds → (k
+    : ℕ) (x : A) → slice_get xs k ≡ Some x → Holds k x
 each_all xs n Holds u before k x read = let w : k < length xs = slice_get_within xs k x read in before k x (omega arith) read
 
 -- an element of a list, seen in the mapped list

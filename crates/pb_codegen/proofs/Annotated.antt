@@ -63,7 +63,13 @@ length-expr_shapes : (d : ℕ) (hs : List Bundle) (e : Expr)
     → length (expr_shapes d hs e) ≡ length (expr_code e)
 length-expr_shapes d hs (Number v) = refl
 length-expr_shapes d hs (Variable x) = refl
-length-expr_shapes d hs (Unary op a) = let x = length-expr_shapes d hs a in omega (arith, x, length-append (expr_shapes d hs a) (shape (suc d) hs ∷ []), length-append (expr_code a) (Compute1 op ∷ []))
+length-expr_shapes d hs (Unary op a) = let x = length-expr_shapes d hs a in omega (
+  arith,
+  x,
+  length-append
+      (expr_shapes d hs a) (shape (suc d) hs ∷ []),
+  length-append (expr_code a) (Compute1 op ∷ []),
+)
 length-expr_shapes d hs (Binary op a b) =
     let x = length-expr_shapes d hs a in
     let y = length-expr_shapes (suc d) hs b in
@@ -80,8 +86,20 @@ length-expr_shapes d hs (Binary op a b) =
 mutual
   length-stmt_shapes : (p : ℕ) (hs : List Bundle) (s : Stmt)
       → length (stmt_shapes hs s) ≡ length (stmt_code p s)
-  length-stmt_shapes p hs (Set line x e) = omega (arith, length-expr_shapes 0 hs e, length-append (expr_shapes 0 hs e) (shape 1 hs ∷ []), length-append (expr_code e) (Store x ∷ []))
-  length-stmt_shapes p hs (Write line e) = omega (arith, length-expr_shapes 0 hs e, length-append (expr_shapes 0 hs e) (shape 1 hs ∷ []), length-append (expr_code e) (PrintTop ∷ []))
+  length-stmt_shapes p hs (Set line x e) = omega (
+    arith,
+    length-expr_shapes 0 hs e,
+    length-append (expr_shapes 0 hs e)
+        (shape 1 hs ∷ []),
+    length-append (expr_code e) (Store x ∷ []),
+  )
+  length-stmt_shapes p hs (Write line e) = omega (
+    arith,
+    length-expr_shapes 0 hs e,
+    length-append (expr_shapes 0 hs e)
+        (shape 1 hs ∷ []),
+    length-append (expr_code e) (PrintTop ∷ []),
+  )
   length-stmt_shapes p hs (If line e a b) =
       let then = p + length (expr_code e) + 1 in
       let other = then + length (block_code then a) + 1 in
@@ -113,7 +131,13 @@ mutual
       )
   length-stmt_shapes p hs (HoldDo line bundle body) =
       let hb = length-block_shapes (p + 1) (bundle ∷ hs) body in
-      omega (arith, hb, length-append (block_shapes (bundle ∷ hs) body) (shape 0 (bundle ∷ hs) ∷ []), length-append (block_code (p + 1) body) (Give bundle ∷ []))
+      omega (
+        arith,
+        hb,
+        length-append (block_shapes (bundle ∷ hs) body) (shape 0 (bundle ∷ hs) ∷ []),
+        length-append
+            (block_code (p + 1) body) (Give bundle ∷ []),
+      )
   length-stmt_shapes p hs (Parbegin line first arms) = refl
 
   pub length-block_shapes : (p : ℕ) (hs : List Bundle) (block : Block)
@@ -176,7 +200,12 @@ module _ (is : List Instr) (shapes : List Shape) where
   expr_fit p d hs (Binary op a b) h s next =
       let q = p + length (expr_code a) in
       let t = q + length (expr_code b) in
-      let len : t + 1 ≡ p + length (expr_code (Binary op a b)) = omega (arith, length-append (expr_code a) (expr_code b ++ (Compute2 op ∷ [])), length-append (expr_code b) (Compute2 op ∷ [])) in
+      let len : t + 1 ≡ p + length (expr_code (Binary op a b)) = omega (
+        arith,
+        length-append (expr_code a) (expr_code
+            b ++ (Compute2 op ∷ [])),
+        length-append (expr_code b) (Compute2 op ∷ []),
+      ) in
       let hb = in_back is p (expr_code a) (expr_code b ++ (Compute2 op ∷ [])) h in
       let sb = past_expr p d hs a (expr_shapes (suc d) hs b ++ (shape (suc (suc d)) hs ∷ [])) s in
       let sb' = in_front shapes q (expr_shapes (suc d) hs b) (shape (suc (suc d)) hs ∷ []) sb in
@@ -237,7 +266,12 @@ module _ (is : List Instr) (shapes : List Shape) where
         let after = other + length (block_code other b) in
         let tail = block_code then a ++ (Jump after ∷ block_code other b) in
         let stail = block_shapes hs a ++ (shape 0 hs ∷ block_shapes hs b) in
-        let len : after ≡ p + length (stmt_code p (If line e a b)) = omega (arith, length-append (expr_code e) (JumpIfZero other ∷ tail), length-append (block_code then a) (Jump after ∷ block_code other b)) in
+        let len : after ≡ p + length (stmt_code p (If line e a b)) = omega (
+          arith,
+          length-append (expr_code e)
+              (JumpIfZero other ∷ tail),
+          length-append (block_code then a) (Jump after ∷ block_code other b),
+        ) in
         let next' : Leads notes after 0 hs = subst (λ k. Leads notes k 0 hs) (sym len) next in
         let hq = in_back is p (expr_code e) (JumpIfZero other ∷ tail) h in
         let sq = past_expr p 0 hs e (shape 1 hs ∷ stail) s in
@@ -257,7 +291,12 @@ module _ (is : List Instr) (shapes : List Shape) where
         let j = start + length (block_code start body) in
         let after = j + 1 in
         let tail = block_code start body ++ (Jump p ∷ []) in
-        let len : after ≡ p + length (stmt_code p (While line e body)) = omega (arith, length-append (expr_code e) (JumpIfZero after ∷ tail), length-append (block_code start body) (Jump p ∷ [])) in
+        let len : after ≡ p + length (stmt_code p (While line e body)) = omega (
+          arith,
+          length-append (expr_code e)
+              (JumpIfZero after ∷ tail),
+          length-append (block_code start body) (Jump p ∷ []),
+        ) in
         let next' : Leads notes after 0 hs = subst (λ k. Leads notes k 0 hs) (sym len) next in
         let hq = in_back is p (expr_code e) (JumpIfZero after ∷ tail) h in
         let sq = past_expr p 0 hs e (shape 1 hs ∷ (block_shapes hs body ++ (shape 0 hs ∷ []))) s in
@@ -299,7 +338,8 @@ module _ (is : List Instr) (shapes : List Shape) where
         omega (arith, length-append (stmt_code p stmt) (block_code mid block)) in
         let next' : Leads notes (mid + length (block_code mid block)) 0 hs =
         subst (λ k. Leads notes k 0 hs) (sym len) next in
-        let sb : In shapes mid (block_shapes hs block) = subst (λ k. In shapes (p + k) (block_shapes hs block)) (length-stmt_shapes p hs stmt) (in_back shapes p (stmt_shapes hs stmt) (block_shapes hs block) s) in
+        let sb : In shapes mid (block_shapes hs block) = subst (λ k. In shapes (p + k) (block_shapes hs block))
+        (length-stmt_shapes p hs stmt) (in_back shapes p (stmt_shapes hs stmt) (block_shapes hs block) s) in
         fit_to p (mid + length (block_code mid block)) _ len (fit_join p mid (mid + length (block_code mid block))
         (stmt_fit p hs stmt (in_front is p (stmt_code p stmt) _ h) (in_front shapes p (stmt_shapes hs stmt) _ s) (block_first mid _ hs block sb refl next'))
         (block_fit mid hs block (in_back is p (stmt_code p stmt) (block_code mid block) h) sb next'))
@@ -318,11 +358,22 @@ module _ (is : List Instr) (shapes : List Shape) where
       let hq = in_back is p (block_code p arm) (End ∷ []) ha in
       let sq = past_block p [] arm (shape 0 [] ∷ []) sa in
       let sb = in_front shapes p (block_shapes [] arm) (shape 0 [] ∷ []) sa in
-      let m : p + length (block_shapes [] arm ++ (shape 0 [] ∷ [])) ≡ next = omega (arith, length-append (block_shapes [] arm) (shape 0 [] ∷ []), length-append (block_code p arm) (End ∷ []), length-block_shapes p [] arm) in
-      let rest = arms_fit next arms (in_back is p (arm_code p arm) (arms_code next arms) h) (subst (λ k. In shapes k (arms_shapes arms)) m (in_back shapes p (block_shapes [] arm ++ (shape 0 [] ∷ [])) (arms_shapes arms) s)) in
-      let end : next + length (arms_code next arms) ≡ p + length (arms_code p (arm ∷ arms)) = omega (arith, length-append (arm_code p arm) (arms_code next arms)) in (
+      let m : p + length (block_shapes [] arm ++ (shape 0 [] ∷ [])) ≡ next = omega (
+        arith,
+        length-append (block_shapes
+            [] arm) (shape 0 [] ∷ []),
+        length-append (block_code p arm) (End ∷ []),
+        length-block_shapes p [] arm,
+      ) in
+      let rest = arms_fit next arms (in_back is p (arm_code p arm) (arms_code next arms) h) (subst (λ k. In shapes k
+      (arms_shapes arms)) m (in_back shapes p (block_shapes [] arm ++ (shape 0 [] ∷ [])) (arms_shapes arms) s)) in
+      let end : next + length (arms_code next arms) ≡ p + length (arms_code p (arm ∷ arms)) = omega (
+        arith,
+        length-append (arm_code p arm) (arms_code next arms),
+      ) in (
         fit_to p (next + length (arms_code next arms)) _ end (fit_join p next (next + length (arms_code next arms))
-            (fit_to p (q + 1) next n (fit_join p q (q + 1) (block_fit p [] arm (in_front is p (block_code p arm) _ ha) sb sq.0) (fit_one q (End, 0, [], hq.0, sq.0, (refl, refl)))))
+            (fit_to p (q + 1) next n (fit_join p q (q + 1) (block_fit p [] arm (in_front is p (block_code p arm) _ ha)
+            sb sq.0) (fit_one q (End, 0, [], hq.0, sq.0, (refl, refl)))))
             rest.0),
         elim [ zero ↦ λ u. block_first p q [] arm sb refl sq.0 | suc a ↦ λ u. rest.1 a (omega arith) ],
       )

@@ -32,10 +32,12 @@ module _ (program : List Process) (ss : State SourceProcess) (pick : Pick) (move
   pub chain_at : (cs : State CodeProcess) → AtProcess program cs.processes ss.processes pick.process
       → (k : ℕ) × ChainAt program cs pick k × (k ≤ longest (generated program))
   chain_at cs (absent c s) =
-      let none : move_of source_step ss pick ≡ None = ap (option_and_then (λ process. option_map (moved ss pick) (source_step pick.process process pick.arm))) s in
+      let none : move_of source_step ss pick ≡ None = ap (option_and_then (λ process. option_map (moved ss pick)
+      (source_step pick.process process pick.arm))) s in
       let w : None ≡ Some move = sym none ∙ enabled in cc
   chain_at cs (present process cp sp in_program at c s alike change keep) =
-      go (source_step pick.process sp pick.arm) refl (sym (ap (option_and_then (λ process. option_map (moved ss pick) (source_step pick.process process pick.arm))) s) ∙ enabled)
+      go (source_step pick.process sp pick.arm) refl (sym (ap (option_and_then (λ process. option_map (moved ss pick)
+      (source_step pick.process process pick.arm))) s) ∙ enabled)
     where
       go : (o : Option (SourceProcess × Effect)) → source_step pick.process sp pick.arm ≡ o
           → option_map (moved ss pick) o ≡ Some move
@@ -49,7 +51,9 @@ module _ (program : List Process) (ss : State SourceProcess) (pick : Pick) (move
 
   -- these picks before more of them
   abbrev pub Leads : Bank → State CodeProcess → ℕ → State CodeProcess → Type 0
-  Leads bank cs n cs' = (more : List Pick) (events : List Event) (end : State CodeProcess) → Makes bank (code_step (generated program)) cs' more events end → (picks : List Pick) × (length picks ≡ n + length more) × Makes bank (code_step (generated program)) cs picks (option_to_list (event_of pick move.effect) ++ events) end
+  Leads bank cs n cs' = (more : List Pick) (events : List Event) (end : State CodeProcess) → Makes bank (code_step
+      (generated program)) cs' more events end → (picks : List Pick) × (length picks ≡ n + length more) × Makes bank
+      (code_step (generated program)) cs picks (option_to_list (event_of pick move.effect) ++ events) end
 
   pub catch_up : (bank : Bank) (k : ℕ) (cs : State CodeProcess) → StatesAlike program cs ss
       → ChainAt program cs pick k → IsGranted bank ss.loans pick.process move.effect
@@ -90,18 +94,34 @@ module _ (program : List Process) (ss : State SourceProcess) (pick : Pick) (move
       skips' =
           pick_skipped program cs ss pick h ch.0 ch.1 true ch.2 ch.3 (chain_skips ch.0 ch.1 pick.arm k ch.4)
 
-      go : PicksAlike program cs ss pick → ((cs' : State CodeProcess) → StatesAlike program cs' ss → ChainAt program cs' pick k → (cs'' : State CodeProcess) × Leads bank cs' (k + 1) cs'' × StatesAlike program cs'' move.next) → (cs' : State CodeProcess) × Leads bank cs (suc k + 1) cs' × StatesAlike program cs' move.next
+      go : PicksAlike program cs ss pick → ((cs' : State CodeProcess) → StatesAlike program cs' ss → ChainAt program
+          cs' pick k → (cs'' : State CodeProcess) × Leads bank cs' (k + 1) cs'' × StatesAlike program cs'' move.next)
+          → (cs' : State CodeProcess) × Leads bank cs (suc k + 1) cs' × StatesAlike program cs' move.next
       go (not_enabled c s) rest = let w : None ≡ Some move = sym s ∙ enabled in cc
       go (together cs' ss' effect skips c s alike) rest = elim (true≢false (sym skips' ∙ skips)) [ ]
       go (code_alone cs' skips c alike on) rest =
           let r = rest cs' alike (on k ch) in (
             r.0,
-            λ more events end m. let q = r.1 more events end m in
-                (pick ∷ q.0, (let n : length q.0 ≡ k + 1 + length more = q.1 in omega arith), (record { next = cs'; effect = Silent }, c, tt, option_to_list (event_of pick move.effect) ++ events, refl, q.2)),
+            λ more events end m. let q = r.1 more events end m in (
+              pick ∷ q.0,
+              (let n : length q.0 ≡ k + 1 + length more = q.1 in omega arith),
+              (
+                record {
+                  next = cs';
+                  effect = Silent;
+                },
+                c,
+                tt,
+                option_to_list (event_of pick move.effect) ++ events,
+                refl,
+                q.2,
+              ),
+            ),
             r.2,
           )
 
-pub record Followed (bank : Bank) (program : List Process) (cs : State CodeProcess) (picks : List Pick) (events : List Event) (end : State SourceProcess) : Type 0 where
+pub record Followed (bank : Bank) (program : List Process) (cs : State CodeProcess) (picks : List Pick) (events : List
+    Event) (end : State SourceProcess) : Type 0 where
   pub code_picks : List Pick
   pub last : State CodeProcess
   pub makes : Makes bank (code_step (generated program)) cs code_picks events last
@@ -117,7 +137,9 @@ followed bank program cs ss (pick ∷ picks) events end h m =
     go (chain_at program ss pick m.0 m.1 cs (at_process program cs.processes ss.processes h.processes pick.process))
     (λ cs' alike. followed bank program cs' m.0.next picks m.3 end alike m.5)
   where
-    go : (k : ℕ) × ChainAt program cs pick k × (k ≤ longest (generated program)) → ((cs' : State CodeProcess) → StatesAlike program cs' m.0.next → Followed bank program cs' picks m.3 end) → Followed bank program cs (pick ∷ picks) events end
+    go : (k : ℕ) × ChainAt program cs pick k × (k ≤ longest (generated program)) → ((cs' : State CodeProcess) →
+        StatesAlike program cs' m.0.next → Followed bank program cs' picks m.3 end) → Followed bank program cs (pick ∷
+        picks) events end
     go ch rest =
         let c = catch_up program ss pick m.0 m.1 bank ch.0 cs h ch.1 m.2 in
         let r = rest c.0 c.2 in
@@ -125,7 +147,14 @@ followed bank program cs ss (pick ∷ picks) events end h m =
         let n : length l.0 ≡ ch.0 + 1 + length r.code_picks = l.1 in
         let k : ch.0 ≤ longest (generated program) = ch.2 in
         let s : length r.code_picks ≤ length picks * (longest (generated program) + 1) = r.short in
-        record { code_picks = l.0; last = r.last; makes = subst (λ es. Makes bank (code_step (generated program)) cs l.0 es r.last) (sym m.4) l.2; alike = r.alike; short = omega arith }
+        record {
+          code_picks = l.0;
+          last = r.last;
+          makes = subst (λ es. Makes bank (code_step (generated program)) cs
+              l.0 es r.last) (sym m.4) l.2;
+          alike = r.alike;
+          short = omega arith;
+        }
 
 -- what the source can do in n picks, the code can do in n times its length plus one
 pub source_to_code : (bank : Bank) (program : List Process) → AllWellNumbered program

@@ -75,7 +75,8 @@ opened ss pick move e = at (slice_get ss.processes pick.process) refl e
     at None q m = cc
     at (Some sp) q m = run sp q sp.run refl m
 
-module _ (program : List Process) (cs : State CodeProcess) (ss : State SourceProcess) (h : StatesAlike program cs ss) (pick : Pick) (move : Move SourceProcess) (o : Opened ss pick move) where
+module _ (program : List Process) (cs : State CodeProcess) (ss : State SourceProcess) (h : StatesAlike program cs ss)
+    (pick : Pick) (move : Move SourceProcess) (o : Opened ss pick move) where
   opened_frees : AtProcess program cs.processes ss.processes pick.process
       → RunFrees o.root o.effect o.after.run
   opened_frees (absent c s) = let w : None ≡ Some o.before = sym s ∙ o.here in cc

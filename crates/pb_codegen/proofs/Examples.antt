@@ -25,7 +25,8 @@ amounts r k = record { resource = r; amount = k } ∷ []
 abbrev mutual
   play : {P : Type 0} → Stepper P → List Pick → State P → Option (List Event)
   play step [] s = Some []
-  play step (pick ∷ picks) s = option_and_then (λ move. option_map (λ later. option_to_list (event_of pick move.effect) ++ later) (play step picks move.next)) (move_of step s pick)
+  play step (pick ∷ picks) s = option_and_then (λ move. option_map (λ later. option_to_list (event_of pick
+      move.effect) ++ later) (play step picks move.next)) (move_of step s pick)
 
 abbrev of_arms : List (ℕ × ℕ) → List Pick
 of_arms [] = []
@@ -35,7 +36,11 @@ abbrev in_source : Process → List (ℕ × ℕ) → Option (List Event)
 in_source p spans = play source_step (of_arms spans) (opening (record { capital = 9 ∷ []; claims = [] }) (source_process p ∷ []))
 
 abbrev in_code : Process → List (ℕ × ℕ) → Option (List Event)
-in_code p spans = play (code_step (process_code p ∷ [])) (of_arms spans) (opening (record { capital = 9 ∷ []; claims = [] }) (code_process (process_code p) ∷ []))
+in_code p spans = play (code_step (process_code p ∷ [])) (of_arms spans) (opening (record {
+  capital = 9 ∷ [];
+  claims =
+      [];
+}) (code_process (process_code p) ∷ []))
 
 abbrev by_arm : ℕ → Pick
 by_arm a = record { process = 0; arm = a }
@@ -45,7 +50,12 @@ abbrev bump : Stmt
 bump = Set 1 0 (Binary Add (Variable 0) (Number (pos 1)))
 
 abbrev two_bumps : Process
-two_bumps = record { name = codes "p"; integers = codes "x" ∷ []; body = Then (Parbegin 1 1 (AndArm (Then bump Skip) (AndArm (Then bump Skip) NoArm))) (Then (Write 1 (Variable 0)) Skip) }
+two_bumps = record {
+  name = codes "p";
+  integers = codes "x" ∷ [];
+  body = Then (Parbegin 1 1 (AndArm (Then bump Skip)
+      (AndArm (Then bump Skip) NoArm))) (Then (Write 1 (Variable 0)) Skip);
+}
 
 two_bumps_numbered : IsWellNumbered two_bumps
 two_bumps_numbered = ((refl, ((tt, tt), ((tt, tt), tt))), (tt, tt))
@@ -88,7 +98,8 @@ thrice_code = refl
 
 thrice_run : in_code thrice
     ((0, 5) ∷ (1, 3) ∷ (2, 5) ∷ (0, 11) ∷ (1, 3) ∷ (2, 5) ∷ (0, 11) ∷ (1, 3) ∷ (2, 5) ∷ (0, 11) ∷ [])
-    ≡ Some (Printed (by_arm 1) (pos 0) ∷ Printed (by_arm 2) (pos 10) ∷ Printed (by_arm 1) (pos 1) ∷ Printed (by_arm 2) (pos 11) ∷ Printed (by_arm 1) (pos 2) ∷ Printed (by_arm 2) (pos 12) ∷ Finished 0 ∷ [])
+    ≡ Some (Printed (by_arm 1) (pos 0) ∷ Printed (by_arm 2) (pos 10) ∷ Printed (by_arm 1) (pos 1) ∷ Printed (by_arm 2)
+    (pos 11) ∷ Printed (by_arm 1) (pos 2) ∷ Printed (by_arm 2) (pos 12) ∷ Finished 0 ∷ [])
 unfolding apply
 thrice_run = refl
 
@@ -98,19 +109,23 @@ nested_holds = record {
   name = codes "p";
   integers = [];
   body =
-      Then (HoldDo 1 (amounts 0 1) (Then (Parbegin 1 1 (AndArm (Then (HoldDo 1 (amounts 0 1) Skip) Skip) (AndArm (Then (HoldDo 1 (amounts 0 2) Skip) Skip) NoArm))) Skip)) Skip;
+      Then (HoldDo 1 (amounts 0 1) (Then (Parbegin 1 1 (AndArm (Then (HoldDo 1 (amounts 0 1) Skip) Skip) (AndArm (Then
+      (HoldDo 1 (amounts 0 2) Skip) Skip) NoArm))) Skip)) Skip;
 }
 
 nested_holds_code : process_code nested_holds ≡ record {
   integers = 0;
   entries = 0 ∷ 5 ∷ 8 ∷ [];
   instrs =
-      Take (amounts 0 1) ∷ Fork 1 2 ∷ Join 1 2 ∷ Give (amounts 0 1) ∷ End ∷ Take (amounts 0 1) ∷ Give (amounts 0 1) ∷ End ∷ Take (amounts 0 2) ∷ Give (amounts 0 2) ∷ End ∷ [];
+      Take (amounts 0 1) ∷ Fork 1 2 ∷ Join 1 2 ∷ Give (amounts 0 1) ∷ End ∷ Take (amounts 0 1) ∷ Give (amounts 0 1) ∷
+      End ∷ Take (amounts 0 2) ∷ Give (amounts 0 2) ∷ End ∷ [];
 }
 nested_holds_code = refl
 
 nested_holds_run : in_source nested_holds ((0, 2) ∷ (1, 1) ∷ (2, 1) ∷ (1, 2) ∷ (2, 2) ∷ (0, 3) ∷ [])
-    ≡ Some (Granted (by_arm 0) (amounts 0 1) ∷ Granted (by_arm 1) (amounts 0 1) ∷ Granted (by_arm 2) (amounts 0 2) ∷ Returned (by_arm 1) (amounts 0 1) ∷ Returned (by_arm 2) (amounts 0 2) ∷ Returned (by_arm 0) (amounts 0 1) ∷ Finished 0 ∷ [])
+    ≡ Some (Granted (by_arm 0) (amounts 0 1) ∷ Granted (by_arm 1) (amounts 0 1) ∷ Granted (by_arm 2) (amounts 0 2) ∷
+    Returned (by_arm 1) (amounts 0 1) ∷ Returned (by_arm 2) (amounts 0 2) ∷ Returned (by_arm 0) (amounts 0 1) ∷
+    Finished 0 ∷ [])
 nested_holds_run = refl
 
 -- the parent is not picked before its arms have ended

@@ -51,7 +51,9 @@ pub data Progress (vars : List ℤ) (e : Expr) (code : List Instr) (stack : List
   finished : (v : ℤ) → e ≡ Number v → code ≡ [] → stack ≡ v ∷ [] → Progress vars e code stack
   pushes : (v : ℤ) (rest : List Instr) → code ≡ Push v ∷ rest → Left e rest (v ∷ stack)
       → Progress vars e code stack
-  works : (i : Instr) (rest : List Instr) (e' : Expr) (stack' : List ℤ) → code ≡ i ∷ rest → is_skip i ≡ false → step_expr vars e ≡ Becomes e' → ((p : ℕ) (below : List ℤ) → act vars i p (stack ++ below) ≡ Some (Runs vars (Live (p + 1) (stack' ++ below)) Silent)) → Left e' rest stack' → Progress vars e code stack
+  works : (i : Instr) (rest : List Instr) (e' : Expr) (stack' : List ℤ) → code ≡ i ∷ rest → is_skip i ≡ false →
+      step_expr vars e ≡ Becomes e' → ((p : ℕ) (below : List ℤ) → act vars i p (stack ++ below) ≡ Some (Runs vars
+      (Live (p + 1) (stack' ++ below)) Silent)) → Left e' rest stack' → Progress vars e code stack
   traps : (i : Instr) (rest : List Instr) (kind : FaultKind) → code ≡ i ∷ rest → is_skip i ≡ false
       → step_expr vars e ≡ Fails kind
       → ((p : ℕ) (below : List ℤ) → act vars i p (stack ++ below) ≡ Some (Traps kind))
@@ -104,7 +106,9 @@ right_fails vars op v (Binary o c d) kind h = ap (inside (Binary op (Number v)))
 -- ---- progress
 
 -- the operator itself, on operands that are numbers
-operates : (vars : List ℤ) (e : Expr) (i : Instr) (stack : List ℤ) (r : Result ℤ FaultKind) → is_skip i ≡ false → step_expr vars e ≡ from_result r → ((p : ℕ) (below : List ℤ) → act vars i p (stack ++ below) ≡ Some (with_result r (λ v. Runs vars (Live (p + 1) (v ∷ below)) Silent))) → Progress vars e (i ∷ []) stack
+operates : (vars : List ℤ) (e : Expr) (i : Instr) (stack : List ℤ) (r : Result ℤ FaultKind) → is_skip i ≡ false →
+    step_expr vars e ≡ from_result r → ((p : ℕ) (below : List ℤ) → act vars i p (stack ++ below) ≡ Some (with_result r
+    (λ v. Runs vars (Live (p + 1) (v ∷ below)) Silent))) → Progress vars e (i ∷ []) stack
 operates vars e i stack (Ok v) skip step acts = works i [] (Number v) (v ∷ []) refl skip step acts (pushed v)
 operates vars e i stack (Err kind) skip step acts = traps i [] kind refl skip step acts
 
@@ -118,7 +122,8 @@ under_progress vars op a code stack (finished v e c s) =
 under_progress vars op a code stack (pushes v rest c l) =
     pushes v (rest ++ Compute1 op ∷ []) (ap (λ c. c ++ Compute1 op ∷ []) c) (under op a rest (v ∷ stack) l)
 under_progress vars op a code stack (works i rest a' stack' c skip step acts l) =
-    works i (rest ++ Compute1 op ∷ []) (Unary op a') stack' (ap (λ c. c ++ Compute1 op ∷ []) c) skip (unary_becomes vars op a a' step) acts (under op a' rest stack' l)
+    works i (rest ++ Compute1 op ∷ []) (Unary op a') stack' (ap (λ c. c ++ Compute1 op ∷ []) c) skip (unary_becomes
+    vars op a a' step) acts (under op a' rest stack' l)
 under_progress vars op a code stack (traps i rest kind c skip step acts) =
     traps i (rest ++ Compute1 op ∷ []) kind (ap (λ c. c ++ Compute1 op ∷ []) c) skip (unary_fails vars op a kind step) acts
 
@@ -134,7 +139,8 @@ right_progress vars op v b code stack (pushes w rest c l) =
     pushes w (rest ++ Compute2 op ∷ []) (ap (λ c. c ++ Compute2 op ∷ []) c) (on_right op v b rest (w ∷ stack) l)
 right_progress vars op v b code stack (works i rest b' stack' c skip step acts l) =
     works i (rest ++ Compute2 op ∷ []) (Binary op (Number v) b') (stack' ++ v ∷ []) (ap (λ c. c ++ Compute2 op ∷ []) c) skip (right_becomes vars op v b b' step)
-    (λ p below. ap (act vars i p) (append_assoc stack (v ∷ []) below) ∙ acts p (v ∷ below) ∙ ap (λ s. Some (Runs vars (Live (p + 1) s) Silent)) (sym (append_assoc stack' (v ∷ []) below)))
+    (λ p below. ap (act vars i p) (append_assoc stack (v ∷ []) below) ∙ acts p (v ∷ below) ∙ ap (λ s. Some (Runs vars
+    (Live (p + 1) s) Silent)) (sym (append_assoc stack' (v ∷ []) below)))
     (on_right op v b' rest stack' l)
 right_progress vars op v b code stack (traps i rest kind c skip step acts) =
     traps i (rest ++ Compute2 op ∷ []) kind (ap (λ c. c ++ Compute2 op ∷ []) c) skip (right_fails vars op v b kind step)

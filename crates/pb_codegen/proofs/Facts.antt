@@ -68,7 +68,8 @@ turns notes (Join first count) p d hs f =
     (d, hs, omega arith, omega arith, λ l. refl, λ next e. to notes d hs (p + 1) next f e)
 turns notes End p d hs f = (d, hs, omega arith, omega arith, λ l. refl, λ next e. elim e [ ])
 
-module _ (code : ProcessCode) (notes : Notes) (noted_code : IsNoted code notes) (shallow : (p d : ℕ) (hs : List Bundle) → Leads notes p d hs → (d ≤ 256) × (length hs ≤ 256)) where
+module _ (code : ProcessCode) (notes : Notes) (noted_code : IsNoted code notes) (shallow : (p d : ℕ) (hs : List
+    Bundle) → Leads notes p d hs → (d ≤ 256) × (length hs ≤ 256)) where
   abbrev pub depth : ℕ → ℕ
   depth p = depth_of (notes p)
 

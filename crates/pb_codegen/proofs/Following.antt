@@ -70,7 +70,8 @@ lines_agree program cs ss h p a place stack process cp sp in_program in_code in_
         let e2' : cp' ≡ cp = cc in
         let e3 : Some sp' ≡ Some sp = sym s ∙ in_source in
         let e3' : sp' ≡ sp = cc in
-        let alike' : Alike (listing_of process) cp sp = subst (λ x. Alike (listing_of x) cp sp) e1' (subst (λ x. Alike (listing_of process') x sp) e2' (subst (λ x. Alike (listing_of process') cp' x) e3' alike)) in
+        let alike' : Alike (listing_of process) cp sp = subst (λ x. Alike (listing_of x) cp sp) e1' (subst (λ x. Alike
+        (listing_of process') x sp) e2' (subst (λ x. Alike (listing_of process') cp' x) e3' alike)) in
         run_line (listing_of process) cp a place stack live sp.run alike'.run
 
 -- ---- finished together
@@ -80,10 +81,22 @@ module _ (code : Listing) (cp : CodeProcess) where
       → ((cp.faulted ≡ true) ⊎ (thread cp.threads 0 ≡ Over) → (run ≡ None) ⊎ (run ≡ Some Ended)) ×
       ((run ≡ None) ⊎ (run ≡ Some Ended) → (cp.faulted ≡ true) ⊎ (thread cp.threads 0 ≡ Over))
   run_over None h = (λ o. inl refl, λ o. inl h.0)
-  run_over (Some (Doing items)) h =
-      (elim [ inl f ↦ (let w : false ≡ true = sym h.0 ∙ f in cc) | inr t ↦ (let w : Over ≡ Live h.2.0 h.2.1 = sym t ∙ h.2.2 in cc) ], elim [ inl n ↦ cc | inr n ↦ cc ])
-  run_over (Some (Waiting line first arms rest)) h =
-      (elim [ inl f ↦ (let w : false ≡ true = sym h.0 ∙ f in cc) | inr t ↦ (let w : Over ≡ Live h.2.0 [] = sym t ∙ h.2.1 in cc) ], elim [ inl n ↦ cc | inr n ↦ cc ])
+  run_over (Some (Doing items)) h = (
+    elim [
+      | inl f ↦ (let w : false ≡ true = sym h.0 ∙ f in cc)
+      | inr t ↦ (let w : Over ≡ Live h.2.0 h.2.1 = sym t ∙
+          h.2.2 in cc)
+    ],
+    elim [ inl n ↦ cc | inr n ↦ cc ],
+  )
+  run_over (Some (Waiting line first arms rest)) h = (
+    elim [
+      | inl f ↦ (let w : false ≡ true = sym h.0 ∙ f in cc)
+      | inr t ↦ (let w : Over ≡ Live h.2.0 [] = sym t ∙
+          h.2.1 in cc)
+    ],
+    elim [ inl n ↦ cc | inr n ↦ cc ],
+  )
   run_over (Some Ended) h = (λ o. inr refl, λ o. inr h.2.0)
 
 finished_together : (program : List Process) (cs : State CodeProcess) (ss : State SourceProcess)

@@ -22,8 +22,16 @@ owns_item lo hi m (If line e a b) l n u =
 owns_item lo hi m (While line e body) l n u = (m, l, n, u)
 owns_item lo hi m (HoldDo line bundle body) l n u = (m, l, n, u)
 owns_item lo hi m (Parbegin line first arms) l n u =
-    let e : m ≡ first = sym n.0 in
-    (omega arith, subst (λ k. AreNumbered (k + count arms) arms) e n.1, omega (arith, length-append (arms_list arms) (arms_in_arms arms), length-arms_list arms))
+    let e : m ≡ first = sym n.0 in (
+      omega arith,
+      subst (λ k. AreNumbered (k + count arms) arms) e n.1,
+      omega (
+        arith,
+        length-append (arms_list arms)
+            (arms_in_arms arms),
+        length-arms_list arms,
+      ),
+    )
 
 owns_items : (lo hi m : ℕ) (block : Block) (rest : List Item) → lo ≤ m → IsNumbered m block
     → m + length (arms_in block) ≤ hi → Owns lo hi rest → Owns lo hi (items_of block ++ rest)
@@ -72,7 +80,8 @@ step_keeps lo hi vars (Print line e ∷ rest) o =
 step_keeps lo hi vars (Choice line e a b ∷ rest) o =
     evaluate_keeps lo hi (step_expr vars e) _ _ (λ e'. o) (λ v. choice_owns lo hi (is_zero v) a b rest o.0.0 o.0.1 o.1)
 step_keeps lo hi vars (Loop line test e body ∷ rest) o =
-    evaluate_keeps lo hi (step_expr vars e) _ _ (λ e'. o) (λ v. loop_owns lo hi (is_zero v) rest _ o.1 (owns_block lo hi body (Loop line test test body ∷ rest) o.0 o))
+    evaluate_keeps lo hi (step_expr vars e) _ _ (λ e'. o) (λ v. loop_owns lo hi (is_zero v) rest _ o.1 (owns_block lo
+    hi body (Loop line test test body ∷ rest) o.0 o))
 step_keeps lo hi vars (Hold line bundle body ∷ rest) o =
     owns_block lo hi body (GiveBack line bundle ∷ rest) o.0 (tt, o.1)
 step_keeps lo hi vars (GiveBack line bundle ∷ rest) o = o.1

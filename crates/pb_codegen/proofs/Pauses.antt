@@ -72,8 +72,10 @@ item_pause code item p s after next (assign line x e is p' s' after' next' left 
     lead code is (Store x) p has (left_no_jump e is s left) (λ q. refl)
 item_pause code item p s after next (print line e is p' s' after' next' left has lines len) =
     lead code is PrintTop p has (left_no_jump e is s left) (λ q. refl)
-item_pause code item p s after next (choice line e a b is p' s' then other after' next' left has lines len hasa linesa hasb linesb lenb pa pb) = lead code is (JumpIfZero other) p has (left_no_jump e is s left) (λ q. refl)
-item_pause code item p s after next (loop line test e body is p' s' place after' next' left has lines len hasw linesw lenw placed) = lead code is (JumpIfZero after) p has (left_no_jump e is s left) (λ q. refl)
+item_pause code item p s after next (choice line e a b is p' s' then other after' next' left has lines len hasa linesa
+    hasb linesb lenb pa pb) = lead code is (JumpIfZero other) p has (left_no_jump e is s left) (λ q. refl)
+item_pause code item p s after next (loop line test e body is p' s' place after' next' left has lines len hasw linesw
+    lenw placed) = lead code is (JumpIfZero after) p has (left_no_jump e is s left) (λ q. refl)
 item_pause code item p s after next (hold line bundle body p' after' next' has lines len placed) =
     stop_at code p (Take bundle) has.0 refl
 item_pause code item p s after next (give line bundle p' after' next' has line_is len) =
@@ -103,7 +105,8 @@ module _ (code : Listing) (cp : CodeProcess) (a : ℕ) where
   found_chain : (vars : List ℤ) (root found : Arm) (low high : ℕ) (r : SourceProcess × Effect)
       → find a 0 root ≡ Some found → step_run vars a root ≡ Some r → Shows code cp.threads a low high found
       → (k : ℕ) × Chain code.code cp a k
-  found_chain vars root (Doing items) low high r f steps h = from_pause h.0 h.1 h.2 (jumps_pause code (first_line items) h.3.jumps h.0 h.3.first h.3.reaches (at_pause code items h.3.first h.1 h.3.stands))
+  found_chain vars root (Doing items) low high r f steps h = from_pause h.0 h.1 h.2 (jumps_pause code (first_line
+      items) h.3.jumps h.0 h.3.first h.3.reaches (at_pause code items h.3.first h.1 h.3.stands))
   found_chain vars root (Waiting line first arms rest) low high r f steps h =
       from_pause h.0 [] h.1 (stop_at code h.0 _ h.2 refl)
   found_chain vars root Ended low high r f steps h =
@@ -134,7 +137,11 @@ module _ (code : Listing) (cp : CodeProcess) (a : ℕ) where
           (locate code cp.threads 0 1 (length cp.threads) root a h.2 (omega arith) (mine u (cases_lt 0 a)))
       go (inr u) =
           let some : 1 ≤ length cp.threads = h.1 in
-          elim (nowhere vars root r (outside code cp.threads 0 1 (length cp.threads) root a h.2 (elim [ inl m ↦ (omega arith) | inr m ↦ (omega arith) ])).0 steps) [ ]
+          elim (nowhere vars root r (outside code cp.threads 0 1 (length cp.threads) root a h.2 (elim [
+            | inl m ↦ (omega
+                arith)
+            | inr m ↦ (omega arith)
+          ])).0 steps) [ ]
 
   pub chain : (sp : SourceProcess) (r : SourceProcess × Effect) → Alike code cp sp
       → option_and_then (step_run sp.vars a) sp.run ≡ Some r → (k : ℕ) × Chain code.code cp a k

@@ -31,11 +31,13 @@ use Rattle.pb_codegen.proofs.Owning.{owns_block, keeps}
 pub arm_stands : (code : Listing) (p : ℕ) (arm : Block) → Has code p (arm_code p arm)
     → Lines code p (block_lines arm None ++ None ∷ []) → Placed code arm → StandsFrom code (items_of arm) p []
 arm_stands code p arm h ls placed =
-    let line : line_at code (p + length (block_code p arm)) ≡ None = subst (λ k. line_at code (p + k) ≡ None) (length-block_lines p arm None) (lines_back code.lines p (block_lines arm None) (None ∷ []) ls).0 in
+    let line : line_at code (p + length (block_code p arm)) ≡ None = subst (λ k. line_at code (p + k) ≡ None)
+    (length-block_lines p arm None) (lines_back code.lines p (block_lines arm None) (None ∷ []) ls).0 in
     let at : slice_get code.instrs (p + length (block_code p arm)) ≡ Some End =
     (has_back code.instrs p (block_code p arm) (End ∷ []) h).0 in
     subst (λ items. StandsFrom code items p []) (append-nil (items_of arm))
-    (block_stands code arm p [] (has_front code.instrs p (block_code p arm) (End ∷ []) h) (lines_front code.lines p (block_lines arm None) (None ∷ []) ls) placed
+    (block_stands code arm p [] (has_front code.instrs p (block_code p arm) (End ∷ []) h) (lines_front code.lines p
+    (block_lines arm None) (None ∷ []) ls) placed
     (record { jumps = 0; first = _; reaches = refl; stands = at_end _ at line }))
 
 begin_shows : (code : Listing) (threads : List Thread) (n lo hi : ℕ) (arms : Arms) → ArmsPlaced code n arms
@@ -141,7 +143,11 @@ module _ (code : Listing) (cp : CodeProcess) (a : ℕ) where
     }
 
     -- arm a alone has a new thread
-    one_new : (vars : List ℤ) (t : Thread) (faulted : Bool) (new : Arm) (l : Located code cp.threads 0 1 (length cp.threads) root a) → faulted ≡ false → a < length cp.threads → AreIdle cp.threads l.low l.high → (AreIdle (set cp.threads a t) l.low l.high → thread (set cp.threads a t) a ≡ t → Shows code (set cp.threads a t) a l.low l.high new) → Alike code (record { vars = vars; threads = set cp.threads a t; faulted = faulted }) (record { vars = vars; run = Some (put a new 0 root) })
+    one_new : (vars : List ℤ) (t : Thread) (faulted : Bool) (new : Arm) (l : Located code cp.threads 0 1 (length
+        cp.threads) root a) → faulted ≡ false → a < length cp.threads → AreIdle cp.threads l.low l.high → (AreIdle
+        (set cp.threads a t) l.low l.high → thread (set cp.threads a t) a ≡ t → Shows code (set cp.threads a t) a
+        l.low l.high new) → Alike code (record { vars = vars; threads = set cp.threads a t; faulted = faulted })
+        (record { vars = vars; run = Some (put a new 0 root) })
     one_new vars t faulted new l f within idle shows =
         let less : a < l.low = l.before in
         let other : (b : ℕ) → (b ≡ a → ⊥) → thread (set cp.threads a t) b ≡ thread cp.threads b =
@@ -150,7 +156,18 @@ module _ (code : Listing) (cp : CodeProcess) (a : ℕ) where
         (shows (λ b lo u. other b (λ e. omega arith) ∙ idle b lo u) (get_or-set_same cp.threads a t Idle within))
 
     module _ (l : Located code cp.threads 0 1 (length cp.threads) root a) (alive : cp.faulted ≡ false) (within : a < length cp.threads) where
-      forked : (line first : ℕ) (arms : Arms) (rest : List Item) (p : ℕ) → AreIdle cp.threads l.low l.high → Owns l.low l.high (Parallel line first arms ∷ rest) → slice_get code.instrs p ≡ Some (Join first (count arms)) → line_at code p ≡ Some line → StandsFrom code rest (p + 1) [] → ArmsPlaced code first arms → Alike code (record { vars = cp.vars; threads = launch code.entries (set cp.threads a (Live p [])) first (count arms); faulted = cp.faulted }) (record { vars = cp.vars; run = Some (put a (Waiting line first (begin arms) rest) 0 root) })
+      forked : (line first : ℕ) (arms : Arms) (rest : List Item) (p : ℕ) → AreIdle cp.threads l.low l.high → Owns
+          l.low l.high (Parallel line first arms ∷ rest) → slice_get code.instrs p ≡ Some (Join first (count arms)) →
+          line_at code p ≡ Some line → StandsFrom code rest (p + 1) [] → ArmsPlaced code first arms → Alike code
+          (record {
+            vars = cp.vars;
+            threads = launch code.entries (set cp.threads a (Live p [])) first (count arms);
+            faulted = cp.faulted;
+          }) (record {
+            vars = cp.vars;
+            run = Some (put a (Waiting line first (begin arms) rest) 0
+                root);
+          })
       forked line first arms rest p idle owns joins line_is stands placed =
           let low_first : l.low ≤ first = owns.0.0 in
           let numbered : AreNumbered (first + count arms) arms = owns.0.1 in
@@ -163,7 +180,8 @@ module _ (code : Listing) (cp : CodeProcess) (a : ℕ) where
           let other : (b : ℕ) → (b < first) ⊎ (first + count arms ≤ b) → (b ≡ a → ⊥) → thread threads' b ≡ thread cp.threads b =
           λ b o ne. launch_out code.entries mid first (count arms) b o ∙ get_or-set_other cp.threads a b (Live p []) Idle ne in
           let e : count arms ≡ size (begin arms) = sym (size_begin arms) in
-          settled cp.vars threads' cp.faulted (Waiting line first (begin arms) rest) l alive (omega arith) (length-launch code.entries mid first (count arms) ∙ len)
+          settled cp.vars threads' cp.faulted (Waiting line first (begin arms) rest) l alive (omega arith)
+          (length-launch code.entries mid first (count arms) ∙ len)
           (λ b out. other b (apart b first (count arms) out (omega arith) (omega arith)) (λ q. out (inl q))) (
             p,
             launch_out code.entries mid first (count arms) a (inl (omega arith)) ∙ get_or-set_same cp.threads a (Live p []) Idle within,
@@ -181,9 +199,20 @@ module _ (code : Listing) (cp : CodeProcess) (a : ℕ) where
         where
           apart : (b first k : ℕ) → (Mine a l.low l.high b → ⊥) → l.low ≤ first → first + k ≤ l.high
               → (b < first) ⊎ (first + k ≤ b)
-          apart b first k out lo hi = ⊎_elim (λ q. inl q) (λ q. ⊎_elim (λ u. absurd (out (inr (omega arith)))) (λ u. inr u) (cases_lt b (first + k))) (cases_lt b first)
+          apart b first k out lo hi = ⊎_elim (λ q. inl q) (λ q. ⊎_elim (λ u. absurd (out (inr (omega arith)))) (λ u.
+              inr u) (cases_lt b (first + k))) (cases_lt b first)
 
-      joined : (line first : ℕ) (arms : Running) (rest : List Item) (h : Shows code cp.threads a l.low l.high (Waiting line first arms rest)) → all_ended arms ≡ true → Alike code (record { vars = cp.vars; threads = dismiss (set cp.threads a (Live (h.0 + 1) [])) first (size arms); faulted = cp.faulted }) (record { vars = cp.vars; run = Some (put a (Doing rest) 0 root) })
+      joined : (line first : ℕ) (arms : Running) (rest : List Item) (h : Shows code cp.threads a l.low l.high (Waiting
+          line first arms rest)) → all_ended arms ≡ true → Alike code (record {
+            vars = cp.vars;
+            threads = dismiss (set
+                cp.threads a (Live (h.0 + 1) [])) first (size arms);
+            faulted = cp.faulted;
+          }) (record {
+            vars = cp.vars;
+            run =
+                Some (put a (Doing rest) 0 root);
+          })
       joined line first arms rest h ended =
           let t = Live (h.0 + 1) [] in
           let low_first : l.low ≤ first = h.5 in
@@ -205,28 +234,43 @@ module _ (code : Listing) (cp : CodeProcess) (a : ℕ) where
             omega arith,
             λ b lo u. ⊎_elim (λ q. other b (inl q) (λ z. omega arith) ∙ h.6 b lo q)
                 (λ q. ⊎_elim (λ r. dismiss_in mid first (size arms) b q r (omega arith))
-                (λ r. other b (inr r) (λ z. omega arith) ∙ ended_idle code cp.threads first (first + size arms) l.high arms h.7 ended b r u) (cases_lt b (first + size arms)))
+                (λ r. other b (inr r) (λ z. omega arith) ∙ ended_idle code cp.threads first (first + size arms) l.high
+                arms h.7 ended b r u) (cases_lt b (first + size arms)))
                 (cases_lt b first),
           )
         where
           apart : (b first k : ℕ) → (Mine a l.low l.high b → ⊥) → l.low ≤ first → first + k ≤ l.high
               → (b < first) ⊎ (first + k ≤ b)
-          apart b first k out lo hi = ⊎_elim (λ q. inl q) (λ q. ⊎_elim (λ u. absurd (out (inr (omega arith)))) (λ u. inr u) (cases_lt b (first + k))) (cases_lt b first)
+          apart b first k out lo hi = ⊎_elim (λ q. inl q) (λ q. ⊎_elim (λ u. absurd (out (inr (omega arith)))) (λ u.
+              inr u) (cases_lt b (first + k))) (cases_lt b first)
 
       doing : (items : List Item) → find a 0 root ≡ Some (Doing items) → put a (Doing items) 0 root ≡ root
           → (h : Shows code cp.threads a l.low l.high (Doing items)) → Follows code cp.vars items h.0 h.1
           → StepsAlike code cp (record { vars = cp.vars; run = Some root }) a
       doing items f same h (skips i p' s' at skips' after acts stands) =
           let t = Live p' s' in
-          skip (record { vars = cp.vars; threads = set cp.threads a t; faulted = cp.faulted }) (is_skipping h.0 h.1 i true h.2 at skips') (code_steps h.0 h.1 i _ h.2 at acts)
-          (subst (λ r. Alike code (record { vars = cp.vars; threads = set cp.threads a t; faulted = cp.faulted }) (record { vars = cp.vars; run = Some r })) same
+          skip (record { vars = cp.vars; threads = set cp.threads a t; faulted = cp.faulted }) (is_skipping h.0 h.1 i
+          true h.2 at skips') (code_steps h.0 h.1 i _ h.2 at acts)
+          (subst (λ r. Alike code (record { vars = cp.vars; threads = set cp.threads a t; faulted = cp.faulted })
+          (record { vars = cp.vars; run = Some r })) same
           (one_new cp.vars t cp.faulted (Doing items) l alive within h.6 (λ idle e. (p', s', e, stands, h.4, h.5, idle))))
-          (λ k. chain_on code.code cp (record { vars = cp.vars; threads = set cp.threads a t; faulted = cp.faulted }) a k h.0 p' h.1 s' h.2 (ap (option_and_then (λ i. after_skip i h.0)) at ∙ after) (get_or-set_same cp.threads a t Idle within))
+          (λ k. chain_on code.code cp (record { vars = cp.vars; threads = set cp.threads a t; faulted = cp.faulted })
+          a k h.0 p' h.1 s' h.2 (ap (option_and_then (λ i. after_skip i h.0)) at ∙ after) (get_or-set_same
+          cp.threads a t Idle within))
       doing items f same h (goes i vars' items' effect p' s' at no_skip acts steps stands) =
           both _ _ effect (is_skipping h.0 h.1 i false h.2 at no_skip) (code_steps h.0 h.1 i _ h.2 at acts) (source_steps (Doing items) _ f (ap Some steps))
-          (one_new vars' (Live p' s') cp.faulted (Doing items') l alive within h.6 (λ idle e. (p', s', e, stands, keeps l.low l.high cp.vars vars' items items' effect h.4 steps, h.5, idle)))
+          (one_new vars' (Live p' s') cp.faulted (Doing items') l alive within h.6 (λ idle e. (
+            p',
+            s',
+            e,
+            stands,
+            keeps l.low l.high cp.vars vars' items items' effect h.4 steps,
+            h.5,
+            idle,
+          )))
       doing items f same h (breaks i kind at no_skip acts steps) =
-          both _ _ (Faults kind) (is_skipping h.0 h.1 i false h.2 at no_skip) (code_steps h.0 h.1 i _ h.2 at acts) (source_steps (Doing items) _ f (ap Some steps))
+          both _ _ (Faults kind) (is_skipping h.0 h.1 i false h.2 at no_skip) (code_steps h.0 h.1 i _ h.2 at acts)
+          (source_steps (Doing items) _ f (ap Some steps))
           (record { vars = refl; run = (refl, λ b. get_or-map (λ (t : Thread). Idle) cp.threads b Idle) })
       doing items f same h (forks i line first arms rest p' is_parallel at no_skip acts steps joins line_is stands placed) =
           both _ _ Silent (is_skipping h.0 h.1 i false h.2 at no_skip) (code_steps h.0 h.1 i _ h.2 at acts) (source_steps (Doing items) _ f (ap Some steps))
@@ -241,17 +285,35 @@ module _ (code : Listing) (cp : CodeProcess) (a : ℕ) where
           → StepsAlike code cp (record { vars = cp.vars; run = Some root }) a
       waiting line first arms rest true e f h =
           let over = all_over_ended code cp.threads first (first + size arms) l.high arms h.7 ∙ e in
-          let joins : Option (CodeProcess × Effect) = Some (record { vars = cp.vars; threads = dismiss (set cp.threads a (Live (h.0 + 1) [])) first (size arms); faulted = cp.faulted }, Silent) in
+          let joins : Option (CodeProcess × Effect) = Some (
+            record {
+              vars = cp.vars;
+              threads = dismiss (set cp.threads
+                  a (Live (h.0 + 1) [])) first (size arms);
+              faulted = cp.faulted;
+            },
+            Silent,
+          ) in
           both _ _ Silent (is_skipping h.0 [] (Join first (size arms)) false h.1 h.2 refl)
           (code_steps h.0 [] (Join first (size arms)) _ h.1 h.2 refl ∙ ap (λ o. cond o joins None) over)
-          (ap (option_and_then (λ arm. option_map (settle cp.vars root a) (step_arm cp.vars arm))) f ∙ ap (λ o. option_map (settle cp.vars root a) (cond o (Some (Goes cp.vars (Doing rest) Silent)) None)) e)
+          (ap (option_and_then (λ arm. option_map (settle cp.vars root a) (step_arm cp.vars arm))) f ∙ ap (λ o.
+          option_map (settle cp.vars root a) (cond o (Some (Goes cp.vars (Doing rest) Silent)) None)) e)
           (joined line first arms rest h e)
       waiting line first arms rest false e f h =
           let over = all_over_ended code cp.threads first (first + size arms) l.high arms h.7 ∙ e in
-          let joins : Option (CodeProcess × Effect) = Some (record { vars = cp.vars; threads = dismiss (set cp.threads a (Live (h.0 + 1) [])) first (size arms); faulted = cp.faulted }, Silent) in
+          let joins : Option (CodeProcess × Effect) = Some (
+            record {
+              vars = cp.vars;
+              threads = dismiss (set cp.threads
+                  a (Live (h.0 + 1) [])) first (size arms);
+              faulted = cp.faulted;
+            },
+            Silent,
+          ) in
           neither
           (code_steps h.0 [] (Join first (size arms)) _ h.1 h.2 refl ∙ ap (λ o. cond o joins None) over)
-          (ap (option_and_then (λ arm. option_map (settle cp.vars root a) (step_arm cp.vars arm))) f ∙ ap (λ o. option_map (settle cp.vars root a) (cond o (Some (Goes cp.vars (Doing rest) Silent)) None)) e)
+          (ap (option_and_then (λ arm. option_map (settle cp.vars root a) (step_arm cp.vars arm))) f ∙ ap (λ o.
+          option_map (settle cp.vars root a) (cond o (Some (Goes cp.vars (Doing rest) Silent)) None)) e)
 
       found_alike : (found : Arm) → find a 0 root ≡ Some found → put a found 0 root ≡ root
           → Shows code cp.threads a l.low l.high found
@@ -259,11 +321,13 @@ module _ (code : Listing) (cp : CodeProcess) (a : ℕ) where
       found_alike (Doing items) f same h = doing items f same h (follows code cp.vars items h.0 h.1 h.3)
       found_alike (Waiting line first arms rest) f same h =
           waiting line first arms rest (all_ended arms) refl f h
-      found_alike Ended f same h = neither (ap (step_thread code.code cp a) h.0) (ap (option_and_then (λ arm. option_map (settle cp.vars root a) (step_arm cp.vars arm))) f)
+      found_alike Ended f same h = neither (ap (step_thread code.code cp a) h.0) (ap (option_and_then (λ arm.
+          option_map (settle cp.vars root a) (step_arm cp.vars arm))) f)
 
     not_there : find a 0 root ≡ None → thread cp.threads a ≡ Idle
         → StepsAlike code cp (record { vars = cp.vars; run = Some root }) a
-    not_there f idle = neither (ap (step_thread code.code cp a) idle) (ap (option_and_then (λ arm. option_map (settle cp.vars root a) (step_arm cp.vars arm))) f)
+    not_there f idle = neither (ap (step_thread code.code cp a) idle) (ap (option_and_then (λ arm. option_map (settle
+        cp.vars root a) (step_arm cp.vars arm))) f)
 
     root_alike : RunAlike code cp.threads cp.faulted (Some root)
         → StepsAlike code cp (record { vars = cp.vars; run = Some root }) a
@@ -280,7 +344,11 @@ module _ (code : Listing) (cp : CodeProcess) (a : ℕ) where
             (locate code cp.threads 0 1 (length cp.threads) root a h.2 (omega arith) (mine u (cases_lt 0 a)))
         go (inr u) =
             let some : 1 ≤ length cp.threads = h.1 in
-            not_there (outside code cp.threads 0 1 (length cp.threads) root a h.2 (elim [ inl m ↦ (omega arith) | inr m ↦ (omega arith) ])).0 (thread_past cp.threads a u)
+            not_there (outside code cp.threads 0 1 (length cp.threads) root a h.2 (elim [
+              | inl m ↦ (omega arith)
+              | inr
+                  m ↦ (omega arith)
+            ])).0 (thread_past cp.threads a u)
 
   run_alike : (run : Option Arm) → RunAlike code cp.threads cp.faulted run
       → StepsAlike code cp (record { vars = cp.vars; run = run }) a

@@ -67,7 +67,8 @@ at_process (process ∷ program) (cp ∷ cps) [] h p = elim h [ ]
 -- the arm that is picked skips k times, and then no more
 abbrev pub ChainAt : List Process → State CodeProcess → Pick → ℕ → Type 0
 ChainAt program cs pick k =
-    (code : ProcessCode) × (cp : CodeProcess) × (slice_get (generated program) pick.process ≡ Some code) × (slice_get cs.processes pick.process ≡ Some cp) × Chain code cp pick.arm k
+    (code : ProcessCode) × (cp : CodeProcess) × (slice_get (generated program) pick.process ≡ Some code) × (slice_get
+    cs.processes pick.process ≡ Some cp) × Chain code cp pick.arm k
 
 pub data PicksAlike (program : List Process) (cs : State CodeProcess) (ss : State SourceProcess) (pick : Pick) : Type 0 where
   not_enabled : move_of (code_step (generated program)) cs pick ≡ None → move_of source_step ss pick ≡ None
@@ -107,11 +108,17 @@ module _ (program : List Process) (cs : State CodeProcess) (ss : State SourcePro
       ∙ ap (λ o. unwrap_or (option_map (λ process. is_at_skip code process pick.arm) o) false) c
       ∙ e
 
-  from_steps : (process : Process) (cp : CodeProcess) (sp : SourceProcess) → slice_get (generated program) pick.process ≡ Some (process_code process) → slice_get cs.processes pick.process ≡ Some cp → slice_get ss.processes pick.process ≡ Some sp → ((cp' : CodeProcess) (sp' : SourceProcess) → Alike (listing_of process) cp' sp' → AllAlike program (slice_set cs.processes pick.process cp') (slice_set ss.processes pick.process sp')) → ((cp' : CodeProcess) → Alike (listing_of process) cp' sp → AllAlike program (slice_set cs.processes pick.process cp') ss.processes) → StepsAlike (listing_of process) cp sp pick.arm → PicksAlike program cs ss pick
+  from_steps : (process : Process) (cp : CodeProcess) (sp : SourceProcess) → slice_get (generated program)
+      pick.process ≡ Some (process_code process) → slice_get cs.processes pick.process ≡ Some cp → slice_get
+      ss.processes pick.process ≡ Some sp → ((cp' : CodeProcess) (sp' : SourceProcess) → Alike (listing_of process)
+      cp' sp' → AllAlike program (slice_set cs.processes pick.process cp') (slice_set ss.processes pick.process sp'))
+      → ((cp' : CodeProcess) → Alike (listing_of process) cp' sp → AllAlike program (slice_set cs.processes
+      pick.process cp') ss.processes) → StepsAlike (listing_of process) cp sp pick.arm → PicksAlike program cs ss pick
   from_steps process cp sp at c s change keep (neither ce se) =
       not_enabled (pick_code_move (process_code process) cp None at c ce) (pick_source_move sp None s se)
   from_steps process cp sp at c s change keep (skip cp' skips ce alike on) =
-      code_alone _ (pick_skipped (process_code process) cp true at c skips) (pick_code_move (process_code process) cp _ at c ce) (record { processes = keep cp' alike; loans = h.loans }) moved_on
+      code_alone _ (pick_skipped (process_code process) cp true at c skips) (pick_code_move (process_code process) cp
+      _ at c ce) (record { processes = keep cp' alike; loans = h.loans }) moved_on
     where
       moved_on : (k : ℕ) → ChainAt program cs pick (suc k)
           → ChainAt program
@@ -128,7 +135,8 @@ module _ (program : List Process) (cs : State CodeProcess) (ss : State SourcePro
             on k (subst (λ x. Chain x cp pick.arm (suc k)) code_is' (subst (λ x. Chain chain.0 x pick.arm (suc k)) cp_is' chain.4)),
           )
   from_steps process cp sp at c s change keep (both cp' sp' effect skips ce se alike) =
-      together _ _ effect (pick_skipped (process_code process) cp false at c skips) (pick_code_move (process_code process) cp _ at c ce) (pick_source_move sp _ s se)
+      together _ _ effect (pick_skipped (process_code process) cp false at c skips) (pick_code_move (process_code
+      process) cp _ at c ce) (pick_source_move sp _ s se)
       (record { processes = change cp' sp' alike; loans = ap (λ loans. loans_after loans pick.process effect) h.loans })
 
   from_process : AtProcess program cs.processes ss.processes pick.process → PicksAlike program cs ss pick
@@ -144,7 +152,8 @@ module _ (program : List Process) (cs : State CodeProcess) (ss : State SourcePro
 -- ---- runs
 
 -- the source makes the same events by the shadow of the picks
-pub record Shadowed (bank : Bank) (program : List Process) (cs : State CodeProcess) (ss : State SourceProcess) (picks : List Pick) (events : List Event) (end : State CodeProcess) : Type 0 where
+pub record Shadowed (bank : Bank) (program : List Process) (cs : State CodeProcess) (ss : State SourceProcess) (picks
+    : List Pick) (events : List Event) (end : State CodeProcess) : Type 0 where
   pub last : State SourceProcess
   pub makes : Makes bank source_step ss (shadow (generated program) cs picks) events last
   pub alike : StatesAlike program end last
@@ -167,10 +176,15 @@ shadowed bank program cs ss (pick ∷ picks) events end h m =
         → shadow (generated program) cs (pick ∷ picks) ≡ cond b (shadow (generated program) m.0.next picks)
         (pick ∷ shadow (generated program) m.0.next picks)
     step_shadow b e =
-        ap (λ o. (elim o as (λ x. List Pick) [ None ↦ [] | Some move ↦ cond (is_skipped (generated program) cs pick) (shadow (generated program) move.next picks) (pick ∷ shadow (generated program) move.next picks) ])) m.1
+        ap (λ o. (elim o as (λ x. List Pick) [
+          | None ↦ []
+          | Some move ↦ cond (is_skipped (generated program) cs pick)
+              (shadow (generated program) move.next picks) (pick ∷ shadow (generated program) move.next picks)
+        ])) m.1
         ∙ ap (λ b. cond b (shadow (generated program) m.0.next picks) (pick ∷ shadow (generated program) m.0.next picks)) e
 
-    go : PicksAlike program cs ss pick → ((ss' : State SourceProcess) → StatesAlike program m.0.next ss' → Shadowed bank program m.0.next ss' picks m.3 end) → Shadowed bank program cs ss (pick ∷ picks) events end
+    go : PicksAlike program cs ss pick → ((ss' : State SourceProcess) → StatesAlike program m.0.next ss' → Shadowed
+        bank program m.0.next ss' picks m.3 end) → Shadowed bank program cs ss (pick ∷ picks) events end
     go (not_enabled c s) rest = let w : None ≡ Some m.0 = sym c ∙ m.1 in cc
     go (code_alone cs' skips c alike on) rest =
         let e = next_is _ c in
@@ -180,7 +194,8 @@ shadowed bank program cs ss (pick ∷ picks) events end h m =
         let sh = step_shadow true skips in
         record {
           last = r.last;
-          makes = subst (λ picks. Makes bank source_step ss picks events r.last) (sym sh) (subst (λ es. Makes bank source_step ss (shadow (generated program) m.0.next picks) es r.last) (sym same) r.makes);
+          makes = subst (λ picks. Makes bank source_step ss picks events r.last) (sym sh) (subst (λ es. Makes bank
+              source_step ss (shadow (generated program) m.0.next picks) es r.last) (sym same) r.makes);
           alike = r.alike;
           no_longer = let q = r.no_longer in omega (arith, ap length sh);
         }

@@ -88,7 +88,8 @@ mutual
   pub same_arm_trans : (x y z : Arm) → SameArm x y → SameArm y z → SameArm x z
   same_arm_trans x y z (same_doing is js h) (same_doing js' ks g) =
       same_doing is ks (same_items_trans is js ks h g)
-  same_arm_trans x y z (same_waiting line first xs ys is js a h) (same_waiting line' first' ys' zs js' ks b g) = same_waiting line first xs zs is ks (same_running_trans xs ys zs a b) (same_items_trans is js ks h g)
+  same_arm_trans x y z (same_waiting line first xs ys is js a h) (same_waiting line' first' ys' zs js' ks b g) =
+      same_waiting line first xs zs is ks (same_running_trans xs ys zs a b) (same_items_trans is js ks h g)
   same_arm_trans x y z same_ended h = h
 
   same_running_trans : (xs ys zs : Running) → SameRunning xs ys → SameRunning ys zs → SameRunning xs zs
@@ -139,11 +140,13 @@ list_step_same is js next (to_then line e a b rest) (same_more i j is' js' (same
     (Doing (items_of a ++ js'), to_then line f' a b js', same_doing (items_of a ++ rest) (items_of a ++ js') (append_same (items_of a) rest js' h))
 list_step_same is js next (to_else line e a b rest) (same_more i j is' js' (same_choice line' f f' a' b') h) =
     (Doing (items_of b ++ js'), to_else line f' a b js', same_doing (items_of b ++ rest) (items_of b ++ js') (append_same (items_of b) rest js' h))
-list_step_same is js next (past_loop line test e body rest) (same_more i j is' js' (same_loop line' test' f f' body') h) = (Doing js', past_loop line test f' body js', same_doing rest js' h)
+list_step_same is js next (past_loop line test e body rest) (same_more i j is' js' (same_loop line' test' f f' body')
+    h) = (Doing js', past_loop line test f' body js', same_doing rest js' h)
 list_step_same is js next (into_loop line test e body rest) (same_more i j is' js' (same_loop line' test' f f' body') h) = (
   Doing (items_of body ++ Loop line test test body ∷ js'),
   into_loop line test f' body js',
-  same_doing _ _ (append_same (items_of body) (Loop line test test body ∷ rest) (Loop line test test body ∷ js') (same_more _ _ rest js' (same_loop line test test test body) h)),
+  same_doing _ _ (append_same (items_of body) (Loop line test test body ∷ rest) (Loop line test test body ∷ js')
+      (same_more _ _ rest js' (same_loop line test test test body) h)),
 )
 list_step_same is js next (into_hold line bundle body rest) (same_more i j is' js' (same_hold line' bundle' body') h) = (
   Doing (items_of body ++ GiveBack line bundle ∷ js'),
@@ -152,8 +155,12 @@ list_step_same is js next (into_hold line bundle body rest) (same_more i j is' j
 )
 list_step_same is js next (past_give line bundle rest) (same_more i j is' js' (same_give line' bundle') h) =
     (Doing js', past_give line bundle js', same_doing rest js' h)
-list_step_same is js next (into_arms line first arms rest) (same_more i j is' js' (same_parallel line' first' arms') h) =
-    (Waiting line first (begin arms) js', into_arms line first arms js', same_waiting line first (begin arms) (begin arms) rest js' (same_running (begin arms)) h)
+list_step_same is js next (into_arms line first arms rest) (same_more i j is' js' (same_parallel line' first' arms') h) = (
+  Waiting line first (begin arms) js',
+  into_arms line first arms js',
+  same_waiting line first (begin arms) (begin
+      arms) rest js' (same_running (begin arms)) h,
+)
 
 ended_same : (x y : Arm) → SameArm x y → is_ended x ≡ is_ended y
 ended_same x y (same_doing is js h) = refl
@@ -258,19 +265,31 @@ evaluate_frees items (Becomes e) keep done k d = k e
 evaluate_frees items (Fails kind) keep done k d = tt
 
 kept : (i j : Item) (rest : List Item) → SameItem i j → IsFree (Doing (i ∷ rest)) (Doing (j ∷ rest)) Silent
-kept i j rest h = record { way = inl (same_doing _ _ (same_more i j rest rest h (same_items rest))); balance = λ r. let e = item_held_same r i j h in omega (arith, e) }
+kept i j rest h = record {
+  way = inl (same_doing _ _ (same_more i j rest rest h (same_items rest)));
+  balance = λ r.
+      let e = item_held_same r i j h in omega (arith, e);
+}
 
 choice_frees : (z : Bool) (line : ℕ) (e : Expr) (a b : Block) (rest : List Item)
     → IsFree (Doing (Choice line e a b ∷ rest)) (Doing (items_of (cond z b a) ++ rest)) Silent
 choice_frees true line e a b rest = record { way = inr (in_list _ _ (to_else line e a b rest)); balance = λ r. let q = block_held r b rest in omega (arith, q) }
-choice_frees false line e a b rest = record { way = inr (in_list _ _ (to_then line e a b rest)); balance = λ r. let q = block_held r a rest in omega (arith, q) }
+choice_frees false line e a b rest = record {
+  way = inr (in_list _ _ (to_then line e a b rest));
+  balance = λ r. let q
+      = block_held r a rest in omega (arith, q);
+}
 
 loop_frees : (z : Bool) (line : ℕ) (test e : Expr) (body : Block) (rest : List Item)
     → IsFree (Doing (Loop line test e body ∷ rest))
     (Doing (cond z rest (items_of body ++ Loop line test test body ∷ rest))) Silent
 loop_frees true line test e body rest =
     record { way = inr (in_list _ _ (past_loop line test e body rest)); balance = λ r. omega arith }
-loop_frees false line test e body rest = record { way = inr (in_list _ _ (into_loop line test e body rest)); balance = λ r. let q = block_held r body (Loop line test test body ∷ rest) in omega (arith, q) }
+loop_frees false line test e body rest = record {
+  way = inr (in_list _ _ (into_loop line test e body rest));
+  balance =
+      λ r. let q = block_held r body (Loop line test test body ∷ rest) in omega (arith, q);
+}
 
 pub step_frees : (vars : List ℤ) (items : List Item) → Frees items (step_items vars items)
 step_frees vars [] = record { way = inr (in_list _ _ to_end); balance = λ r. refl }
@@ -285,7 +304,11 @@ step_frees vars (Choice line e a b ∷ rest) =
 step_frees vars (Loop line test e body ∷ rest) =
     evaluate_frees _ (step_expr vars e) _ _ (λ e'. kept _ _ rest (same_loop line test e e' body)) (λ v. loop_frees (is_zero v) line test e body rest)
 step_frees vars (Hold line bundle body ∷ rest) =
-    record { way = inr (in_list _ _ (into_hold line bundle body rest)); balance = λ r. let q = block_held r body (GiveBack line bundle ∷ rest) in omega (arith, q) }
+    record {
+      way = inr (in_list _ _ (into_hold line bundle body rest));
+      balance = λ r. let q = block_held r body
+          (GiveBack line bundle ∷ rest) in omega (arith, q);
+    }
 step_frees vars (GiveBack line bundle ∷ rest) =
     record { way = inr (in_list _ _ (past_give line bundle rest)); balance = λ r. omega arith }
 step_frees vars (Parallel line first arms ∷ rest) =

@@ -49,7 +49,8 @@ abbrev mutual
   pub ArmsPlaced : Listing → ℕ → Arms → Type 0
   ArmsPlaced code first NoArm = Unit {0}
   ArmsPlaced code first (AndArm arm arms) =
-      Has code (entry code first) (arm_code (entry code first) arm) × Lines code (entry code first) (block_lines arm None ++ None ∷ []) × Placed code arm × ArmsPlaced code (first + 1) arms
+      Has code (entry code first) (arm_code (entry code first) arm) × Lines code (entry code first) (block_lines arm
+      None ++ None ∷ []) × Placed code arm × ArmsPlaced code (first + 1) arms
 
 -- n jumps lead from one place to another, each with this line
 abbrev pub Reaches : Listing → Option ℕ → ℕ → ℕ → ℕ → Type 0
@@ -163,9 +164,12 @@ item_at code (If line e a b) p next h ls placed =
     let other = then + length (block_code then a) + 1 in
     let after = other + length (block_code other b) in
     let tail = block_code then a ++ (Jump after ∷ block_code other b) in
-    let h1 : Has code p (expr_code e ++ JumpIfZero other ∷ []) = has_front code.instrs p (expr_code e ++ JumpIfZero other ∷ []) tail (subst (Has code p) (sym (append_assoc (expr_code e) (JumpIfZero other ∷ []) tail)) h) in
+    let h1 : Has code p (expr_code e ++ JumpIfZero other ∷ []) = has_front code.instrs p (expr_code e ++ JumpIfZero
+    other ∷ []) tail (subst (Has code p) (sym (append_assoc (expr_code e) (JumpIfZero other ∷ []) tail)) h) in
     let h2 : Has code then tail = (has_back code.instrs p (expr_code e) (JumpIfZero other ∷ tail) h).1 in
-    let h3 : Has code then (block_code then a ++ Jump after ∷ []) = has_front code.instrs then (block_code then a ++ Jump after ∷ []) (block_code other b) (subst (Has code then) (sym (append_assoc (block_code then a) (Jump after ∷ []) (block_code other b))) h2) in
+    let h3 : Has code then (block_code then a ++ Jump after ∷ []) = has_front code.instrs then (block_code then a ++
+    Jump after ∷ []) (block_code other b) (subst (Has code then) (sym (append_assoc (block_code then a) (Jump
+    after ∷ []) (block_code other b))) h2) in
     let h4 : Has code other (block_code other b) =
     (has_back code.instrs then (block_code then a) (Jump after ∷ block_code other b) h2).1 in
     let head = replicate (suc (length (expr_code e))) (Some line) in
@@ -174,18 +178,37 @@ item_at code (If line e a b) p next h ls placed =
     omega (arith, length-same_lines (suc (length (expr_code e))) (Some line)) in
     let l2 : Lines code then ltail =
     subst (λ k. Lines code k ltail) n1 (lines_back code.lines p head ltail ls) in
-    let l3 : Lines code then (block_lines a next ++ next ∷ []) = lines_front code.lines then (block_lines a next ++ next ∷ []) (block_lines b next) (subst (Lines code then) (sym (append_assoc (block_lines a next) (next ∷ []) (block_lines b next))) l2) in
+    let l3 : Lines code then (block_lines a next ++ next ∷ []) = lines_front code.lines then (block_lines a next ++
+    next ∷ []) (block_lines b next) (subst (Lines code then) (sym (append_assoc (block_lines a next) (next ∷ [])
+    (block_lines b next))) l2) in
     let n2 : then + length (block_lines a next) + 1 ≡ other = omega (arith, length-block_lines then a next) in
-    let l4 : Lines code other (block_lines b next) = subst (λ k. Lines code k (block_lines b next)) n2 (lines_back code.lines then (block_lines a next) (next ∷ block_lines b next) l2).1 in
+    let l4 : Lines code other (block_lines b next) = subst (λ k. Lines code k (block_lines b next)) n2 (lines_back
+    code.lines then (block_lines a next) (next ∷ block_lines b next) l2).1 in
     choice line e a b (expr_code e) p [] then other _ next (whole e) h1 (lines_front code.lines p head ltail ls) refl
-    (subst (λ k. Has code then (block_code then a ++ Jump k ∷ [])) (omega (arith, length-append (expr_code e) (JumpIfZero other ∷ tail), length-append (block_code then a) (Jump after ∷ block_code other b))) h3) l3 h4 l4
-    (omega (arith, length-append (expr_code e) (JumpIfZero other ∷ tail), length-append (block_code then a) (Jump after ∷ block_code other b))) placed.0 placed.1
+    (subst (λ k. Has code then (block_code then a ++ Jump k ∷ [])) (omega (
+      arith,
+      length-append (expr_code e)
+          (JumpIfZero other ∷ tail),
+      length-append (block_code then a) (Jump after ∷ block_code other b),
+    )) h3) l3 h4 l4
+    (omega (
+      arith,
+      length-append (expr_code e) (JumpIfZero other ∷ tail),
+      length-append (block_code then a) (Jump
+          after ∷ block_code other b),
+    )) placed.0 placed.1
 item_at code (While line e body) p next h ls placed =
     let start = p + length (expr_code e) + 1 in
     let after = start + length (block_code start body) + 1 in
     let tail = block_code start body ++ Jump p ∷ [] in
-    let len : after ≡ p + length (stmt_code p (While line e body)) = omega (arith, length-append (expr_code e) (JumpIfZero after ∷ tail), length-append (block_code start body) (Jump p ∷ [])) in
-    let h1 : Has code p (expr_code e ++ JumpIfZero after ∷ []) = has_front code.instrs p (expr_code e ++ JumpIfZero after ∷ []) tail (subst (Has code p) (sym (append_assoc (expr_code e) (JumpIfZero after ∷ []) tail)) h) in
+    let len : after ≡ p + length (stmt_code p (While line e body)) = omega (
+      arith,
+      length-append (expr_code e)
+          (JumpIfZero after ∷ tail),
+      length-append (block_code start body) (Jump p ∷ []),
+    ) in
+    let h1 : Has code p (expr_code e ++ JumpIfZero after ∷ []) = has_front code.instrs p (expr_code e ++ JumpIfZero
+    after ∷ []) tail (subst (Has code p) (sym (append_assoc (expr_code e) (JumpIfZero after ∷ []) tail)) h) in
     let head = replicate (suc (length (expr_code e))) (Some line) in
     loop line e e body (expr_code e) p [] p _ next (whole e) (subst (λ k. Has code p (expr_code e ++ JumpIfZero k ∷ [])) len h1)
     (lines_front code.lines p head (block_lines body (Some line) ++ Some line ∷ []) ls) refl h ls refl placed
@@ -205,9 +228,13 @@ block_stands code (Then s block) p rest h ls placed after =
     let len : p + length (block_code p (Then s block)) ≡ mid + length (block_code mid block) =
     omega (arith, length-append (stmt_code p s) (block_code mid block)) in
     let n : p + length (stmt_lines s next) ≡ mid = omega (arith, length-stmt_lines p s next) in
-    let ls' : Lines code mid (block_lines block (first_line rest)) = subst (λ k. Lines code k (block_lines block (first_line rest))) n (lines_back code.lines p (stmt_lines s next) (block_lines block (first_line rest)) ls) in
-    let later = block_stands code block mid rest (has_back code.instrs p (stmt_code p s) (block_code mid block) h) ls' placed.1 (subst (λ k. StandsFrom code rest k []) len after) in
-    let item = item_at code s p next (has_front code.instrs p (stmt_code p s) (block_code mid block) h) (lines_front code.lines p (stmt_lines s next) (block_lines block (first_line rest)) ls) placed.0 in
+    let ls' : Lines code mid (block_lines block (first_line rest)) = subst (λ k. Lines code k (block_lines block
+    (first_line rest))) n (lines_back code.lines p (stmt_lines s next) (block_lines block (first_line rest)) ls)
+    in
+    let later = block_stands code block mid rest (has_back code.instrs p (stmt_code p s) (block_code mid block) h) ls'
+    placed.1 (subst (λ k. StandsFrom code rest k []) len after) in
+    let item = item_at code s p next (has_front code.instrs p (stmt_code p s) (block_code mid block) h) (lines_front
+    code.lines p (stmt_lines s next) (block_lines block (first_line rest)) ls) placed.0 in
     record {
       jumps = 0;
       first = p;
@@ -244,7 +271,13 @@ resume : (code : Listing) (rest : List Item) (after n q p : ℕ) → Reaches cod
 resume code rest after n q p r st e = record { jumps = n; first = q; reaches = subst (λ k. Reaches code (first_line rest) n k q) e r; stands = st }
 
 -- an item whose expression comes first
-head_follows : (code : Listing) (vars : List ℤ) (e : Expr) (is : List Instr) (s : List ℤ) (p : ℕ) (tail : Instr) (label : Option ℕ) (keep : Expr → List Item) (done : ℤ → ArmStep) → Left e is s → Has code p (is ++ tail ∷ []) → Lines code p (replicate (suc (length is)) label) → ((e' : Expr) → step_items vars (keep e') ≡ evaluate (step_expr vars e') (λ e''. Goes vars (Doing (keep e'')) Silent) done) → ((e' : Expr) (is' : List Instr) (s' : List ℤ) (p' : ℕ) → Left e' is' s' → Has code p' (is' ++ tail ∷ []) → Lines code p' (replicate (suc (length is')) label) → p' + length is' ≡ p + length is → StandsFrom code (keep e') p' s') → ((v : ℤ) → slice_get code.instrs p ≡ Some tail → p + length is ≡ p → Follows code vars (keep (Number v)) p (v ∷ [])) → Follows code vars (keep e) p s
+head_follows : (code : Listing) (vars : List ℤ) (e : Expr) (is : List Instr) (s : List ℤ) (p : ℕ) (tail : Instr)
+    (label : Option ℕ) (keep : Expr → List Item) (done : ℤ → ArmStep) → Left e is s → Has code p (is ++ tail ∷ []) →
+    Lines code p (replicate (suc (length is)) label) → ((e' : Expr) → step_items vars (keep e') ≡ evaluate (step_expr
+    vars e') (λ e''. Goes vars (Doing (keep e'')) Silent) done) → ((e' : Expr) (is' : List Instr) (s' : List ℤ) (p' :
+    ℕ) → Left e' is' s' → Has code p' (is' ++ tail ∷ []) → Lines code p' (replicate (suc (length is')) label) → p' +
+    length is' ≡ p + length is → StandsFrom code (keep e') p' s') → ((v : ℤ) → slice_get code.instrs p ≡ Some tail → p
+    + length is ≡ p → Follows code vars (keep (Number v)) p (v ∷ [])) → Follows code vars (keep e) p s
 head_follows code vars e is s p tail label keep done left has lines step again last =
     go (progress vars e is s left)
   where
@@ -293,51 +326,105 @@ follows_at : (code : Listing) (vars : List ℤ) (items : List Item) (p : ℕ) (s
 follows_at code vars items p s (at_end p' h line) = ends End h refl refl refl
 follows_at code vars items p s (at_item item rest p' s' after n q (assign line x e is p'' s'' after' next left has lines len) r st) =
     head_follows code vars e is s p (Store x) (Some line) (λ e'. Assign line x e' ∷ rest) _ left has lines (λ e'. refl)
-    (λ e' is' s' p' l h ls eq. record { jumps = 0; first = p'; reaches = refl; stands = at_item (Assign line x e') rest p' s' after n q (assign line x e' is' p' s' after _ l h ls (omega arith)) r st })
+    (λ e' is' s' p' l h ls eq. record {
+      jumps = 0;
+      first = p';
+      reaches = refl;
+      stands = at_item (Assign line x e')
+          rest p' s' after n q (assign line x e' is' p' s' after _ l h ls (omega arith)) r st;
+    })
     (λ v h eq. goes (Store x) (set vars x v) rest Silent (p + 1) [] h refl refl refl (resume code rest after n q (p + 1) r st (omega arith)))
 follows_at code vars items p s (at_item item rest p' s' after n q (print line e is p'' s'' after' next left has lines len) r st) =
     head_follows code vars e is s p PrintTop (Some line) (λ e'. Print line e' ∷ rest) _ left has lines (λ e'. refl)
-    (λ e' is' s' p' l h ls eq. record { jumps = 0; first = p'; reaches = refl; stands = at_item (Print line e') rest p' s' after n q (print line e' is' p' s' after _ l h ls (omega arith)) r st })
+    (λ e' is' s' p' l h ls eq. record {
+      jumps = 0;
+      first = p';
+      reaches = refl;
+      stands = at_item (Print line e') rest
+          p' s' after n q (print line e' is' p' s' after _ l h ls (omega arith)) r st;
+    })
     (λ v h eq. goes PrintTop vars rest (Prints v) (p + 1) [] h refl refl refl (resume code rest after n q (p + 1) r st (omega arith)))
-follows_at code vars items p s (at_item item rest p' s' after n q (choice line e a b is p'' s'' then other after' next left has lines len hasa linesa hasb linesb lenb pa pb) r st) =
+follows_at code vars items p s (at_item item rest p' s' after n q (choice line e a b is p'' s'' then other after' next
+    left has lines len hasa linesa hasb linesb lenb pa pb) r st) =
     head_follows code vars e is s p (JumpIfZero other) (Some line) (λ e'. Choice line e' a b ∷ rest) _ left has lines (λ e'. refl)
-    (λ e' is' s' p' l h ls eq. record { jumps = 0; first = p'; reaches = refl; stands = at_item (Choice line e' a b) rest p' s' after n q (choice line e' a b is' p' s' then other after _ l h ls (omega arith) hasa linesa hasb linesb lenb pa pb) r st })
+    (λ e' is' s' p' l h ls eq. record {
+      jumps = 0;
+      first = p';
+      reaches = refl;
+      stands = at_item (Choice line e' a b)
+          rest p' s' after n q (choice line e' a b is' p' s' then other after _ l h ls (omega arith) hasa linesa hasb
+          linesb lenb pa pb) r st;
+    })
     (λ v h eq.
     let thenp : then ≡ p + 1 = omega arith in
     let ja : slice_get code.instrs (then + length (block_code then a)) ≡ Some (Jump after) =
     (has_back code.instrs then (block_code then a) (Jump after ∷ []) hasa).0 in
     let la : line_at code (then + length (block_code then a)) ≡ first_line rest =
-    subst (λ k. line_at code (then + k) ≡ first_line rest) (length-block_lines then a (first_line rest)) (lines_back code.lines then (block_lines a (first_line rest)) (first_line rest ∷ []) linesa).0 in
-    let sa = block_stands code a then rest (has_front code.instrs then (block_code then a) (Jump after ∷ []) hasa) (lines_front code.lines then (block_lines a (first_line rest)) (first_line rest ∷ []) linesa) pa (record { jumps = suc n; first = q; reaches = (after, ja, la, r); stands = st }) in
+    subst (λ k. line_at code (then + k) ≡ first_line rest) (length-block_lines then a (first_line rest)) (lines_back
+    code.lines then (block_lines a (first_line rest)) (first_line rest ∷ []) linesa).0 in
+    let sa = block_stands code a then rest (has_front code.instrs then (block_code then a) (Jump after ∷ []) hasa)
+    (lines_front code.lines then (block_lines a (first_line rest)) (first_line rest ∷ []) linesa) pa (record {
+      jumps = suc n;
+      first = q;
+      reaches = (after, ja, la, r);
+      stands = st;
+    }) in
     let sb = block_stands code b other rest hasb linesb pb (resume code rest after n q _ r st (sym lenb)) in
     goes (JumpIfZero other) vars (items_of (cond (is_zero v) b a) ++ rest) Silent (cond (is_zero v) other (p + 1)) [] h refl refl refl
     (choice_stands code (is_zero v) a b rest (p + 1) other (subst (λ k. StandsFrom code (items_of a ++ rest) k []) thenp sa) sb))
-follows_at code vars items p s (at_item item rest p' s' after n q (loop line test e body is p'' s'' place after' next left has lines len hasw linesw lenw placed) r st) =
+follows_at code vars items p s (at_item item rest p' s' after n q (loop line test e body is p'' s'' place after' next
+    left has lines len hasw linesw lenw placed) r st) =
     let start = place + length (expr_code test) + 1 in
     let exit = start + length (block_code start body) + 1 in
     let body_code = block_code start body in
-    let hasb : Has code start (body_code ++ Jump place ∷ []) = (has_back code.instrs place (expr_code test) (JumpIfZero exit ∷ (body_code ++ Jump place ∷ [])) hasw).1 in
-    let exit_is : exit ≡ after = omega (arith, length-append (expr_code test) (JumpIfZero exit ∷ (body_code ++ Jump place ∷ [])), length-append body_code (Jump place ∷ [])) in
+    let hasb : Has code start (body_code ++ Jump place ∷ []) = (has_back code.instrs place (expr_code test)
+    (JumpIfZero exit ∷ (body_code ++ Jump place ∷ [])) hasw).1 in
+    let exit_is : exit ≡ after = omega (
+      arith,
+      length-append (expr_code test) (JumpIfZero exit ∷ (body_code ++ Jump
+          place ∷ [])),
+      length-append body_code (Jump place ∷ []),
+    ) in
     let hast : Has code place (expr_code test ++ JumpIfZero after ∷ []) =
     subst (λ k. Has code place (expr_code test ++ JumpIfZero k ∷ [])) exit_is
-    (has_front code.instrs place (expr_code test ++ JumpIfZero exit ∷ []) (body_code ++ Jump place ∷ []) (subst (Has code place) (sym (append_assoc (expr_code test) (JumpIfZero exit ∷ []) (body_code ++ Jump place ∷ []))) hasw)) in
+    (has_front code.instrs place (expr_code test ++ JumpIfZero exit ∷ []) (body_code ++ Jump place ∷ []) (subst (Has
+    code place) (sym (append_assoc (expr_code test) (JumpIfZero exit ∷ []) (body_code ++ Jump place ∷ []))) hasw))
+    in
     let head = replicate (suc (length (expr_code test))) (Some line) in
     let body_lines = block_lines body (Some line) in
     let linest : Lines code place head =
     lines_front code.lines place head (body_lines ++ Some line ∷ []) linesw in
     let n1 : place + length head ≡ start =
     omega (arith, length-same_lines (suc (length (expr_code test))) (Some line)) in
-    let linesb : Lines code start (body_lines ++ Some line ∷ []) = subst (λ k. Lines code k (body_lines ++ Some line ∷ [])) n1 (lines_back code.lines place head (body_lines ++ Some line ∷ []) linesw) in
+    let linesb : Lines code start (body_lines ++ Some line ∷ []) = subst (λ k. Lines code k (body_lines ++ Some line ∷
+    [])) n1 (lines_back code.lines place head (body_lines ++ Some line ∷ []) linesw) in
     head_follows code vars e is s p (JumpIfZero after) (Some line) (λ e'. Loop line test e' body ∷ rest) _ left has lines (λ e'. refl)
-    (λ e' is' s' p' l h ls eq. record { jumps = 0; first = p'; reaches = refl; stands = at_item (Loop line test e' body) rest p' s' after n q (loop line test e' body is' p' s' place after _ l h ls (omega arith) hasw linesw lenw placed) r st })
+    (λ e' is' s' p' l h ls eq. record {
+      jumps = 0;
+      first = p';
+      reaches = refl;
+      stands = at_item (Loop line test e'
+          body) rest p' s' after n q (loop line test e' body is' p' s' place after _ l h ls (omega arith) hasw linesw
+          lenw placed) r st;
+    })
     (λ v h eq.
     let startp : start ≡ p + 1 = omega arith in
     let jb : slice_get code.instrs (start + length body_code) ≡ Some (Jump place) =
     (has_back code.instrs start body_code (Jump place ∷ []) hasb).0 in
-    let lb : line_at code (start + length body_code) ≡ Some line = subst (λ k. line_at code (start + k) ≡ Some line) (length-block_lines start body (Some line)) (lines_back code.lines start body_lines (Some line ∷ []) linesb).0 in
-    let again = at_item (Loop line test test body) rest place [] after n q (loop line test test body (expr_code test) place [] place after _ (whole test) hast linest refl hasw linesw lenw placed) r st in
-    let sb = block_stands code body start (Loop line test test body ∷ rest) (has_front code.instrs start body_code (Jump place ∷ []) hasb) (lines_front code.lines start body_lines (Some line ∷ []) linesb) placed (record { jumps = 1; first = place; reaches = (place, jb, lb, refl); stands = again }) in
-    goes (JumpIfZero after) vars (cond (is_zero v) rest (items_of body ++ Loop line test test body ∷ rest)) Silent (cond (is_zero v) after (p + 1)) [] h refl refl refl
+    let lb : line_at code (start + length body_code) ≡ Some line = subst (λ k. line_at code (start + k) ≡ Some line)
+    (length-block_lines start body (Some line)) (lines_back code.lines start body_lines (Some line ∷ []) linesb).0
+    in
+    let again = at_item (Loop line test test body) rest place [] after n q (loop line test test body (expr_code test)
+    place [] place after _ (whole test) hast linest refl hasw linesw lenw placed) r st in
+    let sb = block_stands code body start (Loop line test test body ∷ rest) (has_front code.instrs start body_code
+    (Jump place ∷ []) hasb) (lines_front code.lines start body_lines (Some line ∷ []) linesb) placed (record {
+      jumps = 1;
+      first = place;
+      reaches = (place, jb, lb, refl);
+      stands = again;
+    }) in
+    goes (JumpIfZero after) vars (cond (is_zero v) rest (items_of body ++ Loop line test test body ∷ rest)) Silent
+    (cond (is_zero v) after (p + 1)) [] h refl refl refl
     (loop_stands code (is_zero v) (items_of body ++ Loop line test test body ∷ rest) rest (p + 1) after
     (subst (λ k. StandsFrom code (items_of body ++ Loop line test test body ∷ rest) k []) startp sb)
     (record { jumps = n; first = q; reaches = r; stands = st })))
@@ -347,14 +434,25 @@ follows_at code vars items p s (at_item item rest p' s' after n q (hold line bun
     let hasb : Has code (p + 1) (body_code ++ Give bundle ∷ []) = has.1 in
     let hasg : slice_get code.instrs (p + 1 + length body_code) ≡ Some (Give bundle) =
     (has_back code.instrs (p + 1) body_code (Give bundle ∷ []) hasb).0 in
-    let lineg : line_at code (p + 1 + length body_code) ≡ Some line = subst (λ k. line_at code (p + 1 + k) ≡ Some line) (length-block_lines (p + 1) body (Some line)) (lines_back code.lines (p + 1) body_lines (Some line ∷ []) lines.1).0 in
-    let sg = at_item (GiveBack line bundle) rest (p + 1 + length body_code) [] after n q (give line bundle _ after _ hasg lineg (omega (arith, length-append body_code (Give bundle ∷ [])))) r st in
+    let lineg : line_at code (p + 1 + length body_code) ≡ Some line = subst (λ k. line_at code (p + 1 + k) ≡ Some
+    line) (length-block_lines (p + 1) body (Some line)) (lines_back code.lines (p + 1) body_lines (Some line ∷ [])
+    lines.1).0 in
+    let sg = at_item (GiveBack line bundle) rest (p + 1 + length body_code) [] after n q (give line bundle _ after _
+    hasg lineg (omega (arith, length-append body_code (Give bundle ∷ [])))) r st in
     goes (Take bundle) vars (items_of body ++ GiveBack line bundle ∷ rest) (Takes bundle) (p + 1) [] has.0 refl refl refl
-    (block_stands code body (p + 1) (GiveBack line bundle ∷ rest) (has_front code.instrs (p + 1) body_code (Give bundle ∷ []) hasb) (lines_front code.lines (p + 1) body_lines (Some line ∷ []) lines.1) placed (record { jumps = 0; first = _; reaches = refl; stands = sg }))
+    (block_stands code body (p + 1) (GiveBack line bundle ∷ rest) (has_front code.instrs (p + 1) body_code (Give
+    bundle ∷ []) hasb) (lines_front code.lines (p + 1) body_lines (Some line ∷ []) lines.1) placed (record {
+      jumps
+          = 0;
+      first = _;
+      reaches = refl;
+      stands = sg;
+    }))
 follows_at code vars items p s (at_item item rest p' s' after n q (give line bundle p'' after' next has line_is len) r st) =
     goes (Give bundle) vars rest (Returns bundle) (p + 1) [] has refl refl refl (resume code rest after n q (p + 1) r st (sym len))
 follows_at code vars items p s (at_item item rest p' s' after n q (parallel line first arms p'' after' next hasf hasj lines len placed) r st) =
-    forks (Fork first (count arms)) line first arms rest (p + 1) refl hasf refl refl refl hasj lines.1.0 (resume code rest after n q (p + 1 + 1) r st (sym len)) placed
+    forks (Fork first (count arms)) line first arms rest (p + 1) refl hasf refl refl refl hasj lines.1.0 (resume code
+    rest after n q (p + 1 + 1) r st (sym len)) placed
 
 pub follows : (code : Listing) (vars : List ℤ) (items : List Item) (p : ℕ) (s : List ℤ)
     → StandsFrom code items p s → Follows code vars items p s

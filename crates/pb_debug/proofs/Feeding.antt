@@ -8,7 +8,8 @@ use Rattle.pb_base.specs.Device.{appended, AddsPrefix, GivesNext}
 use Rattle.pb_debug.specs.Answers.{Answers, AnswersRead}
 use Rattle.pb_debug.specs.Buffers.{kept}
 use Rattle.pb_debug.specs.Commands.{Command, command_of}
-use Rattle.pb_debug.specs.Sessions.{Cut, one_line_more, cut, last_line, lines_of, Session, nothing, one_more, session_bytes, SaysAll, SaysSome, IsTold, StopsAt, Leaves, Fed, FedSome}
+use Rattle.pb_debug.specs.Lines.{Cut, one_line_more, cut, last_line, lines_of}
+use Rattle.pb_debug.specs.Sessions.{Session, nothing, one_more, session_bytes, SaysAll, SaysSome, IsTold, StopsAt, Leaves, Fed, FedSome}
 use Rattle.pb_debug.specs.Value.{Debugging}
 use Rattle.pb_debug.specs.declared.fault.DebugFault.{DebugFault}
 use Rattle.pb_debug.specs.declared.fault.DebugFault.TheVariants.{PastEnd, NoProcess, NoArm, BadCommand, NoMemory, Device}
@@ -103,7 +104,8 @@ pub whole_prefix : (old new : Option (List ℕ)) (a : List ℕ) → new ≡ appe
 whole_prefix old new a e = (a, [], sym (append-nil a), e)
 
 -- what is left of a text behind what is written
-pub leaves_more : (fault : DebugFault) (old mid new : Option (List ℕ)) (a b : List ℕ) → mid ≡ appended old a → Leaves fault mid new b → Leaves fault old new (a ++ b)
+pub leaves_more : (fault : DebugFault) (old mid new : Option (List ℕ)) (a b : List ℕ) → mid ≡ appended old a → Leaves
+    fault mid new b → Leaves fault old new (a ++ b)
 leaves_more PastEnd old mid new a b e h = elim h [ ]
 leaves_more NoProcess old mid new a b e h = elim h [ ]
 leaves_more NoArm old mid new a b e h = elim h [ ]
@@ -322,7 +324,8 @@ module _ (d m : Debugging) (bytes : List ℕ) (old mid : Option (List ℕ)) (lin
         written = prefix_more old mid new fed.text said fed.written written;
       }
 
-pub fed_as : (d : Debugging) (part : List ℕ) (old : Option (List ℕ)) (next next' : Debugging) (xs xs' : List ℕ) (new new' : Option (List ℕ)) (line line' : List ℕ)
+pub fed_as : (d : Debugging) (part : List ℕ) (old : Option (List ℕ)) (next next' : Debugging) (xs xs' : List ℕ) (new
+    new' : Option (List ℕ)) (line line' : List ℕ)
     → Fed d part xs old new line next → xs ≡ xs' → new ≡ new' → line ≡ line' → next ≡ next' → Fed d part xs' old new' line' next'
 fed_as d part old next next' xs xs' new new' line line' fed a b c e =
     subst (λ n. Fed d part xs' old new' line' n) e (subst (λ l. Fed d part xs' old new' l next) c

@@ -56,5 +56,6 @@ module _ (d : Debugging) (h : IsPosition d) where
         let of = item d.verified.code.processes p in_code in
         let fit : FitLabels of.0 (process_labels_view l) = h.fit.each p of.0 (process_labels_view l) of.1 labels_there in
         let vars = ((kept_reached d.verified.code h.verified.annotated (state_of d) reached).good.fit p of.0 process of.1 there).vars in
-        let names : length (map (λ (name : Vec ℕ Global). name.items) l.integers.items) ≡ length l.integers.items = length-map l.integers.items (λ name. name.items) in
+        let names : length (map (λ (name : Vec ℕ Global). name.items) l.integers.items) ≡ length l.integers.items =
+        length-map l.integers.items (λ name. name.items) in
         sym names ∙ (fit.integers.all ∙ sym vars)

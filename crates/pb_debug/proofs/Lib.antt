@@ -4,6 +4,7 @@ pub mod Following
 pub mod Here
 pub mod Holding
 pub mod Lines
+pub mod Numbered
 pub mod Saying
 pub mod Searching
 pub mod Spelling

@@ -14,7 +14,7 @@ use Rattle.std.proofs.lemmas.Str.{digit_value_digit}
 use Rattle.std.proofs.lemmas.Int.Digits.{digits_value_more}
 use Rattle.pb_code.proofs.Naming.{both_true}
 use Rattle.pb_code.specs.Names.{is_name_byte}
-use Rattle.pb_debug.specs.Commands.{Command, To, Step, Back, Vars, Threads, Wrote, Until, Loans, Next, Prev, Help, Line, Why, Who, arm_at, arm_of, both_of, integer_at, integer_of, stop_at, stop_from, stop_of, command_of, is_numeral, is_word, keyed, number_of, parted, word_of}
+use Rattle.pb_debug.specs.Commands.{Command, To, Step, Back, Vars, Threads, Wrote, Until, Loans, Next, Prev, Help, Line, Text, Why, Who, arm_at, arm_of, both_of, integer_at, integer_of, stop_at, stop_from, stop_of, command_of, is_numeral, is_word, keyed, number_of, parted, word_of}
 use Rattle.pb_debug.specs.Spellings.{CommandsBySpelling, IsProper, spelling}
 
 -- ---- numbers
@@ -33,8 +33,12 @@ digit_more ds i all lt =
 numeral_is : (w : List ℕ) → is_numeral w ≡ true → (list_all is_ascii_digit w ≡ true) × (0 < length w) × (get_or w 0 0 ≡ 48 → length w ≡ 1)
 numeral_is [] e = absurd cc
 numeral_is (d ∷ ds) e =
-    let p = both_true (list_all is_ascii_digit (d ∷ ds)) (not (eqb d 48) || eqb (length ds) 0) e in
-    (p.0, omega arith, λ h. let h' : d ≡ 48 = h in let q : eqb (length ds) 0 ≡ true = subst (λ (x : ℕ). (not (eqb x 48) || eqb (length ds) 0) ≡ true) h' p.1 in omega (arith, eqb-true (length ds) 0 q))
+    let p = both_true (list_all is_ascii_digit (d ∷ ds)) (not (eqb d 48) || eqb (length ds) 0) e in (
+      p.0,
+      omega arith,
+      λ h. let h' : d ≡ 48 = h in let q : eqb (length ds) 0 ≡ true = subst (λ (x : ℕ). (not (eqb x
+          48) || eqb (length ds) 0) ≡ true) h' p.1 in omega (arith, eqb-true (length ds) 0 q),
+    )
 
 lone : (d n : ℕ) → (d ≡ 48 → n ≡ 0) → (not (eqb d 48) || eqb n 0) ≡ true
 lone d n h = grind (arith, nat_tests)
@@ -62,7 +66,7 @@ sure : {A : Type 0} (b : Bool) (x : A) (c : A) → cond b (Some x) None ≡ Some
 sure true x c h = (refl, cc)
 sure false x c h = absurd cc
 
-mapped : {A B : Type 0} (f : A → B) (o : Option A) (c : B) → option_map f o ≡ Some c → (x : A) × (o ≡ Some x) × (f x ≡ c)
+pub mapped : {A B : Type 0} (f : A → B) (o : Option A) (c : B) → option_map f o ≡ Some c → (x : A) × (o ≡ Some x) × (f x ≡ c)
 mapped f None c h = absurd cc
 mapped f (Some x) c h = (x, refl, cc)
 
@@ -87,7 +91,7 @@ number_again n lt =
 
 -- ---- the first such byte
 
-abbrev first_at : ℕ → List ℕ → Option ℕ
+abbrev pub first_at : ℕ → List ℕ → Option ℕ
 first_at byte [] = None
 first_at byte (b ∷ bs) = cond (eqb b byte) (Some 0) (option_map suc (first_at byte bs))
 
@@ -102,7 +106,7 @@ step_at false n len =
       | inr le ↦ rw (le-ltb n len le, le-ltb (1 + n) (suc len) (omega (arith, le))) refl
     ]
 
-position_is : (byte : ℕ) (bs : List ℕ) → position (λ b. eqb b byte) bs ≡ first_at byte bs
+pub position_is : (byte : ℕ) (bs : List ℕ) → position (λ b. eqb b byte) bs ≡ first_at byte bs
 position_is byte [] = refl
 position_is byte (b ∷ bs) =
     step_at (eqb b byte) (position_or_len (λ b. eqb b byte) bs) (length bs)
@@ -393,11 +397,14 @@ module _ (key word : List ℕ) (c : Command) where
                     | inl s ↦ written (codes "wrote") (λ p. Wrote p.0 p.1) (λ x. refl) (λ x e f. (e, f)) s.0 s.1
                     | inr h ↦ elim (chosen (bytes_eq key (codes "line")) _ _ c h) [
                       | inl s ↦ armed (codes "line") (λ p. Line p.0 p.1) (λ x. refl) (λ x e lt. (e, lt)) s.0 s.1
-                      | inr h ↦ elim (chosen (bytes_eq key (codes "why")) _ _ c h) [
-                        | inl s ↦ armed (codes "why") (λ p. Why p.0 p.1) (λ x. refl) (λ x e lt. (e, lt)) s.0 s.1
-                        | inr h ↦ elim (chosen (bytes_eq key (codes "who")) _ _ c h) [
-                          | inl s ↦ named (codes "who") Who (λ w. refl) (λ w e. e) s.0 s.1
-                          | inr h ↦ absurd cc
+                      | inr h ↦ elim (chosen (bytes_eq key (codes "text")) _ _ c h) [
+                        | inl s ↦ armed (codes "text") (λ p. Text p.0 p.1) (λ x. refl) (λ x e lt. (e, lt)) s.0 s.1
+                        | inr h ↦ elim (chosen (bytes_eq key (codes "why")) _ _ c h) [
+                          | inl s ↦ armed (codes "why") (λ p. Why p.0 p.1) (λ x. refl) (λ x e lt. (e, lt)) s.0 s.1
+                          | inr h ↦ elim (chosen (bytes_eq key (codes "who")) _ _ c h) [
+                            | inl s ↦ named (codes "who") Who (λ w. refl) (λ w e. e) s.0 s.1
+                            | inr h ↦ absurd cc
+                          ]
                         ]
                       ]
                     ]
@@ -448,7 +455,8 @@ says_what line c h =
 -- ---- spellings are read again
 
 said_short : (line : List ℕ) (c : Command) → length line ≤ 256 → bytes_eq line (codes "loans") ≡ false
-    → bytes_eq line (codes "next") ≡ false → bytes_eq line (codes "prev") ≡ false → bytes_eq line (codes "help") ≡ false → parted line (first_at 32 line) ≡ Some c
+    → bytes_eq line (codes "next") ≡ false → bytes_eq line (codes "prev") ≡ false → bytes_eq line (codes "help") ≡
+    false → parted line (first_at 32 line) ≡ Some c
     → command_of line ≡ Some c
 unfolding command_of
 said_short line c short loans next prev help h =
@@ -475,6 +483,8 @@ said_again Help proper short = refl
 said_again (Who r) word short = said_short (spelling (Who r)) (Who r) short refl refl refl refl (ap (option_map Who) (word_again r word))
 said_again (Line p a) proper short =
     said_short (spelling (Line p a)) (Line p a) short refl refl refl refl (ap (option_map (λ (x : ArmWord). Line x.0 x.1)) (arm_again p a proper.0 proper.1))
+said_again (Text p a) proper short =
+    said_short (spelling (Text p a)) (Text p a) short refl refl refl refl (ap (option_map (λ (x : ArmWord). Text x.0 x.1)) (arm_again p a proper.0 proper.1))
 said_again (Why p a) proper short =
     said_short (spelling (Why p a)) (Why p a) short refl refl refl refl (ap (option_map (λ (x : ArmWord). Why x.0 x.1)) (arm_again p a proper.0 proper.1))
 

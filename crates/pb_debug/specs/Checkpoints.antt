@@ -1,5 +1,5 @@
 -- What a debugger is inside.
-use Rattle.std.specs.Prelude.{◌≡◌, ◌*◌, ◌<◌, ◌≤◌, length}
+use Rattle.std.specs.Prelude.{◌≡◌, ◌*◌, ◌<◌, ◌≤◌, length, option_map}
 use Rattle.pb_code.specs.Limits.{AreLabels}
 use Rattle.pb_code.specs.View.{labels_view}
 use Rattle.pb_history.specs.Entries.{picks_of}
@@ -15,6 +15,7 @@ view_of d = record {
   verified = d.verified.now;
   labels = labels_view d.labels.now;
   picks = picks_of d.trace.entries;
+  source = option_map (λ text. text.now) d.source;
   position = d.walker.at;
   last_cost = d.last_cost;
 }

@@ -5,6 +5,7 @@ pub mod Checkpoints
 pub mod Commands
 pub mod Following
 pub mod Intervals
+pub mod Lines
 pub mod Refusals
 pub mod Resources
 pub mod Searches

@@ -1,32 +1,12 @@
 -- Sessions: the lines of an input, and what is answered to them in turn.
-use Rattle.std.specs.Prelude.{◌≡◌, ◌⊎◌, ℕ, cond, ◌==◌, List, [], ◌∷◌, ◌++◌, take, Option}
+use Rattle.std.specs.Prelude.{◌≡◌, ◌⊎◌, ℕ, List, [], ◌∷◌, ◌++◌, take, Option}
 use Rattle.pb_base.specs.Device.{appended, one_more_failure, AddsPrefix}
 use Rattle.pb_debug.specs.Answers.{Answers}
 use Rattle.pb_debug.specs.Buffers.{kept}
+use Rattle.pb_debug.specs.Lines.{cut, lines_of}
 use Rattle.pb_debug.specs.Value.{Debugging}
 use Rattle.pb_debug.specs.declared.fault.DebugFault.{DebugFault}
 use Rattle.pb_debug.specs.declared.fault.DebugFault.TheVariants.{PastEnd, NoProcess, NoArm, BadCommand, NoMemory, Device}
-
--- lines that a line feed ends, and what stands behind the last
-pub record Cut : Type 0 where
-  pub lines : List (List ℕ)
-  pub rest : List ℕ
-
-abbrev pub one_line_more : List ℕ → Cut → Cut
-one_line_more line c = record { lines = line ∷ c.lines; rest = c.rest }
-
--- the lines of bytes that come behind the first part of a line
-abbrev pub cut : List ℕ → List ℕ → Cut
-cut part [] = record { lines = []; rest = part }
-cut part (b ∷ bytes) = cond (b == 10) (one_line_more part (cut [] bytes)) (cut (part ++ b ∷ []) bytes)
-
-abbrev pub last_line : List ℕ → List (List ℕ)
-last_line [] = []
-last_line (b ∷ bytes) = (b ∷ bytes) ∷ []
-
--- all lines of an input; the last line feed may be missing
-abbrev pub lines_of : List ℕ → List (List ℕ)
-lines_of bytes = (cut [] bytes).lines ++ last_line (cut [] bytes).rest
 
 -- the lines are answered in turn by this text, and lead from one position to another
 pub data Session (d : Debugging) : List (List ℕ) → List ℕ → Debugging → Type 0 where

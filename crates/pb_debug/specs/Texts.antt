@@ -6,6 +6,7 @@ use Rattle.pb_base.specs.declared.event.Event.{Event}
 use Rattle.pb_base.specs.declared.pick.Pick.{Pick}
 use Rattle.pb_base.specs.Lines.{NameTable, name_of, pick_text, line_of as event_line}
 use Rattle.pb_code.specs.Code.{CodeProcess, Thread, Idle, Live, Over, thread}
+use Rattle.pb_debug.specs.Lines.{line_numbered}
 use Rattle.pb_debug.specs.declared.fault.DebugFault.{DebugFault}
 use Rattle.pb_debug.specs.declared.fault.DebugFault.TheVariants.{PastEnd, NoProcess, NoArm, BadCommand, NoMemory, Device}
 use Rattle.pb_debug.specs.declared.why.Why.{Why}
@@ -50,8 +51,9 @@ not_reached_text = line (codes "not reached")
 abbrev pub help_text : List ℕ
 help_text =
     line (codes "to I") ++ line (codes "step N") ++ line (codes "back N") ++ line (codes "next") ++ line (codes "prev")
-    ++ line (codes "vars P") ++ line (codes "wrote P X") ++ line (codes "until P.a N") ++ line (codes "threads P") ++ line (codes "loans") ++ line (codes "who R")
-    ++ line (codes "line P.a") ++ line (codes "why P.a") ++ line (codes "help")
+    ++ line (codes "vars P") ++ line (codes "wrote P X") ++ line (codes "until P.a N") ++ line (codes "threads P") ++
+    line (codes "loans") ++ line (codes "who R")
+    ++ line (codes "line P.a") ++ line (codes "text P.a") ++ line (codes "why P.a") ++ line (codes "help")
 
 -- `NAME V`
 abbrev pub var_text : List ℕ → ℤ → List ℕ
@@ -95,6 +97,20 @@ loans_text names s =
 -- `line N`, `line none`
 abbrev pub line_text : Option ℕ → List ℕ
 line_text n = line (codes "line " ++ number_text n)
+
+abbrev pub no_text : List ℕ
+no_text = line (codes "no text")
+
+-- `N| TEXT`: a line of a source, if it has that line
+abbrev pub numbered_text : ℕ → Option (List ℕ) → List ℕ
+numbered_text n None = no_text
+numbered_text n (Some text) = line (decimal n ++ codes "| " ++ text)
+
+-- the line of a source with a number, if there is a source and a number
+abbrev pub source_text : Option (List ℕ) → Option ℕ → List ℕ
+source_text None n = no_text
+source_text (Some source) None = line_text None
+source_text (Some source) (Some n) = numbered_text n (line_numbered source n)
 
 -- names, each after a space
 abbrev pub names_text : NameTable → List ℕ → List ℕ

@@ -1,5 +1,5 @@
 -- What a contract sees of a debugger.
-use Rattle.std.specs.Prelude.{ℕ, ◌%◌, ◌<◌, ◌≤◌, List, length}
+use Rattle.std.specs.Prelude.{ℕ, ◌%◌, ◌<◌, ◌≤◌, List, length, Option, None}
 use Rattle.pb_base.specs.Banker.{BankerState}
 use Rattle.pb_base.specs.declared.pick.Pick.{Pick}
 use Rattle.pb_base.specs.Steppers.{State, banker_state}
@@ -10,11 +10,13 @@ use Rattle.pb_verifier.specs.Verified.{VerifiedCode, IsVerified}
 use Rattle.pb_history.specs.Positions.{AreEnabled, state_after}
 use Rattle.pb_debug.specs.Intervals.{interval_of}
 
--- the code, its labels and the picks stay; the position moves, and with it the cost of the last move
+-- the code, its labels, the picks, and the text whose lines are shown, if there is one, stay; the position moves, and with it the cost
+-- of the last move
 pub record Debugging : Type 0 where
   pub verified : VerifiedCode
   pub labels : List ProcessLabels
   pub picks : List Pick
+  pub source : Option (List ℕ)
   pub position : ℕ
   pub last_cost : ℕ
 
@@ -36,9 +38,13 @@ pub record IsPosition (d : Debugging) : Type 0 where
   pub cheap : d.last_cost < interval_of (length d.picks)
   pub fit : AreLabels d.verified.code d.labels
 
--- before any move
+-- before any move, with no text
 abbrev pub at_start : VerifiedCode → List ProcessLabels → List Pick → Debugging
-at_start v labels picks = record { verified = v; labels = labels; picks = picks; position = 0; last_cost = 0 }
+at_start v labels picks = record { verified = v; labels = labels; picks = picks; source = None; position = 0; last_cost = 0 }
+
+-- with a text whose lines are shown, or with none
+abbrev pub showing : Option (List ℕ) → Debugging → Debugging
+showing source d = record d { source = source }
 
 -- at another position, whose cost is that from the last checkpoint up to it
 abbrev pub moved_to : Debugging → ℕ → Debugging

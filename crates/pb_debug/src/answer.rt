@@ -1,7 +1,7 @@
 //! What a session answers to a line.
 
 ghost use Rattle.std.specs.Prelude.{◌≡◌, ◌++◌, ◌<◌, ◌≤◌, ℕ, List, length, map, slice_get, Some, OnOk, OnErr, IfSome, IfNone};
-ghost use Rattle.pb_debug.specs.Answers.{names_of, HasNoName, OfProcess, SaysVars, SaysThreads, SaysLine, SaysWho, SaysWhy};
+ghost use Rattle.pb_debug.specs.Answers.{names_of, HasNoName, OfProcess, SaysVars, SaysThreads, SaysLine, SaysText, SaysWho, SaysWhy};
 ghost use Rattle.pb_debug.specs.Answers.{Answers, AnswersCommand, AnswersNext, AnswersPrev, AnswersUntil, SaysEvent, SaysWrite, SaysWrote, ShowsAny};
 ghost use Rattle.pb_debug.specs.Texts.{at_text, loans_text};
 ghost use Rattle.pb_debug.specs.Value.{IsPosition, bank_state, moved_to, state_of};
@@ -11,6 +11,7 @@ use crate::command::{Command, read_command};
 use crate::debugger::Debugger;
 use crate::fault::DebugFault;
 use crate::search::{Watch, line_of_arm};
+use crate::source::put_source;
 use crate::text::{
     put_at, put_event, put_help, put_line, put_loans, put_never, put_no_event, put_not_reached,
     put_refusal, put_threads, put_vars, put_why, put_wrote,
@@ -208,6 +209,20 @@ impl<'c> Debugger<'c> {
         }
     }
 
+    fn say_text(&self, text: &mut Vec<u8>, word: ArmWord) -> Result<(), NoMemory>
+        ensures { OnOk result ((said : List ℕ)
+            × OfProcess (names_of self.now) word.entry.process.now (SaysText self.now word.entry.arm said) said
+            × (text.new.items ≡ text.old.items ++ said)) }
+    {
+        let Some(p) = self.process(word.process) else {
+            return put_refusal(text, DebugFault::NoProcess);
+        };
+        match self.line(p, word.arm as usize) {
+            Ok(line) => put_source(text, self.source, line),
+            Err(_) => put_refusal(text, DebugFault::NoArm),
+        }
+    }
+
     fn say_why(&self, text: &mut Vec<u8>, word: ArmWord) -> Result<(), NoMemory>
         ensures { OnOk result ((said : List ℕ)
             × OfProcess (names_of self.now) word.entry.process.now (SaysWhy self.now word.entry.arm said) said
@@ -249,6 +264,7 @@ impl<'c> Debugger<'c> {
             Command::Prev => self.say_prev(text),
             Command::Help => put_help(text),
             Command::Line(word) => self.say_line(text, word),
+            Command::Text(word) => self.say_text(text, word),
             Command::Why(word) => self.say_why(text, word),
         }
     }

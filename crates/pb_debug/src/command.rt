@@ -38,6 +38,8 @@ pub(crate) enum Command<'t> {
     Who(&'t [u8]),
     /// `line P.a`
     Line(ArmWord<'t>),
+    /// `text P.a`
+    Text(ArmWord<'t>),
     /// `why P.a`
     Why(ArmWord<'t>),
 }
@@ -82,6 +84,8 @@ fn keyed<'t>(key: &[u8], word: &'t [u8]) -> Option<Command<'t>>
         Some(Command::Wrote(integer_word(word)?))
     } else if is(key, "line") {
         Some(Command::Line(arm_word(word)?))
+    } else if is(key, "text") {
+        Some(Command::Text(arm_word(word)?))
     } else if is(key, "why") {
         Some(Command::Why(arm_word(word)?))
     } else if is(key, "who") {

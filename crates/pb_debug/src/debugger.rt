@@ -1,6 +1,6 @@
 //! Positions in the replay of a list of picks.
 
-ghost use Rattle.std.specs.Prelude.{◌≡◌, ◌<◌, ◌≤◌, ◌+◌, ◌-◌, length, IfOk, IfErr, OnOk, OnErr};
+ghost use Rattle.std.specs.Prelude.{◌≡◌, ◌<◌, ◌≤◌, ◌+◌, ◌-◌, length, IfOk, IfErr, OnOk, OnErr, option_map};
 ghost use Rattle.pb_code.specs.Limits.{AreLabels};
 ghost use Rattle.pb_code.specs.View.{labels_view};
 ghost use Rattle.pb_history.specs.Positions.{AreEnabled};
@@ -30,6 +30,7 @@ pub struct Debugger<'c> {
     pub(crate) verified: &'c Verified,
     pub(crate) labels: &'c Labels,
     pub(crate) trace: Trace,
+    pub(crate) source: Option<&'c [u8]>,
     pub(crate) interval: u32,
     checkpoints: Vec<Machine>,
     pub(crate) walker: Walker,
@@ -50,7 +51,7 @@ impl<'c> Model for Debugger<'c> {
 
 impl<'c> Debugger<'c> {
     ghost use Rattle.pb_debug.specs.Refusals.{IsMoveFault};
-    ghost use Rattle.pb_debug.specs.Value.{IsPosition, at_start, moved_to};
+    ghost use Rattle.pb_debug.specs.Value.{IsPosition, at_start, moved_to, showing};
 
     /// Returns the debugger of a compiled text and these picks, at position 0. It refuses as `replay` does: the first
     /// pick that is not enabled, or out of memory.
@@ -146,11 +147,22 @@ impl<'c> Debugger<'c> {
             verified,
             labels,
             trace,
+            source: None,
             interval,
             checkpoints,
             walker: Walker { machine, at: 0 },
             last_cost: 0,
         })
+    }
+
+    /// Returns the debugger with a text whose lines a session shows, or with none, as at first.
+    pub fn with_source(self, source: Option<&'c [u8]>) -> Debugger<'c>
+        ensures shown { result ≡ showing (option_map (λ text. text.now) source.entry) self.entry }
+        ensures placed { IsPosition result }
+    {
+        let mut debugger = self;
+        debugger.source = source;
+        debugger
     }
 
     /// Returns how many picks there are: the last position, at most 10,000,000.

@@ -11,6 +11,7 @@ pub mod laws;
 mod search;
 mod session;
 mod shown;
+mod source;
 mod text;
 mod walker;
 mod who;

@@ -1,18 +1,17 @@
 -- From what is said of each part of an input to what is said of it all.
-use Rattle.std.proofs.Common.{◌≡◌, ◌≢◌, ◌<◌, ◌≤◌, ◌++◌, ℕ, List, [], length, Option, Some, Result, Ok, Err, IfOk, OnErr, refl, sym, ap, ◌∙◌, subst, inl, inr, arith}
-use Rattle.pb_base.specs.Device.{one_more_failure, AddsPrefix, appended}
+use Rattle.std.proofs.Common.{◌≡◌, ◌≤◌, ℕ, List, [], length, Option, Some, Result, Ok, Err, IfOk, OnErr, refl, subst, inl, inr, arith}
 use Rattle.pb_base.specs.declared.memory.NoMemory.{NoMemory}
-use Rattle.pb_code.specs.Whole.{Code, ProcessLabels}
+use Rattle.pb_code.specs.Whole.{ProcessLabels}
 use Rattle.pb_codegen.specs.Compiled.{IsCompiled}
-use Rattle.pb_debug.specs.Value.{Debugging, IsPosition, at_start}
-use Rattle.pb_debug_engine.specs.Debugs.{AreThreeParts, GivesCode, IsObject, IsOpened, SaysOfCode, SaysOfDebug, SaysOfParts, SaysOfSession, debugged, no_memory, no_picks, no_room, no_source, with_code}
-use Rattle.pb_debug_engine.specs.Faults.{OneReadFailed, TellsAnyFault}
+use Rattle.pb_debug.specs.Value.{Debugging}
+use Rattle.pb_debug_engine.specs.Debugs.{GivesCode, IsObject, IsOpened, SaysOfCode, SaysOfDebug, SaysOfParts, SaysOfSession, debugged, no_memory, no_picks, no_room, no_source, with_code}
+use Rattle.pb_debug_engine.specs.Faults.{TellsAnyFault}
 use Rattle.pb_engines.proofs.PageLemmas.{AddsPrefix-longer}
 use Rattle.pb_engines.specs.Answers.{Says, Tells, memory_line}
-use Rattle.pb_engines.specs.Faults.{Devices, TellsWriteFaults, WriteFailed}
+use Rattle.pb_engines.specs.Faults.{TellsWriteFaults}
 use Rattle.pb_engines.specs.Inputs.{SaysOfInput, too_long, nothing, not_read, read}
 use Rattle.pb_engines.specs.Inputs as input
-use Rattle.pb_engines.specs.Loading.{IsLoaded, SaysOfNoCode}
+use Rattle.pb_engines.specs.Loading.{SaysOfNoCode}
 use Rattle.pb_engines.specs.Parts.{AreTwoParts}
 use Rattle.pb_engines.specs.Refusals.{SaysOfRefusedText}
 use Rattle.pb_engines.specs.ReplayLines.{SaysOfNoPicks}
@@ -24,37 +23,38 @@ use Rattle.pb_verifier.specs.Verified.{VerifiedCode}
 -- ---- the code of the first part
 
 -- a reply to lines that say no picks, or for which there was no memory
-pub no_picks_told : (verified : VerifiedCode) (labels : List ProcessLabels) (lines commands : List ℕ) (reply : Result Reply NoMemory)
+pub no_picks_told : (verified : VerifiedCode) (labels : List ProcessLabels) (shown : Option (List ℕ)) (lines commands : List ℕ) (reply : Result Reply NoMemory)
     (old new : Option (List ℕ)) (given : Status) → IfOk reply (λ r. SaysOfNoPicks verified.code lines r.text.items r.status)
     → IfOk reply (λ r. Says old new r.text.items r.status given) → OnErr reply (Says old new memory_line Memory given)
-    → Tells (SaysOfCode verified labels lines commands) old new given
-no_picks_told verified labels lines commands (Ok r) old new given is says memory =
+    → Tells (SaysOfCode verified labels shown lines commands) old new given
+no_picks_told verified labels shown lines commands (Ok r) old new given is says memory =
     (r.text.items, r.status, no_picks r.text.items r.status is, says)
-no_picks_told verified labels lines commands (Err e) old new given is says memory = (memory_line, Memory, no_memory, memory)
+no_picks_told verified labels shown lines commands (Err e) old new given is says memory = (memory_line, Memory, no_memory, memory)
 
 -- the commands are answered
-pub session_told : (verified : VerifiedCode) (labels : List ProcessLabels) (lines commands : List ℕ) (d : Debugging)
-    (old new : Option (List ℕ)) (given : Status) → IsOpened verified labels lines d → Tells (SaysOfSession d commands) old new given
-    → Tells (SaysOfCode verified labels lines commands) old new given
-session_told verified labels lines commands d old new given opened (text, status, is, says) =
+pub session_told : (verified : VerifiedCode) (labels : List ProcessLabels) (shown : Option (List ℕ)) (lines commands : List ℕ) (d : Debugging)
+    (old new : Option (List ℕ)) (given : Status) → IsOpened verified labels shown lines d → Tells (SaysOfSession d commands) old new given
+    → Tells (SaysOfCode verified labels shown lines commands) old new given
+session_told verified labels shown lines commands d old new given opened (text, status, is, says) =
     (text, status, debugged d opened text status is, says)
 
 -- ---- the three parts
 
-pub code_told : (source lines commands : List ℕ) (verified : VerifiedCode) (labels : List ProcessLabels) (old new : Option (List ℕ))
-    (given : Status) → GivesCode source verified.code labels → Tells (SaysOfCode verified labels lines commands) old new given
+pub code_told : (source lines commands : List ℕ) (verified : VerifiedCode) (labels : List ProcessLabels) (shown : Option (List ℕ)) (old new : Option (List ℕ))
+    (given : Status) → GivesCode source verified.code labels shown → Tells (SaysOfCode verified labels shown lines commands) old new given
     → Tells (SaysOfParts source lines commands) old new given
-code_told source lines commands verified labels old new given gives (text, status, is, says) =
-    (text, status, with_code verified labels gives text status is, says)
+code_told source lines commands verified labels shown old new given gives (text, status, is, says) =
+    (text, status, with_code verified labels shown gives text status is, says)
 
 -- the same, of code and labels that are seen so
-pub code_of_text_told : (source lines commands : List ℕ) (seen verified : VerifiedCode) (shown labels : List ProcessLabels)
+pub code_of_text_told : (source lines commands : List ℕ) (seen verified : VerifiedCode) (seen_labels labels : List ProcessLabels)
     (old new : Option (List ℕ)) (given : Status) → ¬ IsObject source → IsCompiled source verified.code labels → seen ≡ verified
-    → shown ≡ labels → Tells (SaysOfCode seen shown lines commands) old new given → Tells (SaysOfParts source lines commands) old new given
-code_of_text_told source lines commands seen verified shown labels old new given none compiled same same_labels tells =
-    code_told source lines commands verified labels old new given (inr (none, compiled))
-    (subst (λ (v : VerifiedCode). Tells (SaysOfCode v labels lines commands) old new given) same
-    (subst (λ (l : List ProcessLabels). Tells (SaysOfCode seen l lines commands) old new given) same_labels tells))
+    → seen_labels ≡ labels → Tells (SaysOfCode seen seen_labels (Some source) lines commands) old new given
+    → Tells (SaysOfParts source lines commands) old new given
+code_of_text_told source lines commands seen verified seen_labels labels old new given none compiled same same_labels tells =
+    code_told source lines commands verified labels (Some source) old new given (inr (none, compiled, refl))
+    (subst (λ (v : VerifiedCode). Tells (SaysOfCode v labels (Some source) lines commands) old new given) same
+    (subst (λ (l : List ProcessLabels). Tells (SaysOfCode seen l (Some source) lines commands) old new given) same_labels tells))
 
 -- a reply to an object that gives no code, or for which there was no memory
 pub no_code_told : (source lines commands : List ℕ) (reply : Result Reply NoMemory) (old new : Option (List ℕ)) (given : Status)

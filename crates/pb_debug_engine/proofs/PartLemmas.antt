@@ -1,13 +1,13 @@
 -- A part of an input that is read byte by byte, up to its line `%%`.
-use Rattle.std.proofs.Common.{◌≡◌, ◌≢◌, ℕ, zero, suc, ◌+◌, ◌-◌, ◌<◌, ◌≤◌, List, [], ◌∷◌, ◌++◌, length, take, drop, Option, Some, None, IfSome, get_or, refl, sym, ap, ◌∙◌, subst, inl, inr, arith, length-append, append-nil}
+use Rattle.std.proofs.Common.{◌≡◌, ℕ, zero, suc, ◌+◌, ◌-◌, ◌<◌, ◌≤◌, List, [], ◌∷◌, ◌++◌, length, take, drop, Option, Some, None, IfSome, get_or, refl, sym, ap, ◌∙◌, subst, inl, inr, arith, length-append}
 use Rattle.std.proofs.lemmas.List.{drop-append-le, take-append-le, take_all, length-take-le, length-drop}
 use Rattle.std.proofs.lemmas.Bool.{cases_lt}
 use Rattle.std.specs.Prelude.{◌⊎◌, slice_get}
 use Rattle.pb_base.specs.Device.{GivesNext, dropped}
 use Rattle.pb_base.proofs.DeviceLemmas.{next-bytes, prepended}
 use Rattle.pb_debug_engine.specs.Debugs.{AreThreeParts}
-use Rattle.pb_debug_engine.specs.Live.{EndsInMark, HasLongPart, IsLong}
-use Rattle.pb_engines.specs.Parts.{AreTwoParts, HasNoMarkBelow, IsMark, IsMarkAt}
+use Rattle.pb_debug_engine.specs.Live.{EndsInMark, IsLong}
+use Rattle.pb_engines.specs.Parts.{AreTwoParts, IsMark, IsMarkAt}
 
 -- ---- lists
 

@@ -6,9 +6,9 @@ use Rattle.pb_debug.specs.Value.{Debugging}
 use Rattle.pb_debug.specs.declared.fault.DebugFault.{DebugFault}
 use Rattle.pb_debug.specs.declared.fault.DebugFault.TheVariants as fault
 use Rattle.pb_debug_engine.specs.Debugs.{SaysOfSession, answered, out_of_memory, broken_off}
-use Rattle.pb_debug_engine.specs.Faults.{OneReadFailed, TellsAnyFault}
+use Rattle.pb_debug_engine.specs.Faults.{TellsAnyFault}
 use Rattle.pb_engines.specs.Answers.{Says, Tells, memory_line}
-use Rattle.pb_engines.specs.Faults.{Devices, TellsWriteFaults, WriteFailed}
+use Rattle.pb_engines.specs.Faults.{Devices, TellsWriteFaults}
 use Rattle.pb_engines.specs.declared.status.Status.{Status}
 use Rattle.pb_engines.specs.declared.status.Status.TheVariants.{Done, Memory, Device}
 use Rattle.pb_engines.proofs.PageLemmas.{Says-first, Says-then}

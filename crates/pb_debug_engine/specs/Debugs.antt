@@ -1,9 +1,10 @@
 -- What `debug` says of an input, and with which status.
-use Rattle.std.specs.Prelude.{◌≡◌, ◌++◌, ◌⊎◌, ℕ, List, codes, take}
+use Rattle.std.specs.Prelude.{◌≡◌, ◌++◌, ◌⊎◌, ℕ, List, codes, take, Option, Some, None}
 use Rattle.pb_code.specs.Whole.{Code, ProcessLabels}
 use Rattle.pb_codegen.specs.Compiled.{IsCompiled}
-use Rattle.pb_debug.specs.Sessions.{Session, lines_of, session_bytes}
-use Rattle.pb_debug.specs.Value.{Debugging, IsPosition, at_start}
+use Rattle.pb_debug.specs.Lines.{lines_of}
+use Rattle.pb_debug.specs.Sessions.{Session, session_bytes}
+use Rattle.pb_debug.specs.Value.{Debugging, IsPosition, at_start, showing}
 use Rattle.pb_engines.specs.Answers.{memory_line}
 use Rattle.pb_engines.specs.Loading.{IsLoaded, SaysOfNoCode}
 use Rattle.pb_engines.specs.Parts.{AreTwoParts}
@@ -28,21 +29,24 @@ AreThreeParts bytes source lines commands =
 abbrev pub IsObject : List ℕ → Type 0
 IsObject source = take 4 source ≡ codes "PBO "
 
--- the code and the labels that the first part gives
-abbrev pub GivesCode : (source : List ℕ) → Code → List ProcessLabels → Type 0
-GivesCode source code labels =
-    (IsObject source × IsLoaded source code labels) ⊎ ((¬ IsObject source) × IsCompiled source code labels)
+-- the code and the labels that the first part gives, and the text whose lines are shown: the first part, if it is not an object
+abbrev pub GivesCode : (source : List ℕ) → Code → List ProcessLabels → (shown : Option (List ℕ)) → Type 0
+GivesCode source code labels shown =
+    (IsObject source × IsLoaded source code labels × (shown ≡ None))
+    ⊎ ((¬ IsObject source) × IsCompiled source code labels × (shown ≡ Some source))
 
 -- what is said of a first part that gives none
 abbrev pub SaysOfNoSource : (source : List ℕ) → List ℕ → Status → Type 0
 SaysOfNoSource source text status =
     (IsObject source × SaysOfNoCode source text status) ⊎ ((¬ IsObject source) × SaysOfRefusedText source text status)
 
--- the debugger of the code and of the picks that the lines say, each enabled in turn, before the first of them
-pub record IsOpened (verified : VerifiedCode) (labels : List ProcessLabels) (lines : List ℕ) (d : Debugging) : Type 0 where
+-- the debugger of the code and of the picks that the lines say, each enabled in turn, before the first of them; with the text
+-- whose lines are shown
+pub record IsOpened (verified : VerifiedCode) (labels : List ProcessLabels) (shown : Option (List ℕ)) (lines : List ℕ) (d : Debugging)
+    : Type 0 where
   pub counted : List CountedPick
   pub spelled : SpellsPicks verified.code lines counted
-  pub opened : d ≡ at_start verified labels (spread counted)
+  pub opened : d ≡ showing shown (at_start verified labels (spread counted))
   pub placed : IsPosition d
 
 -- ---- what is said
@@ -59,22 +63,22 @@ pub data SaysOfSession (d : Debugging) (commands : List ℕ) : List ℕ → Stat
       → (text : List ℕ) (end : Debugging) → Session d lines text end → SaysOfSession d commands text Device
 
 -- of the code of the first part: the lines say no picks, or one of these is not enabled; or the answers to the commands are written
-pub data SaysOfCode (verified : VerifiedCode) (labels : List ProcessLabels) (lines commands : List ℕ)
+pub data SaysOfCode (verified : VerifiedCode) (labels : List ProcessLabels) (shown : Option (List ℕ)) (lines commands : List ℕ)
     : List ℕ → Status → Type 0 where
   no_picks : (text : List ℕ) (status : Status) → SaysOfNoPicks verified.code lines text status
-      → SaysOfCode verified labels lines commands text status
-  no_memory : SaysOfCode verified labels lines commands memory_line Memory
-  debugged : (d : Debugging) → IsOpened verified labels lines d
+      → SaysOfCode verified labels shown lines commands text status
+  no_memory : SaysOfCode verified labels shown lines commands memory_line Memory
+  debugged : (d : Debugging) → IsOpened verified labels shown lines d
       → (text : List ℕ) (status : Status) → SaysOfSession d commands text status
-      → SaysOfCode verified labels lines commands text status
+      → SaysOfCode verified labels shown lines commands text status
 
 -- of the three parts: the first gives no code; or it gives some
 pub data SaysOfParts (source lines commands : List ℕ) : List ℕ → Status → Type 0 where
   no_source : (text : List ℕ) (status : Status) → SaysOfNoSource source text status
       → SaysOfParts source lines commands text status
   no_room : SaysOfParts source lines commands memory_line Memory
-  with_code : (verified : VerifiedCode) (labels : List ProcessLabels) → GivesCode source verified.code labels
-      → (text : List ℕ) (status : Status) → SaysOfCode verified labels lines commands text status
+  with_code : (verified : VerifiedCode) (labels : List ProcessLabels) (shown : Option (List ℕ)) → GivesCode source verified.code labels shown
+      → (text : List ℕ) (status : Status) → SaysOfCode verified labels shown lines commands text status
       → SaysOfParts source lines commands text status
 
 -- of an input

@@ -1,5 +1,5 @@
 -- What `debug --live` says of an input, which it reads as it comes.
-use Rattle.std.specs.Prelude.{◌≡◌, ◌+◌, ◌-◌, ◌<◌, ◌≤◌, ◌⊎◌, ℕ, List, [], codes, length}
+use Rattle.std.specs.Prelude.{◌+◌, ◌-◌, ◌<◌, ◌≤◌, ◌⊎◌, ℕ, List, [], codes, length}
 use Rattle.pb_base.specs.declared.device.ReadFault.{ReadFault}
 use Rattle.pb_base.specs.declared.device.ReadFault.TheVariants as fault
 use Rattle.pb_debug_engine.specs.Debugs.{SaysOfDebug}

@@ -1,6 +1,6 @@
 //! The three parts of what is debugged: a text or an object, pick lines, and commands.
 
-ghost use Rattle.std.specs.Prelude.{◌≡◌, ◌≤◌, ◌↔◌, IfSome, IsTrue, length};
+ghost use Rattle.std.specs.Prelude.{◌≤◌, ◌↔◌, IfSome, IsTrue, length, option_map};
 ghost use Rattle.pb_code.specs.Limits.{AreLabels};
 ghost use Rattle.pb_code.specs.View.{labels_view};
 ghost use Rattle.pb_debug_engine.specs.Debugs.{IsObject, SaysOfCode, SaysOfParts};
@@ -27,18 +27,19 @@ fn is_object(source: &[u8]) -> bool
     source.starts_with(b"PBO ")
 }
 
-// Debugs the code that a first part gave.
+// Debugs the code that a first part gave, with the text whose lines are shown.
 fn debug_code<I: Input, O: Output>(
     alloc: Global,
     verified: &Verified,
     labels: &Labels,
+    shown: Option<&[u8]>,
     lines: &[u8],
     commands: &mut I,
     output: &mut O,
 ) -> Status
     requires { AreLabels verified.now.code (labels_view labels.now) }
     ensures text { IfSome (I.rest commands.old) (λ bytes.
-        Tells (SaysOfCode verified.now (labels_view labels.now) lines.now bytes)
+        Tells (SaysOfCode verified.now (labels_view labels.now) (option_map (λ text. text.now) shown.entry) lines.now bytes)
         (O.written output.old) (O.written output.new) result) }
     ensures faults { TellsAnyFault
         (record { reads = I.failures commands.old; writes = O.failures output.old; written = O.written output.old })
@@ -56,7 +57,10 @@ fn debug_code<I: Input, O: Output>(
         }
     };
     match Debugger::from_object_counted(alloc, verified, labels, picks.as_slice()) {
-        Ok(mut debugger) => tell_session(alloc, &mut debugger, commands, output),
+        Ok(debugger) => {
+            let mut debugger = debugger.with_source(shown);
+            tell_session(alloc, &mut debugger, commands, output)
+        }
         Err(fault) => tell(
             alloc,
             lines_refusal(alloc, LinesFault::NotMade(fault)),
@@ -85,7 +89,7 @@ pub fn debug_parts<I: Input, O: Output>(
     if is_object(source) {
         return match load(alloc, source) {
             Ok((verified, labels)) => {
-                debug_code(alloc, &verified, &labels, lines, commands, output)
+                debug_code(alloc, &verified, &labels, None, lines, commands, output)
             }
             Err(fault) => tell(alloc, load_refusal(alloc, fault), output),
         };
@@ -96,6 +100,7 @@ pub fn debug_parts<I: Input, O: Output>(
                 alloc,
                 compiled.verified(),
                 compiled.labels(),
+                Some(source),
                 lines,
                 commands,
                 output,

@@ -12,7 +12,7 @@ struct Case {
     status: Status,
 }
 
-const CASES: [Case; 9] = [
+const CASES: [Case; 11] = [
     Case {
         input: b"resource tape = 1; resource disk = 1;\nprocess a begin hold 1 of tape do hold 1 of disk do skip od od end\nprocess b begin hold 1 of disk do hold 1 of tape do skip od od end\n%%\na.0 1\n%%\nto 1\nwhy b.0\nwhy a.0\nline b.0\nback 2\nloans\n",
         said: b"at 1\nrest a b\norder a b\nline 3\nrefused G1\na holds 1 tape claim 1\na holds 0 disk claim 1\nb holds 0 tape claim 1\nb holds 0 disk claim 1\ncash 0 tape\ncash 1 disk\n",
@@ -26,6 +26,16 @@ const CASES: [Case; 9] = [
     Case {
         input: b"PBO 1\nresources 0\nprocesses 1\nprocess p\nvars 1\narms 1\nclaims\narm 0\ncode 7\npush 2\npush 3\nadd\nstore 0\nload 0\nprint\nend\n%%\np.0 4\n%%\nto 4\nvars p\nline p.0\n%%\n",
         said: b"at 4\nv0 5\nline none\nrefused G4\n",
+        status: Status::Done,
+    },
+    Case {
+        input: b"process p begin print 1;\nprint 2 end\n%%\np.0 5\n%%\ntext p.0\nto 2\ntext p.0\nto 5\ntext p.0\n",
+        said: b"1| process p begin print 1;\nat 2\n2| print 2 end\nat 5\nline none\n",
+        status: Status::Done,
+    },
+    Case {
+        input: b"PBO 2\nresources 0\nprocesses 1\nprocess p\nvars 1 x\narms 1\nclaims\narm 0\ncode 7\n1 push 2\n1 push 3\n1 add\n1 store 0\n1 load 0\n1 print\n0 end\n%%\np.0 4\n%%\nline p.0\ntext p.0\ntext p.1\ntext q.0\n",
+        said: b"line 1\nno text\nrefused G3\nrefused G2\n",
         status: Status::Done,
     },
     Case {

@@ -102,7 +102,7 @@ const CASES: [Case; 9] = [
         text: TWICE,
         picks: &[A, A, A, A, A],
         commands: b"until p.0 2\nuntil p.0 2\nback 2\nprev\nnext\nnext\nnext\nnext\nprev\nprev\nprev\nhelp\n",
-        said: b"at 2\nnot reached\nat 0\nno event\nat 2 p.0 print 1\nat 4 p.0 print 2\nat 5 p end\nno event\nat 4 p.0 print 2\nat 2 p.0 print 1\nno event\nto I\nstep N\nback N\nnext\nprev\nvars P\nwrote P X\nuntil P.a N\nthreads P\nloans\nwho R\nline P.a\nwhy P.a\nhelp\n",
+        said: b"at 2\nnot reached\nat 0\nno event\nat 2 p.0 print 1\nat 4 p.0 print 2\nat 5 p end\nno event\nat 4 p.0 print 2\nat 2 p.0 print 1\nno event\nto I\nstep N\nback N\nnext\nprev\nvars P\nwrote P X\nuntil P.a N\nthreads P\nloans\nwho R\nline P.a\ntext P.a\nwhy P.a\nhelp\n",
     },
     Case {
         text: PRINT,
@@ -130,6 +130,38 @@ fn commands_are_answered(rt: HostRuntime) {
     for case in &CASES {
         assert!(rt; says(rt.alloc(), case) == Some(true));
     }
+}
+
+/// Whether `text` shows the lines of this text so.
+fn shows_lines(alloc: Global, source: Option<&[u8]>, said: &[u8]) -> Option<bool> {
+    let compiled = compile(alloc, alloc, TWICE).ok()?;
+    let debugger = Debugger::new(alloc, &compiled, &[A, A, A, A, A]).ok()?;
+    let mut debugger = debugger.with_source(source);
+    let commands = b"text p.0\nto 2\ntext p.0\nto 5\ntext p.0\ntext p.1\ntext q.0\ntext p\n";
+    let mut input = MemoryInput::new(commands);
+    let mut output = MemoryOutput::new(alloc, 200).ok()?;
+    debugger.session(&mut input, &mut output).ok()?;
+    Some(output.as_slice() == said)
+}
+
+/// A text of one line, without a line feed and with one, and a text of two empty lines.
+const ONE: &[u8] = b"one";
+
+const ONE_ENDED: &[u8] = b"one\n";
+
+const EMPTY: &[u8] = b"\n\n";
+
+#[test]
+fn lines_of_the_text(rt: HostRuntime) {
+    let whole = b"1| process p begin print 1;\nat 2\n2| print 2 end\nat 5\nline none\nrefused G3\nrefused G2\nrefused G4\n";
+    assert!(rt; shows_lines(rt.alloc(), Some(TWICE), whole) == Some(true));
+    let first = b"1| one\nat 2\nno text\nat 5\nline none\nrefused G3\nrefused G2\nrefused G4\n";
+    assert!(rt; shows_lines(rt.alloc(), Some(ONE), first) == Some(true));
+    assert!(rt; shows_lines(rt.alloc(), Some(ONE_ENDED), first) == Some(true));
+    let empty = b"1| \nat 2\n2| \nat 5\nline none\nrefused G3\nrefused G2\nrefused G4\n";
+    assert!(rt; shows_lines(rt.alloc(), Some(EMPTY), empty) == Some(true));
+    let none = b"no text\nat 2\nno text\nat 5\nno text\nrefused G3\nrefused G2\nrefused G4\n";
+    assert!(rt; shows_lines(rt.alloc(), None, none) == Some(true));
 }
 
 /// Whether a line of this number of letters is refused once, and the next line is read.

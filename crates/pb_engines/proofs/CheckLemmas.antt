@@ -1,5 +1,5 @@
 -- Texts that are looked at one after another, and their answers.
-use Rattle.std.proofs.Common.{◌≡◌, ℕ, ◌+◌, ◌-◌, Bool, true, false, List, [], ◌∷◌, ◌++◌, drop, Option, Some, None, IfSome, IfNone, refl, sym, subst, inl, inr, append_assoc, append-nil, ◌||◌}
+use Rattle.std.proofs.Common.{◌≡◌, ℕ, ◌+◌, Bool, true, false, List, [], ◌∷◌, ◌++◌, drop, Option, Some, None, IfSome, IfNone, refl, sym, subst, inl, inr, append_assoc, append-nil, ◌||◌}
 use Rattle.pb_base.specs.Device.{AddsPrefix}
 use Rattle.pb_engines.specs.Answers.{line, memory_line, Leaves, Says, Tells, Spoken}
 use Rattle.pb_engines.specs.Checks.{ill, AnswersTo, none, then, IsLeft, AreFirstParts, check_status, SaysOfChecks, answered, out_of_memory, cut_off, TellsAnswer, AreTold}
@@ -61,7 +61,8 @@ pub told_all : (bytes rest part : List ℕ) (w : Option (List ℕ)) (refused is 
     → AreTold bytes rest w refused old → part ≡ rest → ((at : ℕ) → ¬ IsMarkAt rest at) → TellsAnswer part old new (told.Answered is)
     → status ≡ check_status (refused || is) → Says new.written final new.page status given → Tells (SaysOfChecks bytes) w final given
 told_all bytes rest part w refused is old new final status given are same no_mark (answer, answers, leaves) status_is says =
-    let waits : Says new.written final (new.page ++ []) status given = subst (λ (t : List ℕ). Says new.written final t status given) (sym (append-nil new.page)) says in
+    let waits : Says new.written final (new.page ++ []) status given = subst (λ (t : List ℕ). Says new.written final t
+    status given) (sym (append-nil new.page)) says in
     let whole = Says-more w new.written final [] (are.said ++ answer) [] new.page status given
     (Leaves-more w old.written new.written [] are.said answer old.page new.page are.told leaves) waits in (
       are.said ++ answer,

@@ -1,5 +1,5 @@
 -- A process has faulted exactly if a fault was shown.
-use Rattle.std.proofs.Common.{◌≡◌, ◌≢◌, ◌⊎◌, ℕ, zero, suc, ◌+◌, List, [], ◌∷◌, ◌++◌, Option, Some, None, true, false, map, option_to_list, refl, sym, ap, ◌∙◌, subst, inl, inr, arith}
+use Rattle.std.proofs.Common.{◌≡◌, ◌≢◌, ◌⊎◌, ℕ, zero, suc, List, [], ◌∷◌, ◌++◌, Option, Some, None, true, false, map, option_to_list, refl, sym, ap, ◌∙◌, subst, inl, inr, arith}
 use Rattle.std.specs.Prelude.{slice_get, slice_set}
 use Rattle.std.proofs.lemmas.Bool.{cases_lt}
 use Rattle.pb_base.specs.declared.event.Event.{Event}
@@ -76,7 +76,8 @@ module _ (v : VerifiedCode) (verified : IsVerified v) where
         | inr other ↦ inl (p, process, sym (slice_set_other s.processes pick.process p m.after other) ∙ here, faulted)
         | inl is ↦
             let after : m.after ≡ process =
-            slice_set_same s.processes pick.process m.after process (subst (λ (i : ℕ). slice_get (slice_set s.processes pick.process m.after) i ≡ Some process) is here) in
+            slice_set_same s.processes pick.process m.after process (subst (λ (i : ℕ). slice_get (slice_set
+            s.processes pick.process m.after) i ≡ Some process) is here) in
             elim (fault_or_not m.effect) [
               | inl (kind, fault) ↦ inr (kind, sym made.3 ∙ ap (event_of pick) (sym same ∙ fault))
               | inr none ↦ inl (pick.process, m.before, m.here, sym (turn.stays none) ∙ (ap (λ (q : CodeProcess). q.faulted) after ∙ faulted))
@@ -100,9 +101,21 @@ module _ (v : VerifiedCode) (verified : IsVerified v) where
             let first : Some process ≡ Some m.before = sym there ∙ (ap (slice_get s.processes) is ∙ m.here) in
             let before : process ≡ m.before = cc in
             elim (fault_or_not m.effect) [
-              | inl (kind, fault) ↦ (pick.process, m.after, at m.after pick.process (set_within s.processes pick.process m.after m.before m.here), turn.fails kind fault)
-              | inr none ↦
-                  (pick.process, m.after, at m.after pick.process (set_within s.processes pick.process m.after m.before m.here), turn.stays none ∙ (ap (λ (q : CodeProcess). q.faulted) (sym before) ∙ faulted))
+              | inl (kind, fault) ↦ (
+                pick.process,
+                m.after,
+                at m.after pick.process (set_within s.processes
+                    pick.process m.after m.before m.here),
+                turn.fails kind fault,
+              )
+              | inr none ↦ (
+                pick.process,
+                m.after,
+                at m.after pick.process (set_within s.processes pick.process m.after
+                    m.before m.here),
+                turn.stays none ∙ (ap (λ (q : CodeProcess). q.faulted) (sym before) ∙
+                    faulted),
+              )
             ]
       ]
 

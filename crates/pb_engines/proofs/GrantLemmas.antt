@@ -65,7 +65,8 @@ each_or_not P tell (x ∷ xs) = elim (tell x) [
 module _ (s : BankerState) where
   fits_or_not : (before : List ℕ) (p : ℕ) → FitsAfter s before p ⊎ ¬ FitsAfter s before p
   fits_or_not before p =
-      elim (all_below_or_not (λ r. remaining_claim s p r ≤ cash s r + held_by s before r) (λ r. at_most_or_not (remaining_claim s p r) (cash s r + held_by s before r)) (resources s)) [
+      elim (all_below_or_not (λ r. remaining_claim s p r ≤ cash s r + held_by s before r) (λ r. at_most_or_not
+      (remaining_claim s p r) (cash s r + held_by s before r)) (resources s)) [
         | inl all ↦ inl (record { each = all })
         | inr some_not ↦ inr (λ fits. some_not fits.each)
       ]

@@ -1,5 +1,6 @@
 pub mod AcceptLemmas
 pub mod AcceptedTexts
+pub mod Apart
 pub mod CheckLemmas
 pub mod ChoiceLemmas
 pub mod ClaimLemmas
@@ -21,5 +22,6 @@ pub mod ReplayedRecords
 pub mod ReportLemmas
 pub mod RunLemmas
 pub mod ScheduleLemmas
+pub mod SeededRuns
 pub mod SpanLemmas
 pub mod TextLemmas

@@ -36,6 +36,7 @@ use Rattle.pb_engines.specs.Runs.{IsDone, Run}
 use Rattle.pb_engines.specs.declared.reply.Reply.{Reply}
 use Rattle.pb_engines.specs.declared.status.Status.{Status}
 use Rattle.pb_engines.specs.declared.status.Status.TheVariants.{Done, Refused, Threads}
+use Rattle.pb_engines.proofs.Apart.{apart_rest, some_first}
 use Rattle.pb_engines.proofs.RunLemmas.{CodeMakes, makes_last}
 use Rattle.pb_engines.proofs.ScheduleLemmas.{no_such_arm, no_such_process}
 
@@ -144,7 +145,8 @@ abbrev IsThere : Code → Pick → Type 0
 IsThere code pick = (process : ProcessCode) × (slice_get code.processes pick.process ≡ Some process) × (pick.arm < length process.entries)
 
 module _ (code : Code) (annotated : IsAnnotated code) where
-  enabled_is_there : (s next : State CodeProcess) (pick : Pick) (event : Option Event) → CodeReaches code s → CodeMoves code s pick event next → IsThere code pick
+  enabled_is_there : (s next : State CodeProcess) (pick : Pick) (event : Option Event) → CodeReaches code s →
+      CodeMoves code s pick event next → IsThere code pick
   enabled_is_there s next pick event reached moves = elim (cases_lt pick.process (length s.processes)) [
     | inr le ↦ absurd (no_such_process code s pick le (record { next = next; effect = moves.0 }) moves.1 moves.2)
     | inl lt ↦
@@ -186,14 +188,6 @@ module _ (code : Code) (annotated : IsAnnotated code) where
   first_is_there zero s end pick picks events some reached makes = absurd (omega (arith, some))
   first_is_there (suc n) s end pick picks events some reached makes = (one_on s end pick (replicate n pick ++ picks) events reached makes).0
 
-  some_first : (c : CountedPick) (picks : List CountedPick) → AreApart (c ∷ picks) → 0 < c.count
-  some_first c [] apart = apart
-  some_first c (d ∷ picks) apart = apart.0
-
-  apart_rest : (c : CountedPick) (picks : List CountedPick) → AreApart (c ∷ picks) → AreApart picks
-  apart_rest c [] apart = tt
-  apart_rest c (d ∷ picks) apart = apart.2
-
   said_from : (s end : State CodeProcess) (picks : List CountedPick) (events : List Event) → AreApart picks → length (spread picks) ≤ 10000000
       → CodeReaches code s → Makes (bank_of code) (code_step code.processes) s (spread picks) events end → CanBeSaid code picks
   said_from s end [] events apart few reached makes = All-nil (λ (c : CountedPick). Says code (pick_line code.names.processes c) c)
@@ -214,7 +208,8 @@ module _ (code : Code) (annotated : IsAnnotated code) where
       All-cons (λ (d : CountedPick). Says code (pick_line code.names.processes d) d) c picks says
       (said_from rest.0 end picks rest.1 (apart_rest c picks apart) (omega (arith, all, few)) rest.2 rest.3)
 
-  pub recorded_can_be_said : (steps : ℕ) (seed : Option ℕ) (picks : List CountedPick) → steps ≤ 10000000 → IsRecorded code steps seed picks → CanBeSaid code picks
+  pub recorded_can_be_said : (steps : ℕ) (seed : Option ℕ) (picks : List CountedPick) → steps ≤ 10000000 → IsRecorded
+      code steps seed picks → CanBeSaid code picks
   recorded_can_be_said steps seed picks most recorded =
       let few = recorded.few in
       said_from (code_opening code) recorded.end picks recorded.events recorded.apart (omega (arith, few, most))

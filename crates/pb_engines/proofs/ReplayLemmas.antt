@@ -1,5 +1,5 @@
 -- Picks that are made again, and their events, told one after another.
-use Rattle.std.proofs.Common.{◌≡◌, ℕ, zero, suc, ◌+◌, ◌≤◌, List, [], ◌∷◌, ◌++◌, length, take, Option, Some, None, All, option_to_list, Result, Ok, Err, IfOk, OnErr, refl, sym, ap, subst, inl, inr, arith}
+use Rattle.std.proofs.Common.{◌≡◌, ℕ, zero, suc, ◌≤◌, List, [], ◌∷◌, ◌++◌, length, take, Option, Some, None, All, option_to_list, Result, Ok, Err, IfOk, OnErr, refl, sym, ap, subst, inl, inr, arith}
 use Rattle.std.proofs.lemmas.List.{length-map}
 use Rattle.pb_base.specs.declared.event.Event.{Event}
 use Rattle.pb_base.specs.declared.memory.NoMemory.{NoMemory}

@@ -112,21 +112,21 @@ no_refusal_told names events end _ _ (all_told last its_last _ (no_fault none)) 
 no_refusal_told names events end _ _ (out_of_memory n) same = absurd cc
 
 -- compiled code has no fault
-is_annotated : (text : List ℕ) (code : Code) (labels : List ProcessLabels) → IsCompiled text code labels → IsAnnotated code
+pub is_annotated : (text : List ℕ) (code : Code) (labels : List ProcessLabels) → IsCompiled text code labels → IsAnnotated code
 is_annotated text code labels compiled =
     let capital : code.capital ≡ capital_of compiled.program = ap (λ (c : Code). c.capital) compiled.generated in
     let enough : FitCapital code.claims (capital_of compiled.program) =
     subst (λ (c : List ℕ). FitCapital code.claims c) capital compiled.enough in
     subst IsAnnotated (sym compiled.generated) (sound text compiled.program code.claims compiled.numbered enough).annotated
 
-module _ (steps : ℕ) (seed : Option ℕ) (bytes : List ℕ) (most : steps ≤ 10000000) where
+module _ (steps : ℕ) (seed : Option ℕ) (bytes : List ℕ) where
   -- the code of a text, and what was written of it
-  abbrev Wrote : List ℕ → Type 0
+  abbrev pub Wrote : List ℕ → Type 0
   Wrote whole =
       (code : Code) × (labels : List ProcessLabels) × IsCompiled bytes code labels × (ended : List ℕ) × (picks : List CountedPick)
       × IsEnded bytes ended × IsRecorded code steps seed picks × (whole ≡ with_picks ended code.names picks)
 
-  wrote : (whole : List ℕ) (status : Status) → SaysOfRecord steps seed bytes whole status → status ≡ Done → Wrote whole
+  pub wrote : (whole : List ℕ) (status : Status) → SaysOfRecord steps seed bytes whole status → status ≡ Done → Wrote whole
   wrote _ _ (refused _ _ (by_line refusal is)) done = absurd cc
   wrote whole status (accepted code labels compiled _ _ says) done = go whole status says done
     where
@@ -135,6 +135,7 @@ module _ (steps : ℕ) (seed : Option ℕ) (bytes : List ℕ) (most : steps ≤ 
       go _ _ (too_long ended picks is recorded long) done = absurd cc
       go _ _ (no_threads none) done = absurd cc
 
+module _ (steps : ℕ) (seed : Option ℕ) (bytes : List ℕ) (most : steps ≤ 10000000) where
   module _ (code : Code) (labels : List ProcessLabels) (compiled : IsCompiled bytes code labels) (ended : List ℕ)
       (picks : List CountedPick) (is : IsEnded bytes ended) (recorded : IsRecorded code steps seed picks) where
     annotated : IsAnnotated code
@@ -164,7 +165,8 @@ module _ (steps : ℕ) (seed : Option ℕ) (bytes : List ℕ) (most : steps ≤ 
     never_refused room whole _ _ e (no_text text lines cut refusal is_refused) refuses =
         let same = cut_of text lines (subst (λ (w : List ℕ). AreTwoParts w text lines) e cut) in
         let here = ended_is_compiled bytes ended code labels is (ended_is_short bytes ended is compiled.numbered.spelled.cut.short room) compiled in
-        absurd (accepted_is_not_refused ended (compiled_is_accepted ended code labels here) refusal (subst (λ (t : List ℕ). RefusesWith t refusal) same.0 is_refused))
+        absurd (accepted_is_not_refused ended (compiled_is_accepted ended code labels here) refusal (subst (λ (t :
+        List ℕ). RefusesWith t refusal) same.0 is_refused))
     never_refused room whole _ _ e (no_picks text lines cut other others is_other _ _ (not_made fault faulty refusal its_line)) refuses =
         let same = cut_of text lines (subst (λ (w : List ℕ). AreTwoParts w text lines) e cut) in
         let here = ended_is_compiled bytes ended code labels is (ended_is_short bytes ended is compiled.numbered.spelled.cut.short room) compiled in
@@ -180,7 +182,7 @@ module _ (steps : ℕ) (seed : Option ℕ) (bytes : List ℕ) (most : steps ≤ 
 
 pub records_can_be_replayed : RecordsCanBeReplayed
 records_can_be_replayed steps seed bytes whole most says =
-    let (code, labels, compiled, ended, picks, is, recorded, same) = wrote steps seed bytes most whole Done says refl in record {
+    let (code, labels, compiled, ended, picks, is, recorded, same) = wrote steps seed bytes whole Done says refl in record {
       cut = λ text lines cut. holds steps seed bytes most code labels compiled ended picks is recorded text lines
           (subst (λ (w : List ℕ). AreTwoParts w text lines) same cut);
       replayed = λ room said status replay.

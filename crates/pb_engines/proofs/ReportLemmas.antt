@@ -36,7 +36,8 @@ use Rattle.pb_engines.proofs.RunLemmas.{CodeMakes}
 -- ---- the run that is reported
 
 -- the run of a trace
-abbrev run_of_entries : (code : Code) (end : State CodeProcess) (entries : List Entry) → Leads code (code_opening code) entries end → Run code (events_of entries) end
+abbrev run_of_entries : (code : Code) (end : State CodeProcess) (entries : List Entry) → Leads code (code_opening
+    code) entries end → Run code (events_of entries) end
 run_of_entries code end entries leads = record {
   picks = picks_of entries;
   makes = traces_make code (code_opening code) end entries leads;
@@ -148,7 +149,8 @@ told_report v names steps report w now new page answered verified is same told (
       (
         events_of report.trace.entries,
         length (picks_of report.trace.entries),
-        done is.end (run_of_entries v.code is.end report.trace.entries is.leads) few over (λ fault. none (faults_are_shown v verified is.end report.trace.entries is.leads fault)),
+        done is.end (run_of_entries v.code is.end report.trace.entries is.leads) few over (λ fault. none
+            (faults_are_shown v verified is.end report.trace.entries is.leads fault)),
       ),
       behind (line (codes "done")) Done says,
     )
@@ -158,7 +160,8 @@ told_report v names steps report w now new page answered verified is same told (
       (
         events_of report.trace.entries,
         length (picks_of report.trace.entries),
-        faulted is.end (run_of_entries v.code is.end report.trace.entries is.leads) few over (shown_faults_are v verified is.end report.trace.entries is.leads shown),
+        faulted is.end (run_of_entries v.code is.end report.trace.entries is.leads) few over (shown_faults_are v
+            verified is.end report.trace.entries is.leads shown),
       ),
       behind (line (codes "done")) Fault says,
     )

@@ -1,5 +1,5 @@
--- What `record` wrote can be replayed.
-use Rattle.std.specs.Prelude.{◌≢◌, ◌⊎◌, ℕ, ◌<◌, ◌≤◌, List, Option, length}
+-- What `record` wrote can be replayed, and a seed decides it.
+use Rattle.std.specs.Prelude.{◌≡◌, ◌≢◌, ◌⊎◌, ℕ, ◌<◌, ◌≤◌, List, Option, Some, length}
 use Rattle.pb_code.specs.Whole.{Code, ProcessLabels}
 use Rattle.pb_codegen.specs.Compiled.{IsCompiled}
 use Rattle.pb_history.specs.declared.counted.CountedPick.{CountedPick}
@@ -33,3 +33,9 @@ abbrev pub RecordsCanBeReplayed : Type 0
 RecordsCanBeReplayed =
     (steps : ℕ) (seed : Option ℕ) (bytes whole : List ℕ) → steps ≤ 10000000 → SaysOfRecord steps seed bytes whole Done
     → CanBeReplayed steps seed bytes whole
+
+-- two records of one text with one seed are the same bytes
+abbrev pub SeedsWriteOneRecord : Type 0
+SeedsWriteOneRecord =
+    (steps seed : ℕ) (bytes one other : List ℕ) → SaysOfRecord steps (Some seed) bytes one Done
+    → SaysOfRecord steps (Some seed) bytes other Done → one ≡ other

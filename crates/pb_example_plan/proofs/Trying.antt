@@ -83,7 +83,8 @@ pub none_of : (code : Code) (s now : State CodeProcess) (p n : ℕ) (process : C
 none_of code s now p n process below same there long = (
   λ pick of. elim (cases_lt pick.arm n) [
     | inl before ↦ below pick of before
-    | inr not_before ↦ no_such_arm code s pick process (subst (λ (k : ℕ). slice_get s.processes k ≡ Some process) (sym of) there) (omega (arith, long, not_before))
+    | inr not_before ↦ no_such_arm code s pick process (subst (λ (k : ℕ). slice_get s.processes k ≡ Some process) (sym
+        of) there) (omega (arith, long, not_before))
   ],
   same,
 )

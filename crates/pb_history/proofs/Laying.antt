@@ -56,7 +56,8 @@ entries_joined t s events more h le quiet same =
 
 entries_one : (t s : Span) (events more : List Event) (joined : Bool) → AreLaid (t ∷ []) events → marks s.shows ≤ s.count
     → (not t.shows && are_same t.pick s.pick) ≡ joined
-    → entries_of (cond joined (record s { count = t.count + s.count } ∷ []) (t ∷ (s ∷ []))) (events ++ more) ≡ entries_of (t ∷ []) events ++ entries_of (s ∷ []) more
+    → entries_of (cond joined (record s { count = t.count + s.count } ∷ []) (t ∷ (s ∷ []))) (events ++ more) ≡
+    entries_of (t ∷ []) events ++ entries_of (s ∷ []) more
 entries_one t s events more true h le j =
     let same = joins_same t s j in
     entries_joined t s events more h le same.0 same.1
@@ -95,7 +96,8 @@ laid_added (t ∷ []) events s more h lt count = laid_one t s events more (not t
 laid_added (t ∷ (u ∷ spans)) events s more h lt count = (
   h.0,
   (let l = length-append events more in let m = h.1 in omega (arith, l, m)),
-  subst (AreLaid (added (u ∷ spans) s)) (sym (drop-append-le (marks t.shows) events more h.1)) (laid_added (u ∷ spans) (drop (marks t.shows) events) s more h.2 lt count),
+  subst (AreLaid (added (u ∷ spans) s)) (sym (drop-append-le (marks t.shows) events more h.1)) (laid_added (u ∷ spans)
+      (drop (marks t.shows) events) s more h.2 lt count),
 )
 
 marks_one : (b : Bool) → marks b ≤ 1
@@ -151,7 +153,8 @@ length_added (t ∷ (u ∷ spans)) s = let r = length_added (u ∷ spans) s in o
 
 events_of-append : (xs ys : List Entry) → events_of (xs ++ ys) ≡ events_of xs ++ events_of ys
 events_of-append [] ys = refl
-events_of-append (x ∷ xs) ys = ap (λ (es : List Event). option_to_list x.event ++ es) (events_of-append xs ys) ∙ sym (append_assoc (option_to_list x.event) (events_of xs) (events_of ys))
+events_of-append (x ∷ xs) ys = ap (λ (es : List Event). option_to_list x.event ++ es) (events_of-append xs ys) ∙ sym
+    (append_assoc (option_to_list x.event) (events_of xs) (events_of ys))
 
 events_of-silent : (pick : Pick) (n : ℕ) → events_of (silent_picks pick n) ≡ []
 events_of-silent pick zero = refl
@@ -201,7 +204,8 @@ laid_picks (s ∷ spans) events h =
     map-append (λ (e : Entry). e.pick) silent (map (shown s.pick) (take n events) ++ rest)
     ∙ (ap (λ (ps : List Pick). ps ++ picks_of (map (shown s.pick) (take n events) ++ rest)) (picks_silent s.pick (s.count - n))
     ∙ (ap (λ (ps : List Pick). replicate (s.count - n) s.pick ++ ps) (map-append (λ (e : Entry). e.pick) (map (shown s.pick) (take n events)) rest)
-    ∙ (ap (λ (ps : List Pick). replicate (s.count - n) s.pick ++ (ps ++ picks_of rest)) (picks_shown s.pick (take n events) ∙ ap (λ (k : ℕ). replicate k s.pick) (length-take-le n events h.1))
+    ∙ (ap (λ (ps : List Pick). replicate (s.count - n) s.pick ++ (ps ++ picks_of rest)) (picks_shown s.pick (take n
+    events) ∙ ap (λ (k : ℕ). replicate k s.pick) (length-take-le n events h.1))
     ∙ (sym (append_assoc (replicate (s.count - n) s.pick) (replicate n s.pick) (picks_of rest))
     ∙ (ap (λ (ps : List Pick). ps ++ picks_of rest) (replicate_append (s.count - n) n s.pick ∙ ap (λ (k : ℕ). replicate k s.pick) whole)
     ∙ ap (λ (ps : List Pick). replicate s.count s.pick ++ ps) (laid_picks spans (drop n events) h.2))))))

@@ -24,7 +24,8 @@ leads_append code a b c [] ys h k = subst (λ s. Leads code s ys c) h k
 leads_append code a b c (x ∷ xs) ys h k = (h.0, h.1, leads_append code h.0 b c xs ys h.2 k)
 
 -- one more pick
-pub leads_more : (code : Code) (a b c : State CodeProcess) (xs : List Entry) (pick : Pick) (event : Option Event) → Leads code a xs b → CodeMoves code b pick event c
+pub leads_more : (code : Code) (a b c : State CodeProcess) (xs : List Entry) (pick : Pick) (event : Option Event) →
+    Leads code a xs b → CodeMoves code b pick event c
     → Leads code a (xs ++ record { pick = pick; event = event } ∷ []) c
 leads_more code a b c xs pick event h m = leads_append code a b c xs (record { pick = pick; event = event } ∷ []) h (c, m, refl)
 
@@ -66,7 +67,8 @@ silent_lead code s pick (suc n) before after there h =
     let here = slice_get-set_same s.processes pick.process h.0 before there in
     let step = silent_move code mid pick h.0 after here h.2 in
     subst (λ (es : List Entry). Leads code s es (with_process s pick.process after)) (sym (replicate_more n (record { pick = pick; event = None })))
-    (subst (λ (ps : List CodeProcess). Leads code s (silent_picks pick n ++ record { pick = pick; event = None } ∷ []) (state ps)) (set_again s.processes pick.process h.0 after)
+    (subst (λ (ps : List CodeProcess). Leads code s (silent_picks pick n ++ record { pick = pick; event = None } ∷ [])
+    (state ps)) (set_again s.processes pick.process h.0 after)
     (leads_more code s mid _ (silent_picks pick n) pick None (silent_lead code s pick n before h.0 there h.1) step))
 
 -- one more pick of a replay
@@ -74,7 +76,8 @@ pub replay_more : (code : Code) (picks : List Pick) (i : ℕ) (entries : List En
     → IsReplay code (take i picks) entries a → slice_get picks i ≡ Some pick → CodeMoves code a pick event b
     → IsReplay code (take (i + 1) picks) (entries ++ record { pick = pick; event = event } ∷ []) b
 replay_more code picks i entries a b pick event r there m = record {
-  made = map-append (λ (e : Entry). e.pick) entries (record { pick = pick; event = event } ∷ []) ∙ (ap (λ ps. ps ++ pick ∷ []) r.made ∙ sym (take_at picks i pick there));
+  made = map-append (λ (e : Entry). e.pick) entries (record { pick = pick; event = event } ∷ []) ∙ (ap (λ ps. ps ++
+      pick ∷ []) r.made ∙ sym (take_at picks i pick there));
   leads = leads_more code (code_opening code) a b entries pick event r.leads m;
 }
 

@@ -62,7 +62,8 @@ unfolding alone
 before_last e t s true h =
     let same = (joins_same t s h).1 in
     let first = alone e in
-    ap (λ (p : Pick). cond (not (is_shown e.event) && are_same e.pick p) (record s { count = t.count + s.count + 1 } ∷ []) (first ∷ (record s { count = t.count + s.count } ∷ []))) (sym same)
+    ap (λ (p : Pick). cond (not (is_shown e.event) && are_same e.pick p) (record s { count = t.count + s.count + 1 } ∷
+    []) (first ∷ (record s { count = t.count + s.count } ∷ []))) (sym same)
     ∙ step_joined (not (is_shown e.event) && are_same e.pick t.pick) first t s h
 before_last e t s false h = step_apart (not (is_shown e.event) && are_same e.pick t.pick) (alone e) t s h
 

@@ -15,6 +15,9 @@ const LONG_INPUT: &[u8] = b"error input: the input is longer than 4194304 bytes\
 const LONG_OUTPUT: &[u8] =
     b"error output: the text with its run is longer than 4194304 bytes\n  = hint: record fewer steps: --steps 100000\n";
 
+// With more bytes of messages than these, the texts that follow have none.
+const MANY_BYTES: usize = 4_096;
+
 /// What a command reads.
 #[derive(Clone, Copy, Debug, PartialEq, Eq)]
 pub enum Reading {
@@ -30,6 +33,8 @@ pub enum Reading {
     Texts,
     /// An object.
     Object,
+    /// A text or an object before the first line `%%`. What follows is not looked at.
+    FirstPart,
 }
 
 /// Returns the message of a refused input, or one for each refused text of it; nothing if there is nothing to be said of
@@ -39,18 +44,36 @@ pub fn message_of(alloc: Global, reading: Reading, bytes: &[u8]) -> Result<Vec<u
         return Ok(Vec::from_slice(alloc, LONG_INPUT)?);
     }
     match reading {
-        Reading::Text => match text_message(alloc, "", bytes)? {
-            Ok(_) => Ok(Vec::new(alloc)),
-            Err(message) => Ok(message),
-        },
+        Reading::Text => whole_text_message(alloc, bytes),
         Reading::Recorded => recorded_message(alloc, bytes),
         Reading::Claims => Ok(early_message(alloc, bytes)?.unwrap_or(Vec::new(alloc))),
         Reading::FirstFormat => first_format_message(alloc, bytes),
         Reading::Texts => texts_messages(alloc, bytes),
-        Reading::Object => match object_message(alloc, bytes)? {
-            Ok(_) => Ok(Vec::new(alloc)),
-            Err(message) => Ok(message),
-        },
+        Reading::Object => whole_object_message(alloc, bytes),
+        Reading::FirstPart => {
+            let source = first_part(bytes).part;
+            if source.starts_with(b"PBO ") {
+                whole_object_message(alloc, source)
+            } else {
+                whole_text_message(alloc, source)
+            }
+        }
+    }
+}
+
+// Returns the message of a text, or nothing if it is accepted.
+fn whole_text_message(alloc: Global, text: &[u8]) -> Result<Vec<u8>, NoMemory> {
+    match text_message(alloc, "", text)? {
+        Ok(_) => Ok(Vec::new(alloc)),
+        Err(message) => Ok(message),
+    }
+}
+
+// Returns the message of an object, or nothing if it is accepted.
+fn whole_object_message(alloc: Global, object: &[u8]) -> Result<Vec<u8>, NoMemory> {
+    match object_message(alloc, object)? {
+        Ok(_) => Ok(Vec::new(alloc)),
+        Err(message) => Ok(message),
     }
 }
 
@@ -62,7 +85,7 @@ fn recorded_message(alloc: Global, text: &[u8]) -> Result<Vec<u8>, NoMemory> {
     }
 }
 
-// Returns the messages of the texts of an input that are refused.
+// Returns the messages of the first texts of an input that are refused.
 fn texts_messages(alloc: Global, bytes: &[u8]) -> Result<Vec<u8>, NoMemory> {
     let mut out = Vec::new(alloc);
     let mut rest = bytes;
@@ -78,6 +101,9 @@ fn texts_messages(alloc: Global, bytes: &[u8]) -> Result<Vec<u8>, NoMemory> {
         let Some(more) = cut.rest else {
             break;
         };
+        if out.len() > MANY_BYTES {
+            break;
+        }
         rest = more;
     }
     Ok(out)

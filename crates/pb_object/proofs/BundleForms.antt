@@ -36,7 +36,8 @@ apart_from : (n : ℕ) (ps : List Pair) → names_resource (pair_words ps) (deci
 apart_from n [] h = tt
 apart_from n (q ∷ ps) h =
     let s = none_of (bytes_eq (decimal q.resource) (decimal n)) (names_resource (pair_words ps) (decimal n)) h in (
-      (λ same. let is : bytes_eq (decimal q.resource) (decimal n) ≡ true = (bytes_eq-Decides (decimal q.resource) (decimal n)).1 (ap decimal same) in let other = s.0 in cc),
+      (λ same. let is : bytes_eq (decimal q.resource) (decimal n) ≡ true = (bytes_eq-Decides (decimal q.resource)
+          (decimal n)).1 (ap decimal same) in let other = s.0 in cc),
       apart_from n ps s.1,
     )
 
@@ -48,7 +49,8 @@ apart_to : (n : ℕ) (ps : List Pair) → n ≤ 15 → ArePairs ps → AllByRecu
 apart_to n [] small good h = refl
 apart_to n (q ∷ ps) small good h =
     let other : bytes_eq (decimal q.resource) (decimal n) ≡ false =
-    false_from _ (λ is. h.0 (decimal_same q.resource n (let r = good.0.resource in omega arith) (omega arith) ((bytes_eq-Decides (decimal q.resource) (decimal n)).0 is))) in
+    false_from _ (λ is. h.0 (decimal_same q.resource n (let r = good.0.resource in omega arith) (omega arith)
+    ((bytes_eq-Decides (decimal q.resource) (decimal n)).0 is))) in
     rw (other, apart_to n ps small good.2 h.1) refl
 
 -- ---- pairs
@@ -78,7 +80,11 @@ pairs_takes (r ∷ k ∷ ws) ps e =
     )
 
 pair_again : (p : Pair) → IsPair p → pair_of (decimal p.resource) (decimal p.amount) ≡ Read p
-pair_again p good = rw (number_again 0 15 p.resource (omega arith) (omega arith) good.resource, number_again 1 1000000 p.amount (omega arith) good.some good.amount) refl
+pair_again p good = rw (
+  number_again 0 15 p.resource (omega arith) (omega arith) good.resource,
+  number_again 1 1000000
+      p.amount (omega arith) good.some good.amount,
+) refl
 
 pairs_again : (ps : List Pair) → ArePairs ps → pairs_of (pair_words ps) ≡ Read ps
 unfolding pairs_of
@@ -115,7 +121,8 @@ unfolding bundle_of
 bundle_again format ps good =
     let count = length_pair_words ps in
     let low : ltb 0 (length (pair_words ps)) ≡ true = lt-ltb _ _ (let h = good.some in omega (arith, count, h)) in
-    let high : ltb (length (pair_words ps)) (2 * most_pairs format + 1) ≡ true = lt-ltb _ _ (below (length (pair_words ps)) (length ps) (most_pairs format) count good.few) in
+    let high : ltb (length (pair_words ps)) (2 * most_pairs format + 1) ≡ true = lt-ltb _ _ (below (length (pair_words
+    ps)) (length ps) (most_pairs format) count good.few) in
     rw (low, high, pairs_again ps good.pairs) refl
 
 pub bundle_clean : (format : Format) (ps : List Pair) → IsBundle (most_pairs format) ps → AreWords (pair_words ps)

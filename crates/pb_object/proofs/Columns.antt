@@ -17,7 +17,8 @@ use Rattle.pb_object.specs.declared.format.Format.{Format}
 use Rattle.pb_object.specs.declared.format.Format.TheVariants.{One, Two}
 use Rattle.pb_object.proofs.Sides.{side_left, side_right}
 
-pub push_map : {A B C : Type 0} (f : A → C) (g : B → C) (xs : List A) (ys : List B) (x : A) (y : B) → map f xs ≡ map g ys → f x ≡ g y → map f (xs ++ x ∷ []) ≡ map g (ys ++ y ∷ [])
+pub push_map : {A B C : Type 0} (f : A → C) (g : B → C) (xs : List A) (ys : List B) (x : A) (y : B) → map f xs ≡ map g
+    ys → f x ≡ g y → map f (xs ++ x ∷ []) ≡ map g (ys ++ y ∷ [])
 push_map {A} {B} {C} f g xs ys x y e h =
     map_push f xs x ∙ ap (λ (l : List C). l ++ f x ∷ []) e ∙ ap (λ (c : C). map g ys ++ c ∷ []) h ∙ sym (map_push g ys y)
 
@@ -27,12 +28,17 @@ push_column {B} {C} g xs ys y e = ap (λ (l : List C). l ++ g y ∷ []) e ∙ sy
 -- ---- what a row says is what its code and its labels say
 
 one_code : (integers : ℕ) (entries : List ℕ) (instrs others : List Instr) (count : ℕ) → integers ≡ count → instrs ≡ others
-    → (the : ProcessCode) → the ≡ record { integers = integers; entries = entries; instrs = instrs } → the ≡ record { integers = count; entries = entries; instrs = others }
+    → (the : ProcessCode) → the ≡ record { integers = integers; entries = entries; instrs = instrs } → the ≡ record {
+      integers = count;
+      entries = entries;
+      instrs = others;
+    }
 one_code integers entries instrs others count e f the is = cc
 
 row_code : (p : GivenProcess) → IsRow p → process_view p.code ≡ process_code (process_row p)
 row_code p fit =
-    let even : length p.labels.lines.items ≡ length (map (instr_view p.code.bundles.items) p.code.instrs.items) = fit.lines ∙ sym (length-map p.code.instrs.items (instr_view p.code.bundles.items)) in
+    let even : length p.labels.lines.items ≡ length (map (instr_view p.code.bundles.items) p.code.instrs.items) =
+    fit.lines ∙ sym (length-map p.code.instrs.items (instr_view p.code.bundles.items)) in
     one_code p.code.integers p.code.entries.items (map (instr_view p.code.bundles.items) p.code.instrs.items) _ _
     (fit.integers ∙ sym (length-map p.labels.integers.items (λ name. name.items)))
     (sym (side_right p.labels.lines.items (map (instr_view p.code.bundles.items) p.code.instrs.items) even))
@@ -44,7 +50,8 @@ one_labels lines others integers e the is = cc
 
 row_labels : (p : GivenProcess) → IsRow p → process_labels_view p.labels ≡ process_labels (process_row p)
 row_labels p fit =
-    let even : length p.labels.lines.items ≡ length (map (instr_view p.code.bundles.items) p.code.instrs.items) = fit.lines ∙ sym (length-map p.code.instrs.items (instr_view p.code.bundles.items)) in
+    let even : length p.labels.lines.items ≡ length (map (instr_view p.code.bundles.items) p.code.instrs.items) =
+    fit.lines ∙ sym (length-map p.code.instrs.items (instr_view p.code.bundles.items)) in
     one_labels p.labels.lines.items _ (map (λ name. name.items) p.labels.integers.items)
     (sym (side_left p.labels.lines.items (map (instr_view p.code.bundles.items) p.code.instrs.items) even)) (process_labels_view p.labels) refl
 
@@ -62,7 +69,8 @@ rows_labels (p ∷ ps) h =
 
 -- ---- ranges of columns
 
-pub each_all : {X : Type 0} (Good : List X → X → Type 0) (P : X → Type 0) → ((e : List X) (x : X) → Good e x → P x) → (earlier xs : List X) → Each Good earlier xs → AllByRecursion P xs
+pub each_all : {X : Type 0} (Good : List X → X → Type 0) (P : X → Type 0) → ((e : List X) (x : X) → Good e x → P x) →
+    (earlier xs : List X) → Each Good earlier xs → AllByRecursion P xs
 each_all Good P is earlier [] h = tt
 each_all Good P is earlier (x ∷ xs) h = (is earlier x h.0, each_all Good P is (earlier ++ x ∷ []) xs h.1)
 
@@ -75,9 +83,11 @@ small_capitals rs h =
     let all = each_all IsResource (λ r. r.capital ≤ 1000000) (λ e r good. good.capital) [] (map resource_row rs) h in
     let column = all_map (λ n. n ≤ 1000000) (λ (r : ResourceRow). r.capital) (map resource_row rs) all in
     let capital : ResourceRow → ℕ = λ r. r.capital in
-    subst (λ (l : List ℕ). All (λ n. n ≤ 1000000) l) (map-map capital resource_row rs) (All-from_recursion (λ n. n ≤ 1000000) (map capital (map resource_row rs)) column)
+    subst (λ (l : List ℕ). All (λ n. n ≤ 1000000) l) (map-map capital resource_row rs) (All-from_recursion (λ n. n ≤
+    1000000) (map capital (map resource_row rs)) column)
 
-widths : (format : Format) (m : ℕ) (ps : List GivenProcess) → Each (IsProcess format m) [] (map process_row ps) → AllByRecursion (λ row. length row ≡ m) (map (λ p. p.claims.items) ps)
+widths : (format : Format) (m : ℕ) (ps : List GivenProcess) → Each (IsProcess format m) [] (map process_row ps) →
+    AllByRecursion (λ row. length row ≡ m) (map (λ p. p.claims.items) ps)
 widths format m ps h =
     let all = each_all (IsProcess format m) (λ p. length p.claims ≡ m) (λ e p good. good.claims.0) [] (map process_row ps) h in
     let claims : ProcessRow → List ℕ = λ p. p.claims in

@@ -184,7 +184,8 @@ line_stays {X} form text tail other f e =
     elim (cut text) [
       | inl clean ↦
           let words = slice_split (λ b. eqb b 32) text in
-          let g = judged_again (length (text ++ 10 ∷ tail)) (length (text ++ 10 ∷ other)) (form words) tail other f (sym (said_line form text tail clean) ∙ e) in
+          let g = judged_again (length (text ++ 10 ∷ tail)) (length (text ++ 10 ∷ other)) (form words) tail other f
+          (sym (said_line form text tail clean) ∙ e) in
           (g.0, said_line form text other clean ∙ g.1)
       | inr c ↦
           let words = slice_split (λ b. eqb b 32) c.0 in

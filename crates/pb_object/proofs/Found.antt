@@ -56,7 +56,8 @@ rows_spelled text rows code labels e is_code is_labels =
     (rows.format, (object_row rows, record { good = t.0; is_format = refl; says_code = is_code; says_labels = is_labels }, t.1))
 
 pub only_answer : (text : List ℕ) (o : Object) (x : GivenCode × Labels) → answer_of text ≡ Ok o → code_view x.0 ≡ code_of o → labels_view x.1 ≡ labels_of o
-    → (format : Format) (code : Code) (labels : List ProcessLabels) → Spells format code labels text → length text ≤ 4194304 → (code_view x.0 ≡ code) × (labels_view x.1 ≡ labels)
+    → (format : Format) (code : Code) (labels : List ProcessLabels) → Spells format code labels text → length text ≤
+    4194304 → (code_view x.0 ≡ code) × (labels_view x.1 ≡ labels)
 only_answer text o x e is_code is_labels format code labels s few =
     let same : o ≡ s.0 = fine_is o s.0 (sym e ∙ answer_again text s.0 s.1.good s.2 few) in
     (is_code ∙ ap code_of same ∙ sym s.1.says_code, is_labels ∙ ap labels_of same ∙ sym s.1.says_labels)
@@ -87,7 +88,8 @@ is_one : (format : Format) → is_format_two format ≡ false → format ≡ One
 is_one One h = refl
 is_one Two h = absurd cc
 
-pub one_found : (text : List ℕ) (code : Code) (labels : List ProcessLabels) → is_two (line heading text) ≡ false → (format : Format) × Spells format code labels text → SpellsOne code text
+pub one_found : (text : List ℕ) (code : Code) (labels : List ProcessLabels) → is_two (line heading text) ≡ false →
+    (format : Format) × Spells format code labels text → SpellsOne code text
 one_found text code labels h s =
     let good = s.1.1 in
     let first : is_format_two s.1.0.format ≡ false = sym (ap (λ (t : List ℕ). is_two (line heading t)) s.1.2 ∙ heading_read s.1.0) ∙ h in

@@ -42,7 +42,8 @@ reading x = Read x
 read_is : {T : Type 0} (x y : T) → reading x ≡ reading y → x ≡ y
 read_is x y e = cc
 
-bare_says : (key k : Word) (ws : List Word) (j i : Given) → instr_words (instr_view [] j) ≡ key ∷ [] → ((format : Format) → IsInstr format (instr_view [] j)) → IsPlain j
+bare_says : (key k : Word) (ws : List Word) (j i : Given) → instr_words (instr_view [] j) ≡ key ∷ [] → ((format :
+    Format) → IsInstr format (instr_view [] j)) → IsPlain j
     → k ≡ key → bare j ws ≡ Read i → Says k ws i
 bare_says key k [] j i words good named h e =
     subst (λ (x : Given). Says k [] x) (read_is j i e) (ap (λ (w : Word). w ∷ []) h ∙ sym words, good, named)
@@ -54,7 +55,8 @@ alone_takes low high small (w ∷ []) n e = let p = number_takes low high w n sm
 alone_takes low high small (w ∷ v ∷ ws) n e = absurd cc
 
 number_says : (key k : Word) (ws : List Word) (make : ℕ → Given) (i : Given) (low high : ℕ) → high < 2 ^ 64
-    → ((n : ℕ) → instr_words (instr_view [] (make n)) ≡ key ∷ decimal n ∷ []) → ((n : ℕ) → n ≤ high → (format : Format) → IsInstr format (instr_view [] (make n)))
+    → ((n : ℕ) → instr_words (instr_view [] (make n)) ≡ key ∷ decimal n ∷ []) → ((n : ℕ) → n ≤ high → (format :
+    Format) → IsInstr format (instr_view [] (make n)))
     → ((n : ℕ) → IsPlain (make n)) → k ≡ key → mapped make (alone (number low high) ws) ≡ Read i → Says k ws i
 number_says key k ws make i low high small words good named h e =
     let m = mapped_read make (alone (number low high) ws) i e in
@@ -74,7 +76,8 @@ two_takes a b c d sb sd (v ∷ w ∷ []) n e =
 two_takes a b c d sb sd (v ∷ w ∷ u ∷ us) n e = absurd cc
 
 arms_says : (key k : Word) (ws : List Word) (make : ℕ × ℕ → Given) (i : Given)
-    → ((n : ℕ × ℕ) → instr_words (instr_view [] (make n)) ≡ key ∷ decimal n.0 ∷ decimal n.1 ∷ []) → ((n : ℕ × ℕ) → AreArms n.0 n.1 → (format : Format) → IsInstr format (instr_view [] (make n)))
+    → ((n : ℕ × ℕ) → instr_words (instr_view [] (make n)) ≡ key ∷ decimal n.0 ∷ decimal n.1 ∷ []) → ((n : ℕ × ℕ) →
+    AreArms n.0 n.1 → (format : Format) → IsInstr format (instr_view [] (make n)))
     → ((n : ℕ × ℕ) → IsPlain (make n)) → k ≡ key → mapped make (two 1 63 1 16 ws) ≡ Read i → Says k ws i
 arms_says key k ws make i words good named h e =
     let m = mapped_read make (two 1 63 1 16 ws) i e in
@@ -107,7 +110,8 @@ comparison_says k ws i e =
 
 -- ---- signed numbers
 
-minus_takes : (b : Bool) (ds : Word) (v : ℤ) → cond b Malformed (mapped (λ n. negsuc (n - 1)) (number 1 (2 ^ 63) ds)) ≡ Read v → (45 ∷ ds ≡ signed_decimal v) × IsSigned v
+minus_takes : (b : Bool) (ds : Word) (v : ℤ) → cond b Malformed (mapped (λ n. negsuc (n - 1)) (number 1 (2 ^ 63) ds))
+    ≡ Read v → (45 ∷ ds ≡ signed_decimal v) × IsSigned v
 minus_takes true ds v e = absurd cc
 minus_takes false ds v e =
     let m = mapped_read (λ (n : ℕ). negsuc (n - 1)) (number 1 (2 ^ 63) ds) v e in
@@ -118,7 +122,8 @@ minus_takes false ds v e =
     subst (λ (x : ℤ). (45 ∷ ds ≡ signed_decimal x) × IsSigned x) m.2 (words, small)
 
 signed_by : (c : Bool) (b : ℕ) (ds : Word) (v : ℤ) → (c ≡ true → b ≡ 45)
-    → cond c (cond (bytes_eq ds (codes "0")) Malformed (mapped (λ n. negsuc (n - 1)) (number 1 (2 ^ 63) ds))) (mapped pos (number 0 (2 ^ 63 - 1) (b ∷ ds))) ≡ Read v
+    → cond c (cond (bytes_eq ds (codes "0")) Malformed (mapped (λ n. negsuc (n - 1)) (number 1 (2 ^ 63) ds))) (mapped
+    pos (number 0 (2 ^ 63 - 1) (b ∷ ds))) ≡ Read v
     → (b ∷ ds ≡ signed_decimal v) × IsSigned v
 signed_by true b ds v is e =
     let p = minus_takes (bytes_eq ds (codes "0")) ds v e in

@@ -65,7 +65,8 @@ flat_push text (y ∷ xs) x =
     ∙ sym (append_assoc (text y) (flat_map text xs) (text x)) ∙ ap (λ (t : List ℕ). t ++ text x) (sym (flat_map-cons text y xs))
 
 -- the bytes so far and one place more
-pub more_places : {A B C : Type 0} (text : A × C → List ℕ) (view : B → C) (old so_far new : List ℕ) (ls : List A) (is : List B) (i : ℕ) (d : A) (e : B) → i < length ls → length ls ≡ length is
+pub more_places : {A B C : Type 0} (text : A × C → List ℕ) (view : B → C) (old so_far new : List ℕ) (ls : List A) (is
+    : List B) (i : ℕ) (d : A) (e : B) → i < length ls → length ls ≡ length is
     → so_far ≡ old ++ flat_map text (side_by_side (take i ls) (map view (take i is))) → new ≡ so_far ++ text (get_or ls i d, view (get_or is i e))
     → new ≡ old ++ flat_map text (side_by_side (take (i + 1) ls) (map view (take (i + 1) is)))
 more_places {A} {B} {C} text view old so_far new ls is i d e lt even f h =
@@ -73,9 +74,11 @@ more_places {A} {B} {C} text view old so_far new ls is i d e lt even f h =
     let y = view (get_or is i e) in
     let front = side_by_side (take i ls) (map view (take i is)) in
     let lefts = take_more ls i d lt in
-    let rights : map view (take (i + 1) is) ≡ map view (take i is) ++ y ∷ [] = ap (map view) (take_more is i e (omega (arith, even))) ∙ map_push view (take i is) (get_or is i e) in
+    let rights : map view (take (i + 1) is) ≡ map view (take i is) ++ y ∷ [] = ap (map view) (take_more is i e (omega
+    (arith, even))) ∙ map_push view (take i is) (get_or is i e) in
     let same : length (take i ls) ≡ length (map view (take i is)) =
     length-take-le i ls (omega arith) ∙ sym (length-map (take i is) view ∙ length-take-le i is (omega (arith, even))) in
-    let rows : side_by_side (take (i + 1) ls) (map view (take (i + 1) is)) ≡ front ++ (x, y) ∷ [] = rw (lefts, rights) (side_push (take i ls) (map view (take i is)) x y same) in
+    let rows : side_by_side (take (i + 1) ls) (map view (take (i + 1) is)) ≡ front ++ (x, y) ∷ [] = rw (lefts, rights)
+    (side_push (take i ls) (map view (take i is)) x y same) in
     h ∙ ap (λ (t : List ℕ). t ++ text (x, y)) f ∙ append_assoc old (flat_map text front) (text (x, y))
     ∙ ap (λ (t : List ℕ). old ++ t) (sym (ap (flat_map text) rows ∙ flat_push text front (x, y)))

@@ -45,7 +45,8 @@ new_is_name earlier w h = (both_true (is_name w) (not (is_among earlier w)) h).0
 
 -- ---- a keyword and a number
 
-counted_takes : (key : Word) (low high : ℕ) → high < 2 ^ 64 → (ws : List Word) (n : ℕ) → counted key low high ws ≡ Read n → (ws ≡ counted_words key n) × ((low ≤ n) × (n ≤ high))
+counted_takes : (key : Word) (low high : ℕ) → high < 2 ^ 64 → (ws : List Word) (n : ℕ) → counted key low high ws ≡
+    Read n → (ws ≡ counted_words key n) × ((low ≤ n) × (n ≤ high))
 counted_takes key low high small [] n e = absurd cc
 counted_takes key low high small (k ∷ []) n e = absurd (let o = only_read k key Malformed n e in let f = o.1 in cc)
 counted_takes key low high small (k ∷ w ∷ []) n e =
@@ -54,7 +55,8 @@ counted_takes key low high small (k ∷ w ∷ []) n e =
     (let a = o.0 in let b = p.0 in cc, (p.1, p.2))
 counted_takes key low high small (k ∷ w ∷ v ∷ ws) n e = absurd (let o = only_read k key Malformed n e in let f = o.1 in cc)
 
-pub counted_is : (key : Word) (low high : ℕ) → high < 2 ^ 64 → list_all is_inner key ≡ true → IsForm (counted key low high) (counted_words key) (λ n. (low ≤ n) × (n ≤ high))
+pub counted_is : (key : Word) (low high : ℕ) → high < 2 ^ 64 → list_all is_inner key ≡ true → IsForm (counted key low
+    high) (counted_words key) (λ n. (low ≤ n) × (n ≤ high))
 counted_is key low high small clean = record {
   takes = counted_takes key low high small;
   again = λ n good. select_same key (number low high (decimal n)) Malformed ∙ number_again low high n small good.0 good.1;
@@ -110,7 +112,13 @@ pub resource_is : (earlier : List ResourceRow) → IsForm (resource earlier) res
 resource_is earlier = record {
   takes = resource_takes earlier;
   again = λ r good. rw (good.name, number_again 0 1000000 r.capital (omega arith) (omega arith) good.capital) refl;
-  clean = λ r good. (refl, (name_clean r.name (new_is_name (map (λ e. e.name) earlier) r.name good.name), (decimal_clean r.capital (let c = good.capital in omega arith), tt)));
+  clean = λ r good. (
+    refl,
+    (
+      name_clean r.name (new_is_name (map (λ e. e.name) earlier) r.name good.name),
+      (decimal_clean r.capital (let c = good.capital in omega arith), tt),
+    ),
+  );
 }
 
 -- ---- a process's first line
@@ -165,15 +173,18 @@ says_takes w n small h =
 says_again : (n : ℕ) → n < 2 ^ 64 → says_number (decimal n) n ≡ true
 says_again n small = rw (is_numeral_decimal n small, digits_value-decimal own n small, eqb_same n) refl
 
-few_takes : (many new : Bool) (names found : List Word) → cond many Beyond (cond new (Read names) Malformed) ≡ Read found → (many ≡ false) × (new ≡ true) × (names ≡ found)
+few_takes : (many new : Bool) (names found : List Word) → cond many Beyond (cond new (Read names) Malformed) ≡ Read
+    found → (many ≡ false) × (new ≡ true) × (names ≡ found)
 few_takes true new names found e = absurd cc
 few_takes false true names found e = (refl, refl, cc)
 few_takes false false names found e = absurd cc
 
-named_takes : (count : Word) (names found : List Word) → named_integers count names ≡ Read found → (count ∷ names ≡ decimal (length found) ∷ found) × AreIntegers Two found
+named_takes : (count : Word) (names found : List Word) → named_integers count names ≡ Read found → (count ∷ names ≡
+    decimal (length found) ∷ found) × AreIntegers Two found
 unfolding named_integers
 named_takes count names found e =
-    let g = guard_read (says_number count (length names) && list_all is_name names) (cond (ltb 64 (length names)) Beyond (cond (are_new [] names) (Read names) Malformed)) found e in
+    let g = guard_read (says_number count (length names) && list_all is_name names) (cond (ltb 64 (length names))
+    Beyond (cond (are_new [] names) (Read names) Malformed)) found e in
     let s = both_true (says_number count (length names)) (list_all is_name names) g.0 in
     let f = few_takes (ltb 64 (length names)) (are_new [] names) names found g.1 in
     let few : length names ≤ 64 = ltb-false _ _ f.0 in
@@ -197,7 +208,11 @@ integers_takes Two (k ∷ count ∷ ws) names e =
 integers_again : (format : Format) (names : List Word) → AreIntegers format names → integers format (integers_words format names) ≡ Read names
 unfolding named_integers
 integers_again One names good =
-    rw (select_same (codes "vars") (number 0 64 (decimal (length names))) Malformed, number_again 0 64 (length names) (omega arith) (omega arith) (let h = good.1 in omega arith))
+    rw (
+      select_same (codes "vars") (number 0 64 (decimal (length names))) Malformed,
+      number_again 0 64 (length names)
+          (omega arith) (omega arith) (let h = good.1 in omega arith),
+    )
     (ap (λ (l : List Word). Read l) (sym good.0))
 integers_again Two names good =
     let few : ltb 64 (length names) ≡ false = le-ltb _ _ good.2 in
@@ -212,7 +227,8 @@ integers_is format = record { takes = integers_takes format; again = integers_ag
 
 -- ---- claims
 
-numbers_takes : (high : ℕ) → high < 2 ^ 64 → (ws : List Word) (ns : List ℕ) → numbers 0 high ws ≡ Read ns → (ws ≡ map decimal ns) × AllByRecursion (λ n. n ≤ high) ns
+numbers_takes : (high : ℕ) → high < 2 ^ 64 → (ws : List Word) (ns : List ℕ) → numbers 0 high ws ≡ Read ns → (ws ≡ map
+    decimal ns) × AllByRecursion (λ n. n ≤ high) ns
 numbers_takes high small [] ns e =
     let same : [] ≡ ns = cc in
     subst (λ (l : List ℕ). ([] ≡ map decimal l) × AllByRecursion (λ n. n ≤ high) l) same (refl, tt)

@@ -35,16 +35,20 @@ all_mono p q each (x ∷ xs) h =
     let s = both_true (p x) (list_all p xs) h in
     rw (each x s.0, all_mono p q each xs s.1) refl
 
-cut_takes : (text : List ℕ) (o : Option ℕ) (x : List Word × List ℕ) → position (λ b. eqb b 10) text ≡ o → words_before text o ≡ Ok x → text ≡ line_text x.0 ++ x.1
+cut_takes : (text : List ℕ) (o : Option ℕ) (x : List Word × List ℕ) → position (λ b. eqb b 10) text ≡ o → words_before
+    text o ≡ Ok x → text ≡ line_text x.0 ++ x.1
 cut_takes text None x at e = absurd cc
 cut_takes text (Some i) x at e =
     let s = position-Some (λ b. eqb b 10) text i 0 at in
     let lf : get_or text i 0 ≡ 10 = eqb-true _ _ s.1 in
     let rest : drop i text ≡ 10 ∷ drop 1 (drop i text) =
-    (let below : i < length text = s.0 in let one = drop-cons text i 0 below in let two : drop 1 (drop i text) ≡ drop (suc i) text = ap (drop 1) one in one ∙ ap (λ (b : ℕ). b ∷ drop (suc i) text) lf ∙ ap (λ (r : List ℕ). 10 ∷ r) (sym two)) in
+    (let below : i < length text = s.0 in let one = drop-cons text i 0 below in let two : drop 1 (drop i text) ≡ drop
+    (suc i) text = ap (drop 1) one in one ∙ ap (λ (b : ℕ). b ∷ drop (suc i) text) lf ∙ ap (λ (r : List ℕ). 10 ∷ r)
+    (sym two)) in
     let words : join_with_byte 32 (slice_split (λ b. eqb b 32) (take i text)) ≡ take i text = join_with_byte-slice_split 32 (take i text) in
     let whole : text ≡ line_text (slice_split (λ b. eqb b 32) (take i text)) ++ drop 1 (drop i text) =
-    sym (take-append-drop i text) ∙ ap (λ (r : List ℕ). take i text ++ r) rest ∙ sym (append_assoc (take i text) (10 ∷ []) (drop 1 (drop i text))) ∙ rw words refl in
+    sym (take-append-drop i text) ∙ ap (λ (r : List ℕ). take i text ++ r) rest ∙ sym (append_assoc (take i text) (10 ∷
+    []) (drop 1 (drop i text))) ∙ rw words refl in
     let same = ok_is (slice_split (λ b. eqb b 32) (take i text), drop 1 (drop i text)) x e in
     subst (λ (y : List Word × List ℕ). text ≡ line_text y.0 ++ y.1) same whole
 
@@ -80,7 +84,8 @@ all_then p (x ∷ xs) ys h k = let s = both_true (p x) (list_all p xs) h in rw (
 
 no_end : (w : Word) (ws : List Word) → AreWords (w ∷ ws) → list_all (λ b. not (eqb b 10)) (join_with_byte 32 (w ∷ ws)) ≡ true
 no_end w [] h = all_mono is_inner (λ b. not (eqb b 10)) (λ b e. (both_true _ _ e).1) w h.0
-no_end w (v ∷ ws) h = all_then (λ b. not (eqb b 10)) w (32 ∷ join_with_byte 32 (v ∷ ws)) (all_mono is_inner (λ b. not (eqb b 10)) (λ b e. (both_true _ _ e).1) w h.0) (no_end v ws h.1)
+no_end w (v ∷ ws) h = all_then (λ b. not (eqb b 10)) w (32 ∷ join_with_byte 32 (v ∷ ws)) (all_mono is_inner (λ b. not
+    (eqb b 10)) (λ b e. (both_true _ _ e).1) w h.0) (no_end v ws h.1)
 
 pub prefix_whole : (text rest : List ℕ) → list_all (λ b. not (eqb b 10)) text ≡ true → prefix_len (λ b. not (eqb b 10)) (text ++ 10 ∷ rest) ≡ length text
 prefix_whole [] rest h = refl

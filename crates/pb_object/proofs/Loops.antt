@@ -10,7 +10,8 @@ pub any_map : {A B : Type 0} (p : B → Bool) (f : A → B) (xs : List A) → li
 any_map p f [] = refl
 any_map p f (x ∷ xs) = ap (λ (b : Bool). p (f x) || b) (any_map p f xs)
 
-pub goes_on : {X : Type 0} (part : List X → List ℕ → Result (X × List ℕ) Fault) (front : List X) (count i : ℕ) (text : List ℕ) (x : X) (after : List ℕ) (total : Result (List X × List ℕ) Fault)
+pub goes_on : {X : Type 0} (part : List X → List ℕ → Result (X × List ℕ) Fault) (front : List X) (count i : ℕ) (text :
+    List ℕ) (x : X) (after : List ℕ) (total : Result (List X × List ℕ) Fault)
     → i < count → part front text ≡ Ok (x, after) → many part front (count - i) text ≡ total → many part (front ++ x ∷ []) (count - (i + 1)) after ≡ total
 unfolding many
 goes_on part front count i text x after total lt h so_far =
@@ -18,7 +19,8 @@ goes_on part front count i text x after total lt h so_far =
     let one : many part front (count - i) text ≡ many part (front ++ x ∷ []) (count - (i + 1)) after = rw (k, h) refl in
     sym one ∙ so_far
 
-pub ends : {X : Type 0} (part : List X → List ℕ → Result (X × List ℕ) Fault) (e : ReadError) (front : List X) (count i : ℕ) (text : List ℕ) (total : Result (List X × List ℕ) Fault)
+pub ends : {X : Type 0} (part : List X → List ℕ → Result (X × List ℕ) Fault) (e : ReadError) (front : List X) (count i
+    : ℕ) (text : List ℕ) (total : Result (List X × List ℕ) Fault)
     → i < count → Fails e (part front text) → many part front (count - i) text ≡ total → Fails e total
 unfolding many
 ends part errors.Memory front count i text total lt h so_far = tt
@@ -27,7 +29,8 @@ ends part (errors.Fault f) front count i text total lt h so_far =
     let one : many part front (count - i) text ≡ Err f = rw (k, h) refl in
     sym so_far ∙ one
 
-pub is_done : {X : Type 0} (part : List X → List ℕ → Result (X × List ℕ) Fault) (front : List X) (count i : ℕ) (text : List ℕ) (total : Result (List X × List ℕ) Fault)
+pub is_done : {X : Type 0} (part : List X → List ℕ → Result (X × List ℕ) Fault) (front : List X) (count i : ℕ) (text :
+    List ℕ) (total : Result (List X × List ℕ) Fault)
     → count ≤ i → many part front (count - i) text ≡ total → total ≡ Ok (front, text)
 unfolding many
 is_done part front count i text total le so_far =

@@ -36,7 +36,8 @@ plain_is_name n small =
     let short : ltb (length (decimal n)) 32 ≡ true = lt-ltb _ _ (let l = length-decimal-le 2 n (omega arith) (omega arith) (omega arith) in omega (arith, l)) in
     rw (digits, short) refl
 
-pub all_push : (xs : List Word) (x : Word) → AllByRecursion (λ w. is_name w ≡ true) xs → is_name x ≡ true → AllByRecursion (λ w. is_name w ≡ true) (xs ++ x ∷ [])
+pub all_push : (xs : List Word) (x : Word) → AllByRecursion (λ w. is_name w ≡ true) xs → is_name x ≡ true →
+    AllByRecursion (λ w. is_name w ≡ true) (xs ++ x ∷ [])
 all_push [] x h k = (k, tt)
 all_push (y ∷ xs) x h k = (h.0, all_push xs x h.1 k)
 
@@ -127,7 +128,13 @@ has_text o code labels h is_code is_labels =
     let most : length o.processes ≤ 64 = (let a = h.few_processes in let b = few_processes o.format in omega arith) in (
       record { format = Two; resources = o.resources; processes = o.processes },
       record {
-        good = record { few_resources = h.few_resources; resources = h.resources; some_processes = h.some_processes; few_processes = most; processes = processes_moved o.format (length o.resources) [] o.processes h.processes };
+        good = record {
+          few_resources = h.few_resources;
+          resources = h.resources;
+          some_processes = h.some_processes;
+          few_processes = most;
+          processes = processes_moved o.format (length o.resources) [] o.processes h.processes;
+        };
         is_format = refl;
         says_code = is_code;
         says_labels = is_labels;

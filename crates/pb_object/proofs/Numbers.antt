@@ -42,8 +42,12 @@ read_number false b n m e = absurd cc
 pub numeral_is : (w : Word) → is_numeral w ≡ true → (list_all is_ascii_digit w ≡ true) × (0 < length w) × (get_or w 0 0 ≡ 48 → length w ≡ 1)
 numeral_is [] e = absurd cc
 numeral_is (d ∷ ds) e =
-    let p = both_true (list_all is_ascii_digit (d ∷ ds)) (not (eqb d 48) || eqb (length ds) 0) e in
-    (p.0, omega arith, λ h. let h' : d ≡ 48 = h in let q : eqb (length ds) 0 ≡ true = subst (λ (x : ℕ). (not (eqb x 48) || eqb (length ds) 0) ≡ true) h' p.1 in omega (arith, eqb-true (length ds) 0 q))
+    let p = both_true (list_all is_ascii_digit (d ∷ ds)) (not (eqb d 48) || eqb (length ds) 0) e in (
+      p.0,
+      omega arith,
+      λ h. let h' : d ≡ 48 = h in let q : eqb (length ds) 0 ≡ true = subst (λ (x : ℕ). (not (eqb x
+          48) || eqb (length ds) 0) ≡ true) h' p.1 in omega (arith, eqb-true (length ds) 0 q),
+    )
 
 lone : (d n : ℕ) → (d ≡ 48 → n ≡ 0) → (not (eqb d 48) || eqb n 0) ≡ true
 lone d n h = grind (arith, nat_tests)

@@ -38,7 +38,8 @@ said_of part text Good is x good = (x, text x, λ rest. is.again x rest good)
 
 counted_both : (key : Word) (high : ℕ) → 1 ≤ high → high < 2 ^ 64 → list_all is_inner key ≡ true → (low : ℕ) → low ≤ 1 → Both (line (counted key low high))
 counted_both key high some small clean low few =
-    let s = said_of (line (counted key low high)) (λ n. line_text (counted_words key n)) (λ n. (low ≤ n) × (n ≤ high)) (counted_part key low high small clean) 1 (few, some) in
+    let s = said_of (line (counted key low high)) (λ n. line_text (counted_words key n)) (λ n. (low ≤ n) × (n ≤ high))
+    (counted_part key low high small clean) 1 (few, some) in
     (line_exact (counted key low high) s, s)
 
 -- a number that was read is in range
@@ -56,13 +57,15 @@ resource_both earlier few =
     let f = fresh_name (map (λ e. e.name) earlier) (omega (arith, few, length-map earlier (λ (e : ResourceRow). e.name))) in
     let row : ResourceRow = record { name = f.0; capital = 0 } in
     let good : IsResource earlier row = record { name = f.1; capital = omega arith } in
-    let s = said_of (line (resource earlier)) (λ r. line_text (resource_words r)) (IsResource earlier) (line_is (resource earlier) resource_words (IsResource earlier) (resource_is earlier)) row good in
+    let s = said_of (line (resource earlier)) (λ r. line_text (resource_words r)) (IsResource earlier) (line_is
+    (resource earlier) resource_words (IsResource earlier) (resource_is earlier)) row good in
     (line_exact (resource earlier) s, s)
 
 name_both : (names : List Word) → length names < 64 → Both (line (process_name names))
 name_both names few =
     let f = fresh_name names few in
-    let s = said_of (line (process_name names)) (λ name. line_text (process_words name)) _ (line_is (process_name names) process_words _ (name_is names)) f.0 f.1 in
+    let s = said_of (line (process_name names)) (λ name. line_text (process_words name)) _ (line_is (process_name
+    names) process_words _ (name_is names)) f.0 f.1 in
     (line_exact (process_name names) s, s)
 
 no_integers : (format : Format) → AreIntegers format []
@@ -91,7 +94,8 @@ an_end Two = (tt, tt)
 
 place_both : (format : Format) → Both (line (place format))
 place_both format =
-    let s = said_of (line (place format)) (λ i. line_text (place_words format i)) (IsPlace format) (line_is (place format) (place_words format) (IsPlace format) (place_is format)) (None, End) (an_end format) in
+    let s = said_of (line (place format)) (λ i. line_text (place_words format i)) (IsPlace format) (line_is (place
+    format) (place_words format) (IsPlace format) (place_is format)) (None, End) (an_end format) in
     (line_exact (place format) s, s)
 
 -- ---- parts in a row
@@ -132,7 +136,8 @@ after_integers format m name names = then_read (line (counted (codes "arms") 1 6
 abbrev after_name : Format → ℕ → Word → Reader ProcessRow
 after_name format m name = then_read (line (integers format)) (after_integers format m name)
 
-count_both : (format : Format) (name : Word) (names : List Word) (claims entries : List ℕ) (count : ℕ) → Both (after_count format name names claims entries count)
+count_both : (format : Format) (name : Word) (names : List Word) (claims entries : List ℕ) (count : ℕ) → Both
+    (after_count format name names claims entries count)
 count_both format name names claims entries count =
     both_then (many (place_at format) [] count) (after_places name names claims entries) (places_both format count)
     (λ places s says. both_end (record { name = name; integers = names; claims = claims; entries = entries; places = places }))

@@ -29,15 +29,18 @@ joined x1 x2 x3 x4 x5 bytes b1 b2 b3 b4 rest e1 e2 e3 e4 e5 =
     e1 ∙ ap (λ (t : List ℕ). x1 ++ t) (e2 ∙ ap (λ (t : List ℕ). x2 ++ t) (e3 ∙ ap (λ (t : List ℕ). x3 ++ t) (e4 ∙ ap (λ (t : List ℕ). x4 ++ t) e5)))
     ∙ sym (five x1 x2 x3 x4 x5 rest)
 
-pub counted_part : (key : Word) (low high : ℕ) → high < 2 ^ 64 → list_all is_inner key ≡ true → IsPart (line (counted key low high)) (λ n. line_text (counted_words key n)) (λ n. (low ≤ n) × (n ≤ high))
+pub counted_part : (key : Word) (low high : ℕ) → high < 2 ^ 64 → list_all is_inner key ≡ true → IsPart (line (counted
+    key low high)) (λ n. line_text (counted_words key n)) (λ n. (low ≤ n) × (n ≤ high))
 counted_part key low high small clean = line_is (counted key low high) (counted_words key) (λ n. (low ≤ n) × (n ≤ high)) (counted_is key low high small clean)
 
 pub resources_part : (n : ℕ) → IsPart (many resource_at [] n) (flat_map (λ r. line_text (resource_words r))) (λ xs. (length xs ≡ n) × Each IsResource [] xs)
-resources_part n = many_is resource_at (λ r. line_text (resource_words r)) IsResource (λ earlier. line_is (resource earlier) resource_words (IsResource earlier) (resource_is earlier)) n
+resources_part n = many_is resource_at (λ r. line_text (resource_words r)) IsResource (λ earlier. line_is (resource
+    earlier) resource_words (IsResource earlier) (resource_is earlier)) n
 
 entry_part : (earlier : List ℕ) → IsPart (entry_at earlier) (λ e. line_text (counted_words (codes "arm") e)) (IsEntry earlier)
 entry_part earlier =
-    let p = line_is (counted (codes "arm") 0 39999) (counted_words (codes "arm")) (λ n. (0 ≤ n) × (n ≤ 39999)) (counted_is (codes "arm") 0 39999 (omega arith) refl) in
+    let p = line_is (counted (codes "arm") 0 39999) (counted_words (codes "arm")) (λ n. (0 ≤ n) × (n ≤ 39999))
+    (counted_is (codes "arm") 0 39999 (omega arith) refl) in
     record {
       takes = λ bytes x rest e. let t = p.takes bytes x rest e in (t.0, t.1.1);
       again = λ x rest good. p.again x rest (omega arith, good);
@@ -46,11 +49,15 @@ entry_part earlier =
 entries_part : (n : ℕ) → IsPart (many entry_at [] n) (flat_map (λ e. line_text (counted_words (codes "arm") e))) (λ xs. (length xs ≡ n) × Each IsEntry [] xs)
 entries_part n = many_is entry_at (λ e. line_text (counted_words (codes "arm") e)) IsEntry entry_part n
 
-pub places_part : (format : Format) (n : ℕ) → IsPart (many (place_at format) [] n) (flat_map (λ i. line_text (place_words format i))) (λ xs. (length xs ≡ n) × Each (λ earlier i. IsPlace format i) [] xs)
-places_part format n = many_is (place_at format) (λ i. line_text (place_words format i)) (λ earlier i. IsPlace format i) (λ earlier. line_is (place format) (place_words format) (IsPlace format) (place_is format)) n
+pub places_part : (format : Format) (n : ℕ) → IsPart (many (place_at format) [] n) (flat_map (λ i. line_text
+    (place_words format i))) (λ xs. (length xs ≡ n) × Each (λ earlier i. IsPlace format i) [] xs)
+places_part format n = many_is (place_at format) (λ i. line_text (place_words format i)) (λ earlier i. IsPlace format
+    i) (λ earlier. line_is (place format) (place_words format) (IsPlace format) (place_is format)) n
 
-name_part : (earlier : List ProcessRow) → IsPart (line (process_name (map (λ p. p.name) earlier))) (λ name. line_text (process_words name)) (λ name. is_new_name (map (λ e. e.name) earlier) name ≡ true)
-name_part earlier = line_is (process_name (map (λ p. p.name) earlier)) process_words (λ name. is_new_name (map (λ e. e.name) earlier) name ≡ true) (name_is (map (λ p. p.name) earlier))
+name_part : (earlier : List ProcessRow) → IsPart (line (process_name (map (λ p. p.name) earlier))) (λ name. line_text
+    (process_words name)) (λ name. is_new_name (map (λ e. e.name) earlier) name ≡ true)
+name_part earlier = line_is (process_name (map (λ p. p.name) earlier)) process_words (λ name. is_new_name (map (λ e.
+    e.name) earlier) name ≡ true) (name_is (map (λ p. p.name) earlier))
 
 pub integers_part : (format : Format) → IsPart (line (integers format)) (λ names. line_text (integers_words format names)) (AreIntegers format)
 integers_part format = line_is (integers format) (integers_words format) (AreIntegers format) (integers_is format)
@@ -75,7 +82,8 @@ joined_seven x1 x2 x3 x4 x5 x6 x7 bytes b1 b2 b3 b4 b5 b6 rest e1 e2 e3 e4 e5 e6
     (e5 ∙ ap (λ (t : List ℕ). x5 ++ t) (e6 ∙ ap (λ (t : List ℕ). x6 ++ t) e7)))))
     ∙ sym (seven x1 x2 x3 x4 x5 x6 x7 rest)
 
-process_takes : (format : Format) (m : ℕ) (earlier : List ProcessRow) (bytes : List ℕ) (p : ProcessRow) (rest : List ℕ) → process_at format m earlier bytes ≡ Ok (p, rest)
+process_takes : (format : Format) (m : ℕ) (earlier : List ProcessRow) (bytes : List ℕ) (p : ProcessRow) (rest : List
+    ℕ) → process_at format m earlier bytes ≡ Ok (p, rest)
     → (bytes ≡ process_text format p ++ rest) × IsProcess format m earlier p
 unfolding process_after process_text
 process_takes format m earlier bytes p rest e =
@@ -94,8 +102,10 @@ process_takes format m earlier bytes p rest e =
     let th = (counted_part (codes "code") 1 40000 (omega arith) refl).takes g.0.1 h.0.0 h.0.1 h.1 in
     let ti = (places_part format h.0.0).takes h.0.1 i.0.0 i.0.1 i.1 in
     let made : ProcessRow = record { name = a.0.0; integers = b.0.0; claims = f.0.0; entries = g.0.0; places = i.0.0 } in
-    let arms : line_text (counted_words (codes "arms") d.0.0) ≡ line_text (counted_words (codes "arms") (length g.0.0)) = ap (λ (n : ℕ). line_text (counted_words (codes "arms") n)) (sym tg.1.0) in
-    let code : line_text (counted_words (codes "code") h.0.0) ≡ line_text (counted_words (codes "code") (length i.0.0)) = ap (λ (n : ℕ). line_text (counted_words (codes "code") n)) (sym ti.1.0) in
+    let arms : line_text (counted_words (codes "arms") d.0.0) ≡ line_text (counted_words (codes "arms") (length
+    g.0.0)) = ap (λ (n : ℕ). line_text (counted_words (codes "arms") n)) (sym tg.1.0) in
+    let code : line_text (counted_words (codes "code") h.0.0) ≡ line_text (counted_words (codes "code") (length
+    i.0.0)) = ap (λ (n : ℕ). line_text (counted_words (codes "code") n)) (sym ti.1.0) in
     let e1 =
     joined_seven
     (line_text (process_words a.0.0))
@@ -118,7 +128,8 @@ process_takes format m earlier bytes p rest e =
       few_places = (let n = ti.1.0 in let l = th.1.1 in omega arith);
       places = ti.1.1;
     } in
-    subst (λ (y : ProcessRow × List ℕ). (bytes ≡ process_text format y.0 ++ y.1) × IsProcess format m earlier y.0) (ok_is (made, i.0.1) (p, rest) i.2) (e1, good)
+    subst (λ (y : ProcessRow × List ℕ). (bytes ≡ process_text format y.0 ++ y.1) × IsProcess format m earlier y.0)
+    (ok_is (made, i.0.1) (p, rest) i.2) (e1, good)
 
 process_again : (format : Format) (m : ℕ) (earlier : List ProcessRow) (p : ProcessRow) (rest : List ℕ) → IsProcess format m earlier p
     → process_at format m earlier (process_text format p ++ rest) ≡ Ok (p, rest)
@@ -143,10 +154,12 @@ process_again format m earlier p rest good =
       (places_part format (length p.places)).again p.places rest (refl, good.places),
     ) refl
 
-pub process_part : (format : Format) (m : ℕ) (earlier : List ProcessRow) → IsPart (process_at format m earlier) (process_text format) (IsProcess format m earlier)
+pub process_part : (format : Format) (m : ℕ) (earlier : List ProcessRow) → IsPart (process_at format m earlier)
+    (process_text format) (IsProcess format m earlier)
 process_part format m earlier = record { takes = process_takes format m earlier; again = process_again format m earlier }
 
-processes_part : (format : Format) (m n : ℕ) → IsPart (many (process_at format m) [] n) (flat_map (λ p. process_text format p)) (λ xs. (length xs ≡ n) × Each (IsProcess format m) [] xs)
+processes_part : (format : Format) (m n : ℕ) → IsPart (many (process_at format m) [] n) (flat_map (λ p. process_text
+    format p)) (λ xs. (length xs ≡ n) × Each (IsProcess format m) [] xs)
 processes_part format m n = many_is (process_at format m) (process_text format) (IsProcess format m) (process_part format m) n
 
 -- ---- a whole object
@@ -172,8 +185,10 @@ object_takes bytes o rest e =
     let td = (counted_part (codes "processes") 1 (most_processes a.0.0) (small_processes a.0.0) refl).takes c.0.1 d.0.0 d.0.1 d.1 in
     let tg = (processes_part a.0.0 b.0.0 d.0.0).takes d.0.1 g.0.0 g.0.1 g.1 in
     let made : Object = record { format = a.0.0; resources = c.0.0; processes = g.0.0 } in
-    let resources : line_text (counted_words (codes "resources") b.0.0) ≡ line_text (counted_words (codes "resources") (length c.0.0)) = ap (λ (n : ℕ). line_text (counted_words (codes "resources") n)) (sym tc.1.0) in
-    let processes : line_text (counted_words (codes "processes") d.0.0) ≡ line_text (counted_words (codes "processes") (length g.0.0)) = ap (λ (n : ℕ). line_text (counted_words (codes "processes") n)) (sym tg.1.0) in
+    let resources : line_text (counted_words (codes "resources") b.0.0) ≡ line_text (counted_words (codes "resources")
+    (length c.0.0)) = ap (λ (n : ℕ). line_text (counted_words (codes "resources") n)) (sym tc.1.0) in
+    let processes : line_text (counted_words (codes "processes") d.0.0) ≡ line_text (counted_words (codes "processes")
+    (length g.0.0)) = ap (λ (n : ℕ). line_text (counted_words (codes "processes") n)) (sym tg.1.0) in
     let e1 =
     joined
     (line_text (codes "PBO" ∷ digit_of a.0.0 ∷ []))
@@ -205,7 +220,8 @@ object_again o rest good =
       format_part.again o.format (x2 ++ (x3 ++ (x4 ++ (x5 ++ rest)))) tt,
       (counted_part (codes "resources") 0 16 (omega arith) refl).again (length o.resources) (x3 ++ (x4 ++ (x5 ++ rest))) (omega arith, good.few_resources),
       (resources_part (length o.resources)).again o.resources (x4 ++ (x5 ++ rest)) (refl, good.resources),
-      (counted_part (codes "processes") 1 (most_processes o.format) (small_processes o.format) refl).again (length o.processes) (x5 ++ rest) (good.some_processes, good.few_processes),
+      (counted_part (codes "processes") 1 (most_processes o.format) (small_processes o.format) refl).again (length
+          o.processes) (x5 ++ rest) (good.some_processes, good.few_processes),
       (processes_part o.format (length o.resources) (length o.processes)).again o.processes rest (refl, good.processes),
     ) refl
 

@@ -55,7 +55,8 @@ gathered_beyond b front Malformed = refl
 gathered_beyond b front Beyond = refl
 gathered_beyond b front (Read xs) = refl
 
-pub gathered_more : {A : Type 0} (b : Bool) (front : List A) (x : A) (v : Verdict (List A)) → gathered b front (cons_of (Read x) v) ≡ gathered b (front ++ x ∷ []) v
+pub gathered_more : {A : Type 0} (b : Bool) (front : List A) (x : A) (v : Verdict (List A)) → gathered b front
+    (cons_of (Read x) v) ≡ gathered b (front ++ x ∷ []) v
 gathered_more b front x Malformed = refl
 gathered_more b front x Beyond = refl
 gathered_more true front x (Read xs) = refl
@@ -112,7 +113,8 @@ abbrev pub IsApart : List Word → Pair → Type 0
 IsApart ws p = names_resource ws (decimal p.resource) ≡ false
 
 -- the words of a pair
-pub pair_takes : (r k : Word) (p : Pair) → pair_of r k ≡ Read p → (r ≡ decimal p.resource) × (k ≡ decimal p.amount) × (p.resource ≤ 15) × (1 ≤ p.amount) × (p.amount ≤ 1000000)
+pub pair_takes : (r k : Word) (p : Pair) → pair_of r k ≡ Read p → (r ≡ decimal p.resource) × (k ≡ decimal p.amount) ×
+    (p.resource ≤ 15) × (1 ≤ p.amount) × (p.amount ≤ 1000000)
 pair_takes r k p e =
     let make : ℕ × ℕ → Pair = λ n. record { resource = n.0; amount = n.1 } in
     let m = mapped_read make (paired (number 0 15 r) (number 1 1000000 k)) p e in

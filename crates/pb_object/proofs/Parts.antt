@@ -36,7 +36,8 @@ first_again : (ws : List Word) (rest : List ℕ) → AreLine ws → first_line (
 first_again [] rest h = absurd h
 first_again (w ∷ ws) rest h = first_line_again w ws rest h
 
-pub line_is : {X : Type 0} (form : List Word → Verdict X) (words : X → List Word) (Good : X → Type 0) → IsForm form words Good → IsPart (line form) (λ x. line_text (words x)) Good
+pub line_is : {X : Type 0} (form : List Word → Verdict X) (words : X → List Word) (Good : X → Type 0) → IsForm form
+    words Good → IsPart (line form) (λ x. line_text (words x)) Good
 unfolding line
 line_is form words Good f = record {
   takes = λ bytes x rest e.
@@ -50,18 +51,24 @@ line_is form words Good f = record {
 
 -- ---- parts in a row
 
-pub record Taken {X : Type 0} (text : X → List ℕ) (Good : List X → X → Type 0) (earlier : List X) (n : ℕ) (bytes : List ℕ) (ys : List X) (rest : List ℕ) : Type 0 where
+pub record Taken {X : Type 0} (text : X → List ℕ) (Good : List X → X → Type 0) (earlier : List X) (n : ℕ) (bytes :
+    List ℕ) (ys : List X) (rest : List ℕ) : Type 0 where
   pub xs : List X
   pub all : ys ≡ earlier ++ xs
   pub count : length xs ≡ n
   pub parts : bytes ≡ flat_map text xs ++ rest
   pub good : Each Good earlier xs
 
-pub many_takes : {X : Type 0} (part : List X → List ℕ → Result (X × List ℕ) Fault) (text : X → List ℕ) (Good : List X → X → Type 0) → ((earlier : List X) → IsPart (part earlier) text (Good earlier))
-    → (n : ℕ) (earlier : List X) (bytes : List ℕ) (ys : List X) (rest : List ℕ) → many part earlier n bytes ≡ Ok (ys, rest) → Taken text Good earlier n bytes ys rest
+pub many_takes : {X : Type 0} (part : List X → List ℕ → Result (X × List ℕ) Fault) (text : X → List ℕ) (Good : List X
+    → X → Type 0) → ((earlier : List X) → IsPart (part earlier) text (Good earlier))
+    → (n : ℕ) (earlier : List X) (bytes : List ℕ) (ys : List X) (rest : List ℕ) → many part earlier n bytes ≡ Ok (
+      ys,
+      rest,
+    ) → Taken text Good earlier n bytes ys rest
 unfolding many
 many_takes {X} part text Good is zero earlier bytes ys rest e =
-    subst (λ (y : List X × List ℕ). Taken text Good earlier 0 bytes y.0 y.1) (ok_is (earlier, bytes) (ys, rest) e) (record { xs = []; all = sym (append-nil earlier); count = refl; parts = refl; good = tt })
+    subst (λ (y : List X × List ℕ). Taken text Good earlier 0 bytes y.0 y.1) (ok_is (earlier, bytes) (ys, rest) e)
+    (record { xs = []; all = sym (append-nil earlier); count = refl; parts = refl; good = tt })
 many_takes {X} part text Good is (suc n) earlier bytes ys rest e =
     let a = bind_ok (part earlier bytes) (λ x. many part (earlier ++ x.0 ∷ []) n x.1) (ys, rest) e in
     let first = (is earlier).takes bytes a.0.0 a.0.1 a.1 in
@@ -70,21 +77,29 @@ many_takes {X} part text Good is (suc n) earlier bytes ys rest e =
       xs = a.0.0 ∷ more.xs;
       all = more.all ∙ append_assoc earlier (a.0.0 ∷ []) more.xs;
       count = ap suc more.count;
-      parts = first.0 ∙ ap (λ (r : List ℕ). text a.0.0 ++ r) more.parts ∙ sym (append_assoc (text a.0.0) (flat_map text more.xs) rest) ∙ ap (λ (t : List ℕ). t ++ rest) (sym (flat_map-cons text a.0.0 more.xs));
+      parts = first.0 ∙ ap (λ (r : List ℕ). text a.0.0 ++ r) more.parts ∙ sym (append_assoc (text a.0.0) (flat_map
+          text more.xs) rest) ∙ ap (λ (t : List ℕ). t ++ rest) (sym (flat_map-cons text a.0.0 more.xs));
       good = (first.1, more.good);
     }
 
-pub many_again : {X : Type 0} (part : List X → List ℕ → Result (X × List ℕ) Fault) (text : X → List ℕ) (Good : List X → X → Type 0) → ((earlier : List X) → IsPart (part earlier) text (Good earlier))
+pub many_again : {X : Type 0} (part : List X → List ℕ → Result (X × List ℕ) Fault) (text : X → List ℕ) (Good : List X
+    → X → Type 0) → ((earlier : List X) → IsPart (part earlier) text (Good earlier))
     → (xs earlier : List X) (rest : List ℕ) → Each Good earlier xs → many part earlier (length xs) (flat_map text xs ++ rest) ≡ Ok (earlier ++ xs, rest)
 unfolding many
 many_again {X} part text Good is [] earlier rest good = ap (λ (ys : List X). Ok (ys, rest)) (sym (append-nil earlier))
 many_again {X} part text Good is (x ∷ xs) earlier rest good =
-    let regrouped : flat_map text (x ∷ xs) ++ rest ≡ text x ++ (flat_map text xs ++ rest) = ap (λ (t : List ℕ). t ++ rest) (flat_map-cons text x xs) ∙ append_assoc (text x) (flat_map text xs) rest in
+    let regrouped : flat_map text (x ∷ xs) ++ rest ≡ text x ++ (flat_map text xs ++ rest) = ap (λ (t : List ℕ). t ++
+    rest) (flat_map-cons text x xs) ∙ append_assoc (text x) (flat_map text xs) rest in
     ap (many part earlier (suc (length xs))) regrouped
-    ∙ rw ((is earlier).again x (flat_map text xs ++ rest) good.0, many_again part text Good is xs (earlier ++ x ∷ []) rest good.1) (ap (λ (ys : List X). Ok (ys, rest)) (append_assoc earlier (x ∷ []) xs))
+    ∙ rw (
+      (is earlier).again x (flat_map text xs ++ rest) good.0,
+      many_again part text Good is xs (earlier ++ x ∷ [])
+          rest good.1,
+    ) (ap (λ (ys : List X). Ok (ys, rest)) (append_assoc earlier (x ∷ []) xs))
 
 -- so many parts are a part
-pub many_is : {X : Type 0} (part : List X → List ℕ → Result (X × List ℕ) Fault) (text : X → List ℕ) (Good : List X → X → Type 0) → ((earlier : List X) → IsPart (part earlier) text (Good earlier))
+pub many_is : {X : Type 0} (part : List X → List ℕ → Result (X × List ℕ) Fault) (text : X → List ℕ) (Good : List X → X
+    → Type 0) → ((earlier : List X) → IsPart (part earlier) text (Good earlier))
     → (n : ℕ) → IsPart (many part [] n) (flat_map text) (λ xs. (length xs ≡ n) × Each Good [] xs)
 many_is {X} part text Good is n = record {
   takes = λ bytes ys rest e.

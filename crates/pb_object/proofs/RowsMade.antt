@@ -154,11 +154,13 @@ claims_rest m t ts h = record {
 }
 
 process_good : (format : Format) (m : ℕ) (earlier : List ProcessRow) (n : Word) (t : List ℕ) (p : ProcessCode) (l : ProcessLabels)
-    → is_new_name (map (λ r. r.name) earlier) n ≡ true → AreClaims m t → IsSmallProcess p → AreGood format p l → IsProcess format m earlier (process_row n t p l)
+    → is_new_name (map (λ r. r.name) earlier) n ≡ true → AreClaims m t → IsSmallProcess p → AreGood format p l →
+    IsProcess format m earlier (process_row n t p l)
 unfolding process_row
 process_good format m earlier n t p l name claims small good =
     let many : length (side_by_side l.lines p.instrs) ≡ length p.instrs =
-    sym (length-map (side_by_side l.lines p.instrs) (λ (x : Option ℕ × Instr). x.1)) ∙ ap (λ (is : List Instr). length is) (side_right l.lines p.instrs good.lines) in
+    sym (length-map (side_by_side l.lines p.instrs) (λ (x : Option ℕ × Instr). x.1)) ∙ ap (λ (is : List Instr). length
+    is) (side_right l.lines p.instrs good.lines) in
     record {
       name = name;
       integers = good.integers;
@@ -171,7 +173,8 @@ process_good format m earlier n t p l name claims small good =
       places = good.places;
     }
 
-pub processes_good : (format : Format) (m : ℕ) (earlier : List ProcessRow) (ns : List Word) (ts : List (List ℕ)) (ps : List ProcessCode) (ls : List ProcessLabels)
+pub processes_good : (format : Format) (m : ℕ) (earlier : List ProcessRow) (ns : List Word) (ts : List (List ℕ)) (ps :
+    List ProcessCode) (ls : List ProcessLabels)
     → AllByRecursion (λ w. is_name w ≡ true) ns → are_new (map (λ r. r.name) earlier) ns ≡ true → AreSmall m ts
     → ((k : ℕ) (p : ProcessCode) → slice_get ps k ≡ Some p → IsSmallProcess p) → Matched format ps ls
     → Each (IsProcess format m) earlier (process_rows ns ts ps ls)

@@ -70,12 +70,15 @@ new_cons false b c h e = absurd cc
 
 -- each row has a name that no earlier one has
 module _ {X : Type 0} (name : X → Word) (Good : List X → X → Type 0) (named : (e : List X) (x : X) → Good e x → is_new_name (map name e) (name x) ≡ true) where
-  rows_new : (earlier xs : List X) → Each Good earlier xs → (are_new (map name earlier) (map name xs) ≡ true) × AllByRecursion (λ w. is_name w ≡ true) (map name xs)
+  rows_new : (earlier xs : List X) → Each Good earlier xs → (are_new (map name earlier) (map name xs) ≡ true) ×
+      AllByRecursion (λ w. is_name w ≡ true) (map name xs)
   rows_new earlier [] h = (refl, tt)
   rows_new earlier (x ∷ xs) h =
       let rest = rows_new (earlier ++ x ∷ []) xs h.1 in
-      let later : are_new (map name earlier ++ name x ∷ []) (map name xs) ≡ true = subst (λ (l : List Word). are_new l (map name xs) ≡ true) (map_push name earlier x) rest.0 in
-      let s = new_cons (is_name (name x)) (is_among (map name earlier) (name x)) (are_new (map name earlier ++ name x ∷ []) (map name xs)) (named earlier x h.0) later in
+      let later : are_new (map name earlier ++ name x ∷ []) (map name xs) ≡ true = subst (λ (l : List Word). are_new l
+      (map name xs) ≡ true) (map_push name earlier x) rest.0 in
+      let s = new_cons (is_name (name x)) (is_among (map name earlier) (name x)) (are_new (map name earlier ++ name x
+      ∷ []) (map name xs)) (named earlier x h.0) later in
       (s.1, (s.0, rest.1))
 
   pub rows_named : (count : ℕ) (xs : List X) → length xs ≡ count → Each Good [] xs → AreNames count (map name xs)
@@ -193,15 +196,19 @@ said_limits o two good =
         capital = All-from_recursion (λ c. c ≤ 1000000) (map (λ (r : ResourceRow). r.capital) o.resources)
             (all_map (λ c. c ≤ 1000000) (λ (r : ResourceRow). r.capital) o.resources
             (each_all IsResource (λ r. r.capital ≤ 1000000) (λ e r g. g.capital) [] o.resources good.resources));
-        process_names = rows_named (λ (p : ProcessRow). p.name) (IsProcess Two m) (λ e p g. g.name) (length (map process_code o.processes)) o.processes (sym count) rows;
-        resource_names = rows_named (λ (r : ResourceRow). r.name) IsResource (λ e r g. g.name) (length (map (λ (r : ResourceRow). r.capital) o.resources)) o.resources (sym kinds) good.resources;
+        process_names = rows_named (λ (p : ProcessRow). p.name) (IsProcess Two m) (λ e p g. g.name) (length (map
+            process_code o.processes)) o.processes (sym count) rows;
+        resource_names = rows_named (λ (r : ResourceRow). r.name) IsResource (λ e r g. g.name) (length (map (λ (r :
+            ResourceRow). r.capital) o.resources)) o.resources (sym kinds) good.resources;
         rows = columns ∙ sym count;
-        width = λ k d lt. (claimed k (get_or (map (λ (p : ProcessRow). p.claims) o.processes) k d) (slice_get-get_or (map (λ (p : ProcessRow). p.claims) o.processes) k d lt)).0 ∙ sym kinds;
+        width = λ k d lt. (claimed k (get_or (map (λ (p : ProcessRow). p.claims) o.processes) k d) (slice_get-get_or
+            (map (λ (p : ProcessRow). p.claims) o.processes) k d lt)).0 ∙ sym kinds;
         claims = λ p r u v.
             let at = slice_get-get_or (map (λ (q : ProcessRow). q.claims) o.processes) p [] (omega (arith, u, count, columns)) in
             let c = claimed p (get_or (map (λ (q : ProcessRow). q.claims) o.processes) p []) at in
             let wide = c.0 in
-            All-from_recursion (λ claim. claim ≤ 1000000) (get_or (map (λ (q : ProcessRow). q.claims) o.processes) p []) c.1 r 0 (omega (arith, v, kinds, wide));
+            All-from_recursion (λ claim. claim ≤ 1000000) (get_or (map (λ (q : ProcessRow). q.claims) o.processes) p
+            []) c.1 r 0 (omega (arith, v, kinds, wide));
         each = λ p process at.
             let w = mapped_at process_code o.processes p process at in
             let g = row_of p w.0 w.1 in

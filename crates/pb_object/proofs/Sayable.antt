@@ -109,7 +109,11 @@ has_object format code labels h even few good =
     sym (length-map processes process_code) ∙ ap (λ (l : List ProcessCode). length l) cols.codes in
     let some = h.some_processes.0 in
     let few_kinds = h.few_resources in
-    let small : AreSmall (length code.capital) code.claims = record { width = h.width; small = λ p r u v. (let rows = h.rows in h.claims p r (omega (arith, u, rows)) v) } in (
+    let small : AreSmall (length code.capital) code.claims = record {
+      width = h.width;
+      small = λ p r u v. (let rows =
+          h.rows in h.claims p r (omega (arith, u, rows)) v);
+    } in (
       record { format = format; resources = resources; processes = processes },
       record {
         good = record {

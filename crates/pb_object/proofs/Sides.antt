@@ -2,11 +2,13 @@
 use Rattle.std.proofs.Common.{◌≡◌, suc, List, [], ◌∷◌, ◌++◌, length, refl, ap, arith, map}
 use Rattle.pb_object.specs.Rows.{side_by_side}
 
-pub side_push : {A B : Type 0} (xs : List A) (ys : List B) (x : A) (y : B) → length xs ≡ length ys → side_by_side (xs ++ x ∷ []) (ys ++ y ∷ []) ≡ side_by_side xs ys ++ (x, y) ∷ []
+pub side_push : {A B : Type 0} (xs : List A) (ys : List B) (x : A) (y : B) → length xs ≡ length ys → side_by_side (xs
+    ++ x ∷ []) (ys ++ y ∷ []) ≡ side_by_side xs ys ++ (x, y) ∷ []
 side_push [] [] x y h = refl
 side_push [] (b ∷ ys) x y h = absurd (omega (arith, h))
 side_push (a ∷ xs) [] x y h = absurd (omega (arith, h))
-side_push {A} {B} (a ∷ xs) (b ∷ ys) x y h = ap (λ (ps : List (A × B)). (a, b) ∷ ps) (side_push xs ys x y (let k : suc (length xs) ≡ suc (length ys) = h in omega (arith, k)))
+side_push {A} {B} (a ∷ xs) (b ∷ ys) x y h = ap (λ (ps : List (A × B)). (a, b) ∷ ps) (side_push xs ys x y (let k : suc
+    (length xs) ≡ suc (length ys) = h in omega (arith, k)))
 
 pub side_left : {A B : Type 0} (xs : List A) (ys : List B) → length xs ≡ length ys → map (λ p. p.0) (side_by_side xs ys) ≡ xs
 side_left [] ys h = refl

@@ -13,7 +13,8 @@ use Rattle.pb_object.specs.Answers.{IsObjectOf, Spells, SpellsOne}
 use Rattle.pb_object.proofs.ObjectLaws.{alike}
 use Rattle.pb_object.proofs.Found.{answer_again}
 
-pub same_object : (f g : Format) (c d : Code) (l m : List ProcessLabels) (text more : List ℕ) → (s : Spells f c l text) → (t : Spells g d m (text ++ more)) → (s.0 ≡ t.0) × (more ≡ [])
+pub same_object : (f g : Format) (c d : Code) (l m : List ProcessLabels) (text more : List ℕ) → (s : Spells f c l
+    text) → (t : Spells g d m (text ++ more)) → (s.0 ≡ t.0) × (more ≡ [])
 same_object f g c d l m text more s t =
     alike s.0 t.0 more s.1.good t.1.good (ap (λ (x : List ℕ). x ++ more) (sym s.2) ∙ t.2)
 
@@ -22,7 +23,8 @@ same_code f g c d l m text s t =
     let same = (alike s.0 t.0 [] s.1.good t.1.good (append-nil (spelling s.0) ∙ sym s.2 ∙ t.2)).0 in
     (s.1.says_code ∙ ap code_of same ∙ sym t.1.says_code, s.1.says_labels ∙ ap labels_of same ∙ sym t.1.says_labels)
 
-pub answered : (f : Format) (c : Code) (l : List ProcessLabels) (text : List ℕ) → Spells f c l text → length text ≤ 4194304 → (o : Object) × IsObjectOf f c l o × (answer_of text ≡ Ok o)
+pub answered : (f : Format) (c : Code) (l : List ProcessLabels) (text : List ℕ) → Spells f c l text → length text ≤
+    4194304 → (o : Object) × IsObjectOf f c l o × (answer_of text ≡ Ok o)
 answered f c l text s few = (s.0, s.1, answer_again text s.0 s.1.good s.2 few)
 
 -- ---- a row is known by its columns
@@ -85,9 +87,11 @@ by_processes (p ∷ ps) (q ∷ qs) e f g h =
 -- an object is known by its format, its code and its labels
 pub by_code : (a b : Object) → a.format ≡ b.format → code_of a ≡ code_of b → labels_of a ≡ labels_of b → a ≡ b
 by_code a b format code labels =
-    let resources : a.resources ≡ b.resources = by_resources a.resources b.resources (ap (λ (c : Code). c.names.resources) code) (ap (λ (c : Code). c.capital) code) in
+    let resources : a.resources ≡ b.resources = by_resources a.resources b.resources (ap (λ (c : Code).
+    c.names.resources) code) (ap (λ (c : Code). c.capital) code) in
     let processes : a.processes ≡ b.processes =
-    by_processes a.processes b.processes (ap (λ (c : Code). c.names.processes) code) (ap (λ (c : Code). c.claims) code) (ap (λ (c : Code). c.processes) code) labels in
+    by_processes a.processes b.processes (ap (λ (c : Code). c.names.processes) code) (ap (λ (c : Code). c.claims)
+    code) (ap (λ (c : Code). c.processes) code) labels in
     ap (λ (f : Format). record { format = f; resources = a.resources; processes = a.processes }) format
     ∙ ap (λ (rs : List ResourceRow). record { format = b.format; resources = rs; processes = a.processes }) resources
     ∙ ap (λ (ps : List ProcessRow). record { format = b.format; resources = b.resources; processes = ps }) processes
@@ -99,7 +103,8 @@ same_text f c l x y s t =
 
 -- ---- in the first format the code says the labels too
 
-no_lines : (e g : List (Option ℕ × Instr)) (xs ys : List (Option ℕ × Instr)) → Each (λ earlier place. IsPlace One place) e xs → Each (λ earlier place. IsPlace One place) g ys
+no_lines : (e g : List (Option ℕ × Instr)) (xs ys : List (Option ℕ × Instr)) → Each (λ earlier place. IsPlace One
+    place) e xs → Each (λ earlier place. IsPlace One place) g ys
     → map (λ p. p.1) xs ≡ map (λ p. p.1) ys → map (λ p. p.0) xs ≡ map (λ p. p.0) ys
 no_lines e g [] [] h k same = refl
 no_lines e g [] (y ∷ ys) h k same = absurd cc
@@ -107,7 +112,8 @@ no_lines e g (x ∷ xs) [] h k same = absurd cc
 no_lines e g (x ∷ xs) (y ∷ ys) h k same =
     cons_is x.0 y.0 _ _ (h.0.0 ∙ sym k.0.0) (no_lines (e ++ x ∷ []) (g ++ y ∷ []) xs ys h.1 k.1 (cons_tail x.1 y.1 _ _ same))
 
-one_label : (m n : ℕ) (e g : List ProcessRow) (p q : ProcessRow) → IsProcess One m e p → IsProcess One n g q → process_code p ≡ process_code q → process_labels p ≡ process_labels q
+one_label : (m n : ℕ) (e g : List ProcessRow) (p q : ProcessRow) → IsProcess One m e p → IsProcess One n g q →
+    process_code p ≡ process_code q → process_labels p ≡ process_labels q
 one_label m n e g p q h k code =
     let count : length p.integers ≡ length q.integers = ap (λ (c : ProcessCode). c.integers) code in
     let instrs : map (λ place. place.1) p.places ≡ map (λ place. place.1) q.places = ap (λ (c : ProcessCode). c.instrs) code in

@@ -16,7 +16,8 @@ pub from_end : {A : Type 0} (f : A → Word) (xs : List A) (i : ℕ) → length 
 from_end f xs i le = ap (map f) (drop_of_length-le xs le)
 
 -- the words up to the next one are those up to here and this one
-pub up_to_here : {A : Type 0} (f : A → Word) (xs : List A) (i : ℕ) (d : A) → i < length xs → map f (take (i + 1) xs) ≡ map f (take i xs) ++ f (get_or xs i d) ∷ []
+pub up_to_here : {A : Type 0} (f : A → Word) (xs : List A) (i : ℕ) (d : A) → i < length xs → map f (take (i + 1) xs) ≡
+    map f (take i xs) ++ f (get_or xs i d) ∷ []
 up_to_here f xs i d lt = ap (map f) (take_more xs i d lt) ∙ map_push f (take i xs) (get_or xs i d)
 
 -- ---- numbers
@@ -48,7 +49,8 @@ all_read b front total so_far none =
 pub not_new : (earlier : List Word) (w : Word) (rest ws : List Word) → rest ≡ w ∷ ws → is_among earlier w ≡ true → are_new earlier rest ≡ false
 not_new earlier w rest ws e h = ap (are_new earlier) e ∙ rw h refl
 
-pub new_one : (earlier : List Word) (w : Word) (rest ws : List Word) → rest ≡ w ∷ ws → is_among earlier w ≡ false → are_new earlier rest ≡ are_new (earlier ++ w ∷ []) ws
+pub new_one : (earlier : List Word) (w : Word) (rest ws : List Word) → rest ≡ w ∷ ws → is_among earlier w ≡ false →
+    are_new earlier rest ≡ are_new (earlier ++ w ∷ []) ws
 new_one earlier w rest ws e h = ap (are_new earlier) e ∙ rw h refl
 
 pub none_new : (earlier rest : List Word) → rest ≡ [] → are_new earlier rest ≡ true

@@ -34,7 +34,8 @@ select_by : {A P : Type 0} (b : Bool) (it others : Verdict A) (x : A) → cond b
 select_by true it others x e yes' no' = yes' refl e
 select_by false it others x e yes' no' = no' e
 
-pub select_or : {A P : Type 0} (k key : Word) (it others : Verdict A) (x : A) → select k key it others ≡ Read x → (k ≡ key → it ≡ Read x → P) → (others ≡ Read x → P) → P
+pub select_or : {A P : Type 0} (k key : Word) (it others : Verdict A) (x : A) → select k key it others ≡ Read x → (k ≡
+    key → it ≡ Read x → P) → (others ≡ Read x → P) → P
 select_or k key it others x e found other = select_by (bytes_eq k key) it others x e (λ h. found ((bytes_eq-Decides k key).0 h)) other
 
 pub only_read : {A : Type 0} (k key : Word) (it : Verdict A) (x : A) → select k key it Malformed ≡ Read x → (k ≡ key) × (it ≡ Read x)

@@ -34,7 +34,8 @@ viewed_at {A} {B} f xs p x y lt is h = ap f is ∙ mapped_at f xs p x y lt h
 
 texts_of_map : {X Y : Type 0} (f : X → Y) (text : Y → List ℕ) (xs : List X) → flat_map text (map f xs) ≡ flat_map (λ x. text (f x)) xs
 texts_of_map f text [] = refl
-texts_of_map f text (x ∷ xs) = flat_map-cons text (f x) (map f xs) ∙ ap (λ (t : List ℕ). text (f x) ++ t) (texts_of_map f text xs) ∙ sym (flat_map-cons (λ x. text (f x)) x xs)
+texts_of_map f text (x ∷ xs) = flat_map-cons text (f x) (map f xs) ∙ ap (λ (t : List ℕ). text (f x) ++ t)
+    (texts_of_map f text xs) ∙ sym (flat_map-cons (λ x. text (f x)) x xs)
 
 sides_of : {A B : Type 0} (xs : List (A × B)) → side_by_side (map (λ p. p.0) xs) (map (λ p. p.1) xs) ≡ xs
 sides_of [] = refl
@@ -81,7 +82,8 @@ one_written old b1 b2 b3 new name count entries claims instrs row is_name is_cla
     (h3 ∙ middle b2 entries row.entries claims row.claims (length instrs) (length row.places) arms is_claims count_is)
     (h4 ∙ ap (λ (t : List ℕ). b3 ++ t) places)
 
-pub two_written : (old b1 b2 b3 new : List ℕ) (name : Word) (names : List Word) (lines : List (Option ℕ)) (count : ℕ) (entries : List ℕ) (claims : List ℕ) (instrs : List Instr) (row : ProcessRow)
+pub two_written : (old b1 b2 b3 new : List ℕ) (name : Word) (names : List Word) (lines : List (Option ℕ)) (count : ℕ)
+    (entries : List ℕ) (claims : List ℕ) (instrs : List Instr) (row : ProcessRow)
     → name ≡ row.name → claims ≡ row.claims → record { integers = count; entries = entries; instrs = instrs } ≡ process_code row
     → record { lines = lines; integers = names } ≡ process_labels row
     → b1 ≡ old ++ line_text (process_words name) → b2 ≡ b1 ++ line_text (integers_words Two names)
@@ -124,11 +126,13 @@ apart a b c d e = simp append_assoc
 pub spelling_is : (o : Object) → spelling o ≡ opening o.format o ++ processes_text o.format o.processes
 unfolding spelling
 spelling_is o =
-    apart (line_text (codes "PBO" ∷ digit_of o.format ∷ [])) (line_text (counted_words (codes "resources") (length o.resources))) (flat_map (λ r. line_text (resource_words r)) o.resources)
+    apart (line_text (codes "PBO" ∷ digit_of o.format ∷ [])) (line_text (counted_words (codes "resources") (length
+    o.resources))) (flat_map (λ r. line_text (resource_words r)) o.resources)
     (line_text (counted_words (codes "processes") (length o.processes))) (processes_text o.format o.processes)
 
 -- the texts so far and one more
-pub more_texts : {X : Type 0} (text : X → List ℕ) (xs : List X) (i : ℕ) (d : X) → i < length xs → flat_map text (take (i + 1) xs) ≡ flat_map text (take i xs) ++ text (get_or xs i d)
+pub more_texts : {X : Type 0} (text : X → List ℕ) (xs : List X) (i : ℕ) (d : X) → i < length xs → flat_map text (take
+    (i + 1) xs) ≡ flat_map text (take i xs) ++ text (get_or xs i d)
 more_texts text xs i d lt = ap (flat_map text) (take_more xs i d lt) ∙ flat_push text (take i xs) (get_or xs i d)
 
 pub next_text : {X : Type 0} (text : X → List ℕ) (xs : List X) (i : ℕ) (d : X) (old so_far new : List ℕ) → i < length xs
@@ -137,7 +141,8 @@ next_text text xs i d old so_far new lt e h =
     h ∙ ap (λ (t : List ℕ). t ++ text (get_or xs i d)) e ∙ append_assoc old (flat_map text (take i xs)) (text (get_or xs i d))
     ∙ ap (λ (t : List ℕ). old ++ t) (sym (more_texts text xs i d lt))
 
-pub names_line : {A : Type 0} (f : A → Word) (b : List ℕ) (xs ys : List A) → xs ≡ ys → b ++ line_text (integers_words Two (map f xs)) ≡ b ++ line_text (integers_words Two (map f ys))
+pub names_line : {A : Type 0} (f : A → Word) (b : List ℕ) (xs ys : List A) → xs ≡ ys → b ++ line_text (integers_words
+    Two (map f xs)) ≡ b ++ line_text (integers_words Two (map f ys))
 names_line {A} f b xs ys e = ap (λ (l : List A). b ++ line_text (integers_words Two (map f l))) e
 
 -- the resource at a place, by its columns
@@ -182,10 +187,12 @@ row_of o whole p is lt =
       code = ap (λ (c : Code). slice_get c.processes p) is ∙ viewed process_code o.processes p empty lt;
     }
 
-pub labels_at : (o : Object) (labels : List ProcessLabels) (p : ℕ) → labels ≡ labels_of o → p < length o.processes → IsLabelsOf labels p (get_or o.processes p empty)
+pub labels_at : (o : Object) (labels : List ProcessLabels) (p : ℕ) → labels ≡ labels_of o → p < length o.processes →
+    IsLabelsOf labels p (get_or o.processes p empty)
 labels_at o labels p is lt = ap (λ (l : List ProcessLabels). slice_get l p) is ∙ viewed process_labels o.processes p empty lt
 
-pub width_at : (o : Object) (whole : Code) (p : ℕ) → IsObject o → whole ≡ code_of o → p < length o.processes → length (get_or whole.claims p []) ≡ width_of whole.claims
+pub width_at : (o : Object) (whole : Code) (p : ℕ) → IsObject o → whole ≡ code_of o → p < length o.processes → length
+    (get_or whole.claims p []) ≡ width_of whole.claims
 width_at o whole p good is lt =
     let claims_of : ProcessRow → List ℕ = λ r. r.claims in
     let m = length o.resources in
@@ -194,7 +201,8 @@ width_at o whole p good is lt =
     let some : 0 < length (map claims_of o.processes) = simp length-map (let s = good.some_processes in omega arith) in
     let below : p < length (map claims_of o.processes) = simp length-map lt in
     let wide : width_of (map claims_of o.processes) ≡ m = width_is (map claims_of o.processes) m some column in
-    let here : length (get_or (map claims_of o.processes) p []) ≡ m = All-from_recursion (λ row. length row ≡ m) (map claims_of o.processes) column p [] below in
+    let here : length (get_or (map claims_of o.processes) p []) ≡ m = All-from_recursion (λ row. length row ≡ m) (map
+    claims_of o.processes) column p [] below in
     subst (λ (t : List (List ℕ)). length (get_or t p []) ≡ width_of t) (sym (ap (λ (c : Code). c.claims) is)) (here ∙ sym wide)
 
 pub finished : (format : Format) (o : Object) (out : List ℕ) (p : ℕ) → o.format ≡ format → length o.processes ≤ p
@@ -203,6 +211,7 @@ finished format o out p is le e =
     e ∙ ap (λ (ps : List ProcessRow). opening format o ++ processes_text format ps) (take_all p o.processes le)
     ∙ ap (λ (f : Format). opening f o ++ processes_text f o.processes) (sym is) ∙ sym (spelling_is o)
 
-pub count_of : {A : Type 0} (f : A → ProcessCode) (xs : List A) (o : Object) (whole : Code) → whole ≡ code_of o → whole.processes ≡ map f xs → length xs ≡ length o.processes
+pub count_of : {A : Type 0} (f : A → ProcessCode) (xs : List A) (o : Object) (whole : Code) → whole ≡ code_of o →
+    whole.processes ≡ map f xs → length xs ≡ length o.processes
 count_of f xs o whole is e =
     sym (length-map xs f) ∙ ap (λ (l : List ProcessCode). length l) (sym e ∙ ap (λ (c : Code). c.processes) is) ∙ length-map o.processes process_code

@@ -7,6 +7,7 @@ use Rattle.pb_base.specs.declared.pick.Pick.{Pick}
 use Rattle.pb_history.specs.Replays.{spread}
 use Rattle.pb_history.specs.declared.counted.CountedPick.{CountedPick}
 use Rattle.pb_picks.specs.Counted.{AreApart}
+use Rattle.pb_engines.proofs.Apart.{apart_rest, some_first}
 use Rattle.pb_outcome_engine.specs.OutcomeLines.{AreCounted}
 
 -- the picks so far, and one more
@@ -27,14 +28,6 @@ all_right P (x ∷ xs) ys h = all_right P xs ys (All-tail P x (xs ++ ys) h)
 all_first : (P : Pick → Type 0) (n : ℕ) (pick : Pick) (picks : List Pick) → 0 < n → All P (replicate n pick ++ picks) → P pick
 all_first P zero pick picks some h = absurd (omega (arith, some))
 all_first P (suc n) pick picks some h = All-head P pick (replicate n pick ++ picks) h
-
-some_first : (c : CountedPick) (picks : List CountedPick) → AreApart (c ∷ picks) → 0 < c.count
-some_first c [] apart = apart
-some_first c (d ∷ picks) apart = apart.0
-
-apart_rest : (c : CountedPick) (picks : List CountedPick) → AreApart (c ∷ picks) → AreApart picks
-apart_rest c [] apart = tt
-apart_rest c (d ∷ picks) apart = apart.2
 
 -- what holds of all picks holds of those that are counted
 all_counted : (P : Pick → Type 0) (counted : List CountedPick) → AreApart counted → All P (spread counted) → All (λ c. P c.pick) counted

@@ -39,7 +39,8 @@ goes_on (Found x mid) f p = (x, mid, refl, p)
 
 -- what holds of each part of a chain and the tokens after it holds at its end
 pub chain_keeps : {X : Type 0} (join : Join X) (part : Part X) (P : X → List Token → Type 0)
-    → ((a : X) (t : Token) (mid : List Token) (f : X → X → X) (b : X) (rest : List Token) → P a (t ∷ mid) → join t.lexeme ≡ Some f → part mid ≡ Found b rest → P (f a b) rest)
+    → ((a : X) (t : Token) (mid : List Token) (f : X → X → X) (b : X) (rest : List Token) → P a (t ∷ mid) → join
+    t.lexeme ≡ Some f → part mid ≡ Found b rest → P (f a b) rest)
     → (n : ℕ) (a : X) (ts : List Token) (e : X) (rest : List Token) → P a ts → chain_from join part n a ts ≡ Found e rest → P e rest
 unfolding chain_from
 chain_keeps join part P step n a [] e rest h p = subst (λ x. P x rest) (found_value p) (subst (P a) (found_rest p) h)

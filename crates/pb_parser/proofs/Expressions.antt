@@ -352,7 +352,8 @@ reaches (g.tight {l = l} {ts = ts} {rest = rest} {e = e} r) d room ends =
 reaches (g.chain {l = l} {ts = ts} {mid = mid} {rest = rest} {t = t} {op = op} {a = a} {b = b} c is left right) d room ends =
     let x = reaches left d (omega arith) (ends_part c t op mid is) in
     let near = chains_within c rest ends in
-    let p = settle (tighter l) d mid rest b (reaches right d (omega arith) (ends_looser (tighter l) (within (tighter l)) (rank_within (tighter l)) rest near)) near in
+    let p = settle (tighter l) d mid rest b (reaches right d (omega arith) (ends_looser (tighter l) (within (tighter
+    l)) (rank_within (tighter l)) rest near)) near in
     more c d x.0 a b op t ts mid rest is x.1 x.2 p (shorter right)
 reaches (g.negation {ts = ts} {rest = rest} {t = t} {e = e} is r) d room ends =
     let p = settle level.Negation d ts rest e (reaches r d (omega arith) ends) ends in
@@ -366,13 +367,17 @@ reaches (g.comparison {ts = ts} {mid = mid} {rest = rest} {t = t} {op = op} {a =
 reaches (g.minus {ts = ts} {rest = rest} {t = t} {e = e} is r) d room ends =
     let p = settle level.Factor d ts rest e (reaches r d (omega arith) ends) ends in
     at_once level.Factor d (t ∷ ts) rest _ (minus_read (expression d) t ts rest e is p)
-reaches (g.number {rest = rest} {t = t} {n = n} is) d room ends = at_once level.Factor d (t ∷ rest) rest _ (primary_read (expression d) (t ∷ rest) rest _ (number_read (expression d) t rest n is))
-reaches (g.variable {rest = rest} {t = t} {x = x} is) d room ends = at_once level.Factor d (t ∷ rest) rest _ (primary_read (expression d) (t ∷ rest) rest _ (variable_read (expression d) t rest x is))
+reaches (g.number {rest = rest} {t = t} {n = n} is) d room ends = at_once level.Factor d (t ∷ rest) rest _
+    (primary_read (expression d) (t ∷ rest) rest _ (number_read (expression d) t rest n is))
+reaches (g.variable {rest = rest} {t = t} {x = x} is) d room ends = at_once level.Factor d (t ∷ rest) rest _
+    (primary_read (expression d) (t ∷ rest) rest _ (variable_read (expression d) t rest x is))
 reaches (g.group is to r) zero room ends = absurd (omega arith)
 reaches (g.group {ts = ts} {rest = rest} {t = t} {u = u} {e = e} is to r) (suc d) room ends =
     let near = ends_mark level.Disjunction u (Fixed mark.Close) rest to refl in
-    let p = settle level.Disjunction d ts (u ∷ rest) e (reaches r d (omega arith) (ends_looser level.Disjunction level.Conjunction (omega arith) (u ∷ rest) near)) near in
-    at_once level.Factor (suc d) (t ∷ ts) rest e (primary_read (expression (suc d)) (t ∷ ts) rest e (group_read (expression (suc d)) t u ts rest e is to (opens d ts ∙ p)))
+    let p = settle level.Disjunction d ts (u ∷ rest) e (reaches r d (omega arith) (ends_looser level.Disjunction
+    level.Conjunction (omega arith) (u ∷ rest) near)) near in
+    at_once level.Factor (suc d) (t ∷ ts) rest e (primary_read (expression (suc d)) (t ∷ ts) rest e (group_read
+    (expression (suc d)) t u ts rest e is to (opens d ts ∙ p)))
 
 -- ---- the laws
 

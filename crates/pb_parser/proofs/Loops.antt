@@ -57,7 +57,8 @@ loop_more m join part ts mid rest target b l taken p less put = record {
 
 pub loop_fails : {Y : Type 0} {P : Y → Type 0} (m : Mark) (join : Y → Y → Y) (part : Part Y) (ts mid : List Token) (target : Answer Y)
     → InLoop P (between m join) part ts target → TakesMark m true ts mid → part mid ≡ Refused → target ≡ Refused
-loop_fails m join part ts mid target l taken p = chain_fails (between m join) part l.syntax join taken.0 ts mid target l.chain taken.1 (joins_if m join taken.0 taken.2) p
+loop_fails m join part ts mid target l taken p = chain_fails (between m join) part l.syntax join taken.0 ts mid target
+    l.chain taken.1 (joins_if m join taken.0 taken.2) p
 
 pub loop_leaves : {X Y : Type 0} {is : X → Y → Type 0} {x : X} (m : Mark) (join : Y → Y → Y) (part : Part Y) (ts after : List Token) (target : Answer Y)
     → InLoop (is x) (between m join) part ts target → TakesMark m false ts after → Finds is x target after
@@ -82,7 +83,8 @@ joined_shorter op a part mid rest shorter f =
     let same = ap length (found_rest j.3) in
     omega (arith, less, same)
 
-pub operator_more : {E : Type 0} {is : E → ExprSyntax → Type 0} {y : E} {P : ExprSyntax → Type 0} (l : Level) (op : BinaryOp) (part : Part ExprSyntax) (ts mid rest : List Token) (target : Answer ExprSyntax)
+pub operator_more : {E : Type 0} {is : E → ExprSyntax → Type 0} {y : E} {P : ExprSyntax → Type 0} (l : Level) (op :
+    BinaryOp) (part : Part ExprSyntax) (ts mid rest : List Token) (target : Answer ExprSyntax)
     → ((us : List Token) (b : ExprSyntax) → part mid ≡ Found b us → length us < length mid)
     → (loop : InLoop P (joins l) part ts target) → TakesOperator l (Some op) ts mid
     → Finds is y (joined op loop.syntax (part mid)) rest → InLoop (is y) (joins l) part rest target
@@ -93,15 +95,19 @@ operator_more l op part ts mid rest target shorter loop taken f =
     record {
       syntax = f.syntax;
       same = f.same;
-      chain = subst (λ s. InChain (joins l) part s rest target) (found_value j.3) (subst (λ us. InChain (joins l) part (tree.binary op a j.0) us target) (found_rest j.3) c);
+      chain = subst (λ s. InChain (joins l) part s rest target) (found_value j.3) (subst (λ us. InChain (joins l) part
+          (tree.binary op a j.0) us target) (found_rest j.3) c);
     }
 
-pub operator_fails : {P : ExprSyntax → Type 0} (wants : Type 0) (e : ParseFault) (l : Level) (op : BinaryOp) (part : Part ExprSyntax) (ts mid : List Token) (target : Answer ExprSyntax)
+pub operator_fails : {P : ExprSyntax → Type 0} (wants : Type 0) (e : ParseFault) (l : Level) (op : BinaryOp) (part :
+    Part ExprSyntax) (ts mid : List Token) (target : Answer ExprSyntax)
     → (loop : InLoop P (joins l) part ts target) → TakesOperator l (Some op) ts mid → Fails wants e (joined op loop.syntax (part mid)) → Fails wants e target
 operator_fails wants e l op part ts mid target loop taken h =
-    fails_through wants e h (λ none. chain_fails (joins l) part loop.syntax (tree.binary op) taken.0 ts mid target loop.chain taken.1 taken.2 (joined_refused op loop.syntax (part mid) none))
+    fails_through wants e h (λ none. chain_fails (joins l) part loop.syntax (tree.binary op) taken.0 ts mid target
+    loop.chain taken.1 taken.2 (joined_refused op loop.syntax (part mid) none))
 
-pub operator_leaves : {X : Type 0} {is : X → ExprSyntax → Type 0} {x : X} (l : Level) (part : Part ExprSyntax) (ts after : List Token) (target : Answer ExprSyntax)
+pub operator_leaves : {X : Type 0} {is : X → ExprSyntax → Type 0} {x : X} (l : Level) (part : Part ExprSyntax) (ts
+    after : List Token) (target : Answer ExprSyntax)
     → InLoop (is x) (joins l) part ts target → TakesOperator l None ts after → Finds is x target after
 operator_leaves l part ts after target x taken = record {
   syntax = x.syntax;

@@ -78,7 +78,11 @@ SignsFrom n ts = ((signs after : List Token) × (ts ≡ signs ++ after) × (AreS
 sign-later : (n : ℕ) (t : Token) (ts signs after : List Token) → n ≤ 256 → t ∷ ts ≡ signs ++ after → AreSigns signs → 256 < n + length signs
     → (is_sign t.lexeme ≡ true) × ((ss : List Token) × (ts ≡ ss ++ after) × (AreSigns ss) × (256 < (n + 1) + length ss))
 sign-later n t ts [] after small e all many = absurd (omega arith)
-sign-later n t ts (s ∷ ss) after small e all many = let head : t ≡ s = cc in (subst (λ u. is_sign u.lexeme ≡ true) (sym head) all.0, (ss, cc, all.1, omega arith))
+sign-later n t ts (s ∷ ss) after small e all many = let head : t ≡ s = cc in (
+  subst (λ u. is_sign u.lexeme ≡ true)
+      (sym head) all.0,
+  (ss, cc, all.1, omega arith),
+)
 
 row-later : (t : Token) (ts before signs after : List Token) → t ∷ ts ≡ before ++ (signs ++ after) → AreSigns signs → 256 < length signs
     → ((is_sign t.lexeme ≡ true) × ((ss : List Token) × (ts ≡ ss ++ after) × (AreSigns ss) × (256 < 1 + length ss))) ⊎ SignsTooMany ts

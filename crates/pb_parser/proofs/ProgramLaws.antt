@@ -66,7 +66,8 @@ no_integers : (d : ℕ) (ts rest : List Token) (a : StmtsSyntax) → list (state
 unfolding integers list
 no_integers d [] rest a p = refl
 no_integers d (t ∷ ts) rest a p = elim (either (is_mark mark.Integer t.lexeme)) [
-  | inl is ↦ absurd (let n = chain_refused (between mark.Semicolon append) (statement d) (t ∷ ts) (no_statement d t ts (mark_is mark.Integer t.lexeme is)) in cc)
+  | inl is ↦ absurd (let n = chain_refused (between mark.Semicolon append) (statement d) (t ∷ ts) (no_statement d t ts
+      (mark_is mark.Integer t.lexeme is)) in cc)
   | inr other ↦ rw other refl
 ]
 
@@ -204,7 +205,8 @@ resources_sound ts rest rs p =
     rw (o.1, s.1) (g.another reads o.0 s.2))
     (length ts) [] ts rs rest g.none p
 
-process_rule : (d : ℕ) (t u y : Token) (ts us vs ws rest : List Token) (text : List ℕ) (x : NameSyntax) (xs : List NameSyntax) (a : StmtsSyntax) → t.lexeme ≡ Name text
+process_rule : (d : ℕ) (t u y : Token) (ts us vs ws rest : List Token) (text : List ℕ) (x : NameSyntax) (xs : List
+    NameSyntax) (a : StmtsSyntax) → t.lexeme ≡ Name text
     → x ≡ name_at t text → ts ≡ t ∷ us → us ≡ u ∷ vs → Is u mark.Begin → integers vs ≡ Found xs ws → ReadsList ws a (y ∷ rest)
     → Is y mark.End
     → ReadsProcess ts (record { name = x; integers = xs; body = a }) rest

@@ -54,7 +54,8 @@ pub signs_over : (op : UnaryOp) (count turn : ℕ) (answer whole : Answer ExprSy
 signs_over op count turn answer whole over same = let none : count - turn ≡ 0 = omega arith in same ∙ ap (λ n. signs n op answer) none
 
 -- what was made of the operand behind its signs was made of the whole
-pub signed_makes : {E : Type 0} (is : E → ExprSyntax → Type 0) (wants : Type 0) (r : Result E ParseFault) (n : ℕ) (op : UnaryOp) (x : E) (answer whole : Answer ExprSyntax)
+pub signed_makes : {E : Type 0} (is : E → ExprSyntax → Type 0) (wants : Type 0) (r : Result E ParseFault) (n : ℕ) (op
+    : UnaryOp) (x : E) (answer whole : Answer ExprSyntax)
     (rest : List Token) → Signs wants is r n op x → Finds is x answer rest → whole ≡ signs n op answer → Makes wants is r whole rest
 signed_makes is wants (Ok y) n op x answer whole rest made f same =
     let m = made f.syntax f.same rest in

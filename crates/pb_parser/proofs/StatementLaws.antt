@@ -233,7 +233,8 @@ mutual
       let p = expression_complete r d (omega arith) (ends_mark level.Disjunction u (Fixed mark.Then) us th refl) in
       let q = list_reach d l (omega arith) (ends_mark level.Disjunction v (Fixed mark.Fi) rest fi refl) in
       choice_read d t u v ts us rest e a is p th (list_ends d mark.Fi v us rest a q fi refl) fi
-  stmt_read (suc d) (g.choices {t = t} {u = u} {v = v} {w = w} {ts = ts} {us = us} {vs = vs} {rest = rest} {e = e} {a = a} {b = b} is r th l el m fi) room ends =
+  stmt_read (suc d) (g.choices {t = t} {u = u} {v = v} {w = w} {ts = ts} {us = us} {vs = vs} {rest = rest} {e = e} {a
+      = a} {b = b} is r th l el m fi) room ends =
       let p = expression_complete r d (omega arith) (ends_mark level.Disjunction u (Fixed mark.Then) us th refl) in
       let q = list_reach d l (omega arith) (ends_mark level.Disjunction v (Fixed mark.Else) vs el refl) in
       let s = list_reach d m (omega arith) (ends_mark level.Disjunction w (Fixed mark.Fi) rest fi refl) in
@@ -259,7 +260,8 @@ mutual
   list_reach d (g.first {ts = ts} {rest = rest} {a = a} r) room ends = list_enters d ts rest a (stmt_read d r room ends)
   list_reach d (g.next {ts = ts} {mid = mid} {rest = rest} {t = t} {a = a} {b = b} l is r) room ends =
       let x = list_reach d l (omega arith) (ends_mark level.Disjunction t (Fixed mark.Semicolon) mid is refl) in
-      chain_more _ (statement d) a b append t (t ∷ mid) mid rest _ x refl (joins_between mark.Semicolon append t is) (stmt_read d r (omega arith) ends) (stmt_shorter r)
+      chain_more _ (statement d) a b append t (t ∷ mid) mid rest _ x refl (joins_between mark.Semicolon append t is)
+      (stmt_read d r (omega arith) ends) (stmt_shorter r)
 
   pub arms_reach : (d : ℕ) {ts rest : List Token} {a : ArmsSyntax} (r : ReadsArms ts a rest) → arms_depth r ≤ d
       → Ends level.Disjunction rest
@@ -267,7 +269,8 @@ mutual
   arms_reach d (g.first_arm {ts = ts} {rest = rest} {a = a} r) room ends = arms_enter d ts rest a (stmt_read d r room ends)
   arms_reach d (g.next_arm {ts = ts} {mid = mid} {rest = rest} {t = t} {a = a} {b = b} l is r) room ends =
       let x = arms_reach d l (omega arith) (ends_mark level.Disjunction t (Fixed mark.Semicolon) mid is refl) in
-      chain_more _ (an_arm (statement d)) a (tree.arm_then b tree.no_arm) append_arms t (t ∷ mid) mid rest _ x refl (joins_between mark.Semicolon append_arms t is)
+      chain_more _ (an_arm (statement d)) a (tree.arm_then b tree.no_arm) append_arms t (t ∷ mid) mid rest _ x refl
+      (joins_between mark.Semicolon append_arms t is)
       (arm_read (statement d) mid rest b (stmt_read d r (omega arith) ends)) (stmt_shorter r)
 
 -- ---- what the function reads, the grammar reads
@@ -407,7 +410,8 @@ statement_cases d deeper sound t ts rest a (Fixed mark.If) is p =
     let m = then_marked mark.Then (expression d ts) x.0 x.1 x.2 in
     let y = goes_on (list deeper x.1) _ x.3 in
     let z = goes_on (then_mark mark.Fi (otherwise deeper y.1)) _ y.3 in
-    becomes_stmt z.3 (choice_sound deeper sound t m.0 ts x.1 y.1 z.1 x.0 y.0 z.0 is (expression_sound d ts (m.0 ∷ x.1) x.0 m.2) m.1 (list_sound deeper sound x.1 y.1 y.0 y.2) z.2)
+    becomes_stmt z.3 (choice_sound deeper sound t m.0 ts x.1 y.1 z.1 x.0 y.0 z.0 is (expression_sound d ts (m.0 ∷ x.1)
+    x.0 m.2) m.1 (list_sound deeper sound x.1 y.1 y.0 y.2) z.2)
 statement_cases d deeper sound t ts rest a (Fixed mark.While) is p =
     let x = goes_on (then_mark mark.Do (expression d ts)) _ p in
     let m = then_marked mark.Do (expression d ts) x.0 x.1 x.2 in

@@ -31,7 +31,8 @@ arms-push (x ∷ xs) a = ap (arm_then (arm_view x)) (arms-push xs a)
 pub arms_added : {A : Type 0} (xs ys : List (Vec (Stmt A) A)) (a : Vec (Stmt A) A) (x : StmtsSyntax) (before : ArmsSyntax)
     → ys ≡ xs ++ (a ∷ []) → stmts_view a.items ≡ x
     → arms_view xs ≡ before → arms_view ys ≡ append_arms before (single_arm x)
-arms_added xs ys a x before e is was = ap arms_view e ∙ arms-push xs a ∙ ap (λ y. append_arms (arms_view xs) (single_arm y)) is ∙ ap (λ b. append_arms b (single_arm x)) was
+arms_added xs ys a x before e is was = ap arms_view e ∙ arms-push xs a ∙ ap (λ y. append_arms (arms_view xs)
+    (single_arm y)) is ∙ ap (λ b. append_arms b (single_arm x)) was
 
 items-push : {G X : Type 0} (view : G → X) (xs : List G) (x : G) → map view (xs ++ (x ∷ [])) ≡ concat (map view xs) (view x ∷ [])
 items-push view [] x = refl
@@ -41,7 +42,8 @@ items-push view (y ∷ xs) x = ap (λ r. view y ∷ r) (items-push view xs x)
 pub items_added : {G X : Type 0} (view : G → X) (xs ys : List G) (g : G) (x : X) (before : List X) → ys ≡ xs ++ (g ∷ []) → view g ≡ x
     → map view xs ≡ before
     → map view ys ≡ concat before (x ∷ [])
-items_added view xs ys g x before e is was = ap (map view) e ∙ items-push view xs g ∙ ap (λ y. concat (map view xs) (y ∷ [])) is ∙ ap (λ b. concat b (x ∷ [])) was
+items_added view xs ys g x before e is was = ap (map view) e ∙ items-push view xs g ∙ ap (λ y. concat (map view xs) (y
+    ∷ [])) is ∙ ap (λ b. concat b (x ∷ [])) was
 
 -- ---- a statement, seen through what was known of its parts
 

@@ -36,7 +36,12 @@ program_ends d ts rest p q =
 
 pub to_the_end : {X : Type 0} (is : X → ProgramSyntax → Type 0) (wants : Type 0) (r : Result X ParseFault) (d : ℕ) (ts rest : List Token)
     → Makes wants is r (program d ts) rest → Makes wants is r (program d ts) []
-to_the_end is wants (Ok x) d ts rest f = record { syntax = f.syntax; found = f.found ∙ ap (Found f.syntax) (program_ends d ts rest f.syntax f.found); same = f.same }
+to_the_end is wants (Ok x) d ts rest f = record {
+  syntax = f.syntax;
+  found = f.found ∙ ap (Found f.syntax)
+      (program_ends d ts rest f.syntax f.found);
+  same = f.same;
+}
 to_the_end is wants (Err e) d ts rest f = f
 
 -- ---- what is to be shown of an answer
@@ -115,7 +120,11 @@ judged_made ts d (Ok q) p shallow found keeps made =
         ],
       );
       syntax = (λ s. (let e = s.1 in cc), λ s. absurd (s.1 made.syntax reads));
-      too_large = (λ e. cc, λ s. (let same = ap program_nodes (one_program s.1.1 reads ∙ is) in let over = s.1.3 in let low = keeps.nodes in absurd (omega arith)));
+      too_large = (
+        λ e. cc,
+        λ s. (let same = ap program_nodes (one_program s.1.1 reads ∙ is) in let over = s.1.3 in
+            let low = keeps.nodes in absurd (omega arith)),
+      );
       memory = λ e. cc;
     }
 judged_made ts d (Err (fault.Syntax at)) p shallow found keeps made = cc

@@ -24,8 +24,12 @@ no_sign b h = λ e. let t : not (eqb 43 43) ≡ true = subst (λ (x : ℕ). not 
 plain_is : (w : List ℕ) → is_plain w ≡ true → (0 < length w) × (get_or w 0 0 ≢ 43) × (get_or w 0 0 ≡ 48 → length w ≡ 1)
 plain_is [] e = absurd cc
 plain_is (d ∷ ds) e =
-    let p = both_true (not (eqb d 43)) (not (eqb d 48) || eqb (length ds) 0) e in
-    (omega arith, no_sign d p.0, λ h. let h' : d ≡ 48 = h in let q : eqb (length ds) 0 ≡ true = subst (λ (x : ℕ). (not (eqb x 48) || eqb (length ds) 0) ≡ true) h' p.1 in omega (arith, eqb-true (length ds) 0 q))
+    let p = both_true (not (eqb d 43)) (not (eqb d 48) || eqb (length ds) 0) e in (
+      omega arith,
+      no_sign d p.0,
+      λ h. let h' : d ≡ 48 = h in let q : eqb (length ds) 0 ≡ true = subst (λ (x : ℕ). (not
+          (eqb x 48) || eqb (length ds) 0) ≡ true) h' p.1 in omega (arith, eqb-true (length ds) 0 q),
+    )
 
 plain_from : (d n : ℕ) → d ≢ 43 → (d ≡ 48 → n ≡ 0) → (not (eqb d 43) && (not (eqb d 48) || eqb n 0)) ≡ true
 plain_from d n a h = grind (arith, nat_tests)
@@ -53,7 +57,8 @@ parsed_again w r n few e h = parse-decimal 32 n w r (omega arith) (omega arith) 
 pub parsed_is : {E : Type 0} (w : List ℕ) (r : Result ℕ E) (n : ℕ) → ParsesUnsigned 32 10 w r → r ≡ Ok n → is_plain w ≡ true → w ≡ decimal n
 parsed_is w r n h e plain =
     let f = plain_is w plain in
-    let p = OkIff-at_ok r ((list_all is_ascii_digit w ≡ true) × (0 < length w) × (digits_value 10 w < 2 ^ 32)) (digits_value 10 w) n (parse_plain own 32 w r h f.1) e in
+    let p = OkIff-at_ok r ((list_all is_ascii_digit w ≡ true) × (0 < length w) × (digits_value 10 w < 2 ^ 32))
+    (digits_value 10 w) n (parse_plain own 32 w r h f.1) e in
     let small : digits_value 10 w < 2 ^ 32 = p.0.2 in
     let written : decimal (digits_value 10 w) ≡ w = decimal-digits_value own w p.0.0 f.0 f.2 (omega arith) in
     sym written ∙ ap decimal (sym p.1)

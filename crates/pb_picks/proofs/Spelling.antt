@@ -134,7 +134,8 @@ same_place names p q apart inp inq same = elim (cases_lt p q) [
 same_says : (code : Code) (line : List ℕ) (c d : CountedPick) → KeepsLimits code → Says code line c → Says code line d → c ≡ d
 same_says code line c d limits s t =
     let names = code.names.processes in
-    let parts = same_parts 46 (name_of names c.pick.process) (arm_and_count c.pick.arm c.count) (name_of names d.pick.process) (arm_and_count d.pick.arm d.count)
+    let parts = same_parts 46 (name_of names c.pick.process) (arm_and_count c.pick.arm c.count) (name_of names
+    d.pick.process) (arm_and_count d.pick.arm d.count)
     (name_lacks_mark code line c 46 refl limits s) (name_lacks_mark code line d 46 refl limits t) (sym s.spelled ∙ t.spelled) in
     let few_c = says_arm code line c limits s in
     let few_d = says_arm code line d limits t in

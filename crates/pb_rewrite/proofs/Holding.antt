@@ -64,7 +64,8 @@ Lends n r before (Goes vars arm effect) = LendsBy n r before (held r arm) effect
 Lends n r before (Breaks kind) = Unit {0}
 Lends n r before Ends = before ≡ 0
 
-evaluate_lends : (n r before : ℕ) (res : ExprStep) (keep : Expr → ArmStep) (done : ℤ → ArmStep) → ((e : Expr) → Lends n r before (keep e)) → ((v : ℤ) → Lends n r before (done v)) → Lends n r before (evaluate res keep done)
+evaluate_lends : (n r before : ℕ) (res : ExprStep) (keep : Expr → ArmStep) (done : ℤ → ArmStep) → ((e : Expr) → Lends
+    n r before (keep e)) → ((v : ℤ) → Lends n r before (done v)) → Lends n r before (evaluate res keep done)
 evaluate_lends n r before (Is v) keep done k d = d v
 evaluate_lends n r before (Becomes e) keep done k d = k e
 evaluate_lends n r before (Fails kind) keep done k d = tt
@@ -85,7 +86,8 @@ items_lend n r lo hi vars (Choice line e a b ∷ rest) o =
     evaluate_lends n r _ (step_expr vars e) _ _ (λ e'. refl) (λ v. let same = choice_lends r (is_zero v) a b rest in omega arith)
 items_lend n r lo hi vars (Loop line test e body ∷ rest) o =
     evaluate_lends n r _ (step_expr vars e) _ _ (λ e'. refl)
-    (λ v. loop_lends r _ (is_zero v) rest (items_of body ++ Loop line test test body ∷ rest) (omega arith) (held_block r body (Loop line test test body ∷ rest)))
+    (λ v. loop_lends r _ (is_zero v) rest (items_of body ++ Loop line test test body ∷ rest) (omega arith) (held_block
+    r body (Loop line test test body ∷ rest)))
 items_lend n r lo hi vars (Hold line bundle body ∷ rest) o =
     (o.0.0, let same = held_block r body (GiveBack line bundle ∷ rest) in omega arith)
 items_lend n r lo hi vars (GiveBack line bundle ∷ rest) o = (o.0, omega arith)

@@ -23,8 +23,17 @@ owns_item n lo hi m (If line e a b) k l h u =
 owns_item n lo hi m (While line e body) k l h u = (k, (m, l, h, u))
 owns_item n lo hi m (HoldDo line bundle body) k l h u = (k.0, (k.1, (m, l, h, u)))
 owns_item n lo hi m (Parbegin line first arms) k l h u =
-    let e : m ≡ first = sym h.0 in
-    (k, omega arith, subst (λ j. AreNumbered (j + count arms) arms) e h.1, omega (arith, length-append (arms_list arms) (arms_in_arms arms), length-arms_list arms))
+    let e : m ≡ first = sym h.0 in (
+      k,
+      omega arith,
+      subst (λ j. AreNumbered (j + count arms) arms) e h.1,
+      omega (
+        arith,
+        length-append (arms_list
+            arms) (arms_in_arms arms),
+        length-arms_list arms,
+      ),
+    )
 
 owns_items : (n lo hi m : ℕ) (block : Block) (rest : List Item) → BlockNames n block → lo ≤ m → IsNumbered m block → m + length (arms_in block) ≤ hi
     → Owns n lo hi rest → Owns n lo hi (items_of block ++ rest)
@@ -65,12 +74,14 @@ Keeps n lo hi (Goes vars arm effect) = IsOwned n lo hi arm
 Keeps n lo hi (Breaks kind) = Unit {0}
 Keeps n lo hi Ends = Unit {0}
 
-evaluate_keeps : (n lo hi : ℕ) (r : ExprStep) (keep : Expr → ArmStep) (done : ℤ → ArmStep) → ((e : Expr) → Keeps n lo hi (keep e)) → ((v : ℤ) → Keeps n lo hi (done v)) → Keeps n lo hi (evaluate r keep done)
+evaluate_keeps : (n lo hi : ℕ) (r : ExprStep) (keep : Expr → ArmStep) (done : ℤ → ArmStep) → ((e : Expr) → Keeps n lo
+    hi (keep e)) → ((v : ℤ) → Keeps n lo hi (done v)) → Keeps n lo hi (evaluate r keep done)
 evaluate_keeps n lo hi (Is v) keep done k d = d v
 evaluate_keeps n lo hi (Becomes e) keep done k d = k e
 evaluate_keeps n lo hi (Fails kind) keep done k d = tt
 
-choice_owns : (n lo hi : ℕ) (z : Bool) (a b : Block) (rest : List Item) → OwnsBlock n lo hi a → OwnsBlock n lo hi b → Owns n lo hi rest → Owns n lo hi (items_of (cond z b a) ++ rest)
+choice_owns : (n lo hi : ℕ) (z : Bool) (a b : Block) (rest : List Item) → OwnsBlock n lo hi a → OwnsBlock n lo hi b →
+    Owns n lo hi rest → Owns n lo hi (items_of (cond z b a) ++ rest)
 choice_owns n lo hi true a b rest oa ob o = owns_block n lo hi b rest ob o
 choice_owns n lo hi false a b rest oa ob o = owns_block n lo hi a rest oa o
 
@@ -85,7 +96,8 @@ step_keeps n lo hi vars (Print line e ∷ rest) o = evaluate_keeps n lo hi (step
 step_keeps n lo hi vars (Choice line e a b ∷ rest) o =
     evaluate_keeps n lo hi (step_expr vars e) _ _ (λ e'. o) (λ v. choice_owns n lo hi (is_zero v) a b rest o.0.0 o.0.1 o.1)
 step_keeps n lo hi vars (Loop line test e body ∷ rest) o =
-    evaluate_keeps n lo hi (step_expr vars e) _ _ (λ e'. o) (λ v. loop_owns n lo hi (is_zero v) rest _ o.1 (owns_block n lo hi body (Loop line test test body ∷ rest) o.0 o))
+    evaluate_keeps n lo hi (step_expr vars e) _ _ (λ e'. o) (λ v. loop_owns n lo hi (is_zero v) rest _ o.1 (owns_block
+    n lo hi body (Loop line test test body ∷ rest) o.0 o))
 step_keeps n lo hi vars (Hold line bundle body ∷ rest) o = owns_block n lo hi body (GiveBack line bundle ∷ rest) o.0.1 (o.0.0, o.1)
 step_keeps n lo hi vars (GiveBack line bundle ∷ rest) o = o.1
 step_keeps n lo hi vars (Parallel line first arms ∷ rest) o =

@@ -124,10 +124,12 @@ module _ (s : BankerState) (pick : Pick) (vars : List ℤ) (run : Arm) where
         (goes arm arm' vars' Silent None q s'' there h.0 tt refl (settled.1 ∙ ap (λ r. process_of vars' (Some r)) now) (settled.2 ∙ h.1))
     found_step arm arm' (outcome.Prints v) single there h now settled =
         shows answer (step.Did (event.Printed pick v)) q s'' settled.0
-        (goes arm arm' vars' (Prints v) (Some (event.Printed pick v)) q s'' there h.0 tt refl (settled.1 ∙ ap (λ r. process_of vars' (Some r)) now) (settled.2 ∙ h.1))
+        (goes arm arm' vars' (Prints v) (Some (event.Printed pick v)) q s'' there h.0 tt refl (settled.1 ∙ ap (λ r.
+        process_of vars' (Some r)) now) (settled.2 ∙ h.1))
     found_step arm arm' (outcome.Takes bundle) single there h now settled =
         shows answer (step.Did (event.Granted pick bundle)) q s'' settled.0
-        (goes arm arm' vars' (Takes bundle) (Some (event.Granted pick bundle)) q s'' there h.0 h.1 refl (settled.1 ∙ ap (λ r. process_of vars' (Some r)) now) (settled.2 ∙ h.2))
+        (goes arm arm' vars' (Takes bundle) (Some (event.Granted pick bundle)) q s'' there h.0 h.1 refl (settled.1 ∙
+        ap (λ r. process_of vars' (Some r)) now) (settled.2 ∙ h.2))
     found_step arm arm' (outcome.Returns bundle) single there h now settled =
         shows answer (step.Did (event.Returned pick bundle)) q s'' settled.0
         (goes arm arm' vars' (Returns bundle) (Some (event.Returned pick bundle)) q s'' there h.0 tt refl (settled.1 ∙ ap (λ r. process_of vars' (Some r)) now)

@@ -213,7 +213,8 @@ module _ (s s' : BankerState) (ps : List SourceProcess) (pick : Pick) (process q
           number = length-set ps pick.process q ∙ sound.number;
           each = λ j x at. elim (eqb_tells j pick.process) [
             | inl e ↦
-                (let same : q ≡ x = set_here ps pick.process q x (slice_get_within ps pick.process process there) (subst (λ k. slice_get (set ps pick.process q) k ≡ Some x) e.1 at) in
+                (let same : q ≡ x = set_here ps pick.process q x (slice_get_within ps pick.process process there)
+                (subst (λ k. slice_get (set ps pick.process q) k ≡ Some x) e.1 at) in
                 let row = row_of s.loans pick.process in
                 let on = from_run (resources s) row (formed.loan_width pick.process within) pick.arm process.vars q h.0 process.run
                 (sound.each pick.process process there) h.1 in
@@ -235,7 +236,8 @@ module _ (s s' : BankerState) (ps : List SourceProcess) (pick : Pick) (process q
 pub nowhere : (s : BankerState) (ps : List SourceProcess) (pick : Pick) → length ps ≤ pick.process
     → Stays (bank_of s) source_step (state_with ps s.loans) pick
 nowhere s ps pick past move m granted =
-    no_move move (sym (ap (option_and_then (λ x. option_map (moved (state_with ps s.loans) pick) (source_step pick.process x pick.arm))) (slice_get_past ps pick.process past)) ∙ m)
+    no_move move (sym (ap (option_and_then (λ x. option_map (moved (state_with ps s.loans) pick) (source_step
+    pick.process x pick.arm))) (slice_get_past ps pick.process past)) ∙ m)
 
 -- ---- the same of an answer that may be refused
 

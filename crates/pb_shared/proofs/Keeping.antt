@@ -128,7 +128,8 @@ module _ (code : VerifiedCode) (s : Ledger) (lent : Lent) (legal : IsLegal code 
     comes_home m process view state rooms = record {
       before = lent.base;
       there = ap (λ (x : State CodeProcess). slice_get x.processes lent.pick.process) view ∙ by.base;
-      comes = subst (ComesSilently code.code lent.pick.process lent.base) (sym state) (makes_comes code.code lent.pick.process lent.pick.arm lent.made lent.base lent.state run.runs);
+      comes = subst (ComesSilently code.code lent.pick.process lent.base) (sym state) (makes_comes code.code
+          lent.pick.process lent.pick.arm lent.made lent.base lent.state run.runs);
       rooms = rooms;
     }
 
@@ -148,7 +149,8 @@ marks_after code s next pick event true is legal moves mark lt marked = elim (no
 marks_after code s next pick event false is legal moves mark lt marked =
     refused_stays code.code (annotated_of code s legal) s.machine next pick mark (Some event) (legal_reached code s legal) moves is (legal.marks mark lt marked)
 
-leads_length : (code : Code) (a b : State CodeProcess) (pick : Pick) (event : Option Event) → CodeMoves code a pick event b → length b.processes ≡ length a.processes
+leads_length : (code : Code) (a b : State CodeProcess) (pick : Pick) (event : Option Event) → CodeMoves code a pick
+    event b → length b.processes ≡ length a.processes
 leads_length code a b pick event moves =
     let m = code_move code.processes a pick _ moves.1 in
     ap (λ (x : Move CodeProcess). length x.next.processes) (sym m.is) ∙ length-set a.processes pick.process m.after
@@ -193,12 +195,14 @@ refused_legal code s pick legal refused = record {
   verified = legal.verified;
 }
 
-pub tries_legal : (code : VerifiedCode) (h after : Ledger) (pick : Pick) (a : Answer) → IsLegal code h → 0 < h.left → Tries code.code h pick a after → IsLegal code after
+pub tries_legal : (code : VerifiedCode) (h after : Ledger) (pick : Pick) (a : Answer) → IsLegal code h → 0 < h.left →
+    Tries code.code h pick a after → IsLegal code after
 tries_legal code h end pick answer.Did legal some t = subst (IsLegal code) (sym t.3) (after_pick_legal code h t.0 pick t.1 legal some t.2)
 tries_legal code h end pick answer.Refused legal some t = subst (IsLegal code) (sym t.1) (refused_legal code h pick legal t.0)
 tries_legal code h end pick answer.Silent legal some t = subst (IsLegal code) (sym t.1) legal
 
-pub same_ledger : (a b : Ledger) → a.machine ≡ b.machine → a.entries ≡ b.entries → a.limit ≡ b.limit → a.left ≡ b.left → a.slips ≡ b.slips → a.refused ≡ b.refused → a ≡ b
+pub same_ledger : (a b : Ledger) → a.machine ≡ b.machine → a.entries ≡ b.entries → a.limit ≡ b.limit → a.left ≡ b.left
+    → a.slips ≡ b.slips → a.refused ≡ b.refused → a ≡ b
 same_ledger a b machine entries limit left slips refused =
     λ i. record { machine = machine i; entries = entries i; limit = limit i; left = left i; slips = slips i; refused = refused i }
 
@@ -207,7 +211,8 @@ pub legal_as : (code : VerifiedCode) (a b : Ledger) → IsLegal code a → a.mac
 legal_as code a b legal machine entries limit left slips refused = subst (IsLegal code) (same_ledger a b machine entries limit left slips refused) legal
 
 -- trying a visible pick on the fields of a book
-pub tries_on : (code : Code) (h after : Ledger) (pick : Pick) (a : Answer) → TriesOn code h.machine h.entries h.left h.refused pick a after.machine after.entries after.left after.refused
+pub tries_on : (code : Code) (h after : Ledger) (pick : Pick) (a : Answer) → TriesOn code h.machine h.entries h.left
+    h.refused pick a after.machine after.entries after.left after.refused
     → after.limit ≡ h.limit → after.slips ≡ h.slips → Tries code h pick a after
 tries_on code h end pick answer.Did t limit slips = (end.machine, t.0, t.1, same_ledger _ _ refl t.2 limit t.3 slips t.4)
 tries_on code h end pick answer.Refused t limit slips = (t.0, same_ledger _ _ t.1 t.2 limit t.3 slips t.4)
@@ -280,7 +285,8 @@ false_unless : (b : Bool) → b ≢ true → b ≡ false
 false_unless true h = absurd (h refl)
 false_unless false h = refl
 
-pub none_ready_out : (code : VerifiedCode) (s : Ledger) → IsLegal code s → (IsFinished code_over s.machine → ⊥) → NoneReady code.code s → all_home s.slips ≢ true
+pub none_ready_out : (code : VerifiedCode) (s : Ledger) → IsLegal code s → (IsFinished code_over s.machine → ⊥) →
+    NoneReady code.code s → all_home s.slips ≢ true
 none_ready_out code s legal going none all = ⊎_elim (λ over. going over) (λ w.
     let m = code_move code.code.processes s.machine w.0 w.1 w.2 in
     let there = slice_get_within s.machine.processes w.0.process m.before m.here in
@@ -288,7 +294,8 @@ none_ready_out code s legal going none all = ⊎_elim (λ over. going over) (λ 
     let annotated = annotated_of code s legal in
     let reached = legal_reached code s legal in
     let unmarked : is_marked s.refused w.0 ≢ true = λ marked.
-    refused_stops code.code annotated s.machine w.1.next w.0 _ (legal.marks w.0 (moves_arm code.code annotated s.machine reached w.0 w.1 w.2) marked) (w.1.effect, w.2, w.3, refl) in
+    refused_stops code.code annotated s.machine w.1.next w.0 _ (legal.marks w.0 (moves_arm code.code annotated
+    s.machine reached w.0 w.1 w.2) marked) (w.1.effect, w.2, w.3, refl) in
     none w.0 (record {
       at_home = home_at s.slips w.0.process all (omega (arith, there, slots));
       steps = moves_look code.code s.machine w.0 w.1 w.2;
@@ -308,7 +315,8 @@ same_slip a b p q = λ i. record { arm = p i; allowance = q i }
 
 -- ---- the machine with a process put in
 
-pub set_view : (m after : Machine) (p q : ℕ) (process : CodeProcess) → p ≡ q → (machine_view after).processes ≡ set (machine_view m).processes p process → after.banker ≡ m.banker
+pub set_view : (m after : Machine) (p q : ℕ) (process : CodeProcess) → p ≡ q → (machine_view after).processes ≡ set
+    (machine_view m).processes p process → after.banker ≡ m.banker
     → machine_view after ≡ with_process (machine_view m) q process
 set_view m after p q process e list bank =
     let state : List CodeProcess → List (List ℕ) → State CodeProcess = λ ps ls. record { processes = ps; loans = ls } in

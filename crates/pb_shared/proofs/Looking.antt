@@ -55,7 +55,8 @@ module _ (code : Code) (s : State CodeProcess) (pick : Pick) where
   pub blocked_refused : CodeStays code s pick → look_at code s pick ≡ look.Visible → IsRefused code s pick
   blocked_refused stays visible = at_process (slice_get s.processes pick.process) refl visible
     where
-      by : (process : CodeProcess) (made : CodeProcess × Effect) → slice_get s.processes pick.process ≡ Some process → code_step code.processes pick.process process pick.arm ≡ Some made
+      by : (process : CodeProcess) (made : CodeProcess × Effect) → slice_get s.processes pick.process ≡ Some process →
+          code_step code.processes pick.process process pick.arm ≡ Some made
           → (e : Effect) → made.1 ≡ e → look_of_effect e ≡ look.Visible → IsRefused code s pick
       by process made there steps e is seen = go e is seen
         where
@@ -92,7 +93,8 @@ module _ (code : Code) (s : State CodeProcess) (pick : Pick) where
       at_process (Some process) there seen = at_step process there (code_step code.processes pick.process process pick.arm) refl seen
 
   -- an arm that can step is one of its process
-  pub steps_within : (process : CodeProcess) → slice_get s.processes pick.process ≡ Some process → look_at code s pick ≢ look.Stays → pick.arm < length process.threads
+  pub steps_within : (process : CodeProcess) → slice_get s.processes pick.process ≡ Some process → look_at code s pick
+      ≢ look.Stays → pick.arm < length process.threads
   steps_within process there steps = ⊎_elim (λ l. l) (λ l. elim (steps (past l)) [ ]) (cases_lt pick.arm (length process.threads))
     where
       past : length process.threads ≤ pick.arm → look_at code s pick ≡ look.Stays

@@ -1,7 +1,8 @@
 -- Marks that are taken away one after another.
 use Rattle.std.proofs.Common.{◌≡◌, ℕ, zero, suc, ◌+◌, ◌<◌, Bool, false, List, [], ◌∷◌, ◌++◌, length, map, set, take, drop, refl, ap, ◌∙◌, arith}
 
-wiped : (xs : List Bool) (i : ℕ) → i < length xs → set (map (λ (b : Bool). false) (take i xs) ++ drop i xs) i false ≡ map (λ (b : Bool). false) (take (suc i) xs) ++ drop (suc i) xs
+wiped : (xs : List Bool) (i : ℕ) → i < length xs → set (map (λ (b : Bool). false) (take i xs) ++ drop i xs) i false ≡
+    map (λ (b : Bool). false) (take (suc i) xs) ++ drop (suc i) xs
 wiped [] i lt = absurd (omega arith)
 wiped (x ∷ xs) zero lt = refl
 wiped (x ∷ xs) (suc i) lt = ap (λ (ys : List Bool). false ∷ ys) (wiped xs i (omega arith))

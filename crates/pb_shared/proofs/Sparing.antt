@@ -19,7 +19,8 @@ none_more x (suc n) = ap (λ xs. x ∷ xs) (none_more x n) ∙ ap (λ (k : ℕ).
 
 module _ (code : VerifiedCode) where
   -- nothing was lent yet
-  pub spares_new : (n : ℕ) (slips : List (Option Slip)) (spares : List (Option Spare)) → slips ≡ replicate n None → spares ≡ replicate n None → AreSpares code slips spares
+  pub spares_new : (n : ℕ) (slips : List (Option Slip)) (spares : List (Option Spare)) → slips ≡ replicate n None →
+      spares ≡ replicate n None → AreSpares code slips spares
   spares_new n slips spares home none = record {
     all = ap length none ∙ (length-replicate n None ∙ (sym (length-replicate n None) ∙ sym (ap length home)));
     each = λ p spare h. elim (none_there n p spare (ap (λ (xs : List (Option Spare)). slice_get xs p) (sym none) ∙ h)) [ ];

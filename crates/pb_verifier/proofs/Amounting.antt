@@ -17,7 +17,8 @@ use Rattle.pb_verifier.proofs.Ending.{fact_of}
 
 -- ---- one bundle
 
-pub amount_more : (xs : List Pair) (i r : ℕ) (x : Pair) → slice_get xs i ≡ Some x → amount_in (take (i + 1) xs) r ≡ amount_in (take i xs) r + cond (x.resource == r) x.amount 0
+pub amount_more : (xs : List Pair) (i r : ℕ) (x : Pair) → slice_get xs i ≡ Some x → amount_in (take (i + 1) xs) r ≡
+    amount_in (take i xs) r + cond (x.resource == r) x.amount 0
 amount_more [] i r x e = cc
 amount_more (y ∷ ys) zero r x e =
     let s : Some y ≡ Some x = e in
@@ -28,7 +29,8 @@ amount_more (y ∷ ys) (suc i) r x e =
     let one = amount_in-cons y (take (i + 1) ys) r in
     let two = amount_in-cons y (take i ys) r in
     let s : suc i + 1 ≡ suc (i + 1) = omega arith in
-    subst (λ (n : ℕ). amount_in (take n (y ∷ ys)) r ≡ amount_in (take (suc i) (y ∷ ys)) r + cond (x.resource == r) x.amount 0) (sym s) (omega (arith, rest, one, two))
+    subst (λ (n : ℕ). amount_in (take n (y ∷ ys)) r ≡ amount_in (take (suc i) (y ∷ ys)) r + cond (x.resource == r)
+    x.amount 0) (sym s) (omega (arith, rest, one, two))
 
 -- a small bundle has at most 1,000,000 of a resource
 small_amount : (bundle : Bundle) (r : ℕ) → IsSmallBundle bundle → amount_in bundle r ≤ 1000000
@@ -107,7 +109,8 @@ pub amounts_by_rules : (r : ℕ) → IsBy TurnsAmount (rules_of (r, 0) AmountFit
 amounts_by_rules r = record { forth = λ i x f. (f, refl); back = λ i x y t. t }
 
 -- what a table of amounts says is held
-module _ (code : ProcessCode) (small : IsSmallProcess code) (r : ℕ) (table : List (Option Amount)) (h : IsTableOf code TurnsAmount (r, 0) (notes_of (λ (a : Amount). let x : ℕ × ℕ = (a.resource, a.held) in x) table)) where
+module _ (code : ProcessCode) (small : IsSmallProcess code) (r : ℕ) (table : List (Option Amount)) (h : IsTableOf code
+    TurnsAmount (r, 0) (notes_of (λ (a : Amount). let x : ℕ × ℕ = (a.resource, a.held) in x) table)) where
   pub held_is : (held : ℕ → List Bundle) → AreHoldings code held → (p : ℕ) → Reached code p → in_holdings r (held p) ≡ held_at table p
   held_is held holdings p reached =
       let n = h.noted p reached in

@@ -61,7 +61,8 @@ module _ (code : ProcessCode) where
   pub closed_by : (a last : ℕ) (i : Instr) → last + 1 ≡ arm_end code a → InstrAt code last i → Closes i ↔ IsClosed code a
   closed_by a last i e read = (λ c place u. forth i read c place (omega arith), λ closed. back i read (closed last e))
     where
-      forth : (i : Instr) → InstrAt code last i → Closes i → (place : ℕ) → place ≡ last → InstrAt code place End ⊎ ((target : ℕ) × InstrAt code place (Jump target))
+      forth : (i : Instr) → InstrAt code last i → Closes i → (place : ℕ) → place ≡ last → InstrAt code place End ⊎
+          ((target : ℕ) × InstrAt code place (Jump target))
       forth (Push v) read c place same = elim c [ ]
       forth (Load x) read c place same = elim c [ ]
       forth (Store x) read c place same = elim c [ ]

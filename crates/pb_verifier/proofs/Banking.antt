@@ -67,7 +67,8 @@ module _ (whole : Code) (annotated : IsAnnotated whole) where
   limits : KeepsLimits whole
   limits = annotated OutOfLimits
 
-  loan_fits : (s : State CodeProcess) → Good whole annotated s → (p r : ℕ) → p < length whole.processes → r < length whole.capital → cell s.loans p r ≤ cell whole.claims p r
+  loan_fits : (s : State CodeProcess) → Good whole annotated s → (p r : ℕ) → p < length whole.processes → r < length
+      whole.capital → cell s.loans p r ≤ cell whole.claims p r
   loan_fits s good p r u v =
       let code = get_some whole.processes p u in
       let n = good.count in
@@ -107,26 +108,41 @@ module _ (whole : Code) (annotated : IsAnnotated whole) where
 
   -- what a row in the place of another keeps, where the banker has cash for it
   kept_row : (s : State CodeProcess) (p : ℕ) (row : List ℕ) → Kept s → p < length whole.processes → length row ≡ length whole.capital
-      → ((r : ℕ) → r < length whole.capital → get_or row r 0 ≤ cell whole.claims p r) → ((r : ℕ) → r < length whole.capital → get_or row r 0 ≤ cell s.loans p r + cash (bank_at s.loans) r)
+      → ((r : ℕ) → r < length whole.capital → get_or row r 0 ≤ cell whole.claims p r) → ((r : ℕ) → r < length
+      whole.capital → get_or row r 0 ≤ cell s.loans p r + cash (bank_at s.loans) r)
       → (r : ℕ) → r < length whole.capital → held_by (with_row (bank_at s.loans) p row) (everyone (bank_at s.loans)) r ≤ capital (bank_at s.loans) r
   kept_row s p row kept u width claims cashes =
       let rows = limits.rows in
-      (IsWellFormed-with_row (bank_at s.loans) p row (well_formed s kept) (omega (arith, u, rows)) (record { width = width; within_claim = claims; within_cash = cashes })).lent
+      (IsWellFormed-with_row (bank_at s.loans) p row (well_formed s kept) (omega (arith, u, rows)) (record {
+        width =
+            width;
+        within_claim = claims;
+        within_cash = cashes;
+      })).lent
 
-  fewer : (s : State CodeProcess) (p : ℕ) (row : List ℕ) → Kept s → p < length whole.processes → length row ≡ length whole.capital → ((r : ℕ) → r < length whole.capital → get_or row r 0 ≤ cell s.loans p r)
-      → ((r : ℕ) → r < length whole.capital → held_by (with_row (bank_at s.loans) p row) (everyone (bank_at s.loans)) r ≤ capital (bank_at s.loans) r) × IsSafe (with_row (bank_at s.loans) p row)
+  fewer : (s : State CodeProcess) (p : ℕ) (row : List ℕ) → Kept s → p < length whole.processes → length row ≡ length
+      whole.capital → ((r : ℕ) → r < length whole.capital → get_or row r 0 ≤ cell s.loans p r)
+      → ((r : ℕ) → r < length whole.capital → held_by (with_row (bank_at s.loans) p row) (everyone (bank_at s.loans))
+      r ≤ capital (bank_at s.loans) r) × IsSafe (with_row (bank_at s.loans) p row)
   fewer s p row kept u width less =
       let rows = limits.rows in
       let wf = well_formed s kept in
       let v : p < processes (bank_at s.loans) = omega (arith, u, rows) in (
-        kept_row s p row kept u width (λ r x. let a = less r x in let b = loan_fits s kept.good p r u x in omega (arith, a, b)) (λ r x. let a = less r x in omega (arith, a)),
-        (kept.safe.0, fewer_loans_stay_safe (with_row (bank_at s.loans) p row) (bank_at s.loans) wf (HasFewerLoans-with_row (bank_at s.loans) p row wf v less) kept.safe.0 kept.safe.1),
+        kept_row s p row kept u width (λ r x. let a = less r x in let b = loan_fits s kept.good p r u x in omega
+            (arith, a, b)) (λ r x. let a = less r x in omega (arith, a)),
+        (
+          kept.safe.0,
+          fewer_loans_stay_safe (with_row (bank_at s.loans) p row) (bank_at s.loans) wf
+              (HasFewerLoans-with_row (bank_at s.loans) p row wf v less) kept.safe.0 kept.safe.1,
+        ),
       )
 
   banked : (s : State CodeProcess) (p : ℕ) (effect : Effect) → Kept s → p < length whole.processes → IsGranted (bank_of whole) s.loans p effect
-      → ((bundle : Bundle) → (effect ≡ Takes bundle) ⊎ (effect ≡ Returns bundle) → IsSmallBundle bundle × All (λ pair. pair.resource < length whole.capital) bundle)
+      → ((bundle : Bundle) → (effect ≡ Takes bundle) ⊎ (effect ≡ Returns bundle) → IsSmallBundle bundle × All (λ pair.
+      pair.resource < length whole.capital) bundle)
       → ((r : ℕ) → r < length whole.capital → cell (loans_after s.loans p effect) p r ≤ cell whole.claims p r)
-      → ((r : ℕ) → r < length whole.capital → held_by (bank_at (loans_after s.loans p effect)) (everyone (bank_at s.loans)) r ≤ capital (bank_at s.loans) r) × IsSafe (bank_at (loans_after s.loans p effect))
+      → ((r : ℕ) → r < length whole.capital → held_by (bank_at (loans_after s.loans p effect)) (everyone (bank_at
+      s.loans)) r ≤ capital (bank_at s.loans) r) × IsSafe (bank_at (loans_after s.loans p effect))
   banked s p Silent kept u granted bundles claims = (kept.lent, kept.safe)
   banked s p (Prints v) kept u granted bundles claims = (kept.lent, kept.safe)
   banked s p (Takes bundle) kept u granted bundles claims =
@@ -134,9 +150,12 @@ module _ (whole : Code) (annotated : IsAnnotated whole) where
       let n = kept.good.lent in
       let wide : length (row_of s.loans p) ≡ length whole.capital = kept.good.rows p u in
       let there : p < length s.loans = omega (arith, u, n) in
-      let here : (r : ℕ) → get_or (lend (row_of s.loans p) bundle) r 0 ≡ cell s.loans p r + amount_in bundle r = λ r. get_or-lend (row_of s.loans p) bundle r (subst (λ k. All (λ pair. pair.resource < k) bundle) (sym wide) b.1) in (
+      let here : (r : ℕ) → get_or (lend (row_of s.loans p) bundle) r 0 ≡ cell s.loans p r + amount_in bundle r = λ r.
+      get_or-lend (row_of s.loans p) bundle r (subst (λ k. All (λ pair. pair.resource < k) bundle) (sym wide) b.1)
+      in (
         kept_row s p (lend (row_of s.loans p) bundle) kept u (length-lend (row_of s.loans p) bundle ∙ wide)
-            (λ r x. let c = claims r x in let e = ap (λ (row : List ℕ). get_or row r 0) (get_or-set_same s.loans p (lend (row_of s.loans p) bundle) [] there) in omega (arith, c, e))
+            (λ r x. let c = claims r x in let e = ap (λ (row : List ℕ). get_or row r 0) (get_or-set_same s.loans p
+            (lend (row_of s.loans p) bundle) [] there) in omega (arith, c, e))
             (λ r x. let h = here r in let a = amount_in-le bundle (cash (bank_at s.loans)) r b.0.distinct granted.within_cash in omega (arith, h, a)),
         granted.safe,
       )
@@ -152,20 +171,24 @@ module _ (whole : Code) (annotated : IsAnnotated whole) where
       (λ r x. let e : get_or (map none (row_of s.loans p)) r 0 ≡ 0 = get_or-map none (row_of s.loans p) r 0 in omega (arith, e))
   banked s p Ends kept u granted bundles claims = (kept.lent, kept.safe)
 
-  pub kept_next : (s : State CodeProcess) (pick : Pick) (move : Move CodeProcess) → Kept s → CodeMove whole.processes s pick move → IsGranted (bank_of whole) s.loans pick.process move.effect → Kept move.next
+  pub kept_next : (s : State CodeProcess) (pick : Pick) (move : Move CodeProcess) → Kept s → CodeMove whole.processes
+      s pick move → IsGranted (bank_of whole) s.loans pick.process move.effect → Kept move.next
   kept_next s pick move kept m granted =
       let good = good_next whole annotated s pick move kept.good m in
       let u = slice_get_within whole.processes pick.process m.code m.at in
       let loans : loans_after s.loans pick.process m.effect ≡ move.next.loans = ap (λ (x : Move CodeProcess). x.next.loans) m.is in
-      let turn = turned m.code (checked whole annotated pick.process m.code m.at) m.before m.after pick.arm m.effect (kept.good.fit pick.process m.code m.before m.at m.here) m.steps in
+      let turn = turned m.code (checked whole annotated pick.process m.code m.at) m.before m.after pick.arm m.effect
+      (kept.good.fit pick.process m.code m.before m.at m.here) m.steps in
       let b =
-      banked s pick.process m.effect kept u (subst (IsGranted (bank_of whole) s.loans pick.process) (sym (ap (λ (x : Move CodeProcess). x.effect) m.is)) granted)
+      banked s pick.process m.effect kept u (subst (IsGranted (bank_of whole) s.loans pick.process) (sym (ap (λ (x :
+      Move CodeProcess). x.effect) m.is)) granted)
       (bundles_small whole annotated pick.process m.code m.at (thread m.before.threads) (thread m.after.threads) pick.arm m.effect turn.turn)
       (λ r x. subst (λ (t : Table). cell t pick.process r ≤ cell whole.claims pick.process r) (sym loans) (loan_fits move.next good pick.process r u x))
       in
       record {
         good = good;
-        lent = subst (λ (t : Table). (r : ℕ) → r < length whole.capital → held_by (bank_at t) (everyone (bank_at s.loans)) r ≤ capital (bank_at s.loans) r) loans b.0;
+        lent = subst (λ (t : Table). (r : ℕ) → r < length whole.capital → held_by (bank_at t) (everyone (bank_at
+            s.loans)) r ≤ capital (bank_at s.loans) r) loans b.0;
         safe = subst (λ (t : Table). IsSafe (bank_at t)) loans b.1;
       }
 
@@ -180,7 +203,8 @@ module _ (whole : Code) (annotated : IsAnnotated whole) where
   kept_start =
       let s = code_opening whole in
       let none : (r : ℕ) → held_by (bank_at s.loans) (everyone (bank_at s.loans)) r ≡ 0 =
-      λ r. sum_by-zero_on (λ p. loan (bank_at s.loans) p r) (everyone (bank_at s.loans)) (λ k d u. zero_loans (length whole.capital) (map code_process whole.processes) (get_or (everyone (bank_at s.loans)) k d) r)
+      λ r. sum_by-zero_on (λ p. loan (bank_at s.loans) p r) (everyone (bank_at s.loans)) (λ k d u. zero_loans (length
+      whole.capital) (map code_process whole.processes) (get_or (everyone (bank_at s.loans)) k d) r)
       in
       let rows = limits.rows in
       record {
@@ -202,9 +226,11 @@ module _ (whole : Code) (annotated : IsAnnotated whole) where
         );
       }
 
-  kept_makes : (s : State CodeProcess) (picks : List Pick) (events : List Event) (end : State CodeProcess) → Kept s → Makes (bank_of whole) (code_step whole.processes) s picks events end → Kept end
+  kept_makes : (s : State CodeProcess) (picks : List Pick) (events : List Event) (end : State CodeProcess) → Kept s →
+      Makes (bank_of whole) (code_step whole.processes) s picks events end → Kept end
   kept_makes s [] events end kept m = subst Kept (sym m.1) kept
-  kept_makes s (pick ∷ picks) events end kept m = kept_makes m.0.next picks m.3 end (kept_next s pick m.0 kept (code_move whole.processes s pick m.0 m.1) m.2) m.5
+  kept_makes s (pick ∷ picks) events end kept m = kept_makes m.0.next picks m.3 end (kept_next s pick m.0 kept
+      (code_move whole.processes s pick m.0 m.1) m.2) m.5
 
   pub kept_reached : (s : State CodeProcess) → CodeReaches whole s → Kept s
   kept_reached s reached = kept_makes (code_opening whole) reached.0 reached.1 s kept_start reached.2
@@ -228,7 +254,8 @@ module _ (whole : Code) (annotated : IsAnnotated whole) where
         let code = get_some whole.processes p u in
         let state = get_some s.processes p (omega (arith, u, n)) in
         let ok = checked whole annotated p code.0 code.1 in
-        kept.good.loans p code.0 state.0 code.1 state.1 r ∙ holds_none code.0 ok (thread state.0.threads) r (none_live code.0 ok state.0 (kept.good.fit p code.0 state.0 code.1 state.1) (over state.0 state.1))
+        kept.good.loans p code.0 state.0 code.1 state.1 r ∙ holds_none code.0 ok (thread state.0.threads) r (none_live
+        code.0 ok state.0 (kept.good.fit p code.0 state.0 code.1 state.1) (over state.0 state.1))
 
     -- the first process of an order that is not over
     record Next (order : List ℕ) : Type 0 where
@@ -246,14 +273,33 @@ module _ (whole : Code) (annotated : IsAnnotated whole) where
     walk (p ∷ order) = at_p (slice_get s.processes p) refl (walk order)
       where
         further : IsOverAt p → Next order ⊎ All IsOverAt order → Next (p ∷ order) ⊎ All IsOverAt (p ∷ order)
-        further over (inl n) = inl (record { before = p ∷ n.before; p = n.p; after = n.after; process = n.process; split = ap (λ xs. p ∷ xs) n.split; earlier = All-cons IsOverAt p n.before over n.earlier; here = n.here; going = n.going })
+        further over (inl n) = inl (record {
+          before = p ∷ n.before;
+          p = n.p;
+          after = n.after;
+          process = n.process;
+          split = ap (λ xs. p ∷ xs) n.split;
+          earlier = All-cons IsOverAt p n.before over n.earlier;
+          here = n.here;
+          going = n.going;
+        })
         further over (inr all) = inr (All-cons IsOverAt p order over all)
 
         at_p : (o : Option CodeProcess) → slice_get s.processes p ≡ o → Next order ⊎ All IsOverAt order → Next (p ∷ order) ⊎ All IsOverAt (p ∷ order)
         at_p None e rest = further (λ process at. let z : None ≡ Some process = sym e ∙ at in cc) rest
         at_p (Some process) e rest = ⊎_elim
             (λ over. further (λ other at. let z : Some process ≡ Some other = sym e ∙ at in let y : process ≡ other = cc in subst code_over y over) rest)
-            (λ going. inl (record { before = []; p = p; after = order; process = process; split = refl; earlier = λ k d u. absurd (omega arith); here = e; going = going }))
+            (λ going. inl (record {
+              before = [];
+              p = p;
+              after = order;
+              process = process;
+              split = refl;
+              earlier = λ k
+                  d u. absurd (omega arith);
+              here = e;
+              going = going;
+            }))
             (over_or_not process)
 
     goes_on : Next kept.safe.0 → CanGoOn (bank_of whole) (code_step whole.processes) s
@@ -271,17 +317,23 @@ module _ (whole : Code) (annotated : IsAnnotated whole) where
         in
         (pick, moved s pick (w.1, w.2), enabled, granted w.2 (λ bundle e. takes code.0 code.1 w.0 w.1 w.2 w.3 enabled bundle e))
       where
-        takes : (code : ProcessCode) (at : slice_get whole.processes next.p ≡ Some code) (a : ℕ) (after : CodeProcess) (effect : Effect) → step_process code next.process a ≡ Some (after, effect)
-            → move_of (code_step whole.processes) s (record { process = next.p; arm = a }) ≡ Some (moved s (record { process = next.p; arm = a }) (after, effect)) → (bundle : Bundle) → effect ≡ Takes bundle
+        takes : (code : ProcessCode) (at : slice_get whole.processes next.p ≡ Some code) (a : ℕ) (after : CodeProcess)
+            (effect : Effect) → step_process code next.process a ≡ Some (after, effect)
+            → move_of (code_step whole.processes) s (record { process = next.p; arm = a }) ≡ Some (moved s (record {
+              process = next.p;
+              arm = a;
+            }) (after, effect)) → (bundle : Bundle) → effect ≡ Takes bundle
             → IsAllowed (bank_at s.loans) next.p bundle
         takes code at a after effect steps enabled bundle e =
-            let turn = turned code (checked whole annotated next.p code at) next.process after a effect (kept.good.fit next.p code next.process at next.here) steps in
+            let turn = turned code (checked whole annotated next.p code at) next.process after a effect (kept.good.fit
+            next.p code next.process at next.here) steps in
             let b = bundles_small whole annotated next.p code at (thread next.process.threads) (thread after.threads) a effect turn.turn bundle (inl e) in
             let finishes : Finishes (bank_at s.loans) (next.before ++ next.p ∷ next.after) = subst (Finishes (bank_at s.loans)) next.split kept.safe.1 in
             let rows = limits.rows in
             first_borrower_may_ask (bank_at s.loans) (well_formed s kept) next.before next.p next.after finishes
             (λ k d u r v.
-            let below = order_below (bank_at s.loans) (next.before ++ next.p ∷ next.after) finishes.everyone k d (longer next.before (next.p ∷ next.after) k u) in
+            let below = order_below (bank_at s.loans) (next.before ++ next.p ∷ next.after) finishes.everyone k d
+            (longer next.before (next.p ∷ next.after) k u) in
             let same : get_or (next.before ++ next.p ∷ next.after) k d ≡ get_or next.before k d = get_or_append_left next.before (next.p ∷ next.after) d k u in
             over_holds_none (get_or next.before k d) (omega (arith, below, same, rows)) (next.earlier k d u) r)
             bundle b.0.distinct b.1 (asks_within_claims s kept.good (record { process = next.p; arm = a }) _ bundle enabled e)
@@ -289,7 +341,8 @@ module _ (whole : Code) (annotated : IsAnnotated whole) where
             longer : (xs ys : List ℕ) (k : ℕ) → k < length xs → k < length (xs ++ ys)
             longer xs ys k u = let l = length-append xs ys in omega (arith, l)
 
-        granted : (effect : Effect) → ((bundle : Bundle) → effect ≡ Takes bundle → IsAllowed (bank_at s.loans) next.p bundle) → IsGranted (bank_of whole) s.loans next.p effect
+        granted : (effect : Effect) → ((bundle : Bundle) → effect ≡ Takes bundle → IsAllowed (bank_at s.loans) next.p
+            bundle) → IsGranted (bank_of whole) s.loans next.p effect
         granted Silent h = tt
         granted (Prints v) h = tt
         granted (Takes bundle) h = h bundle refl
@@ -303,8 +356,10 @@ module _ (whole : Code) (annotated : IsAnnotated whole) where
         let rows = limits.rows in
         let u = slice_get_within s.processes p process here in
         let w : p < length whole.claims = omega (arith, u, n, rows) in
-        let everywhere = All-permutation IsOverAt kept.safe.0 (everyone (bank_at s.loans)) (IsPermutation-sym (everyone (bank_at s.loans)) kept.safe.0 kept.safe.1.everyone) all in
-        let is_p : get_or (everyone (bank_at s.loans)) p 0 ≡ p = (let r = get_or-range_with_len 0 (length whole.claims) p 0 w in let z : 0 + p ≡ p = omega arith in r ∙ z) in
+        let everywhere = All-permutation IsOverAt kept.safe.0 (everyone (bank_at s.loans)) (IsPermutation-sym
+        (everyone (bank_at s.loans)) kept.safe.0 kept.safe.1.everyone) all in
+        let is_p : get_or (everyone (bank_at s.loans)) p 0 ≡ p = (let r = get_or-range_with_len 0 (length
+        whole.claims) p 0 w in let z : 0 + p ≡ p = omega arith in r ∙ z) in
         subst IsOverAt is_p (everywhere p 0 (let l = length-range_with_len 0 (length whole.claims) in omega (arith, w, l))) process here
 
     pub ends_or_goes_on : EndsOrGoesOn whole s

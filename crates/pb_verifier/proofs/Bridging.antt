@@ -97,11 +97,13 @@ module _ {X : Type 0} (code : ProcessCode) (Turns : Instr → X → X → Type 0
   Facts fact = Spreads code Turns rules.start fact
 
   -- an annotation notes each reached place
-  noted_all : (notes : ℕ → Option X) → IsAnnotation rules code.entries code.instrs notes → (p : ℕ) → IsReached code.entries code.instrs p → (x : X) × (notes p ≡ Some x)
+  noted_all : (notes : ℕ → Option X) → IsAnnotation rules code.entries code.instrs notes → (p : ℕ) → IsReached
+      code.entries code.instrs p → (x : X) × (notes p ≡ Some x)
   noted_all notes a p (reached_entry _ c) = (rules.start, a.starts p c)
   noted_all notes a p (reached_next q _ r f) =
       let before : (x : X) × (notes q ≡ Some x) = noted_all notes a q r in
-      let flow : (i : Instr) × (slice_get code.instrs q ≡ Some i) × rules.Fits i before.0 × ((s : ℕ) → Contains (followers i q) s → notes s ≡ Some (rules.after i before.0)) = a.flows q before.0 before.1 in
+      let flow : (i : Instr) × (slice_get code.instrs q ≡ Some i) × rules.Fits i before.0 × ((s : ℕ) → Contains
+      (followers i q) s → notes s ≡ Some (rules.after i before.0)) = a.flows q before.0 before.1 in
       let same : f.0 ≡ flow.0 = same_read code.instrs q f.0 flow.0 f.1 flow.1 in
       (rules.after flow.0 before.0, flow.3 p (subst (λ (i : Instr). Contains (followers i q) p) same f.2))
 
@@ -119,16 +121,19 @@ module _ {X : Type 0} (code : ProcessCode) (Turns : Instr → X → X → Type 0
           here p (reached_entry p c) ∙ ap Some (ap fact (sym e) ∙ facts.starts c.0 c.1)
 
       flows : (p : ℕ) (x : X) (b : Bool) → is_listed order p ≡ b → cond b (Some (fact p)) None ≡ Some x
-          → (i : Instr) × (slice_get code.instrs p ≡ Some i) × rules.Fits i x × ((q : ℕ) → Contains (followers i p) q → cond (is_listed order q) (Some (fact q)) None ≡ Some (rules.after i x))
+          → (i : Instr) × (slice_get code.instrs p ≡ Some i) × rules.Fits i x × ((q : ℕ) → Contains (followers i p) q
+          → cond (is_listed order q) (Some (fact q)) None ≡ Some (rules.after i x))
       flows p x false l e = cc
       flows p x true l e =
           let is : fact p ≡ x = let s : Some (fact p) ≡ Some x = e in cc in
           let r : IsReached code.entries code.instrs p = (reached p).0 (listed_from order p l) in
           let w : p < length code.instrs = reached_inside code.entries code.instrs inside p r in
           let at : (i : Instr) × (slice_get code.instrs p ≡ Some i) = (get_or code.instrs p End, slice_get-get_or code.instrs p End w) in
-          let f : (after : X) × Turns at.0 (fact p) after × ((next : ℕ) → Follows at.0 p next → fact next ≡ after) = facts.flows p at.0 (reached_from code p r) at.1 in
+          let f : (after : X) × Turns at.0 (fact p) after × ((next : ℕ) → Follows at.0 p next → fact next ≡ after) =
+          facts.flows p at.0 (reached_from code p r) at.1 in
           let turn : rules.Fits at.0 (fact p) × (f.0 ≡ rules.after at.0 (fact p)) = by_rules.back at.0 (fact p) f.0 f.1 in
-          subst (λ (y : X). (i : Instr) × (slice_get code.instrs p ≡ Some i) × rules.Fits i y × ((q : ℕ) → Contains (followers i p) q → cond (is_listed order q) (Some (fact q)) None ≡ Some (rules.after i y))) is
+          subst (λ (y : X). (i : Instr) × (slice_get code.instrs p ≡ Some i) × rules.Fits i y × ((q : ℕ) → Contains
+          (followers i p) q → cond (is_listed order q) (Some (fact q)) None ≡ Some (rules.after i y))) is
           (at.0, at.1, turn.0, λ q c. here q (reached_next p q r (at.0, at.1, c)) ∙ ap Some (f.2 q (follows_from at.0 p q c) ∙ turn.1))
 
   pub no_facts : (order : List ℕ) → StaysInside code.entries code.instrs → ((p : ℕ) → Contains order p ↔ IsReached code.entries code.instrs p)
@@ -151,7 +156,8 @@ module _ {X : Type 0} (code : ProcessCode) (Turns : Instr → X → X → Type 0
           → (after : X) × Turns i (unwrap_or (notes p) rules.start) after × ((next : ℕ) → Follows i p next → unwrap_or (notes next) rules.start ≡ after)
       flows p i r read =
           let n : (x : X) × (notes p ≡ Some x) = noted_all notes least.annotation p (reached_to code p r) in
-          let f : (j : Instr) × (slice_get code.instrs p ≡ Some j) × rules.Fits j n.0 × ((q : ℕ) → Contains (followers j p) q → notes q ≡ Some (rules.after j n.0)) = least.annotation.flows p n.0 n.1 in
+          let f : (j : Instr) × (slice_get code.instrs p ≡ Some j) × rules.Fits j n.0 × ((q : ℕ) → Contains (followers
+          j p) q → notes q ≡ Some (rules.after j n.0)) = least.annotation.flows p n.0 n.1 in
           let same : f.0 ≡ i = same_read code.instrs p f.0 i f.1 read in
           let fits : rules.Fits i n.0 = subst (λ (j : Instr). rules.Fits j n.0) same f.2 in
           let next : (q : ℕ) → Contains (followers i p) q → notes q ≡ Some (rules.after i n.0) =
@@ -165,7 +171,8 @@ module _ {X : Type 0} (code : ProcessCode) (Turns : Instr → X → X → Type 0
 
       agrees : (fact : ℕ → X) → Facts fact → (p : ℕ) (x : X) → notes p ≡ Some x → fact p ≡ x
       agrees fact facts p x e =
-          let other : cond (is_listed order p) (Some (fact p)) None ≡ Some x = least.agrees (λ p. cond (is_listed order p) (Some (fact p)) None) (annotation_of order inside reached fact facts) p x e in
+          let other : cond (is_listed order p) (Some (fact p)) None ≡ Some x = least.agrees (λ p. cond (is_listed
+          order p) (Some (fact p)) None) (annotation_of order inside reached fact facts) p x e in
           let l : is_listed order p ≡ true = listed_to order p ((reached p).1 (least.reached p x e)) in
           let both : Some (fact p) ≡ Some x = sym (ap (λ (b : Bool). cond b (Some (fact p)) None) l) ∙ other in
           cc

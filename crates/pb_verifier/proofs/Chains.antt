@@ -30,7 +30,8 @@ chain_at instrs table (suc n) last u (bundle, before, read, noted, count, rest) 
       noted = noted;
       count = rw e count;
       rest = rw e rest;
-      list = rw e (ap (λ b. b ∷ held instrs table n (last_of (fact_at table last))) (ap taken read) ∙ ap (λ l. bundle ∷ held instrs table n l) (ap last_of noted));
+      list = rw e (ap (λ b. b ∷ held instrs table n (last_of (fact_at table last))) (ap taken read) ∙ ap (λ l. bundle
+          ∷ held instrs table n l) (ap last_of noted));
     }
 
 pub held_length : (instrs : List Instr) (table : List (Option Holding)) (n last : ℕ) → length (held instrs table n last) ≡ n
@@ -60,16 +61,19 @@ module _ (instrs : List Instr) (table : List (Option Holding)) where
   some_held zero last given fits = elim fits [ ]
   some_held (suc n) last given fits = omega arith
 
-  pub next_give : (self b : Holding) (given : Bundle) → CanBeRead instrs table self → HoldFits (Give given) (held_by instrs table self) → fact_at table self.last ≡ Some b
+  pub next_give : (self b : Holding) (given : Bundle) → CanBeRead instrs table self → HoldFits (Give given) (held_by
+      instrs table self) → fact_at table self.last ≡ Some b
       → (held_by instrs table b ≡ tail (held_by instrs table self)) × CanBeRead instrs table b
   next_give self b given readable fits e =
       let u : 0 < self.count = some_held self.count self.last given fits in
-      let h : (b.count ≡ self.count - 1) × IsChain instrs table (self.count - 1) b.last × (Held (self.count - 1) b.last ≡ tail (Held self.count self.last)) = held_before self.count self.last b u readable.0 e in
+      let h : (b.count ≡ self.count - 1) × IsChain instrs table (self.count - 1) b.last × (Held (self.count - 1)
+      b.last ≡ tail (Held self.count self.last)) = held_before self.count self.last b u readable.0 e in
       let few : self.count ≤ 256 = readable.1 in
       let count : b.count ≡ self.count - 1 = h.0 in
       (ap (λ (n : ℕ). Held n b.last) count ∙ h.2, (subst (λ (n : ℕ). IsChain instrs table n b.last) (sym count) h.1, omega arith))
 
-  pub fits_give : (self : Holding) (last given : Bundle) → 0 < self.count → CanBeRead instrs table self → slice_get instrs self.last ≡ Some (Take last) → HoldFits (Give given) (held_by instrs table self) ↔ (last ≡ given)
+  pub fits_give : (self : Holding) (last given : Bundle) → 0 < self.count → CanBeRead instrs table self → slice_get
+      instrs self.last ≡ Some (Take last) → HoldFits (Give given) (held_by instrs table self) ↔ (last ≡ given)
   fits_give self last given u readable read =
       let c : ChainAt instrs table self.count self.last = chain_at instrs table self.count self.last u readable.0 in
       let same : c.bundle ≡ last = same_take self.last c.bundle last c.read read in (
@@ -77,7 +81,8 @@ module _ (instrs : List Instr) (table : List (Option Holding)) where
         λ e. subst (HoldFits (Give given)) (sym c.list) (same ∙ e),
       )
 
-  pub chain_step : (n a b : ℕ) (x y : Bundle) (p q : Holding) → 0 < n → IsChain instrs table n a → IsChain instrs table n b → slice_get instrs a ≡ Some (Take x) → slice_get instrs b ≡ Some (Take y) → x ≡ y
+  pub chain_step : (n a b : ℕ) (x y : Bundle) (p q : Holding) → 0 < n → IsChain instrs table n a → IsChain instrs
+      table n b → slice_get instrs a ≡ Some (Take x) → slice_get instrs b ≡ Some (Take y) → x ≡ y
       → fact_at table a ≡ Some p → fact_at table b ≡ Some q
       → IsChain instrs table (n - 1) p.last × IsChain instrs table (n - 1) q.last × ((Held (n - 1) p.last ≡ Held (n - 1) q.last) ↔ (Held n a ≡ Held n b))
   chain_step n a b x y p q u one two readx ready same notep noteq =
@@ -87,8 +92,10 @@ module _ (instrs : List Instr) (table : List (Option Holding)) where
       let beforeq : d.before ≡ q = same_before b d.before q d.noted noteq in
       let bx : c.bundle ≡ x = same_take a c.bundle x c.read readx in
       let by' : d.bundle ≡ y = same_take b d.bundle y d.read ready in
-      let list_a : Held n a ≡ x ∷ Held (n - 1) p.last = c.list ∙ ap (λ v. v ∷ Held (n - 1) c.before.last) bx ∙ ap (λ (h : Holding). x ∷ Held (n - 1) h.last) beforep in
-      let list_b : Held n b ≡ y ∷ Held (n - 1) q.last = d.list ∙ ap (λ v. v ∷ Held (n - 1) d.before.last) by' ∙ ap (λ (h : Holding). y ∷ Held (n - 1) h.last) beforeq in (
+      let list_a : Held n a ≡ x ∷ Held (n - 1) p.last = c.list ∙ ap (λ v. v ∷ Held (n - 1) c.before.last) bx ∙ ap (λ
+      (h : Holding). x ∷ Held (n - 1) h.last) beforep in
+      let list_b : Held n b ≡ y ∷ Held (n - 1) q.last = d.list ∙ ap (λ v. v ∷ Held (n - 1) d.before.last) by' ∙ ap (λ
+      (h : Holding). y ∷ Held (n - 1) h.last) beforeq in (
         subst (λ (h : Holding). IsChain instrs table (n - 1) h.last) beforep c.rest,
         subst (λ (h : Holding). IsChain instrs table (n - 1) h.last) beforeq d.rest,
         (

@@ -44,13 +44,15 @@ module _ (code : Code) (free : (fault : VerifyFault) → turn_of fault < turn_of
   IsWithinAt p r process = HasPeakWithin process r (cell code.claims p r)
 
   -- one peak is within its claim or over it
-  one_peak : (p r : ℕ) (process : ProcessCode) → slice_get code.processes p ≡ Some process → HasPeakWithin process r (cell code.claims p r) ⊎ HasPeakOver process r (cell code.claims p r)
+  one_peak : (p r : ℕ) (process : ProcessCode) → slice_get code.processes p ≡ Some process → HasPeakWithin process r
+      (cell code.claims p r) ⊎ HasPeakOver process r (cell code.claims p r)
   one_peak p r process at =
       let holdings = free NoHoldings (omega arith) p process at in
       let peaks = peaks_exist code free p r process holdings.0 at holdings.1 in
       go holdings.0 holdings.1 peaks.0 peaks.1 (cases_lt (cell code.claims p r) (peaks.0 0))
     where
-      go : (held : ℕ → List Bundle) → AreHoldings process held → (peak : ℕ → ℕ) → ArePeaks process held r peak → (cell code.claims p r < peak 0) ⊎ (peak 0 ≤ cell code.claims p r)
+      go : (held : ℕ → List Bundle) → AreHoldings process held → (peak : ℕ → ℕ) → ArePeaks process held r peak → (cell
+          code.claims p r < peak 0) ⊎ (peak 0 ≤ cell code.claims p r)
           → HasPeakWithin process r (cell code.claims p r) ⊎ HasPeakOver process r (cell code.claims p r)
       go held holdings peak are (inl over) = inr (held, peak, holdings, are, over)
       go held holdings peak are (inr within) = inl (held, peak, holdings, are, within)
@@ -72,37 +74,48 @@ module _ (code : Code) (free : (fault : VerifyFault) → turn_of fault < turn_of
           last r v (inr w) = let e : m ≡ r = omega (arith, v, w) in subst (λ (k : ℕ). IsWithinAt p k process) e here
 
   -- so for the first processes
-  peaks_before : (n : ℕ) → ((p r : ℕ) (process : ProcessCode) → p < n → slice_get code.processes p ≡ Some process → r < length code.capital → IsWithinAt p r process) ⊎ SomePeakIsOver code
+  peaks_before : (n : ℕ) → ((p r : ℕ) (process : ProcessCode) → p < n → slice_get code.processes p ≡ Some process → r
+      < length code.capital → IsWithinAt p r process) ⊎ SomePeakIsOver code
   peaks_before zero = inl (λ p r process v. absurd (omega arith))
   peaks_before (suc n) = go (peaks_before n) (slice_get code.processes n) refl
     where
-      go : ((p r : ℕ) (process : ProcessCode) → p < n → slice_get code.processes p ≡ Some process → r < length code.capital → IsWithinAt p r process) ⊎ SomePeakIsOver code
+      go : ((p r : ℕ) (process : ProcessCode) → p < n → slice_get code.processes p ≡ Some process → r < length
+          code.capital → IsWithinAt p r process) ⊎ SomePeakIsOver code
           → (o : Option ProcessCode) → slice_get code.processes n ≡ o
-          → ((p r : ℕ) (process : ProcessCode) → p < suc n → slice_get code.processes p ≡ Some process → r < length code.capital → IsWithinAt p r process) ⊎ SomePeakIsOver code
+          → ((p r : ℕ) (process : ProcessCode) → p < suc n → slice_get code.processes p ≡ Some process → r < length
+          code.capital → IsWithinAt p r process) ⊎ SomePeakIsOver code
       go (inr over) o e = inr over
       go (inl before) o e = more o e
         where
           last : ((process : ProcessCode) → slice_get code.processes n ≡ Some process → (r : ℕ) → r < length code.capital → IsWithinAt n r process)
-              → (p r : ℕ) (process : ProcessCode) → p < suc n → slice_get code.processes p ≡ Some process → r < length code.capital → (p < n) ⊎ (n ≤ p) → IsWithinAt p r process
+              → (p r : ℕ) (process : ProcessCode) → p < suc n → slice_get code.processes p ≡ Some process → r < length
+              code.capital → (p < n) ⊎ (n ≤ p) → IsWithinAt p r process
           last here p r process v at w (inl less) = before p r process less at w
           last here p r process v at w (inr equal) =
               let e : n ≡ p = omega (arith, v, equal) in
               subst (λ (k : ℕ). IsWithinAt k r process) e (here process (ap (slice_get code.processes) e ∙ at) r w)
 
           more : (o : Option ProcessCode) → slice_get code.processes n ≡ o
-              → ((p r : ℕ) (process : ProcessCode) → p < suc n → slice_get code.processes p ≡ Some process → r < length code.capital → IsWithinAt p r process) ⊎ SomePeakIsOver code
-          more None e = inl (λ p r process v at w. last (λ process here. let wrong : None ≡ Some process = sym e ∙ here in cc) p r process v at w (cases_lt p n))
+              → ((p r : ℕ) (process : ProcessCode) → p < suc n → slice_get code.processes p ≡ Some process → r <
+              length code.capital → IsWithinAt p r process) ⊎ SomePeakIsOver code
+          more None e = inl (λ p r process v at w. last (λ process here. let wrong : None ≡ Some process = sym e ∙
+              here in cc) p r process v at w (cases_lt p n))
           more (Some found) e = one (peaks_of_process n found e (length code.capital) (omega arith))
             where
               one : ((r : ℕ) → r < length code.capital → IsWithinAt n r found) ⊎ SomePeakIsOver code
-                  → ((p r : ℕ) (process : ProcessCode) → p < suc n → slice_get code.processes p ≡ Some process → r < length code.capital → IsWithinAt p r process) ⊎ SomePeakIsOver code
+                  → ((p r : ℕ) (process : ProcessCode) → p < suc n → slice_get code.processes p ≡ Some process → r <
+                  length code.capital → IsWithinAt p r process) ⊎ SomePeakIsOver code
               one (inr over) = inr over
-              one (inl here) = inl (λ p r process v at w. last (λ process there r. subst (λ (k : ProcessCode). r < length code.capital → IsWithinAt n r k) (let s : Some found ≡ Some process = sym e ∙ there in let is : found ≡ process = cc in is) (here r)) p r process v at w (cases_lt p n))
+              one (inl here) = inl (λ p r process v at w. last (λ process there r. subst (λ (k : ProcessCode). r <
+                  length code.capital → IsWithinAt n r k) (let s : Some found ≡ Some process = sym e ∙ there in let is
+                  : found ≡ process = cc in is) (here r)) p r process v at w (cases_lt p n))
 
   all_peaks : HasPeaksWithin code ⊎ SomePeakIsOver code
   all_peaks = go (peaks_before (length code.processes))
     where
-      go : ((p r : ℕ) (process : ProcessCode) → p < length code.processes → slice_get code.processes p ≡ Some process → r < length code.capital → IsWithinAt p r process) ⊎ SomePeakIsOver code → HasPeaksWithin code ⊎ SomePeakIsOver code
+      go : ((p r : ℕ) (process : ProcessCode) → p < length code.processes → slice_get code.processes p ≡ Some process
+          → r < length code.capital → IsWithinAt p r process) ⊎ SomePeakIsOver code → HasPeaksWithin code ⊎
+          SomePeakIsOver code
       go (inr over) = inr over
       go (inl within) = inl (λ p r process at w. within p r process (slice_get_within code.processes p process at) at w)
 
@@ -134,4 +147,5 @@ annotated_within code annotated = all_within code (λ fault _. annotated fault) 
 pub refused_over : (code : Code) (fault : VerifyFault) → IsRefusedFor code fault → fault ≡ OverClaim → SomePeakIsOver code
 refused_over code fault refused is =
     let first = refused (λ memory. let wrong : OverClaim ≡ NoMemory = sym is ∙ memory in cc) in
-    some_over code (λ earlier u. first.1 earlier (subst (λ (f : VerifyFault). turn_of earlier < turn_of f) (sym is) u)) (subst (λ (f : VerifyFault). IsFreeOf f code → ⊥) is first.0)
+    some_over code (λ earlier u. first.1 earlier (subst (λ (f : VerifyFault). turn_of earlier < turn_of f) (sym is)
+    u)) (subst (λ (f : VerifyFault). IsFreeOf f code → ⊥) is first.0)

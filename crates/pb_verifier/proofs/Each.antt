@@ -8,7 +8,8 @@ pub use Rattle.pb_code.proofs.Each.{EachBelow, same_read, each_more, each_all}
 
 -- ---- answers that may be none, or want of memory
 
-pub some_weaker : {T E : Type 0} (r : Result (Option T) E) {P Q : T → Type 0} → ((t : T) → P t → Q t) → IfOk r (λ answer. IfSome answer P) → IfOk r (λ answer. IfSome answer Q)
+pub some_weaker : {T E : Type 0} (r : Result (Option T) E) {P Q : T → Type 0} → ((t : T) → P t → Q t) → IfOk r (λ
+    answer. IfSome answer P) → IfOk r (λ answer. IfSome answer Q)
 some_weaker (Ok (Some t)) h p = h t p
 some_weaker (Ok None) h p = tt
 some_weaker (Err e) h p = tt
@@ -27,7 +28,8 @@ push_more xs x n Holds l before here k u = go (cases_lt k n)
     go (inl v) = subst (Holds k) (sym (get_or_append_left xs (x ∷ []) 0 k (omega arith))) (before k v)
     go (inr v) =
         let e : n ≡ k = omega arith in
-        subst (λ (m : ℕ). Holds m (get_or (xs ++ x ∷ []) m 0)) (l ∙ e) (subst (Holds (length xs)) (sym (get_or-append_seam xs x [] 0)) (subst (λ (m : ℕ). Holds m x) (sym l) here))
+        subst (λ (m : ℕ). Holds m (get_or (xs ++ x ∷ []) m 0)) (l ∙ e) (subst (Holds (length xs)) (sym
+        (get_or-append_seam xs x [] 0)) (subst (λ (m : ℕ). Holds m x) (sym l) here))
 
 pub ok_both : {T E : Type 0} (r : Result T E) {P Q R : T → Type 0} → ((t : T) → P t → Q t → R t) → IfOk r P → IfOk r Q → IfOk r R
 ok_both (Ok t) h p q = h t p q

@@ -16,7 +16,8 @@ use Rattle.pb_verifier.specs.Verified.{IsDepthOf}
 use Rattle.pb_verifier.proofs.Chains.{held_length}
 
 -- a noted value comes from a fact
-pub fact_of : {F M : Type 0} (value : F → M) (table : List (Option F)) (p : ℕ) (m : M) → notes_of value table p ≡ Some m → (f : F) × (fact_at table p ≡ Some f) × (value f ≡ m)
+pub fact_of : {F M : Type 0} (value : F → M) (table : List (Option F)) (p : ℕ) (m : M) → notes_of value table p ≡ Some
+    m → (f : F) × (fact_at table p ≡ Some f) × (value f ≡ m)
 fact_of {F = F} {M = M} value table p m e = go (fact_at table p) refl
   where
     go : (o : Option F) → fact_at table p ≡ o → (f : F) × (fact_at table p ≡ Some f) × (value f ≡ m)
@@ -24,8 +25,10 @@ fact_of {F = F} {M = M} value table p m e = go (fact_at table p) refl
     go (Some f) n = let both : Some (value f) ≡ Some m = ap (option_map value) (sym n) ∙ e in let same : value f ≡ m = cc in (f, n, same)
 
 -- a fact that was read is the one at that place
-pub clear_read : (ds : List (Option Depth)) (hs : List (Option Holding)) (i : Instr) (p : ℕ) (x : Option Depth) (y : Option Holding) → p < length ds → p < length hs
-    → (IsClearAt i (get_or ds p x) (get_or hs p y) → IsClearAt i (fact_at ds p) (fact_at hs p)) × (IsClearAt i (fact_at ds p) (fact_at hs p) → IsClearAt i (get_or ds p x) (get_or hs p y))
+pub clear_read : (ds : List (Option Depth)) (hs : List (Option Holding)) (i : Instr) (p : ℕ) (x : Option Depth) (y :
+    Option Holding) → p < length ds → p < length hs
+    → (IsClearAt i (get_or ds p x) (get_or hs p y) → IsClearAt i (fact_at ds p) (fact_at hs p)) × (IsClearAt i
+    (fact_at ds p) (fact_at hs p) → IsClearAt i (get_or ds p x) (get_or hs p y))
 clear_read ds hs i p x y u v =
     let e : get_or ds p x ≡ fact_at ds p = get_or_default ds p x None u in
     let f : get_or hs p y ≡ fact_at hs p = get_or_default hs p y None v in (
@@ -37,7 +40,8 @@ module _ (code : ProcessCode) (depths : List (Option Depth)) where
   abbrev Depths : ℕ → Option ℕ
   Depths = notes_of (λ (d : Depth). d.count) depths
 
-  module _ (holdings : List (Option Holding)) (is_depths : IsTableOf code TurnsDepth 0 Depths) (is_holdings : IsTableOf code TurnsHoldings [] (notes_of (held_by code.instrs holdings) holdings)) where
+  module _ (holdings : List (Option Holding)) (is_depths : IsTableOf code TurnsDepth 0 Depths) (is_holdings :
+      IsTableOf code TurnsHoldings [] (notes_of (held_by code.instrs holdings) holdings)) where
     abbrev Holds : ℕ → Option (List Bundle)
     Holds = notes_of (held_by code.instrs holdings) holdings
 
@@ -59,7 +63,8 @@ module _ (code : ProcessCode) (depths : List (Option Depth)) where
     pub clear_of : EndsClear code → (p : ℕ) (i : Instr) → InstrAt code p i → IsClearAt i (fact_at depths p) (fact_at holdings p)
     clear_of ends p i read is =
         let end : InstrAt code p End = read ∙ ap Some is in
-        let clear = λ (r : Reached code p). ends (λ place. unwrap_or (Depths place) 0) (λ place. unwrap_or (Holds place) []) is_depths.spreads is_holdings.spreads p r end in (
+        let clear = λ (r : Reached code p). ends (λ place. unwrap_or (Depths place) 0) (λ place. unwrap_or (Holds
+        place) []) is_depths.spreads is_holdings.spreads p r end in (
           λ d e.
               let n : Depths p ≡ Some d.count = ap (option_map (λ (d : Depth). d.count)) e in
               let z = (clear (is_depths.only p d.count n)).0 in
@@ -106,8 +111,10 @@ module _ (code : ProcessCode) (depths : List (Option Depth)) where
   pub best_keeps : (a n best : ℕ) → IsBestBefore a n best → ((d : Depth) → fact_at depths n ≡ Some d → d.count ≤ best) → IsBestBefore a (n + 1) best
   best_keeps a n best b here = record { above = best_above a n best best b (omega arith) here; attained = b.attained }
 
-  pub best_takes : (a n best : ℕ) (new : Depth) → IsBestBefore a n best → IsInArm code a n → fact_at depths n ≡ Some new → best < new.count → IsBestBefore a (n + 1) new.count
+  pub best_takes : (a n best : ℕ) (new : Depth) → IsBestBefore a n best → IsInArm code a n → fact_at depths n ≡ Some
+      new → best < new.count → IsBestBefore a (n + 1) new.count
   best_takes a n best new b within e u = record {
-    above = best_above a n best new.count b (omega arith) (λ d f. let both : Some new ≡ Some d = sym e ∙ f in let same : new ≡ d = cc in let s : new.count ≡ d.count = ap (λ (x : Depth). x.count) same in omega arith);
+    above = best_above a n best new.count b (omega arith) (λ d f. let both : Some new ≡ Some d = sym e ∙ f in let same
+        : new ≡ d = cc in let s : new.count ≡ d.count = ap (λ (x : Depth). x.count) same in omega arith);
     attained = (n, within, ap (option_map (λ (d : Depth). d.count)) e);
   }

@@ -37,14 +37,30 @@ module _ (entries : List ℕ) (instrs : List Instr) (inside : StaysInside entrie
   -- the search goes on until what follows each found place is found
   search_on : (fuel next : ℕ) (found : List Bool) (order : List ℕ) → length instrs ≤ next + fuel → IsSearch entries instrs next found order
       → ((p : ℕ) → Contains entries p → Contains order p) → (all : List ℕ) × ListsReached all
-  search_on zero next found order enough h starts = (order, λ p. (h.reached p, search_over entries instrs next found order h (let n = h.counted in omega (arith, n, enough)) starts p))
+  search_on zero next found order enough h starts = (
+    order,
+    λ p. (
+      h.reached p,
+      search_over entries instrs next found
+          order h (let n = h.counted in omega (arith, n, enough)) starts p,
+    ),
+  )
   search_on (suc fuel) next found order enough h starts = elim (cases_lt next (length order)) [
     | inr over ↦ (order, λ p. (h.reached p, search_over entries instrs next found order h over starts p))
     | inl u ↦
         let here : get_or order next 0 < length instrs = hand_inside entries instrs next found order inside h u in
         let i : Instr = get_or instrs (get_or order next 0) End in
-        let done = hand_done entries instrs next found order (get_or order next 0) i record { inside = inside; search = h; within = u; read = get_or_default order next 0 (get_or order next 0) u; instr = slice_get-get_or instrs (get_or order next 0) End here } in
-        search_on fuel (next + 1) (with_marks found (followers i (get_or order next 0))) (with_places found order (followers i (get_or order next 0))) (omega (arith, enough)) done.1
+        let done = hand_done entries instrs next found order (get_or order next 0) i record {
+          inside = inside;
+          search
+              = h;
+          within = u;
+          read = get_or_default order next 0 (get_or order next 0) u;
+          instr = slice_get-get_or
+              instrs (get_or order next 0) End here;
+        } in
+        search_on fuel (next + 1) (with_marks found (followers i (get_or order next 0))) (with_places found order
+        (followers i (get_or order next 0))) (omega (arith, enough)) done.1
         (λ p c. extends_contains order (with_places found order (followers i (get_or order next 0))) p done.0.extends (starts p c))
   ]
 
@@ -85,8 +101,13 @@ module _ (code : ProcessCode) (lie : HasArms code) (fork : HasForks code) (small
 
   module _ (table : List (Option Amount)) where
     -- the greatest amount of an arm before a place
-    best_to : (peak : ℕ → ℕ) (a : ℕ) → a < arms code → (k n : ℕ) → n ≡ entry code a + k → n ≤ arm_end code a → (best : ℕ) × IsBest code lie fork some table peak a n best
-    best_to peak a u zero n e within = (0, subst (λ (m : ℕ). IsBest code lie fork some table peak a m 0) (omega (arith, e)) (best_start code lie fork some table peak a))
+    best_to : (peak : ℕ → ℕ) (a : ℕ) → a < arms code → (k n : ℕ) → n ≡ entry code a + k → n ≤ arm_end code a → (best :
+        ℕ) × IsBest code lie fork some table peak a n best
+    best_to peak a u zero n e within = (
+      0,
+      subst (λ (m : ℕ). IsBest code lie fork some table peak a m 0) (omega
+          (arith, e)) (best_start code lie fork some table peak a),
+    )
     best_to peak a u (suc k) n e within =
         let m : ℕ = entry code a + k in
         let next : m + 1 ≡ n = omega (arith, e) in
@@ -94,13 +115,21 @@ module _ (code : ProcessCode) (lie : HasArms code) (fork : HasForks code) (small
         let before = best_to peak a u k m refl (omega (arith, next, within)) in
         subst (λ (x : ℕ). (best : ℕ) × IsBest code lie fork some table peak a x best) next (go m here before (is_reached m))
       where
-        go : (m : ℕ) → IsInArm code a m → ((best : ℕ) × IsBest code lie fork some table peak a m best) → Reached code m ⊎ (Reached code m → ⊥) → (best : ℕ) × IsBest code lie fork some table peak a (m + 1) best
+        go : (m : ℕ) → IsInArm code a m → ((best : ℕ) × IsBest code lie fork some table peak a m best) → Reached code
+            m ⊎ (Reached code m → ⊥) → (best : ℕ) × IsBest code lie fork some table peak a (m + 1) best
         go m here before (inr none) = (before.0, best_skip code lie fork some table peak a m before.0 before.1 none)
-        go m here before (inl reached) = more (place_has code lie a m here) (cases_lt before.0 (clamped (held_at table m + in_joined peak (place_has code lie a m here).0)))
+        go m here before (inl reached) = more (place_has code lie a m here) (cases_lt before.0 (clamped (held_at table
+            m + in_joined peak (place_has code lie a m here).0)))
           where
-            more : (i : (i : Instr) × InstrAt code m i) → (before.0 < clamped (held_at table m + in_joined peak i.0)) ⊎ (clamped (held_at table m + in_joined peak i.0) ≤ before.0)
+            more : (i : (i : Instr) × InstrAt code m i) → (before.0 < clamped (held_at table m + in_joined peak i.0))
+                ⊎ (clamped (held_at table m + in_joined peak i.0) ≤ before.0)
                 → (best : ℕ) × IsBest code lie fork some table peak a (m + 1) best
-            more i (inl over) = (clamped (held_at table m + in_joined peak i.0), best_more code lie fork some table peak a m before.0 (clamped (held_at table m + in_joined peak i.0)) i.0 before.1 here reached i.1 (inl (refl, over)))
+            more i (inl over) = (
+              clamped (held_at table m + in_joined peak i.0),
+              best_more code lie fork some table
+                  peak a m before.0 (clamped (held_at table m + in_joined peak i.0)) i.0 before.1 here reached i.1 (inl
+                  (refl, over)),
+            )
             more i (inr under) = (before.0, best_more code lie fork some table peak a m before.0 before.0 i.0 before.1 here reached i.1 (inr (refl, under)))
 
     -- the peaks of the last arms
@@ -113,7 +142,8 @@ module _ (code : ProcessCode) (lie : HasArms code) (fork : HasForks code) (small
         let before = lasts done (omega (arith, u)) in
         one_more before.0 before.1 (arms code - suc done) (omega (arith, u))
       where
-        one_more : (peaks : List ℕ) (h : AreLast code lie fork some table done peaks) (arm : ℕ) → arm + 1 + done ≡ arms code → (later : List ℕ) × AreLast code lie fork some table (suc done) later
+        one_more : (peaks : List ℕ) (h : AreLast code lie fork some table done peaks) (arm : ℕ) → arm + 1 + done ≡
+            arms code → (later : List ℕ) × AreLast code lie fork some table (suc done) later
         one_more peaks h arm e =
             let inside : arm < arms code = omega (arith, e) in
             let lies = (arm_lies code (rise_of code lie) arm inside).0 in
@@ -149,14 +179,17 @@ module _ (code : ProcessCode) (lie : HasArms code) (fork : HasForks code) (small
       same : (place : ℕ) (i : Instr) → InstrAt code place i → held_at table place ≡ in_holdings r (held place)
       same place i at = amount_at (λ p. in_holdings r (held p)) (length code.instrs) place (slice_get_within code.instrs place i at)
 
-      under : (a place : ℕ) (i : Instr) → IsInArm code a place → Reached code place → InstrAt code place i → in_holdings r (held place) + in_joined last.1.peak i ≤ last.1.peak a
+      under : (a place : ℕ) (i : Instr) → IsInArm code a place → Reached code place → InstrAt code place i →
+          in_holdings r (held place) + in_joined last.1.peak i ≤ last.1.peak a
       under a place i within reached at =
           let e = same place i at in
           let most = (are a within.0).above place i within reached at in
           omega (arith, e, most)
 
-      exact : (a : ℕ) → ((place : ℕ) × (i : Instr) × IsInArm code a place × Reached code place × InstrAt code place i × (last.1.peak a ≡ held_at table place + in_joined last.1.peak i))
-          → (place : ℕ) × (i : Instr) × IsInArm code a place × Reached code place × InstrAt code place i × (last.1.peak a ≡ in_holdings r (held place) + in_joined last.1.peak i)
+      exact : (a : ℕ) → ((place : ℕ) × (i : Instr) × IsInArm code a place × Reached code place × InstrAt code place i
+          × (last.1.peak a ≡ held_at table place + in_joined last.1.peak i))
+          → (place : ℕ) × (i : Instr) × IsInArm code a place × Reached code place × InstrAt code place i ×
+          (last.1.peak a ≡ in_holdings r (held place) + in_joined last.1.peak i)
       exact a x =
           let e = same x.0 x.1 x.4 in
           let v = x.5 in

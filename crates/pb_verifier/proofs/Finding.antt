@@ -13,7 +13,8 @@ not_over_in : (threads : List Thread) (first n : ℕ) → all_over threads first
 not_over_in threads first zero h = cc
 not_over_in threads first (suc n) h = go (is_over (thread threads first)) refl h (not_over_in threads (first + 1) n)
   where
-    go : (z : Bool) → is_over (thread threads first) ≡ z → z && all_over threads (first + 1) n ≡ false → (all_over threads (first + 1) n ≡ false → (c : ℕ) × IsAmong (first + 1) n c × (is_over (thread threads c) ≡ false))
+    go : (z : Bool) → is_over (thread threads first) ≡ z → z && all_over threads (first + 1) n ≡ false → (all_over
+        threads (first + 1) n ≡ false → (c : ℕ) × IsAmong (first + 1) n c × (is_over (thread threads c) ≡ false))
         → (c : ℕ) × IsAmong first (suc n) c × (is_over (thread threads c) ≡ false)
     go false e h' later = (first, (omega arith, omega arith), e)
     go true e h' later = let w = later h' in let x = w.1.0 in let y = w.1.1 in (w.0, (omega (arith, x), omega (arith, y)), w.2)
@@ -22,7 +23,8 @@ abbrev pub CanStep : ProcessCode → CodeProcess → Type 0
 CanStep code process = (a : ℕ) × (after : CodeProcess) × (effect : Effect) × (step_process code process a ≡ Some (after, effect))
 
 module _ (code : ProcessCode) (ok : Checked code) (process : CodeProcess) (fit : Fit code ok process) where
-  busy_lives : (c : ℕ) → (thread process.threads c ≡ Idle → ⊥) → is_over (thread process.threads c) ≡ false → (p : ℕ) × (s : List ℤ) × (thread process.threads c ≡ Live p s)
+  busy_lives : (c : ℕ) → (thread process.threads c ≡ Idle → ⊥) → is_over (thread process.threads c) ≡ false → (p : ℕ)
+      × (s : List ℤ) × (thread process.threads c ≡ Live p s)
   busy_lives c busy not_over = go (thread process.threads c) refl not_over
     where
       go : (t : Thread) → thread process.threads c ≡ t → is_over t ≡ false → (p : ℕ) × (s : List ℤ) × (thread process.threads c ≡ Live p s)
@@ -38,23 +40,37 @@ module _ (code : ProcessCode) (ok : Checked code) (process : CodeProcess) (fit :
       let i = place_has code ok.lie a p here.0 in
       let x = can_act code ok process.vars i.0 p s here.1 i.1 here.2 in
       let unrolled : step_process code process a ≡ apply_step code process a x.0 =
-      ap (step_thread code process a) live ∙ (ap (option_and_then (λ i. option_and_then (apply_step code process a) (act process.vars i p s))) i.1 ∙ ap (option_and_then (apply_step code process a)) x.1) in
+      ap (step_thread code process a) live ∙ (ap (option_and_then (λ i. option_and_then (apply_step code process a)
+      (act process.vars i p s))) i.1 ∙ ap (option_and_then (apply_step code process a)) x.1) in
       go i.0 x.0 i.1 here.0 x.2 unrolled (λ b q t l h. some_arm fuel b q t (omega (arith, enough, l)) h)
     where
-      go : (i : Instr) (step : ThreadStep) → InstrAt code p i → IsInArm code a p → Acts code ok process.vars i p s step → step_process code process a ≡ apply_step code process a step
+      go : (i : Instr) (step : ThreadStep) → InstrAt code p i → IsInArm code a p → Acts code ok process.vars i p s
+          step → step_process code process a ≡ apply_step code process a step
           → ((b q : ℕ) (t : List ℤ) → a < b → thread process.threads b ≡ Live q t → CanStep code process) → CanStep code process
       go i step at here (acts_run vars q t e same len plain f depth balance sound takes) u later = (a, _, _, u ∙ ap (apply_step code process a) same)
       go i step at here (acts_trap kind same) u later = (a, _, _, u ∙ ap (apply_step code process a) same)
       go i step at here (acts_fork first count is same depth held) u later = (a, _, _, u ∙ ap (apply_step code process a) same)
       go i step at here (acts_stop is same) u later = (a, _, _, u ∙ ap (apply_step code process a) same)
-      go i step at here (acts_join first count is same depth held) u later = over (all_over process.threads first count) refl (u ∙ ap (apply_step code process a) same)
+      go i step at here (acts_join first count is same depth held) u later = over (all_over process.threads first
+          count) refl (u ∙ ap (apply_step code process a) same)
         where
-          over : (z : Bool) → all_over process.threads first count ≡ z → step_process code process a ≡ cond {A = Option (CodeProcess × Effect)} z (Some (record { vars = process.vars; threads = dismiss (set process.threads a (Live (p + 1) s)) first count; faulted = process.faulted }, Silent)) None → CanStep code process
+          over : (z : Bool) → all_over process.threads first count ≡ z → step_process code process a ≡ cond {A =
+              Option (CodeProcess × Effect)} z (Some (
+                record {
+                  vars = process.vars;
+                  threads = dismiss (set
+                      process.threads a (Live (p + 1) s)) first count;
+                  faulted = process.faulted;
+                },
+                Silent,
+              )) None → CanStep
+              code process
           over true e h = (a, _, _, h)
           over false e h =
               let join : InstrAt code p (Join first count) = at ∙ ap Some is in
               let w = ok.fork.after_fork p first count join in
-              let there = fork_in_arm code ok.lie ok.fork a w.0 first count (subst (IsInArm code a) w.1 here) (subst (λ k. InstrAt code k (Join first count)) w.1 join) in
+              let there = fork_in_arm code ok.lie ok.fork a w.0 first count (subst (IsInArm code a) w.1 here) (subst
+              (λ k. InstrAt code k (Join first count)) w.1 join) in
               let l = (ok.fork.later a w.0 first count there w.2).0 in
               let c = not_over_in process.threads first count e in
               let x = c.1.0 in

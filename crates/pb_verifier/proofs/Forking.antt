@@ -40,7 +40,8 @@ fork_given bundles (given.JumpIfZero t) first count e = cc
 fork_given bundles given.Print first count e = cc
 fork_given bundles (given.Take k) first count e = cc
 fork_given bundles (given.Give k) first count e = cc
-fork_given bundles (given.Fork f n) first count e = let same : Fork f n ≡ Fork first count = e in let a : f ≡ first = cc in let b : n ≡ count = cc in ap (λ x. given.Fork x n) a ∙ ap (given.Fork first) b
+fork_given bundles (given.Fork f n) first count e = let same : Fork f n ≡ Fork first count = e in let a : f ≡ first =
+    cc in let b : n ≡ count = cc in ap (λ x. given.Fork x n) a ∙ ap (given.Fork first) b
 fork_given bundles (given.Join f n) first count e = cc
 fork_given bundles given.End first count e = cc
 
@@ -70,16 +71,20 @@ join_given bundles given.Print first count e = cc
 join_given bundles (given.Take k) first count e = cc
 join_given bundles (given.Give k) first count e = cc
 join_given bundles (given.Fork f n) first count e = cc
-join_given bundles (given.Join f n) first count e = let same : Join f n ≡ Join first count = e in let a : f ≡ first = cc in let b : n ≡ count = cc in ap (λ x. given.Join x n) a ∙ ap (given.Join first) b
+join_given bundles (given.Join f n) first count e = let same : Join f n ≡ Join first count = e in let a : f ≡ first =
+    cc in let b : n ≡ count = cc in ap (λ x. given.Join x n) a ∙ ap (given.Join first) b
 join_given bundles given.End first count e = cc
 
 module _ (code : ProcessCode) where
   -- each place is some arm's
   cover : EntriesRise code → (n place : ℕ) → n < arms code → place < arm_end code n → (a : ℕ) × IsInArm code a place
   cover h zero place u v = let e : entry code 0 ≡ 0 = h.first in (0, (u, omega arith, v))
-  cover h (suc n) place u v = go (cases_lt place (entry code (suc n))) (λ w. cover h n place (omega arith) (let e : arm_end code n ≡ entry code (n + 1) = get_or_default code.entries (n + 1) (length code.instrs) 0 (omega arith) in let s : n + 1 ≡ suc n = omega arith in subst (λ (x : ℕ). place < x) (sym (e ∙ ap (entry code) s)) w))
+  cover h (suc n) place u v = go (cases_lt place (entry code (suc n))) (λ w. cover h n place (omega arith) (let e :
+      arm_end code n ≡ entry code (n + 1) = get_or_default code.entries (n + 1) (length code.instrs) 0 (omega arith)
+      in let s : n + 1 ≡ suc n = omega arith in subst (λ (x : ℕ). place < x) (sym (e ∙ ap (entry code) s)) w))
     where
-      go : (place < entry code (suc n)) ⊎ (entry code (suc n) ≤ place) → (place < entry code (suc n) → (a : ℕ) × IsInArm code a place) → (a : ℕ) × IsInArm code a place
+      go : (place < entry code (suc n)) ⊎ (entry code (suc n) ≤ place) → (place < entry code (suc n) → (a : ℕ) ×
+          IsInArm code a place) → (a : ℕ) × IsInArm code a place
       go (inl w) below = below w
       go (inr w) below = (suc n, (u, w, v))
 
@@ -89,12 +94,14 @@ module _ (code : ProcessCode) where
       let e : arm_end code (arms code - 1) ≡ length code.instrs = get_or_past code.entries ((arms code - 1) + 1) (length code.instrs) (omega arith) in
       cover (rise_of code h) (arms code - 1) place (omega arith) (omega arith)
 
-  pub forks_there : HasArms code → 1 ≤ arms code → ((a : ℕ) → a < arms code → ForksLater code a) → (place first count : ℕ) → InstrAt code place (Fork first count) → first + count ≤ arms code
+  pub forks_there : HasArms code → 1 ≤ arms code → ((a : ℕ) → a < arms code → ForksLater code a) → (place first count
+      : ℕ) → InstrAt code place (Fork first count) → first + count ≤ arms code
   forks_there h some later place first count read =
       let in_arm : (a : ℕ) × IsInArm code a place = arm_of h some place (slice_get_within code.instrs place (Fork first count) read) in
       (later in_arm.0 in_arm.1.0 place first count in_arm.1 read).1
 
-  pub forks_from : ((a : ℕ) → a < arms code → ForksLater code a) → ((place : ℕ) (i : Instr) → InstrAt code place i → IsPaired code place i) → AreNamed code → HasForks code
+  pub forks_from : ((a : ℕ) → a < arms code → ForksLater code a) → ((place : ℕ) (i : Instr) → InstrAt code place i →
+      IsPaired code place i) → AreNamed code → HasForks code
   forks_from later paired named = record {
     later = λ a place first count within. later a within.0 place first count within;
     then_join = λ place first count read. paired place (Fork first count) read;
@@ -146,7 +153,8 @@ module _ (code : ProcessCode) where
       less b (p, f, m, u, read, among) = (p, f, m, below p f m u read, read, among)
 
   -- a fork whose arms were not marked
-  pub marked_more : (n first count : ℕ) (marks later : List Bool) → IsMarked n marks → InstrAt code n (Fork first count) → first + count ≤ 64 → length later ≡ 64
+  pub marked_more : (n first count : ℕ) (marks later : List Bool) → IsMarked n marks → InstrAt code n (Fork first
+      count) → first + count ≤ 64 → length later ≡ 64
       → ((b : ℕ) → first ≤ b → b < first + count → get_or marks b false ≡ false)
       → ((b : ℕ) → b < length marks → ((get_or later b false ≡ true) ↔ ((get_or marks b false ≡ true) ⊎ ((first ≤ b) × (b < first + count)))))
       → IsMarked (n + 1) later
@@ -217,7 +225,8 @@ module _ (code : ProcessCode) where
           let w : before.0 < n = before.3 in
           absurd (omega arith)
 
-  pub named_from : (n : ℕ) (marks : List Bool) → IsMarked n marks → length code.instrs ≤ n → arms code ≤ 64 → ((b : ℕ) → 1 ≤ b → b < arms code → get_or marks b false ≡ true) → AreNamed code
+  pub named_from : (n : ℕ) (marks : List Bool) → IsMarked n marks → length code.instrs ≤ n → arms code ≤ 64 → ((b : ℕ)
+      → 1 ≤ b → b < arms code → get_or marks b false ≡ true) → AreNamed code
   named_from n marks m u few all = record {
     named = λ b v w. let before : IsNamedBefore code n b = (m.marked b (omega arith)).0 (all b v w) in (before.0, before.1, before.2, before.4, before.5);
     once = λ b p f k q g o at among at' among'.
@@ -226,7 +235,8 @@ module _ (code : ProcessCode) where
         m.once b p f k q g o (omega arith) (omega arith) at among at' among';
   }
 
-  pub marked_of : AreNamed code → (n : ℕ) (marks : List Bool) → IsMarked n marks → length code.instrs ≤ n → arms code ≤ 64 → (b : ℕ) → 1 ≤ b → b < arms code → get_or marks b false ≡ true
+  pub marked_of : AreNamed code → (n : ℕ) (marks : List Bool) → IsMarked n marks → length code.instrs ≤ n → arms code
+      ≤ 64 → (b : ℕ) → 1 ≤ b → b < arms code → get_or marks b false ≡ true
   marked_of h n marks m u few b v w =
       let by_fork : (place : ℕ) × (first : ℕ) × (count : ℕ) × InstrAt code place (Fork first count) × IsAmong first count b = h.named b v w in
       let x : by_fork.0 < length code.instrs = slice_get_within code.instrs by_fork.0 (Fork by_fork.1 by_fork.2) by_fork.3 in
@@ -245,7 +255,8 @@ module _ (code : ProcessCode) where
           here first count (same_read code.instrs p x (Fork first count) (ap (slice_get code.instrs) (sym same) ∙ read) at)
 
 -- a fork that is given names these arms
-pub forked_by : (bundles : List Bundle) (i : Given) (f n : ℕ) (P : ℕ → ℕ → Type 0) → i ≡ given.Fork f n → P f n ↔ ((first count : ℕ) → instr_view bundles i ≡ Fork first count → P first count)
+pub forked_by : (bundles : List Bundle) (i : Given) (f n : ℕ) (P : ℕ → ℕ → Type 0) → i ≡ given.Fork f n → P f n ↔
+    ((first count : ℕ) → instr_view bundles i ≡ Fork first count → P first count)
 forked_by bundles i f n P is = (λ h first count e. go h first count (sym (ap (instr_view bundles) is) ∙ e), λ all. all f n (ap (instr_view bundles) is))
   where
     go : P f n → (first count : ℕ) → Fork f n ≡ Fork first count → P first count

@@ -26,7 +26,9 @@ module _ (code : ProcessCode) (ok : Checked code) where
   holds r T = total (arms code) (λ a. held_by r (T a))
 
   -- a step changes what is held by what it takes and gives
-  pub holds_next : (T T' : ℕ → Thread) (a : ℕ) (effect : Effect) (r : ℕ) → InOrder code ok T → Turn code ok T T' a effect → ((kind : FaultKind) → effect ≡ Faults kind → ⊥) → holds r T' + given r effect ≡ holds r T + taken r effect
+  pub holds_next : (T T' : ℕ → Thread) (a : ℕ) (effect : Effect) (r : ℕ) → InOrder code ok T → Turn code ok T T' a
+      effect → ((kind : FaultKind) → effect ≡ Faults kind → ⊥) → holds r T' + given r effect ≡ holds r T + taken r
+      effect
   holds_next T T' a effect r order (traps kind e all) sound = elim (sound kind e) [ ]
   holds_next T T' a effect r order (runs p s i q t live at plain f now len others balance no_fault takes) sound =
       let u = (order.stands a p s live).0.0 in
@@ -40,7 +42,8 @@ module _ (code : ProcessCode) (ok : Checked code) where
       let at : (b : ℕ) → b < arms code → held_by r (T' b) ≡ held_by r (T b) = λ b v. ⊎_elim
       (λ z. subst (λ k. held_by r (T' k) ≡ held_by r (T k)) (sym z) x)
       (λ ne. ⊎_elim
-      (λ among. ap (held_by r) (launched b among) ∙ (ap (in_holdings r) (ok.holdings.starts b v) ∙ sym (ap (held_by r) (idle_before code ok T T' order a p s first count b live fork l among))))
+      (λ among. ap (held_by r) (launched b among) ∙ (ap (in_holdings r) (ok.holdings.starts b v) ∙ sym (ap (held_by r)
+      (idle_before code ok T T' order a p s first count b live fork l among))))
       (λ out. ap (held_by r) (others b ne out))
       (among_or_not first count b))
       (same_or_not b a) in
@@ -156,7 +159,8 @@ module _ (code : ProcessCode) (ok : Checked code) where
             let i = place_has code ok.lie b p here.0 in
             let u = under b p i.0 here.0 here.1 i.1 in
             let l = leaves_le i.0 in
-            let same : total (arms code) (place_leaves (slice_get code.instrs p)) ≡ total (arms code) (instr_leaves i.0) = ap (λ o. total (arms code) (place_leaves o)) i.1 in
+            let same : total (arms code) (place_leaves (slice_get code.instrs p)) ≡ total (arms code) (instr_leaves
+            i.0) = ap (λ o. total (arms code) (place_leaves o)) i.1 in
             omega (arith, u, l, same)
 
     -- each busy arm but the first is left its peak
@@ -175,7 +179,8 @@ module _ (code : ProcessCode) (ok : Checked code) where
             let v = (order.stands w.parent (w.place + 1) w.stack w.waits).0.0 in
             let part = part_le (arms code) w.parent (λ b. leaves (T b) (suc c)) v in
             let join = ok.fork.then_join w.place w.first w.count w.forks in
-            let same : leaves (T w.parent) (suc c) ≡ at_range peak w.first w.count (suc c) = ap (λ t. leaves t (suc c)) w.waits ∙ ap (λ o. place_leaves o (suc c)) join in
+            let same : leaves (T w.parent) (suc c) ≡ at_range peak w.first w.count (suc c) = ap (λ t. leaves t (suc
+            c)) w.waits ∙ ap (λ o. place_leaves o (suc c)) join in
             let x = in_range peak w.first w.count (suc c) w.among in
             omega (arith, part, same, x)
 

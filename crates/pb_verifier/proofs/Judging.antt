@@ -65,7 +65,8 @@ pub record IsFirstBefore (code : Code) (n : ℕ) (fault : VerifyFault) : Type 0 
   pub process : ProcessCode
   pub read : slice_get code.processes place ≡ Some process
   pub there : IsFreeAt code place process fault → ⊥
-  pub earlier : (p : ℕ) (process : ProcessCode) → p < n → slice_get code.processes p ≡ Some process → (other : VerifyFault) → turn_of other < turn_of fault → IsFreeAt code p process other
+  pub earlier : (p : ℕ) (process : ProcessCode) → p < n → slice_get code.processes p ≡ Some process → (other :
+      VerifyFault) → turn_of other < turn_of fault → IsFreeAt code p process other
 
 abbrev pub IsFoundBefore : Code → ℕ → Option VerifyFault → List (List ℕ) → Type 0
 IsFoundBefore code n None rows = AreSound code n rows
@@ -78,13 +79,16 @@ module _ (code : Code) where
   at_more n process Holds read before here p other u at = each_more code.processes n process Holds read before here p other u at
 
   -- one more process that is sound
-  pub found_sound : (n : ℕ) (found : Option VerifyFault) (rows : List (List ℕ)) (process : ProcessCode) (row : List ℕ) → slice_get code.processes n ≡ Some process
+  pub found_sound : (n : ℕ) (found : Option VerifyFault) (rows : List (List ℕ)) (process : ProcessCode) (row : List ℕ)
+      → slice_get code.processes n ≡ Some process
       → IsFoundBefore code n found rows → IsSoundAt code n process row → IsFoundBefore code (n + 1) found (rows ++ row ∷ [])
   found_sound n None rows process row read h sound = record {
     all = length-append rows (row ∷ []) ∙ ap (λ (k : ℕ). k + 1) h.all;
     sound = at_more n process (λ p other. IsSoundAt code p other (get_or (rows ++ row ∷ []) p [])) read
-        (λ p other u at. subst (IsSoundAt code p other) (sym (get_or_append_left rows (row ∷ []) [] p (let l : length rows ≡ n = h.all in omega arith))) (h.sound p other u at))
-        (subst (λ (k : ℕ). IsSoundAt code n process (get_or (rows ++ row ∷ []) k [])) h.all (subst (IsSoundAt code n process) (sym (get_or-append_seam rows row [] [])) sound));
+        (λ p other u at. subst (IsSoundAt code p other) (sym (get_or_append_left rows (row ∷ []) [] p (let l : length
+        rows ≡ n = h.all in omega arith))) (h.sound p other u at))
+        (subst (λ (k : ℕ). IsSoundAt code n process (get_or (rows ++ row ∷ []) k [])) h.all (subst (IsSoundAt code n
+        process) (sym (get_or-append_seam rows row [] [])) sound));
   }
   found_sound n (Some fault) rows process row read h sound = record {
     place = h.place;
@@ -95,8 +99,10 @@ module _ (code : Code) where
   }
 
   -- one more process that has a fault
-  pub found_fault : (n : ℕ) (found : Option VerifyFault) (rows later : List (List ℕ)) (process : ProcessCode) (fault first : VerifyFault) → slice_get code.processes n ≡ Some process
-      → IsFoundBefore code n found rows → IsFirstOfProcess (width_of code.claims) (cell code.claims n) process fault → IsEarlier found fault first → IsFoundBefore code (n + 1) (Some first) later
+  pub found_fault : (n : ℕ) (found : Option VerifyFault) (rows later : List (List ℕ)) (process : ProcessCode) (fault
+      first : VerifyFault) → slice_get code.processes n ≡ Some process
+      → IsFoundBefore code n found rows → IsFirstOfProcess (width_of code.claims) (cell code.claims n) process fault →
+      IsEarlier found fault first → IsFoundBefore code (n + 1) (Some first) later
   found_fault n found rows later process fault first read h new first_is = go found h first_is
     where
       here : turn_of first ≤ turn_of fault → (o : VerifyFault) → turn_of o < turn_of first → IsFreeAt code n process o
@@ -112,11 +118,13 @@ module _ (code : Code) where
             process = process;
             read = read;
             there = subst (λ (f : VerifyFault). IsFreeAt code n process f → ⊥) (sym same) new.there;
-            earlier = at_more n process (λ p other. (o : VerifyFault) → turn_of o < turn_of first → IsFreeAt code p other o) read (λ p other u at o v. (h.sound p other u at).free o) (here e.1);
+            earlier = at_more n process (λ p other. (o : VerifyFault) → turn_of o < turn_of first → IsFreeAt code p
+                other o) read (λ p other u at o v. (h.sound p other u at).free o) (here e.1);
           }
       go (Some old) h e = from e.0
         where
-          before : (p : ℕ) (other : ProcessCode) → p < n → slice_get code.processes p ≡ Some other → (o : VerifyFault) → turn_of o < turn_of first → IsFreeAt code p other o
+          before : (p : ℕ) (other : ProcessCode) → p < n → slice_get code.processes p ≡ Some other → (o : VerifyFault)
+              → turn_of o < turn_of first → IsFreeAt code p other o
           before p other u at o v = let w : turn_of first ≤ turn_of old = e.2 old refl in h.earlier p other u at o (omega arith)
 
           from : (first ≡ fault) ⊎ (Some old ≡ Some first) → IsFirstBefore code (n + 1) first
@@ -131,16 +139,19 @@ module _ (code : Code) where
             place = h.place;
             process = h.process;
             read = h.read;
-            there = let is : old ≡ first = let s : Some old ≡ Some first = same in cc in subst (λ (f : VerifyFault). IsFreeAt code h.place h.process f → ⊥) is h.there;
+            there = let is : old ≡ first = let s : Some old ≡ Some first = same in cc in subst (λ (f : VerifyFault).
+                IsFreeAt code h.place h.process f → ⊥) is h.there;
             earlier = at_more n process (λ p other. (o : VerifyFault) → turn_of o < turn_of first → IsFreeAt code p other o) read before (here e.1);
           }
 
   module _ (limits : KeepsLimits code) (fit : FitCapital code) where
     pub wide : width_of code.claims ≡ length code.capital
-    wide = let some : 1 ≤ length code.processes = limits.some_processes.0 in let rows : length code.claims ≡ length code.processes = limits.rows in limits.width 0 [] (omega arith)
+    wide = let some : 1 ≤ length code.processes = limits.some_processes.0 in let rows : length code.claims ≡ length
+        code.processes = limits.rows in limits.width 0 [] (omega arith)
 
     -- code is free of what each process is free of
-    free_of_all : (fault : VerifyFault) → ((p : ℕ) (process : ProcessCode) → slice_get code.processes p ≡ Some process → IsProcessFreeOf (length code.capital) (cell code.claims p) process fault) → IsFreeOf fault code
+    free_of_all : (fault : VerifyFault) → ((p : ℕ) (process : ProcessCode) → slice_get code.processes p ≡ Some process
+        → IsProcessFreeOf (length code.capital) (cell code.claims p) process fault) → IsFreeOf fault code
     free_of_all OutOfLimits each = limits
     free_of_all OverCapital each = fit
     free_of_all OutOfRange each = each
@@ -152,7 +163,8 @@ module _ (code : Code) where
     free_of_all OverClaim each = λ p r process at. each p process at r
     free_of_all NoMemory each = tt
 
-    free_of_each : (fault : VerifyFault) → IsFreeOf fault code → (p : ℕ) (process : ProcessCode) → slice_get code.processes p ≡ Some process → IsProcessFreeOf (length code.capital) (cell code.claims p) process fault
+    free_of_each : (fault : VerifyFault) → IsFreeOf fault code → (p : ℕ) (process : ProcessCode) → slice_get
+        code.processes p ≡ Some process → IsProcessFreeOf (length code.capital) (cell code.claims p) process fault
     free_of_each OutOfLimits free p process at = tt
     free_of_each OverCapital free p process at = tt
     free_of_each OutOfRange free p process at = free p process at
@@ -166,7 +178,8 @@ module _ (code : Code) where
 
     pub refused_first : (n : ℕ) (fault : VerifyFault) → length code.processes ≤ n → IsFirstBefore code n fault → IsRefusedFor code fault
     refused_first n fault u h = λ _. (
-      λ free. h.there (subst (λ (k : ℕ). IsProcessFreeOf k (cell code.claims h.place) h.process fault) (sym wide) (free_of_each fault free h.place h.process h.read)),
+      λ free. h.there (subst (λ (k : ℕ). IsProcessFreeOf k (cell code.claims h.place) h.process fault) (sym wide)
+          (free_of_each fault free h.place h.process h.read)),
       λ other v. free_of_all other (λ p process at.
           let w : p < length code.processes = slice_get_within code.processes p process at in
           subst (λ (k : ℕ). IsProcessFreeOf k (cell code.claims p) process other) wide (h.earlier p process (omega arith) at other v)),
@@ -182,5 +195,6 @@ module _ (code : Code) where
     depths_all n rows e h = record {
       all = h.all ∙ e;
       rows = λ p process at. let w : p < length code.processes = slice_get_within code.processes p process at in (h.sound p process (omega arith) at).all;
-      greatest = λ p a process at. let w : p < length code.processes = slice_get_within code.processes p process at in (h.sound p process (omega arith) at).greatest a;
+      greatest = λ p a process at. let w : p < length code.processes = slice_get_within code.processes p process at in
+          (h.sound p process (omega arith) at).greatest a;
     }

@@ -183,7 +183,8 @@ module _ (code : ProcessCode) (lie : HasArms code) (fork : HasForks code) where
     h.0,
     ⊎_elim
         (λ l. omega (arith, l))
-        (λ l. let x = h.1 in let e : p + 1 ≡ entry code a = omega (arith, l, x) in elim (no_join_at_entry a f n h.0 (subst (λ k. InstrAt code k (Join f n)) e join)) [ ])
+        (λ l. let x = h.1 in let e : p + 1 ≡ entry code a = omega (arith, l, x) in elim (no_join_at_entry a f n h.0
+        (subst (λ k. InstrAt code k (Join f n)) e join)) [ ])
         (cases_lt (entry code a) (p + 1)),
     let x = h.2 in omega (arith, x),
   )

@@ -25,11 +25,13 @@ sum_more f first (suc k) =
     subst (λ (n : ℕ). sum_of_arms f first n ≡ sum_of_arms f first (suc k) + f (first + suc k)) (sym s) (omega (arith, rest, e))
 
 -- a sum of numbers that were cut off
-clamp_sum : (f peak : ℕ → ℕ) (h first n : ℕ) → ((b : ℕ) → first ≤ b → b < first + n → f b ≡ clamped (peak b)) → clamped (h + sum_of_arms f first n) ≡ clamped (h + sum_of_arms peak first n)
+clamp_sum : (f peak : ℕ → ℕ) (h first n : ℕ) → ((b : ℕ) → first ≤ b → b < first + n → f b ≡ clamped (peak b)) →
+    clamped (h + sum_of_arms f first n) ≡ clamped (h + sum_of_arms peak first n)
 clamp_sum f peak h first zero cut = refl
 clamp_sum f peak h first (suc n) cut =
     let one : f first ≡ clamped (peak first) = cut first (omega arith) (omega arith) in
-    let rest : clamped ((h + f first) + sum_of_arms f (first + 1) n) ≡ clamped ((h + f first) + sum_of_arms peak (first + 1) n) = clamp_sum f peak (h + f first) (first + 1) n (λ b u v. cut b (omega arith) (omega arith)) in
+    let rest : clamped ((h + f first) + sum_of_arms f (first + 1) n) ≡ clamped ((h + f first) + sum_of_arms peak
+    (first + 1) n) = clamp_sum f peak (h + f first) (first + 1) n (λ b u v. cut b (omega arith) (omega arith)) in
     clamp_step h (f first) (peak first) (sum_of_arms f (first + 1) n) (sum_of_arms peak (first + 1) n) one rest
   where
     clamp_step : (h a p s t : ℕ) → a ≡ clamped p → clamped ((h + a) + s) ≡ clamped ((h + a) + t) → clamped (h + (a + s)) ≡ clamped (h + (p + t))
@@ -64,7 +66,8 @@ module _ (code : ProcessCode) (lie : HasArms code) (fork : HasForks code) (some 
   pub joins_later : (a place first count : ℕ) → IsInArm code a place → InstrAt code place (Join first count) → (a < first) × (first + count ≤ arms code)
   joins_later a place first count here at =
       let before = fork.after_fork place first count at in
-      let there = fork_in_arm code lie fork a before.0 first count (subst (IsInArm code a) before.1 here) (subst (λ k. InstrAt code k (Join first count)) before.1 at) in
+      let there = fork_in_arm code lie fork a before.0 first count (subst (IsInArm code a) before.1 here) (subst (λ k.
+      InstrAt code k (Join first count)) before.1 at) in
       fork.later a before.0 first count there before.2
 
   pub joins_there : (place first count : ℕ) → InstrAt code place (Join first count) → first + count ≤ arms code
@@ -72,7 +75,8 @@ module _ (code : ProcessCode) (lie : HasArms code) (fork : HasForks code) (some 
       let in_arm = arm_of code lie some place (slice_get_within code.instrs place (Join first count) at) in
       (joins_later in_arm.0 place first count in_arm.1 at).1
 
-  pub clamp_joined : (a place : ℕ) (i : Instr) (f peak : ℕ → ℕ) (h : ℕ) → IsInArm code a place → InstrAt code place i → ((b : ℕ) → a + 1 ≤ b → b < arms code → f b ≡ clamped (peak b))
+  pub clamp_joined : (a place : ℕ) (i : Instr) (f peak : ℕ → ℕ) (h : ℕ) → IsInArm code a place → InstrAt code place i
+      → ((b : ℕ) → a + 1 ≤ b → b < arms code → f b ≡ clamped (peak b))
       → clamped (h + in_joined f i) ≡ clamped (h + in_joined peak i)
   clamp_joined a place i f peak h here at cut =
       joined_by (λ _. Unit {0}) (λ _. Unit {0}) i f peak (λ m n. clamped (h + m) ≡ clamped (h + n)) (λ n. refl)
@@ -82,7 +86,8 @@ module _ (code : ProcessCode) (lie : HasArms code) (fork : HasForks code) (some 
       let high = l.1 in
       clamp_sum f peak h first count (λ b u v. cut b (omega arith) (omega arith)))
 
-  joined_same : (a place : ℕ) (i : Instr) (f g : ℕ → ℕ) → IsInArm code a place → InstrAt code place i → ((b : ℕ) → a < b → f b ≡ g b) → in_joined f i ≡ in_joined g i
+  joined_same : (a place : ℕ) (i : Instr) (f g : ℕ → ℕ) → IsInArm code a place → InstrAt code place i → ((b : ℕ) → a <
+      b → f b ≡ g b) → in_joined f i ≡ in_joined g i
   joined_same a place i f g here at same =
       joined_by (λ _. Unit {0}) (λ _. Unit {0}) i f g (λ m n. m ≡ n) (λ n. refl)
       (λ first count is.
@@ -95,8 +100,10 @@ module _ (code : ProcessCode) (lie : HasArms code) (fork : HasForks code) (some 
     pub record IsBest (peak : ℕ → ℕ) (a n best : ℕ) : Type 0 where
       pub greatest : ℕ
       pub cut : best ≡ clamped greatest
-      pub above : (place : ℕ) (i : Instr) → IsInArm code a place → place < n → Reached code place → InstrAt code place i → held_at table place + in_joined peak i ≤ greatest
-      pub attained : (greatest ≡ 0) ⊎ ((place : ℕ) × (i : Instr) × IsInArm code a place × Reached code place × InstrAt code place i × (greatest ≡ held_at table place + in_joined peak i))
+      pub above : (place : ℕ) (i : Instr) → IsInArm code a place → place < n → Reached code place → InstrAt code place
+          i → held_at table place + in_joined peak i ≤ greatest
+      pub attained : (greatest ≡ 0) ⊎ ((place : ℕ) × (i : Instr) × IsInArm code a place × Reached code place × InstrAt
+          code place i × (greatest ≡ held_at table place + in_joined peak i))
 
     pub best_start : (peak : ℕ → ℕ) (a : ℕ) → IsBest peak a (entry code a) 0
     best_start peak a = record { greatest = 0; cut = refl; above = λ place i within u. let v = within.1 in absurd (omega arith); attained = inl refl }
@@ -109,7 +116,8 @@ module _ (code : ProcessCode) (lie : HasArms code) (fork : HasForks code) (some 
       attained = b.attained;
     }
       where
-        go : (place : ℕ) (i : Instr) → IsInArm code a place → place < n + 1 → Reached code place → (place < n) ⊎ (n ≤ place) → InstrAt code place i → held_at table place + in_joined peak i ≤ b.greatest
+        go : (place : ℕ) (i : Instr) → IsInArm code a place → place < n + 1 → Reached code place → (place < n) ⊎ (n ≤
+            place) → InstrAt code place i → held_at table place + in_joined peak i ≤ b.greatest
         go place i within u reached (inl v) = b.above place i within v reached
         go place i within u reached (inr v) = let e : place ≡ n = omega arith in absurd (none (subst (Reached code) e reached))
 
@@ -119,7 +127,8 @@ module _ (code : ProcessCode) (lie : HasArms code) (fork : HasForks code) (some 
         → IsBest peak a (n + 1) later
     best_more peak a n best later i b within reached at which = go (cases_lt b.greatest (held_at table n + in_joined peak i))
       where
-        above : (most : ℕ) → b.greatest ≤ most → held_at table n + in_joined peak i ≤ most → (place : ℕ) (j : Instr) → IsInArm code a place → place < n + 1 → Reached code place → InstrAt code place j
+        above : (most : ℕ) → b.greatest ≤ most → held_at table n + in_joined peak i ≤ most → (place : ℕ) (j : Instr) →
+            IsInArm code a place → place < n + 1 → Reached code place → InstrAt code place j
             → (place < n) ⊎ (n ≤ place) → held_at table place + in_joined peak j ≤ most
         above most u here place j there v r read (inl w) = let x = b.above place j there w r read in omega arith
         above most u here place j there v r read (inr w) =
@@ -129,11 +138,13 @@ module _ (code : ProcessCode) (lie : HasArms code) (fork : HasForks code) (some 
             let y : in_joined peak j ≡ in_joined peak i = ap (in_joined peak) same in
             omega arith
 
-        rises : (new old best later : ℕ) → best ≡ clamped old → old < new → ((later ≡ clamped new) × (best < clamped new)) ⊎ ((later ≡ best) × (clamped new ≤ best)) → later ≡ clamped new
+        rises : (new old best later : ℕ) → best ≡ clamped old → old < new → ((later ≡ clamped new) × (best < clamped
+            new)) ⊎ ((later ≡ best) × (clamped new ≤ best)) → later ≡ clamped new
         rises new old best later c u (inl w) = w.0
         rises new old best later c u (inr w) = let e = w.0 in let v = w.1 in omega arith
 
-        stays : (new old best later : ℕ) → best ≡ clamped old → new ≤ old → ((later ≡ clamped new) × (best < clamped new)) ⊎ ((later ≡ best) × (clamped new ≤ best)) → later ≡ clamped old
+        stays : (new old best later : ℕ) → best ≡ clamped old → new ≤ old → ((later ≡ clamped new) × (best < clamped
+            new)) ⊎ ((later ≡ best) × (clamped new ≤ best)) → later ≡ clamped old
         stays new old best later c u (inl w) = let v = w.1 in absurd (omega arith)
         stays new old best later c u (inr w) = w.0 ∙ c
 
@@ -151,14 +162,17 @@ module _ (code : ProcessCode) (lie : HasArms code) (fork : HasForks code) (some 
           attained = b.attained;
         }
 
-    pub best_over : (peak : ℕ → ℕ) (a n best : ℕ) → a < arms code → arm_end code a ≤ n → IsBest peak a n best → (greatest : ℕ) × (best ≡ clamped greatest) × IsPeakOf code table peak a greatest
+    pub best_over : (peak : ℕ → ℕ) (a n best : ℕ) → a < arms code → arm_end code a ≤ n → IsBest peak a n best →
+        (greatest : ℕ) × (best ≡ clamped greatest) × IsPeakOf code table peak a greatest
     best_over peak a n best u over b = (b.greatest, b.cut, record { above = above; attained = go b.attained })
       where
         above : (place : ℕ) (i : Instr) → IsInArm code a place → Reached code place → InstrAt code place i → held_at table place + in_joined peak i ≤ b.greatest
         above place i within = let v = within.2 in b.above place i within (omega arith)
 
-        go : (b.greatest ≡ 0) ⊎ ((place : ℕ) × (i : Instr) × IsInArm code a place × Reached code place × InstrAt code place i × (b.greatest ≡ held_at table place + in_joined peak i))
-            → (place : ℕ) × (i : Instr) × IsInArm code a place × Reached code place × InstrAt code place i × (b.greatest ≡ held_at table place + in_joined peak i)
+        go : (b.greatest ≡ 0) ⊎ ((place : ℕ) × (i : Instr) × IsInArm code a place × Reached code place × InstrAt code
+            place i × (b.greatest ≡ held_at table place + in_joined peak i))
+            → (place : ℕ) × (i : Instr) × IsInArm code a place × Reached code place × InstrAt code place i ×
+            (b.greatest ≡ held_at table place + in_joined peak i)
         go (inr x) = x
         go (inl zero_there) =
             let within = entry_in_arm code lie a u in
@@ -235,17 +249,20 @@ module _ (code : ProcessCode) (lie : HasArms code) (fork : HasForks code) (some 
         above_arm : (b c : ℕ) → arm ≤ b → b < c → h.peak c ≡ cond (eqb c arm) best.0 (h.peak c)
         above_arm b c u v = sym (off c (λ same. let w : c ≡ arm = same in absurd (omega arith)))
 
-        are : (b : ℕ) → arms code ≤ b + (done + 1) → b < arms code → (b ≡ arm) ⊎ (b ≢ arm) → IsPeakOf code table (λ b. cond (eqb b arm) best.0 (h.peak b)) b (cond (eqb b arm) best.0 (h.peak b))
+        are : (b : ℕ) → arms code ≤ b + (done + 1) → b < arms code → (b ≡ arm) ⊎ (b ≢ arm) → IsPeakOf code table (λ b.
+            cond (eqb b arm) best.0 (h.peak b)) b (cond (eqb b arm) best.0 (h.peak b))
         are b u v (inl same) =
             subst (λ (m : ℕ). IsPeakOf code table (λ b. cond (eqb b arm) best.0 (h.peak b)) b m) (sym (at b same))
-            (peak_same h.peak (λ b. cond (eqb b arm) best.0 (h.peak b)) b best.0 (λ c w. above_arm b c (omega arith) w) (subst (λ (k : ℕ). IsPeakOf code table h.peak k best.0) (sym same) best.2))
+            (peak_same h.peak (λ b. cond (eqb b arm) best.0 (h.peak b)) b best.0 (λ c w. above_arm b c (omega arith)
+            w) (subst (λ (k : ℕ). IsPeakOf code table h.peak k best.0) (sym same) best.2))
         are b u v (inr other) =
             subst (λ (m : ℕ). IsPeakOf code table (λ b. cond (eqb b arm) best.0 (h.peak b)) b m) (sym (off b other))
             (peak_same h.peak (λ b. cond (eqb b arm) best.0 (h.peak b)) b (h.peak b) (λ c w. above_arm b c (omega arith) w) (h.are b (omega arith) v))
 
     -- ---- whether the peak of arm 0 fits
 
-    module _ (small : IsSmallProcess code) (r : ℕ) (amounts : IsTableOf code TurnsAmount (r, 0) (notes_of (λ (a : Amount). let x : ℕ × ℕ = (a.resource, a.held) in x) table)) (peak : ℕ → ℕ)
+    module _ (small : IsSmallProcess code) (r : ℕ) (amounts : IsTableOf code TurnsAmount (r, 0) (notes_of (λ (a :
+        Amount). let x : ℕ × ℕ = (a.resource, a.held) in x) table)) (peak : ℕ → ℕ)
         (are : (a : ℕ) → a < arms code → IsPeakOf code table peak a (peak a)) where
       pub peak_fits : (claim : ℕ) → peak 0 ≤ claim → PeakFits code r claim
       peak_fits claim u held holdings = (
@@ -271,15 +288,18 @@ module _ (code : ProcessCode) (lie : HasArms code) (fork : HasForks code) (some 
           omega (arith, l, c)
 
     -- a place of which an amount is known
-    pub best_known : (peak : ℕ → ℕ) (a n best held here later : ℕ) (peaks : List ℕ) (i : Instr) → IsBest peak a n best → IsInArm code a n → Reached code n → InstrAt code n i → held_at table n ≡ held
-        → here ≡ clamped (held + in_joined (λ b. get_or peaks b 0) i) → AreCutOff code (a + 1) peak peaks → ((later ≡ here) × (best < here)) ⊎ ((later ≡ best) × (here ≤ best)) → IsBest peak a (n + 1) later
+    pub best_known : (peak : ℕ → ℕ) (a n best held here later : ℕ) (peaks : List ℕ) (i : Instr) → IsBest peak a n best
+        → IsInArm code a n → Reached code n → InstrAt code n i → held_at table n ≡ held
+        → here ≡ clamped (held + in_joined (λ b. get_or peaks b 0) i) → AreCutOff code (a + 1) peak peaks → ((later ≡
+        here) × (best < here)) ⊎ ((later ≡ best) × (here ≤ best)) → IsBest peak a (n + 1) later
     best_known peak a n best held here later peaks i b within reached at is_held is cut which = best_more peak a n best later i b within reached at (go which)
       where
         same : here ≡ clamped (held_at table n + in_joined peak i)
         same = is ∙ clamp_joined a n i (λ b. get_or peaks b 0) peak held within at cut.cut ∙ ap (λ (h : ℕ). clamped (h + in_joined peak i)) (sym is_held)
 
         go : ((later ≡ here) × (best < here)) ⊎ ((later ≡ best) × (here ≤ best))
-            → ((later ≡ clamped (held_at table n + in_joined peak i)) × (best < clamped (held_at table n + in_joined peak i))) ⊎ ((later ≡ best) × (clamped (held_at table n + in_joined peak i) ≤ best))
+            → ((later ≡ clamped (held_at table n + in_joined peak i)) × (best < clamped (held_at table n + in_joined
+            peak i))) ⊎ ((later ≡ best) × (clamped (held_at table n + in_joined peak i) ≤ best))
         go (inl x) = inl (x.0 ∙ same, subst (λ (m : ℕ). best < m) same x.1)
         go (inr x) = inr (x.0, subst (λ (m : ℕ). m ≤ best) same x.1)
 

@@ -43,7 +43,8 @@ module _ (fewer s : BankerState) (good : IsWellFormed s) (well : IsWellFormed fe
       let held : held_by fewer (everyone s) r ≤ held_by s (everyone s) r =
       sum_by-le_on (λ q. loan fewer q r) (λ q. loan s q r) (everyone s)
       (λ k d l. less.less (get_or (everyone s) k d) r (let b = range_below 0 (processes s) k d l in omega (arith, b)) lr) in
-      let same : held_by fewer (everyone fewer) r ≡ held_by fewer (everyone s) r = ap (λ (t : Table). held_by fewer (everyone (record s { claims = t })) r) less.claims in
+      let same : held_by fewer (everyone fewer) r ≡ held_by fewer (everyone s) r = ap (λ (t : Table). held_by fewer
+      (everyone (record s { claims = t })) r) less.claims in
       omega (arith, e, held, same)
 
   pub less_allowed : IsAllowed s p pairs → IsAllowed fewer p pairs
@@ -89,7 +90,8 @@ module _ (fewer s : BankerState) (good : IsWellFormed s) (well : IsWellFormed fe
             let l = less.less p r within lr in
             let here : loan (with_loan fewer p pairs) p r ≤ loan (with_loan s p pairs) p r =
             (let x = lent_here r in
-            let y = loan-with_loan fewer p pairs r well (let n = same_processes in omega (arith, n, within)) (subst (λ (n : ℕ). All (λ pair. pair.resource < n) pairs) (sym same_resources) below) in
+            let y = loan-with_loan fewer p pairs r well (let n = same_processes in omega (arith, n, within)) (subst (λ
+            (n : ℕ). All (λ pair. pair.resource < n) pairs) (sym same_resources) below) in
             omega (arith, x, y, l)) in
             subst (λ (k : ℕ). loan (with_loan fewer p pairs) k r ≤ loan (with_loan s p pairs) k r) (sym e) here)
             (λ ne.
@@ -166,7 +168,8 @@ module _ (whole : Code) (annotated : IsAnnotated whole) where
       refused.not_allowed (subst (IsGranted (bank_of whole) s.loans pick.process) effect moves.2)
 
   -- no loan falls in a step that frees nothing
-  loans_rise : (s : State CodeProcess) → Kept whole annotated s → (p : ℕ) → p < length whole.processes → (effect : Effect) (pick : Pick) → frees (event_of pick effect) ≡ false
+  loans_rise : (s : State CodeProcess) → Kept whole annotated s → (p : ℕ) → p < length whole.processes → (effect :
+      Effect) (pick : Pick) → frees (event_of pick effect) ≡ false
       → ((bundle : Bundle) → effect ≡ Takes bundle → All (λ pair. pair.resource < length whole.capital) bundle)
       → HasFewerLoans (banker_state (bank_of whole) s.loans) (banker_state (bank_of whole) (loans_after s.loans p effect))
   loans_rise s kept p u Silent pick f below = record { capital = refl; claims = refl; less = λ q r lq lr. omega arith }
@@ -209,7 +212,8 @@ module _ (whole : Code) (annotated : IsAnnotated whole) where
       let there = slice_get_within whole.processes pick.process m.code m.at in
       let there' = slice_get_within whole.processes refused.process w.code w.at in
       let rows = (annotated OutOfLimits).rows in
-      let bundle = bundles_small whole annotated refused.process w.code w.at (thread w.before.threads) (thread w.after.threads) refused.arm w.effect turn'.turn r.bundle (inl asks) in
+      let bundle = bundles_small whole annotated refused.process w.code w.at (thread w.before.threads) (thread
+      w.after.threads) refused.arm w.effect turn'.turn r.bundle (inl asks) in
       let rise = subst (λ (t : Table). HasFewerLoans (banker_state (bank_of whole) s.loans) (banker_state (bank_of whole) t)) loans
       (loans_rise s kept pick.process there m.effect pick quiet (λ b e.
       (bundles_small whole annotated pick.process m.code m.at (thread m.before.threads) (thread m.after.threads) pick.arm m.effect turn.turn b (inl e)).1)) in
@@ -220,10 +224,13 @@ module _ (whole : Code) (annotated : IsAnnotated whole) where
       (λ ne.
       let same_code : w.code ≡ m.code = (let both : Some w.code ≡ Some m.code = sym w.at ∙ (ap (slice_get whole.processes) e ∙ m.at) in cc) in
       let same_before : w.before ≡ m.before = (let both : Some w.before ≡ Some m.before = sym w.here ∙ (ap (slice_get s.processes) e ∙ m.here) in cc) in
-      let live : thread m.before.threads refused.arm ≡ Live stands.0 stands.1 = ap (λ (x : CodeProcess). thread x.threads refused.arm) (sym same_before) ∙ stands.2 in
-      let stays = others_stay m.code ok (thread m.before.threads) (thread m.after.threads) fit.order pick.arm m.effect turn.turn (no_fault pick m.effect quiet) refused.arm stands.0 stands.1 ne live in
+      let live : thread m.before.threads refused.arm ≡ Live stands.0 stands.1 = ap (λ (x : CodeProcess). thread
+      x.threads refused.arm) (sym same_before) ∙ stands.2 in
+      let stays = others_stay m.code ok (thread m.before.threads) (thread m.after.threads) fit.order pick.arm m.effect
+      turn.turn (no_fault pick m.effect quiet) refused.arm stands.0 stands.1 ne live in
       asks_at whole.processes next refused m.code m.after (ap (slice_get whole.processes) e ∙ m.at)
-      (ap (λ (x : List CodeProcess). slice_get x refused.process) processes ∙ (ap (slice_get (slice_set s.processes pick.process m.after)) e ∙ slice_set_here s.processes pick.process m.after m.before m.here))
+      (ap (λ (x : List CodeProcess). slice_get x refused.process) processes ∙ (ap (slice_get (slice_set s.processes
+      pick.process m.after)) e ∙ slice_set_here s.processes pick.process m.after m.before m.here))
       r.bundle stands.0 stands.1 (stays ∙ live) (subst (λ (c : ProcessCode). InstrAt c stands.0 (Take r.bundle)) same_code stands.3))
       (same_or_not refused.arm pick.arm))
       (λ ne.
@@ -237,5 +244,6 @@ module _ (whole : Code) (annotated : IsAnnotated whole) where
         asks = still.1;
         takes = still.2;
         not_allowed = λ allowed. r.not_allowed (less_allowed (banker_state (bank_of whole) s.loans) (banker_state (bank_of whole) next.loans)
-            (well_formed whole annotated next kept') (well_formed whole annotated s kept) rise refused.process (omega (arith, there', rows)) r.bundle bundle.0 bundle.1 allowed);
+            (well_formed whole annotated next kept') (well_formed whole annotated s kept) rise refused.process (omega
+            (arith, there', rows)) r.bundle bundle.0 bundle.1 allowed);
       }

@@ -53,7 +53,8 @@ extends_same order = ([], sym (append_nil order))
 pub extends_more : (a b c : List ℕ) → Extends a b → Extends b c → Extends a c
 extends_more a b c e f = (e.0 ++ f.0, f.1 ∙ ap (λ xs. xs ++ f.0) e.1 ∙ append_assoc a e.0 f.0)
 
-pub record Visited (entries : List ℕ) (instrs : List Instr) (next : ℕ) (found : List Bool) (order : List ℕ) (p : ℕ) (found' : List Bool) (order' : List ℕ) : Type 0 where
+pub record Visited (entries : List ℕ) (instrs : List Instr) (next : ℕ) (found : List Bool) (order : List ℕ) (p : ℕ)
+    (found' : List Bool) (order' : List ℕ) : Type 0 where
   pub search : IsSearch entries instrs next found' order'
   pub extends : Extends order order'
   pub there : Contains order' p
@@ -61,20 +62,23 @@ pub record Visited (entries : List ℕ) (instrs : List Instr) (next : ℕ) (foun
 abbrev pub IsGrownAt : List ℕ → List Instr → List ℕ → ℕ → ℕ → Type 0
 IsGrownAt entries instrs order k p = Contains entries p ⊎ ((j : ℕ) × (j < k) × Follows instrs (get_or order j 0) p)
 
-pub grown_extends : (entries : List ℕ) (instrs : List Instr) (order longer : List ℕ) (k p : ℕ) → Extends order longer → k ≤ length order → IsGrownAt entries instrs order k p → IsGrownAt entries instrs longer k p
+pub grown_extends : (entries : List ℕ) (instrs : List Instr) (order longer : List ℕ) (k p : ℕ) → Extends order longer
+    → k ≤ length order → IsGrownAt entries instrs order k p → IsGrownAt entries instrs longer k p
 grown_extends entries instrs order longer k p e u (inl c) = inl c
 grown_extends entries instrs order longer k p e u (inr f) =
     let b : f.0 < k = f.1 in
     let w : f.0 < length order = omega arith in
     inr (f.0, f.1, subst (λ (x : ℕ). Follows instrs x p) (sym (extends_at order longer f.0 e w)) f.2)
 
-visit_new : (entries : List ℕ) (instrs : List Instr) (next : ℕ) (found : List Bool) (order : List ℕ) (p : ℕ) → IsSearch entries instrs next found order → p < length found → IsDue entries instrs next order p
+visit_new : (entries : List ℕ) (instrs : List Instr) (next : ℕ) (found : List Bool) (order : List ℕ) (p : ℕ) →
+    IsSearch entries instrs next found order → p < length found → IsDue entries instrs next order p
     → get_or found p true ≡ false → Visited entries instrs next found order p (set found p true) (order ++ p ∷ [])
 visit_new entries instrs next found order p h u due fresh =
     let grew : Extends order (order ++ p ∷ []) = (p ∷ [], refl) in
     let longer : length (order ++ p ∷ []) ≡ length order + 1 = length-append order (p ∷ []) in
     let fewer : unmarked (set found p true) + 1 ≡ unmarked found =
-    let e : unmarked (set found p true) + cond {A = ℕ} (get_or found p true) 0 1 ≡ unmarked found + 0 = sum_by-set (λ b. cond {A = ℕ} b 0 1) found p true true u in
+    let e : unmarked (set found p true) + cond {A = ℕ} (get_or found p true) 0 1 ≡ unmarked found + 0 = sum_by-set (λ
+    b. cond {A = ℕ} b 0 1) found p true true u in
     let e' : unmarked (set found p true) + 1 ≡ unmarked found + 0 = rw fresh at e in
     omega arith
     in
@@ -111,7 +115,8 @@ visit_new entries instrs next found order p h u due fresh =
     grew : Extends order (order ++ p ∷ [])
     grew = (p ∷ [], refl)
 
-    grows : (k : ℕ) → k < length (order ++ p ∷ []) → (k < length order) ⊎ (length order ≤ k) → IsGrownAt entries instrs (order ++ p ∷ []) k (get_or (order ++ p ∷ []) k 0)
+    grows : (k : ℕ) → k < length (order ++ p ∷ []) → (k < length order) ⊎ (length order ≤ k) → IsGrownAt entries
+        instrs (order ++ p ∷ []) k (get_or (order ++ p ∷ []) k 0)
     grows k v (inl w) =
         let u : k ≤ length order = omega arith in
         subst (λ (x : ℕ). IsGrownAt entries instrs (order ++ p ∷ []) k x) (sym (extends_at order (order ++ p ∷ []) k grew w))
@@ -130,7 +135,8 @@ visit_new entries instrs next found order p h u due fresh =
             inr (next, b', subst (λ (x : ℕ). Follows instrs x p) (sym (extends_at order (order ++ p ∷ []) next grew f.0)) f.1)
 
 -- a place that is found already is marked again
-visit_old : (entries : List ℕ) (instrs : List Instr) (next : ℕ) (found : List Bool) (order : List ℕ) (p : ℕ) → IsSearch entries instrs next found order → p < length found
+visit_old : (entries : List ℕ) (instrs : List Instr) (next : ℕ) (found : List Bool) (order : List ℕ) (p : ℕ) →
+    IsSearch entries instrs next found order → p < length found
     → get_or found p true ≡ true → Visited entries instrs next found order p (set found p true) order
 visit_old entries instrs next found order p h u old =
     let same : set found p true ≡ found = set_same found p true u old in
@@ -139,20 +145,25 @@ visit_old entries instrs next found order p h u old =
     set_same : (xs : List Bool) (i : ℕ) (b : Bool) → i < length xs → get_or xs i true ≡ b → set xs i b ≡ xs
     set_same xs i b u e = ap (λ (x : Bool). set xs i x) (sym e) ∙ set-get_or xs i true
 
-pub visit_one : (entries : List ℕ) (instrs : List Instr) (next : ℕ) (found : List Bool) (order : List ℕ) (p : ℕ) → IsSearch entries instrs next found order → p < length found → IsDue entries instrs next order p
+pub visit_one : (entries : List ℕ) (instrs : List Instr) (next : ℕ) (found : List Bool) (order : List ℕ) (p : ℕ) →
+    IsSearch entries instrs next found order → p < length found → IsDue entries instrs next order p
     → Visited entries instrs next found order p (set found p true) (with_place found order p)
 visit_one entries instrs next found order p h u due = go (get_or found p true) refl
   where
     go : (b : Bool) → get_or found p true ≡ b → Visited entries instrs next found order p (set found p true) (with_place found order p)
-    go true e = subst (λ (xs : List ℕ). Visited entries instrs next found order p (set found p true) xs) (sym (ap (λ (b : Bool). cond b order (order ++ p ∷ [])) e)) (visit_old entries instrs next found order p h u e)
-    go false e = subst (λ (xs : List ℕ). Visited entries instrs next found order p (set found p true) xs) (sym (ap (λ (b : Bool). cond b order (order ++ p ∷ [])) e)) (visit_new entries instrs next found order p h u due e)
+    go true e = subst (λ (xs : List ℕ). Visited entries instrs next found order p (set found p true) xs) (sym (ap (λ
+        (b : Bool). cond b order (order ++ p ∷ [])) e)) (visit_old entries instrs next found order p h u e)
+    go false e = subst (λ (xs : List ℕ). Visited entries instrs next found order p (set found p true) xs) (sym (ap (λ
+        (b : Bool). cond b order (order ++ p ∷ [])) e)) (visit_new entries instrs next found order p h u due e)
 
-pub record VisitedAll (entries : List ℕ) (instrs : List Instr) (next : ℕ) (order : List ℕ) (places : List ℕ) (found' : List Bool) (order' : List ℕ) : Type 0 where
+pub record VisitedAll (entries : List ℕ) (instrs : List Instr) (next : ℕ) (order : List ℕ) (places : List ℕ) (found' :
+    List Bool) (order' : List ℕ) : Type 0 where
   pub search : IsSearch entries instrs next found' order'
   pub extends : Extends order order'
   pub there : (p : ℕ) → Contains places p → Contains order' p
 
-due_extends : (entries : List ℕ) (instrs : List Instr) (next : ℕ) (order longer : List ℕ) (p : ℕ) → Extends order longer → IsDue entries instrs next order p → IsDue entries instrs next longer p
+due_extends : (entries : List ℕ) (instrs : List Instr) (next : ℕ) (order longer : List ℕ) (p : ℕ) → Extends order
+    longer → IsDue entries instrs next order p → IsDue entries instrs next longer p
 due_extends entries instrs next order longer p e (inl c) = inl c
 due_extends entries instrs next order longer p e (inr f) =
     let a : next < length order = f.0 in
@@ -170,7 +181,8 @@ pub contains_cases : (x p : ℕ) (ps : List ℕ) → Contains (x ∷ ps) p → (
 contains_cases x p ps (zero, u, e) = inl e
 contains_cases x p ps (suc k, u, e) = let v : k < length ps = omega arith in inr (k, v, e)
 
-pub visit_all : (entries : List ℕ) (instrs : List Instr) (next : ℕ) (found : List Bool) (order : List ℕ) (places : List ℕ) → IsSearch entries instrs next found order
+pub visit_all : (entries : List ℕ) (instrs : List Instr) (next : ℕ) (found : List Bool) (order : List ℕ) (places :
+    List ℕ) → IsSearch entries instrs next found order
     → ((p : ℕ) → Contains places p → (p < length found) × IsDue entries instrs next order p)
     → VisitedAll entries instrs next order places (with_marks found places) (with_places found order places)
 visit_all entries instrs next found order [] h due = record { search = h; extends = extends_same order; there = λ p c. none p c }
@@ -178,9 +190,11 @@ visit_all entries instrs next found order [] h due = record { search = h; extend
     none : (p : ℕ) → Contains [] p → Contains order p
     none p c = let u : c.0 < 0 = c.1 in absurd (omega arith)
 visit_all entries instrs next found order (p ∷ places) h due =
-    let one : Visited entries instrs next found order p (set found p true) (with_place found order p) = visit_one entries instrs next found order p h (due p (contains_head p places)).0 (due p (contains_head p places)).1 in
+    let one : Visited entries instrs next found order p (set found p true) (with_place found order p) = visit_one
+    entries instrs next found order p h (due p (contains_head p places)).0 (due p (contains_head p places)).1 in
     let l : length (set found p true) ≡ length found = length-set found p true in
-    let rest : VisitedAll entries instrs next (with_place found order p) places (with_marks (set found p true) places) (with_places (set found p true) (with_place found order p) places) =
+    let rest : VisitedAll entries instrs next (with_place found order p) places (with_marks (set found p true) places)
+    (with_places (set found p true) (with_place found order p) places) =
     visit_all entries instrs next (set found p true) (with_place found order p) places one.search
     (λ q c.
     let d : (q < length found) × IsDue entries instrs next order q = due q (contains_tail p q places c) in
@@ -194,17 +208,30 @@ visit_all entries instrs next found order (p ∷ places) h due =
     }
   where
     there : (q : ℕ) → Contains (with_place found order p) p
-        → VisitedAll entries instrs next (with_place found order p) places (with_marks (set found p true) places) (with_places (set found p true) (with_place found order p) places)
+        → VisitedAll entries instrs next (with_place found order p) places (with_marks (set found p true) places)
+        (with_places (set found p true) (with_place found order p) places)
         → (p ≡ q) ⊎ Contains places q → Contains (with_places (set found p true) (with_place found order p) places) q
-    there q here rest (inl e) = extends_contains (with_place found order p) (with_places (set found p true) (with_place found order p) places) q rest.extends (subst (λ (x : ℕ). Contains (with_place found order p) x) e here)
+    there q here rest (inl e) = extends_contains (with_place found order p) (with_places (set found p true)
+        (with_place found order p) places) q rest.extends (subst (λ (x : ℕ). Contains (with_place found order p) x) e
+        here)
     there q here rest (inr c) = rest.there q c
 
 -- the place at hand is done once all that follow it are found
-pub search_next : (entries : List ℕ) (instrs : List Instr) (next : ℕ) (found : List Bool) (order : List ℕ) → IsSearch entries instrs next found order → next < length order
+pub search_next : (entries : List ℕ) (instrs : List Instr) (next : ℕ) (found : List Bool) (order : List ℕ) → IsSearch
+    entries instrs next found order → next < length order
     → ((q : ℕ) → Follows instrs (get_or order next 0) q → Contains order q) → IsSearch entries instrs (next + 1) found order
 search_next entries instrs next found order h u all =
     let w : next + 1 ≤ length order = omega arith in
-    record { sized = h.sized; counted = h.counted; next_in = w; marked = h.marked; reached = h.reached; closed = λ k q v. closed k q v (cases_lt k next); grown = h.grown }
+    record {
+      sized = h.sized;
+      counted = h.counted;
+      next_in = w;
+      marked = h.marked;
+      reached = h.reached;
+      closed = λ k q
+          v. closed k q v (cases_lt k next);
+      grown = h.grown;
+    }
   where
     closed : (k q : ℕ) → k < next + 1 → (k < next) ⊎ (next ≤ k) → Follows instrs (get_or order k 0) q → Contains order q
     closed k q v (inl w) f = h.closed k q w f
@@ -213,7 +240,8 @@ search_next entries instrs next found order h u all =
         all q (subst (λ (x : ℕ). Follows instrs (get_or order x 0) q) e f)
 
 -- at the end exactly the reached places are found
-pub search_over : (entries : List ℕ) (instrs : List Instr) (next : ℕ) (found : List Bool) (order : List ℕ) → IsSearch entries instrs next found order → length order ≤ next
+pub search_over : (entries : List ℕ) (instrs : List Instr) (next : ℕ) (found : List Bool) (order : List ℕ) → IsSearch
+    entries instrs next found order → length order ≤ next
     → ((p : ℕ) → Contains entries p → Contains order p) → (p : ℕ) → IsReached entries instrs p → Contains order p
 search_over entries instrs next found order h u starts _ (reached_entry p c) = starts p c
 search_over entries instrs next found order h u starts _ (reached_next p q r f) = next_of p q (search_over entries instrs next found order h u starts p r) f
@@ -224,9 +252,20 @@ search_over entries instrs next found order h u starts _ (reached_next p q r f) 
         let v : c.0 < next = omega arith in
         h.closed c.0 q v (subst (λ (x : ℕ). Follows instrs x q) (sym (get_or_default order c.0 0 p c.1 ∙ c.2)) f)
 
-pub search_start : (entries : List ℕ) (instrs : List Instr) (found : List Bool) → length found ≡ length instrs → unmarked found ≡ length instrs → ((p : ℕ) → get_or found p false ≡ false) → IsSearch entries instrs 0 found []
+pub search_start : (entries : List ℕ) (instrs : List Instr) (found : List Bool) → length found ≡ length instrs →
+    unmarked found ≡ length instrs → ((p : ℕ) → get_or found p false ≡ false) → IsSearch entries instrs 0 found []
 search_start entries instrs found l n none =
-    record { sized = l; counted = omega arith; next_in = omega arith; marked = λ p u e. marked p u e; reached = λ p c. let u : c.0 < 0 = c.1 in absurd (omega arith); closed = λ k q u f. absurd (omega arith); grown = λ k u. absurd (omega arith) }
+    record {
+      sized = l;
+      counted = omega arith;
+      next_in = omega arith;
+      marked = λ p u e. marked p u e;
+      reached = λ p c.
+          let u : c.0 < 0 = c.1 in absurd (omega arith);
+      closed = λ k q u f. absurd (omega arith);
+      grown = λ k u. absurd
+          (omega arith);
+    }
   where
     marked : (p : ℕ) → p < length found → get_or found p true ≡ true → Contains [] p
     marked p u e = absurd (both_ways (get_or found p true) (get_or_default found p true false u ∙ none p) e)
@@ -243,10 +282,14 @@ pub record AtHand (entries : List ℕ) (instrs : List Instr) (next : ℕ) (found
   pub read : p ≡ get_or order next p
   pub instr : slice_get instrs p ≡ Some i
 
-pub hand_inside : (entries : List ℕ) (instrs : List Instr) (next : ℕ) (found : List Bool) (order : List ℕ) → StaysInside entries instrs → IsSearch entries instrs next found order → next < length order → get_or order next 0 < length instrs
-hand_inside entries instrs next found order inside h u = reached_inside entries instrs inside (get_or order next 0) (h.reached (get_or order next 0) (Contains-get_or order next 0 u))
+pub hand_inside : (entries : List ℕ) (instrs : List Instr) (next : ℕ) (found : List Bool) (order : List ℕ) →
+    StaysInside entries instrs → IsSearch entries instrs next found order → next < length order → get_or order next 0
+    < length instrs
+hand_inside entries instrs next found order inside h u = reached_inside entries instrs inside (get_or order next 0)
+    (h.reached (get_or order next 0) (Contains-get_or order next 0 u))
 
-module _ (entries : List ℕ) (instrs : List Instr) (next : ℕ) (found : List Bool) (order : List ℕ) (p : ℕ) (i : Instr) (h : AtHand entries instrs next found order p i) where
+module _ (entries : List ℕ) (instrs : List Instr) (next : ℕ) (found : List Bool) (order : List ℕ) (p : ℕ) (i : Instr)
+    (h : AtHand entries instrs next found order p i) where
   hand_place : p ≡ get_or order next 0
   hand_place = h.read ∙ get_or_default order next p 0 h.within
 
@@ -274,7 +317,8 @@ module _ (entries : List ℕ) (instrs : List Instr) (next : ℕ) (found : List B
       go (Some q) f = f q refl
 
       jumps : (q : ℕ) → target_of i ≡ Some q → Contains (followers i p) q
-      jumps q e = subst (λ (o : Option ℕ). Contains (option_to_list o ++ cond (goes_on i) ((p + 1) ∷ []) []) q) (sym e) (contains_head q (cond (goes_on i) ((p + 1) ∷ []) []))
+      jumps q e = subst (λ (o : Option ℕ). Contains (option_to_list o ++ cond (goes_on i) ((p + 1) ∷ []) []) q) (sym
+          e) (contains_head q (cond (goes_on i) ((p + 1) ∷ []) []))
 
   pub hand_next : goes_on i ≡ true → p + 1 < length found
   hand_next e = (hand_due (p + 1) (falls (target_of i) (goes_on i) e)).0
@@ -288,11 +332,14 @@ module _ (entries : List ℕ) (instrs : List Instr) (next : ℕ) (found : List B
   pub hand_done : VisitedAll entries instrs next order (followers i p) (with_marks found (followers i p)) (with_places found order (followers i p))
       × IsSearch entries instrs (next + 1) (with_marks found (followers i p)) (with_places found order (followers i p))
   hand_done =
-      let all : VisitedAll entries instrs next order (followers i p) (with_marks found (followers i p)) (with_places found order (followers i p)) = visit_all entries instrs next found order (followers i p) h.search hand_due in
+      let all : VisitedAll entries instrs next order (followers i p) (with_marks found (followers i p)) (with_places
+      found order (followers i p)) = visit_all entries instrs next found order (followers i p) h.search hand_due
+      in
       let l : length order ≤ length (with_places found order (followers i p)) = extends_length order (with_places found order (followers i p)) all.extends in
       let w : next < length order = h.within in
       let u : next < length (with_places found order (followers i p)) = omega arith in
-      let same : get_or (with_places found order (followers i p)) next 0 ≡ p = extends_at order (with_places found order (followers i p)) next all.extends h.within ∙ sym hand_place in (
+      let same : get_or (with_places found order (followers i p)) next 0 ≡ p = extends_at order (with_places found
+      order (followers i p)) next all.extends h.within ∙ sym hand_place in (
         all,
         search_next entries instrs next (with_marks found (followers i p)) (with_places found order (followers i p)) all.search u
             (λ q f. follows q (subst (λ (x : ℕ). Follows instrs x q) same f)),
@@ -304,10 +351,13 @@ module _ (entries : List ℕ) (instrs : List Instr) (next : ℕ) (found : List B
           let e' : f.0 ≡ i = cc in
           (visit_all entries instrs next found order (followers i p) h.search hand_due).there q (subst (λ (x : Instr). Contains (followers x p) q) e' f.2)
 
-pub starts_all : (entries order : List ℕ) → ((k : ℕ) → k < length entries → Contains order (get_or entries k 0)) → (p : ℕ) → Contains entries p → Contains order p
+pub starts_all : (entries order : List ℕ) → ((k : ℕ) → k < length entries → Contains order (get_or entries k 0)) → (p
+    : ℕ) → Contains entries p → Contains order p
 starts_all entries order h p c = subst (λ (x : ℕ). Contains order x) (get_or_default entries c.0 0 p c.1 ∙ c.2) (h c.0 c.1)
 
-pub starts_more : (entries order longer : List ℕ) (i : ℕ) → Extends order longer → ((k : ℕ) → k < i → Contains order (get_or entries k 0)) → Contains longer (get_or entries i 0) → (k : ℕ) → k < i + 1 → Contains longer (get_or entries k 0)
+pub starts_more : (entries order longer : List ℕ) (i : ℕ) → Extends order longer → ((k : ℕ) → k < i → Contains order
+    (get_or entries k 0)) → Contains longer (get_or entries i 0) → (k : ℕ) → k < i + 1 → Contains longer (get_or
+    entries k 0)
 starts_more entries order longer i e h here k u = go (cases_lt k i)
   where
     go : (k < i) ⊎ (i ≤ k) → Contains longer (get_or entries k 0)
@@ -316,7 +366,8 @@ starts_more entries order longer i e h here k u = go (cases_lt k i)
 
 -- what follows an instruction is its target and the next place
 pub target_follows : (i : Instr) (p q : ℕ) → target_of i ≡ Some q → Contains (followers i p) q
-target_follows i p q e = subst (λ (o : Option ℕ). Contains (option_to_list o ++ cond (goes_on i) ((p + 1) ∷ []) []) q) (sym e) (contains_head q (cond (goes_on i) ((p + 1) ∷ []) []))
+target_follows i p q e = subst (λ (o : Option ℕ). Contains (option_to_list o ++ cond (goes_on i) ((p + 1) ∷ []) []) q)
+    (sym e) (contains_head q (cond (goes_on i) ((p + 1) ∷ []) []))
 
 pub next_follows : (i : Instr) (p : ℕ) → goes_on i ≡ true → Contains (followers i p) (p + 1)
 next_follows i p e = falls (target_of i) (goes_on i) e
@@ -327,7 +378,8 @@ next_follows i p e = falls (target_of i) (goes_on i) e
     falls None false e = cc
     falls (Some q) false e = cc
 
-pub all_followers : (i : Instr) (p : ℕ) (P : ℕ → Type 0) → ((q : ℕ) → target_of i ≡ Some q → P q) → (goes_on i ≡ true → P (p + 1)) → (q : ℕ) → Contains (followers i p) q → P q
+pub all_followers : (i : Instr) (p : ℕ) (P : ℕ → Type 0) → ((q : ℕ) → target_of i ≡ Some q → P q) → (goes_on i ≡ true
+    → P (p + 1)) → (q : ℕ) → Contains (followers i p) q → P q
 all_followers i p P at_target at_next = go (target_of i) (goes_on i) at_target at_next
   where
     fall : (b : Bool) → (b ≡ true → P (p + 1)) → (q : ℕ) → Contains (cond b ((p + 1) ∷ []) []) q → P q
@@ -338,7 +390,8 @@ all_followers i p P at_target at_next = go (target_of i) (goes_on i) at_target a
         one (inr n) = let w : n.0 < 0 = n.1 in absurd (omega arith)
     fall false h q c = let w : c.0 < 0 = c.1 in absurd (omega arith)
 
-    go : (o : Option ℕ) (b : Bool) → ((q : ℕ) → o ≡ Some q → P q) → (b ≡ true → P (p + 1)) → (q : ℕ) → Contains (option_to_list o ++ cond b ((p + 1) ∷ []) []) q → P q
+    go : (o : Option ℕ) (b : Bool) → ((q : ℕ) → o ≡ Some q → P q) → (b ≡ true → P (p + 1)) → (q : ℕ) → Contains
+        (option_to_list o ++ cond b ((p + 1) ∷ []) []) q → P q
     go None b f h q c = fall b h q c
     go (Some t) b f h q c = two (contains_cases t q (cond b ((p + 1) ∷ []) []) c)
       where
@@ -346,7 +399,8 @@ all_followers i p P at_target at_next = go (target_of i) (goes_on i) at_target a
         two (inl e) = subst P e (f t refl)
         two (inr d) = fall b h q d
 
-pub leads_below : (entries : List ℕ) (instrs : List Instr) (p n : ℕ) (i : Instr) → StaysInside entries instrs → p < length instrs → slice_get instrs p ≡ Some i → n ≡ length instrs → LeadsBelow i p n
+pub leads_below : (entries : List ℕ) (instrs : List Instr) (p n : ℕ) (i : Instr) → StaysInside entries instrs → p <
+    length instrs → slice_get instrs p ≡ Some i → n ≡ length instrs → LeadsBelow i p n
 leads_below entries instrs p n i inside u read l = record {
   small = let few : length instrs ≤ 40000 = inside.few in omega arith;
   target = at_target (target_of i) (λ q e. below q (target_follows i p q e));

@@ -50,27 +50,35 @@ module _ {M : Type 0} (rules : Rules M) (entries : List ℕ) (instrs : List Inst
   }
 
   -- the next place of the order has a value
-  pub spread_noted : (done : ℕ) (notes : ℕ → Option M) → Spread done notes → IsGrown entries instrs order → done < length order → (m : M) × (notes (get_or order done 0) ≡ Some m)
+  pub spread_noted : (done : ℕ) (notes : ℕ → Option M) → Spread done notes → IsGrown entries instrs order → done <
+      length order → (m : M) × (notes (get_or order done 0) ≡ Some m)
   spread_noted done notes h grown u = go (grown done u)
     where
-      go : Contains entries (get_or order done 0) ⊎ ((j : ℕ) × (j < done) × Follows instrs (get_or order j 0) (get_or order done 0)) → (m : M) × (notes (get_or order done 0) ≡ Some m)
+      go : Contains entries (get_or order done 0) ⊎ ((j : ℕ) × (j < done) × Follows instrs (get_or order j 0) (get_or
+          order done 0)) → (m : M) × (notes (get_or order done 0) ≡ Some m)
       go (inl c) = (rules.start, h.starts (get_or order done 0) c)
       go (inr f) =
           let flow : FlowsAt rules instrs notes (get_or order f.0 0) = h.flows f.0 f.1 in
           let e : Some flow.instr ≡ Some f.2.0 = sym flow.read ∙ f.2.1 in
-          let e' : f.2.0 ≡ flow.instr = cc in
-          (rules.after flow.instr flow.value, flow.next (get_or order done 0) (subst (λ (i : Instr). Contains (followers i (get_or order f.0 0)) (get_or order done 0)) e' f.2.2))
+          let e' : f.2.0 ≡ flow.instr = cc in (
+            rules.after flow.instr flow.value,
+            flow.next (get_or order done 0) (subst (λ (i : Instr). Contains
+                (followers i (get_or order f.0 0)) (get_or order done 0)) e' f.2.2),
+          )
 
   -- an annotation has the same value at a noted place and at what follows it
-  other_flows : (done : ℕ) (notes other : ℕ → Option M) → Spread done notes → IsAnnotation rules entries instrs other → (p : ℕ) (m : M) (i : Instr) → notes p ≡ Some m → slice_get instrs p ≡ Some i
+  other_flows : (done : ℕ) (notes other : ℕ → Option M) → Spread done notes → IsAnnotation rules entries instrs other
+      → (p : ℕ) (m : M) (i : Instr) → notes p ≡ Some m → slice_get instrs p ≡ Some i
       → rules.Fits i m × ((q : ℕ) → Contains (followers i p) q → other q ≡ Some (rules.after i m))
   other_flows done notes other h a p m i e read =
-      let f : (i' : Instr) × (slice_get instrs p ≡ Some i') × rules.Fits i' m × ((q : ℕ) → Contains (followers i' p) q → other q ≡ Some (rules.after i' m)) = a.flows p m (h.least other a p m e) in
+      let f : (i' : Instr) × (slice_get instrs p ≡ Some i') × rules.Fits i' m × ((q : ℕ) → Contains (followers i' p) q
+      → other q ≡ Some (rules.after i' m)) = a.flows p m (h.least other a p m e) in
       let s : Some f.0 ≡ Some i = sym f.1 ∙ read in
       let same : f.0 ≡ i = cc in
       subst (λ (x : Instr). rules.Fits x m × ((q : ℕ) → Contains (followers x p) q → other q ≡ Some (rules.after x m))) same (f.2, f.3)
 
-  pub refuted_fit : (done : ℕ) (notes : ℕ → Option M) → Spread done notes → (p : ℕ) (m : M) (i : Instr) → notes p ≡ Some m → slice_get instrs p ≡ Some i → ¬ rules.Fits i m → ¬ CanBeAnnotated rules entries instrs
+  pub refuted_fit : (done : ℕ) (notes : ℕ → Option M) → Spread done notes → (p : ℕ) (m : M) (i : Instr) → notes p ≡
+      Some m → slice_get instrs p ≡ Some i → ¬ rules.Fits i m → ¬ CanBeAnnotated rules entries instrs
   refuted_fit done notes h p m i e read wrong a = wrong (other_flows done notes a.0 h a.1 p m i e read).0
 
   -- in code that can be annotated nothing else is noted where a place leads to
@@ -82,8 +90,10 @@ module _ {M : Type 0} (rules : Rules M) (entries : List ℕ) (instrs : List Inst
       let both : Some x ≡ Some (rules.after i m) = sym two ∙ one in
       cc
 
-  pub spread_step : (done : ℕ) (notes later : ℕ → Option M) → Spread done notes → (m : M) (i : Instr) → notes (get_or order done 0) ≡ Some m → slice_get instrs (get_or order done 0) ≡ Some i → rules.Fits i m
-      → Extended notes (followers i (get_or order done 0)) (rules.after i m) later → ((q : ℕ) → Contains (followers i (get_or order done 0)) q → Contains order q) → Spread (done + 1) later
+  pub spread_step : (done : ℕ) (notes later : ℕ → Option M) → Spread done notes → (m : M) (i : Instr) → notes (get_or
+      order done 0) ≡ Some m → slice_get instrs (get_or order done 0) ≡ Some i → rules.Fits i m
+      → Extended notes (followers i (get_or order done 0)) (rules.after i m) later → ((q : ℕ) → Contains (followers i
+      (get_or order done 0)) q → Contains order q) → Spread (done + 1) later
   spread_step done notes later h m i e read fits x inside = record {
     starts = λ q c. x.kept q rules.start (h.starts q c);
     flows = λ k u. flows k u (cases_lt k done);
@@ -94,7 +104,14 @@ module _ {M : Type 0} (rules : Rules M) (entries : List ℕ) (instrs : List Inst
       flows : (k : ℕ) → k < done + 1 → (k < done) ⊎ (done ≤ k) → FlowsAt rules instrs later (get_or order k 0)
       flows k u (inl w) =
           let f : FlowsAt rules instrs notes (get_or order k 0) = h.flows k w in
-          record { value = f.value; instr = f.instr; noted = x.kept (get_or order k 0) f.value f.noted; read = f.read; fits = f.fits; next = λ q c. x.kept q (rules.after f.instr f.value) (f.next q c) }
+          record {
+            value = f.value;
+            instr = f.instr;
+            noted = x.kept (get_or order k 0) f.value f.noted;
+            read = f.read;
+            fits = f.fits;
+            next = λ q c. x.kept q (rules.after f.instr f.value) (f.next q c);
+          }
       flows k u (inr w) =
           let same : done ≡ k = omega arith in
           subst (λ (j : ℕ). FlowsAt rules instrs later (get_or order j 0)) same
@@ -104,14 +121,16 @@ module _ {M : Type 0} (rules : Rules M) (entries : List ℕ) (instrs : List Inst
       within q v (inl n) = h.within q v n
       within q v (inr c) = inside q c.0
 
-      least : (other : ℕ → Option M) → IsAnnotation rules entries instrs other → (q : ℕ) (v : M) → (notes q ≡ Some v) ⊎ (Contains (followers i (get_or order done 0)) q × (v ≡ rules.after i m)) → other q ≡ Some v
+      least : (other : ℕ → Option M) → IsAnnotation rules entries instrs other → (q : ℕ) (v : M) → (notes q ≡ Some v)
+          ⊎ (Contains (followers i (get_or order done 0)) q × (v ≡ rules.after i m)) → other q ≡ Some v
       least other a q v (inl n) = h.least other a q v n
       least other a q v (inr c) = (other_flows done notes other h a (get_or order done 0) m i e read).1 q c.0 ∙ ap Some (sym c.1)
 
   pub spread_over : (done : ℕ) (notes : ℕ → Option M) → Spread done notes → length order ≤ done → IsAnnotation rules entries instrs notes
   spread_over done notes h u = record { starts = h.starts; flows = λ p m e. flows p m e (h.within p m e) }
     where
-      flows : (p : ℕ) (m : M) → notes p ≡ Some m → Contains order p → (i : Instr) × (slice_get instrs p ≡ Some i) × rules.Fits i m × ((q : ℕ) → Contains (followers i p) q → notes q ≡ Some (rules.after i m))
+      flows : (p : ℕ) (m : M) → notes p ≡ Some m → Contains order p → (i : Instr) × (slice_get instrs p ≡ Some i) ×
+          rules.Fits i m × ((q : ℕ) → Contains (followers i p) q → notes q ≡ Some (rules.after i m))
       flows p m e c =
           let w : c.0 < length order = c.1 in
           let v : c.0 < done = omega arith in
@@ -119,4 +138,5 @@ module _ {M : Type 0} (rules : Rules M) (entries : List ℕ) (instrs : List Inst
           let f : FlowsAt rules instrs notes p = subst (λ (x : ℕ). FlowsAt rules instrs notes x) place (h.flows c.0 v) in
           let s : Some f.value ≡ Some m = sym f.noted ∙ e in
           let same : f.value ≡ m = cc in
-          subst (λ (x : M). (i : Instr) × (slice_get instrs p ≡ Some i) × rules.Fits i x × ((q : ℕ) → Contains (followers i p) q → notes q ≡ Some (rules.after i x))) same (f.instr, f.read, f.fits, f.next)
+          subst (λ (x : M). (i : Instr) × (slice_get instrs p ≡ Some i) × rules.Fits i x × ((q : ℕ) → Contains
+          (followers i p) q → notes q ≡ Some (rules.after i x))) same (f.instr, f.read, f.fits, f.next)

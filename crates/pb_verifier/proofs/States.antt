@@ -54,7 +54,8 @@ length-slice_set (y ∷ xs) (suc i) x = ap suc (length-slice_set xs i x)
 
 mapped : {X Y : Type 0} (f : X → Y) (xs : List X) (p : ℕ) (x : X) (y : Y) → slice_get xs p ≡ Some x → slice_get (map f xs) p ≡ Some y → f x ≡ y
 mapped f [] p x y h g = cc
-mapped f (z ∷ xs) zero x y h g = let e : Some z ≡ Some x = h in let e' : z ≡ x = cc in let k : Some (f z) ≡ Some y = g in let k' : f z ≡ y = cc in sym (ap f e') ∙ k'
+mapped f (z ∷ xs) zero x y h g = let e : Some z ≡ Some x = h in let e' : z ≡ x = cc in let k : Some (f z) ≡ Some y = g
+    in let k' : f z ≡ y = cc in sym (ap f e') ∙ k'
 mapped f (z ∷ xs) (suc p) x y h g = mapped f xs p x y h g
 
 -- what a pick of code does, taken apart
@@ -68,10 +69,13 @@ pub record CodeMove (codes : List ProcessCode) (s : State CodeProcess) (pick : P
   pub steps : step_process code before pick.arm ≡ Some (after, effect)
   pub is : moved s pick (after, effect) ≡ move
 
-pub code_move : (codes : List ProcessCode) (s : State CodeProcess) (pick : Pick) (move : Move CodeProcess) → move_of (code_step codes) s pick ≡ Some move → CodeMove codes s pick move
+pub code_move : (codes : List ProcessCode) (s : State CodeProcess) (pick : Pick) (move : Move CodeProcess) → move_of
+    (code_step codes) s pick ≡ Some move → CodeMove codes s pick move
 code_move codes s pick move e = process (slice_get s.processes pick.process) refl e
   where
-    stepped : (code : ProcessCode) (before : CodeProcess) → slice_get codes pick.process ≡ Some code → slice_get s.processes pick.process ≡ Some before → (o : Option (CodeProcess × Effect)) → step_process code before pick.arm ≡ o
+    stepped : (code : ProcessCode) (before : CodeProcess) → slice_get codes pick.process ≡ Some code → slice_get
+        s.processes pick.process ≡ Some before → (o : Option (CodeProcess × Effect)) → step_process code before
+        pick.arm ≡ o
         → option_map (moved s pick) o ≡ Some move → CodeMove codes s pick move
     stepped code before at here None steps h = cc
     stepped code before at here (Some pair) steps h =
@@ -83,13 +87,16 @@ code_move codes s pick move e = process (slice_get s.processes pick.process) ref
     coded before here None at h = cc
     coded before here (Some code) at h = stepped code before at here (step_process code before pick.arm) refl h
 
-    process : (o : Option CodeProcess) → slice_get s.processes pick.process ≡ o → option_and_then (λ process. option_map (moved s pick) (code_step codes pick.process process pick.arm)) o ≡ Some move → CodeMove codes s pick move
+    process : (o : Option CodeProcess) → slice_get s.processes pick.process ≡ o → option_and_then (λ process.
+        option_map (moved s pick) (code_step codes pick.process process pick.arm)) o ≡ Some move → CodeMove codes s
+        pick move
     process None here h = cc
     process (Some before) here h = coded before here (slice_get codes pick.process) refl h
 
 -- the loan of the process that steps
 loan_next : (loans : Table) (p : ℕ) (effect : Effect) (r n before after : ℕ) → p < length loans → length (get_or loans p []) ≡ n → cell loans p r ≡ before
-    → ((kind : FaultKind) → effect ≡ Faults kind → after ≡ 0) → (((kind : FaultKind) → effect ≡ Faults kind → ⊥) → after + given r effect ≡ before + taken r effect)
+    → ((kind : FaultKind) → effect ≡ Faults kind → after ≡ 0) → (((kind : FaultKind) → effect ≡ Faults kind → ⊥) →
+    after + given r effect ≡ before + taken r effect)
     → ((bundle : Bundle) → (effect ≡ Takes bundle) ⊎ (effect ≡ Returns bundle) → AllBelow n bundle) → cell (loans_after loans p effect) p r ≡ after
 loan_next loans p Silent r n before after u len is none some below = let b = some (λ kind e. cc) in omega (arith, is, b)
 loan_next loans p (Prints v) r n before after u len is none some below = let b = some (λ kind e. cc) in omega (arith, is, b)
@@ -104,10 +111,12 @@ loan_next loans p (Returns bundle) r n before after u len is none some below =
     let x = get_or-give_back (get_or loans p []) bundle r (subst (λ k. AllBelow k bundle) (sym len) (below bundle (inr refl))) in
     omega (arith, is, b, here, x)
 loan_next loans p (Faults kind) r n before after u len is none some below =
-    ap (λ x. get_or x r 0) (get_or-set_same loans p (map (λ (k : ℕ). 0) (get_or loans p [])) [] u) ∙ (get_or-map (λ (k : ℕ). 0) (get_or loans p []) r 0 ∙ sym (none kind refl))
+    ap (λ x. get_or x r 0) (get_or-set_same loans p (map (λ (k : ℕ). 0) (get_or loans p [])) [] u) ∙ (get_or-map (λ (k
+    : ℕ). 0) (get_or loans p []) r 0 ∙ sym (none kind refl))
 loan_next loans p Finishes r n before after u len is none some below = let b = some (λ kind e. cc) in omega (arith, is, b)
 
-row_next : (loans : Table) (p : ℕ) (effect : Effect) (q n : ℕ) → p < length loans → length (get_or loans p []) ≡ n → length (get_or loans q []) ≡ n → length (get_or (loans_after loans p effect) q []) ≡ n
+row_next : (loans : Table) (p : ℕ) (effect : Effect) (q n : ℕ) → p < length loans → length (get_or loans p []) ≡ n →
+    length (get_or loans q []) ≡ n → length (get_or (loans_after loans p effect) q []) ≡ n
 row_next loans p effect q n u lenp lenq = go effect
   where
     put : (row : List ℕ) → length row ≡ n → length (get_or (set loans p row) q []) ≡ n
@@ -152,12 +161,14 @@ module _ (whole : Code) (annotated : IsAnnotated whole) where
     pub count : length s.processes ≡ length codes
     pub lent : length s.loans ≡ length codes
     pub rows : (p : ℕ) → p < length codes → length (get_or s.loans p []) ≡ length whole.capital
-    pub fit : (p : ℕ) (code : ProcessCode) (process : CodeProcess) (at : slice_get codes p ≡ Some code) → slice_get s.processes p ≡ Some process → Fit code (checked p code at) process
+    pub fit : (p : ℕ) (code : ProcessCode) (process : CodeProcess) (at : slice_get codes p ≡ Some code) → slice_get
+        s.processes p ≡ Some process → Fit code (checked p code at) process
     pub loans : (p : ℕ) (code : ProcessCode) (process : CodeProcess) (at : slice_get codes p ≡ Some code) → slice_get s.processes p ≡ Some process
         → (r : ℕ) → cell s.loans p r ≡ holds code (checked p code at) r (thread process.threads)
 
   -- bundles that are taken or given name resources that are there
-  pub bundles_below : (p : ℕ) (code : ProcessCode) (at : slice_get codes p ≡ Some code) (T T' : ℕ → Thread) (a : ℕ) (effect : Effect) → Turn code (checked p code at) T T' a effect
+  pub bundles_below : (p : ℕ) (code : ProcessCode) (at : slice_get codes p ≡ Some code) (T T' : ℕ → Thread) (a : ℕ)
+      (effect : Effect) → Turn code (checked p code at) T T' a effect
       → (bundle : Bundle) → (effect ≡ Takes bundle) ⊎ (effect ≡ Returns bundle) → AllBelow (length whole.capital) bundle
   bundles_below p code at T T' a effect (runs q s i q' t live instr plain f now len others balance sound takes) bundle (inl e) =
       (annotated OutOfRange p code at q (Take bundle) (instr ∙ ap Some ((takes bundle).0 e)))
@@ -165,10 +176,14 @@ module _ (whole : Code) (annotated : IsAnnotated whole) where
       (annotated OutOfRange p code at q (Give bundle) (instr ∙ ap Some ((takes bundle).1 e)))
   bundles_below p code at T T' a effect (traps kind e all) bundle (inl g) = let z : Faults kind ≡ Takes bundle = sym e ∙ g in cc
   bundles_below p code at T T' a effect (traps kind e all) bundle (inr g) = let z : Faults kind ≡ Returns bundle = sym e ∙ g in cc
-  bundles_below p code at T T' a effect (forks q s first count live fork now len same launched others e l u) bundle (inl g) = let z : Silent ≡ Takes bundle = sym e ∙ g in cc
-  bundles_below p code at T T' a effect (forks q s first count live fork now len same launched others e l u) bundle (inr g) = let z : Silent ≡ Returns bundle = sym e ∙ g in cc
-  bundles_below p code at T T' a effect (joins q s first count live join now len same dismissed others e l u) bundle (inl g) = let z : Silent ≡ Takes bundle = sym e ∙ g in cc
-  bundles_below p code at T T' a effect (joins q s first count live join now len same dismissed others e l u) bundle (inr g) = let z : Silent ≡ Returns bundle = sym e ∙ g in cc
+  bundles_below p code at T T' a effect (forks q s first count live fork now len same launched others e l u) bundle
+      (inl g) = let z : Silent ≡ Takes bundle = sym e ∙ g in cc
+  bundles_below p code at T T' a effect (forks q s first count live fork now len same launched others e l u) bundle
+      (inr g) = let z : Silent ≡ Returns bundle = sym e ∙ g in cc
+  bundles_below p code at T T' a effect (joins q s first count live join now len same dismissed others e l u) bundle
+      (inl g) = let z : Silent ≡ Takes bundle = sym e ∙ g in cc
+  bundles_below p code at T T' a effect (joins q s first count live join now len same dismissed others e l u) bundle
+      (inr g) = let z : Silent ≡ Returns bundle = sym e ∙ g in cc
   bundles_below p code at T T' a effect (stops q s live instr now others e) bundle g = elim (no_bundle a g) [ ]
     where
       no_bundle : (a : ℕ) → (effect ≡ Takes bundle) ⊎ (effect ≡ Returns bundle) → ⊥
@@ -181,13 +196,16 @@ module _ (whole : Code) (annotated : IsAnnotated whole) where
           ending_none (suc a) (inr x) = cc
 
   -- and they are small
-  pub bundles_small : (p : ℕ) (code : ProcessCode) (at : slice_get codes p ≡ Some code) (T T' : ℕ → Thread) (a : ℕ) (effect : Effect) → Turn code (checked p code at) T T' a effect
+  pub bundles_small : (p : ℕ) (code : ProcessCode) (at : slice_get codes p ≡ Some code) (T T' : ℕ → Thread) (a : ℕ)
+      (effect : Effect) → Turn code (checked p code at) T T' a effect
       → (bundle : Bundle) → (effect ≡ Takes bundle) ⊎ (effect ≡ Returns bundle) → IsSmallBundle bundle × AllBelow (length whole.capital) bundle
   bundles_small p code at T T' a effect turn bundle e = (small turn bundle e, bundles_below p code at T T' a effect turn bundle e)
     where
       small : Turn code (checked p code at) T T' a effect → (bundle : Bundle) → (effect ≡ Takes bundle) ⊎ (effect ≡ Returns bundle) → IsSmallBundle bundle
-      small (runs q s i q' t live instr plain f now len others balance sound takes) bundle (inl e) = ((annotated OutOfLimits).each p code at).numbers q (Take bundle) (instr ∙ ap Some ((takes bundle).0 e))
-      small (runs q s i q' t live instr plain f now len others balance sound takes) bundle (inr e) = ((annotated OutOfLimits).each p code at).numbers q (Give bundle) (instr ∙ ap Some ((takes bundle).1 e))
+      small (runs q s i q' t live instr plain f now len others balance sound takes) bundle (inl e) = ((annotated
+          OutOfLimits).each p code at).numbers q (Take bundle) (instr ∙ ap Some ((takes bundle).0 e))
+      small (runs q s i q' t live instr plain f now len others balance sound takes) bundle (inr e) = ((annotated
+          OutOfLimits).each p code at).numbers q (Give bundle) (instr ∙ ap Some ((takes bundle).1 e))
       small (traps kind e all) bundle (inl g) = let z : Faults kind ≡ Takes bundle = sym e ∙ g in cc
       small (traps kind e all) bundle (inr g) = let z : Faults kind ≡ Returns bundle = sym e ∙ g in cc
       small (forks q s first count live fork now len same launched others e l u) bundle (inl g) = let z : Silent ≡ Takes bundle = sym e ∙ g in cc
@@ -213,7 +231,8 @@ module _ (whole : Code) (annotated : IsAnnotated whole) where
         (same_or_not q pick.process);
     loans = λ q code process at here r. ⊎_elim
         (λ e. loans_at q e code process at here r)
-        (λ ne. lent_there s.loans pick.process q m.effect r ne ∙ good.loans q code process at (sym (slice_set_other s.processes pick.process q m.after ne) ∙ here) r)
+        (λ ne. lent_there s.loans pick.process q m.effect r ne ∙ good.loans q code process at (sym (slice_set_other
+        s.processes pick.process q m.after ne) ∙ here) r)
         (same_or_not q pick.process);
   })
     where
@@ -223,21 +242,31 @@ module _ (whole : Code) (annotated : IsAnnotated whole) where
       lent_here : pick.process < length s.loans
       lent_here = let e = good.lent in let w = within in omega (arith, e, w)
 
-      steps_at : (q : ℕ) → q ≡ pick.process → (code : ProcessCode) (process : CodeProcess) → slice_get codes q ≡ Some code → slice_get (slice_set s.processes pick.process m.after) q ≡ Some process
+      steps_at : (q : ℕ) → q ≡ pick.process → (code : ProcessCode) (process : CodeProcess) → slice_get codes q ≡ Some
+          code → slice_get (slice_set s.processes pick.process m.after) q ≡ Some process
           → (slice_get s.processes q ≡ Some m.before) × (step_process code m.before pick.arm ≡ Some (process, m.effect))
       steps_at q e code process at here =
-          let new : m.after ≡ process = slice_set_same s.processes pick.process m.after process (subst (λ k. slice_get (slice_set s.processes pick.process m.after) k ≡ Some process) e here) in
+          let new : m.after ≡ process = slice_set_same s.processes pick.process m.after process (subst (λ k. slice_get
+          (slice_set s.processes pick.process m.after) k ≡ Some process) e here) in
           let both : Some m.code ≡ Some code = sym m.at ∙ (ap (slice_get codes) (sym e) ∙ at) in
-          let same : m.code ≡ code = cc in
-          (ap (slice_get s.processes) e ∙ m.here, subst (λ c. step_process c m.before pick.arm ≡ Some (process, m.effect)) same (m.steps ∙ ap (λ x. Some (x, m.effect)) new))
+          let same : m.code ≡ code = cc in (
+            ap (slice_get s.processes) e ∙ m.here,
+            subst (λ c. step_process c m.before pick.arm ≡ Some (
+              process,
+              m.effect,
+            )) same (m.steps ∙ ap (λ x. Some (x, m.effect)) new),
+          )
 
-      fit_at : (q : ℕ) → q ≡ pick.process → (code : ProcessCode) (process : CodeProcess) (at : slice_get codes q ≡ Some code) → slice_get (slice_set s.processes pick.process m.after) q ≡ Some process → Fit code (checked q code at) process
+      fit_at : (q : ℕ) → q ≡ pick.process → (code : ProcessCode) (process : CodeProcess) (at : slice_get codes q ≡
+          Some code) → slice_get (slice_set s.processes pick.process m.after) q ≡ Some process → Fit code (checked q
+          code at) process
       fit_at q e code process at here =
           let w = steps_at q e code process at here in
           let fit = good.fit q code m.before at w.0 in
           fit_next code (checked q code at) m.before process pick.arm m.effect fit (turned code (checked q code at) m.before process pick.arm m.effect fit w.1)
 
-      loans_at : (q : ℕ) → q ≡ pick.process → (code : ProcessCode) (process : CodeProcess) (at : slice_get codes q ≡ Some code) → slice_get (slice_set s.processes pick.process m.after) q ≡ Some process
+      loans_at : (q : ℕ) → q ≡ pick.process → (code : ProcessCode) (process : CodeProcess) (at : slice_get codes q ≡
+          Some code) → slice_get (slice_set s.processes pick.process m.after) q ≡ Some process
           → (r : ℕ) → cell (loans_after s.loans pick.process m.effect) q r ≡ holds code (checked q code at) r (thread process.threads)
       loans_at q e code process at here r =
           let ok = checked q code at in
@@ -245,7 +274,8 @@ module _ (whole : Code) (annotated : IsAnnotated whole) where
           let fit = good.fit q code m.before at w.0 in
           let turn = turned code ok m.before process pick.arm m.effect fit w.1 in
           subst (λ k. cell (loans_after s.loans pick.process m.effect) k r ≡ holds code ok r (thread process.threads)) (sym e)
-          (loan_next s.loans pick.process m.effect r (length whole.capital) (holds code ok r (thread m.before.threads)) (holds code ok r (thread process.threads)) lent_here (good.rows pick.process within)
+          (loan_next s.loans pick.process m.effect r (length whole.capital) (holds code ok r (thread
+          m.before.threads)) (holds code ok r (thread process.threads)) lent_here (good.rows pick.process within)
           (subst (λ k. cell s.loans k r ≡ holds code ok r (thread m.before.threads)) e (good.loans q code m.before at w.0 r))
           (λ kind z. ⊎_elim
           (λ f. holds_none code ok (thread process.threads) r (λ b p u live. let y : Idle ≡ Live p u = sym (f.2 b) ∙ live in cc))
@@ -270,16 +300,24 @@ module _ (whole : Code) (annotated : IsAnnotated whole) where
       record {
         count = n;
         lent = length-map (map code_process codes) (λ (x : CodeProcess). replicate (length whole.capital) 0) ∙ n;
-        rows = λ p u. ap length (row_of (replicate (length whole.capital) 0) (map code_process codes) p (omega (arith, u, n))) ∙ length-replicate (length whole.capital) 0;
-        fit = λ p code process at here. subst (Fit code (checked p code at)) (mapped code_process codes p code process at here) (fit_start code (checked p code at));
+        rows = λ p u. ap length (row_of (replicate (length whole.capital) 0) (map code_process codes) p (omega (
+          arith,
+          u,
+          n,
+        ))) ∙ length-replicate (length whole.capital) 0;
+        fit = λ p code process at here. subst (Fit code (checked p code at)) (mapped code_process codes p code process
+            at here) (fit_start code (checked p code at));
         loans = λ p code process at here r.
             no_loans (replicate (length whole.capital) 0) (map code_process codes) p r (replicate_read (length whole.capital) r 0)
-            ∙ (sym (holds_start code (checked p code at) r) ∙ ap (λ x. holds code (checked p code at) r (thread x.threads)) (mapped code_process codes p code process at here));
+            ∙ (sym (holds_start code (checked p code at) r) ∙ ap (λ x. holds code (checked p code at) r (thread
+            x.threads)) (mapped code_process codes p code process at here));
       }
 
   -- ---- requests
 
-  pub asks_within : (s : State CodeProcess) → Good s → ((pick : Pick) (move : Move CodeProcess) (bundle : Bundle) → move_of (code_step codes) s pick ≡ Some move → move.effect ≡ Takes bundle → (r : ℕ) → cell s.loans pick.process r + amount_in bundle r ≤ cell whole.claims pick.process r)
+  pub asks_within : (s : State CodeProcess) → Good s → ((pick : Pick) (move : Move CodeProcess) (bundle : Bundle) →
+      move_of (code_step codes) s pick ≡ Some move → move.effect ≡ Takes bundle → (r : ℕ) → cell s.loans pick.process
+      r + amount_in bundle r ≤ cell whole.claims pick.process r)
   asks_within s good pick move bundle enabled takes = λ r. go (code_move codes s pick move enabled) r
     where
       go : CodeMove codes s pick move → (r : ℕ) → cell s.loans pick.process r + amount_in bundle r ≤ cell whole.claims pick.process r
@@ -288,7 +326,8 @@ module _ (whole : Code) (annotated : IsAnnotated whole) where
           let fit = good.fit pick.process m.code m.before m.at m.here in
           let turn = turned m.code ok m.before m.after pick.arm m.effect fit m.steps in
           let asks : m.effect ≡ Takes bundle = ap (λ x. x.effect) m.is ∙ takes in
-          let here = holds_next m.code ok (thread m.before.threads) (thread m.after.threads) pick.arm m.effect r fit.order turn.turn (λ kind z. let y : Takes bundle ≡ Faults kind = sym asks ∙ z in cc) in
+          let here = holds_next m.code ok (thread m.before.threads) (thread m.after.threads) pick.arm m.effect r
+          fit.order turn.turn (λ kind z. let y : Takes bundle ≡ Faults kind = sym asks ∙ z in cc) in
           let g : given r m.effect ≡ 0 = ap (given r) asks in
           let t : taken r m.effect ≡ amount_in bundle r = ap (taken r) asks in
           let loan = good.loans pick.process m.code m.before m.at m.here r in
@@ -326,7 +365,8 @@ module _ (whole : Code) (annotated : IsAnnotated whole) where
       needs i instr = go i instr
         where
           next : (i : Instr) (q : ℕ) → InstrAt code place i → Follows i place q → HasPlace code q
-          next i q instr f = in_code p code at a q (follows_in_arm code (checked p code at).lie a place q i ((good.fit p code process at here).order.stands a place stack live).0 instr f)
+          next i q instr f = in_code p code at a q (follows_in_arm code (checked p code at).lie a place q i ((good.fit
+              p code process at here).order.stands a place stack live).0 instr f)
 
           var : (i : Instr) (x : ℕ) → InstrAt code place i → x < code.integers → x < length process.vars
           var i x instr u = let v = (good.fit p code process at here).vars in omega (arith, u, v)
@@ -357,13 +397,20 @@ module _ (whole : Code) (annotated : IsAnnotated whole) where
               let later = (checked p code at).fork.later a place first count (fit.order.stands a place stack live).0 instr in
               let l = later.0 in
               let u = later.1 in
-              let n = fit.threads in
-              (next (Fork first count) (place + 1) instr refl, omega (arith, u, n), λ b v w. idle_before code (checked p code at) (thread process.threads) (thread process.threads) fit.order a place stack first count b live instr l (v, w))
+              let n = fit.threads in (
+                next (Fork first count) (place + 1) instr refl,
+                omega (arith, u, n),
+                λ b v w. idle_before code (checked
+                    p code at) (thread process.threads) (thread process.threads) fit.order a place stack first count b
+                    live instr l (v, w),
+              )
           go (Join first count) instr =
               let fit = good.fit p code process at here in
               let n = fit.threads in
               let w = (checked p code at).fork.after_fork place first count instr in
-              let there = fork_in_arm code (checked p code at).lie (checked p code at).fork a w.0 first count (subst (IsInArm code a) w.1 (fit.order.stands a place stack live).0) (subst (λ k. InstrAt code k (Join first count)) w.1 instr) in
+              let there = fork_in_arm code (checked p code at).lie (checked p code at).fork a w.0 first count (subst
+              (IsInArm code a) w.1 (fit.order.stands a place stack live).0) (subst (λ k. InstrAt code k (Join
+              first count)) w.1 instr) in
               let u = ((checked p code at).fork.later a w.0 first count there w.2).1 in
               (next (Join first count) (place + 1) instr refl, omega (arith, u, n))
           go End instr = tt

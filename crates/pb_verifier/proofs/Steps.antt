@@ -23,10 +23,12 @@ module _ (entries : List ℕ) (instrs : List Instr) (order : List ℕ) (h : IsOr
   pub order_inside : (k : ℕ) → k < length order → get_or order k 0 < length instrs
   order_inside k u = reached_inside entries instrs h.inside (get_or order k 0) ((h.reached (get_or order k 0)).0 (Contains-get_or order k 0 u))
 
-  pub order_next : (k : ℕ) → k < length order → (i : Instr) → slice_get instrs (get_or order k 0) ≡ Some i → (q : ℕ) → Contains (followers i (get_or order k 0)) q → Contains order q
+  pub order_next : (k : ℕ) → k < length order → (i : Instr) → slice_get instrs (get_or order k 0) ≡ Some i → (q : ℕ) →
+      Contains (followers i (get_or order k 0)) q → Contains order q
   order_next k u i read q c = (h.reached q).1 (reached_next (get_or order k 0) q ((h.reached (get_or order k 0)).0 (Contains-get_or order k 0 u)) (i, read, c))
 
-module _ {F M : Type 0} (value : List (Option F) → F → M) (IsReadable : List (Option F) → F → Type 0) (rules : Rules M) (entries : List ℕ) (instrs : List Instr) (order : List ℕ) where
+module _ {F M : Type 0} (value : List (Option F) → F → M) (IsReadable : List (Option F) → F → Type 0) (rules : Rules
+    M) (entries : List ℕ) (instrs : List Instr) (order : List ℕ) where
   pub record IsTable (done : ℕ) (table : List (Option F)) : Type 0 where
     pub sized : length table ≡ length instrs
     pub readable : AllReadable (IsReadable table) table
@@ -40,12 +42,15 @@ module _ {F M : Type 0} (value : List (Option F) → F → M) (IsReadable : List
     pub read : slice_get instrs (get_or order done 0) ≡ Some i
     pub here : fact_at table (get_or order done 0) ≡ Some f
 
-  pub table_noted : (done : ℕ) (table : List (Option F)) → IsOrder entries instrs order → IsTable done table → done < length order → (f : F) × (fact_at table (get_or order done 0) ≡ Some f)
+  pub table_noted : (done : ℕ) (table : List (Option F)) → IsOrder entries instrs order → IsTable done table → done <
+      length order → (f : F) × (fact_at table (get_or order done 0) ≡ Some f)
   table_noted done table o t u =
-      let n : (m : M) × (notes_of (value table) table (get_or order done 0) ≡ Some m) = spread_noted rules entries instrs order done (notes_of (value table) table) t.spread o.grown u in
+      let n : (m : M) × (notes_of (value table) table (get_or order done 0) ≡ Some m) = spread_noted rules entries
+      instrs order done (notes_of (value table) table) t.spread o.grown u in
       go (fact_at table (get_or order done 0)) refl n.1
     where
-      go : {m : M} (x : Option F) → fact_at table (get_or order done 0) ≡ x → notes_of (value table) table (get_or order done 0) ≡ Some m → (f : F) × (fact_at table (get_or order done 0) ≡ Some f)
+      go : {m : M} (x : Option F) → fact_at table (get_or order done 0) ≡ x → notes_of (value table) table (get_or
+          order done 0) ≡ Some m → (f : F) × (fact_at table (get_or order done 0) ≡ Some f)
       go None e n = let e' = ap (option_map (value table)) (sym e) ∙ n in cc
       go (Some f) e n = (f, e)
 
@@ -76,18 +81,21 @@ module _ {F M : Type 0} (value : List (Option F) → F → M) (IsReadable : List
     here_noted = ap (option_map (value table)) h.here
 
     pub here_misfit : ¬ rules.Fits i (value table f) → ¬ CanBeAnnotated rules entries instrs
-    here_misfit wrong = refuted_fit rules entries instrs order done (notes_of (value table) table) h.kept.spread (get_or order done 0) (value table f) i here_noted here_read wrong
+    here_misfit wrong = refuted_fit rules entries instrs order done (notes_of (value table) table) h.kept.spread
+        (get_or order done 0) (value table f) i here_noted here_read wrong
 
     -- a fact for the places that follow
     module _ (next : F) (means : value table next ≡ rules.after i (value table f)) where
       pub here_agrees : CanBeAnnotated rules entries instrs → (q : ℕ) → Contains (followers i (get_or order done 0)) q → AgreesAt (value table) table next q
       here_agrees a q c found e =
-          next_agrees rules entries instrs order done (notes_of (value table) table) h.kept.spread (get_or order done 0) (value table f) i here_noted here_read a q (value table found) c
+          next_agrees rules entries instrs order done (notes_of (value table) table) h.kept.spread (get_or order done
+          0) (value table f) i here_noted here_read a q (value table found) c
           (ap (option_map (value table)) e) ∙ sym means
 
       pub here_done : ((table : List (Option F)) (p : ℕ) (new fact : F) → fact_at table p ≡ None → IsReadable table fact
           → IsReadable (set table p (Some new)) fact × (value (set table p (Some new)) fact ≡ value table fact))
-          → rules.Fits i (value table f) → IsReadable table next → ((q : ℕ) → Contains (followers i (get_or order done 0)) q → AgreesAt (value table) table next q)
+          → rules.Fits i (value table f) → IsReadable table next → ((q : ℕ) → Contains (followers i (get_or order done
+          0)) q → AgreesAt (value table) table next q)
           → IsTable (done + 1) (with_notes table next (followers i (get_or order done 0)))
       here_done keeps fits readable agree =
           let inside : (q : ℕ) → Contains (followers i (get_or order done 0)) q → q < length table = λ q c.
@@ -101,9 +109,13 @@ module _ {F M : Type 0} (value : List (Option F) → F → M) (IsReadable : List
           record {
             sized = n.sized ∙ h.kept.sized;
             readable = n.readable;
-            spread = spread_step rules entries instrs order done (notes_of (value table) table) (notes_of (value (with_notes table next (followers i (get_or order done 0)))) (with_notes table next (followers i (get_or order done 0))))
+            spread = spread_step rules entries instrs order done (notes_of (value table) table) (notes_of (value
+                (with_notes table next (followers i (get_or order done 0)))) (with_notes table next (followers i
+                (get_or order done 0))))
                 h.kept.spread (value table f) i here_noted here_read fits
-                (subst (λ (v : M). Extended (notes_of (value table) table) (followers i (get_or order done 0)) v (notes_of (value (with_notes table next (followers i (get_or order done 0)))) (with_notes table next (followers i (get_or order done 0))))) means n.extended)
+                (subst (λ (v : M). Extended (notes_of (value table) table) (followers i (get_or order done 0)) v
+                (notes_of (value (with_notes table next (followers i (get_or order done 0)))) (with_notes table
+                next (followers i (get_or order done 0))))) means n.extended)
                 (order_next entries instrs order h.ordered done h.within i here_read);
           }
 
@@ -135,8 +147,10 @@ module _ {F M : Type 0} (value : List (Option F) → F → M) (IsReadable : List
       (λ q c. kept_agrees value IsReadable table later next q kept readable (agree q c))
 
   -- at the start only entries have a fact
-  pub table_start : (table : List (Option F)) (first : F) → IsOrder entries instrs order → length table ≡ length instrs → ((k : ℕ) → k < length entries → fact_at table (get_or entries k 0) ≡ Some first)
-      → ((p : ℕ) (f : F) → fact_at table p ≡ Some f → Contains entries p × (f ≡ first)) → IsReadable table first → value table first ≡ rules.start → IsTable 0 table
+  pub table_start : (table : List (Option F)) (first : F) → IsOrder entries instrs order → length table ≡ length
+      instrs → ((k : ℕ) → k < length entries → fact_at table (get_or entries k 0) ≡ Some first)
+      → ((p : ℕ) (f : F) → fact_at table p ≡ Some f → Contains entries p × (f ≡ first)) → IsReadable table first →
+      value table first ≡ rules.start → IsTable 0 table
   table_start table first o l started only readable means = record {
     sized = l;
     readable = λ p f e. subst (IsReadable table) (sym (only p f e).1) readable;
@@ -166,30 +180,37 @@ module _ {F M : Type 0} (value : List (Option F) → F → M) (IsReadable : List
       within : (p : ℕ) (m : M) → (f : F) × (fact_at table p ≡ Some f) × (value table f ≡ m) → Contains order p
       within p m (f, u, e) = (o.reached p).1 (reached_entry p (only p f u).0)
 
-      least : (other : ℕ → Option M) → IsAnnotation rules entries instrs other → (p : ℕ) (m : M) → (f : F) × (fact_at table p ≡ Some f) × (value table f ≡ m) → other p ≡ Some m
+      least : (other : ℕ → Option M) → IsAnnotation rules entries instrs other → (p : ℕ) (m : M) → (f : F) × (fact_at
+          table p ≡ Some f) × (value table f ≡ m) → other p ≡ Some m
       least other a p m (f, u, e) = a.starts p (only p f u).0 ∙ ap Some (sym means ∙ ap (value table) (sym (only p f u).1) ∙ e)
 
 -- ---- filling the table
 
-pub started_more : {F : Type 0} (table : List (Option F)) (entries : List ℕ) (n : ℕ) (first : F) → get_or entries n 0 < length table → ((k : ℕ) → k < n → fact_at table (get_or entries k 0) ≡ Some first)
+pub started_more : {F : Type 0} (table : List (Option F)) (entries : List ℕ) (n : ℕ) (first : F) → get_or entries n 0
+    < length table → ((k : ℕ) → k < n → fact_at table (get_or entries k 0) ≡ Some first)
     → (k : ℕ) → k < n + 1 → fact_at (set table (get_or entries n 0) (Some first)) (get_or entries k 0) ≡ Some first
 started_more table entries n first w h k u = go (cases_eq (get_or entries k 0) (get_or entries n 0)) (cases_lt k n)
   where
-    go : (get_or entries k 0 ≡ get_or entries n 0) ⊎ (get_or entries k 0 ≢ get_or entries n 0) → (k < n) ⊎ (n ≤ k) → fact_at (set table (get_or entries n 0) (Some first)) (get_or entries k 0) ≡ Some first
+    go : (get_or entries k 0 ≡ get_or entries n 0) ⊎ (get_or entries k 0 ≢ get_or entries n 0) → (k < n) ⊎ (n ≤ k) →
+        fact_at (set table (get_or entries n 0) (Some first)) (get_or entries k 0) ≡ Some first
     go (inl same) _ = ap (fact_at (set table (get_or entries n 0) (Some first))) same ∙ get_or-set_same table (get_or entries n 0) (Some first) None w
     go (inr other) (inl v) = get_or-set_other table (get_or entries n 0) (get_or entries k 0) (Some first) None other ∙ h k v
     go (inr other) (inr v) = let e : k ≡ n = omega arith in absurd (other (ap (λ (x : ℕ). get_or entries x 0) e))
 
-pub only_more : {F : Type 0} (table : List (Option F)) (entries : List ℕ) (n : ℕ) (first : F) → get_or entries n 0 < length table → n < length entries → ((p : ℕ) (f : F) → fact_at table p ≡ Some f → Contains entries p × (f ≡ first))
+pub only_more : {F : Type 0} (table : List (Option F)) (entries : List ℕ) (n : ℕ) (first : F) → get_or entries n 0 <
+    length table → n < length entries → ((p : ℕ) (f : F) → fact_at table p ≡ Some f → Contains entries p × (f ≡
+    first))
     → (p : ℕ) (f : F) → fact_at (set table (get_or entries n 0) (Some first)) p ≡ Some f → Contains entries p × (f ≡ first)
 only_more {F = F} table entries n first w v h p f e = go (cases_eq p (get_or entries n 0))
   where
     go : (p ≡ get_or entries n 0) ⊎ (p ≢ get_or entries n 0) → Contains entries p × (f ≡ first)
     go (inl same) =
-        let both : Some f ≡ Some first = sym e ∙ ap (fact_at (set table (get_or entries n 0) (Some first))) same ∙ get_or-set_same table (get_or entries n 0) (Some first) None w in
+        let both : Some f ≡ Some first = sym e ∙ ap (fact_at (set table (get_or entries n 0) (Some first))) same ∙
+        get_or-set_same table (get_or entries n 0) (Some first) None w in
         let f' : f ≡ first = cc in
         (subst (λ (x : ℕ). Contains entries x) (sym same) (Contains-get_or entries n 0 v), f')
     go (inr other) = h p f (sym (get_or-set_other table (get_or entries n 0) p (Some first) None other) ∙ e)
 
-pub found_here : {F : Type 0} (table : List (Option F)) (p : ℕ) (r : Option F) (f : F) → p < length table → r ≡ get_or table p r → r ≡ Some f → fact_at table p ≡ Some f
+pub found_here : {F : Type 0} (table : List (Option F)) (p : ℕ) (r : Option F) (f : F) → p < length table → r ≡ get_or
+    table p r → r ≡ Some f → fact_at table p ≡ Some f
 found_here table p r f u e is = get_or_default table p None r u ∙ sym e ∙ is

@@ -58,7 +58,8 @@ one_le zero a f = omega arith
 one_le (suc n) a f = go (nat_eq a n) refl (one_le n a f)
   where
     none_below : (m : ℕ) → m ≤ a → total m (at_one f a) ≡ 0
-    none_below m l = total_same m (at_one f a) (λ b. 0) (λ b u. let e : nat_eq a b ≡ false = ne_eqb a b (λ z. omega (arith, z, l, u)) in ap (λ z. cond z (f b) 0) e) ∙ total_zero m
+    none_below m l = total_same m (at_one f a) (λ b. 0) (λ b u. let e : nat_eq a b ≡ false = ne_eqb a b (λ z. omega
+        (arith, z, l, u)) in ap (λ z. cond z (f b) 0) e) ∙ total_zero m
 
     go : (z : Bool) → nat_eq a n ≡ z → total n (at_one f a) ≤ f a → total n (at_one f a) + cond z (f n) 0 ≤ f a
     go true e below = let same : a ≡ n = eqb-true a n e in let r = none_below n (omega (arith, same)) in let s : f a ≡ f n = ap f same in omega (arith, r, s)

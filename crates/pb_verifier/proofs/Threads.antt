@@ -31,25 +31,31 @@ thread_past (t ∷ threads) (suc a) h = thread_past threads a (omega arith)
 
 pub length-launch : (entries : List ℕ) (threads : List Thread) (first n : ℕ) → length (launch entries threads first n) ≡ length threads
 length-launch entries threads first zero = refl
-length-launch entries threads first (suc n) = length-launch entries (set threads first (Live (get_or entries first 0) [])) (first + 1) n ∙ length-set threads first _
+length-launch entries threads first (suc n) = length-launch entries (set threads first (Live (get_or entries first 0)
+    [])) (first + 1) n ∙ length-set threads first _
 
-pub launch_out : (entries : List ℕ) (threads : List Thread) (first n b : ℕ) → (b < first) ⊎ (first + n ≤ b) → thread (launch entries threads first n) b ≡ thread threads b
+pub launch_out : (entries : List ℕ) (threads : List Thread) (first n b : ℕ) → (b < first) ⊎ (first + n ≤ b) → thread
+    (launch entries threads first n) b ≡ thread threads b
 launch_out entries threads first zero b h = refl
 launch_out entries threads first (suc n) b h =
     launch_out entries (set threads first (Live (get_or entries first 0) [])) (first + 1) n b (⊎_elim (λ l. inl (omega arith)) (λ l. inr (omega arith)) h)
     ∙ get_or-set_other threads first b _ Idle (λ e. ⊎_elim (λ l. omega arith) (λ l. omega arith) h)
 
-pub launch_in : (entries : List ℕ) (threads : List Thread) (first n b : ℕ) → first ≤ b → b < first + n → b < length threads → thread (launch entries threads first n) b ≡ Live (get_or entries b 0) []
+pub launch_in : (entries : List ℕ) (threads : List Thread) (first n b : ℕ) → first ≤ b → b < first + n → b < length
+    threads → thread (launch entries threads first n) b ≡ Live (get_or entries b 0) []
 launch_in entries threads first zero b l u within = elim (let w : ⊥ = omega arith in w) [ ]
 launch_in entries threads first (suc n) b l u within = go (cases_lt first b)
-    (λ q. launch_in entries (set threads first (Live (get_or entries first 0) [])) (first + 1) n b (omega arith) (omega arith) (omega (arith, length-set threads first (Live (get_or entries first 0) []))))
+    (λ q. launch_in entries (set threads first (Live (get_or entries first 0) [])) (first + 1) n b (omega arith)
+    (omega arith) (omega (arith, length-set threads first (Live (get_or entries first 0) []))))
   where
-    go : (first < b) ⊎ (b ≤ first) → (first < b → thread (launch entries threads first (suc n)) b ≡ Live (get_or entries b 0) []) → thread (launch entries threads first (suc n)) b ≡ Live (get_or entries b 0) []
+    go : (first < b) ⊎ (b ≤ first) → (first < b → thread (launch entries threads first (suc n)) b ≡ Live (get_or
+        entries b 0) []) → thread (launch entries threads first (suc n)) b ≡ Live (get_or entries b 0) []
     go (inl q) later = later q
     go (inr q) later =
         let e : first ≡ b = omega arith in
         launch_out entries (set threads first (Live (get_or entries first 0) [])) (first + 1) n b (inl (omega arith))
-        ∙ subst (λ k. thread (set threads first (Live (get_or entries first 0) [])) k ≡ Live (get_or entries k 0) []) e (get_or-set_same threads first _ Idle (omega arith))
+        ∙ subst (λ k. thread (set threads first (Live (get_or entries first 0) [])) k ≡ Live (get_or entries k 0) [])
+        e (get_or-set_same threads first _ Idle (omega arith))
 
 pub length-dismiss : (threads : List Thread) (first n : ℕ) → length (dismiss threads first n) ≡ length threads
 length-dismiss threads first zero = refl

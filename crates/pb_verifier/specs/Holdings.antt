@@ -60,7 +60,8 @@ chain_keeps instrs table p new none zero last chain = (tt, refl)
 chain_keeps instrs table p new none (suc n) last (bundle, before, read, noted, count, rest) =
     let other : last ≢ p = λ same. let clash : Some before ≡ None = sym noted ∙ ap (fact_at table) same ∙ none in cc in
     let same : fact_at (slice_set table p (Some new)) last ≡ fact_at table last = get_or-set_other table p last (Some new) None other in
-    let below : IsChain instrs (slice_set table p (Some new)) n before.last × (held instrs (slice_set table p (Some new)) n before.last ≡ held instrs table n before.last) =
+    let below : IsChain instrs (slice_set table p (Some new)) n before.last × (held instrs (slice_set table p (Some
+    new)) n before.last ≡ held instrs table n before.last) =
     chain_keeps instrs table p new none n before.last rest
     in
     let was : last_of (fact_at table last) ≡ before.last = ap last_of noted in

@@ -5,12 +5,12 @@ use Rattle.clap.specs.Words.{HasKind, IsAmong, Kinds, ReadsOne, Row, Text, Tries
 use Rattle.clap.specs.declared.error.Error.{Error}
 use Rattle.clap.specs.declared.error.kind.ErrorKind.TheVariants.{OutOfMemory}
 use Rattle.clap.proofs.OnLiterals.{clap_on_literals}
-use Rattle.pb_words.specs.CommandLine.{command_line, with_text_commands, with_code_commands, with_object_commands, with_other_commands, with_pick_commands, check_command, claims_command, debug_command, emit_command, exec_command, explain_command, migrate_command, outcomes_command, record_command, replay_command, run_command, with_run_rules}
+use Rattle.pb_words.specs.CommandLine.{command_line, with_text_commands, with_code_commands, with_object_commands, with_other_commands, with_pick_commands, check_command, claims_command, debug_command, draw_command, emit_command, exec_command, explain_command, migrate_command, outcomes_command, record_command, replay_command, run_command, with_run_rules}
 use Rattle.clap.specs.declared.parser.matches.Found.{Found}
 use Rattle.clap.proofs.WalkLemmas.{one_text-rows}
 use Rattle.pb_words.specs.Read.{BlamesWords, HasCheckNumbers, HasCode, HasEmitNumber, HasFlag, HasNumber, HasNumberIn, HasOptionalNumber, HasStates, HasRecordNumbers, HasRunNumbers, IsReadFrom, IsReadFromMatches}
 use Rattle.pb_words.specs.declared.words.Options.{Options}
-use Rattle.pb_words.specs.declared.words.Options.TheVariants.{Check, Claims, Debug, Emit, Exec, Explain, Migrate, Outcomes, Record, Replay, Run}
+use Rattle.pb_words.specs.declared.words.Options.TheVariants.{Check, Claims, Debug, Draw, Emit, Exec, Explain, Migrate, Outcomes, Record, Replay, Run}
 use Rattle.pb_options.specs.declared.options.CheckOptions.{CheckOptions}
 use Rattle.pb_options.specs.declared.options.EmitOptions.{EmitOptions}
 use Rattle.pb_options.specs.declared.options.OutcomesOptions.{OutcomesOptions}
@@ -87,6 +87,8 @@ nothing_read m name rows named is none o (other, found, entered, says) =
 pub no_check : (rows : List Row) → ((o : CheckOptions) → HasCheckNumbers rows o → ⊥) → (o : Options) → IsReadFrom (codes "check") rows o → ⊥
 no_check rows none (Check o) says = none o says.1
 no_check rows none (Debug o) says = let m : 99 ≡ 100 = ap (λ (l : Text). get_or l 0 0) says.0 in omega (arith, m)
+no_check rows none Draw says =
+    let m : 99 ≡ 100 = ap (λ (l : Text). get_or l 0 0) says in omega (arith, m)
 no_check rows none (Exec o) says = let w : codes "check" ≡ codes "exec" = says.0 in cc
 no_check rows none (Explain o) says =
     let m : 99 ≡ 101 = ap (λ (l : Text). get_or l 0 0) says.0 in omega (arith, m)
@@ -105,6 +107,8 @@ no_emit rows none (Check o) says = let w : codes "emit" ≡ codes "check" = says
 no_emit rows none Claims says = let w : codes "emit" ≡ codes "claims" = says in cc
 no_emit rows none (Debug o) says =
     let m : 101 ≡ 100 = ap (λ (l : Text). get_or l 0 0) says.0 in omega (arith, m)
+no_emit rows none Draw says =
+    let m : 101 ≡ 100 = ap (λ (l : Text). get_or l 0 0) says in omega (arith, m)
 no_emit rows none (Emit o) says = none o says.1
 no_emit rows none (Exec o) says =
     let m : 109 ≡ 120 = ap (λ (l : Text). get_or l 1 0) says.0 in omega (arith, m)
@@ -120,6 +124,8 @@ no_emit rows none (Run o) says = let w : codes "emit" ≡ codes "run" = says.0 i
 pub no_run : (rows : List Row) → ((o : RunOptions) → HasRunNumbers rows o → ⊥) → (o : Options) → IsReadFrom (codes "run") rows o → ⊥
 no_run rows none (Check o) says = let w : codes "run" ≡ codes "check" = says.0 in cc
 no_run rows none (Debug o) says = let m : 114 ≡ 100 = ap (λ (l : Text). get_or l 0 0) says.0 in omega (arith, m)
+no_run rows none Draw says =
+    let m : 114 ≡ 100 = ap (λ (l : Text). get_or l 0 0) says in omega (arith, m)
 no_run rows none (Exec o) says = let w : codes "run" ≡ codes "exec" = says.0 in cc
 no_run rows none (Explain o) says =
     let m : 114 ≡ 101 = ap (λ (l : Text). get_or l 0 0) says.0 in omega (arith, m)
@@ -138,6 +144,8 @@ no_record rows none (Check o) says =
     let m : 114 ≡ 99 = ap (λ (l : Text). get_or l 0 0) says.0 in omega (arith, m)
 no_record rows none (Debug o) says =
     let m : 114 ≡ 100 = ap (λ (l : Text). get_or l 0 0) says.0 in omega (arith, m)
+no_record rows none Draw says =
+    let m : 114 ≡ 100 = ap (λ (l : Text). get_or l 0 0) says in omega (arith, m)
 no_record rows none (Exec o) says =
     let m : 114 ≡ 101 = ap (λ (l : Text). get_or l 0 0) says.0 in omega (arith, m)
 no_record rows none (Explain o) says =
@@ -160,6 +168,8 @@ pub no_exec : (rows : List Row) → ((o : RunOptions) → HasRunNumbers rows o �
 no_exec rows none (Check o) says = let w : codes "exec" ≡ codes "check" = says.0 in cc
 no_exec rows none (Debug o) says =
     let m : 101 ≡ 100 = ap (λ (l : Text). get_or l 0 0) says.0 in omega (arith, m)
+no_exec rows none Draw says =
+    let m : 101 ≡ 100 = ap (λ (l : Text). get_or l 0 0) says in omega (arith, m)
 no_exec rows none (Exec o) says = none o says.1
 no_exec rows none (Explain o) says =
     let m : 101 ≡ 112 = ap (λ (l : Text). get_or l 2 0) says.0 in omega (arith, m)
@@ -181,6 +191,8 @@ no_explain rows none Claims says =
     let m : 101 ≡ 99 = ap (λ (l : Text). get_or l 0 0) says in omega (arith, m)
 no_explain rows none (Debug o) says =
     let m : 101 ≡ 100 = ap (λ (l : Text). get_or l 0 0) says.0 in omega (arith, m)
+no_explain rows none Draw says =
+    let m : 101 ≡ 100 = ap (λ (l : Text). get_or l 0 0) says in omega (arith, m)
 no_explain rows none (Emit o) says =
     let m : 120 ≡ 109 = ap (λ (l : Text). get_or l 1 0) says.0 in omega (arith, m)
 no_explain rows none (Exec o) says =
@@ -205,6 +217,8 @@ no_outcomes rows none Claims says =
     let m : 111 ≡ 99 = ap (λ (l : Text). get_or l 0 0) says in omega (arith, m)
 no_outcomes rows none (Debug o) says =
     let m : 111 ≡ 100 = ap (λ (l : Text). get_or l 0 0) says.0 in omega (arith, m)
+no_outcomes rows none Draw says =
+    let m : 111 ≡ 100 = ap (λ (l : Text). get_or l 0 0) says in omega (arith, m)
 no_outcomes rows none (Emit o) says =
     let m : 111 ≡ 101 = ap (λ (l : Text). get_or l 0 0) says.0 in omega (arith, m)
 no_outcomes rows none (Exec o) says =
@@ -295,11 +309,15 @@ clap_refused kinds e Memory is memory blames none = blames
 
 -- the matches of this command line are a function of the words
 pub is_simple_command_line : is_simple command_line ≡ true
-unfolding command_line with_text_commands with_code_commands with_object_commands with_pick_commands check_command claims_command debug_command emit_command exec_command migrate_command outcomes_command record_command replay_command run_command with_other_commands explain_command with_run_rules clap_on_literals
+unfolding command_line with_text_commands with_code_commands with_object_commands with_pick_commands check_command
+    claims_command debug_command draw_command emit_command exec_command migrate_command outcomes_command
+    record_command replay_command run_command with_other_commands explain_command with_run_rules clap_on_literals
 is_simple_command_line = refl
 
 pub is_free_command_line : is_simple_and_free command_line ≡ true
-unfolding command_line with_text_commands with_code_commands with_object_commands with_pick_commands check_command claims_command debug_command emit_command exec_command migrate_command outcomes_command record_command replay_command run_command with_other_commands explain_command with_run_rules clap_on_literals
+unfolding command_line with_text_commands with_code_commands with_object_commands with_pick_commands check_command
+    claims_command debug_command draw_command emit_command exec_command migrate_command outcomes_command
+    record_command replay_command run_command with_other_commands explain_command with_run_rules clap_on_literals
 is_free_command_line = refl
 
 -- a fact that holds anyway holds where there is no value

@@ -38,6 +38,9 @@ claims_command = new_app (codes "claims")
 unfoldable pub debug_command : App
 debug_command = with_rule (new_app (codes "debug")) (flag_rule (codes "live"))
 
+unfoldable pub draw_command : App
+draw_command = new_app (codes "draw")
+
 unfoldable pub emit_command : App
 emit_command = with_rule (new_app (codes "emit")) (number_rule_or (codes "object") 1 2 (codes "2"))
 
@@ -88,9 +91,9 @@ with_object_commands a = with_command (with_command a exec_command) migrate_comm
 unfoldable pub with_pick_commands : App → App
 with_pick_commands a = with_command (with_command (with_command a record_command) replay_command) debug_command
 
--- the command over all runs, and the one that says what a refusal means
+-- the command that draws a run, the one over all runs, and the one that says what a refusal means
 unfoldable pub with_other_commands : App → App
-with_other_commands a = with_command (with_command a outcomes_command) explain_command
+with_other_commands a = with_command (with_command (with_command a draw_command) outcomes_command) explain_command
 
 -- the whole command line
 unfoldable pub command_line : App

@@ -69,6 +69,7 @@ abbrev pub IsReadFrom : Text → List Row → Options → Type 0
 IsReadFrom name rows (option.Check o) = (name ≡ codes "check") × HasCheckNumbers rows o
 IsReadFrom name rows option.Claims = name ≡ codes "claims"
 IsReadFrom name rows (option.Debug o) = (name ≡ codes "debug") × HasDebugFlag rows o
+IsReadFrom name rows option.Draw = name ≡ codes "draw"
 IsReadFrom name rows (option.Emit o) = (name ≡ codes "emit") × HasEmitNumber rows o
 IsReadFrom name rows (option.Exec o) = (name ≡ codes "exec") × HasRunNumbers rows o
 IsReadFrom name rows (option.Explain code) = (name ≡ codes "explain") × HasCode rows code

@@ -2,7 +2,7 @@
 ghost use Rattle.std.specs.Prelude.{◌≡◌, IfOk, false};
 ghost use Rattle.clap.specs.Words.{app_of, rule_of, with_rule};
 ghost use Rattle.clap.specs.declared.builder.command.Command.TheViews.{out-Command};
-ghost use Rattle.pb_words.specs.CommandLine.{check_command, claims_command, debug_command, emit_command, flag_rule, exec_command, explain_command, migrate_command, number_rule, number_rule_or, outcomes_command, record_command, replay_command, run_command, that_wants_command, IsCommand};
+ghost use Rattle.pb_words.specs.CommandLine.{check_command, claims_command, debug_command, draw_command, emit_command, flag_rule, exec_command, explain_command, migrate_command, number_rule, number_rule_or, outcomes_command, record_command, replay_command, run_command, that_wants_command, IsCommand};
 ghost use Rattle.pb_words.specs.CommandLine.{command_line as whole, with_code_commands, with_command, with_object_commands, with_other_commands, with_pick_commands, with_run_rules, with_text_commands};
 
 use clap::builder::ValueParser;
@@ -107,6 +107,15 @@ fn debug_picks<'a>(alloc: Global) -> Result<Command<'a>, AllocError>
         "Answer the commands that stand behind a program, its picks and lines of %% on standard input",
     );
     with_option(debug, live)
+}
+
+#[tactic(auto, unfolding(crate::specs::CommandLine::draw_command))]
+fn draw_picks<'a>(alloc: Global) -> Result<Command<'a>, AllocError>
+    ensures { IfOk result (IsCommand draw_command) }
+{
+    Ok(Command::new(alloc, "draw").about(
+        "Draw the picks of the lines that stand behind a program and a line of %% on standard input",
+    ))
 }
 
 #[tactic(auto, unfolding(crate::specs::CommandLine::emit_command))]
@@ -234,6 +243,7 @@ fn with_picks<'a>(alloc: Global, command: Command<'a>) -> Result<Command<'a>, Al
 fn with_others<'a>(alloc: Global, command: Command<'a>) -> Result<Command<'a>, AllocError>
     ensures { IfOk result (λ c. app_of c ≡ with_other_commands (app_of command.entry)) }
 {
+    let command = with_subcommand(command, draw_picks(alloc)?)?;
     let command = with_subcommand(command, outcomes_of_text(alloc)?)?;
     with_subcommand(command, explain_code(alloc)?)
 }

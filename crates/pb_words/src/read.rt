@@ -144,6 +144,7 @@ fn read_matches(matches: &ArgMatches<'_>) -> Option<Options>
         "check" => Some(Options::Check(check_options(inner)?)),
         "claims" => Some(Options::Claims),
         "debug" => Some(Options::Debug(debug_options(inner))),
+        "draw" => Some(Options::Draw),
         "emit" => Some(Options::Emit(emit_options(inner)?)),
         "exec" => Some(Options::Exec(run_options(inner)?)),
         "explain" => Some(Options::Explain(code_given(inner)?)),
@@ -367,9 +368,11 @@ mod tests {
     fn reads_plain_commands(rt: HostRuntime) -> Result<(), Fail> {
         let alloc = rt.alloc();
         assert_eq!(rt; options(alloc, &["parbegin", "claims"])?, Options::Claims);
+        assert_eq!(rt; options(alloc, &["parbegin", "draw"])?, Options::Draw);
         assert_eq!(rt; options(alloc, &["parbegin", "migrate"])?, Options::Migrate);
         assert_eq!(rt; options(alloc, &["parbegin", "replay"])?, Options::Replay);
         assert!(rt; options(alloc, &["parbegin", "claims", "--steps", "3"]).is_err());
+        assert!(rt; options(alloc, &["parbegin", "draw", "--svg"]).is_err());
         assert!(rt; options(alloc, &["parbegin", "migrate", "text"]).is_err());
         assert!(rt; options(alloc, &["parbegin", "replay", "--steps", "3"]).is_err());
         Ok(())

@@ -12,6 +12,7 @@ pub enum Options {
     Check(CheckOptions),
     Claims,
     Debug(DebugOptions),
+    Draw,
     Emit(EmitOptions),
     Exec(RunOptions),
     Explain(Option<Code>),

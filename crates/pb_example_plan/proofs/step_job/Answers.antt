@@ -13,7 +13,10 @@ pub loop-arm-preserved : goal.loop-arm-preserved
 loop-arm-preserved c =
     let before = c.loop-arm.invariant in
     let stays = c.in-NotEnabled.ensures.step in (
-      one_more_arm c.args.verified.now.code (machine_view c.args.machine.now) c.args.job c.loop-arm.arm (record { process = c.args.job; arm = c.loop-arm.arm }) before.0 refl refl
+      one_more_arm c.args.verified.now.code (machine_view c.args.machine.now) c.args.job c.loop-arm.arm (record {
+        process = c.args.job;
+        arm = c.loop-arm.arm;
+      }) before.0 refl refl
           (subst (λ s. CodeStays c.args.verified.now.code s (record { process = c.args.job; arm = c.loop-arm.arm })) before.1 stays.0),
       stays.1 ∙ before.1,
       c.in-NotEnabled.ensures.machine,

@@ -4,5 +4,8 @@ use Rattle.pb_code.proofs.Each.{alike_all}
 use Rattle.pb_code.proofs.same.same_bundle.Goals as goal
 
 pub returns : goal.returns
-returns c =
-    (λ e. alike_all (bundle_of c.args.code.now c.args.one) (bundle_of c.args.other.now c.args.two) c.loop-i.i (omega arith) (omega arith) c.loop-i.invariant, λ e. refl)
+returns c = (
+  λ e. alike_all (bundle_of c.args.code.now c.args.one) (bundle_of c.args.other.now c.args.two) c.loop-i.i (omega
+      arith) (omega arith) c.loop-i.invariant,
+  λ e. refl,
+)

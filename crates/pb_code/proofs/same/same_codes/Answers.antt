@@ -24,5 +24,11 @@ loop-p-preserved c =
 pub returns : goal.returns
 returns c =
     let n = length-map c.args.codes.now process_view in
-    let m = length-map c.args.others.now process_view in
-    (λ e. alike_all (map process_view c.args.codes.now) (map process_view c.args.others.now) c.loop-p.p (omega (arith, n, m)) (omega (arith, n)) c.loop-p.invariant, λ e. refl)
+    let m = length-map c.args.others.now process_view in (
+      λ e. alike_all (map process_view c.args.codes.now) (map process_view c.args.others.now) c.loop-p.p (omega (
+        arith,
+        n,
+        m,
+      )) (omega (arith, n)) c.loop-p.invariant,
+      λ e. refl,
+    )

@@ -15,14 +15,16 @@ returns-in_err-tree-clause-refused g c =
     let p = err_from_is_err_and c.from_residual-in_err-tree.result c.from_residual-in_err-tree.ensures.1 in
     let cut = rw (← c.as_slice.ensures.value) at c.in_ok-tokens.ensures.found in
     let e = c.in_err-tree.ensures in
-    rw (p.1, p.2) (parse_refused _ _ _ cut e.syntax (λ same. e.too_deep (ap Err same)) (λ same. e.too_large (ap Err same)) (λ deep. let same = e.nested deep in cc) (λ high. let same = e.high high in cc))
+    rw (p.1, p.2) (parse_refused _ _ _ cut e.syntax (λ same. e.too_deep (ap Err same)) (λ same. e.too_large (ap Err
+    same)) (λ deep. let same = e.nested deep in cc) (λ high. let same = e.high high in cc))
 
 pub returns-in_err-program-clause-refused : goal.returns-in_err-program-clause-refused
 returns-in_err-program-clause-refused g c =
     let p = err_from_is_err_and c.from_residual-in_err-program.result c.from_residual-in_err-program.ensures.1 in
     let cut = rw (← c.as_slice.ensures.value) at c.in_ok-tokens.ensures.found in
     let e = c.in_ok-tree.ensures in
-    let spelled = spells c.args.text.now _ (program_view c.in_ok-tree.tree) c.in_ok-tree.tree c.parse.result cut e.found e.limits c.in_ok-tree.was c.parse.ensures.nested in
+    let spelled = spells c.args.text.now _ (program_view c.in_ok-tree.tree) c.in_ok-tree.tree c.parse.result cut
+    e.found e.limits c.in_ok-tree.was c.parse.ensures.nested in
     rw (p.1, p.2) (names_refused _ _ _ spelled c.in_err-program.ensures.fault)
 
 pub returns-in_err-program-clause-early : goal.returns-in_err-program-clause-early
@@ -34,5 +36,6 @@ pub returns-clause-analyzed : goal.returns-clause-analyzed
 returns-clause-analyzed g c =
     let cut = rw (← c.as_slice.ensures.value) at c.in_ok-tokens.ensures.found in
     let e = c.in_ok-tree.ensures in
-    let spelled = spells c.args.text.now _ (program_view c.in_ok-tree.tree) c.in_ok-tree.tree c.parse.result cut e.found e.limits c.in_ok-tree.was c.parse.ensures.nested in
+    let spelled = spells c.args.text.now _ (program_view c.in_ok-tree.tree) c.in_ok-tree.tree c.parse.result cut
+    e.found e.limits c.in_ok-tree.was c.parse.ensures.nested in
     numbered _ _ (resolved_view c.in_ok-program.program) _ spelled c.in_ok-program.ensures.resolves c.in_ok-claims.ensures.exact

@@ -1,8 +1,8 @@
-use Rattle.std.proofs.Common.{List, subst, sym, ap, ◌∙◌}
+use Rattle.std.proofs.Common.{List, option_map, subst, sym, ap, ◌∙◌}
 use Rattle.pb_code.specs.Limits.{KeepsLimits}
 use Rattle.pb_code.specs.View.{labels_view}
 use Rattle.pb_code.specs.Whole.{Code}
-use Rattle.pb_debug.specs.Value.{at_start}
+use Rattle.pb_debug.specs.Value.{at_start, showing}
 use Rattle.pb_debug_engine.specs.Debugs.{IsOpened}
 use Rattle.pb_history.specs.Replays.{IsStopped, spread}
 use Rattle.pb_history.specs.declared.counted.CountedPick.{CountedPick}
@@ -18,25 +18,28 @@ read_picks-requires g c = subst KeepsLimits (sym c.code.ensures.code) (c.code.en
 pub returns-in-Err-clause-text : goal.returns-in-Err-clause-text
 returns-in-Err-clause-text g c =
     let faulty = subst (λ (code : Code). IsFaulty code c.args.lines.now c.in-Err.fault) c.code.ensures.code c.in-Err.ensures.refused in
+    let shown = option_map (λ text. text.now) c.args.shown in
     IfSome-of (g.I.Input.rest c.args.commands.now) _
-    (λ bytes. no_picks_told c.args.verified.now (labels_view c.args.labels.now) c.args.lines.now bytes c.lines_refusal.result _ _ c.tell.result
+    (λ bytes. no_picks_told c.args.verified.now (labels_view c.args.labels.now) shown c.args.lines.now bytes c.lines_refusal.result _ _ c.tell.result
     (c.lines_refusal.ensures c.args.verified.now.code c.args.lines.now faulty) c.tell.ensures.said c.tell.ensures.memory)
 
 pub returns-in-Ok-from_object_counted-clause-text : goal.returns-in-Ok-from_object_counted-clause-text
 returns-in-Ok-from_object_counted-clause-text g c =
     let verified = c.args.verified.now in
     let labels = labels_view c.args.labels.now in
-    let d = c.in-Ok-from_object_counted.debugger in
-    let opened : IsOpened verified labels c.args.lines.now d = record {
+    let shown = option_map (λ text. text.now) c.args.shown in
+    let d = c.with_source-debugger.result in
+    let opened : IsOpened verified labels shown c.args.lines.now d = record {
       counted = c.in-Ok.picks.items;
       spelled = subst (λ (code : Code). SpellsPicks code c.args.lines.now c.in-Ok.picks.items) c.code.ensures.code c.in-Ok.ensures.read;
       opened =
-          c.in-Ok-from_object_counted.ensures.opened
-          ∙ ap (λ (picks : List CountedPick). at_start verified labels (spread picks)) c.as_slice.ensures.value;
-      placed = c.in-Ok-from_object_counted.ensures.placed;
+          c.with_source-debugger.ensures.shown
+          ∙ ap (showing shown) (c.in-Ok-from_object_counted.ensures.opened
+          ∙ ap (λ (picks : List CountedPick). at_start verified labels (spread picks)) c.as_slice.ensures.value);
+      placed = c.with_source-debugger.ensures.placed;
     } in
     IfSome-weaker (g.I.Input.rest c.args.commands.now) _ _
-    (λ bytes. session_told verified labels c.args.lines.now bytes d _ _ c.tell_session.result opened) c.tell_session.ensures.text
+    (λ bytes. session_told verified labels shown c.args.lines.now bytes d _ _ c.tell_session.result opened) c.tell_session.ensures.text
 
 pub returns-clause-text : goal.returns-clause-text
 returns-clause-text g c =
@@ -47,8 +50,9 @@ returns-clause-text g c =
     let stopped =
     subst (λ (picks : List CountedPick). IsStopped code (spread picks) fault) c.as_slice.ensures.value
     c.in-Err-from_object_counted.ensures.stopped in
+    let shown = option_map (λ text. text.now) c.args.shown in
     IfSome-of (g.I.Input.rest c.args.commands.now) _
-    (λ bytes. no_picks_told c.args.verified.now (labels_view c.args.labels.now) c.args.lines.now bytes
+    (λ bytes. no_picks_told c.args.verified.now (labels_view c.args.labels.now) shown c.args.lines.now bytes
     c.lines_refusal-in-Err-from_object_counted.result _ _ c.tell-in-Err-from_object_counted.result
     (c.lines_refusal-in-Err-from_object_counted.ensures code c.args.lines.now (picks, spelled, stopped))
     c.tell-in-Err-from_object_counted.ensures.said c.tell-in-Err-from_object_counted.ensures.memory)

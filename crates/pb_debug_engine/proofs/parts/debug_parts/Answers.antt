@@ -1,4 +1,4 @@
-use Rattle.std.proofs.Common.{◌≡◌, false, true, inl, refl}
+use Rattle.std.proofs.Common.{◌≡◌, None, false, true, inl, refl}
 use Rattle.pb_code.specs.View.{labels_view}
 use Rattle.pb_object.proofs.Said.{text_keeps}
 use Rattle.pb_engines.proofs.InputLemmas.{IfSome-of, IfSome-weaker}
@@ -12,8 +12,8 @@ pub returns-in-Ok-clause-text : goal.returns-in-Ok-clause-text
 returns-in-Ok-clause-text g c =
     let object = c.if-is_object.ensures.0 refl in
     IfSome-weaker (g.I.Input.rest c.args.commands.now) _ _
-    (λ bytes. code_told c.args.source.now c.args.lines.now bytes c.in-Ok.verified (labels_view c.in-Ok.labels) _ _ c.debug_code.result
-    (inl (object, c.in-Ok.ensures.loaded))) c.debug_code.ensures.text
+    (λ bytes. code_told c.args.source.now c.args.lines.now bytes c.in-Ok.verified (labels_view c.in-Ok.labels) None _ _ c.debug_code.result
+    (inl (object, c.in-Ok.ensures.loaded, refl))) c.debug_code.ensures.text
 
 pub returns-in-Err-clause-text : goal.returns-in-Err-clause-text
 returns-in-Err-clause-text g c =

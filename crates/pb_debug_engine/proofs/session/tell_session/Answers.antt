@@ -1,7 +1,7 @@
 use Rattle.std.proofs.Common.{subst}
-use Rattle.pb_debug.specs.Sessions.{CountsBoth, SaysSome}
+use Rattle.pb_debug.specs.Sessions.{SaysSome}
 use Rattle.pb_engines.proofs.InputLemmas.{IfSome-weaker}
-use Rattle.pb_debug_engine.proofs.SessionLemmas.{none_failed_yet, one_failed, told_all, told_some, told_until_broken}
+use Rattle.pb_debug_engine.proofs.SessionLemmas.{one_failed, told_all, told_some, told_until_broken}
 use Rattle.pb_debug_engine.proofs.session.tell_session.Goals as goal
 
 pub returns-in-Ok-clause-text : goal.returns-in-Ok-clause-text

@@ -13,7 +13,8 @@ pub loop-left-preserved-in-Silent : goal.loop-left-preserved-in-Silent
 loop-left-preserved-in-Silent c =
     let before = c.loop-left.invariant in
     let more = silent_more c.args.verified.now.code c.loop-left.picks.items c.count_pick.new.counted.items _ _ _ c.in-Silent.pick c.in-Silent.made
-    c.loop-left.left c.args.steps c.in-Silent.is c.in_ok-pick.ensures.step (within_left c.loop-left.left _ c.loop-left-test.true c.in_ok-pick.ensures.within) before.lead before.many
+    c.loop-left.left c.args.steps c.in-Silent.is c.in_ok-pick.ensures.step (within_left c.loop-left.left _
+    c.loop-left-test.true c.in_ok-pick.ensures.within) before.lead before.many
     c.in_ok-count_pick-in-Silent.ensures.picks in
     record {
       lead = more.0;

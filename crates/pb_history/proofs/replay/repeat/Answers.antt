@@ -17,7 +17,8 @@ loop-left-preserved-in-Silent c =
     let n = c.run-silent.result.0 in
     let entries = c.loop-left.trace.entries in
     let after = machine_view c.run-silent.new.machine in
-    let run = silent_run code (machine_view c.loop-left.machine) after entries pick left n c.run-silent.result.1 inv.leads c.run-silent.ensures.run c.in-Silent.is in
+    let run = silent_run code (machine_view c.loop-left.machine) after entries pick left n c.run-silent.result.1
+    inv.leads c.run-silent.ensures.run c.in-Silent.is in
     let now : c.push_run.new.self.entries ≡ entries ++ run_of pick n None =
     c.push_run.ensures.entries ∙ ap (λ (es : List Entry). es ++ run_of pick n None) c.in_ok-reserve.ensures.same in
     let fewer = inv.left in
@@ -39,7 +40,8 @@ push_run-requires-in-Did-clause-fits c =
     let left = c.loop-left.left in
     let n = c.run-silent.result.0 in
     let entries = c.loop-left.trace.entries in
-    let run = shown_run code (machine_view c.loop-left.machine) (machine_view c.run-silent.new.machine) entries pick left n c.run-silent.result.1 inv.leads c.run-silent.ensures.run c.in-Did.event c.in-Did.is in
+    let run = shown_run code (machine_view c.loop-left.machine) (machine_view c.run-silent.new.machine) entries pick
+    left n c.run-silent.result.1 inv.leads c.run-silent.ensures.run c.in-Did.event c.in-Did.is in
     let len = length_on c.args.trace.now.entries entries pick (count - left) inv.picks in
     let same = ap (λ (es : List Entry). length es) c.in_ok-reserve.ensures.same in
     let few = run.1 in
@@ -57,7 +59,8 @@ loop-left-preserved c =
     let entries = c.loop-left.trace.entries in
     let after = machine_view c.run-silent.new.machine in
     let event = c.in-Did.event in
-    let run = shown_run code (machine_view c.loop-left.machine) after entries pick left n c.run-silent.result.1 inv.leads c.run-silent.ensures.run event c.in-Did.is in
+    let run = shown_run code (machine_view c.loop-left.machine) after entries pick left n c.run-silent.result.1
+    inv.leads c.run-silent.ensures.run event c.in-Did.is in
     let now : c.push_run-in-Did.new.self.entries ≡ entries ++ run_of pick n (Some event) =
     c.push_run-in-Did.ensures.entries ∙ ap (λ (es : List Entry). es ++ run_of pick n (Some event)) c.in_ok-reserve.ensures.same in
     let fewer = inv.left in
@@ -87,4 +90,5 @@ returns-in-NotEnabled-clause-stopped c =
     let place : length entries + n ≡ c.len.result + n =
     ap (λ (k : ℕ). k + n) (sym (c.len.ensures ∙ ap (λ (es : List Entry). length es) c.in_ok-reserve.ensures.same)) in
     subst (StopsAt code (picks_of c.args.trace.now.entries ++ replicate count pick)) place
-    (stops_here code c.args.trace.now.entries entries pick count (count - left) n here run.between inv.picks inv.leads run.leads (omega (arith, few, fewer)) stops.1)
+    (stops_here code c.args.trace.now.entries entries pick count (count - left) n here run.between inv.picks inv.leads
+    run.leads (omega (arith, few, fewer)) stops.1)

@@ -10,7 +10,8 @@ use Rattle.pb_names.proofs.causes.first_in_integers.Goals as goal
 pub first_again-requires : goal.first_again-requires
 first_again-requires g c =
     ap (λ names. slice_get names c.loop-i.i) c.requires
-    ∙ text_read (map name_view c.args.integers.now.items) c.loop-i.i _ (view_read name_view _ _ _ _ c.deref-name-items.ensures.value (omega arith) c.name-item.is)
+    ∙ text_read (map name_view c.args.integers.now.items) c.loop-i.i _ (view_read name_view _ _ _ _
+    c.deref-name-items.ensures.value (omega arith) c.name-item.is)
 
 pub loop-i-preserved : goal.loop-i-preserved
 loop-i-preserved g c =

@@ -49,7 +49,8 @@ returns-clause-code c =
     (c.in_ok-columns.ensures.names ∙ sym (map-map (λ (p : ProcessRow). p.name) process_row processes))
     (c.in_ok-names.ensures.names ∙ sym (map-map (λ (r : ResourceRow). r.name) resource_row resources))
     (c.in_ok-capital.ensures ∙ c.deref.ensures.value ∙ c.in_ok-names.ensures.amounts ∙ sym (map-map (λ (r : ResourceRow). r.capital) resource_row resources))
-    (c.in_ok-claims.ensures ∙ ap (map (λ row. row.items)) c.deref-2.ensures.value ∙ c.in_ok-columns.ensures.claims ∙ sym (map-map (λ (p : ProcessRow). p.claims) process_row processes))
+    (c.in_ok-claims.ensures ∙ ap (map (λ row. row.items)) c.deref-2.ensures.value ∙ c.in_ok-columns.ensures.claims ∙
+    sym (map-map (λ (p : ProcessRow). p.claims) process_row processes))
     (ap (map process_view) c.in_ok-columns.ensures.codes ∙ rows_codes processes c.requires.fit)
     _ refl
 

@@ -6,8 +6,10 @@ use Rattle.pb_object.proofs.assemble.split_processes.Goals as goal
 
 pub loop-row-preserved : goal.loop-row-preserved
 loop-row-preserved c = record {
-  names = rw c.in_ok-push.ensures.items (push_map (λ name. name.items) (λ p. p.name.items) c.loop-row.names.items c.loop-row.yielded c.in-Some.row.name c.in-Some.row c.loop-row.invariant.names refl);
-  claims = rw c.in_ok-push-2.ensures.items (push_map (λ row. row.items) (λ p. p.claims.items) c.loop-row.claims.items c.loop-row.yielded c.in-Some.row.claims c.in-Some.row c.loop-row.invariant.claims refl);
+  names = rw c.in_ok-push.ensures.items (push_map (λ name. name.items) (λ p. p.name.items) c.loop-row.names.items
+      c.loop-row.yielded c.in-Some.row.name c.in-Some.row c.loop-row.invariant.names refl);
+  claims = rw c.in_ok-push-2.ensures.items (push_map (λ row. row.items) (λ p. p.claims.items) c.loop-row.claims.items
+      c.loop-row.yielded c.in-Some.row.claims c.in-Some.row c.loop-row.invariant.claims refl);
   codes = rw c.in_ok-push-3.ensures.items (push_column (λ p. p.code) c.loop-row.codes.items c.loop-row.yielded c.in-Some.row c.loop-row.invariant.codes);
   labels = rw c.in_ok-push-4.ensures.items (push_column (λ p. p.labels) c.loop-row.labels.items c.loop-row.yielded c.in-Some.row c.loop-row.invariant.labels);
 }

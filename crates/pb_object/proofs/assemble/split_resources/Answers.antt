@@ -6,8 +6,10 @@ use Rattle.pb_object.proofs.assemble.split_resources.Goals as goal
 
 pub loop-row-preserved : goal.loop-row-preserved
 loop-row-preserved c = record {
-  names = rw c.in_ok-push.ensures.items (push_map (λ name. name.items) (λ r. r.name.items) c.loop-row.names.items c.loop-row.yielded c.in-Some.row.name c.in-Some.row c.loop-row.invariant.names refl);
-  amounts = rw c.in_ok-push-2.ensures.items (push_column (λ r. r.capital) c.loop-row.amounts.items c.loop-row.yielded c.in-Some.row c.loop-row.invariant.amounts);
+  names = rw c.in_ok-push.ensures.items (push_map (λ name. name.items) (λ r. r.name.items) c.loop-row.names.items
+      c.loop-row.yielded c.in-Some.row.name c.in-Some.row c.loop-row.invariant.names refl);
+  amounts = rw c.in_ok-push-2.ensures.items (push_column (λ r. r.capital) c.loop-row.amounts.items c.loop-row.yielded
+      c.in-Some.row c.loop-row.invariant.amounts);
 }
 
 pub returns : goal.returns

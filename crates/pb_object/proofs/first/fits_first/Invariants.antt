@@ -7,4 +7,5 @@ use Rattle.pb_code.proofs.Each.{EachBelow}
 use Rattle.pb_object.proofs.first.fits_first.Given as goal
 
 abbrev pub invariant-loop-p : goal.invariant-loop-p
-invariant-loop-p l = EachBelow (map process_view l.code.processes.items) l.p (λ _ process. (place : ℕ) (i : Instr) → slice_get process.instrs place ≡ Some i → IsSingle i)
+invariant-loop-p l = EachBelow (map process_view l.code.processes.items) l.p (λ _ process. (place : ℕ) (i : Instr) →
+    slice_get process.instrs place ≡ Some i → IsSingle i)

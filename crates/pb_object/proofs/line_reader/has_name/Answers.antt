@@ -7,5 +7,6 @@ use Rattle.pb_object.proofs.line_reader.has_name.Goals as goal
 
 pub returns : goal.returns
 returns c =
-    any_from_yields_List (λ n. bytes_eq c.args.name.now n.items) _ _ _ c.any.ensures.ran (YieldsList-from_slice c.args.names.now cc) (λ x b q k. search (rules, tests))
+    any_from_yields_List (λ n. bytes_eq c.args.name.now n.items) _ _ _ c.any.ensures.ran (YieldsList-from_slice
+    c.args.names.now cc) (λ x b q k. search (rules, tests))
     ∙ sym (any_map (λ e. bytes_eq c.args.name.now e) (λ n. n.items) c.args.names.now)

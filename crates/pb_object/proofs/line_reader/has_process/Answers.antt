@@ -7,5 +7,6 @@ use Rattle.pb_object.proofs.line_reader.has_process.Goals as goal
 
 pub returns : goal.returns
 returns c =
-    any_from_yields_List (λ p. bytes_eq c.args.name.now p.name.items) _ _ _ c.any.ensures.ran (YieldsList-from_slice c.args.processes.now cc) (λ x b q k. search (rules, tests))
+    any_from_yields_List (λ p. bytes_eq c.args.name.now p.name.items) _ _ _ c.any.ensures.ran (YieldsList-from_slice
+    c.args.processes.now cc) (λ x b q k. search (rules, tests))
     ∙ sym (any_map (λ e. bytes_eq c.args.name.now e) (λ p. p.name.items) c.args.processes.now)

@@ -26,7 +26,8 @@ returns-clause-writable c =
 
 pub returns-clause-only : goal.returns-clause-only
 returns-clause-only c =
-    only_answer c.args.text.now (object_row c.in_ok-rows.rows) c.in_ok-object.object c.in_ok-rows.ensures.rows c.in_ok-object.ensures.code c.in_ok-object.ensures.labels
+    only_answer c.args.text.now (object_row c.in_ok-rows.rows) c.in_ok-object.object c.in_ok-rows.ensures.rows
+    c.in_ok-object.ensures.code c.in_ok-object.ensures.labels
 
 pub returns-in_err-rows-clause-place : goal.returns-in_err-rows-clause-place
 returns-in_err-rows-clause-place c =

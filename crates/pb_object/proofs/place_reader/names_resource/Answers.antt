@@ -5,7 +5,8 @@ use Rattle.pb_object.proofs.place_reader.names_resource.Goals as goal
 
 pub returns-then-same : goal.returns-then-same
 returns-then-same c =
-    sym (c.loop.invariant.same ∙ names_here _ _ c.args.resource.now (map (λ w. w.now) c.loop.rest.now) _ (front_two (λ w. w.now) c.loop.rest.now _ c.in-len2-up.len_at_least) (sym c.same.ensures ∙ c.if-same.true))
+    sym (c.loop.invariant.same ∙ names_here _ _ c.args.resource.now (map (λ w. w.now) c.loop.rest.now) _ (front_two (λ
+    w. w.now) c.loop.rest.now _ c.in-len2-up.len_at_least) (sym c.same.ensures ∙ c.if-same.true))
 
 pub returns-in_default : goal.returns-in_default
 returns-in_default c =
@@ -17,6 +18,7 @@ returns c =
 
 pub loop-preserved : goal.loop-preserved
 loop-preserved c = record {
-  same = c.loop.invariant.same ∙ names_on _ _ c.args.resource.now (map (λ w. w.now) c.loop.rest.now) _ (front_two (λ w. w.now) c.loop.rest.now _ c.in-len2-up.len_at_least) (sym c.same.ensures ∙ c.if-same.false);
+  same = c.loop.invariant.same ∙ names_on _ _ c.args.resource.now (map (λ w. w.now) c.loop.rest.now) _ (front_two (λ
+      w. w.now) c.loop.rest.now _ c.in-len2-up.len_at_least) (sym c.same.ensures ∙ c.if-same.false);
   left = (let a = after_two c.loop.rest.now c.in-len2-up.len_at_least in let l = c.loop.invariant.left in omega (arith, a, l));
 }

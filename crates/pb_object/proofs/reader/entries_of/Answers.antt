@@ -8,11 +8,16 @@ use Rattle.pb_object.proofs.reader.entries_of.Goals as goal
 pub returns-in_err-entry : goal.returns-in_err-entry
 returns-in_err-entry c =
     let p = err_from_is_err_and c.from_residual.result c.from_residual.ensures.1 in
-    rw (p.1, p.2) (ends entry_at c.in_err-entry.field-0.0 c.loop.entries.items c.args.count c.loop.counter c.loop.rest.now (many entry_at [] c.args.count c.args.text.now) c.loop-test.true c.in_err-entry.ensures.number c.loop.invariant)
+    rw (p.1, p.2) (ends entry_at c.in_err-entry.field-0.0 c.loop.entries.items c.args.count c.loop.counter
+    c.loop.rest.now (many entry_at [] c.args.count c.args.text.now) c.loop-test.true c.in_err-entry.ensures.number
+    c.loop.invariant)
 
 pub loop-preserved : goal.loop-preserved
 loop-preserved c =
-    rw c.in_ok-push.ensures.items (goes_on entry_at c.loop.entries.items c.args.count c.loop.counter c.loop.rest.now c.in_ok-entry.entry c.in_ok-entry.after.now (many entry_at [] c.args.count c.args.text.now) c.loop-test.true c.in_ok-entry.ensures.number c.loop.invariant)
+    rw c.in_ok-push.ensures.items (goes_on entry_at c.loop.entries.items c.args.count c.loop.counter c.loop.rest.now
+    c.in_ok-entry.entry c.in_ok-entry.after.now (many entry_at [] c.args.count c.args.text.now) c.loop-test.true
+    c.in_ok-entry.ensures.number c.loop.invariant)
 
 pub returns : goal.returns
-returns c = is_done entry_at c.loop.entries.items c.args.count c.loop.counter c.loop.rest.now (many entry_at [] c.args.count c.args.text.now) c.loop-test.false c.loop.invariant
+returns c = is_done entry_at c.loop.entries.items c.args.count c.loop.counter c.loop.rest.now (many entry_at []
+    c.args.count c.args.text.now) c.loop-test.false c.loop.invariant

@@ -13,7 +13,8 @@ use Rattle.pb_object.proofs.reader.processes_of.Goals as goal
 pub returns-in-Err : goal.returns-in-Err
 returns-in-Err c =
     let front = map process_row c.loop.processes.items in
-    let names : map (λ p. p.name) front ≡ map (λ p. p.name.items) c.loop.processes.items = map-map (λ (p : ProcessRow). p.name) process_row c.loop.processes.items in
+    let names : map (λ p. p.name) front ≡ map (λ p. p.name.items) c.loop.processes.items = map-map (λ (p :
+    ProcessRow). p.name) process_row c.loop.processes.items in
     let at = ap (λ (ns : List (List ℕ)). process_after c.args.format c.args.resources ns c.loop.rest.now) names in
     let fails : Fails c.in-Err.fault (process_at c.args.format c.args.resources front c.loop.rest.now) =
     subst (λ (r : Result (ProcessRow × List ℕ) Fault). Fails c.in-Err.fault r) (sym at) (rw c.deref.ensures.value at c.in-Err.ensures.read) in
@@ -26,13 +27,15 @@ returns-in-Err c =
 pub loop-preserved : goal.loop-preserved
 loop-preserved c =
     let front = map process_row c.loop.processes.items in
-    let names : map (λ p. p.name) front ≡ map (λ p. p.name.items) c.loop.processes.items = map-map (λ (p : ProcessRow). p.name) process_row c.loop.processes.items in
+    let names : map (λ p. p.name) front ≡ map (λ p. p.name.items) c.loop.processes.items = map-map (λ (p :
+    ProcessRow). p.name) process_row c.loop.processes.items in
     let at = ap (λ (ns : List (List ℕ)). process_after c.args.format c.args.resources ns c.loop.rest.now) names in
     let read = at ∙ rw c.deref.ensures.value at c.in-Ok.ensures.read in
     let pushed : map process_row c.push.new.self.items ≡ front ++ process_row c.in-Ok.process ∷ [] =
     rw c.in_ok-push-in-Ok.ensures.items (map_push process_row c.loop.processes.items c.in-Ok.process) in
     record {
-      read = rw pushed (goes_on (process_at c.args.format c.args.resources) front c.args.count c.loop.counter c.loop.rest.now (process_row c.in-Ok.process) c.in-Ok.after.now
+      read = rw pushed (goes_on (process_at c.args.format c.args.resources) front c.args.count c.loop.counter
+          c.loop.rest.now (process_row c.in-Ok.process) c.in-Ok.after.now
           (many (process_at c.args.format c.args.resources) [] c.args.count c.args.text.now) c.loop-test.true read c.loop.invariant.read);
       fit = rw c.in_ok-push-in-Ok.ensures.items (All-push IsRow c.loop.processes.items c.in-Ok.process c.loop.invariant.fit c.in-Ok.ensures.fit);
     }

@@ -9,4 +9,5 @@ loop-r-preserved c =
     let number = c.resources-r-end.ensures.number in
     let width = c.requires.width in
     let lt : c.loop-r.r < length row = omega (arith, number, width) in
-    more_mapped decimal c.args.out.now.items c.loop-r.out.items _ (codes "claims") [] row c.loop-r.r 0 lt c.loop-r.invariant (rw c.get.ensures at c.in_ok-put_claim.ensures)
+    more_mapped decimal c.args.out.now.items c.loop-r.out.items _ (codes "claims") [] row c.loop-r.r 0 lt
+    c.loop-r.invariant (rw c.get.ensures at c.in_ok-put_claim.ensures)

@@ -17,5 +17,6 @@ loop-i-preserved c =
     c.in_ok-put_lined_place.ensures
     ∙ ap (λ (b : List (List Pair)). c.loop-i.out.items ++ line_text (number ∷ instr_words (instr_view b c.index.result.now))) c.deref.ensures.value
     ∙ ap (λ (j : Given). c.loop-i.out.items ++ line_text (number ∷ instr_words (instr_view bundles j))) c.index.ensures in
-    more_places (λ p. line_text (place_words Two p)) (instr_view bundles) c.args.out.now.items c.loop-i.out.items _ c.args.lines.now c.args.code.now.instrs.items c.loop-i.i
+    more_places (λ p. line_text (place_words Two p)) (instr_view bundles) c.args.out.now.items c.loop-i.out.items _
+    c.args.lines.now c.args.code.now.instrs.items c.loop-i.i
     None c.index.result.now c.loop-i-test.true c.requires c.loop-i.invariant written

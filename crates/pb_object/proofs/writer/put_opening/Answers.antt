@@ -11,7 +11,8 @@ pub returns : goal.returns
 returns c = λ rows names capital.
     let given = c.args.code.now.names.resources.items in
     let name_of : ResourceRow → Word = λ r. r.name in
-    let count : length given ≡ length rows = sym (sym (length-map rows name_of) ∙ ap (λ (l : List Word). length l) names ∙ length-map given (λ name. name.items)) in
+    let count : length given ≡ length rows = sym (sym (length-map rows name_of) ∙ ap (λ (l : List Word). length l)
+    names ∙ length-map given (λ name. name.items)) in
     let first : c.len.result ≡ length rows = (let e = c.len.ensures in omega (arith, e, count)) in
     let second : c.len-2.result ≡ length c.args.code.now.processes.items = (let e = c.len-2.ensures in omega (arith, e)) in
     let counted = c.in_ok-put_counted.ensures ∙ ap (λ (n : ℕ). c.put_heading.new.out.items ++ line_text (counted_words (codes "resources") n)) first in

@@ -10,7 +10,8 @@ returns c = λ row is.
     let code = c.args.code.now in
     let p = c.args.p in
     let body = c.index-body.result.now in
-    let name = c.deref.ensures.value ∙ named_at (λ name. name.items) code.names.processes.items p c.index.result.now c.requires.name c.index.ensures ∙ is.name in
+    let name = c.deref.ensures.value ∙ named_at (λ name. name.items) code.names.processes.items p c.index.result.now
+    c.requires.name c.index.ensures ∙ is.name in
     let whole = viewed_at process_view code.processes.items p body (process_code row) c.requires.process c.index-body.ensures is.code in
     let claims = slice_index_or code.claims p [] in
     let count = sym (length-map body.instrs.items (instr_view body.bundles.items)) in

@@ -10,7 +10,8 @@ use Rattle.pb_object.proofs.writer.put_resources.Goals as goal
 pub loop-r-preserved : goal.loop-r-preserved
 loop-r-preserved c = λ rows names capital.
     let text : ResourceRow → List ℕ = λ r. line_text (resource_words r) in
-    let at = resource_at rows (λ name. name.items) c.args.names.now c.args.capital.now c.loop-r.r c.index-names-r.result c.get.result names capital c.loop-r-test.true
+    let at = resource_at rows (λ name. name.items) c.args.names.now c.args.capital.now c.loop-r.r
+    c.index-names-r.result c.get.result names capital c.loop-r-test.true
     c.index-names-r.is c.get.ensures in
     let written = rw c.deref.ensures.value at c.in_ok-put_resource.ensures in
     next_text text rows c.loop-r.r _ c.args.out.now.items c.loop-r.out.items _ at.0 (c.loop-r.invariant rows names capital)

@@ -21,8 +21,12 @@ put_labelled_process-requires-clause-row c =
     let is = c.requires.1 in
     let count = count_of process_view code.processes.items o (code_view code) is.says_code refl in
     let end = c.len-p-end.ensures in
-    let lt : c.loop-p.p < length o.processes = (let t = c.loop-p-test.true in omega (arith, count, end)) in
-    (get_or o.processes c.loop-p.p empty, row_of o (code_view code) c.loop-p.p is.says_code lt, labels_at o (labels_view c.args.labels.now) c.loop-p.p is.says_labels lt)
+    let lt : c.loop-p.p < length o.processes = (let t = c.loop-p-test.true in omega (arith, count, end)) in (
+      get_or o.processes c.loop-p.p empty,
+      row_of o (code_view code) c.loop-p.p is.says_code lt,
+      labels_at o
+          (labels_view c.args.labels.now) c.loop-p.p is.says_labels lt,
+    )
 
 pub loop-p-preserved : goal.loop-p-preserved
 loop-p-preserved c = λ o is are.

@@ -32,11 +32,13 @@ loop-i-preserved c =
     outcome_more names labels c.args.found.now c.loop-i.i f c.in_ok-picks.picks.items c.loop-i.text.items _
     c.loop-i-test.true c.index-found-i.is c.loop-i.invariant counted
     (c.in_ok-put_outcome.ensures
-    ∙ ap (λ (cs : List CountedPick). c.loop-i.text.items ++ outcome_lines names labels (c.loop-i.i + 1) (found_view f).outcome cs) c.deref-in-loop-i.ensures.value)
+    ∙ ap (λ (cs : List CountedPick). c.loop-i.text.items ++ outcome_lines names labels (c.loop-i.i + 1) (found_view
+    f).outcome cs) c.deref-in-loop-i.ensures.value)
 
 pub returns : goal.returns
 returns c = (
   c.loop-i.text.items,
-  all_outcomes (names_view c.args.names.now) (labels_view c.args.labels.now) c.args.found.now c.loop-i.i c.loop-i.text.items c.loop-i-test.false c.loop-i.invariant,
+  all_outcomes (names_view c.args.names.now) (labels_view c.args.labels.now) c.args.found.now c.loop-i.i
+      c.loop-i.text.items c.loop-i-test.false c.loop-i.invariant,
   c.in_ok-put_count.ensures,
 )

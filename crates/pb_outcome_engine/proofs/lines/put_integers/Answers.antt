@@ -13,4 +13,5 @@ loop-x-preserved c =
     integer_more (λ name. name.items) c.args.process.now c.args.names.now c.args.values.now c.loop-x.x c.index-names-x.result
     c.args.text.now.items c.loop-x.text.items _ (omega (arith, within, same)) c.index-names-x.is
     c.loop-x.invariant
-    (rw (to_z-of_z w64 value (search rules)) at c.in_ok-put_integer.ensures ∙ ap (λ (t : List ℕ). c.loop-x.text.items ++ integer_line c.args.process.now t value) c.deref.ensures.value)
+    (rw (to_z-of_z w64 value (search rules)) at c.in_ok-put_integer.ensures ∙ ap (λ (t : List ℕ). c.loop-x.text.items
+    ++ integer_line c.args.process.now t value) c.deref.ensures.value)

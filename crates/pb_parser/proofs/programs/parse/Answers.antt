@@ -10,7 +10,8 @@ pub returns-in_err-measure : goal.returns-in_err-measure
 returns-in_err-measure g c =
     let p = err_from_is_err_and c.from_residual.result c.from_residual.ensures.1 in
     let shallow = not_nested (tokens c.args.tokens.now) c.if-nests_too_deep.ensures in
-    let j = subst (λ r. Judged (tokens c.args.tokens.now) r) (sym (p.1 ∙ ap Err p.2)) (judged_refused (tokens c.args.tokens.now) _ shallow c.in_err-measure.ensures) in
+    let j = subst (λ r. Judged (tokens c.args.tokens.now) r) (sym (p.1 ∙ ap Err p.2)) (judged_refused (tokens
+    c.args.tokens.now) _ shallow c.in_err-measure.ensures) in
     record {
       found = j.found;
       limits = j.limits;
@@ -28,7 +29,8 @@ pub returns-then-measure-gt-HIGHEST : goal.returns-then-measure-gt-HIGHEST
 returns-then-measure-gt-HIGHEST g c =
     let shallow = not_nested (tokens c.args.tokens.now) c.if-nests_too_deep.ensures in
     let m = c.in_ok-measure.ensures in
-    let j = judged_high (tokens c.args.tokens.now) m.syntax shallow (program_sound _ _ _ m.syntax m.found) (is_high _ _ _ m.same c.if-measure-gt-HIGHEST.true) in
+    let j = judged_high (tokens c.args.tokens.now) m.syntax shallow (program_sound _ _ _ m.syntax m.found) (is_high _
+    _ _ m.same c.if-measure-gt-HIGHEST.true) in
     record {
       found = j.found;
       limits = j.limits;
@@ -46,7 +48,8 @@ pub returns-then-measure-gt-MOST_NODES : goal.returns-then-measure-gt-MOST_NODES
 returns-then-measure-gt-MOST_NODES g c =
     let shallow = not_nested (tokens c.args.tokens.now) c.if-nests_too_deep.ensures in
     let m = c.in_ok-measure.ensures in
-    let j = judged_large (tokens c.args.tokens.now) m.syntax shallow (program_sound _ _ _ m.syntax m.found) (not_high _ _ _ m.same c.if-measure-gt-HIGHEST.false)
+    let j = judged_large (tokens c.args.tokens.now) m.syntax shallow (program_sound _ _ _ m.syntax m.found) (not_high
+    _ _ _ m.same c.if-measure-gt-HIGHEST.false)
     (is_large _ _ _ m.same c.if-measure-gt-MOST_NODES.true) in
     record {
       found = j.found;
@@ -66,7 +69,11 @@ returns g c =
     let shallow = not_nested (tokens c.args.tokens.now) c.if-nests_too_deep.ensures in
     let m = c.in_ok-measure.ensures in
     let j = judged_made (tokens c.args.tokens.now) _ c.read-2.result m.syntax shallow m.found
-    (record { height = not_high _ _ _ m.same c.if-measure-gt-HIGHEST.false; nodes = not_large _ _ _ m.same c.if-measure-gt-MOST_NODES.false }) c.read-2.ensures in
+    (record {
+      height = not_high _ _ _ m.same c.if-measure-gt-HIGHEST.false;
+      nodes = not_large _ _ _ m.same
+          c.if-measure-gt-MOST_NODES.false;
+    }) c.read-2.ensures in
     record {
       found = j.found;
       limits = j.limits;

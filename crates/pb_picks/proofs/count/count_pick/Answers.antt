@@ -28,7 +28,11 @@ returns-in_ok-push-in-Some-clause-apart c =
     let same : c.in-Some.last.pick ≡ c.args.pick = same_pick c.in-Some.last.pick c.args.pick (sym c.eq.ensures ∙ c.if-eq.true) in
     let some = c.requires.some in
     subst AreApart (sym c.in_ok-push-in-Some.ensures.items)
-    (apart_grown c.pop.new.self.items c.in-Some.last (record { pick = c.args.pick; count = c.in-Some.last.count + c.args.count }) (sym same) (omega (arith, some))
+    (apart_grown c.pop.new.self.items c.in-Some.last (record {
+      pick = c.args.pick;
+      count = c.in-Some.last.count +
+          c.args.count;
+    }) (sym same) (omega (arith, some))
     (subst AreApart c.in-Some.ensures.items c.requires.apart))
 
 pub returns-in_ok-push-in-Some-2-2-clause-picks : goal.returns-in_ok-push-in-Some-2-2-clause-picks
@@ -42,7 +46,8 @@ returns-in_ok-push-in-Some-2-2-clause-picks c =
 
 pub returns-in_ok-push-in-Some-2-2-clause-apart : goal.returns-in_ok-push-in-Some-2-2-clause-apart
 returns-in_ok-push-in-Some-2-2-clause-apart c =
-    let other : c.in-Some.last.pick ≢ c.args.pick = λ e. let t = c.eq.ensures ∙ (ap (λ (p : Pick). are_same p c.args.pick) e ∙ same_itself c.args.pick) in cc (t, c.if-eq.false) in
+    let other : c.in-Some.last.pick ≢ c.args.pick = λ e. let t = c.eq.ensures ∙ (ap (λ (p : Pick). are_same p
+    c.args.pick) e ∙ same_itself c.args.pick) in cc (t, c.if-eq.false) in
     let before = c.in_ok-push-in-Some-2.ensures.items in
     let behind : c.push-in-Some-2-2.new.self.items ≡ (c.pop.new.self.items ++ c.in-Some.last ∷ []) ++ record { pick = c.args.pick; count = c.args.count } ∷ [] =
     c.in_ok-push-in-Some-2-2.ensures.items ∙ ap (λ (cs : List CountedPick). cs ++ record { pick = c.args.pick; count = c.args.count } ∷ []) before in

@@ -28,7 +28,8 @@ loop-p-preserved c = λ d below says.
           let there = read_mapped process_view c.args.code.now.processes.items c.loop-p.p x (omega arith) c.index.ensures in
           let arms = same_arms code.processes c.loop-p.p d.pick.process (process_view x) says.process same says.there there in
           let many = as_many (λ n. n.items) process_view c.args.code.now.names.processes.items c.args.code.now.processes.items c.requires.process_names.all in
-          let name = mapped_at (λ n. n.items) c.args.code.now.names.processes.items c.loop-p.p c.index-in-loop-p.result.now (omega (arith, many)) c.index-in-loop-p.ensures in
+          let name = mapped_at (λ n. n.items) c.args.code.now.names.processes.items c.loop-p.p
+          c.index-in-loop-p.result.now (omega (arith, many)) c.index-in-loop-p.ensures in
           let arm = says.arm in
           let words = 46 ∷ arm_and_count d.pick.arm d.count in
           c.in-None.ensures d.pick.arm d.count (omega (arith, arms, arm)) says.some says.most
@@ -41,7 +42,8 @@ returns-in-Some c =
     let x = c.index.result.now in
     let there = read_mapped process_view c.args.code.now.processes.items c.loop-p.p x (omega arith) c.index.ensures in
     let many = as_many (λ n. n.items) process_view c.args.code.now.names.processes.items c.args.code.now.processes.items c.requires.process_names.all in
-    let name = mapped_at (λ n. n.items) c.args.code.now.names.processes.items c.loop-p.p c.index-in-loop-p.result.now (omega (arith, many)) c.index-in-loop-p.ensures in
+    let name = mapped_at (λ n. n.items) c.args.code.now.names.processes.items c.loop-p.p c.index-in-loop-p.result.now
+    (omega (arith, many)) c.index-in-loop-p.ensures in
     let words = 46 ∷ arm_and_count c.in-Some.arm c.in-Some.count in
     let within = c.in-Some.ensures.0 in
     record {
@@ -56,5 +58,6 @@ returns-in-Some c =
 pub returns : goal.returns
 returns c = λ d says.
     let lt = slice_get_within (code_view c.args.code.now).processes d.pick.process says.process says.there in
-    let many : length (map process_view c.args.code.now.processes.items) ≡ length c.args.code.now.processes.items = length-map c.args.code.now.processes.items process_view in
+    let many : length (map process_view c.args.code.now.processes.items) ≡ length c.args.code.now.processes.items =
+    length-map c.args.code.now.processes.items process_view in
     c.loop-p.invariant d (omega (arith, lt, many)) says

@@ -37,7 +37,8 @@ swap_among-returns-then-swap g t c =
     (sym (seen_at now before i x views there at (arm_view x))) swapped.0 in (
       found.0,
       ap running_of (views_change now before i x views there at c.swap.new.arm)
-          ∙ ap (λ v. running_of (set (map arm_view before) i v)) (swapped.1 ∙ ap (λ o. put c.args.wanted o (c.args.first + i) (arm_view x)) c.loop-i.invariant.other)
+          ∙ ap (λ v. running_of (set (map arm_view before) i v)) (swapped.1 ∙ ap (λ o. put c.args.wanted o
+          (c.args.first + i) (arm_view x)) c.loop-i.invariant.other)
           ∙ found.1,
     )
 

@@ -23,7 +23,8 @@ returns-in-None g c =
 pub returns-in-Some-last : goal.returns-in-Some-last
 returns-in-Some-last g c =
     let items = c.in-Doing.items in
-    let there : slice_get items.items (length items.items - 1) ≡ Some c.in-Some-last.item.now = sym (rw c.deref-in-Doing.ensures.value at c.in-Some-last.ensures.value) in
+    let there : slice_get items.items (length items.items - 1) ≡ Some c.in-Some-last.item.now = sym (rw
+    c.deref-in-Doing.ensures.value at c.in-Some-last.ensures.value) in
     ap Some c.line_of.ensures ∙ sym (items_some items.items c.in-Some-last.item.now there)
     ∙ ap line_of_first (sym (view-Doing items)) ∙ ap (λ a. line_of_first (arm_view a)) (sym c.in-Doing.is)
 

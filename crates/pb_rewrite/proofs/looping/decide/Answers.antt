@@ -10,7 +10,8 @@ use Rattle.pb_rewrite.proofs.looping.decide.Goals as goal
 
 pub returns-then-fails-clause-ok : goal.returns-then-fails-clause-ok
 returns-then-fails-clause-ok g c =
-    let again = items_of (block_view c.args.body.items) ++ plain.Loop c.args.line (expr_view c.args.test) (expr_view c.args.test) (block_view c.args.body.items) ∷ items_view c.args.items.items in (
+    let again = items_of (block_view c.args.body.items) ++ plain.Loop c.args.line (expr_view c.args.test) (expr_view
+    c.args.test) (block_view c.args.body.items) ∷ items_view c.args.items.items in (
       refl,
       entered c.args.items (cond c.args.fails (items_view c.args.items.items) again)
           (sym (ap (λ b. cond b (items_view c.args.items.items) again) c.if-fails.true)),
@@ -18,7 +19,8 @@ returns-then-fails-clause-ok g c =
 
 pub returns-in-Ok-clause-ok : goal.returns-in-Ok-clause-ok
 returns-in-Ok-clause-ok g c =
-    let again : List plain.Item = items_of (block_view c.args.body.items) ++ plain.Loop c.args.line (expr_view c.args.test) (expr_view c.args.test) (block_view c.args.body.items) ∷ items_view c.args.items.items in
+    let again : List plain.Item = items_of (block_view c.args.body.items) ++ plain.Loop c.args.line (expr_view
+    c.args.test) (expr_view c.args.test) (block_view c.args.body.items) ∷ items_view c.args.items.items in
     subst (λ b. IfOk c.repeat.result (λ s. Leaves s (plain.Doing (cond b (items_view c.args.items.items) again))))
     (sym c.if-fails.false) c.repeat.ensures.ok
 

@@ -13,19 +13,22 @@ pub new-requires-clause-few : goal.new-requires-clause-few
 new-requires-clause-few g c =
     let rs = c.deref-resource-items.result.now in
     let whole : c.deref.result.now ≡ capitals c.args.resources.now.items =
-    c.deref.ensures.value ∙ c.loop-resource.invariant ∙ ap capitals (take_all c.loop-resource.resource-index rs (omega arith)) ∙ ap capitals c.deref-resource-items.ensures.value in
+    c.deref.ensures.value ∙ c.loop-resource.invariant ∙ ap capitals (take_all c.loop-resource.resource-index rs (omega
+    arith)) ∙ ap capitals c.deref-resource-items.ensures.value in
     omega (arith, ap length whole, capitals_length c.args.resources.now.items, c.requires.few)
 
 pub new-requires-clause-small : goal.new-requires-clause-small
 new-requires-clause-small g c =
     let rs = c.deref-resource-items.result.now in
     let whole : c.deref.result.now ≡ capitals c.args.resources.now.items =
-    c.deref.ensures.value ∙ c.loop-resource.invariant ∙ ap capitals (take_all c.loop-resource.resource-index rs (omega arith)) ∙ ap capitals c.deref-resource-items.ensures.value in
+    c.deref.ensures.value ∙ c.loop-resource.invariant ∙ ap capitals (take_all c.loop-resource.resource-index rs (omega
+    arith)) ∙ ap capitals c.deref-resource-items.ensures.value in
     subst (All (λ (n : ℕ). n ≤ 1000000)) (sym whole) c.requires.small
 
 pub returns : goal.returns
 returns g c =
     let rs = c.deref-resource-items.result.now in
     let whole : c.deref.result.now ≡ capitals c.args.resources.now.items =
-    c.deref.ensures.value ∙ c.loop-resource.invariant ∙ ap capitals (take_all c.loop-resource.resource-index rs (omega arith)) ∙ ap capitals c.deref-resource-items.ensures.value in
+    c.deref.ensures.value ∙ c.loop-resource.invariant ∙ ap capitals (take_all c.loop-resource.resource-index rs (omega
+    arith)) ∙ ap capitals c.deref-resource-items.ensures.value in
     subst (λ amounts. IfOk c.new.result (λ capital. capital ≡ amounts)) whole c.new.ensures

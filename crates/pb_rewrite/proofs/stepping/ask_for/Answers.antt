@@ -25,8 +25,18 @@ returns-in-Granted g c =
 
 pub returns-in-NotNow : goal.returns-in-NotNow
 returns-in-NotNow g c =
-    λ vars. (not_allowed c.args.banker.now.state c.args.p c.args.bundle _ c.in-NotNow.ensures.answer (λ e. cc), refl, c.unentered.ensures, c.in-NotNow.ensures.state)
+    λ vars. (
+      not_allowed c.args.banker.now.state c.args.p c.args.bundle _ c.in-NotNow.ensures.answer (λ e. cc),
+      refl,
+      c.unentered.ensures,
+      c.in-NotNow.ensures.state,
+    )
 
 pub returns-in-OverClaim : goal.returns-in-OverClaim
 returns-in-OverClaim g c =
-    λ vars. (not_allowed c.args.banker.now.state c.args.p c.args.bundle _ c.in-OverClaim.ensures.answer (λ e. cc), refl, c.unentered-in-OverClaim.ensures, c.in-OverClaim.ensures.state)
+    λ vars. (
+      not_allowed c.args.banker.now.state c.args.p c.args.bundle _ c.in-OverClaim.ensures.answer (λ e. cc),
+      refl,
+      c.unentered-in-OverClaim.ensures,
+      c.in-OverClaim.ensures.state,
+    )

@@ -19,6 +19,7 @@ returns-in-Is g c =
 
 pub returns-in-Becomes : goal.returns-in-Becomes
 returns-in-Becomes g c =
-    ap Some (assign_becomes c.args.vars.now c.args.line (items_view c.args.items.items) c.args.target (expr_view c.args.value) (expr_view c.rewrite.new.expr) c.in-Becomes.ensures)
+    ap Some (assign_becomes c.args.vars.now c.args.line (items_view c.args.items.items) c.args.target (expr_view
+    c.args.value) (expr_view c.rewrite.new.expr) c.in-Becomes.ensures)
     ∙ ap (λ a. Some (plain.Goes c.args.vars.now a Silent))
     (sym (kept_assign c.with_first.result (items_view c.args.items.items) c.args.line c.args.target c.rewrite.new.expr c.with_first.ensures.items))

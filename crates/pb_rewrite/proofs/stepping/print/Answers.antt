@@ -17,6 +17,7 @@ returns-in-Is g c =
 
 pub returns-in-Becomes : goal.returns-in-Becomes
 returns-in-Becomes g c =
-    ap Some (print_becomes c.args.vars.now c.args.line (items_view c.args.items.items) (expr_view c.args.value) (expr_view c.rewrite.new.expr) c.in-Becomes.ensures)
+    ap Some (print_becomes c.args.vars.now c.args.line (items_view c.args.items.items) (expr_view c.args.value)
+    (expr_view c.rewrite.new.expr) c.in-Becomes.ensures)
     ∙ ap (λ a. Some (plain.Goes c.args.vars.now a Silent))
     (sym (kept_print c.with_first.result (items_view c.args.items.items) c.args.line c.rewrite.new.expr c.with_first.ensures.items))

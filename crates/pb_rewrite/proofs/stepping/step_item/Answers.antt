@@ -12,20 +12,23 @@ pub step_stmt-requires-clause-below : goal.step_stmt-requires-clause-below
 step_stmt-requires-clause-below g c =
     let rest = items_view c.args.items.items in
     let seen = ap (λ i. plain.Doing (item_view i ∷ rest)) c.in-Left.is in
-    asks_same _ c.args.vars.now (plain.Doing (item_view c.args.first ∷ rest)) (plain.Doing (plain.item_of (stmt_view c.in-Left.stmt) ∷ rest)) seen c.requires.below
+    asks_same _ c.args.vars.now (plain.Doing (item_view c.args.first ∷ rest)) (plain.Doing (plain.item_of (stmt_view
+    c.in-Left.stmt) ∷ rest)) seen c.requires.below
 
 pub returns-in-Left-clause-ok : goal.returns-in-Left-clause-ok
 returns-in-Left-clause-ok g c =
     let rest = items_view c.args.items.items in
     let seen = ap (λ i. plain.Doing (item_view i ∷ rest)) c.in-Left.is in
-    same_ok c.args.banker.now.state c.args.p c.args.vars.now (plain.Doing (item_view c.args.first ∷ rest)) (plain.Doing (plain.item_of (stmt_view c.in-Left.stmt) ∷ rest)) seen
+    same_ok c.args.banker.now.state c.args.p c.args.vars.now (plain.Doing (item_view c.args.first ∷ rest))
+    (plain.Doing (plain.item_of (stmt_view c.in-Left.stmt) ∷ rest)) seen
     c.step_stmt.new.vars c.step_stmt.new.banker.state c.step_stmt.result c.step_stmt.ensures.ok
 
 pub returns-in-Left-clause-err : goal.returns-in-Left-clause-err
 returns-in-Left-clause-err g c =
     let rest = items_view c.args.items.items in
     let seen = ap (λ i. plain.Doing (item_view i ∷ rest)) c.in-Left.is in
-    same_err c.args.banker.now.state c.args.p c.args.vars.now (plain.Doing (item_view c.args.first ∷ rest)) (plain.Doing (plain.item_of (stmt_view c.in-Left.stmt) ∷ rest)) seen
+    same_err c.args.banker.now.state c.args.p c.args.vars.now (plain.Doing (item_view c.args.first ∷ rest))
+    (plain.Doing (plain.item_of (stmt_view c.in-Left.stmt) ∷ rest)) seen
     c.step_stmt.new.vars c.step_stmt.new.banker.state c.step_stmt.result c.step_stmt.ensures.err
 
 pub returns-in-Loop-clause-ok : goal.returns-in-Loop-clause-ok

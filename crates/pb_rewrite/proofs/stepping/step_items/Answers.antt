@@ -15,16 +15,19 @@ returns-in-None-clause-ok g c =
 pub step_item-requires-clause-below : goal.step_item-requires-clause-below
 step_item-requires-clause-below g c =
     let seen = ap (λ is. plain.Doing (items_view is)) c.in-Some.ensures.items ∙ ap plain.Doing (items_view-push c.pop.new.self.items c.in-Some.first) in
-    asks_same _ c.args.vars.now (plain.Doing (items_view c.args.items.items)) (plain.Doing (item_view c.in-Some.first ∷ items_view c.pop.new.self.items)) seen c.requires.below
+    asks_same _ c.args.vars.now (plain.Doing (items_view c.args.items.items)) (plain.Doing (item_view c.in-Some.first
+    ∷ items_view c.pop.new.self.items)) seen c.requires.below
 
 pub returns-in-Some-clause-ok : goal.returns-in-Some-clause-ok
 returns-in-Some-clause-ok g c =
     let seen = ap (λ is. plain.Doing (items_view is)) c.in-Some.ensures.items ∙ ap plain.Doing (items_view-push c.pop.new.self.items c.in-Some.first) in
-    same_ok c.args.banker.now.state c.args.p c.args.vars.now (plain.Doing (items_view c.args.items.items)) (plain.Doing (item_view c.in-Some.first ∷ items_view c.pop.new.self.items)) seen
+    same_ok c.args.banker.now.state c.args.p c.args.vars.now (plain.Doing (items_view c.args.items.items))
+    (plain.Doing (item_view c.in-Some.first ∷ items_view c.pop.new.self.items)) seen
     c.step_item.new.vars c.step_item.new.banker.state c.step_item.result c.step_item.ensures.ok
 
 pub returns-in-Some-clause-err : goal.returns-in-Some-clause-err
 returns-in-Some-clause-err g c =
     let seen = ap (λ is. plain.Doing (items_view is)) c.in-Some.ensures.items ∙ ap plain.Doing (items_view-push c.pop.new.self.items c.in-Some.first) in
-    same_err c.args.banker.now.state c.args.p c.args.vars.now (plain.Doing (items_view c.args.items.items)) (plain.Doing (item_view c.in-Some.first ∷ items_view c.pop.new.self.items)) seen
+    same_err c.args.banker.now.state c.args.p c.args.vars.now (plain.Doing (items_view c.args.items.items))
+    (plain.Doing (item_view c.in-Some.first ∷ items_view c.pop.new.self.items)) seen
     c.step_item.new.vars c.step_item.new.banker.state c.step_item.result c.step_item.ensures.err

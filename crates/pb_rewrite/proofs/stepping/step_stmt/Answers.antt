@@ -28,7 +28,8 @@ pub returns-in-If-clause-ok : goal.returns-in-If-clause-ok
 returns-in-If-clause-ok g c =
     let a = c.in-If in
     let rest = items_view c.args.items.items in
-    let seen = ap (λ s. plain.Doing (item_of (stmt_view s) ∷ rest)) a.is ∙ ap (λ s. plain.Doing (item_of s ∷ rest)) (view-If a.line a.test a.on_true a.on_false) in
+    let seen = ap (λ s. plain.Doing (item_of (stmt_view s) ∷ rest)) a.is ∙ ap (λ s. plain.Doing (item_of s ∷ rest))
+    (view-If a.line a.test a.on_true a.on_false) in
     free_ok c.args.banker.now.state c.args.p c.args.vars.now (plain.Doing (item_of (stmt_view c.args.stmt) ∷ rest))
     (plain.Choice a.line (expr_view a.test) (block_view a.on_true.items) (block_view a.on_false.items) ∷ rest) seen c.choose.result c.choose.ensures.ok
 
@@ -36,7 +37,8 @@ pub returns-in-If-clause-err : goal.returns-in-If-clause-err
 returns-in-If-clause-err g c =
     let a = c.in-If in
     let rest = items_view c.args.items.items in
-    let seen = ap (λ s. plain.Doing (item_of (stmt_view s) ∷ rest)) a.is ∙ ap (λ s. plain.Doing (item_of s ∷ rest)) (view-If a.line a.test a.on_true a.on_false) in
+    let seen = ap (λ s. plain.Doing (item_of (stmt_view s) ∷ rest)) a.is ∙ ap (λ s. plain.Doing (item_of s ∷ rest))
+    (view-If a.line a.test a.on_true a.on_false) in
     handed_back c.args.banker.now.state c.args.p c.args.vars.now (plain.Doing (item_of (stmt_view c.args.stmt) ∷ rest))
     (plain.Choice a.line (expr_view a.test) (block_view a.on_true.items) (block_view a.on_false.items) ∷ rest) seen c.choose.result c.choose.ensures.err
 

@@ -17,7 +17,12 @@ returns-then-not-leads_inside c =
     let h = c.if-not-leads_inside.ensures c.args.code.now.bundles.items in (
       λ t. let wrong : false ≡ true = t in cc,
       λ stay. h.1 (λ to at.
-          let in_arm = stay c.loop-place.place to (plain c.args.code.now c.instr_at.result) (c.requires.arm, omega arith, omega arith) c.instr_at.ensures (jumps_from (plain c.args.code.now c.instr_at.result) to at) in
+          let in_arm = stay c.loop-place.place to (plain c.args.code.now c.instr_at.result) (
+            c.requires.arm,
+            omega
+                arith,
+            omega arith,
+          ) c.instr_at.ensures (jumps_from (plain c.args.code.now c.instr_at.result) to at) in
           let low = in_arm.1 in
           let high = in_arm.2 in
           (omega arith, omega arith)),
@@ -25,7 +30,8 @@ returns-then-not-leads_inside c =
 
 pub loop-place-preserved : goal.loop-place-preserved
 loop-place-preserved c =
-    stay_more (instrs_of c.args.code.now) c.arm_entry-begin.result c.end_of_arm-end.result c.loop-place.place (plain c.args.code.now c.instr_at.result) c.instr_at.ensures c.loop-place.invariant
+    stay_more (instrs_of c.args.code.now) c.arm_entry-begin.result c.end_of_arm-end.result c.loop-place.place (plain
+    c.args.code.now c.instr_at.result) c.instr_at.ensures c.loop-place.invariant
     ((c.if-not-leads_inside.ensures c.args.code.now.bundles.items).0 refl)
 
 pub returns : goal.returns

@@ -9,7 +9,8 @@ loop-arm-preserved c =
     rw c.in_ok-push.ensures.items
     record {
       all = length-append c.loop-arm.row.items (c.deepest.result ∷ []) ∙ ap (λ (n : ℕ). n + 1) c.loop-arm.invariant.all;
-      greatest = push_more c.loop-arm.row.items c.deepest.result c.loop-arm.arm (IsDepthOf (process_view c.args.code.now)) c.loop-arm.invariant.all c.loop-arm.invariant.greatest c.deepest.ensures;
+      greatest = push_more c.loop-arm.row.items c.deepest.result c.loop-arm.arm (IsDepthOf (process_view
+          c.args.code.now)) c.loop-arm.invariant.all c.loop-arm.invariant.greatest c.deepest.ensures;
     }
 
 pub returns-clause-greatest : goal.returns-clause-greatest

@@ -13,7 +13,8 @@ use Rattle.pb_verifier.proofs.deepest.deepest.Goals.{in-Some+then-depth-best, in
 pub loop-place-init : goal.loop-place-init
 loop-place-init c =
     subst (λ (n : ℕ). IsBestBefore (process_view c.args.code.now) c.args.depths.now c.args.arm n 0) (sym c.arm_entry-begin.ensures)
-    (best_start (process_view c.args.code.now) c.args.depths.now c.requires.depths c.args.arm (entry_in_arm (process_view c.args.code.now) c.requires.arms c.args.arm c.requires.arm))
+    (best_start (process_view c.args.code.now) c.args.depths.now c.requires.depths c.args.arm (entry_in_arm
+    (process_view c.args.code.now) c.requires.arms c.args.arm c.requires.arm))
 
 pub bounds-depths-place : goal.bounds-depths-place
 bounds-depths-place c =
@@ -34,13 +35,15 @@ loop-place-preserved c =
     elim c.match-depths-place.branch [
       | in-Some+then-depth-best w ↦
           subst (λ (n : ℕ). IsBestBefore (process_view c.args.code.now) c.args.depths.now c.args.arm (c.loop-place.place + 1) n) (sym w.best-is)
-          (best_takes (process_view c.args.code.now) c.args.depths.now c.args.arm c.loop-place.place c.loop-place.best w.in-Some.depth c.loop-place.invariant within
+          (best_takes (process_view c.args.code.now) c.args.depths.now c.args.arm c.loop-place.place c.loop-place.best
+          w.in-Some.depth c.loop-place.invariant within
           (get_or_default c.args.depths.now c.loop-place.place None _ u ∙ w.in-Some.is) w.if-depth-best.true)
       | in-Some+else-depth-best w ↦
           subst (λ (n : ℕ). IsBestBefore (process_view c.args.code.now) c.args.depths.now c.args.arm (c.loop-place.place + 1) n) (sym w.best-is)
           (best_keeps (process_view c.args.code.now) c.args.depths.now c.args.arm c.loop-place.place c.loop-place.best c.loop-place.invariant
           (λ d at.
-          let read : fact_at c.args.depths.now c.loop-place.place ≡ Some w.in-Some.depth = get_or_default c.args.depths.now c.loop-place.place None _ u ∙ w.in-Some.is in
+          let read : fact_at c.args.depths.now c.loop-place.place ≡ Some w.in-Some.depth = get_or_default
+          c.args.depths.now c.loop-place.place None _ u ∙ w.in-Some.is in
           let both : Some w.in-Some.depth ≡ Some d = sym read ∙ at in
           let same : w.in-Some.depth ≡ d = cc in
           subst (λ (x : Depth). x.count ≤ c.loop-place.best) same w.if-depth-best.false))
@@ -53,4 +56,5 @@ loop-place-preserved c =
 pub returns : goal.returns
 returns c =
     let e = c.end_of_arm-end.ensures in
-    best_over (process_view c.args.code.now) c.args.depths.now c.requires.depths c.args.arm c.loop-place.place c.loop-place.best c.loop-place.invariant (λ p within. let u = within.2 in omega arith)
+    best_over (process_view c.args.code.now) c.args.depths.now c.requires.depths c.args.arm c.loop-place.place
+    c.loop-place.best c.loop-place.invariant (λ p within. let u = within.2 in omega arith)

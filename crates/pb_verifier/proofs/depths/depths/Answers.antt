@@ -16,7 +16,8 @@ pub returns-clause-yes : goal.returns-clause-yes
 returns-clause-yes c =
     some_weaker c.spread.result
     (λ table least.
-    table_of (process_view c.args.code.now) TurnsDepth depth_rules depths_by_rules c.args.order.now c.requires.inside c.requires.reached (notes_of (λ (d : Depth). d.count) table.items)
+    table_of (process_view c.args.code.now) TurnsDepth depth_rules depths_by_rules c.args.order.now c.requires.inside
+    c.requires.reached (notes_of (λ (d : Depth). d.count) table.items)
     (subst (λ (es : List ℕ). IsLeast depth_rules es (instrs_of c.args.code.now) (notes_of (λ (d : Depth). d.count) table.items)) c.deref.ensures.value least))
     c.spread.ensures.yes
 

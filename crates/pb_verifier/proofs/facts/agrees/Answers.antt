@@ -6,7 +6,8 @@ use Rattle.pb_verifier.proofs.facts.agrees.Goals as goal
 
 pub returns-in-Some : goal.returns-in-Some
 returns-in-Some g c =
-    let here : fact_at c.args.table.now c.args.place ≡ Some c.in-Some.found = get_or_default c.args.table.now c.args.place None _ c.requires.place ∙ c.in-Some.is in
+    let here : fact_at c.args.table.now c.args.place ≡ Some c.in-Some.found = get_or_default c.args.table.now
+    c.args.place None _ c.requires.place ∙ c.in-Some.is in
     let Means : g.row.F.Denot → g.F.Fact.Value = λ x. g.F.Fact.value (instrs_of c.args.code.now) c.args.table.now x in
     let same = c.same.ensures in (
       λ e found there.

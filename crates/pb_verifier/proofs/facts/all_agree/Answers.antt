@@ -16,6 +16,7 @@ returns g c =
     let at_target = c.if-not-agrees_at_target.ensures in
     let on = c.if-not-falls_through.ensures in
     let h = c.agrees.ensures in (
-      λ e. all_followers (plain c.args.code.now c.args.instr) c.args.place (AgreesAt (g.F.Fact.value (instrs_of c.args.code.now) c.args.table.now) c.args.table.now c.args.fact) (at_target.0 refl) (λ _. h.0 e),
+      λ e. all_followers (plain c.args.code.now c.args.instr) c.args.place (AgreesAt (g.F.Fact.value (instrs_of
+          c.args.code.now) c.args.table.now) c.args.table.now c.args.fact) (at_target.0 refl) (λ _. h.0 e),
       λ all. h.1 (all (c.args.place + 1) (next_follows (plain c.args.code.now c.args.instr) c.args.place (sym (on c.args.code.now.bundles.items)))),
     )

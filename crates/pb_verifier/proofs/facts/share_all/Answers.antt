@@ -11,6 +11,7 @@ share_at_target-requires-clause-agrees g c =
 pub share_at-requires-clause-agrees : goal.share_at-requires-clause-agrees
 share_at-requires-clause-agrees g c =
     let on = c.falls_through.ensures c.args.code.now.bundles.items in
-    kept_agrees (g.F.Fact.value (instrs_of c.args.code.now)) (g.F.Fact.IsReadable (instrs_of c.args.code.now)) c.args.table.now.items c.share_at_target.new.table.items c.args.fact (c.args.place + 1)
+    kept_agrees (g.F.Fact.value (instrs_of c.args.code.now)) (g.F.Fact.IsReadable (instrs_of c.args.code.now))
+    c.args.table.now.items c.share_at_target.new.table.items c.args.fact (c.args.place + 1)
     c.share_at_target.ensures c.requires.fact
     (c.requires.agree (c.args.place + 1) (next_follows (plain c.args.code.now c.args.instr) c.args.place (sym on ∙ c.if-falls_through.true)))

@@ -14,4 +14,5 @@ invariant-loop-entry g l = record {
 
 abbrev pub invariant-loop-place : goal.invariant-loop-place
 invariant-loop-place g l =
-    IsTable (g.F.Fact.value (instrs_of l.code)) (g.F.Fact.IsReadable (instrs_of l.code)) (rules_of (g.F.Fact.start l.fn.first) g.F.Fact.Fits g.F.Fact.after) l.entries (instrs_of l.code) l.order l.place-index l.table.items
+    IsTable (g.F.Fact.value (instrs_of l.code)) (g.F.Fact.IsReadable (instrs_of l.code)) (rules_of (g.F.Fact.start
+    l.fn.first) g.F.Fact.Fits g.F.Fact.after) l.entries (instrs_of l.code) l.order l.place-index l.table.items

@@ -22,7 +22,8 @@ returns-then-not-mark c =
     let there = c.requires.there c.loop-place.place c.in-Fork.first c.in-Fork.count c.in-Fork.ensures in
     let few = c.requires.few in (
       λ t. let wrong : false ≡ true = t in cc,
-      λ named. c.if-not-mark.ensures.free.1 (unmarked_of (process_view c.args.code.now) named c.loop-place.place c.in-Fork.first c.in-Fork.count c.loop-place.marks c.loop-place.invariant c.in-Fork.ensures (omega arith)),
+      λ named. c.if-not-mark.ensures.free.1 (unmarked_of (process_view c.args.code.now) named c.loop-place.place
+          c.in-Fork.first c.in-Fork.count c.loop-place.marks c.loop-place.invariant c.in-Fork.ensures (omega arith)),
     )
 
 pub loop-place-preserved : goal.loop-place-preserved
@@ -34,13 +35,15 @@ loop-place-preserved c =
           let h = w.if-not-mark.ensures in
           let sized : length w.mark.new.marks ≡ 64 = w.mark.auto.marks ∙ c.loop-place.invariant.sized in
           subst (λ (m : List Bool). IsMarked (process_view c.args.code.now) (c.loop-place.place + 1) m) (sym w.marks-is)
-          (marked_more (process_view c.args.code.now) c.loop-place.place w.in-Fork.first w.in-Fork.count c.loop-place.marks w.mark.new.marks c.loop-place.invariant w.in-Fork.ensures (omega arith) sized
+          (marked_more (process_view c.args.code.now) c.loop-place.place w.in-Fork.first w.in-Fork.count
+          c.loop-place.marks w.mark.new.marks c.loop-place.invariant w.in-Fork.ensures (omega arith) sized
           (h.free.0 refl) (h.marked refl))
       | in_default w ↦
           subst (λ (m : List Bool). IsMarked (process_view c.args.code.now) (c.loop-place.place + 1) m) (sym w.marks-is)
           (marked_skip (process_view c.args.code.now) c.loop-place.place c.loop-place.marks c.loop-place.invariant
           (λ first count read.
-          let same = same_read (instrs_of c.args.code.now) c.loop-place.place (plain c.args.code.now c.instr_at.result) (Fork first count) c.instr_at.ensures read in
+          let same = same_read (instrs_of c.args.code.now) c.loop-place.place (plain c.args.code.now
+          c.instr_at.result) (Fork first count) c.instr_at.ensures read in
           w.in_default.not-Fork first count (fork_given c.args.code.now.bundles.items c.instr_at.result first count same)))
     ]
 
@@ -50,7 +53,8 @@ returns-then-not-marks-arm c =
     let p = c.places-place-end.ensures in (
       λ t. let wrong : false ≡ true = t in cc,
       λ named.
-          let m = marked_of (process_view c.args.code.now) named c.loop-place.place c.loop-place.marks c.loop-place.invariant (omega arith) c.requires.few c.loop-arm.arm c.loop-arm.auto.arm (omega arith) in
+          let m = marked_of (process_view c.args.code.now) named c.loop-place.place c.loop-place.marks
+          c.loop-place.invariant (omega arith) c.requires.few c.loop-arm.arm c.loop-arm.auto.arm (omega arith) in
           let wrong : false ≡ true = sym c.if-not-marks-arm.true ∙ m in
           cc,
     )
@@ -58,5 +62,8 @@ returns-then-not-marks-arm c =
 pub returns : goal.returns
 returns c =
     let n = c.arm_count-arm-end.ensures in
-    let p = c.places-place-end.ensures in
-    (λ _. named_from (process_view c.args.code.now) c.loop-place.place c.loop-place.marks c.loop-place.invariant (omega arith) c.requires.few (λ b u v. c.loop-arm.invariant b u (omega arith)), λ _. refl)
+    let p = c.places-place-end.ensures in (
+      λ _. named_from (process_view c.args.code.now) c.loop-place.place c.loop-place.marks c.loop-place.invariant
+          (omega arith) c.requires.few (λ b u v. c.loop-arm.invariant b u (omega arith)),
+      λ _. refl,
+    )

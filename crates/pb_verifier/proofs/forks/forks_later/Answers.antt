@@ -27,7 +27,8 @@ returns-then-not-names_later c =
 pub loop-place-preserved : goal.loop-place-preserved
 loop-place-preserved c =
     let n = c.arm_count.ensures in
-    later_more (process_view c.args.code.now) c.args.arm c.arm_entry-begin.result c.loop-place.place (plain c.args.code.now c.instr_at.result) c.instr_at.ensures c.loop-place.invariant
+    later_more (process_view c.args.code.now) c.args.arm c.arm_entry-begin.result c.loop-place.place (plain
+    c.args.code.now c.instr_at.result) c.instr_at.ensures c.loop-place.invariant
     (λ first count is. let l = (c.if-not-names_later.ensures c.args.code.now.bundles.items).0 refl first count is in let m = l.1 in (l.0, omega arith))
 
 pub returns : goal.returns

@@ -11,7 +11,8 @@ loop-arm-preserved c = below_more _ _ c.loop-arm.invariant (c.if-not-forks_later
 
 pub loop-place-preserved : goal.loop-place-preserved
 loop-place-preserved c =
-    each_more (instrs_of c.args.code.now) c.loop-place.place (plain c.args.code.now c.instr_at.result) (IsPaired (process_view c.args.code.now)) c.instr_at.ensures c.loop-place.invariant (c.if-not-is_paired.ensures.0 refl)
+    each_more (instrs_of c.args.code.now) c.loop-place.place (plain c.args.code.now c.instr_at.result) (IsPaired
+    (process_view c.args.code.now)) c.instr_at.ensures c.loop-place.invariant (c.if-not-is_paired.ensures.0 refl)
 
 pub are_named-requires-clause-there : goal.are_named-requires-clause-there
 are_named-requires-clause-there c =
@@ -24,6 +25,7 @@ returns c =
     let p = c.places-place-end.ensures in (
       λ t.
           forks_from (process_view c.args.code.now) (λ a u. c.loop-arm.invariant a (omega arith))
-          (each_all (instrs_of c.args.code.now) c.loop-place.place (IsPaired (process_view c.args.code.now)) (omega arith) c.loop-place.invariant) (c.are_named.ensures.0 t),
+          (each_all (instrs_of c.args.code.now) c.loop-place.place (IsPaired (process_view c.args.code.now)) (omega
+          arith) c.loop-place.invariant) (c.are_named.ensures.0 t),
       λ h. c.are_named.ensures.1 (named_of (process_view c.args.code.now) h),
     )

@@ -7,5 +7,6 @@ returns-clause-marked c =
     let rise = c.requires.rise in
     let over : c.loop-arm.arm ≡ c.args.end = omega arith in
     λ _. subst
-    (λ (n : ℕ). (b : ℕ) → b < length c.args.marks.now → ((get_or c.loop-arm.marks b false ≡ true) ↔ ((get_or c.args.marks.now b false ≡ true) ⊎ ((c.args.first ≤ b) × (b < n)))))
+    (λ (n : ℕ). (b : ℕ) → b < length c.args.marks.now → ((get_or c.loop-arm.marks b false ≡ true) ↔ ((get_or
+    c.args.marks.now b false ≡ true) ⊎ ((c.args.first ≤ b) × (b < n)))))
     over c.loop-arm.invariant.marked

@@ -16,8 +16,10 @@ pub returns-clause-yes : goal.returns-clause-yes
 returns-clause-yes c =
     some_weaker c.spread.result
     (λ table least.
-    table_of (process_view c.args.code.now) TurnsHoldings hold_rules holdings_by_rules c.args.order.now c.requires.inside c.requires.reached (notes_of (held_by (instrs_of c.args.code.now) table.items) table.items)
-    (subst (λ (es : List ℕ). IsLeast hold_rules es (instrs_of c.args.code.now) (notes_of (held_by (instrs_of c.args.code.now) table.items) table.items)) c.deref.ensures.value least))
+    table_of (process_view c.args.code.now) TurnsHoldings hold_rules holdings_by_rules c.args.order.now
+    c.requires.inside c.requires.reached (notes_of (held_by (instrs_of c.args.code.now) table.items) table.items)
+    (subst (λ (es : List ℕ). IsLeast hold_rules es (instrs_of c.args.code.now) (notes_of (held_by (instrs_of
+    c.args.code.now) table.items) table.items)) c.deref.ensures.value least))
     c.spread.ensures.yes
 
 pub returns-clause-no : goal.returns-clause-no

@@ -7,7 +7,8 @@ abbrev pub invariant-loop-left : goal.invariant-loop-left
 invariant-loop-left l = record {
   one : IsChain (instrs_of l.code) l.table l.left l.a;
   two : IsChain (instrs_of l.code) l.table l.left l.b;
-  same : (held (instrs_of l.code) l.table l.left l.a ≡ held (instrs_of l.code) l.table l.left l.b) ↔ (held (instrs_of l.code) l.table l.count l.one ≡ held (instrs_of l.code) l.table l.count l.two);
+  same : (held (instrs_of l.code) l.table l.left l.a ≡ held (instrs_of l.code) l.table l.left l.b) ↔ (held (instrs_of
+      l.code) l.table l.count l.one ≡ held (instrs_of l.code) l.table l.count l.two);
 }
 
 abbrev pub decreases-loop-left : goal.decreases-loop-left

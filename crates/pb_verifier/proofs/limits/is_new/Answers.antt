@@ -7,7 +7,8 @@ returns-then-eq c =
     let u : c.loop-j.j < length c.args.names.now = omega arith in
     let one = at_mapped (λ name. name.items) c.args.names.now c.args.k c.index-names-k.result [] c.requires c.index-names-k.is in
     let two = at_mapped (λ name. name.items) c.args.names.now c.loop-j.j c.index-names-j.result [] u c.index-names-j.is in
-    let same = sym c.as_slice.ensures.value ∙ bytes_same c.as_slice.result.now c.as_slice-in-loop-j.result.now c.if-eq.ensures ∙ c.as_slice-in-loop-j.ensures.value in
+    let same = sym c.as_slice.ensures.value ∙ bytes_same c.as_slice.result.now c.as_slice-in-loop-j.result.now
+    c.if-eq.ensures ∙ c.as_slice-in-loop-j.ensures.value in
     (λ e. let wrong : false ≡ true = e in cc, λ new. absurd (new c.loop-j.j (omega arith) u (one ∙ same ∙ sym two)))
 
 pub loop-j-preserved : goal.loop-j-preserved

@@ -9,24 +9,35 @@ use Rattle.pb_verifier.proofs.limits.keeps_limits.Goals as goal
 
 pub returns-then-not-is_small_process : goal.returns-then-not-is_small_process
 returns-then-not-is_small_process c =
-    let read = read_borrowed process_view c.args.code.now.processes.items c.deref-process-items.result.now c.deref-process-items.ensures.value c.loop-process.process-index c.process-item.result c.loop-process-test.true c.process-item.is in
+    let read = read_borrowed process_view c.args.code.now.processes.items c.deref-process-items.result.now
+    c.deref-process-items.ensures.value c.loop-process.process-index c.process-item.result
+    c.loop-process-test.true c.process-item.is in
     record {
-      limits = (λ e. let wrong : false ≡ true = e in cc, λ limits. c.if-not-is_small_process.ensures.limits.1 (limits.each c.loop-process.process-index _ read));
+      limits = (
+        λ e. let wrong : false ≡ true = e in cc,
+        λ limits. c.if-not-is_small_process.ensures.limits.1
+            (limits.each c.loop-process.process-index _ read),
+      );
       pushes = λ e. let wrong : false ≡ true = e in absurd cc;
     }
 
 pub loop-process-preserved : goal.loop-process-preserved
 loop-process-preserved c =
-    let read = read_borrowed process_view c.args.code.now.processes.items c.deref-process-items.result.now c.deref-process-items.ensures.value c.loop-process.process-index c.process-item.result c.loop-process-test.true c.process-item.is in
+    let read = read_borrowed process_view c.args.code.now.processes.items c.deref-process-items.result.now
+    c.deref-process-items.ensures.value c.loop-process.process-index c.process-item.result
+    c.loop-process-test.true c.process-item.is in
     let processes = map process_view c.args.code.now.processes.items in
     record {
-      small = each_more processes c.loop-process.process-index _ (λ _ process. IsSmallProcess process) read c.loop-process.invariant.small (c.if-not-is_small_process.ensures.limits.0 refl);
-      pushes = each_more processes c.loop-process.process-index _ (λ _ process. HasSmallPushes process) read c.loop-process.invariant.pushes (c.if-not-is_small_process.ensures.pushes refl);
+      small = each_more processes c.loop-process.process-index _ (λ _ process. IsSmallProcess process) read
+          c.loop-process.invariant.small (c.if-not-is_small_process.ensures.limits.0 refl);
+      pushes = each_more processes c.loop-process.process-index _ (λ _ process. HasSmallPushes process) read
+          c.loop-process.invariant.pushes (c.if-not-is_small_process.ensures.pushes refl);
     }
 
 pub returns : goal.returns
 returns c =
-    let n : length (map process_view c.args.code.now.processes.items) ≡ length c.args.code.now.processes.items = length-map c.args.code.now.processes.items process_view in
+    let n : length (map process_view c.args.code.now.processes.items) ≡ length c.args.code.now.processes.items =
+    length-map c.args.code.now.processes.items process_view in
     let m : length c.deref-process-items.result.now ≡ length c.args.code.now.processes.items = ap length c.deref-process-items.ensures.value in
     let count : c.len-processes.result ≡ length (map process_view c.args.code.now.processes.items) = let l = c.len-processes.ensures in omega arith in
     let kinds : c.resources-resources.result ≡ length c.args.code.now.capital = c.resources-resources.ensures.number in
@@ -47,9 +58,11 @@ returns c =
           rows = claims.0 ∙ count;
           width = subst (λ (n : ℕ). HasWidth n c.args.code.now.claims) kinds claims.1;
           claims = λ p r u v. claims.2 p r (omega arith) (omega arith);
-          each = each_all (map process_view c.args.code.now.processes.items) c.loop-process.process-index (λ _ process. IsSmallProcess process) (omega arith) c.loop-process.invariant.small;
+          each = each_all (map process_view c.args.code.now.processes.items) c.loop-process.process-index (λ _
+              process. IsSmallProcess process) (omega arith) c.loop-process.invariant.small;
         },
         λ _. refl,
       );
-      pushes = λ _. each_all (map process_view c.args.code.now.processes.items) c.loop-process.process-index (λ _ process. HasSmallPushes process) (omega arith) c.loop-process.invariant.pushes;
+      pushes = λ _. each_all (map process_view c.args.code.now.processes.items) c.loop-process.process-index (λ _
+          process. HasSmallPushes process) (omega arith) c.loop-process.invariant.pushes;
     }

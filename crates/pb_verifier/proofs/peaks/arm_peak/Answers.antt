@@ -17,7 +17,8 @@ pub peak_at-here-requires-clause-there : goal.peak_at-here-requires-clause-there
 peak_at-here-requires-clause-there c =
     λ bundles first count e.
     let is = ap (plain c.args.code.now) (join_given bundles c.instr_at.result first count e) in
-    let there = joins_there (process_view c.args.code.now) c.requires.arms c.requires.forks c.requires.small.some_arms.0 c.loop-place.place first count (c.instr_at.ensures ∙ ap Some is) in
+    let there = joins_there (process_view c.args.code.now) c.requires.arms c.requires.forks
+    c.requires.small.some_arms.0 c.loop-place.place first count (c.instr_at.ensures ∙ ap Some is) in
     let few = c.requires.small.some_arms.1 in
     let sized = c.requires.sized in
     omega arith
@@ -49,25 +50,33 @@ loop-place-preserved c =
     let value : Amount → ℕ × ℕ = λ a. (a.resource, a.held) in
     elim c.match-table-place.branch [
       | in-Some+then-here-best w ↦
-          let read : fact_at c.args.table.now c.loop-place.place ≡ Some w.in-Some.amount = get_or_default c.args.table.now c.loop-place.place None _ u ∙ w.in-Some.is in
+          let read : fact_at c.args.table.now c.loop-place.place ≡ Some w.in-Some.amount = get_or_default
+          c.args.table.now c.loop-place.place None _ u ∙ w.in-Some.is in
           let reached = c.requires.amounts.only c.loop-place.place (value w.in-Some.amount) (ap (option_map value) read) in
           let held = ap (λ (o : Option Amount). unwrap_or (option_map (λ a. a.held) o) 0) read in
           let here = w.peak_at-here.ensures c.args.code.now.bundles.items in
           record {
             best = λ peak cut lie fork some.
-                best_known (process_view c.args.code.now) lie fork some c.args.table.now peak c.args.arm c.loop-place.place c.loop-place.best w.in-Some.amount.held w.peak_at-here.result c.match-table-place.best c.args.peaks.now
-                (plain c.args.code.now w.instr_at.result) (c.loop-place.invariant.best peak cut lie fork some) within reached w.instr_at.ensures held here cut (inl (w.best-is, w.if-here-best.true));
+                best_known (process_view c.args.code.now) lie fork some c.args.table.now peak c.args.arm
+                c.loop-place.place c.loop-place.best w.in-Some.amount.held w.peak_at-here.result
+                c.match-table-place.best c.args.peaks.now
+                (plain c.args.code.now w.instr_at.result) (c.loop-place.invariant.best peak cut lie fork some) within
+                reached w.instr_at.ensures held here cut (inl (w.best-is, w.if-here-best.true));
             small = let x = w.best-is in omega arith;
           }
       | in-Some+else-here-best w ↦
-          let read : fact_at c.args.table.now c.loop-place.place ≡ Some w.in-Some.amount = get_or_default c.args.table.now c.loop-place.place None _ u ∙ w.in-Some.is in
+          let read : fact_at c.args.table.now c.loop-place.place ≡ Some w.in-Some.amount = get_or_default
+          c.args.table.now c.loop-place.place None _ u ∙ w.in-Some.is in
           let reached = c.requires.amounts.only c.loop-place.place (value w.in-Some.amount) (ap (option_map value) read) in
           let held = ap (λ (o : Option Amount). unwrap_or (option_map (λ a. a.held) o) 0) read in
           let here = w.peak_at-here.ensures c.args.code.now.bundles.items in
           record {
             best = λ peak cut lie fork some.
-                best_known (process_view c.args.code.now) lie fork some c.args.table.now peak c.args.arm c.loop-place.place c.loop-place.best w.in-Some.amount.held w.peak_at-here.result c.match-table-place.best c.args.peaks.now
-                (plain c.args.code.now w.instr_at.result) (c.loop-place.invariant.best peak cut lie fork some) within reached w.instr_at.ensures held here cut (inr (w.best-is, w.if-here-best.false));
+                best_known (process_view c.args.code.now) lie fork some c.args.table.now peak c.args.arm
+                c.loop-place.place c.loop-place.best w.in-Some.amount.held w.peak_at-here.result
+                c.match-table-place.best c.args.peaks.now
+                (plain c.args.code.now w.instr_at.result) (c.loop-place.invariant.best peak cut lie fork some) within
+                reached w.instr_at.ensures held here cut (inr (w.best-is, w.if-here-best.false));
             small = let x = w.best-is in let y = c.loop-place.invariant.small in omega arith;
           }
       | in_default w ↦
@@ -78,8 +87,10 @@ loop-place-preserved c =
           in
           record {
             best = λ peak cut lie fork some.
-                subst (λ (m : ℕ). IsBest (process_view c.args.code.now) lie fork some c.args.table.now peak c.args.arm (c.loop-place.place + 1) m) (sym w.best-is)
-                (best_skip (process_view c.args.code.now) lie fork some c.args.table.now peak c.args.arm c.loop-place.place c.loop-place.best (c.loop-place.invariant.best peak cut lie fork some) none);
+                subst (λ (m : ℕ). IsBest (process_view c.args.code.now) lie fork some c.args.table.now peak c.args.arm
+                (c.loop-place.place + 1) m) (sym w.best-is)
+                (best_skip (process_view c.args.code.now) lie fork some c.args.table.now peak c.args.arm
+                c.loop-place.place c.loop-place.best (c.loop-place.invariant.best peak cut lie fork some) none);
             small = let x = w.best-is in let y = c.loop-place.invariant.small in omega arith;
           }
     ]
@@ -88,5 +99,6 @@ pub returns-clause-peak : goal.returns-clause-peak
 returns-clause-peak c =
     let e = c.end_of_arm-end.ensures in
     λ peak cut.
-    best_over (process_view c.args.code.now) c.requires.arms c.requires.forks c.requires.small.some_arms.0 c.args.table.now peak c.args.arm c.loop-place.place c.loop-place.best c.requires.arm (omega arith)
+    best_over (process_view c.args.code.now) c.requires.arms c.requires.forks c.requires.small.some_arms.0
+    c.args.table.now peak c.args.arm c.loop-place.place c.loop-place.best c.requires.arm (omega arith)
     (c.loop-place.invariant.best peak cut c.requires.arms c.requires.forks c.requires.small.some_arms.0)

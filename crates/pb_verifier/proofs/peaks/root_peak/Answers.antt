@@ -14,11 +14,13 @@ loop-done-init c = record {
 pub arm_peak-requires-clause-cut : goal.arm_peak-requires-clause-cut
 arm_peak-requires-clause-cut c = c.loop-done.invariant.small
 
-set_small : (peaks : List ℕ) (arm new : ℕ) → arm < length peaks → ((b : ℕ) → get_or peaks b 0 ≤ 1000001) → new ≤ 1000001 → (b : ℕ) → get_or (set peaks arm new) b 0 ≤ 1000001
+set_small : (peaks : List ℕ) (arm new : ℕ) → arm < length peaks → ((b : ℕ) → get_or peaks b 0 ≤ 1000001) → new ≤
+    1000001 → (b : ℕ) → get_or (set peaks arm new) b 0 ≤ 1000001
 set_small peaks arm new u small few b = go (cases_eq b arm)
   where
     go : (b ≡ arm) ⊎ (b ≢ arm) → get_or (set peaks arm new) b 0 ≤ 1000001
-    go (inl same) = let e : get_or (set peaks arm new) b 0 ≡ new = ap (λ (k : ℕ). get_or (set peaks arm new) k 0) same ∙ get_or-set_same peaks arm new 0 u in omega arith
+    go (inl same) = let e : get_or (set peaks arm new) b 0 ≡ new = ap (λ (k : ℕ). get_or (set peaks arm new) k 0) same
+        ∙ get_or-set_same peaks arm new 0 u in omega arith
     go (inr other) = let e : get_or (set peaks arm new) b 0 ≡ get_or peaks b 0 = get_or-set_other peaks arm b new 0 other in let v = small b in omega arith
 
 pub loop-done-preserved : goal.loop-done-preserved
@@ -34,9 +36,13 @@ loop-done-preserved c =
       small = set_small c.loop-done.peaks arm c.arm_peak.result u c.loop-done.invariant.small c.arm_peak.ensures.small;
       last = λ lie fork some.
           let before = c.loop-done.invariant.last lie fork some in
-          last_more (process_view c.args.code.now) lie fork some c.args.table.now c.loop-done.done arm c.arm_peak.result c.loop-done.peaks (set c.loop-done.peaks arm c.arm_peak.result) before e c.arm_peak.ensures.small
-          (c.arm_peak.ensures.peak before.peak (last_cut (process_view c.args.code.now) lie fork some c.args.table.now c.loop-done.done arm c.loop-done.peaks before e))
-          (length-set c.loop-done.peaks arm c.arm_peak.result ∙ long) (get_or-set_same c.loop-done.peaks arm c.arm_peak.result 0 u) (λ b other. get_or-set_other c.loop-done.peaks arm b c.arm_peak.result 0 other);
+          last_more (process_view c.args.code.now) lie fork some c.args.table.now c.loop-done.done arm
+          c.arm_peak.result c.loop-done.peaks (set c.loop-done.peaks arm c.arm_peak.result) before e
+          c.arm_peak.ensures.small
+          (c.arm_peak.ensures.peak before.peak (last_cut (process_view c.args.code.now) lie fork some c.args.table.now
+          c.loop-done.done arm c.loop-done.peaks before e))
+          (length-set c.loop-done.peaks arm c.arm_peak.result ∙ long) (get_or-set_same c.loop-done.peaks arm
+          c.arm_peak.result 0 u) (λ b other. get_or-set_other c.loop-done.peaks arm b c.arm_peak.result 0 other);
     }
 
 pub returns : goal.returns

@@ -8,5 +8,6 @@ use Rattle.pb_verifier.proofs.peaks.root_peak.Given as goal
 abbrev pub invariant-loop-done : goal.invariant-loop-done
 invariant-loop-done l = record {
   small : (b : ℕ) → get_or l.peaks b 0 ≤ 1000001;
-  last : (lie : HasArms (process_view l.code)) (fork : HasForks (process_view l.code)) (some : 1 ≤ arms (process_view l.code)) → AreLast (process_view l.code) lie fork some l.table l.done l.peaks;
+  last : (lie : HasArms (process_view l.code)) (fork : HasForks (process_view l.code)) (some : 1 ≤ arms (process_view
+      l.code)) → AreLast (process_view l.code) lie fork some l.table l.done l.peaks;
 }

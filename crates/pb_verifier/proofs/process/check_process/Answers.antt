@@ -10,7 +10,13 @@ pub returns-then-not-has_forks-clause-refused : goal.returns-then-not-has_forks-
 returns-then-not-has_forks-clause-refused c =
     let range = subst (λ (n : ℕ). IsInRange n (process_view c.args.code.now)) c.resources.ensures.number (c.if-not-is_in_range.ensures.0 refl) in
     let arms = c.if-not-has_arms.ensures.0 refl in
-    λ _. record { there = λ has. let wrong : false ≡ true = c.if-not-has_forks.ensures.1 has in cc; earlier = free_below 4 (width_of c.args.claims.now) (cell c.args.claims.now c.args.process) (process_view c.args.code.now) (λ _. range) (λ _. arms) (λ u. absurd (omega arith)) (λ u. absurd (omega arith)) (λ u. absurd (omega arith)) (λ u. absurd (omega arith)) (λ u. absurd (omega arith)) }
+    λ _. record {
+      there = λ has. let wrong : false ≡ true = c.if-not-has_forks.ensures.1 has in cc;
+      earlier =
+          free_below 4 (width_of c.args.claims.now) (cell c.args.claims.now c.args.process) (process_view
+          c.args.code.now) (λ _. range) (λ _. arms) (λ u. absurd (omega arith)) (λ u. absurd (omega arith)) (λ u. absurd
+          (omega arith)) (λ u. absurd (omega arith)) (λ u. absurd (omega arith));
+    }
 
 pub returns-in-Ok-None-holdings-clause-refused : goal.returns-in-Ok-None-holdings-clause-refused
 returns-in-Ok-None-holdings-clause-refused c =
@@ -18,7 +24,13 @@ returns-in-Ok-None-holdings-clause-refused c =
     let arms = c.if-not-has_arms.ensures.0 refl in
     let forks = c.if-not-has_forks.ensures.0 refl in
     let depths = rw c.in-Ok-Some.field-0-is at c.in-Ok-Some.ensures.yes in
-    λ _. record { there = rw c.in-Ok-None-holdings.field-0-is at c.in-Ok-None-holdings.ensures.no; earlier = free_below 6 (width_of c.args.claims.now) (cell c.args.claims.now c.args.process) (process_view c.args.code.now) (λ _. range) (λ _. arms) (λ _. forks) (λ _. (_, depths.spreads)) (λ u. absurd (omega arith)) (λ u. absurd (omega arith)) (λ u. absurd (omega arith)) }
+    λ _. record {
+      there = rw c.in-Ok-None-holdings.field-0-is at c.in-Ok-None-holdings.ensures.no;
+      earlier =
+          free_below 6 (width_of c.args.claims.now) (cell c.args.claims.now c.args.process) (process_view
+          c.args.code.now) (λ _. range) (λ _. arms) (λ _. forks) (λ _. (_, depths.spreads)) (λ u. absurd (omega arith))
+          (λ u. absurd (omega arith)) (λ u. absurd (omega arith));
+    }
 
 pub returns-then-not-ends_clear-clause-refused : goal.returns-then-not-ends_clear-clause-refused
 returns-then-not-ends_clear-clause-refused c =
@@ -27,7 +39,13 @@ returns-then-not-ends_clear-clause-refused c =
     let forks = c.if-not-has_forks.ensures.0 refl in
     let depths = rw c.in-Ok-Some.field-0-is at c.in-Ok-Some.ensures.yes in
     let holdings = rw c.in-Ok-Some-holdings.field-0-is at c.in-Ok-Some-holdings.ensures.yes in
-    λ _. record { there = λ clear. let wrong : false ≡ true = c.if-not-ends_clear.ensures.1 clear in cc; earlier = free_below 7 (width_of c.args.claims.now) (cell c.args.claims.now c.args.process) (process_view c.args.code.now) (λ _. range) (λ _. arms) (λ _. forks) (λ _. (_, depths.spreads)) (λ _. (_, holdings.spreads)) (λ u. absurd (omega arith)) (λ u. absurd (omega arith)) }
+    λ _. record {
+      there = λ clear. let wrong : false ≡ true = c.if-not-ends_clear.ensures.1 clear in cc;
+      earlier =
+          free_below 7 (width_of c.args.claims.now) (cell c.args.claims.now c.args.process) (process_view
+          c.args.code.now) (λ _. range) (λ _. arms) (λ _. forks) (λ _. (_, depths.spreads)) (λ _. (_, holdings.spreads))
+          (λ u. absurd (omega arith)) (λ u. absurd (omega arith));
+    }
 
 pub peaks_fit-requires-clause-holdings : goal.peaks_fit-requires-clause-holdings
 peaks_fit-requires-clause-holdings c =
@@ -42,7 +60,13 @@ returns-in-Ok-false-clause-refused c =
     let depths = rw c.in-Ok-Some.field-0-is at c.in-Ok-Some.ensures.yes in
     let holdings = rw c.in-Ok-Some-holdings.field-0-is at c.in-Ok-Some-holdings.ensures.yes in
     let ends = c.if-not-ends_clear.ensures.0 refl in
-    λ _. record { there = λ peaks. let yes = c.in-Ok-false.ensures.1 peaks in let wrong : false ≡ true = sym c.in-Ok-false.field-0-test ∙ yes in cc; earlier = free_below 8 (width_of c.args.claims.now) (cell c.args.claims.now c.args.process) (process_view c.args.code.now) (λ _. range) (λ _. arms) (λ _. forks) (λ _. (_, depths.spreads)) (λ _. (_, holdings.spreads)) (λ _. ends) (λ u. absurd (omega arith)) }
+    λ _. record {
+      there = λ peaks. let yes = c.in-Ok-false.ensures.1 peaks in let wrong : false ≡ true = sym
+          c.in-Ok-false.field-0-test ∙ yes in cc;
+      earlier = free_below 8 (width_of c.args.claims.now) (cell
+          c.args.claims.now c.args.process) (process_view c.args.code.now) (λ _. range) (λ _. arms) (λ _. forks) (λ _.
+          (_, depths.spreads)) (λ _. (_, holdings.spreads)) (λ _. ends) (λ u. absurd (omega arith));
+    }
 
 pub returns-in-Ok-arm_depths-clause-sound : goal.returns-in-Ok-arm_depths-clause-sound
 returns-in-Ok-arm_depths-clause-sound c =
@@ -55,7 +79,11 @@ returns-in-Ok-arm_depths-clause-sound c =
     let t = c.in-Ok-true.field-0-test in
     let peaks = c.in-Ok-true.ensures.0 t in
     record {
-      free = λ fault. free_below 10 (width_of c.args.claims.now) (cell c.args.claims.now c.args.process) (process_view c.args.code.now) (λ _. range) (λ _. arms) (λ _. forks) (λ _. (_, depths.spreads)) (λ _. (_, holdings.spreads)) (λ _. ends) (λ _. peaks) fault (turn_below fault);
+      free = λ fault. free_below 10 (width_of c.args.claims.now) (cell c.args.claims.now c.args.process) (process_view
+          c.args.code.now) (λ _. range) (λ _. arms) (λ _. forks) (λ _. (_, depths.spreads)) (λ _. (
+            _,
+            holdings.spreads,
+          )) (λ _. ends) (λ _. peaks) fault (turn_below fault);
       all = c.in-Ok-arm_depths.ensures.all;
       greatest = c.in-Ok-arm_depths.ensures.greatest;
     }

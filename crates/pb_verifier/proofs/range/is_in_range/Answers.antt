@@ -6,5 +6,8 @@ use Rattle.pb_verifier.proofs.range.is_in_range.Goals as goal
 
 pub returns : goal.returns
 returns c =
-    let n = c.places-place-end.ensures in
-    (λ _. each_all (instrs_of c.args.code.now) c.loop-place.place (λ _ i. UsesWhatIsThere c.args.code.now.integers c.args.resources i) (omega arith) c.loop-place.invariant, λ _. refl)
+    let n = c.places-place-end.ensures in (
+      λ _. each_all (instrs_of c.args.code.now) c.loop-place.place (λ _ i. UsesWhatIsThere c.args.code.now.integers
+          c.args.resources i) (omega arith) c.loop-place.invariant,
+      λ _. refl,
+    )

@@ -7,7 +7,11 @@ use Rattle.pb_verifier.proofs.Inside.{stays_inside}
 use Rattle.pb_verifier.proofs.reach.reached_places.Goals as goal
 
 pub reached-requires : goal.reached-requires
-reached-requires c = record { inside = subst (λ (es : List ℕ). StaysInside es (instrs_of c.args.code.now)) (sym c.deref.ensures.value) (stays_inside (process_view c.args.code.now) c.requires.arms c.requires.some c.requires.few) }
+reached-requires c = record {
+  inside = subst (λ (es : List ℕ). StaysInside es (instrs_of c.args.code.now)) (sym
+      c.deref.ensures.value) (stays_inside (process_view c.args.code.now) c.requires.arms c.requires.some
+      c.requires.few);
+}
 
 pub returns : goal.returns
 returns c =

@@ -15,14 +15,16 @@ pub returns-then-number-least-clause-none : goal.returns-then-number-least-claus
 returns-then-number-least-clause-none c n h =
     let found : HasNumber (rows_of (found_of c.args.matches.now)) c.args.id.now c.in_ok-number.number =
     number_read (λ bs r. ParsesUnsigned 64 10 bs r × ExplainsUnsignedError 10 bs r × HasUnsignedDigitsIfOk bs r)
-    (found_of c.args.matches.now) c.args.id.now c.in_ok-number.number (λ t read. (read.0.0.0, read.0.1)) c.in_ok-number.ensures.none c.in_ok-number.ensures.value in
+    (found_of c.args.matches.now) c.args.id.now c.in_ok-number.number (λ t read. (read.0.0.0, read.0.1))
+    c.in_ok-number.ensures.none c.in_ok-number.ensures.value in
     let same = one_number _ c.args.id.now c.in_ok-number.number n found h.0 in
     omega (arith, same, h.1, h.2, c.then-number-least.either)
 
 pub returns-clause-some : goal.returns-clause-some
 returns-clause-some c = (
   number_read (λ bs r. ParsesUnsigned 64 10 bs r × ExplainsUnsignedError 10 bs r × HasUnsignedDigitsIfOk bs r)
-      (found_of c.args.matches.now) c.args.id.now c.in_ok-number.number (λ t read. (read.0.0.0, read.0.1)) c.in_ok-number.ensures.none c.in_ok-number.ensures.value,
+      (found_of c.args.matches.now) c.args.id.now c.in_ok-number.number (λ t read. (read.0.0.0, read.0.1))
+      c.in_ok-number.ensures.none c.in_ok-number.ensures.value,
   c.if-number-least.false,
   c.if-most-number.false,
 )

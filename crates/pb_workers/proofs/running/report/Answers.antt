@@ -7,7 +7,8 @@ use Rattle.pb_workers.proofs.running.report.Goals as goal
 
 pub returns-in-Some-clause-report : goal.returns-in-Some-clause-report
 returns-in-Some-clause-report g c =
-    let is : HasOutcome c.args.book (Some c.in-Some.outcome) = subst (λ (o : Option Outcome). HasOutcome c.args.book o) c.in-Some.is c.outcome-outcome.ensures.outcome in
+    let is : HasOutcome c.args.book (Some c.in-Some.outcome) = subst (λ (o : Option Outcome). HasOutcome c.args.book
+    o) c.in-Some.is c.outcome-outcome.ensures.outcome in
     report_of g.C.CodeBrand.code c.args.book _ c.args.limit c.into_trace.ensures.legal
     (sym c.limit.ensures ∙ c.if-limit.false)
     c.into_trace.ensures.entries

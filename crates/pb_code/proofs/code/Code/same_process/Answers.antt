@@ -12,6 +12,10 @@ returns c =
     let there = read_mapped process_view c.args.other.now.processes.items c.args.p c.index-2.result.now c.requires.there c.index-2.ensures in
     let from = ap (λ xs. slice_get (map (λ name. name.items) xs) c.args.p) (sym c.deref.ensures.value) in
     let to = ap (λ xs. slice_get (map (λ name. name.items) xs) c.args.p) c.deref-2.ensures.value in (
-      λ e. record { name = from ∙ c.if-not-same_name.ensures.0 refl ∙ to; claims = c.if-not-same_row.ensures.0 refl; code = alike_read one two c.args.p _ _ here there (c.same_code.ensures.0 e) },
+      λ e. record {
+        name = from ∙ c.if-not-same_name.ensures.0 refl ∙ to;
+        claims = c.if-not-same_row.ensures.0 refl;
+        code = alike_read one two c.args.p _ _ here there (c.same_code.ensures.0 e);
+      },
       λ same. c.same_code.ensures.1 (read_alike one two c.args.p _ _ here there same.code),
     )

@@ -27,7 +27,8 @@ index-requires c =
     let l_there = slice_get_read given.processes.items (length given.processes.items) c.args.p l refl within c.index-labels.ensures in
     let labels_there = labels_here d given l c.args.p (ap (λ (d : Debugging). d.labels) c.self.view_is) l_there in
     let at : Some c.in-Some.place ≡ place_of_thread (thread_view c.thread.result.now) = c.in-Some.ensures in
-    let label = has_label d c.in_ok-process.ensures.placed c.args.p _ c.in_ok-process.ensures.shown (process_labels_view l) labels_there c.args.arm c.in-Some.place
+    let label = has_label d c.in_ok-process.ensures.placed c.args.p _ c.in_ok-process.ensures.shown
+    (process_labels_view l) labels_there c.args.arm c.in-Some.place
     (at ∙ ap place_of_thread c.thread.ensures) in
     let n = c.from.ensures in
     omega (arith, label, n, l.lines.ok.0)
@@ -43,7 +44,8 @@ returns-in-Some-clause-line c =
     let l_there = slice_get_read given.processes.items (length given.processes.items) c.args.p l refl within c.index-labels.ensures in
     let labels_there = labels_here d given l c.args.p (ap (λ (d : Debugging). d.labels) c.self.view_is) l_there in
     let at : Some c.in-Some.place ≡ place_of_thread (thread_view c.thread.result.now) = c.in-Some.ensures in
-    let label = has_label d c.in_ok-process.ensures.placed c.args.p _ c.in_ok-process.ensures.shown (process_labels_view l) labels_there c.args.arm c.in-Some.place
+    let label = has_label d c.in_ok-process.ensures.placed c.args.p _ c.in_ok-process.ensures.shown
+    (process_labels_view l) labels_there c.args.arm c.in-Some.place
     (at ∙ ap place_of_thread c.thread.ensures) in
     let line = line_at_place l.lines.items (thread_view c.thread.result.now) c.in-Some.place at in
     let read = get_or_default l.lines.items c.in-Some.place None c.index.result.now label

@@ -47,7 +47,8 @@ reason-requires-clause-below c =
     let lt = in_code d replay c.args.p _ there in
     let within : c.args.p < length given.processes.items = omega (arith, lt, codes_number given d.verified.code same) in
     let code = code_at given d.verified.code same c.args.p c.index.result.now within c.index.ensures in
-    let stands = asks d c.args.p c.args.arm (process_view c.index.result.now) _ (thread_view c.thread.result.now) code there c.thread.ensures c.in-Some.bundle.now c.in-Some.ensures.some in
+    let stands = asks d c.args.p c.args.arm (process_view c.index.result.now) _ (thread_view c.thread.result.now) code
+    there c.thread.ensures c.in-Some.bundle.now c.in-Some.ensures.some in
     subst (λ (s : BankerState). All (λ pair. pair.resource < resources s) c.in-Some.bundle.now) (sym c.loans.ensures.shown)
     (below d.verified replay.verified (state_of d) (reached d replay) c.args.p c.args.arm _ _ code there c.in-Some.bundle.now stands)
 
@@ -61,7 +62,8 @@ reason-requires-clause-within_claim c =
     let lt = in_code d replay c.args.p _ there in
     let within : c.args.p < length given.processes.items = omega (arith, lt, codes_number given d.verified.code same) in
     let code = code_at given d.verified.code same c.args.p c.index.result.now within c.index.ensures in
-    let stands = asks d c.args.p c.args.arm (process_view c.index.result.now) _ (thread_view c.thread.result.now) code there c.thread.ensures c.in-Some.bundle.now c.in-Some.ensures.some in
+    let stands = asks d c.args.p c.args.arm (process_view c.index.result.now) _ (thread_view c.thread.result.now) code
+    there c.thread.ensures c.in-Some.bundle.now c.in-Some.ensures.some in
     subst (λ (s : BankerState). IsWithinClaim s c.args.p c.in-Some.bundle.now) (sym c.loans.ensures.shown)
     (within_claim d.verified replay.verified (state_of d) (reached d replay) c.args.p c.args.arm _ _ code there c.in-Some.bundle.now stands)
 
@@ -74,7 +76,8 @@ returns-in_ok-reason-in-Some-clause-why c =
     let lt = in_code d c.in_ok-process.ensures.placed c.args.p _ there in
     let within : c.args.p < length given.processes.items = omega (arith, lt, codes_number given d.verified.code same) in
     let code = code_at given d.verified.code same c.args.p c.index.result.now within c.index.ensures in
-    let asking = asks_in d c.args.p c.args.arm (process_view c.index.result.now) _ (thread_view c.thread.result.now) code there c.thread.ensures c.in-Some.bundle.now c.in-Some.ensures.some in
+    let asking = asks_in d c.args.p c.args.arm (process_view c.index.result.now) _ (thread_view c.thread.result.now)
+    code there c.thread.ensures c.in-Some.bundle.now c.in-Some.ensures.some in
     let why = c.in_ok-reason-in-Some.field-0 in
     why_is d c.args.p c.args.arm c.in-Some.bundle.now why asking
     (subst (λ (s : BankerState). IsReason s c.args.p c.in-Some.bundle.now why) c.loans.ensures.shown c.in_ok-reason-in-Some.ensures)

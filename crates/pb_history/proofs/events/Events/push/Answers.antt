@@ -42,11 +42,17 @@ returns-clause-events c =
     let bundles_of : Inside → List (List Pair) = λ i. i.bundles.items in
     let old : (map (whole after) events ≡ map (whole bundles) events) × (whole after m.kept ≡ c.args.event) = elim m.branch [
       | in-Granted w ↦
-          let is = ap bundles_of w.self-inside-is ∙ w.push_reserved.ensures.items in
-          (put _ is, ap (whole after) w.kept-is ∙ (ap (event.Granted w.in-Granted.pick) (named after bundles _ c.len-next.result is next) ∙ sym w.in-Granted.is))
+          let is = ap bundles_of w.self-inside-is ∙ w.push_reserved.ensures.items in (
+            put _ is,
+            ap (whole after) w.kept-is ∙ (ap (event.Granted w.in-Granted.pick) (named after bundles _
+                c.len-next.result is next) ∙ sym w.in-Granted.is),
+          )
       | in-Returned w ↦
-          let is = ap bundles_of w.self-inside-is ∙ w.push_reserved-in-Returned.ensures.items in
-          (put _ is, ap (whole after) w.kept-is ∙ (ap (event.Returned w.in-Returned.pick) (named after bundles _ c.len-next.result is next) ∙ sym w.in-Returned.is))
+          let is = ap bundles_of w.self-inside-is ∙ w.push_reserved-in-Returned.ensures.items in (
+            put _ is,
+            ap (whole after) w.kept-is ∙ (ap (event.Returned w.in-Returned.pick) (named after bundles _
+                c.len-next.result is next) ∙ sym w.in-Returned.is),
+          )
       | in-Printed w ↦
           let fits : SFits w64 w.in-Printed.value = search rules in
           let kept : m.kept ≡ Printed w.in-Printed.pick w.in-Printed.value = simp to_z-of_z at w.kept-is in

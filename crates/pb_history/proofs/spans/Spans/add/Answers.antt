@@ -25,7 +25,8 @@ moved c =
     let t = c.self.inside in
     let ends = t.ends.items in
     let e = end_for t.len c.args.span in
-    let test : c.continues.result ≡ goes_on ends c.args.span.pick = c.continues.ensures ∙ ap (λ (es : List SpanEnd). goes_on es c.args.span.pick) c.deref.ensures.value in
+    let test : c.continues.result ≡ goes_on ends c.args.span.pick = c.continues.ensures ∙ ap (λ (es : List SpanEnd).
+    goes_on es c.args.span.pick) c.deref.ensures.value in
     elim c.if-continues.branch [
       | then-continues w ↦
           let left : c.if-continues.self-inside.ends.items ≡ take (length ends - 1) ends =

@@ -8,7 +8,8 @@ use Rattle.pb_history.proofs.Laying.{apart_added, entries_added, events_fit, lai
 use Rattle.pb_history.proofs.trace.Trace.push_run.Goals as goal
 
 -- the picks that there are, and those that come
-fits_some : (event : Option Event) (e : Event) (n silent : ℕ) → event ≡ Some e → n + silent + length (option_to_list event) ≤ 10000000 → n + silent + 1 ≤ 10000000
+fits_some : (event : Option Event) (e : Event) (n silent : ℕ) → event ≡ Some e → n + silent + length (option_to_list
+    event) ≤ 10000000 → n + silent + 1 ≤ 10000000
 fits_some event e n silent is fits =
     let one : length (option_to_list event) ≡ 1 = ap (λ (o : Option Event). length (option_to_list o)) is in
     omega (arith, one, fits)
@@ -107,7 +108,8 @@ returns-in-None-clause-entries c =
     let one : entries_of (s ∷ []) [] ≡ run_of c.args.pick c.args.silent c.args.event =
     ap (λ (n : ℕ). silent_picks c.args.pick n ++ []) less
     ∙ ap (run_of c.args.pick c.args.silent) (sym c.in-None.is) in
-    rw (← c.self.view_is) (entries_now t.spans.spans t.events.events s [] _ _ inv.laid inv.apart some refl c.add-in-None.ensures.spans (sym (append-nil t.events.events))
+    rw (← c.self.view_is) (entries_now t.spans.spans t.events.events s [] _ _ inv.laid inv.apart some refl
+    c.add-in-None.ensures.spans (sym (append-nil t.events.events))
     ∙ ap (λ (xs : List Entry). entries_of t.spans.spans t.events.events ++ xs) one)
 
 pub returns-in-None-clause-room : goal.returns-in-None-clause-room

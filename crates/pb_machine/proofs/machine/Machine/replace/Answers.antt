@@ -32,5 +32,6 @@ returns-clause-process c v of =
       all = _;
       reached = of.reached;
       there = proc_there c.args.self.now c.args.p c.index_mut.result.now c.requires c.index_mut.ensures.value;
-      rooms = subst (HaveRoom (row v.depths c.args.p)) (row_of_machine c.args.self.now c.args.p c.index_mut.result.now c.requires c.index_mut.ensures.value) (of.rooms c.args.p);
+      rooms = subst (HaveRoom (row v.depths c.args.p)) (row_of_machine c.args.self.now c.args.p c.index_mut.result.now
+          c.requires c.index_mut.ensures.value) (of.rooms c.args.p);
     })

@@ -10,14 +10,24 @@ returns-clause-made c =
     let ps = c.args.self.now.processes.items in
     let there : slice_get ps c.args.pick.process ≡ Some c.index_mut.result.now =
     item_at ps c.args.pick.process c.index_mut.result.now (omega (arith, c.args.self.now.processes.ok.0)) c.index_mut.ensures.value in
-    machine_moves c.args.verified.now c.args.self.now (record { processes = with_item c.args.self.now.processes c.args.pick.process c.run_silent.new.self; banker = c.args.self.now.banker }) c.args.pick c.run_silent.result c.index_mut.result.now c.run_silent.new.self c.requires there refl refl c.run_silent.ensures.made
+    machine_moves c.args.verified.now c.args.self.now (record {
+      processes = with_item c.args.self.now.processes
+          c.args.pick.process c.run_silent.new.self;
+      banker = c.args.self.now.banker;
+    }) c.args.pick c.run_silent.result
+    c.index_mut.result.now c.run_silent.new.self c.requires there refl refl c.run_silent.ensures.made
 
 pub returns-clause-stops : goal.returns-clause-stops
 returns-clause-stops c fewer =
     let ps = c.args.self.now.processes.items in
     let there : slice_get ps c.args.pick.process ≡ Some c.index_mut.result.now =
     item_at ps c.args.pick.process c.index_mut.result.now (omega (arith, c.args.self.now.processes.ok.0)) c.index_mut.ensures.value in
-    machine_aloud c.args.verified.now c.args.self.now (record { processes = with_item c.args.self.now.processes c.args.pick.process c.run_silent.new.self; banker = c.args.self.now.banker }) c.args.pick c.run_silent.result c.index_mut.result.now c.run_silent.new.self c.requires there refl refl c.run_silent.ensures.made
+    machine_aloud c.args.verified.now c.args.self.now (record {
+      processes = with_item c.args.self.now.processes
+          c.args.pick.process c.run_silent.new.self;
+      banker = c.args.self.now.banker;
+    }) c.args.pick c.run_silent.result
+    c.index_mut.result.now c.run_silent.new.self c.requires there refl refl c.run_silent.ensures.made
     (c.run_silent.ensures.stops fewer)
 
 pub returns-clause-machine : goal.returns-clause-machine
@@ -25,5 +35,10 @@ returns-clause-machine c =
     let ps = c.args.self.now.processes.items in
     let there : slice_get ps c.args.pick.process ≡ Some c.index_mut.result.now =
     item_at ps c.args.pick.process c.index_mut.result.now (omega (arith, c.args.self.now.processes.ok.0)) c.index_mut.ensures.value in
-    machine_stays c.args.verified.now c.args.self.now (record { processes = with_item c.args.self.now.processes c.args.pick.process c.run_silent.new.self; banker = c.args.self.now.banker }) c.args.pick c.run_silent.result c.index_mut.result.now c.run_silent.new.self c.requires there refl refl c.run_silent.ensures.made
+    machine_stays c.args.verified.now c.args.self.now (record {
+      processes = with_item c.args.self.now.processes
+          c.args.pick.process c.run_silent.new.self;
+      banker = c.args.self.now.banker;
+    }) c.args.pick c.run_silent.result
+    c.index_mut.result.now c.run_silent.new.self c.requires there refl refl c.run_silent.ensures.made
     c.run_silent.ensures.process.rooms

@@ -16,13 +16,19 @@ index-instr-requires c =
 
 pub peek_at-requires : goal.peek_at-requires
 peek_at-requires c =
-    let live : c.index-thread.result.now.state ≡ given.Live = search rules in
-    (length c.args.self.now.vars.items, executable c.args.code.now c.args.self.now c.args.arm c.index-thread.result.now c.requires (omega arith) c.index-thread.ensures live c.from.result c.index-instr.result.now c.from.ensures c.index-instr.ensures)
+    let live : c.index-thread.result.now.state ≡ given.Live = search rules in (
+      length c.args.self.now.vars.items,
+      executable c.args.code.now c.args.self.now c.args.arm
+          c.index-thread.result.now c.requires (omega arith) c.index-thread.ensures live c.from.result
+          c.index-instr.result.now c.from.ensures c.index-instr.ensures,
+    )
 
 pub all_ended-requires : goal.all_ended-requires
 all_ended-requires c =
     let live : c.index-thread.result.now.state ≡ given.Live = search rules in
-    let within = joins_there c.args.code.now c.args.self.now c.args.arm c.index-thread.result.now c.requires (omega arith) c.index-thread.ensures live c.from.result c.index-instr.result.now c.from.ensures c.index-instr.ensures c.in-Joins.first c.in-Joins.count c.in-Joins.ensures in
+    let within = joins_there c.args.code.now c.args.self.now c.args.arm c.index-thread.result.now c.requires (omega
+    arith) c.index-thread.ensures live c.from.result c.index-instr.result.now c.from.ensures c.index-instr.ensures
+    c.in-Joins.first c.in-Joins.count c.in-Joins.ensures in
     let one = c.from-in-Joins.ensures in
     let two = c.from-in-Joins-2.ensures in
     omega (arith, within, one, two)
@@ -30,12 +36,16 @@ all_ended-requires c =
 pub returns-in-Silent : goal.returns-in-Silent
 returns-in-Silent c =
     let live : c.index-thread.result.now.state ≡ given.Live = search rules in
-    sym (peeks c.args.code.now c.args.self.now c.args.arm c.index-thread.result.now c.requires (omega arith) c.index-thread.ensures live c.from.result c.index-instr.result.now c.from.ensures c.index-instr.ensures peek.Silent c.in-Silent.ensures)
+    sym (peeks c.args.code.now c.args.self.now c.args.arm c.index-thread.result.now c.requires (omega arith)
+    c.index-thread.ensures live c.from.result c.index-instr.result.now c.from.ensures c.index-instr.ensures
+    peek.Silent c.in-Silent.ensures)
 
 pub returns-in-Visible : goal.returns-in-Visible
 returns-in-Visible c =
     let live : c.index-thread.result.now.state ≡ given.Live = search rules in
-    sym (peeks c.args.code.now c.args.self.now c.args.arm c.index-thread.result.now c.requires (omega arith) c.index-thread.ensures live c.from.result c.index-instr.result.now c.from.ensures c.index-instr.ensures peek.Visible c.in-Visible.ensures)
+    sym (peeks c.args.code.now c.args.self.now c.args.arm c.index-thread.result.now c.requires (omega arith)
+    c.index-thread.ensures live c.from.result c.index-instr.result.now c.from.ensures c.index-instr.ensures
+    peek.Visible c.in-Visible.ensures)
 
 pub returns-then-all_ended : goal.returns-then-all_ended
 returns-then-all_ended c =
@@ -44,7 +54,10 @@ returns-then-all_ended c =
     let all : all_over threads c.in-Joins.first c.in-Joins.count ≡ true =
     ap (λ (k : ℕ). all_over threads k c.in-Joins.count) (sym c.from-in-Joins.ensures)
     ∙ (ap (all_over threads c.from-in-Joins.result) (sym c.from-in-Joins-2.ensures) ∙ (sym c.all_ended.ensures ∙ c.if-all_ended.true)) in
-    sym (peeks c.args.code.now c.args.self.now c.args.arm c.index-thread.result.now c.requires (omega arith) c.index-thread.ensures live c.from.result c.index-instr.result.now c.from.ensures c.index-instr.ensures (peek.Joins c.in-Joins.first c.in-Joins.count) c.in-Joins.ensures ∙ ap (λ b. cond b look.Silent look.Stays) all)
+    sym (peeks c.args.code.now c.args.self.now c.args.arm c.index-thread.result.now c.requires (omega arith)
+    c.index-thread.ensures live c.from.result c.index-instr.result.now c.from.ensures c.index-instr.ensures
+    (peek.Joins c.in-Joins.first c.in-Joins.count) c.in-Joins.ensures ∙ ap (λ b. cond b look.Silent look.Stays)
+    all)
 
 pub returns-else-all_ended : goal.returns-else-all_ended
 returns-else-all_ended c =
@@ -53,14 +66,23 @@ returns-else-all_ended c =
     let all : all_over threads c.in-Joins.first c.in-Joins.count ≡ false =
     ap (λ (k : ℕ). all_over threads k c.in-Joins.count) (sym c.from-in-Joins.ensures)
     ∙ (ap (all_over threads c.from-in-Joins.result) (sym c.from-in-Joins-2.ensures) ∙ (sym c.all_ended.ensures ∙ c.if-all_ended.false)) in
-    sym (peeks c.args.code.now c.args.self.now c.args.arm c.index-thread.result.now c.requires (omega arith) c.index-thread.ensures live c.from.result c.index-instr.result.now c.from.ensures c.index-instr.ensures (peek.Joins c.in-Joins.first c.in-Joins.count) c.in-Joins.ensures ∙ ap (λ b. cond b look.Silent look.Stays) all)
+    sym (peeks c.args.code.now c.args.self.now c.args.arm c.index-thread.result.now c.requires (omega arith)
+    c.index-thread.ensures live c.from.result c.index-instr.result.now c.from.ensures c.index-instr.ensures
+    (peek.Joins c.in-Joins.first c.in-Joins.count) c.in-Joins.ensures ∙ ap (λ b. cond b look.Silent look.Stays)
+    all)
 
 pub returns-then-arm-eq0 : goal.returns-then-arm-eq0
 returns-then-arm-eq0 c =
     let live : c.index-thread.result.now.state ≡ given.Live = search rules in
-    sym (peeks c.args.code.now c.args.self.now c.args.arm c.index-thread.result.now c.requires (omega arith) c.index-thread.ensures live c.from.result c.index-instr.result.now c.from.ensures c.index-instr.ensures peek.Ends c.in-Ends.ensures ∙ ends_first (all_over (proc_view c.args.self.now).threads) c.args.arm (omega arith))
+    sym (peeks c.args.code.now c.args.self.now c.args.arm c.index-thread.result.now c.requires (omega arith)
+    c.index-thread.ensures live c.from.result c.index-instr.result.now c.from.ensures c.index-instr.ensures
+    peek.Ends c.in-Ends.ensures ∙ ends_first (all_over (proc_view c.args.self.now).threads) c.args.arm (omega
+    arith))
 
 pub returns-else-arm-eq0 : goal.returns-else-arm-eq0
 returns-else-arm-eq0 c =
     let live : c.index-thread.result.now.state ≡ given.Live = search rules in
-    sym (peeks c.args.code.now c.args.self.now c.args.arm c.index-thread.result.now c.requires (omega arith) c.index-thread.ensures live c.from.result c.index-instr.result.now c.from.ensures c.index-instr.ensures peek.Ends c.in-Ends.ensures ∙ ends_later (all_over (proc_view c.args.self.now).threads) c.args.arm (λ e. let x = e in omega arith))
+    sym (peeks c.args.code.now c.args.self.now c.args.arm c.index-thread.result.now c.requires (omega arith)
+    c.index-thread.ensures live c.from.result c.index-instr.result.now c.from.ensures c.index-instr.ensures
+    peek.Ends c.in-Ends.ensures ∙ ends_later (all_over (proc_view c.args.self.now).threads) c.args.arm (λ e. let x
+    = e in omega arith))

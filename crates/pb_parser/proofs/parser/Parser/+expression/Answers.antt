@@ -19,29 +19,34 @@ pub expression-returns : goal.expression-returns
 unfolding expression
 expression-returns g t c =
     let e : c.args.depth ≡ suc (c.args.depth - 1) = omega arith in
-    subst (λ n. Makes g.B.Builder.wants g.B.Builder.is_expr c.level.result (expression n (tokens c.args.self.now.rest.now)) (tokens c.level.new.self.rest.now)) (sym e) c.level.ensures
+    subst (λ n. Makes g.B.Builder.wants g.B.Builder.is_expr c.level.result (expression n (tokens
+    c.args.self.now.rest.now)) (tokens c.level.new.self.rest.now)) (sym e) c.level.ensures
 
 pub factor-returns-in_err-operand : goal.factor-returns-in_err-operand
 unfolding factor
 factor-returns-in_err-operand g t c =
     let p = err_from_is_err_and c.from_residual.result c.from_residual.ensures.1 in
-    rw (p.1, p.2) (fails_through g.B.Builder.wants _ c.in_err-operand.ensures (signs_refused c.count-count.result sign.Negate _ _ (c.count-count.ensures.signs sign.Negate _)))
+    rw (p.1, p.2) (fails_through g.B.Builder.wants _ c.in_err-operand.ensures (signs_refused c.count-count.result
+    sign.Negate _ _ (c.count-count.ensures.signs sign.Negate _)))
 
 pub factor-returns : goal.factor-returns
 unfolding factor
 factor-returns g t c =
-    signed_makes g.B.Builder.is_expr g.B.Builder.wants c.signed.result c.count-count.result sign.Negate _ _ _ _ c.signed.ensures c.in_ok-operand.ensures (c.count-count.ensures.signs sign.Negate _)
+    signed_makes g.B.Builder.is_expr g.B.Builder.wants c.signed.result c.count-count.result sign.Negate _ _ _ _
+    c.signed.ensures c.in_ok-operand.ensures (c.count-count.ensures.signs sign.Negate _)
 
 pub negation-returns-in_err-operand : goal.negation-returns-in_err-operand
 unfolding negation
 negation-returns-in_err-operand g t c =
     let p = err_from_is_err_and c.from_residual.result c.from_residual.ensures.1 in
-    rw (p.1, p.2) (fails_through g.B.Builder.wants _ c.in_err-operand.ensures (signs_refused c.count-count.result sign.Not _ _ (c.count-count.ensures.signs sign.Not _)))
+    rw (p.1, p.2) (fails_through g.B.Builder.wants _ c.in_err-operand.ensures (signs_refused c.count-count.result
+    sign.Not _ _ (c.count-count.ensures.signs sign.Not _)))
 
 pub negation-returns : goal.negation-returns
 unfolding negation
 negation-returns g t c =
-    signed_makes g.B.Builder.is_expr g.B.Builder.wants c.signed.result c.count-count.result sign.Not _ _ _ _ c.signed.ensures c.in_ok-operand.ensures (c.count-count.ensures.signs sign.Not _)
+    signed_makes g.B.Builder.is_expr g.B.Builder.wants c.signed.result c.count-count.result sign.Not _ _ _ _
+    c.signed.ensures c.in_ok-operand.ensures (c.count-count.ensures.signs sign.Not _)
 
 pub after_factor-returns-in_err-left-in-Sum : goal.after_factor-returns-in_err-left-in-Sum
 unfolding after_factor
@@ -119,12 +124,14 @@ logical-returns-in_err-first g t c =
 
 pub logical-returns-then-at_operator : goal.logical-returns-then-at_operator
 logical-returns-then-at_operator g t c =
-    then_makes g.B.Builder.is_expr g.B.Builder.wants _ _ _ _ _ _ _ (splits_at_negation _ c.args.level _ c.requires) c.in_ok-first.ensures c.after_negation.ensures
+    then_makes g.B.Builder.is_expr g.B.Builder.wants _ _ _ _ _ _ _ (splits_at_negation _ c.args.level _ c.requires)
+    c.in_ok-first.ensures c.after_negation.ensures
 
 pub logical-returns : goal.logical-returns
 logical-returns g t c =
     let none = sym c.at_operator.ensures ∙ c.if-at_operator.false in
-    then_nothing g.B.Builder.is_expr _ _ _ _ _ (splits_at_negation _ c.args.level _ c.requires) c.in_ok-first.ensures (λ a. negation_ends _ c.args.level a _ none)
+    then_nothing g.B.Builder.is_expr _ _ _ _ _ (splits_at_negation _ c.args.level _ c.requires) c.in_ok-first.ensures
+    (λ a. negation_ends _ c.args.level a _ none)
 
 pub chain-loop-op-init : goal.chain-loop-op-init
 chain-loop-op-init g t c = λ a h. loop_begins _ _ a _ h

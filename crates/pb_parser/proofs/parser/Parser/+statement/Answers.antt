@@ -25,7 +25,8 @@ pub arms-returns-in_err-statement-2 : goal.arms-returns-in_err-statement-2
 arms-returns-in_err-statement-2 g t c =
     let p = err_from_is_err_and c.from_residual-in_err-statement-2.result c.from_residual-in_err-statement-2.ensures.1 in
     rw (p.1, p.2) (fails_through g.B.Builder.wants _ c.in_err-statement-2.ensures
-    (λ none. loop_fails mark.Semicolon append_arms (an_arm (statement c.args.depth)) _ _ _ c.loop-self.invariant c.loop-self-test.ensures (arm_refused _ _ none)))
+    (λ none. loop_fails mark.Semicolon append_arms (an_arm (statement c.args.depth)) _ _ _ c.loop-self.invariant
+    c.loop-self-test.ensures (arm_refused _ _ none)))
 
 pub arms-loop-self-smaller : goal.arms-loop-self-smaller
 arms-loop-self-smaller g t c =
@@ -140,5 +141,6 @@ statement-returns g t c =
     let ahead = first.1 ∙ ap (λ r. token c.in-Some.next ∷ r) (sym moved) in
     let whole = ap (λ n. statement n (tokens c.args.self.now.rest.now)) deep
     ∙ statement_first (c.args.depth - 1) (token c.in-Some.next) (tokens c.args.self.now.rest.now) (tokens c.advance.new.self.rest.now) ahead
-    ∙ ap (λ k. statement_by (c.args.depth - 1) (statement (c.args.depth - 1)) (token c.in-Some.next) k (tokens c.advance.new.self.rest.now)) (sym c.kind.ensures) in
+    ∙ ap (λ k. statement_by (c.args.depth - 1) (statement (c.args.depth - 1)) (token c.in-Some.next) k (tokens
+    c.advance.new.self.rest.now)) (sym c.kind.ensures) in
     rw whole c.after_first.ensures

@@ -12,4 +12,7 @@ loop-mark-preserved g c =
     }
 
 pub returns : goal.returns
-returns g c = record { signs = λ op part. signed_over c.args.mark op part _ _ c.loop-mark.taken _ c.loop-mark-test.ensures.0 c.loop-mark-test.ensures.1 (c.loop-mark.invariant.same op part) }
+returns g c = record {
+  signs = λ op part. signed_over c.args.mark op part _ _ c.loop-mark.taken _
+      c.loop-mark-test.ensures.0 c.loop-mark-test.ensures.1 (c.loop-mark.invariant.same op part);
+}

@@ -8,7 +8,8 @@ use Rattle.pb_parser.proofs.parser.Parser.processes.Given as goal
 
 abbrev pub invariant-loop-self : goal.invariant-loop-self
 invariant-loop-self g l =
-    InLoop (g.B.Builder.is_processes l.found) (between mark.Process concat) (a_process l.depth) (tokens l.self.rest.now) (processes l.depth (tokens l.fn.self.rest.now))
+    InLoop (g.B.Builder.is_processes l.found) (between mark.Process concat) (a_process l.depth) (tokens
+    l.self.rest.now) (processes l.depth (tokens l.fn.self.rest.now))
 
 abbrev pub decreases-loop-self : goal.decreases-loop-self
 decreases-loop-self g l = length (tokens l.self.rest.now)

@@ -45,5 +45,6 @@ returns-in-Ok-clause-ok g c =
     c.settle.result (process_view c.settle.new.self) c.settle.new.banker.state c.in-Ok.outcome single c.in-Ok.ensures.ok settled in
     let all = subst (λ vs. IsProcessStep s (process_of vs (Some run)) c.args.pick c.settle.result (process_view c.settle.new.self) c.settle.new.banker.state)
     c.deref_mut.ensures.value so in
-    subst (λ o. IsProcessStep s (process_of c.args.self.now.vars.items (option_map arm_view o)) c.args.pick c.settle.result (process_view c.settle.new.self) c.settle.new.banker.state)
+    subst (λ o. IsProcessStep s (process_of c.args.self.now.vars.items (option_map arm_view o)) c.args.pick
+    c.settle.result (process_view c.settle.new.self) c.settle.new.banker.state)
     (sym c.in-Some.is) all

@@ -27,6 +27,12 @@ pub returns : goal.returns
 returns g c =
     let items = c.args.self.now.processes.items in (
       λ _. λ p process at. c.loop-process.invariant p process
-          (omega (arith, slice_get_within (map process_view items) p process at, length-map items (process_view {A = g.row.A.Denot}), c.args.self.now.processes.ok.0)) at,
+          (omega (
+            arith,
+            slice_get_within (map process_view items) p process at,
+            length-map items (process_view {A =
+                g.row.A.Denot}),
+            c.args.self.now.processes.ok.0,
+          )) at,
       λ _. refl,
     )

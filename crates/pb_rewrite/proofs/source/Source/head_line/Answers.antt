@@ -9,7 +9,12 @@ use Rattle.pb_rewrite.proofs.source.Source.head_line.Goals as goal
 pub returns-then-p-len : goal.returns-then-p-len
 returns-then-p-len g c =
     let items = c.args.self.now.processes.items in
-    let past : length (map process_view items) ≤ c.args.p = omega (arith, c.args.self.now.processes.ok.0, length-map items (process_view {A = g.row.A.Denot})) in
+    let past : length (map process_view items) ≤ c.args.p = omega (
+      arith,
+      c.args.self.now.processes.ok.0,
+      length-map
+          items (process_view {A = g.row.A.Denot}),
+    ) in
     sym (ap (option_and_then (λ process. line_in process c.args.arm)) (slice_get_past (map process_view items) c.args.p past))
 
 pub returns : goal.returns

@@ -14,7 +14,8 @@ returns g c pick process ready =
     let there : slice_get s.machine.processes pick.process ≡ Some (proc_view c.proc.result.now) =
     ap (λ (p : ℕ). slice_get s.machine.processes p) (process ∙ sym c.from-2.ensures) ∙ c.proc.ensures.state in
     let within = steps_within g.C.CodeBrand.code.code s.machine pick (proc_view c.proc.result.now) there here.steps in
-    let few = few_arms g.C.CodeBrand.code.code (annotated_of g.C.CodeBrand.code s legal) s.machine (legal_reached g.C.CodeBrand.code s legal) pick.process (proc_view c.proc.result.now) there in
+    let few = few_arms g.C.CodeBrand.code.code (annotated_of g.C.CodeBrand.code s legal) s.machine (legal_reached
+    g.C.CodeBrand.code s legal) pick.process (proc_view c.proc.result.now) there in
     let arms = c.arms.ensures in
     let least = c.min.ensures in
     omega (arith, within, few, arms, least)

@@ -66,7 +66,8 @@ try_visible-requires-clause-fits g c =
     let limited = c.self.invariant.legal.limited in
     let within = c.stretch.invariant.run.within in
     let same : length c.push_silent.new.self.entries ≡ length (s.entries ++ silent_picks lent.pick lent.made) =
-    ap (λ (es : List Entry). length es) (c.push_silent.ensures.entries ∙ ap (λ (es : List Entry). es ++ silent_picks lent.pick lent.made) c.reserve.ensures.same) in
+    ap (λ (es : List Entry). length es) (c.push_silent.ensures.entries ∙ ap (λ (es : List Entry). es ++ silent_picks
+    lent.pick lent.made) c.reserve.ensures.same) in
     omega (arith, counted, limited, within, same)
 
 pub invariant_of-self-then-made-allowance : goal.invariant_of-self-then-made-allowance
@@ -78,18 +79,21 @@ invariant_of-self-then-made-allowance g c =
     let by : IsLentBy s lent = rw (← c.self.view_is, ← c.stretch.view_is) at (c.lent.ensures.0 c.if-not-lent.false) in record {
       refers = c.self.invariant.refers;
       legal = legal_as g.C.CodeBrand.code (home s lent) _ (home_legal g.C.CodeBrand.code s lent legal by run)
-          (sym (set_view c.self.inside.machine c.replace-before.new.self c.from-process.result lent.pick.process lent.state c.from-process.ensures c.replace-before.ensures.processes c.replace-before.ensures.banker))
+          (sym (set_view c.self.inside.machine c.replace-before.new.self c.from-process.result lent.pick.process
+          lent.state c.from-process.ensures c.replace-before.ensures.processes c.replace-before.ensures.banker))
           (sym (c.push_silent.ensures.entries ∙ ap (λ (es : List Entry). es ++ silent_picks lent.pick lent.made) c.reserve.ensures.same))
           refl
           refl
           (ap (λ (p : ℕ). slice_set s.slips p None) (sym c.from-process.ensures))
           refl;
-      machine = c.replace-before.ensures.machine g.C.CodeBrand.code c.self.invariant.machine (subst (λ (p : ℕ). ComesFrom g.C.CodeBrand.code c.self.inside.machine p c.stretch.inside.state) (sym c.from-process.ensures)
+      machine = c.replace-before.ensures.machine g.C.CodeBrand.code c.self.invariant.machine (subst (λ (p : ℕ).
+          ComesFrom g.C.CodeBrand.code c.self.inside.machine p c.stretch.inside.state) (sym c.from-process.ensures)
           (comes_home g.C.CodeBrand.code s lent legal by run c.self.inside.machine c.stretch.inside.state refl refl c.stretch.invariant.process.rooms));
-      spares = spares_with g.C.CodeBrand.code _ _ (spares_stay g.C.CodeBrand.code _ _ c.self.invariant.spares _ None) _ _ (spare_at g.C.CodeBrand.code c.from-process.result _ (record {
-        base = subst (λ (p : ℕ). IsProcessOf g.C.CodeBrand.code p c.stretch.inside.base) (sym c.from-process.ensures) c.stretch.invariant.base;
-        state = c.replace-before.ensures.process g.C.CodeBrand.code c.self.invariant.machine;
-      }));
+      spares = spares_with g.C.CodeBrand.code _ _ (spares_stay g.C.CodeBrand.code _ _ c.self.invariant.spares _ None)
+          _ _ (spare_at g.C.CodeBrand.code c.from-process.result _ (record {
+            base = subst (λ (p : ℕ). IsProcessOf g.C.CodeBrand.code p c.stretch.inside.base) (sym c.from-process.ensures) c.stretch.invariant.base;
+            state = c.replace-before.ensures.process g.C.CodeBrand.code c.self.invariant.machine;
+          }));
     }
 
 pub try_visible-requires-clause-machine : goal.try_visible-requires-clause-machine
@@ -97,8 +101,11 @@ try_visible-requires-clause-machine g c =
     let s = ledger_of c.self.inside in
     let lent = lent_of c.stretch.inside in
     let by : IsLentBy s lent = rw (← c.self.view_is, ← c.stretch.view_is) at (c.lent.ensures.0 c.if-not-lent.false) in
-    machine_there g.C.CodeBrand.code c.self.inside.code.now _ (sym c.self.invariant.refers) (c.replace-before.ensures.machine g.C.CodeBrand.code c.self.invariant.machine (subst (λ (p : ℕ). ComesFrom g.C.CodeBrand.code c.self.inside.machine p c.stretch.inside.state) (sym c.from-process.ensures)
-    (comes_home g.C.CodeBrand.code s lent c.self.invariant.legal by c.stretch.invariant.run c.self.inside.machine c.stretch.inside.state refl refl c.stretch.invariant.process.rooms)))
+    machine_there g.C.CodeBrand.code c.self.inside.code.now _ (sym c.self.invariant.refers)
+    (c.replace-before.ensures.machine g.C.CodeBrand.code c.self.invariant.machine (subst (λ (p : ℕ). ComesFrom
+    g.C.CodeBrand.code c.self.inside.machine p c.stretch.inside.state) (sym c.from-process.ensures)
+    (comes_home g.C.CodeBrand.code s lent c.self.invariant.legal by c.stretch.invariant.run c.self.inside.machine
+    c.stretch.inside.state refl refl c.stretch.invariant.process.rooms)))
 
 pub invariant_of-self-2 : goal.invariant_of-self-2
 invariant_of-self-2 g c =
@@ -114,8 +121,10 @@ invariant_of-self-2 g c =
       slips = slice_set s.slips c.from-process.result None;
       refused = s.refused;
     } in
-    let legal : IsLegal g.C.CodeBrand.code came = legal_as g.C.CodeBrand.code (home s lent) came (home_legal g.C.CodeBrand.code s lent c.self.invariant.legal by run)
-    (sym (set_view c.self.inside.machine c.replace-before.new.self c.from-process.result lent.pick.process lent.state c.from-process.ensures c.replace-before.ensures.processes c.replace-before.ensures.banker))
+    let legal : IsLegal g.C.CodeBrand.code came = legal_as g.C.CodeBrand.code (home s lent) came (home_legal
+    g.C.CodeBrand.code s lent c.self.invariant.legal by run)
+    (sym (set_view c.self.inside.machine c.replace-before.new.self c.from-process.result lent.pick.process lent.state
+    c.from-process.ensures c.replace-before.ensures.processes c.replace-before.ensures.banker))
     (sym (c.push_silent.ensures.entries ∙ ap (λ (es : List Entry). es ++ silent_picks lent.pick lent.made) c.reserve.ensures.same))
     refl
     refl
@@ -123,10 +132,13 @@ invariant_of-self-2 g c =
     refl in
     let unused : 0 < came.left = omega (arith, run.within) in record {
       refers = c.self.invariant.refers;
-      legal = tries_legal g.C.CodeBrand.code came _ lent.pick c.try_visible.result legal unused (tries_there c.self.inside.code.now g.C.CodeBrand.code came _ lent.pick c.try_visible.result c.self.invariant.refers c.try_visible.ensures.tries refl refl);
+      legal = tries_legal g.C.CodeBrand.code came _ lent.pick c.try_visible.result legal unused (tries_there
+          c.self.inside.code.now g.C.CodeBrand.code came _ lent.pick c.try_visible.result c.self.invariant.refers
+          c.try_visible.ensures.tries refl refl);
       machine = machine_there c.self.inside.code.now g.C.CodeBrand.code _ c.self.invariant.refers c.try_visible.ensures.machine;
-      spares = spares_with g.C.CodeBrand.code _ _ (spares_stay g.C.CodeBrand.code _ _ c.self.invariant.spares _ None) _ _ (spare_at g.C.CodeBrand.code c.from-process.result _ (record {
-        base = subst (λ (p : ℕ). IsProcessOf g.C.CodeBrand.code p c.stretch.inside.base) (sym c.from-process.ensures) c.stretch.invariant.base;
-        state = c.replace-before.ensures.process g.C.CodeBrand.code c.self.invariant.machine;
-      }));
+      spares = spares_with g.C.CodeBrand.code _ _ (spares_stay g.C.CodeBrand.code _ _ c.self.invariant.spares _ None)
+          _ _ (spare_at g.C.CodeBrand.code c.from-process.result _ (record {
+            base = subst (λ (p : ℕ). IsProcessOf g.C.CodeBrand.code p c.stretch.inside.base) (sym c.from-process.ensures) c.stretch.invariant.base;
+            state = c.replace-before.ensures.process g.C.CodeBrand.code c.self.invariant.machine;
+          }));
     }

@@ -12,7 +12,8 @@ invariant_of-self g c =
     let within : slip.allowance ≤ (ledger_of c.self.inside).left = rw (← c.self.view_is) at c.requires.within in
     record {
       refers = c.self.invariant.refers;
-      legal = rw c.from-process.ensures (lent_legal g.C.CodeBrand.code (ledger_of c.self.inside) c.args.pick.process slip c.self.invariant.legal at_home within);
+      legal = rw c.from-process.ensures (lent_legal g.C.CodeBrand.code (ledger_of c.self.inside) c.args.pick.process
+          slip c.self.invariant.legal at_home within);
       machine = c.self.invariant.machine;
       spares = spares_stay g.C.CodeBrand.code _ _ c.self.invariant.spares _ _;
     }

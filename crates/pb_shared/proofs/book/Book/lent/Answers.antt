@@ -14,7 +14,10 @@ returns g c =
     let from = c.from-process.ensures in
     let at : slice_get s.slips c.from-process.result ≡ Some (Some c.in-Some.slip) =
     slip_there s.slips c.from-process.result c.in-Some.slip (rw (← c.self.view_is) at c.in-Some.ensures) in
-    let slip : c.in-Some.slip ≡ slip_of lent = same_slip c.in-Some.slip (slip_of lent) (omega (arith, c.if-slip-pick.false)) (omega (arith, c.if-slip-stretch.false)) in (
+    let slip : c.in-Some.slip ≡ slip_of lent = same_slip c.in-Some.slip (slip_of lent) (omega (
+      arith,
+      c.if-slip-pick.false,
+    )) (omega (arith, c.if-slip-stretch.false)) in (
       λ yes. rw (← c.self.view_is, ← c.stretch.view_is) (record {
         slip = ap (slice_get s.slips) (sym from) ∙ (at ∙ ap (λ (x : Slip). Some (Some x)) slip);
         base = ap (slice_get s.machine.processes) (sym from) ∙ (c.proc.ensures.state ∙ ap (λ (x : CodeProcess). Some x) (c.same.ensures.0 yes));

@@ -20,7 +20,8 @@ returns-then-all_home-clause-outcome g c = (
 pub returns-then-all_home-clause-limit : goal.returns-then-all_home-clause-limit
 returns-then-all_home-clause-limit g c =
     let all : all_home c.args.self.now.slips ≡ true = sym c.all_home.ensures ∙ c.if-all_home.true in
-    λ same. rw (← c.self.view_is) (at_limit g.C.CodeBrand.code (ledger_of c.self.inside) c.self.invariant.legal c.if-self-eq0.true (rw (← c.self.view_is) at all))
+    λ same. rw (← c.self.view_is) (at_limit g.C.CodeBrand.code (ledger_of c.self.inside) c.self.invariant.legal
+    c.if-self-eq0.true (rw (← c.self.view_is) at all))
 
 pub returns-else-self-eq0-clause-outcome : goal.returns-else-self-eq0-clause-outcome
 returns-else-self-eq0-clause-outcome g c = (

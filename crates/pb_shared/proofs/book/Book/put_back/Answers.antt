@@ -10,7 +10,11 @@ use Rattle.pb_shared.proofs.book.Book.put_back.Goals as goal
 
 pub index_mut-requires : goal.index_mut-requires
 index_mut-requires g c =
-    let by : IsLentBy (ledger_of c.self.inside) (lent_of c.stretch.inside) = rw (← c.self.view_is, ← c.stretch.view_is) at (c.lent.ensures.0 c.if-not-lent.false) in
+    let by : IsLentBy (ledger_of c.self.inside) (lent_of c.stretch.inside) = rw (
+      ← c.self.view_is,
+      ←
+          c.stretch.view_is,
+    ) at (c.lent.ensures.0 c.if-not-lent.false) in
     let lt = slip_within g.C.CodeBrand.code (ledger_of c.self.inside) (lent_of c.stretch.inside) c.self.invariant.legal by in
     let from = c.from-process.ensures in
     let all = c.self.invariant.spares.all in
@@ -18,25 +22,42 @@ index_mut-requires g c =
 
 pub index_mut-requires-2 : goal.index_mut-requires-2
 index_mut-requires-2 g c =
-    let by : IsLentBy (ledger_of c.self.inside) (lent_of c.stretch.inside) = rw (← c.self.view_is, ← c.stretch.view_is) at (c.lent.ensures.0 c.if-not-lent.false) in
+    let by : IsLentBy (ledger_of c.self.inside) (lent_of c.stretch.inside) = rw (
+      ← c.self.view_is,
+      ←
+          c.stretch.view_is,
+    ) at (c.lent.ensures.0 c.if-not-lent.false) in
     let lt = slip_within g.C.CodeBrand.code (ledger_of c.self.inside) (lent_of c.stretch.inside) c.self.invariant.legal by in
     let from = c.from-process.ensures in
     omega (arith, lt, from, c.self.inside.slips.ok.0)
 
 pub overflow_add-self : goal.overflow_add-self
 overflow_add-self g c =
-    let by : IsLentBy (ledger_of c.self.inside) (lent_of c.stretch.inside) = rw (← c.self.view_is, ← c.stretch.view_is) at (c.lent.ensures.0 c.if-not-lent.false) in
+    let by : IsLentBy (ledger_of c.self.inside) (lent_of c.stretch.inside) = rw (
+      ← c.self.view_is,
+      ←
+          c.stretch.view_is,
+    ) at (c.lent.ensures.0 c.if-not-lent.false) in
     let fits = back_fits g.C.CodeBrand.code (ledger_of c.self.inside) (lent_of c.stretch.inside) c.self.invariant.legal by in
     let limited = c.self.invariant.legal.limited in
     omega (arith, fits, limited)
 
 pub invariant_of-self : goal.invariant_of-self
 invariant_of-self g c =
-    let by : IsLentBy (ledger_of c.self.inside) (lent_of c.stretch.inside) = rw (← c.self.view_is, ← c.stretch.view_is) at (c.lent.ensures.0 c.if-not-lent.false) in
+    let by : IsLentBy (ledger_of c.self.inside) (lent_of c.stretch.inside) = rw (
+      ← c.self.view_is,
+      ←
+          c.stretch.view_is,
+    ) at (c.lent.ensures.0 c.if-not-lent.false) in
     let spare : Spare = record { base = c.stretch.inside.base; state = c.stretch.inside.state } in record {
       refers = c.self.invariant.refers;
       legal = rw c.from-process.ensures (given_back_legal g.C.CodeBrand.code (ledger_of c.self.inside) (lent_of c.stretch.inside) c.self.invariant.legal by);
       machine = c.self.invariant.machine;
       spares = spares_with g.C.CodeBrand.code _ _ (spares_stay g.C.CodeBrand.code _ _ c.self.invariant.spares _ None) _ (Some spare)
-          (spare_at g.C.CodeBrand.code c.from-process.result spare (subst (λ (p : ℕ). IsSpareOf g.C.CodeBrand.code p spare) (sym c.from-process.ensures) (record { base = c.stretch.invariant.base; state = c.stretch.invariant.process })));
+          (spare_at g.C.CodeBrand.code c.from-process.result spare (subst (λ (p : ℕ). IsSpareOf g.C.CodeBrand.code p
+          spare) (sym c.from-process.ensures) (record {
+            base = c.stretch.invariant.base;
+            state =
+                c.stretch.invariant.process;
+          })));
     }

@@ -15,5 +15,6 @@ returns c of there =
     let number = length-map inside.code.processes.items process_view in
     let count = c.self.invariant.1.as_many in
     let many = length-map inside.groups.items (λ table. table.items) in
-    subst (AreGroups of.instrs) (at_mapped (λ table. table.items) inside.groups.items c.args.process c.index.result.now [] (omega arith) c.index.ensures ∙ sym row)
+    subst (AreGroups of.instrs) (at_mapped (λ table. table.items) inside.groups.items c.args.process
+    c.index.result.now [] (omega arith) c.index.ensures ∙ sym row)
     (c.self.invariant.1.each c.args.process of (ap (λ v. slice_get v.code.processes c.args.process) c.self.view_is ∙ there))

@@ -1,0 +1,40 @@
+//! What is said to a person when an input was refused.
+
+use pb_base::device::Output;
+use pb_engines::{Page, Status};
+use pb_messages::{Reading, message_of};
+use pb_object::Format;
+use pb_words::{Options, options};
+use std::alloc::Global;
+
+/// Writes what is wrong with the bytes that the command of these words refused, and where, if there is anything to be said
+/// of them and memory for it. The exit status does not depend on it.
+pub fn explain_refusal<O: Output>(alloc: Global, words: &[&str], bytes: &[u8], error: &mut O) {
+    let Ok(options) = options(alloc, words) else {
+        return;
+    };
+    let Some(reading) = reading_of(&options) else {
+        return;
+    };
+    let Ok(message) = message_of(alloc, reading, bytes) else {
+        return;
+    };
+    let mut page = Page::new(alloc);
+    if page.say(error, &message).is_ok() {
+        page.finish(error, Status::Refused);
+    }
+}
+
+// Returns how the command reads its input, or nothing if it reads none.
+fn reading_of(options: &Options) -> Option<Reading> {
+    match options {
+        Options::Check(_) => Some(Reading::Texts),
+        Options::Claims => Some(Reading::Claims),
+        Options::Emit(numbers) if numbers.object == Format::One => Some(Reading::FirstFormat),
+        Options::Emit(_) | Options::Outcomes(_) | Options::Run(_) => Some(Reading::Text),
+        Options::Record(_) => Some(Reading::Recorded),
+        Options::Exec(_) | Options::Migrate => Some(Reading::Object),
+        Options::Debug(_) | Options::Draw | Options::Replay => Some(Reading::FirstPart),
+        Options::Explain(_) => None,
+    }
+}
