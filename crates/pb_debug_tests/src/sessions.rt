@@ -153,7 +153,8 @@ const EMPTY: &[u8] = b"\n\n";
 
 #[test]
 fn lines_of_the_text(rt: HostRuntime) {
-    let whole = b"1| process p begin print 1;\nat 2\n2| print 2 end\nat 5\nline none\nrefused G3\nrefused G2\nrefused G4\n";
+    let whole =
+        b"1| process p begin print 1;\nat 2\n2| print 2 end\nat 5\nline none\nrefused G3\nrefused G2\nrefused G4\n";
     assert!(rt; shows_lines(rt.alloc(), Some(TWICE), whole) == Some(true));
     let first = b"1| one\nat 2\nno text\nat 5\nline none\nrefused G3\nrefused G2\nrefused G4\n";
     assert!(rt; shows_lines(rt.alloc(), Some(ONE), first) == Some(true));
