@@ -11,6 +11,7 @@ pub mod Quietly
 pub mod Reaching
 pub mod SilentRuns
 pub mod Silently
+pub mod Singly
 pub mod Spares
 pub mod Standing
 pub mod Staying

@@ -2,6 +2,7 @@
 #![tactic(auto)]
 
 mod advance;
+mod advance_singly;
 mod arms;
 mod execute;
 pub mod laws;
