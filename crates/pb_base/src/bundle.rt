@@ -78,32 +78,3 @@ impl Bundle {
         pairs[i]
     }
 }
-
-#[cfg(test)]
-mod tests {
-    use super::*;
-
-    #[test]
-    fn pairs_in_their_order(rt: HostRuntime) {
-        let mut bundle = Bundle::one(3, 40);
-        bundle.push(Pair {
-            resource: 1,
-            amount: 7,
-        });
-        assert_eq!(rt; bundle.len(), 2);
-        assert_eq!(rt;
-            bundle.get(0),
-            Pair {
-                resource: 3,
-                amount: 40
-            }
-        );
-        assert_eq!(rt;
-            bundle.get(1),
-            Pair {
-                resource: 1,
-                amount: 7
-            }
-        );
-    }
-}

@@ -56,18 +56,3 @@ impl Capital {
         self.amounts[r]
     }
 }
-
-#[cfg(test)]
-mod tests {
-    use super::*;
-    use std::test::Fail;
-
-    #[test]
-    fn amounts_by_resource(rt: HostRuntime) -> Result<(), Fail> {
-        let capital = Capital::new(rt.alloc(), &[10, 1_000_000])?;
-        assert_eq!(rt; capital.resources(), 2);
-        assert_eq!(rt; capital.get(0), 10);
-        assert_eq!(rt; capital.get(1), 1_000_000);
-        Ok(())
-    }
-}

@@ -87,19 +87,3 @@ impl Claims {
         row[r]
     }
 }
-
-#[cfg(test)]
-mod tests {
-    use super::*;
-    use std::test::Fail;
-
-    #[test]
-    fn claims_by_process_and_resource(rt: HostRuntime) -> Result<(), Fail> {
-        let claims = Claims::new(rt.alloc(), &[&[1, 2], &[3, 4], &[5, 6]])?;
-        assert_eq!(rt; claims.processes(), 3);
-        assert_eq!(rt; claims.resources(), 2);
-        assert_eq!(rt; claims.get(0, 0), 1);
-        assert_eq!(rt; claims.get(2, 1), 6);
-        Ok(())
-    }
-}

@@ -9,6 +9,3 @@ mod peaks;
 
 pub use inference::infer;
 pub use over_capital::{OverCapital, fits};
-
-#[cfg(test)]
-mod tests;

@@ -6,8 +6,6 @@ pub mod error;
 pub mod laws;
 pub mod lexer;
 mod scan;
-#[cfg(test)]
-mod tests;
 pub mod token;
 mod words;
 

@@ -200,21 +200,3 @@ impl FromStr for Code {
         }
     }
 }
-
-#[cfg(test)]
-mod tests {
-    use super::*;
-    use std::test::Fail;
-
-    #[test]
-    fn codes_are_read_as_written(rt: HostRuntime) -> Result<(), Fail> {
-        for code in Code::ALL {
-            let name = format!(in rt.alloc(); "{code}")?;
-            assert_eq!(rt; name.as_str().parse::<Code>()?, code);
-        }
-        for name in ["", "N", "N5", "n3", "N33", "L1 "] {
-            assert_eq!(rt; name.parse::<Code>(), Err(UnknownCode));
-        }
-        Ok(())
-    }
-}

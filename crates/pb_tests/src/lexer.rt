@@ -1,61 +1,207 @@
-//! Texts cut in little memory.
+//! Texts cut to tokens.
 
-use linked_list_allocator::LocalHeap;
-use pb_lexer::error::LexFault;
-use pb_lexer::lexer::lex;
-use pb_lexer::token::{Kind, Mark};
-use std::process::Abort;
-use std::test::Fail;
+mod memories;
 
-/// Returns whether the text of so many brackets is cut in a heap of so many bytes. Out of memory is the one
-/// other answer.
-fn fits(
-    rt: &(impl Abort + AllocGlobal),
-    size: usize,
-    text: &[u8],
-    brackets: usize,
-) -> Result<bool, Fail> {
-    let heap = LocalHeap::new(rt.alloc(), size)?;
-    match lex(&heap, text) {
-        Ok(tokens) => {
-            assert_eq!(rt; tokens.len(), brackets);
-            for (at, token) in tokens.iter().enumerate() {
-                assert!(rt; token.kind() == Kind::Mark(Mark::Open));
-                assert_eq!(rt; token.start(), at);
-            }
-            Ok(true)
+use pb_lexer::{Kind, LexFault, Mark, lex};
+use std::alloc::Global;
+
+fn fault(alloc: Global, text: &[u8]) -> Option<LexFault> {
+    lex(alloc, text).err()
+}
+
+/// Whether a text has these tokens, each with the place where it begins, the one behind its end, and its line.
+fn has_tokens(alloc: Global, text: &[u8], wanted: &[(Kind, usize, usize, u32)]) -> bool {
+    let Ok(tokens) = lex(alloc, text) else {
+        return false;
+    };
+    if tokens.len() != wanted.len() {
+        return false;
+    }
+    for (token, (kind, start, end, line)) in tokens.iter().zip(wanted.iter()) {
+        let is_there = token.start() == *start && token.end() == *end && token.line() == *line;
+        if !is_there || token.kind() != *kind {
+            return false;
         }
-        Err(fault) => {
-            assert_eq!(rt; fault, LexFault::NoMemory);
-            assert_eq!(rt; heap.used(), 0);
-            Ok(false)
-        }
+    }
+    true
+}
+
+const MIXED: &[u8] = b"x:=12abc<=3 // c := \n\n doing <>if\tdo_2 007";
+
+const MIXED_TOKENS: [(Kind, usize, usize, u32); 11] = [
+    (Kind::Name, 0, 1, 1),
+    (Kind::Mark(Mark::Assign), 1, 3, 1),
+    (Kind::Number(12), 3, 5, 1),
+    (Kind::Name, 5, 8, 1),
+    (Kind::Mark(Mark::AtMost), 8, 10, 1),
+    (Kind::Number(3), 10, 11, 1),
+    (Kind::Name, 23, 28, 3),
+    (Kind::Mark(Mark::NotEqual), 29, 31, 3),
+    (Kind::Mark(Mark::If), 31, 33, 3),
+    (Kind::Name, 34, 38, 3),
+    (Kind::Number(7), 39, 42, 3),
+];
+
+const LINES: &[u8] = b"a\r\n// b\nc d\r\n\n\re // f";
+
+const LINES_TOKENS: [(Kind, usize, usize, u32); 4] = [
+    (Kind::Name, 0, 1, 1),
+    (Kind::Name, 8, 9, 3),
+    (Kind::Name, 10, 11, 3),
+    (Kind::Name, 15, 16, 5),
+];
+
+#[test]
+fn cuts_by_longest_match_and_counts_lines(rt: HostRuntime) {
+    assert!(rt; has_tokens(rt.alloc(), MIXED, &MIXED_TOKENS));
+    assert!(rt; has_tokens(rt.alloc(), LINES, &LINES_TOKENS));
+}
+
+const SYMBOLS_AND_WORDS: &[u8] =
+    b":= ; , ( ) + - * = <> < <= > >= and begin div do else end fi hold if integer mod not od of or \
+parbegin parend print process resource skip then while";
+
+const MARKS: [Mark; 37] = [
+    Mark::Assign,
+    Mark::Semicolon,
+    Mark::Comma,
+    Mark::Open,
+    Mark::Close,
+    Mark::Plus,
+    Mark::Minus,
+    Mark::Star,
+    Mark::Equal,
+    Mark::NotEqual,
+    Mark::Less,
+    Mark::AtMost,
+    Mark::Greater,
+    Mark::AtLeast,
+    Mark::And,
+    Mark::Begin,
+    Mark::Div,
+    Mark::Do,
+    Mark::Else,
+    Mark::End,
+    Mark::Fi,
+    Mark::Hold,
+    Mark::If,
+    Mark::Integer,
+    Mark::Mod,
+    Mark::Not,
+    Mark::Od,
+    Mark::Of,
+    Mark::Or,
+    Mark::Parbegin,
+    Mark::Parend,
+    Mark::Print,
+    Mark::Process,
+    Mark::Resource,
+    Mark::Skip,
+    Mark::Then,
+    Mark::While,
+];
+
+/// Whether each token of a text is the mark at its place.
+fn has_marks(alloc: Global, text: &[u8], marks: &[Mark]) -> bool {
+    let Ok(tokens) = lex(alloc, text) else {
+        return false;
+    };
+    let is_each = tokens
+        .iter()
+        .zip(marks.iter())
+        .all(|(token, mark)| token.kind() == Kind::Mark(*mark));
+    is_each && tokens.len() == marks.len()
+}
+
+#[test]
+fn knows_each_symbol_and_reserved_word(rt: HostRuntime) {
+    assert!(rt; has_marks(rt.alloc(), SYMBOLS_AND_WORDS, &MARKS));
+}
+
+#[test]
+fn names_the_first_fault(rt: HostRuntime) {
+    for (text, wanted) in [
+        (b"a %".as_slice(), Some(LexFault::BadByte(2))),
+        (b"a : = 1".as_slice(), Some(LexFault::BadByte(2))),
+        (b"1 / 2".as_slice(), Some(LexFault::BadByte(2))),
+        (b"a_b _".as_slice(), Some(LexFault::BadByte(4))),
+        (b"// %$~\n_".as_slice(), Some(LexFault::BadByte(7))),
+        (b"// a \x01 b".as_slice(), Some(LexFault::BadByte(5))),
+        (b"\xff// a".as_slice(), Some(LexFault::BadByte(0))),
+        (
+            b"% 9223372036854775808".as_slice(),
+            Some(LexFault::BadByte(0)),
+        ),
+        (b"".as_slice(), None),
+        (b"09223372036854775807".as_slice(), None),
+        (
+            b"a 9223372036854775808 \x01".as_slice(),
+            Some(LexFault::NumberTooLarge(2)),
+        ),
+        (
+            b"--99999999999999999999999999999999".as_slice(),
+            Some(LexFault::NumberTooLarge(2)),
+        ),
+        (b"abcdefghijklmnopqrstuvwxyz012345".as_slice(), None),
+        (
+            b" abcdefghijklmnopqrstuvwxyz0123456 %".as_slice(),
+            Some(LexFault::NameTooLong(1)),
+        ),
+    ] {
+        assert!(rt; fault(rt.alloc(), text) == wanted);
+    }
+}
+
+/// A text of this number of semicolons.
+fn semicolons(alloc: Global, count: u32) -> Option<Vec<u8>> {
+    let mut text = Vec::new(alloc);
+    for _ in 0..count {
+        text.push(b';').ok()?;
+    }
+    Some(text)
+}
+
+/// The fault of a text of this number of semicolons, or none if it has as many tokens.
+fn fault_of_semicolons(alloc: Global, count: u32) -> Option<Option<LexFault>> {
+    let text = semicolons(alloc, count)?;
+    match lex(alloc, text.as_slice()) {
+        Ok(tokens) => if tokens.len() == count as usize {
+            Some(None)
+        } else {
+            None
+        },
+        Err(fault) => Some(Some(fault)),
     }
 }
 
 #[test]
-fn runs_out_of_memory_and_fails_for_nothing_else(rt: HostRuntime) -> Result<(), Fail> {
-    // Room for 8 tokens is asked for first, and then for 16, 32 and 64.
-    let text = [b'('; 64];
-    let mut too_small = 0;
-    for turn in 4..4_096 {
-        if fits(&rt, 16 * turn, &text, text.len())? {
-            break;
-        }
-        too_small = turn;
-    }
-    assert!(rt; too_small > 100);
-    assert!(rt; too_small < 4_000);
-    Ok(())
+fn refuses_a_text_over_the_limit(rt: HostRuntime) {
+    assert!(rt; fault_of_semicolons(rt.alloc(), 65_536) == Some(None));
+    assert!(rt; fault_of_semicolons(rt.alloc(), 65_537) == Some(Some(LexFault::TooLong)));
+}
+
+/// Whether a fault is said in these words.
+fn is_said(alloc: Global, fault: LexFault, words: &str) -> bool {
+    fault
+        .to_string(alloc)
+        .is_ok_and(|said| said.as_str() == words)
 }
 
 #[test]
-fn tells_a_long_text_without_memory(rt: HostRuntime) -> Result<(), Fail> {
-    let mut text = Vec::new(rt.alloc());
-    for _turn in 0..65_537 {
-        text.push(b' ')?;
+fn says_faults_in_words(rt: HostRuntime) {
+    for (fault, words) in [
+        (LexFault::TooLong, "the text is over 65,536 bytes"),
+        (LexFault::BadByte(0), "bad byte at 0"),
+        (
+            LexFault::NumberTooLarge(12),
+            "the number at 12 is over 9223372036854775807",
+        ),
+        (
+            LexFault::NameTooLong(65_000),
+            "the name at 65000 is over 32 bytes",
+        ),
+        (LexFault::NoMemory, "out of memory"),
+    ] {
+        assert!(rt; is_said(rt.alloc(), fault, words), "{words}");
     }
-    let heap = LocalHeap::new(rt.alloc(), 64)?;
-    assert!(rt; lex(&heap, text.as_slice()).err() == Some(LexFault::TooLong));
-    Ok(())
 }

@@ -4,6 +4,12 @@
 #[cfg(test)]
 mod agreement;
 #[cfg(test)]
+mod banker;
+#[cfg(test)]
+mod base;
+#[cfg(test)]
+mod claims;
+#[cfg(test)]
 mod code;
 #[cfg(test)]
 mod codegen;

@@ -1,6 +1,6 @@
 //! The command line as clap reads it.
 ghost use Rattle.std.specs.Prelude.{◌≡◌, IfOk, false};
-ghost use Rattle.clap.specs.Words.{app_of, rule_of, with_rule};
+ghost use Rattle.clap.specs.Words.{App, app_of, rule_of, with_rule};
 ghost use Rattle.clap.specs.declared.builder.command.Command.TheViews.{out-Command};
 ghost use Rattle.pb_words.specs.CommandLine.{check_command, claims_command, debug_command, draw_command, emit_command, flag_rule, exec_command, explain_command, migrate_command, number_rule, number_rule_or, outcomes_command, record_command, replay_command, run_command, that_wants_command, IsCommand};
 ghost use Rattle.pb_words.specs.CommandLine.{command_line as whole, with_code_commands, with_command, with_object_commands, with_other_commands, with_pick_commands, with_run_rules, with_text_commands};
@@ -61,20 +61,37 @@ fn with_subcommand<'a>(
     command.subcommand(subcommand)
 }
 
+// Adds an option with a number and a default. Nothing but the command is there when the addition fails: an option that
+// would have to be dropped then makes the proof much longer.
+fn with_number<'a>(
+    alloc: Global,
+    command: Command<'a>,
+    name: &'a str,
+    least: u64,
+    most: u64,
+    default: &'a str,
+    help: &'a str,
+) -> Result<Command<'a>, AllocError>
+    ensures app { IfOk result (λ c. app_of c
+        ≡ with_rule (app_of command.entry) (number_rule_or name.entry.now least most default.entry.now)) }
+    ensures own { IfOk result (λ c. (out-Command c).has_globals ≡ (out-Command command.entry).has_globals) }
+{
+    let option = number_option_or(alloc, name, least, most, default);
+    with_option(command, option.help(help))
+}
+
 // Adds the options of a run by workers.
 #[tactic(auto, unfolding(crate::specs::CommandLine::with_run_rules))]
 fn with_run_options<'a>(alloc: Global, command: Command<'a>) -> Result<Command<'a>, AllocError>
     ensures app { IfOk result (λ c. app_of c ≡ with_run_rules (app_of command.entry)) }
     ensures own { IfOk result (λ c. (out-Command c).has_globals ≡ (out-Command command.entry).has_globals) }
 {
-    let workers = number_option_or(alloc, "workers", 1, 16, "1");
-    let workers = workers.help("Run with this many worker threads, 1 to 16");
-    let quantum = number_option_or(alloc, "quantum", 1, 4_096, "64");
-    let quantum = quantum.help("The most steps a worker makes at once, 1 to 4096");
-    let steps = number_option_or(alloc, "steps", 0, 10_000_000, "1000000");
-    let steps = steps.help("Stop the run after this many steps, 0 to 10000000");
-    let command = with_option(with_option(command, workers)?, quantum)?;
-    with_option(command, steps)
+    let workers = "Run with this many worker threads, 1 to 16";
+    let command = with_number(alloc, command, "workers", 1, 16, "1", workers)?;
+    let quantum = "The most steps a worker makes at once, 1 to 4096";
+    let command = with_number(alloc, command, "quantum", 1, 4_096, "64", quantum)?;
+    let steps = "Stop the run after this many steps, 0 to 10000000";
+    with_number(alloc, command, "steps", 0, 10_000_000, "1000000", steps)
 }
 
 #[tactic(auto, unfolding(crate::specs::CommandLine::check_command))]
@@ -206,46 +223,53 @@ fn wanting_command<'a>(command: Command<'a>) -> Command<'a>
     command.subcommand_required(true).version(VERSION)
 }
 
-#[tactic(auto, unfolding(crate::specs::CommandLine::with_text_commands))]
+// Adds a subcommand, if there was memory for it. The command is dropped here alone if there was none.
+fn with_made<'a>(
+    command: Command<'a>,
+    made: Result<Command<'a>, AllocError>,
+) -> Result<Command<'a>, AllocError>
+    requires { IfOk made (λ s. (out-Command s).has_globals ≡ false) }
+    ensures { IfOk result (λ c. (sub : App) → IfOk made.entry (λ s. app_of s ≡ sub)
+        → app_of c ≡ with_command (app_of command.entry) sub) }
+{
+    with_subcommand(command, made?)
+}
+
 fn with_texts<'a>(alloc: Global, command: Command<'a>) -> Result<Command<'a>, AllocError>
     ensures { IfOk result (λ c. app_of c ≡ with_text_commands (app_of command.entry)) }
 {
-    let command = with_subcommand(command, check_texts(alloc)?)?;
-    with_subcommand(command, claims_of_text(alloc)?)
+    let command = with_made(command, check_texts(alloc))?;
+    with_made(command, claims_of_text(alloc))
 }
 
-#[tactic(auto, unfolding(crate::specs::CommandLine::with_code_commands))]
 fn with_codes<'a>(alloc: Global, command: Command<'a>) -> Result<Command<'a>, AllocError>
     ensures { IfOk result (λ c. app_of c ≡ with_code_commands (app_of command.entry)) }
 {
-    let command = with_subcommand(command, emit_object(alloc)?)?;
-    with_subcommand(command, run_texts(alloc)?)
+    let command = with_made(command, emit_object(alloc))?;
+    with_made(command, run_texts(alloc))
 }
 
-#[tactic(auto, unfolding(crate::specs::CommandLine::with_object_commands))]
 fn with_objects<'a>(alloc: Global, command: Command<'a>) -> Result<Command<'a>, AllocError>
     ensures { IfOk result (λ c. app_of c ≡ with_object_commands (app_of command.entry)) }
 {
-    let command = with_subcommand(command, exec_object(alloc)?)?;
-    with_subcommand(command, migrate_object(alloc)?)
+    let command = with_made(command, exec_object(alloc))?;
+    with_made(command, migrate_object(alloc))
 }
 
-#[tactic(auto, unfolding(crate::specs::CommandLine::with_pick_commands))]
 fn with_picks<'a>(alloc: Global, command: Command<'a>) -> Result<Command<'a>, AllocError>
     ensures { IfOk result (λ c. app_of c ≡ with_pick_commands (app_of command.entry)) }
 {
-    let command = with_subcommand(command, record_text(alloc)?)?;
-    let command = with_subcommand(command, replay_picks(alloc)?)?;
-    with_subcommand(command, debug_picks(alloc)?)
+    let command = with_made(command, record_text(alloc))?;
+    let command = with_made(command, replay_picks(alloc))?;
+    with_made(command, debug_picks(alloc))
 }
 
-#[tactic(auto, unfolding(crate::specs::CommandLine::with_other_commands))]
 fn with_others<'a>(alloc: Global, command: Command<'a>) -> Result<Command<'a>, AllocError>
     ensures { IfOk result (λ c. app_of c ≡ with_other_commands (app_of command.entry)) }
 {
-    let command = with_subcommand(command, draw_picks(alloc)?)?;
-    let command = with_subcommand(command, outcomes_of_text(alloc)?)?;
-    with_subcommand(command, explain_code(alloc)?)
+    let command = with_made(command, draw_picks(alloc))?;
+    let command = with_made(command, outcomes_of_text(alloc))?;
+    with_made(command, explain_code(alloc))
 }
 
 // The whole command line.

@@ -1,0 +1,172 @@
+//! Three small bankers: who is granted what, and in which order all can finish.
+
+use pb_banker::{Answer, Banker};
+use pb_base::{Bundle, Capital, Claims, Pair};
+use std::alloc::Global;
+
+/// The answer to a request for one resource, and how many claims were looked at.
+fn asked(banker: &mut Banker, p: usize, r: u8, amount: u32) -> Option<(Answer, u32)> {
+    if p >= banker.processes() || usize::from(r) >= banker.resources() {
+        return None;
+    }
+    let answer = banker.ask(p, &Bundle::one(r, amount));
+    Some((answer, banker.looked()))
+}
+
+/// Whether a request for one resource is granted.
+fn is_granted(banker: &mut Banker, p: usize, r: u8, amount: u32) -> bool {
+    match asked(banker, p, r, amount) {
+        Some((answer, _)) => answer == Answer::Granted,
+        None => false,
+    }
+}
+
+/// Whether this is the order in which all processes can finish.
+fn has_order(alloc: Global, banker: &Banker, order: &[u8]) -> bool {
+    match banker.order(alloc) {
+        Ok(found) => found.as_slice() == order,
+        Err(_) => false,
+    }
+}
+
+/// Dijkstra's three customers, who claim 8, 6 and 4 of 10.
+fn customers(alloc: Global) -> Option<Banker> {
+    let capital = Capital::new(alloc, &[10]).ok()?;
+    let claims = Claims::new(alloc, &[&[8], &[6], &[4]]).ok()?;
+    Banker::new(alloc, &capital, &claims).ok()
+}
+
+#[test]
+fn customers_are_granted_while_all_can_finish(rt: HostRuntime) {
+    let Some(mut banker) = customers(rt.alloc()) else {
+        panic!(rt; "out of memory");
+    };
+    for (p, amount, answer) in [
+        (0, 4, (Answer::Granted, 3)),
+        (1, 2, (Answer::Granted, 3)),
+        (2, 1, (Answer::Granted, 6)),
+        (1, 1, (Answer::NotNow, 4)),
+        (1, 5, (Answer::OverClaim, 0)),
+    ] {
+        assert!(rt;
+            asked(&mut banker, p, 0, amount) == Some(answer),
+            "{p} asks for {amount}"
+        );
+    }
+    assert!(rt; has_order(rt.alloc(), &banker, &[2, 0, 1]));
+}
+
+/// Those that could not finish if a process had so much more of a resource; none if that is over its claim or the
+/// cash, or if memory is refused.
+fn rest(alloc: Global, banker: &Banker, p: usize, r: u8, amount: u32) -> Option<Vec<u8>> {
+    let resource = usize::from(r);
+    if p >= banker.processes() || resource >= banker.resources() {
+        return None;
+    }
+    let (loan, claim) = (banker.loan(p, resource), banker.claim(p, resource));
+    if loan > claim || amount > claim - loan || amount > banker.cash(resource) {
+        return None;
+    }
+    banker.rest_if(alloc, p, &Bundle::one(r, amount)).ok()
+}
+
+/// Whether those that could not finish are these.
+fn has_rest(alloc: Global, banker: &Banker, asking: (usize, u8), wanted: &[u8]) -> bool {
+    match rest(alloc, banker, asking.0, asking.1, 1) {
+        Some(found) => found.as_slice() == wanted,
+        None => false,
+    }
+}
+
+#[test]
+fn nobody_could_finish_after_one_more(rt: HostRuntime) {
+    let Some(mut banker) = customers(rt.alloc()) else {
+        panic!(rt; "out of memory");
+    };
+    assert!(rt; is_granted(&mut banker, 0, 0, 4));
+    assert!(rt; is_granted(&mut banker, 1, 0, 2));
+    assert!(rt; is_granted(&mut banker, 2, 0, 1));
+    assert!(rt; has_rest(rt.alloc(), &banker, (1, 0), &[0, 1, 2]));
+}
+
+/// Two processes that claim all of both resources.
+fn pair_of_claims(alloc: Global, amounts: [u32; 2]) -> Option<Banker> {
+    let row = [u64::from(amounts[0]), u64::from(amounts[1])];
+    if amounts[0] > 1_000_000 || amounts[1] > 1_000_000 {
+        return None;
+    }
+    let capital = Capital::new(alloc, &amounts).ok()?;
+    let claims = Claims::new(alloc, &[row.as_slice(), row.as_slice()]).ok()?;
+    Banker::new(alloc, &capital, &claims).ok()
+}
+
+#[test]
+fn crossed_requests_wait(rt: HostRuntime) {
+    let Some(mut banker) = pair_of_claims(rt.alloc(), [1, 1]) else {
+        panic!(rt; "out of memory");
+    };
+    assert!(rt; is_granted(&mut banker, 0, 0, 1));
+    assert!(rt; !is_granted(&mut banker, 1, 1, 1));
+    assert!(rt; has_rest(rt.alloc(), &banker, (1, 1), &[0, 1]));
+    if banker.processes() > 0 {
+        banker.drop_all(0);
+    }
+    assert!(rt; is_granted(&mut banker, 1, 1, 1));
+    assert!(rt; has_order(rt.alloc(), &banker, &[1, 0]));
+}
+
+/// Whether a request for one of the first resource and two of the second is granted.
+fn are_both_granted(banker: &mut Banker, p: usize) -> Option<bool> {
+    if p >= banker.processes() || banker.resources() < 2 {
+        return None;
+    }
+    let mut both = Bundle::one(0, 1);
+    both.push(Pair {
+        resource: 1,
+        amount: 2,
+    });
+    Some(banker.ask(p, &both) == Answer::Granted)
+}
+
+/// What is lent to a process, and what is left, of a resource.
+fn standing(banker: &Banker, p: usize, r: usize) -> Option<(u32, u32)> {
+    if p >= banker.processes() || r >= banker.resources() {
+        return None;
+    }
+    Some((banker.loan(p, r), banker.cash(r)))
+}
+
+#[test]
+fn all_pairs_or_none(rt: HostRuntime) {
+    let Some(mut banker) = pair_of_claims(rt.alloc(), [1, 2]) else {
+        panic!(rt; "out of memory");
+    };
+    assert!(rt; is_granted(&mut banker, 0, 1, 1));
+    assert!(rt; are_both_granted(&mut banker, 1) == Some(false));
+    assert!(rt; standing(&banker, 1, 0) == Some((0, 1)));
+}
+
+/// Gives back so much of a resource, if so much is lent.
+fn is_given_back(banker: &mut Banker, p: usize, r: u8, amount: u32) -> bool {
+    let resource = usize::from(r);
+    if p >= banker.processes() || resource >= banker.resources() {
+        return false;
+    }
+    if banker.loan(p, resource) < amount {
+        return false;
+    }
+    banker.give(p, &Bundle::one(r, amount));
+    true
+}
+
+#[test]
+fn copies_keep_what_was_given_back(rt: HostRuntime) {
+    let Some(mut banker) = pair_of_claims(rt.alloc(), [1, 2]) else {
+        panic!(rt; "out of memory");
+    };
+    let fresh = banker.copy(rt.alloc());
+    assert!(rt; is_granted(&mut banker, 0, 1, 2));
+    assert!(rt; is_given_back(&mut banker, 0, 1, 1));
+    assert!(rt; standing(&banker, 0, 1) == Some((1, 1)));
+    assert!(rt; fresh.is_ok_and(|it| standing(&it, 0, 1) == Some((0, 2))));
+}

@@ -1,0 +1,213 @@
+//! The words of a call, and the command and the options that they name.
+
+use pb_object::Format;
+use pb_options::{
+    CheckOptions, DebugOptions, EmitOptions, OutcomesOptions, RecordOptions, RunOptions,
+};
+use pb_refusals::Code;
+use pb_words::{Options, WordsFault, options};
+use std::alloc::Global;
+
+/// Whether the words after the program's own name are read as these options.
+fn are_read(alloc: Global, words: &[&str], wanted: Options) -> bool {
+    match options(alloc, words) {
+        Ok(read) => read == wanted,
+        Err(_) => false,
+    }
+}
+
+/// Whether a command is refused with a word behind it.
+fn is_refused(alloc: Global, command: &str, word: &str) -> bool {
+    options(alloc, &["parbegin", command, word]).is_err()
+}
+
+const RUN: RunOptions = RunOptions {
+    workers: 1,
+    quantum: 64,
+    steps: 1_000_000,
+};
+
+#[test]
+fn commands_have_their_defaults(rt: HostRuntime) {
+    for (command, wanted) in [
+        ("check", Options::Check(CheckOptions { heap: None })),
+        ("claims", Options::Claims),
+        ("debug", Options::Debug(DebugOptions { live: false })),
+        ("draw", Options::Draw),
+        (
+            "emit",
+            Options::Emit(EmitOptions {
+                object: Format::Two,
+            }),
+        ),
+        ("exec", Options::Exec(RUN)),
+        ("explain", Options::Explain(None)),
+        ("migrate", Options::Migrate),
+        (
+            "outcomes",
+            Options::Outcomes(OutcomesOptions { states: 1_000_000 }),
+        ),
+        (
+            "record",
+            Options::Record(RecordOptions {
+                run: RUN,
+                seed: None,
+            }),
+        ),
+        ("replay", Options::Replay),
+        ("run", Options::Run(RUN)),
+    ] {
+        assert!(rt;
+            are_read(rt.alloc(), &["parbegin", command], wanted),
+            "{command}"
+        );
+    }
+}
+
+#[test]
+fn options_with_one_word_are_read(rt: HostRuntime) {
+    for (command, word, wanted) in [
+        (
+            "check",
+            "--heap=1024",
+            Options::Check(CheckOptions { heap: Some(1_024) }),
+        ),
+        (
+            "debug",
+            "--live",
+            Options::Debug(DebugOptions { live: true }),
+        ),
+        (
+            "emit",
+            "--object=1",
+            Options::Emit(EmitOptions {
+                object: Format::One,
+            }),
+        ),
+        (
+            "emit",
+            "--object=2",
+            Options::Emit(EmitOptions {
+                object: Format::Two,
+            }),
+        ),
+        ("explain", "N3", Options::Explain(Some(Code::N3))),
+        (
+            "outcomes",
+            "--states=4000000",
+            Options::Outcomes(OutcomesOptions { states: 4_000_000 }),
+        ),
+    ] {
+        assert!(rt;
+            are_read(rt.alloc(), &["parbegin", command, word], wanted),
+            "{command} {word}"
+        );
+    }
+}
+
+#[test]
+fn numbers_are_read_up_to_their_limits(rt: HostRuntime) {
+    let least = RunOptions {
+        workers: 1,
+        quantum: 1,
+        steps: 0,
+    };
+    let words = ["parbegin", "run", "--workers=1", "--quantum=1", "--steps=0"];
+    assert!(rt; are_read(rt.alloc(), &words, Options::Run(least)));
+    let most = RunOptions {
+        workers: 16,
+        quantum: 4_096,
+        steps: 10_000_000,
+    };
+    let words = [
+        "parbegin",
+        "exec",
+        "--workers=16",
+        "--quantum=4096",
+        "--steps=10000000",
+    ];
+    assert!(rt; are_read(rt.alloc(), &words, Options::Exec(most)));
+    let seed = 18_446_744_073_709_551_615;
+    let drawn = RecordOptions {
+        run: least,
+        seed: Some(seed),
+    };
+    let words = [
+        "parbegin",
+        "record",
+        "--quantum=1",
+        "--steps",
+        "0",
+        "--seed",
+        "18446744073709551615",
+    ];
+    assert!(rt; are_read(rt.alloc(), &words, Options::Record(drawn)));
+}
+
+#[test]
+fn other_words_are_refused(rt: HostRuntime) {
+    for (command, word) in [
+        ("check", "--heap=1023"),
+        ("check", "--heap=16777217"),
+        ("claims", "--steps=3"),
+        ("debug", "--live=true"),
+        ("debug", "--steps=3"),
+        ("debug", "text"),
+        ("draw", "--svg"),
+        ("emit", "--object=0"),
+        ("emit", "--object=3"),
+        ("emit", "--object=one"),
+        ("explain", ""),
+        ("explain", "n3"),
+        ("explain", "N5"),
+        ("explain", "--code"),
+        ("fly", "text"),
+        ("help", "text"),
+        ("migrate", "text"),
+        ("outcomes", "--states=0"),
+        ("outcomes", "--states=4000001"),
+        ("outcomes", "text"),
+        ("record", "--seed=-1"),
+        ("record", "--seed=18446744073709551616"),
+        ("record", "--seed=seven"),
+        ("replay", "--steps=3"),
+        ("run", "--steps=10000001"),
+        ("run", "--steps=three"),
+        ("run", "--workers=0"),
+        ("run", "--workers=17"),
+        ("run", "--quantum=0"),
+        ("run", "--quantum=4097"),
+        ("run", "text"),
+    ] {
+        assert!(rt; is_refused(rt.alloc(), command, word), "{command} {word}");
+    }
+}
+
+#[test]
+fn an_option_that_is_given_twice_is_refused(rt: HostRuntime) {
+    assert!(rt; options(rt.alloc(), &["parbegin", "run", "--steps=3", "--steps=3"]).is_err());
+    assert!(rt; options(rt.alloc(), &["parbegin", "explain", "N3", "N4"]).is_err());
+    assert!(rt; options(rt.alloc(), &["parbegin"]).is_err());
+}
+
+/// Whether the refusal of these words says this.
+fn is_told(alloc: Global, words: &[&str], part: &str) -> bool {
+    match options(alloc, words) {
+        Err(WordsFault::Words(text)) => text.as_str().contains(part),
+        _ => false,
+    }
+}
+
+#[test]
+fn refusals_tell_what_there_is(rt: HostRuntime) {
+    let unknown = ["parbegin", "explain", "N5"];
+    assert!(rt; is_told(rt.alloc(), &unknown, "error: no refusal has this code"));
+    assert!(rt; is_told(rt.alloc(), &unknown, " N1 N2 N3 N4 N6 C1 "));
+    assert!(rt;
+        is_told(
+            rt.alloc(),
+            &["out/pb_cli", "fly"],
+            "Usage: parbegin <COMMAND>"
+        )
+    );
+}
