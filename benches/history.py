@@ -11,16 +11,25 @@ is checked.
 
 A second table says what `--seed` costs: milliseconds of `record` without a seed and with one, taken the same way, their ratio,
 and the nanoseconds that each drawn pick takes more. That `replay` accepts what was drawn is checked.
+
+    python3 benches/history.py instructions [PROGRAM]
+
+counts the processor's instructions in place of the time, which no other work disturbs, and has the machine alone beside
+them: the small proved program of benches/silent.py, which makes the same picks by silent runs of at most 4,096. Those of
+`record` and `replay` with no pick are taken off. Wants `rt` and `valgrind`.
 """
 import os
 import pathlib
 import subprocess
 import sys
 
-from scratch import TOP, print_table, scratch_folder
+import silent
+from scratch import MACHINE_NEEDS, TOP, build_proved, instructions, instructions_a_round, print_table, scratch_folder
 
-PROGRAM = pathlib.Path(sys.argv[1]) if len(sys.argv) > 1 else TOP / "crates" / "pb_cli" / "out" / "pb_cli"
-TURNS = int(sys.argv[2]) if len(sys.argv) > 2 else 9
+COUNTS = sys.argv[1:2] == ["instructions"]
+WORDS = sys.argv[1 + COUNTS:]
+PROGRAM = pathlib.Path(WORDS[0]) if WORDS else TOP / "crates" / "pb_cli" / "out" / "pb_cli"
+TURNS = int(WORDS[1]) if len(WORDS) > 1 else 9
 STEPS = 10_000_000
 # The greatest, at which `run` takes hardly more than the machine alone.
 QUANTUM = ["--quantum", "4096"]
@@ -103,6 +112,25 @@ def drawn_row(folder, name, text):
     return [name, 1000 * plain, 1000 * seeded, seeded / plain, 1e9 * (seeded - plain) / DRAWN, drawn.stat().st_size]
 
 
+def counted_row(proved, name):
+    """The instructions of one of the programs of benches/silent.py, for each of its nearly ten million picks."""
+    text = silent.text_program(*silent.program_of(name, True)).encode() + b"\n"
+    replay, record = [PROGRAM, "replay"], [PROGRAM, "record", *QUANTUM, "--steps"]
+    recorded = subprocess.run([*record, str(STEPS)], input=text, stdout=subprocess.PIPE, check=True).stdout
+    picks = silent.picks_recorded(PROGRAM, text)
+    alone = instructions_a_round([proved, silent.LONG], text, 2) / picks
+    replayed = (instructions(replay, recorded) - instructions(replay, text)) / picks
+    made = (instructions([*record, STEPS], text) - instructions([*record, 0], text)) / picks
+    return [name, picks, alone, replayed, made, replayed / alone, made / alone]
+
+
+def count():
+    with scratch_folder() as folder:
+        proved = build_proved(folder, MACHINE_NEEDS, silent.FILES)
+        rows = [counted_row(proved, name) for name in ("count", "nested")]
+    print_table(["text", "picks", "machine", "replay", "record", "replay by machine", "record by machine"], rows)
+
+
 def main():
     with scratch_folder() as folder:
         rows = [row(folder, name, *it) for name, it in TEXTS.items()]
@@ -111,4 +139,4 @@ def main():
     print_table(["text", "record", "record --seed", "ratio", "ns more a pick", "bytes recorded"], drawn)
 
 
-main()
+count() if COUNTS else main()

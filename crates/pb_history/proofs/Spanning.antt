@@ -5,6 +5,7 @@ use Rattle.std.proofs.lemmas.Bool.Decides.{nat_tests}
 use Rattle.pb_base.specs.declared.event.Event.{Event}
 use Rattle.pb_base.specs.declared.pick.Pick.{Pick}
 use Rattle.pb_history.specs.Entries.{Entry, added, are_same, before, entries_of, is_shown, marks, shown, silent, silent_picks, spans_of}
+use Rattle.pb_history.specs.Traces.{SilentPicksAddOneSpan}
 use Rattle.pb_history.specs.declared.span.Span.{Span}
 
 pub same_itself : (p : Pick) → are_same p p ≡ true
@@ -115,3 +116,12 @@ spans_of_run p (suc k) false [] lt none =
     ap spans_of (append-nil (silent_picks p (suc k - 0)) ∙ (ap (silent_picks p) (let n : suc k - 0 ≡ suc k = omega arith in n) ∙ replicate_more k (silent p)))
     ∙ (silent_before p k (record { pick = p; count = 1; shows = false }) (silent p ∷ []) refl refl
     ∙ ap (λ (n : ℕ). record { pick = p; count = n; shows = false } ∷ []) (let e : 1 + k ≡ suc k = omega arith in e))
+
+silent_span : (p : Pick) (n : ℕ) → 0 < n → spans_of (silent_picks p n) ≡ record { pick = p; count = n; shows = false } ∷ []
+silent_span p n lt =
+    ap spans_of (sym (append-nil (silent_picks p (n - 0)) ∙ ap (silent_picks p) (let e : n - 0 ≡ n = omega arith in e)))
+    ∙ spans_of_run p n false [] lt refl
+
+-- silent picks behind entries
+pub silent_added : SilentPicksAddOneSpan
+silent_added entries p n lt = spans_of_append entries (silent_picks p n) (record { pick = p; count = n; shows = false }) (silent_span p n lt)

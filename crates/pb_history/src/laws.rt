@@ -2,6 +2,7 @@
 
 ghost use Rattle.pb_history.specs.Leads.{SilentPicksLead, TracesMake};
 ghost use Rattle.pb_history.specs.Positions.{ReplaysReachPositions};
+ghost use Rattle.pb_history.specs.Traces.{SilentPicksAddOneSpan};
 
 /// The picks of a trace make its events.
 pub fn traces_make_their_events()
@@ -16,4 +17,10 @@ pub fn silent_picks_lead()
 /// A replay makes enabled picks, and ends in the state at the position after the last of them.
 pub fn replays_reach_positions()
     ensures { ReplaysReachPositions }
+{}
+
+/// Picks of one arm that show nothing, behind others, make one span more, or none if the last span is of that arm and
+/// shows nothing.
+pub fn silent_picks_add_one_span()
+    ensures { SilentPicksAddOneSpan }
 {}

@@ -98,10 +98,11 @@ impl Trace {
     }
 
     /// Makes room for `more` further calls of `push_run`, `push_silent` and `push_shown`. The entries stay the same,
-    /// even if memory is refused.
+    /// even if memory is refused, and there is no less room than before.
     pub fn reserve(&mut self, more: usize) -> Result<(), NoMemory>
         ensures same { self.new.entries ≡ self.old.entries }
         ensures room { OnOk result (more ≤ self.new.room) }
+        ensures more { self.old.room ≤ self.new.room }
     {
         self.spans.reserve(more)?;
         self.events.reserve(more)
@@ -113,6 +114,7 @@ impl Trace {
         ensures ok { OnOk result
             (self.new.entries ≡ self.old.entries ++ record { pick = pick; event = event } ∷ []) }
         ensures err { OnErr result (self.new.entries ≡ self.old.entries) }
+        ensures room { OnErr result (self.old.room ≤ self.new.room) }
     {
         self.reserve(1)?;
         match event {
@@ -127,6 +129,7 @@ impl Trace {
         requires { length self.old.entries + count ≤ 10000000 }
         ensures ok { OnOk result (self.new.entries ≡ self.old.entries ++ silent_picks pick count) }
         ensures err { OnErr result (self.new.entries ≡ self.old.entries) }
+        ensures room { OnErr result (self.old.room ≤ self.new.room) }
     {
         self.reserve(1)?;
         self.push_silent(pick, count);
