@@ -1,5 +1,5 @@
 //! The picks of a run, counted.
-ghost use Rattle.std.specs.Prelude.{◌≤◌, IfOk, MatchOption, None, Some, length};
+ghost use Rattle.std.specs.Prelude.{◌≢◌, ◌≤◌, IfErr, IfOk, MatchOption, None, Some, length};
 ghost use Rattle.pb_engines.specs.Records.{AreCounts, AreTooMany, IsRecorded, IsTooLong};
 ghost use Rattle.pb_verifier.specs.Verified.{IsVerified};
 
@@ -20,7 +20,8 @@ use std::thread::Threads;
 /// The most counted picks that an input can have, since the line of each takes at least 5 bytes.
 const MOST_LINES: usize = 838_860;
 
-/// Returns the picks of a run of the code by workers; nothing if their lines would be too long for an input.
+/// Returns the picks of a run of the code by workers; nothing if their lines would be too long for an input. The numbers
+/// of workers, quantum and steps are never the fault.
 pub fn report_picks<R: Threads + Wait + Sync>(
     rt: &R,
     alloc: Global,
@@ -28,8 +29,9 @@ pub fn report_picks<R: Threads + Wait + Sync>(
     verified: &Verified,
 ) -> Result<Option<Vec<CountedPick>>, RunFault>
     requires { IsVerified verified.now }
-    ensures { IfOk result (λ picks. MatchOption picks (IsTooLong verified.now.code options.steps None)
+    ensures picks { IfOk result (λ picks. MatchOption picks (IsTooLong verified.now.code options.steps None)
         (λ picks. IsRecorded verified.now.code options.steps None picks.items)) }
+    ensures limits { IfErr result (λ fault. fault ≢ RunFault.Limits) }
 {
     let report = run_workers(
         rt,

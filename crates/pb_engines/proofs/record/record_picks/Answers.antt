@@ -4,7 +4,7 @@ use Rattle.pb_engines.proofs.record.record_picks.Goals as goal
 pub returns-in_default-clause-picks : goal.returns-in_default-clause-picks
 returns-in_default-clause-picks g c =
     answered_without c.args.verified.now.code c.args.options.run.steps c.args.options.seed (λ picks. picks.items) c.report_picks.result
-    c.in_default.is c.report_picks.ensures
+    c.in_default.is c.report_picks.ensures.picks
 
 pub returns-in_default-clause-fault : goal.returns-in_default-clause-fault
 returns-in_default-clause-fault g c = any_fault_without c.args.options.seed c.report_picks.result c.in_default.is
