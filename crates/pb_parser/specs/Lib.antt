@@ -10,4 +10,5 @@ pub mod StatementReader
 pub mod ProgramReader
 pub mod Measured
 pub mod Making
+pub mod Parts
 pub mod Promises

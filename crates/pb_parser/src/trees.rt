@@ -3,11 +3,34 @@
 ghost use Rattle.std.specs.Prelude.{◌≡◌, map, IfOk};
 ghost use Rattle.pb_tree.specs.View.{name_view, expr_view, demand_view, stmts_view, arms_view};
 ghost use Rattle.pb_tree.specs.View.{resource_view, process_view, program_view};
+ghost use Rattle.pb_parser.specs.Parts.{part_view};
 
 use crate::builder::Builder;
 use pb_base::{BinaryOp, NoMemory, UnaryOp};
 use pb_tree::{Demand, Expr, Name, Number, Process, Program, Resource, Stmt};
 use std::alloc::Allocator;
+
+/// An expression on its way into the tree. It is small, since the parser of a deep program keeps many on the stack.
+#[derive(Drop)]
+pub(crate) enum Part<A: Allocator> {
+    /// A number.
+    Number(Number),
+    /// An expression that lies in memory already.
+    Made(Box<Expr<A>, A>),
+}
+
+impl<A: Allocator> Part<A> {
+    /// The expression itself.
+    #[tactic(auto, using(pb_tree::proofs::Views::expr_views))]
+    fn whole(self) -> Expr<A>
+        ensures { expr_view result ≡ part_view self }
+    {
+        match self {
+            Part::Number(number) => Expr::Number(number),
+            Part::Made(expr) => Box::into_inner(expr),
+        }
+    }
+}
 
 /// Makes trees in memory of `alloc`.
 #[derive(Drop)]
@@ -24,13 +47,24 @@ impl<A: Allocator + Clone> Trees<A> {
             at,
         })
     }
+
+    /// An expression in memory.
+    #[tactic(auto, using(pb_tree::proofs::Views::expr_views))]
+    fn boxed(&self, part: Part<A>) -> Result<Box<Expr<A>, A>, NoMemory>
+        ensures { IfOk result (λ expr. expr_view expr.value ≡ part_view part) }
+    {
+        match part {
+            Part::Number(number) => Ok(Box::new(self.alloc.clone()?, Expr::Number(number))?),
+            Part::Made(expr) => Ok(expr),
+        }
+    }
 }
 
 // The calls that build what nests are not inlined: their locals would lie in each frame of the parser's recursion, and a
 // deep program would need more stack.
 #[tactic(auto, using(pb_tree::proofs::Views::stmt_views))]
 impl<A: Allocator + Clone> Builder for Trees<A> {
-    type Expr = Expr<A>;
+    type Expr = Part<A>;
 
     type Stmts = Vec<Stmt<A>, A>;
 
@@ -48,7 +82,7 @@ impl<A: Allocator + Clone> Builder for Trees<A> {
 
     ghost wants = { Unit {0} };
 
-    ghost is_expr = { λ x e. expr_view x ≡ e };
+    ghost is_expr = { λ x e. part_view x ≡ e };
 
     ghost is_stmts = { λ x a. stmts_view x.items ≡ a };
 
@@ -64,28 +98,30 @@ impl<A: Allocator + Clone> Builder for Trees<A> {
 
     ghost is_program = { λ x p. program_view x ≡ p };
 
-    #[tactic(auto, using(pb_tree::proofs::Views::expr_views))]
-    fn number(&self, number: Number) -> Expr<A> {
-        Expr::Number(number)
+    fn number(&self, number: Number) -> Part<A> {
+        Part::Number(number)
     }
 
     #[tactic(auto, using(pb_tree::proofs::Views::expr_views))]
     #[inline(never)]
-    fn variable(&self, text: &[u8], at: usize) -> Result<Expr<A>, NoMemory> {
-        Ok(Expr::Variable(self.name(text, at)?))
+    fn variable(&self, text: &[u8], at: usize) -> Result<Part<A>, NoMemory> {
+        let name = self.name(text, at)?;
+        Ok(Part::Made(Box::new(self.alloc.clone()?, Expr::Variable(name))?))
     }
 
     #[tactic(auto, using(pb_tree::proofs::Views::expr_views))]
     #[inline(never)]
-    fn unary(&self, op: UnaryOp, operand: Expr<A>) -> Result<Expr<A>, NoMemory> {
-        Ok(Expr::Unary(op, Box::new(self.alloc.clone()?, operand)?))
+    fn unary(&self, op: UnaryOp, operand: Part<A>) -> Result<Part<A>, NoMemory> {
+        let operand = self.boxed(operand)?;
+        Ok(Part::Made(Box::new(self.alloc.clone()?, Expr::Unary(op, operand))?))
     }
 
     #[tactic(auto, using(pb_tree::proofs::Views::expr_views))]
     #[inline(never)]
-    fn binary(&self, op: BinaryOp, left: Expr<A>, right: Expr<A>) -> Result<Expr<A>, NoMemory> {
-        let left = Box::new(self.alloc.clone()?, left)?;
-        Ok(Expr::Binary(op, left, Box::new(self.alloc.clone()?, right)?))
+    fn binary(&self, op: BinaryOp, left: Part<A>, right: Part<A>) -> Result<Part<A>, NoMemory> {
+        let left = self.boxed(left)?;
+        let right = self.boxed(right)?;
+        Ok(Part::Made(Box::new(self.alloc.clone()?, Expr::Binary(op, left, right))?))
     }
 
     fn no_stmts(&self) -> Result<Vec<Stmt<A>, A>, NoMemory> {
@@ -99,8 +135,9 @@ impl<A: Allocator + Clone> Builder for Trees<A> {
         line: u32,
         text: &[u8],
         at: usize,
-        value: Expr<A>,
+        value: Part<A>,
     ) -> Result<(), NoMemory> {
+        let value = value.whole();
         let target = self.name(text, at)?;
         out.push(Stmt::Assign {
             line,
@@ -111,7 +148,8 @@ impl<A: Allocator + Clone> Builder for Trees<A> {
     }
 
     #[inline(never)]
-    fn print(&self, out: &mut Vec<Stmt<A>, A>, line: u32, value: Expr<A>) -> Result<(), NoMemory> {
+    fn print(&self, out: &mut Vec<Stmt<A>, A>, line: u32, value: Part<A>) -> Result<(), NoMemory> {
+        let value = value.whole();
         out.push(Stmt::Print { line, value })?;
         Ok(())
     }
@@ -121,10 +159,11 @@ impl<A: Allocator + Clone> Builder for Trees<A> {
         &self,
         out: &mut Vec<Stmt<A>, A>,
         line: u32,
-        test: Expr<A>,
+        test: Part<A>,
         on_true: Vec<Stmt<A>, A>,
         on_false: Vec<Stmt<A>, A>,
     ) -> Result<(), NoMemory> {
+        let test = test.whole();
         out.push(Stmt::If {
             line,
             test,
@@ -139,9 +178,10 @@ impl<A: Allocator + Clone> Builder for Trees<A> {
         &self,
         out: &mut Vec<Stmt<A>, A>,
         line: u32,
-        test: Expr<A>,
+        test: Part<A>,
         body: Vec<Stmt<A>, A>,
     ) -> Result<(), NoMemory> {
+        let test = test.whole();
         out.push(Stmt::While { line, test, body })?;
         Ok(())
     }
