@@ -20,8 +20,9 @@ FISH = TOP / "extras/completion/parbegin.fish"
 MANUAL = TOP / "docs/parbegin.1"
 # What Vim colours in comments.
 TASKS = {"TODO", "FIXME", "NOTE"}
-# What clap gives to every command, and the script's own option.
-COMMON = {"help", "version", "unproved"}
+# What clap gives to every command, and what may stand before a command.
+COMMON = {"help", "version", "unproved", "quiet"}
+BEFORE = {BASH: ("--unproved", "--quiet"), FISH: ("-l unproved", "-l quiet"), MANUAL: (r"\-\-unproved", r"\-\-quiet")}
 
 
 def reserved_words():
@@ -93,6 +94,9 @@ def main():
         for command in set(found) & set(wanted):
             differ = found[command] ^ wanted[command]
             tally.expect(not differ, f"{name}: the options of {command}", differ)
+    for file, options in BEFORE.items():
+        for option in options:
+            tally.expect(option in file.read_text(), f"{file.name}: {option}")
     print(f"{len(words)} reserved words, {len(wanted)} commands")
     tally.end("editors")
 

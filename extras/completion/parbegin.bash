@@ -1,11 +1,14 @@
 # Completion of parbegin for bash. To use it: source this file, or let install.sh put it in its place.
 _parbegin() {
     local word=${COMP_WORDS[COMP_CWORD]} before=${COMP_WORDS[COMP_CWORD - 1]} at=1 options
-    if [[ ${COMP_WORDS[1]} == --unproved ]]; then
-        at=2
-    fi
+    while ((at < COMP_CWORD)) && [[ ${COMP_WORDS[at]} == --unproved || ${COMP_WORDS[at]} == --quiet ]]; do
+        at=$((at + 1))
+    done
     if ((COMP_CWORD <= at)); then
         local commands="check claims debug draw emit exec explain migrate outcomes record replay run help --help --version"
+        if [[ ${COMP_WORDS[at - 1]} != --quiet ]]; then
+            commands+=" --quiet"
+        fi
         if ((at == 1)); then
             commands+=" --unproved"
         fi

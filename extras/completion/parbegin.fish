@@ -4,6 +4,7 @@ set -l commands check claims debug draw emit exec explain migrate outcomes recor
 complete -c parbegin -n "not __fish_seen_subcommand_from $commands" -f
 complete -c parbegin -n "not __fish_seen_subcommand_from $commands" -l unproved -d "Run the sources with no proof"
 complete -c parbegin -n "not __fish_seen_subcommand_from $commands" -l version -d "Print the version"
+complete -c parbegin -n "not __fish_seen_subcommand_from $commands" -l quiet -d "Write no message if the input is refused"
 complete -c parbegin -l help -d "Print help"
 
 complete -c parbegin -n "not __fish_seen_subcommand_from $commands" -a check -d "Check whether texts are programs"
