@@ -9,6 +9,7 @@ helgrind and drd look at runs of four workers for data races. It is run by hand 
 if nothing was found, and 1 if not.
 """
 import subprocess
+import tempfile
 
 from calls import EXAMPLES, TOP, Tally, first_object_of, object_of, program, recorded
 
@@ -23,9 +24,12 @@ TOOLS = {
 
 def look(tally, tool, words, given, name):
     """Runs the program under a tool of valgrind."""
-    how = ["valgrind", "-q", f"--error-exitcode={FOUND}", *TOOLS[tool], program(), *words]
-    ran = subprocess.run(how, input=given, stdout=subprocess.DEVNULL, stderr=subprocess.PIPE, check=False)
-    tally.expect(ran.returncode != FOUND and not ran.stderr, tool, name, words, ran.stderr.decode(errors="replace")[:2000])
+    with tempfile.NamedTemporaryFile() as log:
+        # (not on standard error, where the program explains a refusal)
+        how = ["valgrind", "-q", f"--log-file={log.name}", f"--error-exitcode={FOUND}", *TOOLS[tool], program(), *words]
+        ran = subprocess.run(how, input=given, stdout=subprocess.DEVNULL, stderr=subprocess.DEVNULL, check=False)
+        found = log.read().decode(errors="replace")
+    tally.expect(ran.returncode != FOUND and not found, tool, name, words, found[:2000])
 
 
 def main():
@@ -33,11 +37,12 @@ def main():
     for file in EXAMPLES:
         text = file.read_bytes()
         for words in (["check"], ["check", "--heap", "1048576"], ["claims"], ["run"], ["emit"], ["emit", "--object", "1"],
-                      ["record"], ["record", "--seed", "7"], ["run", "--workers", "4", "--quantum", "1"]):
+                      ["record"], ["record", "--seed", "7"], ["run", "--workers", "4", "--quantum", "1"], ["outcomes"]):
             look(tally, "memcheck", words, text, file.name)
         look(tally, "memcheck", ["exec"], object_of(text), file.name)
         look(tally, "memcheck", ["migrate"], first_object_of(text), file.name)
-        look(tally, "memcheck", ["replay"], recorded(text), file.name)
+        for words in (["replay"], ["draw"]):
+            look(tally, "memcheck", words, recorded(text), file.name)
         for tool in ("helgrind", "drd"):
             for quantum in ("1", "64"):
                 look(tally, tool, ["run", "--workers", "4", "--quantum", quantum], text, file.name)

@@ -136,11 +136,6 @@ def refuse_each(tally, refusing, pool, name, words, given):
     print(f"{' '.join(words)}: {name}: {number - 1} requests, {out_of_memory} times out of memory", flush=True)
 
 
-def knows_debug():
-    """Whether the program has the word `debug`."""
-    return call(["debug"], b"")[0] != 2
-
-
 def cases():
     """Yields what is called, and on what."""
     for name, text in TEXTS.items():
@@ -150,13 +145,14 @@ def cases():
         for workers in ("1", "4"):
             yield name, ["exec", "--workers", workers], object_of(text)
         yield name, ["migrate"], first_object_of(text)
-        yield name, ["replay"], recorded(text)
-        if knows_debug():
-            given = recorded(text) + b"%%\n" + COMMANDS
-            yield name, ["debug"], given
-            yield name, ["debug", "--live"], given
+        yield name, ["outcomes"], text
+        run = recorded(text)
+        yield name, ["replay"], run
+        yield name, ["draw"], run
+        yield name, ["debug"], run + b"%%\n" + COMMANDS
+        yield name, ["debug", "--live"], run + b"%%\n" + COMMANDS
     for kind, most in LIMITS.items():
-        for words in (["check"], ["claims"], ["emit"], ["run"]):
+        for words in (["check"], ["claims"], ["emit"], ["run"], ["outcomes", "--states", "100"]):
             yield f"{most} {kind}", words, many(kind, most)
     yield "one of too many integers", ["check"], many("integers", LIMITS["integers"] + 1)
 

@@ -57,8 +57,10 @@ class Trial:
 
 FULL_TEXTS = ["(", ")", "-", "not ", "begin ", "parbegin ", "1+", "x:=1;", "while 1 do ", "if 1 then ", "hold 1 of r do ",
               "print 1;", "// ", "\n", " ", "process p ", "9", "a", "\0", "\xff", "%%\n"]
+# (more configurations take more than a second)
+OUTCOMES = ["outcomes", "--states", "1000"]
 COMMANDS = [["check"], ["check", "--heap", "16777216"], ["claims"], ["run"], ["emit"], ["emit", "--object", "1"], ["record"],
-            ["record", "--seed", "1"], ["replay"], ["exec"], ["migrate"]]
+            ["record", "--seed", "1"], ["replay"], ["exec"], ["migrate"], ["draw"], OUTCOMES]
 
 
 def at_the_limits(trial):
@@ -66,6 +68,8 @@ def at_the_limits(trial):
         for command in ("check", "run", "emit", "claims", "record"):
             trial.expect(f"{most} {kind}", [command], many(kind, most), DONE)
             trial.expect(f"{most + 1} {kind}", [command], many(kind, most + 1), REFUSED)
+        trial.answer(f"{most} {kind}", OUTCOMES, many(kind, most))
+        trial.expect(f"{most + 1} {kind}", OUTCOMES, many(kind, most + 1), REFUSED)
     # (refused for its height, which is measured by the same recursion)
     kind = "brackets behind an operator of each kind"
     trial.expect(f"255 {kind}", ["check"], many(kind, 255), REFUSED)
