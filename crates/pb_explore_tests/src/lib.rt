@@ -3,4 +3,6 @@
 #![tactic(auto)]
 
 #[cfg(test)]
+mod graph;
+#[cfg(test)]
 mod outcomes;
