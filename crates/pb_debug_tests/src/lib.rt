@@ -2,6 +2,10 @@
 #![tactic(auto)]
 
 #[cfg(test)]
+mod examples;
+#[cfg(test)]
 mod positions;
+#[cfg(test)]
+mod replays;
 #[cfg(test)]
 mod sessions;
