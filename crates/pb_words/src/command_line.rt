@@ -12,6 +12,10 @@ use std::alloc::{AllocError, Global};
 // The version, and the line of `rt version` of the kit that it was proved with.
 const VERSION: &str = "0.1\nproved with rattle-kit-13b logic dac8208d650f15bf";
 
+// What stands above the help. `--quiet` is taken off before these words are read.
+const ABOUT: &str =
+    "Programs with parbegin: checked, run, recorded, debugged and drawn.\nWith --quiet before the command no message explains a refused input";
+
 fn number_option<'a>(alloc: Global, name: &'a str, least: u64, most: u64) -> Arg<'a>
     ensures rule { rule_of result ≡ number_rule name.entry.now least most }
     ensures own { result.global ≡ false }
@@ -220,7 +224,10 @@ fn run_texts<'a>(alloc: Global) -> Result<Command<'a>, AllocError>
 fn wanting_command<'a>(command: Command<'a>) -> Command<'a>
     ensures { app_of result ≡ that_wants_command (app_of command.entry) }
 {
-    command.subcommand_required(true).version(VERSION)
+    command
+        .about(ABOUT)
+        .subcommand_required(true)
+        .version(VERSION)
 }
 
 // Adds a subcommand, if there was memory for it. The command is dropped here alone if there was none.
