@@ -34,7 +34,8 @@ fn reading_of(options: &Options) -> Option<Reading> {
         Options::Emit(_) | Options::Outcomes(_) | Options::Run(_) => Some(Reading::Text),
         Options::Record(_) => Some(Reading::Recorded),
         Options::Exec(_) | Options::Migrate => Some(Reading::Object),
-        Options::Debug(_) | Options::Draw | Options::Replay => Some(Reading::FirstPart),
+        Options::Debug(_) => Some(Reading::Debugged),
+        Options::Draw | Options::Replay => Some(Reading::Replayed),
         Options::Explain(_) => None,
     }
 }

@@ -2,10 +2,12 @@
 
 use crate::first_format::first_format_message;
 use crate::objects::object_message;
+use crate::picks::{Lines, lines_message};
+use crate::place::place_of;
 use crate::texts::{early_message, text_message};
 use pb_base::NoMemory;
 use pb_engines::input::LONGEST_INPUT;
-use pb_engines::parts::first_part;
+use pb_engines::parts::{first_part, two_parts};
 use std::alloc::Global;
 
 // What is said of an input that is too long.
@@ -33,8 +35,10 @@ pub enum Reading {
     Texts,
     /// An object.
     Object,
-    /// A text or an object before the first line `%%`. What follows is not looked at.
-    FirstPart,
+    /// A text, and pick lines behind the first line `%%`.
+    Replayed,
+    /// A text or an object, and pick lines between the first two lines `%%`. What follows is not looked at.
+    Debugged,
 }
 
 /// Returns the message of a refused input, or one for each refused text of it; nothing if there is nothing to be said of
@@ -50,14 +54,8 @@ pub fn message_of(alloc: Global, reading: Reading, bytes: &[u8]) -> Result<Vec<u
         Reading::FirstFormat => first_format_message(alloc, bytes),
         Reading::Texts => texts_messages(alloc, bytes),
         Reading::Object => whole_object_message(alloc, bytes),
-        Reading::FirstPart => {
-            let source = first_part(bytes).part;
-            if source.starts_with(b"PBO ") {
-                whole_object_message(alloc, source)
-            } else {
-                whole_text_message(alloc, source)
-            }
-        }
+        Reading::Replayed => replayed_message(alloc, bytes),
+        Reading::Debugged => debugged_message(alloc, bytes),
     }
 }
 
@@ -115,4 +113,61 @@ fn part_label(alloc: Global, number: u64, is_last: bool) -> Result<String, NoMem
         return Ok(String::new(alloc));
     }
     Ok(format!(in alloc; "text {number}, ")?)
+}
+
+// Returns the message of a text and the pick lines behind it.
+fn replayed_message(alloc: Global, bytes: &[u8]) -> Result<Vec<u8>, NoMemory> {
+    let (text, lines) = two_parts(bytes);
+    let before = line_of(bytes, text.len());
+    picked_text_message(
+        alloc,
+        text,
+        Lines {
+            text: lines,
+            before,
+        },
+    )
+}
+
+// Returns the message of a text or an object and the pick lines behind it.
+fn debugged_message(alloc: Global, bytes: &[u8]) -> Result<Vec<u8>, NoMemory> {
+    let (source, rest) = two_parts(bytes);
+    let (text, _) = two_parts(rest);
+    let before = line_of(bytes, source.len());
+    let lines = Lines { text, before };
+    if is_object(source) {
+        picked_object_message(alloc, source, lines)
+    } else {
+        picked_text_message(alloc, source, lines)
+    }
+}
+
+// Returns the number of the line at an offset.
+fn line_of(bytes: &[u8], at: usize) -> usize {
+    place_of(bytes, at.min(bytes.len())).line
+}
+
+// Returns whether bytes begin as an object does.
+fn is_object(source: &[u8]) -> bool {
+    source.starts_with(b"PBO ")
+}
+
+// Returns the message of a text, or of pick lines over its code.
+fn picked_text_message(alloc: Global, text: &[u8], lines: Lines<'_>) -> Result<Vec<u8>, NoMemory> {
+    match text_message(alloc, "", text)? {
+        Ok(compiled) => lines_message(alloc, compiled.verified(), lines),
+        Err(message) => Ok(message),
+    }
+}
+
+// Returns the message of an object, or of pick lines over its code.
+fn picked_object_message(
+    alloc: Global,
+    object: &[u8],
+    lines: Lines<'_>,
+) -> Result<Vec<u8>, NoMemory> {
+    match object_message(alloc, object)? {
+        Ok((verified, _)) => lines_message(alloc, &verified, lines),
+        Err(message) => Ok(message),
+    }
 }

@@ -1,0 +1,184 @@
+//! Why a pick of pick lines is not enabled.
+
+use crate::wording::{Shown, Wording};
+use pb_banker::Banker;
+use pb_base::{Bundle, Names, NoMemory, Pick};
+use pb_code::{Code, Instr};
+use pb_history::CountedPick;
+use pb_history::replay::replay_counted;
+use pb_machine::{Machine, Thread, ThreadState};
+use pb_picks::read_picks;
+use pb_verifier::Verified;
+use std::alloc::Global;
+
+/// A pick of pick lines.
+#[derive(Clone, Copy)]
+pub struct Stop {
+    /// The pick.
+    pub pick: Pick,
+    /// Its number, from 0.
+    pub number: u32,
+    /// Where its line begins.
+    pub line: usize,
+    /// How many picks of its line are before it.
+    pub before: u32,
+}
+
+/// Returns the pick with a number, with its line; none past the end.
+pub fn stop_of(lines: &[u8], picks: &[CountedPick], number: u32) -> Option<Stop> {
+    let mut before = number;
+    for (i, counted) in picks.iter().enumerate() {
+        if before < counted.count {
+            return Some(Stop {
+                pick: counted.pick,
+                number,
+                line: line_start(lines, i),
+                before,
+            });
+        }
+        before = before.saturating_sub(counted.count);
+    }
+    None
+}
+
+// Returns where the line with this number begins, counted from 0.
+fn line_start(text: &[u8], number: usize) -> usize {
+    let mut left = number;
+    for (at, byte) in text.iter().enumerate() {
+        if left == 0 {
+            return at;
+        }
+        if *byte == b'\n' {
+            left = left.saturating_sub(1);
+        }
+    }
+    text.len()
+}
+
+/// Returns the wording of a pick that is not enabled, over code with these labels, after those before it.
+pub fn stop_wording(
+    alloc: Global,
+    verified: &Verified,
+    lines: &[u8],
+    stop: &Stop,
+) -> Result<Wording, NoMemory> {
+    let names = verified.names();
+    let arm = arm_name(alloc, names, stop.pick)?;
+    let summary = format!(in alloc; "{arm} cannot make pick {}", stop.number)?;
+    let mut wording = Wording::new(alloc, summary);
+    let before = lines_before(alloc, lines, stop, &arm)?;
+    if let Some(machine) = machine_after(alloc, verified, &before) {
+        note_why(alloc, &mut wording, verified.code(), &machine, stop.pick)?;
+    }
+    Ok(wording)
+}
+
+// Returns the machine behind the picks of pick lines; none if there is too little memory.
+fn machine_after(alloc: Global, verified: &Verified, lines: &[u8]) -> Option<Machine> {
+    let picks = read_picks(alloc, verified.code(), lines).ok()?;
+    let (machine, _) = replay_counted(alloc, verified, &picks).ok()?;
+    Some(machine)
+}
+
+// Returns the name of the arm of a pick.
+fn arm_name(alloc: Global, names: &Names, pick: Pick) -> Result<String, NoMemory> {
+    let process = Shown(name_at(&names.processes, pick.process));
+    Ok(format!(in alloc; "{process}.{}", pick.arm)?)
+}
+
+// Returns the name with this number; nothing past the end.
+fn name_at(names: &[Vec<u8>], number: u8) -> &[u8] {
+    match names.get(usize::from(number)) {
+        Some(name) => name.as_slice(),
+        None => b"",
+    }
+}
+
+// Returns the pick lines of the picks before this one.
+fn lines_before(
+    alloc: Global,
+    lines: &[u8],
+    stop: &Stop,
+    arm: &String,
+) -> Result<Vec<u8>, NoMemory> {
+    let mut text = Vec::from_slice(alloc, &lines[..stop.line.min(lines.len())])?;
+    if stop.before > 0 {
+        let line = format!(in alloc; "{arm} {}\n", stop.before)?;
+        text.extend_from_slice(line.as_bytes())?;
+    }
+    Ok(text)
+}
+
+// Notes why the arm of a pick does not go on.
+fn note_why(
+    alloc: Global,
+    wording: &mut Wording,
+    code: &Code,
+    machine: &Machine,
+    pick: Pick,
+) -> Result<(), NoMemory> {
+    let process = usize::from(pick.process);
+    let arm = usize::from(pick.arm);
+    if machine.processes() <= process {
+        return Ok(());
+    }
+    let standing = machine.proc(process);
+    if standing.arms() <= arm {
+        return Ok(());
+    }
+    let thread = standing.thread(arm);
+    match asked(code, process, thread) {
+        Some(bundle) if !standing.faulted() => {
+            let note = request_note(alloc, &code.names, machine.banker(), bundle)?;
+            wording.note(note)
+        }
+        _ => wording.note(String::from_str(alloc, stands(standing.faulted(), thread.state()))?),
+    }
+}
+
+// Returns how an arm stands that does not ask for anything.
+fn stands(faulted: bool, state: ThreadState) -> &'static str {
+    if faulted {
+        return "its process has faulted";
+    }
+    match state {
+        ThreadState::Idle => "the arm has not been started, or its parbegin has ended",
+        ThreadState::Live => "it waits at a parend for the arms of its parbegin",
+        ThreadState::Ended => "the arm has ended",
+    }
+}
+
+// Returns the bundle for which an arm asks, if it is at a request.
+fn asked<'c>(code: &'c Code, process: usize, thread: &Thread) -> Option<&'c Bundle> {
+    let code = code.processes.get(process)?;
+    match code.instrs.get(usize::from(thread.place()?)) {
+        Some(Instr::Take(number)) => code.bundles.get(usize::from(*number)),
+        _ => None,
+    }
+}
+
+// Returns why a request is refused.
+fn request_note(
+    alloc: Global,
+    names: &Names,
+    banker: &Banker,
+    bundle: &Bundle,
+) -> Result<String, NoMemory> {
+    for i in 0..bundle.len() {
+        let pair = bundle.get(i);
+        let resource = usize::from(pair.resource);
+        if resource < banker.resources() {
+            let cash = banker.cash(resource);
+            if cash < pair.amount {
+                let name = Shown(name_at(&names.resources, pair.resource));
+                return Ok(format!(in alloc;
+                    "it asks for {} of {name}, and the cash is {cash}",
+                    pair.amount
+                )?);
+            }
+        }
+    }
+    Ok(format!(in alloc;
+        "the cash is enough for its request, but if it were granted some processes could never finish"
+    )?)
+}
