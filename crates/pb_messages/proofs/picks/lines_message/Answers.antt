@@ -1,0 +1,10 @@
+use Rattle.std.proofs.Common.{subst, sym}
+use Rattle.pb_code.specs.Limits.{KeepsLimits}
+use Rattle.pb_verifier.specs.declared.fault.VerifyFault.TheVariants.{OutOfLimits}
+use Rattle.pb_messages.proofs.picks.lines_message.Goals as goal
+
+pub read_picks-requires : goal.read_picks-requires
+read_picks-requires c = subst KeepsLimits (sym c.code.ensures.code) (c.code.ensures.verified.annotated OutOfLimits)
+
+pub unread_message-requires : goal.unread_message-requires
+unread_message-requires c = subst KeepsLimits (sym c.code-in-Err.ensures.code) (c.code-in-Err.ensures.verified.annotated OutOfLimits)
