@@ -5,7 +5,7 @@ use Rattle.pb_base.specs.Banker.{BankerState, processes, with_loan, Finishes, Is
 use Rattle.pb_banker.specs.declared.answer.Answer.{Answer}
 use Rattle.pb_banker.specs.declared.answer.Answer.TheVariants.{Granted, NotNow, OverClaim}
 
--- the answer: over a claim, else granted exactly where allowed
+-- the answer: over a claim, else granted exactly if allowed
 pub record Answers (s : BankerState) (p : ℕ) (pairs : List Pair) (answer : Answer) : Type 0 where
   pub over_claim : (answer ≡ OverClaim) ↔ IsOverClaim s p pairs
   pub granted : (answer ≡ Granted) ↔ IsAllowed s p pairs
@@ -16,7 +16,7 @@ state_after s p pairs Granted = with_loan s p pairs
 state_after s p pairs NotNow = s
 state_after s p pairs OverClaim = s
 
--- which order is kept for the next time, always one that finishes: the same where nothing is granted or where
+-- which order is kept for the next time, always one that finishes: the same if nothing is granted or if
 -- it still finishes, else the least-first order of the state with the new loan
 pub record KeepsOrder (s : BankerState) (p : ℕ) (pairs : List Pair) (kept_order : List ℕ) (answer : Answer)
     (next : List ℕ) : Type 0 where
@@ -26,7 +26,7 @@ pub record KeepsOrder (s : BankerState) (p : ℕ) (pairs : List Pair) (kept_orde
   pub found : answer ≡ Granted → ¬ Finishes (with_loan s p pairs) kept_order
       → IsLeastFirst (with_loan s p pairs) next
 
--- how many processes were compared with what is available: none where claim or cash refuse, each once where
+-- how many processes were compared with what is available: none if claim or cash refuse, each once if
 -- else the kept order still finishes, and P + P (P + 1) / 2 of P processes at most
 pub record Looked (s : BankerState) (p : ℕ) (pairs : List Pair) (kept_order : List ℕ) (looked : ℕ) : Type 0 where
   pub refused_first : ¬ (IsWithinClaim s p pairs × IsWithinCash s pairs) → looked ≡ 0

@@ -2,11 +2,11 @@
 use Rattle.std.specs.Prelude.{◌≡◌, ◌+◌, ◌++◌, ℕ, zero, suc, List, Option, Some, None, take, drop}
 use Rattle.std.specs.Prelude.{option_map, IfSome, if◌then◌else◌, nat_lt}
 
--- the bytes that a device holds after more were added, where they are known
+-- the bytes that a device holds after more were added, if they are known
 abbrev pub appended : Option (List ℕ) → List ℕ → Option (List ℕ)
 appended held bytes = option_map (λ h. h ++ bytes) held
 
--- the bytes that are still to come after n were taken, where they are known
+-- the bytes that are still to come after n were taken, if they are known
 abbrev pub dropped : Option (List ℕ) → ℕ → Option (List ℕ)
 dropped rest n = option_map (drop n) rest
 
@@ -14,7 +14,7 @@ dropped rest n = option_map (drop n) rest
 abbrev pub one_more_failure : ℕ → ℕ
 one_more_failure n = if nat_lt n 18446744073709551615 then n + 1 else n
 
--- the first n bytes of the buffer are the next n bytes of the input, where these are known
+-- the first n bytes of the buffer are the next n bytes of the input, if these are known
 abbrev pub GivesNext : Option (List ℕ) → List ℕ → ℕ → Type 0
 GivesNext rest buf n = IfSome rest (λ bytes. take n bytes ≡ take n buf)
 

@@ -1,5 +1,5 @@
 -- The line that each event prints, without the line feed at its end. A number is in decimal, with a minus
--- sign where it is below zero.
+-- sign if it is below zero.
 use Rattle.std.specs.Prelude.{ℕ, ◌<◌, List, [], ◌++◌, length, map, All, codes, slice_index_or}
 use Rattle.std.specs.Fmt.{decimal, signed_decimal}
 use Rattle.std.specs.List.{flat_map}

@@ -30,7 +30,7 @@ abbrev pub ending : (arm : ℕ) → Effect
 ending zero = Finishes
 ending (suc arm) = Silent
 
--- the event of an effect, where it has one
+-- the event of an effect, if it has one
 abbrev pub event_of : Pick → Effect → Option Event
 event_of pick Silent = None
 event_of pick (Prints v) = Some (Printed pick v)
@@ -56,7 +56,7 @@ pub record Bank : Type 0 where
 abbrev pub banker_state : Bank → Table → BankerState
 banker_state bank loans = record { capital = bank.capital; claims = bank.claims; loans = loans }
 
--- a step that takes is made only where the banker allows it
+-- a step that takes is made only if the banker allows it
 abbrev pub IsGranted : Bank → Table → ℕ → Effect → Type 0
 IsGranted bank loans p Silent = ⊤
 IsGranted bank loans p (Prints v) = ⊤
@@ -70,7 +70,7 @@ pub record State (P : Type 0) : Type 0 where
   pub processes : List P
   pub loans : Table
 
--- how process p in a given state steps at one of its arms, where it can: its next state, and the effect
+-- how process p in a given state steps at one of its arms, if it can: its next state, and the effect
 abbrev pub Stepper : Type 0 → Type 0
 Stepper P = (p : ℕ) → P → (arm : ℕ) → Option (P × Effect)
 

@@ -5,8 +5,8 @@ ghost use Rattle.pb_base.specs.Arithmetic.{apply as value_of, apply_unary as val
 
 use crate::operators::{BinaryOp, FaultKind, UnaryOp};
 
-/// The result of an operator on two numbers of 64 bits: of a comparison, of `and` and of `or` 1 or 0. A
-/// divisor of zero is the fault `Divide`, and a result beyond 64 bits the fault `Overflow`.
+/// Returns the result of an operator on two numbers of 64 bits: of a comparison, of `and` and of `or` 1 or 0.
+/// A divisor of zero is the fault `Divide`, and a result beyond 64 bits the fault `Overflow`.
 #[inline]
 #[tactic(auto, unfolding(crate::specs::Arithmetic::apply))]
 pub fn apply(op: BinaryOp, left: i64, right: i64) -> Result<i64, FaultKind>
@@ -29,8 +29,8 @@ pub fn apply(op: BinaryOp, left: i64, right: i64) -> Result<i64, FaultKind>
     }
 }
 
-/// The result of an operator on one number of 64 bits: of `not` 1 or 0. The least number has no negation,
-/// which is the fault `Overflow`.
+/// Returns the result of an operator on one number of 64 bits: of `not` 1 or 0. The least number has no
+/// negation, which is the fault `Overflow`.
 #[inline]
 #[tactic(auto, unfolding(crate::specs::Arithmetic::apply_unary))]
 pub fn apply_unary(op: UnaryOp, operand: i64) -> Result<i64, FaultKind>
@@ -42,7 +42,7 @@ pub fn apply_unary(op: UnaryOp, operand: i64) -> Result<i64, FaultKind>
     }
 }
 
-/// The quotient, cut toward zero.
+/// Returns the quotient, cut toward zero.
 #[inline]
 #[tactic(auto, unfolding(crate::specs::Arithmetic::apply))]
 fn quotient(left: i64, right: i64) -> Result<i64, FaultKind>
@@ -54,7 +54,7 @@ fn quotient(left: i64, right: i64) -> Result<i64, FaultKind>
     left.checked_div(right).ok_or(FaultKind::Overflow)
 }
 
-/// The remainder, with the sign of the dividend.
+/// Returns the remainder, with the sign of the dividend.
 #[inline]
 #[tactic(auto, unfolding(crate::specs::Arithmetic::apply))]
 fn remainder(left: i64, right: i64) -> Result<i64, FaultKind>

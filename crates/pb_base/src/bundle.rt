@@ -40,7 +40,7 @@ impl Model for Bundle {
 impl Bundle {
     ghost use Rattle.pb_base.specs.Bundle.{IsDistinct};
 
-    /// One amount of one resource.
+    /// Returns one amount of one resource.
     pub fn one(resource: u8, amount: u32) -> Self
         ensures { result ≡ record { resource = resource; amount = amount } ∷ [] }
     {
@@ -59,7 +59,7 @@ impl Bundle {
         self.len += 1;
     }
 
-    /// The number of pairs, from 1 to 16.
+    /// Returns the number of pairs, from 1 to 16.
     pub fn len(&self) -> usize
         ensures len { result ≡ length self.now }
         ensures some { 0 < result }
@@ -69,7 +69,7 @@ impl Bundle {
         self.len
     }
 
-    /// The pair at a place, counted from 0.
+    /// Returns the pair at a place, counted from 0.
     pub fn get(&self, i: usize) -> Pair
         requires { i < length self.now }
         ensures { slice_get self.now i ≡ Some result }

@@ -29,7 +29,7 @@ impl Model for Capital {
 }
 
 impl Capital {
-    /// The capital with these amounts.
+    /// Returns the capital with these amounts.
     pub fn new(alloc: Global, amounts: &[u32]) -> Result<Self, NoMemory>
         requires few { length amounts.now ≤ MAX_RESOURCES }
         requires small { All (λ n. n ≤ MAX_CAPITAL) amounts.now }
@@ -39,7 +39,7 @@ impl Capital {
         Ok(Capital { amounts })
     }
 
-    /// The number of resources.
+    /// Returns the number of resources.
     pub fn resources(&self) -> usize
         ensures number { result ≡ length self.now }
         ensures few { result ≤ MAX_RESOURCES }
@@ -48,7 +48,7 @@ impl Capital {
         self.amounts.len()
     }
 
-    /// The capital of a resource.
+    /// Returns the capital of a resource.
     pub fn get(&self, r: usize) -> u32
         requires { r < length self.now }
         ensures { result ≡ slice_index self.now r }

@@ -33,7 +33,7 @@ impl Model for Claims {
 }
 
 impl Claims {
-    /// The claims with these rows.
+    /// Returns the claims with these rows.
     pub fn new(alloc: Global, rows: &[&[u64]]) -> Result<Self, NoMemory>
         requires some { 0 < length rows.now }
         requires few_processes { length rows.now ≤ MAX_PROCESSES }
@@ -49,7 +49,7 @@ impl Claims {
         Ok(Claims { rows: copies })
     }
 
-    /// The same claims again. The error comes only if `alloc` is out of memory.
+    /// Returns the same claims again. The error comes only if `alloc` is out of memory.
     pub fn copy(&self, alloc: Global) -> Result<Claims, NoMemory>
         ensures { IfOk result (λ c. c ≡ self.now) }
     {
@@ -60,7 +60,7 @@ impl Claims {
         Ok(Claims { rows })
     }
 
-    /// The number of processes.
+    /// Returns the number of processes.
     pub fn processes(&self) -> usize
         ensures number { result ≡ length self.now }
         ensures some { 0 < result }
@@ -70,14 +70,14 @@ impl Claims {
         self.rows.len()
     }
 
-    /// The number of resources.
+    /// Returns the number of resources.
     pub fn resources(&self) -> usize
         ensures number { result ≡ width_of self.now }
     {
         self.rows[0].len()
     }
 
-    /// What a process may hold of a resource at most.
+    /// Returns what a process may hold of a resource at most.
     pub fn get(&self, p: usize, r: usize) -> u64
         requires process { p < length self.now }
         requires resource { r < width_of self.now }

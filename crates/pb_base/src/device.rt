@@ -20,7 +20,7 @@ pub struct DeviceFault;
 
 /// A source of bytes.
 pub trait Input {
-    /// The bytes still to come, where they are known.
+    /// The bytes still to come, if they are known.
     ghost rest: { Self → Option (List ℕ) };
 
     /// How many reads have failed.
@@ -41,13 +41,13 @@ pub trait Input {
 
 /// A sink of bytes.
 pub trait Output {
-    /// The bytes written so far, where they are known.
+    /// The bytes written so far, if they are known.
     ghost written: { Self → Option (List ℕ) };
 
     /// How many writes have failed.
     ghost failures: { Self → ℕ };
 
-    /// Takes some first bytes, and says how many: at least 1 where there are any.
+    /// Takes some first bytes, and says how many: at least 1 if there are any.
     fn write(&mut self, bytes: &[u8]) -> Result<usize, DeviceFault>
         ensures bound { IfOk result (λ n. n ≤ length bytes.now) }
         ensures some { IfOk result (λ n. 0 < length bytes.now → 0 < n) }

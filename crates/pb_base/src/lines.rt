@@ -16,9 +16,9 @@ use std::alloc::Global;
 /// Room that most lines fit in.
 const USUAL_LENGTH: usize = 48;
 
-/// The line of an event, without the line feed at its end: the process and the arm of its pick, a word for
-/// what happened, and what it was, as in `P.0 grant 3 R`, `P.0 return 3 R`, `P.1 print -5`,
-/// `P.0 fault divide` and `P end`.
+/// Returns the line of an event, without the line feed at its end: the process and the arm of its pick, a
+/// word for what happened, and what it was, as in `P.0 grant 3 R`, `P.0 return 3 R`, `P.1 print -5`, `P.0
+/// fault divide` and `P end`.
 #[tactic(auto, unfolding(crate::specs::Lines::line_of))]
 pub fn event_line(alloc: Global, names: &Names, event: &Event) -> Result<Vec<u8>, NoMemory>
     requires { HasNames (names_view names.now) event.now }

@@ -1,4 +1,4 @@
--- When the capital is enough for every claim, and which claim is named where it is not.
+-- When the capital is enough for every claim, and which claim is named if it is not.
 use Rattle.std.specs.Prelude.{◌≡◌, ℕ, ◌<◌, ◌≤◌, List, length, slice_index}
 use Rattle.pb_base.specs.Banker.{cell}
 use Rattle.pb_base.specs.Steppers.{Table}

@@ -1,5 +1,5 @@
 -- What is answered for a program: in a row for each process its claim on each resource, or the greatest u64
--- where the claim is larger.
+-- if the claim is larger.
 use Rattle.std.specs.Prelude.{◌≡◌, ℕ, ◌<◌, ◌-◌, ◌^◌, min, List, length, map, slice_get, Some}
 use Rattle.std.specs.List.{range_with_len}
 use Rattle.pb_base.specs.Banker.{cell, row_of}
@@ -11,7 +11,7 @@ use Rattle.pb_names.specs.Program.{Block, Process, Program}
 abbrev pub capped : ℕ → ℕ
 capped n = min n (2 ^ 64 - 1)
 
--- the claim of a process on a resource, or the greatest u64 where the claim is larger
+-- the claim of a process on a resource, or the greatest u64 if the claim is larger
 abbrev pub IsCappedClaim : Process → ℕ → ℕ → Type 0
 IsCappedClaim process r amount = (claim : ℕ) × IsClaim process r claim × (amount ≡ capped claim)
 

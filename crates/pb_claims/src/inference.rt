@@ -13,14 +13,14 @@ use pb_base::{Claims, NoMemory};
 use pb_names::{Process, Resolved, Stmt};
 use std::alloc::{Allocator, Global};
 
-/// The claim of each process on each resource: the greatest amount that the process holds in any run in
-/// which tests go either way and no banker refuses. A hold counts also where its branch never runs. This is
-/// the claim of Dijkstra's banker (EWD123), found here and not declared by the customer.
+/// Returns the claim of each process on each resource: the greatest amount that the process holds in any run
+/// in which tests go either way and no banker refuses. A hold counts even if its branch never runs. This
+/// is the claim of Dijkstra's banker (EWD123), found here and not declared by the customer.
 ///
 /// It is found by one pass over the body for each resource: a hold adds its amount to the most that its body
-/// holds, of lists and branches the greatest counts, the arms of a parbegin are summed. A claim beyond 64 bits
-/// is returned as the greatest `u64`; no program of at most 16,384 nodes has one. The error comes only if
-/// `alloc` is out of memory.
+/// holds, of lists and branches the greatest counts, the arms of a parbegin are summed. A claim beyond 64
+/// bits is returned as the greatest `u64`; no program of at most 16,384 nodes has one. The error comes only
+/// if `alloc` is out of memory.
 pub fn infer<A: Allocator>(alloc: Global, program: &Resolved<A>) -> Result<Claims, NoMemory>
     requires some_processes { 1 ≤ length (resolved_view program.now).processes }
     requires few_processes { length (resolved_view program.now).processes ≤ MAX_PROCESSES }
@@ -50,7 +50,7 @@ fn rows_of<A: Allocator>(
     Ok(rows)
 }
 
-/// The most that a body holds of each resource.
+/// Returns the most that a body holds of each resource.
 fn row_of<A: Allocator>(
     alloc: Global,
     body: &Vec<Stmt<A>, A>,
@@ -66,7 +66,7 @@ fn row_of<A: Allocator>(
     Ok(row)
 }
 
-/// The claims with these rows.
+/// Returns the claims with these rows.
 fn claims_with(alloc: Global, rows: &Vec<Vec<u64>>) -> Result<Claims, NoMemory>
     requires some { 0 < length rows.now.items }
     requires few_processes { length rows.now.items ≤ MAX_PROCESSES }

@@ -22,9 +22,9 @@ pub struct OverCapital {
     pub capital: u32,
 }
 
-/// Whether every claim is at most the capital, which the banker asks of each customer (Dijkstra, EWD123). The
-/// error names the first process with a claim over the capital, and the first such resource of that process.
-/// It takes no memory.
+/// Checks that every claim is at most the capital, which the banker asks of each customer (Dijkstra, EWD123).
+/// The error names the first process with a claim over the capital, and the first such resource of that
+/// process. It takes no memory.
 pub fn fits(claims: &Claims, capital: &Capital) -> Result<(), OverCapital>
     requires { width_of claims.now ≡ length capital.now }
     ensures fits { OnOk result (FitCapital claims.now capital.now) }
@@ -43,7 +43,7 @@ pub fn fits(claims: &Claims, capital: &Capital) -> Result<(), OverCapital>
     Ok(())
 }
 
-/// The first resource on which a process has a claim over the capital.
+/// Returns the first resource on which a process has a claim over the capital.
 fn first_over(claims: &Claims, capital: &Capital, p: usize) -> Option<usize>
     requires process { p < length claims.now }
     requires resources { width_of claims.now ≡ length capital.now }

@@ -10,7 +10,7 @@ use pb_base::Bundle;
 use pb_names::Stmt;
 use std::alloc::Allocator;
 
-/// The amount of a resource in a bundle, 0 where it is not there.
+/// Returns the amount of a resource in a bundle, 0 if it is not there.
 fn amount_of(bundle: &Bundle, resource: u8) -> u64
     ensures { result ≡ amount_in bundle.now resource }
 {
@@ -24,8 +24,8 @@ fn amount_of(bundle: &Bundle, resource: u8) -> u64
     total
 }
 
-/// The most that a statement holds of a resource, or the greatest `u64` if it is more. A hold adds its amount
-/// to the most that its body holds; of the lists of an `if` the greater counts.
+/// Returns the most that a statement holds of a resource, or the greatest `u64` if it is more. A hold adds
+/// its amount to the most that its body holds; of the lists of an `if` the greater counts.
 #[cycle(peaks)]
 #[tactic(auto, using(pb_names::proofs::Views::stmt_views))]
 fn peak_of_stmt<A: Allocator>(stmt: &Stmt<A>, resource: u8) -> u64
@@ -46,7 +46,8 @@ fn peak_of_stmt<A: Allocator>(stmt: &Stmt<A>, resource: u8) -> u64
     }
 }
 
-/// The most that a list holds of a resource, that of its greatest statement. It stays at the greatest `u64`.
+/// Returns the most that a list holds of a resource, that of its greatest statement. It stays at the greatest
+/// `u64`.
 #[cycle(peaks)]
 #[tactic(auto, using(pb_names::proofs::Views::stmt_views))]
 pub(crate) fn peak_of_list<A: Allocator>(stmts: &Vec<Stmt<A>, A>, resource: u8) -> u64
@@ -59,7 +60,8 @@ pub(crate) fn peak_of_list<A: Allocator>(stmts: &Vec<Stmt<A>, A>, resource: u8) 
     greatest
 }
 
-/// The most that arms hold of a resource side by side, the sum over them. It stays at the greatest `u64`.
+/// Returns the most that arms hold of a resource side by side, the sum over them. It stays at the greatest
+/// `u64`.
 #[cycle(peaks)]
 #[tactic(auto, using(pb_names::proofs::Views::stmt_views))]
 fn peak_of_arms<A: Allocator>(arms: &Vec<Vec<Stmt<A>, A>, A>, resource: u8) -> u64

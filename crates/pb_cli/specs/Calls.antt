@@ -47,7 +47,7 @@ CommandSays (option.Record numbers) = SaysOfInput (SaysOfRecord numbers.run.step
 CommandSays option.Replay = SaysOfInput SaysOfReplay
 CommandSays (option.Run numbers) = SaysOfInput (SaysOf numbers.steps)
 
--- the text and the status where words were not read
+-- the text and the status if words were not read
 abbrev pub fault_text : WordsFault → List ℕ
 fault_text (fault.Words text) = text.bytes.items
 fault_text fault.Memory = memory_line
@@ -56,7 +56,7 @@ abbrev pub fault_status : WordsFault → Status
 fault_status (fault.Words text) = Words
 fault_status fault.Memory = Memory
 
--- the bytes that a command says something of, where they are known: those of its input, and none for `explain`
+-- the bytes that a command says something of, if they are known: those of its input, and none for `explain`
 abbrev pub bytes_for : Options → Option (List ℕ) → Option (List ℕ)
 bytes_for (option.Explain code) rest = Some []
 bytes_for _ rest = rest
@@ -77,13 +77,14 @@ CallWrites words rest old new status =
     CommandWrites words rest old new status
     ⊎ (RefusesWords words old new status ⊎ Says old new memory_line Memory status)
 
--- what `debug` tells of its devices: if it reads the commands as they come, something may be written before a read fails
+-- what `debug` tells of its devices: if it reads the commands as they come, something may be written before a
+-- read fails
 abbrev pub TellsDebugFaults : (live : Bool) → Devices → Devices → Status → Type 0
 TellsDebugFaults true = TellsAnyFault
 TellsDebugFaults false = TellsFaults
 
--- a device that fails is told, and nothing is written if a read fails; only if the words say `debug --live` the answers to the
--- commands before it may be written
+-- a device that fails is reported, and nothing is written if a read fails; `debug --live` alone may have answered the
+-- commands before that read
 abbrev pub CallTellsFaults : List (Bor Text) → Devices → Devices → Status → Type 0
 CallTellsFaults words old new status =
     TellsFaults old new status

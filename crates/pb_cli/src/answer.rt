@@ -182,7 +182,7 @@ mod tests {
         Ok(())
     }
 
-    // The bytes that the call of an example reads.
+    // Returns the bytes that the call of an example reads.
     fn bytes_of(alloc: Global, input: ExampleInput) -> Result<Vec<u8>, AllocError> {
         let mut bytes = Vec::new(alloc);
         match input {
@@ -199,7 +199,7 @@ mod tests {
         Ok(bytes)
     }
 
-    // Whether the call of an example writes its refusal line alone, and this line has the code.
+    // Returns whether the call of an example writes its refusal line alone, and this line has the code.
     fn is_refused<R: AllocGlobal + Threads + Wait + Sync>(
         rt: &R,
         code: Code,

@@ -6,7 +6,7 @@ use Rattle.pb_code.specs.declared.code.ProcessCode.{ProcessCode as GivenProcess}
 use Rattle.pb_code.specs.declared.instr.Instr.{Instr as Given}
 use Rattle.pb_code.specs.declared.instr.Instr.TheVariants as given
 
--- the bundle with a number, empty where there is none
+-- the bundle with a number, empty if there is none
 abbrev pub bundle_of : GivenProcess → ℕ → Bundle
 bundle_of code k = slice_index_or code.bundles.items k []
 

@@ -23,7 +23,7 @@ code_opening code = opening (bank_of code) (map code_process code.processes)
 abbrev pub CodeCan : Code → List Event → ℕ → Type 0
 CodeCan code events n = CodeCanUnder (bank_of code) code.processes events n
 
--- the source line of each place, where it has one, and the name of each integer
+-- the source line of each place, if it has one, and the name of each integer
 pub record ProcessLabels : Type 0 where
   pub lines : List (Option ℕ)
   pub integers : List (List ℕ)

@@ -7,7 +7,7 @@ ghost use Rattle.pb_code.specs.Bundles.{bundle_of};
 use crate::code::ProcessCode;
 use pb_base::Pair;
 
-/// The number of pairs of a bundle, 0 where there is no such bundle.
+/// Returns the number of pairs of a bundle, 0 if there is no such bundle.
 pub fn pairs(code: &ProcessCode, bundle: u16) -> usize
     ensures len { result ≡ length (bundle_of code.now bundle) }
     ensures few { result ≤ 16 }
@@ -19,7 +19,7 @@ pub fn pairs(code: &ProcessCode, bundle: u16) -> usize
     }
 }
 
-/// A pair of a bundle.
+/// Returns a pair of a bundle.
 pub fn pair_at(code: &ProcessCode, bundle: u16, i: usize) -> Pair
     requires { i < length (bundle_of code.now bundle) }
     ensures { slice_get (bundle_of code.now bundle) i ≡ Some result }

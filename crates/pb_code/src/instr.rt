@@ -11,7 +11,7 @@
 /// | `neg`, `not` | a | op a | `neg` may fault |
 /// | `add` to `or` | b, then a | a op b | arithmetic may fault |
 /// | `jump t` | | | goes on at t |
-/// | `jzero t` | v | | goes on at t where v is 0 |
+/// | `jzero t` | v | | goes on at t if v is 0 |
 /// | `print` | v | | prints v |
 /// | `take`, `give` | | | the loan of the process rises, or falls, by a bundle |
 /// | `fork f n` | | | arms f to f+n-1 begin at their entries |

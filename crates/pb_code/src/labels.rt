@@ -3,7 +3,7 @@
 /// The labels of one process.
 #[derive(Drop)]
 pub struct ProcessLabels {
-    /// The source line of each place of the code, from 1; none where nothing but the end of an arm follows.
+    /// The source line of each place of the code, from 1; none if nothing but the end of an arm follows.
     pub lines: Vec<Option<u32>>,
     /// The name of each integer, by its number.
     pub integers: Vec<Vec<u8>>,

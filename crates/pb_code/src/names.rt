@@ -6,7 +6,7 @@ ghost use Rattle.std.specs.Str.{bytes_eq};
 ghost use Rattle.pb_code.specs.Limits.{IsName};
 ghost use Rattle.pb_code.specs.Names as spec;
 
-/// Whether the word is this text.
+/// Returns whether the word is this text.
 fn is(word: &[u8], text: &str) -> bool
     ensures { result ≡ bytes_eq word.now text.now }
 {
@@ -25,7 +25,7 @@ fn are_name_bytes(word: &[u8]) -> bool
     word.iter().all(|b| is_name_byte(*b))
 }
 
-/// Whether the word means something else than a name.
+/// Returns whether the word means something else than a name.
 fn is_reserved(word: &[u8]) -> bool
     ensures { result ≡ spec.is_among spec.reserved_words word.now }
 {
@@ -54,7 +54,7 @@ fn is_reserved(word: &[u8]) -> bool
         || is(word, "while")
 }
 
-/// The test of a name.
+/// Tests a name.
 #[tactic(auto, unfolding(crate::specs::Names::is_name))]
 fn has_form(word: &[u8]) -> bool
     ensures { result ≡ spec.is_name word.now }
@@ -70,8 +70,8 @@ fn has_form(word: &[u8]) -> bool
     }
 }
 
-/// Whether the word may name a process, a resource or an integer: 1 to 32 letters, digits and `_`, a letter first,
-/// and no reserved word.
+/// Returns whether the word may name a process, a resource or an integer: 1 to 32 letters, digits and `_`, a
+/// letter first, and no reserved word.
 pub fn is_name(word: &[u8]) -> bool
     ensures name { (result ≡ true) ↔ IsName word.now }
     ensures test { result ≡ spec.is_name word.now }

@@ -12,7 +12,7 @@ use crate::code::{Code, ProcessCode};
 use crate::instr::Instr;
 use pb_base::{Capital, Claims};
 
-/// Whether a bundle of one process is that of another, or both have none with these numbers.
+/// Returns whether a bundle of one process is that of another, or both have none with these numbers.
 fn same_bundle(code: &ProcessCode, one: u16, other: &ProcessCode, two: u16) -> bool
     ensures { (result ≡ true) ↔ (bundle_of code.now one ≡ bundle_of other.now two) }
 {
@@ -27,7 +27,7 @@ fn same_bundle(code: &ProcessCode, one: u16, other: &ProcessCode, two: u16) -> b
     true
 }
 
-/// Whether an instruction is the same as one that has no operand.
+/// Returns whether an instruction is the same as one that has no operand.
 fn same_bare(one: Instr, two: Instr) -> bool
     requires { IsBare one }
     ensures { (bundles others : List Bundle) → (result ≡ true) ↔ (instr_view bundles one ≡ instr_view others two) }
@@ -54,7 +54,7 @@ fn same_bare(one: Instr, two: Instr) -> bool
     }
 }
 
-/// Whether an instruction is the same as one that names an integer, a place or arms.
+/// Returns whether an instruction is the same as one that names an integer, a place or arms.
 fn same_numbers(one: Instr, two: Instr) -> bool
     requires { IsPlain one }
     ensures { (bundles others : List Bundle) → (result ≡ true) ↔ (instr_view bundles one ≡ instr_view others two) }
@@ -75,7 +75,7 @@ fn same_numbers(one: Instr, two: Instr) -> bool
     }
 }
 
-/// Whether two instructions are the same.
+/// Returns whether two instructions are the same.
 fn same_instr(code: &ProcessCode, one: Instr, other: &ProcessCode, two: Instr) -> bool
     ensures { (result ≡ true)
         ↔ (instr_view code.now.bundles.items one ≡ instr_view other.now.bundles.items two) }
@@ -93,7 +93,7 @@ fn same_instr(code: &ProcessCode, one: Instr, other: &ProcessCode, two: Instr) -
     }
 }
 
-/// Whether two processes have the same instructions.
+/// Returns whether two processes have the same instructions.
 fn same_instrs(code: &ProcessCode, other: &ProcessCode) -> bool
     ensures { (result ≡ true) ↔ ((process_view code.now).instrs ≡ (process_view other.now).instrs) }
 {
@@ -108,7 +108,7 @@ fn same_instrs(code: &ProcessCode, other: &ProcessCode) -> bool
     true
 }
 
-/// Whether two processes have the same code.
+/// Returns whether two processes have the same code.
 fn same_code(code: &ProcessCode, other: &ProcessCode) -> bool
     ensures { (result ≡ true) ↔ (process_view code.now ≡ process_view other.now) }
 {
@@ -117,7 +117,7 @@ fn same_code(code: &ProcessCode, other: &ProcessCode) -> bool
         && same_instrs(code, other)
 }
 
-/// Whether all processes have the same code.
+/// Returns whether all processes have the same code.
 fn same_codes(codes: &[ProcessCode], others: &[ProcessCode]) -> bool
     ensures { (result ≡ true) ↔ (map process_view codes.now ≡ map process_view others.now) }
 {
@@ -132,7 +132,7 @@ fn same_codes(codes: &[ProcessCode], others: &[ProcessCode]) -> bool
     true
 }
 
-/// Whether the name with a number is the same, or none in both.
+/// Returns whether the name with a number is the same, or none in both.
 fn same_name(names: &[Vec<u8>], others: &[Vec<u8>], i: usize) -> bool
     ensures { (result ≡ true)
         ↔ (slice_get (map (λ name. name.items) names.now) i
@@ -147,7 +147,7 @@ fn same_name(names: &[Vec<u8>], others: &[Vec<u8>], i: usize) -> bool
     names[i].as_slice() == others[i].as_slice()
 }
 
-/// Whether all names are the same.
+/// Returns whether all names are the same.
 fn same_names(names: &[Vec<u8>], others: &[Vec<u8>]) -> bool
     ensures { (result ≡ true)
         ↔ (map (λ name. name.items) names.now ≡ map (λ name. name.items) others.now) }
@@ -177,7 +177,7 @@ fn same_capital(capital: &Capital, other: &Capital) -> bool
     true
 }
 
-/// Whether a process has the same claims, or none in both.
+/// Returns whether a process has the same claims, or none in both.
 fn same_row(claims: &Claims, other: &Claims, p: usize) -> bool
     ensures { (result ≡ true) ↔ (slice_get claims.now p ≡ slice_get other.now p) }
 {
@@ -213,8 +213,8 @@ fn same_claims(claims: &Claims, other: &Claims) -> bool
 }
 
 impl Code {
-    /// Whether this is the other code: names, capital, claims, and the code of each process, where bundles are
-    /// compared by their pairs and not by their numbers.
+    /// Returns whether this is the other code: names, capital, claims, and the code of each process, where
+    /// bundles are compared by their pairs and not by their numbers.
     pub fn same(&self, other: &Code) -> bool
         ensures { (result ≡ true) ↔ (code_view self.now ≡ code_view other.now) }
     {
@@ -225,8 +225,8 @@ impl Code {
             && same_codes(&self.processes, &other.processes)
     }
 
-    /// Whether a process is the same in the other code: its name, its claims, and its code, where bundles are
-    /// compared by their pairs and not by their numbers.
+    /// Returns whether a process is the same in the other code: its name, its claims, and its code, where
+    /// bundles are compared by their pairs and not by their numbers.
     pub fn same_process(&self, p: usize, other: &Code) -> bool
         requires here { p < length self.now.processes.items }
         requires there { p < length other.now.processes.items }

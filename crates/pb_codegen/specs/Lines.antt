@@ -19,7 +19,7 @@ abbrev pub line_of : Block → Option ℕ → Option ℕ
 line_of Skip after = after
 line_of (Then s block) after = Some (stmt_line s)
 
--- the lines of the places of a statement, where what follows it has a given line
+-- the lines of the places of a statement, if what follows it has a given line
 abbrev mutual
   pub stmt_lines : Stmt → Option ℕ → List (Option ℕ)
   stmt_lines (Set line x e) after = replicate (suc (length (expr_code e))) (Some line)
@@ -46,7 +46,7 @@ arms_lines (arm ∷ arms) = (block_lines arm None ++ (None ∷ [])) ++ arms_line
 abbrev pub process_lines : Process → List (Option ℕ)
 process_lines process = arms_lines (arms_of process)
 
--- the labels of a process's code: a line for each place, where it has one, and the names of the integers
+-- the labels of a process's code: a line for each place, if it has one, and the names of the integers
 abbrev pub process_labels : Process → ProcessLabels
 process_labels process = record { lines = process_lines process; integers = process.integers }
 

@@ -8,7 +8,7 @@ use pb_base::NoMemory;
 use pb_names::{Process, Stmt};
 use std::alloc::{Allocator, Global};
 
-/// The arms of a process: its body, and then the arms inside.
+/// Returns the arms of a process: its body, and then the arms inside.
 pub(crate) fn arms_of<'a, A: Allocator>(
     alloc: Global,
     process: &'a Process<A>,

@@ -28,14 +28,14 @@ impl Model for Compiled {
 }
 
 impl Compiled {
-    /// The code.
+    /// Returns the code.
     pub fn verified(&self) -> &Verified
         ensures { result.now ≡ self.now.verified }
     {
         &self.verified
     }
 
-    /// The source line of each place of the code, and the names of the integers.
+    /// Returns the source line of each place of the code, and the names of the integers.
     pub fn labels(&self) -> &Labels
         ensures labels { labels_view result.now ≡ self.now.labels }
         ensures fit { AreLabels self.now.verified.code self.now.labels }
@@ -43,7 +43,7 @@ impl Compiled {
         &self.labels
     }
 
-    /// The code and the labels.
+    /// Returns the code and the labels.
     pub fn into_parts(self) -> (Verified, Labels)
         ensures verified { result.0 ≡ self.verified }
         ensures labels { labels_view result.1 ≡ self.labels }

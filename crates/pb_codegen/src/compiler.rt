@@ -28,11 +28,11 @@ pub struct Analysis<A: Allocator> {
     pub claims: Claims,
 }
 
-/// Numbers the program of a text and infers its claims, whether or not the capital is enough for them. The program
-/// lies in the memory of `trees`.
+/// Numbers the program of a text and infers its claims, whether or not the capital is enough for them. The
+/// program lies in the memory of `trees`.
 ///
-/// A text is refused by the first of the parts that finds a fault in it, in the order of `CompileFault`. An error is
-/// `Memory` if memory is refused at any time, also before a later part has looked at the text.
+/// A text is refused by the first of the parts that finds a fault in it, in the order of `CompileFault`. An
+/// error is `Memory` if memory is refused at any time, also before a later part has looked at the text.
 pub fn analyze<A: Allocator + Clone>(
     alloc: Global,
     trees: A,
@@ -51,8 +51,8 @@ pub fn analyze<A: Allocator + Clone>(
 
 /// Compiles a text. Its trees lie in the memory of `trees` until this returns.
 ///
-/// A text is refused as by `analyze`, which makes the first four lines of this, and then for the first claim over its
-/// capital. An error leaves nothing behind.
+/// A text is refused as by `analyze`, which makes the first four lines of this, and then for the first claim
+/// over its capital. An error leaves nothing behind.
 pub fn compile<A: Allocator + Clone>(
     alloc: Global,
     trees: A,
@@ -88,7 +88,7 @@ fn check_capital<A: Allocator>(
     }
 }
 
-/// The fault of a claim over the capital, by the names of its process and its resource.
+/// Returns the fault of a claim over the capital, by the names of its process and its resource.
 fn name_claim<A: Allocator>(
     alloc: Global,
     program: &Resolved<A>,

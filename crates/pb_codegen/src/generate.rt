@@ -22,8 +22,8 @@ pub struct Generated {
     pub labels: Labels,
 }
 
-/// The code of a program whose processes have these claims, with its labels: one pass over each process, in which
-/// jumps forward are patched. The error comes only where memory is refused.
+/// Returns the code of a program whose processes have these claims, with its labels: one pass over each
+/// process, in which jumps forward are patched. The error comes only if memory is refused.
 pub fn generate<A: Allocator>(
     alloc: Global,
     program: &Resolved<A>,
@@ -51,7 +51,7 @@ pub fn generate<A: Allocator>(
     })
 }
 
-/// The capital of each resource.
+/// Returns the capital of each resource.
 pub(crate) fn capital_of<A: Allocator>(
     alloc: Global,
     resources: &Vec<Resource<A>, A>,

@@ -37,8 +37,8 @@ pub fn lines_follow_the_source()
         → AllWellNumbered program → IsFollowed bank program (generated program) }
 {}
 
-/// The tree of a text has names where it declares processes, resources and integers, a pair in each hold, an arm in
-/// each parbegin, and a process.
+/// The tree of a text has names if it declares processes, resources and integers, a pair in each hold, an arm
+/// in each parbegin, and a process.
 pub fn names_of_read_programs()
     ensures { (text : List ℕ) (tokens : List Token) (tree : ProgramSyntax)
         → AreTokensOf text tokens → ReadsProgram tokens tree → IsFormed tree }
@@ -56,23 +56,25 @@ pub fn generated_code_is_verified()
         → CanBeCompiled tree program claims → IsAnnotated (program_code program claims) }
 {}
 
-/// Once a text is cut, read within the limits and resolved, and the capital is enough for its claims, its code can
-/// be generated, is verified unless memory is refused, and is well behaved; and the program keeps its claims.
+/// Once a text is cut, read within the limits and resolved, and the capital is enough for its claims, its
+/// code can be generated, is verified unless memory is refused, and is well behaved; and the program keeps
+/// its claims.
 pub fn accepted_texts_have_sound_code()
     ensures { (text : List ℕ) (tokens : List Token) (tree : ProgramSyntax) (program : Program) (claims : Table)
         → AreTokensOf text tokens → ReadsProgram tokens tree → KeepsLimits tree → Resolves tree program
         → AreClaims program claims → FitCapital claims (capital_of program) → HasSoundCode program claims }
 {}
 
-/// In no state that the source of a program reaches under its claims does an arm stand at a request beyond its claim.
+/// In no state that the source of a program reaches under its claims does an arm stand at a request beyond
+/// its claim.
 pub fn source_requests_stay_within_claims()
     ensures { (tree : ProgramSyntax) (program : Program) (claims : Table)
         → Resolves tree program → AreClaims program claims
         → (s : State SourceProcess) → SourceReaches program claims s → SourceAsksWithin program claims s }
 {}
 
-/// If the capital is enough for the claims, then in every state that the source of a program reaches each loan is within
-/// its claim, all loans together are within the capital, and the loans are safe.
+/// If the capital is enough for the claims, then in every state that the source of a program reaches each
+/// loan is within its claim, all loans together are within the capital, and the loans are safe.
 pub fn source_states_stay_safe()
     ensures well_formed { (tree : ProgramSyntax) (program : Program) (claims : Table)
         → Resolves tree program → AreClaims program claims → FitCapital claims (capital_of program)
@@ -82,8 +84,8 @@ pub fn source_states_stay_safe()
         → (s : State SourceProcess) → SourceReaches program claims s → SourceIsSafe program claims s }
 {}
 
-/// The code of an accepted program is well behaved: no test fails, no request passes its claim, each loan is within its
-/// claim and all loans together within the capital, the loans are safe, and not all wait.
+/// The code of an accepted program is well behaved: no test fails, no request passes its claim, each loan is
+/// within its claim and all loans together within the capital, the loans are safe, and not all wait.
 pub fn generated_code_is_well_behaved()
     ensures { (tree : ProgramSyntax) (program : Program) (claims : Table)
         → CanBeCompiled tree program claims → IsWellBehaved (program_code program claims) }

@@ -9,7 +9,7 @@ use pb_base::{Names, NoMemory};
 use pb_names::{Process, Resolved, Resource};
 use std::alloc::{Allocator, Global};
 
-/// A copy of each name.
+/// Returns a copy of each name.
 pub(crate) fn copy_names<A: Allocator>(
     alloc: Global,
     names: &Vec<Vec<u8, A>, A>,
@@ -51,7 +51,7 @@ fn resource_names<A: Allocator>(
     Ok(copy)
 }
 
-/// The names of the processes and of the resources.
+/// Returns the names of the processes and of the resources.
 pub(crate) fn program_names<A: Allocator>(
     alloc: Global,
     program: &Resolved<A>,

@@ -83,7 +83,7 @@ pub(crate) struct Processes {
     pub(crate) labels: Vec<ProcessLabels>,
 }
 
-/// What is written of each process.
+/// Returns what is written of each process.
 pub(crate) fn write_processes<A: Allocator>(
     alloc: Global,
     processes: &Vec<Process<A>, A>,

@@ -1,4 +1,5 @@
-//! The instructions of statements. A jump is written with a target of 0, and patched once its target is known.
+//! The instructions of statements. A jump is written with a target of 0, and patched once its target is
+//! known.
 
 ghost use Rattle.std.specs.Prelude.{◌≡◌, suc, ◌+◌, ◌<◌, ◌≤◌, [], ◌∷◌, ◌++◌, None, Some, OnOk, drop, length, replicate};
 ghost use Rattle.pb_code.specs.Bundles.{IsPlain};
@@ -15,7 +16,7 @@ use pb_code::Instr;
 use pb_names::{Expr, Stmt};
 use std::alloc::Allocator;
 
-/// The line of a statement's first token.
+/// Returns the line of a statement's first token.
 fn line_of<A: Allocator>(stmt: &Stmt<A>) -> u32
     ensures { result ≡ stmt_line (stmt_view stmt.now) }
 {
@@ -29,7 +30,8 @@ fn line_of<A: Allocator>(stmt: &Stmt<A>) -> u32
     }
 }
 
-/// The line of what follows a statement of a list, which is itself followed by what has the line `after`.
+/// Returns the line of what follows a statement of a list, which is itself followed by what has the line
+/// `after`.
 fn line_after<A: Allocator>(stmts: &Vec<Stmt<A>, A>, i: usize, after: Option<u32>) -> Option<u32>
     requires { i < length stmts.now.items }
     ensures { result ≡ line_of (block_view (drop (i + 1) stmts.now.items)) after }
@@ -86,8 +88,8 @@ impl Writer {
         Ok(())
     }
 
-    /// Appends an `if`: the test, a jump to the second list where it is 0, the first list, a jump to what follows,
-    /// the second list.
+    /// Appends an `if`: the test, a jump to the second list if it is 0, the first list, a jump to what
+    /// follows, the second list.
     #[cycle(statements)]
     fn put_if<A: Allocator>(
         &mut self,
@@ -121,7 +123,7 @@ impl Writer {
         Ok(())
     }
 
-    /// Appends a `while`: the test, a jump to what follows where it is 0, the list, a jump to the test.
+    /// Appends a `while`: the test, a jump to what follows if it is 0, the list, a jump to the test.
     #[cycle(statements)]
     fn put_while<A: Allocator>(
         &mut self,

@@ -19,7 +19,7 @@ pub(crate) struct Writer {
 }
 
 impl Writer {
-    /// A writer that has written nothing.
+    /// Returns a writer that has written nothing.
     pub(crate) fn new(alloc: Global) -> Writer
         ensures instrs { result.instrs.items ≡ [] }
         ensures lines { result.lines.items ≡ [] }
@@ -32,7 +32,7 @@ impl Writer {
         }
     }
 
-    /// The place of the next instruction.
+    /// Returns the place of the next instruction.
     pub(crate) fn place(&self) -> u16
         requires { place self.now ≤ 40000 }
         ensures { result ≡ place self.now }

@@ -1,5 +1,5 @@
 -- What is known of a debugger at its position.
-use Rattle.std.proofs.Common.{Vec, Global, ◌≡◌, ℕ, zero, suc, ◌<◌, ℤ, List, [], ◌∷◌, length, map, Some, refl, sym, ap, ◌∙◌, arith}
+use Rattle.std.proofs.Common.{Vec, Global, ◌≡◌, ℕ, zero, suc, ◌<◌, ◌≤◌, ℤ, List, [], ◌∷◌, length, map, Some, refl, sym, ap, ◌∙◌, arith}
 use Rattle.std.specs.Prelude.{slice_get}
 use Rattle.std.proofs.lemmas.List.{length-map}
 use Rattle.std.proofs.lemmas.Option.{slice_get_within}
@@ -11,6 +11,7 @@ use Rattle.pb_code.specs.View.{process_labels_view}
 use Rattle.pb_code.specs.Whole.{ProcessLabels}
 use Rattle.pb_machine.specs.Views.{place_of_thread}
 use Rattle.pb_verifier.proofs.Banking.{kept_reached}
+use Rattle.pb_verifier.specs.declared.fault.VerifyFault.TheVariants.{OutOfLimits}
 use Rattle.pb_debug.specs.Value.{Debugging, IsPosition, state_of}
 use Rattle.pb_debug.proofs.Asking.{place_within}
 use Rattle.pb_history.proofs.Positions.{position_reached}
@@ -49,6 +50,14 @@ module _ (d : Debugging) (h : IsPosition d) where
         let lt = place_within d.verified h.verified (state_of d) reached p a of.0 process of.1 there place live.0 live.1 in
         let fit : FitLabels of.0 labels = h.fit.each p of.0 labels of.1 labels_there in
         omega (arith, lt, fit.lines)
+
+    -- the number of an arm is small
+    pub few_arms : length process.threads ≤ 64
+    few_arms =
+        let of = item d.verified.code.processes p in_code in
+        let threads = ((kept_reached d.verified.code h.verified.annotated (state_of d) reached).good.fit p of.0 process of.1 there).threads in
+        let small = ((h.verified.annotated OutOfLimits).each p of.0 of.1).some_arms.1 in
+        omega (arith, threads, small)
 
     -- as many names as integers
     pub named_vars : (l : GivenLabels) → slice_get d.labels p ≡ Some (process_labels_view l) → length l.integers.items ≡ length process.vars

@@ -36,6 +36,7 @@ sound_position i h = record {
   few = h.few;
   within = h.within;
   cheap = h.cheap;
+  spaced = h.spaced;
   fit = h.fit;
 }
 

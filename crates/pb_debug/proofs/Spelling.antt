@@ -14,7 +14,7 @@ use Rattle.std.proofs.lemmas.Str.{digit_value_digit}
 use Rattle.std.proofs.lemmas.Int.Digits.{digits_value_more}
 use Rattle.pb_code.proofs.Naming.{both_true}
 use Rattle.pb_code.specs.Names.{is_name_byte}
-use Rattle.pb_debug.specs.Commands.{Command, To, Step, Back, Vars, Threads, Wrote, Until, Loans, Next, Prev, Help, Line, Text, Why, Who, arm_at, arm_of, both_of, integer_at, integer_of, stop_at, stop_from, stop_of, command_of, is_numeral, is_word, keyed, number_of, parted, word_of}
+use Rattle.pb_debug.specs.Commands.{Command, To, Step, Back, Vars, Threads, Wrote, Until, Loans, Next, Prev, Help, Line, Text, Why, Pick, Who, arm_at, arm_of, both_of, integer_at, integer_of, stop_at, stop_from, stop_of, command_of, is_numeral, is_word, keyed, number_of, parted, word_of}
 use Rattle.pb_debug.specs.Spellings.{CommandsBySpelling, IsProper, spelling}
 
 -- ---- numbers
@@ -403,7 +403,10 @@ module _ (key word : List ℕ) (c : Command) where
                           | inl s ↦ armed (codes "why") (λ p. Why p.0 p.1) (λ x. refl) (λ x e lt. (e, lt)) s.0 s.1
                           | inr h ↦ elim (chosen (bytes_eq key (codes "who")) _ _ c h) [
                             | inl s ↦ named (codes "who") Who (λ w. refl) (λ w e. e) s.0 s.1
-                            | inr h ↦ absurd cc
+                            | inr h ↦ elim (chosen (bytes_eq key (codes "pick")) _ _ c h) [
+                              | inl s ↦ armed (codes "pick") (λ p. Pick p.0 p.1) (λ x. refl) (λ x e lt. (e, lt)) s.0 s.1
+                              | inr h ↦ absurd cc
+                            ]
                           ]
                         ]
                       ]
@@ -487,6 +490,8 @@ said_again (Text p a) proper short =
     said_short (spelling (Text p a)) (Text p a) short refl refl refl refl (ap (option_map (λ (x : ArmWord). Text x.0 x.1)) (arm_again p a proper.0 proper.1))
 said_again (Why p a) proper short =
     said_short (spelling (Why p a)) (Why p a) short refl refl refl refl (ap (option_map (λ (x : ArmWord). Why x.0 x.1)) (arm_again p a proper.0 proper.1))
+said_again (Pick p a) proper short =
+    said_short (spelling (Pick p a)) (Pick p a) short refl refl refl refl (ap (option_map (λ (x : ArmWord). Pick x.0 x.1)) (arm_again p a proper.0 proper.1))
 
 pub commands_by_spelling : CommandsBySpelling
 commands_by_spelling line c = (

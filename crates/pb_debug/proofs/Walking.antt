@@ -21,7 +21,7 @@ use Rattle.pb_machine.specs.Steps.{IsStep, MovesSilently}
 use Rattle.pb_machine.specs.Views.{machine_view, IsMachineOf}
 use Rattle.pb_machine.specs.declared.machine.Machine.{Machine}
 use Rattle.pb_verifier.specs.Verified.{VerifiedCode}
-use Rattle.pb_debug.specs.Intervals.{interval_of}
+use Rattle.pb_debug.specs.Intervals.{IsInterval}
 use Rattle.pb_debug.specs.Walks.{AreCheckpoints, IsCheckpoint, Repeat, StandsAfter}
 
 -- silent picks lead from one position to another
@@ -148,5 +148,8 @@ count_within picks i =
     omega (arith, a, b)
 
 -- checkpoints are some way apart
-pub interval_some : (n interval : ℕ) → interval ≡ interval_of n → 0 < interval
-interval_some n interval e = omega (arith, e)
+pub interval_some : (n interval : ℕ) → IsInterval n interval → 0 < interval
+interval_some n interval h = let e = h.2 in omega (arith, e)
+
+pub interval_small : (n interval : ℕ) → n ≤ 10000000 → IsInterval n interval → interval ≤ 10000000
+interval_small n interval few h = let le = h.1 in let e = h.2 in omega (arith, few, le, e)

@@ -1,11 +1,11 @@
 -- What a debugger is inside.
-use Rattle.std.specs.Prelude.{◌≡◌, ◌*◌, ◌<◌, ◌≤◌, length, option_map}
+use Rattle.std.specs.Prelude.{◌+◌, ◌*◌, ◌<◌, ◌≤◌, length, option_map}
 use Rattle.pb_code.specs.Limits.{AreLabels}
 use Rattle.pb_code.specs.View.{labels_view}
 use Rattle.pb_history.specs.Entries.{picks_of}
 use Rattle.pb_verifier.specs.Verified.{IsVerified}
 use Rattle.pb_history.specs.Positions.{AreEnabled}
-use Rattle.pb_debug.specs.Intervals.{interval_of}
+use Rattle.pb_debug.specs.Intervals.{IsInterval}
 use Rattle.pb_debug.specs.Value.{Debugging}
 use Rattle.pb_debug.specs.Walks.{AreCheckpoints, Walks}
 use Rattle.pb_debug.specs.declared.debugger.Debugger.TheInside.{Inside}
@@ -18,6 +18,7 @@ view_of d = record {
   source = option_map (λ text. text.now) d.source;
   position = d.walker.at;
   last_cost = d.last_cost;
+  interval = d.interval;
 }
 
 -- the code is verified; a machine stands at the position, and one at each multiple of the distance up to the last
@@ -26,9 +27,10 @@ pub record IsSound (d : Inside) : Type 0 where
   pub enabled : AreEnabled d.verified.now.code (picks_of d.trace.entries)
   pub few : length (picks_of d.trace.entries) ≤ 10000000
   pub within : d.walker.at ≤ length (picks_of d.trace.entries)
-  pub cheap : d.last_cost < interval_of (length (picks_of d.trace.entries))
+  pub cheap : d.last_cost < d.interval
   pub fit : AreLabels d.verified.now.code (labels_view d.labels.now)
-  pub interval : d.interval ≡ interval_of (length (picks_of d.trace.entries))
+  pub spaced : IsInterval (length (picks_of d.trace.entries)) d.interval
   pub walks : Walks d.verified.now (picks_of d.trace.entries) d.walker
   pub checkpoints : AreCheckpoints d.verified.now (picks_of d.trace.entries) d.interval d.checkpoints.items
   pub enough : length (picks_of d.trace.entries) < length d.checkpoints.items * d.interval
+  pub fewest : length d.checkpoints.items * d.interval ≤ length (picks_of d.trace.entries) + d.interval

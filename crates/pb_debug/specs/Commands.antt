@@ -13,7 +13,7 @@ pub data Command : Type 0 where
   Until : (process : List ℕ) (arm line : ℕ) → Command
   Loans Next Prev Help : Command
   Who : (resource : List ℕ) → Command
-  Line Text Why : (process : List ℕ) (arm : ℕ) → Command
+  Line Text Why Pick : (process : List ℕ) (arm : ℕ) → Command
 
 -- digits with no zero before others
 abbrev pub is_numeral : List ℕ → Bool
@@ -80,7 +80,8 @@ keyed key word =
     cond (bytes_eq key (codes "line")) (option_map (λ p. Line p.0 p.1) (arm_of word)) (
     cond (bytes_eq key (codes "text")) (option_map (λ p. Text p.0 p.1) (arm_of word)) (
     cond (bytes_eq key (codes "why")) (option_map (λ p. Why p.0 p.1) (arm_of word)) (
-    cond (bytes_eq key (codes "who")) (option_map Who (word_of word)) None))))))))))
+    cond (bytes_eq key (codes "who")) (option_map Who (word_of word)) (
+    cond (bytes_eq key (codes "pick")) (option_map (λ p. Pick p.0 p.1) (arm_of word)) None)))))))))))
 
 abbrev pub parted : List ℕ → Option ℕ → Option Command
 parted line None = None

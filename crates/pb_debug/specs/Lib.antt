@@ -1,4 +1,5 @@
 pub mod Answers
+pub mod Appends
 pub mod Asking
 pub mod Buffers
 pub mod Checkpoints

@@ -1,5 +1,5 @@
 -- Sessions: the lines of an input, and what is answered to them in turn.
-use Rattle.std.specs.Prelude.{◌≡◌, ◌⊎◌, ℕ, List, [], ◌∷◌, ◌++◌, take, Option}
+use Rattle.std.specs.Prelude.{◌≡◌, ◌⊎◌, ℕ, List, [], ◌∷◌, ◌++◌, take, Option, Some}
 use Rattle.pb_base.specs.Device.{appended, one_more_failure, AddsPrefix}
 use Rattle.pb_debug.specs.Answers.{Answers}
 use Rattle.pb_debug.specs.Buffers.{kept}
@@ -43,6 +43,15 @@ pub record SaysSome (fault : DebugFault) (d : Debugging) (bytes : List ℕ) (old
   pub of : lines_of (session_bytes bytes) ≡ lines ++ later
   pub session : Session d lines text end
   pub written : Leaves fault old new text
+
+-- the first of the bytes are read, and the others are still to come
+abbrev pub IsReadTo : (bytes read : List ℕ) (left : Option (List ℕ)) → Type 0
+IsReadTo bytes read left = (rest : List ℕ) × (bytes ≡ read ++ rest) × (left ≡ Some rest)
+
+-- a read failed: what is written is the text that follows from the bytes read before it, all of it and no more
+abbrev pub SaysBefore : (Follows : List ℕ → List ℕ → Type 0) → (bytes : List ℕ) → (left old new : Option (List ℕ)) → Type 0
+SaysBefore Follows bytes left old new =
+    (read : List ℕ) × (text : List ℕ) × IsReadTo bytes read left × Follows read text × (new ≡ appended old text)
 
 -- ---- parts of a session
 

@@ -1,7 +1,7 @@
 -- How each command is spelled.
 use Rattle.std.specs.Prelude.{◌≡◌, ◌↔◌, ℕ, ◌<◌, ◌≤◌, true, List, ◌∷◌, ◌++◌, length, codes, Some, ⊤}
 use Rattle.std.specs.Fmt.{decimal}
-use Rattle.pb_debug.specs.Commands.{Command, To, Step, Back, Vars, Threads, Wrote, Until, Loans, Next, Prev, Help, Line, Text, Why, Who, command_of, is_word}
+use Rattle.pb_debug.specs.Commands.{Command, To, Step, Back, Vars, Threads, Wrote, Until, Loans, Next, Prev, Help, Line, Text, Why, Pick, Who, command_of, is_word}
 
 -- the bytes of a command: a word, and behind a space a number, a name, or a process and an arm with a point between
 abbrev pub spelling : Command → List ℕ
@@ -20,6 +20,7 @@ spelling (Who resource) = codes "who " ++ resource
 spelling (Line process arm) = codes "line " ++ (process ++ 46 ∷ decimal arm)
 spelling (Text process arm) = codes "text " ++ (process ++ 46 ∷ decimal arm)
 spelling (Why process arm) = codes "why " ++ (process ++ 46 ∷ decimal arm)
+spelling (Pick process arm) = codes "pick " ++ (process ++ 46 ∷ decimal arm)
 
 -- its numbers have at most eight digits, and its names look like names
 abbrev pub IsProper : Command → Type 0
@@ -38,6 +39,7 @@ IsProper (Who resource) = is_word resource ≡ true
 IsProper (Line process arm) = (is_word process ≡ true) × (arm < 100000000)
 IsProper (Text process arm) = (is_word process ≡ true) × (arm < 100000000)
 IsProper (Why process arm) = (is_word process ≡ true) × (arm < 100000000)
+IsProper (Pick process arm) = (is_word process ≡ true) × (arm < 100000000)
 
 -- a line of at most 256 bytes says a command exactly if it is its spelling
 abbrev pub CommandsBySpelling : Type 0

@@ -8,10 +8,10 @@ use Rattle.pb_code.specs.Limits.{AreLabels}
 use Rattle.pb_code.specs.Whole.{ProcessLabels, bank_of}
 use Rattle.pb_verifier.specs.Verified.{VerifiedCode, IsVerified}
 use Rattle.pb_history.specs.Positions.{AreEnabled, state_after}
-use Rattle.pb_debug.specs.Intervals.{interval_of}
+use Rattle.pb_debug.specs.Intervals.{IsInterval, interval_of}
 
--- the code, its labels, the picks, and the text whose lines are shown, if there is one, stay; the position moves, and with it the cost
--- of the last move
+-- the code, its labels, the text whose lines are shown, if there is one, and the distance of checkpoints stay; picks are only added behind
+-- the last; the position moves, and with it the cost of the last move
 pub record Debugging : Type 0 where
   pub verified : VerifiedCode
   pub labels : List ProcessLabels
@@ -19,6 +19,7 @@ pub record Debugging : Type 0 where
   pub source : Option (List ℕ)
   pub position : ℕ
   pub last_cost : ℕ
+  pub interval : ℕ
 
 -- the state of the code at the position
 abbrev pub state_of : Debugging → State CodeProcess
@@ -29,18 +30,27 @@ abbrev pub bank_state : Debugging → BankerState
 bank_state d = banker_state (bank_of d.verified.code) (state_of d).loans
 
 -- the code is verified and all picks are enabled, at most 10,000,000 of them; the position is one of theirs; the last move cost less than
--- the distance of checkpoints; the labels fit the code
+-- the distance of checkpoints, which is that for the picks that were there at first; the labels fit the code
 pub record IsPosition (d : Debugging) : Type 0 where
   pub verified : IsVerified d.verified
   pub enabled : AreEnabled d.verified.code d.picks
   pub few : length d.picks ≤ 10000000
   pub within : d.position ≤ length d.picks
-  pub cheap : d.last_cost < interval_of (length d.picks)
+  pub cheap : d.last_cost < d.interval
+  pub spaced : IsInterval (length d.picks) d.interval
   pub fit : AreLabels d.verified.code d.labels
 
 -- before any move, with no text
 abbrev pub at_start : VerifiedCode → List ProcessLabels → List Pick → Debugging
-at_start v labels picks = record { verified = v; labels = labels; picks = picks; source = None; position = 0; last_cost = 0 }
+at_start v labels picks = record {
+  verified = v;
+  labels = labels;
+  picks = picks;
+  source = None;
+  position = 0;
+  last_cost = 0;
+  interval = interval_of (length picks);
+}
 
 -- with a text whose lines are shown, or with none
 abbrev pub showing : Option (List ℕ) → Debugging → Debugging
@@ -48,4 +58,4 @@ showing source d = record d { source = source }
 
 -- at another position, whose cost is that from the last checkpoint up to it
 abbrev pub moved_to : Debugging → ℕ → Debugging
-moved_to d i = record d { position = i; last_cost = i % interval_of (length d.picks) }
+moved_to d i = record d { position = i; last_cost = i % d.interval }

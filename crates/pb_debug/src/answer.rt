@@ -2,7 +2,7 @@
 
 ghost use Rattle.std.specs.Prelude.{◌≡◌, ◌++◌, ◌<◌, ◌≤◌, ℕ, List, length, map, slice_get, Some, OnOk, OnErr, IfSome, IfNone};
 ghost use Rattle.pb_debug.specs.Answers.{names_of, HasNoName, OfProcess, SaysVars, SaysThreads, SaysLine, SaysText, SaysWho, SaysWhy};
-ghost use Rattle.pb_debug.specs.Answers.{Answers, AnswersCommand, AnswersNext, AnswersPrev, AnswersUntil, SaysEvent, SaysWrite, SaysWrote, ShowsAny};
+ghost use Rattle.pb_debug.specs.Answers.{Answers, AnswersCommand, AnswersNext, AnswersPick, AnswersPrev, AnswersUntil, SaysEvent, SaysWrite, SaysWrote, ShowsAny};
 ghost use Rattle.pb_debug.specs.Texts.{at_text, loans_text};
 ghost use Rattle.pb_debug.specs.Value.{IsPosition, bank_state, moved_to, state_of};
 ghost use Rattle.pb_debug.specs.View.{command_view};
@@ -231,9 +231,39 @@ impl<'c> Debugger<'c> {
         let Some(p) = self.process(word.process) else {
             return put_refusal(text, DebugFault::NoProcess);
         };
-        match self.why(p, word.arm as usize) {
+        self.say_reason(text, p, word.arm as usize)
+    }
+
+    /// Says why an arm of a process does not go on.
+    pub(crate) fn say_reason(
+        &self,
+        text: &mut Vec<u8>,
+        p: usize,
+        arm: usize,
+    ) -> Result<(), NoMemory>
+        requires { p < length (state_of self.now).processes }
+        ensures { OnOk result ((said : List ℕ) × SaysWhy self.now arm said p
+            × (text.new.items ≡ text.old.items ++ said)) }
+    {
+        match self.why(p, arm) {
             Ok(why) => put_why(text, self.verified.names(), &why),
             Err(DebugFault::NoMemory) => Err(NoMemory),
+            Err(_) => put_refusal(text, DebugFault::NoArm),
+        }
+    }
+
+    fn say_pick(&mut self, text: &mut Vec<u8>, word: ArmWord) -> Result<(), NoMemory>
+        ensures said { OnOk result ((said : List ℕ)
+            × AnswersPick self.old word.entry.process.now word.entry.arm said self.new
+            × (text.new.items ≡ text.old.items ++ said)) }
+        ensures unchanged { OnErr result (self.new ≡ self.old) }
+    {
+        let Some(p) = self.process(word.process) else {
+            return put_refusal(text, DebugFault::NoProcess);
+        };
+        let arm = word.arm as usize;
+        match self.line(p, arm) {
+            Ok(_) => self.say_tried(text, p, arm),
             Err(_) => put_refusal(text, DebugFault::NoArm),
         }
     }
@@ -266,6 +296,7 @@ impl<'c> Debugger<'c> {
             Command::Line(word) => self.say_line(text, word),
             Command::Text(word) => self.say_text(text, word),
             Command::Why(word) => self.say_why(text, word),
+            Command::Pick(word) => self.say_pick(text, word),
         }
     }
 

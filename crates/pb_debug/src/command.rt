@@ -42,6 +42,8 @@ pub(crate) enum Command<'t> {
     Text(ArmWord<'t>),
     /// `why P.a`
     Why(ArmWord<'t>),
+    /// `pick P.a`
+    Pick(ArmWord<'t>),
 }
 
 // The most bytes of a command.
@@ -90,6 +92,8 @@ fn keyed<'t>(key: &[u8], word: &'t [u8]) -> Option<Command<'t>>
         Some(Command::Why(arm_word(word)?))
     } else if is(key, "who") {
         Some(Command::Who(name_word(word)?))
+    } else if is(key, "pick") {
+        Some(Command::Pick(arm_word(word)?))
     } else {
         None
     }

@@ -23,7 +23,7 @@ use std::marker::Model;
 
 /// The replay of a list of picks of some code, seen at a position: from 0, before the first pick, up to the number
 /// of picks. Copies of the machine are kept at the multiples of a distance, and a move goes on from the last of them
-/// that is not past its end.
+/// that is not past its end. Picks may be appended; the distance stays what it was for the picks at first.
 #[derive(Drop)]
 pub struct Debugger<'c> {
     pub(crate) alloc: Global,
@@ -32,9 +32,9 @@ pub struct Debugger<'c> {
     pub(crate) trace: Trace,
     pub(crate) source: Option<&'c [u8]>,
     pub(crate) interval: u32,
-    checkpoints: Vec<Machine>,
+    pub(crate) checkpoints: Vec<Machine>,
     pub(crate) walker: Walker,
-    last_cost: u32,
+    pub(crate) last_cost: u32,
 }
 
 impl<'c> Model for Debugger<'c> {

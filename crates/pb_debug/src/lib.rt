@@ -2,6 +2,7 @@
 #![tactic(auto)]
 
 mod answer;
+mod append;
 mod buffer;
 mod checkpoints;
 mod command;

@@ -1,9 +1,10 @@
 //! Sessions: the commands of an input, answered one after another.
 
-ghost use Rattle.std.specs.Prelude.{◌≡◌, [], ℕ, List, IfErr, IfSome, OnOk};
+ghost use Rattle.std.specs.Prelude.{◌≡◌, ◌≢◌, [], ℕ, List, IfErr, IfSome, OnOk};
 ghost use Rattle.pb_debug.specs.Buffers.{kept};
-ghost use Rattle.pb_debug.specs.Sessions.{SaysAll, SaysSome, IsTold, StopsAt, Fed, FedSome, session_bytes};
-ghost use Rattle.pb_debug.specs.Sessions.{CountsWrites, CountsBoth};
+ghost use Rattle.pb_debug.specs.Lines.{cut};
+ghost use Rattle.pb_debug.specs.Sessions.{SaysAll, SaysBefore, SaysSome, IsTold, StopsAt, Fed, FedSome, session_bytes};
+ghost use Rattle.pb_debug.specs.Sessions.{CountsWrites, CountsBoth, Session};
 
 use crate::buffer::LineBuffer;
 use crate::debugger::Debugger;
@@ -70,6 +71,9 @@ impl<'c> Debugger<'c> {
             Fed self.old [] (session_bytes bytes) (O.written output.old) (O.written output.new) line.new self.new)) }
         ensures some { IfErr result (λ e. IfSome (I.rest input.old) (λ bytes.
             FedSome e self.old [] (session_bytes bytes) (O.written output.old) (O.written output.new) self.new)) }
+        ensures answered { I.failures input.new ≢ I.failures input.old → IfSome (I.rest input.old) (λ bytes.
+            SaysBefore (λ read text. Session self.old (cut [] read).lines text self.new) bytes (I.rest input.new)
+            (O.written output.old) (O.written output.new)) }
         ensures counted_reads { OnOk result (I.failures input.new ≡ I.failures input.old) }
         ensures counted_writes { OnOk result (O.failures output.new ≡ O.failures output.old) }
         ensures fault { IfErr result (λ e. CountsBoth e (I.failures input.old) (I.failures input.new)
@@ -97,7 +101,8 @@ impl<'c> Debugger<'c> {
     /// bytes. The last line feed may be missing. A refused command is answered so and changes nothing.
     ///
     /// `NoMemory`: the command that was read is not carried out. `Device`: a read or a write failed, and the position
-    /// is that of the last command that was carried out, whose answer may be written in part. No other fault comes.
+    /// is that of the last command that was carried out. If a write failed, its answer may be written in part. If a read
+    /// failed, each complete line that was read is answered, and an incomplete one is not. No other fault comes.
     pub fn session<I: Input, O: Output>(
         &mut self,
         input: &mut I,
@@ -107,6 +112,9 @@ impl<'c> Debugger<'c> {
             SaysAll self.old bytes (O.written output.old) (O.written output.new) self.new)) }
         ensures some { IfErr result (λ e. IfSome (I.rest input.old) (λ bytes.
             SaysSome e self.old bytes (O.written output.old) (O.written output.new) self.new)) }
+        ensures answered { I.failures input.new ≢ I.failures input.old → IfSome (I.rest input.old) (λ bytes.
+            SaysBefore (λ read text. Session self.old (cut [] read).lines text self.new) bytes (I.rest input.new)
+            (O.written output.old) (O.written output.new)) }
         ensures counted_reads { OnOk result (I.failures input.new ≡ I.failures input.old) }
         ensures counted_writes { OnOk result (O.failures output.new ≡ O.failures output.old) }
         ensures fault { IfErr result (λ e. CountsBoth e (I.failures input.old) (I.failures input.new)

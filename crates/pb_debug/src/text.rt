@@ -122,7 +122,7 @@ pub(crate) fn put_help(text: &mut Vec<u8>) -> Result<(), NoMemory>
 {
     put(
         text,
-        b"to I\nstep N\nback N\nnext\nprev\nvars P\nwrote P X\nuntil P.a N\nthreads P\nloans\nwho R\nline P.a\ntext P.a\nwhy P.a\nhelp\n",
+        b"to I\nstep N\nback N\nnext\nprev\nvars P\nwrote P X\nuntil P.a N\nthreads P\nloans\nwho R\nline P.a\ntext P.a\nwhy P.a\npick P.a\nhelp\n",
     )
 }
 

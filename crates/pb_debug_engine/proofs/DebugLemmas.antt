@@ -6,6 +6,7 @@ use Rattle.pb_codegen.specs.Compiled.{IsCompiled}
 use Rattle.pb_debug.specs.Value.{Debugging}
 use Rattle.pb_debug_engine.specs.Debugs.{GivesCode, IsObject, IsOpened, SaysOfCode, SaysOfDebug, SaysOfParts, SaysOfSession, debugged, no_memory, no_picks, no_room, no_source, with_code}
 use Rattle.pb_debug_engine.specs.Faults.{TellsAnyFault}
+use Rattle.pb_debug_engine.specs.Live.{AnswersOfCode, AnswersOfParts}
 use Rattle.pb_engines.proofs.PageLemmas.{AddsPrefix-longer}
 use Rattle.pb_engines.specs.Answers.{Says, Tells, memory_line}
 use Rattle.pb_engines.specs.Faults.{TellsWriteFaults}
@@ -55,6 +56,19 @@ code_of_text_told source lines commands seen verified seen_labels labels old new
     code_told source lines commands verified labels (Some source) old new given (inr (none, compiled, refl))
     (subst (λ (v : VerifiedCode). Tells (SaysOfCode v labels (Some source) lines commands) old new given) same
     (subst (λ (l : List ProcessLabels). Tells (SaysOfCode seen l (Some source) lines commands) old new given) same_labels tells))
+
+-- what is answered by a debugger of that code
+pub text_answers : (source lines : List ℕ) (seen verified : VerifiedCode) (seen_labels labels : List ProcessLabels) → ¬ IsObject source
+    → IsCompiled source verified.code labels → seen ≡ verified → seen_labels ≡ labels → (taken text : List ℕ)
+    → AnswersOfCode seen seen_labels (Some source) lines taken text → AnswersOfParts source lines taken text
+text_answers source lines seen verified seen_labels labels none compiled same same_labels taken text answers = (
+  verified,
+  labels,
+  Some source,
+  inr (none, compiled, refl),
+  subst (λ (v : VerifiedCode). AnswersOfCode v labels (Some source) lines taken text) same
+      (subst (λ (l : List ProcessLabels). AnswersOfCode seen l (Some source) lines taken text) same_labels answers),
+)
 
 -- a reply to an object that gives no code, or for which there was no memory
 pub no_code_told : (source lines commands : List ℕ) (reply : Result Reply NoMemory) (old new : Option (List ℕ)) (given : Status)

@@ -1,12 +1,13 @@
 -- A part of an input that is read byte by byte, up to its line `%%`.
-use Rattle.std.proofs.Common.{◌≡◌, ℕ, zero, suc, ◌+◌, ◌-◌, ◌<◌, ◌≤◌, List, [], ◌∷◌, ◌++◌, length, take, drop, Option, Some, None, IfSome, get_or, refl, sym, ap, ◌∙◌, subst, inl, inr, arith, length-append}
-use Rattle.std.proofs.lemmas.List.{drop-append-le, take-append-le, take_all, length-take-le, length-drop}
+use Rattle.std.proofs.Common.{◌≡◌, ℕ, zero, suc, ◌+◌, ◌-◌, ◌<◌, ◌≤◌, List, [], ◌∷◌, ◌++◌, length, take, drop, Option, Some, None, IfSome, get_or, refl, sym, ap, ◌∙◌, subst, inl, inr, arith, append-nil, append_assoc, length-append}
+use Rattle.std.proofs.lemmas.List.{drop-append-le, take-append-le, take-append-drop, take_all, length-take-le, length-drop}
 use Rattle.std.proofs.lemmas.Bool.{cases_lt}
 use Rattle.std.specs.Prelude.{◌⊎◌, slice_get}
 use Rattle.pb_base.specs.Device.{GivesNext, dropped}
 use Rattle.pb_base.proofs.DeviceLemmas.{next-bytes, prepended}
+use Rattle.pb_debug.specs.Sessions.{IsReadTo, SaysBefore}
 use Rattle.pb_debug_engine.specs.Debugs.{AreThreeParts}
-use Rattle.pb_debug_engine.specs.Live.{EndsInMark, IsLong}
+use Rattle.pb_debug_engine.specs.Live.{EndsInMark, IsEarly, IsLong, IsUnmarked}
 use Rattle.pb_engines.specs.Parts.{AreTwoParts, IsMark, IsMarkAt}
 
 -- ---- lists
@@ -16,6 +17,11 @@ front : (xs ys : List ℕ) (i : ℕ) → i < length xs → slice_get (xs ++ ys) 
 front [] ys i within = absurd (omega (arith, within))
 front (x ∷ xs) ys zero within = refl
 front (x ∷ xs) ys (suc i) within = front xs ys i (omega (arith, within))
+
+-- two lists with nothing in them
+pub nothing_behind : (xs ys : List ℕ) → xs ++ ys ≡ [] → (xs ≡ []) × (ys ≡ [])
+nothing_behind [] ys none = (refl, none)
+nothing_behind (x ∷ xs) ys none = let some : suc (length (xs ++ ys)) ≡ 0 = ap length none in absurd (omega (arith, some))
 
 -- where nothing is dropped away, nothing is left
 nothing_left : (xs : List ℕ) (n : ℕ) → length xs ≤ n → drop n xs ≡ []
@@ -67,10 +73,6 @@ module _ (xs ys : List ℕ) (at : ℕ) (within : at + 3 ≤ length xs) where
     ];
     marks = mark_was (drop at xs) ys rest_long (subst IsMark rest_is mark.marks);
   }
-
--- no line `%%` ends in a text by a line feed
-abbrev pub IsUnmarked : List ℕ → Type 0
-IsUnmarked text = (at : ℕ) → at + 3 ≤ length text → ¬ IsMarkAt text at
 
 -- one more byte, with which the text does not end in a mark
 pub unmarked_more : (text : List ℕ) (b : ℕ) → IsUnmarked text → (EndsInMark (text ++ b ∷ []) → ⊥) → IsUnmarked (text ++ b ∷ [])
@@ -182,3 +184,79 @@ two_then_two (Some bytes) mid last source lines (rest, is, first) second =
     let next : (after : List ℕ) × (last ≡ Some after) × AreTwoParts rest lines after =
     subst (λ (o : Option (List ℕ)). IfSome o (λ bytes. (after : List ℕ) × (last ≡ Some after) × AreTwoParts bytes lines after)) is second in
     (next.0, next.1, (rest, first, next.2))
+
+-- ---- where a read fails
+
+-- what is said follows in another way too
+pub says_weaker : (P Q : List ℕ → List ℕ → Type 0) → ((read text : List ℕ) → P read text → Q read text) → (o left old new : Option (List ℕ))
+    → IfSome o (λ bytes. SaysBefore P bytes left old new) → IfSome o (λ bytes. SaysBefore Q bytes left old new)
+says_weaker P Q f None left old new says = tt
+says_weaker P Q f (Some bytes) left old new (read, text, to, follows, written) = (read, text, to, f read text follows, written)
+
+-- of what is behind the first part some first bytes are read: the first part, and these, are read of the whole
+pub first_of_two : (bytes part read rest : List ℕ) → AreTwoParts bytes part (read ++ rest)
+    → (before : List ℕ) × (bytes ≡ before ++ rest) × AreTwoParts before part read
+first_of_two bytes part read rest (inr (same, none, unmarked)) =
+    let empty = nothing_behind read rest none in
+    (bytes, sym (ap (λ (t : List ℕ). bytes ++ t) empty.1 ∙ append-nil bytes), inr (same, empty.0, unmarked))
+first_of_two bytes part read rest (inl (at, mark, before, part_is, rest_is)) =
+    let size = length-drop (at + 3) bytes in
+    elim (cases_lt (length bytes) (at + 3)) [
+      | inl lt ↦
+          let none : read ++ rest ≡ [] = rest_is ∙ nothing_left bytes (at + 3) (omega (arith, lt)) in
+          let empty = nothing_behind read rest none in (
+            bytes,
+            sym (ap (λ (t : List ℕ). bytes ++ t) empty.1 ∙ append-nil bytes),
+            inl (
+              at,
+              mark,
+              before,
+              part_is,
+              empty.0 ∙ sym (nothing_left bytes (at + 3) (omega (arith, lt))),
+            ),
+          )
+      | inr le ↦
+          let first = take (at + 3) bytes in
+          let long : length first ≡ at + 3 = length-take-le (at + 3) bytes le in
+          let whole : bytes ≡ (first ++ read) ++ rest =
+          sym (take-append-drop (at + 3) bytes) ∙ (ap (λ (t : List ℕ). first ++ t) (sym rest_is) ∙ sym (append_assoc first read rest)) in
+          let more = length-append first read in
+          let within : at + 3 ≤ length (first ++ read) = omega (arith, long, more) in (
+            first ++ read,
+            whole,
+            inl (
+              at,
+              mark_in_less (first ++ read) rest at within (subst (λ (t : List ℕ). IsMarkAt t at) whole mark),
+              λ k under marked. before k under
+                  (subst (λ (t : List ℕ). IsMarkAt t k) (sym whole) (mark_in_more (first ++ read) rest k (omega (arith, within, under)) marked)),
+              part_is ∙ (ap (λ (t : List ℕ). take at t) whole
+                  ∙ (ap (λ (t : List ℕ). take at t) (append_assoc first read rest)
+                  ∙ (take-append-le at first (read ++ rest) (omega (arith, long))
+                  ∙ sym (take-append-le at first read (omega (arith, long)))))),
+              sym (drop-append-le (at + 3) first read (omega (arith, long))
+                  ∙ ap (λ (t : List ℕ). t ++ read) (nothing_left first (at + 3) (omega (arith, long)))),
+            ),
+          )
+    ]
+
+-- the same of the first two parts, and of what is said behind them
+pub first_of_three : (bytes source lines commands : List ℕ) (left old new : Option (List ℕ)) (Follows Says : List ℕ → List ℕ → Type 0)
+    → AreThreeParts bytes source lines commands → SaysBefore Follows commands left old new
+    → ((all read text : List ℕ) → AreThreeParts all source lines read → Follows read text → Says all text)
+    → SaysBefore Says bytes left old new
+first_of_three bytes source lines commands left old new Follows Says (behind, first, second) (read, text, (rest, is, coming), follows, written) says =
+    let then = first_of_two behind lines read rest (subst (λ (t : List ℕ). AreTwoParts behind lines t) is second) in
+    let all = first_of_two bytes source then.0 rest (subst (λ (t : List ℕ). AreTwoParts bytes source t) then.1 first) in
+    (all.0, text, (rest, all.1, coming), says all.0 read text (then.0, all.2, then.2) follows, written)
+
+-- a read of the second part failed
+pub early_in_second : (o mid last : Option (List ℕ)) (source : List ℕ)
+    → IfSome o (λ bytes. (rest : List ℕ) × (mid ≡ Some rest) × AreTwoParts bytes source rest)
+    → IfSome mid (λ bytes. (read : List ℕ) × IsReadTo bytes read last × IsUnmarked read)
+    → IfSome o (λ bytes. (read : List ℕ) × IsReadTo bytes read last × IsEarly read)
+early_in_second None mid last source first second = tt
+early_in_second (Some bytes) mid last source (behind, is, first) second =
+    let next : (read : List ℕ) × IsReadTo behind read last × IsUnmarked read =
+    subst (λ (o : Option (List ℕ)). IfSome o (λ bytes. (read : List ℕ) × IsReadTo bytes read last × IsUnmarked read)) is second in
+    let all = first_of_two bytes source next.0 next.1.0 (subst (λ (t : List ℕ). AreTwoParts bytes source t) next.1.1 first) in
+    (all.0, (next.1.0, all.1, next.1.2), inr (source, next.0, all.2, next.2))

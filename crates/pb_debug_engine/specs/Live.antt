@@ -1,12 +1,17 @@
 -- What `debug --live` says of an input, which it reads as it comes.
-use Rattle.std.specs.Prelude.{◌+◌, ◌-◌, ◌<◌, ◌≤◌, ◌⊎◌, ℕ, List, [], codes, length}
-use Rattle.pb_base.specs.declared.device.ReadFault.{ReadFault}
+use Rattle.std.specs.Prelude.{◌+◌, ◌-◌, ◌<◌, ◌≤◌, ◌⊎◌, ℕ, List, [], Option, codes, length}
 use Rattle.pb_base.specs.declared.device.ReadFault.TheVariants as fault
-use Rattle.pb_debug_engine.specs.Debugs.{SaysOfDebug}
+use Rattle.pb_base.specs.declared.device.ReadFault.{ReadFault}
+use Rattle.pb_code.specs.Whole.{ProcessLabels}
+use Rattle.pb_debug.specs.Lines.{cut}
+use Rattle.pb_debug.specs.Sessions.{Session}
+use Rattle.pb_debug.specs.Value.{Debugging}
+use Rattle.pb_debug_engine.specs.Debugs.{AreThreeParts, GivesCode, IsOpened, SaysOfDebug}
 use Rattle.pb_engines.specs.Answers.{line, memory_line}
 use Rattle.pb_engines.specs.Parts.{AreTwoParts, IsMarkAt}
-use Rattle.pb_engines.specs.declared.status.Status.{Status}
 use Rattle.pb_engines.specs.declared.status.Status.TheVariants.{Refused, Memory, Device}
+use Rattle.pb_engines.specs.declared.status.Status.{Status}
+use Rattle.pb_verifier.specs.Verified.{VerifiedCode}
 
 -- a line `%%` and its line feed are the end of the text
 abbrev pub EndsInMark : List ℕ → Type 0
@@ -38,3 +43,35 @@ pub data SaysOfLive (bytes : List ℕ) : List ℕ → Status → Type 0 where
   no_memory : SaysOfLive bytes memory_line Memory
   nothing : SaysOfLive bytes [] Device
   read : (text : List ℕ) (status : Status) → SaysOfDebug bytes text status → SaysOfLive bytes text status
+
+-- ---- a read fails
+
+-- no line `%%` ends in the text by a line feed
+abbrev pub IsUnmarked : List ℕ → Type 0
+IsUnmarked text = (at : ℕ) → at + 3 ≤ length text → ¬ IsMarkAt text at
+
+-- the bytes do not go beyond the first two parts: no line `%%` ends in them by a line feed, or only one does
+abbrev pub IsEarly : List ℕ → Type 0
+IsEarly taken = IsUnmarked taken ⊎ ((source : List ℕ) × (rest : List ℕ) × AreTwoParts taken source rest × IsUnmarked rest)
+
+-- the text consists of the answers to the complete lines of these bytes, in order
+abbrev pub AnswersLines : Debugging → (commands text : List ℕ) → Type 0
+AnswersLines d commands text = (end : Debugging) × Session d (cut [] commands).lines text end
+
+-- by the debugger of this code and of the picks of these lines
+abbrev pub AnswersOfCode : VerifiedCode → List ProcessLabels → (shown : Option (List ℕ)) → (lines commands text : List ℕ) → Type 0
+AnswersOfCode verified labels shown lines commands text =
+    (d : Debugging) × IsOpened verified labels shown lines d × AnswersLines d commands text
+
+-- by the debugger of the first two parts
+abbrev pub AnswersOfParts : (source lines commands text : List ℕ) → Type 0
+AnswersOfParts source lines commands text =
+    (verified : VerifiedCode) × (labels : List ProcessLabels) × (shown : Option (List ℕ)) × GivesCode source verified.code labels shown
+    × AnswersOfCode verified labels shown lines commands text
+
+-- what is written if a read fails after these bytes: nothing within the first two parts; else the answers to the
+-- complete commands among them
+pub data SaysOfRead (taken : List ℕ) : List ℕ → Type 0 where
+  early : IsEarly taken → SaysOfRead taken []
+  late : (source lines commands text : List ℕ) → AreThreeParts taken source lines commands → AnswersOfParts source lines commands text
+      → SaysOfRead taken text

@@ -1,8 +1,9 @@
 //! The command `debug --live`, over any input and output.
 
 ghost use Rattle.std.specs.Prelude.{◌≡◌, ◌≢◌, IfSome};
+ghost use Rattle.pb_debug.specs.Sessions.{SaysBefore};
 ghost use Rattle.pb_debug_engine.specs.Faults.{TellsAnyFault};
-ghost use Rattle.pb_debug_engine.specs.Live.{SaysOfLive, unread_status, unread_text};
+ghost use Rattle.pb_debug_engine.specs.Live.{SaysOfLive, SaysOfRead, unread_status, unread_text};
 ghost use Rattle.pb_engines.specs.Answers.{Says, Tells};
 ghost use Rattle.pb_engines.specs.Faults.{TellsWriteFaults};
 
@@ -16,7 +17,8 @@ use std::alloc::Global;
 /// read. The two parts before the commands are read up to their lines `%%`, and neither may be over 4,194,304
 /// bytes; of the commands at most 4,194,304 bytes are read.
 ///
-/// If a read fails, the answers to the commands before it are already written.
+/// If a read fails, the status is `Device`. Each complete command that was read before it is answered then; if it was a
+/// read of the two parts before the commands, nothing is written.
 pub fn debug_live_engine<I: Input, O: Output>(
     alloc: Global,
     input: &mut I,
@@ -24,6 +26,9 @@ pub fn debug_live_engine<I: Input, O: Output>(
 ) -> Status
     ensures text { IfSome (I.rest input.old) (λ bytes.
         Tells (SaysOfLive bytes) (O.written output.old) (O.written output.new) result) }
+    ensures device { I.failures input.new ≢ I.failures input.old → result ≡ Status.Device }
+    ensures answered { I.failures input.new ≢ I.failures input.old → IfSome (I.rest input.old) (λ bytes.
+        SaysBefore SaysOfRead bytes (I.rest input.new) (O.written output.old) (O.written output.new)) }
     ensures faults { TellsAnyFault
         (record { reads = I.failures input.old; writes = O.failures output.old; written = O.written output.old })
         (record { reads = I.failures input.new; writes = O.failures output.new; written = O.written output.new })

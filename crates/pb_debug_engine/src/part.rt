@@ -2,8 +2,9 @@
 
 ghost use Rattle.std.specs.Prelude.{◌≡◌, ◌≢◌, ◌≤◌, ◌↔◌, ℕ, Some, IfErr, IfOk, IfSome, IsTrue, List, OnOk, length};
 ghost use Rattle.pb_base.specs.Device.{one_more_failure};
+ghost use Rattle.pb_debug.specs.Sessions.{IsReadTo};
 ghost use Rattle.pb_debug_engine.specs.Debugs.{AreThreeParts};
-ghost use Rattle.pb_debug_engine.specs.Live.{EndsInMark, HasLongPart, IsLong};
+ghost use Rattle.pb_debug_engine.specs.Live.{EndsInMark, HasLongPart, IsEarly, IsLong, IsUnmarked};
 ghost use Rattle.pb_engines.specs.Parts.{AreTwoParts};
 
 use pb_base::device::{Input, ReadFault};
@@ -26,6 +27,8 @@ fn read_part<I: Input>(alloc: Global, input: &mut I) -> Result<Vec<u8>, ReadFaul
     ensures short { IfOk result (λ part. length part.items ≤ LONGEST_INPUT) }
     ensures counted { OnOk result (I.failures input.new ≡ I.failures input.old) }
     ensures long { IfErr result (λ e. e ≡ ReadFault.TooLong → IfSome (I.rest input.old) IsLong) }
+    ensures early { IfErr result (λ e. e ≡ ReadFault.Device → IfSome (I.rest input.old) (λ bytes.
+        (read : List ℕ) × IsReadTo bytes read (I.rest input.new) × IsUnmarked read)) }
     ensures fault { IfErr result (λ e. e ≡ ReadFault.Device →
         I.failures input.new ≡ one_more_failure (I.failures input.old)) }
     ensures no_fault { IfErr result (λ e. e ≢ ReadFault.Device → I.failures input.new ≡ I.failures input.old) }
@@ -72,6 +75,8 @@ pub fn read_first_parts<I: Input>(alloc: Global, input: &mut I) -> Result<FirstP
     ensures short { IfOk result (λ parts. length parts.source.items ≤ LONGEST_INPUT) }
     ensures counted { OnOk result (I.failures input.new ≡ I.failures input.old) }
     ensures long { IfErr result (λ e. e ≡ ReadFault.TooLong → IfSome (I.rest input.old) HasLongPart) }
+    ensures early { IfErr result (λ e. e ≡ ReadFault.Device → IfSome (I.rest input.old) (λ bytes.
+        (read : List ℕ) × IsReadTo bytes read (I.rest input.new) × IsEarly read)) }
     ensures fault { IfErr result (λ e. e ≡ ReadFault.Device →
         I.failures input.new ≡ one_more_failure (I.failures input.old)) }
     ensures no_fault { IfErr result (λ e. e ≢ ReadFault.Device → I.failures input.new ≡ I.failures input.old) }

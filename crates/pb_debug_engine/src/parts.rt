@@ -1,10 +1,12 @@
 //! The three parts of what is debugged: a text or an object, pick lines, and commands.
 
-ghost use Rattle.std.specs.Prelude.{◌≤◌, ◌↔◌, IfSome, IsTrue, length, option_map};
+ghost use Rattle.std.specs.Prelude.{◌≢◌, ◌≤◌, ◌↔◌, IfSome, IsTrue, length, option_map};
 ghost use Rattle.pb_code.specs.Limits.{AreLabels};
 ghost use Rattle.pb_code.specs.View.{labels_view};
+ghost use Rattle.pb_debug.specs.Sessions.{SaysBefore};
 ghost use Rattle.pb_debug_engine.specs.Debugs.{IsObject, SaysOfCode, SaysOfParts};
 ghost use Rattle.pb_debug_engine.specs.Faults.{TellsAnyFault};
+ghost use Rattle.pb_debug_engine.specs.Live.{AnswersOfCode, AnswersOfParts};
 ghost use Rattle.pb_engines.specs.Answers.{Tells};
 
 use crate::session::tell_session;
@@ -41,6 +43,9 @@ fn debug_code<I: Input, O: Output>(
     ensures text { IfSome (I.rest commands.old) (λ bytes.
         Tells (SaysOfCode verified.now (labels_view labels.now) (option_map (λ text. text.now) shown.entry) lines.now bytes)
         (O.written output.old) (O.written output.new) result) }
+    ensures answered { I.failures commands.new ≢ I.failures commands.old → IfSome (I.rest commands.old) (λ bytes.
+        SaysBefore (AnswersOfCode verified.now (labels_view labels.now) (option_map (λ text. text.now) shown.entry) lines.now)
+        bytes (I.rest commands.new) (O.written output.old) (O.written output.new)) }
     ensures faults { TellsAnyFault
         (record { reads = I.failures commands.old; writes = O.failures output.old; written = O.written output.old })
         (record { reads = I.failures commands.new; writes = O.failures output.new; written = O.written output.new })
@@ -81,6 +86,8 @@ pub fn debug_parts<I: Input, O: Output>(
     requires { length source.now ≤ 4194304 }
     ensures text { IfSome (I.rest commands.old) (λ bytes.
         Tells (SaysOfParts source.now lines.now bytes) (O.written output.old) (O.written output.new) result) }
+    ensures answered { I.failures commands.new ≢ I.failures commands.old → IfSome (I.rest commands.old) (λ bytes.
+        SaysBefore (AnswersOfParts source.now lines.now) bytes (I.rest commands.new) (O.written output.old) (O.written output.new)) }
     ensures faults { TellsAnyFault
         (record { reads = I.failures commands.old; writes = O.failures output.old; written = O.written output.old })
         (record { reads = I.failures commands.new; writes = O.failures output.new; written = O.written output.new })

@@ -1,8 +1,10 @@
 //! A session, with the status that it comes to.
 
-ghost use Rattle.std.specs.Prelude.{IfSome};
+ghost use Rattle.std.specs.Prelude.{◌≢◌, IfSome};
+ghost use Rattle.pb_debug.specs.Sessions.{SaysBefore};
 ghost use Rattle.pb_debug_engine.specs.Debugs.{SaysOfSession};
 ghost use Rattle.pb_debug_engine.specs.Faults.{TellsAnyFault};
+ghost use Rattle.pb_debug_engine.specs.Live.{AnswersLines};
 ghost use Rattle.pb_engines.specs.Answers.{Tells};
 
 use pb_base::device::{Input, Output};
@@ -19,6 +21,8 @@ pub fn tell_session<I: Input, O: Output>(
 ) -> Status
     ensures text { IfSome (I.rest commands.old) (λ bytes.
         Tells (SaysOfSession debugger.old bytes) (O.written output.old) (O.written output.new) result) }
+    ensures answered { I.failures commands.new ≢ I.failures commands.old → IfSome (I.rest commands.old) (λ bytes.
+        SaysBefore (AnswersLines debugger.old) bytes (I.rest commands.new) (O.written output.old) (O.written output.new)) }
     ensures faults { TellsAnyFault
         (record { reads = I.failures commands.old; writes = O.failures output.old; written = O.written output.old })
         (record { reads = I.failures commands.new; writes = O.failures output.new; written = O.written output.new })

@@ -70,7 +70,7 @@ const CASES: [Case; 11] = [
     },
 ];
 
-/// Whether this is said of an input that is read whole.
+/// Returns whether this is said of an input that is read whole.
 fn says(alloc: Global, case: &Case) -> Option<bool> {
     let mut input = MemoryInput::new(case.input);
     let mut output = MemoryOutput::new(alloc, 4_096).ok()?;
@@ -78,7 +78,7 @@ fn says(alloc: Global, case: &Case) -> Option<bool> {
     Some(status == case.status && output.as_slice() == case.said)
 }
 
-/// Whether the same is said of an input whose commands are read as they come.
+/// Returns whether the same is said of an input whose commands are read as they come.
 fn says_live(alloc: Global, case: &Case) -> Option<bool> {
     let mut input = MemoryInput::new(case.input);
     let mut output = MemoryOutput::new(alloc, 4_096).ok()?;

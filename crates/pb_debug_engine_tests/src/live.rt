@@ -8,7 +8,7 @@ use std::alloc::Global;
 /// A text and a pick, 40 bytes with their lines `%%`, and commands of five bytes each.
 const SESSION: &[u8] = b"process p begin print 1 end\n%%\np.0 1\n%%\nto 1\nto 0\nto 1\n";
 
-/// What is written if the read with this number fails, of reads that give at most five bytes.
+/// Returns what is written if the read with this number fails, of reads that give at most five bytes.
 fn answers_before(alloc: Global, passing: u64, said: &[u8]) -> Option<bool> {
     let mut input = FaultyInput::new(SESSION, passing, 5);
     let mut output = MemoryOutput::new(alloc, 100).ok()?;
@@ -26,7 +26,7 @@ fn commands_are_answered_before_more_is_read(rt: HostRuntime) {
     assert!(rt; answers_before(rt.alloc(), 42, b"at 1\nat 0\n") == Some(true));
 }
 
-/// Whether a write that fails ends a live session behind its first answer.
+/// Returns whether a write that fails ends a live session behind its first answer.
 fn ends_at_a_failed_write(alloc: Global) -> Option<bool> {
     let mut input = MemoryInput::new(SESSION);
     let mut output = FaultyOutput::new(alloc, 100, 1, 100).ok()?;
@@ -34,7 +34,7 @@ fn ends_at_a_failed_write(alloc: Global) -> Option<bool> {
     Some(status == Status::Device && output.as_slice() == b"at 1\n".as_slice())
 }
 
-/// Whether nothing is said of an input of which a read fails, if it is read whole.
+/// Returns whether nothing is said of an input of which a read fails, if it is read whole.
 fn says_nothing(alloc: Global) -> Option<bool> {
     let mut input = FaultyInput::new(SESSION, 9, 5);
     let mut output = MemoryOutput::new(alloc, 100).ok()?;
@@ -48,8 +48,8 @@ fn failing_devices(rt: HostRuntime) {
     assert!(rt; says_nothing(rt.alloc()) == Some(true));
 }
 
-/// Whether this is said of an input with a text of this length, with line feeds behind it, and the second of the same
-/// input if its commands are read as they come.
+/// Returns whether this is said of an input with a text of this length, with line feeds behind it, and the
+/// second of the same input if its commands are read as they come.
 fn says_of_length(alloc: Global, length: usize, said: &[u8], said_live: &[u8]) -> Option<bool> {
     let mut bytes = Vec::from_slice(alloc, b"process p begin print 1 end\n").ok()?;
     bytes.resize(length, b'\n').ok()?;

@@ -3,7 +3,7 @@
 ghost use Rattle.std.specs.Prelude.{◌≤◌, length};
 ghost use Rattle.pb_history.specs.Replays.{spread};
 
-use pb_base::Pick;
+use pb_base::{Pick, Step};
 use pb_codegen::compile;
 use pb_debug::{DebugFault, Debugger, Why};
 use pb_history::{CountedPick, ReplayFault};
@@ -30,7 +30,8 @@ const B: Pick = Pick { process: 1, arm: 0 };
 
 const SECOND: Pick = Pick { process: 0, arm: 2 };
 
-/// What moves over these picks of a loop cost: none, to the first position, back by one, and to the second.
+/// Returns what moves over these picks of a loop cost: none, to the first position, back by one, and to the
+/// second.
 fn costs(alloc: Global, picks: &[CountedPick], first: u32, second: u32) -> Option<[u32; 4]>
     requires { length (spread picks.now) ≤ 10000000 }
 {
@@ -60,7 +61,31 @@ fn moves_cost_what_is_made_again(rt: HostRuntime) {
     assert!(rt; costs(rt.alloc(), &picks, 20_001, 0) == None);
 }
 
-/// The position after these moves, each of which may be refused: to `to`, on by `on`, back by `back`.
+/// Returns whether picks that are appended to these of a loop are kept, past the next checkpoint too.
+fn appends_past_a_checkpoint(alloc: Global) -> Option<bool> {
+    let picks = [CountedPick {
+        pick: A,
+        count: 4_095,
+    }];
+    let compiled = compile(alloc, alloc, LOOP).ok()?;
+    let mut debugger = Debugger::new_counted(alloc, &compiled, &picks).ok()?;
+    let early = matches!(debugger.append(A), Err(DebugFault::PastEnd));
+    debugger.to(4_095).ok()?;
+    let none = matches!(debugger.append(B), Ok(Step::NotEnabled)) && debugger.len() == 4_095;
+    for _ in 0..3 {
+        debugger.append(A).ok()?;
+    }
+    let last = debugger.position() == 4_098 && debugger.last_cost() == 2;
+    debugger.back(2).ok()?;
+    Some(early && none && last && debugger.last_cost() == 0 && debugger.len() == 4_098)
+}
+
+#[test]
+fn picks_behind_the_last(rt: HostRuntime) {
+    assert!(rt; appends_past_a_checkpoint(rt.alloc()) == Some(true));
+}
+
+/// Returns the position after these moves, each of which may be refused: to `to`, on by `on`, back by `back`.
 fn position_after(alloc: Global, picks: &[Pick], to: u32, on: u32, back: u32) -> Option<u32>
     requires { length picks.now ≤ 10000000 }
 {
@@ -104,7 +129,7 @@ fn a_pick_that_is_not_enabled(rt: HostRuntime) {
     assert!(rt; refused(rt.alloc(), &[A, B]) == Some(ReplayFault::NotEnabled(1)));
 }
 
-/// Whether the reason is that these processes could never finish.
+/// Returns whether the reason is that these processes could never finish.
 fn is_rest(why: Result<Why, DebugFault>, processes: &[u8]) -> bool {
     match why {
         Ok(Why::Rest(rest)) => rest.as_slice() == processes,
@@ -112,7 +137,7 @@ fn is_rest(why: Result<Why, DebugFault>, processes: &[u8]) -> bool {
     }
 }
 
-/// Whether the processes may finish in this order.
+/// Returns whether the processes may finish in this order.
 fn is_order(why: Result<Why, DebugFault>, processes: &[u8]) -> bool {
     match why {
         Ok(Why::Order(order)) => order.as_slice() == processes,
@@ -120,7 +145,7 @@ fn is_order(why: Result<Why, DebugFault>, processes: &[u8]) -> bool {
     }
 }
 
-/// Whether there is too little cash of this resource, and this amount of it.
+/// Returns whether there is too little cash of this resource, and this amount of it.
 fn is_cash(why: Result<Why, DebugFault>, wanted: u8, amount: u32) -> bool {
     match why {
         Ok(Why::Cash { resource, cash }) => resource == wanted && cash == amount,
@@ -128,7 +153,7 @@ fn is_cash(why: Result<Why, DebugFault>, wanted: u8, amount: u32) -> bool {
     }
 }
 
-/// Whether one process holds the tape, and each of both waits or may go on as the banker says.
+/// Returns whether one process holds the tape, and each of both waits or may go on as the banker says.
 fn waits_are_right(alloc: Global) -> Option<bool> {
     let compiled = compile(alloc, alloc, DEVICES).ok()?;
     let mut debugger = Debugger::new(alloc, &compiled, &[A, A]).ok()?;
@@ -147,7 +172,7 @@ fn reasons_of_requests(rt: HostRuntime) {
     assert!(rt; waits_are_right(rt.alloc()) == Some(true));
 }
 
-/// Whether integers, lines and arms are those of the source, up to a fault.
+/// Returns whether integers, lines and arms are those of the source, up to a fault.
 fn arms_are_right(alloc: Global) -> Option<bool> {
     let picks = [
         CountedPick { pick: A, count: 4 },

@@ -11,7 +11,7 @@ use pb_history::replay::replay;
 use pb_machine::Machine;
 use std::alloc::Global;
 
-/// The picks of an example, one by one.
+/// Returns the picks of an example, one by one.
 fn picks_of(alloc: Global, example: &Example) -> Option<Vec<Pick>> {
     let mut picks = Vec::new(alloc);
     for span in example.picks.chunks_exact(3) {
@@ -26,7 +26,7 @@ fn picks_of(alloc: Global, example: &Example) -> Option<Vec<Pick>> {
     Some(picks)
 }
 
-/// Whether two bankers have lent the same.
+/// Returns whether two bankers have lent the same.
 fn have_lent_alike(a: &Banker, b: &Banker) -> bool {
     if a.processes() != b.processes() || a.resources() != b.resources() {
         return false;
@@ -41,7 +41,7 @@ fn have_lent_alike(a: &Banker, b: &Banker) -> bool {
     true
 }
 
-/// Whether the debugger shows the processes and the loans of a machine.
+/// Returns whether the debugger shows the processes and the loans of a machine.
 fn shows(debugger: &Debugger, machine: &Machine) -> bool {
     for p in 0..machine.processes() {
         match debugger.threads(p) {
@@ -52,7 +52,7 @@ fn shows(debugger: &Debugger, machine: &Machine) -> bool {
     have_lent_alike(debugger.loans(), machine.banker())
 }
 
-/// Whether the debugger shows what a replay of these picks ends in.
+/// Returns whether the debugger shows what a replay of these picks ends in.
 fn shows_replay(alloc: Global, compiled: &Compiled, debugger: &Debugger, picks: &[Pick]) -> bool
     requires { length picks.now ≤ 10000000 }
 {
@@ -62,7 +62,8 @@ fn shows_replay(alloc: Global, compiled: &Compiled, debugger: &Debugger, picks: 
     }
 }
 
-/// Whether each position shows what a replay of the picks before it ends in, on the way to the end and back to the start.
+/// Returns whether each position shows what a replay of the picks before it ends in, on the way to the end
+/// and back to the start.
 fn goes_there_and_back(alloc: Global, example: &Example) -> Option<bool> {
     let compiled = compile(alloc, alloc, example.text).ok()?;
     let picks = picks_of(alloc, example)?;

@@ -43,6 +43,11 @@ const PRINT: &[u8] = b"process p begin print 1 end";
 /// A process that prints twice.
 const TWICE: &[u8] = b"process p begin print 1;\nprint 2 end";
 
+/// Two processes that want one device, and print while they hold it.
+const TURNS: &[u8] = b"resource t = 1;
+process a begin hold 1 of t do print 1 od end
+process b begin hold 1 of t do print 2 od end";
+
 /// Two arms, and integers.
 const ARMS: &[u8] =
     b"process p begin integer x, y; x := -7; parbegin print x; y := x div 0 parend end";
@@ -55,7 +60,7 @@ struct Case {
     said: &'static [u8],
 }
 
-const CASES: [Case; 9] = [
+const CASES: [Case; 10] = [
     Case {
         text: DEVICES,
         picks: &[A],
@@ -93,6 +98,12 @@ const CASES: [Case; 9] = [
         said: b"at 1\n0 at 1\nline 1\nrefused G1\nrefused G3\nnot reached\nrefused G3\nrefused G2\n",
     },
     Case {
+        text: TURNS,
+        picks: &[A],
+        commands: b"pick b.0\nto 1\npick b.0\npick a.0\npick a.0\nback 1\npick a.0\nnext\npick a.0\npick b.0\nloans\npick a.0\npick a.0\nprev\npick c.0\npick a.1\npick a\nto 7\nto 6\n",
+        said: b"refused G1\nat 1\ncash 0 t\nat 2\nat 3 a.0 print 1\nat 2\nrefused G1\nat 3 a.0 print 1\nat 4 a.0 return 1 t\nat 5 b.0 grant 1 t\na holds 0 t claim 1\nb holds 1 t claim 1\ncash 0 t\nat 6 a end\nnot asking\nat 5 b.0 grant 1 t\nrefused G2\nrefused G3\nrefused G4\nrefused G1\nat 6\n",
+    },
+    Case {
         text: ARMS,
         picks: &[A, A, A, A, SECOND, SECOND, SECOND],
         commands: b"wrote p x\nto 4\nwrote p x\nwrote p y\nwrote p z\nwrote q x\nvars p\nthreads p\nto 7\nthreads p\nline p.2\nback 7\nwhy p.0\nloans\n",
@@ -102,7 +113,7 @@ const CASES: [Case; 9] = [
         text: TWICE,
         picks: &[A, A, A, A, A],
         commands: b"until p.0 2\nuntil p.0 2\nback 2\nprev\nnext\nnext\nnext\nnext\nprev\nprev\nprev\nhelp\n",
-        said: b"at 2\nnot reached\nat 0\nno event\nat 2 p.0 print 1\nat 4 p.0 print 2\nat 5 p end\nno event\nat 4 p.0 print 2\nat 2 p.0 print 1\nno event\nto I\nstep N\nback N\nnext\nprev\nvars P\nwrote P X\nuntil P.a N\nthreads P\nloans\nwho R\nline P.a\ntext P.a\nwhy P.a\nhelp\n",
+        said: b"at 2\nnot reached\nat 0\nno event\nat 2 p.0 print 1\nat 4 p.0 print 2\nat 5 p end\nno event\nat 4 p.0 print 2\nat 2 p.0 print 1\nno event\nto I\nstep N\nback N\nnext\nprev\nvars P\nwrote P X\nuntil P.a N\nthreads P\nloans\nwho R\nline P.a\ntext P.a\nwhy P.a\npick P.a\nhelp\n",
     },
     Case {
         text: PRINT,
@@ -112,7 +123,7 @@ const CASES: [Case; 9] = [
     },
 ];
 
-/// Whether the session over these picks of the text answers the commands so.
+/// Returns whether the session of the case answers its commands as expected.
 fn says(alloc: Global, case: &Case) -> Option<bool> {
     if case.picks.len() > 100 {
         return None;
@@ -132,7 +143,7 @@ fn commands_are_answered(rt: HostRuntime) {
     }
 }
 
-/// Whether `text` shows the lines of this text so.
+/// Returns whether `text` shows the lines of this text so.
 fn shows_lines(alloc: Global, source: Option<&[u8]>, said: &[u8]) -> Option<bool> {
     let compiled = compile(alloc, alloc, TWICE).ok()?;
     let debugger = Debugger::new(alloc, &compiled, &[A, A, A, A, A]).ok()?;
@@ -165,7 +176,7 @@ fn lines_of_the_text(rt: HostRuntime) {
     assert!(rt; shows_lines(rt.alloc(), None, none) == Some(true));
 }
 
-/// Whether a line of this number of letters is refused once, and the next line is read.
+/// Returns whether a line of this number of letters is refused once, and the next line is read.
 fn long_line_is_one(alloc: Global, bytes: usize) -> Option<bool> {
     let compiled = compile(alloc, alloc, PRINT).ok()?;
     let mut debugger = Debugger::new(alloc, &compiled, &[A]).ok()?;
@@ -185,7 +196,7 @@ fn long_lines(rt: HostRuntime) {
     }
 }
 
-/// Whether the lines before a read that fails are answered.
+/// Returns whether the lines before a read that fails are answered.
 fn answers_before_a_failed_read(alloc: Global) -> Option<bool> {
     let compiled = compile(alloc, alloc, PRINT).ok()?;
     let mut debugger = Debugger::new(alloc, &compiled, &[A, A]).ok()?;
@@ -195,7 +206,7 @@ fn answers_before_a_failed_read(alloc: Global) -> Option<bool> {
     Some(fails && debugger.position() == 2 && output.as_slice() == b"at 1\nat 2\n".as_slice())
 }
 
-/// Whether a write that fails ends the session where its command led.
+/// Returns whether a write that fails ends the session where its command led.
 fn ends_at_a_failed_write(alloc: Global) -> Option<bool> {
     let compiled = compile(alloc, alloc, PRINT).ok()?;
     let mut debugger = Debugger::new(alloc, &compiled, &[A, A]).ok()?;

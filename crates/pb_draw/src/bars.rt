@@ -19,7 +19,7 @@ pub(crate) enum Turn {
     Other,
 }
 
-// Whether both are of one arm of one process.
+// Returns whether both are of one arm of one process.
 fn is_arm(a: Pick, b: Pick) -> bool
     ensures { result ≡ spec.is_arm a b }
 {
@@ -46,7 +46,8 @@ fn turn_of(pick: Pick, event: &Event) -> Turn
     }
 }
 
-// Returns the number of the pick by which an arm gives back a hold that it has before these marks, if one does.
+// Returns the number of the pick by which an arm gives back a hold that it has before these marks, if one
+// does.
 fn given_back(pick: Pick, marks: &[Mark]) -> Option<u32>
     ensures { result ≡ spec.given_back pick 0 marks.now }
 {

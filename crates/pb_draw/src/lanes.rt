@@ -21,7 +21,7 @@ use std::alloc::Global;
 // No code has as many processes, and no process as many arms.
 const MOST: usize = 255;
 
-// Whether an instruction asks for a bundle.
+// Returns whether an instruction asks for a bundle.
 fn asks(instr: Instr) -> bool
     ensures { (bundles : List (List Pair)) → result ≡ is_request (instr_view bundles instr) }
 {

@@ -53,7 +53,7 @@ lead_first code picks state none opening = record {
   makes = subst (λ (cs : List CountedPick). CodeMakes code (spread cs) [] state) (sym none) (refl, opening);
 }
 
--- picks of a run, and so many silent ones of one arm
+-- picks of a run, and n silent ones of one arm
 silent_on : (code : Code) (picks : List Pick) (events : List Event) (before after : State CodeProcess) (pick : Pick) (n : ℕ)
     → CodeMakes code picks events before → MovesSilently code pick n before after → CodeMakes code (picks ++ replicate n pick) events after
 silent_on code picks events before after pick zero makes same =
@@ -84,7 +84,7 @@ lead_shown code picks more before after pick event lead same moves =
           (makes_last code lead.events before after pick (Some event) run moves);
     }
 
--- so many more picks
+-- n more picks
 pub more_picks : (picks more : List CountedPick) (pick : Pick) (n : ℕ) → spread more ≡ spread picks ++ replicate n pick
     → length (spread more) ≡ length (spread picks) + n
 more_picks picks more pick n same =

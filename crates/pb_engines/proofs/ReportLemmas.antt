@@ -62,7 +62,7 @@ report_is_named v names limit report verified same is =
 
 -- ---- its first picks
 
--- entries from this state that show the first so many of some events, and are no more than those that show all
+-- entries from this state that show the first n of some events, and are no more than those that show all
 record ShowsFirst (code : Code) (s : State CodeProcess) (n : ℕ) (entries : List Entry) : Type 0 where
   some : List Entry
   end : State CodeProcess

@@ -16,7 +16,7 @@ abbrev pub IsWrittenIn : Format → Code → List ProcessLabels → List ℕ →
 IsWrittenIn One code labels text = SpellsOne code text
 IsWrittenIn Two code labels text = Spells Two code labels text
 
--- what is said of compiled code: its text in the format asked for; or, where that is the first, that this
+-- what is said of compiled code: its text in the format asked for; or, if that is the first, that this
 -- can't say it
 pub data SaysOfObject (code : Code) (labels : List ProcessLabels) : Format → List ℕ → Status → Type 0 where
   written : (format : Format) (text : List ℕ) → IsWrittenIn format code labels text

@@ -1,4 +1,4 @@
--- What is said of events where not all of their lines can be.
+-- What is said of events if not all of their lines can be.
 use Rattle.std.specs.Prelude.{ℕ, List, ◌++◌, take}
 use Rattle.pb_base.specs.declared.event.Event.{Event}
 use Rattle.pb_base.specs.Lines.{NameTable}
@@ -7,7 +7,8 @@ use Rattle.pb_engines.specs.Runs.{event_lines}
 use Rattle.pb_engines.specs.declared.status.Status.{Status}
 use Rattle.pb_engines.specs.declared.status.Status.TheVariants.{Device, Memory}
 
--- there is no memory for a line: the lines before it and `memory`; or a write failed, in the lines of all events
+-- there is no memory for a line: the lines before it and `memory`; or a write failed, in the lines of all
+-- events
 pub data StopsIn (names : NameTable) (events : List Event) : List ℕ → Status → Type 0 where
   out_of_memory : (n : ℕ) → StopsIn names events (event_lines names (take n events) ++ memory_line) Memory
   cut_off : StopsIn names events (event_lines names events) Device

@@ -1,4 +1,4 @@
--- What a command says of its whole input, where that may be too long or may not be read.
+-- What a command says of its whole input, if that may be too long or may not be read.
 use Rattle.std.specs.Prelude.{ℕ, ◌<◌, ◌≤◌, List, [], codes, length}
 use Rattle.pb_engines.specs.Answers.{line, memory_line}
 use Rattle.pb_engines.specs.declared.status.Status.{Status}

@@ -1,4 +1,4 @@
--- When the bytes of an object give code that is safe to run, and what is said where they don't.
+-- When the bytes of an object give code that is safe to run, and what is said if they do not.
 use Rattle.std.specs.Prelude.{◌≡◌, ℕ, List, Option, Some}
 use Rattle.pb_object.specs.Answers.{Spells, IsFaultOf}
 use Rattle.pb_code.specs.Whole.{Code, ProcessLabels}

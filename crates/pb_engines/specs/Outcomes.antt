@@ -16,7 +16,8 @@ abbrev pub ShowsFault : List Event → Type 0
 ShowsFault events =
     (i : ℕ) × (pick : Pick) × (kind : FaultKind) × (slice_get events i ≡ Some (Faulted pick kind))
 
--- the last line of a run with these events, behind what waits: `done` where all is over, else `limit` with the steps
+-- the last line of a run with these events, behind what waits: `done` if all is over, else `limit` with the
+-- steps
 pub data SaysOfOutcome (events : List Event) (steps : ℕ) (page : List ℕ) : Outcome → List ℕ → Status → Type 0 where
   all_done : ¬ ShowsFault events → SaysOfOutcome events steps page outcome.Done (page ++ line (codes "done")) Done
   some_fault : ShowsFault events → SaysOfOutcome events steps page outcome.Done (page ++ line (codes "done")) Fault

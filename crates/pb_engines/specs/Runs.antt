@@ -32,9 +32,9 @@ abbrev pub HasFault : State CodeProcess → Type 0
 HasFault end =
     (p : ℕ) × (process : CodeProcess) × (slice_get end.processes p ≡ Some process) × (process.faulted ≡ true)
 
--- what is said of a run of n picks with these events: at its end `done`, or `limit` where all steps were used
--- up before; the lines so far, and then `memory`, where memory wants; the lines so far where a write failed;
--- `threads` alone where a thread could not be started
+-- what is said of a run of n picks with these events: at its end `done`, or `limit` if all steps were used
+-- up before; the lines so far, and then `memory`, if out of memory; the lines so far if a write failed;
+-- `threads` alone if a thread could not be started
 pub data SaysOfRun (code : Code) (steps : ℕ) (events : List Event) : ℕ → List ℕ → Status → Type 0 where
   done : (end : State CodeProcess) (run : Run code events end) → length run.picks ≤ steps → IsDone end
       → ¬ HasFault end

@@ -26,7 +26,7 @@ pub enum Refusal {
     NoMemory,
 }
 
-// The line of a fault.
+// Returns the line of a fault.
 fn fault_line(alloc: Global, fault: CompileFault) -> Result<Vec<u8>, NoMemory>
     ensures any { (text : List ℕ) → IsRefused text fault → IfOk result (λ line. RefusesWith text line.items) }
     ensures early { (text : List ℕ) → IsRefused text fault → IsBeforeClaims fault
@@ -41,7 +41,7 @@ fn fault_line(alloc: Global, fault: CompileFault) -> Result<Vec<u8>, NoMemory>
     }
 }
 
-// The refusal for a fault: by its line, if there is memory for it.
+// Returns the refusal for a fault: by its line, if there is memory for it.
 fn refusal_of(alloc: Global, fault: CompileFault) -> Refusal
     ensures any { (text : List ℕ) → IsRefused text fault → IsRefusal text result }
     ensures early { (text : List ℕ) → IsRefused text fault → IsBeforeClaims fault → IsEarlyRefusal text result }
@@ -52,7 +52,7 @@ fn refusal_of(alloc: Global, fault: CompileFault) -> Refusal
     }
 }
 
-/// The numbered program of a text, with its claims, whether or not the capital is enough for them.
+/// Returns the numbered program of a text, with its claims, whether or not the capital is enough for them.
 pub fn analyze_text<A: Allocator + Clone>(
     alloc: Global,
     trees: A,
@@ -67,7 +67,7 @@ pub fn analyze_text<A: Allocator + Clone>(
     }
 }
 
-/// The code of a text, whose trees lie in the memory of `trees` while it is compiled.
+/// Returns the code of a text, whose trees lie in the memory of `trees` while it is compiled.
 pub fn compile_within<A: Allocator + Clone>(
     alloc: Global,
     trees: A,
@@ -82,7 +82,7 @@ pub fn compile_within<A: Allocator + Clone>(
     }
 }
 
-/// The code of a text, whose trees lie in an arena while it is compiled.
+/// Returns the code of a text, whose trees lie in an arena while it is compiled.
 pub fn compile_text(alloc: Global, text: &[u8]) -> Result<Compiled, Refusal>
     ensures compiled { IfOk result (λ c. IsCompiled text.now c.verified.code c.labels) }
     ensures refused { IfErr result (IsRefusal text.now) }
@@ -91,7 +91,7 @@ pub fn compile_text(alloc: Global, text: &[u8]) -> Result<Compiled, Refusal>
     compile_within(alloc, &arena, text)
 }
 
-// The reply of a refusal, where there was memory for its line.
+// Returns the reply of a refusal, if there was memory for its line.
 fn refusal_reply(refusal: Refusal) -> Result<Reply, NoMemory>
     ensures { (text : List ℕ) → IsRefusal text refusal
         → IfOk result (λ r. SaysOfRefusedText text r.text.items r.status) }

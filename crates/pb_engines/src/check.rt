@@ -38,7 +38,8 @@ fn look<A: Allocator + Clone>(alloc: Global, trees: A, text: &[u8]) -> Result<()
     Ok(())
 }
 
-// Looks at one text, whose trees lie in a new heap of this size, or else in the arena, which is given up afterwards.
+// Looks at one text, whose trees lie in a new heap of this size, or else in the arena, which is given up
+// afterwards.
 fn look_within(
     alloc: Global,
     heap: Option<u64>,
@@ -100,7 +101,7 @@ fn tell_answer<O: Output>(
     tell_refusal(refusal, page, output)
 }
 
-// The status of a call that came to its end.
+// Returns the status of a call that came to its end.
 fn status_of(refused: bool) -> Status
     ensures { result ≡ check_status refused }
 {
@@ -135,11 +136,12 @@ fn check_parts<O: Output>(alloc: Global, heap: Option<u64>, bytes: &[u8], output
     }
 }
 
-/// Checks the texts that the input holds, which lines `%%` part: writes `ok` for a text that is a program, and its
-/// refusal line for one that is not.
+/// Checks the texts that the input holds, which lines `%%` part: writes `ok` for a text that is a program,
+/// and its refusal line for one that is not.
 ///
-/// The trees of a text lie in an arena that is given up behind it, or in a new heap of the size that is given. After a
-/// read that failed nothing is written; after a write that failed, a first part of what was being said.
+/// The trees of a text lie in an arena that is given up behind it, or in a new heap of the size that is
+/// given. After a read that failed nothing is written; after a write that failed, a first part of what was
+/// being said.
 pub fn check_engine<I: Input, O: Output>(
     alloc: Global,
     options: CheckOptions,

@@ -52,8 +52,8 @@ impl Chooser {
     }
 }
 
-// Makes a pick that is drawn from the candidates. If the banker refuses it, another is drawn from the rest. The list is
-// for the candidates; what it holds before makes no difference.
+// Makes a pick that is drawn from the candidates. If the banker refuses it, another is drawn from the rest.
+// The list is for the candidates; what it holds before makes no difference.
 fn step_drawn(
     machine: &mut Machine,
     verified: &Verified,
@@ -81,7 +81,7 @@ fn step_drawn(
     Ok(Next::NotEnabled)
 }
 
-// A drawn number below this one: the rest of the next word.
+// Returns a drawn number below this one: the rest of the next word.
 fn below(generator: &mut Pcg32, end: usize) -> usize
     requires { 0 < end }
     ensures number { result ≡ (pcg32 generator.old).0 % end }
@@ -91,7 +91,8 @@ fn below(generator: &mut Pcg32, end: usize) -> usize
     generator.next_word() as usize % end
 }
 
-// Puts the candidates in the place of what the list held, in the order of their processes and then of their arms.
+// Puts the candidates in the place of what the list held, in the order of their processes and then of their
+// arms.
 fn find_candidates(
     machine: &Machine,
     verified: &Verified,

@@ -55,7 +55,7 @@ fn put_claims<A: Allocator>(
     Ok(())
 }
 
-// The lines of a program.
+// Returns the lines of a program.
 fn claims_text<A: Allocator>(
     alloc: Global,
     program: &Resolved<A>,
@@ -72,7 +72,7 @@ fn claims_text<A: Allocator>(
     Ok(text)
 }
 
-// The lines of the program of a text, or the line of its refusal.
+// Returns the lines of the program of a text, or the line of its refusal.
 fn claims_reply(alloc: Global, text: &[u8]) -> Result<Reply, NoMemory>
     ensures { IfOk result (λ reply. SaysOfClaims text.now reply.text.items reply.status) }
 {
@@ -96,10 +96,12 @@ fn tell_claims<O: Output>(alloc: Global, text: &[u8], output: &mut O) -> Status
     tell(alloc, claims_reply(alloc, text), output)
 }
 
-/// Writes, for each process of the text on the input and each resource, in the order in which they are declared, the
-/// line of its claim, whether or not the capital is enough; or the refusal line of a text that is no program.
+/// Writes, for each process of the text on the input and each resource, in the order in which they are
+/// declared, the line of its claim, whether or not the capital is enough; or the refusal line of a text that
+/// is no program.
 ///
-/// After a read that failed nothing is written; after a write that failed, a first part of what was being said.
+/// After a read that failed nothing is written; after a write that failed, a first part of what was being
+/// said.
 pub fn claims_engine<I: Input, O: Output>(alloc: Global, input: &mut I, output: &mut O) -> Status
     ensures text { IfSome (I.rest input.old) (λ bytes.
         Tells (SaysOfInput SaysOfClaims bytes) (O.written output.old) (O.written output.new) result) }

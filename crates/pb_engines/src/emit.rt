@@ -20,7 +20,7 @@ use pb_options::EmitOptions;
 use pb_verifier::Verified;
 use std::alloc::Global;
 
-// The object in the first format, or the line that this can't say the code.
+// Returns the object in the first format, or the line that this can't say the code.
 fn first_object(alloc: Global, verified: &Verified) -> Result<Reply, NoMemory>
     ensures { (labels : List ProcessLabels)
         → IfOk result (λ r. SaysOfObject verified.now.code labels One r.text.items r.status) }
@@ -37,7 +37,7 @@ fn first_object(alloc: Global, verified: &Verified) -> Result<Reply, NoMemory>
     })
 }
 
-// The object in the second format.
+// Returns the object in the second format.
 fn second_object(alloc: Global, compiled: &Compiled) -> Result<Reply, NoMemory>
     requires { AreLabels compiled.now.verified.code compiled.now.labels }
     ensures { IfOk result (λ r.
@@ -51,7 +51,7 @@ fn second_object(alloc: Global, compiled: &Compiled) -> Result<Reply, NoMemory>
     })
 }
 
-// The object in this format.
+// Returns the object in this format.
 fn object(alloc: Global, format: Format, compiled: &Compiled) -> Result<Reply, NoMemory>
     requires { AreLabels compiled.now.verified.code compiled.now.labels }
     ensures { IfOk result (λ r.
@@ -75,11 +75,12 @@ fn emit_text<O: Output>(alloc: Global, format: Format, text: &[u8], output: &mut
     }
 }
 
-/// Compiles the text that the input holds and writes its object in the format asked for. A text that is refused is
-/// answered by its refusal line; one whose code has more than 32 processes, or takes several resources at once, by
-/// the line `refused E1` where the first format was asked for.
+/// Compiles the text that the input holds and writes its object in the format asked for. A text that is
+/// refused is answered by its refusal line; one whose code has more than 32 processes, or takes several
+/// resources at once, by the line `refused E1` if the first format was asked for.
 ///
-/// After a read that failed nothing is written; after a write that failed, a first part of what was being said.
+/// After a read that failed nothing is written; after a write that failed, a first part of what was being
+/// said.
 pub fn emit_engine<I: Input, O: Output>(
     alloc: Global,
     options: EmitOptions,

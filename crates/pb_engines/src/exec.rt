@@ -34,11 +34,13 @@ fn run_object<O: Output, R: Threads + Wait + Sync>(
     }
 }
 
-/// Runs the object that the input holds, in either format, by worker threads: writes the line of each event, and at the
-/// end `done`, or `limit` with the number of steps where they were used up before. Bytes that are no object, or whose code
-/// is not safe, are refused with their refusal line. If a thread could not be started the line is `threads`.
+/// Runs the object that the input holds, in either format, by worker threads: writes the line of each event,
+/// and at the end `done`, or `limit` with the number of steps if they were used up before. Bytes that are no
+/// object, or whose code is not safe, are refused with their refusal line. If a thread could not be started
+/// the line is `threads`.
 ///
-/// After a read that failed nothing is written; after a write that failed, a first part of what was being said.
+/// After a read that failed nothing is written; after a write that failed, a first part of what was being
+/// said.
 pub fn exec_engine<I: Input, O: Output, R: Threads + Wait + Sync>(
     rt: &R,
     alloc: Global,

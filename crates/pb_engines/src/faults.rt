@@ -9,7 +9,7 @@ use pb_base::Event;
 use pb_history::Trace;
 use pb_machine::Machine;
 
-/// Whether some process has faulted.
+/// Returns whether some process has faulted.
 pub fn has_fault(machine: &Machine) -> bool
     ensures { IsTrue result ↔ HasFault (machine_view machine.now) }
 {
@@ -21,7 +21,7 @@ pub fn has_fault(machine: &Machine) -> bool
     false
 }
 
-/// Whether some event of a trace is a fault.
+/// Returns whether some event of a trace is a fault.
 pub fn shows_fault(trace: &Trace) -> bool
     ensures { IsTrue result ↔ ShowsFault (events_of trace.now.entries) }
 {

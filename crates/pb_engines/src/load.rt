@@ -22,7 +22,7 @@ pub enum LoadFault {
     Unsafe(VerifyFault),
 }
 
-/// The safe code that the bytes of an object spell, in either format, with its labels.
+/// Returns the safe code that the bytes of an object spell, in either format, with its labels.
 pub fn load(alloc: Global, bytes: &[u8]) -> Result<(Verified, Labels), LoadFault>
     ensures loaded { IfOk result (λ x. IsLoaded bytes.now x.0.code (labels_view x.1)) }
     ensures writable { IfOk result (λ x. HasText Two x.0.code (labels_view x.1)) }
@@ -48,8 +48,8 @@ fn load_text(alloc: Global, fault: LoadFault) -> Result<Vec<u8>, NoMemory>
     }
 }
 
-/// Returns the reply to bytes that have this fault, or out of memory if that is the fault or there is too little for
-/// its line.
+/// Returns the reply to bytes that have this fault, or out of memory if that is the fault or there is too
+/// little for its line.
 pub fn load_refusal(alloc: Global, fault: LoadFault) -> Result<Reply, NoMemory>
     ensures { (bytes : List ℕ) → IsLoadFault bytes fault
         → IfOk result (λ r. SaysOfNoCode bytes r.text.items r.status) }

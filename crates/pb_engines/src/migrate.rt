@@ -14,7 +14,7 @@ use pb_base::device::{Input, Output};
 use pb_object::write_object2;
 use std::alloc::Global;
 
-// The second format of the object that the bytes spell, or the line of their refusal.
+// Returns the second format of the object that the bytes spell, or the line of their refusal.
 fn migration(alloc: Global, bytes: &[u8]) -> Result<Reply, NoMemory>
     ensures { IfOk result (λ reply. SaysOfMigration bytes.now reply.text.items reply.status) }
 {
@@ -38,10 +38,12 @@ fn tell_migration<O: Output>(alloc: Global, bytes: &[u8], output: &mut O) -> Sta
     tell(alloc, migration(alloc, bytes), output)
 }
 
-/// Writes the object on the input once more, in the second format, or the line of its refusal: by its text, or by the
-/// first fault of its code. From the first format integers get the names `v0`, `v1` and so on, and no place a line.
+/// Writes the object on the input once more, in the second format, or the line of its refusal: by its text,
+/// or by the first fault of its code. From the first format integers get the names `v0`, `v1` and so on, and
+/// no place a line.
 ///
-/// After a read that failed nothing is written; after a write that failed, a first part of what was being said.
+/// After a read that failed nothing is written; after a write that failed, a first part of what was being
+/// said.
 pub fn migrate_engine<I: Input, O: Output>(alloc: Global, input: &mut I, output: &mut O) -> Status
     ensures text { IfSome (I.rest input.old) (λ bytes.
         Tells (SaysOfInput SaysOfMigration bytes) (O.written output.old) (O.written output.new) result) }

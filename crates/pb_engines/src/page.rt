@@ -28,7 +28,7 @@ impl Model for Page {
 }
 
 impl Page {
-    /// A page with no text. It takes no memory yet.
+    /// Returns a page with no text. It takes no memory yet.
     pub fn new(alloc: Global) -> Page
         ensures { result ≡ [] }
     {
@@ -37,7 +37,7 @@ impl Page {
         }
     }
 
-    // Puts a text on the page, where the page is not full and can grow.
+    // Puts a text on the page, if the page is not full and can grow.
     fn keep(&mut self, text: &[u8]) -> bool
         ensures { MatchBool result (self.new ≡ self.old ++ text.now) (self.new ≡ self.old) }
     {

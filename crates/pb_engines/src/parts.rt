@@ -2,7 +2,7 @@
 ghost use Rattle.std.specs.Prelude.{◌≡◌, ◌+◌, ◌<◌, ◌↔◌, ℕ, IfSome, IfNone, IsTrue, drop, length, take};
 ghost use Rattle.pb_engines.specs.Parts.{AreTwoParts, HasNoMarkBelow, IsCutAt, IsMark, IsMarkAt};
 
-// Whether a text begins with a line of the two bytes `%%`.
+// Returns whether a text begins with a line of the two bytes `%%`.
 fn is_mark(text: &[u8]) -> bool
     ensures { IsTrue result ↔ IsMark text.now }
 {
@@ -20,7 +20,7 @@ pub fn is_mark_at(text: &[u8], at: usize) -> bool
     is_mark(&text[at..])
 }
 
-// The place of the first line `%%`.
+// Returns the place of the first line `%%`.
 fn first_mark(text: &[u8]) -> Option<usize>
     ensures some { IfSome result (λ at. IsMarkAt text.now at × HasNoMarkBelow text.now at) }
     ensures none { IfNone result ((at : ℕ) → ¬ IsMarkAt text.now at) }
@@ -37,7 +37,7 @@ fn first_mark(text: &[u8]) -> Option<usize>
 #[derive(Clone, Copy)]
 pub struct FirstPart<'t> {
     pub part: &'t [u8],
-    /// Nothing where the text has no such line.
+    /// Nothing if the text has no such line.
     pub rest: Option<&'t [u8]>,
 }
 
@@ -58,7 +58,8 @@ pub fn first_part<'t>(text: &'t [u8]) -> FirstPart<'t>
     }
 }
 
-/// Returns what a text has before its first line `%%` and what it has behind that line: nothing if it has no such line.
+/// Returns what a text has before its first line `%%` and what it has behind that line: nothing if it has no
+/// such line.
 pub fn two_parts(text: &[u8]) -> (&[u8], &[u8])
     ensures { AreTwoParts text.now result.0.now result.1.now }
 {

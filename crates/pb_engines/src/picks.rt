@@ -20,8 +20,8 @@ use std::thread::Threads;
 /// The most counted picks that an input can have, since the line of each takes at least 5 bytes.
 const MOST_LINES: usize = 838_860;
 
-/// Returns the picks of a run of the code by workers; nothing if their lines would be too long for an input. The numbers
-/// of workers, quantum and steps are never the fault.
+/// Returns the picks of a run of the code by workers; nothing if their lines would be too long for an input.
+/// The numbers of workers, quantum and steps are never the fault.
 pub fn report_picks<R: Threads + Wait + Sync>(
     rt: &R,
     alloc: Global,
@@ -48,7 +48,7 @@ pub fn report_picks<R: Threads + Wait + Sync>(
     }
 }
 
-// The picks of a trace; nothing as soon as they are too many for an input.
+// Returns the picks of a trace; nothing as soon as they are too many for an input.
 fn count_picks(alloc: Global, trace: &Trace) -> Result<Option<Vec<CountedPick>>, NoMemory>
     requires { length trace.now.entries ≤ 10000000 }
     ensures { IfOk result (λ picks. MatchOption picks (AreTooMany trace.now.entries)
@@ -65,8 +65,8 @@ fn count_picks(alloc: Global, trace: &Trace) -> Result<Option<Vec<CountedPick>>,
     Ok(Some(picks))
 }
 
-/// Returns the picks of a run of the code, each drawn from those that are enabled by a generator with this seed; nothing if
-/// their lines would be too long for an input. It ends as soon as they are.
+/// Returns the picks of a run of the code, each drawn from those that are enabled by a generator with this
+/// seed; nothing if their lines would be too long for an input. It ends as soon as they are.
 pub fn draw_picks(
     alloc: Global,
     steps: u32,

@@ -23,13 +23,13 @@ use std::alloc::Global;
 use std::sync::Wait;
 use std::thread::Threads;
 
-/// Runs the text that the input holds, and writes what `replay` reads: the text, a line `%%`, and the pick lines of the
-/// run. A text that is refused is answered by its refusal line; if the whole would be longer than an input may be, the
-/// answer is the line `refused output`.
+/// Runs the text that the input holds, and writes what `replay` reads: the text, a line `%%`, and the pick
+/// lines of the run. A text that is refused is answered by its refusal line; if the whole would be longer
+/// than an input may be, the answer is the line `refused output`.
 ///
-/// Without a seed the picks are those that workers make, as in `run`; with one each is drawn from those that are enabled,
-/// and no thread is started. If one could not be started the answer is the line `threads`. After a read that failed
-/// nothing is written; after a write that failed, a first part of what was being said.
+/// Without a seed the picks are those that workers make, as in `run`; with one each is drawn from those that
+/// are enabled, and no thread is started. If one could not be started the answer is the line `threads`. After
+/// a read that failed nothing is written; after a write that failed, a first part of what was being said.
 pub fn record_engine<I: Input, O: Output, R: Threads + Wait + Sync>(
     rt: &R,
     alloc: Global,
@@ -73,7 +73,8 @@ fn record_text<O: Output, R: Threads + Wait + Sync>(
     }
 }
 
-// The text and the picks of a run of its code, or the line that they are too long or that there is no thread.
+// Returns the text and the picks of a run of its code, or the line that they are too long or that there is no
+// thread.
 fn recording<R: Threads + Wait + Sync>(
     rt: &R,
     alloc: Global,
@@ -104,7 +105,7 @@ fn recording<R: Threads + Wait + Sync>(
     })
 }
 
-// The reply that a run is too long.
+// Returns the reply that a run is too long.
 fn too_long(alloc: Global) -> Result<Reply, NoMemory>
     ensures { IfOk result (λ r.
         (r.text.items ≡ line (codes "refused output")) × (r.status ≡ Refused)) }
@@ -113,7 +114,7 @@ fn too_long(alloc: Global) -> Result<Reply, NoMemory>
     refused(line)
 }
 
-// The text, with a line feed behind it if it ends in none.
+// Returns the text, with a line feed behind it if it ends in none.
 fn ended(alloc: Global, text: &[u8]) -> Result<Vec<u8>, NoMemory>
     ensures { IfOk result (λ whole. IsEnded text.now whole.items) }
 {
@@ -124,7 +125,7 @@ fn ended(alloc: Global, text: &[u8]) -> Result<Vec<u8>, NoMemory>
     Ok(whole)
 }
 
-// Whether the text ends in a line feed.
+// Returns whether the text ends in a line feed.
 fn ends_line(text: &[u8]) -> bool
     ensures { IsTrue result ↔ EndsLine text.now }
 {
@@ -134,8 +135,8 @@ fn ends_line(text: &[u8]) -> bool
     }
 }
 
-// The picks of a run of the code: drawn ones if there is a seed, else those that workers report; nothing if their lines
-// would be too long for an input. With a seed the only fault is out of memory.
+// Returns the picks of a run of the code: drawn ones if there is a seed, else those that workers report;
+// nothing if their lines would be too long for an input. With a seed the only fault is out of memory.
 fn record_picks<R: Threads + Wait + Sync>(
     rt: &R,
     alloc: Global,

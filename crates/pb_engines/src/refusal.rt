@@ -1,4 +1,5 @@
-//! The line of a text or an object that is refused. A fault that is out of memory has no line: it stays out of memory.
+//! The line of a text or an object that is refused. A fault that is out of memory has no line: it stays out
+//! of memory.
 ghost use Rattle.std.specs.Prelude.{◌≡◌, ◌++◌, IfOk, OnOk, Some};
 ghost use Rattle.std.specs.Fmt.{decimal};
 ghost use Rattle.pb_engines.specs.ReplayLines.{picks_line, stop_line};
@@ -15,7 +16,7 @@ use pb_picks::PickFault;
 use pb_verifier::VerifyFault;
 use std::alloc::Global;
 
-// A cause with its place.
+// Returns a cause with its place.
 fn at_text(alloc: Global, cause: &[u8], at: usize) -> Result<Vec<u8>, NoMemory>
     ensures { IfOk result (λ text. text.items ≡ at_place cause.now at) }
 {
@@ -26,7 +27,7 @@ fn at_text(alloc: Global, cause: &[u8], at: usize) -> Result<Vec<u8>, NoMemory>
     Ok(text)
 }
 
-/// The line of a fault of tokens, without a line feed.
+/// Returns the line of a fault of tokens, without a line feed.
 pub fn lex_text(alloc: Global, fault: LexFault) -> Result<Vec<u8>, NoMemory>
     ensures { IfOk result (λ text. lex_line fault ≡ Some text.items) }
 {
@@ -39,7 +40,7 @@ pub fn lex_text(alloc: Global, fault: LexFault) -> Result<Vec<u8>, NoMemory>
     }
 }
 
-/// The line of a fault of the grammar, without a line feed.
+/// Returns the line of a fault of the grammar, without a line feed.
 pub fn parse_text(alloc: Global, fault: ParseFault) -> Result<Vec<u8>, NoMemory>
     ensures { IfOk result (λ text. parse_line fault ≡ Some text.items) }
 {
@@ -64,7 +65,7 @@ fn kind_text(alloc: Global, kind: Kind) -> Result<Vec<u8>, NoMemory>
     Ok(Vec::from_slice(alloc, text)?)
 }
 
-/// The line of a fault of names, without a line feed.
+/// Returns the line of a fault of names, without a line feed.
 pub fn names_text(alloc: Global, fault: NameFault) -> Result<Vec<u8>, NoMemory>
     ensures { IfOk result (λ text. names_line fault ≡ Some text.items) }
 {
@@ -88,7 +89,7 @@ pub fn put_number(text: &mut Vec<u8>, before: &[u8], number: u64) -> Result<(), 
     Ok(())
 }
 
-/// The line of a claim that is over its capital, without a line feed.
+/// Returns the line of a claim that is over its capital, without a line feed.
 pub fn claims_text(alloc: Global, fault: &ClaimsFault) -> Result<Vec<u8>, NoMemory>
     ensures { IfOk result (λ text. text.items ≡ claims_line fault.now) }
 {
@@ -101,7 +102,7 @@ pub fn claims_text(alloc: Global, fault: &ClaimsFault) -> Result<Vec<u8>, NoMemo
     Ok(text)
 }
 
-/// The line of an object that is not read, without a line feed.
+/// Returns the line of an object that is not read, without a line feed.
 pub fn object_text(alloc: Global, fault: ObjectFault) -> Result<Vec<u8>, NoMemory>
     ensures { IfOk result (λ text. object_line fault ≡ Some text.items) }
 {
@@ -112,7 +113,7 @@ pub fn object_text(alloc: Global, fault: ObjectFault) -> Result<Vec<u8>, NoMemor
     }
 }
 
-/// The line of code that is not safe, without a line feed.
+/// Returns the line of code that is not safe, without a line feed.
 pub fn verify_text(alloc: Global, fault: VerifyFault) -> Result<Vec<u8>, NoMemory>
     ensures { IfOk result (λ text. verify_line fault ≡ Some text.items) }
 {
@@ -131,7 +132,7 @@ pub fn verify_text(alloc: Global, fault: VerifyFault) -> Result<Vec<u8>, NoMemor
     Ok(Vec::from_slice(alloc, text)?)
 }
 
-/// The line of pick lines that are not read, without a line feed.
+/// Returns the line of pick lines that are not read, without a line feed.
 pub fn picks_text(alloc: Global, fault: PickFault) -> Result<Vec<u8>, NoMemory>
     ensures { IfOk result (λ text. picks_line fault ≡ Some text.items) }
 {
@@ -142,7 +143,7 @@ pub fn picks_text(alloc: Global, fault: PickFault) -> Result<Vec<u8>, NoMemory>
     }
 }
 
-/// The line of a pick that is not enabled, without a line feed.
+/// Returns the line of a pick that is not enabled, without a line feed.
 pub fn stop_text(alloc: Global, fault: ReplayFault) -> Result<Vec<u8>, NoMemory>
     ensures { IfOk result (λ text. stop_line fault ≡ Some text.items) }
 {

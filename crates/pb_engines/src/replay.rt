@@ -36,12 +36,13 @@ pub enum LinesFault {
     NotMade(ReplayFault),
 }
 
-/// Makes the picks that the pick lines behind the text of the input say, from the start of the text: writes the line of
-/// each event, and then `done` if every process has ended or faulted, else `open`. A line `%%` stands between the text
-/// and the pick lines. A text, lines or picks that are refused are answered by their refusal line alone.
+/// Makes the picks that the pick lines behind the text of the input say, from the start of the text: writes
+/// the line of each event, and then `done` if every process has ended or faulted, else `open`. A line `%%`
+/// stands between the text and the pick lines. A text, lines or picks that are refused are answered by their
+/// refusal line alone.
 ///
-/// The status is `Fault` if a process faulted. After a read that failed nothing is written; after a write that failed, a
-/// first part of what was being said.
+/// The status is `Fault` if a process faulted. After a read that failed nothing is written; after a write
+/// that failed, a first part of what was being said.
 pub fn replay_engine<I: Input, O: Output>(alloc: Global, input: &mut I, output: &mut O) -> Status
     ensures text { IfSome (I.rest input.old) (λ bytes.
         Tells (SaysOfInput SaysOfReplay bytes) (O.written output.old) (O.written output.new) result) }
@@ -88,7 +89,7 @@ fn replay_lines<O: Output>(
     }
 }
 
-// The machine behind the picks that lines say, and their trace.
+// Returns the machine behind the picks that lines say, and their trace.
 fn make_lines(
     alloc: Global,
     verified: &Verified,
@@ -108,7 +109,7 @@ fn make_lines(
     }
 }
 
-// The line of a refusal, without a line feed. A fault that is out of memory has none.
+// Returns the line of a refusal, without a line feed. A fault that is out of memory has none.
 fn lines_text(alloc: Global, fault: LinesFault) -> Result<Vec<u8>, NoMemory>
     ensures { IfOk result (λ text. lines_line fault ≡ Some text.items) }
 {
@@ -118,8 +119,8 @@ fn lines_text(alloc: Global, fault: LinesFault) -> Result<Vec<u8>, NoMemory>
     }
 }
 
-/// Returns the reply to pick lines that have this fault, or out of memory if that is the fault or there is too little
-/// for its line.
+/// Returns the reply to pick lines that have this fault, or out of memory if that is the fault or there is
+/// too little for its line.
 pub fn lines_refusal(alloc: Global, fault: LinesFault) -> Result<Reply, NoMemory>
     ensures { (code : Code) (lines : List ℕ) → IsLinesFault code lines fault
         → IfOk result (λ r. SaysOfNoPicks code lines r.text.items r.status) }
@@ -128,7 +129,7 @@ pub fn lines_refusal(alloc: Global, fault: LinesFault) -> Result<Reply, NoMemory
     refused(text)
 }
 
-// The last line, without a line feed.
+// Returns the last line, without a line feed.
 #[tactic(auto, using(crate::specs::ReplayLines::all_over, crate::specs::ReplayLines::not_over))]
 fn last_line(machine: &Machine) -> &'static [u8]
     ensures { IsLastLine (machine_view machine.now) result.now }
@@ -136,7 +137,7 @@ fn last_line(machine: &Machine) -> &'static [u8]
     if machine.finished() { b"done" } else { b"open" }
 }
 
-// The status of a replay that stands here.
+// Returns the status of a replay that stands here.
 #[tactic(auto, using(crate::specs::ReplayLines::some_fault, crate::specs::ReplayLines::no_fault))]
 fn status_at(machine: &Machine) -> Status
     ensures status { IsStatusAt (machine_view machine.now) result }

@@ -33,7 +33,7 @@ pub fn tell<O: Output>(alloc: Global, reply: Result<Reply, NoMemory>, output: &m
     }
 }
 
-/// The reply of a refusal, which is this line.
+/// Returns the reply of a refusal, which is this line.
 pub fn refused(mut text: Vec<u8>) -> Result<Reply, NoMemory>
     ensures { IfOk result (λ r. (r.text.items ≡ line text.items) × (r.status ≡ Status.Refused)) }
 {

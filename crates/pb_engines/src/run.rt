@@ -15,11 +15,12 @@ use std::alloc::Global;
 use std::sync::Wait;
 use std::thread::Threads;
 
-/// Runs the text that the input holds, by worker threads: writes the line of each event, and at the end `done`, or `limit`
-/// with the number of steps where they were used up before. A text that is refused is answered by its refusal line. If a
-/// thread could not be started the line is `threads`.
+/// Runs the text that the input holds, by worker threads: writes the line of each event, and at the end
+/// `done`, or `limit` with the number of steps if they were used up before. A text that is refused is
+/// answered by its refusal line. If a thread could not be started the line is `threads`.
 ///
-/// After a read that failed nothing is written; after a write that failed, a first part of what was being said.
+/// After a read that failed nothing is written; after a write that failed, a first part of what was being
+/// said.
 pub fn run_engine<I: Input, O: Output, R: Threads + Wait + Sync>(
     rt: &R,
     alloc: Global,

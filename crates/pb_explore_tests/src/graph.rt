@@ -3,7 +3,7 @@
 use pb_explore::graph::{Edge, has_cycle};
 use std::alloc::Global;
 
-/// Whether the numbers 0, 1 and 2 have a cycle by an edge from 0 to 1, one from 1 to 2 and one more.
+/// Returns whether the numbers 0, 1 and 2 have a cycle by an edge from 0 to 1, one from 1 to 2 and one more.
 fn goes_round(alloc: Global, from: u32, to: u32) -> Option<bool> {
     let edges = [
         Edge { from: 0, to: 1 },

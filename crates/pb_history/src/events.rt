@@ -19,7 +19,8 @@ pub(crate) enum KeptEvent {
 
 const _: () = prove!(size_of::<KeptEvent>() <= 16);
 
-/// Events in their order. The bundles of grants and returns are kept apart, so that a print takes no room for one.
+/// Events in their order. The bundles of grants and returns are kept apart, so that a print takes no room for
+/// one.
 #[derive(Drop)]
 pub(crate) struct Events {
     events: Vec<KeptEvent>,
@@ -47,14 +48,14 @@ impl Events {
         }
     }
 
-    /// How many events there are.
+    /// Returns how many events there are.
     pub(crate) fn len(&self) -> usize
         ensures { result ≡ length self.now.events }
     {
         self.events.len()
     }
 
-    /// The event with this number, counted from 0.
+    /// Returns the event with this number, counted from 0.
     pub(crate) fn get(&self, i: usize) -> Event
         requires { i < length self.now.events }
         ensures { slice_get self.now.events i ≡ Some result }

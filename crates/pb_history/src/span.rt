@@ -5,7 +5,8 @@ ghost use Rattle.pb_history.specs.Entries as spec;
 
 use pb_base::Pick;
 
-/// Picks of one arm, one after another. If the span shows, its last pick shows an event; the others show nothing.
+/// Picks of one arm, one after another. If the span shows, its last pick shows an event; the others show
+/// nothing.
 #[derive(Clone, Copy, Debug, PartialEq, Eq)]
 pub struct Span {
     pub pick: Pick,
@@ -14,7 +15,7 @@ pub struct Span {
     pub shows: bool,
 }
 
-/// Whether both picks are of one arm of one process.
+/// Returns whether both picks are of one arm of one process.
 pub(crate) fn are_same(a: Pick, b: Pick) -> bool
     ensures { result ≡ spec.are_same a b }
 {

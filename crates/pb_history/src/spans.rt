@@ -46,21 +46,21 @@ impl Spans {
         }
     }
 
-    /// How many picks there are.
+    /// Returns how many picks there are.
     pub(crate) fn len(&self) -> u32
         ensures { result ≡ size self.now.spans }
     {
         self.len
     }
 
-    /// How many spans there are.
+    /// Returns how many spans there are.
     pub(crate) fn count(&self) -> usize
         ensures { result ≡ length self.now.spans }
     {
         self.ends.len()
     }
 
-    /// How many picks come before the span with this number.
+    /// Returns how many picks come before the span with this number.
     fn start(&self, i: usize) -> u32
         requires { i < length self.now.spans }
         ensures { result ≡ size (take i self.now.spans) }
@@ -72,7 +72,7 @@ impl Spans {
         before.end
     }
 
-    /// The span with this number, counted from 0.
+    /// Returns the span with this number, counted from 0.
     pub(crate) fn get(&self, i: usize) -> Span
         requires { i < length self.now.spans }
         ensures { slice_get self.now.spans i ≡ Some result }
@@ -82,8 +82,8 @@ impl Spans {
         Span { pick, count, shows }
     }
 
-    /// The pick with this number, counted from 0, and how many picks its span has from there on. The span is found by
-    /// halving.
+    /// Returns the pick with this number, counted from 0, and how many picks its span has from there on. The
+    /// span is found by halving.
     pub(crate) fn rest(&self, i: u32) -> CountedPick
         requires { i < size self.now.spans }
         ensures some { 0 < result.count }
@@ -134,7 +134,7 @@ impl Spans {
     }
 }
 
-/// Whether picks of this arm belong to the last span.
+/// Returns whether picks of this arm belong to the last span.
 fn continues(ends: &[SpanEnd], pick: Pick) -> bool
     ensures { result ≡ goes_on ends.now pick }
 {

@@ -11,8 +11,8 @@ use pb_base::{Event, NoMemory, Pick};
 use std::alloc::Global;
 use std::marker::Model;
 
-/// Picks in the order in which they were made, at most 10,000,000, each with its event or with none. They are kept
-/// in spans: silent picks of one arm, and a pick of that arm which shows an event, are one span.
+/// Picks in the order in which they were made, at most 10,000,000, each with its event or with none. They are
+/// kept in spans: silent picks of one arm, and a pick of that arm which shows an event, are one span.
 #[derive(Drop)]
 pub struct Trace {
     spans: Spans,
@@ -40,14 +40,14 @@ impl Trace {
         }
     }
 
-    /// How many picks there are.
+    /// Returns how many picks there are.
     pub fn len(&self) -> u32
         ensures { result ≡ length self.now.entries }
     {
         self.spans.len()
     }
 
-    /// The pick with this number, counted from 0. Its span is found by halving.
+    /// Returns the pick with this number, counted from 0. Its span is found by halving.
     pub fn pick(&self, i: u32) -> Pick
         requires { i < length self.now.entries }
         ensures { slice_get (picks_of self.now.entries) i ≡ Some result }
@@ -56,8 +56,8 @@ impl Trace {
         rest.pick
     }
 
-    /// The pick with this number, counted from 0, and how many picks its span has from there on. The span is found by
-    /// halving.
+    /// Returns the pick with this number, counted from 0, and how many picks its span has from there on. The
+    /// span is found by halving.
     pub fn rest_of_span(&self, i: u32) -> CountedPick
         requires { i < length self.now.entries }
         ensures some { 0 < result.count }
@@ -67,14 +67,14 @@ impl Trace {
         self.spans.rest(i)
     }
 
-    /// How many picks show an event.
+    /// Returns how many picks show an event.
     pub fn events_len(&self) -> usize
         ensures { result ≡ length (events_of self.now.entries) }
     {
         self.events.len()
     }
 
-    /// The event with this number, counted from 0, in the order of the picks.
+    /// Returns the event with this number, counted from 0, in the order of the picks.
     pub fn event(&self, i: usize) -> Event
         requires { i < length (events_of self.now.entries) }
         ensures { slice_get (events_of self.now.entries) i ≡ Some result }
@@ -82,14 +82,15 @@ impl Trace {
         self.events.get(i)
     }
 
-    /// How many spans there are. No two that follow one another could be one.
+    /// Returns how many spans there are. No two that follow one another could be one.
     pub fn spans_len(&self) -> usize
         ensures { result ≡ length (spans_of self.now.entries) }
     {
         self.spans.count()
     }
 
-    /// The span with this number, counted from 0. The event of a span that shows is that of the next such span.
+    /// Returns the span with this number, counted from 0. The event of a span that shows is that of the next
+    /// such span.
     pub fn span(&self, i: usize) -> Span
         requires { i < length (spans_of self.now.entries) }
         ensures { slice_get (spans_of self.now.entries) i ≡ Some result }
@@ -97,8 +98,8 @@ impl Trace {
         self.spans.get(i)
     }
 
-    /// Makes room for `more` further calls of `push_run`, `push_silent` and `push_shown`. The entries stay the same,
-    /// even if memory is refused, and there is no less room than before.
+    /// Makes room for `more` further calls of `push_run`, `push_silent` and `push_shown`. The entries stay
+    /// the same, even if memory is refused, and there is no less room than before.
     pub fn reserve(&mut self, more: usize) -> Result<(), NoMemory>
         ensures same { self.new.entries ≡ self.old.entries }
         ensures room { OnOk result (more ≤ self.new.room) }
@@ -157,8 +158,8 @@ impl Trace {
         self.push_run(pick, 0, Some(event));
     }
 
-    /// Adds `silent` picks of one arm that show nothing, and then, if there is an event, one of that arm which shows it.
-    /// There is room.
+    /// Adds `silent` picks of one arm that show nothing, and then, if there is an event, one of that arm
+    /// which shows it. There is room.
     pub fn push_run(&mut self, pick: Pick, silent: u32, event: Option<Event>)
         requires room { 0 < self.old.room }
         requires fits { length self.old.entries + silent + length (option_to_list event) ≤ 10000000 }

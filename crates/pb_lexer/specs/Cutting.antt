@@ -84,7 +84,7 @@ pub record AreTokensOf (text : List ℕ) (ts : List Token) : Type 0 where
 
 -- ---- faults
 
--- the cause of a fault stands at this place: a byte that is not allowed, in a comment too; or, where the text
+-- the cause of a fault stands at this place: a byte that is not allowed, in a comment too; or, if the text
 -- is cut up to there, that nothing begins there, or a number too large, or a name too long
 pub data Cause (text : List ℕ) (at : ℕ) : LexFault → Type 0 where
   no_byte_of_a_text : at < length text → is_allowed (slice_index text at) ≡ false

@@ -59,7 +59,7 @@ spelling mark.Skip = codes "skip"
 spelling mark.Then = codes "then"
 spelling mark.While = codes "while"
 
--- the number that decimal digits say, where the digits before them say n
+-- the number that decimal digits say, if the digits before them say n
 abbrev pub value_from : ℕ → List ℕ → ℕ
 value_from n [] = n
 value_from n (digit ∷ digits) = value_from (10 * n + (digit - 48)) digits

@@ -21,7 +21,7 @@ pub const LONGEST_TEXT: usize = 65_536;
 /// The most bytes of a name.
 pub const LONGEST_NAME: usize = 32;
 
-/// Whether `//` is here.
+/// Returns whether `//` is here.
 fn begins_comment(text: &[u8], at: usize) -> bool
     requires { at < length text.now }
     ensures yes { result ≡ true
@@ -31,7 +31,7 @@ fn begins_comment(text: &[u8], at: usize) -> bool
     text[at] == b'/' && at + 1 < text.len() && text[at + 1] == b'/'
 }
 
-/// The name or reserved word that begins here, with a letter.
+/// Returns the name or reserved word that begins here, with a letter.
 fn word_at<'t>(text: &'t [u8], at: usize, line: u32) -> Result<Token<'t>, LexFault>
     requires in_text { at < length text.now }
     requires letter { is_ascii_alphabetic (slice_index text.now at) ≡ true }
@@ -61,7 +61,7 @@ fn word_at<'t>(text: &'t [u8], at: usize, line: u32) -> Result<Token<'t>, LexFau
     })
 }
 
-/// The number that begins here, with a digit.
+/// Returns the number that begins here, with a digit.
 fn number_at<'t>(text: &'t [u8], at: usize, line: u32) -> Result<Token<'t>, LexFault>
     requires in_text { at < length text.now }
     requires digit { is_ascii_digit (slice_index text.now at) ≡ true }
@@ -82,7 +82,7 @@ fn number_at<'t>(text: &'t [u8], at: usize, line: u32) -> Result<Token<'t>, LexF
     }
 }
 
-/// The symbol that begins here, with another byte.
+/// Returns the symbol that begins here, with another byte.
 fn symbol_at<'t>(text: &'t [u8], at: usize, line: u32) -> Result<Token<'t>, LexFault>
     requires in_text { at < length text.now }
     requires no_letter { is_ascii_alphabetic (slice_index text.now at) ≡ false }
@@ -115,7 +115,7 @@ fn symbol_at<'t>(text: &'t [u8], at: usize, line: u32) -> Result<Token<'t>, LexF
     }
 }
 
-/// The token that begins here.
+/// Returns the token that begins here.
 fn token_at<'t>(text: &'t [u8], at: usize, line: u32) -> Result<Token<'t>, LexFault>
     requires in_text { at < length text.now }
     requires no_blank { is_blank (slice_index text.now at) ≡ false }
@@ -173,7 +173,7 @@ fn cut<'t, A: Allocator>(alloc: A, text: &'t [u8]) -> Result<Vec<Token<'t>, A>, 
 ///
 /// A text over 65,536 bytes is `TooLong`. Else the fault with the least place is returned: `BadByte` at a
 /// byte that is not allowed (allowed are 32 to 126, tab, line feed and carriage return), in a comment too,
-/// or where nothing begins; `NumberTooLarge` at a number over 9223372036854775807; `NameTooLong` at a name
+/// or if nothing begins; `NumberTooLarge` at a number over 9223372036854775807; `NameTooLong` at a name
 /// over 32 bytes. `NoMemory` comes if `alloc` is out of memory, and never for a text that is too long.
 pub fn lex<'t, A: Allocator>(alloc: A, text: &'t [u8]) -> Result<Vec<Token<'t>, A>, LexFault>
     ensures found { IfOk result (λ v. AreTokensOf text.now (tokens v.items)) }

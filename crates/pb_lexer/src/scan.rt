@@ -6,28 +6,28 @@ ghost use Rattle.std.specs.Char.{is_ascii_digit};
 ghost use Rattle.pb_lexer.specs.Forms.{is_allowed, is_blank, is_word, value};
 ghost use Rattle.pb_lexer.specs.Cutting.{largest_number};
 
-/// A byte that a text may have.
+/// Returns whether a text may have the byte.
 pub(crate) fn is_allowed(byte: u8) -> bool
     ensures { result ≡ is_allowed byte }
 {
     matches!(byte, b' '..=b'~' | b'\t' | b'\n' | b'\r')
 }
 
-/// Space, tab, line feed or carriage return.
+/// Returns whether the byte is a space, tab, line feed or carriage return.
 pub(crate) fn is_blank(byte: u8) -> bool
     ensures { result ≡ is_blank byte }
 {
     matches!(byte, b' ' | b'\t' | b'\n' | b'\r')
 }
 
-/// A letter, a digit or `_`.
+/// Returns whether the byte is a letter, a digit or `_`.
 fn is_word(byte: u8) -> bool
     ensures { result ≡ is_word byte }
 {
     byte.is_ascii_alphabetic() || byte.is_ascii_digit() || byte == b'_'
 }
 
-/// Where the letters, digits and `_` end that stand from `start` on.
+/// Returns where the letters, digits and `_` end that stand from `start` on.
 pub(crate) fn word_end(text: &[u8], start: usize) -> usize
     requires { start ≤ length text.now }
     ensures within { (start ≤ result) × (result ≤ length text.now) }
@@ -41,7 +41,7 @@ pub(crate) fn word_end(text: &[u8], start: usize) -> usize
     end
 }
 
-/// Where the digits end that stand from `start` on.
+/// Returns where the digits end that stand from `start` on.
 pub(crate) fn digits_end(text: &[u8], start: usize) -> usize
     requires { start ≤ length text.now }
     ensures within { (start ≤ result) × (result ≤ length text.now) }
@@ -55,7 +55,7 @@ pub(crate) fn digits_end(text: &[u8], start: usize) -> usize
     end
 }
 
-/// Where the line ends that goes on from `start`.
+/// Returns where the line ends that goes on from `start`.
 pub(crate) fn line_end(text: &[u8], start: usize) -> usize
     requires { start ≤ length text.now }
     ensures within { (start ≤ result) × (result ≤ length text.now) }
@@ -69,7 +69,7 @@ pub(crate) fn line_end(text: &[u8], start: usize) -> usize
     end
 }
 
-/// The place of the first byte from `start` up to `end` that no text may have.
+/// Returns the place of the first byte from `start` up to `end` that no text may have.
 pub(crate) fn bad_byte(text: &[u8], start: usize, end: usize) -> Option<usize>
     requires { (start ≤ end) × (end ≤ length text.now) }
     ensures { MatchOption result
@@ -90,7 +90,7 @@ pub(crate) fn bad_byte(text: &[u8], start: usize, end: usize) -> Option<usize>
 /// The greatest number.
 const LARGEST_NUMBER: u64 = 9_223_372_036_854_775_807;
 
-/// The number that the digits say, if it is not too large.
+/// Returns the number that the digits say, if it is not too large.
 pub(crate) fn value(digits: &[u8]) -> Option<u64>
     requires { EachIndex digits.now (λ k. is_ascii_digit (slice_index digits.now k) ≡ true) }
     ensures { MatchOption result

@@ -105,35 +105,35 @@ pub struct Token<'t> {
 }
 
 impl<'t> Token<'t> {
-    /// What the token is.
+    /// Returns what the token is.
     pub fn kind(&self) -> Kind
         ensures { lexeme result (token self.now).text ≡ (token self.now).lexeme }
     {
         self.kind
     }
 
-    /// The bytes of the token, a slice of the text that it was cut from.
+    /// Returns the bytes of the token, a slice of the text that it was cut from.
     pub fn text(&self) -> &'t [u8]
         ensures { result.now ≡ (token self.now).text }
     {
         self.text
     }
 
-    /// The place of its first byte: an offset into the text, from 0.
+    /// Returns the place of its first byte: an offset into the text, from 0.
     pub fn start(&self) -> usize
         ensures { result ≡ (token self.now).start }
     {
         self.start
     }
 
-    /// The place after its last byte, up to 65,536.
+    /// Returns the place after its last byte, up to 65,536.
     pub fn end(&self) -> usize
         ensures { result ≡ (token self.now).end }
     {
         self.end
     }
 
-    /// The line of its first byte, from 1: one more than the line feeds before it.
+    /// Returns the line of its first byte, from 1: one more than the line feeds before it.
     pub fn line(&self) -> u32
         ensures { result ≡ (token self.now).line }
     {

@@ -7,7 +7,7 @@ ghost use Rattle.pb_lexer.specs.Forms.{spelling};
 
 use crate::token::Mark;
 
-/// The reserved word of two bytes that these are.
+/// Returns the reserved word of two bytes that these are.
 #[tactic(auto, using(crate::proofs::Spellings::none_of_two))]
 fn of_two(word: &[u8]) -> Option<Mark>
     requires length { length word.now ≡ 2 }
@@ -33,7 +33,7 @@ fn of_two(word: &[u8]) -> Option<Mark>
     }
 }
 
-/// The reserved word of three bytes that these are.
+/// Returns the reserved word of three bytes that these are.
 #[tactic(auto, using(crate::proofs::Spellings::none_of_three))]
 fn of_three(word: &[u8]) -> Option<Mark>
     requires length { length word.now ≡ 3 }
@@ -57,7 +57,7 @@ fn of_three(word: &[u8]) -> Option<Mark>
     }
 }
 
-/// The reserved word of four bytes that these are.
+/// Returns the reserved word of four bytes that these are.
 #[tactic(auto, using(crate::proofs::Spellings::none_of_four))]
 fn of_four(word: &[u8]) -> Option<Mark>
     requires length { length word.now ≡ 4 }
@@ -79,7 +79,7 @@ fn of_four(word: &[u8]) -> Option<Mark>
     }
 }
 
-/// The reserved word of five bytes that these are.
+/// Returns the reserved word of five bytes that these are.
 #[tactic(auto, using(crate::proofs::Spellings::none_of_five))]
 fn of_five(word: &[u8]) -> Option<Mark>
     requires length { length word.now ≡ 5 }
@@ -99,7 +99,7 @@ fn of_five(word: &[u8]) -> Option<Mark>
     }
 }
 
-/// The reserved word of six bytes that these are.
+/// Returns the reserved word of six bytes that these are.
 #[tactic(auto, using(crate::proofs::Spellings::none_of_six))]
 fn of_six(word: &[u8]) -> Option<Mark>
     requires length { length word.now ≡ 6 }
@@ -115,7 +115,7 @@ fn of_six(word: &[u8]) -> Option<Mark>
     }
 }
 
-/// The reserved word of seven bytes that these are.
+/// Returns the reserved word of seven bytes that these are.
 #[tactic(auto, using(crate::proofs::Spellings::none_of_seven))]
 fn of_seven(word: &[u8]) -> Option<Mark>
     requires length { length word.now ≡ 7 }
@@ -133,7 +133,7 @@ fn of_seven(word: &[u8]) -> Option<Mark>
     }
 }
 
-/// The reserved word of eight bytes that these are.
+/// Returns the reserved word of eight bytes that these are.
 #[tactic(auto, using(crate::proofs::Spellings::none_of_eight))]
 fn of_eight(word: &[u8]) -> Option<Mark>
     requires length { length word.now ≡ 8 }
@@ -151,7 +151,7 @@ fn of_eight(word: &[u8]) -> Option<Mark>
     }
 }
 
-/// The reserved word that these bytes are, if they are one.
+/// Returns the reserved word that these bytes are, if they are one.
 #[tactic(auto, using(crate::proofs::Spellings::none_of_another_length))]
 pub(crate) fn reserved(word: &[u8]) -> Option<Mark>
     requires { is_ascii_alphabetic (slice_index word.now 0) ≡ true }
@@ -171,7 +171,7 @@ pub(crate) fn reserved(word: &[u8]) -> Option<Mark>
     }
 }
 
-/// The symbol that these two bytes are, if they are one.
+/// Returns the symbol that these two bytes are, if they are one.
 pub(crate) fn symbol_of_two(first: u8, second: u8) -> Option<Mark>
     requires { is_ascii_alphabetic first ≡ false }
     ensures { MatchOption result
@@ -187,7 +187,7 @@ pub(crate) fn symbol_of_two(first: u8, second: u8) -> Option<Mark>
     }
 }
 
-/// The symbol that this byte is, if it is one.
+/// Returns the symbol that this byte is, if it is one.
 pub(crate) fn symbol(byte: u8) -> Option<Mark>
     ensures { MatchOption result
         ((m : Mark) → spelling m ≡ byte ∷ [] → ⊥)

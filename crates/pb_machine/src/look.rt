@@ -37,7 +37,8 @@ pub enum Peek {
 }
 
 impl Proc {
-    /// What a pick would come to, which is not made. The process is in a state in which the code may have it.
+    /// Returns what a pick would come to, which is not made. The process is in a state in which the code may
+    /// have it.
     pub fn look(&self, verified: &Verified, pick: Pick) -> Look
         requires { IsProcessOf verified.now pick.process self.now }
         ensures { result ≡ look_of (code_step verified.now.code.processes pick.process (proc_view self.now) pick.arm) }
@@ -46,7 +47,7 @@ impl Proc {
         self.glance(code, pick.arm as usize)
     }
 
-    /// The same, beside the code of the process.
+    /// Returns the same, beside the code of the process.
     fn glance(&self, code: &ProcessCode, arm: usize) -> Look
         requires { AreReady (process_view code.now) (proc_view self.now) (rooms_of self.now) }
         ensures { result ≡ look_of (step_process (process_view code.now) (proc_view self.now) arm) }
@@ -80,7 +81,7 @@ impl Proc {
     }
 }
 
-/// What an instruction would come to beside these operands.
+/// Returns what an instruction would come to beside these operands.
 fn peek_at(stack: &Stack, instr: Instr) -> Peek
     requires { (integers : ℕ) × IsReady (instr_view [] instr) integers (length stack.now.items) stack.now.room }
     ensures { (bundles : List Bundle) → (vars : List ℤ) → (place : ℕ)
@@ -116,7 +117,7 @@ fn peek_at(stack: &Stack, instr: Instr) -> Peek
     }
 }
 
-/// Whether an operator has a result for the operand on top.
+/// Returns whether an operator has a result for the operand on top.
 fn peek_one(stack: &Stack, op: UnaryOp) -> Peek
     requires { 1 ≤ length stack.now.items }
     ensures { (vars : List ℤ) → (place : ℕ)
@@ -128,7 +129,7 @@ fn peek_one(stack: &Stack, op: UnaryOp) -> Peek
     }
 }
 
-/// Whether an operator has a result for the two operands on top.
+/// Returns whether an operator has a result for the two operands on top.
 fn peek_two(stack: &Stack, op: BinaryOp) -> Peek
     requires { 2 ≤ length stack.now.items }
     ensures { (vars : List ℤ) → (place : ℕ)

@@ -8,8 +8,8 @@ use smallvec::SmallVec;
 use std::alloc::Global;
 use std::marker::Model;
 
-/// The operands of an arm. All slots that it may need are there from the start, usually eight or fewer, so that a run
-/// can have them as one slice.
+/// The operands of an arm. All slots that it may need are there from the start, usually eight or fewer, so
+/// that a run can have them as one slice.
 #[derive(Drop)]
 pub struct Stack {
     /// The operands, the lowest first, and behind them whatever was left there.
@@ -39,7 +39,7 @@ pub(crate) fn put(slots: &mut [i64], depth: usize, value: i64)
     slots[depth] = value;
 }
 
-/// The top one of the first `depth` operands.
+/// Returns the top one of the first `depth` operands.
 #[inline(always)]
 pub(crate) fn top(slots: &[i64], depth: usize) -> i64
     requires some { 0 < depth }
@@ -50,7 +50,7 @@ pub(crate) fn top(slots: &[i64], depth: usize) -> i64
 }
 
 impl Stack {
-    /// An empty stack with room for `depth` operands.
+    /// Returns an empty stack with room for `depth` operands.
     pub fn with_room(alloc: Global, depth: usize) -> Result<Stack, NoMemory>
         ensures items { IfOk result (λ stack. stack.items ≡ []) }
         ensures room { IfOk result (λ stack. depth ≤ stack.room) }
@@ -59,7 +59,7 @@ impl Stack {
         Ok(Stack { slots, depth: 0 })
     }
 
-    /// The same operands, with the same room.
+    /// Returns the same operands, with the same room.
     pub fn copy(&self, alloc: Global) -> Result<Stack, NoMemory>
         ensures items { IfOk result (λ stack. stack.items ≡ self.now.items) }
         ensures room { IfOk result (λ stack. stack.room ≡ self.now.room) }
@@ -83,21 +83,21 @@ impl Stack {
         }
     }
 
-    /// Whether the operands are the same.
+    /// Returns whether the operands are the same.
     pub fn same(&self, other: &Stack) -> bool
         ensures { IsTrue result ↔ (self.now.items ≡ other.now.items) }
     {
         self.as_slice() == other.as_slice()
     }
 
-    /// The operands, the lowest first.
+    /// Returns the operands, the lowest first.
     pub fn as_slice(&self) -> &[i64]
         ensures { result.now ≡ reverse self.now.items }
     {
         &self.slots.as_slice()[..self.depth]
     }
 
-    /// The operand with this many others on top of it.
+    /// Returns the operand with this many others on top of it.
     #[inline]
     pub fn below(&self, others: usize) -> i64
         requires { others < length self.now.items }
@@ -118,7 +118,7 @@ impl Stack {
         self.depth += 1;
     }
 
-    /// Takes the top operand, where there is one.
+    /// Takes the top operand, if there is one.
     #[inline]
     pub fn pop(&mut self) -> i64
         requires { 0 < length self.old.items }

@@ -1,6 +1,5 @@
 -- What a message says of a refusal.
 use Rattle.std.specs.Prelude.{◌≡◌, ℕ, List, [], Option, None, Some, length, min}
-use Rattle.pb_engines.specs.Refusals.{RefusesWith}
 use Rattle.pb_messages.specs.Causes.{TellsCause}
 use Rattle.pb_messages.specs.Places.{IsPlace, excerpt, message}
 use Rattle.pb_messages.specs.declared.cause.Cause.{Cause}

@@ -1,5 +1,8 @@
 //! The message of a text whose code the first format can't say.
 
+ghost use Rattle.std.specs.Prelude.{IfOk};
+ghost use Rattle.pb_messages.specs.Said.{SaysOfFirstFormat};
+
 use crate::cause::Cause;
 use crate::texts::text_message;
 use crate::tokens::is_at;
@@ -11,7 +14,9 @@ use std::alloc::Global;
 const MOST_PROCESSES: usize = 32;
 
 /// Returns the message of a text, or of what the first format can't say of it; nothing if it can say all.
-pub fn first_format_message(alloc: Global, text: &[u8]) -> Result<Vec<u8>, NoMemory> {
+pub fn first_format_message(alloc: Global, text: &[u8]) -> Result<Vec<u8>, NoMemory>
+    ensures { IfOk result (λ message. SaysOfFirstFormat text.now message.items) }
+{
     if let Err(message) = text_message(alloc, "", text)? {
         return Ok(message);
     }

@@ -1,5 +1,10 @@
 //! The message of a refused input.
 
+ghost use Rattle.std.specs.Prelude.{◌≡◌, ◌↔◌, [], IfOk, IsTrue, OnOk, codes, take};
+ghost use Rattle.pb_messages.specs.Said.{SaysOf, SaysOfObject, SaysOfPickedObject, SaysOfPickedText, SaysOfText, SaysOfTexts};
+ghost use Rattle.pb_messages.specs.Said.{SaysMore, SaysToPerson, behind, long_output};
+ghost use Rattle.pb_messages.specs.declared.message.Reading.TheVariants.{Debugged, Replayed};
+
 use crate::first_format::first_format_message;
 use crate::objects::object_message;
 use crate::picks::{Lines, lines_message};
@@ -43,7 +48,9 @@ pub enum Reading {
 
 /// Returns the message of a refused input, or one for each refused text of it; nothing if there is nothing to be said of
 /// these bytes.
-pub fn message_of(alloc: Global, reading: Reading, bytes: &[u8]) -> Result<Vec<u8>, NoMemory> {
+pub fn message_of(alloc: Global, reading: Reading, bytes: &[u8]) -> Result<Vec<u8>, NoMemory>
+    ensures { IfOk result (λ message. SaysToPerson reading bytes.now message.items) }
+{
     if bytes.len() > LONGEST_INPUT {
         return Ok(Vec::from_slice(alloc, LONG_INPUT)?);
     }
@@ -60,7 +67,9 @@ pub fn message_of(alloc: Global, reading: Reading, bytes: &[u8]) -> Result<Vec<u
 }
 
 // Returns the message of a text, or nothing if it is accepted.
-fn whole_text_message(alloc: Global, text: &[u8]) -> Result<Vec<u8>, NoMemory> {
+fn whole_text_message(alloc: Global, text: &[u8]) -> Result<Vec<u8>, NoMemory>
+    ensures { IfOk result (λ message. SaysOfText text.now [] message.items) }
+{
     match text_message(alloc, "", text)? {
         Ok(_) => Ok(Vec::new(alloc)),
         Err(message) => Ok(message),
@@ -68,7 +77,9 @@ fn whole_text_message(alloc: Global, text: &[u8]) -> Result<Vec<u8>, NoMemory> {
 }
 
 // Returns the message of an object, or nothing if it is accepted.
-fn whole_object_message(alloc: Global, object: &[u8]) -> Result<Vec<u8>, NoMemory> {
+fn whole_object_message(alloc: Global, object: &[u8]) -> Result<Vec<u8>, NoMemory>
+    ensures { IfOk result (λ message. SaysOfObject object.now message.items) }
+{
     match object_message(alloc, object)? {
         Ok(_) => Ok(Vec::new(alloc)),
         Err(message) => Ok(message),
@@ -76,7 +87,9 @@ fn whole_object_message(alloc: Global, object: &[u8]) -> Result<Vec<u8>, NoMemor
 }
 
 // Returns the message of a text, or of its run that is too long.
-fn recorded_message(alloc: Global, text: &[u8]) -> Result<Vec<u8>, NoMemory> {
+fn recorded_message(alloc: Global, text: &[u8]) -> Result<Vec<u8>, NoMemory>
+    ensures { IfOk result (λ message. SaysOfText text.now long_output message.items) }
+{
     match text_message(alloc, "", text)? {
         Ok(_) => Ok(Vec::from_slice(alloc, LONG_OUTPUT)?),
         Err(message) => Ok(message),
@@ -84,27 +97,46 @@ fn recorded_message(alloc: Global, text: &[u8]) -> Result<Vec<u8>, NoMemory> {
 }
 
 // Returns the messages of the first texts of an input that are refused.
-fn texts_messages(alloc: Global, bytes: &[u8]) -> Result<Vec<u8>, NoMemory> {
+fn texts_messages(alloc: Global, bytes: &[u8]) -> Result<Vec<u8>, NoMemory>
+    ensures { IfOk result (λ messages. SaysOfTexts bytes.now messages.items) }
+{
     let mut out = Vec::new(alloc);
+    let mut number = 1u64;
     let mut rest = bytes;
-    for number in 1..u64::MAX {
+    loop {
         let cut = first_part(rest);
         let label = part_label(alloc, number, cut.rest.is_none())?;
-        if let Err(message) = text_message(alloc, label.as_str(), cut.part)? {
-            if !out.is_empty() {
-                out.push(b'\n')?;
-            }
-            out.extend_from_slice(&message)?;
-        }
+        tell_text(alloc, &mut out, label.as_str(), cut.part)?;
         let Some(more) = cut.rest else {
-            break;
+            return Ok(out);
         };
         if out.len() > MANY_BYTES {
-            break;
+            return Ok(out);
         }
+        number = number.saturating_add(1);
         rest = more;
     }
-    Ok(out)
+}
+
+// Puts the message of a text behind others, if the text is refused.
+fn tell_text(alloc: Global, out: &mut Vec<u8>, label: &str, text: &[u8]) -> Result<(), NoMemory>
+    ensures { OnOk result (SaysMore text.now out.old.items out.new.items) }
+{
+    match text_message(alloc, label, text)? {
+        Ok(_) => Ok(()),
+        Err(message) => put_message(out, &message),
+    }
+}
+
+// Puts a message behind others, with an empty line between.
+fn put_message(out: &mut Vec<u8>, message: &[u8]) -> Result<(), NoMemory>
+    ensures { OnOk result (out.new.items ≡ behind out.old.items message.now) }
+{
+    if !out.is_empty() {
+        out.push(b'\n')?;
+    }
+    out.extend_from_slice(message)?;
+    Ok(())
 }
 
 // Returns what is said before the line of a text: its number, unless it is the only one.
@@ -116,7 +148,9 @@ fn part_label(alloc: Global, number: u64, is_last: bool) -> Result<String, NoMem
 }
 
 // Returns the message of a text and the pick lines behind it.
-fn replayed_message(alloc: Global, bytes: &[u8]) -> Result<Vec<u8>, NoMemory> {
+fn replayed_message(alloc: Global, bytes: &[u8]) -> Result<Vec<u8>, NoMemory>
+    ensures { IfOk result (λ message. SaysOf Replayed bytes.now message.items) }
+{
     let (text, lines) = two_parts(bytes);
     let before = line_of(bytes, text.len());
     picked_text_message(
@@ -130,7 +164,9 @@ fn replayed_message(alloc: Global, bytes: &[u8]) -> Result<Vec<u8>, NoMemory> {
 }
 
 // Returns the message of a text or an object and the pick lines behind it.
-fn debugged_message(alloc: Global, bytes: &[u8]) -> Result<Vec<u8>, NoMemory> {
+fn debugged_message(alloc: Global, bytes: &[u8]) -> Result<Vec<u8>, NoMemory>
+    ensures { IfOk result (λ message. SaysOf Debugged bytes.now message.items) }
+{
     let (source, rest) = two_parts(bytes);
     let (text, _) = two_parts(rest);
     let before = line_of(bytes, source.len());
@@ -148,12 +184,16 @@ fn line_of(bytes: &[u8], at: usize) -> usize {
 }
 
 // Returns whether bytes begin as an object does.
-fn is_object(source: &[u8]) -> bool {
+fn is_object(source: &[u8]) -> bool
+    ensures { IsTrue result ↔ (take 4 source.now ≡ codes "PBO ") }
+{
     source.starts_with(b"PBO ")
 }
 
 // Returns the message of a text, or of pick lines over its code.
-fn picked_text_message(alloc: Global, text: &[u8], lines: Lines<'_>) -> Result<Vec<u8>, NoMemory> {
+fn picked_text_message(alloc: Global, text: &[u8], lines: Lines<'_>) -> Result<Vec<u8>, NoMemory>
+    ensures { IfOk result (λ message. SaysOfPickedText text.now lines.entry.text.now message.items) }
+{
     match text_message(alloc, "", text)? {
         Ok(compiled) => lines_message(alloc, compiled.verified(), lines),
         Err(message) => Ok(message),
@@ -165,7 +205,9 @@ fn picked_object_message(
     alloc: Global,
     object: &[u8],
     lines: Lines<'_>,
-) -> Result<Vec<u8>, NoMemory> {
+) -> Result<Vec<u8>, NoMemory>
+    ensures { IfOk result (λ message. SaysOfPickedObject object.now lines.entry.text.now message.items) }
+{
     match object_message(alloc, object)? {
         Ok((verified, _)) => lines_message(alloc, &verified, lines),
         Err(message) => Ok(message),

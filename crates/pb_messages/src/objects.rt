@@ -1,8 +1,10 @@
 //! The message of an object that is refused.
 
-ghost use Rattle.std.specs.Prelude.{IfOk};
+ghost use Rattle.std.specs.Prelude.{IfErr, IfOk};
 ghost use Rattle.pb_code.specs.Limits.{AreLabels};
 ghost use Rattle.pb_code.specs.View.{labels_view};
+ghost use Rattle.pb_engines.specs.Loading.{IsLoaded, IsLoadFault};
+ghost use Rattle.pb_messages.specs.Said.{TellsObject};
 
 use crate::cause::{object_cause, verify_cause};
 use crate::place::line_end;
@@ -19,7 +21,9 @@ pub type Loaded = Result<(Verified, Labels), Vec<u8>>;
 
 /// Returns the safe code of an object, or the message of its first fault.
 pub fn object_message(alloc: Global, bytes: &[u8]) -> Result<Loaded, NoMemory>
-    ensures { IfOk result (λ loaded. IfOk loaded (λ x. AreLabels x.0.code (labels_view x.1))) }
+    ensures fit { IfOk result (λ loaded. IfOk loaded (λ x. AreLabels x.0.code (labels_view x.1))) }
+    ensures loaded { IfOk result (λ loaded. IfOk loaded (λ x. IsLoaded bytes.now x.0.code (labels_view x.1))) }
+    ensures refused { IfOk result (λ loaded. IfErr loaded (λ message. TellsObject bytes.now message.items)) }
 {
     match load(alloc, bytes) {
         Ok((verified, labels)) => Ok(Ok((verified, labels))),
@@ -29,7 +33,10 @@ pub fn object_message(alloc: Global, bytes: &[u8]) -> Result<Loaded, NoMemory>
 }
 
 // Returns the message of bytes that are no object.
-fn unread_message(alloc: Global, bytes: &[u8], fault: ObjectFault) -> Result<Vec<u8>, NoMemory> {
+fn unread_message(alloc: Global, bytes: &[u8], fault: ObjectFault) -> Result<Vec<u8>, NoMemory>
+    requires { IsLoadFault bytes.now (LoadFault.Object fault) }
+    ensures { IfOk result (λ message. TellsObject bytes.now message.items) }
+{
     let Some(cause) = object_cause(fault) else {
         return Err(NoMemory);
     };
@@ -48,7 +55,10 @@ fn unread_message(alloc: Global, bytes: &[u8], fault: ObjectFault) -> Result<Vec
 }
 
 // Returns the message of code that is not safe.
-fn unsafe_message(alloc: Global, bytes: &[u8], fault: VerifyFault) -> Result<Vec<u8>, NoMemory> {
+fn unsafe_message(alloc: Global, bytes: &[u8], fault: VerifyFault) -> Result<Vec<u8>, NoMemory>
+    requires { IsLoadFault bytes.now (LoadFault.Unsafe fault) }
+    ensures { IfOk result (λ message. TellsObject bytes.now message.items) }
+{
     let Some(cause) = verify_cause(fault) else {
         return Err(NoMemory);
     };

@@ -1,7 +1,11 @@
 //! The message of pick lines that are refused, or of which a pick is.
 
+ghost use Rattle.std.specs.Prelude.{IfOk};
 ghost use Rattle.pb_code.specs.Limits.{KeepsLimits};
 ghost use Rattle.pb_code.specs.View.{code_view};
+ghost use Rattle.pb_history.specs.Replays.{IsStopped, spread};
+ghost use Rattle.pb_messages.specs.Said.{SaysOfLines};
+ghost use Rattle.pb_picks.specs.PickLines.{IsFaulty, SpellsPicks};
 
 use crate::cause::{Cause, picks_cause};
 use crate::place::{line_end, place_of};
@@ -33,7 +37,9 @@ pub fn lines_message(
     alloc: Global,
     verified: &Verified,
     lines: Lines<'_>,
-) -> Result<Vec<u8>, NoMemory> {
+) -> Result<Vec<u8>, NoMemory>
+    ensures { IfOk result (λ message. SaysOfLines verified.now.code lines.entry.text.now message.items) }
+{
     let picks = match read_picks(alloc, verified.code(), lines.text) {
         Ok(picks) => picks,
         Err(fault) => return unread_message(alloc, verified.code(), lines, fault),
@@ -51,7 +57,9 @@ fn unread_message(
     lines: Lines<'_>,
     fault: PickFault,
 ) -> Result<Vec<u8>, NoMemory>
-    requires { KeepsLimits (code_view code.now) }
+    requires limits { KeepsLimits (code_view code.now) }
+    requires fault { IsFaulty (code_view code.now) lines.text.now fault }
+    ensures { IfOk result (λ message. SaysOfLines (code_view code.now) lines.entry.text.now message.items) }
 {
     let Some(cause) = picks_cause(fault) else {
         return Err(NoMemory);
@@ -117,7 +125,11 @@ fn stop_message(
     lines: Lines<'_>,
     picks: &[CountedPick],
     fault: ReplayFault,
-) -> Result<Vec<u8>, NoMemory> {
+) -> Result<Vec<u8>, NoMemory>
+    requires spelled { SpellsPicks verified.now.code lines.text.now picks.now }
+    requires stopped { IsStopped verified.now.code (spread picks.now) fault }
+    ensures { IfOk result (λ message. SaysOfLines verified.now.code lines.entry.text.now message.items) }
+{
     let ReplayFault::NotEnabled(number) = fault else {
         return Err(NoMemory);
     };

@@ -250,7 +250,7 @@ fn may_follow(alloc: Global, text: &[u8], token: &str) -> Result<bool, NoMemory>
     }
 }
 
-// Returns what is usually meant where this token cannot stand.
+// Returns what is usually meant if this token cannot stand.
 fn usual_mistake(tokens: &[Token], number: usize) -> Option<&'static str> {
     let before = number.checked_sub(1)?;
     if is_at(tokens, before, Mark::Semicolon) && closes(tokens, number) {

@@ -1,8 +1,9 @@
 //! The message of a text that is refused.
 
-ghost use Rattle.std.specs.Prelude.{ℕ, List, IfOk, IfSome, IfErr};
-ghost use Rattle.pb_codegen.specs.Compiled.{IsRefused};
+ghost use Rattle.std.specs.Prelude.{ℕ, [], IfOk, IfSome, IfNone, IfErr};
+ghost use Rattle.pb_codegen.specs.Compiled.{IsCompiled, IsRefused};
 ghost use Rattle.pb_messages.specs.Messages.{TellsRefusal};
+ghost use Rattle.pb_messages.specs.Said.{SaysOfProgram};
 
 use crate::cause::text_cause;
 use crate::holds::claims_wording;
@@ -22,7 +23,8 @@ pub fn text_message(
     label: &str,
     text: &[u8],
 ) -> Result<Result<Compiled, Vec<u8>>, NoMemory>
-    ensures { IfOk result (λ looked. IfErr looked (λ message. TellsRefusal label.now text.now message.items)) }
+    ensures accepted { IfOk result (λ looked. IfOk looked (λ c. IsCompiled text.now c.verified.code c.labels)) }
+    ensures refused { IfOk result (λ looked. IfErr looked (λ message. TellsRefusal label.now text.now message.items)) }
 {
     let arena = Bump::new(alloc);
     match compile(alloc, &arena, text) {
@@ -33,7 +35,8 @@ pub fn text_message(
 
 /// Returns the message of the first fault of a text whose capital does not matter; nothing if there is none.
 pub fn early_message(alloc: Global, text: &[u8]) -> Result<Option<Vec<u8>>, NoMemory>
-    ensures { IfOk result (λ looked. IfSome looked (λ message. (label : List ℕ) × TellsRefusal label text.now message.items)) }
+    ensures accepted { IfOk result (λ looked. IfNone looked (SaysOfProgram text.now [])) }
+    ensures refused { IfOk result (λ looked. IfSome looked (λ message. TellsRefusal [] text.now message.items)) }
 {
     let arena = Bump::new(alloc);
     match analyze(alloc, &arena, text) {

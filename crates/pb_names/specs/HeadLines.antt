@@ -16,7 +16,7 @@ abbrev pub first_line : List Item → Option ℕ
 first_line [] = None
 first_line (item ∷ items) = Some (item_line item)
 
--- the line of an arm's first item; none where its list is empty
+-- the line of an arm's first item; none if its list is empty
 abbrev pub head_line : Arm → Option ℕ
 head_line (Doing items) = first_line items
 head_line (Waiting line first arms rest) = Some line

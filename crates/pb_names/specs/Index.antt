@@ -4,7 +4,7 @@ use Rattle.std.specs.Prelude.{◌≡◌, ◌≢◌, ℕ, suc, ◌+◌, ◌-◌, 
 use Rattle.std.specs.Prelude.{Option, Some, None, bit_and}
 use Rattle.pb_names.specs.Program.{Name}
 
--- the least number of a name, or none where it is not there
+-- the least number of a name, or none if it is not there
 abbrev pub IsFirstNumber : List Name → Name → Option ℕ → Type 0
 IsFirstNumber names name None = (k : ℕ) → slice_get names k ≢ Some name
 IsFirstNumber names name (Some i) =
@@ -17,7 +17,7 @@ slot greatest name =
     (length name + 7 * get_or name 0 0 + 11 * get_or name (length name - 2) 0 + get_or name (length name - 1) 0)
     greatest
 
--- the first name of a slot from a number on has the other number; where there is none, that is past all names
+-- the first name of a slot from a number on has the other number; if there is none, that is past all names
 pub record IsNext (names : List Name) (greatest s from to : ℕ) : Type 0 where
   pub after : from ≤ to
   pub none : (k : ℕ) (name : Name) → from ≤ k → k < to → slice_get names k ≡ Some name → slot greatest name ≢ s

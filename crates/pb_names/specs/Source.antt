@@ -124,7 +124,7 @@ step_arm vars (Waiting line first arms rest) =
     cond (all_ended arms) (Some (Goes vars (Doing rest) Silent)) None
 step_arm vars Ended = None
 
--- ---- the arm with a number, where the given arm has the number n
+-- ---- the arm with a number, if the given arm has the number n
 
 abbrev pub first_some : Option Arm → Option Arm → Option Arm
 first_some (Some arm) other = Some arm

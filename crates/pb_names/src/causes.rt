@@ -40,7 +40,7 @@ pub struct Cause {
     pub wrong: Wrong,
 }
 
-/// The fault that tells of a cause.
+/// Returns the fault that tells of a cause.
 pub fn fault_of(cause: Cause) -> NameFault
     ensures { result ≡ told cause.wrong cause.at }
 {
@@ -52,7 +52,7 @@ pub fn fault_of(cause: Cause) -> NameFault
     }
 }
 
-/// The cause of the lesser place.
+/// Returns the cause of the lesser place.
 fn earlier(a: Option<Cause>, b: Option<Cause>) -> Option<Cause>
     ensures { result ≡ earlier_of a b }
 {
@@ -63,7 +63,7 @@ fn earlier(a: Option<Cause>, b: Option<Cause>) -> Option<Cause>
     }
 }
 
-/// A number as an amount from `least` to 1,000,000, if it is one.
+/// Returns a number as an amount from `least` to 1,000,000, if it is one.
 pub fn amount_from(least: u32, number: Number) -> Option<u32>
     ensures value { IfSome result (λ amount. number.value ≡ pos amount) }
     ensures range { IfSome result (λ amount. (least ≤ amount) × (amount ≤ 1000000)) }
@@ -76,7 +76,7 @@ pub fn amount_from(least: u32, number: Number) -> Option<u32>
     Some(number.value as u32)
 }
 
-/// A number that is none from `least` to 1,000,000.
+/// Returns a number that is none from `least` to 1,000,000.
 fn first_in_number(least: u32, number: Number) -> Option<Cause>
     ensures { IsFirst (IsOutside least (number_view number)) result }
 {
@@ -89,7 +89,7 @@ fn first_in_number(least: u32, number: Number) -> Option<Cause>
     }
 }
 
-/// A name that is not declared.
+/// Returns a name that is not declared.
 fn first_in_name<A: Allocator, B: Allocator>(
     declared: &Declared<'_, A>,
     name: &Name<B>,
@@ -105,7 +105,7 @@ fn first_in_name<A: Allocator, B: Allocator>(
     }
 }
 
-/// The name numbered `i`, if it is declared before.
+/// Returns the name numbered `i`, if it is declared before.
 fn first_again<A: Allocator, B: Allocator>(
     declared: &Declared<'_, A>,
     i: usize,
@@ -123,7 +123,7 @@ fn first_again<A: Allocator, B: Allocator>(
     })
 }
 
-/// The first of the integers that are declared again.
+/// Returns the first of the integers that are declared again.
 fn first_in_integers<A: Allocator, B: Allocator>(
     names: &Declared<'_, A>,
     integers: &Vec<Name<B>, B>,
@@ -138,7 +138,7 @@ fn first_in_integers<A: Allocator, B: Allocator>(
     first
 }
 
-/// The first name of an expression that is not declared.
+/// Returns the first name of an expression that is not declared.
 fn first_in_expr<A: Allocator, B: Allocator>(
     integers: &Declared<'_, A>,
     expr: &Expr<B>,
@@ -156,7 +156,7 @@ fn first_in_expr<A: Allocator, B: Allocator>(
     }
 }
 
-/// The first of the resources that are declared again or have a capital out of range.
+/// Returns the first of the resources that are declared again or have a capital out of range.
 fn first_in_resources<A: Allocator, B: Allocator>(
     names: &Declared<'_, A>,
     resources: &Vec<Resource<B>, B>,
@@ -173,7 +173,7 @@ fn first_in_resources<A: Allocator, B: Allocator>(
     first
 }
 
-/// A resource that is in one of the first `n` pairs of a hold.
+/// Returns a resource that is in one of the first `n` pairs of a hold.
 fn first_repeated<A: Allocator>(
     demands: &Vec<Demand<A>, A>,
     n: usize,
@@ -195,7 +195,7 @@ fn first_repeated<A: Allocator>(
     None
 }
 
-/// The first thing that is wrong with the pairs of a hold.
+/// Returns the first thing that is wrong with the pairs of a hold.
 fn first_in_hold<A: Allocator, B: Allocator>(
     resources: &Declared<'_, A>,
     demands: &Vec<Demand<B>, B>,
@@ -214,7 +214,7 @@ fn first_in_hold<A: Allocator, B: Allocator>(
     first
 }
 
-/// The first thing that is wrong with a statement.
+/// Returns the first thing that is wrong with a statement.
 #[cycle(causes)]
 #[tactic(auto, using(pb_tree::proofs::Views::stmt_views))]
 fn first_in_stmt<A: Allocator, B: Allocator>(
@@ -253,7 +253,7 @@ fn first_in_stmt<A: Allocator, B: Allocator>(
     }
 }
 
-/// The first thing that is wrong with a list of statements.
+/// Returns the first thing that is wrong with a list of statements.
 #[cycle(causes)]
 #[tactic(auto, using(pb_tree::proofs::Views::stmt_views))]
 fn first_in_list<A: Allocator, B: Allocator>(
@@ -271,7 +271,7 @@ fn first_in_list<A: Allocator, B: Allocator>(
     first
 }
 
-/// The first thing that is wrong with the arms of a parbegin.
+/// Returns the first thing that is wrong with the arms of a parbegin.
 #[cycle(causes)]
 #[tactic(auto, using(pb_tree::proofs::Views::stmt_views))]
 fn first_in_arms<A: Allocator, B: Allocator>(
@@ -289,7 +289,7 @@ fn first_in_arms<A: Allocator, B: Allocator>(
     first
 }
 
-/// The first thing that is wrong in a process, its own name left out.
+/// Returns the first thing that is wrong in a process, its own name left out.
 fn first_in_process<A: Allocator + Clone>(
     alloc: &A,
     resources: &Declared<'_, A>,
@@ -306,7 +306,7 @@ fn first_in_process<A: Allocator + Clone>(
     ))
 }
 
-/// The first thing that is wrong with processes.
+/// Returns the first thing that is wrong with processes.
 fn first_in_processes<A: Allocator + Clone>(
     alloc: &A,
     resources: &Declared<'_, A>,
@@ -326,7 +326,7 @@ fn first_in_processes<A: Allocator + Clone>(
     Ok(first)
 }
 
-/// The first thing that is wrong with a program.
+/// Returns the first thing that is wrong with a program.
 pub fn first_cause<A: Allocator + Clone>(
     alloc: &A,
     program: &Program<A>,

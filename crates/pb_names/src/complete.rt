@@ -7,7 +7,7 @@ ghost use Rattle.pb_names.specs.Ready.{IsCompleteStmt, AreComplete, AreCompleteA
 use pb_tree::{Program, Stmt};
 use std::alloc::Allocator;
 
-/// Whether each hold of a statement has a pair, and each parbegin an arm.
+/// Returns whether each hold of a statement has a pair, and each parbegin an arm.
 #[cycle(complete)]
 #[tactic(auto, using(pb_tree::proofs::Views::stmt_views))]
 fn is_complete_stmt<A: Allocator>(stmt: &Stmt<A>) -> bool
@@ -26,7 +26,7 @@ fn is_complete_stmt<A: Allocator>(stmt: &Stmt<A>) -> bool
     }
 }
 
-/// Whether each hold of a list has a pair, and each parbegin an arm.
+/// Returns whether each hold of a list has a pair, and each parbegin an arm.
 #[cycle(complete)]
 #[tactic(auto, using(pb_tree::proofs::Views::stmt_views))]
 fn are_complete<A: Allocator>(stmts: &Vec<Stmt<A>, A>) -> bool
@@ -40,7 +40,7 @@ fn are_complete<A: Allocator>(stmts: &Vec<Stmt<A>, A>) -> bool
     true
 }
 
-/// Whether each hold of the arms of a parbegin has a pair, and each parbegin in them an arm.
+/// Returns whether each hold of the arms of a parbegin has a pair, and each parbegin in them an arm.
 #[cycle(complete)]
 #[tactic(auto, using(pb_tree::proofs::Views::stmt_views))]
 fn are_complete_arms<A: Allocator>(arms: &Vec<Vec<Stmt<A>, A>, A>) -> bool
@@ -54,8 +54,8 @@ fn are_complete_arms<A: Allocator>(arms: &Vec<Vec<Stmt<A>, A>, A>) -> bool
     true
 }
 
-/// Whether a program has a process, a pair in each of its holds and an arm in each of its parbegins, as every
-/// tree that was read from a text.
+/// Returns whether a program has a process, a pair in each of its holds and an arm in each of its parbegins,
+/// as every tree that was read from a text.
 pub fn is_complete<A: Allocator>(program: &Program<A>) -> bool
     ensures { IsTrue result ↔ IsComplete (program_view program.now) }
 {

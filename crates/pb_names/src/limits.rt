@@ -43,7 +43,7 @@ fn both(a: Forks, b: Forks) -> Forks
     }
 }
 
-/// The parbegins of a statement.
+/// Returns the parbegins of a statement.
 #[cycle(forks)]
 #[tactic(auto, using(pb_tree::proofs::Views::stmt_views))]
 fn forks_of_stmt<A: Allocator>(stmt: &Stmt<A>) -> Forks
@@ -69,7 +69,7 @@ fn forks_of_stmt<A: Allocator>(stmt: &Stmt<A>) -> Forks
     }
 }
 
-/// The parbegins of a list.
+/// Returns the parbegins of a list.
 #[cycle(forks)]
 #[tactic(auto, using(pb_tree::proofs::Views::stmt_views))]
 fn forks_of_list<A: Allocator>(stmts: &Vec<Stmt<A>, A>) -> Forks
@@ -83,7 +83,7 @@ fn forks_of_list<A: Allocator>(stmts: &Vec<Stmt<A>, A>) -> Forks
     forks
 }
 
-/// The parbegins in arms.
+/// Returns the parbegins in arms.
 #[cycle(forks)]
 #[tactic(auto, using(pb_tree::proofs::Views::stmt_views))]
 fn forks_of_arms<A: Allocator>(arms: &Vec<Vec<Stmt<A>, A>, A>) -> Forks
@@ -106,7 +106,7 @@ struct Most {
     arms: usize,
 }
 
-/// The most of each kind that one process has.
+/// Returns the most of each kind that one process has.
 fn most_of<A: Allocator>(processes: &Vec<Process<A>, A>) -> Most
     ensures integers { result.integers
         ≡ most (λ process. length process.integers) (map process_view processes.now.items) }
@@ -129,7 +129,7 @@ fn most_of<A: Allocator>(processes: &Vec<Process<A>, A>) -> Most
     most
 }
 
-/// The first kind of which a program has too many.
+/// Returns the first kind of which a program has too many.
 pub fn too_many<A: Allocator>(program: &Program<A>) -> Option<Kind>
     ensures passed { IfSome result (λ kind. IsTooMany (program_view program.now) kind) }
     ensures within { IfNone result (IsWithinLimits (program_view program.now)) }

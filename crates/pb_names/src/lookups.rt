@@ -12,7 +12,7 @@ use pb_tree::{Name, Process, Resource};
 use std::alloc::Allocator;
 
 impl<'t, A: Allocator + Clone> Declared<'t, A> {
-    /// The names of the integers of a process.
+    /// Returns the names of the integers of a process.
     pub fn integers<B: Allocator>(
         alloc: &A,
         integers: &'t Vec<Name<B>, B>,
@@ -26,7 +26,7 @@ impl<'t, A: Allocator + Clone> Declared<'t, A> {
         index(alloc, texts)
     }
 
-    /// The names of resources.
+    /// Returns the names of resources.
     pub fn resources<B: Allocator>(
         alloc: &A,
         resources: &'t Vec<Resource<B>, B>,
@@ -41,7 +41,7 @@ impl<'t, A: Allocator + Clone> Declared<'t, A> {
         index(alloc, texts)
     }
 
-    /// The names of processes.
+    /// Returns the names of processes.
     pub fn processes<B: Allocator>(
         alloc: &A,
         processes: &'t Vec<Process<B>, B>,
@@ -58,7 +58,7 @@ impl<'t, A: Allocator + Clone> Declared<'t, A> {
 }
 
 impl<'t, A: Allocator> Declared<'t, A> {
-    /// The least number of a name.
+    /// Returns the least number of a name.
     pub fn number_of(&self, name: &[u8]) -> Option<usize>
         ensures { IsFirstNumber (names_in self.now) name.now result }
     {
@@ -74,7 +74,7 @@ impl<'t, A: Allocator> Declared<'t, A> {
     }
 }
 
-/// The byte at a place of a name.
+/// Returns the byte at a place of a name.
 fn byte_at(name: &[u8], i: usize) -> usize
     requires { i < length name.now }
     ensures value { result ≡ get_or name.now i 0 }
@@ -83,7 +83,7 @@ fn byte_at(name: &[u8], i: usize) -> usize
     usize::from(name[i])
 }
 
-/// The slot of a name, from 0 to the greatest one.
+/// Returns the slot of a name, from 0 to the greatest one.
 fn slot_of(name: &[u8], greatest: usize) -> usize
     ensures value { result ≡ slot greatest name.now }
     ensures few { result ≤ greatest }
@@ -98,14 +98,15 @@ fn slot_of(name: &[u8], greatest: usize) -> usize
     (len + 7 * byte_at(name, 0) + 11 * byte_at(name, len - 2) + byte_at(name, len - 1)) & greatest
 }
 
-/// The greatest slot in an index of `count` names. The names of one slot are looked through one after the other.
+/// Returns the greatest slot in an index of `count` names. The names of one slot are looked through one after
+/// the other.
 fn greatest_slot(count: usize) -> usize
     ensures { result < 64 }
 {
     if count > 8 { 63 } else { 7 }
 }
 
-/// An index of names.
+/// Returns an index of names.
 fn index<'t, A: Allocator + Clone>(
     alloc: &A,
     texts: Vec<&'t [u8], A>,

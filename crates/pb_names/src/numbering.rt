@@ -33,7 +33,7 @@ use pb_base::{Bundle, NoMemory, Pair};
 use pb_tree::{Demand, Name, Number};
 use std::alloc::Allocator;
 
-/// The number of a name that is declared.
+/// Returns the number of a name that is declared.
 fn number_in<A: Allocator, B: Allocator>(declared: &Declared<'_, A>, name: &Name<B>) -> u8
     requires few { length (names_in declared.now) ≤ MAX_INTEGERS }
     requires known { IsFree (IsUnknown (names_in declared.now) (name_view name.now)) }
@@ -45,7 +45,7 @@ fn number_in<A: Allocator, B: Allocator>(declared: &Declared<'_, A>, name: &Name
     }
 }
 
-/// An expression with numbers in place of its names.
+/// Returns an expression with numbers in place of its names.
 fn number_expr<A: Allocator + Clone>(
     alloc: &A,
     integers: &Declared<'_, A>,
@@ -74,7 +74,7 @@ fn number_expr<A: Allocator + Clone>(
     }
 }
 
-/// An amount that is within its range.
+/// Returns an amount that is within its range.
 fn amount_of(least: u32, number: Number) -> u32
     requires { IsFree (IsOutside least (number_view number)) }
     ensures value { number.value ≡ pos result }
@@ -87,7 +87,7 @@ fn amount_of(least: u32, number: Number) -> u32
     }
 }
 
-/// A pair of a hold with the number of its resource.
+/// Returns a pair of a hold with the number of its resource.
 fn number_demand<A: Allocator, B: Allocator>(
     resources: &Declared<'_, A>,
     demand: &Demand<B>,
@@ -103,7 +103,7 @@ fn number_demand<A: Allocator, B: Allocator>(
     }
 }
 
-/// The pairs of a hold with the numbers of their resources.
+/// Returns the pairs of a hold with the numbers of their resources.
 fn number_hold<A: Allocator, B: Allocator>(
     resources: &Declared<'_, A>,
     demands: &Vec<Demand<B>, B>,
@@ -121,9 +121,9 @@ fn number_hold<A: Allocator, B: Allocator>(
     bundle
 }
 
-// Each of the next calls adds one statement to a list. They are not inlined, and they number the expressions and the
-// pairs of the statement: those locals would otherwise be in each frame of the recursion of statements, and a deep
-// program would need more stack.
+// Each of the next calls adds one statement to a list. They are not inlined, and they number the expressions
+// and the pairs of the statement: those locals would otherwise be in each frame of the recursion of
+// statements, and a deep program would need more stack.
 
 /// Adds an assignment to `out`.
 #[inline(never)]
@@ -263,8 +263,8 @@ fn add_parbegin<A: Allocator>(
     Ok(())
 }
 
-/// Adds a statement with numbers in place of its names to `out`. Its arms get the numbers from `next` on, which is
-/// left past them.
+/// Adds a statement with numbers in place of its names to `out`. Its arms get the numbers from `next` on,
+/// which is left past them.
 #[cycle(numbering)]
 #[tactic(auto, using(pb_tree::proofs::Views::stmt_views))]
 fn number_stmt<A: Allocator + Clone>(
@@ -320,8 +320,8 @@ fn number_stmt<A: Allocator + Clone>(
     }
 }
 
-/// A list of statements with numbers in place of its names. Its arms get the numbers from `next` on, which is
-/// left past them.
+/// Returns a list of statements with numbers in place of its names. Its arms get the numbers from `next` on,
+/// which is left past them.
 #[cycle(numbering)]
 #[tactic(auto, using(pb_tree::proofs::Views::stmt_views))]
 fn number_list<A: Allocator + Clone>(
@@ -347,8 +347,8 @@ fn number_list<A: Allocator + Clone>(
     Ok(list)
 }
 
-/// The arms of a parbegin with numbers in place of their names. The arms inside them get the numbers from
-/// `next` on, which is left past them.
+/// Returns the arms of a parbegin with numbers in place of their names. The arms inside them get the numbers
+/// from `next` on, which is left past them.
 #[cycle(numbering)]
 #[tactic(auto, using(pb_tree::proofs::Views::stmt_views))]
 fn number_arms<A: Allocator + Clone>(
@@ -374,7 +374,7 @@ fn number_arms<A: Allocator + Clone>(
     Ok(list)
 }
 
-/// The texts of names.
+/// Returns the texts of names.
 fn copy_texts<A: Allocator + Clone>(
     alloc: &A,
     names: &Vec<Name<A>, A>,
@@ -388,7 +388,7 @@ fn copy_texts<A: Allocator + Clone>(
     Ok(copies)
 }
 
-/// A process with numbers in place of its names.
+/// Returns a process with numbers in place of its names.
 fn number_process<A: Allocator + Clone>(
     alloc: &A,
     resources: &Declared<'_, A>,
@@ -435,7 +435,7 @@ fn number_processes<A: Allocator + Clone>(
     Ok(list)
 }
 
-/// A resource with its name and its capital.
+/// Returns a resource with its name and its capital.
 fn number_resource<A: Allocator + Clone>(
     alloc: &A,
     resource: &pb_tree::Resource<A>,
@@ -465,7 +465,7 @@ fn number_resources<A: Allocator + Clone>(
     Ok(list)
 }
 
-/// A program with numbers in place of its names.
+/// Returns a program with numbers in place of its names.
 fn number_program<A: Allocator + Clone>(
     alloc: &A,
     program: &pb_tree::Program<A>,

@@ -97,7 +97,7 @@ many_again {X} part text Good is (x ∷ xs) earlier rest good =
           rest good.1,
     ) (ap (λ (ys : List X). Ok (ys, rest)) (append_assoc earlier (x ∷ []) xs))
 
--- so many parts are a part
+-- n parts are a part
 pub many_is : {X : Type 0} (part : List X → List ℕ → Result (X × List ℕ) Fault) (text : X → List ℕ) (Good : List X → X
     → Type 0) → ((earlier : List X) → IsPart (part earlier) text (Good earlier))
     → (n : ℕ) → IsPart (many part [] n) (flat_map text) (λ xs. (length xs ≡ n) × Each Good [] xs)

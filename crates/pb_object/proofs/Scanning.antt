@@ -52,7 +52,7 @@ parts bs = slice_split (λ b. eqb b 32) bs
 abbrev line_length : List ℕ → ℕ
 line_length text = position_or_len (λ b. eqb b 10) text
 
--- what is found where the line ends at the n-th byte of so many
+-- what is found if the line ends at the n-th of a number of bytes
 abbrev cut : List ℕ → ℕ → Bool → Found
 cut text n false = None
 cut text n true = Some (parts (take n text), drop 1 (drop n text))

@@ -16,8 +16,8 @@ BeginsObject text = (o : Object) × (more : List ℕ) × IsObject o × (text ++ 
 abbrev pub AreLines : List ℕ → Type 0
 AreLines text = (text ≡ []) ⊎ ((before : List ℕ) × (text ≡ before ++ 10 ∷ []))
 
--- A text is some lines and a rest, which begins at this place. The lines begin some object; no object begins with
--- them and a line of the rest; and where the rest has no line that is ended, the text is no object all the same.
+-- A text is some lines and a rest, which begins at this place. The lines begin some object; no object begins
+-- with them and a line of the rest; and if the rest has no complete line, the text is not an object.
 pub record IsFaultPlace (text : List ℕ) (at : ℕ) : Type 0 where
   pub lines : List ℕ
   pub rest : List ℕ
@@ -28,14 +28,15 @@ pub record IsFaultPlace (text : List ℕ) (at : ℕ) : Type 0 where
   pub stuck : (line tail : List ℕ) → rest ≡ line ++ 10 ∷ tail → ¬ BeginsObject (lines ++ (line ++ 10 ∷ []))
   pub no_object : (o : Object) → IsObject o → text ≡ spelling o → ⊥
 
--- what a refusal says of a text: a fault of form has such a place; one of range too, unless the text is longer than
--- 4,194,304 bytes, of which it says 0
+-- what a refusal says of a text: a fault of form has such a place; one of range too, unless the text is
+-- longer than 4,194,304 bytes, of which it says 0
 abbrev pub IsPlaced : List ℕ → ObjectFault → Type 0
 IsPlaced text (NotObject at) = (length text ≤ 4194304) × IsFaultPlace text at
 IsPlaced text (Limit at) =
     ((4194304 < length text) × (at ≡ 0)) ⊎ ((length text ≤ 4194304) × IsFaultPlace text at)
 IsPlaced text NoMemory = ⊤
 
--- and of a text that is to be of the first format: if its first line names the second, that line is the faulty one
+-- and of a text that is to be of the first format: if its first line names the second, that line is the
+-- faulty one
 abbrev pub IsPlacedOne : List ℕ → ObjectFault → Type 0
 IsPlacedOne text fault = ((is_two (line heading text) ≡ true) × (fault ≡ NotObject 0)) ⊎ IsPlaced text fault

@@ -74,7 +74,7 @@ two a b c d (v ∷ []) = Malformed
 two a b c d (v ∷ w ∷ []) = paired (number a b v) (number c d w)
 two a b c d (v ∷ w ∷ u ∷ us) = Malformed
 
--- a signed 64-bit number, with a minus only where it is below 0
+-- a signed 64-bit number, with a minus only if it is below 0
 unfoldable pub signed : Word → Verdict ℤ
 signed [] = Malformed
 signed (b ∷ ds) =

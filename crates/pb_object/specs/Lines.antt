@@ -35,7 +35,7 @@ words_before text (Some i) = Ok (slice_split (λ b. b == 32) (take i text), drop
 unfoldable pub first_line : List ℕ → Result (List Word × List ℕ) Fault
 first_line text = words_before text (position (λ b. b == 10) text)
 
--- what a line says, where the text from its start on has so many bytes
+-- what a line says, if the text from its start on has this number of bytes
 abbrev pub judged : {X : Type 0} → ℕ → Verdict X → Result X Fault
 judged left verdict.Malformed = Err (Malformed left)
 judged left verdict.Beyond = Err (Beyond left)

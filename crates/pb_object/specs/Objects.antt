@@ -22,7 +22,7 @@ pub record ProcessRow : Type 0 where
   pub integers : List Word
   pub claims : List ℕ
   pub entries : List ℕ
-  -- each with its source line, where it has one
+  -- each with its source line, if it has one
   pub places : List (Option ℕ × Instr)
 
 pub record Object : Type 0 where

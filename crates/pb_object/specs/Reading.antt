@@ -57,7 +57,7 @@ process_name earlier (k ∷ name ∷ w ∷ ws) = verdict.Malformed
 abbrev pub says_number : Word → ℕ → Bool
 says_number word n = is_numeral word && (digits_value 10 word == n)
 
--- as many names as the word says; they are compared with one another where they are at most 64
+-- as many names as the word says; they are compared with one another if they are at most 64
 unfoldable pub named_integers : Word → List Word → Verdict (List Word)
 named_integers count names =
     cond (says_number count (length names) && list_all is_name names)

@@ -80,7 +80,7 @@ fn claims_of(alloc: Global, rows: &[Vec<u64>]) -> Result<Claims, NoMemory>
     Claims::new(alloc, &slices)
 }
 
-/// The code and the labels that the rows say.
+/// Returns the code and the labels that the rows say.
 pub(crate) fn assemble(alloc: Global, rows: Rows) -> Result<(Code, Labels), NoMemory>
     requires good { IsObject (object_row rows) }
     requires fit { All IsRow rows.processes.items }

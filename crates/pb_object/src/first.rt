@@ -13,7 +13,7 @@ use pb_code::{Code, Instr, ProcessCode};
 /// The most processes of the first format.
 const MOST_PROCESSES: usize = 32;
 
-/// Whether an instruction takes or gives no more than one resource.
+/// Returns whether an instruction takes or gives no more than one resource.
 fn is_single(code: &ProcessCode, instr: Instr) -> bool
     ensures { (result ≡ true) ↔ IsSingle (instr_view code.now.bundles.items instr) }
 {
@@ -23,7 +23,7 @@ fn is_single(code: &ProcessCode, instr: Instr) -> bool
     }
 }
 
-/// Whether all instructions of a process take and give no more than one resource.
+/// Returns whether all instructions of a process take and give no more than one resource.
 fn are_single(code: &ProcessCode) -> bool
     ensures { (result ≡ true)
         ↔ ((place : ℕ) (i : PlainInstr) → slice_get (process_view code.now).instrs place ≡ Some i → IsSingle i) }
@@ -36,7 +36,7 @@ fn are_single(code: &ProcessCode) -> bool
     true
 }
 
-/// Whether there are at most 32 processes, and each takes and gives one resource at a time.
+/// Returns whether there are at most 32 processes, and each takes and gives one resource at a time.
 fn fits_first(code: &Code) -> bool
     ensures { (result ≡ true) ↔ FitsFirst (code_view code.now) }
 {
@@ -51,8 +51,8 @@ fn fits_first(code: &Code) -> bool
     true
 }
 
-/// Whether code that has a text in the second format also has one in the first: there are at most 32 processes, and
-/// each `take` and `give` has one pair.
+/// Returns whether code that has a text in the second format also has one in the first: there are at most 32
+/// processes, and each `take` and `give` has one pair.
 pub fn fits_first_format(code: &Code) -> bool
     ensures fits { (result ≡ true) ↔ FitsFirst (code_view code.now) }
     // Of code within its limits this says whether it has a text in the first format.

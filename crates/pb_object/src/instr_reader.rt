@@ -90,7 +90,7 @@ fn from_zero(size: u64) -> i64
     size as i64
 }
 
-/// A signed number, with a minus only where it is below 0.
+/// Returns a signed number, with a minus only if it is below 0.
 #[tactic(auto, unfolding(crate::specs::Instructions::signed))]
 fn signed(word: &[u8]) -> Verdict<i64>
     ensures { result ≡ spec.signed word.now }
@@ -128,7 +128,7 @@ fn push(words: &[&[u8]]) -> Verdict<Instr>
     }
 }
 
-/// Two numbers that must stand alone.
+/// Returns two numbers that must stand alone.
 fn two(
     low: u64,
     high: u64,
@@ -155,7 +155,7 @@ fn two(
     }
 }
 
-/// An instruction that takes and gives nothing.
+/// Returns an instruction that takes and gives nothing.
 #[tactic(auto, unfolding(crate::specs::Instructions::plain))]
 pub(crate) fn plain(keyword: &[u8], words: &[&[u8]]) -> Verdict<Instr>
     ensures { result ≡ spec.plain keyword.now (map (λ w. w.now) words.now) }

@@ -84,7 +84,7 @@ fn put_bundle(out: &mut Vec<u8>, keyword: &str, bundle: &Bundle) -> Result<(), N
     Ok(())
 }
 
-/// An instruction with the bundle at this place.
+/// Writes an instruction with the bundle at this place.
 fn put_bundle_at(
     out: &mut Vec<u8>,
     keyword: &str,
@@ -100,7 +100,7 @@ fn put_bundle_at(
     }
 }
 
-/// The words of an instruction, with single spaces between them.
+/// Writes the words of an instruction, with single spaces between them.
 pub(crate) fn put_instr(out: &mut Vec<u8>, bundles: &[Bundle], instr: Instr) -> Result<(), NoMemory>
     ensures { OnOk result (out.new.items
         ≡ out.old.items ++ join_with_byte 32 (instr_words (instr_view bundles.now instr))) }
@@ -135,7 +135,7 @@ pub(crate) fn put_instr(out: &mut Vec<u8>, bundles: &[Bundle], instr: Instr) -> 
     }
 }
 
-/// The line of a place in the first format.
+/// Writes the line of a place in the first format.
 pub(crate) fn put_place(out: &mut Vec<u8>, bundles: &[Bundle], instr: Instr) -> Result<(), NoMemory>
     ensures { OnOk result (out.new.items
         ≡ out.old.items ++ line_text (instr_words (instr_view bundles.now instr))) }
@@ -145,7 +145,7 @@ pub(crate) fn put_place(out: &mut Vec<u8>, bundles: &[Bundle], instr: Instr) -> 
     Ok(())
 }
 
-/// The line of a place in the second format.
+/// Writes the line of a place in the second format.
 pub(crate) fn put_lined_place(
     out: &mut Vec<u8>,
     bundles: &[Bundle],

@@ -37,7 +37,7 @@ fn heading(words: &[&[u8]]) -> Verdict<Format>
     }
 }
 
-/// The format that the first line names, and what follows it.
+/// Returns the format that the first line names, and what follows it.
 #[tactic(auto, unfolding(crate::specs::Lines::line))]
 pub(crate) fn heading_at(alloc: Global, text: &[u8]) -> Result<(Format, &[u8]), ReadError>
     ensures { Gives (λ x. (x.0, x.1.now)) result (line spec.heading text.now) }
@@ -60,7 +60,7 @@ fn counted(key: &str, low: u64, high: u64, words: &[&[u8]]) -> Verdict<u64>
     }
 }
 
-/// The number behind a keyword, and what follows the line.
+/// Returns the number behind a keyword, and what follows the line.
 #[tactic(auto, unfolding(crate::specs::Lines::line))]
 pub(crate) fn counted_at<'t>(
     alloc: Global,
@@ -86,7 +86,7 @@ fn has_resource(resources: &[ResourceRow], name: &[u8]) -> bool
     resources.iter().any(|r| same(name, &r.name))
 }
 
-/// What a line says of a resource, after those before it.
+/// Returns what a line says of a resource, after those before it.
 fn resource(
     alloc: Global,
     earlier: &[ResourceRow],
@@ -116,7 +116,7 @@ fn resource(
     }
 }
 
-/// The resource that the line names, after those before it, and what follows the line.
+/// Returns the resource that the line names, after those before it, and what follows the line.
 #[tactic(auto, unfolding(crate::specs::Lines::line))]
 pub(crate) fn resource_at<'t>(
     alloc: Global,
@@ -155,7 +155,7 @@ fn process_name<'w>(earlier: &[ProcessRow], words: &[&'w [u8]]) -> Option<&'w [u
     }
 }
 
-/// The name of a process, after those before it, and what follows the line.
+/// Returns the name of a process, after those before it, and what follows the line.
 #[tactic(auto, unfolding(crate::specs::Lines::line))]
 pub(crate) fn name_at<'t>(
     alloc: Global,
@@ -184,7 +184,7 @@ fn plain_name(alloc: Global, number: u64) -> Result<Vec<u8>, AllocError>
     Ok(name)
 }
 
-/// The names `v0`, `v1` and so on.
+/// Returns the names `v0`, `v1` and so on.
 fn plain_names(alloc: Global, count: u64) -> Result<Vec<Vec<u8>>, AllocError>
     ensures { IfOk result (λ names. map (λ name. name.items) names.items ≡ plain_names_spec count) }
 {
@@ -195,7 +195,7 @@ fn plain_names(alloc: Global, count: u64) -> Result<Vec<Vec<u8>>, AllocError>
     Ok(names)
 }
 
-/// Whether the word is the numeral of this number.
+/// Returns whether the word is the numeral of this number.
 fn says_number(word: &[u8], number: usize) -> bool
     requires { number < 2 ^ 64 - 1 }
     ensures { result ≡ spec.says_number word.now number }
@@ -215,7 +215,7 @@ fn has_name(names: &[Vec<u8>], name: &[u8]) -> bool
     names.iter().any(|n| same(name, n))
 }
 
-/// The words, if no word is there twice.
+/// Returns the words, if no word is there twice.
 fn distinct(alloc: Global, words: &[&[u8]]) -> Result<Option<Vec<Vec<u8>>>, AllocError>
     ensures { IfOk result (λ names. option_map (λ names. map (λ name. name.items) names.items) names
         ≡ cond (are_new [] (map (λ w. w.now) words.now)) (Some (map (λ w. w.now) words.now)) None) }
@@ -274,7 +274,7 @@ fn integers(
     }
 }
 
-/// The names of the integers of a process, and what follows the line.
+/// Returns the names of the integers of a process, and what follows the line.
 #[tactic(auto, unfolding(crate::specs::Lines::line))]
 pub(crate) fn integers_at(
     alloc: Global,
@@ -325,7 +325,7 @@ fn claims(alloc: Global, resources: usize, words: &[&[u8]]) -> Result<Verdict<Ve
     }
 }
 
-/// The claims of a process on these many resources, and what follows the line.
+/// Returns the claims of a process on these many resources, and what follows the line.
 #[tactic(auto, unfolding(crate::specs::Lines::line))]
 pub(crate) fn claims_at(
     alloc: Global,

@@ -1,5 +1,5 @@
-//! Objects: code as text. The first format has code alone, the second also the names of integers and the source
-//! line of each place.
+//! Objects: code as text. The first format has code alone, the second also the names of integers and the
+//! source line of each place.
 
 ghost use Rattle.std.specs.Prelude.{◌≡◌, ◌≤◌, All, IfOk, IfErr, List, length};
 ghost use Rattle.pb_object.specs.declared.format.Format.{Format as Formats};
@@ -25,7 +25,7 @@ use std::alloc::Global;
 /// The longest text that is read, in bytes.
 pub const MAX_TEXT: usize = 4_194_304;
 
-/// What the text says, or its first faulty line.
+/// Returns what the text says, or its first faulty line.
 fn rows_of(alloc: Global, text: &[u8]) -> Result<Rows, ObjectFault>
     ensures rows { AnswersRows text.now result }
     ensures fit { IfOk result (λ rows. All IsRow rows.processes.items) }
@@ -45,13 +45,13 @@ fn rows_of(alloc: Global, text: &[u8]) -> Result<Rows, ObjectFault>
     }
 }
 
-/// The code and the labels that the text spells, in either format. From the first format the integers of each
-/// process are named `v0`, `v1` and so on, and no place has a source line.
+/// Returns the code and the labels that the text spells, in either format. From the first format the integers
+/// of each process are named `v0`, `v1` and so on, and no place has a source line.
 ///
-/// Else the first line that is not as it must be: `NotObject` where it is not of its form, is not ended by a line
-/// feed, is missing, or comes after the end; `Limit` if it is of its form and a number is out of range. The
-/// place is that of the start of the line, or the length of the text where a line is missing. A text of more than
-/// `MAX_TEXT` bytes is `Limit` at 0. `NoMemory` comes wherever a growth is refused.
+/// Else the first line that is not as it must be: `NotObject` if it is not of its form, is not ended by a
+/// line feed, is missing, or comes after the end; `Limit` if it is of its form and a number is out of range.
+/// The place is that of the start of the line, or the length of the text if a line is missing. A text of more
+/// than `MAX_TEXT` bytes is `Limit` at 0. `NoMemory` comes wherever a growth is refused.
 pub fn read_any(alloc: Global, text: &[u8]) -> Result<(Code, Labels), ObjectFault>
     // The text spells what is returned.
     ensures found { IfOk result (λ x. (format : Formats)
@@ -63,7 +63,8 @@ pub fn read_any(alloc: Global, text: &[u8]) -> Result<(Code, Labels), ObjectFaul
         → Spells format code labels text.now → length text.now ≤ MAX_TEXT → IsAnswer code labels result }
     // A refusal names the first faulty line.
     ensures fault { IfErr result (IsFaultOf text.now) }
-    // By the grammar alone: the lines before the place begin an object, and none begins with the line there too.
+    // By the grammar alone: the lines before the place begin an object, and none begins with the line there
+    // too.
     ensures place { IfErr result (IsPlaced text.now) }
 {
     let rows = rows_of(alloc, text)?;
@@ -71,7 +72,7 @@ pub fn read_any(alloc: Global, text: &[u8]) -> Result<(Code, Labels), ObjectFaul
     Ok(object)
 }
 
-/// Whether the first line names the second format.
+/// Returns whether the first line names the second format.
 fn begins_two(alloc: Global, text: &[u8]) -> Result<bool, ObjectFault>
     ensures two { IfOk result (λ two. two ≡ is_two (line heading text.now)) }
     ensures fault { IfErr result (λ fault. fault ≡ NoMemory) }
@@ -83,8 +84,8 @@ fn begins_two(alloc: Global, text: &[u8]) -> Result<bool, ObjectFault>
     }
 }
 
-/// The code that the text spells in the first format, else the first faulty line, as in `read_any`; the first line
-/// of the second format is no line of an object.
+/// Returns the code that the text spells in the first format, else the first faulty line, as in `read_any`;
+/// the first line of the second format is no line of an object.
 pub fn read_object(alloc: Global, text: &[u8]) -> Result<Code, ObjectFault>
     // The text spells the code that is returned.
     ensures found { IfOk result (λ code. SpellsOne (code_view code) text.now) }

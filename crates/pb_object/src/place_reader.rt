@@ -14,7 +14,7 @@ use pb_base::{Bundle, Pair};
 use pb_code::Instr;
 use std::alloc::AllocError;
 
-/// Whether the words name this resource, as a first word of two.
+/// Returns whether the words name this resource, as a first word of two.
 fn names_resource(words: &[&[u8]], resource: &[u8]) -> bool
     ensures { result ≡ spec.names_resource (map (λ w. w.now) words.now) resource.now }
 {
@@ -33,7 +33,7 @@ fn names_resource(words: &[&[u8]], resource: &[u8]) -> bool
     false
 }
 
-/// The bundle with one more pair.
+/// Returns the bundle with one more pair.
 fn with_pair(bundle: Option<Bundle>, pair: Pair) -> Bundle
     requires room { length (bundle_so_far bundle) < 16 }
     requires new { All (λ p. p.resource ≢ pair.resource) (bundle_so_far bundle) }
@@ -48,7 +48,7 @@ fn with_pair(bundle: Option<Bundle>, pair: Pair) -> Bundle
     }
 }
 
-/// A resource, and an amount of it.
+/// Returns a resource, and an amount of it.
 fn pair(resource: &[u8], amount: &[u8]) -> Verdict<Pair>
     ensures { result ≡ spec.pair_of resource.now amount.now }
 {
@@ -102,7 +102,7 @@ fn pairs(words: &[&[u8]]) -> Verdict<Bundle>
     }
 }
 
-/// A bundle of as many pairs as the format has.
+/// Returns a bundle of as many pairs as the format has.
 #[tactic(auto, unfolding(crate::specs::Instructions::bundle_of))]
 fn bundle(format: Format, words: &[&[u8]]) -> Verdict<Bundle>
     ensures { result ≡ spec.bundle_of format (map (λ w. w.now) words.now) }
@@ -128,7 +128,7 @@ fn added(bundles: &mut Vec<Bundle>, bundle: Bundle) -> Result<u16, AllocError>
     Ok(place)
 }
 
-/// An instruction, whose bundle is now among those of its process.
+/// Returns an instruction, whose bundle is now among those of its process.
 #[tactic(auto, unfolding(crate::specs::Instructions::instr_of))]
 fn instr_of(
     bundles: &mut Vec<Bundle>,
@@ -178,7 +178,7 @@ fn instr(
     }
 }
 
-/// A source line.
+/// Returns a source line.
 fn line_of(line: u64) -> Option<u32>
     requires { line ≤ 65536 }
     ensures { result ≡ spec.line_of line }
@@ -186,7 +186,7 @@ fn line_of(line: u64) -> Option<u32>
     if line == 0 { None } else { Some(line as u32) }
 }
 
-/// A place and its source line, of which either may be out of range.
+/// Returns a place and its source line, of which either may be out of range.
 fn labelled(line: Verdict<u64>, instr: Verdict<Instr>) -> Verdict<(Option<u32>, Instr)>
     requires { IfRead line (λ line. line ≤ 65536) }
     ensures { result ≡ paired (mapped spec.line_of line) instr }
@@ -199,8 +199,8 @@ fn labelled(line: Verdict<u64>, instr: Verdict<Instr>) -> Verdict<(Option<u32>, 
     }
 }
 
-/// A place: its source line, if the format has lines, and its instruction, whose bundle is now among those of
-/// its process.
+/// Returns a place: its source line, if the format has lines, and its instruction, whose bundle is now among
+/// those of its process.
 #[tactic(auto, unfolding(crate::specs::Instructions::place))]
 pub(crate) fn place(
     bundles: &mut Vec<Bundle>,

@@ -51,8 +51,8 @@ fn entries_of(alloc: Global, count: u64, text: &[u8]) -> Result<(Vec<u16>, &[u8]
 
 // ---- places
 
-/// A place, and what follows the line, whose words are now in `words`; the bundle that the place names is now
-/// among those of its process.
+/// Returns a place, and what follows the line, whose words are now in `words`; the bundle that the place
+/// names is now among those of its process.
 #[tactic(auto, unfolding(crate::specs::Lines::line))]
 fn place_at<'t>(
     words: &mut Vec<&'t [u8]>,
@@ -197,7 +197,7 @@ fn process_count_at(alloc: Global, format: Format, text: &[u8]) -> Result<(u64, 
     }
 }
 
-/// What all of the text says.
+/// Returns what all of the text says.
 #[tactic(auto, unfolding(crate::specs::Reading::all_of, crate::specs::Reading::object_at))]
 pub(crate) fn read_rows(alloc: Global, text: &[u8]) -> Result<Rows, ReadError>
     ensures read { Gives object_row result (spec.all_of text.now) }

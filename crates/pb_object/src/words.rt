@@ -46,7 +46,7 @@ pub(crate) fn words_into<'t>(
     Err(ReadError::Fault(Fault::Malformed(text.len())))
 }
 
-/// The words of the first line, and what follows its end.
+/// Returns the words of the first line, and what follows its end.
 pub(crate) fn words_of(alloc: Global, text: &[u8]) -> Result<(Vec<&[u8]>, &[u8]), ReadError>
     ensures { Gives (λ x. (map (λ w. w.now) x.0.items, x.1.now)) result (first_line text.now) }
 {
@@ -55,7 +55,7 @@ pub(crate) fn words_of(alloc: Global, text: &[u8]) -> Result<(Vec<&[u8]>, &[u8])
     Ok((words, rest))
 }
 
-/// What the line is read as, where the text from its start on has `left` bytes.
+/// Returns what the line is read as, if the text from its start on has `left` bytes.
 pub(crate) fn judge<T>(left: usize, verdict: Verdict<T>) -> Result<T, ReadError>
     ensures { Gives (λ x. x) result (judged left verdict) }
 {
@@ -66,21 +66,21 @@ pub(crate) fn judge<T>(left: usize, verdict: Verdict<T>) -> Result<T, ReadError>
     }
 }
 
-/// Whether the word is this text.
+/// Returns whether the word is this text.
 pub(crate) fn is(word: &[u8], text: &str) -> bool
     ensures { result ≡ bytes_eq word.now text.now }
 {
     word == text.as_bytes()
 }
 
-/// A copy of the word.
+/// Returns a copy of the word.
 pub(crate) fn copy_of(alloc: Global, word: &[u8]) -> Result<Vec<u8>, AllocError>
     ensures { IfOk result (λ copy. copy.items ≡ word.now) }
 {
     word.to_vec(alloc)
 }
 
-/// Whether two words are the same.
+/// Returns whether two words are the same.
 pub(crate) fn same(a: &[u8], b: &[u8]) -> bool
     ensures { result ≡ bytes_eq a.now b.now }
 {
@@ -102,7 +102,7 @@ pub(crate) fn is_numeral(word: &[u8]) -> bool
     }
 }
 
-/// The number that digits write, or `u64::MAX` where it is larger.
+/// Returns the number that digits write, or `u64::MAX` if it is larger.
 pub(crate) fn saturated(digits: &[u8]) -> u64
     requires { list_all is_ascii_digit digits.now ≡ true }
     ensures { result ≡ min (digits_value 10 digits.now) (2 ^ 64 - 1) }
@@ -116,7 +116,7 @@ pub(crate) fn saturated(digits: &[u8]) -> u64
     number
 }
 
-/// A number from `low` to `high`.
+/// Returns a number from `low` to `high`.
 #[tactic(auto, unfolding(crate::specs::Words::number))]
 pub(crate) fn number(low: u64, high: u64, word: &[u8]) -> Verdict<u64>
     requires { high < 2 ^ 64 - 1 }

@@ -20,7 +20,7 @@ use pb_base::{Capital, Claims, NoMemory};
 use pb_code::{Code, Labels, ProcessCode, ProcessLabels};
 use std::alloc::Global;
 
-/// A keyword and a number.
+/// Writes a keyword and a number.
 fn put_counted(out: &mut Vec<u8>, keyword: &str, number: u64) -> Result<(), NoMemory>
     ensures { OnOk result (out.new.items ≡ out.old.items ++ line_text (spec.counted_words keyword.now number)) }
 {
@@ -52,7 +52,7 @@ fn put_name(out: &mut Vec<u8>, name: &[u8]) -> Result<(), NoMemory>
     Ok(())
 }
 
-/// One word more of a line.
+/// Writes one more word of a line.
 fn put_word(out: &mut Vec<u8>, word: &[u8]) -> Result<(), NoMemory>
     ensures { OnOk result (out.new.items ≡ out.old.items ++ 32 ∷ word.now) }
 {
@@ -61,7 +61,7 @@ fn put_word(out: &mut Vec<u8>, word: &[u8]) -> Result<(), NoMemory>
     Ok(())
 }
 
-/// One number more of a line.
+/// Writes one more number of a line.
 fn put_claim(out: &mut Vec<u8>, claim: u64) -> Result<(), NoMemory>
     ensures { OnOk result (out.new.items ≡ out.old.items ++ 32 ∷ decimal claim) }
 {
@@ -69,7 +69,7 @@ fn put_claim(out: &mut Vec<u8>, claim: u64) -> Result<(), NoMemory>
     put_number(out, claim)
 }
 
-/// The names of integers.
+/// Writes the names of integers.
 fn put_integers(out: &mut Vec<u8>, names: &[Vec<u8>]) -> Result<(), NoMemory>
     ensures { OnOk result (out.new.items
         ≡ out.old.items ++ line_text (spec.integers_words Two (map (λ name. name.items) names.now))) }
@@ -83,7 +83,7 @@ fn put_integers(out: &mut Vec<u8>, names: &[Vec<u8>]) -> Result<(), NoMemory>
     Ok(())
 }
 
-/// The claims of a process.
+/// Writes the claims of a process.
 fn put_claims(out: &mut Vec<u8>, claims: &Claims, p: usize) -> Result<(), NoMemory>
     requires process { p < length claims.now }
     requires width { length (slice_index_or claims.now p []) ≡ width_of claims.now }
@@ -108,7 +108,7 @@ fn put_entries(out: &mut Vec<u8>, entries: &[u16]) -> Result<(), NoMemory>
     Ok(())
 }
 
-/// The places of a process in the first format.
+/// Writes the places of a process in the first format.
 fn put_places(out: &mut Vec<u8>, code: &ProcessCode) -> Result<(), NoMemory>
     ensures { OnOk result (out.new.items
         ≡ out.old.items ++ flat_map (λ i. line_text (instr_words i)) (process_view code.now).instrs) }
@@ -119,7 +119,7 @@ fn put_places(out: &mut Vec<u8>, code: &ProcessCode) -> Result<(), NoMemory>
     Ok(())
 }
 
-/// The places of a process in the second format.
+/// Writes the places of a process in the second format.
 fn put_lined_places(
     out: &mut Vec<u8>,
     code: &ProcessCode,
@@ -137,7 +137,7 @@ fn put_lined_places(
 
 // ---- processes
 
-/// Of a process, how many arms it has, its claims, its entries, and how many places it has.
+/// Writes how many arms a process has, its claims, its entries, and how many places it has.
 fn put_middle(
     out: &mut Vec<u8>,
     code: &ProcessCode,
@@ -158,7 +158,7 @@ fn put_middle(
     put_counted(out, "code", code.instrs.len() as u64)
 }
 
-/// A process in the first format.
+/// Writes a process in the first format.
 fn put_process(out: &mut Vec<u8>, code: &Code, p: usize) -> Result<(), NoMemory>
     requires process { p < length code.now.processes.items }
     requires name { p < length code.now.names.processes.items }
@@ -175,7 +175,7 @@ fn put_process(out: &mut Vec<u8>, code: &Code, p: usize) -> Result<(), NoMemory>
     Ok(())
 }
 
-/// A process in the second format.
+/// Writes a process in the second format.
 fn put_labelled_process(
     out: &mut Vec<u8>,
     code: &Code,
@@ -225,7 +225,7 @@ fn put_heading(out: &mut Vec<u8>, digit: &str) -> Result<(), NoMemory>
     Ok(())
 }
 
-/// All lines before the first process.
+/// Writes all lines before the first process.
 fn put_opening(out: &mut Vec<u8>, digit: &str, code: &Code) -> Result<(), NoMemory>
     requires { length code.now.names.resources.items ≡ length code.now.capital }
     ensures { (rows : List ResourceRow)
@@ -244,7 +244,7 @@ fn put_opening(out: &mut Vec<u8>, digit: &str, code: &Code) -> Result<(), NoMemo
     Ok(())
 }
 
-/// The text of the code in the first format. The error comes only where memory is refused.
+/// Returns the text of the code in the first format. The error comes only if memory is refused.
 pub fn write_object(alloc: Global, code: &Code) -> Result<Vec<u8>, NoMemory>
     requires { HasTextOne (code_view code.now) }
     ensures { IfOk result (λ text. SpellsOne (code_view code.now) text.items) }
@@ -257,7 +257,8 @@ pub fn write_object(alloc: Global, code: &Code) -> Result<Vec<u8>, NoMemory>
     Ok(out)
 }
 
-/// The text of the code and its labels in the second format. The error comes only where memory is refused.
+/// Returns the text of the code and its labels in the second format. The error comes only where memory is
+/// refused.
 pub fn write_object2(alloc: Global, code: &Code, labels: &Labels) -> Result<Vec<u8>, NoMemory>
     requires { HasText Two (code_view code.now) (labels_view labels.now) }
     ensures { IfOk result (λ text. Spells Two (code_view code.now) (labels_view labels.now) text.items) }

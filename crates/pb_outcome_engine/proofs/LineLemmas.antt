@@ -6,6 +6,7 @@ use Rattle.pb_base.specs.Lines.{NameTable, name_of}
 use Rattle.pb_code.specs.View.{process_labels_view}
 use Rattle.pb_code.specs.Whole.{ProcessLabels}
 use Rattle.pb_code.specs.declared.labels.ProcessLabels.{ProcessLabels as GivenLabels}
+use Rattle.pb_engines.specs.Answers.{line}
 use Rattle.pb_explore.specs.Endings.{found_view, process_outcome_view}
 use Rattle.pb_explore.specs.Outcomes.{Found, ProcessOutcome}
 use Rattle.pb_explore.specs.declared.found.Found.{Found as GivenFound}
@@ -109,3 +110,11 @@ pub all_outcomes : (names : NameTable) (labels : List ProcessLabels) (found : Li
 all_outcomes names labels found i text end lines =
     let all : length (map found_view found) ≡ length found = length-map found found_view in
     subst (λ (l : List Found). AreOutcomeLines names labels l text) (take_all i (map found_view found) (omega (arith, all, end))) lines
+
+-- a word and a number behind a text, and the end of their line
+pub line_put : (old word number end with_number new : List ℕ) → with_number ≡ old ++ (word ++ number) → new ≡ with_number ++ line end
+    → new ≡ old ++ line (word ++ number ++ end)
+line_put old word number end with_number new put then_put =
+    then_put ∙ (ap (λ (text : List ℕ). text ++ line end) put
+    ∙ (append_assoc old (word ++ number) (line end)
+    ∙ ap (λ (text : List ℕ). old ++ text) (sym (append_assoc (word ++ number) end (10 ∷ [])))))

@@ -1,5 +1,5 @@
 -- Outcomes of compiled code can be shown: each of their processes and integers has a name.
-use Rattle.std.proofs.Common.{◌≡◌, ℕ, ◌<◌, false, List, [], ◌∷◌, ◌++◌, length, get_or, map, Result, Ok, Err, IfOk, sym, ap, subst, ◌∙◌, arith}
+use Rattle.std.proofs.Common.{◌≡◌, ℕ, ◌<◌, Bool, false, List, [], ◌∷◌, ◌++◌, length, get_or, map, Result, Ok, Err, IfOk, sym, ap, subst, ◌∙◌, arith}
 use Rattle.std.specs.Prelude.{All}
 use Rattle.std.proofs.lemmas.List.{get_or-map, length-map, length-set}
 use Rattle.std.proofs.lemmas.List.Elements.{All-cons, All-nil, All-weaker}
@@ -20,7 +20,7 @@ use Rattle.pb_verifier.proofs.Banking.{get_some, kept_reached}
 use Rattle.pb_verifier.proofs.States.{code_move}
 use Rattle.pb_explore.specs.Configurations.{Comes}
 use Rattle.pb_explore.specs.Endings.{found_view}
-use Rattle.pb_explore.specs.Outcomes.{ByBanker, AreOutcomes, CodeLeads, Configuration, Ends, Found, IsExcess, IsWithin, ProcessOutcome, Reaches, outcome_of, process_outcome}
+use Rattle.pb_explore.specs.Outcomes.{ByBanker, AreOutcomes, CodeLeads, Configuration, Ends, Found, IsExcess, IsWithin, ProcessOutcome, Reaches, TellsEndless, outcome_of, process_outcome}
 use Rattle.pb_explore.specs.declared.found.Found.{Found as GivenFound}
 use Rattle.pb_explore.proofs.Packing.{get_mapped}
 use Rattle.pb_explore.proofs.Reaching.{reaches_as_code}
@@ -110,10 +110,11 @@ module _ (v seen : VerifiedCode) (same : seen ≡ v) (code : Code) (of : code �
       (subst (λ (f : List GivenFound). All (IsShown v.code.names labels) f) (sym same_found)
       (all_shown v.code (subst (λ (x : VerifiedCode). IsAnnotated x.code) same verified.annotated) labels fit found same_outcomes)))
 
-  pub says_all : (states : ℕ) (lines text : List ℕ) → IsWithin ByBanker seen.code states
-      → AreOutcomeLines code.names shown (map found_view given) lines → text ≡ lines ++ all_line (length given)
+  pub says_all : (states : ℕ) (cycles : Bool) (lines text : List ℕ) → IsWithin ByBanker seen.code states
+      → TellsEndless ByBanker seen.code cycles
+      → AreOutcomeLines code.names shown (map found_view given) lines → text ≡ lines ++ all_line (length given) cycles
       → SaysOfCode v.code labels states text Done
-  says_all states lines text within are is =
+  says_all states cycles lines text within endless are is =
       let count : length (map found_view found) ≡ length given =
       length-map found found_view ∙ ap (λ (f : List GivenFound). length f) (sym same_found) in
       let told : AreOutcomeLines v.code.names labels (map found_view found) lines =
@@ -121,9 +122,10 @@ module _ (v seen : VerifiedCode) (same : seen ≡ v) (code : Code) (of : code �
       (subst (λ (l : List ProcessLabels). AreOutcomeLines code.names l (map found_view found) lines) same_labels
       (subst (λ (f : List GivenFound). AreOutcomeLines code.names shown (map found_view f) lines) same_found are)) in
       subst (λ (t : List ℕ). SaysOfCode v.code labels states t Done)
-      (ap (λ n. lines ++ all_line n) count ∙ sym is)
+      (ap (λ n. lines ++ all_line n cycles) count ∙ sym is)
       (all_told (map found_view found) lines same_outcomes
-      (subst (λ (x : VerifiedCode). IsWithin ByBanker x.code states) same within) told)
+      (subst (λ (x : VerifiedCode). IsWithin ByBanker x.code states) same within) told cycles
+      (subst (λ (x : VerifiedCode). TellsEndless ByBanker x.code cycles) same endless))
 
 pub says_excess : (v seen : VerifiedCode) (labels : List ProcessLabels) (states : ℕ) (reply : Result Reply NoMemory) → seen ≡ v
     → IsExcess ByBanker seen.code states → IfOk reply (λ r. (r.text.items ≡ excess_line states) × (r.status ≡ Limit))

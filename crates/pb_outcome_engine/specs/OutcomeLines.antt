@@ -66,9 +66,14 @@ pub data AreOutcomeLines (names : NameTable) (labels : List ProcessLabels) : Lis
       → AreOutcomeLines names labels (found ++ f ∷ [])
       (lines ++ outcome_lines names labels (length found + 1) f.outcome picks)
 
--- the last line
-abbrev pub all_line : ℕ → List ℕ
-all_line count = line (codes "all " ++ decimal count ++ codes " outcomes")
+-- how the last line ends, by whether some run never ends
+abbrev pub runs_text : Bool → List ℕ
+runs_text true = codes " outcomes, some runs do not end"
+runs_text false = codes " outcomes"
+
+-- the last line: how many outcomes there are, and whether some run never ends
+abbrev pub all_line : ℕ → Bool → List ℕ
+all_line count cycles = line (codes "all " ++ decimal count ++ runs_text cycles)
 
 -- the only line, if more configurations than these are reached
 abbrev pub excess_line : ℕ → List ℕ

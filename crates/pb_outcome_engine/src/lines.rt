@@ -18,17 +18,19 @@ use pb_history::CountedPick;
 use pb_picks::write_picks;
 use std::alloc::Global;
 
-/// Returns the lines of these outcomes, each with its picks, and the line that says how many they are.
+/// Returns the lines of these outcomes, each with its picks, and the line that says how many they are and whether some
+/// run never ends.
 pub fn outcomes_text(
     alloc: Global,
     names: &Names,
     labels: &Labels,
     found: &[Found],
+    cycles: bool,
 ) -> Result<Vec<u8>, NoMemory>
     requires { All (IsShown (names_view names.now) (labels_view labels.now)) found.now }
     ensures { IfOk result (λ text. (lines : List ℕ)
         × AreOutcomeLines (names_view names.now) (labels_view labels.now) (map found_view found.now) lines
-        × (text.items ≡ lines ++ all_line (length found.now))) }
+        × (text.items ≡ lines ++ all_line (length found.now) cycles)) }
 {
     let mut text = Vec::new(alloc);
     for i in 0..found.len() {
@@ -36,7 +38,7 @@ pub fn outcomes_text(
         let picks = count_picks(alloc, &one.picks)?;
         put_outcome(&mut text, names, labels, i + 1, one, &picks)?;
     }
-    put_count(&mut text, found.len())?;
+    put_count(&mut text, found.len(), cycles)?;
     Ok(text)
 }
 
@@ -70,12 +72,16 @@ fn put_head(text: &mut Vec<u8>, number: usize) -> Result<(), NoMemory>
     Ok(())
 }
 
-// Puts the line that says how many outcomes there are behind a text.
-fn put_count(text: &mut Vec<u8>, count: usize) -> Result<(), NoMemory>
-    ensures { OnOk result (text.new.items ≡ text.old.items ++ all_line count) }
+// Puts the line that says how many outcomes there are and whether some run never ends behind a text.
+fn put_count(text: &mut Vec<u8>, count: usize, cycles: bool) -> Result<(), NoMemory>
+    ensures { OnOk result (text.new.items ≡ text.old.items ++ all_line count cycles) }
 {
     put_number(text, b"all ", count)?;
-    text.extend_from_slice(b" outcomes\n")?;
+    if cycles {
+        text.extend_from_slice(b" outcomes, some runs do not end\n")?;
+    } else {
+        text.extend_from_slice(b" outcomes\n")?;
+    }
     Ok(())
 }
 

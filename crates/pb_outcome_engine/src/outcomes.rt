@@ -24,11 +24,12 @@ use pb_options::OutcomesOptions;
 use std::alloc::Global;
 
 /// Writes every outcome of the text that the input holds, under the banker: how each process ended, its integers, and
-/// picks that lead there; and at the end how many outcomes there are. If more configurations than `options.states` are
-/// needed, the answer is the line that says so, and the status `Limit`. A text that is refused is answered by its
-/// refusal line.
+/// picks that lead there; and at the end how many outcomes there are, and whether some run never ends. If more
+/// configurations than `options.states` are needed, the answer is the line that says so, and the status `Limit`. A
+/// text that is refused is answered by its refusal line.
 ///
-/// After a read that failed nothing is written; after a write that failed, a first part of what was being said.
+/// After a read that failed nothing is written; after a write that failed, a first part of what was being
+/// said.
 pub fn outcomes_engine<I: Input, O: Output>(
     alloc: Global,
     options: OutcomesOptions,
@@ -65,7 +66,7 @@ fn tell_outcomes<O: Output>(
     }
 }
 
-// The lines of all outcomes of a compiled text, or the line that more configurations are reached.
+// Returns the lines of all outcomes of a compiled text, or the line that more configurations are reached.
 fn reply(alloc: Global, states: u32, compiled: &Compiled) -> Result<Reply, NoMemory>
     requires { AreLabels compiled.now.verified.code compiled.now.labels }
     ensures { IfOk result (λ r.
@@ -74,8 +75,14 @@ fn reply(alloc: Global, states: u32, compiled: &Compiled) -> Result<Reply, NoMem
     let verified = compiled.verified();
     let code = verified.code();
     match explore(alloc, verified, states) {
-        Ok(found) => Ok(Reply {
-            text: outcomes_text(alloc, &code.names, compiled.labels(), &found)?,
+        Ok(told) => Ok(Reply {
+            text: outcomes_text(
+                alloc,
+                &code.names,
+                compiled.labels(),
+                &told.found,
+                told.cycles,
+            )?,
             status: Status::Done,
         }),
         Err(ExploreFault::TooMany) => too_many(alloc, states),
@@ -83,7 +90,7 @@ fn reply(alloc: Global, states: u32, compiled: &Compiled) -> Result<Reply, NoMem
     }
 }
 
-// The reply that more configurations than these are reached.
+// Returns the reply that more configurations than these are reached.
 fn too_many(alloc: Global, states: u32) -> Result<Reply, NoMemory>
     ensures { IfOk result (λ r.
         (r.text.items ≡ excess_line states) × (r.status ≡ Limit)) }

@@ -48,7 +48,7 @@ const CASES: [Case; 9] = [
     Case {
         text: b"process p begin integer x; while 1 do x := 0 od end",
         options: MANY,
-        said: b"all 0 outcomes\n",
+        said: b"all 0 outcomes, some runs do not end\n",
         status: Status::Done,
     },
     Case {
@@ -77,7 +77,7 @@ const CASES: [Case; 9] = [
     },
 ];
 
-/// Whether this is said of a text.
+/// Returns whether this is said of a text.
 fn says(alloc: Global, case: &Case) -> Option<bool> {
     let mut input = MemoryInput::new(case.text);
     let mut output = MemoryOutput::new(alloc, 4_096).ok()?;
@@ -104,7 +104,7 @@ const REPLAYS: [(&[u8], &[u8]); 2] = [
     ),
 ];
 
-/// Whether `replay` says this of an input.
+/// Returns whether `replay` says this of an input.
 fn replays(alloc: Global, input: &[u8], said: &[u8]) -> Option<bool> {
     let mut input = MemoryInput::new(input);
     let mut output = MemoryOutput::new(alloc, 4_096).ok()?;

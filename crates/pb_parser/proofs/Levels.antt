@@ -1,6 +1,6 @@
 -- An expression is its first negation, or its first factor, and what follows that; where no operator comes
 -- next, nothing does.
-use Rattle.std.proofs.Common.{◌≡◌, ◌<◌, List, [], ◌∷◌, length, false, None, Some, Result}
+use Rattle.std.proofs.Common.{◌≡◌, ◌⊎◌, inl, inr, ◌<◌, List, [], ◌∷◌, length, false, None, Some, Result}
 use Rattle.std.proofs.Common.{refl, ◌∙◌, ap, sym, arith}
 use Rattle.pb_base.specs.declared.operators.BinaryOp.{BinaryOp}
 use Rattle.pb_lexer.specs.declared.token.Mark.TheVariants as mark
@@ -14,7 +14,8 @@ use Rattle.pb_parser.specs.Reader.{Answer, Refused, Found, Part, and_then, chain
 use Rattle.pb_parser.specs.ExpressionReader.{joins, joined, factor, term, sum, related, comparison, negation}
 use Rattle.pb_parser.specs.ExpressionReader.{conjunction, disjunction, of_level, looseness}
 use Rattle.pb_parser.specs.ExpressionReader.{factors, terms, negations, conjunctions}
-use Rattle.pb_parser.specs.ExpressionReader.{after_factor, after_negation, is_operator, begins_operator}
+use Rattle.pb_parser.specs.ExpressionReader.{after_factor, after_term, after_sum, after_negation, after_conjunction}
+use Rattle.pb_parser.specs.ExpressionReader.{is_operator, begins_operator}
 use Rattle.pb_parser.specs.Making.{Fails, Finds, Makes}
 use Rattle.pb_parser.specs.Promises.{TakesOperator}
 use Rattle.pb_parser.proofs.Chains.{chain_stops, fails_through}
@@ -77,16 +78,25 @@ found_again : (r : Answer ExprSyntax) → r ≡ and_then r (λ a us. Found a us)
 found_again Refused = refl
 found_again (Found a us) = refl
 
+same_then : {X : Type 0} (r : Answer X) (f g : X → Part X) → ((x : X) (us : List Token) → f x us ≡ g x us) → and_then r f ≡ and_then r g
+same_then Refused f g same = refl
+same_then (Found x us) f g same = same x us
+
 pub splits_at_factor : (inner : Part ExprSyntax) (l : Level) (ts : List Token)
     → looseness l < looseness level.Negation
     → of_level inner l ts ≡ and_then (factor inner ts) (after_factor inner l)
-unfolding after_factor
+unfolding after_factor after_term after_sum
 splits_at_factor inner level.Disjunction ts h = absurd (omega arith)
 splits_at_factor inner level.Conjunction ts h = absurd (omega arith)
 splits_at_factor inner level.Negation ts h = absurd (omega arith)
-splits_at_factor inner level.Comparison ts h = comparison_splits inner ts
-splits_at_factor inner level.Sum ts h = sum_splits inner ts
-splits_at_factor inner level.Term ts h = term_splits inner ts
+splits_at_factor inner level.Comparison ts h =
+    comparison_splits inner ts
+    ∙ same_then (factor inner ts) _ _ (λ a us. then_then (factors inner a us) (terms inner) (related (sum inner)))
+splits_at_factor inner level.Sum ts h =
+    sum_splits inner ts
+    ∙ same_then (factor inner ts) _ _ (λ a us. same_then (factors inner a us) _ _ (λ b vs. found_again (terms inner b vs)))
+splits_at_factor inner level.Term ts h =
+    term_splits inner ts ∙ same_then (factor inner ts) _ _ (λ a us. found_again (factors inner a us))
 splits_at_factor inner level.Factor ts h = found_again (factor inner ts)
 
 -- ---- the first negation
@@ -107,9 +117,10 @@ disjunction_splits inner ts =
 pub splits_at_negation : (inner : Part ExprSyntax) (l : Level) (ts : List Token)
     → looseness level.Negation < looseness l
     → of_level inner l ts ≡ and_then (negation inner ts) (after_negation inner l)
-unfolding after_negation
+unfolding after_negation after_conjunction
 splits_at_negation inner level.Disjunction ts h = disjunction_splits inner ts
-splits_at_negation inner level.Conjunction ts h = conjunction_splits inner ts
+splits_at_negation inner level.Conjunction ts h =
+    conjunction_splits inner ts ∙ same_then (negation inner ts) _ _ (λ a us. found_again (negations inner a us))
 splits_at_negation inner level.Negation ts h = absurd (omega arith)
 splits_at_negation inner level.Comparison ts h = absurd (omega arith)
 splits_at_negation inner level.Sum ts h = absurd (omega arith)
@@ -145,13 +156,13 @@ no_more l part a ts e =
 
 pub factor_ends : (inner : Part ExprSyntax) (l : Level) (a : ExprSyntax) (ts : List Token)
     → begins_operator ts ≡ false → after_factor inner l a ts ≡ Found a ts
-unfolding after_factor
+unfolding after_factor after_term after_sum
 factor_ends inner level.Comparison a ts e =
     rw (no_more level.Term (factor inner) a ts e, no_more level.Sum (term inner) a ts e)
     (related_none (sum inner) a ts (nothing_follows level.Comparison ts e))
 factor_ends inner level.Sum a ts e =
-    rw (no_more level.Term (factor inner) a ts e) (no_more level.Sum (term inner) a ts e)
-factor_ends inner level.Term a ts e = no_more level.Term (factor inner) a ts e
+    rw (no_more level.Term (factor inner) a ts e, no_more level.Sum (term inner) a ts e) refl
+factor_ends inner level.Term a ts e = rw (no_more level.Term (factor inner) a ts e) refl
 factor_ends inner level.Disjunction a ts e = refl
 factor_ends inner level.Conjunction a ts e = refl
 factor_ends inner level.Negation a ts e = refl
@@ -159,11 +170,11 @@ factor_ends inner level.Factor a ts e = refl
 
 pub negation_ends : (inner : Part ExprSyntax) (l : Level) (a : ExprSyntax) (ts : List Token)
     → begins_operator ts ≡ false → after_negation inner l a ts ≡ Found a ts
-unfolding after_negation
+unfolding after_negation after_conjunction
 negation_ends inner level.Disjunction a ts e =
     rw (no_more level.Conjunction (negation inner) a ts e)
     (no_more level.Disjunction (conjunction inner) a ts e)
-negation_ends inner level.Conjunction a ts e = no_more level.Conjunction (negation inner) a ts e
+negation_ends inner level.Conjunction a ts e = rw (no_more level.Conjunction (negation inner) a ts e) refl
 negation_ends inner level.Negation a ts e = refl
 negation_ends inner level.Comparison a ts e = refl
 negation_ends inner level.Sum a ts e = refl
@@ -171,6 +182,29 @@ negation_ends inner level.Term a ts e = refl
 negation_ends inner level.Factor a ts e = refl
 
 -- ---- levels that are read already
+
+-- what follows a factor begins with the rest of the term, and what follows a negation with the rest of the conjunction
+pub factors_first : (inner : Part ExprSyntax) (l : Level) (a : ExprSyntax) (ts : List Token)
+    → (l ≡ level.Comparison) ⊎ ((l ≡ level.Sum) ⊎ (l ≡ level.Term))
+    → after_factor inner l a ts ≡ and_then (factors inner a ts) (after_term inner l)
+unfolding after_factor
+factors_first inner l a ts (inl e) = rw e refl
+factors_first inner l a ts (inr (inl e)) = rw e refl
+factors_first inner l a ts (inr (inr e)) = rw e refl
+
+pub terms_first : (inner : Part ExprSyntax) (l : Level) (a : ExprSyntax) (ts : List Token)
+    → (l ≡ level.Comparison) ⊎ (l ≡ level.Sum)
+    → after_term inner l a ts ≡ and_then (terms inner a ts) (after_sum inner l)
+unfolding after_term
+terms_first inner l a ts (inl e) = rw e refl
+terms_first inner l a ts (inr e) = rw e refl
+
+pub negations_first : (inner : Part ExprSyntax) (l : Level) (a : ExprSyntax) (ts : List Token)
+    → (l ≡ level.Disjunction) ⊎ (l ≡ level.Conjunction)
+    → after_negation inner l a ts ≡ and_then (negations inner a ts) (after_conjunction inner l)
+unfolding after_negation
+negations_first inner l a ts (inl e) = rw e refl
+negations_first inner l a ts (inr e) = rw e refl
 
 pub factor_alone : (inner : Part ExprSyntax) (l : Level) (a : ExprSyntax) (ts : List Token)
     → (l ≡ level.Comparison → ⊥) → (l ≡ level.Sum → ⊥) → (l ≡ level.Term → ⊥)
@@ -195,6 +229,39 @@ negation_alone inner level.Comparison a ts x y = refl
 negation_alone inner level.Sum a ts x y = refl
 negation_alone inner level.Term a ts x y = refl
 negation_alone inner level.Factor a ts x y = refl
+
+pub term_alone : (inner : Part ExprSyntax) (l : Level) (a : ExprSyntax) (ts : List Token)
+    → (l ≡ level.Comparison → ⊥) → (l ≡ level.Sum → ⊥) → after_term inner l a ts ≡ Found a ts
+unfolding after_term
+term_alone inner level.Comparison a ts x y = absurd (x refl)
+term_alone inner level.Sum a ts x y = absurd (y refl)
+term_alone inner level.Term a ts x y = refl
+term_alone inner level.Disjunction a ts x y = refl
+term_alone inner level.Conjunction a ts x y = refl
+term_alone inner level.Negation a ts x y = refl
+term_alone inner level.Factor a ts x y = refl
+
+pub sum_alone : (inner : Part ExprSyntax) (l : Level) (a : ExprSyntax) (ts : List Token)
+    → (l ≡ level.Comparison → ⊥) → after_sum inner l a ts ≡ Found a ts
+unfolding after_sum
+sum_alone inner level.Comparison a ts x = absurd (x refl)
+sum_alone inner level.Sum a ts x = refl
+sum_alone inner level.Term a ts x = refl
+sum_alone inner level.Disjunction a ts x = refl
+sum_alone inner level.Conjunction a ts x = refl
+sum_alone inner level.Negation a ts x = refl
+sum_alone inner level.Factor a ts x = refl
+
+pub conjunction_alone : (inner : Part ExprSyntax) (l : Level) (a : ExprSyntax) (ts : List Token)
+    → (l ≡ level.Disjunction → ⊥) → after_conjunction inner l a ts ≡ Found a ts
+unfolding after_conjunction
+conjunction_alone inner level.Disjunction a ts x = absurd (x refl)
+conjunction_alone inner level.Conjunction a ts x = refl
+conjunction_alone inner level.Negation a ts x = refl
+conjunction_alone inner level.Comparison a ts x = refl
+conjunction_alone inner level.Sum a ts x = refl
+conjunction_alone inner level.Term a ts x = refl
+conjunction_alone inner level.Factor a ts x = refl
 
 -- ---- a relation
 

@@ -102,18 +102,33 @@ negations inner a ts = more (joins level.Conjunction) (negation inner) a ts
 abbrev pub conjunctions : Part ExprSyntax → ExprSyntax → Part ExprSyntax
 conjunctions inner a ts = more (joins level.Disjunction) (conjunction inner) a ts
 
+-- the rest of a comparison behind its first sum
+unfoldable pub after_sum : Part ExprSyntax → Level → ExprSyntax → Part ExprSyntax
+after_sum inner level.Comparison a ts = related (sum inner) a ts
+after_sum inner _ a ts = Found a ts
+
+-- the rest of a comparison or sum behind its first term
+unfoldable pub after_term : Part ExprSyntax → Level → ExprSyntax → Part ExprSyntax
+after_term inner level.Sum a ts = and_then (terms inner a ts) (after_sum inner level.Sum)
+after_term inner level.Comparison a ts = and_then (terms inner a ts) (after_sum inner level.Comparison)
+after_term inner _ a ts = Found a ts
+
 -- the rest of a comparison, sum or term behind its first factor
 unfoldable pub after_factor : Part ExprSyntax → Level → ExprSyntax → Part ExprSyntax
-after_factor inner level.Term a ts = factors inner a ts
-after_factor inner level.Sum a ts = and_then (factors inner a ts) (terms inner)
-after_factor inner level.Comparison a ts =
-    and_then (and_then (factors inner a ts) (terms inner)) (related (sum inner))
+after_factor inner level.Term a ts = and_then (factors inner a ts) (after_term inner level.Term)
+after_factor inner level.Sum a ts = and_then (factors inner a ts) (after_term inner level.Sum)
+after_factor inner level.Comparison a ts = and_then (factors inner a ts) (after_term inner level.Comparison)
 after_factor inner _ a ts = Found a ts
+
+-- the rest of a disjunction behind its first conjunction
+unfoldable pub after_conjunction : Part ExprSyntax → Level → ExprSyntax → Part ExprSyntax
+after_conjunction inner level.Disjunction a ts = conjunctions inner a ts
+after_conjunction inner _ a ts = Found a ts
 
 -- the rest of a disjunction or conjunction behind its first negation
 unfoldable pub after_negation : Part ExprSyntax → Level → ExprSyntax → Part ExprSyntax
-after_negation inner level.Conjunction a ts = negations inner a ts
-after_negation inner level.Disjunction a ts = and_then (negations inner a ts) (conjunctions inner)
+after_negation inner level.Conjunction a ts = and_then (negations inner a ts) (after_conjunction inner level.Conjunction)
+after_negation inner level.Disjunction a ts = and_then (negations inner a ts) (after_conjunction inner level.Disjunction)
 after_negation inner _ a ts = Found a ts
 
 -- whether a lexeme is a binary operator

@@ -6,7 +6,7 @@ use Rattle.pb_parser.specs.declared.fault.ParseFault.{ParseFault}
 use Rattle.pb_parser.specs.declared.fault.ParseFault.TheVariants as fault
 use Rattle.pb_parser.specs.Reader.{Answer, Refused, Found}
 
--- what a fault says of an answer: the grammar refuses it, or memory ran out, where it may
+-- what a fault says of an answer: the grammar refuses it, or memory ran out, if it may
 abbrev pub Fails : {Y : Type 0} → (wants : Type 0) → ParseFault → Answer Y → Type 0
 Fails wants (fault.Syntax at) answer = answer ≡ Refused
 Fails wants fault.TooDeep answer = ⊥

@@ -37,13 +37,13 @@ Signs wants is (Ok x) n op operand = (e : ExprSyntax) → is operand e
     → (rest : List Token) → Finds is x (signs n op (Found e rest)) rest
 Signs wants is (Err e) n op operand = (e ≡ fault.NoMemory) × wants
 
--- the next token is taken where it joins more to what was read, by the operator `op`
+-- the next token is taken if it joins more to what was read, by the operator `op`
 abbrev pub TakesOperator : Level → Option BinaryOp → List Token → List Token → Type 0
 TakesOperator l (Some op) old new =
     (t : Token) × (old ≡ t ∷ new) × (joins l t.lexeme ≡ Some (tree.binary op))
 TakesOperator l None old new = (new ≡ old) × Stops (joins l) old
 
--- the next token is taken where it is the symbol or word
+-- the next token is taken if it is the symbol or word
 abbrev pub TakesMark : Mark → Bool → List Token → List Token → Type 0
 TakesMark m true old new = (t : Token) × (old ≡ t ∷ new) × (is_mark m t.lexeme ≡ true)
 TakesMark m false old new = (new ≡ old) × (expect m old ≡ Refused)

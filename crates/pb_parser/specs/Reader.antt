@@ -6,7 +6,7 @@ use Rattle.pb_lexer.specs.contracts.token.Mark.{the_type}
 use Rattle.pb_lexer.specs.declared.token.Mark.{Mark}
 use Rattle.pb_lexer.specs.Tokens.{Lexeme, Fixed, Token}
 
--- what was read, and the tokens after it; none where the tokens are not in the grammar
+-- what was read, and the tokens after it; none if the tokens are not in the grammar
 pub data Answer (X : Type 0) : Type 0 where
   Refused : Answer X
   Found : X → List Token → Answer X
@@ -25,7 +25,7 @@ unfoldable pub is_mark : Mark → Lexeme → Bool
 is_mark m (Fixed k) = sameb the_type k m
 is_mark m _ = false
 
--- the tokens after a symbol or reserved word, where it was tested
+-- the tokens after a symbol or reserved word, if it was tested
 abbrev pub expect_by : Bool → List Token → Answer (Unit {0})
 expect_by true ts = Found tt ts
 expect_by false ts = Refused
@@ -44,7 +44,7 @@ ended (t ∷ ts) = Refused
 abbrev pub Join : Type 0 → Type 0
 Join X = Lexeme → Option (X → X → X)
 
--- one more turn of a chain, where the join is known
+-- one more turn of a chain, if the join is known
 abbrev pub chain_by : {X : Type 0} → Part X → (X → Part X) → X → Answer X → List Token → Option (X → X → X)
     → Answer X
 chain_by part go a stop ts None = stop

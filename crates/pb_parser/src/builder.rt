@@ -51,21 +51,21 @@ pub(crate) trait Builder: Drop {
 
     ghost is_program: { Self.Program → ProgramSyntax → Type 0 };
 
-    /// A number as an expression.
+    /// Returns a number as an expression.
     fn number(&self, number: Number) -> Self::Expr
         ensures { is_expr result (tree.number (number_view number)) };
 
-    /// A name as an expression.
+    /// Returns a name as an expression.
     fn variable(&self, text: &[u8], at: usize) -> Result<Self::Expr, NoMemory>
         ensures made { IfOk result (λ x. is_expr x (tree.variable (record { text = text.now; at = at }))) }
         ensures fault { IfErr result (λ _. wants) };
 
-    /// An operand behind a prefix operator.
+    /// Returns an operand behind a prefix operator.
     fn unary(&self, op: UnaryOp, operand: Self::Expr) -> Result<Self::Expr, NoMemory>
         ensures made { (e : ExprSyntax) → is_expr operand e → IfOk result (λ x. is_expr x (tree.unary op e)) }
         ensures fault { IfErr result (λ _. wants) };
 
-    /// Two operands with an operator between them.
+    /// Returns two operands with an operator between them.
     fn binary(
         &self,
         op: BinaryOp,
@@ -76,12 +76,12 @@ pub(crate) trait Builder: Drop {
             → IfOk result (λ x. is_expr x (tree.binary op a b)) }
         ensures fault { IfErr result (λ _. wants) };
 
-    /// No statement.
+    /// Returns a list of no statement.
     fn no_stmts(&self) -> Result<Self::Stmts, NoMemory>
         ensures made { IfOk result (λ x. is_stmts x tree.no_stmt) }
         ensures fault { IfErr result (λ _. wants) };
 
-    /// One more statement, an assignment.
+    /// Adds an assignment.
     fn assign(
         &self,
         out: &mut Self::Stmts,
@@ -95,13 +95,13 @@ pub(crate) trait Builder: Drop {
             (single (tree.assign line (record { text = text.now; at = at }) e))) }
         ensures fault { IfErr result (λ _. wants) };
 
-    /// One more statement, which prints.
+    /// Adds a statement that prints.
     fn print(&self, out: &mut Self::Stmts, line: u32, value: Self::Expr) -> Result<(), NoMemory>
         ensures made { (e : ExprSyntax) → is_expr value e
             → IfOk result (λ _. Adds is_stmts append out.old out.new (single (tree.print line e))) }
         ensures fault { IfErr result (λ _. wants) };
 
-    /// One more statement, a choice between two lists.
+    /// Adds a choice between two lists.
     fn choice(
         &self,
         out: &mut Self::Stmts,
@@ -115,7 +115,7 @@ pub(crate) trait Builder: Drop {
             → IfOk result (λ _. Adds is_stmts append out.old out.new (single (tree.if_else line e a b))) }
         ensures fault { IfErr result (λ _. wants) };
 
-    /// One more statement, a loop.
+    /// Adds a loop.
     fn repeat(
         &self,
         out: &mut Self::Stmts,
@@ -127,7 +127,7 @@ pub(crate) trait Builder: Drop {
             → IfOk result (λ _. Adds is_stmts append out.old out.new (single (tree.while_do line e a))) }
         ensures fault { IfErr result (λ _. wants) };
 
-    /// One more statement, which holds resources.
+    /// Adds a statement that holds resources.
     fn hold(
         &self,
         out: &mut Self::Stmts,
@@ -139,29 +139,29 @@ pub(crate) trait Builder: Drop {
             → IfOk result (λ _. Adds is_stmts append out.old out.new (single (tree.hold line ds a))) }
         ensures fault { IfErr result (λ _. wants) };
 
-    /// One more statement, whose arms run side by side.
+    /// Adds a statement whose arms run side by side.
     fn fork(&self, out: &mut Self::Stmts, line: u32, arms: Self::Arms) -> Result<(), NoMemory>
         ensures made { (a : ArmsSyntax) → is_arms arms a
             → IfOk result (λ _. Adds is_stmts append out.old out.new (single (tree.parbegin line a))) }
         ensures fault { IfErr result (λ _. wants) };
 
-    /// No arm.
+    /// Returns a list of no arm.
     fn no_arms(&self) -> Result<Self::Arms, NoMemory>
         ensures made { IfOk result (λ x. is_arms x tree.no_arm) }
         ensures fault { IfErr result (λ _. wants) };
 
-    /// One more arm.
+    /// Adds an arm.
     fn add_arm(&self, out: &mut Self::Arms, body: Self::Stmts) -> Result<(), NoMemory>
         ensures made { (a : StmtsSyntax) → is_stmts body a
             → IfOk result (λ _. Adds is_arms append_arms out.old out.new (single_arm a)) }
         ensures fault { IfErr result (λ _. wants) };
 
-    /// No demand.
+    /// Returns a list of no demand.
     fn no_demands(&self) -> Result<Self::Demands, NoMemory>
         ensures made { IfOk result (λ x. is_demands x []) }
         ensures fault { IfErr result (λ _. wants) };
 
-    /// One more demand, of so much of the resource of this name.
+    /// Adds a demand, of this amount of the resource of this name.
     fn add_demand(
         &self,
         out: &mut Self::Demands,
@@ -173,23 +173,23 @@ pub(crate) trait Builder: Drop {
             (record { amount = number_view amount; resource = record { text = text.now; at = at } } ∷ [])) }
         ensures fault { IfErr result (λ _. wants) };
 
-    /// No name.
+    /// Returns a list of no name.
     fn no_names(&self) -> Result<Self::Names, NoMemory>
         ensures made { IfOk result (λ x. is_names x []) }
         ensures fault { IfErr result (λ _. wants) };
 
-    /// One more name.
+    /// Adds a name.
     fn add_name(&self, out: &mut Self::Names, text: &[u8], at: usize) -> Result<(), NoMemory>
         ensures made { IfOk result (λ _. Adds is_names concat out.old out.new
             (record { text = text.now; at = at } ∷ [])) }
         ensures fault { IfErr result (λ _. wants) };
 
-    /// No resource.
+    /// Returns a list of no resource.
     fn no_resources(&self) -> Result<Self::Resources, NoMemory>
         ensures made { IfOk result (λ x. is_resources x []) }
         ensures fault { IfErr result (λ _. wants) };
 
-    /// One more resource, of this name and with so much of it.
+    /// Adds a resource of this name and amount.
     fn add_resource(
         &self,
         out: &mut Self::Resources,
@@ -201,12 +201,12 @@ pub(crate) trait Builder: Drop {
             (record { name = record { text = text.now; at = at }; capital = number_view capital } ∷ [])) }
         ensures fault { IfErr result (λ _. wants) };
 
-    /// No process.
+    /// Returns a list of no process.
     fn no_processes(&self) -> Result<Self::Processes, NoMemory>
         ensures made { IfOk result (λ x. is_processes x []) }
         ensures fault { IfErr result (λ _. wants) };
 
-    /// One more process, of this name, with its integers and statements.
+    /// Adds a process of this name, with its integers and statements.
     fn add_process(
         &self,
         out: &mut Self::Processes,
@@ -220,7 +220,7 @@ pub(crate) trait Builder: Drop {
             (record { name = record { text = text.now; at = at }; integers = xs; body = a } ∷ [])) }
         ensures fault { IfErr result (λ _. wants) };
 
-    /// A program of these resources and processes.
+    /// Returns a program of these resources and processes.
     fn program(&self, resources: Self::Resources, processes: Self::Processes) -> Self::Program
         ensures { (rs : List ResourceSyntax) (ps : List ProcessSyntax) → is_resources resources rs
             → is_processes processes ps → is_program result (record { resources = rs; processes = ps }) };

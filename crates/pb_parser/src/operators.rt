@@ -11,7 +11,7 @@ use crate::level::Level;
 use pb_base::BinaryOp;
 use pb_lexer::token::{Kind, Mark, Token};
 
-/// The binary operator of a level that the mark is.
+/// Returns the binary operator of a level that the mark is.
 #[inline]
 fn operator_of(level: Level, mark: Mark) -> Option<BinaryOp>
     ensures { result ≡ grammar.operator level (Fixed mark) }
@@ -49,7 +49,7 @@ fn operator_of(level: Level, mark: Mark) -> Option<BinaryOp>
     }
 }
 
-/// The binary operator of a level that a token of the kind is.
+/// Returns the binary operator of a level that a token of the kind is.
 #[inline]
 pub(crate) fn operator(level: Level, kind: Kind) -> Option<BinaryOp>
     ensures { (text : List ℕ) → result ≡ grammar.operator level (spec_tokens.lexeme kind text) }
@@ -60,7 +60,7 @@ pub(crate) fn operator(level: Level, kind: Kind) -> Option<BinaryOp>
     }
 }
 
-/// Whether a token of the kind is a binary operator.
+/// Returns whether a token of the kind is a binary operator.
 #[inline]
 pub(crate) fn is_operator(kind: Kind) -> bool
     ensures { (text : List ℕ) → result ≡ reads.is_operator (spec_tokens.lexeme kind text) }
@@ -74,7 +74,7 @@ pub(crate) fn is_operator(kind: Kind) -> bool
     }
 }
 
-/// Whether a token of the kind is the mark.
+/// Returns whether a token of the kind is the mark.
 #[tactic(auto, using(crate::proofs::Marks::no_mark), unfolding(crate::specs::Reader::is_mark))]
 pub(crate) fn is_mark(mark: Mark, kind: Kind) -> bool
     ensures { (text : List ℕ) → result ≡ reader.is_mark mark (spec_tokens.lexeme kind text) }

@@ -28,7 +28,7 @@ pub(crate) struct Parser<'a, 't, B> {
 }
 
 impl<'a, 't, B: Builder> Parser<'a, 't, B> {
-    /// The next token is not in the grammar here.
+    /// Returns the fault that the next token is not in the grammar here.
     pub(crate) fn fault(&self) -> ParseFault
         ensures { (at : ℕ) × (result ≡ ParseFault.Syntax at) }
     {
@@ -59,7 +59,7 @@ impl<'a, 't, B: Builder> Parser<'a, 't, B> {
         }
     }
 
-    /// Takes the next token where it is the mark.
+    /// Takes the next token if it is the mark.
     pub(crate) fn eat(&mut self, mark: Mark) -> bool
         ensures { TakesMark mark result (tokens self.old.rest.now) (tokens self.new.rest.now) }
     {
@@ -94,7 +94,7 @@ impl<'a, 't, B: Builder> Parser<'a, 't, B> {
         }
     }
 
-    /// Takes the next token where it is an operator of the level.
+    /// Takes the next token if it is an operator of the level.
     #[tactic(auto, unfolding(crate::specs::ExpressionReader::joins))]
     pub(crate) fn operator(&mut self, level: Level) -> Option<BinaryOp>
         ensures { TakesOperator level result (tokens self.old.rest.now) (tokens self.new.rest.now) }
@@ -109,7 +109,7 @@ impl<'a, 't, B: Builder> Parser<'a, 't, B> {
         Some(op)
     }
 
-    /// Whether the next token is an operator, of whatever level.
+    /// Returns whether the next token is an operator, of whatever level.
     #[inline]
     fn at_operator(&self) -> bool
         ensures { result ≡ reads.begins_operator (tokens self.now.rest.now) }
@@ -120,7 +120,7 @@ impl<'a, 't, B: Builder> Parser<'a, 't, B> {
         }
     }
 
-    /// How many times the mark comes next; all of them are taken.
+    /// Returns how many times the mark comes next; all of them are taken.
     pub(crate) fn count(&mut self, mark: Mark) -> usize
         ensures signs { (op : UnaryOp) (part : reader.Part ExprSyntax) →
             reads.signed mark op part (tokens self.old.rest.now)
@@ -133,7 +133,7 @@ impl<'a, 't, B: Builder> Parser<'a, 't, B> {
         taken
     }
 
-    /// The next token, which is a name.
+    /// Returns the next token, which is a name.
     pub(crate) fn name(&mut self) -> Result<Token<'t>, ParseFault>
         ensures { Gives name_of result
             (parts.a_name (tokens self.old.rest.now)) (tokens self.new.rest.now) }
@@ -169,7 +169,7 @@ impl<'a, 't, B: Builder> Parser<'a, 't, B> {
         }
     }
 
-    /// An operand behind a number of prefix operators.
+    /// Returns an operand behind a number of prefix operators.
     fn signed(&self, op: UnaryOp, count: usize, operand: B::Expr) -> Result<B::Expr, ParseFault>
         ensures { Signs B.wants B.is_expr result count op operand }
     {
@@ -180,7 +180,8 @@ impl<'a, 't, B: Builder> Parser<'a, 't, B> {
         Ok(whole)
     }
 
-    /// An expression with fewer than `depth` open brackets.
+    /// Returns an expression with fewer than `depth` open brackets.
+    #[inline(always)]
     #[cycle(expression)]
     pub(crate) fn expression(&mut self, depth: usize) -> Result<B::Expr, ParseFault>
         ensures { Makes B.wants B.is_expr result
@@ -210,7 +211,8 @@ impl<'a, 't, B: Builder> Parser<'a, 't, B> {
         }
     }
 
-    /// A disjunction or conjunction: most are a negation that no operator follows.
+    /// Returns a disjunction or conjunction: most are a negation that no operator follows.
+    #[inline(never)]
     #[cycle(expression)]
     fn logical(&mut self, depth: usize, level: Level) -> Result<B::Expr, ParseFault>
         requires { reads.looseness Level.Negation < reads.looseness level }
@@ -225,7 +227,8 @@ impl<'a, 't, B: Builder> Parser<'a, 't, B> {
         Ok(first)
     }
 
-    /// The rest of a disjunction or conjunction behind its first negation.
+    /// Returns the rest of a disjunction or conjunction behind its first negation.
+    #[inline(always)]
     #[cycle(expression)]
     fn after_negation(
         &mut self,
@@ -239,16 +242,38 @@ impl<'a, 't, B: Builder> Parser<'a, 't, B> {
             (tokens self.new.rest.now) }
     {
         match level {
-            Level::Disjunction => {
-                let left = self.after_negation(depth, Level::Conjunction, first)?;
-                self.chain(depth, Level::Disjunction, Level::Conjunction, left)
+            Level::Disjunction | Level::Conjunction => {
+                let left = self.chain(depth, Level::Conjunction, Level::Negation, first)?;
+                self.after_conjunction(depth, level, left)
             }
-            Level::Conjunction => self.chain(depth, Level::Conjunction, Level::Negation, first),
             _ => Ok(first),
         }
     }
 
-    /// A comparison, sum or term: most are a factor that no operator follows.
+    /// Returns the rest of a disjunction behind its first conjunction.
+    #[inline(always)]
+    #[cycle(expression)]
+    fn after_conjunction(
+        &mut self,
+        depth: usize,
+        level: Level,
+        first: B::Expr,
+    ) -> Result<B::Expr, ParseFault>
+        requires { (a : ExprSyntax) × B.is_expr first a }
+        ensures { (a : ExprSyntax) → B.is_expr first a → Makes B.wants B.is_expr result
+            (reads.after_conjunction (reads.expression depth) level a (tokens self.old.rest.now))
+            (tokens self.new.rest.now) }
+    {
+        match level {
+            Level::Disjunction => {
+                self.chain(depth, Level::Disjunction, Level::Conjunction, first)
+            }
+            _ => Ok(first),
+        }
+    }
+
+    /// Returns a comparison, sum or term: most are a factor that no operator follows.
+    #[inline(always)]
     #[cycle(expression)]
     fn arithmetic(&mut self, depth: usize, level: Level) -> Result<B::Expr, ParseFault>
         requires { reads.looseness level < reads.looseness Level.Negation }
@@ -263,7 +288,8 @@ impl<'a, 't, B: Builder> Parser<'a, 't, B> {
         Ok(first)
     }
 
-    /// The rest of a comparison, sum or term behind its first factor.
+    /// Returns the rest of a comparison, sum or term behind its first factor.
+    #[inline(never)]
     #[cycle(expression)]
     fn after_factor(
         &mut self,
@@ -277,20 +303,58 @@ impl<'a, 't, B: Builder> Parser<'a, 't, B> {
             (tokens self.new.rest.now) }
     {
         match level {
-            Level::Comparison => {
-                let left = self.after_factor(depth, Level::Sum, first)?;
-                self.relation(depth, left)
+            Level::Comparison | Level::Sum | Level::Term => {
+                let left = self.chain(depth, Level::Term, Level::Factor, first)?;
+                self.after_term(depth, level, left)
             }
-            Level::Sum => {
-                let left = self.after_factor(depth, Level::Term, first)?;
-                self.chain(depth, Level::Sum, Level::Term, left)
+            _ => Ok(first),
+        }
+    }
+
+    /// Returns the rest of a comparison or sum behind its first term.
+    #[inline(always)]
+    #[cycle(expression)]
+    fn after_term(
+        &mut self,
+        depth: usize,
+        level: Level,
+        first: B::Expr,
+    ) -> Result<B::Expr, ParseFault>
+        requires { (a : ExprSyntax) × B.is_expr first a }
+        ensures { (a : ExprSyntax) → B.is_expr first a → Makes B.wants B.is_expr result
+            (reads.after_term (reads.expression depth) level a (tokens self.old.rest.now))
+            (tokens self.new.rest.now) }
+    {
+        match level {
+            Level::Comparison | Level::Sum => {
+                let left = self.chain(depth, Level::Sum, Level::Term, first)?;
+                self.after_sum(depth, level, left)
             }
-            Level::Term => self.chain(depth, Level::Term, Level::Factor, first),
+            _ => Ok(first),
+        }
+    }
+
+    /// Returns the rest of a comparison behind its first sum.
+    #[inline(always)]
+    #[cycle(expression)]
+    fn after_sum(
+        &mut self,
+        depth: usize,
+        level: Level,
+        first: B::Expr,
+    ) -> Result<B::Expr, ParseFault>
+        ensures { (a : ExprSyntax) → B.is_expr first a → Makes B.wants B.is_expr result
+            (reads.after_sum (reads.expression depth) level a (tokens self.old.rest.now))
+            (tokens self.new.rest.now) }
+    {
+        match level {
+            Level::Comparison => self.relation(depth, first),
             _ => Ok(first),
         }
     }
 
     /// Parts joined by the operators of a level behind the first, grouped to the left.
+    #[inline(always)]
     #[cycle(expression)]
     fn chain(
         &mut self,
@@ -313,7 +377,8 @@ impl<'a, 't, B: Builder> Parser<'a, 't, B> {
         Ok(left)
     }
 
-    /// What was read, joined with one more part.
+    /// Returns what was read, joined with one more part.
+    #[inline(always)]
     #[cycle(expression)]
     fn joined(
         &mut self,
@@ -330,7 +395,8 @@ impl<'a, 't, B: Builder> Parser<'a, 't, B> {
         Ok(self.build.binary(op, left, right)?)
     }
 
-    /// A sum, and another one if a relation is between them.
+    /// Returns a sum, and another one if a relation is between them.
+    #[inline(always)]
     #[cycle(expression)]
     #[tactic(auto, using(crate::proofs::Levels::one_sum, crate::proofs::Levels::two_sums))]
     fn relation(&mut self, depth: usize, left: B::Expr) -> Result<B::Expr, ParseFault>
@@ -344,6 +410,7 @@ impl<'a, 't, B: Builder> Parser<'a, 't, B> {
         self.joined(depth, Level::Sum, op, left)
     }
 
+    #[inline(always)]
     #[cycle(expression)]
     #[tactic(auto, unfolding(crate::specs::ExpressionReader::negation))]
     fn negation(&mut self, depth: usize) -> Result<B::Expr, ParseFault>
@@ -356,6 +423,7 @@ impl<'a, 't, B: Builder> Parser<'a, 't, B> {
         self.signed(UnaryOp::Not, count, operand)
     }
 
+    #[inline(never)]
     #[cycle(expression)]
     #[tactic(auto, unfolding(crate::specs::ExpressionReader::factor))]
     fn factor(&mut self, depth: usize) -> Result<B::Expr, ParseFault>
@@ -368,7 +436,8 @@ impl<'a, 't, B: Builder> Parser<'a, 't, B> {
         self.signed(UnaryOp::Negate, count, operand)
     }
 
-    /// A number, a name or an expression in brackets.
+    /// Returns a number, a name or an expression in brackets.
+    #[inline(always)]
     #[cycle(expression)]
     #[tactic(auto, unfolding(crate::specs::ExpressionReader::primary))]
     fn primary(&mut self, depth: usize) -> Result<B::Expr, ParseFault>

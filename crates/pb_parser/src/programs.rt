@@ -26,7 +26,8 @@ const HIGHEST: u64 = 200;
 
 const MOST_NODES: u64 = 16_384;
 
-/// At most this many parts of a program stand in one another if at most 256 brackets and statements stand open.
+/// At most this many parts of a program stand in one another if at most 256 brackets and statements stand
+/// open.
 const DEPTH: usize = 257;
 
 /// A name, and how much there is of the resource that it declares.
@@ -91,7 +92,7 @@ impl<'a, 't, B: Builder> Parser<'a, 't, B> {
         Ok(found)
     }
 
-    /// The names of integers, if some are declared.
+    /// Returns the names of integers, if some are declared.
     #[tactic(auto, unfolding(crate::specs::ProgramReader::integers))]
     fn integers(&mut self) -> Result<B::Names, ParseFault>
         ensures { Makes B.wants B.is_names result
@@ -105,7 +106,7 @@ impl<'a, 't, B: Builder> Parser<'a, 't, B> {
         Ok(found)
     }
 
-    /// A process, added to `out`.
+    /// Reads a process, and adds it to `out`.
     #[tactic(auto, unfolding(crate::specs::ProgramReader::a_process))]
     fn process(&mut self, depth: usize, out: &mut B::Processes) -> Result<(), ParseFault>
         ensures { Makes B.wants (λ _. Adds B.is_processes concat out.old out.new) result
@@ -148,7 +149,7 @@ impl<'a, 't, B: Builder> Parser<'a, 't, B> {
     }
 }
 
-/// What the builder makes of the tokens.
+/// Returns what the builder makes of the tokens.
 fn read<B: Builder>(build: B, tokens: &[Token<'_>]) -> Result<B::Program, ParseFault>
     ensures { Makes B.wants B.is_program result
         (reads.program DEPTH (spec_tokens.tokens tokens.now)) [] }
@@ -161,7 +162,7 @@ fn read<B: Builder>(build: B, tokens: &[Token<'_>]) -> Result<B::Program, ParseF
     parser.program(DEPTH)
 }
 
-/// The program that the tokens are.
+/// Returns the program that the tokens are.
 ///
 /// Tokens that nest too deep are refused before the grammar is looked at, and a program over a limit after:
 /// first its height, then its nodes. All this takes no memory: the tree is made of a program that is within

@@ -23,7 +23,7 @@ struct Pair<'t> {
 }
 
 impl<'a, 't, B: Builder> Parser<'a, 't, B> {
-    /// An amount of a resource.
+    /// Returns an amount of a resource.
     #[tactic(auto, unfolding(crate::specs::StatementReader::a_pair))]
     fn pair(&mut self) -> Result<Pair<'t>, ParseFault>
         ensures { Gives
@@ -44,10 +44,10 @@ impl<'a, 't, B: Builder> Parser<'a, 't, B> {
         Ok(self.build.add_demand(out, pair.amount, text, at)?)
     }
 
-    // Each kind of statement is read by a call of its own that is not inlined: the locals of all kinds would lie in
-    // each frame of the recursion of statements, and a deep program would need more stack.
+    // Each kind of statement is read by a call of its own that is not inlined: the locals of all kinds would
+    // lie in each frame of the recursion of statements, and a deep program would need more stack.
 
-    /// The pairs of a hold.
+    /// Returns the pairs of a hold.
     #[inline(never)]
     fn pairs(&mut self) -> Result<B::Demands, ParseFault>
         ensures { Makes B.wants B.is_demands result
@@ -63,7 +63,7 @@ impl<'a, 't, B: Builder> Parser<'a, 't, B> {
         Ok(found)
     }
 
-    /// Statements with `;` between them, added to `out`.
+    /// Reads statements with `;` between them, and adds them to `out`.
     #[cycle(statement)]
     fn list(&mut self, depth: usize, out: &mut B::Stmts) -> Result<(), ParseFault>
         ensures { Makes B.wants (λ _. Adds B.is_stmts append out.old out.new) result
@@ -77,7 +77,7 @@ impl<'a, 't, B: Builder> Parser<'a, 't, B> {
         Ok(())
     }
 
-    /// Statements with `;` between them.
+    /// Returns statements with `;` between them.
     #[cycle(statement)]
     pub(crate) fn body(&mut self, depth: usize) -> Result<B::Stmts, ParseFault>
         ensures { Makes B.wants B.is_stmts result
@@ -88,7 +88,7 @@ impl<'a, 't, B: Builder> Parser<'a, 't, B> {
         Ok(out)
     }
 
-    /// The arms of a parbegin.
+    /// Returns the arms of a parbegin.
     #[cycle(statement)]
     fn arms(&mut self, depth: usize) -> Result<B::Arms, ParseFault>
         ensures { Makes B.wants B.is_arms result
@@ -106,7 +106,7 @@ impl<'a, 't, B: Builder> Parser<'a, 't, B> {
         Ok(found)
     }
 
-    /// A statement with fewer than `depth` others round it and in it, added to `out`.
+    /// Reads a statement with fewer than `depth` others round it and in it, and adds it to `out`.
     #[cycle(statement)]
     fn statement(&mut self, depth: usize, out: &mut B::Stmts) -> Result<(), ParseFault>
         ensures { Makes B.wants (λ _. Adds B.is_stmts append out.old out.new) result
@@ -123,7 +123,7 @@ impl<'a, 't, B: Builder> Parser<'a, 't, B> {
         self.after_first(depth - 1, next.kind(), next, out)
     }
 
-    /// The rest of a statement behind its first token, which is of the kind.
+    /// Reads the rest of a statement behind its first token, which is of the kind.
     #[cycle(statement)]
     fn after_first(
         &mut self,
@@ -192,7 +192,7 @@ impl<'a, 't, B: Builder> Parser<'a, 't, B> {
         Ok(self.build.choice(out, line, test, on_true, on_false)?)
     }
 
-    /// What follows `else`, if that comes next.
+    /// Returns what follows `else`, if that comes next.
     #[cycle(statement)]
     #[tactic(auto, unfolding(crate::specs::StatementReader::otherwise))]
     fn otherwise(&mut self, depth: usize) -> Result<B::Stmts, ParseFault>
@@ -246,7 +246,7 @@ impl<'a, 't, B: Builder> Parser<'a, 't, B> {
         Ok(self.build.fork(out, line, arms)?)
     }
 
-    /// The statements between `begin` and `end`, added to `out`.
+    /// Reads the statements between `begin` and `end`, and adds them to `out`.
     #[cycle(statement)]
     fn inner(&mut self, depth: usize, out: &mut B::Stmts) -> Result<(), ParseFault>
         ensures { Makes B.wants (λ _. Adds B.is_stmts append out.old out.new) result

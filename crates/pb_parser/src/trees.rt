@@ -10,7 +10,8 @@ use pb_base::{BinaryOp, NoMemory, UnaryOp};
 use pb_tree::{Demand, Expr, Name, Number, Process, Program, Resource, Stmt};
 use std::alloc::Allocator;
 
-/// An expression on its way into the tree. It is small, since the parser of a deep program keeps many on the stack.
+/// An expression on its way into the tree. It is small, since the parser of a deep program keeps many on the
+/// stack.
 #[derive(Drop)]
 pub(crate) enum Part<A: Allocator> {
     /// A number.
@@ -20,7 +21,7 @@ pub(crate) enum Part<A: Allocator> {
 }
 
 impl<A: Allocator> Part<A> {
-    /// The expression itself.
+    /// Returns the expression itself.
     #[tactic(auto, using(pb_tree::proofs::Views::expr_views))]
     fn whole(self) -> Expr<A>
         ensures { expr_view result ≡ part_view self }
@@ -48,7 +49,7 @@ impl<A: Allocator + Clone> Trees<A> {
         })
     }
 
-    /// An expression in memory.
+    /// Returns an expression in memory.
     #[tactic(auto, using(pb_tree::proofs::Views::expr_views))]
     fn boxed(&self, part: Part<A>) -> Result<Box<Expr<A>, A>, NoMemory>
         ensures { IfOk result (λ expr. expr_view expr.value ≡ part_view part) }
@@ -60,8 +61,8 @@ impl<A: Allocator + Clone> Trees<A> {
     }
 }
 
-// The calls that build what nests are not inlined: their locals would lie in each frame of the parser's recursion, and a
-// deep program would need more stack.
+// The calls that build what nests are not inlined: their locals would lie in each frame of the parser's
+// recursion, and a deep program would need more stack.
 #[tactic(auto, using(pb_tree::proofs::Views::stmt_views))]
 impl<A: Allocator + Clone> Builder for Trees<A> {
     type Expr = Part<A>;

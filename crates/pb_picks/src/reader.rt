@@ -16,9 +16,9 @@ use std::alloc::Global;
 /// The most picks that lines may say in all.
 const MOST: u32 = 10_000_000;
 
-/// Reads pick lines, `P.a COUNT` each, of the processes and arms of this code. The last line feed may be missing. The
-/// first faulty line decides: `NotPicks` at its start if it is not of the form, or its process or arm does not exist;
-/// `TooMany` if the counts up to it are more than 10,000,000.
+/// Reads pick lines, `P.a COUNT` each, of the processes and arms of this code. The last line feed may be
+/// missing. The first faulty line decides: `NotPicks` at its start if it is not of the form, or its process
+/// or arm does not exist; `TooMany` if the counts up to it are more than 10,000,000.
 pub fn read_picks(alloc: Global, code: &Code, text: &[u8]) -> Result<Vec<CountedPick>, PickFault>
     requires { KeepsLimits (code_view code.now) }
     ensures read { IfOk result (λ picks. SpellsPicks (code_view code.now) text.now picks.items) }
@@ -149,7 +149,7 @@ fn number(word: &[u8]) -> Option<u32>
     Some(number)
 }
 
-/// Whether no sign is first, and no zero before more bytes.
+/// Returns whether no sign is first, and no zero before more bytes.
 fn is_plain(word: &[u8]) -> bool
     ensures { result ≡ is_plain word.now }
 {

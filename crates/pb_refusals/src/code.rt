@@ -84,8 +84,8 @@ pub enum Code {
 pub struct UnknownCode;
 
 impl Code {
-    /// All codes, in the order in which they are listed: those of texts, of objects, of picks and of sessions, and then
-    /// those of inputs and outputs that are too long.
+    /// All codes, in the order in which they are listed: those of texts, of objects, of picks and of
+    /// sessions, and then those of inputs and outputs that are too long.
     pub const ALL: [Code; 34] = [
         Code::L1,
         Code::L2,
@@ -166,7 +166,7 @@ impl Code {
     }
 }
 
-// The first of these codes that has this name.
+// Returns the first of these codes that has this name.
 fn find(listed: &[Code], name: &str) -> Option<Code>
     ensures some { IfSome result (λ code. code_name code ≡ name.now) }
     ensures none { IfNone result (All (λ code. code_name code ≡ name.now → ⊥) listed.now) }

@@ -34,7 +34,7 @@ FitsCapital program claims =
     → cell claims p r ≤ slice_index (capital_of program) r
 
 -- the program is within the limits, its arms are well numbered, and each hold names resources that are there;
--- the claims are those of so many processes on so many resources, each within the capital
+-- the claims are those of this number of processes on this number of resources, each within the capital
 pub record Fits (program : Program) (claims : Table) : Type 0 where
   pub some : 1 ≤ length program.processes
   pub few_resources : length program.resources ≤ 16
@@ -47,7 +47,7 @@ pub record Fits (program : Program) (claims : Table) : Type 0 where
   pub width : (p : ℕ) → p < length claims → length (row_of claims p) ≡ length program.resources
   pub within : FitsCapital program claims
 
--- a program that was resolved from a tree fits its claims, where these are within its capital
+-- a program that was resolved from a tree fits its claims, if these are within its capital
 abbrev pub ResolvedProgramsFit : Type 0
 ResolvedProgramsFit =
     (written : ProgramSyntax) (program : Program) (claims : Table) → Resolves written program

@@ -101,7 +101,7 @@ AsksBelow n vars arm =
     → step_arm vars arm ≡ Some (Goes vars' arm' (effect.Takes bundle))
     → AreBelow n bundle
 
--- the arm of a number changed places with another, where it is there
+-- the arm of a number changed places with another, if it is there
 abbrev pub IsSwap : ℕ → ℕ → Arm → Arm → Bool → Arm → Arm → Type 0
 IsSwap a n arm other true arm' other' = (find a n arm ≡ Some other') × (arm' ≡ put a other n arm)
 IsSwap a n arm other false arm' other' = (find a n arm ≡ None) × (arm' ≡ arm) × (other' ≡ other)
@@ -115,7 +115,7 @@ IsSwapAmong a n arms other false arms' other' =
 
 -- ---- one run
 
--- the arm of the pick has stepped, where it is there; nothing has changed, where it is not or cannot step
+-- the arm of the pick has stepped, if it is there; nothing has changed, if it is not or cannot step
 abbrev pub IsRunStep : BankerState → Pick → List ℤ → Arm → Outcome → List ℤ → Arm → BankerState → Type 0
 IsRunStep s pick vars run made vars' run' s' =
     ((arm : Arm) × (arm' : Arm) × (find pick.arm 0 run ≡ Some arm)

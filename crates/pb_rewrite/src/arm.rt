@@ -32,7 +32,7 @@ pub enum Arm<A: Allocator> {
     Ended,
 }
 
-/// Changes places with the arm of a number, where it is there; the arm itself has the number `number`.
+/// Changes places with the arm of a number, if it is there; the arm itself has the number `number`.
 #[cycle(swap)]
 #[tactic(auto, using(crate::proofs::Views::arm_views))]
 pub(crate) fn swap<A: Allocator>(
@@ -79,7 +79,7 @@ fn swap_among<A: Allocator>(
     false
 }
 
-/// The line of the first item of the arm of a number, where it is there.
+/// Returns the line of the first item of the arm of a number, if it is there.
 pub(crate) fn find_line<A: Allocator>(arm: &Arm<A>, wanted: usize, number: usize) -> Found
     ensures { result ≡ found_line (find wanted number (arm_view arm.now)) }
 {
@@ -105,7 +105,7 @@ pub(crate) enum Found {
     Nowhere,
 }
 
-/// The line of an arm's first item; none where its list is empty.
+/// Returns the line of an arm's first item; none if its list is empty.
 #[tactic(auto, using(crate::proofs::Views::arm_views))]
 fn head_line<A: Allocator>(arm: &Arm<A>) -> Option<u32>
     ensures { result ≡ line_of_first (arm_view arm.now) }
@@ -124,7 +124,7 @@ fn head_line<A: Allocator>(arm: &Arm<A>) -> Option<u32>
     }
 }
 
-/// Whether an arm has come to its end.
+/// Returns whether an arm has come to its end.
 #[tactic(auto, using(crate::proofs::Views::arm_views))]
 pub(crate) fn is_ended<A: Allocator>(arm: &Arm<A>) -> bool
     ensures { result ≡ has_ended (arm_view arm.now) }
@@ -137,7 +137,7 @@ pub(crate) fn is_ended<A: Allocator>(arm: &Arm<A>) -> bool
     }
 }
 
-/// Whether all arms have come to their ends.
+/// Returns whether all arms have come to their ends.
 pub(crate) fn all_ended<A: Allocator>(arms: &Vec<Arm<A>, A>) -> bool
     ensures { result ≡ have_ended (running_view arms.now.items) }
 {

@@ -53,7 +53,7 @@ pub(crate) fn choose<A: Allocator>(
     }
 }
 
-/// Puts the list that a test chooses in front, the second where it fails.
+/// Puts the list that a test chooses in front, the second if it fails.
 fn enter_list<A: Allocator>(
     items: Vec<Item<A>, A>,
     line: u32,
@@ -88,7 +88,7 @@ fn enter_list<A: Allocator>(
     }
 }
 
-/// The list that a test chooses, the second where it fails.
+/// Returns the list that a test chooses, the second if it fails.
 fn chosen<A: Allocator>(
     fails: bool,
     on_true: Vec<Stmt<A>, A>,
@@ -102,7 +102,7 @@ fn chosen<A: Allocator>(
     on_true
 }
 
-/// The length of the list that a test chooses.
+/// Returns the length of the list that a test chooses.
 fn chosen_len<A: Allocator>(
     fails: bool,
     on_true: &Vec<Stmt<A>, A>,

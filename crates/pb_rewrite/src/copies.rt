@@ -1,4 +1,4 @@
-//! Copies of numbered statements. The error comes only where memory is refused.
+//! Copies of numbered statements. The error comes only if memory is refused.
 
 ghost use Rattle.std.specs.Prelude.{◌≡◌, IfOk};
 ghost use Rattle.pb_names.specs.View.{expr_view, stmt_view, block_view, arms_view};
@@ -7,7 +7,7 @@ use pb_base::NoMemory;
 use pb_names::{Expr, Stmt};
 use std::alloc::Allocator;
 
-/// The same expression once more.
+/// Returns the same expression once more.
 #[tactic(auto, using(pb_names::proofs::Views::expr_views))]
 pub(crate) fn copy_expr<A: Allocator + Clone>(
     expr: &Expr<A>,
@@ -31,7 +31,7 @@ pub(crate) fn copy_expr<A: Allocator + Clone>(
     }
 }
 
-/// The same statement once more.
+/// Returns the same statement once more.
 #[cycle(copy)]
 #[tactic(auto, using(pb_names::proofs::Views::stmt_views))]
 fn copy_stmt<A: Allocator + Clone>(stmt: &Stmt<A>, alloc: &A) -> Result<Stmt<A>, NoMemory>
@@ -98,7 +98,7 @@ fn copy_stmt<A: Allocator + Clone>(stmt: &Stmt<A>, alloc: &A) -> Result<Stmt<A>,
     }
 }
 
-/// The same list once more.
+/// Returns the same list once more.
 #[cycle(copy)]
 #[tactic(auto, using(pb_names::proofs::Views::stmt_views))]
 pub(crate) fn copy_list<A: Allocator + Clone>(
@@ -114,7 +114,7 @@ pub(crate) fn copy_list<A: Allocator + Clone>(
     Ok(copy)
 }
 
-/// The same arms once more.
+/// Returns the same arms once more.
 #[cycle(copy)]
 #[tactic(auto, using(pb_names::proofs::Views::stmt_views))]
 fn copy_arms<A: Allocator + Clone>(

@@ -70,7 +70,7 @@ fn replace<A: Allocator>(expr: &mut Expr<A>, result_of: Result<i64, FaultKind>) 
     }
 }
 
-/// Whether a value is false: 0 is, and nothing else.
+/// Returns whether a value is false: 0 is, and nothing else.
 pub(crate) fn is_false(value: i64) -> bool
     ensures { result ≡ is_zero value }
 {

@@ -29,7 +29,7 @@ pub enum Item<A: Allocator> {
     },
 }
 
-/// The line of an item: a hold that is to be given back has that of its hold.
+/// Returns the line of an item: a hold that is to be given back has that of its hold.
 pub(crate) fn line_of<A: Allocator>(item: &Item<A>) -> u32
     ensures { result ≡ item_line (item_view item.now) }
 {
@@ -40,7 +40,7 @@ pub(crate) fn line_of<A: Allocator>(item: &Item<A>) -> u32
     }
 }
 
-/// The line of a statement's first token.
+/// Returns the line of a statement's first token.
 #[tactic(auto, using(pb_names::proofs::Views::stmt_views))]
 pub(crate) fn line_of_stmt<A: Allocator>(stmt: &Stmt<A>) -> u32
     ensures { result ≡ item_line (item_of (stmt_view stmt.now)) }

@@ -2,7 +2,7 @@
 
 ghost use Rattle.pb_rewrite.specs.Sources.{ResolvedProgramsFit};
 
-/// A program that was resolved from a tree may be stepped under its claims, where these are within its capital.
+/// A program that was resolved from a tree may be stepped under its claims, if these are within its capital.
 pub fn resolved_programs_fit()
     ensures { ResolvedProgramsFit }
 {}

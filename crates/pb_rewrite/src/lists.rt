@@ -11,7 +11,7 @@ use pb_names::Stmt;
 use std::alloc::Allocator;
 
 #[tactic(auto, using(crate::proofs::Moves::pushes))]
-/// The items with one in front, for which there is room.
+/// Returns the items with one in front, for which there is room.
 pub(crate) fn with_first<A: Allocator>(items: Vec<Item<A>, A>, first: Item<A>) -> Vec<Item<A>, A>
     requires { vec_len items < vec_capacity items }
     ensures items { items_view result.items ≡ item_view first ∷ items_view items.items }
@@ -24,7 +24,7 @@ pub(crate) fn with_first<A: Allocator>(items: Vec<Item<A>, A>, first: Item<A>) -
 }
 
 #[tactic(auto, using(crate::proofs::Moves::pushes))]
-/// The items with the statements of a body in front, for which there is room.
+/// Returns the items with the statements of a body in front, for which there is room.
 pub(crate) fn with_body<A: Allocator>(
     items: Vec<Item<A>, A>,
     body: Vec<Stmt<A>, A>,
@@ -40,7 +40,7 @@ pub(crate) fn with_body<A: Allocator>(
     items
 }
 
-/// The bodies as arms that have not begun, put where no arms are yet, but room for them.
+/// Returns the bodies as arms that have not begun, put where no arms are yet, but room for them.
 pub(crate) fn fresh_arms<A: Allocator>(
     bodies: Vec<Vec<Stmt<A>, A>, A>,
     arms: Vec<Arm<A>, A>,

@@ -112,7 +112,7 @@ fn repeat<A: Allocator>(
     }
 }
 
-/// The loop as it was, for which there is room.
+/// Returns the loop as it was, for which there is room.
 fn unrepeated<A: Allocator>(
     items: Vec<Item<A>, A>,
     line: u32,

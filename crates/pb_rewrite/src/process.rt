@@ -24,7 +24,7 @@ pub struct SourceProcess<A: Allocator> {
 }
 
 impl<A: Allocator> SourceProcess<A> {
-    /// The process before its first step: its integers, all 0, and its body.
+    /// Returns the process before its first step: its integers, all 0, and its body.
     pub(crate) fn new(
         alloc: Global,
         integers: usize,
@@ -40,14 +40,14 @@ impl<A: Allocator> SourceProcess<A> {
         })
     }
 
-    /// Its integers, by number.
+    /// Returns its integers, by number.
     pub fn vars(&self) -> &[i64]
         ensures { result.now ≡ (process_view self.now).vars }
     {
         &self.vars
     }
 
-    /// Whether it has ended or faulted.
+    /// Returns whether it has ended or faulted.
     pub fn is_over(&self) -> bool
         ensures { IsTrue result ↔ source_over (process_view self.now) }
     {
@@ -57,7 +57,7 @@ impl<A: Allocator> SourceProcess<A> {
         }
     }
 
-    /// The line of the first item of an arm; none where the arm does not run or its list is empty.
+    /// Returns the line of the first item of an arm; none if the arm does not run or its list is empty.
     pub fn head_line(&self, arm: usize) -> Option<u32>
         ensures { result ≡ line_in (process_view self.now) arm }
     {
@@ -72,7 +72,7 @@ impl<A: Allocator> SourceProcess<A> {
 }
 
 impl<A: Allocator + Clone> SourceProcess<A> {
-    /// Steps the arm of the pick, where it can. Where memory is refused, nothing changes.
+    /// Steps the arm of the pick, if it can. If memory is refused, nothing changes.
     pub(crate) fn step(
         &mut self,
         banker: &mut Banker,
@@ -96,7 +96,7 @@ impl<A: Allocator + Clone> SourceProcess<A> {
         }
     }
 
-    /// What is left to do after a step of an arm, and what it shows.
+    /// Returns what is left to do after a step of an arm, and what it shows.
     fn settle(&mut self, banker: &mut Banker, pick: Pick, outcome: Outcome) -> Step
         requires process { pick.process < processes banker.old.state }
         requires held { IsHeld banker.old.state pick.process outcome }
@@ -147,7 +147,7 @@ fn zeros(alloc: Global, count: usize) -> Result<Vec<i64>, NoMemory>
     Ok(vars)
 }
 
-/// Takes the arm of the pick out of its run, where it is there, steps it, and puts it back.
+/// Takes the arm of the pick out of its run, if it is there, steps it, and puts it back.
 fn step_run<A: Allocator + Clone>(
     run: &mut Arm<A>,
     vars: &mut [i64],

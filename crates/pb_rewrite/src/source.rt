@@ -27,14 +27,14 @@ pub struct Source<A: Allocator> {
 impl<A: Allocator> Source<A> {
     ghost use Rattle.pb_rewrite.specs.Sources.{source_view, source_banker};
 
-    /// How many processes there are.
+    /// Returns how many processes there are.
     pub fn processes(&self) -> usize
         ensures { result ≡ length (source_view self.now).processes }
     {
         self.processes.len()
     }
 
-    /// The integers of a process, by number.
+    /// Returns the integers of a process, by number.
     pub fn vars(&self, p: usize) -> &[i64]
         requires { p < length (source_view self.now).processes }
         ensures { (process : SourceState) → slice_get (source_view self.now).processes p ≡ Some process
@@ -43,14 +43,14 @@ impl<A: Allocator> Source<A> {
         self.processes[p].vars()
     }
 
-    /// The banker, who knows all loans.
+    /// Returns the banker, who knows all loans.
     pub fn banker(&self) -> &Banker
         ensures { result.now ≡ source_banker self.now }
     {
         &self.banker
     }
 
-    /// Whether every process has ended or faulted.
+    /// Returns whether every process has ended or faulted.
     pub fn finished(&self) -> bool
         ensures { IsTrue result ↔ IsFinished source_over (source_view self.now) }
     {
@@ -62,9 +62,9 @@ impl<A: Allocator> Source<A> {
         true
     }
 
-    /// The line of the first item of an arm: running arms have that of their parbegin, and what is to be given
-    /// back that of its hold. None where there is no such process or arm, where its list is empty, or after a
-    /// fault.
+    /// Returns the line of the first item of an arm: running arms have that of their parbegin, and what is to
+    /// be given back that of its hold. None if there is no such process or arm, if its list is empty,
+    /// or after a fault.
     pub fn head_line(&self, p: usize, arm: usize) -> Option<u32>
         ensures { result ≡ option_and_then (λ process. line_in process arm)
             (slice_get (source_view self.now).processes p) }
@@ -79,8 +79,8 @@ impl<A: Allocator> Source<A> {
 impl<A: Allocator + Clone> Source<A> {
     ghost use Rattle.pb_rewrite.specs.Sources.{source_view, source_bank, IsSource, Fits};
 
-    /// The program before its first step, its statements copied into `trees`. The error comes only where
-    /// memory is refused.
+    /// Returns the program before its first step, its statements copied into `trees`. The error comes only
+    /// if memory is refused.
     pub fn new(
         alloc: Global,
         trees: A,
@@ -120,7 +120,7 @@ impl<A: Allocator + Clone> Source<A> {
     }
 }
 
-/// The capital of the resources.
+/// Returns the capital of the resources.
 fn capital_for<A: Allocator>(
     alloc: Global,
     resources: &Vec<Resource<A>, A>,
@@ -136,7 +136,7 @@ fn capital_for<A: Allocator>(
     Capital::new(alloc, &amounts)
 }
 
-/// The processes before their first step.
+/// Returns the processes before their first step.
 fn processes_for<A: Allocator + Clone>(
     alloc: Global,
     trees: &A,

@@ -116,7 +116,7 @@ fn step_fresh<A: Allocator + Clone>(
     }
 }
 
-/// An empty list with room for `room` items.
+/// Returns an empty list with room for `room` items.
 fn list_for<A: Allocator + Clone>(room: usize, alloc: &A) -> Result<Vec<Item<A>, A>, NoMemory>
     ensures none { IfOk result (λ list. list.items ≡ []) }
     ensures len { IfOk result (λ list. vec_len list ≡ 0) }
@@ -263,7 +263,7 @@ fn assign<A: Allocator>(
     }
 }
 
-/// Gives an integer a value, where it is there.
+/// Gives an integer a value, if it is there.
 fn store(vars: &mut [i64], x: u8, value: i64)
     ensures { vars.new ≡ set vars.old x value }
 {
@@ -304,7 +304,7 @@ fn print<A: Allocator>(
     }
 }
 
-/// Steps an arm at a hold, where the banker allows it.
+/// Steps an arm at a hold, if the banker allows it.
 fn enter<A: Allocator>(
     items: Vec<Item<A>, A>,
     line: u32,
@@ -330,7 +330,7 @@ fn enter<A: Allocator>(
     }
 }
 
-/// Asks for what a hold takes, and enters it where that is granted. There is room for its body.
+/// Asks for what a hold takes, and enters it if that is granted. There is room for its body.
 fn ask_for<A: Allocator>(
     items: Vec<Item<A>, A>,
     line: u32,
@@ -365,7 +365,7 @@ fn ask_for<A: Allocator>(
     }
 }
 
-/// A hold that is not entered, for which there is room.
+/// Returns a hold that is not entered, for which there is room.
 fn unentered<A: Allocator>(
     items: Vec<Item<A>, A>,
     line: u32,

@@ -21,7 +21,7 @@ pub enum Came {
     Limit,
 }
 
-/// What came of a commit.
+/// Returns what came of a commit.
 pub fn came_of(answer: Answer) -> Came {
     match answer {
         Answer::Did => Came::Did,
@@ -30,7 +30,8 @@ pub fn came_of(answer: Answer) -> Came {
     }
 }
 
-/// Takes a stretch, runs it and commits it: the allowance that was lent, how many picks the run made, and what came.
+/// Takes a stretch, runs it and commits it: the allowance that was lent, how many picks the run made, and
+/// what came.
 pub fn turn<'v, C: CodeBrand>(
     book: &mut Book<'v, C>,
     alloc: Global,
@@ -58,7 +59,7 @@ pub fn turn<'v, C: CodeBrand>(
     }
 }
 
-/// Three turns of a book with this limit, and how many picks it has then.
+/// Returns three turns of a book with this limit, and how many picks it has then.
 fn three_turns<C: CodeBrand>(
     alloc: Global,
     code: &Verified,
@@ -95,8 +96,8 @@ fn limits(rt: HostRuntime) {
     assert_eq!(rt; one, Some(([(1, 1, Came::Silent), limit, limit], 1)));
 }
 
-/// A stretch that is run and put back, and then a turn: the allowance that was lent, how many picks the book then has,
-/// and the turn.
+/// Returns a stretch that is run and put back, and then a turn: the allowance that was lent, how many picks
+/// the book then has, and the turn.
 fn put_back_once<C: CodeBrand>(
     alloc: Global,
     code: &Verified,
@@ -135,7 +136,8 @@ fn put_back(rt: HostRuntime) {
     assert_eq!(rt; back, Some((3, 0, (3, 1, Came::Did))));
 }
 
-/// What came of the turns of a book up to its end, of which there are at most 13, and how many events it has then.
+/// Returns what came of the turns of a book up to its end, of which there are at most 13, and how many events
+/// it has then.
 fn all_turns<C: CodeBrand>(alloc: Global, code: &Verified) -> Option<([Came; 13], usize)>
     requires { code.now ≡ C.code }
 {
@@ -155,8 +157,8 @@ fn refusals_are_marked(rt: HostRuntime) {
     let Some(code) = verified(rt.alloc(), DEVICES) else {
         panic!(rt; "no code")
     };
-    // a takes the tape, b is refused the disk, a takes the disk and gives it back; that clears b's mark, but b is
-    // refused once more, since a may ask for the disk again as far as its claim says
+    // a takes the tape, b is refused the disk, a takes the disk and gives it back; that clears b's mark, but
+    // b is refused once more, since a may ask for the disk again as far as its claim says
     let mut wanted = [Came::Did; 13];
     wanted[1] = Came::Refused;
     wanted[4] = Came::Refused;

@@ -165,7 +165,7 @@ jump 0
 end
 ";
 
-/// The verified code of an object.
+/// Returns the verified code of an object.
 pub fn verified(alloc: Global, text: &[u8]) -> Option<Verified> {
     let Ok(code) = read_object(alloc, text) else {
         return None;

@@ -57,7 +57,7 @@ fn span_at(trace: &Trace, i: usize) -> Option<Span> {
     }
 }
 
-/// How many picks the span of this pick has from it on, and of which arm, if there is such a pick.
+/// Returns how many picks the span of this pick has from it on, and of which arm, if there is such a pick.
 fn rest_at(trace: &Trace, i: u32) -> Option<CountedPick> {
     if i < trace.len() {
         Some(trace.rest_of_span(i))
@@ -66,7 +66,7 @@ fn rest_at(trace: &Trace, i: u32) -> Option<CountedPick> {
     }
 }
 
-/// The number that the event with this number prints.
+/// Returns the number that the event with this number prints.
 fn printed(trace: &Trace, i: usize) -> Option<i64> {
     if i >= trace.events_len() {
         return None;
@@ -77,7 +77,7 @@ fn printed(trace: &Trace, i: usize) -> Option<i64> {
     }
 }
 
-/// The first amount that the event with this number grants.
+/// Returns the first amount that the event with this number grants.
 fn granted(trace: &Trace, i: usize) -> Option<u32> {
     if i >= trace.events_len() {
         return None;
@@ -117,7 +117,7 @@ fn long(alloc: Global) -> Result<Trace, NoMemory> {
     Ok(trace)
 }
 
-/// Whether silent picks of an arm, and its pick that shows, are one span, and others stand apart.
+/// Returns whether silent picks of an arm, and its pick that shows, are one span, and others stand apart.
 fn spans_are_right(trace: &Trace) -> bool {
     let first = Span {
         pick: FIRST,
@@ -146,7 +146,7 @@ fn spans_are_right(trace: &Trace) -> bool {
         && span_at(trace, 3) == Some(fourth)
 }
 
-/// Whether the picks and events stand where they were added.
+/// Returns whether the picks and events are where they were added.
 fn picks_are_right(trace: &Trace) -> bool {
     trace.len() == 5_000_007
         && pick_at(trace, 5_000_004) == Some(FIRST)
@@ -157,12 +157,12 @@ fn picks_are_right(trace: &Trace) -> bool {
         && granted(trace, 1) == Some(40)
 }
 
-/// A pick of an arm, made this often.
+/// Returns a pick of an arm, made this often.
 const fn times(pick: Pick, count: u32) -> CountedPick {
     CountedPick { pick, count }
 }
 
-/// Whether the rest of a span is found at its first pick, within it, and at its last.
+/// Returns whether the rest of a span is found at its first pick, within it, and at its last.
 fn rests_are_right(trace: &Trace) -> bool {
     rest_at(trace, 0) == Some(times(FIRST, 5_000_004))
         && rest_at(trace, 5_000_001) == Some(times(FIRST, 3))
@@ -182,7 +182,7 @@ fn spans_of_a_trace(rt: HostRuntime) {
     assert!(rt; rests_are_right(&trace));
 }
 
-/// Two silent picks of an arm and one that prints, for which room was asked for before.
+/// Returns two silent picks of an arm and one that prints, for which room was asked for before.
 fn in_room(alloc: Global) -> Result<Trace, NoMemory> {
     let mut trace = Trace::new(alloc);
     trace.reserve(2)?;
@@ -197,7 +197,7 @@ fn in_room(alloc: Global) -> Result<Trace, NoMemory> {
     Ok(trace)
 }
 
-/// Whether these are the three picks of one span, the last of which prints 5.
+/// Returns whether these are the three picks of one span, the last of which prints 5.
 fn is_in_room(trace: &Trace) -> bool {
     let span = Span {
         pick: SECOND,
@@ -215,7 +215,7 @@ fn picks_that_have_room(rt: HostRuntime) {
     assert!(rt; is_in_room(&trace));
 }
 
-/// How many picks a trace has after the first arm was picked this often from the start.
+/// Returns how many picks a trace has after the first arm was picked this often from the start.
 fn repeated(alloc: Global, code: &Verified, count: u32) -> Result<u32, ReplayFault>
     requires { count ≤ 10000000 }
 {
@@ -235,7 +235,8 @@ fn a_pick_that_is_repeated(rt: HostRuntime) {
     assert!(rt; repeated(rt.alloc(), &code, 4).err() == Some(ReplayFault::NotEnabled(3)));
 }
 
-/// What the first print of this code prints when it ends with these picks, of which there are `count`.
+/// Returns what the first print of this code prints when it ends with these picks, of which there are
+/// `count`.
 fn printed_after(alloc: Global, code: &Verified, picks: &[CountedPick], count: u32) -> Option<i64>
     requires { length (spread picks.now) ≤ 10000000 }
 {

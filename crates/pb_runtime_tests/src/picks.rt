@@ -13,13 +13,13 @@ use std::alloc::Global;
 /// The most picks that lines may say in all.
 const MOST: u32 = 10_000_000;
 
-/// What lines say of the code over two devices.
+/// Returns what lines say of the code over two devices.
 fn read(alloc: Global, lines: &[u8]) -> Option<Result<Vec<CountedPick>, PickFault>> {
     let verified = verified(alloc, DEVICES)?;
     Some(read_picks(alloc, verified.code(), lines))
 }
 
-/// The counted pick with this number that lines say, counted from 0.
+/// Returns the counted pick with this number that lines say, counted from 0.
 fn said(alloc: Global, lines: &[u8], i: usize) -> Option<CountedPick> {
     let Ok(picks) = read(alloc, lines)? else {
         return None;
@@ -71,7 +71,7 @@ fn the_first_faulty_line_decides(rt: HostRuntime) {
     }
 }
 
-/// The picks of a table counted one after another, or nothing if they can't be counted.
+/// Returns the picks of a table counted one after another, or nothing if they can't be counted.
 fn counted(alloc: Global, table: &[CountedPick]) -> Option<Vec<CountedPick>> {
     let mut picks = Vec::new(alloc);
     let mut left = MOST;
@@ -86,7 +86,7 @@ fn counted(alloc: Global, table: &[CountedPick]) -> Option<Vec<CountedPick>> {
     Some(picks)
 }
 
-/// Whether each pick is of a process that has a name.
+/// Returns whether each pick is of a process that has a name.
 fn have_names(names: &Names, picks: &[CountedPick]) -> bool
     ensures { OnTrue result (All (λ c. HasProcess (names_view names.now) c.pick.process) picks.now) }
 {
@@ -98,7 +98,7 @@ fn have_names(names: &Names, picks: &[CountedPick]) -> bool
     true
 }
 
-/// What the lines say that are written of these picks.
+/// Returns what the lines say that are written of these picks.
 fn written_and_read(alloc: Global, picks: &[CountedPick]) -> Option<Vec<CountedPick>> {
     let verified = verified(alloc, DEVICES)?;
     let code = verified.code();
@@ -110,14 +110,14 @@ fn written_and_read(alloc: Global, picks: &[CountedPick]) -> Option<Vec<CountedP
     read_picks(alloc, code, text.as_slice()).ok()
 }
 
-/// Whether the picks of a table, counted, are these, and their lines say the same.
+/// Returns whether the picks of a table, counted, are these, and their lines say the same.
 fn come_back(alloc: Global, table: &[CountedPick], wanted: &[CountedPick]) -> Option<bool> {
     let picks = counted(alloc, table)?;
     let read = written_and_read(alloc, picks.as_slice())?;
     Some(picks.as_slice() == wanted && read.as_slice() == wanted)
 }
 
-/// A pick of the first arm of a process, made this often.
+/// Returns a pick of the first arm of a process, made this often.
 const fn times(process: u8, count: u32) -> CountedPick {
     CountedPick {
         pick: Pick { process, arm: 0 },

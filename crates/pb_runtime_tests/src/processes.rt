@@ -9,12 +9,12 @@ use std::alloc::Global;
 /// The arm that pushes 1 and 0.
 const PUSHES: Pick = Pick { process: 0, arm: 0 };
 
-/// Whether the first arm of a process has these operands, the lowest first.
+/// Returns whether the first arm of a process has these operands, the lowest first.
 fn has_operands(process: &Proc, operands: &[i64]) -> bool {
     process.arms() > 0 && process.thread(0).operands() == operands
 }
 
-/// Whether a copy of a process that has no operands yet takes over the two that the process has then.
+/// Returns whether a copy of a process that has no operands yet takes over the two that the process has then.
 fn takes_over(alloc: Global, code: &Verified) -> Result<bool, NoMemory> {
     let mut machine = Machine::new(alloc, code)?;
     if machine.processes() == 0 {
@@ -31,7 +31,7 @@ fn takes_over(alloc: Global, code: &Verified) -> Result<bool, NoMemory> {
     Ok(had_none && made == 2 && has_operands(&copy, &[1, 0]))
 }
 
-/// Whether a machine whose process has two operands gets one with none, and returns its own.
+/// Returns whether a machine whose process has two operands gets one with none, and returns its own.
 fn exchanges(alloc: Global, code: &Verified) -> Result<bool, NoMemory> {
     let mut machine = Machine::new(alloc, code)?;
     if machine.processes() == 0 {

@@ -43,7 +43,8 @@ fn lose<'v, C: CodeBrand>(book: &mut Book<'v, C>, alloc: Global) {
     }
 }
 
-/// What came of four crossings, how many picks the two books have after the second, and a turn of the third book.
+/// Returns what came of four crossings, how many picks the two books have after the second, and a turn of the
+/// third book.
 fn crossings<C: CodeBrand>(alloc: Global, code: &Verified) -> Option<([Came; 4], [u32; 2])>
     requires { code.now ≡ C.code }
 {

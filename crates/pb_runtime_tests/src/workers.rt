@@ -51,7 +51,7 @@ fn seen_in(event: Event) -> Seen {
     }
 }
 
-/// Whether both traces have the same events in the same order.
+/// Returns whether both traces have the same events in the same order.
 fn same_events(one: &Trace, other: &Trace) -> bool {
     if one.events_len() != other.events_len() {
         return false;
@@ -64,7 +64,7 @@ fn same_events(one: &Trace, other: &Trace) -> bool {
     true
 }
 
-/// Whether the picks of a trace, made once more from the start, make its events.
+/// Returns whether the picks of a trace, made once more from the start, make its events.
 fn replays(alloc: Global, code: &Verified, trace: &Trace) -> Result<bool, NoMemory> {
     let mut picks: Vec<Pick> = Vec::new(alloc);
     for i in 0..trace.len() {
@@ -79,7 +79,7 @@ fn replays(alloc: Global, code: &Verified, trace: &Trace) -> Result<bool, NoMemo
     }
 }
 
-/// Whether a run was reported with this outcome, `events` events, and picks that make them.
+/// Returns whether a run was reported with this outcome, `events` events, and picks that make them.
 fn is_right(
     alloc: Global,
     code: &Verified,
@@ -108,7 +108,7 @@ const NUMBERS: [(usize, u32); 9] = [
     (16, 4096),
 ];
 
-/// Whether a run to its end is right, whatever the number of workers and the quantum.
+/// Returns whether a run to its end is right, whatever the number of workers and the quantum.
 fn are_right<G: Gate, R: AllocGlobal + Threads + Wait + Sync>(
     rt: &R,
     code: &Verified,
@@ -124,7 +124,7 @@ fn are_right<G: Gate, R: AllocGlobal + Threads + Wait + Sync>(
     true
 }
 
-/// The same of a text.
+/// Returns the same of a text.
 fn text_is_right<R: AllocGlobal + Threads + Wait + Sync>(
     rt: &R,
     text: &[u8],

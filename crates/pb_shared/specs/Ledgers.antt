@@ -20,8 +20,8 @@ use Rattle.pb_shared.specs.declared.outcome.Outcome.{Outcome}
 use Rattle.pb_shared.specs.declared.outcome.Outcome.TheVariants.{Done, Limit}
 use Rattle.pb_shared.specs.declared.slip.Slip.{Slip}
 
--- what contracts see of a book: the state of the machine; the picks that were made; the limit, and how many picks are
--- left; a slip for each process that is out; and which arms are marked refused, 64 for each process
+-- what contracts see of a book: the state of the machine; the picks that were made; the limit, and how many
+-- picks are left; a slip for each process that is out; and which arms are marked refused, 64 for each process
 pub record Ledger : Type 0 where
   pub machine : State CodeProcess
   pub entries : List Entry
@@ -42,9 +42,9 @@ abbrev pub allowance_of : Option Slip → ℕ
 allowance_of (Some slip) = slip.allowance
 allowance_of None = 0
 
--- the picks lead from the start to the machine, and each made just what stands beside it; picks made, allowances
--- out and picks left add up to the limit; each arm marked refused stands at a request that is not allowed now; and
--- the code is verified
+-- the picks lead from the start to the machine, and each made just what stands beside it; picks made,
+-- allowances out and picks left add up to the limit; each arm marked refused stands at a request that is not
+-- allowed now; and the code is verified
 pub record IsLegal (code : VerifiedCode) (s : Ledger) : Type 0 where
   pub leads : Leads code.code (code_opening code.code) s.entries s.machine
   pub counted : length s.entries + sum_by allowance_of s.slips + s.left ≡ s.limit
@@ -68,7 +68,7 @@ new_ledger code limit = record {
 abbrev pub all_home : List (Option Slip) → Bool
 all_home slips = list_all is_none slips
 
--- the outcome: done where every process is over, else the limit where no pick is left and no process is out
+-- the outcome: done if every process is over, else the limit if no pick is left and no process is out
 abbrev pub HasOutcome : Ledger → Option Outcome → Type 0
 HasOutcome s (Some Done) = IsFinished code_over s.machine
 HasOutcome s (Some Limit) = (IsFinished code_over s.machine → ⊥) × (s.left ≡ 0) × (all_home s.slips ≡ true)
@@ -81,7 +81,8 @@ pub record IsLentBy (s : Ledger) (lent : Lent) : Type 0 where
   pub slip : slice_get s.slips lent.pick.process ≡ Some (Some (record { arm = lent.pick.arm; allowance = lent.allowance }))
   pub base : slice_get s.machine.processes lent.pick.process ≡ Some lent.base
 
--- the book after the silent picks of a stretch: its process is at home, and what is unused of its allowance is left
+-- the book after the silent picks of a stretch: its process is at home, and what is unused of its allowance
+-- is left
 abbrev pub home : Ledger → Lent → Ledger
 home s lent = record s {
   machine = with_process s.machine lent.pick.process lent.state;
@@ -112,7 +113,8 @@ Tries code s pick answer.Refused after =
     IsRefused code s.machine pick × (after ≡ record s { refused = slice_set s.refused (mark_place pick) true })
 Tries code s pick answer.Silent after = (look_at code s.machine pick ≢ Visible) × (after ≡ s)
 
--- a commit: the silent picks stand in the trace, and where some of the allowance is left the visible pick is tried
+-- a commit: the silent picks stand in the trace, and if some of the allowance is left the visible pick is
+-- tried
 abbrev pub Commits : Code → Ledger → Lent → Answer → Ledger → Type 0
 Commits code s lent a after =
     ((lent.made < lent.allowance) × Tries code (home s lent) lent.pick a after)
@@ -120,8 +122,8 @@ Commits code s lent a after =
 
 -- ---- an arm is lent
 
--- an arm that may be lent: its process is at home, it is not marked refused, and but for the banker it can step: it
--- is live, and does not wait for arms that have not all ended
+-- an arm that may be lent: its process is at home, it is not marked refused, and it can step, the banker left aside:
+-- it is live, and does not wait for arms that have not all ended
 pub record IsReady (code : Code) (s : Ledger) (pick : Pick) : Type 0 where
   pub at_home : slice_get s.slips pick.process ≡ Some None
   pub steps : look_at code s.machine pick ≢ Stays

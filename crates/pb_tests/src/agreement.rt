@@ -26,7 +26,8 @@ const SCHEDULES: u64 = 300;
 /// How many schedules each long program is stepped under.
 const FEW_SCHEDULES: u64 = 20;
 
-/// The text with a line feed in place of each space but those of comments, so that no two statements share a line.
+/// Returns the text with a line feed in place of each space but those of comments, so that no two statements
+/// share a line.
 fn spread(alloc: Global, text: &[u8]) -> Result<Vec<u8>, NoMemory> {
     let mut spread = Vec::new(alloc);
     let mut in_comment = false;
@@ -42,7 +43,7 @@ fn spread(alloc: Global, text: &[u8]) -> Result<Vec<u8>, NoMemory> {
     Ok(spread)
 }
 
-/// Steps a program under so many schedules.
+/// Steps a program under `schedules` schedules.
 fn agree(
     rt: &(impl Abort + AllocGlobal),
     number: usize,

@@ -4,7 +4,7 @@ use pb_banker::{Answer, Banker};
 use pb_base::{Bundle, Capital, Claims, Pair};
 use std::alloc::Global;
 
-/// The answer to a request for one resource, and how many claims were looked at.
+/// Returns the answer to a request for one resource, and how many claims were looked at.
 fn asked(banker: &mut Banker, p: usize, r: u8, amount: u32) -> Option<(Answer, u32)> {
     if p >= banker.processes() || usize::from(r) >= banker.resources() {
         return None;
@@ -13,7 +13,7 @@ fn asked(banker: &mut Banker, p: usize, r: u8, amount: u32) -> Option<(Answer, u
     Some((answer, banker.looked()))
 }
 
-/// Whether a request for one resource is granted.
+/// Returns whether a request for one resource is granted.
 fn is_granted(banker: &mut Banker, p: usize, r: u8, amount: u32) -> bool {
     match asked(banker, p, r, amount) {
         Some((answer, _)) => answer == Answer::Granted,
@@ -21,7 +21,7 @@ fn is_granted(banker: &mut Banker, p: usize, r: u8, amount: u32) -> bool {
     }
 }
 
-/// Whether this is the order in which all processes can finish.
+/// Returns whether this is the order in which all processes can finish.
 fn has_order(alloc: Global, banker: &Banker, order: &[u8]) -> bool {
     match banker.order(alloc) {
         Ok(found) => found.as_slice() == order,
@@ -56,8 +56,8 @@ fn customers_are_granted_while_all_can_finish(rt: HostRuntime) {
     assert!(rt; has_order(rt.alloc(), &banker, &[2, 0, 1]));
 }
 
-/// Those that could not finish if a process had so much more of a resource; none if that is over its claim or the
-/// cash, or if memory is refused.
+/// Returns those that could not finish if a process had so much more of a resource; none if that is over its
+/// claim or the cash, or if memory is refused.
 fn rest(alloc: Global, banker: &Banker, p: usize, r: u8, amount: u32) -> Option<Vec<u8>> {
     let resource = usize::from(r);
     if p >= banker.processes() || resource >= banker.resources() {
@@ -70,7 +70,7 @@ fn rest(alloc: Global, banker: &Banker, p: usize, r: u8, amount: u32) -> Option<
     banker.rest_if(alloc, p, &Bundle::one(r, amount)).ok()
 }
 
-/// Whether those that could not finish are these.
+/// Returns whether those that could not finish are these.
 fn has_rest(alloc: Global, banker: &Banker, asking: (usize, u8), wanted: &[u8]) -> bool {
     match rest(alloc, banker, asking.0, asking.1, 1) {
         Some(found) => found.as_slice() == wanted,
@@ -89,7 +89,7 @@ fn nobody_could_finish_after_one_more(rt: HostRuntime) {
     assert!(rt; has_rest(rt.alloc(), &banker, (1, 0), &[0, 1, 2]));
 }
 
-/// Two processes that claim all of both resources.
+/// Returns two processes that claim all of both resources.
 fn pair_of_claims(alloc: Global, amounts: [u32; 2]) -> Option<Banker> {
     let row = [u64::from(amounts[0]), u64::from(amounts[1])];
     if amounts[0] > 1_000_000 || amounts[1] > 1_000_000 {
@@ -115,7 +115,7 @@ fn crossed_requests_wait(rt: HostRuntime) {
     assert!(rt; has_order(rt.alloc(), &banker, &[1, 0]));
 }
 
-/// Whether a request for one of the first resource and two of the second is granted.
+/// Returns whether a request for one of the first resource and two of the second is granted.
 fn are_both_granted(banker: &mut Banker, p: usize) -> Option<bool> {
     if p >= banker.processes() || banker.resources() < 2 {
         return None;
@@ -128,7 +128,7 @@ fn are_both_granted(banker: &mut Banker, p: usize) -> Option<bool> {
     Some(banker.ask(p, &both) == Answer::Granted)
 }
 
-/// What is lent to a process, and what is left, of a resource.
+/// Returns what is lent to a process, and what is left, of a resource.
 fn standing(banker: &Banker, p: usize, r: usize) -> Option<(u32, u32)> {
     if p >= banker.processes() || r >= banker.resources() {
         return None;

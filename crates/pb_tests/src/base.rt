@@ -62,7 +62,7 @@ fn operators_on_one_number(rt: HostRuntime) {
     }
 }
 
-/// A bundle of 40 of resource 3 and 7 of resource 1.
+/// Returns a bundle of 40 of resource 3 and 7 of resource 1.
 fn two_pairs() -> Bundle {
     let mut bundle = Bundle::one(3, 40);
     bundle.push(Pair {
@@ -72,7 +72,7 @@ fn two_pairs() -> Bundle {
     bundle
 }
 
-/// The pair at this place of a bundle, as its resource and its amount.
+/// Returns the pair at this place of a bundle, as its resource and its amount.
 fn pair_at(bundle: &Bundle, i: usize) -> Option<(u8, u32)> {
     if i >= bundle.len() {
         return None;
@@ -89,7 +89,7 @@ fn pairs_in_their_order(rt: HostRuntime) {
     assert!(rt; pair_at(&bundle, 2) == None);
 }
 
-/// The amount of a resource in a capital of 10 and 1,000,000.
+/// Returns the amount of a resource in a capital of 10 and 1,000,000.
 fn amount(alloc: Global, r: usize) -> Option<u32> {
     let capital = Capital::new(alloc, &[10, 1_000_000]).ok()?;
     if r >= capital.resources() {
@@ -105,7 +105,7 @@ fn amounts_by_resource(rt: HostRuntime) {
     assert!(rt; amount(rt.alloc(), 2) == None);
 }
 
-/// The claim of a process on a resource in a table of three rows.
+/// Returns the claim of a process on a resource in a table of three rows.
 fn claim(alloc: Global, p: usize, r: usize) -> Option<u64> {
     let claims = Claims::new(alloc, &[&[1, 2], &[3, 4], &[5, 6]]).ok()?;
     if p >= claims.processes() || r >= claims.resources() {
@@ -122,7 +122,7 @@ fn claims_by_process_and_resource(rt: HostRuntime) {
     assert!(rt; claim(rt.alloc(), 0, 2) == None);
 }
 
-/// Whether a text of nine bytes is read whole; none if it is refused otherwise than for its length.
+/// Returns whether a text of nine bytes is read whole; none if it is refused otherwise than for its length.
 fn is_read(alloc: Global, limit: u8) -> Option<bool> {
     match read_whole(
         alloc,
@@ -141,7 +141,8 @@ fn reads_up_to_a_limit(rt: HostRuntime) {
     assert!(rt; is_read(rt.alloc(), 8) == Some(false));
 }
 
-/// What is read after the first failure of an input whose third read fails; none if the first reads do not fail.
+/// Returns what is read after the first failure of an input whose third read fails; none if the first reads
+/// do not fail.
 fn read_after_a_fault(alloc: Global) -> Option<Vec<u8>> {
     let mut input = FaultyInput::new(b"some text", 2, 3);
     match read_whole(alloc, &mut input, 9) {
@@ -156,7 +157,7 @@ fn reads_up_to_a_fault(rt: HostRuntime) {
     assert!(rt; rest.is_some_and(|bytes| bytes.as_slice() == b"ext".as_slice()));
 }
 
-/// Whether an output that takes a byte a call holds a text whole.
+/// Returns whether an output that takes a byte a call holds a text whole.
 fn is_written_byte_by_byte(alloc: Global) -> Option<bool> {
     let mut output = FaultyOutput::new(alloc, 9, 100, 1).ok()?;
     write_all(&mut output, b"some text").ok()?;
@@ -168,7 +169,7 @@ fn writes_byte_by_byte(rt: HostRuntime) {
     assert!(rt; is_written_byte_by_byte(rt.alloc()) == Some(true));
 }
 
-/// Whether an output whose third write fails holds what it took before, and takes the rest after it.
+/// Returns whether an output whose third write fails holds what it took before, and takes the rest after it.
 fn goes_on_after_a_fault(alloc: Global) -> Option<bool> {
     let mut output = FaultyOutput::new(alloc, 9, 2, 3).ok()?;
     if write_all(&mut output, b"some text").is_ok() || output.as_slice() != b"some t".as_slice() {
@@ -187,7 +188,7 @@ fn writes_up_to_a_fault(rt: HostRuntime) {
     assert!(rt; goes_on_after_a_fault(rt.alloc()) == Some(true));
 }
 
-/// Whether an output with room for six bytes takes six of a text and counts a failure.
+/// Returns whether an output with room for six bytes takes six of a text and counts a failure.
 fn takes_six(alloc: Global) -> Option<bool> {
     let mut output = MemoryOutput::new(alloc, 6).ok()?;
     let is_full = write_all(&mut output, b"some text").is_err();
@@ -213,7 +214,7 @@ fn standard_input_is_not_read_for_nothing(rt: HostRuntime) {
     assert!(rt; is_nothing && input.failures() == 0);
 }
 
-/// The names of two processes and two resources.
+/// Returns the names of two processes and two resources.
 fn some_names(alloc: Global) -> Result<Names, AllocError>
     ensures processes { IfOk result (λ names. length (names_view names).processes ≡ 2) }
     ensures resources { IfOk result (λ names. length (names_view names).resources ≡ 2) }
@@ -228,7 +229,7 @@ fn some_names(alloc: Global) -> Result<Names, AllocError>
     })
 }
 
-/// Whether the line of an event over these names is this text.
+/// Returns whether the line of an event over these names is this text.
 fn is_line(alloc: Global, names: &Names, event: Event, text: &str) -> bool
     requires { HasNames (names_view names.now) event }
 {
@@ -245,7 +246,7 @@ const LATER: Pick = Pick {
     arm: 12,
 };
 
-/// Whether the lines of requests and returns over two names of each kind are as they are printed.
+/// Returns whether the lines of requests and returns over two names of each kind are as they are printed.
 fn are_lines_of_holds(alloc: Global) -> Option<bool> {
     let names = some_names(alloc).ok()?;
     let bundle = Bundle::one(0, 3);
@@ -263,7 +264,7 @@ fn are_lines_of_holds(alloc: Global) -> Option<bool> {
     )
 }
 
-/// Whether the line of a request for two resources names them in the order of the bundle.
+/// Returns whether the line of a request for two resources names them in the order of the bundle.
 fn is_line_of_two_pairs(alloc: Global) -> Option<bool> {
     let names = some_names(alloc).ok()?;
     let mut bundle = Bundle::one(1, 1_000_000);
@@ -279,7 +280,7 @@ fn is_line_of_two_pairs(alloc: Global) -> Option<bool> {
     Some(is_line(alloc, &names, granted, text))
 }
 
-/// Whether the lines of numbers, faults and ends are as they are printed.
+/// Returns whether the lines of numbers, faults and ends are as they are printed.
 fn are_other_lines(alloc: Global) -> Option<bool> {
     let names = some_names(alloc).ok()?;
     let zero = Event::Printed {

@@ -5,13 +5,13 @@ use pb_claims::{OverCapital, fits};
 use pb_codegen::analyze;
 use std::alloc::Global;
 
-/// The claims of a text.
+/// Returns the claims of a text.
 fn claims_of(alloc: Global, text: &[u8]) -> Option<Claims> {
     let analysis = analyze(alloc, alloc, text).ok()?;
     Some(analysis.claims)
 }
 
-/// The claim of a process of a text on a resource.
+/// Returns the claim of a process of a text on a resource.
 fn claim(alloc: Global, text: &[u8], p: usize, r: usize) -> Option<u64> {
     let claims = claims_of(alloc, text)?;
     if p < claims.processes() && r < claims.resources() {

@@ -14,7 +14,7 @@ use std::alloc::Global;
 const JOINT: &[u8] =
     b"PBO 2\nresources 2\nresource r 9\nresource s_1 1000000\nprocesses 2\nprocess p\nvars 0\narms 2\nclaims 1 0\narm 0\narm 3\ncode 4\n1 fork 1 1\n1 join 1 1\n0 end\n0 end\nprocess Q\nvars 2 a b\narms 1\nclaims 9 1000000\narm 0\ncode 5\n2 take 1 1000000 0 9\n3 push -9223372036854775808\n4 jzero 3\n65536 give 1 1000000 0 9\n0 end\n";
 
-/// The fault of an object in either format, if it has one.
+/// Returns the fault of an object in either format, if it has one.
 fn object_fault(alloc: Global, text: &[u8]) -> Option<ObjectFault> {
     match read_any(alloc, text) {
         Ok(_) => None,
@@ -33,7 +33,7 @@ const SUM: [Instr; 7] = [
     Instr::End,
 ];
 
-/// Whether a code is the one of `FIRST` and `SECOND`.
+/// Returns whether a code is the one of `FIRST` and `SECOND`.
 fn is_sum(code: &Code) -> bool {
     if code.processes.len() != 1 {
         return false;
@@ -44,7 +44,7 @@ fn is_sum(code: &Code) -> bool {
         && process.instrs.as_slice() == SUM.as_slice()
 }
 
-/// Whether labels are those of one process with one integer of this name, and with these lines.
+/// Returns whether labels are those of one process with one integer of this name, and with these lines.
 fn is_labelled(labels: &Labels, integer: &[u8], lines: &[Option<u32>]) -> bool {
     if labels.processes.len() != 1 {
         return false;
@@ -55,7 +55,7 @@ fn is_labelled(labels: &Labels, integer: &[u8], lines: &[Option<u32>]) -> bool {
         && process.lines.as_slice() == lines
 }
 
-/// Whether an object in either format is read as that code, with these labels.
+/// Returns whether an object in either format is read as that code, with these labels.
 fn is_sum_in(alloc: Global, text: &[u8], integer: &[u8], lines: &[Option<u32>]) -> bool {
     match read_any(alloc, text) {
         Ok((code, labels)) => is_sum(&code) && is_labelled(&labels, integer, lines),
@@ -63,7 +63,7 @@ fn is_sum_in(alloc: Global, text: &[u8], integer: &[u8], lines: &[Option<u32>]) 
     }
 }
 
-/// The fault of a text as an object in the first format, if it has one.
+/// Returns the fault of a text as an object in the first format, if it has one.
 fn first_fault(alloc: Global, text: &[u8]) -> Option<ObjectFault> {
     match read_object(alloc, text) {
         Ok(_) => None,
@@ -71,7 +71,7 @@ fn first_fault(alloc: Global, text: &[u8]) -> Option<ObjectFault> {
     }
 }
 
-/// Whether an object in the first format is read as that code.
+/// Returns whether an object in the first format is read as that code.
 fn is_sum_in_first(alloc: Global, text: &[u8]) -> bool {
     match read_object(alloc, text) {
         Ok(code) => is_sum(&code),
@@ -96,7 +96,7 @@ fn reads_the_second_format(rt: HostRuntime) {
     assert!(rt; first_fault(rt.alloc(), SECOND) == Some(ObjectFault::NotObject(0)));
 }
 
-/// The start of the last line that is begun or missing, where the text is cut to this length.
+/// Returns the start of the last line that is begun or missing, if the text is cut to this length.
 fn last_line(text: &[u8], len: usize) -> usize
     requires { len ≤ length text.now }
 {
@@ -125,7 +125,7 @@ fn finds_the_last_line(rt: HostRuntime) {
     }
 }
 
-/// Whether the code of an object in the first format is written as this text.
+/// Returns whether the code of an object in the first format is written as this text.
 fn is_written(alloc: Global, object: &[u8], text: &[u8]) -> bool {
     let Ok(code) = read_object(alloc, object) else {
         return false;
@@ -136,7 +136,7 @@ fn is_written(alloc: Global, object: &[u8], text: &[u8]) -> bool {
     }
 }
 
-/// Whether the code and the labels of an object are written as this text in the second format.
+/// Returns whether the code and the labels of an object are written as this text in the second format.
 fn is_written_in_second(alloc: Global, object: &[u8], text: &[u8]) -> bool {
     let Ok((code, labels)) = read_any(alloc, object) else {
         return false;
@@ -205,8 +205,8 @@ fn refuses_the_first_faulty_line(rt: HostRuntime) {
 const TAKING: &[u8] =
     b"PBO 1\nresources 1\nresource r 9\nprocesses 1\nprocess p\nvars 0\narms 1\nclaims 9\narm 0\ncode 3\ntake 0 1\ngive 0 1\nend\n";
 
-/// The code of `TAKING` with a list of two bundles that have these amounts, of which it names the one with this
-/// number.
+/// Returns the code of `TAKING` with a list of two bundles that have these amounts, of which it names the one
+/// with this number.
 fn taking(alloc: Global, bundle: u16, amounts: [u32; 2]) -> Option<Code> {
     let mut code = read_object(alloc, TAKING).ok()?;
     let process = code.processes.get_mut(0)?;
@@ -217,7 +217,7 @@ fn taking(alloc: Global, bundle: u16, amounts: [u32; 2]) -> Option<Code> {
     Some(code)
 }
 
-/// Whether that code is the same as the one that names the first of the amounts 1 and 2.
+/// Returns whether that code is the same as the one that names the first of the amounts 1 and 2.
 fn takes_one(alloc: Global, bundle: u16, amounts: [u32; 2]) -> Option<bool> {
     let one = taking(alloc, 0, [1, 2])?;
     let other = taking(alloc, bundle, amounts)?;
@@ -230,14 +230,14 @@ fn bundles_are_the_same_by_their_pairs(rt: HostRuntime) {
     assert!(rt; takes_one(rt.alloc(), 1, [1, 2]) == Some(false));
 }
 
-/// Whether two objects have the same code.
+/// Returns whether two objects have the same code.
 fn is_same(alloc: Global, one: &[u8], other: &[u8]) -> Option<bool> {
     let (one, _) = read_any(alloc, one).ok()?;
     let (other, _) = read_any(alloc, other).ok()?;
     Some(one.same(&other))
 }
 
-/// Whether a process is the same in two objects, if both have it.
+/// Returns whether a process is the same in two objects, if both have it.
 fn is_same_process(alloc: Global, one: &[u8], other: &[u8], p: usize) -> Option<bool> {
     let (one, _) = read_any(alloc, one).ok()?;
     let (other, _) = read_any(alloc, other).ok()?;
@@ -270,7 +270,7 @@ fn codes_and_processes_that_are_the_same(rt: HostRuntime) {
     }
 }
 
-/// Whether the first format can say the code of an object.
+/// Returns whether the first format can say the code of an object.
 fn fits_first(alloc: Global, object: &[u8]) -> Option<bool> {
     let (code, _) = read_any(alloc, object).ok()?;
     Some(fits_first_format(&code))

@@ -4,7 +4,7 @@ use pb_code::Instr;
 use pb_codegen::{ClaimsFault, CompileFault, Compiled, analyze, compile};
 use std::alloc::Global;
 
-/// Whether the code of the first process begins its arms at these places and has these instructions.
+/// Returns whether the code of the first process begins its arms at these places and has these instructions.
 fn has_code(compiled: &Compiled, entries: &[u16], instrs: &[Instr]) -> bool {
     match compiled.verified().code().processes.get(0) {
         Some(process) => {
@@ -14,7 +14,7 @@ fn has_code(compiled: &Compiled, entries: &[u16], instrs: &[Instr]) -> bool {
     }
 }
 
-/// Whether these places of the first process have these source lines, or none.
+/// Returns whether these places of the first process have these source lines, or none.
 fn has_lines(compiled: &Compiled, lines: &[(usize, Option<u32>)]) -> bool {
     let Some(process) = compiled.labels().processes.get(0) else {
         return false;
@@ -27,7 +27,7 @@ fn has_lines(compiled: &Compiled, lines: &[(usize, Option<u32>)]) -> bool {
     true
 }
 
-/// Whether a text is compiled to such code, with such lines.
+/// Returns whether a text is compiled to such code, with such lines.
 fn is_compiled_to(
     alloc: Global,
     text: &[u8],
@@ -137,7 +137,7 @@ const BRANCH_CODE: [Instr; 10] = [
     Instr::End,
 ];
 
-/// The number of pairs of the first bundle of the first process of a text.
+/// Returns the number of pairs of the first bundle of the first process of a text.
 fn pairs(alloc: Global, text: &[u8]) -> Option<usize> {
     let compiled = compile(alloc, alloc, text).ok()?;
     let process = compiled.verified().code().processes.get(0)?;
@@ -156,7 +156,7 @@ process p begin hold 1 of t do skip od end
 process q begin hold 3 of u do parbegin hold 1 of t do skip od; hold 2 of u do skip od parend od end
 process r begin hold 9 of t do skip od end";
 
-/// Whether a fault is that process q claims 5 of the 3 of u.
+/// Returns whether a fault is that process q claims 5 of the 3 of u.
 fn is_claim_of_q(fault: &ClaimsFault) -> bool {
     fault.process.as_slice() == b"q".as_slice()
         && fault.resource.as_slice() == b"u".as_slice()
@@ -172,7 +172,7 @@ fn the_first_claim_over_its_capital(rt: HostRuntime) {
     }
 }
 
-/// Whether a text has three processes and two resources, with these claims of the three on one each.
+/// Returns whether a text has three processes and two resources, with these claims of the three on one each.
 fn has_claims(alloc: Global, text: &[u8], claims: [u64; 3]) -> bool {
     let Ok(analysis) = analyze(alloc, alloc, text) else {
         return false;

@@ -9,7 +9,8 @@ fn fault(alloc: Global, text: &[u8]) -> Option<LexFault> {
     lex(alloc, text).err()
 }
 
-/// Whether a text has these tokens, each with the place where it begins, the one behind its end, and its line.
+/// Returns whether a text has these tokens, each with the place where it begins, the one behind its end, and
+/// its line.
 fn has_tokens(alloc: Global, text: &[u8], wanted: &[(Kind, usize, usize, u32)]) -> bool {
     let Ok(tokens) = lex(alloc, text) else {
         return false;
@@ -101,7 +102,7 @@ const MARKS: [Mark; 37] = [
     Mark::While,
 ];
 
-/// Whether each token of a text is the mark at its place.
+/// Returns whether each token of a text is the mark at its place.
 fn has_marks(alloc: Global, text: &[u8], marks: &[Mark]) -> bool {
     let Ok(tokens) = lex(alloc, text) else {
         return false;
@@ -152,7 +153,7 @@ fn names_the_first_fault(rt: HostRuntime) {
     }
 }
 
-/// A text of this number of semicolons.
+/// Returns a text of this number of semicolons.
 fn semicolons(alloc: Global, count: u32) -> Option<Vec<u8>> {
     let mut text = Vec::new(alloc);
     for _ in 0..count {
@@ -161,7 +162,7 @@ fn semicolons(alloc: Global, count: u32) -> Option<Vec<u8>> {
     Some(text)
 }
 
-/// The fault of a text of this number of semicolons, or none if it has as many tokens.
+/// Returns the fault of a text of this number of semicolons, or none if it has as many tokens.
 fn fault_of_semicolons(alloc: Global, count: u32) -> Option<Option<LexFault>> {
     let text = semicolons(alloc, count)?;
     match lex(alloc, text.as_slice()) {
@@ -180,7 +181,7 @@ fn refuses_a_text_over_the_limit(rt: HostRuntime) {
     assert!(rt; fault_of_semicolons(rt.alloc(), 65_537) == Some(Some(LexFault::TooLong)));
 }
 
-/// Whether a fault is said in these words.
+/// Returns whether a fault is said in these words.
 fn is_said(alloc: Global, fault: LexFault, words: &str) -> bool {
     fault
         .to_string(alloc)

@@ -32,8 +32,8 @@ fn shown(event: Event) -> Seen {
     }
 }
 
-/// The code of a process with one integer. Its bundles are one, then two, of the first resource, and one of the
-/// second.
+/// Returns the code of a process with one integer. Its bundles are one, then two, of the first resource, and
+/// one of the second.
 fn process(alloc: Global, entries: &[u16], instrs: &[Instr]) -> Result<ProcessCode, NoMemory> {
     let mut bundles = Vec::new(alloc);
     bundles.push(Bundle::one(0, 1))?;
@@ -47,7 +47,7 @@ fn process(alloc: Global, entries: &[u16], instrs: &[Instr]) -> Result<ProcessCo
     })
 }
 
-/// The names of these letters.
+/// Returns the names of these letters.
 fn names(alloc: Global, letters: &[u8]) -> Result<Vec<Vec<u8>>, NoMemory> {
     let mut names = Vec::new(alloc);
     for letter in letters {
@@ -56,7 +56,7 @@ fn names(alloc: Global, letters: &[u8]) -> Result<Vec<Vec<u8>>, NoMemory> {
     Ok(names)
 }
 
-/// One process, over four of one resource and one of another, all of which it may have.
+/// Returns one process, over four of one resource and one of another, all of which it may have.
 fn alone(alloc: Global, entries: &[u16], instrs: &[Instr]) -> Result<Option<Verified>, NoMemory> {
     let mut processes = Vec::new(alloc);
     processes.push(process(alloc, entries, instrs)?)?;
@@ -72,7 +72,7 @@ fn alone(alloc: Global, entries: &[u16], instrs: &[Instr]) -> Result<Option<Veri
     Ok(verify(alloc, code).ok())
 }
 
-/// Picks of each arm of each process in turn, so many rounds.
+/// Returns the picks of each arm of each process in turn, repeated `rounds` times.
 fn turns(alloc: Global, rounds: u8, processes: u8, arms: u8) -> Result<Vec<Pick>, NoMemory> {
     let mut picks = Vec::new(alloc);
     for _ in 0..rounds {
@@ -85,7 +85,7 @@ fn turns(alloc: Global, rounds: u8, processes: u8, arms: u8) -> Result<Vec<Pick>
     Ok(picks)
 }
 
-/// Makes these picks where they are enabled, and says what was shown.
+/// Makes these picks if they are enabled, and says what was shown.
 fn run(
     alloc: Global,
     verified: &Verified,
@@ -104,7 +104,7 @@ fn run(
     Ok(all)
 }
 
-/// Whether these picks show this, where they are enabled.
+/// Returns whether these picks show this, if they are enabled.
 fn shows(
     alloc: Global,
     verified: &Verified,
@@ -121,7 +121,7 @@ fn shows(
     }
 }
 
-/// What a process holds of a resource, where both are there.
+/// Returns what a process holds of a resource, if both are there.
 fn loan(machine: &Machine, p: usize, r: usize) -> Option<u32> {
     let banker = machine.banker();
     if p >= banker.processes() || r >= banker.resources() {
@@ -130,7 +130,7 @@ fn loan(machine: &Machine, p: usize, r: usize) -> Option<u32> {
     Some(banker.loan(p, r))
 }
 
-/// Whether an arm takes steps, and at which place, where it is there.
+/// Returns whether an arm takes steps, and at which place, if it is there.
 fn stands(machine: &Machine, p: usize, arm: usize) -> Option<(ThreadState, Option<u16>)> {
     if p >= machine.processes() {
         return None;
@@ -299,7 +299,8 @@ fn a_fault_beside_a_hold(rt: HostRuntime) {
     assert!(rt; machine.finished());
 }
 
-/// Two processes take the two resources in turn, one the first and then the second, the other the other way round.
+/// Returns the code of two processes that take the two resources in turn, one the first and then the second,
+/// the other the other way round.
 fn crossed(alloc: Global) -> Result<Option<Verified>, NoMemory> {
     let one_way = [
         Instr::Take(0),
@@ -377,7 +378,7 @@ fn a_request_is_refused(rt: HostRuntime) {
     assert!(rt; loan(&copy, 0, 0) == Some(1));
 }
 
-/// The first process once more, apart from its machine.
+/// Returns the first process once more, apart from its machine.
 fn apart(alloc: Global, verified: &Verified, machine: &Machine) -> Result<Proc, NoMemory>
     requires of { IsMachineOf verified.now machine.now }
     requires there { 0 < length (machine_view machine.now).processes }
@@ -424,7 +425,8 @@ fn silent_picks_apart(rt: HostRuntime) {
     assert!(rt; before.same(machine.proc(0)));
 }
 
-/// Counts to three by rounds of nine picks, tests once more by four, puts two operands, and adds them, which overflows.
+/// Counts to three by rounds of nine picks, tests once more by four, puts two operands, and adds them, which
+/// overflows.
 const COUNT_AND_OVERFLOW: [Instr; 14] = [
     Instr::Load(0),
     Instr::Push(3),
@@ -442,8 +444,8 @@ const COUNT_AND_OVERFLOW: [Instr; 14] = [
     Instr::End,
 ];
 
-/// A run stops at its limit, also in the midst of a round, and before the fault, which it leaves to the machine; it
-/// leaves what as many picks leave that are made one by one.
+/// A run stops at its limit, also in the midst of a round, and before the fault, which it leaves to the
+/// machine; it leaves what as many picks leave that are made one by one.
 #[test]
 fn silent_runs_apart(rt: HostRuntime) {
     let alloc = rt.alloc();
@@ -474,7 +476,7 @@ fn silent_runs_apart(rt: HostRuntime) {
     assert!(rt; !run.silent(&verified, pick));
 }
 
-/// The machine makes silent runs of its processes, and faults where a run stopped.
+/// The machine makes silent runs of its processes, and faults if a run stopped.
 #[test]
 fn silent_runs_of_the_machine(rt: HostRuntime) {
     let alloc = rt.alloc();
@@ -495,11 +497,11 @@ fn silent_runs_of_the_machine(rt: HostRuntime) {
     assert!(rt; shown(event) == Seen::Faulted(0, 0, FaultKind::Overflow));
 }
 
-/// How many picks the group at each place of that code makes: a round is two groups, and no group has the jump alone, the
-/// print or the end.
+/// How many picks the group at each place of that code makes: a round is two groups, and no group has the
+/// jump alone, the print or the end.
 const COUNTS: [u8; 14] = [4, 3, 2, 1, 5, 4, 3, 2, 0, 3, 2, 1, 0, 0];
 
-/// Whether the group at each place makes as many picks.
+/// Returns whether the group at each place makes as many picks.
 fn have_counts(groups: &[Group], counts: &[u8]) -> bool {
     if groups.len() != counts.len() {
         return false;
@@ -512,7 +514,8 @@ fn have_counts(groups: &[Group], counts: &[u8]) -> bool {
     true
 }
 
-/// Whether verified code has the groups of its first process, and they are those that are found in the code.
+/// Returns whether verified code has the groups of its first process, and they are those that are found in
+/// the code.
 fn have_groups(alloc: Global, verified: &Verified) -> Option<bool> {
     let code = verified.code();
     if code.processes.is_empty() {

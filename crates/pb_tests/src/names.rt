@@ -10,13 +10,13 @@ use pb_parser::parse;
 use pb_tree::Program;
 use std::alloc::Global;
 
-/// The tree of a text.
+/// Returns the tree of a text.
 fn tree(alloc: Global, text: &[u8]) -> Option<Program<Global>> {
     let tokens = lex(alloc, text).ok()?;
     parse(alloc, tokens.as_slice()).ok()
 }
 
-/// The numbered program of a text, or its fault. There is none if the text has no tree.
+/// Returns the numbered program of a text, or its fault. There is none if the text has no tree.
 fn numbered(alloc: Global, text: &[u8]) -> Option<Result<Resolved<Global>, NameFault>> {
     let tree = tree(alloc, text)?;
     if is_complete(&tree) {
@@ -26,12 +26,12 @@ fn numbered(alloc: Global, text: &[u8]) -> Option<Result<Resolved<Global>, NameF
     }
 }
 
-/// The numbered program of a text that is accepted.
+/// Returns the numbered program of a text that is accepted.
 fn resolved(alloc: Global, text: &[u8]) -> Option<Resolved<Global>> {
     numbered(alloc, text)?.ok()
 }
 
-/// Whether a text with a tree is accepted, or its fault.
+/// Returns whether a text with a tree is accepted, or its fault.
 fn verdict(alloc: Global, text: &[u8]) -> Option<Result<(), NameFault>> {
     match numbered(alloc, text)? {
         Ok(_) => Some(Ok(())),
@@ -39,12 +39,12 @@ fn verdict(alloc: Global, text: &[u8]) -> Option<Result<(), NameFault>> {
     }
 }
 
-/// The body of the first process.
+/// Returns the body of the first process.
 fn body(resolved: &Resolved<Global>) -> Option<&Vec<Stmt<Global>>> {
     Some(&resolved.processes.first()?.body)
 }
 
-/// The number of the first arm of a parbegin at the head of a list.
+/// Returns the number of the first arm of a parbegin at the head of a list.
 fn first_arm(list: &Vec<Stmt<Global>>) -> Option<u8> {
     match list.first()? {
         Stmt::Parbegin { first, .. } => Some(*first),
@@ -58,7 +58,7 @@ const SUM: &[u8] = b"process p begin
   yy := yy + x
 end";
 
-/// Whether a program has the one process `p` with two integers, of which the second is `yy`.
+/// Returns whether a program has the one process `p` with two integers, of which the second is `yy`.
 fn has_one_process(resolved: &Resolved<Global>) -> bool {
     if resolved.resources.len() != 0 || resolved.processes.len() != 1 {
         return false;
@@ -69,7 +69,7 @@ fn has_one_process(resolved: &Resolved<Global>) -> bool {
         && process.integers[1].as_slice() == b"yy".as_slice()
 }
 
-/// Whether a value is the sum of integer 1 and integer 0.
+/// Returns whether a value is the sum of integer 1 and integer 0.
 fn is_sum(value: &Expr<Global>) -> bool {
     match value {
         Expr::Binary(BinaryOp::Add, left, right) => {
@@ -79,7 +79,7 @@ fn is_sum(value: &Expr<Global>) -> bool {
     }
 }
 
-/// Whether a program assigns that sum to integer 1 at line 3.
+/// Returns whether a program assigns that sum to integer 1 at line 3.
 fn has_the_sum(resolved: &Resolved<Global>) -> bool {
     let Some(list) = body(resolved) else {
         return false;
@@ -110,7 +110,7 @@ const HOLD: &[u8] = b"resource t = 3; resource u = 4; process p begin
   hold 2 of u, 1 of t do skip od
 end";
 
-/// Whether a statement is that hold.
+/// Returns whether a statement is that hold.
 fn is_hold(stmt: &Stmt<Global>) -> bool {
     match stmt {
         Stmt::Hold {
@@ -127,7 +127,7 @@ fn is_hold(stmt: &Stmt<Global>) -> bool {
     }
 }
 
-/// Whether a program has two resources, of which there are 4 of the second, and that hold.
+/// Returns whether a program has two resources, of which there are 4 of the second, and that hold.
 fn has_the_hold(resolved: &Resolved<Global>) -> bool {
     let Some(list) = body(resolved) else {
         return false;
@@ -152,7 +152,7 @@ fn numbers_resources_of_holds(rt: HostRuntime) {
 const FORKS: &[u8] =
     b"process p begin parbegin parbegin skip; skip parend; parbegin skip parend parend end";
 
-/// The numbers of the first arms of the outer parbegin and of the two inside.
+/// Returns the numbers of the first arms of the outer parbegin and of the two inside.
 fn first_arms(resolved: &Resolved<Global>) -> Option<(u8, u8, u8)> {
     let Stmt::Parbegin { first, arms, .. } = body(resolved)?.first()? else {
         return None;
@@ -171,8 +171,8 @@ fn numbers_the_arms_of_a_parbegin_before_those_inside(rt: HostRuntime) {
     assert!(rt; first_arms(&resolved) == Some((1, 3, 5)));
 }
 
-/// Whether the tree of a text is complete without the arms of its second statement, if that is a parbegin, or the
-/// pairs, if it is a hold; else without its processes.
+/// Returns whether the tree of a text is complete without the arms of its second statement, if that is a
+/// parbegin, or the pairs, if it is a hold; else without its processes.
 fn is_complete_without(alloc: Global, text: &[u8]) -> Option<bool> {
     let mut tree = tree(alloc, text)?;
     match tree.processes.get_mut(0)?.body.get_mut(1) {
@@ -262,7 +262,7 @@ fn tells_the_fault_of_least_place(rt: HostRuntime) {
     }
 }
 
-/// The fault of a text of which there is too much.
+/// Returns the fault of a text of which there is too much.
 fn too_many(alloc: Global, text: Result<Vec<u8>, NoMemory>) -> Option<Kind> {
     match verdict(alloc, text.ok()?.as_slice())? {
         Err(NameFault::TooMany(kind)) => Some(kind),
@@ -270,7 +270,7 @@ fn too_many(alloc: Global, text: Result<Vec<u8>, NoMemory>) -> Option<Kind> {
     }
 }
 
-/// How many processes the numbered program of so many processes has.
+/// Returns how many processes the numbered program of a text with `count` processes has.
 fn processes(alloc: Global, count: usize) -> Option<usize> {
     let text = idle(alloc, count).ok()?;
     Some(resolved(alloc, text.as_slice())?.processes.len())
@@ -282,7 +282,7 @@ fn refuses_too_many_processes(rt: HostRuntime) {
     assert!(rt; too_many(rt.alloc(), idle(rt.alloc(), 65)) == Some(Kind::Processes));
 }
 
-/// A process with 65 integers, under so many resources.
+/// Returns a process with 65 integers, under `resources` resources.
 fn integers(alloc: Global, resources: usize) -> Result<Vec<u8>, NoMemory> {
     let process = repeated(
         alloc,
@@ -341,7 +341,7 @@ const CHOICE: &[u8] = b"process p begin
   else parbegin skip; skip; skip parend fi
 end";
 
-/// The numbers of the first arms of those parbegins.
+/// Returns the numbers of the first arms of those parbegins.
 fn arms_inside(resolved: &Resolved<Global>) -> Option<(u8, u8)> {
     let Stmt::If {
         line: 4,

@@ -12,13 +12,14 @@ const ONE_PROCESS: &[u8] =
 /// The longest text that is read.
 const MOST_BYTES: usize = 4_194_304;
 
-/// The object of one process of so many places, whose number is in this line.
+/// Returns the object of one process of `places` places, whose number is in this line.
 fn one_process(alloc: Global, code: &[u8], places: usize) -> Result<Vec<u8>, NoMemory> {
     let head = repeated(alloc, ONE_PROCESS, code, 1, b"")?;
     repeated(alloc, head.as_slice(), b"0 end\n", places, b"")
 }
 
-/// Whether a text is an object of processes with so many places each, and as many lines of their labels.
+/// Returns whether a text is an object of processes with these counts of places, and as many lines of their
+/// labels.
 fn has_places(alloc: Global, text: &[u8], counts: &[usize]) -> bool {
     let Ok((code, labels)) = read_any(alloc, text) else {
         return false;
@@ -34,7 +35,7 @@ fn has_places(alloc: Global, text: &[u8], counts: &[usize]) -> bool {
     true
 }
 
-/// The fault of a text, if it has one.
+/// Returns the fault of a text, if it has one.
 fn fault(alloc: Global, text: &[u8]) -> Option<ObjectFault> {
     match read_any(alloc, text) {
         Ok(_) => None,
@@ -68,7 +69,8 @@ fn a_text_of_the_most_bytes_is_read(rt: HostRuntime) {
     assert!(rt; fault(rt.alloc(), &text) == Some(ObjectFault::Limit(0)));
 }
 
-/// An object of four processes whose places have lines of 32 bytes, of which the last process has this name.
+/// Returns an object of four processes whose places have lines of 32 bytes, of which the last process has
+/// this name.
 fn four_processes(alloc: Global, last: &str) -> Result<Vec<u8>, NoMemory> {
     let mut text = Vec::from_slice(alloc, b"PBO 2\nresources 0\nprocesses 4\n")?;
     for (name, places) in [("a", 40_000), ("b", 40_000), ("c", 40_000), (last, 11_065)] {
@@ -101,7 +103,7 @@ fn an_object_of_one_byte_more_is_refused(rt: HostRuntime) {
     assert!(rt; fault(rt.alloc(), &text) == Some(ObjectFault::Limit(0)));
 }
 
-/// An object of 64 processes of 64 arms.
+/// Returns an object of 64 processes of 64 arms.
 fn most_arms(alloc: Global) -> Result<Vec<u8>, NoMemory> {
     let mut text = Vec::from_slice(alloc, b"PBO 2\nresources 0\nprocesses 64\n")?;
     for number in 0..64 {
@@ -115,7 +117,7 @@ fn most_arms(alloc: Global) -> Result<Vec<u8>, NoMemory> {
     Ok(text)
 }
 
-/// The number of arms of each process of an object of 64 processes, if all have as many.
+/// Returns the number of arms of each process of an object of 64 processes, if all have as many.
 fn arms_of_each(alloc: Global, text: &[u8]) -> Option<usize> {
     let (code, _) = read_any(alloc, text).ok()?;
     let arms = code.processes.first()?.entries.len();

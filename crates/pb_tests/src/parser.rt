@@ -217,7 +217,7 @@ fn reads_all_of_the_grammar(rt: HostRuntime) -> Result<(), Fail> {
     Ok(())
 }
 
-/// The fault of a text, which has tokens.
+/// Returns the fault of a text, which has tokens.
 fn fault(alloc: Global, text: &[u8]) -> Option<ParseFault> {
     let Ok(tokens) = lex(alloc, text) else {
         return Some(ParseFault::NoMemory);
@@ -247,7 +247,7 @@ fn names_the_place_of_a_syntax_error(rt: HostRuntime) {
     assert!(rt; fault(rt.alloc(), b"process p begin skip end") == None);
 }
 
-/// The text with blanks in place of the token.
+/// Returns the text with blanks in place of the token.
 fn left_out(alloc: Global, token: &Token<'_>) -> Result<Vec<u8, Global>, NoMemory> {
     let mut text = Vec::new(alloc);
     for (at, byte) in places::TEXT.iter().enumerate() {
@@ -257,7 +257,7 @@ fn left_out(alloc: Global, token: &Token<'_>) -> Result<Vec<u8, Global>, NoMemor
     Ok(text)
 }
 
-/// The text with the token twice, and a blank between.
+/// Returns the text with the token twice, and a blank between.
 fn twice(alloc: Global, token: &Token<'_>) -> Result<Vec<u8, Global>, NoMemory> {
     let mut text = Vec::new(alloc);
     for (at, byte) in places::TEXT.iter().enumerate() {
@@ -293,7 +293,7 @@ fn finds_the_first_token_that_is_wrong(rt: HostRuntime) -> Result<(), Fail> {
     Ok(())
 }
 
-/// The fault of a text of a head, a piece so many times, and a tail.
+/// Returns the fault of a text of a head, `count` pieces and a tail.
 fn repeated_fault(
     alloc: Global,
     head: &[u8],
@@ -350,7 +350,7 @@ fn keeps_the_limits_of_the_tree(rt: HostRuntime) {
     }
 }
 
-/// The fault of a text of a head, a piece so many times, and a tail, if there is no memory for its tree.
+/// Returns the fault of a text of a head, `count` pieces and a tail, if there is no memory for its tree.
 fn fault_without_room(
     alloc: Global,
     head: &[u8],

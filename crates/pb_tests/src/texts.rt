@@ -27,7 +27,8 @@ pub const HELLO: &[u8] = b"process p begin print 1 end
 /// Of `examples/`: two arms add 1 to the same integer.
 pub const LOST: &[u8] =
     b"// Two arms add one to the same integer. To read it and to assign to it are two steps, so if both arms read it before
-// either assigns, one of the two additions is lost. `run` goes arm by arm and loses none; the run of lost.run loses one.
+// either assigns, one of the two additions is lost. `run` goes arm by arm and loses none; the run of lost.run
+// loses one.
 process p
 begin
   integer x;
@@ -42,7 +43,8 @@ end
 /// Of `examples/`: a run of that text in which an addition is lost, as a seed draws it.
 pub const LOST_RUN: &[u8] =
     b"// Two arms add one to the same integer. To read it and to assign to it are two steps, so if both arms read it before
-// either assigns, one of the two additions is lost. `run` goes arm by arm and loses none; the run of lost.run loses one.
+// either assigns, one of the two additions is lost. `run` goes arm by arm and loses none; the run of lost.run
+// loses one.
 process p
 begin
   integer x;
@@ -250,7 +252,7 @@ end
 process q begin if 1 and 0 then print 1 else hold 4 of r do skip od fi end",
 ];
 
-/// A text of a head, a piece again and again, and a tail.
+/// Returns a text of a head, a piece again and again, and a tail.
 pub fn repeated(
     alloc: Global,
     head: &[u8],
@@ -276,7 +278,7 @@ pub fn idle(alloc: Global, count: usize) -> Result<Vec<u8>, NoMemory> {
     Ok(text)
 }
 
-/// Four parbegins, of 16 arms each but the last, which has so many and one more.
+/// Returns four parbegins: three of 16 arms, and the last of `last + 1` arms.
 pub fn arms(alloc: Global, last: usize) -> Result<Vec<u8>, NoMemory> {
     let mut text = Vec::from_slice(alloc, b"process p begin ")?;
     for _turn in 0..3 {

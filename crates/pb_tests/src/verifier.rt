@@ -8,7 +8,7 @@ use pb_object::{read_any, write_object2};
 use pb_verifier::{Verified, VerifyFault, verify};
 use std::alloc::Global;
 
-/// Names that begin with a letter, so many of them.
+/// Returns `count` names that begin with a letter.
 fn names(alloc: Global, letter: u8, count: usize) -> Result<Vec<Vec<u8>>, NoMemory> {
     let mut names = Vec::new(alloc);
     for k in 0..count {
@@ -18,7 +18,8 @@ fn names(alloc: Global, letter: u8, count: usize) -> Result<Vec<Vec<u8>>, NoMemo
     Ok(names)
 }
 
-/// The code of one process over one resource, which it may name by bundle 0, one of it, and bundle 1, two of it.
+/// Returns the code of one process over one resource, which it may name by bundle 0, one of it, and bundle 1,
+/// two of it.
 fn one_process(
     alloc: Global,
     integers: u8,
@@ -50,7 +51,7 @@ fn one_process(
     })
 }
 
-/// The fault of such code, if it has one.
+/// Returns the fault of such code, if it has one.
 fn fault_of(
     alloc: Global,
     integers: u8,
@@ -115,7 +116,7 @@ const SUM: [Instr; 5] = [
     Instr::End,
 ];
 
-/// Whether verified code has one process with its name, and one arm that puts at most two operands.
+/// Returns whether verified code has one process with its name, and one arm that puts at most two operands.
 fn is_verified_sum(verified: &Verified) -> bool {
     verified.code().processes.len() == 1
         && verified.names().processes.len() == 1
@@ -134,7 +135,7 @@ fn the_verified_code_and_its_depths(rt: HostRuntime) {
     }
 }
 
-/// The fault of code that is refused, and the number of processes in what is handed back.
+/// Returns the fault of code that is refused, and the number of processes in what is handed back.
 fn refusal(alloc: Global, code: Code) -> Option<(VerifyFault, usize)> {
     match verify(alloc, code) {
         Ok(_) => None,
@@ -168,7 +169,8 @@ const CROSSED: [Instr; 5] = [
     Instr::End,
 ];
 
-/// Processes of one arm: the number of integers, the instructions, the claim on the 4 that there are, and the fault.
+/// Processes of one arm: the number of integers, the instructions, the claim on the 4 that there are, and the
+/// fault.
 const CASES: [(u8, &[Instr], u64, Option<VerifyFault>); 12] = [
     (65, &[Instr::End], 0, Some(VerifyFault::OutOfLimits)),
     (0, &[Instr::End], 1_000_001, Some(VerifyFault::OutOfLimits)),
@@ -223,7 +225,7 @@ fn an_arm_that_no_fork_names(rt: HostRuntime) {
     assert!(rt; fault == Ok(Some(VerifyFault::WrongForks)));
 }
 
-/// Two equal lists of 256 bundles, taken at different places, which many jumps compare.
+/// Returns two equal lists of 256 bundles, taken at different places, which many jumps compare.
 fn comparing(alloc: Global) -> Result<Vec<Instr>, NoMemory> {
     let mut code = Vec::new(alloc);
     let body: u16 = 2 + 256 + 2 * 9_500 + 1 + 256;
@@ -264,7 +266,7 @@ fn many_comparisons(rt: HostRuntime) {
 
 // ---- texts of objects
 
-/// The text of an object of one process, which has one integer, over one resource.
+/// Returns the text of an object of one process, which has one integer, over one resource.
 fn object(alloc: Global, capital: &[u8], rest: &[u8]) -> Result<Vec<u8>, NoMemory> {
     let mut text = Vec::from_slice(alloc, b"PBO 1\nresources 1\nresource r ")?;
     text.extend_from_slice(capital)?;
@@ -273,7 +275,7 @@ fn object(alloc: Global, capital: &[u8], rest: &[u8]) -> Result<Vec<u8>, NoMemor
     Ok(text)
 }
 
-/// The fault of the code of such an object, if it is read and refused.
+/// Returns the fault of the code of such an object, if it is read and refused.
 fn fault_in(alloc: Global, capital: &[u8], rest: &[u8]) -> Option<VerifyFault> {
     let text = object(alloc, capital, rest).ok()?;
     let (code, _) = read_any(alloc, &text).ok()?;
@@ -352,7 +354,7 @@ const LOOP: &[u8] =
 const JOINT: &[u8] =
     b"PBO 2\nresources 2\nresource r 9\nresource s_1 1000000\nprocesses 2\nprocess p\nvars 0\narms 2\nclaims 1 0\narm 0\narm 3\ncode 6\n1 fork 1 1\n1 join 1 1\n0 end\n2 take 0 1\n2 give 0 1\n0 end\nprocess Q\nvars 2 a b\narms 1\nclaims 9 1000000\narm 0\ncode 7\n2 take 1 1000000 0 9\n3 push -9223372036854775808\n4 jzero 4\n0 jump 4\n10 load 1\n10 print\n65536 jump 6\n";
 
-/// Whether a code is verified, if it is the same as another before and after.
+/// Returns whether a code is verified, if it is the same as another before and after.
 fn is_verified_as(alloc: Global, code: Code, other: &Code) -> Option<bool> {
     if !code.same(other) {
         return None;
@@ -364,8 +366,8 @@ fn is_verified_as(alloc: Global, code: Code, other: &Code) -> Option<bool> {
     if is_same { Some(is_verified) } else { None }
 }
 
-/// Whether a text is an object whose code is verified. If it is an object, its code is read again from the text that
-/// is written of it; else there is no answer.
+/// Returns whether a text is an object whose code is verified. If it is an object, its code is read again
+/// from the text that is written of it; else there is no answer.
 fn is_verified(alloc: Global, text: &[u8]) -> Option<bool> {
     let Ok((code, labels)) = read_any(alloc, text) else {
         return Some(false);
@@ -375,14 +377,14 @@ fn is_verified(alloc: Global, text: &[u8]) -> Option<bool> {
     is_verified_as(alloc, code, &again)
 }
 
-/// A text with another byte at a place.
+/// Returns a text with another byte at a place.
 fn with_byte(alloc: Global, text: &[u8], place: usize, byte: u8) -> Option<Vec<u8>> {
     let mut changed = Vec::from_slice(alloc, text).ok()?;
     *changed.get_mut(place)? = byte;
     Some(changed)
 }
 
-/// How many texts with another byte at one place are verified.
+/// Returns how many texts with another byte at one place are verified.
 fn verified_changes(alloc: Global, text: &[u8]) -> Option<usize> {
     let mut verified: usize = 0;
     for place in 0..text.len() {

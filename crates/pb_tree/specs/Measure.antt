@@ -48,7 +48,7 @@ expr_height (unary op e) = 1 + expr_height e
 expr_height (binary op a b) = 1 + max (expr_height a) (expr_height b)
 
 -- the height of a statement, one more than of its highest expression or list; a list, and arms, have that of
--- their highest statement, 0 where they have none
+-- their highest statement, 0 if they have none
 abbrev mutual
   pub stmt_height : StmtSyntax → ℕ
   stmt_height (assign line x e) = 1 + expr_height e

@@ -39,7 +39,7 @@ pub enum Expr<A: Allocator> {
 impl<A: Allocator> Name<A> {
     ghost use Rattle.pb_tree.specs.View.{name_view};
 
-    /// The same name in memory of `alloc`. The error comes only if `alloc` is out of memory.
+    /// Returns the same name in memory of `alloc`. The error comes only if `alloc` is out of memory.
     pub fn copy_into<B: Allocator + Clone>(&self, alloc: &B) -> Result<Name<B>, NoMemory>
         ensures { IfOk result (λ name. name_view name ≡ name_view self.now) }
     {
@@ -49,7 +49,7 @@ impl<A: Allocator> Name<A> {
         })
     }
 
-    /// Whether the other name has the same bytes and the same place.
+    /// Returns whether the other name has the same bytes and the same place.
     pub fn same<B: Allocator>(&self, other: &Name<B>) -> bool
         ensures { IsTrue result ↔ (name_view self.now ≡ name_view other.now) }
     {
@@ -61,7 +61,7 @@ impl<A: Allocator> Expr<A> {
     ghost use Rattle.pb_tree.specs.Measure.{saturated, expr_nodes, expr_height};
     ghost use Rattle.pb_tree.specs.View.{expr_view};
 
-    /// The same expression in memory of `alloc`. The error comes only if `alloc` is out of memory.
+    /// Returns the same expression in memory of `alloc`. The error comes only if `alloc` is out of memory.
     pub fn copy_into<B: Allocator + Clone>(&self, alloc: &B) -> Result<Expr<B>, NoMemory>
         ensures { IfOk result (λ expr. expr_view expr ≡ expr_view self.now) }
     {
@@ -81,7 +81,7 @@ impl<A: Allocator> Expr<A> {
         }
     }
 
-    /// Whether the other expression is the same, places included, in whatever memory it lies.
+    /// Returns whether the other expression is the same, places included, in whatever memory it lies.
     pub fn same<B: Allocator>(&self, other: &Expr<B>) -> bool
         ensures { IsTrue result ↔ (expr_view self.now ≡ expr_view other.now) }
     {
@@ -96,7 +96,7 @@ impl<A: Allocator> Expr<A> {
         }
     }
 
-    /// The number of its nodes, itself included, or the greatest `u64` if there are more.
+    /// Returns the number of its nodes, itself included, or the greatest `u64` if there are more.
     pub fn nodes(&self) -> u64
         ensures { result ≡ saturated (expr_nodes (expr_view self.now)) }
     {
@@ -109,8 +109,8 @@ impl<A: Allocator> Expr<A> {
         }
     }
 
-    /// Its height: 1 of a number or a name, of an operator one more than of its highest operand. It stays at
-    /// the greatest `u64`.
+    /// Returns its height: 1 of a number or a name, of an operator one more than of its highest operand. It
+    /// stays at the greatest `u64`.
     pub fn height(&self) -> u64
         ensures { result ≡ saturated (expr_height (expr_view self.now)) }
     {

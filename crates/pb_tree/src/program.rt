@@ -40,7 +40,7 @@ pub struct Program<A: Allocator> {
 }
 
 impl<A: Allocator> Resource<A> {
-    /// The same resource in memory of `alloc`. The error comes only if `alloc` is out of memory.
+    /// Returns the same resource in memory of `alloc`. The error comes only if `alloc` is out of memory.
     pub fn copy_into<B: Allocator + Clone>(&self, alloc: &B) -> Result<Resource<B>, NoMemory>
         ensures { IfOk result (λ copy. resource_view copy ≡ resource_view self.now) }
     {
@@ -50,7 +50,7 @@ impl<A: Allocator> Resource<A> {
         })
     }
 
-    /// Whether the other resource is the same, places included.
+    /// Returns whether the other resource is the same, places included.
     pub fn same<B: Allocator>(&self, other: &Resource<B>) -> bool
         ensures { IsTrue result ↔ (resource_view self.now ≡ resource_view other.now) }
     {
@@ -59,7 +59,7 @@ impl<A: Allocator> Resource<A> {
 }
 
 impl<A: Allocator> Process<A> {
-    /// The same process in memory of `alloc`. The error comes only if `alloc` is out of memory.
+    /// Returns the same process in memory of `alloc`. The error comes only if `alloc` is out of memory.
     pub fn copy_into<B: Allocator + Clone>(&self, alloc: &B) -> Result<Process<B>, NoMemory>
         ensures { IfOk result (λ copy. process_view copy ≡ process_view self.now) }
     {
@@ -73,7 +73,7 @@ impl<A: Allocator> Process<A> {
         })
     }
 
-    /// Whether the other process is the same, places and lines included, in whatever memory it lies.
+    /// Returns whether the other process is the same, places and lines included, in whatever memory it lies.
     pub fn same<B: Allocator>(&self, other: &Process<B>) -> bool
         ensures { IsTrue result ↔ (process_view self.now ≡ process_view other.now) }
     {
@@ -84,7 +84,7 @@ impl<A: Allocator> Process<A> {
 }
 
 impl<A: Allocator> Program<A> {
-    /// The same program in memory of `alloc`. The error comes only if `alloc` is out of memory.
+    /// Returns the same program in memory of `alloc`. The error comes only if `alloc` is out of memory.
     pub fn copy_into<B: Allocator + Clone>(&self, alloc: B) -> Result<Program<B>, NoMemory>
         ensures { IfOk result (λ copy. program_view copy ≡ program_view self.now) }
     {
@@ -96,7 +96,7 @@ impl<A: Allocator> Program<A> {
         })
     }
 
-    /// Whether the other program is the same, places and lines included, in whatever memory it lies.
+    /// Returns whether the other program is the same, places and lines included, in whatever memory it lies.
     pub fn same<B: Allocator>(&self, other: &Program<B>) -> bool
         ensures { IsTrue result ↔ (program_view self.now ≡ program_view other.now) }
     {
@@ -104,8 +104,8 @@ impl<A: Allocator> Program<A> {
             && same_processes(&self.processes, &other.processes)
     }
 
-    /// The number of its nodes, or the greatest `u64` if there are more. Nodes are expressions, statements
-    /// and processes.
+    /// Returns the number of its nodes, or the greatest `u64` if there are more. Nodes are expressions,
+    /// statements and processes.
     pub fn nodes(&self) -> u64
         ensures { result ≡ saturated (program_nodes (program_view self.now)) }
     {
@@ -116,7 +116,8 @@ impl<A: Allocator> Program<A> {
         total
     }
 
-    /// Its height, that of its highest statement, and 0 if it has none. It stays at the greatest `u64`.
+    /// Returns its height, that of its highest statement, and 0 if it has none. It stays at the greatest
+    /// `u64`.
     pub fn height(&self) -> u64
         ensures { result ≡ saturated (program_height (program_view self.now)) }
     {

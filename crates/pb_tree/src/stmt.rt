@@ -79,7 +79,7 @@ pub struct Demand<A: Allocator> {
 }
 
 impl<A: Allocator> Stmt<A> {
-    /// The same statement in memory of `alloc`. The error comes only if `alloc` is out of memory.
+    /// Returns the same statement in memory of `alloc`. The error comes only if `alloc` is out of memory.
     #[cycle(copy)]
     #[tactic(auto, using(crate::proofs::Views::stmt_views))]
     pub fn copy_into<B: Allocator + Clone>(&self, alloc: &B) -> Result<Stmt<B>, NoMemory>
@@ -148,7 +148,7 @@ impl<A: Allocator> Stmt<A> {
         }
     }
 
-    /// The same list in memory of `alloc`. The error comes only if `alloc` is out of memory.
+    /// Returns the same list in memory of `alloc`. The error comes only if `alloc` is out of memory.
     #[cycle(copy)]
     #[tactic(auto, using(crate::proofs::Views::stmt_views))]
     pub fn copy_list<B: Allocator + Clone>(
@@ -164,7 +164,7 @@ impl<A: Allocator> Stmt<A> {
         Ok(copy)
     }
 
-    /// The same arms in memory of `alloc`.
+    /// Returns the same arms in memory of `alloc`.
     #[cycle(copy)]
     #[tactic(auto, using(crate::proofs::Views::stmt_views))]
     fn copy_arms<B: Allocator + Clone>(
@@ -180,7 +180,8 @@ impl<A: Allocator> Stmt<A> {
         Ok(copy)
     }
 
-    /// Whether the other statement is the same, places and lines included, in whatever memory it lies.
+    /// Returns whether the other statement is the same, places and lines included, in whatever memory it
+    /// lies.
     #[cycle(same)]
     #[tactic(auto, using(crate::proofs::Views::stmt_views))]
     pub fn same<B: Allocator>(&self, other: &Stmt<B>) -> bool
@@ -262,7 +263,7 @@ impl<A: Allocator> Stmt<A> {
         }
     }
 
-    /// Whether two lists are the same, places and lines included, in whatever memory they lie.
+    /// Returns whether two lists are the same, places and lines included, in whatever memory they lie.
     #[cycle(same)]
     #[tactic(auto, using(crate::proofs::Views::stmt_views))]
     pub fn same_list<B: Allocator>(stmts: &Vec<Stmt<A>, A>, others: &Vec<Stmt<B>, B>) -> bool
@@ -279,7 +280,7 @@ impl<A: Allocator> Stmt<A> {
         true
     }
 
-    /// Whether the arms of two parbegins are the same.
+    /// Returns whether the arms of two parbegins are the same.
     #[cycle(same)]
     #[tactic(auto, using(crate::proofs::Views::stmt_views))]
     fn same_arms<B: Allocator>(
@@ -299,8 +300,8 @@ impl<A: Allocator> Stmt<A> {
         true
     }
 
-    /// The number of its nodes, itself included, or the greatest `u64` if there are more. Names, amounts,
-    /// resources and the target of an assignment are none.
+    /// Returns the number of its nodes, itself included, or the greatest `u64` if there are more. Names,
+    /// amounts, resources and the target of an assignment are none.
     #[cycle(nodes)]
     #[tactic(auto, using(crate::proofs::Views::stmt_views))]
     pub fn nodes(&self) -> u64
@@ -328,7 +329,7 @@ impl<A: Allocator> Stmt<A> {
         }
     }
 
-    /// The number of nodes in a list, or the greatest `u64` if there are more.
+    /// Returns the number of nodes in a list, or the greatest `u64` if there are more.
     #[cycle(nodes)]
     #[tactic(auto, using(crate::proofs::Views::stmt_views))]
     pub fn list_nodes(stmts: &Vec<Stmt<A>, A>) -> u64
@@ -341,7 +342,7 @@ impl<A: Allocator> Stmt<A> {
         total
     }
 
-    /// The number of nodes in the arms of a parbegin, or the greatest `u64` if there are more.
+    /// Returns the number of nodes in the arms of a parbegin, or the greatest `u64` if there are more.
     #[cycle(nodes)]
     #[tactic(auto, using(crate::proofs::Views::stmt_views))]
     fn arms_nodes(arms: &Vec<Vec<Stmt<A>, A>, A>) -> u64
@@ -354,7 +355,7 @@ impl<A: Allocator> Stmt<A> {
         total
     }
 
-    /// Its height, one more than of its highest expression or list. It stays at the greatest `u64`.
+    /// Returns its height, one more than of its highest expression or list. It stays at the greatest `u64`.
     #[cycle(height)]
     #[tactic(auto, using(crate::proofs::Views::stmt_views))]
     pub fn height(&self) -> u64
@@ -381,8 +382,8 @@ impl<A: Allocator> Stmt<A> {
         }
     }
 
-    /// The height of a list, that of its highest statement, and 0 if it is empty. It stays at the greatest
-    /// `u64`.
+    /// Returns the height of a list, that of its highest statement, and 0 if it is empty. It stays at the
+    /// greatest `u64`.
     #[cycle(height)]
     #[tactic(auto, using(crate::proofs::Views::stmt_views))]
     pub fn list_height(stmts: &Vec<Stmt<A>, A>) -> u64
@@ -395,7 +396,7 @@ impl<A: Allocator> Stmt<A> {
         highest
     }
 
-    /// The height of the highest arm, and 0 if there is none. It stays at the greatest `u64`.
+    /// Returns the height of the highest arm, and 0 if there is none. It stays at the greatest `u64`.
     #[cycle(height)]
     #[tactic(auto, using(crate::proofs::Views::stmt_views))]
     fn arms_height(arms: &Vec<Vec<Stmt<A>, A>, A>) -> u64
@@ -410,8 +411,8 @@ impl<A: Allocator> Stmt<A> {
 }
 
 impl<A: Allocator> Demand<A> {
-    /// The same amount of the same resource in memory of `alloc`. The error comes only where that memory is
-    /// refused.
+    /// Returns the same amount of the same resource in memory of `alloc`. The error comes only if that
+    /// memory is refused.
     pub fn copy_into<B: Allocator + Clone>(&self, alloc: &B) -> Result<Demand<B>, NoMemory>
         ensures { IfOk result (λ demand. demand_view demand ≡ demand_view self.now) }
     {
@@ -421,7 +422,7 @@ impl<A: Allocator> Demand<A> {
         })
     }
 
-    /// Whether the other amount and resource are the same, places included.
+    /// Returns whether the other amount and resource are the same, places included.
     pub fn same<B: Allocator>(&self, other: &Demand<B>) -> bool
         ensures { IsTrue result ↔ (demand_view self.now ≡ demand_view other.now) }
     {
@@ -459,7 +460,7 @@ fn same_demands<A: Allocator, B: Allocator>(
     true
 }
 
-/// The line of a statement's first token, from 1.
+/// Returns the line of a statement's first token, from 1.
 pub fn line_of<A: Allocator>(stmt: &Stmt<A>) -> u32
     ensures { result ≡ stmt_line (stmt_view stmt.now) }
 {

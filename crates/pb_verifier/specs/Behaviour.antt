@@ -69,7 +69,7 @@ AsksWithin code s =
     → move_of (code_step code.processes) s pick ≡ Some move
     → move.effect ≡ Takes bundle → IsWithinClaim (banker_state (bank_of code) s.loans) pick.process bundle
 
--- but for the banker some arm of the process can step
+-- some arm of the process can step, the banker left aside
 abbrev pub SomeArmSteps : ProcessCode → CodeProcess → Type 0
 SomeArmSteps code process =
     (a : ℕ) × (after : CodeProcess) × (effect : Effect) × (step_process code process a ≡ Some (after, effect))
@@ -83,8 +83,8 @@ abbrev pub IsDeadlocked : Code → State CodeProcess → Type 0
 IsDeadlocked code s = (IsFinished code_over s → ⊥) × (CanGoOn (bank_of code) (code_step code.processes) s → ⊥)
 
 -- in every state that the code reaches: no test fails, stacks are as deep as their places say, no request
--- passes its claim, each loan is within its claim and all loans together within the capital, the loans are safe,
--- and not all wait
+-- passes its claim, each loan is within its claim and all loans together within the capital, the loans are
+-- safe, and not all wait
 pub record IsWellBehaved (code : Code) : Type 0 where
   pub passes_tests : (s : State CodeProcess) → CodeReaches code s → PassesTests code s
   pub stacks_have_their_depth : (s : State CodeProcess) → CodeReaches code s → StacksHaveTheirDepth code s
@@ -99,7 +99,7 @@ pub record IsWellBehaved (code : Code) : Type 0 where
   pub ends_or_goes_on : (s : State CodeProcess) → CodeReaches code s → EndsOrGoesOn code s
   pub not_deadlocked : (s : State CodeProcess) → CodeReaches code s → IsDeadlocked code s → ⊥
 
--- whether the peak fits is decided by the greatest amounts, where there are any: in code that has no fault
+-- whether the peak fits is decided by the greatest amounts, if there are any: in code that has no fault
 -- looked for earlier
 abbrev pub PeaksDecide : Code → Type 0
 PeaksDecide code =
@@ -108,8 +108,8 @@ PeaksDecide code =
     → slice_get code.processes p ≡ Some process
     → AreHoldings process held → ArePeaks process held r peak → (PeakFits process r claim ↔ (peak 0 ≤ claim))
 
--- in code that has no fault looked for before peaks, each arm of each process has a peak on each resource, and
--- no other one
+-- in code that has no fault looked for before peaks, each arm of each process has a peak on each resource,
+-- and no other one
 abbrev pub PeaksExist : Code → Type 0
 PeaksExist code =
     ((fault : VerifyFault) → turn_of fault < turn_of OverClaim → IsFreeOf fault code)

@@ -26,7 +26,7 @@ pub struct Amount {
     pub held: u64,
 }
 
-/// The amount of a resource in a pair.
+/// Returns the amount of a resource in a pair.
 fn share(pair: Pair, resource: u8) -> u32
     ensures { result ≡ cond (pair.resource == resource) pair.amount 0 }
 {
@@ -37,7 +37,7 @@ fn share(pair: Pair, resource: u8) -> u32
     }
 }
 
-/// The amount of a resource in a bundle.
+/// Returns the amount of a resource in a bundle.
 fn amount_of(code: &ProcessCode, bundle: u16, resource: u8) -> u64
     ensures value { result ≡ amount_in (bundle_of code.now bundle) resource }
     ensures small { result ≤ 68719476720 }
@@ -49,7 +49,7 @@ fn amount_of(code: &ProcessCode, bundle: u16, resource: u8) -> u64
     amount
 }
 
-/// Whether an instruction takes some of a resource.
+/// Returns whether an instruction takes some of a resource.
 fn takes(code: &ProcessCode, instr: Instr, resource: u8) -> bool
     ensures { result ≡ false → TakesNone resource (plain code.now instr) }
 {
@@ -59,7 +59,7 @@ fn takes(code: &ProcessCode, instr: Instr, resource: u8) -> bool
     }
 }
 
-/// Whether a process takes a resource anywhere.
+/// Returns whether a process takes a resource anywhere.
 pub fn takes_any(code: &ProcessCode, resource: u8) -> bool
     ensures { result ≡ false → NeverTakes (process_view code.now) resource }
 {
@@ -122,7 +122,7 @@ impl Fact for Amount {
     ghost keeps = { λ _ _ _ _ _ _ r. (r, refl) };
 }
 
-/// How much of a resource is held at each reached place of a process that has holdings.
+/// Returns how much of a resource is held at each reached place of a process that has holdings.
 pub fn amounts(
     alloc: Global,
     code: &ProcessCode,

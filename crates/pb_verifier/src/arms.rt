@@ -11,14 +11,14 @@ ghost use Rattle.pb_verifier.specs.Places.{arm_end, arms, entry};
 use crate::places::{instr_at, places, target};
 use pb_code::{Instr, ProcessCode};
 
-/// The number of arms.
+/// Returns the number of arms.
 pub fn arm_count(code: &ProcessCode) -> usize
     ensures { result ≡ arms (process_view code.now) }
 {
     code.entries.len()
 }
 
-/// Where an arm begins.
+/// Returns where an arm begins.
 pub fn arm_entry(code: &ProcessCode, arm: usize) -> usize
     requires { arm < arms (process_view code.now) }
     ensures { result ≡ entry (process_view code.now) arm }
@@ -26,7 +26,7 @@ pub fn arm_entry(code: &ProcessCode, arm: usize) -> usize
     code.entries[arm] as usize
 }
 
-/// Where an arm ends.
+/// Returns where an arm ends.
 pub fn end_of_arm(code: &ProcessCode, arm: usize) -> usize
     requires { arm < arms (process_view code.now) }
     ensures { result ≡ arm_end (process_view code.now) arm }
@@ -37,7 +37,7 @@ pub fn end_of_arm(code: &ProcessCode, arm: usize) -> usize
     places(code)
 }
 
-/// Whether arm 0 begins at place 0, each other after the one before it, and all inside the code.
+/// Returns whether arm 0 begins at place 0, each other after the one before it, and all inside the code.
 fn entries_rise(code: &ProcessCode) -> bool
     requires { 1 ≤ arms (process_view code.now) }
     ensures { (result ≡ true) ↔ EntriesRise (process_view code.now) }
@@ -56,7 +56,7 @@ fn entries_rise(code: &ProcessCode) -> bool
     true
 }
 
-/// Whether an instruction jumps to no place outside these.
+/// Returns whether an instruction jumps to no place outside these.
 fn leads_inside(instr: Instr, begin: usize, end: usize) -> bool
     ensures { (bundles : List Bundle) → (result ≡ true)
         ↔ ((to : ℕ) → target_of (instr_view bundles instr) ≡ Some to → (begin ≤ to) × (to < end)) }
@@ -67,7 +67,7 @@ fn leads_inside(instr: Instr, begin: usize, end: usize) -> bool
     }
 }
 
-/// Whether no jump leaves an arm.
+/// Returns whether no jump leaves an arm.
 fn jumps_stay(code: &ProcessCode, arm: usize) -> bool
     requires arm { arm < arms (process_view code.now) }
     requires rise { EntriesRise (process_view code.now) }
@@ -83,14 +83,14 @@ fn jumps_stay(code: &ProcessCode, arm: usize) -> bool
     true
 }
 
-/// Whether no next place comes after an instruction.
+/// Returns whether no next place comes after an instruction.
 fn closes(instr: Instr) -> bool
     ensures { (bundles : List Bundle) → (result ≡ true) ↔ Closes (instr_view bundles instr) }
 {
     matches!(instr, Instr::End | Instr::Jump(_))
 }
 
-/// Whether the last instruction of an arm is an end or a jump.
+/// Returns whether the last instruction of an arm is an end or a jump.
 fn is_closed(code: &ProcessCode, arm: usize) -> bool
     requires arm { arm < arms (process_view code.now) }
     requires rise { EntriesRise (process_view code.now) }
@@ -99,7 +99,7 @@ fn is_closed(code: &ProcessCode, arm: usize) -> bool
     closes(instr_at(code, end_of_arm(code, arm) - 1))
 }
 
-/// Whether arms lie one after another, and none is left but by an end.
+/// Returns whether arms lie one after another, and none is left but by an end.
 pub fn has_arms(code: &ProcessCode) -> bool
     requires { 1 ≤ arms (process_view code.now) }
     ensures { (result ≡ true) ↔ HasArms (process_view code.now) }

@@ -15,14 +15,14 @@ use pb_code::Code;
 use pb_groups::groups_of_code;
 use std::alloc::Global;
 
-/// The place of a fault in the order in which they are looked for.
+/// Returns the place of a fault in the order in which they are looked for.
 fn turn(fault: VerifyFault) -> u8
     ensures { result ≡ turn_of fault }
 {
     fault as u8
 }
 
-/// The one of two faults that is looked for first.
+/// Returns the one of two faults that is looked for first.
 fn earlier(found: Option<VerifyFault>, fault: VerifyFault) -> VerifyFault
     ensures { IsEarlier found fault result }
 {
@@ -32,14 +32,14 @@ fn earlier(found: Option<VerifyFault>, fault: VerifyFault) -> VerifyFault
     }
 }
 
-/// Whether this is want of memory.
+/// Returns whether this is want of memory.
 fn is_memory(fault: VerifyFault) -> bool
     ensures { (result ≡ true) ↔ (fault ≡ VerifyFault.NoMemory) }
 {
     matches!(fault, VerifyFault::NoMemory)
 }
 
-/// The greatest depth of each arm of each process, or the first fault.
+/// Returns the greatest depth of each arm of each process, or the first fault.
 fn check(alloc: Global, code: &Code) -> Result<Vec<Vec<u16>>, VerifyFault>
     ensures annotated { IfOk result (λ _. IsAnnotated (code_view code.now)) }
     ensures pushes { IfOk result (λ _. PushesFit (code_view code.now)) }
@@ -76,10 +76,10 @@ fn check(alloc: Global, code: &Code) -> Result<Vec<Vec<u16>>, VerifyFault>
     }
 }
 
-/// Verified code, exactly where none of the faults is in it; else the code unchanged and its first fault, in
-/// the order of `VerifyFault`, each looked for over all processes before the next. `NoMemory` comes only where
-/// a growth was refused, and may come before a fault is found. (That time and memory are linear in the size of
-/// the code is by construction, and not proved.)
+/// Returns verified code, exactly if none of the faults is in it; else the code unchanged and its first
+/// fault, in the order of `VerifyFault`, each looked for over all processes before the next. `NoMemory` comes
+/// only if a growth was refused, and may come before a fault is found. (That time and memory are linear in
+/// the size of the code is by construction, and not proved.)
 pub fn verify(alloc: Global, code: Code) -> Result<Verified, (Code, VerifyFault)>
     ensures code { IfOk result (λ verified. verified.code ≡ code_view code) }
     ensures annotated { IfOk result (λ verified. IsAnnotated verified.code) }

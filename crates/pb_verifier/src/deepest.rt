@@ -14,7 +14,7 @@ use pb_base::NoMemory;
 use pb_code::ProcessCode;
 use std::alloc::Global;
 
-/// The greatest depth at a reached place of an arm.
+/// Returns the greatest depth at a reached place of an arm.
 fn deepest(code: &ProcessCode, depths: &[Option<Depth>], arm: usize) -> u16
     requires arm { arm < arms (process_view code.now) }
     requires arms { HasArms (process_view code.now) }
@@ -35,7 +35,7 @@ fn deepest(code: &ProcessCode, depths: &[Option<Depth>], arm: usize) -> u16
     best
 }
 
-/// The greatest depth at a reached place of each arm.
+/// Returns the greatest depth at a reached place of each arm.
 pub fn arm_depths(
     alloc: Global,
     code: &ProcessCode,

@@ -60,7 +60,7 @@ impl Fact for Depth {
     ghost keeps = { λ _ _ _ _ _ _ _. (tt, refl) };
 }
 
-/// The depth of each reached place, or none where there are no depths.
+/// Returns the depth of each reached place, or none if there are no depths.
 pub fn depths(
     alloc: Global,
     code: &ProcessCode,

@@ -14,7 +14,7 @@ use crate::holdings::Holding;
 use crate::places::{instr_at, places};
 use pb_code::{Instr, ProcessCode};
 
-/// Whether an instruction is no end, or nothing is left there.
+/// Returns whether an instruction is no end, or nothing is left there.
 fn is_clear(
     code: &ProcessCode,
     instr: Instr,
@@ -37,7 +37,7 @@ fn is_clear(
     }
 }
 
-/// Whether no operand and no bundle is left at a reached end.
+/// Returns whether no operand and no bundle is left at a reached end.
 pub fn ends_clear(
     code: &ProcessCode,
     depths: &[Option<Depth>],

@@ -27,13 +27,13 @@ pub trait Fact: Copy + Drop {
 
     ghost IsReadable: { List Instr → List (Option Self) → Self → Type 0 };
 
-    /// Whether an instruction finds what it needs.
+    /// Returns whether an instruction finds what it needs.
     fn fits(self, code: &ProcessCode, table: &[Option<Self>], instr: Instr) -> bool
         requires { IsReadable (instrs_of code.now) table.now self }
         ensures { (result ≡ true)
             ↔ Fits (plain code.now instr) (value (instrs_of code.now) table.now self) };
 
-    /// What is known after the instruction at a place.
+    /// Returns what is known after the instruction at a place.
     fn next(self, code: &ProcessCode, table: &[Option<Self>], place: u16, instr: Instr) -> Self
         requires readable { IsReadable (instrs_of code.now) table.now self }
         requires instr { slice_get (instrs_of code.now) place ≡ Some (plain code.now instr) }
@@ -43,7 +43,7 @@ pub trait Fact: Copy + Drop {
             ≡ after (plain code.now instr) (value (instrs_of code.now) table.now self) }
         ensures readable { IsReadable (instrs_of code.now) table.now result };
 
-    /// Whether two facts mean the same.
+    /// Returns whether two facts mean the same.
     fn same(self, other: Self, code: &ProcessCode, table: &[Option<Self>]) -> bool
         requires one { IsReadable (instrs_of code.now) table.now self }
         requires two { IsReadable (instrs_of code.now) table.now other }
@@ -69,7 +69,7 @@ pub trait Fact: Copy + Drop {
         → IsReadable instrs (slice_set table p (Some new)) fact × (value instrs (slice_set table p (Some new)) fact ≡ value instrs table fact) };
 }
 
-/// Whether nothing else is known at a place.
+/// Returns whether nothing else is known at a place.
 fn agrees<F: Fact>(code: &ProcessCode, table: &[Option<F>], fact: F, place: u16) -> bool
     requires place { place < length table.now }
     requires readable { AllReadable (F.IsReadable (instrs_of code.now) table.now) table.now }
@@ -82,7 +82,7 @@ fn agrees<F: Fact>(code: &ProcessCode, table: &[Option<F>], fact: F, place: u16)
     }
 }
 
-/// Notes a fact at a place where nothing is known.
+/// Notes a fact at a place of which nothing is known.
 fn note<F: Fact>(table: &mut Vec<Option<F>>, fact: F, place: u16)
     requires { place < length table.old.items }
     ensures { table.new.items ≡ with_note table.old.items fact place }
@@ -93,7 +93,7 @@ fn note<F: Fact>(table: &mut Vec<Option<F>>, fact: F, place: u16)
     }
 }
 
-/// Whether nothing else is known where the instruction may jump to.
+/// Returns whether nothing else is known where the instruction may jump to.
 fn agrees_at_target<F: Fact>(code: &ProcessCode, table: &[Option<F>], fact: F, instr: Instr) -> bool
     requires target { IfSome (target_of (plain code.now instr)) (λ next. next < length table.now) }
     requires readable { AllReadable (F.IsReadable (instrs_of code.now) table.now) table.now }
@@ -108,7 +108,7 @@ fn agrees_at_target<F: Fact>(code: &ProcessCode, table: &[Option<F>], fact: F, i
     }
 }
 
-/// Whether nothing else is known wherever the instruction at a place leads to.
+/// Returns whether nothing else is known wherever the instruction at a place leads to.
 fn all_agree<F: Fact>(
     code: &ProcessCode,
     table: &[Option<F>],
@@ -203,7 +203,7 @@ fn share_all<F: Fact>(
     }
 }
 
-/// What is known at each reached place, or none where a place can't be given one fact that serves
+/// Returns what is known at each reached place, or none if a place can't be given one fact that serves
 /// each way of reaching it.
 pub fn spread<F: Fact>(
     alloc: Global,

@@ -14,7 +14,7 @@ use crate::limits::MAX_ARMS;
 use crate::places::{instr_at, places};
 use pb_code::{Instr, ProcessCode};
 
-/// Whether an instruction forks no arms but later ones that are there.
+/// Returns whether an instruction forks no arms but later ones that are there.
 fn names_later(instr: Instr, arm: usize, arms: usize) -> bool
     ensures { (bundles : List Bundle) → (result ≡ true)
         ↔ ((first count : ℕ) → instr_view bundles instr ≡ Fork first count
@@ -28,7 +28,7 @@ fn names_later(instr: Instr, arm: usize, arms: usize) -> bool
     }
 }
 
-/// Whether each fork of an arm names later arms.
+/// Returns whether each fork of an arm names later arms.
 fn forks_later(code: &ProcessCode, arm: usize) -> bool
     requires arm { arm < arms (process_view code.now) }
     requires arms { HasArms (process_view code.now) }
@@ -44,7 +44,7 @@ fn forks_later(code: &ProcessCode, arm: usize) -> bool
     true
 }
 
-/// Whether this join is at a place.
+/// Returns whether this join is at a place.
 fn is_join(code: &ProcessCode, place: usize, first: u8, count: u8) -> bool
     ensures { (result ≡ true) ↔ InstrAt (process_view code.now) place (Join first count) }
 {
@@ -57,7 +57,7 @@ fn is_join(code: &ProcessCode, place: usize, first: u8, count: u8) -> bool
     }
 }
 
-/// Whether this fork is at a place.
+/// Returns whether this fork is at a place.
 fn is_fork(code: &ProcessCode, place: usize, first: u8, count: u8) -> bool
     ensures { (result ≡ true) ↔ InstrAt (process_view code.now) place (Fork first count) }
 {
@@ -70,7 +70,7 @@ fn is_fork(code: &ProcessCode, place: usize, first: u8, count: u8) -> bool
     }
 }
 
-/// Whether no join is at a place.
+/// Returns whether no join is at a place.
 fn has_no_join(code: &ProcessCode, place: usize) -> bool
     ensures { (result ≡ true)
         ↔ ((first count : ℕ) → InstrAt (process_view code.now) place (Join first count) → ⊥) }
@@ -81,7 +81,7 @@ fn has_no_join(code: &ProcessCode, place: usize) -> bool
     !matches!(instr_at(code, place), Instr::Join { .. })
 }
 
-/// Whether a fork has its join after it, a join its fork before it, and a jump leads to no join.
+/// Returns whether a fork has its join after it, a join its fork before it, and a jump leads to no join.
 fn is_paired(code: &ProcessCode, place: usize, instr: Instr) -> bool
     requires { place < 40000 }
     ensures { (result ≡ true) ↔ IsPaired (process_view code.now) place (plain code.now instr) }
@@ -113,7 +113,7 @@ fn mark(marks: &mut [bool], first: usize, end: usize) -> bool
     true
 }
 
-/// Whether each arm but the first is named by a fork, and by one alone.
+/// Returns whether each arm but the first is named by a fork, and by one alone.
 fn are_named(code: &ProcessCode) -> bool
     requires few { arms (process_view code.now) ≤ 64 }
     requires there { (place first count : ℕ)
@@ -138,7 +138,7 @@ fn are_named(code: &ProcessCode) -> bool
     true
 }
 
-/// Whether forks and joins fit one another, in code whose arms are sound.
+/// Returns whether forks and joins fit one another, in code whose arms are sound.
 pub fn has_forks(code: &ProcessCode) -> bool
     requires arms { HasArms (process_view code.now) }
     requires some { 1 ≤ arms (process_view code.now) }

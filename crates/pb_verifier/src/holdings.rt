@@ -26,7 +26,7 @@ pub struct Holding {
     pub last: u16,
 }
 
-/// Whether two numbers name the same bundle, or both none.
+/// Returns whether two numbers name the same bundle, or both none.
 fn same_bundle(code: &ProcessCode, one: u16, two: u16) -> bool
     ensures { (result ≡ true) ↔ (bundle_of code.now one ≡ bundle_of code.now two) }
 {
@@ -44,7 +44,7 @@ fn same_bundle(code: &ProcessCode, one: u16, two: u16) -> bool
     true
 }
 
-/// The number of the bundle that the take at a place takes.
+/// Returns the number of the bundle that the take at a place takes.
 fn taken_at(code: &ProcessCode, place: u16) -> u16
     requires { IsTakeAt (instrs_of code.now) place }
     ensures { slice_get (instrs_of code.now) place
@@ -56,7 +56,7 @@ fn taken_at(code: &ProcessCode, place: u16) -> u16
     }
 }
 
-/// What was held before the take at a place.
+/// Returns what was held before the take at a place.
 fn before(table: &[Option<Holding>], place: u16) -> Holding
     requires { IsSome (fact_at table.now place) }
     ensures { fact_at table.now place ≡ Some result }
@@ -67,7 +67,7 @@ fn before(table: &[Option<Holding>], place: u16) -> Holding
     }
 }
 
-/// Whether two lists of bundles of one length are equal.
+/// Returns whether two lists of bundles of one length are equal.
 fn same_holds(code: &ProcessCode, table: &[Option<Holding>], count: u16, one: u16, two: u16) -> bool
     requires one { IsChain (instrs_of code.now) table.now count one }
     requires two { IsChain (instrs_of code.now) table.now count two }
@@ -170,7 +170,7 @@ impl Fact for Holding {
         let k = chain_keeps instrs table p new none fact.count fact.last h.0 in ((k.0, h.1), k.1) };
 }
 
-/// What is held at each reached place, or none where there are no such lists.
+/// Returns what is held at each reached place, or none if there are no such lists.
 pub fn holdings(
     alloc: Global,
     code: &ProcessCode,

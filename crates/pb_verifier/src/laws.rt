@@ -6,22 +6,22 @@ ghost use Rattle.pb_verifier.specs.Behaviour.{IsWellBehaved, PeaksDecide, PeaksE
 ghost use Rattle.pb_verifier.specs.Requests.{RefusedStays, RefusedStops};
 ghost use Rattle.pb_verifier.specs.Verified.{IsAnnotated, IsVerified, VerifiedCode};
 
-/// Verified code, from wherever it comes, in every state that it reaches: no instruction meets a missing operand,
-/// a place, integer, resource or arm that is not there, a give of what is not held, or a fork of an arm that is not
-/// idle; each stack is as deep as the place of its arm says; no request passes its claim; each loan is within its
-/// claim and all loans together within the capital; the loans are safe; and if not all has ended, some pick is
-/// enabled.
+/// Verified code, from wherever it comes, in every state that it reaches: no instruction meets a missing
+/// operand, a place, integer, resource or arm that is not there, a give of what is not held, or a fork of an
+/// arm that is not idle; each stack is as deep as the place of its arm says; no request passes its claim;
+/// each loan is within its claim and all loans together within the capital; the loans are safe; and if not
+/// all has ended, some pick is enabled.
 pub fn verified_code_is_well_behaved()
     ensures { (code : Code) → IsAnnotated code → IsWellBehaved code }
 {}
 
-/// The peak of arm 0 is within a claim exactly where the greatest amount that it holds is.
+/// The peak of arm 0 is within a claim exactly if the greatest amount that it holds is.
 pub fn greatest_amounts_decide()
     ensures { (code : Code) → PeaksDecide code }
 {}
 
-/// In code that has no fault looked for before peaks, each arm of each process has a peak on each resource, which is
-/// the greatest amount that it and those that it forks hold at any reached place, and no other one.
+/// In code that has no fault looked for before peaks, each arm of each process has a peak on each resource,
+/// which is the greatest amount that it and those that it forks hold at any reached place, and no other one.
 pub fn peaks_exist()
     ensures { (code : Code) → PeaksExist code }
 {}
@@ -32,8 +32,8 @@ pub fn verified_code_keeps_the_limits()
     ensures pushes { (v : VerifiedCode) → IsVerified v → PushesFit v.code }
 {}
 
-/// In verified code an arm that was refused cannot be picked, and stays refused until loans come back, by a return or a
-/// fault: a grant to anyone makes nothing allowed that was not.
+/// In verified code an arm that was refused cannot be picked, and stays refused until loans come back, by a
+/// return or a fault: a grant to anyone makes nothing allowed that was not.
 pub fn refused_requests_stay_refused()
     ensures stops { (code : Code) → IsAnnotated code → RefusedStops code }
     ensures stays { (code : Code) → IsAnnotated code → RefusedStays code }

@@ -30,7 +30,7 @@ pub const MAX_INTEGERS: u8 = 64;
 /// The greatest amount in a bundle, and the greatest claim.
 pub const MAX_AMOUNT: u32 = 1_000_000;
 
-/// Whether a name differs from all after it.
+/// Returns whether a name differs from all after it.
 fn is_new(names: &[Vec<u8>], k: usize) -> bool
     requires { k < length names.now }
     ensures { (result ≡ true)
@@ -46,7 +46,7 @@ fn is_new(names: &[Vec<u8>], k: usize) -> bool
     true
 }
 
-/// Whether these are `count` names, no two of them the same.
+/// Returns whether these are `count` names, no two of them the same.
 fn are_names(count: usize, names: &[Vec<u8>]) -> bool
     ensures { (result ≡ true) ↔ AreNames count (map (λ name. name.items) names.now) }
 {
@@ -64,7 +64,7 @@ fn are_names(count: usize, names: &[Vec<u8>]) -> bool
     true
 }
 
-/// Whether a bundle is there and its numbers are within their limits.
+/// Returns whether a bundle is there and its numbers are within their limits.
 fn is_small_bundle(code: &ProcessCode, bundle: u16) -> bool
     ensures { (result ≡ true) ↔ IsSmallBundle (bundle_of code.now bundle) }
 {
@@ -83,14 +83,14 @@ fn is_small_bundle(code: &ProcessCode, bundle: u16) -> bool
     true
 }
 
-/// Whether the arms that a fork or a join names can be arms.
+/// Returns whether the arms that a fork or a join names can be arms.
 fn are_small_arms(first: u8, count: u8) -> bool
     ensures { (result ≡ true) ↔ ((1 ≤ first) × (first ≤ 63)) × ((1 ≤ count) × (count ≤ 16)) }
 {
     first >= 1 && first <= 63 && count >= 1 && count <= 16
 }
 
-/// Whether the numbers of an instruction are within their limits.
+/// Returns whether the numbers of an instruction are within their limits.
 fn has_small_numbers(code: &ProcessCode, instr: Instr) -> bool
     ensures limits { (result ≡ true) ↔ HasSmallNumbers (plain code.now instr) }
     // What is pushed has 64 bits.
@@ -105,7 +105,7 @@ fn has_small_numbers(code: &ProcessCode, instr: Instr) -> bool
     }
 }
 
-/// Whether the counts and numbers of a process are within their limits.
+/// Returns whether the counts and numbers of a process are within their limits.
 fn is_small_process(code: &ProcessCode) -> bool
     ensures limits { (result ≡ true) ↔ IsSmallProcess (process_view code.now) }
     ensures pushes { result ≡ true → HasSmallPushes (process_view code.now) }
@@ -132,7 +132,7 @@ fn is_small_process(code: &ProcessCode) -> bool
     true
 }
 
-/// Whether each process has a claim of up to 1,000,000 on each resource.
+/// Returns whether each process has a claim of up to 1,000,000 on each resource.
 fn are_small_claims(claims: &Claims, processes: usize, resources: usize) -> bool
     ensures { (result ≡ true)
         ↔ (length claims.now ≡ processes) × HasWidth resources claims.now
@@ -151,7 +151,7 @@ fn are_small_claims(claims: &Claims, processes: usize, resources: usize) -> bool
     true
 }
 
-/// Whether all counts, numbers and names are within their limits.
+/// Returns whether all counts, numbers and names are within their limits.
 pub fn keeps_limits(code: &Code) -> bool
     ensures limits { (result ≡ true) ↔ KeepsLimits (code_view code.now) }
     ensures pushes { result ≡ true → PushesFit (code_view code.now) }

@@ -24,7 +24,7 @@ use std::alloc::Global;
 /// A number over every claim, at which peaks are cut off.
 const OVER: u64 = 1_000_001;
 
-/// The sum of the peaks of some arms.
+/// Returns the sum of the peaks of some arms.
 fn sum_of_peaks(peaks: &[u64], first: u8, count: u8) -> u64
     requires there { first + count ≤ length peaks.now }
     requires small { (b : ℕ) → slice_index peaks.now b ≤ OVER }
@@ -38,7 +38,7 @@ fn sum_of_peaks(peaks: &[u64], first: u8, count: u8) -> u64
     sum
 }
 
-/// What an arm and those that it awaits hold at an instruction, cut off.
+/// Returns what an arm and those that it awaits hold at an instruction, cut off.
 fn peak_at(instr: Instr, held: u64, peaks: &[u64]) -> u64
     requires held { held ≤ MAX_HELD }
     requires there { (bundles : List Bundle) (first count : ℕ)
@@ -53,7 +53,7 @@ fn peak_at(instr: Instr, held: u64, peaks: &[u64]) -> u64
     }
 }
 
-/// Whether the peak of arm 0 on each resource is within the claim.
+/// Returns whether the peak of arm 0 on each resource is within the claim.
 pub fn peaks_fit(
     alloc: Global,
     code: &ProcessCode,
@@ -80,7 +80,7 @@ pub fn peaks_fit(
     Ok(true)
 }
 
-/// Whether the peak of arm 0 on a resource is within a claim.
+/// Returns whether the peak of arm 0 on a resource is within a claim.
 fn peak_fits(
     alloc: Global,
     code: &ProcessCode,
@@ -103,7 +103,7 @@ fn peak_fits(
     Ok(root_peak(code, &table, resource) <= claim)
 }
 
-/// The greatest amount of a resource that arm 0 and those that it awaits hold, cut off.
+/// Returns the greatest amount of a resource that arm 0 and those that it awaits hold, cut off.
 fn root_peak(code: &ProcessCode, table: &[Option<Amount>], resource: u8) -> u64
     requires small { IsSmallProcess (process_view code.now) }
     requires arms { HasArms (process_view code.now) }
@@ -123,7 +123,7 @@ fn root_peak(code: &ProcessCode, table: &[Option<Amount>], resource: u8) -> u64
     peaks[0]
 }
 
-/// The greatest amount of a resource that an arm and those that it awaits hold, cut off.
+/// Returns the greatest amount of a resource that an arm and those that it awaits hold, cut off.
 fn arm_peak(
     code: &ProcessCode,
     table: &[Option<Amount>],

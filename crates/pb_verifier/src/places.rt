@@ -9,14 +9,14 @@ ghost use Rattle.pb_verifier.specs.Given.{instrs_of, plain};
 
 use pb_code::{Instr, ProcessCode};
 
-/// The number of places.
+/// Returns the number of places.
 pub fn places(code: &ProcessCode) -> usize
     ensures { result ≡ length (instrs_of code.now) }
 {
     code.instrs.len()
 }
 
-/// The instruction at a place.
+/// Returns the instruction at a place.
 pub fn instr_at(code: &ProcessCode, place: usize) -> Instr
     requires { place < length (instrs_of code.now) }
     ensures { slice_get (instrs_of code.now) place ≡ Some (plain code.now result) }
@@ -24,7 +24,7 @@ pub fn instr_at(code: &ProcessCode, place: usize) -> Instr
     code.instrs[place]
 }
 
-/// Where an instruction may jump to.
+/// Returns where an instruction may jump to.
 pub fn target(instr: Instr) -> Option<u16>
     ensures { (bundles : List Bundle) → result ≡ target_of (instr_view bundles instr) }
 {
@@ -34,14 +34,14 @@ pub fn target(instr: Instr) -> Option<u16>
     }
 }
 
-/// Whether the next place may follow.
+/// Returns whether the next place may follow.
 pub fn falls_through(instr: Instr) -> bool
     ensures { (bundles : List Bundle) → result ≡ goes_on (instr_view bundles instr) }
 {
     !matches!(instr, Instr::Jump(_) | Instr::End)
 }
 
-/// How many operands an instruction takes off the stack.
+/// Returns how many operands an instruction takes off the stack.
 pub fn popped(instr: Instr) -> u16
     ensures { (bundles : List Bundle) → result ≡ pops (instr_view bundles instr) }
 {
@@ -64,7 +64,7 @@ pub fn popped(instr: Instr) -> u16
     }
 }
 
-/// How many results an instruction puts on the stack.
+/// Returns how many results an instruction puts on the stack.
 pub fn pushed(instr: Instr) -> u16
     ensures { (bundles : List Bundle) → result ≡ pushes (instr_view bundles instr) }
 {

@@ -21,7 +21,7 @@ use pb_base::Claims;
 use pb_code::ProcessCode;
 use std::alloc::Global;
 
-/// The greatest depth of each arm of a process, or its first fault but those of limits and capital.
+/// Returns the greatest depth of each arm of a process, or its first fault but those of limits and capital.
 pub fn check_process(
     alloc: Global,
     code: &ProcessCode,

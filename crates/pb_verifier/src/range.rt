@@ -11,7 +11,7 @@ use crate::places::{instr_at, places};
 use pb_code::bundles::{pair_at, pairs};
 use pb_code::{Code, Instr, ProcessCode};
 
-/// Whether no claim is over its capital.
+/// Returns whether no claim is over its capital.
 pub fn fit_capital(code: &Code) -> bool
     requires { KeepsLimits (code_view code.now) }
     ensures { (result ≡ true) ↔ FitCapital (code_view code.now) }
@@ -26,7 +26,7 @@ pub fn fit_capital(code: &Code) -> bool
     true
 }
 
-/// Whether a bundle names only resources that are there.
+/// Returns whether a bundle names only resources that are there.
 fn names_resources(code: &ProcessCode, bundle: u16, resources: usize) -> bool
     ensures { (result ≡ true)
         ↔ All (λ pair. pair.resource < resources) (bundle_of code.now bundle) }
@@ -39,7 +39,7 @@ fn names_resources(code: &ProcessCode, bundle: u16, resources: usize) -> bool
     true
 }
 
-/// Whether an instruction names only integers and resources that are there.
+/// Returns whether an instruction names only integers and resources that are there.
 fn uses_what_is_there(code: &ProcessCode, instr: Instr, resources: usize) -> bool
     ensures { (result ≡ true) ↔ UsesWhatIsThere code.now.integers resources (plain code.now instr) }
 {
@@ -50,7 +50,7 @@ fn uses_what_is_there(code: &ProcessCode, instr: Instr, resources: usize) -> boo
     }
 }
 
-/// Whether all instructions name only integers and resources that are there.
+/// Returns whether all instructions name only integers and resources that are there.
 pub fn is_in_range(code: &ProcessCode, resources: usize) -> bool
     ensures { (result ≡ true) ↔ IsInRange resources (process_view code.now) }
 {

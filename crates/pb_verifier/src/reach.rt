@@ -52,7 +52,7 @@ fn visit_followers(
     Ok(())
 }
 
-/// The reached places, each after one that leads to it.
+/// Returns the reached places, each after one that leads to it.
 fn reached(alloc: Global, entries: &[u16], code: &ProcessCode) -> Result<Vec<u16>, NoMemory>
     requires inside { StaysInside entries.now (instrs_of code.now) }
     ensures reached { IfOk result (λ order. (p : ℕ)
@@ -74,7 +74,7 @@ fn reached(alloc: Global, entries: &[u16], code: &ProcessCode) -> Result<Vec<u16
     Ok(order)
 }
 
-/// The reached places of a process, each after one that leads to it.
+/// Returns the reached places of a process, each after one that leads to it.
 pub fn reached_places(alloc: Global, code: &ProcessCode) -> Result<Vec<u16>, NoMemory>
     requires arms { HasArms (process_view code.now) }
     requires some { 1 ≤ arms (process_view code.now) }

@@ -34,8 +34,8 @@ impl Model for Verified {
 }
 
 impl Verified {
-    /// The code with a row for each process, which has the greatest depth of each of its arms, and a table for each
-    /// process, which has its groups.
+    /// Returns the code with a row for each process, which has the greatest depth of each of its arms, and a
+    /// table for each process, which has its groups.
     pub(crate) fn new(code: Code, depths: Vec<Vec<u16>>, groups: Vec<Vec<Group>>) -> Verified
         requires verified { IsVerified (record { code = code_view code; depths = map (λ row. row.items) depths.items }) }
         requires groups { AreTables (code_view code) (map (λ table. table.items) groups.items) }
@@ -48,7 +48,7 @@ impl Verified {
         }
     }
 
-    /// The code that was handed in.
+    /// Returns the code that was handed in.
     pub fn code(&self) -> &Code
         ensures code { code_view result.now ≡ self.now.code }
         ensures verified { IsVerified self.now }
@@ -56,14 +56,14 @@ impl Verified {
         &self.code
     }
 
-    /// The names of its processes and resources.
+    /// Returns the names of its processes and resources.
     pub fn names(&self) -> &Names
         ensures { names_view result.now ≡ self.now.code.names }
     {
         &self.code.names
     }
 
-    /// The number of arms of a process.
+    /// Returns the number of arms of a process.
     pub fn arms(&self, process: usize) -> usize
         requires { process < length self.now.depths }
         ensures { result ≡ length (slice_index_or self.now.depths process []) }
@@ -71,7 +71,7 @@ impl Verified {
         self.depths[process].len()
     }
 
-    /// The greatest number of operands at a reached place of an arm of a process, at most 256.
+    /// Returns the greatest number of operands at a reached place of an arm of a process, at most 256.
     pub fn depth(&self, process: usize, arm: usize) -> u16
         requires process { process < length self.now.depths }
         requires arm { arm < length (slice_index_or self.now.depths process []) }

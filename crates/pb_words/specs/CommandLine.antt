@@ -13,7 +13,7 @@ number_rule name least most = record (new_rule name) {
   parser = Some (vp.Unsigned least most);
 }
 
--- the same, and the number where the option is not given
+-- the same, and the number if the option is not given
 abbrev pub number_rule_or : Text → ℕ → ℕ → Text → Rule
 number_rule_or name least most default =
     record (number_rule name least most) { defaults = default ∷ [] }

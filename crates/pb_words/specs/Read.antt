@@ -1,4 +1,4 @@
--- What the words of a call say: the command and the numbers that clap matches, where it takes the words.
+-- What the words of a call say: the command and the numbers that clap matches, if it takes the words.
 use Rattle.std.specs.Prelude.{◌≡◌, ◌≤◌, ◌↔◌, IsTrue, ℕ, Bool, List, [], Option, Some, None, IfSome, ⊤, codes, map, option_map}
 use Rattle.std.specs.Str.Parse.{IsNumeral, digits_value, without_leading_plus}
 use Rattle.clap.specs.Words.{Row, Text, fault_of, one_of, subcommand_of}
@@ -79,7 +79,7 @@ IsReadFrom name rows (option.Record o) = (name ≡ codes "record") × HasRecordN
 IsReadFrom name rows option.Replay = name ≡ codes "replay"
 IsReadFrom name rows (option.Run o) = (name ≡ codes "run") × HasRunNumbers rows o
 
--- the same, where the parse entered a subcommand
+-- the same, if the parse entered a subcommand
 abbrev pub IsReadFromMatches : Option (Text × List Row) → Options → Type 0
 IsReadFromMatches m o = (name : Text) × (rows : List Row) × (m ≡ Some (name, rows)) × IsReadFrom name rows o
 

@@ -65,8 +65,8 @@ fn with_subcommand<'a>(
     command.subcommand(subcommand)
 }
 
-// Adds an option with a number and a default. Nothing but the command is there when the addition fails: an option that
-// would have to be dropped then makes the proof much longer.
+// Adds an option with a number and a default. Nothing but the command is there when the addition fails: an
+// option that would have to be dropped then makes the proof much longer.
 fn with_number<'a>(
     alloc: Global,
     command: Command<'a>,
@@ -187,7 +187,7 @@ fn outcomes_of_text<'a>(alloc: Global) -> Result<Command<'a>, AllocError>
     let states = number_option_or(alloc, "states", 1, 4_000_000, "1000000");
     let states = states.help("Give up after this many configurations, 1 to 4000000");
     let outcomes = Command::new(alloc, "outcomes").about(
-        "Print every way in which the program read from standard input can end",
+        "Print every way in which the program read from standard input can end, and whether some run never ends",
     );
     with_option(outcomes, states)
 }
@@ -279,7 +279,7 @@ fn with_others<'a>(alloc: Global, command: Command<'a>) -> Result<Command<'a>, A
     with_made(command, explain_code(alloc))
 }
 
-// The whole command line.
+// Returns the whole command line.
 #[tactic(auto, unfolding(crate::specs::CommandLine::command_line))]
 pub fn command_line<'a>(alloc: Global) -> Result<Command<'a>, AllocError>
     ensures { IfOk result (λ c. app_of c ≡ whole) }

@@ -21,7 +21,7 @@ use pb_options::{
 use pb_refusals::Code;
 use std::alloc::{AllocError, Global};
 
-// The number of an option, where it was matched with one from `least` to `most`.
+// Returns the number of an option, if it was matched with one from `least` to `most`.
 fn number(matches: &ArgMatches<'_>, id: &str, least: u64, most: u64) -> Option<u64>
     ensures some { IfSome result (HasNumberIn (rows_of (found_of matches.now)) id.now least most) }
     ensures none { IfNone result ((n : ℕ) → HasNumberIn (rows_of (found_of matches.now)) id.now least most n → ⊥) }
@@ -33,7 +33,7 @@ fn number(matches: &ArgMatches<'_>, id: &str, least: u64, most: u64) -> Option<u
     Some(number)
 }
 
-// Whether an option was matched with no text.
+// Returns whether an option was matched with no text.
 fn is_absent(matches: &ArgMatches<'_>, id: &str) -> bool
     ensures { IsTrue result ↔ (one_of id.now (rows_of (found_of matches.now)) ≡ None) }
 {
@@ -55,7 +55,7 @@ fn check_options(matches: &ArgMatches<'_>) -> Option<CheckOptions>
     Some(CheckOptions { heap: Some(size) })
 }
 
-// Whether a flag was matched with the text of one that is given.
+// Returns whether a flag was matched with the text of one that is given.
 fn flag(matches: &ArgMatches<'_>, id: &str) -> bool
     ensures { HasFlag (rows_of (found_of matches.now)) id.now result }
 {
@@ -84,7 +84,7 @@ fn emit_options(matches: &ArgMatches<'_>) -> Option<EmitOptions>
     Some(EmitOptions { object })
 }
 
-// The code that was given, or none if none was; nothing is returned if what was given is not a code.
+// Returns the code that was given, or none if none was; nothing is returned if what was given is not a code.
 fn code_given(matches: &ArgMatches<'_>) -> Option<Option<Code>>
     ensures some { IfSome result (HasCode (rows_of (found_of matches.now))) }
     ensures none { IfNone result ((c : Option AnyCode) → HasCode (rows_of (found_of matches.now)) c → ⊥) }
@@ -134,7 +134,7 @@ fn run_options(matches: &ArgMatches<'_>) -> Option<RunOptions>
     })
 }
 
-// The options that the matches of the words name.
+// Returns the options that the matches of the words name.
 fn read_matches(matches: &ArgMatches<'_>) -> Option<Options>
     ensures some { IfSome result (IsReadFromMatches (subcommand_rows_of matches.now)) }
     ensures none { IfNone result ((o : AnyOptions) → IsReadFromMatches (subcommand_rows_of matches.now) o → ⊥) }
@@ -158,7 +158,7 @@ fn read_matches(matches: &ArgMatches<'_>) -> Option<Options>
 }
 
 /// Reads the words of a call, of which the first is the program's own name. The words are refused only
-/// where they name no command with its numbers.
+/// if they name no command with its numbers.
 // It is not inlined: its locals would be on the stack while an engine runs.
 #[inline(never)]
 pub fn options(alloc: Global, words: &[&str]) -> Result<Options, WordsFault>
@@ -182,7 +182,7 @@ pub fn options(alloc: Global, words: &[&str]) -> Result<Options, WordsFault>
     }
 }
 
-// The text of a code that is not there, with those that are.
+// Returns the text of a code that is not there, with those that are.
 fn codes_text(alloc: Global) -> Result<String, AllocError> {
     let mut text = String::new(alloc);
     text.push_str("error: no refusal has this code\n\n  codes:")?;

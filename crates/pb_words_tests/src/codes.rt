@@ -3,7 +3,7 @@
 use pb_refusals::{Code, UnknownCode};
 use std::alloc::Global;
 
-/// Whether a code is read from the name that is written for it.
+/// Returns whether a code is read from the name that is written for it.
 fn is_read_as_written(alloc: Global, code: Code) -> bool {
     code.to_string(alloc)
         .is_ok_and(|name| name.as_str().parse::<Code>() == Ok(code))

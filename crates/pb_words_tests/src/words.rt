@@ -8,7 +8,7 @@ use pb_refusals::Code;
 use pb_words::{Options, WordsFault, options};
 use std::alloc::Global;
 
-/// Whether the words after the program's own name are read as these options.
+/// Returns whether the words after the program's own name are read as these options.
 fn are_read(alloc: Global, words: &[&str], wanted: Options) -> bool {
     match options(alloc, words) {
         Ok(read) => read == wanted,
@@ -16,7 +16,7 @@ fn are_read(alloc: Global, words: &[&str], wanted: Options) -> bool {
     }
 }
 
-/// Whether a command is refused with a word behind it.
+/// Returns whether a command is refused with a word behind it.
 fn is_refused(alloc: Global, command: &str, word: &str) -> bool {
     options(alloc, &["parbegin", command, word]).is_err()
 }
@@ -190,7 +190,7 @@ fn an_option_that_is_given_twice_is_refused(rt: HostRuntime) {
     assert!(rt; options(rt.alloc(), &["parbegin"]).is_err());
 }
 
-/// Whether the refusal of these words says this.
+/// Returns whether the refusal of these words says this.
 fn is_told(alloc: Global, words: &[&str], part: &str) -> bool {
     match options(alloc, words) {
         Err(WordsFault::Words(text)) => text.as_str().contains(part),

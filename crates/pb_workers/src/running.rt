@@ -17,8 +17,9 @@ use std::sync::{Mutex, Wait};
 use std::thread;
 use std::thread::Threads;
 
-/// Runs the code by `workers` threads, each of which takes stretches of at most `quantum` picks, until all is over or
-/// `limit` picks were made. A worker that runs out of memory gives its stretch back and ends, and the others go on.
+/// Runs the code by `workers` threads, each of which takes stretches of at most `quantum` picks, until all is
+/// over or `limit` picks were made. A worker that runs out of memory gives its stretch back and ends, and the
+/// others go on.
 pub fn run_workers<G: Gate, R: Threads + Wait + Sync>(
     rt: &R,
     alloc: Global,
@@ -38,7 +39,7 @@ pub fn run_workers<G: Gate, R: Threads + Wait + Sync>(
     run_branded::<Brand, G, R>(rt, alloc, code, workers, quantum, limit, gate)
 }
 
-/// The same, of the code that a brand stands for.
+/// Returns the same, of the code that a brand stands for.
 fn run_branded<C: CodeBrand, G: Gate, R: Threads + Wait + Sync>(
     rt: &R,
     alloc: Global,
@@ -107,8 +108,8 @@ fn start_all<'v, C: CodeBrand, G: Gate, R: Threads + Wait + Sync>(
     )
 }
 
-/// Returns what the book says once all workers have ended. A lock does not tell which book of its brand it holds, so
-/// the limit is compared.
+/// Returns what the book says once all workers have ended. A lock does not tell which book of its brand it
+/// holds, so the limit is compared.
 fn report<'v, C: CodeBrand>(book: Book<'v, C>, limit: u32, met: Met) -> Result<Report, RunFault>
     ensures report { IfOk result (λ report. IsReport C.code.code limit report) }
     ensures limits { IfErr result (λ fault. fault ≡ Limits → ⊥) }

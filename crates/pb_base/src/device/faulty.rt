@@ -30,8 +30,8 @@ impl<'t> Model for FaultyInput<'t> {
 }
 
 impl<'t> FaultyInput<'t> {
-    /// An input over these bytes that gives at most `most` of them a call. The first `passing` reads pass,
-    /// the one after them fails, and all later ones pass.
+    /// Returns an input over these bytes that gives at most `most` of them a call. The first `passing` reads
+    /// pass, the one after them fails, and all later ones pass.
     pub fn new(bytes: &'t [u8], passing: u64, most: usize) -> FaultyInput<'t>
         requires { 0 < most }
         ensures { result ≡ record {
@@ -49,7 +49,7 @@ impl<'t> FaultyInput<'t> {
         }
     }
 
-    /// How many reads have failed.
+    /// Returns how many reads have failed.
     pub fn failures(&self) -> u64
         ensures { result ≡ self.now.failures }
     {
@@ -111,8 +111,8 @@ impl Model for FaultyOutput {
 }
 
 impl FaultyOutput {
-    /// An output with room for `room` bytes that takes at most `most` of them a call. The first `passing`
-    /// writes pass, the one after them fails, and all later ones pass while there is room.
+    /// Returns an output with room for `room` bytes that takes at most `most` of them a call. The first
+    /// `passing` writes pass, the one after them fails, and all later ones pass while there is room.
     pub fn new(
         alloc: Global,
         room: usize,
@@ -136,14 +136,14 @@ impl FaultyOutput {
         })
     }
 
-    /// The bytes that were written.
+    /// Returns the bytes that were written.
     pub fn as_slice(&self) -> &[u8]
         ensures { result.now ≡ self.now.bytes }
     {
         self.memory.as_slice()
     }
 
-    /// How many writes have failed.
+    /// Returns how many writes have failed.
     pub fn failures(&self) -> u64
         ensures { result ≡ self.now.failures }
     {
@@ -185,7 +185,8 @@ impl Output for FaultyOutput {
     }
 }
 
-/// Whether the call fails that begins now, before which `passing` were to pass; none fails after that.
+/// Returns whether the call fails that begins now, before which `passing` were to pass; none fails after
+/// that.
 fn fails_now(passing: &mut Option<u64>) -> bool
     ensures now { IsTrue result ↔ (passing.old ≡ Some 0) }
     ensures left { passing.new ≡ one_call_less passing.old }

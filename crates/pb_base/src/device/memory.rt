@@ -23,7 +23,7 @@ impl<'t> Model for MemoryInput<'t> {
 }
 
 impl<'t> MemoryInput<'t> {
-    /// An input that gives these bytes.
+    /// Returns an input that gives these bytes.
     pub fn new(bytes: &'t [u8]) -> MemoryInput<'t>
         ensures { result ≡ bytes.entry.now }
     {
@@ -74,7 +74,7 @@ impl Model for MemoryOutput {
 }
 
 impl MemoryOutput {
-    /// An output that takes `room` bytes. They are set aside now, or the answer is `NoMemory`.
+    /// Returns an output that takes `room` bytes. They are set aside now, or the answer is `NoMemory`.
     pub fn new(alloc: Global, room: usize) -> Result<MemoryOutput, NoMemory>
         ensures { IfOk result (λ r. r ≡ record { bytes = []; room = room; failures = 0 }) }
     {
@@ -85,14 +85,14 @@ impl MemoryOutput {
         })
     }
 
-    /// The bytes that were written.
+    /// Returns the bytes that were written.
     pub fn as_slice(&self) -> &[u8]
         ensures { result.now ≡ self.now.bytes }
     {
         self.bytes.as_slice()
     }
 
-    /// How many writes have failed.
+    /// Returns how many writes have failed.
     pub fn failures(&self) -> u64
         ensures { result ≡ self.now.failures }
     {

@@ -23,7 +23,7 @@ impl StandardInput {
         }
     }
 
-    /// How many reads have failed.
+    /// Returns how many reads have failed.
     pub fn failures(&self) -> u64
         ensures { result ≡ self.now.failures }
     {
@@ -78,7 +78,7 @@ impl StandardOutput {
         }
     }
 
-    /// How many writes have failed.
+    /// Returns how many writes have failed.
     pub fn failures(&self) -> u64
         ensures { result ≡ self.now.failures }
     {

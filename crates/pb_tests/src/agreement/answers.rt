@@ -49,7 +49,7 @@ fn same_event(one: &Event, other: &Event) -> bool {
     }
 }
 
-/// Whether two steps show the same.
+/// Returns whether two steps show the same.
 pub(super) fn same_step(one: &Step, other: &Step) -> bool {
     match (one, other) {
         (Step::Silent, Step::Silent) => true,

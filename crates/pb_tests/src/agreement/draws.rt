@@ -7,7 +7,7 @@ pub(super) struct Draws {
 }
 
 impl Draws {
-    /// The numbers of a schedule, which has a number of its own.
+    /// Returns the numbers of a schedule, which has a number of its own.
     pub(super) fn new(schedule: u64) -> Draws {
         let state = schedule.wrapping_mul(2).wrapping_add(1);
         Draws {
@@ -15,7 +15,7 @@ impl Draws {
         }
     }
 
-    /// The next number, below a bound, or 0 where the bound is 0.
+    /// Returns the next number, below a bound, or 0 if the bound is 0.
     pub(super) fn below(&mut self, bound: usize) -> usize {
         let mut state = self.state;
         state ^= state << 13;

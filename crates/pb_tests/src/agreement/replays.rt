@@ -30,7 +30,7 @@ const fn picks(process: u8, arm: u8, picks: usize) -> Turn {
     }
 }
 
-/// Makes the picks of a turn on both sides, and adds what they show, where it is more than a silent step.
+/// Makes the picks of a turn on both sides, and adds what they show, if it is more than a silent step.
 fn take_turn(
     alloc: Global,
     compiled: &Compiled,

@@ -19,7 +19,7 @@ pub(super) struct Run {
     pub(super) max: u32,
 }
 
-/// Whether both machines are in the same state.
+/// Returns whether both machines are in the same state.
 fn same_machines(one: &Machine, other: &Machine) -> bool {
     if one.processes() != other.processes() {
         return false;
@@ -32,13 +32,13 @@ fn same_machines(one: &Machine, other: &Machine) -> bool {
     same_loans(one.banker(), other.banker())
 }
 
-/// Whether a pick showed nothing, and was made.
+/// Returns whether a pick showed nothing, and was made.
 fn is_silent(seen: Seen) -> bool {
     matches!(seen, Seen::Skipped | Seen::Silent)
 }
 
-/// Makes the picks of a run that made `count` of them, one by one in the machine and in the source. Returns in what
-/// they differ.
+/// Makes the picks of a run that made `count` of them, one by one in the machine and in the source. Returns
+/// in what they differ.
 fn make_each(
     alloc: Global,
     compiled: &Compiled,
@@ -67,7 +67,8 @@ fn make_each(
     Ok(None)
 }
 
-/// Makes one pick in both machines and in the source. Returns in what they differ, also if it is silent and must not be.
+/// Makes one pick in both machines and in the source. Returns in what they differ, also if it is silent and
+/// must not be.
 fn make_one(
     alloc: Global,
     compiled: &Compiled,
@@ -97,8 +98,8 @@ fn make_one(
     Ok(first_difference(compiled.labels(), machine, source))
 }
 
-/// Makes a silent run in the machine `beside`, and its picks one by one in the machine and in the source; and one pick
-/// more if the run stopped before its limit, or had none to make. Returns in what they differ.
+/// Makes a silent run in the machine `beside`, and its picks one by one in the machine and in the source; and
+/// one pick more if the run stopped before its limit, or had none to make. Returns in what they differ.
 pub(super) fn make_run(
     alloc: Global,
     compiled: &Compiled,

@@ -40,7 +40,7 @@ fn push_live(process: &Proc, p: usize, picks: &mut Vec<Pick>) -> Result<(), NoMe
     Ok(())
 }
 
-/// The picks of all live arms.
+/// Returns the picks of all live arms.
 fn live_picks(alloc: Global, machine: &Machine) -> Result<Vec<Pick>, NoMemory> {
     let mut picks = Vec::new(alloc);
     for p in 0..machine.processes() {
@@ -49,7 +49,7 @@ fn live_picks(alloc: Global, machine: &Machine) -> Result<Vec<Pick>, NoMemory> {
     Ok(picks)
 }
 
-/// One of some few numbers.
+/// Returns one of some few numbers.
 fn small(draws: &mut Draws, bound: usize) -> u8 {
     match u8::try_from(draws.below(bound)) {
         Ok(number) => number,
@@ -57,7 +57,8 @@ fn small(draws: &mut Draws, bound: usize) -> u8 {
     }
 }
 
-/// A pick: seven times out of eight of a live arm, else of any process and arm, also one that is not there.
+/// Returns a pick: seven times out of eight of a live arm, else of any process and arm, also one that is not
+/// there.
 fn draw(alloc: Global, machine: &Machine, draws: &mut Draws) -> Result<Pick, NoMemory> {
     let live = live_picks(alloc, machine)?;
     if draws.below(8) > 0 {
@@ -76,12 +77,12 @@ fn draw(alloc: Global, machine: &Machine, draws: &mut Draws) -> Result<Pick, NoM
 pub(super) struct Parting {
     /// How many runs were made before the one after which they differ.
     made: usize,
-    /// That run; none where they differ before any.
+    /// That run; none if they differ before any.
     run: Option<Run>,
     difference: Difference,
 }
 
-/// The limit of a silent run: 0 half of the time, so that a pick is made alone.
+/// Returns the limit of a silent run: 0 half of the time, so that a pick is made alone.
 fn limit(draws: &mut Draws) -> u32 {
     if draws.below(2) == 0 {
         return 0;
@@ -89,8 +90,9 @@ fn limit(draws: &mut Draws) -> u32 {
     u32::from(small(draws, LONGEST_RUN))
 }
 
-/// Makes drawn picks on both sides until all processes are over and some picks more, and compares the sides after
-/// each. The machine `beside` makes the same picks by silent runs of drawn lengths, and is compared after each run.
+/// Makes drawn picks on both sides until all processes are over and some picks more, and compares the sides
+/// after each. The machine `beside` makes the same picks by silent runs of drawn lengths, and is compared
+/// after each run.
 fn make_picks(
     alloc: Global,
     compiled: &Compiled,

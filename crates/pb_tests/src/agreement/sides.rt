@@ -23,7 +23,7 @@ pub(super) struct Program {
     pub(super) compiled: Compiled,
 }
 
-/// The program of an accepted text.
+/// Returns the program of an accepted text.
 pub(super) fn program_of(alloc: Global, text: &[u8]) -> Result<Program, CompileFault>
     ensures { IfOk result (λ program.
         Fits (resolved_view program.analysis.program) program.analysis.claims) }
@@ -35,7 +35,7 @@ pub(super) fn program_of(alloc: Global, text: &[u8]) -> Result<Program, CompileF
     Ok(Program { analysis, compiled })
 }
 
-/// The place of an arm, where it is live.
+/// Returns the place of an arm, if it is live.
 pub(super) fn place_of(machine: &Machine, p: usize, arm: usize) -> Option<u16> {
     if p >= machine.processes() {
         return None;
@@ -47,7 +47,8 @@ pub(super) fn place_of(machine: &Machine, p: usize, arm: usize) -> Option<u16> {
     process.thread(arm).place()
 }
 
-/// Whether the arm of a pick is at an instruction that only moves numbers about: the source has no step for it.
+/// Returns whether the arm of a pick is at an instruction that only moves numbers about: the source has no
+/// step for it.
 fn is_skipped(code: &Code, machine: &Machine, pick: Pick) -> bool {
     let p = usize::from(pick.process);
     let Some(place) = place_of(machine, p, usize::from(pick.arm)) else {
@@ -80,7 +81,7 @@ pub(super) enum Seen {
     Differ(u8, u8),
 }
 
-/// What a step shows that both sides make at a pick.
+/// Returns what a step shows that both sides make at a pick.
 pub(super) fn shown(pick: Pick, step: Step) -> Seen {
     match step {
         Step::Silent => Seen::Silent,
@@ -93,7 +94,7 @@ pub(super) fn shown(pick: Pick, step: Step) -> Seen {
     }
 }
 
-/// Makes a pick on both sides; on the side of the source, where the code does more than move numbers about.
+/// Makes a pick on both sides; on the side of the source, if the code does more than move numbers about.
 pub(super) fn step_both(
     alloc: Global,
     verified: &Verified,

@@ -38,13 +38,13 @@ fn same_integers(machine: &Machine, source: &Source<Global>) -> bool {
     true
 }
 
-/// The line of a place of the code, if an arm is at one that has a line.
+/// Returns the line of a place of the code, if an arm is at one that has a line.
 fn line_at(labels: &Labels, p: usize, place: Option<u16>) -> Option<u32> {
     let lines = &labels.processes.get(p)?.lines;
     *lines.get(usize::from(place?))?
 }
 
-/// Whether each arm of a process is at the same line on both sides, those that are not live at none.
+/// Returns whether each arm of a process is at the same line on both sides, those that are not live at none.
 fn same_lines_in(labels: &Labels, process: &Proc, source: &Source<Global>, p: usize) -> bool {
     for arm in 0..process.arms() {
         if line_at(labels, p, process.thread(arm).place()) != source.head_line(p, arm) {
@@ -78,7 +78,7 @@ fn same_loans_of(one: &Banker, other: &Banker, p: usize) -> bool
     true
 }
 
-/// Whether both bankers have lent the same.
+/// Returns whether both bankers have lent the same.
 pub(super) fn same_loans(one: &Banker, other: &Banker) -> bool {
     if one.processes() != other.processes() {
         return false;
@@ -91,7 +91,7 @@ pub(super) fn same_loans(one: &Banker, other: &Banker) -> bool {
     true
 }
 
-/// In what the machine and the source differ first, where they do.
+/// Returns in what the machine and the source differ first, if they do.
 pub(super) fn first_difference(
     labels: &Labels,
     machine: &Machine,

@@ -10,7 +10,7 @@ use std::sync::Wait;
 use std::test::Fail;
 use std::thread::Threads;
 
-/// One worker, and at most `steps` picks.
+/// Returns one worker, and at most `steps` picks.
 fn numbers(steps: u32) -> RunOptions
     requires { steps ≤ 10000000 }
     ensures { result.steps ≡ steps }
@@ -22,7 +22,7 @@ fn numbers(steps: u32) -> RunOptions
     }
 }
 
-/// What is written of a text with at most so many picks, drawn with this seed if there is one.
+/// Returns what `record` writes of a text with at most `steps` picks, drawn with this seed if there is one.
 fn recorded(
     rt: &(impl AllocGlobal + Threads + Wait + Sync),
     text: &[u8],
@@ -41,7 +41,7 @@ fn recorded(
     Some((status, output))
 }
 
-/// Whether this text, written with the status `Done`, is the answer to a text.
+/// Returns whether this text, written with the status `Done`, is the answer to a text.
 fn writes(
     rt: &(impl AllocGlobal + Threads + Wait + Sync),
     text: &[u8],
@@ -55,7 +55,7 @@ fn writes(
     Some(status == Status::Done && output.as_slice() == said)
 }
 
-/// What a replay of the record of a whole run says.
+/// Returns what a replay of the record of a whole run says.
 fn replayed(
     rt: &(impl AllocGlobal + Threads + Wait + Sync),
     text: &[u8],
@@ -68,7 +68,7 @@ fn replayed(
     Some((status, output))
 }
 
-/// What a run of a text says.
+/// Returns what a run of a text says.
 fn ran(
     rt: &(impl AllocGlobal + Threads + Wait + Sync),
     text: &[u8],
@@ -79,14 +79,14 @@ fn ran(
     Some((status, output))
 }
 
-/// Whether a replay of the record of a text without a seed says what its run says.
+/// Returns whether a replay of the record of a text without a seed says what its run says.
 fn replays_its_run(rt: &(impl AllocGlobal + Threads + Wait + Sync), text: &[u8]) -> Option<bool> {
     let (status, output) = replayed(rt, text, None)?;
     let (wanted, said) = ran(rt, text)?;
     Some(status == wanted && output.as_slice() == said.as_slice())
 }
 
-/// Whether a replay of the record of a text with this seed says these lines.
+/// Returns whether a replay of the record of a text with this seed says these lines.
 fn replays(
     rt: &(impl AllocGlobal + Threads + Wait + Sync),
     text: &[u8],

@@ -11,7 +11,7 @@ use std::test::Fail;
 const INCREMENTS: &[u8] =
     b"process p begin integer x; parbegin x := x + 1; x := x + 1 parend; print x end\n%%\n";
 
-/// Whether this status and these lines are the answer to a text and the lines behind it.
+/// Returns whether this status and these lines are the answer to a text and the lines behind it.
 fn answers(alloc: Global, text: &[u8], lines: &[u8], status: Status, said: &[u8]) -> Option<bool> {
     let mut whole = Vec::from_slice(alloc, text).ok()?;
     whole.extend_from_slice(lines).ok()?;

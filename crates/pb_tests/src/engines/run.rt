@@ -150,7 +150,7 @@ done
     ),
 ];
 
-/// Runs a text by one worker for at most so many picks, and compares what is written.
+/// Runs a text by one worker for at most `steps` picks, and compares what is written.
 fn check(
     rt: &(impl Abort + AllocGlobal + Threads + Wait + Sync),
     quantum: u32,

@@ -7,8 +7,8 @@ use pb_lexer::token::{Kind, Mark};
 use std::process::Abort;
 use std::test::Fail;
 
-/// Returns whether the text of so many brackets is cut in a heap of so many bytes. Out of memory is the one
-/// other answer.
+/// Returns whether a text of `brackets` brackets is cut in a heap of `size` bytes; if not, it is out of
+/// memory.
 fn fits(
     rt: &(impl Abort + AllocGlobal),
     size: usize,

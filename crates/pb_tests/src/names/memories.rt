@@ -16,7 +16,7 @@ while x < 3 do x := x + 1 od; if x = 3 then print x else y := 1 fi; hold 1 of ta
 parbegin print z; hold 1 of tape do skip od; parbegin print 1; print 2 parend parend od end \
 process q begin integer a, b, c, d, e, f, g, h, i; hold 2 of disk do print a + i od end";
 
-/// Returns whether the program is numbered in a heap of so many bytes. Out of memory is the one other answer.
+/// Returns whether the program is numbered in a heap of `size` bytes; if not, it is out of memory.
 fn fits(
     rt: &(impl Abort + AllocGlobal),
     size: usize,

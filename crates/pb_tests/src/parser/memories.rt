@@ -60,7 +60,7 @@ fn makes_the_same_tree_in_each_memory(rt: HostRuntime) -> Result<(), Fail> {
     Ok(())
 }
 
-/// Whether the tokens are parsed in a heap of so many bytes. Out of memory is the one other answer.
+/// Returns whether the tokens are parsed in a heap of `size` bytes; if not, they are out of memory.
 fn fits(
     rt: &(impl Abort + AllocGlobal),
     size: usize,

@@ -1,7 +1,23 @@
-use Rattle.pb_debug_engine.proofs.PartLemmas.{two_then_two}
+use Rattle.std.proofs.Common.{inl}
+use Rattle.std.proofs.lemmas.Result.{err_from_is_err_and}
+use Rattle.pb_engines.proofs.InputLemmas.{IfSome-weaker}
+use Rattle.pb_debug_engine.proofs.PartLemmas.{early_in_second, two_then_two}
 use Rattle.pb_debug_engine.proofs.part.read_first_parts.Goals as goal
 
 pub returns-clause-parts : goal.returns-clause-parts
 returns-clause-parts g c =
     two_then_two (g.I.Input.rest c.args.input.now) (g.I.Input.rest c.read_part.new.input) _ c.in_ok-source.source.items c.in_ok-lines.lines.items
     c.in_ok-source.ensures.part c.in_ok-lines.ensures.part
+
+pub returns-in_err-source-clause-early : goal.returns-in_err-source-clause-early
+returns-in_err-source-clause-early g c =
+    let p = err_from_is_err_and c.from_residual.result c.from_residual.ensures.1 in
+    rw (p.1, p.2) (λ device.
+    IfSome-weaker (g.I.Input.rest c.args.input.now) _ _ (λ bytes is. (is.0, is.1, inl is.2)) (c.in_err-source.ensures.early device))
+
+pub returns-in_err-lines-clause-early : goal.returns-in_err-lines-clause-early
+returns-in_err-lines-clause-early g c =
+    let p = err_from_is_err_and c.from_residual-in_err-lines.result c.from_residual-in_err-lines.ensures.1 in
+    rw (p.1, p.2) (λ device.
+    early_in_second (g.I.Input.rest c.args.input.now) (g.I.Input.rest c.read_part.new.input) _ c.in_ok-source.source.items
+    c.in_ok-source.ensures.part (c.in_err-lines.ensures.early device))

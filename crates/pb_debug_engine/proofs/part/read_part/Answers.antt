@@ -1,9 +1,15 @@
 use Rattle.std.proofs.Common.{◌≡◌, ◌++◌, ◌-◌, ℕ, List, [], ◌∷◌, length, take, get_or, false, true, rules, refl, sym, ap, ◌∙◌, subst, arith, append-nil, length-append}
 use Rattle.pb_base.proofs.DeviceLemmas.{prepended}
-use Rattle.pb_debug_engine.specs.Live.{EndsInMark}
+use Rattle.pb_debug_engine.specs.Live.{EndsInMark, IsUnmarked}
 use Rattle.pb_engines.specs.Parts.{AreTwoParts}
-use Rattle.pb_debug_engine.proofs.PartLemmas.{IsUnmarked, at_end, ended, ended_by_mark, is_long, known, read_one, unmarked_more}
+use Rattle.pb_debug_engine.proofs.PartLemmas.{at_end, ended, ended_by_mark, is_long, known, read_one, unmarked_more}
 use Rattle.pb_debug_engine.proofs.part.read_part.Goals as goal
+
+pub returns-in_default-clause-early : goal.returns-in_default-clause-early
+returns-in_default-clause-early g c _ =
+    let text = c.loop-count.part.items in
+    known (g.I.Input.rest c.args.input.now) (g.I.Input.rest c.loop-count.input) text _ c.loop-count.invariant.read
+    (λ after is. (text, (after, refl, c.in_default.ensures.fault.0 ∙ is), c.loop-count.invariant.unmarked))
 
 pub returns-then-count-eq0-clause-part : goal.returns-then-count-eq0-clause-part
 returns-then-count-eq0-clause-part g c =

@@ -1,6 +1,6 @@
 use Rattle.std.proofs.Common.{◌≡◌, ◌≤◌, ◌-◌, length, vec_len}
 use Rattle.pb_base.proofs.DeviceLemmas.{prepended}
-use Rattle.pb_debug_engine.proofs.PartLemmas.{IsUnmarked}
+use Rattle.pb_debug_engine.specs.Live.{IsUnmarked}
 use Rattle.pb_debug_engine.proofs.part.read_part.Given as goal
 
 abbrev pub invariant-loop-count : goal.invariant-loop-count

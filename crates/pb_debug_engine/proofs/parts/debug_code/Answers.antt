@@ -4,12 +4,14 @@ use Rattle.pb_code.specs.View.{labels_view}
 use Rattle.pb_code.specs.Whole.{Code}
 use Rattle.pb_debug.specs.Value.{at_start, showing}
 use Rattle.pb_debug_engine.specs.Debugs.{IsOpened}
+use Rattle.pb_debug_engine.specs.Live.{AnswersLines, AnswersOfCode}
 use Rattle.pb_history.specs.Replays.{IsStopped, spread}
 use Rattle.pb_history.specs.declared.counted.CountedPick.{CountedPick}
 use Rattle.pb_picks.specs.PickLines.{IsFaulty, SpellsPicks}
 use Rattle.pb_verifier.specs.declared.fault.VerifyFault.TheVariants.{OutOfLimits}
 use Rattle.pb_engines.proofs.InputLemmas.{IfSome-of, IfSome-weaker}
 use Rattle.pb_debug_engine.proofs.DebugLemmas.{no_picks_told, session_told}
+use Rattle.pb_debug_engine.proofs.PartLemmas.{says_weaker}
 use Rattle.pb_debug_engine.proofs.parts.debug_code.Goals as goal
 
 pub read_picks-requires : goal.read_picks-requires
@@ -23,8 +25,8 @@ returns-in-Err-clause-text g c =
     (λ bytes. no_picks_told c.args.verified.now (labels_view c.args.labels.now) shown c.args.lines.now bytes c.lines_refusal.result _ _ c.tell.result
     (c.lines_refusal.ensures c.args.verified.now.code c.args.lines.now faulty) c.tell.ensures.said c.tell.ensures.memory)
 
-pub returns-in-Ok-from_object_counted-clause-text : goal.returns-in-Ok-from_object_counted-clause-text
-returns-in-Ok-from_object_counted-clause-text g c =
+pub returns-in-Ok-from_object_counted : goal.returns-in-Ok-from_object_counted
+returns-in-Ok-from_object_counted g c =
     let verified = c.args.verified.now in
     let labels = labels_view c.args.labels.now in
     let shown = option_map (λ text. text.now) c.args.shown in
@@ -38,8 +40,14 @@ returns-in-Ok-from_object_counted-clause-text g c =
           ∙ ap (λ (picks : List CountedPick). at_start verified labels (spread picks)) c.as_slice.ensures.value);
       placed = c.with_source-debugger.ensures.placed;
     } in
-    IfSome-weaker (g.I.Input.rest c.args.commands.now) _ _
-    (λ bytes. session_told verified labels shown c.args.lines.now bytes d _ _ c.tell_session.result opened) c.tell_session.ensures.text
+    record {
+      text = IfSome-weaker (g.I.Input.rest c.args.commands.now) _ _
+          (λ bytes. session_told verified labels shown c.args.lines.now bytes d _ _ c.tell_session.result opened) c.tell_session.ensures.text;
+      answered = λ grew.
+          says_weaker (AnswersLines d) (AnswersOfCode verified labels shown c.args.lines.now) (λ read text says. (d, opened, says))
+          (g.I.Input.rest c.args.commands.now) _ _ _ (c.tell_session.ensures.answered grew);
+      faults = c.tell_session.ensures.faults;
+    }
 
 pub returns-clause-text : goal.returns-clause-text
 returns-clause-text g c =

@@ -1,8 +1,10 @@
-use Rattle.std.proofs.Common.{◌≡◌, None, false, true, inl, refl}
+use Rattle.std.proofs.Common.{◌≡◌, None, Some, false, true, inl, refl}
 use Rattle.pb_code.specs.View.{labels_view}
+use Rattle.pb_debug_engine.specs.Live.{AnswersOfCode, AnswersOfParts}
 use Rattle.pb_object.proofs.Said.{text_keeps}
 use Rattle.pb_engines.proofs.InputLemmas.{IfSome-of, IfSome-weaker}
-use Rattle.pb_debug_engine.proofs.DebugLemmas.{code_told, code_of_text_told, no_code_told, text_refused}
+use Rattle.pb_debug_engine.proofs.DebugLemmas.{code_told, code_of_text_told, no_code_told, text_answers, text_refused}
+use Rattle.pb_debug_engine.proofs.PartLemmas.{says_weaker}
 use Rattle.pb_debug_engine.proofs.parts.debug_parts.Goals as goal
 
 pub debug_code-requires : goal.debug_code-requires
@@ -14,6 +16,14 @@ returns-in-Ok-clause-text g c =
     IfSome-weaker (g.I.Input.rest c.args.commands.now) _ _
     (λ bytes. code_told c.args.source.now c.args.lines.now bytes c.in-Ok.verified (labels_view c.in-Ok.labels) None _ _ c.debug_code.result
     (inl (object, c.in-Ok.ensures.loaded, refl))) c.debug_code.ensures.text
+
+pub returns-in-Ok-clause-answered : goal.returns-in-Ok-clause-answered
+returns-in-Ok-clause-answered g c grew =
+    let object = c.if-is_object.ensures.0 refl in
+    says_weaker (AnswersOfCode c.in-Ok.verified (labels_view c.in-Ok.labels) None c.args.lines.now)
+    (AnswersOfParts c.args.source.now c.args.lines.now)
+    (λ read text answers. (c.in-Ok.verified, labels_view c.in-Ok.labels, None, inl (object, c.in-Ok.ensures.loaded, refl), answers))
+    (g.I.Input.rest c.args.commands.now) _ _ _ (c.debug_code.ensures.answered grew)
 
 pub returns-in-Err-clause-text : goal.returns-in-Err-clause-text
 returns-in-Err-clause-text g c =
@@ -31,6 +41,17 @@ returns-in-Ok-compile_text-clause-text g c =
     (λ object. let w : false ≡ true = c.if-is_object.ensures.1 object in cc)
     c.in-Ok-compile_text.ensures.compiled c.verified-in-Ok-compile_text.ensures c.labels.ensures.labels)
     c.debug_code-in-Ok-compile_text.ensures.text
+
+pub returns-in-Ok-compile_text-clause-answered : goal.returns-in-Ok-compile_text-clause-answered
+returns-in-Ok-compile_text-clause-answered g c grew =
+    let seen = c.verified-in-Ok-compile_text.result.now in
+    let seen_labels = labels_view c.labels.result.now in
+    says_weaker (AnswersOfCode seen seen_labels (Some c.args.source.now) c.args.lines.now)
+    (AnswersOfParts c.args.source.now c.args.lines.now)
+    (text_answers c.args.source.now c.args.lines.now seen c.in-Ok-compile_text.compiled.verified seen_labels
+    c.in-Ok-compile_text.compiled.labels (λ object. let w : false ≡ true = c.if-is_object.ensures.1 object in cc)
+    c.in-Ok-compile_text.ensures.compiled c.verified-in-Ok-compile_text.ensures c.labels.ensures.labels)
+    (g.I.Input.rest c.args.commands.now) _ _ _ (c.debug_code-in-Ok-compile_text.ensures.answered grew)
 
 pub returns-in-Err-compile_text-clause-text : goal.returns-in-Err-compile_text-clause-text
 returns-in-Err-compile_text-clause-text g c =

@@ -1,6 +1,9 @@
-use Rattle.std.proofs.Common.{subst}
-use Rattle.pb_debug.specs.Sessions.{SaysSome}
+use Rattle.std.proofs.Common.{[], subst}
+use Rattle.pb_debug.specs.Lines.{cut}
+use Rattle.pb_debug.specs.Sessions.{CountsBoth, SaysSome, Session}
+use Rattle.pb_debug_engine.specs.Live.{AnswersLines}
 use Rattle.pb_engines.proofs.InputLemmas.{IfSome-weaker}
+use Rattle.pb_debug_engine.proofs.PartLemmas.{says_weaker}
 use Rattle.pb_debug_engine.proofs.SessionLemmas.{one_failed, told_all, told_some, told_until_broken}
 use Rattle.pb_debug_engine.proofs.session.tell_session.Goals as goal
 
@@ -21,10 +24,22 @@ returns-in-NoMemory-clause-text g c =
     (subst (λ e. SaysSome e d bytes old mid end) c.in-NoMemory.is some) c.new.ensures c.finish_with.ensures.text)
     c.in-Err.ensures.some
 
+pub returns-in-Ok-clause-answered : goal.returns-in-Ok-clause-answered
+returns-in-Ok-clause-answered g c grew = absurd (grew c.in-Ok.ensures.counted_reads)
+
+pub returns-in-NoMemory-clause-answered : goal.returns-in-NoMemory-clause-answered
+returns-in-NoMemory-clause-answered g c grew =
+    let counts = subst (λ e. CountsBoth e (g.I.Input.failures c.args.commands.now) (g.I.Input.failures c.session.new.input)
+    (g.O.Output.failures c.args.output.now) (g.O.Output.failures c.session.new.output)) c.in-NoMemory.is c.in-Err.ensures.fault in
+    absurd (grew counts.0)
+
 pub returns-in_default : goal.returns-in_default
 returns-in_default g c = record {
   text = IfSome-weaker (g.I.Input.rest c.args.commands.now) _ _
       (λ bytes. told_until_broken c.args.debugger.now c.session.new.self bytes _ c.in-Err.fault _ c.in_default.not-NoMemory) c.in-Err.ensures.some;
+  answered = λ grew.
+      says_weaker (λ read text. Session c.args.debugger.now (cut [] read).lines text c.session.new.self) (AnswersLines c.args.debugger.now)
+      (λ read text says. (c.session.new.self, says)) (g.I.Input.rest c.args.commands.now) _ _ _ (c.session.ensures.answered grew);
   faults = one_failed c.in-Err.fault
       (record {
         reads = g.I.Input.failures c.args.commands.now;

@@ -1,8 +1,7 @@
-use Rattle.std.proofs.Common.{length, refl, arith}
+use Rattle.std.proofs.Common.{length, arith}
 use Rattle.std.proofs.lemmas.List.{length-map}
 use Rattle.pb_history.specs.Entries.{Entry, picks_of}
 use Rattle.pb_history.proofs.Positions.{leads_enabled}
-use Rattle.pb_debug.specs.Intervals.{interval_of}
 use Rattle.pb_debug.proofs.Walking.{interval_some}
 use Rattle.pb_debug.proofs.debugger.Debugger.of_replaying.Goals as goal
 
@@ -13,28 +12,32 @@ invariant_of-result c =
     let h = c.requires.replays in
     let many = length-map entries (λ (e : Entry). e.pick) in
     let before = h.before in
+    let after = h.after in
     let next = h.keeps.next in
     record {
       verified = c.code.ensures.verified;
       enabled = leads_enabled c.args.verified.now.code entries _ h.keeps.leads;
       few = c.requires.few;
       within = omega arith;
-      cheap = interval_some (length (picks_of entries)) (interval_of (length (picks_of entries))) refl;
+      cheap = interval_some (length (picks_of entries)) r.interval (length (picks_of entries), omega arith, c.requires.interval);
       fit = c.requires.fit;
-      interval = c.requires.interval;
+      spaced = (length (picks_of entries), omega arith, c.requires.interval);
       walks = record { machine = c.in_ok-machine.ensures.machine; state = c.in_ok-machine.ensures.opening };
       checkpoints = h.keeps.checkpoints;
       enough = omega (arith, many, before, next);
+      fewest = omega (arith, many, after, next);
     }
 
 pub returns-clause-placed : goal.returns-clause-placed
 returns-clause-placed c =
-    let entries = c.args.replaying.trace.entries in
+    let r = c.args.replaying in
+    let entries = r.trace.entries in
     record {
       verified = c.code.ensures.verified;
       enabled = leads_enabled c.args.verified.now.code entries _ c.requires.replays.keeps.leads;
       few = c.requires.few;
       within = omega arith;
-      cheap = interval_some (length (picks_of entries)) (interval_of (length (picks_of entries))) refl;
+      cheap = interval_some (length (picks_of entries)) r.interval (length (picks_of entries), omega arith, c.requires.interval);
+      spaced = (length (picks_of entries), omega arith, c.requires.interval);
       fit = c.requires.fit;
     }

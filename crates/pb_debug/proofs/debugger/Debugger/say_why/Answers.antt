@@ -1,28 +1,8 @@
-use Rattle.std.proofs.Common.{◌≡◌, inl, inr, sym, ap, ◌∙◌, subst}
-use Rattle.pb_base.specs.Lines.{NameTable, names_view}
-use Rattle.pb_debug.specs.Texts.{HasNamesOf, why_text}
-use Rattle.pb_debug.specs.Value.{Debugging}
-use Rattle.pb_debug.proofs.Saying.{on_ok, why_named}
+use Rattle.std.proofs.Common.{inl}
+use Rattle.pb_debug.proofs.Saying.{on_ok}
 use Rattle.pb_debug.proofs.debugger.Debugger.say_why.Goals as goal
 
-pub put_why-requires : goal.put_why-requires
-put_why-requires c =
-    let d = c.args.self.now in
-    let same : names_view c.names.result.now ≡ d.verified.code.names = c.names.ensures ∙ ap (λ (d : Debugging). d.verified.code.names) c.self.view_is in
-    subst (λ (n : NameTable). HasNamesOf n c.in-Ok.why) (sym same)
-    (why_named d c.in-Some.ensures.placed c.in-Some.p c.args.word.arm c.in-Ok.why c.in-Ok.ensures.why)
-
-pub returns-in-Ok : goal.returns-in-Ok
-returns-in-Ok c =
-    let d = c.args.self.now in
-    let same : names_view c.names.result.now ≡ d.verified.code.names = c.names.ensures ∙ ap (λ (d : Debugging). d.verified.code.names) c.self.view_is in
-    let why = c.in-Ok.why in
-    on_ok c.put_why.result _ _ c.put_why.ensures (λ e. (
-      why_text (names_view c.names.result.now) why,
-      inl (
-        c.in-Some.p,
-        c.in-Some.ensures.some,
-        inr (c.in-Ok.ensures.arm, (why, c.in-Ok.ensures.why, ap (λ (n : NameTable). why_text n why) same)),
-      ),
-      e,
-    ))
+pub returns : goal.returns
+returns c =
+    on_ok c.say_reason.result _ _ c.say_reason.ensures
+    (λ s. (s.0, inl (c.in-Some.p, c.in-Some.ensures.some, s.1), s.2))

@@ -10,7 +10,7 @@ walk_to-requires-clause-walks c =
     let i = c.self.inside in
     let entries = i.trace.entries in
     let k = c.args.position / i.interval in
-    let some : 0 < i.interval = interval_some (length (picks_of entries)) i.interval c.self.invariant.interval in
+    let some : 0 < i.interval = interval_some (length (picks_of entries)) i.interval c.self.invariant.spaced in
     let le : c.args.position ≤ length (picks_of entries) = rw (← c.self.view_is) at c.requires in
     let before : c.args.position < length i.checkpoints.items * i.interval = let e = c.self.invariant.enough in omega (arith, e, le) in
     let within : k < length i.checkpoints.items = (div-lt_iff_lt-mul some).1 before in

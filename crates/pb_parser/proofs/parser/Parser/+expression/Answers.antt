@@ -2,10 +2,11 @@ use Rattle.std.proofs.Common.{length, suc, ◌-◌, ◌<◌, subst, ◌≡◌, r
 use Rattle.std.proofs.lemmas.Result.{err_from_is_err_and}
 use Rattle.pb_base.specs.declared.operators.UnaryOp.TheVariants as sign
 use Rattle.pb_lexer.specs.Tokens.{tokens}
-use Rattle.pb_parser.specs.ExpressionReader.{expression, negation, factor, after_factor, after_negation, of_level}
+use Rattle.pb_parser.specs.ExpressionReader.{expression, negation, factor, after_sum, after_conjunction, of_level}
 use Rattle.pb_parser.specs.Making.{Makes}
 use Rattle.pb_parser.proofs.Chains.{fails_through}
-use Rattle.pb_parser.proofs.Levels.{first_fails, then_makes, then_nothing, splits_at_factor, splits_at_negation, factor_ends, negation_ends, factor_alone, negation_alone}
+use Rattle.pb_parser.proofs.Levels.{first_fails, then_makes, then_nothing, splits_at_factor, splits_at_negation, factor_ends, negation_ends}
+use Rattle.pb_parser.proofs.Levels.{factors_first, terms_first, negations_first, factor_alone, term_alone, sum_alone, negation_alone, conjunction_alone}
 use Rattle.pb_parser.proofs.Loops.{loop_begins, joined_shorter, operator_more, operator_fails, operator_leaves}
 use Rattle.pb_parser.proofs.Expressions.{level_shorter}
 use Rattle.pb_parser.proofs.Signs.{signs_refused, signed_makes}
@@ -48,46 +49,40 @@ negation-returns g t c =
     signed_makes g.B.Builder.is_expr g.B.Builder.wants c.signed.result c.count-count.result sign.Not _ _ _ _
     c.signed.ensures c.in_ok-operand.ensures (c.count-count.ensures.signs sign.Not _)
 
-pub after_factor-returns-in_err-left-in-Sum : goal.after_factor-returns-in_err-left-in-Sum
-unfolding after_factor
-after_factor-returns-in_err-left-in-Sum g t c = λ a h.
-    let p = err_from_is_err_and c.from_residual-in_err-left-in-Sum.result c.from_residual-in_err-left-in-Sum.ensures.1 in
-    rw (p.1, p.2, c.in-Sum.is) (first_fails g.B.Builder.wants _ _ _ _ refl (c.in_err-left-in-Sum.ensures a h))
-
-pub after_factor-returns-in_ok-left-in-Sum : goal.after_factor-returns-in_ok-left-in-Sum
-unfolding after_factor
-after_factor-returns-in_ok-left-in-Sum g t c = λ a h.
-    rw c.in-Sum.is (then_makes g.B.Builder.is_expr g.B.Builder.wants _ _ _ _ _ _ _ refl (c.in_ok-left-in-Sum.ensures a h) c.chain.ensures)
-
 pub after_factor-returns-in_err-left-in-Comparison : goal.after_factor-returns-in_err-left-in-Comparison
-unfolding after_factor
 after_factor-returns-in_err-left-in-Comparison g t c = λ a h.
     let p = err_from_is_err_and c.from_residual.result c.from_residual.ensures.1 in
-    rw (p.1, p.2, c.in-Comparison.is) (first_fails g.B.Builder.wants _ _ _ _ refl (c.in_err-left-in-Comparison.ensures a h))
+    rw (p.1, p.2) (first_fails g.B.Builder.wants _ _ _ _ (factors_first _ c.args.level a _ c.in-Comparison.is) (c.in_err-left-in-Comparison.ensures a h))
 
 pub after_factor-returns-in_ok-left-in-Comparison : goal.after_factor-returns-in_ok-left-in-Comparison
-unfolding after_factor
 after_factor-returns-in_ok-left-in-Comparison g t c = λ a h.
-    rw c.in-Comparison.is (then_makes g.B.Builder.is_expr g.B.Builder.wants _ _ _ _ _ _ _ refl (c.in_ok-left-in-Comparison.ensures a h) c.relation.ensures)
+    then_makes g.B.Builder.is_expr g.B.Builder.wants _ _ _ _ _ _ _ (factors_first _ c.args.level a _ c.in-Comparison.is) (c.in_ok-left-in-Comparison.ensures a h) c.after_term.ensures
+
+pub after_term-returns-in_err-left-in-Comparison : goal.after_term-returns-in_err-left-in-Comparison
+after_term-returns-in_err-left-in-Comparison g t c = λ a h.
+    let p = err_from_is_err_and c.from_residual.result c.from_residual.ensures.1 in
+    rw (p.1, p.2) (first_fails g.B.Builder.wants _ _ _ _ (terms_first _ c.args.level a _ c.in-Comparison.is) (c.in_err-left-in-Comparison.ensures a h))
+
+pub after_term-returns-in_ok-left-in-Comparison : goal.after_term-returns-in_ok-left-in-Comparison
+after_term-returns-in_ok-left-in-Comparison g t c = λ a h.
+    then_makes g.B.Builder.is_expr g.B.Builder.wants _ _ _ _ _ _ _ (terms_first _ c.args.level a _ c.in-Comparison.is) (c.in_ok-left-in-Comparison.ensures a h) c.after_sum.ensures
 
 pub after_negation-returns-in_err-left-in-Disjunction : goal.after_negation-returns-in_err-left-in-Disjunction
-unfolding after_negation
 after_negation-returns-in_err-left-in-Disjunction g t c = λ a h.
     let p = err_from_is_err_and c.from_residual.result c.from_residual.ensures.1 in
-    rw (p.1, p.2, c.in-Disjunction.is) (first_fails g.B.Builder.wants _ _ _ _ refl (c.in_err-left-in-Disjunction.ensures a h))
+    rw (p.1, p.2) (first_fails g.B.Builder.wants _ _ _ _ (negations_first _ c.args.level a _ c.in-Disjunction.is) (c.in_err-left-in-Disjunction.ensures a h))
 
 pub after_negation-returns-in_ok-left-in-Disjunction : goal.after_negation-returns-in_ok-left-in-Disjunction
-unfolding after_negation
 after_negation-returns-in_ok-left-in-Disjunction g t c = λ a h.
-    rw c.in-Disjunction.is (then_makes g.B.Builder.is_expr g.B.Builder.wants _ _ _ _ _ _ _ refl (c.in_ok-left-in-Disjunction.ensures a h) c.chain.ensures)
+    then_makes g.B.Builder.is_expr g.B.Builder.wants _ _ _ _ _ _ _ (negations_first _ c.args.level a _ c.in-Disjunction.is) (c.in_ok-left-in-Disjunction.ensures a h) c.after_conjunction.ensures
 
-pub after_factor-returns-in-Term : goal.after_factor-returns-in-Term
-unfolding after_factor
-after_factor-returns-in-Term g t c = λ a h. rw c.in-Term.is (c.chain-in-Term.ensures a h)
+pub after_sum-returns-in-Comparison : goal.after_sum-returns-in-Comparison
+unfolding after_sum
+after_sum-returns-in-Comparison g t c = λ a h. rw c.in-Comparison.is (c.relation.ensures a h)
 
-pub after_negation-returns-in-Conjunction : goal.after_negation-returns-in-Conjunction
-unfolding after_negation
-after_negation-returns-in-Conjunction g t c = λ a h. rw c.in-Conjunction.is (c.chain-in-Conjunction.ensures a h)
+pub after_conjunction-returns-in-Disjunction : goal.after_conjunction-returns-in-Disjunction
+unfolding after_conjunction
+after_conjunction-returns-in-Disjunction g t c = λ a h. rw c.in-Disjunction.is (c.chain.ensures a h)
 
 pub after_factor-returns-in_default : goal.after_factor-returns-in_default
 after_factor-returns-in_default g t c = λ a h. record {
@@ -96,10 +91,31 @@ after_factor-returns-in_default g t c = λ a h. record {
   same = h;
 }
 
+pub after_term-returns-in_default : goal.after_term-returns-in_default
+after_term-returns-in_default g t c = λ a h. record {
+  syntax = a;
+  found = term_alone _ _ a _ c.in_default.not-Comparison c.in_default.not-Sum;
+  same = h;
+}
+
+pub after_sum-returns-in_default : goal.after_sum-returns-in_default
+after_sum-returns-in_default g t c = λ a h. record {
+  syntax = a;
+  found = sum_alone _ _ a _ c.in_default.not-Comparison;
+  same = h;
+}
+
 pub after_negation-returns-in_default : goal.after_negation-returns-in_default
 after_negation-returns-in_default g t c = λ a h. record {
   syntax = a;
   found = negation_alone _ _ a _ c.in_default.not-Disjunction c.in_default.not-Conjunction;
+  same = h;
+}
+
+pub after_conjunction-returns-in_default : goal.after_conjunction-returns-in_default
+after_conjunction-returns-in_default g t c = λ a h. record {
+  syntax = a;
+  found = conjunction_alone _ _ a _ c.in_default.not-Disjunction;
   same = h;
 }
 

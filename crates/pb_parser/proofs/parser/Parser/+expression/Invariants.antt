@@ -19,11 +19,20 @@ decreases-logical g l = 64 * l.depth + 8 * looseness l.level + 6
 abbrev pub decreases-after_negation : goal.decreases-after_negation
 decreases-after_negation g l = 64 * l.depth + 8 * looseness l.level + 5
 
+abbrev pub decreases-after_conjunction : goal.decreases-after_conjunction
+decreases-after_conjunction g l = 64 * l.depth + 8 * looseness l.level + 4
+
 abbrev pub decreases-arithmetic : goal.decreases-arithmetic
 decreases-arithmetic g l = 64 * l.depth + 8 * looseness l.level + 6
 
 abbrev pub decreases-after_factor : goal.decreases-after_factor
 decreases-after_factor g l = 64 * l.depth + 8 * looseness l.level + 5
+
+abbrev pub decreases-after_term : goal.decreases-after_term
+decreases-after_term g l = 64 * l.depth + 8 * looseness l.level + 4
+
+abbrev pub decreases-after_sum : goal.decreases-after_sum
+decreases-after_sum g l = 64 * l.depth + 8 * looseness l.level + 3
 
 abbrev pub decreases-chain : goal.decreases-chain
 decreases-chain g l = 64 * l.depth + 8 * looseness l.part + 9

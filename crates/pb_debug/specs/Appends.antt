@@ -1,0 +1,32 @@
+-- A pick that is tried after the last.
+use Rattle.std.specs.Prelude.{◌≡◌, ◌+◌, ◌<◌, ◌++◌, ◌∷◌, [], length, None, Some}
+use Rattle.pb_base.specs.declared.pick.Pick.{Pick}
+use Rattle.pb_base.specs.declared.step.Step.{Step}
+use Rattle.pb_base.specs.declared.step.Step.TheVariants.{Silent, Did, NotEnabled}
+use Rattle.pb_code.specs.Reached.{CodeMoves, CodeStays}
+use Rattle.pb_machine.specs.Steps.{IsStep}
+use Rattle.pb_machine.specs.Views.{IsMachineOf, machine_view}
+use Rattle.pb_debug.specs.Value.{Debugging, moved_to, state_of}
+use Rattle.pb_debug.specs.declared.append.Tried.{Tried}
+
+-- the position is that after the last pick, and there may be one more
+abbrev pub CanAppend : Debugging → Type 0
+CanAppend d = (d.position ≡ length d.picks) × (length d.picks < 10000000)
+
+-- with this pick behind the last, at the position just after it
+abbrev pub appended : Debugging → Pick → Debugging
+appended d pick = moved_to (record d { picks = d.picks ++ pick ∷ [] }) (length d.picks + 1)
+
+-- what a pick comes to in the state at the position, and where the debugger then stands: an enabled pick is appended, and any other
+-- changes nothing
+abbrev pub Tries : Debugging → Pick → Step → Debugging → Type 0
+Tries d pick Silent next =
+    CodeMoves d.verified.code (state_of d) pick None (state_of next) × (next ≡ appended d pick)
+Tries d pick (Did event) next =
+    CodeMoves d.verified.code (state_of d) pick (Some event) (state_of next) × (next ≡ appended d pick)
+Tries d pick NotEnabled next = CodeStays d.verified.code (state_of d) pick × (next ≡ d)
+
+-- a machine that has tried its pick in the state at the position
+pub record IsTried (d : Debugging) (t : Tried) : Type 0 where
+  pub machine : IsMachineOf d.verified t.machine
+  pub steps : IsStep d.verified.code (state_of d) t.pick t.step (machine_view t.machine)

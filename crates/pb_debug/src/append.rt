@@ -1,0 +1,180 @@
+//! Picks that are tried after the last.
+
+ghost use Rattle.std.specs.Prelude.{◌≡◌, ◌↔◌, ◌+◌, ◌*◌, ◌<◌, ◌≤◌, ◌++◌, ℕ, List, length, IfErr, IfOk, IsTrue, OnErr, OnOk};
+ghost use Rattle.pb_base.specs.declared.pick.Pick.{Pick as AnyPick};
+ghost use Rattle.pb_code.specs.Reached.{CodeMoves};
+ghost use Rattle.pb_debug.specs.Answers.{SaysTried};
+ghost use Rattle.pb_debug.specs.Appends.{CanAppend, IsTried, Tries, appended};
+ghost use Rattle.pb_debug.specs.Refusals.{HasArm, IsMoveFault};
+ghost use Rattle.pb_debug.specs.Value.{IsPosition, state_of};
+ghost use Rattle.pb_debug.specs.Walks.{AreCheckpoints, IsCheckpoint};
+ghost use Rattle.pb_machine.specs.Views.{IsMachineOf, machine_view};
+ghost use Rattle.pb_verifier.specs.Verified.{VerifiedCode};
+
+use crate::debugger::Debugger;
+use crate::fault::DebugFault;
+use crate::text::{put_at, put_event, put_refusal};
+use crate::walker::Walker;
+use pb_base::{Event, NoMemory, Pick, Step};
+use pb_machine::Machine;
+use std::alloc::Global;
+
+// The most picks of a debugger.
+const MOST_PICKS: u32 = 10_000_000;
+
+/// A machine that has tried a pick, and what that came to.
+#[derive(Drop)]
+pub(crate) struct Tried {
+    pub machine: Machine,
+    pub pick: Pick,
+    pub step: Step,
+}
+
+// Keeps a copy of a machine, if it is at the next multiple of the distance of checkpoints.
+fn keep(
+    alloc: Global,
+    checkpoints: &mut Vec<Machine>,
+    interval: u32,
+    machine: &Machine,
+    at: u32,
+) -> Result<(), NoMemory>
+    requires some { 0 < interval }
+    requires small { interval ≤ 10000000 }
+    requires few { at ≤ 10000000 }
+    requires before { at ≤ length checkpoints.old.items * interval }
+    requires after { length checkpoints.old.items * interval ≤ at + interval }
+    ensures checkpoints { OnOk result ((v : VerifiedCode) (picks : List AnyPick)
+        → AreCheckpoints v picks interval checkpoints.old.items → IsCheckpoint v picks at machine.now
+        → AreCheckpoints v picks interval checkpoints.new.items) }
+    ensures enough { OnOk result (at < length checkpoints.new.items * interval) }
+    ensures fewest { OnOk result (length checkpoints.new.items * interval ≤ at + interval) }
+    ensures unchanged { OnErr result (checkpoints.new.items ≡ checkpoints.old.items) }
+{
+    let next = checkpoints.len() * interval as usize;
+    if (at as usize) < next {
+        return Ok(());
+    }
+    let copy = machine.copy(alloc)?;
+    checkpoints.push(copy)?;
+    Ok(())
+}
+
+impl<'c> Debugger<'c> {
+    // Returns whether the position is that after the last pick, and there may be one more.
+    fn can_append(&self) -> bool
+        ensures can { IsTrue result ↔ CanAppend self.now }
+        ensures placed { IsPosition self.now }
+    {
+        self.position() == self.len() && self.len() < MOST_PICKS
+    }
+
+    // Tries a pick at the position, by a copy of the machine.
+    fn tried(&self, pick: Pick) -> Result<Tried, NoMemory>
+        ensures tried { IfOk result (IsTried self.now) }
+        ensures pick { IfOk result (λ tried. tried.pick ≡ pick) }
+    {
+        let mut machine = self.walker.machine.copy(self.alloc)?;
+        let step = machine.step(self.verified, pick);
+        Ok(Tried {
+            machine,
+            pick,
+            step,
+        })
+    }
+
+    // Appends an enabled pick, after which the machine is as this one, and goes to just after it. All room is made
+    // before anything changes.
+    fn add(&mut self, machine: Machine, pick: Pick, event: Option<Event>) -> Result<(), NoMemory>
+        requires end { CanAppend self.old }
+        requires machine { IsMachineOf self.old.verified machine }
+        requires moves { CodeMoves self.old.verified.code (state_of self.old) pick event (machine_view machine) }
+        ensures appended { OnOk result (self.new ≡ appended self.old pick) }
+        ensures state { OnOk result (state_of self.new ≡ machine_view machine) }
+        ensures unchanged { OnErr result (self.new ≡ self.old) }
+    {
+        let end = self.trace.len() + 1;
+        self.trace.reserve(1)?;
+        keep(
+            self.alloc,
+            &mut self.checkpoints,
+            self.interval,
+            &machine,
+            end,
+        )?;
+        match event {
+            Some(event) => self.trace.push_shown(pick, event),
+            None => self.trace.push_silent(pick, 1),
+        }
+        self.walker = Walker { machine, at: end };
+        self.last_cost = end % self.interval;
+        Ok(())
+    }
+
+    // Appends a pick that was tried at the end of the picks, and goes to just after it, if it is enabled.
+    fn settle(&mut self, tried: Tried) -> Result<(), NoMemory>
+        requires end { CanAppend self.old }
+        requires tried { IsTried self.old tried }
+        ensures tries { OnOk result (Tries self.old tried.pick tried.step self.new) }
+        ensures unchanged { OnErr result (self.new ≡ self.old) }
+    {
+        let Tried {
+            machine,
+            pick,
+            step,
+        } = tried;
+        match step {
+            Step::Silent => self.add(machine, pick, None),
+            Step::Did(event) => self.add(machine, pick, Some(event)),
+            Step::NotEnabled => Ok(()),
+        }
+    }
+
+    /// Tries a pick after the last, and returns what it came to: if it is enabled it is appended, and the position is
+    /// that just after it; else, or if there is no such process or arm, nothing has changed. `PastEnd` if the position
+    /// is not that after the last pick, or there are 10,000,000 picks; after an error nothing has changed.
+    pub fn append(&mut self, pick: Pick) -> Result<Step, DebugFault>
+        ensures tries { IfOk result (λ step. Tries self.old pick step self.new) }
+        ensures end { OnOk result (CanAppend self.old) }
+        ensures refused { IfErr result (IsMoveFault (CanAppend self.old → ⊥)) }
+        ensures unchanged { OnErr result (self.new ≡ self.old) }
+        ensures placed { IsPosition self.new }
+    {
+        if !self.can_append() {
+            return Err(DebugFault::PastEnd);
+        }
+        let tried = self.tried(pick)?;
+        let step = tried.step;
+        self.settle(tried)?;
+        let _ = self.position();
+        Ok(step)
+    }
+
+    /// Says what a pick of an arm after the last comes to, and appends it if it is enabled.
+    pub(crate) fn say_tried(
+        &mut self,
+        text: &mut Vec<u8>,
+        p: usize,
+        arm: usize,
+    ) -> Result<(), NoMemory>
+        requires { HasArm self.old p arm }
+        ensures said { OnOk result ((said : List ℕ) × SaysTried self.old arm said self.new p
+            × (text.new.items ≡ text.old.items ++ said)) }
+        ensures unchanged { OnErr result (self.new ≡ self.old) }
+    {
+        if !self.can_append() {
+            return put_refusal(text, DebugFault::PastEnd);
+        }
+        let next = self.len() + 1;
+        let tried = self.tried(Pick {
+            process: p as u8,
+            arm: arm as u8,
+        })?;
+        let step = tried.step;
+        match step {
+            Step::Silent => put_at(text, next)?,
+            Step::Did(event) => put_event(text, self.alloc, self.verified.names(), next, &event)?,
+            Step::NotEnabled => return self.say_reason(text, p, arm),
+        }
+        self.settle(tried)
+    }
+}

@@ -1,0 +1,82 @@
+-- What is said of an input, from the message that was made.
+use Rattle.std.proofs.Common.{◌≡◌, ◌≢◌, take, ℕ, List, [], codes, Option, Some, None, Result, Ok, Err, IfOk, subst, sym, inl, inr}
+use Rattle.pb_code.specs.Whole.{Code, ProcessLabels}
+use Rattle.pb_codegen.specs.Compiled.{IsCompiled}
+use Rattle.pb_engines.specs.Loading.{IsLoadFault, load_line}
+use Rattle.pb_engines.specs.Parts.{AreTwoParts}
+use Rattle.pb_engines.specs.ReplayLines.{picks_line}
+use Rattle.pb_engines.specs.declared.load.LoadFault.{LoadFault}
+use Rattle.pb_engines.proofs.AcceptLemmas.{compiled_is_accepted}
+use Rattle.pb_history.specs.Replays.{IsStopped, spread}
+use Rattle.pb_history.specs.declared.counted.CountedPick.{CountedPick}
+use Rattle.pb_history.specs.declared.fault.ReplayFault.TheVariants.{NotEnabled}
+use Rattle.pb_picks.specs.PickLines.{IsFaulty, SpellsPicks}
+use Rattle.pb_picks.specs.declared.fault.PickFault.{PickFault}
+use Rattle.pb_messages.specs.Causes.{IsCauseOf}
+use Rattle.pb_messages.specs.Messages.{IsMessage, IsShown}
+use Rattle.pb_messages.specs.Places.{message}
+use Rattle.pb_messages.specs.Said.{AreSaid, HasCode, HasNoMark, SaysMore, SaysOf, SaysOfFirstFormat, SaysOfLines, SaysOfPickedObject, SaysOfPickedText, SaysOfTexts, TellsObject, all, stopped, unread}
+use Rattle.pb_messages.specs.declared.cause.Cause.{Cause}
+use Rattle.pb_messages.specs.declared.message.Reading.TheVariants.{Debugged}
+
+-- the message of a cause with this code and this place
+abbrev pub IsMessageAt : (label text code : List ℕ) → Option ℕ → List ℕ → Type 0
+IsMessageAt label text code at told =
+    (summary : List ℕ) × (shown : List ℕ) × (details : List ℕ)
+    × IsShown label text at shown × (told ≡ message code summary shown details)
+
+coded : (label text code : List ℕ) (at : Option ℕ) (told : List ℕ) → IsMessageAt label text code at told → HasCode code told
+coded label text code at told (summary, shown, details, is_shown, is) = (summary, shown, details, is)
+
+module _ {W E : Type 0} (seen : W → List ℕ) where
+  -- the message of a fault of an object
+  pub object_told : (bytes : List ℕ) (fault : LoadFault) (line : Option (List ℕ)) (cause : Cause) (made : Result W E)
+      → IsLoadFault bytes fault → load_line fault ≡ line → IsCauseOf line (Some cause)
+      → IfOk made (λ told. IsMessage [] bytes cause (seen told)) → IfOk made (λ told. TellsObject bytes (seen told))
+  object_told bytes fault line cause (Ok told) is same caused message =
+      (fault, cause, is, subst (λ (l : Option (List ℕ)). IsCauseOf l (Some cause)) (sym same) caused, message)
+  object_told bytes fault line cause (Err e) is same caused message = message
+
+  -- the message of lines that say no picks
+  pub lines_told : (code : Code) (lines : List ℕ) (fault : PickFault) (cause : Cause) (made : Result W E) → IsFaulty code lines fault
+      → IsCauseOf (picks_line fault) (Some cause) → IfOk made (λ told. IsMessage (codes "pick ") lines cause (seen told))
+      → IfOk made (λ told. SaysOfLines code lines (seen told))
+  lines_told code lines fault cause (Ok told) is caused message = unread fault cause (seen told) is caused message
+  lines_told code lines fault cause (Err e) is caused message = message
+
+  -- the message of a pick that is not enabled
+  pub stop_told : (code : Code) (lines : List ℕ) (picks : List CountedPick) (number : ℕ) (at : Option ℕ) (made : Result W E)
+      → SpellsPicks code lines picks → IsStopped code (spread picks) (NotEnabled number)
+      → IfOk made (λ told. IsMessageAt (codes "pick ") lines (codes "H1") at (seen told)) → IfOk made (λ told. SaysOfLines code lines (seen told))
+  stop_told code lines picks number at (Ok told) spelled is message =
+      stopped picks number (seen told) spelled is (coded (codes "pick ") lines (codes "H1") at (seen told) message)
+  stop_told code lines picks number at (Err e) spelled is message = message
+
+  -- the message of what the first format cannot say of an accepted text
+  pub format_told : (text : List ℕ) (code : Code) (labels : List ProcessLabels) (made : Result W E) → IsCompiled text code labels
+      → IfOk made (λ told. IsMessageAt [] text (codes "E1") None (seen told)) → IfOk made (λ told. SaysOfFirstFormat text (seen told))
+  format_told text code labels (Ok told) compiled message =
+      inl (compiled_is_accepted text code labels compiled, inr (coded [] text (codes "E1") None (seen told) message))
+  format_told text code labels (Err e) compiled message = message
+
+  -- what is said of an object, pick lines and commands
+  pub object_debugged : (bytes source rest lines commands : List ℕ) (made : Result W E) → AreTwoParts bytes source rest
+      → AreTwoParts rest lines commands → take 4 source ≡ codes "PBO " → IfOk made (λ told. SaysOfPickedObject source lines (seen told))
+      → IfOk made (λ told. SaysOf Debugged bytes (seen told))
+  object_debugged bytes source rest lines commands (Ok told) parts more object says =
+      (source, rest, lines, commands, parts, more, inl (object, says))
+  object_debugged bytes source rest lines commands (Err e) parts more object says = says
+
+  -- what is said of a text, pick lines and commands
+  pub text_debugged : (bytes source rest lines commands : List ℕ) (made : Result W E) → AreTwoParts bytes source rest
+      → AreTwoParts rest lines commands → take 4 source ≢ codes "PBO " → IfOk made (λ told. SaysOfPickedText source lines (seen told))
+      → IfOk made (λ told. SaysOf Debugged bytes (seen told))
+  text_debugged bytes source rest lines commands (Ok told) parts more text says =
+      (source, rest, lines, commands, parts, more, inr (text, says))
+  text_debugged bytes source rest lines commands (Err e) parts more text says = says
+
+-- what is said of all texts
+pub said_all : (bytes rest part before told : List ℕ) → AreSaid bytes rest before → part ≡ rest → HasNoMark rest
+    → SaysMore part before told → SaysOfTexts bytes told
+said_all bytes rest part before told are same no_mark says =
+    all rest before told are no_mark (subst (λ (text : List ℕ). SaysMore text before told) same says)

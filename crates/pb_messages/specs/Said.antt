@@ -1,0 +1,138 @@
+-- What is said to a person of an input that was refused.
+use Rattle.std.specs.Prelude.{◌≡◌, ◌≢◌, ◌<◌, ◌≤◌, ◌⊎◌, ◌++◌, ◌∷◌, ℕ, List, [], Some, codes, length, take}
+use Rattle.pb_base.specs.Steppers.{State, Table}
+use Rattle.pb_code.specs.Code.{CodeProcess}
+use Rattle.pb_code.specs.Whole.{Code, ProcessLabels}
+use Rattle.pb_codegen.specs.Compiled.{IsCompiled}
+use Rattle.pb_codegen.specs.Numbered.{IsNumbered}
+use Rattle.pb_engines.specs.Loading.{IsLoadFault, IsLoaded, load_line}
+use Rattle.pb_engines.specs.Parts.{AreTwoParts, IsCutAt, IsMarkAt}
+use Rattle.pb_engines.specs.Refusals.{IsAcceptedText}
+use Rattle.pb_engines.specs.ReplayLines.{picks_line}
+use Rattle.pb_engines.specs.declared.load.LoadFault.{LoadFault}
+use Rattle.pb_history.specs.Entries.{Entry}
+use Rattle.pb_history.specs.Replays.{IsReplay, IsStopped, spread}
+use Rattle.pb_history.specs.declared.counted.CountedPick.{CountedPick}
+use Rattle.pb_history.specs.declared.fault.ReplayFault.TheVariants.{NotEnabled}
+use Rattle.pb_messages.specs.Causes.{IsCauseOf}
+use Rattle.pb_messages.specs.Messages.{IsMessage, TellsRefusal}
+use Rattle.pb_messages.specs.Places.{message}
+use Rattle.pb_messages.specs.declared.cause.Cause.{Cause}
+use Rattle.pb_messages.specs.declared.message.Reading.{Reading}
+use Rattle.pb_messages.specs.declared.message.Reading.TheVariants.{Text, Claims, Recorded, FirstFormat, Texts, Object, Replayed, Debugged}
+use Rattle.pb_names.specs.Program.{Program}
+use Rattle.pb_picks.specs.PickLines.{IsFaulty, SpellsPicks}
+use Rattle.pb_picks.specs.declared.fault.PickFault.{PickFault}
+
+-- of an input that is too long
+abbrev pub long_input : List ℕ
+long_input = codes "error input: the input is longer than 4194304 bytes\n"
+
+-- of an accepted text whose run is too long
+abbrev pub long_output : List ℕ
+long_output =
+    codes "error output: the text with its run is longer than 4194304 bytes\n  = hint: record fewer steps: --steps 100000\n"
+
+-- some message with this code
+abbrev pub HasCode : (code told : List ℕ) → Type 0
+HasCode code told =
+    (summary : List ℕ) × (shown : List ℕ) × (details : List ℕ) × (told ≡ message code summary shown details)
+
+-- of a text: its refusal; or, if it is accepted, what is said then
+abbrev pub SaysOfText : (text said told : List ℕ) → Type 0
+SaysOfText text said told = (IsAcceptedText text × (told ≡ said)) ⊎ TellsRefusal [] text told
+
+-- the same, whatever the capital; nothing if the text spells a program
+abbrev pub SaysOfProgram : (text told : List ℕ) → Type 0
+SaysOfProgram text told =
+    ((program : Program) × (claims : Table) × IsNumbered text program claims × (told ≡ []))
+    ⊎ TellsRefusal [] text told
+
+-- of a text that is to become an object in the first format: its refusal; or nothing, or why the first format cannot
+abbrev pub SaysOfFirstFormat : (text told : List ℕ) → Type 0
+SaysOfFirstFormat text told =
+    (IsAcceptedText text × ((told ≡ []) ⊎ HasCode (codes "E1") told)) ⊎ TellsRefusal [] text told
+
+-- no line `%%` begins in the text
+abbrev pub HasNoMark : List ℕ → Type 0
+HasNoMark text = (at : ℕ) → ¬ IsMarkAt text at
+
+-- a message behind others: a line feed is between
+abbrev pub behind : (others more : List ℕ) → List ℕ
+behind [] more = more
+behind (b ∷ bs) more = b ∷ bs ++ 10 ∷ more
+
+-- what is said when one more text was looked at, and what was said before: the same if it is accepted
+abbrev pub SaysMore : (text before told : List ℕ) → Type 0
+SaysMore text before told =
+    (IsAcceptedText text × (told ≡ before))
+    ⊎ ((label : List ℕ) × (more : List ℕ) × TellsRefusal label text more × (told ≡ behind before more))
+
+-- what is left of an input behind its first texts, and what is said of these in turn
+pub data AreSaid (bytes : List ℕ) : (rest told : List ℕ) → Type 0 where
+  none : AreSaid bytes bytes []
+  more : (rest before text left told : List ℕ)
+      → AreSaid bytes rest before → IsCutAt rest text left → SaysMore text before told → AreSaid bytes left told
+
+-- of texts: what is said of all of them, behind the last of which is no line `%%`; or of the first ones, if that has over
+-- 4,096 bytes
+pub data SaysOfTexts (bytes : List ℕ) : List ℕ → Type 0 where
+  all : (text before told : List ℕ)
+      → AreSaid bytes text before → HasNoMark text → SaysMore text before told → SaysOfTexts bytes told
+  first : (rest told : List ℕ) → AreSaid bytes rest told → 4096 < length told → SaysOfTexts bytes told
+
+-- the message of an object that is not read, or is not safe
+abbrev pub TellsObject : (bytes told : List ℕ) → Type 0
+TellsObject bytes told =
+    (fault : LoadFault) × (cause : Cause) × IsLoadFault bytes fault × IsCauseOf (load_line fault) (Some cause)
+    × IsMessage [] bytes cause told
+
+-- of an object: why it is refused, or nothing
+abbrev pub SaysOfObject : (bytes told : List ℕ) → Type 0
+SaysOfObject bytes told =
+    ((code : Code) × (labels : List ProcessLabels) × IsLoaded bytes code labels × (told ≡ [])) ⊎ TellsObject bytes told
+
+-- of pick lines over some code: nothing if all picks are made; else which line says no picks, or that a pick is not
+-- enabled, at some line
+pub data SaysOfLines (code : Code) (lines : List ℕ) : List ℕ → Type 0 where
+  made : (picks : List CountedPick) (entries : List Entry) (end : State CodeProcess)
+      → SpellsPicks code lines picks → IsReplay code (spread picks) entries end → SaysOfLines code lines []
+  unread : (fault : PickFault) (cause : Cause) (told : List ℕ)
+      → IsFaulty code lines fault → IsCauseOf (picks_line fault) (Some cause)
+      → IsMessage (codes "pick ") lines cause told → SaysOfLines code lines told
+  stopped : (picks : List CountedPick) (number : ℕ) (told : List ℕ)
+      → SpellsPicks code lines picks → IsStopped code (spread picks) (NotEnabled number)
+      → HasCode (codes "H1") told → SaysOfLines code lines told
+
+-- of a text and pick lines
+abbrev pub SaysOfPickedText : (text lines told : List ℕ) → Type 0
+SaysOfPickedText text lines told =
+    ((code : Code) × (labels : List ProcessLabels) × IsCompiled text code labels × SaysOfLines code lines told)
+    ⊎ TellsRefusal [] text told
+
+-- of an object and pick lines
+abbrev pub SaysOfPickedObject : (bytes lines told : List ℕ) → Type 0
+SaysOfPickedObject bytes lines told =
+    ((code : Code) × (labels : List ProcessLabels) × IsLoaded bytes code labels × SaysOfLines code lines told)
+    ⊎ TellsObject bytes told
+
+-- of an input that is not too long, by how the command reads it
+abbrev pub SaysOf : Reading → (bytes told : List ℕ) → Type 0
+SaysOf Text bytes told = SaysOfText bytes [] told
+SaysOf Claims bytes told = SaysOfProgram bytes told
+SaysOf Recorded bytes told = SaysOfText bytes long_output told
+SaysOf FirstFormat bytes told = SaysOfFirstFormat bytes told
+SaysOf Texts bytes told = SaysOfTexts bytes told
+SaysOf Object bytes told = SaysOfObject bytes told
+SaysOf Replayed bytes told =
+    (text : List ℕ) × (lines : List ℕ) × AreTwoParts bytes text lines × SaysOfPickedText text lines told
+SaysOf Debugged bytes told =
+    (source : List ℕ) × (rest : List ℕ) × (lines : List ℕ) × (commands : List ℕ)
+    × AreTwoParts bytes source rest × AreTwoParts rest lines commands
+    × (((take 4 source ≡ codes "PBO ") × SaysOfPickedObject source lines told)
+    ⊎ ((take 4 source ≢ codes "PBO ") × SaysOfPickedText source lines told))
+
+-- of any input
+abbrev pub SaysToPerson : Reading → (bytes told : List ℕ) → Type 0
+SaysToPerson reading bytes told =
+    ((4194304 < length bytes) × (told ≡ long_input)) ⊎ ((length bytes ≤ 4194304) × SaysOf reading bytes told)

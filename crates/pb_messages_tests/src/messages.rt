@@ -1,0 +1,124 @@
+//! What is said of refused inputs, by how they are read.
+
+use pb_messages::{Reading, message_of};
+use std::alloc::Global;
+
+/// Returns whether this is said of an input.
+fn says(alloc: Global, reading: Reading, bytes: &[u8], said: &[u8]) -> Option<bool> {
+    Some(message_of(alloc, reading, bytes).ok()?.as_slice() == said)
+}
+
+#[test]
+fn a_name_that_is_not_declared(rt: HostRuntime) {
+    let text = b"process p\nbegin\n  x := 1\nend\n";
+    let said = b"error N3: integer x is not declared in process p
+  --> line 3, column 3
+  |
+3 |   x := 1
+  |   ^
+  = hint: declare it after the first begin of the process: integer x;
+";
+    for reading in [
+        Reading::Text,
+        Reading::Claims,
+        Reading::Recorded,
+        Reading::FirstFormat,
+        Reading::Texts,
+        Reading::Replayed,
+        Reading::Debugged,
+    ] {
+        assert!(rt; says(rt.alloc(), reading, text, said) == Some(true));
+    }
+}
+
+#[test]
+fn nothing_of_what_is_accepted(rt: HostRuntime) {
+    let text = b"process p begin print 1 end";
+    for reading in [
+        Reading::Text,
+        Reading::Claims,
+        Reading::FirstFormat,
+        Reading::Texts,
+        Reading::Replayed,
+        Reading::Debugged,
+    ] {
+        assert!(rt; says(rt.alloc(), reading, text, b"") == Some(true));
+    }
+    let said = b"error output: the text with its run is longer than 4194304 bytes
+  = hint: record fewer steps: --steps 100000
+";
+    assert!(rt; says(rt.alloc(), Reading::Recorded, text, said) == Some(true));
+}
+
+#[test]
+fn each_refused_part(rt: HostRuntime) {
+    let texts = b"process p begin x := 1 end
+%%
+process p begin skip end
+%%
+process q begin
+y := 1 end
+";
+    let said = b"error N3: integer x is not declared in process p
+  --> text 1, line 1, column 17
+  |
+1 | process p begin x := 1 end
+  |                 ^
+  = hint: declare it after the first begin of the process: integer x;
+
+error N3: integer y is not declared in process q
+  --> text 3, line 2, column 1
+  |
+2 | y := 1 end
+  | ^
+  = hint: declare it after the first begin of the process: integer y;
+";
+    assert!(rt; says(rt.alloc(), Reading::Texts, texts, said) == Some(true));
+}
+
+#[test]
+fn an_object(rt: HostRuntime) {
+    let said = b"error O1: an object cannot have this line here
+  --> line 1, column 1
+  |
+1 | PBO 3
+  | ^
+  = hint: emit writes objects; docs/FORMATS.md, \"Object text\", lists their lines
+";
+    assert!(rt; says(rt.alloc(), Reading::Object, b"PBO 3\n", said) == Some(true));
+    assert!(rt; says(rt.alloc(), Reading::Debugged, b"PBO 3\n", said) == Some(true));
+}
+
+#[test]
+fn a_pick_line_and_a_pick(rt: HostRuntime) {
+    let lines = b"process p begin print 1 end\n%%\np.1 1\n";
+    let said = b"error K1: this is not a pick line of the processes and arms before the line %%
+  --> pick line 1, column 1
+  |
+1 | p.1 1
+  | ^
+  = line 3 of the input
+  = hint: a pick line is P.a COUNT, such as p.0 12: a process, one of its arms, and a number from 1 to 10000000
+";
+    assert!(rt; says(rt.alloc(), Reading::Replayed, lines, said) == Some(true));
+    let picks = b"process p begin print 1 end\n%%\np.0 2\np.0 2\n";
+    let said = b"error H1: p.0 cannot make pick 3
+  --> pick line 2, column 1
+  |
+2 | p.0 2
+  | ^
+";
+    let message = message_of(rt.alloc(), Reading::Debugged, picks);
+    assert!(rt; message.is_ok_and(|message| message.as_slice().starts_with(said)));
+}
+
+#[test]
+fn the_first_format(rt: HostRuntime) {
+    let text = b"resource r = 1;
+resource s = 1;
+process p begin hold 1 of r, 1 of s do skip od end
+";
+    let message = message_of(rt.alloc(), Reading::FirstFormat, text);
+    let said = b"error E1: the first format has no hold of several resources\n";
+    assert!(rt; message.is_ok_and(|message| message.as_slice().starts_with(said)));
+}
