@@ -153,12 +153,40 @@ begin
 end
 ";
 
+/// The file solutions/share_after.pb.
+#[rattlefmt::skip]
+const SHARE_AFTER: &[u8] = b"// The cake of 7-outcomes/share.pb is divided after the parbegin, so the guests are counted in every run.
+process host
+begin
+  integer guests, pieces;
+  parbegin
+    guests := 4;
+    skip
+  parend;
+  pieces := 12 div guests
+end
+";
+
 /// The file solutions/sort_fits.pb.
 #[rattlefmt::skip]
 const SORT_FITS: &[u8] = b"// Lesson 4, exercise 2: `sort` reads before it writes, and gives back the tapes that it has read. Its claim is 3.
 resource tape = 4;
 process copy begin hold 2 of tape do print 1 od end
 process sort begin hold 2 of tape do print 2 od; hold 3 of tape do print 3 od end
+";
+
+/// The file solutions/three_outcomes.pb.
+#[rattlefmt::skip]
+const THREE_OUTCOMES: &[u8] = b"// Three outcomes: x ends as 2 if the second arm assigns last, as 3 if it assigns first of all, and as 1 if it assigns
+// between the reading and the assigning of the first arm.
+process p
+begin
+  integer x;
+  parbegin
+    x := x + 1;
+    x := 2
+  parend
+end
 ";
 
 /// The file solutions/three_orders.pb.
@@ -193,7 +221,7 @@ process b begin hold 1 of florin do print 3; hold 2 of florin do print 4 od od e
 ";
 
 #[rattlefmt::skip]
-const CALLS_1: [Call; 13] = [
+const CALLS_1: [Call; 14] = [
     Call {
         name: "solution_by_hand",
         command: Command::Run { quantum: 64, steps: 1_000_000 },
@@ -373,6 +401,15 @@ done
 ",
     },
     Call {
+        name: "solution_share_after",
+        command: Command::Run { quantum: 64, steps: 1_000_000 },
+        input: SHARE_AFTER,
+        status: Status::Done,
+        output: b"host end
+done
+",
+    },
+    Call {
         name: "solution_sort_fits",
         command: Command::Run { quantum: 64, steps: 1_000_000 },
         input: SORT_FITS,
@@ -388,6 +425,15 @@ sort.0 grant 3 tape
 sort.0 print 3
 sort.0 return 3 tape
 sort end
+done
+",
+    },
+    Call {
+        name: "solution_three_outcomes",
+        command: Command::Run { quantum: 64, steps: 1_000_000 },
+        input: THREE_OUTCOMES,
+        status: Status::Done,
+        output: b"p end
 done
 ",
     },
@@ -427,6 +473,16 @@ writer end
 done
 ",
     },
+];
+
+#[test]
+fn are_as_expected_1(rt: HostRuntime) -> Result<(), Fail> {
+    assert_eq!(rt; first_wrong(&rt, CALLS_1.as_slice()), None);
+    Ok(())
+}
+
+#[rattlefmt::skip]
+const CALLS_2: [Call; 3] = [
     Call {
         name: "solution_waits_four",
         command: Command::Run { quantum: 64, steps: 1_000_000 },
@@ -449,16 +505,6 @@ b end
 done
 ",
     },
-];
-
-#[test]
-fn are_as_expected_1(rt: HostRuntime) -> Result<(), Fail> {
-    assert_eq!(rt; first_wrong(&rt, CALLS_1.as_slice()), None);
-    Ok(())
-}
-
-#[rattlefmt::skip]
-const CALLS_2: [Call; 2] = [
     Call {
         name: "solution_by_hand_claims",
         command: Command::Claims,
