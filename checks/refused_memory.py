@@ -14,6 +14,7 @@ It is run by hand on Linux with a C compiler; its status is 0 if all is as wante
 import collections
 import concurrent.futures
 import os
+import re
 import tempfile
 
 from calls import DONE, EXAMPLES, MEMORY, THREADS, Tally, call, first_object_of, object_of, preload, program, recorded
@@ -69,7 +70,9 @@ TEXTS = {"nested holds": NESTED, "a loop of two arms that print": PRINTING, "tap
 ON_TEXTS = [["check"], ["check", "--heap", "1048576"], ["claims"], ["emit"], ["emit", "--object", "1"],
             ["run", "--workers", "1"], ["run", "--workers", "1", "--quantum", "1"], ["run", "--workers", "4"],
             ["record"], ["record", "--seed", "7"], ["record", "--workers", "4", "--quantum", "1"]]
-COMMANDS = b"why 0 0\nvars 0\nthreads 0\nloans\nstep 2\nline 0 0\nback 1\nto 3\nnext\nprev\n"
+# With the name of a process in place of P.
+COMMANDS = b"why P.0\nvars P\nthreads P\nloans\nstep 2\nline P.0\ntext P.0\nback 1\nto 3\nnext\nprev\n"
+PICKING = b"to 1\npick P.0\nback 1\nstep 1\n"
 
 
 class Refusing:
@@ -149,8 +152,11 @@ def cases():
         run = recorded(text)
         yield name, ["replay"], run
         yield name, ["draw"], run
-        yield name, ["debug"], run + b"%%\n" + COMMANDS
-        yield name, ["debug", "--live"], run + b"%%\n" + COMMANDS
+        process = re.search(rb"\bprocess (\w+)", text)[1]
+        started = text + b"%%\n" + process + b".0 1\n"
+        for given in (run + b"%%\n" + COMMANDS.replace(b"P", process), started + b"%%\n" + PICKING.replace(b"P", process)):
+            yield name, ["debug"], given
+            yield name, ["debug", "--live"], given
     for kind, most in LIMITS.items():
         for words in (["check"], ["claims"], ["emit"], ["run"], ["outcomes", "--states", "100"]):
             yield f"{most} {kind}", words, many(kind, most)
