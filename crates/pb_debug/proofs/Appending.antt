@@ -18,8 +18,9 @@ use Rattle.pb_machine.proofs.Reaching.{makes_more}
 use Rattle.pb_machine.specs.Views.{IsMachineOf, machine_view}
 use Rattle.pb_machine.specs.declared.machine.Machine.{Machine}
 use Rattle.pb_verifier.specs.Verified.{VerifiedCode}
+use Rattle.pb_debug.specs.Appends.{appended}
 use Rattle.pb_debug.specs.Checkpoints.{IsSound, view_of}
-use Rattle.pb_debug.specs.Value.{state_of}
+use Rattle.pb_debug.specs.Value.{Debugging, state_of}
 use Rattle.pb_debug.specs.Walks.{AreCheckpoints, IsCheckpoint, StandsAfter, Walks}
 use Rattle.pb_debug.specs.declared.debugger.Debugger.TheInside.{Inside}
 use Rattle.pb_debug.proofs.Walking.{checkpoints_before, interval_some}
@@ -143,6 +144,12 @@ module _ (i : Inside) (h : IsSound i) (pick : Pick) (event : Option Event) (m : 
 
   pub added_state : state_of (view_of next) ≡ machine_view m
   added_state = sym stands.state
+
+  pub added_is : view_of next ≡ appended (view_of i) pick
+  added_is =
+      let d : Debugging = view_of i in
+      ap (λ (ps : List Pick). record d { picks = ps; position = end; last_cost = end % i.interval }) same
+      ∙ ap (λ (n : ℕ). record d { picks = picks ++ pick ∷ []; position = n; last_cost = n % i.interval }) at
 
   pub added_sound : ((v : VerifiedCode) (picks : List Pick) → AreCheckpoints v picks i.interval i.checkpoints.items
       → IsCheckpoint v picks end m → AreCheckpoints v picks i.interval checkpoints.items)

@@ -1,19 +1,16 @@
 -- What is known of a debugger at its position.
-use Rattle.std.proofs.Common.{Vec, Global, ◌≡◌, ℕ, zero, suc, ◌<◌, ◌≤◌, ℤ, List, [], ◌∷◌, length, map, Some, refl, sym, ap, ◌∙◌, arith}
+use Rattle.std.proofs.Common.{Vec, Global, ◌≡◌, ℕ, zero, suc, ◌<◌, ◌≤◌, List, [], ◌∷◌, length, map, Some, refl, sym, ◌∙◌, arith}
 use Rattle.std.specs.Prelude.{slice_get}
 use Rattle.std.proofs.lemmas.List.{length-map}
 use Rattle.std.proofs.lemmas.Option.{slice_get_within}
-use Rattle.pb_code.specs.Code.{Thread, Idle, Live, Over, CodeProcess, thread}
+use Rattle.pb_code.specs.Code.{CodeProcess}
 use Rattle.pb_code.specs.declared.labels.ProcessLabels.{ProcessLabels as GivenLabels}
 use Rattle.pb_code.specs.Limits.{FitLabels}
 use Rattle.pb_code.specs.Reached.{CodeReaches}
 use Rattle.pb_code.specs.View.{process_labels_view}
-use Rattle.pb_code.specs.Whole.{ProcessLabels}
-use Rattle.pb_machine.specs.Views.{place_of_thread}
 use Rattle.pb_verifier.proofs.Banking.{kept_reached}
 use Rattle.pb_verifier.specs.declared.fault.VerifyFault.TheVariants.{OutOfLimits}
 use Rattle.pb_debug.specs.Value.{Debugging, IsPosition, state_of}
-use Rattle.pb_debug.proofs.Asking.{place_within}
 use Rattle.pb_history.proofs.Positions.{position_reached}
 
 -- what a list has at a place within
@@ -21,11 +18,6 @@ pub item : {A : Type 0} (xs : List A) (i : ℕ) → i < length xs → (x : A) ×
 item [] i lt = absurd (omega arith)
 item (x ∷ xs) zero lt = (x, refl)
 item (x ∷ xs) (suc i) lt = item xs i (omega arith)
-
-pub live_at : (t : Thread) (place : ℕ) → Some place ≡ place_of_thread t → (stack : List ℤ) × (t ≡ Live place stack)
-live_at Idle place e = absurd cc
-live_at (Live at stack) place e = let same : place ≡ at = cc in (stack, ap (λ n. Live n stack) (sym same))
-live_at Over place e = absurd cc
 
 module _ (d : Debugging) (h : IsPosition d) where
   pub reached : CodeReaches d.verified.code (state_of d)
@@ -40,16 +32,6 @@ module _ (d : Debugging) (h : IsPosition d) where
 
     pub in_labels : p < length d.labels
     in_labels = let lt = in_code in omega (arith, lt, h.fit.all)
-
-    -- the place of a live arm has a line, or none
-    pub has_label : (labels : ProcessLabels) → slice_get d.labels p ≡ Some labels → (a place : ℕ)
-        → Some place ≡ place_of_thread (thread process.threads a) → place < length labels.lines
-    has_label labels labels_there a place e =
-        let of = item d.verified.code.processes p in_code in
-        let live = live_at (thread process.threads a) place e in
-        let lt = place_within d.verified h.verified (state_of d) reached p a of.0 process of.1 there place live.0 live.1 in
-        let fit : FitLabels of.0 labels = h.fit.each p of.0 labels of.1 labels_there in
-        omega (arith, lt, fit.lines)
 
     -- the number of an arm is small
     pub few_arms : length process.threads ≤ 64

@@ -1,5 +1,6 @@
 pub mod Appending
 pub mod Asking
+pub mod Each
 pub mod Feeding
 pub mod Following
 pub mod Here

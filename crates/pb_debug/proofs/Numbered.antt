@@ -2,6 +2,7 @@
 use Rattle.std.proofs.Common.{◌≡◌, ℕ, zero, suc, ◌+◌, ◌-◌, ◌<◌, ◌++◌, eqb, Bool, true, false, cond, List, [], ◌∷◌, length, take, drop, Option, Some, None, option_map, refl, sym, ap, ◌∙◌, subst, arith, append_assoc, append-nil}
 use Rattle.std.specs.Prelude.{slice_get}
 use Rattle.std.specs.List.{position}
+use Rattle.std.proofs.lemmas.List.{take_all, length-drop}
 use Rattle.pb_debug.specs.Lines.{Cut, one_line_more, cut, last_line, lines_of, line_numbered}
 use Rattle.pb_debug.proofs.Spelling.{first_at, mapped, position_is}
 
@@ -94,3 +95,7 @@ module _ (bs : List ℕ) where
 pub none_in_nothing : (bs : List ℕ) → length bs ≡ 0 → None ≡ line_numbered bs 1
 none_in_nothing [] h = refl
 none_in_nothing (b ∷ bs) h = absurd (omega (arith, h))
+
+-- what stands behind a place of a text
+pub behind : (text : List ℕ) (n : ℕ) → take (length text - n) (drop n text) ≡ drop n text
+behind text n = let many = length-drop n text in take_all (length text - n) (drop n text) (omega (arith, many))

@@ -1,5 +1,5 @@
 -- Searches along the picks.
-use Rattle.std.proofs.Common.{◌≡◌, ◌↔◌, Bool, ℤ, ℕ, ◌+◌, ◌<◌, List, Option, Some, sym, ap, ◌∙◌, arith, slice_get, IsTrue, length}
+use Rattle.std.proofs.Common.{◌≡◌, ◌↔◌, Bool, true, false, ℤ, ℕ, ◌+◌, ◌<◌, List, Option, Some, sym, ap, ◌∙◌, arith, slice_get, IsTrue, length}
 use Rattle.pb_base.specs.declared.event.Event.{Event}
 use Rattle.pb_base.specs.declared.pick.Pick.{Pick}
 use Rattle.pb_base.specs.Steppers.{State}
@@ -56,3 +56,6 @@ begins_here b before after x y x' y' n e f one two h = (
   λ t. (λ q. (h.0 t).0 (one.1 (e ∙ q)), sym f ∙ two.0 (h.0 t).1),
   λ q. h.1 (λ t. q.0 (sym e ∙ one.0 t), two.1 (f ∙ q.1)),
 )
+
+pub not_true : (b : Bool) → b ≡ false → IsTrue b → ⊥
+not_true b e t = let no : true ≡ false = sym t ∙ e in absurd cc

@@ -2,6 +2,7 @@
 use Rattle.std.proofs.Common.{◌≡◌, inl, inr, ℕ, zero, suc, ◌+◌, ◌-◌, ◌*◌, ◌<◌, ◌≤◌, List, [], ◌∷◌, ◌++◌, Some, None, take, drop, length, replicate, sym, ap, ◌∙◌, subst, append_assoc, length-append, arith}
 use Rattle.std.specs.Prelude.{slice_get}
 use Rattle.std.proofs.lemmas.List.{length-map, length-replicate, take-append-le}
+use Rattle.std.proofs.lemmas.Option.{slice_get_within}
 use Rattle.pb_base.specs.declared.pick.Pick.{Pick}
 use Rattle.pb_base.specs.declared.step.Step.{Step}
 use Rattle.pb_base.specs.Steppers.{State}
@@ -22,7 +23,8 @@ use Rattle.pb_machine.specs.Views.{machine_view, IsMachineOf}
 use Rattle.pb_machine.specs.declared.machine.Machine.{Machine}
 use Rattle.pb_verifier.specs.Verified.{VerifiedCode}
 use Rattle.pb_debug.specs.Intervals.{IsInterval}
-use Rattle.pb_debug.specs.Walks.{AreCheckpoints, IsCheckpoint, Repeat, StandsAfter}
+use Rattle.pb_debug.specs.Walks.{AreCheckpoints, IsCheckpoint, Repeat, Replays, StandsAfter}
+use Rattle.pb_debug.specs.declared.checkpoints.Replaying.{Replaying}
 
 -- silent picks lead from one position to another
 silent_from : (code : Code) (picks : List Pick) (i : ℕ) (pick : Pick) (most made : ℕ) (s t : State CodeProcess)
@@ -153,3 +155,27 @@ interval_some n interval h = let e = h.2 in omega (arith, e)
 
 pub interval_small : (n interval : ℕ) → n ≤ 10000000 → IsInterval n interval → interval ≤ 10000000
 interval_small n interval few h = let le = h.1 in let e = h.2 in omega (arith, few, le, e)
+
+-- as many checkpoints as reach beyond the first position and no further are one
+pub one_interval : (n interval : ℕ) → 0 < n * interval → n * interval ≤ 0 + interval → interval ≡ n * interval
+one_interval zero interval some le = absurd (omega (arith, some))
+one_interval (suc zero) interval some le = omega arith
+one_interval (suc (suc n)) interval some le = absurd (omega (arith, some, le))
+
+-- a replay of no picks, with a checkpoint before the first
+pub replays_none : (v : VerifiedCode) (r : Replaying) → r.trace.entries ≡ [] → IsMachineOf v r.machine
+    → machine_view r.machine ≡ code_opening v.code → AreCheckpoints v [] r.interval r.checkpoints.items
+    → r.next ≡ r.interval → 0 < r.interval → r.interval ≡ length r.checkpoints.items * r.interval → Replays v r
+replays_none v r none machine opening checkpoints next some one = record {
+  keeps = record {
+    machine = machine;
+    leads = subst (λ (es : List Entry). Leads v.code (code_opening v.code) es (machine_view r.machine)) (sym none) opening;
+    checkpoints = subst (λ (es : List Entry). AreCheckpoints v (picks_of es) r.interval r.checkpoints.items) (sym none) checkpoints;
+    next = next ∙ one;
+  };
+  before = let n = ap (λ (es : List Entry). length es) none in omega (arith, n, next, some);
+  after = omega (arith, next);
+}
+
+pub no_checkpoints : (v : VerifiedCode) (interval : ℕ) → AreCheckpoints v [] interval []
+no_checkpoints v interval k m there = let lt = slice_get_within [] k m there in absurd (omega (arith, lt))

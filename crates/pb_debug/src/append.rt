@@ -1,23 +1,24 @@
 //! Picks that are tried after the last.
 
-ghost use Rattle.std.specs.Prelude.{◌≡◌, ◌↔◌, ◌+◌, ◌*◌, ◌<◌, ◌≤◌, ◌++◌, ℕ, List, length, IfErr, IfOk, IsTrue, OnErr, OnOk};
-ghost use Rattle.pb_base.specs.declared.pick.Pick.{Pick as AnyPick};
+ghost use Rattle.std.specs.Prelude.{◌≡◌, ◌↔◌, ◌<◌, ◌++◌, ◌∷◌, [], ℕ, List, length, IfErr, IfOk, IsTrue, OnErr, OnOk};
+ghost use Rattle.pb_base.specs.declared.event.Event.{Event as AnyEvent};
+ghost use Rattle.pb_base.specs.declared.step.Step.TheVariants.{Did};
+ghost use Rattle.pb_base.specs.Lines.{HasNames};
 ghost use Rattle.pb_code.specs.Reached.{CodeMoves};
-ghost use Rattle.pb_debug.specs.Answers.{SaysTried};
+ghost use Rattle.pb_debug.specs.Answers.{SaysStep, SaysTried, names_of};
 ghost use Rattle.pb_debug.specs.Appends.{CanAppend, IsTried, Tries, appended};
 ghost use Rattle.pb_debug.specs.Refusals.{HasArm, IsMoveFault};
 ghost use Rattle.pb_debug.specs.Value.{IsPosition, state_of};
-ghost use Rattle.pb_debug.specs.Walks.{AreCheckpoints, IsCheckpoint};
 ghost use Rattle.pb_machine.specs.Views.{IsMachineOf, machine_view};
-ghost use Rattle.pb_verifier.specs.Verified.{VerifiedCode};
 
+use crate::checkpoints::keep;
 use crate::debugger::Debugger;
 use crate::fault::DebugFault;
 use crate::text::{put_at, put_event, put_refusal};
 use crate::walker::Walker;
 use pb_base::{Event, NoMemory, Pick, Step};
+use pb_history::Trace;
 use pb_machine::Machine;
-use std::alloc::Global;
 
 // The most picks of a debugger.
 const MOST_PICKS: u32 = 10_000_000;
@@ -30,33 +31,16 @@ pub(crate) struct Tried {
     pub step: Step,
 }
 
-// Keeps a copy of a machine, if it is at the next multiple of the distance of checkpoints.
-fn keep(
-    alloc: Global,
-    checkpoints: &mut Vec<Machine>,
-    interval: u32,
-    machine: &Machine,
-    at: u32,
-) -> Result<(), NoMemory>
-    requires some { 0 < interval }
-    requires small { interval ≤ 10000000 }
-    requires few { at ≤ 10000000 }
-    requires before { at ≤ length checkpoints.old.items * interval }
-    requires after { length checkpoints.old.items * interval ≤ at + interval }
-    ensures checkpoints { OnOk result ((v : VerifiedCode) (picks : List AnyPick)
-        → AreCheckpoints v picks interval checkpoints.old.items → IsCheckpoint v picks at machine.now
-        → AreCheckpoints v picks interval checkpoints.new.items) }
-    ensures enough { OnOk result (at < length checkpoints.new.items * interval) }
-    ensures fewest { OnOk result (length checkpoints.new.items * interval ≤ at + interval) }
-    ensures unchanged { OnErr result (checkpoints.new.items ≡ checkpoints.old.items) }
+// Adds a pick, with its event or with none, behind a trace that has room for it.
+fn push(trace: &mut Trace, pick: Pick, event: Option<Event>)
+    requires room { 0 < trace.old.room }
+    requires fits { length trace.old.entries < 10000000 }
+    ensures { trace.new.entries ≡ trace.old.entries ++ record { pick = pick; event = event } ∷ [] }
 {
-    let next = checkpoints.len() * interval as usize;
-    if (at as usize) < next {
-        return Ok(());
+    match event {
+        Some(event) => trace.push_shown(pick, event),
+        None => trace.push_silent(pick, 1),
     }
-    let copy = machine.copy(alloc)?;
-    checkpoints.push(copy)?;
-    Ok(())
 }
 
 impl<'c> Debugger<'c> {
@@ -101,10 +85,7 @@ impl<'c> Debugger<'c> {
             &machine,
             end,
         )?;
-        match event {
-            Some(event) => self.trace.push_shown(pick, event),
-            None => self.trace.push_silent(pick, 1),
-        }
+        push(&mut self.trace, pick, event);
         self.walker = Walker { machine, at: end };
         self.last_cost = end % self.interval;
         Ok(())
@@ -149,6 +130,21 @@ impl<'c> Debugger<'c> {
         Ok(step)
     }
 
+    // Says what a pick of an arm at the position came to.
+    fn say_step(&self, text: &mut Vec<u8>, p: usize, arm: usize, step: Step) -> Result<(), NoMemory>
+        requires process { p < length (state_of self.now).processes }
+        requires names { (event : AnyEvent) → step ≡ Did event → HasNames (names_of self.now) event }
+        ensures { OnOk result ((said : List ℕ) × SaysStep self.now p arm step said
+            × (text.new.items ≡ text.old.items ++ said)) }
+    {
+        let next = self.position() + 1;
+        match step {
+            Step::Silent => put_at(text, next),
+            Step::Did(event) => put_event(text, self.alloc, self.verified.names(), next, &event),
+            Step::NotEnabled => self.say_reason(text, p, arm),
+        }
+    }
+
     /// Says what a pick of an arm after the last comes to, and appends it if it is enabled.
     pub(crate) fn say_tried(
         &mut self,
@@ -164,17 +160,11 @@ impl<'c> Debugger<'c> {
         if !self.can_append() {
             return put_refusal(text, DebugFault::PastEnd);
         }
-        let next = self.len() + 1;
         let tried = self.tried(Pick {
             process: p as u8,
             arm: arm as u8,
         })?;
-        let step = tried.step;
-        match step {
-            Step::Silent => put_at(text, next)?,
-            Step::Did(event) => put_event(text, self.alloc, self.verified.names(), next, &event)?,
-            Step::NotEnabled => return self.say_reason(text, p, arm),
-        }
+        self.say_step(text, p, arm, tried.step)?;
         self.settle(tried)
     }
 }

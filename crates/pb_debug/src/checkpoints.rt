@@ -1,8 +1,9 @@
 //! A replay that keeps copies of its machine on the way.
 
-ghost use Rattle.std.specs.Prelude.{◌≡◌, ◌+◌, ◌<◌, ◌≤◌, ◌++◌, [], length, replicate, IfErr, IfOk, OnOk};
+ghost use Rattle.std.specs.Prelude.{◌≡◌, ◌+◌, ◌*◌, ◌<◌, ◌≤◌, ◌++◌, [], List, length, replicate, IfErr, IfOk, OnErr, OnOk};
+ghost use Rattle.pb_base.specs.declared.pick.Pick.{Pick as AnyPick};
 ghost use Rattle.pb_debug.specs.Intervals.{interval_of};
-ghost use Rattle.pb_debug.specs.Walks.{Keeps, Replays};
+ghost use Rattle.pb_debug.specs.Walks.{AreCheckpoints, IsCheckpoint, Keeps, Replays};
 ghost use Rattle.pb_history.specs.Entries.{picks_of};
 ghost use Rattle.pb_history.specs.Replays.{IsStopped, spread};
 ghost use Rattle.pb_verifier.specs.Verified.{VerifiedCode};
@@ -29,6 +30,35 @@ pub(crate) fn interval_for(picks: u32) -> u32
     LEAST_INTERVAL.max((picks + CHECKPOINTS - 1) / CHECKPOINTS)
 }
 
+/// Keeps a copy of a machine, if it is at the next multiple of the distance of checkpoints.
+pub(crate) fn keep(
+    alloc: Global,
+    checkpoints: &mut Vec<Machine>,
+    interval: u32,
+    machine: &Machine,
+    at: u32,
+) -> Result<(), NoMemory>
+    requires some { 0 < interval }
+    requires small { interval ≤ 10000000 }
+    requires few { at ≤ 10000000 }
+    requires before { at ≤ length checkpoints.old.items * interval }
+    requires after { length checkpoints.old.items * interval ≤ at + interval }
+    ensures checkpoints { OnOk result ((v : VerifiedCode) (picks : List AnyPick)
+        → AreCheckpoints v picks interval checkpoints.old.items → IsCheckpoint v picks at machine.now
+        → AreCheckpoints v picks interval checkpoints.new.items) }
+    ensures enough { OnOk result (at < length checkpoints.new.items * interval) }
+    ensures fewest { OnOk result (length checkpoints.new.items * interval ≤ at + interval) }
+    ensures unchanged { OnErr result (checkpoints.new.items ≡ checkpoints.old.items) }
+{
+    let next = checkpoints.len() * interval as usize;
+    if (at as usize) < next {
+        return Ok(());
+    }
+    let copy = machine.copy(alloc)?;
+    checkpoints.push(copy)?;
+    Ok(())
+}
+
 /// A replay that goes on: the machine after the picks made so far, their trace, copies of the machine at the multiples
 /// of a distance, and the next multiple.
 #[derive(Drop)]
@@ -44,13 +74,14 @@ impl Replaying {
     /// Returns a replay of no picks, with the checkpoint before the first.
     pub fn new(alloc: Global, verified: &Verified, interval: u32) -> Result<Replaying, NoMemory>
         requires some { 0 < interval }
+        requires small { interval ≤ 10000000 }
         ensures replays { IfOk result (Replays verified.now) }
         ensures none { IfOk result (λ r. r.trace.entries ≡ []) }
         ensures interval { IfOk result (λ r. r.interval ≡ interval) }
     {
         let machine = Machine::new(alloc, verified)?;
         let mut checkpoints = Vec::new(alloc);
-        checkpoints.push(machine.copy(alloc)?)?;
+        keep(alloc, &mut checkpoints, interval, &machine, 0)?;
         Ok(Replaying {
             machine,
             trace: Trace::new(alloc),
@@ -113,6 +144,56 @@ impl Replaying {
         }
         Ok(())
     }
+
+    // Makes these picks in turn, the first of all.
+    fn make_each(
+        &mut self,
+        alloc: Global,
+        verified: &Verified,
+        picks: &[Pick],
+    ) -> Result<(), ReplayFault>
+        requires replays { Replays verified.now self.old }
+        requires none { self.old.trace.entries ≡ [] }
+        requires few { length picks.now ≤ 10000000 }
+        requires some { 0 < self.old.interval }
+        requires small { self.old.interval ≤ 10000000 }
+        ensures replays { OnOk result (Replays verified.now self.new) }
+        ensures picks { OnOk result (picks_of self.new.trace.entries ≡ picks.now) }
+        ensures interval { OnOk result (self.new.interval ≡ self.old.interval) }
+        ensures stopped { IfErr result (IsStopped verified.now.code picks.now) }
+    {
+        for i in 0..picks.len() {
+            let counted = CountedPick {
+                pick: picks[i],
+                count: 1,
+            };
+            self.make(alloc, verified, counted)?;
+        }
+        Ok(())
+    }
+
+    // Makes each of these picks as often as its count says, the first of all.
+    fn make_all(
+        &mut self,
+        alloc: Global,
+        verified: &Verified,
+        picks: &[CountedPick],
+    ) -> Result<(), ReplayFault>
+        requires replays { Replays verified.now self.old }
+        requires none { self.old.trace.entries ≡ [] }
+        requires few { length (spread picks.now) ≤ 10000000 }
+        requires some { 0 < self.old.interval }
+        requires small { self.old.interval ≤ 10000000 }
+        ensures replays { OnOk result (Replays verified.now self.new) }
+        ensures picks { OnOk result (picks_of self.new.trace.entries ≡ spread picks.now) }
+        ensures interval { OnOk result (self.new.interval ≡ self.old.interval) }
+        ensures stopped { IfErr result (IsStopped verified.now.code (spread picks.now)) }
+    {
+        for i in 0..picks.len() {
+            self.make(alloc, verified, picks[i])?;
+        }
+        Ok(())
+    }
 }
 
 /// Makes these picks in turn, as `replay` does, and keeps checkpoints on the way.
@@ -129,13 +210,7 @@ pub(crate) fn replay_picks(
 {
     let interval = interval_for(picks.len() as u32);
     let mut replaying = Replaying::new(alloc, verified, interval)?;
-    for i in 0..picks.len() {
-        let counted = CountedPick {
-            pick: picks[i],
-            count: 1,
-        };
-        replaying.make(alloc, verified, counted)?;
-    }
+    replaying.make_each(alloc, verified, picks)?;
     Ok(replaying)
 }
 
@@ -166,8 +241,6 @@ pub(crate) fn replay_counted_picks(
 {
     let interval = interval_for(count_all(picks));
     let mut replaying = Replaying::new(alloc, verified, interval)?;
-    for i in 0..picks.len() {
-        replaying.make(alloc, verified, picks[i])?;
-    }
+    replaying.make_all(alloc, verified, picks)?;
     Ok(replaying)
 }

@@ -1,6 +1,6 @@
 //! What a line of a session says.
 
-ghost use Rattle.std.specs.Prelude.{◌≡◌, option_map};
+ghost use Rattle.std.specs.Prelude.{◌≡◌, None, codes, cond, option_map};
 ghost use Rattle.std.specs.Str.{bytes_eq};
 ghost use Rattle.pb_debug.specs.Commands as spec;
 ghost use Rattle.pb_debug.specs.View.{command_view};
@@ -65,26 +65,16 @@ fn stop(word: &[u8]) -> Option<Command>
     Some(Command::Until(StopWord { process, arm, line }))
 }
 
-// Returns the command of a keyword and what it is about.
-#[tactic(auto, unfolding(crate::specs::Commands::keyed))]
-fn keyed<'t>(key: &[u8], word: &'t [u8]) -> Option<Command<'t>>
-    ensures { option_map command_view result ≡ spec.keyed key.now word.entry.now }
+// Returns the command of a keyword about an arm or a resource, and what it is about.
+fn keyed_arm<'t>(key: &[u8], word: &'t [u8]) -> Option<Command<'t>>
+    ensures { option_map command_view result ≡
+        cond (bytes_eq key.now (codes "line")) (option_map (λ p. spec.Line p.0 p.1) (spec.arm_of word.entry.now)) (
+        cond (bytes_eq key.now (codes "text")) (option_map (λ p. spec.Text p.0 p.1) (spec.arm_of word.entry.now)) (
+        cond (bytes_eq key.now (codes "why")) (option_map (λ p. spec.Why p.0 p.1) (spec.arm_of word.entry.now)) (
+        cond (bytes_eq key.now (codes "who")) (option_map spec.Who (spec.word_of word.entry.now)) (
+        cond (bytes_eq key.now (codes "pick")) (option_map (λ p. spec.Pick p.0 p.1) (spec.arm_of word.entry.now)) None)))) }
 {
-    if is(key, "to") {
-        Some(Command::To(number(word)?))
-    } else if is(key, "step") {
-        Some(Command::Step(number(word)?))
-    } else if is(key, "back") {
-        Some(Command::Back(number(word)?))
-    } else if is(key, "vars") {
-        Some(Command::Vars(name_word(word)?))
-    } else if is(key, "threads") {
-        Some(Command::Threads(name_word(word)?))
-    } else if is(key, "until") {
-        stop(word)
-    } else if is(key, "wrote") {
-        Some(Command::Wrote(integer_word(word)?))
-    } else if is(key, "line") {
+    if is(key, "line") {
         Some(Command::Line(arm_word(word)?))
     } else if is(key, "text") {
         Some(Command::Text(arm_word(word)?))
@@ -96,6 +86,48 @@ fn keyed<'t>(key: &[u8], word: &'t [u8]) -> Option<Command<'t>>
         Some(Command::Pick(arm_word(word)?))
     } else {
         None
+    }
+}
+
+// Returns the command of a keyword about what has a name, and what it is about.
+fn keyed_name<'t>(key: &[u8], word: &'t [u8]) -> Option<Command<'t>>
+    ensures { option_map command_view result ≡
+        cond (bytes_eq key.now (codes "vars")) (option_map spec.Vars (spec.word_of word.entry.now)) (
+        cond (bytes_eq key.now (codes "threads")) (option_map spec.Threads (spec.word_of word.entry.now)) (
+        cond (bytes_eq key.now (codes "until")) (spec.stop_of word.entry.now) (
+        cond (bytes_eq key.now (codes "wrote")) (option_map (λ p. spec.Wrote p.0 p.1) (spec.integer_of word.entry.now)) (
+        cond (bytes_eq key.now (codes "line")) (option_map (λ p. spec.Line p.0 p.1) (spec.arm_of word.entry.now)) (
+        cond (bytes_eq key.now (codes "text")) (option_map (λ p. spec.Text p.0 p.1) (spec.arm_of word.entry.now)) (
+        cond (bytes_eq key.now (codes "why")) (option_map (λ p. spec.Why p.0 p.1) (spec.arm_of word.entry.now)) (
+        cond (bytes_eq key.now (codes "who")) (option_map spec.Who (spec.word_of word.entry.now)) (
+        cond (bytes_eq key.now (codes "pick")) (option_map (λ p. spec.Pick p.0 p.1) (spec.arm_of word.entry.now)) None)))))))) }
+{
+    if is(key, "vars") {
+        Some(Command::Vars(name_word(word)?))
+    } else if is(key, "threads") {
+        Some(Command::Threads(name_word(word)?))
+    } else if is(key, "until") {
+        stop(word)
+    } else if is(key, "wrote") {
+        Some(Command::Wrote(integer_word(word)?))
+    } else {
+        keyed_arm(key, word)
+    }
+}
+
+// Returns the command of a keyword and what it is about.
+#[tactic(auto, unfolding(crate::specs::Commands::keyed))]
+fn keyed<'t>(key: &[u8], word: &'t [u8]) -> Option<Command<'t>>
+    ensures { option_map command_view result ≡ spec.keyed key.now word.entry.now }
+{
+    if is(key, "to") {
+        Some(Command::To(number(word)?))
+    } else if is(key, "step") {
+        Some(Command::Step(number(word)?))
+    } else if is(key, "back") {
+        Some(Command::Back(number(word)?))
+    } else {
+        keyed_name(key, word)
     }
 }
 

@@ -231,6 +231,23 @@ impl<'c> Debugger<'c> {
         Ok(first_in(&mut walker, self.verified, self.labels, &self.trace, watch))
     }
 
+    // Returns the number of the last pick from one position on and before another that does what is looked for.
+    fn last_between(&self, start: u32, end: u32, watch: Watch) -> Result<Option<u32>, NoMemory>
+        requires before { start ≤ end }
+        requires within { end ≤ length self.now.picks }
+        ensures { IfOk result (IsLast (Does self.now.verified.code self.now.labels self.now.picks watch) start end) }
+    {
+        let mut walker = self.walker_at(start)?;
+        Ok(last_in(
+            &mut walker,
+            self.verified,
+            self.labels,
+            &self.trace,
+            end,
+            watch,
+        ))
+    }
+
     /// Returns the number of the last pick before a position that does what is looked for.
     pub(crate) fn find_last(&self, past: u32, watch: Watch) -> Result<Option<u32>, NoMemory>
         requires { past ≤ length self.now.picks }
@@ -239,15 +256,7 @@ impl<'c> Debugger<'c> {
         let mut end = past;
         while 0 < end {
             let start = (end - 1) / self.interval * self.interval;
-            let mut walker = self.walker_at(start)?;
-            let last = last_in(
-                &mut walker,
-                self.verified,
-                self.labels,
-                &self.trace,
-                end,
-                watch,
-            );
+            let last = self.last_between(start, end, watch)?;
             if last.is_some() {
                 return Ok(last);
             }

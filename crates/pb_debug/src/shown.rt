@@ -9,6 +9,7 @@ ghost use Rattle.pb_machine.specs.Views.{proc_view};
 
 use crate::debugger::Debugger;
 use crate::fault::DebugFault;
+use crate::search::line_of_arm;
 use pb_banker::Banker;
 use pb_machine::Proc;
 
@@ -53,10 +54,6 @@ impl<'c> Debugger<'c> {
         if process.arms() <= arm {
             return Err(DebugFault::NoArm);
         }
-        let labels = &self.labels.processes[p];
-        match process.thread(arm).place() {
-            Some(place) => Ok(labels.lines[usize::from(place)]),
-            None => Ok(None),
-        }
+        Ok(line_of_arm(self.labels, &self.walker.machine, p, arm))
     }
 }

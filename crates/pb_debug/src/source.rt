@@ -4,7 +4,7 @@ ghost use Rattle.std.specs.Prelude.{◌≡◌, ◌++◌, OnOk, option_map};
 ghost use Rattle.pb_debug.specs.Lines as spec;
 ghost use Rattle.pb_debug.specs.Texts as said;
 
-use crate::text::{put, put_line, put_number};
+use crate::text::{end_name, put, put_line, put_number};
 use crate::words::find;
 use pb_base::NoMemory;
 
@@ -66,7 +66,5 @@ pub(crate) fn put_source(
         return put_no_text(text);
     };
     put_number(text, b"", number)?;
-    put(text, b"| ")?;
-    put(text, shown)?;
-    put(text, b"\n")
+    end_name(text, b"| ", shown)
 }

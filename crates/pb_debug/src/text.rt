@@ -37,12 +37,43 @@ pub(crate) fn put(text: &mut Vec<u8>, words: &[u8]) -> Result<(), NoMemory>
     Ok(())
 }
 
+// Puts words behind a text, and ends its line.
+fn end_words(text: &mut Vec<u8>, words: &[u8]) -> Result<(), NoMemory>
+    ensures { OnOk result (text.new.items ≡ text.old.items ++ said.line words.now) }
+{
+    put(text, words)?;
+    put(text, b"\n")
+}
+
+// Puts words and a number behind a text, and ends its line.
+fn end_number<I: Integer>(text: &mut Vec<u8>, words: &[u8], number: I) -> Result<(), NoMemory>
+    ensures { OnOk result (text.new.items ≡ text.old.items ++ said.line (words.now ++ I.text number)) }
+{
+    put_number(text, words, number)?;
+    put(text, b"\n")
+}
+
+/// Puts words and a name behind a text.
+pub(crate) fn put_name(text: &mut Vec<u8>, words: &[u8], name: &[u8]) -> Result<(), NoMemory>
+    ensures { OnOk result (text.new.items ≡ text.old.items ++ (words.now ++ name.now)) }
+{
+    put(text, words)?;
+    put(text, name)
+}
+
+/// Puts words and a name behind a text, and ends its line.
+pub(crate) fn end_name(text: &mut Vec<u8>, words: &[u8], name: &[u8]) -> Result<(), NoMemory>
+    ensures { OnOk result (text.new.items ≡ text.old.items ++ said.line (words.now ++ name.now)) }
+{
+    put_name(text, words, name)?;
+    put(text, b"\n")
+}
+
 /// Puts the line of a position behind a text.
 pub(crate) fn put_at(text: &mut Vec<u8>, position: u32) -> Result<(), NoMemory>
     ensures { OnOk result (text.new.items ≡ text.old.items ++ said.at_text position) }
 {
-    put_number(text, b"at ", position)?;
-    put(text, b"\n")
+    end_number(text, b"at ", position)
 }
 
 /// Puts the line of a position and of the event that led to it behind a text.
@@ -59,9 +90,7 @@ pub(crate) fn put_event(
 {
     let said = event_line(alloc, names, event)?;
     put_number(text, b"at ", position)?;
-    put(text, b" ")?;
-    put(text, &said)?;
-    put(text, b"\n")
+    end_name(text, b" ", &said)
 }
 
 /// Puts the line that says that there is no event behind a text.
@@ -96,10 +125,9 @@ pub(crate) fn put_wrote(
     put(text, b" ")?;
     put_pick(text, names, pick)?;
     match line {
-        Some(line) => put_number(text, b" line ", line)?,
-        None => put(text, b" line none")?,
+        Some(line) => end_number(text, b" line ", line),
+        None => end_words(text, b" line none"),
     }
-    put(text, b"\n")
 }
 
 /// Puts the line that says that nothing was written behind a text.
@@ -131,8 +159,7 @@ fn put_var(text: &mut Vec<u8>, name: &[u8], value: i64) -> Result<(), NoMemory>
     ensures { OnOk result (text.new.items ≡ text.old.items ++ said.var_text name.now value) }
 {
     put(text, name)?;
-    put_number(text, b" ", value)?;
-    put(text, b"\n")
+    end_number(text, b" ", value)
 }
 
 /// Puts the lines of integers with these names behind a text.
@@ -141,8 +168,8 @@ pub(crate) fn put_vars(text: &mut Vec<u8>, names: &[Vec<u8>], vars: &[i64]) -> R
     ensures { OnOk result (text.new.items
         ≡ text.old.items ++ said.vars_text (map (λ name. name.items) names.now) vars.now) }
 {
-    for (i, value) in vars.iter().enumerate() {
-        put_var(text, &names[i], *value)?;
+    for i in 0..vars.len() {
+        put_var(text, &names[i], vars[i])?;
     }
     Ok(())
 }
@@ -153,13 +180,12 @@ fn put_thread(text: &mut Vec<u8>, arm: usize, thread: &Thread) -> Result<(), NoM
 {
     put_number(text, b"", arm)?;
     match thread.place() {
-        Some(place) => put_number(text, b" at ", place)?,
+        Some(place) => end_number(text, b" at ", place),
         None => match thread.state() {
-            ThreadState::Ended => put(text, b" ended")?,
-            ThreadState::Idle | ThreadState::Live => put(text, b" idle")?,
+            ThreadState::Ended => end_words(text, b" ended"),
+            ThreadState::Idle | ThreadState::Live => end_words(text, b" idle"),
         },
     }
-    put(text, b"\n")
 }
 
 /// Puts the lines of the arms of a process behind a text.
@@ -191,10 +217,8 @@ pub(crate) fn put_loan(
 {
     put(text, &names.processes[p])?;
     put_number(text, b" holds ", banker.loan(p, r))?;
-    put(text, b" ")?;
-    put(text, &names.resources[r])?;
-    put_number(text, b" claim ", banker.claim(p, r))?;
-    put(text, b"\n")
+    put_name(text, b" ", &names.resources[r])?;
+    end_number(text, b" claim ", banker.claim(p, r))
 }
 
 // Puts the lines of the loans of a process behind a text.
@@ -226,9 +250,7 @@ pub(crate) fn put_cash(
     ensures { OnOk result (text.new.items ≡ text.old.items ++ said.cash_text (names_view names.now) amount r) }
 {
     put_number(text, b"cash ", amount)?;
-    put(text, b" ")?;
-    put(text, &names.resources[r])?;
-    put(text, b"\n")
+    end_name(text, b" ", &names.resources[r])
 }
 
 /// Puts the lines of all loans and of the cash behind a text.
@@ -251,10 +273,9 @@ pub(crate) fn put_line(text: &mut Vec<u8>, line: Option<u32>) -> Result<(), NoMe
     ensures { OnOk result (text.new.items ≡ text.old.items ++ said.line_text line) }
 {
     match line {
-        Some(line) => put_number(text, b"line ", line)?,
-        None => put(text, b"line none")?,
+        Some(line) => end_number(text, b"line ", line),
+        None => end_words(text, b"line none"),
     }
-    put(text, b"\n")
 }
 
 // Puts a word and the names of processes behind a text.
@@ -269,9 +290,8 @@ fn put_names(
         ≡ text.old.items ++ said.line (words.now ++ said.names_text (names_view names.now) processes.now)) }
 {
     put(text, words)?;
-    for p in processes {
-        put(text, b" ")?;
-        put(text, &names.processes[usize::from(*p)])?;
+    for k in 0..processes.len() {
+        put_name(text, b" ", &names.processes[usize::from(processes[k])])?;
     }
     put(text, b"\n")
 }

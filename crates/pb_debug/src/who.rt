@@ -11,7 +11,7 @@ ghost use Rattle.pb_debug.specs.Resources as said;
 ghost use Rattle.pb_debug.specs.Texts.{each_below};
 ghost use Rattle.pb_machine.specs.Views.{machine_view, proc_view, thread_view};
 
-use crate::text::{put, put_cash, put_loan, put_number};
+use crate::text::{end_name, put, put_cash, put_loan, put_number};
 use crate::why::asked;
 use pb_banker::Banker;
 use pb_base::{Bundle, Names, NoMemory, Pair};
@@ -71,9 +71,7 @@ fn put_asker(
     put(text, &names.processes[p])?;
     put_number(text, b".", arm)?;
     put_number(text, b" asks ", amount)?;
-    put(text, b" ")?;
-    put(text, &names.resources[r])?;
-    put(text, b"\n")
+    end_name(text, b" ", &names.resources[r])
 }
 
 // Puts the lines of the arms of a process that ask for a resource behind a text.

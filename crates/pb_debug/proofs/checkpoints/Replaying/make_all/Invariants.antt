@@ -2,11 +2,11 @@ use Rattle.std.proofs.Common.{◌≡◌, take}
 use Rattle.pb_history.specs.Entries.{picks_of}
 use Rattle.pb_history.specs.Replays.{spread}
 use Rattle.pb_debug.specs.Walks.{Replays}
-use Rattle.pb_debug.proofs.checkpoints.replay_counted_picks.Given as goal
+use Rattle.pb_debug.proofs.checkpoints.Replaying.make_all.Given as goal
 
 abbrev pub invariant-loop-i : goal.invariant-loop-i
 invariant-loop-i l = record {
-  replays : Replays l.verified l.replaying;
-  picks : picks_of l.replaying.trace.entries ≡ spread (take l.i l.picks);
-  interval : l.replaying.interval ≡ l.interval;
+  replays : Replays l.verified l.self;
+  picks : picks_of l.self.trace.entries ≡ spread (take l.i l.picks);
+  interval : l.self.interval ≡ l.initial.self.interval;
 }

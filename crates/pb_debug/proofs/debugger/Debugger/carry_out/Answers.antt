@@ -1,0 +1,72 @@
+use Rattle.std.proofs.Common.{refl, sym, subst, ap}
+use Rattle.pb_debug.specs.Answers.{AnswersCommand}
+use Rattle.pb_debug.specs.Commands.{Command}
+use Rattle.pb_debug.specs.View.{command_view}
+use Rattle.pb_debug.proofs.Saying.{on_ok}
+use Rattle.pb_debug.proofs.debugger.Debugger.carry_out.Goals as goal
+
+pub returns-in-Vars-clause-answer : goal.returns-in-Vars-clause-answer
+returns-in-Vars-clause-answer c =
+    let d = c.args.self.now in
+    on_ok c.say_vars.result _ _ c.say_vars.ensures
+    (λ s. (s.0, subst (λ (k : Command). AnswersCommand d k s.0 d) (sym (ap command_view c.in-Vars.is)) (s.1, refl), s.2))
+
+pub returns-in-Wrote-clause-answer : goal.returns-in-Wrote-clause-answer
+returns-in-Wrote-clause-answer c =
+    let d = c.args.self.now in
+    on_ok c.say_wrote.result _ _ c.say_wrote.ensures
+    (λ s. (s.0, subst (λ (k : Command). AnswersCommand d k s.0 d) (sym (ap command_view c.in-Wrote.is)) (s.1, refl), s.2))
+
+pub returns-in-Threads-clause-answer : goal.returns-in-Threads-clause-answer
+returns-in-Threads-clause-answer c =
+    let d = c.args.self.now in
+    on_ok c.say_threads.result _ _ c.say_threads.ensures
+    (λ s. (s.0, subst (λ (k : Command). AnswersCommand d k s.0 d) (sym (ap command_view c.in-Threads.is)) (s.1, refl), s.2))
+
+pub returns-in-Line-clause-answer : goal.returns-in-Line-clause-answer
+returns-in-Line-clause-answer c =
+    let d = c.args.self.now in
+    on_ok c.say_line.result _ _ c.say_line.ensures
+    (λ s. (s.0, subst (λ (k : Command). AnswersCommand d k s.0 d) (sym (ap command_view c.in-Line.is)) (s.1, refl), s.2))
+
+pub returns-in-Text-clause-answer : goal.returns-in-Text-clause-answer
+returns-in-Text-clause-answer c =
+    let d = c.args.self.now in
+    on_ok c.say_text.result _ _ c.say_text.ensures
+    (λ s. (s.0, subst (λ (k : Command). AnswersCommand d k s.0 d) (sym (ap command_view c.in-Text.is)) (s.1, refl), s.2))
+
+pub returns-in-Why-clause-answer : goal.returns-in-Why-clause-answer
+returns-in-Why-clause-answer c =
+    let d = c.args.self.now in
+    on_ok c.say_why.result _ _ c.say_why.ensures
+    (λ s. (s.0, subst (λ (k : Command). AnswersCommand d k s.0 d) (sym (ap command_view c.in-Why.is)) (s.1, refl), s.2))
+
+pub returns-in-Who-clause-answer : goal.returns-in-Who-clause-answer
+returns-in-Who-clause-answer c =
+    let d = c.args.self.now in
+    on_ok c.say_who.result _ _ c.say_who.ensures
+    (λ s. (s.0, subst (λ (k : Command). AnswersCommand d k s.0 d) (sym (ap command_view c.in-Who.is)) (s.1, refl), s.2))
+
+pub returns-in-Until-clause-answer : goal.returns-in-Until-clause-answer
+returns-in-Until-clause-answer c =
+    let d = c.args.self.now in
+    on_ok c.say_until.result _ _ c.say_until.ensures.said
+    (λ s. (s.0, subst (λ (k : Command). AnswersCommand d k s.0 c.say_until.new.self) (sym (ap command_view c.in-Until.is)) s.1, s.2))
+
+pub returns-in-Next-clause-answer : goal.returns-in-Next-clause-answer
+returns-in-Next-clause-answer c =
+    let d = c.args.self.now in
+    on_ok c.say_next.result _ _ c.say_next.ensures.said
+    (λ s. (s.0, subst (λ (k : Command). AnswersCommand d k s.0 c.say_next.new.self) (sym (ap command_view c.in-Next.is)) s.1, s.2))
+
+pub returns-in-Prev-clause-answer : goal.returns-in-Prev-clause-answer
+returns-in-Prev-clause-answer c =
+    let d = c.args.self.now in
+    on_ok c.say_prev.result _ _ c.say_prev.ensures.said
+    (λ s. (s.0, subst (λ (k : Command). AnswersCommand d k s.0 c.say_prev.new.self) (sym (ap command_view c.in-Prev.is)) s.1, s.2))
+
+pub returns-in-Pick-clause-answer : goal.returns-in-Pick-clause-answer
+returns-in-Pick-clause-answer c =
+    let d = c.args.self.now in
+    on_ok c.say_pick.result _ _ c.say_pick.ensures.said
+    (λ s. (s.0, subst (λ (k : Command). AnswersCommand d k s.0 c.say_pick.new.self) (sym (ap command_view c.in-Pick.is)) s.1, s.2))

@@ -1,0 +1,15 @@
+use Rattle.std.proofs.Common.{ℕ, subst}
+use Rattle.pb_code.specs.View.{labels_view}
+use Rattle.pb_history.specs.Entries.{picks_of}
+use Rattle.pb_debug.specs.Searches.{Does, IsLast}
+use Rattle.pb_debug.specs.Value.{Debugging}
+use Rattle.pb_debug.proofs.debugger.Debugger.last_between.Goals as goal
+
+pub returns : goal.returns
+returns c =
+    let i = c.self.inside in
+    let end = c.args.end in
+    let found = c.last_in.result in
+    let does : ℕ → Type 0 = Does i.verified.now.code (labels_view i.labels.now) (picks_of i.trace.entries) c.args.watch in
+    let last = subst (λ (n : ℕ). IsLast does n end found) c.in_ok-walker.ensures.at c.last_in.ensures in
+    subst (λ (d : Debugging). IsLast (Does d.verified.code d.labels d.picks c.args.watch) c.args.start end found) c.self.view_is last
