@@ -1,5 +1,5 @@
 -- What a contract says of a device that gives or takes bytes.
-use Rattle.std.specs.Prelude.{◌≡◌, ◌+◌, ◌++◌, ℕ, zero, suc, List, Option, Some, None, take, drop}
+use Rattle.std.specs.Prelude.{◌≡◌, ◌≤◌, ◌+◌, ◌++◌, ℕ, zero, suc, List, Option, Some, None, length, take, drop}
 use Rattle.std.specs.Prelude.{option_map, IfSome, if◌then◌else◌, nat_lt}
 
 -- the bytes that a device holds after more were added, if they are known
@@ -22,6 +22,11 @@ GivesNext rest buf n = IfSome rest (λ bytes. take n bytes ≡ take n buf)
 abbrev pub AddsPrefix : Option (List ℕ) → Option (List ℕ) → List ℕ → Type 0
 AddsPrefix old new bytes =
     (done : List ℕ) × (left : List ℕ) × (bytes ≡ done ++ left) × (new ≡ appended old done)
+
+-- what was to come is some first part, of at most `most` bytes, and then what is still to come
+abbrev pub LeavesRest : Option (List ℕ) → Option (List ℕ) → ℕ → Type 0
+LeavesRest old new most =
+    (read : List ℕ) × (length read ≤ most) × (old ≡ option_map (λ left. read ++ left) new)
 
 -- an output over memory: the bytes that it was given, its whole room, and its failures
 pub record Memory : Type 0 where

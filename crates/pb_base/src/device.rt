@@ -1,8 +1,8 @@
 //! Where bytes come from and where they go.
 
 ghost use Rattle.std.specs.Prelude.{◌≡◌, ◌≢◌, ◌≤◌, ◌<◌, ℕ, List, [], Option, take, length, ◌⊎◌};
-ghost use Rattle.std.specs.Prelude.{IfErr, IfOk, IfSome, OnOk, OnErr, ◌^◌};
-ghost use Rattle.pb_base.specs.Device.{appended, dropped, one_more_failure, AddsPrefix, GivesNext};
+ghost use Rattle.std.specs.Prelude.{IfErr, IfOk, IfSome, OnOk, OnErr, ◌+◌, ◌^◌};
+ghost use Rattle.pb_base.specs.Device.{appended, dropped, one_more_failure, AddsPrefix, GivesNext, LeavesRest};
 
 pub mod faulty;
 pub mod memory;
@@ -86,8 +86,8 @@ pub enum ReadFault {
     Memory,
 }
 
-/// Reads all that is left of the input, up to `limit` bytes. After an error the bytes that were read are
-/// lost, and the input goes on behind them.
+/// Reads all that is left of the input, up to `limit` bytes. After an error the bytes that were read, at most
+/// `limit` and a block of 4,096, are lost, and the input goes on behind them.
 pub fn read_whole<I: Input>(
     alloc: Global,
     input: &mut I,
@@ -104,6 +104,7 @@ pub fn read_whole<I: Input>(
     // A read that fails is told as nothing else.
     ensures no_fault { IfErr result (λ e. e ≢ ReadFault.Device →
         I.failures input.new ≡ I.failures input.old) }
+    ensures left { OnErr result (LeavesRest (I.rest input.old) (I.rest input.new) (limit + 4096)) }
 {
     let mut bytes = Vec::new(alloc);
     let mut block = [0; 4096];

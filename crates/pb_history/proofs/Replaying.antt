@@ -97,6 +97,13 @@ length_on before entries pick done picks =
     let e = length-map before (λ (e : Entry). e.pick) in
     omega (arith, a, b, c, d, e)
 
+pub length_run : (entries : List Entry) (pick : Pick) (n : ℕ) → length (entries ++ run_of pick n None) ≡ length entries + n
+length_run entries pick n =
+    let a = length-append entries (run_of pick n None) in
+    let b : length (silent_picks pick n ++ []) ≡ length (silent_picks pick n) = ap (λ (es : List Entry). length es) (append-nil (silent_picks pick n)) in
+    let c : length (silent_picks pick n) ≡ n = length-replicate n (record { pick = pick; event = None }) in
+    omega (arith, a, b, c)
+
 -- the pick after those made and `n` silent ones is not enabled
 pub stops_here : (code : Code) (before entries : List Entry) (pick : Pick) (count done n : ℕ) (here end : State CodeProcess)
     → picks_of entries ≡ picks_of before ++ replicate done pick → Leads code (code_opening code) entries here → Leads code here (silent_picks pick n) end
@@ -140,7 +147,7 @@ pub ends_run : (code : Code) (between after : State CodeProcess) (pick : Pick) (
     → IsStep code between pick step after → EndsRun code between pick max made step after
 ends_run code between after pick max made answer.Silent other lt h = absurd (other refl)
 ends_run code between after pick max made (answer.Did event) other lt h = (lt, h)
-ends_run code between after pick max made answer.NotEnabled other lt h = (lt, h.0)
+ends_run code between after pick max made answer.NotEnabled other lt h = (lt, h.0, h.1)
 
 -- what leads on after a run of silent picks
 module _ (code : Code) (here after : State CodeProcess) (entries : List Entry) (pick : Pick) (max made : ℕ) (step : Step)
@@ -165,8 +172,16 @@ module _ (code : Code) (here after : State CodeProcess) (entries : List Entry) (
         ends.0,
       )
 
-  pub stopped_run : step ≡ answer.NotEnabled → (made < max) × CodeStays code run.between pick
+  pub stopped_run : step ≡ answer.NotEnabled → (made < max) × CodeStays code run.between pick × (after ≡ run.between)
   stopped_run is = subst (λ (x : Step). EndsRun code run.between pick max made x after) is run.ends
+
+  -- the silent picks lead to a state at which the next one is not enabled
+  pub halted_run : step ≡ answer.NotEnabled → Leads code (code_opening code) (entries ++ run_of pick made None) after
+  halted_run is =
+      let on : Leads code here (silent_picks pick made ++ []) run.between =
+      subst (λ (es : List Entry). Leads code here es run.between) (sym (append-nil (silent_picks pick made))) run.leads in
+      leads_append code (code_opening code) here after entries (run_of pick made None) to_here
+      (subst (Leads code here (run_of pick made None)) (sym (stopped_run is).2) on)
 
 -- ---- counted picks
 

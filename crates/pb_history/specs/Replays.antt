@@ -1,5 +1,5 @@
 -- Picks made once more, from the start.
-use Rattle.std.specs.Prelude.{◌≡◌, ℕ, ◌<◌, List, [], ◌∷◌, ◌++◌, replicate, take, Some, slice_get, ⊤}
+use Rattle.std.specs.Prelude.{◌≡◌, ℕ, ◌<◌, ◌≤◌, List, [], ◌∷◌, ◌++◌, replicate, take, Some, slice_get, ⊤}
 use Rattle.pb_base.specs.declared.pick.Pick.{Pick}
 use Rattle.pb_base.specs.declared.step.Step.{Step}
 use Rattle.pb_base.specs.declared.step.Step.TheVariants as step
@@ -37,13 +37,20 @@ abbrev pub IsStopped : Code → List Pick → ReplayFault → Type 0
 IsStopped code picks (NotEnabled i) = StopsAt code picks i
 IsStopped code picks NoMemory = ⊤
 
+-- behind the entries there were, a pick was made at most as often as its count says, and all of them lead to this state
+pub record MakesSome (code : Code) (before after : List Entry) (counted : CountedPick) (end : State CodeProcess) : Type 0 where
+  pub done : ℕ
+  pub few : done ≤ counted.count
+  pub picks : picks_of after ≡ picks_of before ++ replicate done counted.pick
+  pub leads : Leads code (code_opening code) after end
+
 -- ---- picks of one arm up to the first that is not silent
 
 -- what the pick after the silent ones came to; none was made if those are all
 abbrev pub EndsRun : Code → State CodeProcess → Pick → (max made : ℕ) → Step → State CodeProcess → Type 0
 EndsRun code between pick max made step.Silent after = (made ≡ max) × (after ≡ between)
 EndsRun code between pick max made (step.Did event) after = (made < max) × CodeMoves code between pick (Some event) after
-EndsRun code between pick max made step.NotEnabled after = (made < max) × CodeStays code between pick
+EndsRun code between pick max made step.NotEnabled after = (made < max) × CodeStays code between pick × (after ≡ between)
 
 -- the silent picks that were made, and what came after them
 pub record IsRun (code : Code) (before : State CodeProcess) (pick : Pick) (max made : ℕ) (step : Step) (after : State CodeProcess) : Type 0 where

@@ -1,10 +1,10 @@
 //! Picks made once more, from the start.
 
-ghost use Rattle.std.specs.Prelude.{◌≡◌, ◌+◌, ◌≤◌, ◌++◌, length, replicate, IfOk, IfErr, OnOk};
+ghost use Rattle.std.specs.Prelude.{◌≡◌, ◌+◌, ◌≤◌, ◌++◌, length, replicate, IfOk, IfErr, OnErr, OnOk};
 ghost use Rattle.pb_code.specs.Whole.{code_opening};
 ghost use Rattle.pb_history.specs.Entries.{picks_of};
 ghost use Rattle.pb_history.specs.Leads.{Leads};
-ghost use Rattle.pb_history.specs.Replays.{IsReplay, IsRun, IsStopped, spread};
+ghost use Rattle.pb_history.specs.Replays.{IsReplay, IsRun, IsStopped, MakesSome, spread};
 ghost use Rattle.pb_machine.specs.Views.{machine_view, IsMachineOf};
 
 use crate::counted::CountedPick;
@@ -63,8 +63,8 @@ pub fn replay_counted(
 }
 
 /// Makes a pick as often as its count says, after those of the trace, which have led the machine to its state. The
-/// fault is the first pick that is not enabled, counted with those of the trace, or out of memory; some of the picks
-/// may then have been made.
+/// fault is the first pick that is not enabled, counted with those of the trace, or out of memory: then the picks
+/// before it, or some of them, have been made, and the trace has just those that were.
 pub fn repeat(
     verified: &Verified,
     machine: &mut Machine,
@@ -82,12 +82,15 @@ pub fn repeat(
     ensures machine { OnOk result (IsMachineOf verified.now machine.new) }
     ensures stopped { IfErr result (IsStopped verified.now.code
         (picks_of trace.old.entries ++ replicate counted.count counted.pick)) }
+    ensures some { OnErr result (MakesSome verified.now.code trace.old.entries trace.new.entries counted
+        (machine_view machine.new)) }
+    ensures still { OnErr result (IsMachineOf verified.now machine.new) }
 {
     let pick = counted.pick;
     let mut left = counted.count;
     while left > 0 {
-        let (silent, step) = run(verified, machine, pick, left);
         trace.reserve(1)?;
+        let (silent, step) = run(verified, machine, pick, left);
         match step {
             Step::Silent => {
                 trace.push_run(pick, silent, None);
@@ -97,7 +100,10 @@ pub fn repeat(
                 trace.push_run(pick, silent, Some(event));
                 left -= silent + 1;
             }
-            Step::NotEnabled => return Err(ReplayFault::NotEnabled(trace.len() + silent)),
+            Step::NotEnabled => {
+                trace.push_run(pick, silent, None);
+                return Err(ReplayFault::NotEnabled(trace.len()));
+            }
         }
     }
     Ok(())
