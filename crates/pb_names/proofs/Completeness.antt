@@ -1,7 +1,9 @@
 -- Pairs of the holds in lists of statements and arms, one element at a time.
 use Rattle.std.proofs.Common.{◌≡◌, ℕ, zero, suc, ◌+◌, ◌<◌, List, [], ◌∷◌, Vec, map, length, take, get_or, arith, add-one}
-use Rattle.std.proofs.Common.{subst, sym}
-use Rattle.std.specs.Prelude.{All, slice_get, Some}
+use Rattle.std.proofs.Common.{subst, sym, ◌∙◌, Bool, true, false}
+use Rattle.std.specs.Bool.{◌==◌}
+use Rattle.std.specs.Prelude.{◌≤◌, All, slice_get, Some}
+use Rattle.std.proofs.lemmas.Bool.{eqb-true}
 use Rattle.std.proofs.lemmas.List.{map_more}
 use Rattle.std.proofs.lemmas.List.Elements.{All-push}
 use Rattle.std.proofs.lemmas.Option.{slice_get_within, get_or_from_slice_get}
@@ -10,6 +12,17 @@ use Rattle.pb_tree.specs.View.{stmt_view, stmts_view, arm_view, arms_view, proce
 use Rattle.pb_tree.specs.declared.program.Process.{Process}
 use Rattle.pb_tree.specs.declared.stmt.Stmt.{Stmt}
 use Rattle.pb_names.specs.Ready.{IsCompleteStmt, AreComplete, AreCompleteArms}
+
+-- ---- whether there is a pair or an arm
+
+pub some_there : (n : ℕ) (empty : Bool) → empty ≡ (n == 0) → empty ≡ false → 1 ≤ n
+some_there zero empty is full = absurd (cc)
+some_there (suc n) empty is full = omega arith
+
+pub none_there : (n : ℕ) (empty : Bool) → empty ≡ (n == 0) → empty ≡ true → n ≡ 0
+none_there n empty is none = eqb-true n 0 (sym is ∙ none)
+
+-- ---- statements
 
 stmt_or : {A : Type 0} (ss : List (Stmt A)) (i : ℕ) (d : Stmt A) → i < length ss
     → AreComplete (stmts_view ss) → IsCompleteStmt (stmt_view (get_or ss i d))

@@ -406,6 +406,13 @@ fn number_arms<A: Allocator + Clone>(
     Ok(list)
 }
 
+/// Returns the text of a name.
+fn copy_text<A: Allocator + Clone>(alloc: &A, name: &Name<A>) -> Result<Vec<u8, A>, NoMemory>
+    ensures { IfOk result (λ copy. copy.items ≡ name.now.text.items) }
+{
+    Ok(Vec::from_slice(alloc.clone()?, &name.text)?)
+}
+
 /// Returns the texts of names.
 fn copy_texts<A: Allocator + Clone>(
     alloc: &A,
@@ -415,7 +422,7 @@ fn copy_texts<A: Allocator + Clone>(
 {
     let mut copies = Vec::with_capacity(alloc.clone()?, names.len())?;
     for name in names {
-        copies.push(Vec::from_slice(alloc.clone()?, &name.text)?)?;
+        copies.push(copy_text(alloc, name)?)?;
     }
     Ok(copies)
 }
@@ -435,7 +442,7 @@ fn number_process<A: Allocator + Clone>(
     ensures { IfOk result
         (λ p. ResolvesProcess (names_in resources.now) (process_view process.now) (process_of p)) }
 {
-    let name = Vec::from_slice(alloc.clone()?, &process.name.text)?;
+    let name = copy_text(alloc, &process.name)?;
     let integers = copy_texts(alloc, &process.integers)?;
     let names = Declared::integers(alloc, &process.integers)?;
     let mut next = 1;
@@ -476,7 +483,7 @@ fn number_resource<A: Allocator + Clone>(
     ensures { IfOk result (λ r. ResolvesResource (resource_view resource.now) (resource_of r)) }
 {
     Ok(Resource {
-        name: Vec::from_slice(alloc.clone()?, &resource.name.text)?,
+        name: copy_text(alloc, &resource.name)?,
         capital: amount_of(0, resource.capital),
     })
 }
