@@ -1,11 +1,10 @@
-use Rattle.std.proofs.Common.{◌≤◌, arith, rules, ap, ◌∙◌, map, length, refl}
+use Rattle.std.proofs.Common.{arith, rules, ap, sym, ◌∙◌, refl}
 use Rattle.std.proofs.lemmas.List.{take_all, length-map}
 use Rattle.pb_tree.proofs.Smaller.{stmt_within, arm_within, arms_within}
-use Rattle.pb_tree.specs.View.{demand_view, stmt_view, arms_view}
-use Rattle.pb_names.specs.Limits.{width}
+use Rattle.pb_tree.specs.View.{demand_view, stmt_view}
 use Rattle.pb_names.proofs.Forks.{width-view}
 use Rattle.pb_tree.proofs.Views.{view-If, view-While, view-Hold, view-Parbegin}
-use Rattle.pb_names.proofs.Completeness.{some_there, none_there, pairs_at, pairs_more, arm_pairs_at, arm_pairs_more}
+use Rattle.pb_names.proofs.Completeness.{some_inside, none_inside, first_not, pairs_at, pairs_more, arm_pairs_at, arm_pairs_more}
 use Rattle.pb_names.proofs.complete.+complete.Goals as goal
 
 pub are_complete-returns-then-not-is_complete_stmt : goal.are_complete-returns-then-not-is_complete_stmt
@@ -52,17 +51,15 @@ is_complete_stmt-are_complete_arms-requires g t c κs within =
 pub is_complete_stmt-returns-then-not-is_empty-2 : goal.is_complete_stmt-returns-then-not-is_empty-2
 is_complete_stmt-returns-then-not-is_empty-2 g t c =
     let a = c.in-Parbegin in
-    let there = some_there _ _ c.is_empty-in-Parbegin.ensures c.if-not-is_empty-2.true in
-    let some : 1 ≤ width (arms_view a.arms.items) = omega (arith, there, width-view a.arms.items) in
     rw (ap stmt_view a.is ∙ view-Parbegin a.line a.arms)
-    (λ yes. (some, c.are_complete_arms.ensures.0 yes), λ whole. c.are_complete_arms.ensures.1 whole.1)
+    (some_inside _ _ _ _ c.is_empty-in-Parbegin.ensures c.if-not-is_empty-2.true (width-view a.arms.items ∙ sym a.arms.ok.0)
+    c.are_complete_arms.ensures)
 
 pub is_complete_stmt-returns-else-not-is_empty-2 : goal.is_complete_stmt-returns-else-not-is_empty-2
 is_complete_stmt-returns-else-not-is_empty-2 g t c =
     let a = c.in-Parbegin in
-    let none = none_there _ _ c.is_empty-in-Parbegin.ensures c.if-not-is_empty-2.false in
     rw (ap stmt_view a.is ∙ view-Parbegin a.line a.arms)
-    (λ never. absurd (cc), λ whole. absurd (omega (arith, none, whole.0, width-view a.arms.items)))
+    (none_inside _ _ _ c.is_empty-in-Parbegin.ensures c.if-not-is_empty-2.false (width-view a.arms.items ∙ sym a.arms.ok.0))
 
 pub are_complete-returns : goal.are_complete-returns
 are_complete-returns g t c = (
@@ -91,7 +88,7 @@ pub is_complete_stmt-returns-else-are_complete : goal.is_complete_stmt-returns-e
 is_complete_stmt-returns-else-are_complete g t c =
     let a = c.in-If in
     rw (ap stmt_view a.is ∙ view-If a.line a.test a.on_true a.on_false)
-    (λ yes. absurd (cc), λ whole. c.are_complete.ensures.1 whole.0)
+    (first_not _ c.if-are_complete.false c.are_complete.ensures)
 
 pub is_complete_stmt-returns-in-While : goal.is_complete_stmt-returns-in-While
 is_complete_stmt-returns-in-While g t c =
@@ -101,16 +98,12 @@ is_complete_stmt-returns-in-While g t c =
 pub is_complete_stmt-returns-then-not-is_empty : goal.is_complete_stmt-returns-then-not-is_empty
 is_complete_stmt-returns-then-not-is_empty g t c =
     let a = c.in-Hold in
-    let there = some_there _ _ c.is_empty.ensures c.if-not-is_empty.true in
-    let some : 1 ≤ length (map demand_view a.demands.items) =
-    omega (arith, there, length-map a.demands.items demand_view) in
-    let body = c.are_complete-then-not-is_empty.ensures in
     rw (ap stmt_view a.is ∙ view-Hold a.line a.demands a.body)
-    (λ yes. (some, body.0 yes), λ whole. body.1 whole.1)
+    (some_inside _ _ _ _ c.is_empty.ensures c.if-not-is_empty.true
+    (length-map a.demands.items demand_view ∙ sym a.demands.ok.0) c.are_complete-then-not-is_empty.ensures)
 
 pub is_complete_stmt-returns-else-not-is_empty : goal.is_complete_stmt-returns-else-not-is_empty
 is_complete_stmt-returns-else-not-is_empty g t c =
     let a = c.in-Hold in
-    let none = none_there _ _ c.is_empty.ensures c.if-not-is_empty.false in
     rw (ap stmt_view a.is ∙ view-Hold a.line a.demands a.body)
-    (λ never. absurd (cc), λ whole. absurd (omega (arith, none, whole.0, length-map a.demands.items demand_view)))
+    (none_inside _ _ _ c.is_empty.ensures c.if-not-is_empty.false (length-map a.demands.items demand_view ∙ sym a.demands.ok.0))
