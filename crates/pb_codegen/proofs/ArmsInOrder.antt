@@ -1,8 +1,10 @@
 -- The arms of a process as they are written one after another.
 use Rattle.std.proofs.Common.{◌≡◌, ℕ, zero, suc, ◌+◌, ◌<◌, ◌≤◌, List, [], ◌∷◌, ◌++◌, length, map, take}
-use Rattle.std.proofs.Common.{get_or, None, arith, ap, sym, refl, ◌∙◌, append_assoc, length-append, All}
+use Rattle.std.proofs.Common.{get_or, None, arith, ap, subst, sym, refl, ◌∙◌, append_assoc, length-append, All}
 use Rattle.std.proofs.lemmas.List.{append-nil, map_more}
 use Rattle.std.proofs.lemmas.List.Elements.{All-nil, All-cons, All-append, All-weaker}
+use Rattle.pb_code.specs.Bundles.{NamesBelow}
+use Rattle.pb_code.specs.View.{instr_view}
 use Rattle.pb_codegen.specs.Emitted.{seen, place, IsSound, HasRoom, Adds}
 use Rattle.pb_codegen.specs.Generate.{arm_code, arms_code, arms_entries}
 use Rattle.pb_codegen.specs.Lines.{block_lines, arms_lines}
@@ -66,6 +68,19 @@ pub record HasWritten (w : Writer) (entries : List ℕ) (arms : List Block) : Ty
   pub lined : w.lines.items ≡ arms_lines arms
   pub begun : entries ≡ arms_entries 0 arms
   pub sound : IsSound w
+
+pub wrote_none : (w : Writer) (entries : List ℕ) → w.instrs.items ≡ [] → w.lines.items ≡ [] → w.bundles.items ≡ []
+    → entries ≡ [] → HasWritten w entries []
+wrote_none w entries instrs lines bundles begun = record {
+  coded = ap (map (instr_view w.bundles.items)) instrs;
+  lined = lines;
+  begun = begun;
+  sound = record {
+    named =
+        subst (All (NamesBelow (length w.bundles.items))) (sym instrs) (All-nil (NamesBelow (length w.bundles.items)));
+    few = omega (arith, ap length bundles);
+  };
+}
 
 pub written-place : {w : Writer} {entries : List ℕ} {arms : List Block} → HasWritten w entries arms
     → place w ≡ length (arms_code 0 arms)

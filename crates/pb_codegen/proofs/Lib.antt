@@ -43,6 +43,7 @@ pub mod Peaks
 pub mod Placing
 pub mod Processes
 pub mod Reading
+pub mod Rooms
 pub mod Runs
 pub mod Safe
 pub mod Shapes

@@ -3,14 +3,15 @@ use Rattle.std.proofs.Common.{◌≡◌, ℕ, suc, ◌+◌, List, [], ◌∷◌,
 use Rattle.std.proofs.Common.{ap, refl, ◌∙◌, append_assoc, length-append}
 use Rattle.std.proofs.lemmas.List.{replicate-append-replicate}
 use Rattle.pb_base.specs.declared.operators.BinaryOp.{BinaryOp}
+use Rattle.pb_base.specs.declared.operators.UnaryOp.{UnaryOp}
 use Rattle.pb_base.specs.Steppers.{Bundle}
-use Rattle.pb_code.specs.Code.{Instr, Compute2, Jump, JumpIfZero, Take, Give, Fork, Join}
+use Rattle.pb_code.specs.Code.{Instr, Compute1, Compute2, Jump, JumpIfZero, Take, Give, Fork, Join}
 use Rattle.pb_codegen.specs.Emitted.{place, Adds, Replaces}
 use Rattle.pb_codegen.specs.Generate.{expr_code, stmt_code, block_code}
 use Rattle.pb_codegen.specs.Lines.{stmt_lines, block_lines}
 use Rattle.pb_codegen.specs.declared.writer.Writer.{Writer}
 use Rattle.pb_codegen.proofs.Emitting.{adds_then, adds_as, adds-place, place-replaced, replaced}
-use Rattle.pb_names.specs.Program.{Expr, Binary, If, While, HoldDo, Parbegin, Block, Arms, count}
+use Rattle.pb_names.specs.Program.{Expr, Unary, Binary, If, While, HoldDo, Parbegin, Block, Arms, count}
 
 -- ---- expressions
 
@@ -24,6 +25,14 @@ pub adds_last : {a b c : Writer} (line : ℕ) (e : Expr) (i : Instr)
     → Adds a b (expr_code e) (replicate (length (expr_code e)) (Some line)) → Adds b c (i ∷ []) (Some line ∷ [])
     → Adds a c (expr_code e ++ i ∷ []) (replicate (suc (length (expr_code e))) (Some line))
 adds_last line e i h k = adds_as (adds_then h k) refl (one_more (length (expr_code e)) line)
+
+pub adds_unary : {a b c : Writer} (line : ℕ) (op : UnaryOp) (e : Expr) (i : Instr) → i ≡ Compute1 op
+    → Adds a b (expr_code e) (replicate (length (expr_code e)) (Some line)) → Adds b c (i ∷ []) (Some line ∷ [])
+    → Adds a c (expr_code (Unary op e)) (replicate (length (expr_code (Unary op e))) (Some line))
+adds_unary line op e i is h k =
+    let all : suc (length (expr_code e)) ≡ length (expr_code (Unary op e)) =
+    omega (arith, length-append (expr_code e) (Compute1 op ∷ [])) in
+    adds_as (adds_last line e i h k) (ap (λ j. expr_code e ++ j ∷ []) is) (ap (λ (n : ℕ). replicate n (Some line)) all)
 
 pub adds_binary : {a b c d : Writer} (line : ℕ) (op : BinaryOp) (e f : Expr) (i : Instr) → i ≡ Compute2 op
     → Adds a b (expr_code e) (replicate (length (expr_code e)) (Some line))

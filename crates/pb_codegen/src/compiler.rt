@@ -49,10 +49,10 @@ pub fn analyze<A: Allocator + Clone>(
     Ok(Analysis { program, claims })
 }
 
-/// Compiles a text. Its trees lie in the memory of `trees` until this returns.
+/// Compiles a text. Its trees lie in the memory of `trees`, and none of them is left when this returns.
 ///
-/// A text is refused as by `analyze`, which makes the first four lines of this, and then for the first claim
-/// over its capital. An error leaves nothing behind.
+/// A text is refused as by `analyze`, which is the first step of this, and then for the first claim over its
+/// capital. An error leaves nothing behind.
 pub fn compile<A: Allocator + Clone>(
     alloc: Global,
     trees: A,
@@ -61,10 +61,7 @@ pub fn compile<A: Allocator + Clone>(
     ensures compiled { IfOk result (λ c. IsCompiled text.now c.verified.code c.labels) }
     ensures refused { IfErr result (λ fault. IsRefused text.now fault) }
 {
-    let tokens = lex(alloc, text)?;
-    let tree = parse(trees.clone()?, tokens.as_slice())?;
-    let program = resolve(trees, &tree)?;
-    let claims = infer(alloc, &program)?;
+    let Analysis { program, claims } = analyze(alloc, trees, text)?;
     check_capital(alloc, &program, &claims)?;
     let Generated { code, labels } = generate(alloc, &program, &claims)?;
     let verified = verify_generated(alloc, code)?;

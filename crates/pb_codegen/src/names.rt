@@ -1,6 +1,6 @@
 //! Copies of the names of a program.
 
-ghost use Rattle.std.specs.Prelude.{◌≡◌, IfOk, map};
+ghost use Rattle.std.specs.Prelude.{◌≡◌, [], ◌∷◌, ◌++◌, IfOk, OnOk, map};
 ghost use Rattle.pb_base.specs.Lines.{names_view};
 ghost use Rattle.pb_codegen.specs.Generate.{names_of};
 ghost use Rattle.pb_names.specs.View.{resolved_view};
@@ -8,6 +8,15 @@ ghost use Rattle.pb_names.specs.View.{resolved_view};
 use pb_base::{Names, NoMemory};
 use pb_names::{Process, Resolved, Resource};
 use std::alloc::{Allocator, Global};
+
+/// Adds a copy of a name.
+fn add_name(alloc: Global, name: &[u8], copy: &mut Vec<Vec<u8>>) -> Result<(), NoMemory>
+    ensures { OnOk result (map (λ name. name.items) copy.new.items
+        ≡ map (λ name. name.items) copy.old.items ++ name.now ∷ []) }
+{
+    copy.push(Vec::from_slice(alloc, name)?)?;
+    Ok(())
+}
 
 /// Returns a copy of each name.
 pub(crate) fn copy_names<A: Allocator>(
@@ -18,7 +27,7 @@ pub(crate) fn copy_names<A: Allocator>(
 {
     let mut copy = Vec::new(alloc);
     for name in names {
-        copy.push(Vec::from_slice(alloc, name)?)?;
+        add_name(alloc, name, &mut copy)?;
     }
     Ok(copy)
 }
@@ -32,7 +41,7 @@ fn process_names<A: Allocator>(
 {
     let mut copy = Vec::new(alloc);
     for process in processes {
-        copy.push(Vec::from_slice(alloc, &process.name)?)?;
+        add_name(alloc, &process.name, &mut copy)?;
     }
     Ok(copy)
 }
@@ -46,7 +55,7 @@ fn resource_names<A: Allocator>(
 {
     let mut copy = Vec::new(alloc);
     for resource in resources {
-        copy.push(Vec::from_slice(alloc, &resource.name)?)?;
+        add_name(alloc, &resource.name, &mut copy)?;
     }
     Ok(copy)
 }

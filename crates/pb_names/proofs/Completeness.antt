@@ -1,7 +1,9 @@
 -- Pairs of the holds in lists of statements and arms, one element at a time.
 use Rattle.std.proofs.Common.{◌≡◌, ℕ, zero, suc, ◌+◌, ◌<◌, List, [], ◌∷◌, Vec, map, length, take, get_or, arith, add-one}
-use Rattle.std.proofs.Common.{subst, sym}
-use Rattle.std.specs.Prelude.{All, slice_get, Some}
+use Rattle.std.proofs.Common.{subst, sym, ◌∙◌, Bool, true, false, not}
+use Rattle.std.specs.Bool.{◌==◌}
+use Rattle.std.specs.Prelude.{◌≤◌, All, IsTrue, slice_get, Some}
+use Rattle.std.proofs.lemmas.Bool.{eqb-true}
 use Rattle.std.proofs.lemmas.List.{map_more}
 use Rattle.std.proofs.lemmas.List.Elements.{All-push}
 use Rattle.std.proofs.lemmas.Option.{slice_get_within, get_or_from_slice_get}
@@ -10,6 +12,36 @@ use Rattle.pb_tree.specs.View.{stmt_view, stmts_view, arm_view, arms_view, proce
 use Rattle.pb_tree.specs.declared.program.Process.{Process}
 use Rattle.pb_tree.specs.declared.stmt.Stmt.{Stmt}
 use Rattle.pb_names.specs.Ready.{IsCompleteStmt, AreComplete, AreCompleteArms}
+
+-- ---- whether there is a pair or an arm
+
+some_there : (n : ℕ) (empty : Bool) → empty ≡ (n == 0) → empty ≡ false → 1 ≤ n
+some_there zero empty is full = absurd (cc)
+some_there (suc n) empty is full = omega arith
+
+-- there is one, and what is inside is looked at
+pub some_inside : {Inside : Type 0} (n count : ℕ) (empty inside : Bool) → empty ≡ (n == 0) → empty ≡ false → count ≡ n
+    → (IsTrue inside → Inside) × (Inside → IsTrue inside)
+    → (IsTrue inside → (1 ≤ count) × Inside) × ((1 ≤ count) × Inside → IsTrue inside)
+some_inside n count empty inside is full same both =
+    let there = some_there n empty is full in
+    let some : 1 ≤ count = omega arith in
+    (λ yes. (some, both.0 yes), λ whole. both.1 whole.1)
+
+-- there is none
+pub none_inside : {Inside : Type 0} (n count : ℕ) (empty : Bool) → empty ≡ (n == 0) → empty ≡ true → count ≡ n
+    → (IsTrue (not empty) → (1 ≤ count) × Inside) × ((1 ≤ count) × Inside → IsTrue (not empty))
+none_inside n count empty is none same =
+    let zero = eqb-true n 0 (sym is ∙ none) in
+    (λ yes. absurd (cc), λ whole. absurd (omega (arith, whole.0)))
+
+-- ---- two lists of which the first is not complete
+
+pub first_not : {First Second : Type 0} (first : Bool) → first ≡ false → (IsTrue first → First) × (First → IsTrue first)
+    → (IsTrue first → First × Second) × (First × Second → IsTrue first)
+first_not first is both = (λ yes. absurd (cc), λ whole. both.1 whole.0)
+
+-- ---- statements
 
 stmt_or : {A : Type 0} (ss : List (Stmt A)) (i : ℕ) (d : Stmt A) → i < length ss
     → AreComplete (stmts_view ss) → IsCompleteStmt (stmt_view (get_or ss i d))

@@ -1,11 +1,11 @@
 -- An index of names: how it is made, one name more at a time, and how a name is looked for in it.
-use Rattle.std.proofs.Common.{◌≡◌, ◌≢◌, ℕ, suc, ◌+◌, ◌*◌, ◌<◌, ◌≤◌, List, [], ◌∷◌, length, get_or, set}
+use Rattle.std.proofs.Common.{◌≡◌, ◌≢◌, ℕ, suc, ◌+◌, ◌*◌, ◌<◌, ◌≤◌, List, [], ◌∷◌, length, get_or, set, replicate}
 use Rattle.std.proofs.Common.{Some, None, inl, inr, arith, ap, sym, ◌∙◌, length-set}
 use Rattle.std.specs.Prelude.{slice_get, bit_and}
 use Rattle.std.specs.Int.Bits.{and_zero_l}
 use Rattle.std.proofs.lemmas.Bool.{cases_lt, cases_eq}
 use Rattle.std.proofs.lemmas.Grind.{get_or_default_zero}
-use Rattle.std.proofs.lemmas.List.{get_or-set_same, get_or-set_other}
+use Rattle.std.proofs.lemmas.List.{get_or-set_same, get_or-set_other, get_or-replicate, length-replicate}
 use Rattle.std.proofs.lemmas.Option.{slice_get_within}
 use Rattle.pb_names.specs.Index.{IsFirstNumber, IsNext, IsLinked, slot}
 use Rattle.pb_names.specs.Program.{Name}
@@ -54,6 +54,22 @@ next_over names name greatest s i to read differs next = record {
     ]
 
 -- ---- how an index is made
+
+-- an index of none of the names
+pub linked_none : (names : List Name) (greatest count : ℕ) (firsts nexts : List ℕ) → count ≡ length names
+    → firsts ≡ replicate (greatest + 1) count → length nexts ≡ count → IsLinked names greatest count firsts nexts
+linked_none names greatest count firsts nexts all fill links = record {
+  slots = omega (arith, ap length fill, length-replicate (greatest + 1) count);
+  links = links ∙ all;
+  first = λ s below.
+      rw (fill, get_or-replicate (greatest + 1) s count 0 (omega arith))
+      (record {
+        after = omega arith;
+        none = λ k name above under here. absurd (omega arith);
+        here = λ name here. absurd (omega (arith, slice_get_within names count name here));
+      });
+  next = λ k name above here. absurd (omega (arith, slice_get_within names k name here));
+}
 
 -- one more name, in front of those from the next number on, with what was read as the first of its slot
 pub linked_more : (names : List Name) (name : Name) (greatest i behind : ℕ) (firsts nexts : List ℕ)

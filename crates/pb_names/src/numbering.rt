@@ -29,7 +29,7 @@ use crate::declared::Declared;
 use crate::fault::{Kind, NameFault};
 use crate::limits::{MAX_ARMS, MAX_FORK, MAX_INTEGERS, MAX_RESOURCES, too_many};
 use crate::resolved::{Expr, Process, Resolved, Resource, Stmt};
-use pb_base::{Bundle, NoMemory, Pair};
+use pb_base::{BinaryOp, Bundle, NoMemory, Pair, UnaryOp};
 use pb_tree::{Demand, Name, Number};
 use std::alloc::Allocator;
 
@@ -43,6 +43,39 @@ fn number_in<A: Allocator, B: Allocator>(declared: &Declared<'_, A>, name: &Name
         Some(i) => i as u8,
         None => unreachable!(),
     }
+}
+
+/// Returns an expression in memory of its own.
+fn boxed<A: Allocator + Clone>(alloc: &A, expr: Expr<A>) -> Result<Box<Expr<A>, A>, NoMemory>
+    ensures { IfOk result (λ made. made.value ≡ expr) }
+{
+    Ok(Box::new(alloc.clone()?, expr)?)
+}
+
+/// Returns an operator on one operand.
+fn unary<A: Allocator + Clone>(
+    alloc: &A,
+    op: UnaryOp,
+    operand: Expr<A>,
+) -> Result<Expr<A>, NoMemory>
+    ensures { IfOk result (λ e. expr_of e ≡ plain.Unary op (expr_of operand)) }
+{
+    let operand = boxed(alloc, operand)?;
+    Ok(Expr::Unary(op, operand))
+}
+
+/// Returns an operator on a left and a right operand.
+fn binary<A: Allocator + Clone>(
+    alloc: &A,
+    op: BinaryOp,
+    left: Expr<A>,
+    right: Expr<A>,
+) -> Result<Expr<A>, NoMemory>
+    ensures { IfOk result (λ e. expr_of e ≡ plain.Binary op (expr_of left) (expr_of right)) }
+{
+    let left = boxed(alloc, left)?;
+    let right = boxed(alloc, right)?;
+    Ok(Expr::Binary(op, left, right))
 }
 
 /// Returns an expression with numbers in place of its names.
@@ -63,13 +96,12 @@ fn number_expr<A: Allocator + Clone>(
         pb_tree::Expr::Variable(name) => Ok(Expr::Variable(number_in(integers, name))),
         pb_tree::Expr::Unary(op, operand) => {
             let operand = number_expr(alloc, integers, operand)?;
-            Ok(Expr::Unary(*op, Box::new(alloc.clone()?, operand)?))
+            unary(alloc, *op, operand)
         }
         pb_tree::Expr::Binary(op, left, right) => {
             let left = number_expr(alloc, integers, left)?;
             let right = number_expr(alloc, integers, right)?;
-            let left = Box::new(alloc.clone()?, left)?;
-            Ok(Expr::Binary(*op, left, Box::new(alloc.clone()?, right)?))
+            binary(alloc, *op, left, right)
         }
     }
 }
@@ -374,6 +406,13 @@ fn number_arms<A: Allocator + Clone>(
     Ok(list)
 }
 
+/// Returns the text of a name.
+fn copy_text<A: Allocator + Clone>(alloc: &A, name: &Name<A>) -> Result<Vec<u8, A>, NoMemory>
+    ensures { IfOk result (λ copy. copy.items ≡ name.now.text.items) }
+{
+    Ok(Vec::from_slice(alloc.clone()?, &name.text)?)
+}
+
 /// Returns the texts of names.
 fn copy_texts<A: Allocator + Clone>(
     alloc: &A,
@@ -383,7 +422,7 @@ fn copy_texts<A: Allocator + Clone>(
 {
     let mut copies = Vec::with_capacity(alloc.clone()?, names.len())?;
     for name in names {
-        copies.push(Vec::from_slice(alloc.clone()?, &name.text)?)?;
+        copies.push(copy_text(alloc, name)?)?;
     }
     Ok(copies)
 }
@@ -403,7 +442,7 @@ fn number_process<A: Allocator + Clone>(
     ensures { IfOk result
         (λ p. ResolvesProcess (names_in resources.now) (process_view process.now) (process_of p)) }
 {
-    let name = Vec::from_slice(alloc.clone()?, &process.name.text)?;
+    let name = copy_text(alloc, &process.name)?;
     let integers = copy_texts(alloc, &process.integers)?;
     let names = Declared::integers(alloc, &process.integers)?;
     let mut next = 1;
@@ -444,7 +483,7 @@ fn number_resource<A: Allocator + Clone>(
     ensures { IfOk result (λ r. ResolvesResource (resource_view resource.now) (resource_of r)) }
 {
     Ok(Resource {
-        name: Vec::from_slice(alloc.clone()?, &resource.name.text)?,
+        name: copy_text(alloc, &resource.name)?,
         capital: amount_of(0, resource.capital),
     })
 }

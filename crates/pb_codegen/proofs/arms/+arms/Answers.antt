@@ -1,8 +1,9 @@
-use Rattle.std.proofs.Common.{rules, refl}
+use Rattle.std.proofs.Common.{rules, refl, sym, append-nil, ap, map, ◌++◌, ◌∙◌}
+use Rattle.std.proofs.lemmas.List.{take_all}
 use Rattle.pb_claims.proofs.Sizes.{arm_within, arms_within, stmt_within}
-use Rattle.pb_names.specs.Program.{arms_in_stmt}
-use Rattle.pb_names.specs.View.{stmt_view}
-use Rattle.pb_names.proofs.Views.{view-If, view-Parbegin}
+use Rattle.pb_names.specs.Program.{arms_in_stmt, arms_in, arms_in_arms}
+use Rattle.pb_names.specs.View.{stmt_view, block_view, arms_view}
+use Rattle.pb_names.proofs.Views.{view-If, view-While, view-Hold, view-Parbegin}
 use Rattle.pb_codegen.proofs.Lists.{arms_in-more, arms_in_arms-more, collected}
 use Rattle.pb_codegen.proofs.arms.+arms.Goals as goal
 
@@ -41,3 +42,27 @@ pub add_arms_in_stmt-returns-in_ok-add_arms_in_each-in-Parbegin :
 add_arms_in_stmt-returns-in_ok-add_arms_in_each-in-Parbegin g t c =
     rw (c.in-Parbegin.is, view-Parbegin)
     (collected _ _ _ _ _ _ c.in_ok-add_arms-in-Parbegin.ensures c.in_ok-add_arms_in_each-in-Parbegin.ensures refl)
+
+pub add_arms_in-loop-stmt-init : goal.add_arms_in-loop-stmt-init
+add_arms_in-loop-stmt-init g t c = sym (append-nil (map (λ arm. block_view arm.now.items) c.args.arms.now.items))
+
+pub add_arms_in-returns : goal.add_arms_in-returns
+add_arms_in-returns g t c =
+    c.loop-stmt.invariant
+    ∙ ap (λ own. map (λ arm. block_view arm.now.items) c.args.arms.now.items ++ arms_in (block_view own))
+    (take_all c.loop-stmt.stmt-index c.deref-stmt-items.result.now c.loop-stmt-test.false ∙ c.deref-stmt-items.ensures.value)
+
+pub add_arms_in_each-loop-arm-init : goal.add_arms_in_each-loop-arm-init
+add_arms_in_each-loop-arm-init g t c = sym (append-nil (map (λ arm. block_view arm.now.items) c.args.arms.now.items))
+
+pub add_arms_in_each-returns : goal.add_arms_in_each-returns
+add_arms_in_each-returns g t c =
+    c.loop-arm.invariant
+    ∙ ap (λ own. map (λ arm. block_view arm.now.items) c.args.arms.now.items ++ arms_in_arms (arms_view own))
+    (take_all c.loop-arm.arm-index c.deref-arm-items.result.now c.loop-arm-test.false ∙ c.deref-arm-items.ensures.value)
+
+pub add_arms_in_stmt-returns-in_ok-add_arms_in-in-While : goal.add_arms_in_stmt-returns-in_ok-add_arms_in-in-While
+add_arms_in_stmt-returns-in_ok-add_arms_in-in-While g t c = rw (c.in-While.is, view-While) c.in_ok-add_arms_in-in-While.ensures
+
+pub add_arms_in_stmt-returns-in_ok-add_arms_in-in-Hold : goal.add_arms_in_stmt-returns-in_ok-add_arms_in-in-Hold
+add_arms_in_stmt-returns-in_ok-add_arms_in-in-Hold g t c = rw (c.in-Hold.is, view-Hold) c.in_ok-add_arms_in-in-Hold.ensures

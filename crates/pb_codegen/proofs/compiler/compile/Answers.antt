@@ -1,91 +1,38 @@
-use Rattle.std.proofs.Common.{Err, ap, subst}
+use Rattle.std.proofs.Common.{subst}
 use Rattle.std.proofs.lemmas.Result.{err_from_is_err_and}
-use Rattle.pb_tree.specs.View.{program_view}
 use Rattle.pb_names.specs.View.{resolved_view}
 use Rattle.pb_verifier.specs.Verified.{IsRefusedFor}
 use Rattle.pb_codegen.proofs.Compiling.{capital_refused, compiled, sound}
-use Rattle.pb_codegen.proofs.Compiling.{complete, names_refused, numbered, parse_refused, spells}
 use Rattle.pb_codegen.proofs.compiler.compile.Goals as goal
 
-pub resolve-requires : goal.resolve-requires
-resolve-requires g c =
-    let cut = rw (← c.as_slice.ensures.value) at c.in_ok-tokens.ensures.found in
-    complete c.args.text.now _ (program_view c.in_ok-tree.tree) cut c.in_ok-tree.ensures.found
-
-pub returns-in_err-tree-clause-refused : goal.returns-in_err-tree-clause-refused
-returns-in_err-tree-clause-refused g c =
-    let p = err_from_is_err_and c.from_residual-in_err-tree.result c.from_residual-in_err-tree.ensures.1 in
-    let cut = rw (← c.as_slice.ensures.value) at c.in_ok-tokens.ensures.found in
-    let e = c.in_err-tree.ensures in
-    rw (p.1, p.2) (parse_refused _ _ _ cut e.syntax (λ same. e.too_deep (ap Err same)) (λ same. e.too_large (ap Err
-    same)) (λ deep. let same = e.nested deep in cc) (λ high. let same = e.high high in cc))
-
-pub returns-in_err-program-clause-refused : goal.returns-in_err-program-clause-refused
-returns-in_err-program-clause-refused g c =
-    let p = err_from_is_err_and c.from_residual-in_err-program.result c.from_residual-in_err-program.ensures.1 in
-    let cut = rw (← c.as_slice.ensures.value) at c.in_ok-tokens.ensures.found in
-    let e = c.in_ok-tree.ensures in
-    let spelled = spells c.args.text.now _ (program_view c.in_ok-tree.tree) c.in_ok-tree.tree c.parse.result cut
-    e.found e.limits c.in_ok-tree.was c.parse.ensures.nested in
-    rw (p.1, p.2) (names_refused _ _ _ spelled c.in_err-program.ensures.fault)
-
 pub check_capital-requires : goal.check_capital-requires
-check_capital-requires g c =
-    let cut = rw (← c.as_slice.ensures.value) at c.in_ok-tokens.ensures.found in
-    let e = c.in_ok-tree.ensures in
-    let spelled = spells c.args.text.now _ (program_view c.in_ok-tree.tree) c.in_ok-tree.tree c.parse.result cut
-    e.found e.limits c.in_ok-tree.was c.parse.ensures.nested in
-    (c.args.text.now, numbered _ _ (resolved_view c.in_ok-program.program) _ spelled c.in_ok-program.ensures.resolves c.in_ok-claims.ensures.exact)
+check_capital-requires g c = (c.args.text.now, c.in_ok-program.ensures.analyzed)
 
 pub generate-requires : goal.generate-requires
 generate-requires g c =
-    let cut = rw (← c.as_slice.ensures.value) at c.in_ok-tokens.ensures.found in
-    let e = c.in_ok-tree.ensures in
-    let spelled = spells c.args.text.now _ (program_view c.in_ok-tree.tree) c.in_ok-tree.tree c.parse.result cut
-    e.found e.limits c.in_ok-tree.was c.parse.ensures.nested in
-    (sound c.args.text.now (resolved_view c.in_ok-program.program) c.in_ok-claims.claims
-    (numbered _ _ (resolved_view c.in_ok-program.program) _ spelled c.in_ok-program.ensures.resolves c.in_ok-claims.ensures.exact)
-    c.in_ok-check_capital.ensures.enough).generatable
+    (sound c.args.text.now (resolved_view c.in_ok-program.field-0.program) c.in_ok-program.field-0.claims
+    c.in_ok-program.ensures.analyzed c.in_ok-check_capital.ensures.enough).generatable
 
 pub verify_generated-requires : goal.verify_generated-requires
 verify_generated-requires g c fault refused =
-    let cut = rw (← c.as_slice.ensures.value) at c.in_ok-tokens.ensures.found in
-    let e = c.in_ok-tree.ensures in
-    let spelled = spells c.args.text.now _ (program_view c.in_ok-tree.tree) c.in_ok-tree.tree c.parse.result cut
-    e.found e.limits c.in_ok-tree.was c.parse.ensures.nested in
-    (sound c.args.text.now (resolved_view c.in_ok-program.program) c.in_ok-claims.claims
-    (numbered _ _ (resolved_view c.in_ok-program.program) _ spelled c.in_ok-program.ensures.resolves c.in_ok-claims.ensures.exact)
-    c.in_ok-check_capital.ensures.enough).memory_alone fault
+    (sound c.args.text.now (resolved_view c.in_ok-program.field-0.program) c.in_ok-program.field-0.claims
+    c.in_ok-program.ensures.analyzed c.in_ok-check_capital.ensures.enough).memory_alone fault
     (subst (λ code. IsRefusedFor code fault) c.in_ok-code.ensures.code refused)
 
 pub returns-in_err-check_capital-clause-refused : goal.returns-in_err-check_capital-clause-refused
 returns-in_err-check_capital-clause-refused g c =
     let p = err_from_is_err_and c.from_residual-in_err-check_capital.result c.from_residual-in_err-check_capital.ensures.1 in
-    let cut = rw (← c.as_slice.ensures.value) at c.in_ok-tokens.ensures.found in
-    let e = c.in_ok-tree.ensures in
-    let spelled = spells c.args.text.now _ (program_view c.in_ok-tree.tree) c.in_ok-tree.tree c.parse.result cut
-    e.found e.limits c.in_ok-tree.was c.parse.ensures.nested in
-    rw (p.1, p.2) (capital_refused c.args.text.now _ _ _ (numbered _ _ (resolved_view c.in_ok-program.program) _
-    spelled c.in_ok-program.ensures.resolves c.in_ok-claims.ensures.exact) c.in_err-check_capital.ensures.over)
+    rw (p.1, p.2)
+    (capital_refused c.args.text.now _ _ _ c.in_ok-program.ensures.analyzed c.in_err-check_capital.ensures.over)
 
 pub invariant_of-result : goal.invariant_of-result
 invariant_of-result g c =
-    let cut = rw (← c.as_slice.ensures.value) at c.in_ok-tokens.ensures.found in
-    let e = c.in_ok-tree.ensures in
-    let spelled = spells c.args.text.now _ (program_view c.in_ok-tree.tree) c.in_ok-tree.tree c.parse.result cut
-    e.found e.limits c.in_ok-tree.was c.parse.ensures.nested in
     rw (c.in_ok-verified.ensures, c.in_ok-code.ensures.code, c.in_ok-code.ensures.labels)
-    ((compiled c.args.text.now (resolved_view c.in_ok-program.program) c.in_ok-claims.claims
-    (numbered _ _ (resolved_view c.in_ok-program.program) _ spelled c.in_ok-program.ensures.resolves c.in_ok-claims.ensures.exact)
-    c.in_ok-check_capital.ensures.enough).fit)
+    ((compiled c.args.text.now (resolved_view c.in_ok-program.field-0.program) c.in_ok-program.field-0.claims
+    c.in_ok-program.ensures.analyzed c.in_ok-check_capital.ensures.enough).fit)
 
 pub returns-clause-compiled : goal.returns-clause-compiled
 returns-clause-compiled g c =
-    let cut = rw (← c.as_slice.ensures.value) at c.in_ok-tokens.ensures.found in
-    let e = c.in_ok-tree.ensures in
-    let spelled = spells c.args.text.now _ (program_view c.in_ok-tree.tree) c.in_ok-tree.tree c.parse.result cut
-    e.found e.limits c.in_ok-tree.was c.parse.ensures.nested in
     rw (c.in_ok-verified.ensures, c.in_ok-code.ensures.code, c.in_ok-code.ensures.labels)
-    (compiled c.args.text.now (resolved_view c.in_ok-program.program) c.in_ok-claims.claims
-    (numbered _ _ (resolved_view c.in_ok-program.program) _ spelled c.in_ok-program.ensures.resolves c.in_ok-claims.ensures.exact)
-    c.in_ok-check_capital.ensures.enough)
+    (compiled c.args.text.now (resolved_view c.in_ok-program.field-0.program) c.in_ok-program.field-0.claims
+    c.in_ok-program.ensures.analyzed c.in_ok-check_capital.ensures.enough)

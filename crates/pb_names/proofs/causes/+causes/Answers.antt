@@ -1,9 +1,10 @@
 use Rattle.std.proofs.Common.{arith, rules, ap, ◌∙◌}
+use Rattle.std.proofs.lemmas.List.{take_all}
 use Rattle.pb_tree.specs.View.{stmt_view}
 use Rattle.pb_tree.proofs.Smaller.{stmt_within, arm_within, arms_within}
-use Rattle.pb_tree.proofs.Views.{view-Assign, view-If, view-While, view-Hold, view-Parbegin}
+use Rattle.pb_tree.proofs.Views.{view-Assign, view-Print, view-If, view-While, view-Hold, view-Parbegin}
 use Rattle.pb_names.proofs.CausesMore.{stmts_more, arms_more}
-use Rattle.pb_names.proofs.First.{first_either}
+use Rattle.pb_names.proofs.First.{first_either, first_none}
 use Rattle.pb_names.proofs.causes.+causes.Goals as goal
 
 pub first_in_list-loop-stmt-preserved : goal.first_in_list-loop-stmt-preserved
@@ -63,3 +64,24 @@ first_in_stmt-returns-in-Parbegin g t c =
     let a = c.in-Parbegin in
     rw (ap stmt_view a.is ∙ view-Parbegin a.line a.arms)
     c.first_in_arms.ensures
+
+pub first_in_list-loop-stmt-init : goal.first_in_list-loop-stmt-init
+first_in_list-loop-stmt-init g t c = first_none _ (λ c never. never)
+
+pub first_in_list-returns : goal.first_in_list-returns
+first_in_list-returns g t c =
+    rw (← c.deref-stmt-items.ensures.value, ← take_all c.loop-stmt.stmt-index c.deref-stmt-items.result.now (omega arith))
+    c.loop-stmt.invariant
+
+pub first_in_arms-loop-arm-init : goal.first_in_arms-loop-arm-init
+first_in_arms-loop-arm-init g t c = first_none _ (λ c never. never)
+
+pub first_in_arms-returns : goal.first_in_arms-returns
+first_in_arms-returns g t c =
+    rw (← c.deref-arm-items.ensures.value, ← take_all c.loop-arm.arm-index c.deref-arm-items.result.now (omega arith))
+    c.loop-arm.invariant
+
+pub first_in_stmt-returns-in-Print : goal.first_in_stmt-returns-in-Print
+first_in_stmt-returns-in-Print g t c =
+    let a = c.in-Print in
+    rw (ap stmt_view a.is ∙ view-Print a.line a.value) c.first_in_expr-in-Print.ensures

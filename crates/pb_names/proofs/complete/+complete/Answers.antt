@@ -1,11 +1,10 @@
-use Rattle.std.proofs.Common.{◌≤◌, arith, rules, ap, ◌∙◌}
-use Rattle.std.proofs.lemmas.Grind.{common_steps}
+use Rattle.std.proofs.Common.{arith, rules, ap, sym, ◌∙◌, refl}
+use Rattle.std.proofs.lemmas.List.{take_all, length-map}
 use Rattle.pb_tree.proofs.Smaller.{stmt_within, arm_within, arms_within}
-use Rattle.pb_tree.specs.View.{stmt_view, arms_view}
-use Rattle.pb_names.specs.Limits.{width}
+use Rattle.pb_tree.specs.View.{demand_view, stmt_view}
 use Rattle.pb_names.proofs.Forks.{width-view}
-use Rattle.pb_tree.proofs.Views.{view-Parbegin}
-use Rattle.pb_names.proofs.Completeness.{pairs_at, pairs_more, arm_pairs_at, arm_pairs_more}
+use Rattle.pb_tree.proofs.Views.{view-If, view-While, view-Hold, view-Parbegin}
+use Rattle.pb_names.proofs.Completeness.{some_inside, none_inside, first_not, pairs_at, pairs_more, arm_pairs_at, arm_pairs_more}
 use Rattle.pb_names.proofs.complete.+complete.Goals as goal
 
 pub are_complete-returns-then-not-is_complete_stmt : goal.are_complete-returns-then-not-is_complete_stmt
@@ -51,17 +50,60 @@ is_complete_stmt-are_complete_arms-requires g t c κs within =
 
 pub is_complete_stmt-returns-then-not-is_empty-2 : goal.is_complete_stmt-returns-then-not-is_empty-2
 is_complete_stmt-returns-then-not-is_empty-2 g t c =
-    let p = c.in-Parbegin in
-    let many = width-view p.arms.items in
-    let empty = c.is_empty-in-Parbegin.ensures in
-    let some : 1 ≤ width (arms_view p.arms.items) = grind (arith, common_steps) in
-    rw (ap stmt_view p.is ∙ view-Parbegin p.line p.arms)
-    (λ yes. (some, c.are_complete_arms.ensures.0 yes), λ whole. c.are_complete_arms.ensures.1 whole.1)
+    let a = c.in-Parbegin in
+    rw (ap stmt_view a.is ∙ view-Parbegin a.line a.arms)
+    (some_inside _ _ _ _ c.is_empty-in-Parbegin.ensures c.if-not-is_empty-2.true (width-view a.arms.items ∙ sym a.arms.ok.0)
+    c.are_complete_arms.ensures)
 
 pub is_complete_stmt-returns-else-not-is_empty-2 : goal.is_complete_stmt-returns-else-not-is_empty-2
 is_complete_stmt-returns-else-not-is_empty-2 g t c =
-    let p = c.in-Parbegin in
-    let many = width-view p.arms.items in
-    let empty = c.is_empty-in-Parbegin.ensures in
-    rw (ap stmt_view p.is ∙ view-Parbegin p.line p.arms)
-    (λ never. absurd (cc), λ whole. let some = whole.0 in grind (arith, common_steps))
+    let a = c.in-Parbegin in
+    rw (ap stmt_view a.is ∙ view-Parbegin a.line a.arms)
+    (none_inside _ _ _ c.is_empty-in-Parbegin.ensures c.if-not-is_empty-2.false (width-view a.arms.items ∙ sym a.arms.ok.0))
+
+pub are_complete-returns : goal.are_complete-returns
+are_complete-returns g t c = (
+  λ yes.
+      rw (← c.deref-stmt-items.ensures.value, ← take_all c.loop-stmt.stmt-index c.deref-stmt-items.result.now (omega arith))
+      c.loop-stmt.invariant,
+  λ whole. refl,
+)
+
+pub are_complete_arms-returns : goal.are_complete_arms-returns
+are_complete_arms-returns g t c = (
+  λ yes.
+      rw (← c.deref-arm-items.ensures.value, ← take_all c.loop-arm.arm-index c.deref-arm-items.result.now (omega arith))
+      c.loop-arm.invariant,
+  λ whole. refl,
+)
+
+pub is_complete_stmt-returns-then-are_complete : goal.is_complete_stmt-returns-then-are_complete
+is_complete_stmt-returns-then-are_complete g t c =
+    let a = c.in-If in
+    let both = c.are_complete-then-are_complete.ensures in
+    rw (ap stmt_view a.is ∙ view-If a.line a.test a.on_true a.on_false)
+    (λ yes. (c.are_complete.ensures.0 c.if-are_complete.true, both.0 yes), λ whole. both.1 whole.1)
+
+pub is_complete_stmt-returns-else-are_complete : goal.is_complete_stmt-returns-else-are_complete
+is_complete_stmt-returns-else-are_complete g t c =
+    let a = c.in-If in
+    rw (ap stmt_view a.is ∙ view-If a.line a.test a.on_true a.on_false)
+    (first_not _ c.if-are_complete.false c.are_complete.ensures)
+
+pub is_complete_stmt-returns-in-While : goal.is_complete_stmt-returns-in-While
+is_complete_stmt-returns-in-While g t c =
+    let a = c.in-While in
+    rw (ap stmt_view a.is ∙ view-While a.line a.test a.body) c.are_complete-in-While.ensures
+
+pub is_complete_stmt-returns-then-not-is_empty : goal.is_complete_stmt-returns-then-not-is_empty
+is_complete_stmt-returns-then-not-is_empty g t c =
+    let a = c.in-Hold in
+    rw (ap stmt_view a.is ∙ view-Hold a.line a.demands a.body)
+    (some_inside _ _ _ _ c.is_empty.ensures c.if-not-is_empty.true
+    (length-map a.demands.items demand_view ∙ sym a.demands.ok.0) c.are_complete-then-not-is_empty.ensures)
+
+pub is_complete_stmt-returns-else-not-is_empty : goal.is_complete_stmt-returns-else-not-is_empty
+is_complete_stmt-returns-else-not-is_empty g t c =
+    let a = c.in-Hold in
+    rw (ap stmt_view a.is ∙ view-Hold a.line a.demands a.body)
+    (none_inside _ _ _ c.is_empty.ensures c.if-not-is_empty.false (length-map a.demands.items demand_view ∙ sym a.demands.ok.0))

@@ -1,10 +1,61 @@
 use Rattle.std.proofs.Common.{arith, rules, ap, ◌∙◌}
+use Rattle.std.proofs.lemmas.List.{take_all}
 use Rattle.pb_tree.specs.View.{stmt_view}
 use Rattle.pb_tree.proofs.Smaller.{stmt_within, arm_within, arms_within}
-use Rattle.pb_tree.proofs.Views.{view-Parbegin}
+use Rattle.pb_tree.proofs.Views.{view-If, view-While, view-Hold, view-Parbegin}
 use Rattle.pb_names.specs.Limits.{widest_in_stmt, inner_arms_of_stmt}
 use Rattle.pb_names.proofs.Forks.{width-view, widest_more, inner_more, arms_widest_more, arms_inner_more}
 use Rattle.pb_names.proofs.limits.+forks.Goals as goal
+
+pub forks_of_stmt-returns-in-If-clause-widest : goal.forks_of_stmt-returns-in-If-clause-widest
+forks_of_stmt-returns-in-If-clause-widest g t c =
+    let a = c.in-If in
+    omega (arith, ap widest_in_stmt (ap stmt_view a.is ∙ view-If a.line a.test a.on_true a.on_false))
+
+pub forks_of_stmt-returns-in-If-clause-arms : goal.forks_of_stmt-returns-in-If-clause-arms
+forks_of_stmt-returns-in-If-clause-arms g t c =
+    let a = c.in-If in
+    omega (arith, ap inner_arms_of_stmt (ap stmt_view a.is ∙ view-If a.line a.test a.on_true a.on_false))
+
+pub forks_of_stmt-returns-in-While-clause-widest : goal.forks_of_stmt-returns-in-While-clause-widest
+forks_of_stmt-returns-in-While-clause-widest g t c =
+    let a = c.in-While in
+    omega (arith, ap widest_in_stmt (ap stmt_view a.is ∙ view-While a.line a.test a.body))
+
+pub forks_of_stmt-returns-in-While-clause-arms : goal.forks_of_stmt-returns-in-While-clause-arms
+forks_of_stmt-returns-in-While-clause-arms g t c =
+    let a = c.in-While in
+    omega (arith, ap inner_arms_of_stmt (ap stmt_view a.is ∙ view-While a.line a.test a.body))
+
+pub forks_of_stmt-returns-in-Hold-clause-widest : goal.forks_of_stmt-returns-in-Hold-clause-widest
+forks_of_stmt-returns-in-Hold-clause-widest g t c =
+    let a = c.in-Hold in
+    omega (arith, ap widest_in_stmt (ap stmt_view a.is ∙ view-Hold a.line a.demands a.body))
+
+pub forks_of_stmt-returns-in-Hold-clause-arms : goal.forks_of_stmt-returns-in-Hold-clause-arms
+forks_of_stmt-returns-in-Hold-clause-arms g t c =
+    let a = c.in-Hold in
+    omega (arith, ap inner_arms_of_stmt (ap stmt_view a.is ∙ view-Hold a.line a.demands a.body))
+
+pub forks_of_list-returns-clause-widest : goal.forks_of_list-returns-clause-widest
+forks_of_list-returns-clause-widest g t c =
+    rw (← c.deref-stmt-items.ensures.value, ← take_all c.loop-stmt.stmt-index c.deref-stmt-items.result.now (omega arith))
+    c.loop-stmt.invariant.widest
+
+pub forks_of_list-returns-clause-arms : goal.forks_of_list-returns-clause-arms
+forks_of_list-returns-clause-arms g t c =
+    rw (← c.deref-stmt-items.ensures.value, ← take_all c.loop-stmt.stmt-index c.deref-stmt-items.result.now (omega arith))
+    c.loop-stmt.invariant.arms
+
+pub forks_of_arms-returns-clause-widest : goal.forks_of_arms-returns-clause-widest
+forks_of_arms-returns-clause-widest g t c =
+    rw (← c.deref-arm-items.ensures.value, ← take_all c.loop-arm.arm-index c.deref-arm-items.result.now (omega arith))
+    c.loop-arm.invariant.widest
+
+pub forks_of_arms-returns-clause-arms : goal.forks_of_arms-returns-clause-arms
+forks_of_arms-returns-clause-arms g t c =
+    rw (← c.deref-arm-items.ensures.value, ← take_all c.loop-arm.arm-index c.deref-arm-items.result.now (omega arith))
+    c.loop-arm.invariant.arms
 
 pub forks_of_stmt-returns-in-Parbegin-clause-widest : goal.forks_of_stmt-returns-in-Parbegin-clause-widest
 forks_of_stmt-returns-in-Parbegin-clause-widest g t c =

@@ -1,14 +1,15 @@
-use Rattle.std.proofs.Common.{ap, ◌∙◌, rules}
+use Rattle.std.proofs.Common.{ap, sym, subst, ◌∙◌, rules}
 use Rattle.std.proofs.Common.{w64}
 use Rattle.std.proofs.lemmas.Int.{to_z-of_z}
+use Rattle.std.proofs.lemmas.Result.{IfOk-weaker}
 use Rattle.pb_tree.specs.declared.expr.Expr.{the_lemmas as expr_lemmas}
 use Rattle.pb_tree.specs.View.{expr_view}
 use Rattle.pb_tree.proofs.Views as tree
 use Rattle.pb_names.specs.Causes.{InExpr}
-use Rattle.pb_names.specs.Resolves.{number, variable, unary, binary}
+use Rattle.pb_names.specs.Resolves.{ResolvesExpr, number, variable, unary, binary}
 use Rattle.pb_names.specs.Search.{IsFree, names_in}
 use Rattle.pb_names.proofs.First.{free_left, free_right}
-use Rattle.pb_names.proofs.Views.{view-Number, view-Variable, view-Unary, view-Binary}
+use Rattle.pb_names.proofs.Views.{view-Number, view-Variable}
 use Rattle.pb_names.proofs.numbering.+number_expr.Goals as goal
 
 pub number_expr-requires-in-Binary : goal.number_expr-requires-in-Binary
@@ -38,24 +39,19 @@ returns-in-Variable g t c =
     rw (ap expr_view c.in-Variable.is ∙ tree.view-Variable c.in-Variable.name, view-Variable)
     (variable _ _ c.number_in.ensures)
 
-pub returns-in_ok-new-in-Unary : goal.returns-in_ok-new-in-Unary
-returns-in_ok-new-in-Unary g t c =
+pub returns-in_ok-operand-in-Unary : goal.returns-in_ok-operand-in-Unary
+returns-in_ok-operand-in-Unary g t c =
     let a = c.in-Unary in
-    let b = c.in_ok-new-in-Unary in
-    rw (ap expr_view a.is ∙ tree.view-Unary a.op a.operand, view-Unary a.op b.field-0, ← c.deref.ensures, b.ensures.ok)
-    (unary _ _ _ c.in_ok-operand-in-Unary.ensures)
+    rw (ap expr_view a.is ∙ tree.view-Unary a.op a.operand, ← c.deref.ensures)
+    (IfOk-weaker c.unary.result _ _
+    (λ e is. subst (ResolvesExpr (names_in c.args.integers.now) _) (sym is) (unary _ _ _ c.in_ok-operand-in-Unary.ensures))
+    c.unary.ensures)
 
-pub returns-in_ok-new-in-Binary : goal.returns-in_ok-new-in-Binary
-returns-in_ok-new-in-Binary g t c =
+pub returns-in_ok-right-in-Binary : goal.returns-in_ok-right-in-Binary
+returns-in_ok-right-in-Binary g t c =
     let a = c.in-Binary in
-    let left = c.in_ok-left-in-Binary-2 in
-    let right = c.in_ok-new-in-Binary in
-    rw (
-      ap expr_view a.is ∙ tree.view-Binary a.op a.left a.right,
-      view-Binary a.op left.left right.field-0,
-      ← c.deref-in-Binary.ensures,
-      ← c.deref-in-Binary-2.ensures,
-      left.ensures.ok,
-      right.ensures.ok,
-    )
-    (binary _ _ _ _ _ c.in_ok-left-in-Binary.ensures c.in_ok-right-in-Binary.ensures)
+    rw (ap expr_view a.is ∙ tree.view-Binary a.op a.left a.right, ← c.deref-in-Binary.ensures, ← c.deref-in-Binary-2.ensures)
+    (IfOk-weaker c.binary.result _ _
+    (λ e is. subst (ResolvesExpr (names_in c.args.integers.now) _) (sym is)
+    (binary _ _ _ _ _ c.in_ok-left-in-Binary.ensures c.in_ok-right-in-Binary.ensures))
+    c.binary.ensures)

@@ -250,3 +250,42 @@ number_stmt-returns-in_ok-arms-in-Parbegin-clause-next g t c =
     ))
     (c.add_parbegin.ensures _ _ _ _ whole.0 (omega arith) inside.resolves
     (omega (arith, width-view a.arms.items)) inside.numbered)
+
+pub number_stmt-returns-in-Assign-clause-next : goal.number_stmt-returns-in-Assign-clause-next
+number_stmt-returns-in-Assign-clause-next g t c =
+    let a = c.in-Assign in
+    on_ok_weaker c.add_assign.result
+    (λ _. omega (arith, ap inner_arms_of_stmt (ap stmt_view a.is ∙ tree.view-Assign a.line a.target a.value)))
+    (c.add_assign.ensures (names_in c.args.resources.now) 0)
+
+pub number_stmt-returns-in-Print-clause-next : goal.number_stmt-returns-in-Print-clause-next
+number_stmt-returns-in-Print-clause-next g t c =
+    let a = c.in-Print in
+    on_ok_weaker c.add_print.result
+    (λ _. omega (arith, ap inner_arms_of_stmt (ap stmt_view a.is ∙ tree.view-Print a.line a.value)))
+    (c.add_print.ensures (names_in c.args.resources.now) 0)
+
+pub number_arms-returns-clause-resolves : goal.number_arms-returns-clause-resolves
+number_arms-returns-clause-resolves g t c =
+    rw (← c.deref-arm-items.ensures.value, ← take_all c.loop-arm.arm-index c.deref-arm-items.result.now (omega arith))
+    c.loop-arm.invariant.resolves
+
+pub number_arms-returns-clause-next : goal.number_arms-returns-clause-next
+number_arms-returns-clause-next g t c =
+    rw (← c.deref-arm-items.ensures.value, ← take_all c.loop-arm.arm-index c.deref-arm-items.result.now (omega arith))
+    c.loop-arm.invariant.next
+
+pub number_list-returns-clause-numbered : goal.number_list-returns-clause-numbered
+number_list-returns-clause-numbered g t c = c.loop-stmt.invariant.numbered
+
+pub number_arms-returns-clause-numbered : goal.number_arms-returns-clause-numbered
+number_arms-returns-clause-numbered g t c = c.loop-arm.invariant.numbered
+
+pub number_stmt-overflow_cast-first : goal.number_stmt-overflow_cast-first
+number_stmt-overflow_cast-first g t c = omega (arith, c.requires.ready.room)
+
+pub number_stmt-overflow_add-next : goal.number_stmt-overflow_add-next
+number_stmt-overflow_add-next g t c =
+    let a = c.in-Parbegin in
+    let room = rw (ap stmt_view a.is ∙ tree.view-Parbegin a.line a.arms) at c.requires.ready.room in
+    omega (arith, room, c.len.ensures, width-view a.arms.items)

@@ -1,4 +1,4 @@
-use Rattle.std.proofs.Common.{arith, ◌∙◌}
+use Rattle.std.proofs.Common.{arith}
 use Rattle.std.proofs.lemmas.List.{length-map}
 use Rattle.pb_tree.specs.View.{name_view, process_view}
 use Rattle.pb_names.specs.Search.{names_in}
@@ -10,7 +10,7 @@ pub returns : goal.returns
 returns g c =
     let done = rw c.in_ok-names.ensures at c.in_ok-body.ensures in
     whole_process (names_in c.args.resources.now) (process_view c.args.process.now) _ _ _
-    (c.in_ok-name.ensures.items ∙ c.deref.ensures.value)
+    c.in_ok-name.ensures
     c.in_ok-integers.ensures
     (omega (arith, length-map c.args.process.now.integers.items name_view))
     c.requires.room c.requires.free done.resolves done.numbered

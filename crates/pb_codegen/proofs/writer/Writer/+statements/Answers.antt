@@ -1,13 +1,16 @@
-use Rattle.std.proofs.Common.{rules, arith, ◌≤◌, length, Some, length-append}
+use Rattle.std.proofs.Common.{rules, arith, ◌≡◌, ◌≤◌, ◌+◌, length, Some, length-append, ap, drop, refl, ◌∙◌}
+use Rattle.std.proofs.lemmas.List.{take_all, drop_all}
 use Rattle.pb_claims.proofs.Sizes.{stmt_within}
-use Rattle.pb_names.specs.Program.{arms_in_arms, arms_in_stmt, arms_list}
+use Rattle.pb_names.specs.Program.{arms_in, arms_in_arms, arms_in_stmt, arms_list}
 use Rattle.pb_names.specs.View.{arms_view, block_view, expr_view, stmt_view}
-use Rattle.pb_names.proofs.Views.{view-Parbegin}
+use Rattle.pb_names.proofs.Views.{view-Assign, view-Print, view-If, view-While, view-Hold, view-Parbegin}
 use Rattle.pb_codegen.specs.Emitted.{HasRoom, place}
-use Rattle.pb_codegen.specs.Generate.{stmt_code}
-use Rattle.pb_codegen.proofs.Emitting.{adds_nothing, bundle_kept}
+use Rattle.pb_codegen.specs.Generate.{stmt_code, block_code}
+use Rattle.pb_codegen.specs.Lines.{block_lines, line_of}
+use Rattle.pb_codegen.proofs.Emitting.{adds_nothing, adds_as, adds-place, place-replaced, bundle_kept}
 use Rattle.pb_codegen.proofs.Lists.{block_written, few_arms_in_stmt, room_for_stmt}
 use Rattle.pb_names.proofs.Numbered.{length-arms_list}
+use Rattle.pb_codegen.proofs.Rooms.{if_fits, while_fits, hold_fits}
 use Rattle.pb_codegen.proofs.Statements.{adds_if, adds_while, adds_hold}
 use Rattle.pb_codegen.proofs.writer.Writer.+statements.Goals as goal
 
@@ -68,3 +71,143 @@ put_while-returns g t c =
     c.place-start.result c.place-to_end.result c.place-end.result
     c.in_ok-put_expr.ensures c.in_ok-put.ensures c.in_ok-put_block.ensures c.in_ok-put-2.ensures c.patch.ensures
     c.place-start.ensures c.place-to_end.ensures c.place-end.ensures (Some c.args.line)
+
+-- ---- what an if asks
+
+pub put_if-place-to_other-requires : goal.put_if-place-to_other-requires
+put_if-place-to_other-requires g t c =
+    let fits =
+    if_fits (place c.args.self.now) c.args.line (expr_view c.args.test.now) (block_view c.args.on_true.now.items) (block_view c.args.on_false.now.items)
+    (place c.put_expr.new.self) _ _ _ c.requires.room.small (adds-place c.in_ok-put_expr.ensures) refl refl refl in
+    omega (arith, fits)
+
+pub put_if-put_block-requires : goal.put_if-put_block-requires
+put_if-put_block-requires g t c κs within =
+    let fits =
+    if_fits (place c.args.self.now) c.args.line (expr_view c.args.test.now) (block_view c.args.on_true.now.items) (block_view c.args.on_false.now.items)
+    (place c.put_expr.new.self) (place c.put.new.self) _ _ c.requires.room.small (adds-place c.in_ok-put_expr.ensures)
+    (adds-place c.in_ok-put.ensures) refl refl in
+    let room : HasRoom c.put.new.self (block_code (place c.put.new.self) (block_view c.args.on_true.now.items)) =
+    record { sound = c.in_ok-put.ensures.sound; small = omega (arith, fits) } in
+    let few : length (arms_in (block_view c.args.on_true.now.items)) ≤ 64 =
+    omega (arith, c.requires.few_arms, length-append (arms_in (block_view c.args.on_true.now.items)) (arms_in (block_view c.args.on_false.now.items))) in
+    search rules
+
+pub put_if-place-to_end-requires : goal.put_if-place-to_end-requires
+put_if-place-to_end-requires g t c =
+    let fits =
+    if_fits (place c.args.self.now) c.args.line (expr_view c.args.test.now) (block_view c.args.on_true.now.items) (block_view c.args.on_false.now.items)
+    (place c.put_expr.new.self) (place c.put.new.self) (place c.put_block.new.self) _ c.requires.room.small (adds-place c.in_ok-put_expr.ensures)
+    (adds-place c.in_ok-put.ensures) (adds-place c.in_ok-put_block.ensures) refl in
+    omega (arith, fits)
+
+pub put_if-place-other-requires : goal.put_if-place-other-requires
+put_if-place-other-requires g t c =
+    let fits =
+    if_fits (place c.args.self.now) c.args.line (expr_view c.args.test.now) (block_view c.args.on_true.now.items) (block_view c.args.on_false.now.items)
+    (place c.put_expr.new.self) (place c.put.new.self) (place c.put_block.new.self) (place c.put-2.new.self) c.requires.room.small (adds-place c.in_ok-put_expr.ensures)
+    (adds-place c.in_ok-put.ensures) (adds-place c.in_ok-put_block.ensures) (adds-place c.in_ok-put-2.ensures) in
+    omega (arith, fits)
+
+pub put_if-patch-requires-clause-there : goal.put_if-patch-requires-clause-there
+put_if-patch-requires-clause-there g t c =
+    omega (arith, c.place-to_other.ensures, adds-place c.in_ok-put.ensures, adds-place c.in_ok-put_block.ensures, adds-place c.in_ok-put-2.ensures)
+
+pub put_if-put_block-requires-2 : goal.put_if-put_block-requires-2
+put_if-put_block-requires-2 g t c κs within =
+    let same : (place c.patch.new.self) ≡ (place c.put_block.new.self) + 1 = omega (arith, place-replaced c.patch.ensures, adds-place c.in_ok-put-2.ensures) in
+    let fits =
+    if_fits (place c.args.self.now) c.args.line (expr_view c.args.test.now) (block_view c.args.on_true.now.items) (block_view c.args.on_false.now.items)
+    (place c.put_expr.new.self) (place c.put.new.self) (place c.put_block.new.self) (place c.patch.new.self) c.requires.room.small (adds-place c.in_ok-put_expr.ensures)
+    (adds-place c.in_ok-put.ensures) (adds-place c.in_ok-put_block.ensures) same in
+    let room : HasRoom c.patch.new.self (block_code (place c.patch.new.self) (block_view c.args.on_false.now.items)) =
+    record { sound = c.patch.ensures.sound; small = fits } in
+    let few : length (arms_in (block_view c.args.on_false.now.items)) ≤ 64 =
+    omega (arith, c.requires.few_arms, length-append (arms_in (block_view c.args.on_true.now.items)) (arms_in (block_view c.args.on_false.now.items))) in
+    search rules
+
+pub put_if-place-end-requires : goal.put_if-place-end-requires
+put_if-place-end-requires g t c =
+    let same : (place c.patch.new.self) ≡ (place c.put_block.new.self) + 1 = omega (arith, place-replaced c.patch.ensures, adds-place c.in_ok-put-2.ensures) in
+    let fits =
+    if_fits (place c.args.self.now) c.args.line (expr_view c.args.test.now) (block_view c.args.on_true.now.items) (block_view c.args.on_false.now.items)
+    (place c.put_expr.new.self) (place c.put.new.self) (place c.put_block.new.self) (place c.patch.new.self) c.requires.room.small (adds-place c.in_ok-put_expr.ensures)
+    (adds-place c.in_ok-put.ensures) (adds-place c.in_ok-put_block.ensures) same in
+    omega (arith, fits, adds-place c.in_ok-put_block-2.ensures)
+
+-- ---- what a while asks
+
+pub put_while-place-to_end-requires : goal.put_while-place-to_end-requires
+put_while-place-to_end-requires g t c =
+    let fits =
+    while_fits (place c.args.self.now) c.args.line (expr_view c.args.test.now) (block_view c.args.body.now.items)
+    (place c.put_expr.new.self) _ _ c.requires.room.small (adds-place c.in_ok-put_expr.ensures) refl refl in
+    omega (arith, fits)
+
+pub put_while-put_block-requires : goal.put_while-put_block-requires
+put_while-put_block-requires g t c κs within =
+    let fits =
+    while_fits (place c.args.self.now) c.args.line (expr_view c.args.test.now) (block_view c.args.body.now.items)
+    (place c.put_expr.new.self) (place c.put.new.self) _ c.requires.room.small (adds-place c.in_ok-put_expr.ensures)
+    (adds-place c.in_ok-put.ensures) refl in
+    let room : HasRoom c.put.new.self (block_code (place c.put.new.self) (block_view c.args.body.now.items)) =
+    record { sound = c.in_ok-put.ensures.sound; small = omega (arith, fits) } in
+    let few = c.requires.few_arms in
+    search rules
+
+pub put_while-place-end-requires : goal.put_while-place-end-requires
+put_while-place-end-requires g t c =
+    let fits =
+    while_fits (place c.args.self.now) c.args.line (expr_view c.args.test.now) (block_view c.args.body.now.items)
+    (place c.put_expr.new.self) (place c.put.new.self) (place c.put_block.new.self) c.requires.room.small (adds-place c.in_ok-put_expr.ensures)
+    (adds-place c.in_ok-put.ensures) (adds-place c.in_ok-put_block.ensures) in
+    omega (arith, fits, adds-place c.in_ok-put-2.ensures)
+
+pub put_while-patch-requires-clause-there : goal.put_while-patch-requires-clause-there
+put_while-patch-requires-clause-there g t c =
+    omega (arith, c.place-to_end.ensures, adds-place c.in_ok-put.ensures, adds-place c.in_ok-put_block.ensures, adds-place c.in_ok-put-2.ensures)
+
+-- ---- what a hold asks
+
+pub put_hold-put_block-requires : goal.put_hold-put_block-requires
+put_hold-put_block-requires g t c κs within =
+    let fits =
+    hold_fits (place c.args.self.now) c.args.line c.args.bundle.now (block_view c.args.body.now.items) (place c.put_take.new.self) c.requires.room.small (adds-place c.in_ok-bundle.ensures.added) in
+    let room : HasRoom c.put_take.new.self (block_code (place c.put_take.new.self) (block_view c.args.body.now.items)) =
+    record { sound = c.in_ok-bundle.ensures.added.sound; small = omega (arith, fits) } in
+    let few = c.requires.few_arms in
+    search rules
+
+-- ---- statements and lists
+
+pub put_stmt-returns-in-If : goal.put_stmt-returns-in-If
+put_stmt-returns-in-If g t c =
+    rw (c.in-If.is, view-If) c.put_if.ensures
+
+pub put_stmt-returns-in-While : goal.put_stmt-returns-in-While
+put_stmt-returns-in-While g t c =
+    rw (c.in-While.is, view-While) c.put_while.ensures
+
+pub put_stmt-returns-in-Hold : goal.put_stmt-returns-in-Hold
+put_stmt-returns-in-Hold g t c =
+    rw (c.in-Hold.is, view-Hold) c.put_hold.ensures
+
+pub put_stmt-returns-in-Assign : goal.put_stmt-returns-in-Assign
+put_stmt-returns-in-Assign g t c =
+    rw (c.in-Assign.is, view-Assign) c.put_last.ensures
+
+pub put_stmt-returns-in-Print : goal.put_stmt-returns-in-Print
+put_stmt-returns-in-Print g t c =
+    rw (c.in-Print.is, view-Print) c.put_last-in-Print.ensures
+
+pub put_block-returns : goal.put_block-returns
+put_block-returns g t c =
+    let stmts = c.args.stmts.now.items in
+    let after = c.args.after in
+    let p = place c.args.self.now in
+    let end : length stmts ≤ c.loop-i.i =
+    omega (arith, ap length c.deref-stmt-items.ensures.value) in
+    let all = take_all c.loop-i.i stmts end in
+    adds_as c.loop-i.invariant (ap (λ ss. block_code p (block_view ss)) all)
+    (ap (λ ss. block_lines (block_view ss) (line_of (block_view (drop c.loop-i.i stmts)) after)) all
+    ∙ ap (λ ss. block_lines (block_view stmts) (line_of (block_view ss) after)) (drop_all c.loop-i.i stmts end))

@@ -1,7 +1,5 @@
 use Rattle.std.proofs.Common.{◌≡◌, map, take}
-use Rattle.pb_tree.specs.View.{process_view}
-use Rattle.pb_names.specs.Resolves.{texts}
 use Rattle.pb_names.proofs.declared.Declared.processes.Given as goal
 
 abbrev pub invariant-loop-process : goal.invariant-loop-process
-invariant-loop-process g l = map (λ text. text.now) l.texts.items ≡ texts (map (λ x. x.name) (map process_view (take l.process-index l.process-items)))
+invariant-loop-process g l = map (λ text. text.now) l.texts.items ≡ map (λ x. x.name.text.items) (take l.process-index l.process-items)
