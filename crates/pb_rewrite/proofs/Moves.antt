@@ -1,5 +1,5 @@
 -- Lists that are kept last first.
-use Rattle.std.proofs.Common.{◌≡◌, ℕ, suc, List, [], ◌∷◌, ◌++◌, length, map, reverse, ap, refl, sym, ◌∙◌, arith}
+use Rattle.std.proofs.Common.{◌≡◌, suc, List, [], ◌∷◌, ◌++◌, length, map, reverse, ap, refl, sym, ◌∙◌, arith}
 use Rattle.std.proofs.Common.{◌≤◌, append_assoc, length-append}
 use Rattle.std.proofs.lemmas.List.{reverse-append, map-append}
 use Rattle.pb_names.specs.Source.{item_of, items_of}
