@@ -1,6 +1,6 @@
 -- Lists that are kept last first.
-use Rattle.std.proofs.Common.{◌≡◌, ℕ, suc, List, [], ◌∷◌, ◌++◌, length, map, reverse, ap, refl, sym, ◌∙◌, arith}
-use Rattle.std.proofs.Common.{append_assoc}
+use Rattle.std.proofs.Common.{◌≡◌, suc, List, [], ◌∷◌, ◌++◌, length, map, reverse, ap, refl, sym, ◌∙◌, arith}
+use Rattle.std.proofs.Common.{◌≤◌, append_assoc, length-append}
 use Rattle.std.proofs.lemmas.List.{reverse-append, map-append}
 use Rattle.pb_names.specs.Source.{item_of, items_of}
 use Rattle.pb_names.specs.View.{block_of, block_view, stmt_view}
@@ -38,5 +38,9 @@ one_moved items items' body body' s taken put =
     ∙ sym (append_assoc (items_of (block_view body')) (item_of (stmt_view s) ∷ []) (items_view items))
     ∙ ap (λ is. is ++ items_view items) (sym (moved_over body' s))
     ∙ ap (λ ss. items_of (block_view ss) ++ items_view items) (sym taken)
+
+-- what was taken from a list left it shorter
+pub fewer_left : {X : Type 0} (all rest : List X) (x : X) → all ≡ rest ++ x ∷ [] → suc (length rest) ≤ length all
+fewer_left all rest x taken = omega (arith, ap length taken, length-append rest (x ∷ []))
 
 pub ruleset pushes = (items_view-push, moved_over, append_assoc)

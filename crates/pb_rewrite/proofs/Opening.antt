@@ -1,10 +1,10 @@
 -- All processes before their first step.
-use Rattle.std.proofs.Common.{◌≡◌, ℕ, zero, suc, ◌+◌, ◌<◌, List, [], ◌∷◌, ◌++◌, pos, length, map, take, get_or, replicate, Option, Some, None, option_map, inl, inr, ap, ap₂, subst, refl, sym, ◌∙◌, arith, append-nil}
+use Rattle.std.proofs.Common.{◌≡◌, ℕ, zero, suc, ◌+◌, ◌<◌, List, [], ◌∷◌, ◌++◌, pos, length, map, take, get_or, replicate, Option, Some, None, option_map, inl, inr, ap, ap₂, subst, refl, sym, ◌∙◌, arith, append-nil, ◌≤◌}
 use Rattle.std.specs.Prelude.{slice_get, slice_index}
 use Rattle.std.proofs.lemmas.List.{length-map, map_more, map-append}
 use Rattle.std.proofs.lemmas.Bool.{cases_lt}
 use Rattle.std.proofs.lemmas.Option.{slice_get-map}
-use Rattle.pb_base.specs.Banker.{row_of}
+use Rattle.pb_base.specs.Banker.{cell, row_of}
 use Rattle.pb_base.specs.Steppers.{Table, opening}
 use Rattle.pb_banker.specs.Value.{start_state}
 use Rattle.pb_names.specs.Program.{Process, Program, capital_of, Block, arms_in, IsNumbered}
@@ -13,7 +13,7 @@ use Rattle.pb_names.specs.View.{resource_view, process_view as program_process}
 use Rattle.pb_names.specs.declared.resolved.Process.{Process as GivenProgram}
 use Rattle.pb_names.specs.declared.resolved.Resource.{Resource}
 use Rattle.pb_rewrite.specs.Sound.{AreSound, IsSoundRun, BlockNames, Owns, IsOwned}
-use Rattle.pb_rewrite.specs.Sources.{Fits}
+use Rattle.pb_rewrite.specs.Sources.{Fits, FitsCapital}
 use Rattle.pb_rewrite.specs.View.{process_view}
 use Rattle.pb_rewrite.specs.declared.process.SourceProcess.{SourceProcess as Given}
 use Rattle.pb_rewrite.proofs.Holding.{held_items}
@@ -156,3 +156,23 @@ pub opens : (program : Program) (claims : Table) → Fits program claims
     → state_with (map source_process program.processes) (start_state (capital_of program) claims).loans
     ≡ opening (record { capital = capital_of program; claims = claims }) (map source_process program.processes)
 opens program claims fits = ap (state_with (map source_process program.processes)) (loans_open program claims fits)
+
+-- ---- the capital that the banker is given
+
+pub few_resources : {A : Type 0} (program : Program) (claims : Table) (resources : List (Resource A))
+    → program.resources ≡ map resource_view resources → Fits program claims → length resources ≤ 16
+few_resources program claims resources are fits =
+    omega (arith, fits.few_resources, ap length are, length-map resources resource_view)
+
+pub as_wide : (program : Program) (claims : Table) (capital : List ℕ) → capital ≡ capital_of program → Fits program claims
+    → length (row_of claims 0) ≡ length capital
+as_wide program claims capital is fits =
+    fits.width 0 (omega (arith, fits.some, fits.height))
+    ∙ sym (ap length is ∙ length-map program.resources (λ resource. resource.capital))
+
+pub within_capital : (program : Program) (claims : Table) (capital : List ℕ) → capital ≡ capital_of program
+    → FitsCapital program claims
+    → (p r : ℕ) → p < length claims → r < length capital → cell claims p r ≤ slice_index capital r
+within_capital program claims capital is fits p r in_claims in_capital =
+    let resources = ap length is ∙ length-map program.resources (λ resource. resource.capital) in
+    subst (λ amounts. cell claims p r ≤ slice_index amounts r) (sym is) (fits p r in_claims (omega arith))

@@ -8,6 +8,7 @@ use pb_names::{Expr, Stmt};
 use std::alloc::Allocator;
 
 /// Returns the same expression once more.
+#[cycle(operands)]
 #[tactic(auto, using(pb_names::proofs::Views::expr_views))]
 pub(crate) fn copy_expr<A: Allocator + Clone>(
     expr: &Expr<A>,
@@ -18,17 +19,24 @@ pub(crate) fn copy_expr<A: Allocator + Clone>(
     match expr {
         Expr::Number(value) => Ok(Expr::Number(*value)),
         Expr::Variable(x) => Ok(Expr::Variable(*x)),
-        Expr::Unary(op, operand) => {
-            let operand = copy_expr(operand, alloc)?;
-            Ok(Expr::Unary(*op, Box::new(alloc.clone()?, operand)?))
-        }
+        Expr::Unary(op, operand) => Ok(Expr::Unary(*op, copy_operand(operand, alloc)?)),
         Expr::Binary(op, left, right) => {
-            let left = copy_expr(left, alloc)?;
-            let right = copy_expr(right, alloc)?;
-            let left = Box::new(alloc.clone()?, left)?;
-            Ok(Expr::Binary(*op, left, Box::new(alloc.clone()?, right)?))
+            let left = copy_operand(left, alloc)?;
+            Ok(Expr::Binary(*op, left, copy_operand(right, alloc)?))
         }
     }
+}
+
+/// Returns the same operand once more.
+#[cycle(operands)]
+fn copy_operand<A: Allocator + Clone>(
+    operand: &Box<Expr<A>, A>,
+    alloc: &A,
+) -> Result<Box<Expr<A>, A>, NoMemory>
+    ensures { IfOk result (λ copy. expr_view copy.value ≡ expr_view operand.now.value) }
+{
+    let copy = copy_expr(operand, alloc)?;
+    Ok(Box::new(alloc.clone()?, copy)?)
 }
 
 /// Returns the same statement once more.

@@ -19,7 +19,7 @@ pub(crate) fn with_first<A: Allocator>(items: Vec<Item<A>, A>, first: Item<A>) -
     ensures capacity { vec_capacity items ≤ vec_capacity result }
 {
     let mut items = items;
-    let _ = items.push(first);
+    items.push_reserved(first);
     items
 }
 
@@ -35,7 +35,7 @@ pub(crate) fn with_body<A: Allocator>(
     let mut items = items;
     let mut body = body;
     while let Some(stmt) = body.pop() {
-        let _ = items.push(Item::Left(stmt));
+        items.push_reserved(Item::Left(stmt));
     }
     items
 }
@@ -51,7 +51,7 @@ pub(crate) fn fresh_arms<A: Allocator>(
 {
     let mut arms = arms;
     for body in bodies {
-        let _ = arms.push(Arm::Fresh(body));
+        arms.push_reserved(Arm::Fresh(body));
     }
     arms
 }

@@ -19,3 +19,8 @@ copied_more f g ys ys' y xs i x so_far within here pushed same =
 pub copied_all : {X Y Z : Type 0} (f : X → Z) (g : Y → Z) (ys : List Y) (xs : List X) (i : ℕ)
     → map g ys ≡ map f (take i xs) → length xs ≤ i → map g ys ≡ map f xs
 copied_all f g ys xs i so_far end = so_far ∙ ap (map f) (take_all i xs end)
+
+-- what a loop has made of all elements, through a slice of them, it has made of the list
+pub read_all : {X Y : Type 0} (f : List X → Y) (all xs : List X) (i : ℕ) (y : Y)
+    → y ≡ f (take i xs) → length xs ≤ i → xs ≡ all → y ≡ f all
+read_all f all xs i y so_far end list = so_far ∙ ap f (take_all i xs end ∙ list)

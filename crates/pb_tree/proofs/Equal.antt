@@ -1,7 +1,7 @@
 -- Lists with equal views, and a loop that compares them.
 use Rattle.std.proofs.Common.{◌≡◌, ℕ, ◌+◌, ◌<◌, List, [], ◌∷◌, ◌++◌, map, length, take, get_or, ap, ap₂}
-use Rattle.std.proofs.Common.{sym, ◌∙◌, refl}
-use Rattle.std.proofs.lemmas.List.{map_more, get_or-map, length-map}
+use Rattle.std.proofs.Common.{◌≤◌, Bool, true, false, arith, sym, ◌∙◌, refl}
+use Rattle.std.proofs.lemmas.List.{map_more, get_or-map, length-map, take_all}
 use Rattle.pb_tree.specs.Syntax.{StmtSyntax, StmtsSyntax}
 use Rattle.pb_tree.specs.View.{stmts_of, arms_of}
 
@@ -62,3 +62,17 @@ pub same_step : {X Y Z : Type 0} (f : X → Z) (g : Y → Z) (all xs : List X) (
 same_step f g all xs ys i x y so_far here list below below' at_x at_y =
     ap (λ zs. map f (take (i + 1) zs)) (sym list)
     ∙ same_more f g xs ys i x y (ap (λ zs. map f (take i zs)) list ∙ so_far) here below below' at_x at_y
+
+-- after the last element of lists of one length
+pub same_all : {X Y Z : Type 0} (f : X → Z) (g : Y → Z) (all xs : List X) (ys : List Y) (i : ℕ)
+    → map f (take i all) ≡ map g (take i ys) → xs ≡ all → length xs ≤ i → length all ≡ length ys
+    → map f all ≡ map g ys
+same_all f g all xs ys i so_far list end lengths =
+    let lengths_of_slice = ap length list in
+    ap (map f) (sym (take_all i all (omega arith)))
+    ∙ so_far
+    ∙ ap (map g) (take_all i ys (omega arith))
+
+-- no test both fails and holds
+pub not_both : {X : Type 0} {x y : X} {b : Bool} → b ≡ false → b ≡ true → x ≡ y
+not_both fails holds = absurd (cc)

@@ -4,5 +4,6 @@ pub mod Equal
 pub mod Lists
 pub mod Shapes
 pub mod Smaller
+pub mod StmtShapes
 pub mod Sums
 pub mod Views

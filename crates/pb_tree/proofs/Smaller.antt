@@ -1,9 +1,13 @@
 -- A part has fewer nodes than the whole, so a recursion down a tree ends.
-use Rattle.std.proofs.Common.{◌≡◌, ℕ, zero, suc, ◌<◌, ◌≤◌, List, [], ◌∷◌, Vec, length, get_or, arith, ap, ◌∙◌}
-use Rattle.pb_tree.specs.Measure.{stmt_nodes, stmts_nodes, arms_nodes}
-use Rattle.pb_tree.specs.View.{stmt_view, stmts_view, arm_view, arms_view}
-use Rattle.pb_tree.specs.declared.stmt.Stmt.{Stmt, Parbegin}
-use Rattle.pb_tree.proofs.Views.{view-Parbegin}
+use Rattle.std.proofs.Common.{◌≡◌, ℕ, zero, suc, ◌<◌, ◌≤◌, List, [], ◌∷◌, Vec, Box, length, get_or, arith, ap, ◌∙◌}
+use Rattle.pb_tree.specs.Measure.{expr_nodes, stmt_nodes, stmts_nodes, arms_nodes}
+use Rattle.pb_tree.specs.View.{expr_view, stmt_view, stmts_view, arm_view, arms_view}
+use Rattle.pb_base.specs.declared.operators.UnaryOp.{UnaryOp}
+use Rattle.pb_base.specs.declared.operators.BinaryOp.{BinaryOp}
+use Rattle.pb_tree.specs.declared.expr.Expr.{Expr, Unary, Binary}
+use Rattle.pb_tree.specs.declared.stmt.Demand.{Demand}
+use Rattle.pb_tree.specs.declared.stmt.Stmt.{Stmt, If, While, Hold, Parbegin}
+use Rattle.pb_tree.proofs.Views.{view-Unary, view-Binary, view-If, view-While, view-Hold, view-Parbegin}
 
 stmt_at : {A : Type 0} (ss : List (Stmt A)) (i : ℕ) (d : Stmt A) → i < length ss
     → stmt_nodes (stmt_view (get_or ss i d)) ≤ stmts_nodes (stmts_view ss)
@@ -49,3 +53,45 @@ pub arms_within : {A : Type 0} (s : Stmt A) (line : ℕ) (arms : Vec (Vec (Stmt 
     → arms_nodes (arms_view arms.items) < stmt_nodes (stmt_view s)
 unfolding arm_view
 arms_within s line arms is = omega (arith, ap stmt_nodes (ap stmt_view is ∙ view-Parbegin line arms))
+
+-- a list of an if, of a while and of a hold
+
+pub then_within : {A : Type 0} (s : Stmt A) (line : ℕ) (e : Expr A) (on_true on_false : Vec (Stmt A) A)
+    → s ≡ If line e on_true on_false
+    → stmts_nodes (stmts_view on_true.items) < stmt_nodes (stmt_view s)
+then_within s line e on_true on_false is =
+    omega (arith, ap stmt_nodes (ap stmt_view is ∙ view-If line e on_true on_false))
+
+pub else_within : {A : Type 0} (s : Stmt A) (line : ℕ) (e : Expr A) (on_true on_false : Vec (Stmt A) A)
+    → s ≡ If line e on_true on_false
+    → stmts_nodes (stmts_view on_false.items) < stmt_nodes (stmt_view s)
+else_within s line e on_true on_false is =
+    omega (arith, ap stmt_nodes (ap stmt_view is ∙ view-If line e on_true on_false))
+
+pub repeated_within : {A : Type 0} (s : Stmt A) (line : ℕ) (e : Expr A) (body : Vec (Stmt A) A)
+    → s ≡ While line e body
+    → stmts_nodes (stmts_view body.items) < stmt_nodes (stmt_view s)
+repeated_within s line e body is = omega (arith, ap stmt_nodes (ap stmt_view is ∙ view-While line e body))
+
+pub held_within : {A : Type 0} (s : Stmt A) (line : ℕ) (demands : Vec (Demand A) A) (body : Vec (Stmt A) A)
+    → s ≡ Hold line demands body
+    → stmts_nodes (stmts_view body.items) < stmt_nodes (stmt_view s)
+held_within s line demands body is =
+    omega (arith, ap stmt_nodes (ap stmt_view is ∙ view-Hold line demands body))
+
+-- the operands of an expression
+
+pub operand_within : {A : Type 0} (s : Expr A) (op : UnaryOp) (e : Box (Expr A) A)
+    → s ≡ Unary op e
+    → expr_nodes (expr_view e.value) < expr_nodes (expr_view s)
+operand_within s op e is = omega (arith, ap expr_nodes (ap expr_view is ∙ view-Unary op e))
+
+pub left_within : {A : Type 0} (s : Expr A) (op : BinaryOp) (a b : Box (Expr A) A)
+    → s ≡ Binary op a b
+    → expr_nodes (expr_view a.value) < expr_nodes (expr_view s)
+left_within s op a b is = omega (arith, ap expr_nodes (ap expr_view is ∙ view-Binary op a b))
+
+pub right_within : {A : Type 0} (s : Expr A) (op : BinaryOp) (a b : Box (Expr A) A)
+    → s ≡ Binary op a b
+    → expr_nodes (expr_view b.value) < expr_nodes (expr_view s)
+right_within s op a b is = omega (arith, ap expr_nodes (ap expr_view is ∙ view-Binary op a b))

@@ -62,23 +62,31 @@ impl<A: Allocator> Expr<A> {
     ghost use Rattle.pb_tree.specs.View.{expr_view};
 
     /// Returns the same expression in memory of `alloc`. The error comes only if `alloc` is out of memory.
+    #[cycle(copy)]
     pub fn copy_into<B: Allocator + Clone>(&self, alloc: &B) -> Result<Expr<B>, NoMemory>
         ensures { IfOk result (λ expr. expr_view expr ≡ expr_view self.now) }
     {
         match self {
             Expr::Number(number) => Ok(Expr::Number(*number)),
             Expr::Variable(name) => Ok(Expr::Variable(name.copy_into(alloc)?)),
-            Expr::Unary(op, operand) => {
-                let operand = operand.copy_into(alloc)?;
-                Ok(Expr::Unary(*op, Box::new(alloc.clone()?, operand)?))
-            }
+            Expr::Unary(op, operand) => Ok(Expr::Unary(*op, Expr::copy_operand(operand, alloc)?)),
             Expr::Binary(op, left, right) => {
-                let left = left.copy_into(alloc)?;
-                let right = right.copy_into(alloc)?;
-                let left = Box::new(alloc.clone()?, left)?;
-                Ok(Expr::Binary(*op, left, Box::new(alloc.clone()?, right)?))
+                let left = Expr::copy_operand(left, alloc)?;
+                Ok(Expr::Binary(*op, left, Expr::copy_operand(right, alloc)?))
             }
         }
+    }
+
+    /// Returns the same operand in memory of `alloc`.
+    #[cycle(copy)]
+    fn copy_operand<B: Allocator + Clone>(
+        operand: &Box<Expr<A>, A>,
+        alloc: &B,
+    ) -> Result<Box<Expr<B>, B>, NoMemory>
+        ensures { IfOk result (λ copy. expr_view copy.value ≡ expr_view operand.now.value) }
+    {
+        let copy = operand.copy_into(alloc)?;
+        Ok(Box::new(alloc.clone()?, copy)?)
     }
 
     /// Returns whether the other expression is the same, places included, in whatever memory it lies.
@@ -90,7 +98,7 @@ impl<A: Allocator> Expr<A> {
             (Expr::Variable(a), Expr::Variable(b)) => a.same(b),
             (Expr::Unary(op, a), Expr::Unary(other_op, b)) => op == other_op && a.same(b),
             (Expr::Binary(op, a1, a2), Expr::Binary(other_op, b1, b2)) => {
-                op == other_op && a1.same(b1) && a2.same(b2)
+                op == other_op && (a1.same(b1) && a2.same(b2))
             }
             _ => false,
         }

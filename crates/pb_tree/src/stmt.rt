@@ -187,78 +187,66 @@ impl<A: Allocator> Stmt<A> {
     pub fn same<B: Allocator>(&self, other: &Stmt<B>) -> bool
         ensures { IsTrue result ↔ (stmt_view self.now ≡ stmt_view other.now) }
     {
+        if line_of(self) != line_of(other) {
+            return false;
+        }
         match (self, other) {
             (
+                Stmt::Assign { target, value, .. },
                 Stmt::Assign {
-                    line,
-                    target,
-                    value,
-                },
-                Stmt::Assign {
-                    line: other_line,
                     target: other_target,
                     value: other_value,
+                    ..
                 },
-            ) => line == other_line && target.same(other_target) && value.same(other_value),
+            ) => { target.same(other_target) && value.same(other_value) }
             (
-                Stmt::Print { line, value },
+                Stmt::Print { value, .. },
                 Stmt::Print {
-                    line: other_line,
                     value: other_value,
+                    ..
                 },
-            ) => { line == other_line && value.same(other_value) }
+            ) => value.same(other_value),
             (
                 Stmt::If {
-                    line,
                     test,
                     on_true,
                     on_false,
+                    ..
                 },
                 Stmt::If {
-                    line: other_line,
                     test: other_test,
                     on_true: other_true,
                     on_false: other_false,
+                    ..
                 },
             ) => {
-                line == other_line
-                    && test.same(other_test)
-                    && Stmt::same_list(on_true, other_true)
-                    && Stmt::same_list(on_false, other_false)
+                test.same(other_test)
+                    && (Stmt::same_list(on_true, other_true)
+                        && Stmt::same_list(on_false, other_false))
             }
             (
-                Stmt::While { line, test, body },
+                Stmt::While { test, body, .. },
                 Stmt::While {
-                    line: other_line,
                     test: other_test,
                     body: other_body,
+                    ..
                 },
-            ) => {
-                line == other_line && test.same(other_test) && Stmt::same_list(body, other_body)
-            }
+            ) => { test.same(other_test) && Stmt::same_list(body, other_body) }
             (
+                Stmt::Hold { demands, body, .. },
                 Stmt::Hold {
-                    line,
-                    demands,
-                    body,
-                },
-                Stmt::Hold {
-                    line: other_line,
                     demands: other_demands,
                     body: other_body,
+                    ..
                 },
-            ) => {
-                line == other_line
-                    && same_demands(demands, other_demands)
-                    && Stmt::same_list(body, other_body)
-            }
+            ) => { same_demands(demands, other_demands) && Stmt::same_list(body, other_body) }
             (
-                Stmt::Parbegin { line, arms },
+                Stmt::Parbegin { arms, .. },
                 Stmt::Parbegin {
-                    line: other_line,
                     arms: other_arms,
+                    ..
                 },
-            ) => { line == other_line && Stmt::same_arms(arms, other_arms) }
+            ) => Stmt::same_arms(arms, other_arms),
             _ => false,
         }
     }

@@ -1,6 +1,6 @@
-use Rattle.std.proofs.Common.{◌≡◌, ◌+◌, ◌≤◌, None, rules, length, map, set, get_or, sym, ap, ◌∙◌, arith}
+use Rattle.std.proofs.Common.{◌≡◌, ◌+◌, ◌≤◌, None, rules, length, map, set, get_or, sym, ap, refl, ◌∙◌, arith}
 use Rattle.std.proofs.lemmas.List.{length-map}
-use borrow.Author.Count.{below_more}
+use borrow.Author.Count.{below_more, falls}
 use Rattle.pb_names.specs.Source.{Arm, find, put}
 use Rattle.pb_rewrite.specs.Sound.{IsSingle}
 use Rattle.pb_rewrite.specs.View.{arm_view, running_of}
@@ -69,3 +69,13 @@ swap_among-returns g t c =
       ap running_of c.loop-i.invariant.views,
       c.loop-i.invariant.other,
     )
+
+pub swap_among-loop-i-init : goal.swap_among-loop-i-init
+swap_among-loop-i-init g t c = record {
+  views = refl;
+  none = λ k d h. absurd (omega arith);
+  other = refl;
+}
+
+pub swap_among-loop-i-smaller : goal.swap_among-loop-i-smaller
+swap_among-loop-i-smaller g t c = falls _ _ c.loop-i-test.true

@@ -40,3 +40,15 @@ returns-in-OverClaim g c =
       c.unentered-in-OverClaim.ensures,
       c.in-OverClaim.ensures.state,
     )
+
+pub ask-requires-clause-below : goal.ask-requires-clause-below
+ask-requires-clause-below g c = c.requires.below
+
+pub with_first-items-requires : goal.with_first-items-requires
+with_first-items-requires g c = omega (arith, c.requires.room)
+
+pub unentered-requires : goal.unentered-requires
+unentered-requires g c = omega (arith, c.requires.room)
+
+pub unentered-requires-in-OverClaim : goal.unentered-requires-in-OverClaim
+unentered-requires-in-OverClaim g c = omega (arith, c.requires.room)

@@ -22,3 +22,15 @@ returns-in-Err-clause-err g c =
           ∙ ap (λ old. plain.Doing (plain.Hold c.args.line c.args.bundle (block_view c.args.body.items) ∷ items_view old)) c.reserve.ensures.items,
       refl,
     )
+
+pub ask_for-requires-clause-below : goal.ask_for-requires-clause-below
+ask_for-requires-clause-below g c = c.requires.below
+
+pub unentered-requires : goal.unentered-requires
+unentered-requires g c = omega (arith, c.requires.room, c.reserve.ensures.len, c.reserve.ensures.capacity)
+
+pub returns-in-Ok-clause-err : goal.returns-in-Ok-clause-err
+returns-in-Ok-clause-err g c = tt
+
+pub returns-in-Err-clause-ok : goal.returns-in-Err-clause-ok
+returns-in-Err-clause-ok g c = tt

@@ -1,4 +1,8 @@
-use Rattle.std.proofs.Common.{arith}
+use borrow.Author.Count.{falls}
+use Rattle.std.proofs.Common.{arith, map}
+use Rattle.pb_tree.specs.Measure.{saturated, processes_nodes}
+use Rattle.pb_tree.specs.View.{process_view}
+use Rattle.pb_tree.proofs.Copies.{read_all}
 use Rattle.pb_tree.proofs.Sums.{process_nodes_more}
 use Rattle.pb_tree.proofs.program.Program.nodes.Goals as goal
 
@@ -7,5 +11,13 @@ loop-process-preserved g c =
     omega (
       arith,
       process_nodes_more c.deref-process-items.result.now c.loop-process.process-index
-          c.process-item.result c.process-item.is (omega arith),
+          c.process-item.result c.process-item.is c.loop-process-test.true,
     )
+
+pub loop-process-smaller : goal.loop-process-smaller
+loop-process-smaller g c = falls _ _ c.loop-process-test.true
+
+pub returns : goal.returns
+returns g c =
+    read_all (λ ps. saturated (processes_nodes (map process_view ps))) _ _ _ _
+    c.loop-process.invariant c.loop-process-test.false c.deref-process-items.ensures.value
