@@ -1,5 +1,5 @@
 -- What is read of an object is what it spells, and what is spelled is read, whatever follows.
-use Rattle.std.proofs.Common.{◌≡◌, ℕ, ◌^◌, ◌<◌, ◌≤◌, Bool, true, false, cond, eqb, List, [], ◌∷◌, ◌++◌, length, Ok, Err, refl, sym, ap, subst, ◌∙◌, append_assoc, arith, codes, map}
+use Rattle.std.proofs.Common.{◌≡◌, ℕ, ◌^◌, ◌<◌, ◌≤◌, Bool, true, false, cond, eqb, List, [], ◌∷◌, ◌++◌, length, Result, Ok, Err, refl, sym, ap, subst, ◌∙◌, append_assoc, arith, codes, map}
 use Rattle.std.specs.List.{flat_map, list_all}
 use Rattle.std.proofs.lemmas.Bool.{eqb-true}
 use Rattle.std.proofs.lemmas.List.{append-nil, nil_from_length}
@@ -9,7 +9,7 @@ use Rattle.pb_object.specs.declared.format.Format.{Format}
 use Rattle.pb_object.specs.declared.format.Format.TheVariants.{One, Two}
 use Rattle.pb_code.specs.Names.{Word}
 use Rattle.pb_object.specs.Words.{is_new_name}
-use Rattle.pb_object.specs.Lines.{line_text, line, many}
+use Rattle.pb_object.specs.Lines.{line_text, line, many, ◌>>=◌}
 use Rattle.pb_object.specs.Instructions.{place, place_words}
 use Rattle.pb_object.specs.Objects.{ProcessRow, Object, counted_words, resource_words, process_words, integers_words, claims_words, digit_of, process_text, spelling}
 use Rattle.pb_object.specs.Ranges.{Each, IsPlace, IsResource, IsEntry, IsProcess, IsObject, AreIntegers, AreClaims, most_processes}
@@ -18,6 +18,9 @@ use Rattle.pb_object.proofs.LineLemmas.{bind_ok, ok_is, is_inner}
 use Rattle.pb_object.proofs.Parts.{IsPart, line_is, many_is}
 use Rattle.pb_object.proofs.LineForms.{counted_is, heading_is, resource_is, name_is, integers_is, claims_is}
 use Rattle.pb_object.proofs.InstrForms.{place_is}
+
+bind_is : {A B : Type 0} (m : Result A Fault) (f : A → Result B Fault) (x : A) → m ≡ Ok x → (m >>= f) ≡ f x
+bind_is {A} {B} m f x e = ap (λ (r : Result A Fault). r >>= f) e
 
 five : (x1 x2 x3 x4 x5 rest : List ℕ) → (x1 ++ (x2 ++ (x3 ++ (x4 ++ x5)))) ++ rest ≡ x1 ++ (x2 ++ (x3 ++ (x4 ++ (x5 ++ rest))))
 five x1 x2 x3 x4 x5 rest = simp append_assoc
@@ -144,15 +147,15 @@ process_again format m earlier p rest good =
     let x7 = flat_map (λ i. line_text (place_words format i)) p.places in
     let regrouped = seven x1 x2 x3 x4 x5 x6 x7 rest in
     ap (process_at format m earlier) regrouped
-    ∙ rw (
-      (name_part earlier).again p.name (x2 ++ (x3 ++ (x4 ++ (x5 ++ (x6 ++ (x7 ++ rest)))))) good.name,
-      (integers_part format).again p.integers (x3 ++ (x4 ++ (x5 ++ (x6 ++ (x7 ++ rest))))) good.integers,
-      (counted_part (codes "arms") 1 64 (omega arith) refl).again (length p.entries) (x4 ++ (x5 ++ (x6 ++ (x7 ++ rest)))) (good.some_arms, good.few_arms),
-      (claims_part m).again p.claims (x5 ++ (x6 ++ (x7 ++ rest))) good.claims,
-      (entries_part (length p.entries)).again p.entries (x6 ++ (x7 ++ rest)) (refl, good.entries),
-      (counted_part (codes "code") 1 40000 (omega arith) refl).again (length p.places) (x7 ++ rest) (good.some_places, good.few_places),
-      (places_part format (length p.places)).again p.places rest (refl, good.places),
-    ) refl
+    ∙ bind_is _ _ _ ((name_part earlier).again p.name (x2 ++ (x3 ++ (x4 ++ (x5 ++ (x6 ++ (x7 ++ rest)))))) good.name)
+    ∙ bind_is _ _ _ ((integers_part format).again p.integers (x3 ++ (x4 ++ (x5 ++ (x6 ++ (x7 ++ rest))))) good.integers)
+    ∙ bind_is _ _ _ ((counted_part (codes "arms") 1 64 (omega arith) refl).again (length p.entries) (x4 ++ (x5 ++ (x6 ++
+    (x7 ++ rest)))) (good.some_arms, good.few_arms))
+    ∙ bind_is _ _ _ ((claims_part m).again p.claims (x5 ++ (x6 ++ (x7 ++ rest))) good.claims)
+    ∙ bind_is _ _ _ ((entries_part (length p.entries)).again p.entries (x6 ++ (x7 ++ rest)) (refl, good.entries))
+    ∙ bind_is _ _ _ ((counted_part (codes "code") 1 40000 (omega arith) refl).again (length p.places) (x7 ++ rest)
+    (good.some_places, good.few_places))
+    ∙ bind_is _ _ _ ((places_part format (length p.places)).again p.places rest (refl, good.places))
 
 pub process_part : (format : Format) (m : ℕ) (earlier : List ProcessRow) → IsPart (process_at format m earlier)
     (process_text format) (IsProcess format m earlier)
@@ -216,14 +219,13 @@ object_again o rest good =
     let x4 = line_text (counted_words (codes "processes") (length o.processes)) in
     let x5 = flat_map (λ p. process_text o.format p) o.processes in
     ap object_at (five x1 x2 x3 x4 x5 rest)
-    ∙ rw (
-      format_part.again o.format (x2 ++ (x3 ++ (x4 ++ (x5 ++ rest)))) tt,
-      (counted_part (codes "resources") 0 16 (omega arith) refl).again (length o.resources) (x3 ++ (x4 ++ (x5 ++ rest))) (omega arith, good.few_resources),
-      (resources_part (length o.resources)).again o.resources (x4 ++ (x5 ++ rest)) (refl, good.resources),
-      (counted_part (codes "processes") 1 (most_processes o.format) (small_processes o.format) refl).again (length
-          o.processes) (x5 ++ rest) (good.some_processes, good.few_processes),
-      (processes_part o.format (length o.resources) (length o.processes)).again o.processes rest (refl, good.processes),
-    ) refl
+    ∙ bind_is _ _ _ (format_part.again o.format (x2 ++ (x3 ++ (x4 ++ (x5 ++ rest)))) tt)
+    ∙ bind_is _ _ _ ((counted_part (codes "resources") 0 16 (omega arith) refl).again (length o.resources) (x3 ++ (x4 ++
+    (x5 ++ rest))) (omega arith, good.few_resources))
+    ∙ bind_is _ _ _ ((resources_part (length o.resources)).again o.resources (x4 ++ (x5 ++ rest)) (refl, good.resources))
+    ∙ bind_is _ _ _ ((counted_part (codes "processes") 1 (most_processes o.format) (small_processes o.format) refl).again
+    (length o.processes) (x5 ++ rest) (good.some_processes, good.few_processes))
+    ∙ bind_is _ _ _ ((processes_part o.format (length o.resources) (length o.processes)).again o.processes rest (refl, good.processes))
 
 pub object_part : IsPart object_at spelling IsObject
 object_part = record { takes = object_takes; again = object_again }
