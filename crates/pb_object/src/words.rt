@@ -56,18 +56,7 @@ pub(crate) fn words_of(alloc: Global, text: &[u8]) -> Result<(Vec<&[u8]>, &[u8])
     Ok((words, rest))
 }
 
-/// Returns what the line is read as, if the text from its start on has `left` bytes.
-pub(crate) fn judge<T>(left: usize, verdict: Verdict<T>) -> Result<T, ReadError>
-    ensures { Gives (λ x. x) result (judged left verdict) }
-{
-    match verdict {
-        Verdict::Malformed => Err(ReadError::Fault(Fault::Malformed(left))),
-        Verdict::Beyond => Err(ReadError::Fault(Fault::Beyond(left))),
-        Verdict::Read(x) => Ok(x),
-    }
-}
-
-/// Returns what the line is read as, as `judge` does, and what follows the line.
+/// Returns what the line is read as, if the text from its start on has `left` bytes, and what follows the line.
 pub(crate) fn judge_line<T>(
     left: usize,
     verdict: Verdict<T>,
