@@ -82,3 +82,14 @@ more_places {A} {B} {C} text view old so_far new ls is i d e lt even f h =
     (side_push (take i ls) (map view (take i is)) x y same) in
     h ∙ ap (λ (t : List ℕ). t ++ text (x, y)) f ∙ append_assoc old (flat_map text front) (text (x, y))
     ∙ ap (λ (t : List ℕ). old ++ t) (sym (ap (flat_map text) rows ∙ flat_push text front (x, y)))
+
+-- the bytes so far and the text of one element more
+pub more_flat : {A B : Type 0} (text : B → List ℕ) (view : A → B) (old so_far new : List ℕ) (xs : List A) (i : ℕ) (d : A) → i < length xs
+    → so_far ≡ old ++ flat_map text (map view (take i xs)) → new ≡ so_far ++ text (view (get_or xs i d))
+    → new ≡ old ++ flat_map text (map view (take (i + 1) xs))
+more_flat text view old so_far new xs i d lt e h =
+    let x = view (get_or xs i d) in
+    let front = map view (take i xs) in
+    h ∙ ap (λ (t : List ℕ). t ++ text x) e ∙ append_assoc old (flat_map text front) (text x)
+    ∙ ap (λ (t : List ℕ). old ++ t) (sym (ap (flat_map text) (ap (map view) (take_more xs i d lt) ∙ map_push view (take i
+    xs) (get_or xs i d)) ∙ flat_push text front x))

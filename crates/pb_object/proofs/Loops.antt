@@ -1,14 +1,9 @@
 -- Reading parts one after the other, as a loop does.
-use Rattle.std.proofs.Common.{◌≡◌, ℕ, suc, ◌-◌, ◌+◌, ◌≤◌, ◌<◌, Bool, List, [], ◌∷◌, ◌++◌, Result, Ok, Err, refl, sym, ap, ◌∙◌, arith, map, ◌||◌, ◌&&◌}
-use Rattle.std.specs.List.{list_any, list_all}
+use Rattle.std.proofs.Common.{◌≡◌, ℕ, suc, ◌-◌, ◌+◌, ◌≤◌, ◌<◌, List, [], ◌∷◌, ◌++◌, Result, Ok, Err, refl, sym, ◌∙◌, arith}
 use Rattle.pb_object.specs.declared.fault.Fault.{Fault}
 use Rattle.pb_object.specs.declared.fault.ReadError.{ReadError}
 use Rattle.pb_object.specs.declared.fault.ReadError.TheVariants as errors
 use Rattle.pb_object.specs.Lines.{Fails, many}
-
-pub any_map : {A B : Type 0} (p : B → Bool) (f : A → B) (xs : List A) → list_any p (map f xs) ≡ list_any (λ x. p (f x)) xs
-any_map p f [] = refl
-any_map p f (x ∷ xs) = ap (λ (b : Bool). p (f x) || b) (any_map p f xs)
 
 pub goes_on : {X : Type 0} (part : List X → List ℕ → Result (X × List ℕ) Fault) (front : List X) (count i : ℕ) (text :
     List ℕ) (x : X) (after : List ℕ) (total : Result (List X × List ℕ) Fault)
@@ -37,7 +32,3 @@ is_done part front count i text total le so_far =
     let k : count - i ≡ 0 = omega arith in
     let one : many part front (count - i) text ≡ Ok (front, text) = rw k refl in
     sym so_far ∙ one
-
-pub all_map : {A B : Type 0} (p : B → Bool) (f : A → B) (xs : List A) → list_all p (map f xs) ≡ list_all (λ x. p (f x)) xs
-all_map p f [] = refl
-all_map p f (x ∷ xs) = ap (λ (b : Bool). p (f x) && b) (all_map p f xs)

@@ -1,5 +1,5 @@
 -- What is read of an object is what it spells, and what is spelled is read, whatever follows.
-use Rattle.std.proofs.Common.{◌≡◌, ℕ, ◌^◌, ◌<◌, ◌≤◌, Bool, true, false, cond, eqb, List, [], ◌∷◌, ◌++◌, length, Ok, Err, refl, sym, ap, subst, ◌∙◌, append_assoc, arith, codes, map}
+use Rattle.std.proofs.Common.{◌≡◌, ℕ, ◌^◌, ◌<◌, ◌≤◌, Bool, true, false, cond, eqb, List, [], ◌∷◌, ◌++◌, length, Option, Result, Ok, Err, refl, sym, ap, subst, ◌∙◌, append_assoc, arith, codes, map}
 use Rattle.std.specs.List.{flat_map, list_all}
 use Rattle.std.proofs.lemmas.Bool.{eqb-true}
 use Rattle.std.proofs.lemmas.List.{append-nil, nil_from_length}
@@ -7,17 +7,21 @@ use Rattle.pb_object.specs.declared.fault.Fault.{Fault}
 use Rattle.pb_object.specs.declared.fault.Fault.TheVariants.{Malformed}
 use Rattle.pb_object.specs.declared.format.Format.{Format}
 use Rattle.pb_object.specs.declared.format.Format.TheVariants.{One, Two}
+use Rattle.pb_code.specs.Code.{Instr}
 use Rattle.pb_code.specs.Names.{Word}
 use Rattle.pb_object.specs.Words.{is_new_name}
-use Rattle.pb_object.specs.Lines.{line_text, line, many}
+use Rattle.pb_object.specs.Lines.{line_text, line, many, ◌>>=◌}
 use Rattle.pb_object.specs.Instructions.{place, place_words}
-use Rattle.pb_object.specs.Objects.{ProcessRow, Object, counted_words, resource_words, process_words, integers_words, claims_words, digit_of, process_text, spelling}
+use Rattle.pb_object.specs.Objects.{ProcessRow, ResourceRow, Object, counted_words, resource_words, process_words, integers_words, claims_words, digit_of, process_text, spelling}
 use Rattle.pb_object.specs.Ranges.{Each, IsPlace, IsResource, IsEntry, IsProcess, IsObject, AreIntegers, AreClaims, most_processes}
 use Rattle.pb_object.specs.Reading.{counted, resource, process_name, heading, integers, claims, resource_at, entry_at, place_at, process_at, process_after, object_at, all_of}
 use Rattle.pb_object.proofs.LineLemmas.{bind_ok, ok_is, is_inner}
 use Rattle.pb_object.proofs.Parts.{IsPart, line_is, many_is}
 use Rattle.pb_object.proofs.LineForms.{counted_is, heading_is, resource_is, name_is, integers_is, claims_is}
 use Rattle.pb_object.proofs.InstrForms.{place_is}
+
+bind_is : {A B : Type 0} (m : Result A Fault) (f : A → Result B Fault) (x : A) → m ≡ Ok x → (m >>= f) ≡ f x
+bind_is {A} {B} m f x e = ap (λ (r : Result A Fault). r >>= f) e
 
 five : (x1 x2 x3 x4 x5 rest : List ℕ) → (x1 ++ (x2 ++ (x3 ++ (x4 ++ x5)))) ++ rest ≡ x1 ++ (x2 ++ (x3 ++ (x4 ++ (x5 ++ rest))))
 five x1 x2 x3 x4 x5 rest = simp append_assoc
@@ -82,18 +86,49 @@ joined_seven x1 x2 x3 x4 x5 x6 x7 bytes b1 b2 b3 b4 b5 b6 rest e1 e2 e3 e4 e5 e6
     (e5 ∙ ap (λ (t : List ℕ). x5 ++ t) (e6 ∙ ap (λ (t : List ℕ). x6 ++ t) e7)))))
     ∙ sym (seven x1 x2 x3 x4 x5 x6 x7 rest)
 
+-- ---- what follows each part of a process
+
+abbrev AProcess : Type 0
+AProcess = Result (ProcessRow × List ℕ) Fault
+
+abbrev after_places : Word → List Word → List ℕ → List ℕ → List (Option ℕ × Instr) × List ℕ → AProcess
+after_places name integers claims entries places =
+    Ok (record { name = name; integers = integers; claims = claims; entries = entries; places = places.0 }, places.1)
+
+abbrev after_count : Format → Word → List Word → List ℕ → List ℕ → ℕ × List ℕ → AProcess
+after_count format name integers claims entries count =
+    many (place_at format) [] count.0 count.1 >>= after_places name integers claims entries
+
+abbrev after_entries : Format → Word → List Word → List ℕ → List ℕ × List ℕ → AProcess
+after_entries format name integers claims entries =
+    line (counted (codes "code") 1 40000) entries.1 >>= after_count format name integers claims entries.0
+
+abbrev after_claims : Format → Word → List Word → ℕ → List ℕ × List ℕ → AProcess
+after_claims format name integers arms claims =
+    many entry_at [] arms claims.1 >>= after_entries format name integers claims.0
+
+abbrev after_arms : Format → ℕ → Word → List Word → ℕ × List ℕ → AProcess
+after_arms format m name integers arms = line (claims m) arms.1 >>= after_claims format name integers arms.0
+
+abbrev after_integers : Format → ℕ → Word → List Word × List ℕ → AProcess
+after_integers format m name integers =
+    line (counted (codes "arms") 1 64) integers.1 >>= after_arms format m name integers.0
+
+abbrev after_name : Format → ℕ → Word × List ℕ → AProcess
+after_name format m name = line (integers format) name.1 >>= after_integers format m name.0
+
 process_takes : (format : Format) (m : ℕ) (earlier : List ProcessRow) (bytes : List ℕ) (p : ProcessRow) (rest : List
     ℕ) → process_at format m earlier bytes ≡ Ok (p, rest)
     → (bytes ≡ process_text format p ++ rest) × IsProcess format m earlier p
 unfolding process_after process_text
 process_takes format m earlier bytes p rest e =
-    let a = bind_ok (line (process_name (map (λ p. p.name) earlier)) bytes) _ (p, rest) e in
-    let b = bind_ok (line (integers format) a.0.1) _ (p, rest) a.2 in
-    let d = bind_ok (line (counted (codes "arms") 1 64) b.0.1) _ (p, rest) b.2 in
-    let f = bind_ok (line (claims m) d.0.1) _ (p, rest) d.2 in
-    let g = bind_ok (many entry_at [] d.0.0 f.0.1) _ (p, rest) f.2 in
-    let h = bind_ok (line (counted (codes "code") 1 40000) g.0.1) _ (p, rest) g.2 in
-    let i = bind_ok (many (place_at format) [] h.0.0 h.0.1) _ (p, rest) h.2 in
+    let a = bind_ok (line (process_name (map (λ p. p.name) earlier)) bytes) (after_name format m) (p, rest) e in
+    let b = bind_ok (line (integers format) a.0.1) (after_integers format m a.0.0) (p, rest) a.2 in
+    let d = bind_ok (line (counted (codes "arms") 1 64) b.0.1) (after_arms format m a.0.0 b.0.0) (p, rest) b.2 in
+    let f = bind_ok (line (claims m) d.0.1) (after_claims format a.0.0 b.0.0 d.0.0) (p, rest) d.2 in
+    let g = bind_ok (many entry_at [] d.0.0 f.0.1) (after_entries format a.0.0 b.0.0 f.0.0) (p, rest) f.2 in
+    let h = bind_ok (line (counted (codes "code") 1 40000) g.0.1) (after_count format a.0.0 b.0.0 f.0.0 g.0.0) (p, rest) g.2 in
+    let i = bind_ok (many (place_at format) [] h.0.0 h.0.1) (after_places a.0.0 b.0.0 f.0.0 g.0.0) (p, rest) h.2 in
     let ta = (name_part earlier).takes bytes a.0.0 a.0.1 a.1 in
     let tb = (integers_part format).takes a.0.1 b.0.0 b.0.1 b.1 in
     let td = (counted_part (codes "arms") 1 64 (omega arith) refl).takes b.0.1 d.0.0 d.0.1 d.1 in
@@ -143,16 +178,31 @@ process_again format m earlier p rest good =
     let x6 = line_text (counted_words (codes "code") (length p.places)) in
     let x7 = flat_map (λ i. line_text (place_words format i)) p.places in
     let regrouped = seven x1 x2 x3 x4 x5 x6 x7 rest in
+    let ints = p.integers in
+    let arms = length p.entries in
+    let count = length p.places in
     ap (process_at format m earlier) regrouped
-    ∙ rw (
-      (name_part earlier).again p.name (x2 ++ (x3 ++ (x4 ++ (x5 ++ (x6 ++ (x7 ++ rest)))))) good.name,
-      (integers_part format).again p.integers (x3 ++ (x4 ++ (x5 ++ (x6 ++ (x7 ++ rest))))) good.integers,
-      (counted_part (codes "arms") 1 64 (omega arith) refl).again (length p.entries) (x4 ++ (x5 ++ (x6 ++ (x7 ++ rest)))) (good.some_arms, good.few_arms),
-      (claims_part m).again p.claims (x5 ++ (x6 ++ (x7 ++ rest))) good.claims,
-      (entries_part (length p.entries)).again p.entries (x6 ++ (x7 ++ rest)) (refl, good.entries),
-      (counted_part (codes "code") 1 40000 (omega arith) refl).again (length p.places) (x7 ++ rest) (good.some_places, good.few_places),
-      (places_part format (length p.places)).again p.places rest (refl, good.places),
-    ) refl
+    ∙ bind_is (line (process_name (map (λ p. p.name) earlier)) (x1 ++ (x2 ++ (x3 ++ (x4 ++ (x5 ++ (x6 ++ (x7 ++ rest))))))))
+    (after_name format m) (p.name, x2 ++ (x3 ++ (x4 ++ (x5 ++ (x6 ++ (x7 ++ rest))))))
+    ((name_part earlier).again p.name (x2 ++ (x3 ++ (x4 ++ (x5 ++ (x6 ++ (x7 ++ rest)))))) good.name)
+    ∙ bind_is (line (integers format) (x2 ++ (x3 ++ (x4 ++ (x5 ++ (x6 ++ (x7 ++ rest)))))))
+    (after_integers format m p.name) (ints, x3 ++ (x4 ++ (x5 ++ (x6 ++ (x7 ++ rest)))))
+    ((integers_part format).again ints (x3 ++ (x4 ++ (x5 ++ (x6 ++ (x7 ++ rest))))) good.integers)
+    ∙ bind_is (line (counted (codes "arms") 1 64) (x3 ++ (x4 ++ (x5 ++ (x6 ++ (x7 ++ rest))))))
+    (after_arms format m p.name ints) (arms, x4 ++ (x5 ++ (x6 ++ (x7 ++ rest))))
+    ((counted_part (codes "arms") 1 64 (omega arith) refl).again arms (x4 ++ (x5 ++ (x6 ++ (x7 ++ rest)))) (good.some_arms, good.few_arms))
+    ∙ bind_is (line (claims m) (x4 ++ (x5 ++ (x6 ++ (x7 ++ rest)))))
+    (after_claims format p.name ints arms) (p.claims, x5 ++ (x6 ++ (x7 ++ rest)))
+    ((claims_part m).again p.claims (x5 ++ (x6 ++ (x7 ++ rest))) good.claims)
+    ∙ bind_is (many entry_at [] arms (x5 ++ (x6 ++ (x7 ++ rest))))
+    (after_entries format p.name ints p.claims) (p.entries, x6 ++ (x7 ++ rest))
+    ((entries_part arms).again p.entries (x6 ++ (x7 ++ rest)) (refl, good.entries))
+    ∙ bind_is (line (counted (codes "code") 1 40000) (x6 ++ (x7 ++ rest)))
+    (after_count format p.name ints p.claims p.entries) (count, x7 ++ rest)
+    ((counted_part (codes "code") 1 40000 (omega arith) refl).again count (x7 ++ rest) (good.some_places, good.few_places))
+    ∙ bind_is (many (place_at format) [] count (x7 ++ rest))
+    (after_places p.name ints p.claims p.entries) (p.places, rest)
+    ((places_part format count).again p.places rest (refl, good.places))
 
 pub process_part : (format : Format) (m : ℕ) (earlier : List ProcessRow) → IsPart (process_at format m earlier)
     (process_text format) (IsProcess format m earlier)
@@ -171,14 +221,35 @@ small_processes Two = omega arith
 pub format_part : IsPart (line heading) (λ f. line_text (codes "PBO" ∷ digit_of f ∷ [])) (λ f. Unit {0})
 format_part = line_is heading (λ f. codes "PBO" ∷ digit_of f ∷ []) (λ f. Unit {0}) heading_is
 
+abbrev AnObject : Type 0
+AnObject = Result (Object × List ℕ) Fault
+
+abbrev after_processes : Format → List ResourceRow → List ProcessRow × List ℕ → AnObject
+after_processes format resources processes =
+    Ok (record { format = format; resources = resources; processes = processes.0 }, processes.1)
+
+abbrev after_number : Format → ℕ → List ResourceRow → ℕ × List ℕ → AnObject
+after_number format m resources number =
+    many (process_at format m) [] number.0 number.1 >>= after_processes format resources
+
+abbrev after_resources : Format → ℕ → List ResourceRow × List ℕ → AnObject
+after_resources format m resources =
+    line (counted (codes "processes") 1 (most_processes format)) resources.1 >>= after_number format m resources.0
+
+abbrev after_m : Format → ℕ × List ℕ → AnObject
+after_m format m = many resource_at [] m.0 m.1 >>= after_resources format m.0
+
+abbrev after_format : Format × List ℕ → AnObject
+after_format format = line (counted (codes "resources") 0 16) format.1 >>= after_m format.0
+
 object_takes : (bytes : List ℕ) (o : Object) (rest : List ℕ) → object_at bytes ≡ Ok (o, rest) → (bytes ≡ spelling o ++ rest) × IsObject o
 unfolding object_at spelling
 object_takes bytes o rest e =
-    let a = bind_ok (line heading bytes) _ (o, rest) e in
-    let b = bind_ok (line (counted (codes "resources") 0 16) a.0.1) _ (o, rest) a.2 in
-    let c = bind_ok (many resource_at [] b.0.0 b.0.1) _ (o, rest) b.2 in
-    let d = bind_ok (line (counted (codes "processes") 1 (most_processes a.0.0)) c.0.1) _ (o, rest) c.2 in
-    let g = bind_ok (many (process_at a.0.0 b.0.0) [] d.0.0 d.0.1) _ (o, rest) d.2 in
+    let a = bind_ok (line heading bytes) after_format (o, rest) e in
+    let b = bind_ok (line (counted (codes "resources") 0 16) a.0.1) (after_m a.0.0) (o, rest) a.2 in
+    let c = bind_ok (many resource_at [] b.0.0 b.0.1) (after_resources a.0.0 b.0.0) (o, rest) b.2 in
+    let d = bind_ok (line (counted (codes "processes") 1 (most_processes a.0.0)) c.0.1) (after_number a.0.0 b.0.0 c.0.0) (o, rest) c.2 in
+    let g = bind_ok (many (process_at a.0.0 b.0.0) [] d.0.0 d.0.1) (after_processes a.0.0 c.0.0) (o, rest) d.2 in
     let ta = format_part.takes bytes a.0.0 a.0.1 a.1 in
     let tb = (counted_part (codes "resources") 0 16 (omega arith) refl).takes a.0.1 b.0.0 b.0.1 b.1 in
     let tc = (resources_part b.0.0).takes b.0.1 c.0.0 c.0.1 c.1 in
@@ -215,15 +286,23 @@ object_again o rest good =
     let x3 = flat_map (λ r. line_text (resource_words r)) o.resources in
     let x4 = line_text (counted_words (codes "processes") (length o.processes)) in
     let x5 = flat_map (λ p. process_text o.format p) o.processes in
+    let m = length o.resources in
+    let number = length o.processes in
     ap object_at (five x1 x2 x3 x4 x5 rest)
-    ∙ rw (
-      format_part.again o.format (x2 ++ (x3 ++ (x4 ++ (x5 ++ rest)))) tt,
-      (counted_part (codes "resources") 0 16 (omega arith) refl).again (length o.resources) (x3 ++ (x4 ++ (x5 ++ rest))) (omega arith, good.few_resources),
-      (resources_part (length o.resources)).again o.resources (x4 ++ (x5 ++ rest)) (refl, good.resources),
-      (counted_part (codes "processes") 1 (most_processes o.format) (small_processes o.format) refl).again (length
-          o.processes) (x5 ++ rest) (good.some_processes, good.few_processes),
-      (processes_part o.format (length o.resources) (length o.processes)).again o.processes rest (refl, good.processes),
-    ) refl
+    ∙ bind_is (line heading (x1 ++ (x2 ++ (x3 ++ (x4 ++ (x5 ++ rest)))))) after_format
+    (o.format, x2 ++ (x3 ++ (x4 ++ (x5 ++ rest))))
+    (format_part.again o.format (x2 ++ (x3 ++ (x4 ++ (x5 ++ rest)))) tt)
+    ∙ bind_is (line (counted (codes "resources") 0 16) (x2 ++ (x3 ++ (x4 ++ (x5 ++ rest))))) (after_m o.format)
+    (m, x3 ++ (x4 ++ (x5 ++ rest)))
+    ((counted_part (codes "resources") 0 16 (omega arith) refl).again m (x3 ++ (x4 ++ (x5 ++ rest))) (omega arith, good.few_resources))
+    ∙ bind_is (many resource_at [] m (x3 ++ (x4 ++ (x5 ++ rest)))) (after_resources o.format m) (o.resources, x4 ++ (x5 ++ rest))
+    ((resources_part m).again o.resources (x4 ++ (x5 ++ rest)) (refl, good.resources))
+    ∙ bind_is (line (counted (codes "processes") 1 (most_processes o.format)) (x4 ++ (x5 ++ rest)))
+    (after_number o.format m o.resources) (number, x5 ++ rest)
+    ((counted_part (codes "processes") 1 (most_processes o.format) (small_processes o.format) refl).again number (x5 ++
+    rest) (good.some_processes, good.few_processes))
+    ∙ bind_is (many (process_at o.format m) [] number (x5 ++ rest)) (after_processes o.format o.resources) (o.processes, rest)
+    ((processes_part o.format m number).again o.processes rest (refl, good.processes))
 
 pub object_part : IsPart object_at spelling IsObject
 object_part = record { takes = object_takes; again = object_again }

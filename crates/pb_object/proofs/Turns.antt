@@ -1,5 +1,7 @@
 -- One turn of a loop over words.
 use Rattle.std.proofs.Common.{◌≡◌, ℕ, ◌+◌, ◌<◌, ◌≤◌, Bool, true, false, List, [], ◌∷◌, ◌++◌, length, get_or, take, drop, map, refl, ap, ◌∙◌}
+use Rattle.std.specs.Str.{bytes_eq}
+use Rattle.std.specs.List.{list_all}
 use Rattle.std.proofs.lemmas.List.{drop_more, take_more, map_push, append-nil}
 use Rattle.std.proofs.Math.ListN.{drop_of_length-le}
 use Rattle.pb_object.specs.declared.words.Verdict.{Verdict}
@@ -55,3 +57,25 @@ new_one earlier w rest ws e h = ap (are_new earlier) e ∙ rw h refl
 
 pub none_new : (earlier rest : List Word) → rest ≡ [] → are_new earlier rest ≡ true
 none_new earlier rest e = ap (are_new earlier) e
+
+-- ---- a name among others
+
+pub among_here : (name w : Word) (rest ws : List Word) → rest ≡ w ∷ ws → bytes_eq name w ≡ true → is_among rest name ≡ true
+among_here name w rest ws e h = ap (λ (l : List Word). is_among l name) e ∙ rw h refl
+
+pub among_on : (name w : Word) (rest ws : List Word) → rest ≡ w ∷ ws → bytes_eq name w ≡ false → is_among rest name ≡ is_among ws name
+among_on name w rest ws e h = ap (λ (l : List Word). is_among l name) e ∙ rw h refl
+
+pub among_none : (name : Word) (rest : List Word) → rest ≡ [] → is_among rest name ≡ false
+among_none name rest e = ap (λ (l : List Word). is_among l name) e
+
+-- ---- words that are all of a kind
+
+pub not_all : {A : Type 0} (p : A → Bool) (w : A) (rest ws : List A) → rest ≡ w ∷ ws → p w ≡ false → list_all p rest ≡ false
+not_all p w rest ws e h = ap (list_all p) e ∙ rw h refl
+
+pub all_on : {A : Type 0} (p : A → Bool) (w : A) (rest ws : List A) → rest ≡ w ∷ ws → p w ≡ true → list_all p rest ≡ list_all p ws
+all_on p w rest ws e h = ap (list_all p) e ∙ rw h refl
+
+pub all_none : {A : Type 0} (p : A → Bool) (rest : List A) → rest ≡ [] → list_all p rest ≡ true
+all_none p rest e = ap (list_all p) e

@@ -1,6 +1,6 @@
 //! Code and labels from the rows of an object.
 
-ghost use Rattle.std.specs.Prelude.{◌≡◌, ◌<◌, ◌≤◌, map, All, IfOk, length};
+ghost use Rattle.std.specs.Prelude.{◌≡◌, ◌<◌, ◌≤◌, ◌++◌, ◌∷◌, [], map, All, IfOk, OnOk, length};
 ghost use Rattle.pb_base.specs.Tables.{HasWidth, width_of};
 ghost use Rattle.pb_object.specs.Objects.{code_of, labels_of};
 ghost use Rattle.pb_object.specs.Ranges.{IsObject};
@@ -41,28 +41,38 @@ struct Processes {
     labels: Vec<ProcessLabels>,
 }
 
+impl Processes {
+    /// Adds a process behind the others.
+    fn add(&mut self, row: ProcessRow) -> Result<(), NoMemory>
+        ensures names { OnOk result (self.new.names.items ≡ self.old.names.items ++ row.name ∷ []) }
+        ensures claims { OnOk result (self.new.claims.items ≡ self.old.claims.items ++ row.claims ∷ []) }
+        ensures codes { OnOk result (self.new.codes.items ≡ self.old.codes.items ++ row.code ∷ []) }
+        ensures labels { OnOk result (self.new.labels.items ≡ self.old.labels.items ++ row.labels ∷ []) }
+    {
+        self.names.push(row.name)?;
+        self.claims.push(row.claims)?;
+        self.codes.push(row.code)?;
+        self.labels.push(row.labels)?;
+        Ok(())
+    }
+}
+
 fn split_processes(alloc: Global, rows: Vec<ProcessRow>) -> Result<Processes, NoMemory>
     ensures names { IfOk result (λ p. map (λ name. name.items) p.names.items ≡ map (λ p. p.name.items) rows.items) }
     ensures claims { IfOk result (λ p. map (λ row. row.items) p.claims.items ≡ map (λ p. p.claims.items) rows.items) }
     ensures codes { IfOk result (λ p. p.codes.items ≡ map (λ p. p.code) rows.items) }
     ensures labels { IfOk result (λ p. p.labels.items ≡ map (λ p. p.labels) rows.items) }
 {
-    let mut names = Vec::new(alloc);
-    let mut claims = Vec::new(alloc);
-    let mut codes = Vec::new(alloc);
-    let mut labels = Vec::new(alloc);
+    let mut columns = Processes {
+        names: Vec::new(alloc),
+        claims: Vec::new(alloc),
+        codes: Vec::new(alloc),
+        labels: Vec::new(alloc),
+    };
     for row in rows {
-        names.push(row.name)?;
-        claims.push(row.claims)?;
-        codes.push(row.code)?;
-        labels.push(row.labels)?;
+        columns.add(row)?;
     }
-    Ok(Processes {
-        names,
-        claims,
-        codes,
-        labels,
-    })
+    Ok(columns)
 }
 
 fn claims_of(alloc: Global, rows: &[Vec<u64>]) -> Result<Claims, NoMemory>

@@ -30,7 +30,7 @@ impl From<NoMemory> for ObjectFault {
 }
 
 /// The first faulty line, by how many bytes of the text are left from its start on.
-#[derive(Clone, Copy, Debug, PartialEq, Eq)]
+#[derive(Clone, Copy)]
 pub(crate) enum Fault {
     /// It is not of the form.
     Malformed(usize),
@@ -39,7 +39,7 @@ pub(crate) enum Fault {
 }
 
 /// Why reading ended early.
-#[derive(Debug, Drop)]
+#[derive(Drop)]
 pub(crate) enum ReadError {
     Memory,
     Fault(Fault),

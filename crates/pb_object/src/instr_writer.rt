@@ -1,6 +1,6 @@
 //! The lines of places, written.
 
-ghost use Rattle.std.specs.Prelude.{◌≡◌, ◌++◌, ◌∷◌, [], OnOk, map, codes, slice_index_or};
+ghost use Rattle.std.specs.Prelude.{◌≡◌, ◌++◌, ◌∷◌, [], OnOk, Some, map, codes, slice_get, slice_index_or};
 ghost use Rattle.std.specs.Fmt.{decimal, signed_decimal};
 ghost use Rattle.std.specs.List.{join_with_byte, flat_map};
 ghost use Rattle.pb_object.specs.Instructions.{pair_words, instr_words, line_number, place_words};
@@ -28,7 +28,23 @@ fn put_signed(out: &mut Vec<u8>, number: i64) -> Result<(), NoMemory>
     Ok(())
 }
 
-fn put_bare(out: &mut Vec<u8>, keyword: &str) -> Result<(), NoMemory>
+/// Writes one more number of a line.
+pub(crate) fn put_next(out: &mut Vec<u8>, number: u64) -> Result<(), NoMemory>
+    ensures { OnOk result (out.new.items ≡ out.old.items ++ 32 ∷ decimal number) }
+{
+    out.push(b' ')?;
+    put_number(out, number)
+}
+
+/// Ends a line.
+pub(crate) fn end_line(out: &mut Vec<u8>) -> Result<(), NoMemory>
+    ensures { OnOk result (out.new.items ≡ out.old.items ++ 10 ∷ []) }
+{
+    out.push(b'\n')?;
+    Ok(())
+}
+
+pub(crate) fn put_bare(out: &mut Vec<u8>, keyword: &str) -> Result<(), NoMemory>
     ensures { OnOk result (out.new.items ≡ out.old.items ++ join_with_byte 32 (keyword.now ∷ [])) }
 {
     out.extend_from_slice(keyword.as_bytes())?;
@@ -43,41 +59,35 @@ fn put_push(out: &mut Vec<u8>, value: i64) -> Result<(), NoMemory>
     put_signed(out, value)
 }
 
-fn put_one(out: &mut Vec<u8>, keyword: &str, number: u64) -> Result<(), NoMemory>
+pub(crate) fn put_one(out: &mut Vec<u8>, keyword: &str, number: u64) -> Result<(), NoMemory>
     ensures { OnOk result (out.new.items
         ≡ out.old.items ++ join_with_byte 32 (keyword.now ∷ decimal number ∷ [])) }
 {
-    out.extend_from_slice(keyword.as_bytes())?;
-    out.push(b' ')?;
-    put_number(out, number)
+    put_bare(out, keyword)?;
+    put_next(out, number)
 }
 
 fn put_two(out: &mut Vec<u8>, keyword: &str, first: u64, second: u64) -> Result<(), NoMemory>
     ensures { OnOk result (out.new.items
         ≡ out.old.items ++ join_with_byte 32 (keyword.now ∷ decimal first ∷ decimal second ∷ [])) }
 {
-    out.extend_from_slice(keyword.as_bytes())?;
-    out.push(b' ')?;
-    put_number(out, first)?;
-    out.push(b' ')?;
-    put_number(out, second)
+    put_one(out, keyword, first)?;
+    put_next(out, second)
 }
 
 fn put_pair(out: &mut Vec<u8>, pair: Pair) -> Result<(), NoMemory>
     ensures { OnOk result (out.new.items
         ≡ out.old.items ++ (32 ∷ decimal pair.resource) ++ 32 ∷ decimal pair.amount) }
 {
-    out.push(b' ')?;
-    put_number(out, pair.resource as u64)?;
-    out.push(b' ')?;
-    put_number(out, pair.amount as u64)
+    put_next(out, pair.resource as u64)?;
+    put_next(out, pair.amount as u64)
 }
 
 fn put_bundle(out: &mut Vec<u8>, keyword: &str, bundle: &Bundle) -> Result<(), NoMemory>
     ensures { OnOk result (out.new.items
         ≡ out.old.items ++ join_with_byte 32 (keyword.now ∷ pair_words bundle.now)) }
 {
-    out.extend_from_slice(keyword.as_bytes())?;
+    put_bare(out, keyword)?;
     for i in 0..bundle.len() {
         put_pair(out, bundle.get(i))?;
     }
@@ -100,38 +110,55 @@ fn put_bundle_at(
     }
 }
 
+/// Returns the keyword of an instruction.
+fn keyword_of(instr: Instr) -> &'static str
+    ensures { slice_get (instr_words (instr_view [] instr)) 0 ≡ Some result.now }
+{
+    match instr {
+        Instr::Push(_) => "push",
+        Instr::Load(_) => "load",
+        Instr::Store(_) => "store",
+        Instr::Neg => "neg",
+        Instr::Not => "not",
+        Instr::Add => "add",
+        Instr::Sub => "sub",
+        Instr::Mul => "mul",
+        Instr::Div => "div",
+        Instr::Mod => "mod",
+        Instr::Eq => "eq",
+        Instr::Ne => "ne",
+        Instr::Lt => "lt",
+        Instr::Le => "le",
+        Instr::Gt => "gt",
+        Instr::Ge => "ge",
+        Instr::And => "and",
+        Instr::Or => "or",
+        Instr::Jump(_) => "jump",
+        Instr::JumpIfZero(_) => "jzero",
+        Instr::Print => "print",
+        Instr::Take(_) => "take",
+        Instr::Give(_) => "give",
+        Instr::Fork { .. } => "fork",
+        Instr::Join { .. } => "join",
+        Instr::End => "end",
+    }
+}
+
 /// Writes the words of an instruction, with single spaces between them.
 pub(crate) fn put_instr(out: &mut Vec<u8>, bundles: &[Bundle], instr: Instr) -> Result<(), NoMemory>
     ensures { OnOk result (out.new.items
         ≡ out.old.items ++ join_with_byte 32 (instr_words (instr_view bundles.now instr))) }
 {
+    let keyword = keyword_of(instr);
     match instr {
         Instr::Push(value) => put_push(out, value),
-        Instr::Load(x) => put_one(out, "load", x as u64),
-        Instr::Store(x) => put_one(out, "store", x as u64),
-        Instr::Neg => put_bare(out, "neg"),
-        Instr::Not => put_bare(out, "not"),
-        Instr::Add => put_bare(out, "add"),
-        Instr::Sub => put_bare(out, "sub"),
-        Instr::Mul => put_bare(out, "mul"),
-        Instr::Div => put_bare(out, "div"),
-        Instr::Mod => put_bare(out, "mod"),
-        Instr::Eq => put_bare(out, "eq"),
-        Instr::Ne => put_bare(out, "ne"),
-        Instr::Lt => put_bare(out, "lt"),
-        Instr::Le => put_bare(out, "le"),
-        Instr::Gt => put_bare(out, "gt"),
-        Instr::Ge => put_bare(out, "ge"),
-        Instr::And => put_bare(out, "and"),
-        Instr::Or => put_bare(out, "or"),
-        Instr::Jump(target) => put_one(out, "jump", target as u64),
-        Instr::JumpIfZero(target) => put_one(out, "jzero", target as u64),
-        Instr::Print => put_bare(out, "print"),
-        Instr::Take(place) => put_bundle_at(out, "take", bundles, place),
-        Instr::Give(place) => put_bundle_at(out, "give", bundles, place),
-        Instr::Fork { first, count } => put_two(out, "fork", first as u64, count as u64),
-        Instr::Join { first, count } => put_two(out, "join", first as u64, count as u64),
-        Instr::End => put_bare(out, "end"),
+        Instr::Load(x) | Instr::Store(x) => put_one(out, keyword, x as u64),
+        Instr::Jump(target) | Instr::JumpIfZero(target) => put_one(out, keyword, target as u64),
+        Instr::Take(place) | Instr::Give(place) => put_bundle_at(out, keyword, bundles, place),
+        Instr::Fork { first, count } | Instr::Join { first, count } => {
+            put_two(out, keyword, first as u64, count as u64)
+        }
+        _ => put_bare(out, keyword),
     }
 }
 
@@ -141,8 +168,17 @@ pub(crate) fn put_place(out: &mut Vec<u8>, bundles: &[Bundle], instr: Instr) -> 
         ≡ out.old.items ++ line_text (instr_words (instr_view bundles.now instr))) }
 {
     put_instr(out, bundles, instr)?;
-    out.push(b'\n')?;
-    Ok(())
+    end_line(out)
+}
+
+/// Returns the number of a source line, 0 for none.
+fn number_of(line: Option<u32>) -> u64
+    ensures { result ≡ line_number line }
+{
+    match line {
+        None => 0,
+        Some(line) => line as u64,
+    }
 }
 
 /// Writes the line of a place in the second format.
@@ -155,12 +191,7 @@ pub(crate) fn put_lined_place(
     ensures { OnOk result (out.new.items
         ≡ out.old.items ++ line_text (decimal (line_number line) ∷ instr_words (instr_view bundles.now instr))) }
 {
-    match line {
-        None => put_number(out, 0)?,
-        Some(line) => put_number(out, line as u64)?,
-    }
+    put_number(out, number_of(line))?;
     out.push(b' ')?;
-    put_instr(out, bundles, instr)?;
-    out.push(b'\n')?;
-    Ok(())
+    put_place(out, bundles, instr)
 }

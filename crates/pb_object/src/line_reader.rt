@@ -15,7 +15,9 @@ use crate::fault::{Fault, ReadError};
 use crate::format::Format;
 use crate::instr_reader::alone;
 use crate::rows::{ProcessRow, ResourceRow};
-use crate::words::{Verdict, copy_of, is, is_numeral, judge, number, same, saturated, words_of};
+use crate::words::{
+    Verdict, copy_of, is, is_numeral, judge_line, number, same, saturated, words_of,
+};
 use itoa::Buffer;
 use pb_code::is_name;
 use std::alloc::{AllocError, Global};
@@ -43,8 +45,7 @@ pub(crate) fn heading_at(alloc: Global, text: &[u8]) -> Result<(Format, &[u8]), 
     ensures { Gives (λ x. (x.0, x.1.now)) result (line spec.heading text.now) }
 {
     let (words, rest) = words_of(alloc, text)?;
-    let format = judge(text.len(), heading(&words))?;
-    Ok((format, rest))
+    judge_line(text.len(), heading(&words), rest)
 }
 
 // ---- a keyword and a number
@@ -74,8 +75,7 @@ pub(crate) fn counted_at<'t>(
     ensures range { IfOk result (λ x. (low ≤ x.0) × (x.0 ≤ high)) }
 {
     let (words, rest) = words_of(alloc, text)?;
-    let number = judge(text.len(), counted(key, low, high, &words))?;
-    Ok((number, rest))
+    judge_line(text.len(), counted(key, low, high, &words), rest)
 }
 
 // ---- resources
@@ -83,7 +83,12 @@ pub(crate) fn counted_at<'t>(
 fn has_resource(resources: &[ResourceRow], name: &[u8]) -> bool
     ensures { result ≡ is_among (map (λ r. r.name) (map resource_row resources.now)) name.now }
 {
-    resources.iter().any(|r| same(name, &r.name))
+    for other in resources {
+        if same(name, &other.name) {
+            return true;
+        }
+    }
+    false
 }
 
 /// Returns what a line says of a resource, after those before it.
@@ -127,8 +132,8 @@ pub(crate) fn resource_at<'t>(
         (spec.resource_at (map resource_row earlier.now) text.now) }
 {
     let (words, rest) = words_of(alloc, text)?;
-    let resource = judge(text.len(), resource(alloc, earlier, &words)?)?;
-    Ok((resource, rest))
+    let resource = resource(alloc, earlier, &words)?;
+    judge_line(text.len(), resource, rest)
 }
 
 // ---- names of processes
@@ -136,7 +141,12 @@ pub(crate) fn resource_at<'t>(
 fn has_process(processes: &[ProcessRow], name: &[u8]) -> bool
     ensures { result ≡ is_among (map (λ p. p.name.items) processes.now) name.now }
 {
-    processes.iter().any(|p| same(name, &p.name))
+    for other in processes {
+        if same(name, &other.name) {
+            return true;
+        }
+    }
+    false
 }
 
 fn process_name<'w>(earlier: &[ProcessRow], words: &[&'w [u8]]) -> Option<&'w [u8]>
@@ -206,13 +216,23 @@ fn says_number(word: &[u8], number: usize) -> bool
 fn are_names(words: &[&[u8]]) -> bool
     ensures { result ≡ list_all is_name_spec (map (λ w. w.now) words.now) }
 {
-    words.iter().all(|w| is_name(w))
+    for word in words {
+        if !is_name(word) {
+            return false;
+        }
+    }
+    true
 }
 
 fn has_name(names: &[Vec<u8>], name: &[u8]) -> bool
     ensures { result ≡ is_among (map (λ n. n.items) names.now) name.now }
 {
-    names.iter().any(|n| same(name, n))
+    for other in names {
+        if same(name, other) {
+            return true;
+        }
+    }
+    false
 }
 
 /// Returns the words, if no word is there twice.
@@ -285,8 +305,8 @@ pub(crate) fn integers_at(
         (line (spec.integers format) text.now) }
 {
     let (words, rest) = words_of(alloc, text)?;
-    let names = judge(text.len(), integers(alloc, format, &words)?)?;
-    Ok((names, rest))
+    let names = integers(alloc, format, &words)?;
+    judge_line(text.len(), names, rest)
 }
 
 // ---- claims
@@ -335,6 +355,6 @@ pub(crate) fn claims_at(
     ensures { Gives (λ x. (x.0.items, x.1.now)) result (line (spec.claims resources) text.now) }
 {
     let (words, rest) = words_of(alloc, text)?;
-    let claims = judge(text.len(), claims(alloc, resources, &words)?)?;
-    Ok((claims, rest))
+    let claims = claims(alloc, resources, &words)?;
+    judge_line(text.len(), claims, rest)
 }

@@ -13,7 +13,7 @@ use crate::format::Format;
 use crate::line_reader::{claims_at, counted_at, heading_at, integers_at, name_at, resource_at};
 use crate::place_reader::place;
 use crate::rows::{ProcessRow, ResourceRow, Rows};
-use crate::words::{judge, words_into};
+use crate::words::{judge_line, words_into};
 use pb_base::Bundle;
 use pb_code::{Instr, ProcessCode, ProcessLabels};
 use std::alloc::Global;
@@ -69,8 +69,7 @@ fn place_at<'t>(
 {
     let rest = words_into(words, text)?;
     let verdict = place(bundles, format, words)?;
-    let place = judge(text.len(), verdict)?;
-    Ok((place, rest))
+    judge_line(text.len(), verdict, rest)
 }
 
 /// Places one after the other, with the bundles that they name.

@@ -1,9 +1,10 @@
 //! Lines, their words, and what a word says.
 
-ghost use Rattle.std.specs.Prelude.{◌≡◌, ◌<◌, ◌^◌, ◌-◌, map, IfOk, min, true};
+ghost use Rattle.std.specs.Prelude.{◌≡◌, ◌<◌, ◌^◌, ◌-◌, map, IfOk, IfErr, min, true};
 ghost use Rattle.std.specs.Str.{bytes_eq};
 ghost use Rattle.std.specs.Str.Parse.{digits_value};
-ghost use Rattle.pb_object.specs.Lines.{Gives, first_line, judged};
+ghost use Rattle.pb_object.specs.declared.words.Verdict.TheVariants.{Read};
+ghost use Rattle.pb_object.specs.Lines.{Fails, Gives, first_line, judged};
 ghost use Rattle.pb_object.specs.Words as spec;
 ghost use Rattle.std.specs.List.{list_all};
 ghost use Rattle.std.specs.Char.{is_ascii_digit};
@@ -12,7 +13,7 @@ use crate::fault::{Fault, ReadError};
 use std::alloc::{AllocError, Global};
 
 /// What a line or a part of it says.
-#[derive(Clone, Copy, Debug, PartialEq, Eq)]
+#[derive(Clone, Copy)]
 pub(crate) enum Verdict<T> {
     /// It is not of the form.
     Malformed,
@@ -55,14 +56,19 @@ pub(crate) fn words_of(alloc: Global, text: &[u8]) -> Result<(Vec<&[u8]>, &[u8])
     Ok((words, rest))
 }
 
-/// Returns what the line is read as, if the text from its start on has `left` bytes.
-pub(crate) fn judge<T>(left: usize, verdict: Verdict<T>) -> Result<T, ReadError>
-    ensures { Gives (λ x. x) result (judged left verdict) }
+/// Returns what the line is read as, if the text from its start on has `left` bytes, and what follows the line.
+pub(crate) fn judge_line<T>(
+    left: usize,
+    verdict: Verdict<T>,
+    rest: &[u8],
+) -> Result<(T, &[u8]), ReadError>
+    ensures read { IfOk result (λ x. (verdict ≡ Read x.0) × (x.1.now ≡ rest.now)) }
+    ensures fault { IfErr result (λ e. Fails e (judged left verdict)) }
 {
     match verdict {
         Verdict::Malformed => Err(ReadError::Fault(Fault::Malformed(left))),
         Verdict::Beyond => Err(ReadError::Fault(Fault::Beyond(left))),
-        Verdict::Read(x) => Ok(x),
+        Verdict::Read(x) => Ok((x, rest)),
     }
 }
 
@@ -90,7 +96,12 @@ pub(crate) fn same(a: &[u8], b: &[u8]) -> bool
 fn are_digits(word: &[u8]) -> bool
     ensures { result ≡ list_all is_ascii_digit word.now }
 {
-    word.iter().all(|b| b.is_ascii_digit())
+    for byte in word {
+        if !byte.is_ascii_digit() {
+            return false;
+        }
+    }
+    true
 }
 
 pub(crate) fn is_numeral(word: &[u8]) -> bool

@@ -15,7 +15,7 @@ ghost use Rattle.pb_object.specs.Objects.{ProcessRow, ResourceRow};
 ghost use Rattle.pb_object.specs.Writing.{IsRowOf, IsLabelsOf};
 ghost use Rattle.pb_code.specs.View.{instr_view, code_view, labels_view, process_view, process_labels_view};
 
-use crate::instr_writer::{put_lined_place, put_number, put_place};
+use crate::instr_writer::{end_line, put_bare, put_lined_place, put_next, put_one, put_place};
 use pb_base::{Capital, Claims, NoMemory};
 use pb_code::{Code, Labels, ProcessCode, ProcessLabels};
 use std::alloc::Global;
@@ -24,32 +24,26 @@ use std::alloc::Global;
 fn put_counted(out: &mut Vec<u8>, keyword: &str, number: u64) -> Result<(), NoMemory>
     ensures { OnOk result (out.new.items ≡ out.old.items ++ line_text (spec.counted_words keyword.now number)) }
 {
-    out.extend_from_slice(keyword.as_bytes())?;
-    out.push(b' ')?;
-    put_number(out, number)?;
-    out.push(b'\n')?;
-    Ok(())
+    put_one(out, keyword, number)?;
+    end_line(out)
 }
 
 fn put_resource(out: &mut Vec<u8>, name: &[u8], capital: u32) -> Result<(), NoMemory>
     ensures { OnOk result (out.new.items
         ≡ out.old.items ++ line_text (spec.resource_words (record { name = name.now; capital = capital }))) }
 {
-    out.extend_from_slice(b"resource ")?;
-    out.extend_from_slice(name)?;
-    out.push(b' ')?;
-    put_number(out, capital as u64)?;
-    out.push(b'\n')?;
-    Ok(())
+    put_bare(out, "resource")?;
+    put_word(out, name)?;
+    put_next(out, capital as u64)?;
+    end_line(out)
 }
 
 fn put_name(out: &mut Vec<u8>, name: &[u8]) -> Result<(), NoMemory>
     ensures { OnOk result (out.new.items ≡ out.old.items ++ line_text (spec.process_words name.now)) }
 {
-    out.extend_from_slice(b"process ")?;
-    out.extend_from_slice(name)?;
-    out.push(b'\n')?;
-    Ok(())
+    put_bare(out, "process")?;
+    put_word(out, name)?;
+    end_line(out)
 }
 
 /// Writes one more word of a line.
@@ -61,26 +55,16 @@ fn put_word(out: &mut Vec<u8>, word: &[u8]) -> Result<(), NoMemory>
     Ok(())
 }
 
-/// Writes one more number of a line.
-fn put_claim(out: &mut Vec<u8>, claim: u64) -> Result<(), NoMemory>
-    ensures { OnOk result (out.new.items ≡ out.old.items ++ 32 ∷ decimal claim) }
-{
-    out.push(b' ')?;
-    put_number(out, claim)
-}
-
 /// Writes the names of integers.
 fn put_integers(out: &mut Vec<u8>, names: &[Vec<u8>]) -> Result<(), NoMemory>
     ensures { OnOk result (out.new.items
         ≡ out.old.items ++ line_text (spec.integers_words Two (map (λ name. name.items) names.now))) }
 {
-    out.extend_from_slice(b"vars ")?;
-    put_number(out, names.len() as u64)?;
+    put_one(out, "vars", names.len() as u64)?;
     for name in names {
         put_word(out, name)?;
     }
-    out.push(b'\n')?;
-    Ok(())
+    end_line(out)
 }
 
 /// Writes the claims of a process.
@@ -90,12 +74,11 @@ fn put_claims(out: &mut Vec<u8>, claims: &Claims, p: usize) -> Result<(), NoMemo
     ensures { OnOk result (out.new.items
         ≡ out.old.items ++ line_text (spec.claims_words (slice_index_or claims.now p []))) }
 {
-    out.extend_from_slice(b"claims")?;
+    put_bare(out, "claims")?;
     for r in 0..claims.resources() {
-        put_claim(out, claims.get(p, r))?;
+        put_next(out, claims.get(p, r))?;
     }
-    out.push(b'\n')?;
-    Ok(())
+    end_line(out)
 }
 
 fn put_entries(out: &mut Vec<u8>, entries: &[u16]) -> Result<(), NoMemory>
@@ -219,10 +202,9 @@ fn put_resources(out: &mut Vec<u8>, names: &[Vec<u8>], capital: &Capital) -> Res
 fn put_heading(out: &mut Vec<u8>, digit: &str) -> Result<(), NoMemory>
     ensures { OnOk result (out.new.items ≡ out.old.items ++ line_text (codes "PBO" ∷ digit.now ∷ [])) }
 {
-    out.extend_from_slice(b"PBO ")?;
-    out.extend_from_slice(digit.as_bytes())?;
-    out.push(b'\n')?;
-    Ok(())
+    put_bare(out, "PBO")?;
+    put_word(out, digit.as_bytes())?;
+    end_line(out)
 }
 
 /// Writes all lines before the first process.

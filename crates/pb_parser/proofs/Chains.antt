@@ -1,8 +1,9 @@
 -- Chains, whatever their parts are.
-use Rattle.std.proofs.Common.{◌≡◌, ℕ, zero, suc, ◌≤◌, ◌<◌, List, [], ◌∷◌, length, Option, Some, None, refl, ◌∙◌, subst, arith}
+use Rattle.std.proofs.Common.{◌≡◌, ℕ, zero, suc, ◌≤◌, ◌<◌, List, [], ◌∷◌, length, Option, Some, None, Result, Ok, Err, refl, ◌∙◌, subst, arith}
 use Rattle.pb_lexer.specs.Tokens.{Token}
 use Rattle.pb_parser.specs.Reader.{Answer, Refused, Found, Part, Join, Stops, and_then, chain_by, chain_from, chain}
-use Rattle.pb_parser.specs.Making.{Fails}
+use Rattle.std.specs.Prelude.{IfOk, IfErr}
+use Rattle.pb_parser.specs.Making.{Fails, Makes}
 use Rattle.pb_parser.specs.declared.fault.ParseFault.{ParseFault}
 use Rattle.pb_parser.specs.declared.fault.ParseFault.TheVariants as fault
 
@@ -119,3 +120,12 @@ fails_through_plain wants (fault.Syntax at) h f = f h
 fails_through_plain wants fault.TooDeep h f = h
 fails_through_plain wants fault.TooLarge h f = h
 fails_through_plain wants fault.NoMemory h f = absurd h
+
+-- ---- what the builder made last
+
+pub made : {X Y N : Type 0} (is : X → Y → Type 0) (wants : Type 0) (m : Result X N) (result : Result X ParseFault)
+    (answer : Answer Y) (rest : List Token) (syntax : Y) → answer ≡ Found syntax rest
+    → IfOk m (λ x. is x syntax) → IfErr m (λ _. wants)
+    → IfOk m (λ x. result ≡ Ok x) → IfErr m (λ _. result ≡ Err fault.NoMemory) → Makes wants is result answer rest
+made is wants (Ok x) result answer rest syntax found same none given wanted = rw given (record { syntax = syntax; found = found; same = same })
+made is wants (Err e) result answer rest syntax found same none given wanted = rw wanted none

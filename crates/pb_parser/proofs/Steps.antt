@@ -1,13 +1,15 @@
 -- The parts of the parser that take their parts one after the other.
-use Rattle.std.proofs.Common.{◌≡◌, ℕ, List, [], ◌∷◌, refl}
+use Rattle.std.proofs.Common.{◌≡◌, ◌∙◌, ℕ, Bool, true, false, List, [], ◌∷◌, ap, sym, refl}
 use Rattle.pb_lexer.specs.declared.token.Mark.TheVariants as mark
 use Rattle.pb_lexer.specs.Tokens.{Token}
 use Rattle.pb_tree.specs.Syntax as tree
-use Rattle.pb_tree.specs.Syntax.{NameSyntax, ExprSyntax, StmtsSyntax, ArmsSyntax, DemandSyntax, ResourceSyntax, ProcessSyntax, ProgramSyntax}
+use Rattle.pb_tree.specs.Syntax.{NameSyntax, NumberSyntax, ExprSyntax, StmtsSyntax, ArmsSyntax, DemandSyntax, ResourceSyntax, ProcessSyntax, ProgramSyntax}
+use Rattle.pb_parser.specs.Grammar.{name_at}
 use Rattle.pb_parser.specs.Lists.{append, append_arms, single, single_arm}
-use Rattle.pb_parser.specs.Reader.{Refused, Found, Part, expect, ended}
+use Rattle.pb_parser.specs.Reader.{Refused, Found, Part, is_mark, expect, expect_by, ended}
 use Rattle.pb_parser.specs.ExpressionReader.{expression}
-use Rattle.pb_parser.specs.StatementReader.{between, concat, a_name, pairs, a_pair, list, arms, otherwise, choice, looping, holding, statement, an_arm}
+use Rattle.pb_parser.specs.StatementReader.{between, concat, a_name, a_number, pairs, a_pair, list, arms, otherwise, otherwise_by, assignment, printing, choice, looping, holding, forking, statement, an_arm}
+use Rattle.pb_parser.specs.Promises.{TakesMark}
 use Rattle.pb_parser.specs.ProgramReader.{one_name, names, a_resource, resources, integers, a_process, processes, program}
 use Rattle.pb_parser.proofs.Chains.{chain_refused}
 use Rattle.pb_parser.proofs.StatementLaws.{arm_read}
@@ -34,6 +36,38 @@ pub holding_steps : (deeper : Part StmtsSyntax) (line : ℕ) (ts us vs ws rest :
     → pairs ts ≡ Found ps us → expect mark.Do us ≡ Found tt vs → list deeper vs ≡ Found a ws → expect mark.Od ws ≡ Found tt rest
     → holding deeper line ts ≡ Found (single (tree.hold line ps a)) rest
 holding_steps deeper line ts us vs ws rest ps a p q r s = rw (p, q, r, s) refl
+
+pub assignment_steps : (d : ℕ) (t : Token) (x : List ℕ) (ts us rest : List Token) (e : ExprSyntax)
+    → expect mark.Assign ts ≡ Found tt us → expression d us ≡ Found e rest
+    → assignment d t x ts ≡ Found (single (tree.assign t.line (name_at t x) e)) rest
+assignment_steps d t x ts us rest e p q = rw (p, q) refl
+
+pub printing_steps : (d line : ℕ) (ts rest : List Token) (e : ExprSyntax) → expression d ts ≡ Found e rest
+    → printing d line ts ≡ Found (single (tree.print line e)) rest
+printing_steps d line ts rest e p = rw p refl
+
+pub forking_steps : (deeper : Part StmtsSyntax) (line : ℕ) (ts us rest : List Token) (a : ArmsSyntax)
+    → arms deeper ts ≡ Found a us → expect mark.Parend us ≡ Found tt rest
+    → forking deeper line ts ≡ Found (single (tree.parbegin line a)) rest
+forking_steps deeper line ts us rest a p q = rw (p, q) refl
+
+pub pair_steps : (ts us vs rest : List Token) (n : NumberSyntax) (x : NameSyntax) → a_number ts ≡ Found n us
+    → expect mark.Of us ≡ Found tt vs → a_name vs ≡ Found x rest → a_pair ts ≡ Found (record { amount = n; resource = x } ∷ []) rest
+unfolding a_pair
+pair_steps ts us vs rest n x p q r = rw (p, q, r) refl
+
+-- nothing stands after `else` where that does not come next
+pub no_else : (deeper : Part StmtsSyntax) (ts rest : List Token) (taken : Bool) → taken ≡ false → TakesMark mark.Else taken ts rest
+    → otherwise deeper ts ≡ Found tree.no_stmt rest
+unfolding otherwise
+no_else deeper [] rest taken absent h = let k = rw absent at h in ap (Found tree.no_stmt) (sym k.0)
+no_else deeper (t ∷ ts) rest taken absent h =
+    let k = rw absent at h in
+    go (is_mark mark.Else t.lexeme) k.1 ∙ ap (Found tree.no_stmt) (sym k.0)
+  where
+    go : (b : Bool) → expect_by b ts ≡ Refused → otherwise_by b (list deeper ts) (t ∷ ts) ≡ Found tree.no_stmt (t ∷ ts)
+    go true none = cc
+    go false none = refl
 
 pub pairs_refused : (ts : List Token) → a_pair ts ≡ Refused → pairs ts ≡ Refused
 unfolding pairs
@@ -69,22 +103,24 @@ arms_refused d ts p = chain_refused (between mark.Semicolon append_arms) (an_arm
 
 -- ---- declarations
 
-pub name_refused : (ts : List Token) → a_name ts ≡ Refused → one_name ts ≡ Refused
-unfolding one_name
-name_refused ts p = rw p refl
-
-pub names_refused : (ts : List Token) → a_name ts ≡ Refused → names ts ≡ Refused
-unfolding names
-names_refused ts p = chain_refused (between mark.Comma concat) one_name ts (name_refused ts p)
-
 pub name_found : (ts rest : List Token) (n : NameSyntax) → a_name ts ≡ Found n rest → one_name ts ≡ Found (n ∷ []) rest
 unfolding one_name
 name_found ts rest n p = rw p refl
 
-pub names_enter : {P : List NameSyntax → Type 0} (ts rest : List Token) (n : NameSyntax) → a_name ts ≡ Found n rest → P (n ∷ [])
+pub names_refused : (ts : List Token) → one_name ts ≡ Refused → names ts ≡ Refused
+unfolding names
+names_refused ts p = chain_refused _ one_name ts p
+
+pub names_enter : {P : List NameSyntax → Type 0} (ts rest : List Token) (ns : List NameSyntax) → one_name ts ≡ Found ns rest → P ns
     → InLoop P (between mark.Comma concat) one_name rest (names ts)
 unfolding names
-names_enter ts rest n p h = loop_enters (between mark.Comma concat) one_name ts rest (n ∷ []) (name_found ts rest n p) h
+names_enter ts rest ns p h = loop_enters (between mark.Comma concat) one_name ts rest ns p h
+
+pub resource_steps : (ts us vs ws rest : List Token) (x : NameSyntax) (n : NumberSyntax) → a_name ts ≡ Found x us
+    → expect mark.Equal us ≡ Found tt vs → a_number vs ≡ Found n ws → expect mark.Semicolon ws ≡ Found tt rest
+    → a_resource ts ≡ Found (record { name = x; capital = n } ∷ []) rest
+unfolding a_resource
+resource_steps ts us vs ws rest x n p q r s = rw (p, q, r, s) refl
 
 pub resources_enter : {P : List ResourceSyntax → Type 0} (ts : List Token) → P []
     → InLoop P (between mark.Resource concat) a_resource ts (resources ts)

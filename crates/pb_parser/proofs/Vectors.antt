@@ -1,5 +1,6 @@
 -- The plain trees that a `Vec` stands for, after one more.
-use Rattle.std.proofs.Common.{◌≡◌, ℕ, List, [], ◌∷◌, ◌++◌, Vec, map, refl, ap, ◌∙◌}
+use Rattle.std.proofs.Common.{◌≡◌, ℕ, List, [], ◌∷◌, ◌++◌, Vec, Result, Ok, Err, map, refl, ap, ◌∙◌}
+use Rattle.std.specs.Prelude.{IfOk, OnOk}
 use Rattle.pb_tree.specs.declared.expr.Expr.{Expr}
 use Rattle.pb_tree.specs.declared.expr.Name.{Name}
 use Rattle.pb_tree.specs.declared.stmt.Demand.{Demand}
@@ -74,3 +75,23 @@ hold_seen line demands body ds a h i = view-Hold line demands body ∙ rw (h, i)
 pub parbegin_seen : {A : Type 0} (line : ℕ) (arms : Vec (Vec (Stmt A) A) A) (a : ArmsSyntax) → arms_view arms.items ≡ a
     → stmt_view (Parbegin line arms) ≡ tree.parbegin line a
 parbegin_seen line arms a h = view-Parbegin line arms ∙ ap (tree.parbegin line) h
+
+-- the same, if the addition succeeded
+
+pub stmts_put : {A N : Type 0} (r : Result (Unit {0}) N) (xs ys : List (Stmt A)) (s : Stmt A) (x : StmtSyntax)
+    → OnOk r (ys ≡ xs ++ (s ∷ [])) → stmt_view s ≡ x
+    → IfOk r (λ _. (before : StmtsSyntax) → stmts_view xs ≡ before → stmts_view ys ≡ append before (single x))
+stmts_put (Ok u) xs ys s x pushed seen = λ before was. stmts_added xs ys s x before pushed seen was
+stmts_put (Err e) xs ys s x pushed seen = tt
+
+pub arms_put : {A N : Type 0} (r : Result (Unit {0}) N) (xs ys : List (Vec (Stmt A) A)) (a : Vec (Stmt A) A) (x : StmtsSyntax)
+    → OnOk r (ys ≡ xs ++ (a ∷ [])) → stmts_view a.items ≡ x
+    → IfOk r (λ _. (before : ArmsSyntax) → arms_view xs ≡ before → arms_view ys ≡ append_arms before (single_arm x))
+arms_put (Ok u) xs ys a x pushed seen = λ before was. arms_added xs ys a x before pushed seen was
+arms_put (Err e) xs ys a x pushed seen = tt
+
+pub items_put : {G X N : Type 0} (view : G → X) (r : Result (Unit {0}) N) (xs ys : List G) (g : G) (x : X)
+    → OnOk r (ys ≡ xs ++ (g ∷ [])) → view g ≡ x
+    → IfOk r (λ _. (before : List X) → map view xs ≡ before → map view ys ≡ concat before (x ∷ []))
+items_put view (Ok u) xs ys g x pushed seen = λ before was. items_added view xs ys g x before pushed seen was
+items_put view (Err e) xs ys g x pushed seen = tt

@@ -1,6 +1,6 @@
 //! What the parser makes of what it reads.
 
-ghost use Rattle.std.specs.Prelude.{List, [], ◌∷◌, IfOk, IfErr};
+ghost use Rattle.std.specs.Prelude.{◌≡◌, List, [], ◌∷◌, Ok, Err, IfOk, IfErr};
 ghost use Rattle.pb_tree.specs.Syntax as tree;
 ghost use Rattle.pb_tree.specs.Syntax.{NameSyntax, ExprSyntax, DemandSyntax, StmtsSyntax, ArmsSyntax};
 ghost use Rattle.pb_tree.specs.Syntax.{ResourceSyntax, ProcessSyntax, ProgramSyntax};
@@ -8,7 +8,9 @@ ghost use Rattle.pb_tree.specs.View.{number_view};
 ghost use Rattle.pb_parser.specs.Lists.{append, append_arms, single, single_arm};
 ghost use Rattle.pb_parser.specs.StatementReader.{concat};
 ghost use Rattle.pb_parser.specs.Making.{Adds};
+ghost use Rattle.pb_parser.specs.declared.fault.ParseFault.TheVariants as faults;
 
+use crate::fault::ParseFault;
 use pb_base::{BinaryOp, NoMemory, UnaryOp};
 use pb_tree::Number;
 
@@ -224,4 +226,12 @@ pub(crate) trait Builder: Drop {
     fn program(&self, resources: Self::Resources, processes: Self::Processes) -> Self::Program
         ensures { (rs : List ResourceSyntax) (ps : List ProcessSyntax) → is_resources resources rs
             → is_processes processes ps → is_program result (record { resources = rs; processes = ps }) };
+}
+
+/// Returns what was built, or that memory ran out.
+pub(crate) fn built<T>(made: Result<T, NoMemory>) -> Result<T, ParseFault>
+    ensures made { IfOk made (λ x. result ≡ Ok x) }
+    ensures fault { IfErr made (λ _. result ≡ Err faults.NoMemory) }
+{
+    Ok(made?)
 }

@@ -11,7 +11,7 @@ ghost use Rattle.pb_parser.specs.StatementReader as parts;
 ghost use Rattle.pb_parser.specs.Making.{Makes};
 ghost use Rattle.pb_parser.specs.Promises.{Begins, Gives, Signs, TakesOperator, TakesMark, name_of};
 
-use crate::builder::Builder;
+use crate::builder::{Builder, built};
 use crate::fault::ParseFault;
 use crate::level::Level;
 use crate::operators::{is_mark, is_operator, operator};
@@ -392,7 +392,7 @@ impl<'a, 't, B: Builder> Parser<'a, 't, B> {
             (tokens self.new.rest.now) }
     {
         let right = self.level(depth, part)?;
-        Ok(self.build.binary(op, left, right)?)
+        built(self.build.binary(op, left, right))
     }
 
     /// Returns a sum, and another one if a relation is between them.

@@ -1,25 +1,24 @@
 //! Declarations and programs.
 
-ghost use Rattle.std.specs.Prelude.{◌≡◌, ℕ, [], ◌∷◌, ◌⊎◌, IfOk, IfErr};
+ghost use Rattle.std.specs.Prelude.{◌≡◌, ℕ, [], ◌⊎◌, IfOk, IfErr};
 ghost use Rattle.pb_lexer.specs.Tokens as spec_tokens;
-ghost use Rattle.pb_tree.specs.View.{number_view, program_view};
+ghost use Rattle.pb_tree.specs.View.{program_view};
 ghost use Rattle.pb_parser.specs.Limits.{KeepsLimits, IsTooHigh, IsTooLarge, IsNoProgram, IsWithinLimits};
 ghost use Rattle.pb_parser.specs.Limits.{IsSyntax};
 ghost use Rattle.pb_parser.specs.Nesting.{NestsTooDeep};
 ghost use Rattle.pb_parser.specs.Programs.{ReadsProgram};
 ghost use Rattle.pb_parser.specs.ProgramReader as reads;
 ghost use Rattle.pb_parser.specs.StatementReader.{concat};
-ghost use Rattle.pb_parser.specs.Making.{Adds, Builds, Makes};
-ghost use Rattle.pb_parser.specs.Promises.{Gives, name_of};
+ghost use Rattle.pb_parser.specs.Making.{Adds, Makes};
 
-use crate::builder::Builder;
+use crate::builder::{Builder, built};
 use crate::fault::ParseFault;
 use crate::measures::Measures;
 use crate::nesting::nests_too_deep;
 use crate::parser::Parser;
 use crate::trees::Trees;
 use pb_lexer::token::{Mark, Token};
-use pb_tree::{Number, Program};
+use pb_tree::Program;
 use std::alloc::Allocator;
 
 const HIGHEST: u64 = 200;
@@ -30,19 +29,16 @@ const MOST_NODES: u64 = 16_384;
 /// open.
 const DEPTH: usize = 257;
 
-/// A name, and how much there is of the resource that it declares.
-#[derive(Clone, Copy)]
-struct Declared<'t> {
-    name: Token<'t>,
-    capital: Number,
-}
-
 impl<'a, 't, B: Builder> Parser<'a, 't, B> {
-    fn add_name(&self, out: &mut B::Names, name: Token<'t>) -> Result<(), ParseFault>
-        ensures { Builds B.wants result (Adds B.is_names concat out.old out.new (name_of name.entry ∷ [])) }
+    /// Reads a name, and adds it to `out`.
+    #[tactic(auto, unfolding(crate::specs::ProgramReader::one_name))]
+    fn add_name(&mut self, out: &mut B::Names) -> Result<(), ParseFault>
+        ensures { Makes B.wants (λ _. Adds B.is_names concat out.old out.new) result
+            (reads.one_name (spec_tokens.tokens self.old.rest.now)) (spec_tokens.tokens self.new.rest.now) }
     {
+        let name = self.name()?;
         let (text, at) = (name.text(), name.start());
-        Ok(self.build.add_name(out, text, at)?)
+        built(self.build.add_name(out, text, at))
     }
 
     fn names(&mut self) -> Result<B::Names, ParseFault>
@@ -50,34 +46,25 @@ impl<'a, 't, B: Builder> Parser<'a, 't, B> {
             (reads.names (spec_tokens.tokens self.old.rest.now)) (spec_tokens.tokens self.new.rest.now) }
     {
         let mut found = self.build.no_names()?;
-        let first = self.name()?;
-        self.add_name(&mut found, first)?;
+        self.add_name(&mut found)?;
         while self.eat(Mark::Comma) {
-            let another = self.name()?;
-            self.add_name(&mut found, another)?;
+            self.add_name(&mut found)?;
         }
         Ok(found)
     }
 
+    /// Reads a resource and how much there is of it, and adds it to `out`.
     #[tactic(auto, unfolding(crate::specs::ProgramReader::a_resource))]
-    fn resource(&mut self) -> Result<Declared<'t>, ParseFault>
-        ensures { Gives
-            (λ r. record { name = name_of r.name; capital = number_view r.capital } ∷ []) result
+    fn add_resource(&mut self, out: &mut B::Resources) -> Result<(), ParseFault>
+        ensures { Makes B.wants (λ _. Adds B.is_resources concat out.old out.new) result
             (reads.a_resource (spec_tokens.tokens self.old.rest.now)) (spec_tokens.tokens self.new.rest.now) }
     {
         let name = self.name()?;
         self.expect(Mark::Equal)?;
         let capital = self.number()?;
         self.expect(Mark::Semicolon)?;
-        Ok(Declared { name, capital })
-    }
-
-    fn add_resource(&self, out: &mut B::Resources, found: Declared<'t>) -> Result<(), ParseFault>
-        ensures { Builds B.wants result (Adds B.is_resources concat out.old out.new
-            (record { name = name_of found.entry.name; capital = number_view found.entry.capital } ∷ [])) }
-    {
-        let (text, at) = (found.name.text(), found.name.start());
-        Ok(self.build.add_resource(out, text, at, found.capital)?)
+        let (text, at) = (name.text(), name.start());
+        built(self.build.add_resource(out, text, at, capital))
     }
 
     fn resources(&mut self) -> Result<B::Resources, ParseFault>
@@ -86,8 +73,7 @@ impl<'a, 't, B: Builder> Parser<'a, 't, B> {
     {
         let mut found = self.build.no_resources()?;
         while self.eat(Mark::Resource) {
-            let another = self.resource()?;
-            self.add_resource(&mut found, another)?;
+            self.add_resource(&mut found)?;
         }
         Ok(found)
     }
@@ -119,7 +105,7 @@ impl<'a, 't, B: Builder> Parser<'a, 't, B> {
         let body = self.body(depth)?;
         self.expect(Mark::End)?;
         let (text, at) = (name.text(), name.start());
-        Ok(self.build.add_process(out, text, at, integers, body)?)
+        built(self.build.add_process(out, text, at, integers, body))
     }
 
     fn processes(&mut self, depth: usize) -> Result<B::Processes, ParseFault>

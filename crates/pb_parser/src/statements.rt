@@ -1,47 +1,28 @@
 //! Statements.
 
-ghost use Rattle.std.specs.Prelude.{◌≡◌, ℕ, [], ◌∷◌};
 ghost use Rattle.pb_lexer.specs.Tokens.{tokens};
 ghost use Rattle.pb_lexer.specs.Tokens as spec_tokens;
-ghost use Rattle.pb_tree.specs.View.{number_view};
 ghost use Rattle.pb_parser.specs.Lists.{append};
 ghost use Rattle.pb_parser.specs.StatementReader as reads;
-ghost use Rattle.pb_parser.specs.Making.{Adds, Builds, Makes};
-ghost use Rattle.pb_parser.specs.Promises.{Gives, name_of};
+ghost use Rattle.pb_parser.specs.Making.{Adds, Makes};
 
-use crate::builder::Builder;
+use crate::builder::{Builder, built};
 use crate::fault::ParseFault;
 use crate::parser::Parser;
 use pb_lexer::token::{Kind, Mark, Token};
-use pb_tree::Number;
-
-/// An amount, and the name of the resource of which it is.
-#[derive(Clone, Copy)]
-struct Pair<'t> {
-    amount: Number,
-    resource: Token<'t>,
-}
 
 impl<'a, 't, B: Builder> Parser<'a, 't, B> {
-    /// Returns an amount of a resource.
+    /// Reads an amount of a resource, and adds it to `out`.
     #[tactic(auto, unfolding(crate::specs::StatementReader::a_pair))]
-    fn pair(&mut self) -> Result<Pair<'t>, ParseFault>
-        ensures { Gives
-            (λ p. record { amount = number_view p.amount; resource = name_of p.resource } ∷ []) result
+    fn add_pair(&mut self, out: &mut B::Demands) -> Result<(), ParseFault>
+        ensures { Makes B.wants (λ _. Adds B.is_demands reads.concat out.old out.new) result
             (reads.a_pair (tokens self.old.rest.now)) (tokens self.new.rest.now) }
     {
         let amount = self.number()?;
         self.expect(Mark::Of)?;
         let resource = self.name()?;
-        Ok(Pair { amount, resource })
-    }
-
-    fn add_pair(&self, out: &mut B::Demands, pair: Pair<'t>) -> Result<(), ParseFault>
-        ensures { Builds B.wants result (Adds B.is_demands reads.concat out.old out.new
-            (record { amount = number_view pair.entry.amount; resource = name_of pair.entry.resource } ∷ [])) }
-    {
-        let (text, at) = (pair.resource.text(), pair.resource.start());
-        Ok(self.build.add_demand(out, pair.amount, text, at)?)
+        let (text, at) = (resource.text(), resource.start());
+        built(self.build.add_demand(out, amount, text, at))
     }
 
     // Each kind of statement is read by a call of its own that is not inlined: the locals of all kinds would
@@ -54,11 +35,9 @@ impl<'a, 't, B: Builder> Parser<'a, 't, B> {
             (reads.pairs (tokens self.old.rest.now)) (tokens self.new.rest.now) }
     {
         let mut found = self.build.no_demands()?;
-        let first = self.pair()?;
-        self.add_pair(&mut found, first)?;
+        self.add_pair(&mut found)?;
         while self.eat(Mark::Comma) {
-            let another = self.pair()?;
-            self.add_pair(&mut found, another)?;
+            self.add_pair(&mut found)?;
         }
         Ok(found)
     }
@@ -137,14 +116,15 @@ impl<'a, 't, B: Builder> Parser<'a, 't, B> {
             (spec_tokens.lexeme kind (spec_tokens.token first.entry).text) (tokens self.old.rest.now))
             (tokens self.new.rest.now) }
     {
+        let line = first.line();
         match kind {
             Kind::Name => self.assignment(depth, first, out),
             Kind::Mark(Mark::Skip) => Ok(()),
-            Kind::Mark(Mark::Print) => self.printing(depth, first.line(), out),
-            Kind::Mark(Mark::If) => self.choice(depth, first.line(), out),
-            Kind::Mark(Mark::While) => self.looping(depth, first.line(), out),
-            Kind::Mark(Mark::Hold) => self.holding(depth, first.line(), out),
-            Kind::Mark(Mark::Parbegin) => self.forking(depth, first.line(), out),
+            Kind::Mark(Mark::Print) => self.printing(depth, line, out),
+            Kind::Mark(Mark::If) => self.choice(depth, line, out),
+            Kind::Mark(Mark::While) => self.looping(depth, line, out),
+            Kind::Mark(Mark::Hold) => self.holding(depth, line, out),
+            Kind::Mark(Mark::Parbegin) => self.forking(depth, line, out),
             Kind::Mark(Mark::Begin) => self.inner(depth, out),
             _ => Err(ParseFault::Syntax(first.start())),
         }
@@ -164,7 +144,7 @@ impl<'a, 't, B: Builder> Parser<'a, 't, B> {
         self.expect(Mark::Assign)?;
         let value = self.expression(depth)?;
         let (line, text, at) = (first.line(), first.text(), first.start());
-        Ok(self.build.assign(out, line, text, at, value)?)
+        built(self.build.assign(out, line, text, at, value))
     }
 
     #[inline(never)]
@@ -174,7 +154,7 @@ impl<'a, 't, B: Builder> Parser<'a, 't, B> {
             (tokens self.new.rest.now) }
     {
         let value = self.expression(depth)?;
-        Ok(self.build.print(out, line, value)?)
+        built(self.build.print(out, line, value))
     }
 
     #[inline(never)]
@@ -189,7 +169,7 @@ impl<'a, 't, B: Builder> Parser<'a, 't, B> {
         let on_true = self.body(depth)?;
         let on_false = self.otherwise(depth)?;
         self.expect(Mark::Fi)?;
-        Ok(self.build.choice(out, line, test, on_true, on_false)?)
+        built(self.build.choice(out, line, test, on_true, on_false))
     }
 
     /// Returns what follows `else`, if that comes next.
@@ -202,7 +182,7 @@ impl<'a, 't, B: Builder> Parser<'a, 't, B> {
         if self.eat(Mark::Else) {
             self.body(depth)
         } else {
-            Ok(self.build.no_stmts()?)
+            built(self.build.no_stmts())
         }
     }
 
@@ -217,7 +197,7 @@ impl<'a, 't, B: Builder> Parser<'a, 't, B> {
         self.expect(Mark::Do)?;
         let body = self.body(depth)?;
         self.expect(Mark::Od)?;
-        Ok(self.build.repeat(out, line, test, body)?)
+        built(self.build.repeat(out, line, test, body))
     }
 
     #[inline(never)]
@@ -231,7 +211,7 @@ impl<'a, 't, B: Builder> Parser<'a, 't, B> {
         self.expect(Mark::Do)?;
         let body = self.body(depth)?;
         self.expect(Mark::Od)?;
-        Ok(self.build.hold(out, line, demands, body)?)
+        built(self.build.hold(out, line, demands, body))
     }
 
     #[inline(never)]
@@ -243,7 +223,7 @@ impl<'a, 't, B: Builder> Parser<'a, 't, B> {
     {
         let arms = self.arms(depth)?;
         self.expect(Mark::Parend)?;
-        Ok(self.build.fork(out, line, arms)?)
+        built(self.build.fork(out, line, arms))
     }
 
     /// Reads the statements between `begin` and `end`, and adds them to `out`.

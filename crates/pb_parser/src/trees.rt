@@ -1,6 +1,6 @@
 //! A builder that makes the tree, in memory of an allocator.
 
-ghost use Rattle.std.specs.Prelude.{◌≡◌, map, IfOk};
+ghost use Rattle.std.specs.Prelude.{◌≡◌, ◌++◌, ◌∷◌, [], map, IfOk, OnOk};
 ghost use Rattle.pb_tree.specs.View.{name_view, expr_view, demand_view, stmts_view, arms_view};
 ghost use Rattle.pb_tree.specs.View.{resource_view, process_view, program_view};
 ghost use Rattle.pb_parser.specs.Parts.{part_view};
@@ -49,6 +49,13 @@ impl<A: Allocator + Clone> Trees<A> {
         })
     }
 
+    /// Returns an empty list.
+    fn list<T>(&self) -> Result<Vec<T, A>, NoMemory>
+        ensures { IfOk result (λ list. list.items ≡ []) }
+    {
+        Ok(Vec::new(self.alloc.clone()?))
+    }
+
     /// Returns an expression in memory.
     #[tactic(auto, using(pb_tree::proofs::Views::expr_views))]
     fn boxed(&self, part: Part<A>) -> Result<Box<Expr<A>, A>, NoMemory>
@@ -59,6 +66,14 @@ impl<A: Allocator + Clone> Trees<A> {
             Part::Made(expr) => Ok(expr),
         }
     }
+}
+
+/// Adds an item to a list.
+fn put<T: Drop, A: Allocator>(list: &mut Vec<T, A>, item: T) -> Result<(), NoMemory>
+    ensures { OnOk result (list.new.items ≡ list.old.items ++ item ∷ []) }
+{
+    list.push(item)?;
+    Ok(())
 }
 
 // The calls that build what nests are not inlined: their locals would lie in each frame of the parser's
@@ -126,7 +141,7 @@ impl<A: Allocator + Clone> Builder for Trees<A> {
     }
 
     fn no_stmts(&self) -> Result<Vec<Stmt<A>, A>, NoMemory> {
-        Ok(Vec::new(self.alloc.clone()?))
+        self.list()
     }
 
     #[inline(never)]
@@ -140,19 +155,20 @@ impl<A: Allocator + Clone> Builder for Trees<A> {
     ) -> Result<(), NoMemory> {
         let value = value.whole();
         let target = self.name(text, at)?;
-        out.push(Stmt::Assign {
-            line,
-            target,
-            value,
-        })?;
-        Ok(())
+        put(
+            out,
+            Stmt::Assign {
+                line,
+                target,
+                value,
+            },
+        )
     }
 
     #[inline(never)]
     fn print(&self, out: &mut Vec<Stmt<A>, A>, line: u32, value: Part<A>) -> Result<(), NoMemory> {
         let value = value.whole();
-        out.push(Stmt::Print { line, value })?;
-        Ok(())
+        put(out, Stmt::Print { line, value })
     }
 
     #[inline(never)]
@@ -165,13 +181,15 @@ impl<A: Allocator + Clone> Builder for Trees<A> {
         on_false: Vec<Stmt<A>, A>,
     ) -> Result<(), NoMemory> {
         let test = test.whole();
-        out.push(Stmt::If {
-            line,
-            test,
-            on_true,
-            on_false,
-        })?;
-        Ok(())
+        put(
+            out,
+            Stmt::If {
+                line,
+                test,
+                on_true,
+                on_false,
+            },
+        )
     }
 
     #[inline(never)]
@@ -183,8 +201,7 @@ impl<A: Allocator + Clone> Builder for Trees<A> {
         body: Vec<Stmt<A>, A>,
     ) -> Result<(), NoMemory> {
         let test = test.whole();
-        out.push(Stmt::While { line, test, body })?;
-        Ok(())
+        put(out, Stmt::While { line, test, body })
     }
 
     #[inline(never)]
@@ -195,12 +212,14 @@ impl<A: Allocator + Clone> Builder for Trees<A> {
         demands: Vec<Demand<A>, A>,
         body: Vec<Stmt<A>, A>,
     ) -> Result<(), NoMemory> {
-        out.push(Stmt::Hold {
-            line,
-            demands,
-            body,
-        })?;
-        Ok(())
+        put(
+            out,
+            Stmt::Hold {
+                line,
+                demands,
+                body,
+            },
+        )
     }
 
     #[inline(never)]
@@ -210,12 +229,11 @@ impl<A: Allocator + Clone> Builder for Trees<A> {
         line: u32,
         arms: Vec<Vec<Stmt<A>, A>, A>,
     ) -> Result<(), NoMemory> {
-        out.push(Stmt::Parbegin { line, arms })?;
-        Ok(())
+        put(out, Stmt::Parbegin { line, arms })
     }
 
     fn no_arms(&self) -> Result<Vec<Vec<Stmt<A>, A>, A>, NoMemory> {
-        Ok(Vec::new(self.alloc.clone()?))
+        self.list()
     }
 
     #[inline(never)]
@@ -224,12 +242,11 @@ impl<A: Allocator + Clone> Builder for Trees<A> {
         out: &mut Vec<Vec<Stmt<A>, A>, A>,
         body: Vec<Stmt<A>, A>,
     ) -> Result<(), NoMemory> {
-        out.push(body)?;
-        Ok(())
+        put(out, body)
     }
 
     fn no_demands(&self) -> Result<Vec<Demand<A>, A>, NoMemory> {
-        Ok(Vec::new(self.alloc.clone()?))
+        self.list()
     }
 
     fn add_demand(
@@ -240,22 +257,20 @@ impl<A: Allocator + Clone> Builder for Trees<A> {
         at: usize,
     ) -> Result<(), NoMemory> {
         let resource = self.name(text, at)?;
-        out.push(Demand { amount, resource })?;
-        Ok(())
+        put(out, Demand { amount, resource })
     }
 
     fn no_names(&self) -> Result<Vec<Name<A>, A>, NoMemory> {
-        Ok(Vec::new(self.alloc.clone()?))
+        self.list()
     }
 
     fn add_name(&self, out: &mut Vec<Name<A>, A>, text: &[u8], at: usize) -> Result<(), NoMemory> {
         let name = self.name(text, at)?;
-        out.push(name)?;
-        Ok(())
+        put(out, name)
     }
 
     fn no_resources(&self) -> Result<Vec<Resource<A>, A>, NoMemory> {
-        Ok(Vec::new(self.alloc.clone()?))
+        self.list()
     }
 
     fn add_resource(
@@ -266,12 +281,11 @@ impl<A: Allocator + Clone> Builder for Trees<A> {
         capital: Number,
     ) -> Result<(), NoMemory> {
         let name = self.name(text, at)?;
-        out.push(Resource { name, capital })?;
-        Ok(())
+        put(out, Resource { name, capital })
     }
 
     fn no_processes(&self) -> Result<Vec<Process<A>, A>, NoMemory> {
-        Ok(Vec::new(self.alloc.clone()?))
+        self.list()
     }
 
     fn add_process(
@@ -283,12 +297,14 @@ impl<A: Allocator + Clone> Builder for Trees<A> {
         body: Vec<Stmt<A>, A>,
     ) -> Result<(), NoMemory> {
         let name = self.name(text, at)?;
-        out.push(Process {
-            name,
-            integers,
-            body,
-        })?;
-        Ok(())
+        put(
+            out,
+            Process {
+                name,
+                integers,
+                body,
+            },
+        )
     }
 
     fn program(&self, resources: Vec<Resource<A>, A>, processes: Vec<Process<A>, A>) -> Program<A> {

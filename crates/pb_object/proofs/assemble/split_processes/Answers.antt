@@ -5,14 +5,16 @@ use Rattle.pb_object.proofs.Columns.{push_map, push_column}
 use Rattle.pb_object.proofs.assemble.split_processes.Goals as goal
 
 pub loop-row-preserved : goal.loop-row-preserved
-loop-row-preserved c = record {
-  names = rw c.in_ok-push.ensures.items (push_map (λ name. name.items) (λ p. p.name.items) c.loop-row.names.items
-      c.loop-row.yielded c.in-Some.row.name c.in-Some.row c.loop-row.invariant.names refl);
-  claims = rw c.in_ok-push-2.ensures.items (push_map (λ row. row.items) (λ p. p.claims.items) c.loop-row.claims.items
-      c.loop-row.yielded c.in-Some.row.claims c.in-Some.row c.loop-row.invariant.claims refl);
-  codes = rw c.in_ok-push-3.ensures.items (push_column (λ p. p.code) c.loop-row.codes.items c.loop-row.yielded c.in-Some.row c.loop-row.invariant.codes);
-  labels = rw c.in_ok-push-4.ensures.items (push_column (λ p. p.labels) c.loop-row.labels.items c.loop-row.yielded c.in-Some.row c.loop-row.invariant.labels);
-}
+loop-row-preserved c =
+    let columns = c.loop-row.columns in
+    record {
+      names = rw c.in_ok-add.ensures.names (push_map (λ name. name.items) (λ p. p.name.items) columns.names.items
+          c.loop-row.yielded c.in-Some.row.name c.in-Some.row c.loop-row.invariant.names refl);
+      claims = rw c.in_ok-add.ensures.claims (push_map (λ row. row.items) (λ p. p.claims.items) columns.claims.items
+          c.loop-row.yielded c.in-Some.row.claims c.in-Some.row c.loop-row.invariant.claims refl);
+      codes = rw c.in_ok-add.ensures.codes (push_column (λ p. p.code) columns.codes.items c.loop-row.yielded c.in-Some.row c.loop-row.invariant.codes);
+      labels = rw c.in_ok-add.ensures.labels (push_column (λ p. p.labels) columns.labels.items c.loop-row.yielded c.in-Some.row c.loop-row.invariant.labels);
+    }
 
 pub returns : goal.returns
 returns c =

@@ -1,11 +1,18 @@
-use Rattle.std.proofs.Common.{rules, tests, sym, ◌∙◌}
-use Rattle.std.proofs.lemmas.Iterator.{YieldsList-from_slice}
-use Rattle.std.proofs.lemmas.Iterator.Search.{all_from_yields_List}
+use Rattle.std.proofs.Common.{◌∙◌, sym}
 use Rattle.pb_code.specs.Names.{is_name}
-use Rattle.pb_object.proofs.Loops.{all_map}
+use Rattle.pb_object.proofs.Turns.{from_here, from_end, not_all, all_on, all_none}
 use Rattle.pb_object.proofs.line_reader.are_names.Goals as goal
+
+pub returns-then-not-is_name : goal.returns-then-not-is_name
+returns-then-not-is_name c =
+    let here = from_here (λ w. w.now) c.args.words.now c.loop-word.word-index _ c.loop-word-test.true in
+    sym (c.loop-word.invariant ∙ not_all is_name _ _ _ here (sym c.is_name.ensures.test ∙ c.if-not-is_name.true))
+
+pub loop-word-preserved : goal.loop-word-preserved
+loop-word-preserved c =
+    let here = from_here (λ w. w.now) c.args.words.now c.loop-word.word-index _ c.loop-word-test.true in
+    c.loop-word.invariant ∙ all_on is_name _ _ _ here (sym c.is_name.ensures.test ∙ c.if-not-is_name.false)
 
 pub returns : goal.returns
 returns c =
-    all_from_yields_List (λ w. is_name w.now) _ _ _ c.all.ensures.ran (YieldsList-from_slice c.args.words.now cc) (λ x b q k. search (rules, tests))
-    ∙ sym (all_map is_name (λ w. w.now) c.args.words.now)
+    sym (c.loop-word.invariant ∙ all_none is_name _ (from_end (λ w. w.now) c.args.words.now c.loop-word.word-index c.loop-word-test.false))

@@ -10,4 +10,4 @@ loop-r-preserved c =
     let width = c.requires.width in
     let lt : c.loop-r.r < length row = omega (arith, number, width) in
     more_mapped decimal c.args.out.now.items c.loop-r.out.items _ (codes "claims") [] row c.loop-r.r 0 lt
-    c.loop-r.invariant (rw c.get.ensures at c.in_ok-put_claim.ensures)
+    c.loop-r.invariant (rw c.get.ensures at c.in_ok-put_next.ensures)

@@ -2,9 +2,9 @@ use Rattle.std.proofs.Common.{length, suc, ◌-◌, ◌<◌, subst, ◌≡◌, r
 use Rattle.std.proofs.lemmas.Result.{err_from_is_err_and}
 use Rattle.pb_base.specs.declared.operators.UnaryOp.TheVariants as sign
 use Rattle.pb_lexer.specs.Tokens.{tokens}
-use Rattle.pb_parser.specs.ExpressionReader.{expression, negation, factor, after_sum, after_conjunction, of_level}
+use Rattle.pb_parser.specs.ExpressionReader.{expression, joined, negation, factor, after_sum, after_conjunction, of_level}
 use Rattle.pb_parser.specs.Making.{Makes}
-use Rattle.pb_parser.proofs.Chains.{fails_through}
+use Rattle.pb_parser.proofs.Chains.{fails_through, made}
 use Rattle.pb_parser.proofs.Levels.{first_fails, then_makes, then_nothing, splits_at_factor, splits_at_negation, factor_ends, negation_ends}
 use Rattle.pb_parser.proofs.Levels.{factors_first, terms_first, negations_first, factor_alone, term_alone, sum_alone, negation_alone, conjunction_alone}
 use Rattle.pb_parser.proofs.Loops.{loop_begins, joined_shorter, operator_more, operator_fails, operator_leaves}
@@ -174,3 +174,9 @@ chain-loop-op-preserved g t c = λ a h.
 
 pub chain-returns : goal.chain-returns
 chain-returns g t c = λ a h. operator_leaves _ _ _ _ _ (c.loop-op.invariant a h) c.in_default.ensures
+
+pub joined-returns : goal.joined-returns
+joined-returns g t c = λ a h.
+    let right = c.in_ok-right.ensures in
+    made g.B.Builder.is_expr g.B.Builder.wants _ _ _ _ _ (ap (joined c.args.op a) right.found)
+    (c.binary.ensures.made a right.syntax h right.same) c.binary.ensures.fault c.built.ensures.made c.built.ensures.fault

@@ -5,9 +5,10 @@ use Rattle.pb_lexer.specs.Tokens.{token, tokens}
 use Rattle.pb_tree.specs.Syntax.{no_stmt, no_arm}
 use Rattle.pb_parser.specs.Lists.{append, append_arms, single_arm}
 use Rattle.pb_parser.specs.StatementReader.{statement, statement_by, an_arm}
-use Rattle.pb_parser.proofs.Chains.{fails_through, fails_through_plain}
+use Rattle.pb_parser.specs.Making.{Adds}
+use Rattle.pb_parser.proofs.Chains.{fails_through, fails_through_plain, made}
 use Rattle.pb_parser.proofs.Loops.{loop_more, loop_fails, loop_leaves, adds_more, stmts_assoc, append_empty, arm_refused, statement_shorter, statement_first, statement_none, statement_zero}
-use Rattle.pb_parser.proofs.Steps.{choice_steps, choice_open, looping_steps, holding_steps, list_enter, list_refused, arm_found, arms_enter, arms_refused}
+use Rattle.pb_parser.proofs.Steps.{choice_steps, choice_open, looping_steps, holding_steps, forking_steps, no_else, list_enter, list_refused, arm_found, arms_enter, arms_refused}
 use Rattle.pb_parser.proofs.parser.Parser.+statement.Goals as goal
 
 pub arms-returns-in_err-statement : goal.arms-returns-in_err-statement
@@ -61,36 +62,36 @@ choice-returns g t c =
     let e = c.in_ok-test.ensures in
     let a = c.in_ok-on_true.ensures in
     let b = c.in_ok-on_false.ensures in
-    record {
-      syntax = _;
-      found = choice_steps _ _ _ _ _ _ _ _ _ e.syntax a.syntax b.syntax e.found c.in_ok-expect.ensures a.found b.found c.in_ok-expect-2.ensures;
-      same = c.in_ok-choice.ensures.made e.syntax a.syntax b.syntax e.same a.same b.same;
-    }
+    made (λ _. Adds g.B.Builder.is_stmts append c.args.out.now c.choice.new.out) g.B.Builder.wants _ _ _ _ _
+    (choice_steps _ _ _ _ _ _ _ _ _ e.syntax a.syntax b.syntax e.found c.in_ok-expect.ensures a.found b.found c.in_ok-expect-2.ensures)
+    (c.choice.ensures.made e.syntax a.syntax b.syntax e.same a.same b.same) c.choice.ensures.fault c.built.ensures.made c.built.ensures.fault
 
 pub looping-returns : goal.looping-returns
 looping-returns g t c =
     let e = c.in_ok-test.ensures in
     let a = c.in_ok-body.ensures in
-    record {
-      syntax = _;
-      found = looping_steps _ _ _ _ _ _ _ _ e.syntax a.syntax e.found c.in_ok-expect.ensures a.found c.in_ok-expect-2.ensures;
-      same = c.in_ok-repeat.ensures.made e.syntax a.syntax e.same a.same;
-    }
+    made (λ _. Adds g.B.Builder.is_stmts append c.args.out.now c.repeat.new.out) g.B.Builder.wants _ _ _ _ _
+    (looping_steps _ _ _ _ _ _ _ _ e.syntax a.syntax e.found c.in_ok-expect.ensures a.found c.in_ok-expect-2.ensures)
+    (c.repeat.ensures.made e.syntax a.syntax e.same a.same) c.repeat.ensures.fault c.built.ensures.made c.built.ensures.fault
 
 pub holding-returns : goal.holding-returns
 holding-returns g t c =
     let ds = c.in_ok-demands.ensures in
     let a = c.in_ok-body.ensures in
-    record {
-      syntax = _;
-      found = holding_steps _ _ _ _ _ _ _ ds.syntax a.syntax ds.found c.in_ok-expect.ensures a.found c.in_ok-expect-2.ensures;
-      same = c.in_ok-hold.ensures.made ds.syntax a.syntax ds.same a.same;
-    }
+    made (λ _. Adds g.B.Builder.is_stmts append c.args.out.now c.hold.new.out) g.B.Builder.wants _ _ _ _ _
+    (holding_steps _ _ _ _ _ _ _ ds.syntax a.syntax ds.found c.in_ok-expect.ensures a.found c.in_ok-expect-2.ensures)
+    (c.hold.ensures.made ds.syntax a.syntax ds.same a.same) c.hold.ensures.fault c.built.ensures.made c.built.ensures.fault
 
 pub forking-returns : goal.forking-returns
 forking-returns g t c =
     let a = c.in_ok-arms.ensures in
-    record { syntax = _; found = rw (a.found, c.in_ok-expect.ensures) refl; same = c.in_ok-fork.ensures.made a.syntax a.same }
+    made (λ _. Adds g.B.Builder.is_stmts append c.args.out.now c.fork.new.out) g.B.Builder.wants _ _ _ _ _ (forking_steps _ _ _ _ _ a.syntax a.found c.in_ok-expect.ensures)
+    (c.fork.ensures.made a.syntax a.same) c.fork.ensures.fault c.built.ensures.made c.built.ensures.fault
+
+pub otherwise-returns-else-eat : goal.otherwise-returns-else-eat
+otherwise-returns-else-eat g t c =
+    made g.B.Builder.is_stmts g.B.Builder.wants _ _ _ _ _ (no_else _ _ _ _ c.if-eat.false c.eat.ensures)
+    c.no_stmts.ensures.made c.no_stmts.ensures.fault c.built.ensures.made c.built.ensures.fault
 
 pub list-returns-in_err-statement : goal.list-returns-in_err-statement
 list-returns-in_err-statement g t c =

@@ -1,5 +1,7 @@
+use Rattle.pb_parser.specs.StatementReader.{concat}
+use Rattle.pb_parser.specs.Making.{Adds}
 use Rattle.std.proofs.lemmas.Result.{err_from_is_err_and}
-use Rattle.pb_parser.proofs.Chains.{fails_through_plain}
+use Rattle.pb_parser.proofs.Chains.{fails_through_plain, made}
 use Rattle.pb_parser.proofs.Steps.{process_open, process_steps}
 use Rattle.pb_parser.proofs.parser.Parser.process.Goals as goal
 
@@ -13,9 +15,7 @@ pub returns : goal.returns
 returns g c =
     let xs = c.in_ok-integers.ensures in
     let a = c.in_ok-body.ensures in
-    let made = c.in_ok-add_process.ensures.made xs.syntax a.syntax xs.same a.same in
-    record {
-      syntax = _;
-      found = process_steps _ _ _ _ _ _ _ _ xs.syntax a.syntax c.in_ok-name.ensures c.in_ok-expect.ensures xs.found a.found c.in_ok-expect-2.ensures;
-      same = rw (c.text-text.ensures, c.start-at.ensures) at made;
-    }
+    let same = c.add_process.ensures.made xs.syntax a.syntax xs.same a.same in
+    made (λ _. Adds g.B.Builder.is_processes concat c.args.out.now c.add_process.new.out) g.B.Builder.wants _ _ _ _ _
+    (process_steps _ _ _ _ _ _ _ _ xs.syntax a.syntax c.in_ok-name.ensures c.in_ok-expect.ensures xs.found a.found c.in_ok-expect-2.ensures)
+    (rw (c.text-text.ensures, c.start-at.ensures) at same) c.add_process.ensures.fault c.built.ensures.made c.built.ensures.fault

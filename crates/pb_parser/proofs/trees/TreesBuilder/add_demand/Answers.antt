@@ -1,7 +1,7 @@
 use Rattle.std.proofs.Common.{refl}
-use Rattle.pb_parser.proofs.Vectors.{items_added}
+use Rattle.pb_parser.proofs.Vectors.{items_put}
 use Rattle.pb_tree.specs.View.{demand_view}
 use Rattle.pb_parser.proofs.trees.TreesBuilder.add_demand.Goals as goal
 
 pub returns-clause-made : goal.returns-clause-made
-returns-clause-made g c = λ before k. items_added demand_view _ _ _ _ before c.in_ok-push.ensures.items (rw c.in_ok-resource.ensures refl) k
+returns-clause-made g c = items_put demand_view _ _ _ _ _ c.put.ensures (rw c.in_ok-resource.ensures refl)

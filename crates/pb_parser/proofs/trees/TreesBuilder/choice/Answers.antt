@@ -1,6 +1,6 @@
 use Rattle.std.proofs.Common.{◌∙◌}
-use Rattle.pb_parser.proofs.Vectors.{stmts_added, if_seen}
+use Rattle.pb_parser.proofs.Vectors.{stmts_put, if_seen}
 use Rattle.pb_parser.proofs.trees.TreesBuilder.choice.Goals as goal
 
 pub returns-clause-made : goal.returns-clause-made
-returns-clause-made g c = λ e a b h i j before k. stmts_added _ _ _ _ before c.in_ok-push.ensures.items (if_seen _ _ _ _ e a b (c.whole-test.ensures ∙ h) i j) k
+returns-clause-made g c = λ e a b h i j. stmts_put _ _ _ _ _ c.put.ensures (if_seen _ _ _ _ e a b (c.whole-test.ensures ∙ h) i j)
