@@ -1,7 +1,9 @@
 -- From what was read, and what is said of it, to what is said of an input.
-use Rattle.std.proofs.Common.{◌≡◌, ℕ, ◌<◌, ◌≤◌, List, [], ◌++◌, length, Option, Some, None, IfSome, IfOk, OnErr, Result, Ok, Err, codes}
+use Rattle.std.proofs.Common.{◌≡◌, ℕ, ◌<◌, ◌≤◌, List, [], ◌++◌, length, Option, Some, None, IfSome, IfOk, OnErr, Result, Ok, Err, refl, inl, inr, codes}
+use Rattle.pb_base.specs.Device.{one_more_failure}
 use Rattle.pb_base.specs.declared.memory.NoMemory.{NoMemory}
 use Rattle.pb_engines.specs.Answers.{line, memory_line, Says, Tells}
+use Rattle.pb_engines.specs.Faults.{TellsFaults, TellsWriteFaults}
 use Rattle.pb_engines.specs.Inputs.{SaysOfReading, too_long, no_memory, nothing, SaysOfInput, not_read, read}
 use Rattle.pb_engines.specs.declared.reply.Reply.{Reply}
 use Rattle.pb_engines.specs.declared.status.Status.{Status}
@@ -38,6 +40,19 @@ wants_memory bytes page old new given empty says =
 
 pub fails : (bytes : List ℕ) (w : Option (List ℕ)) → Tells (SaysOfReading bytes) w w Device
 fails bytes w = ([], Device, nothing, said_nothing w)
+
+-- ---- what the status tells of an input that is not read
+
+pub read_failed : (old new writes : ℕ) (written : Option (List ℕ)) → new ≡ one_more_failure old
+    → TellsFaults (record { reads = old; writes = writes; written = written }) (record { reads = new; writes = writes; written = written }) Device
+read_failed old new writes written failed = (λ not_device. absurd (not_device refl), λ device. inl (failed, refl, refl))
+
+pub unread_faults : (old_reads new_reads old_writes new_writes : ℕ) (old new : Option (List ℕ)) (given : Status) → new_reads ≡ old_reads
+    → TellsWriteFaults old_writes new_writes given
+    → TellsFaults (record { reads = old_reads; writes = old_writes; written = old })
+    (record { reads = new_reads; writes = new_writes; written = new }) given
+unread_faults old_reads new_reads old_writes new_writes old new given same (without, with_one) =
+    (λ not_device. (same, without not_device), λ device. inr (same, with_one device))
 
 -- ---- what is said of an input
 
