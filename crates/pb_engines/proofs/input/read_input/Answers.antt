@@ -1,4 +1,3 @@
-use Rattle.std.proofs.Common.{refl}
 use Rattle.pb_engines.proofs.InputLemmas.{IfSome-of, IfSome-weaker, fails, is_too_long, read_failed, unread_faults, wants_memory}
 use Rattle.pb_engines.proofs.input.read_input.Goals as goal
 
