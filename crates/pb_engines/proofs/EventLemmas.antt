@@ -13,7 +13,7 @@ use Rattle.pb_engines.specs.EventLines.{StopsIn, out_of_memory, cut_off}
 use Rattle.pb_engines.specs.Runs.{event_lines}
 use Rattle.pb_engines.specs.declared.status.Status.{Status}
 use Rattle.pb_engines.specs.declared.status.Status.TheVariants.{Device, Memory}
-use Rattle.pb_engines.proofs.PageLemmas.{AddsPrefix-longer, AddsPrefix-more, Leaves-more, Says-more}
+use Rattle.pb_engines.proofs.PageLemmas.{AddsPrefix-longer, AddsPrefix-more, Leaves-more, Says-more, leaves_all}
 
 -- the lines of the first events and of one more
 one_more_event : (names : NameTable) (events : List Event) (i : ℕ) (event : Event) → slice_get events i ≡ Some event
@@ -28,6 +28,11 @@ lines_in_two : (names : NameTable) (events : List Event) (n : ℕ)
     → event_lines names events ≡ event_lines names (take n events) ++ event_lines names (drop n events)
 lines_in_two names events n =
     ap (event_lines names) (sym (take_drop n events)) ∙ flat_map-append (λ e. line (line_of names e)) (take n events) (drop n events)
+
+-- none is told
+pub told_no_events : (names : NameTable) (events : List Event) (w : Option (List ℕ)) (page : List ℕ) → page ≡ []
+    → Leaves w w (event_lines names (take 0 events)) page
+told_no_events names events w page empty = subst (λ (p : List ℕ). Leaves w w [] p) (sym empty) (leaves_all w [])
 
 pub told_one_event : (names : NameTable) (events : List Event) (i : ℕ) (event : Event) (text : List ℕ) (w a b : Option (List ℕ))
     (page left : List ℕ) → slice_get events i ≡ Some event → text ≡ line_of names event

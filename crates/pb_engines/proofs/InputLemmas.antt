@@ -1,12 +1,14 @@
 -- From what was read, and what is said of it, to what is said of an input.
-use Rattle.std.proofs.Common.{◌≡◌, ℕ, ◌<◌, ◌≤◌, List, [], ◌++◌, length, Option, Some, None, IfSome, IfOk, OnErr, Result, Ok, Err, codes}
+use Rattle.std.proofs.Common.{◌≡◌, ℕ, ◌<◌, ◌≤◌, List, [], ◌++◌, length, Option, Some, None, IfSome, IfOk, OnErr, Result, Ok, Err, refl, subst, ◌∙◌, inl, inr, codes}
+use Rattle.pb_base.specs.Device.{one_more_failure}
 use Rattle.pb_base.specs.declared.memory.NoMemory.{NoMemory}
 use Rattle.pb_engines.specs.Answers.{line, memory_line, Says, Tells}
+use Rattle.pb_engines.specs.Faults.{TellsFaults, TellsWriteFaults}
 use Rattle.pb_engines.specs.Inputs.{SaysOfReading, too_long, no_memory, nothing, SaysOfInput, not_read, read}
 use Rattle.pb_engines.specs.declared.reply.Reply.{Reply}
 use Rattle.pb_engines.specs.declared.status.Status.{Status}
 use Rattle.pb_engines.specs.declared.status.Status.TheVariants.{Refused, Memory, Device}
-use Rattle.pb_engines.proofs.PageLemmas.{Says-first}
+use Rattle.pb_engines.proofs.PageLemmas.{Says-first, faults_since}
 use Rattle.pb_engines.proofs.TextLemmas.{said_nothing}
 
 -- ---- what is known of an input
@@ -39,7 +41,44 @@ wants_memory bytes page old new given empty says =
 pub fails : (bytes : List ℕ) (w : Option (List ℕ)) → Tells (SaysOfReading bytes) w w Device
 fails bytes w = ([], Device, nothing, said_nothing w)
 
+-- ---- what the status tells of an input that is not read
+
+pub read_failed : (old new writes : ℕ) (written : Option (List ℕ)) → new ≡ one_more_failure old
+    → TellsFaults (record { reads = old; writes = writes; written = written }) (record { reads = new; writes = writes; written = written }) Device
+read_failed old new writes written failed = (λ not_device. absurd (not_device refl), λ device. inl (failed, refl, refl))
+
+pub unread_faults : (old_reads new_reads old_writes new_writes : ℕ) (old new : Option (List ℕ)) (given : Status) → new_reads ≡ old_reads
+    → TellsWriteFaults old_writes new_writes given
+    → TellsFaults (record { reads = old_reads; writes = old_writes; written = old })
+    (record { reads = new_reads; writes = new_writes; written = new }) given
+unread_faults old_reads new_reads old_writes new_writes old new given same (without, with_one) =
+    (λ not_device. (same, without not_device), λ device. inr (same, with_one device))
+
 -- ---- what is said of an input
+
+-- an input that is not read
+pub says_unread : (SaysOf : List ℕ → List ℕ → Status → Type 0) (rest : Option (List ℕ)) (old new : Option (List ℕ)) (given : Status)
+    → IfSome rest (λ bytes. Tells (SaysOfReading bytes) old new given) → IfSome rest (λ bytes. Tells (SaysOfInput SaysOf bytes) old new given)
+says_unread SaysOf None old new given told = tt
+says_unread SaysOf (Some bytes) old new given (text, status, is, says) = (text, status, not_read is, says)
+
+-- what is said of the bytes that were read is said of the input
+pub says_read : (SaysOf : List ℕ → List ℕ → Status → Type 0) (rest : Option (List ℕ)) (bytes seen : List ℕ) (before old new : Option (List ℕ))
+    (given : Status) → IfSome rest (λ whole. bytes ≡ whole) → seen ≡ bytes → old ≡ before → Tells (SaysOfInput SaysOf seen) old new given
+    → IfSome rest (λ whole. Tells (SaysOfInput SaysOf whole) before new given)
+says_read SaysOf None bytes seen before old new given is same untouched told = tt
+says_read SaysOf (Some whole) bytes seen before old new given is same untouched told =
+    subst (λ (w : Option (List ℕ)). Tells (SaysOfInput SaysOf whole) w new given) untouched
+    (subst (λ (b : List ℕ). Tells (SaysOfInput SaysOf b) old new given) (same ∙ is) told)
+
+-- the faults of a call that read its input
+pub read_faults : (old_reads new_reads old_writes between new_writes : ℕ) (old new : Option (List ℕ)) (given : Status)
+    → new_reads ≡ old_reads → between ≡ old_writes → TellsWriteFaults between new_writes given
+    → TellsFaults (record { reads = old_reads; writes = old_writes; written = old })
+    (record { reads = new_reads; writes = new_writes; written = new }) given
+read_faults old_reads new_reads old_writes between new_writes old new given same untouched faults =
+    unread_faults old_reads new_reads old_writes new_writes old new given same
+    (faults_since old_writes between new_writes given untouched faults)
 
 -- a reply that was made, or for which there was no memory
 pub told_reply : (SaysOf : List ℕ → List ℕ → Status → Type 0) (bytes : List ℕ) (reply : Result Reply NoMemory) (old new : Option (List ℕ))

@@ -3,6 +3,7 @@ use Rattle.std.proofs.Common.{◌≡◌, ◌++◌, ℕ, List, [], Option, Some, 
 use Rattle.pb_base.specs.Device.{appended, one_more_failure, AddsPrefix}
 use Rattle.pb_base.proofs.DeviceLemmas.{appended-appended}
 use Rattle.pb_engines.specs.declared.status.Status.{Status}
+use Rattle.pb_engines.specs.declared.status.Status.TheVariants.{Device}
 use Rattle.pb_engines.specs.Answers.{Leaves, Says}
 use Rattle.pb_engines.specs.Faults.{TellsWriteFaults}
 
@@ -103,6 +104,10 @@ OnErr-of (Ok x) p = tt
 OnErr-of (Err e) p = p
 
 -- ---- faults
+
+-- a write failed, counted from a state in which none had failed yet
+pub device_since : (old between new : ℕ) → between ≡ old → new ≡ one_more_failure between → TellsWriteFaults old new Device
+device_since old between new same one_more = (λ not_device. absurd (not_device refl), λ device. one_more ∙ ap one_more_failure same)
 
 -- the faults that a status tells, counted from a state in which none had come yet
 pub faults_since : (old between new : ℕ) (status : Status) → between ≡ old → TellsWriteFaults between new status

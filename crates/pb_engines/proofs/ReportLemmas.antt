@@ -22,7 +22,7 @@ use Rattle.pb_workers.specs.declared.report.Report.{Report}
 use Rattle.pb_engines.specs.Answers.{line, memory_line, Leaves, Says, Tells}
 use Rattle.pb_engines.specs.EventLines.{StopsIn}
 use Rattle.pb_engines.specs.EventLines as stop
-use Rattle.pb_engines.specs.Outcomes.{SaysOfOutcome, all_done, some_fault, used_up}
+use Rattle.pb_engines.specs.Outcomes.{SaysOfOutcome, ShowsFault, all_done, some_fault, used_up}
 use Rattle.pb_engines.specs.RunLaws.{ReportsFollowTheSource}
 use Rattle.pb_engines.specs.Records.{IsRecorded}
 use Rattle.pb_engines.specs.Runs.{IsDone, Run, SaysOfCode, event_lines, at_limit, cut_off, done, faulted, no_threads, out_of_memory}
@@ -214,3 +214,35 @@ report_is_recorded code steps report picks is same apart =
     all_made : (o : Outcome) → EndsAs o steps report.trace.entries is.end → ¬ IsDone is.end → length report.trace.entries ≡ steps
     all_made outcome.Done over not_done = absurd (not_done over)
     all_made outcome.Limit (not_over, all) not_done = all
+
+-- ---- the last line
+
+pub tells_done : (events : List Event) (steps : ℕ) (page : List ℕ) (ended : Outcome) (old new : Option (List ℕ)) (given : Status)
+    → ended ≡ outcome.Done → ¬ ShowsFault events → Says old new (page ++ line (codes "done")) Done given
+    → Tells (SaysOfOutcome events steps page ended) old new given
+tells_done events steps page ended old new given is none says = (
+  page ++ line (codes "done"),
+  Done,
+  subst (λ (o : Outcome). SaysOfOutcome events steps page o (page ++ line (codes "done")) Done) (sym is) (all_done none),
+  says,
+)
+
+pub tells_fault : (events : List Event) (steps : ℕ) (page : List ℕ) (ended : Outcome) (old new : Option (List ℕ)) (given : Status)
+    → ended ≡ outcome.Done → ShowsFault events → Says old new (page ++ line (codes "done")) Fault given
+    → Tells (SaysOfOutcome events steps page ended) old new given
+tells_fault events steps page ended old new given is shown says = (
+  page ++ line (codes "done"),
+  Fault,
+  subst (λ (o : Outcome). SaysOfOutcome events steps page o (page ++ line (codes "done")) Fault) (sym is) (some_fault shown),
+  says,
+)
+
+pub tells_limit : (events : List Event) (steps : ℕ) (page : List ℕ) (ended : Outcome) (old new : Option (List ℕ)) (given : Status)
+    → ended ≡ outcome.Limit → Says old new (page ++ line (codes "limit " ++ decimal steps)) Limit given
+    → Tells (SaysOfOutcome events steps page ended) old new given
+tells_limit events steps page ended old new given is says = (
+  page ++ line (codes "limit " ++ decimal steps),
+  Limit,
+  subst (λ (o : Outcome). SaysOfOutcome events steps page o (page ++ line (codes "limit " ++ decimal steps)) Limit) (sym is) used_up,
+  says,
+)

@@ -34,8 +34,13 @@ fn look<A: Allocator + Clone>(alloc: Global, trees: A, text: &[u8]) -> Result<()
     ensures accepted { OnOk result (IsAcceptedText text.now) }
     ensures refused { IfErr result (IsRefusal text.now) }
 {
-    compile_within(alloc, trees, text)?;
-    Ok(())
+    match compile_within(alloc, trees, text) {
+        Ok(compiled) => {
+            drop(compiled);
+            Ok(())
+        }
+        Err(refusal) => Err(refusal),
+    }
 }
 
 // Looks at one text, whose trees lie in a new heap of this size, or else in the arena, which is given up

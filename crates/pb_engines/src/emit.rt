@@ -70,7 +70,11 @@ fn emit_text<O: Output>(alloc: Global, format: Format, text: &[u8], output: &mut
     ensures faults { TellsWriteFaults (O.failures output.old) (O.failures output.new) result }
 {
     match compile_text(alloc, text) {
-        Ok(compiled) => tell(alloc, object(alloc, format, &compiled), output),
+        Ok(compiled) => {
+            let reply = object(alloc, format, &compiled);
+            drop(compiled);
+            tell(alloc, reply, output)
+        }
         Err(refusal) => refuse(alloc, refusal, output),
     }
 }

@@ -29,7 +29,12 @@ fn run_object<O: Output, R: Threads + Wait + Sync>(
     ensures faults { TellsWriteFaults (O.failures output.old) (O.failures output.new) result }
 {
     match load(alloc, bytes) {
-        Ok((verified, _)) => tell_run(rt, alloc, &verified, options, output),
+        Ok((verified, labels)) => {
+            drop(labels);
+            let status = tell_run(rt, alloc, &verified, options, output);
+            drop(verified);
+            status
+        }
         Err(fault) => tell(alloc, load_refusal(alloc, fault), output),
     }
 }

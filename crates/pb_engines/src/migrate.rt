@@ -4,6 +4,9 @@ ghost use Rattle.pb_engines.specs.Answers.{Tells};
 ghost use Rattle.pb_engines.specs.Inputs.{SaysOfInput};
 ghost use Rattle.pb_engines.specs.Migrations.{SaysOfMigration};
 ghost use Rattle.pb_engines.specs.Faults.{TellsFaults, TellsWriteFaults};
+ghost use Rattle.pb_code.specs.View.{code_view, labels_view};
+ghost use Rattle.pb_object.specs.Answers.{HasText, Spells};
+ghost use Rattle.pb_object.specs.declared.format.Format.TheVariants.{Two};
 
 use crate::input::read_input;
 use crate::load::{load, load_refusal};
@@ -11,6 +14,7 @@ use crate::reply::{Reply, tell};
 use crate::status::Status;
 use pb_base::NoMemory;
 use pb_base::device::{Input, Output};
+use pb_code::{Code, Labels};
 use pb_object::write_object2;
 use std::alloc::Global;
 
@@ -18,11 +22,23 @@ use std::alloc::Global;
 fn migration(alloc: Global, bytes: &[u8]) -> Result<Reply, NoMemory>
     ensures { IfOk result (λ reply. SaysOfMigration bytes.now reply.text.items reply.status) }
 {
-    let (verified, labels) = match load(alloc, bytes) {
-        Ok(loaded) => loaded,
-        Err(fault) => return load_refusal(alloc, fault),
-    };
-    let text = write_object2(alloc, verified.code(), &labels)?;
+    match load(alloc, bytes) {
+        Ok((verified, labels)) => {
+            let reply = second_format(alloc, verified.code(), &labels);
+            drop(verified);
+            drop(labels);
+            reply
+        }
+        Err(fault) => load_refusal(alloc, fault),
+    }
+}
+
+// Returns the second format of this code, with these labels.
+fn second_format(alloc: Global, code: &Code, labels: &Labels) -> Result<Reply, NoMemory>
+    requires { HasText Two (code_view code.now) (labels_view labels.now) }
+    ensures { IfOk result (λ reply. Spells Two (code_view code.now) (labels_view labels.now) reply.text.items × (reply.status ≡ Status.Done)) }
+{
+    let text = write_object2(alloc, code, labels)?;
     Ok(Reply {
         text,
         status: Status::Done,

@@ -64,11 +64,11 @@ fn record_text<O: Output, R: Threads + Wait + Sync>(
     ensures faults { TellsWriteFaults (O.failures output.old) (O.failures output.new) result }
 {
     match compile_text(alloc, text) {
-        Ok(compiled) => tell(
-            alloc,
-            recording(rt, alloc, options, text, compiled.verified()),
-            output,
-        ),
+        Ok(compiled) => {
+            let reply = recording(rt, alloc, options, text, compiled.verified());
+            drop(compiled);
+            tell(alloc, reply, output)
+        }
         Err(refusal) => refuse(alloc, refusal, output),
     }
 }

@@ -65,7 +65,11 @@ fn replay_text<O: Output>(alloc: Global, bytes: &[u8], output: &mut O) -> Status
 {
     let (text, lines) = two_parts(bytes);
     match compile_text(alloc, text) {
-        Ok(compiled) => replay_lines(alloc, compiled.verified(), lines, output),
+        Ok(compiled) => {
+            let status = replay_lines(alloc, compiled.verified(), lines, output);
+            drop(compiled);
+            status
+        }
         Err(refusal) => refuse(alloc, refusal, output),
     }
 }

@@ -71,7 +71,6 @@ fn tell_report<O: Output>(
 }
 
 // Says the last line of a run.
-#[tactic(auto, using(crate::specs::Outcomes::all_done, crate::specs::Outcomes::some_fault, crate::specs::Outcomes::used_up))]
 fn tell_outcome<O: Output>(page: Page, output: &mut O, report: &Report, steps: u32) -> Status
     ensures text { Tells (SaysOfOutcome (events_of report.now.trace.entries) steps page report.now.outcome)
         (O.written output.old) (O.written output.new) result }

@@ -54,7 +54,11 @@ fn run_text<O: Output, R: Threads + Wait + Sync>(
     ensures faults { TellsWriteFaults (O.failures output.old) (O.failures output.new) result }
 {
     match compile_text(alloc, text) {
-        Ok(compiled) => tell_run(rt, alloc, compiled.verified(), options, output),
+        Ok(compiled) => {
+            let status = tell_run(rt, alloc, compiled.verified(), options, output);
+            drop(compiled);
+            status
+        }
         Err(refusal) => refuse(alloc, refusal, output),
     }
 }

@@ -1,5 +1,6 @@
 use Rattle.std.proofs.Common.{◌∙◌, refl}
 use Rattle.pb_engines.proofs.CheckLemmas.{told_none, told_one_more, told_all, told_until_memory, told_broken}
+use Rattle.pb_engines.proofs.PageLemmas.{device_since, faults_since}
 use Rattle.pb_engines.proofs.check.check_parts.Goals as goal
 
 pub loop-is_refusal-init : goal.loop-is_refusal-init
@@ -28,3 +29,14 @@ returns-in_default-clause-text g c =
     let whole = rw c.in_default.is at c.first_part-cut.ensures.whole in
     told_all _ c.loop-is_refusal.rest.now c.first_part-cut.result.part.now _ _ _ _ _ _ _ c.finish.result
     c.loop-is_refusal.invariant.0 whole.0 whole.1 c.in-Answered.ensures.told c.status_of.ensures c.finish.ensures.text
+
+pub returns-in-OutOfMemory-clause-faults : goal.returns-in-OutOfMemory-clause-faults
+returns-in-OutOfMemory-clause-faults g c =
+    faults_since _ _ _ c.finish_with.result (c.in-OutOfMemory.ensures.counted (λ e. cc) ∙ c.loop-is_refusal.invariant.1) c.finish_with.ensures.faults
+
+pub returns-in-Broken-clause-faults : goal.returns-in-Broken-clause-faults
+returns-in-Broken-clause-faults g c = device_since _ _ _ c.loop-is_refusal.invariant.1 (c.in-Broken.ensures.fault refl)
+
+pub returns-in_default-clause-faults : goal.returns-in_default-clause-faults
+returns-in_default-clause-faults g c =
+    faults_since _ _ _ c.finish.result (c.in-Answered.ensures.counted (λ e. cc) ∙ c.loop-is_refusal.invariant.1) c.finish.ensures.faults

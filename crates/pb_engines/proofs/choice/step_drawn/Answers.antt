@@ -1,13 +1,14 @@
-use Rattle.std.proofs.Common.{◌≡◌, ℕ, ◌<◌, ◌%◌, Some, eqb, length, slice_get, sym, ap, ◌∙◌, subst, true, vec_len, arith}
+use Rattle.std.proofs.Common.{◌≡◌, ℕ, ◌<◌, ◌%◌, Some, eqb, length, slice_get, refl, sym, ap, ◌∙◌, subst, true, vec_len, arith}
 use Rattle.std.proofs.lemmas.Bool.{eqb-true}
 use Rattle.std.proofs.lemmas.Option.{slice_get-get_or}
 use Rattle.pb_base.specs.Steppers.{State}
 use Rattle.pb_code.specs.Code.{CodeProcess}
-use Rattle.pb_code.specs.Reached.{CodeStays}
+use Rattle.pb_code.specs.Reached.{CodeMoves, CodeStays}
+use Rattle.pb_machine.specs.Steps.{MovesSilently}
 use Rattle.pb_machine.specs.Views.{machine_view}
 use Rattle.rand_pcg.specs.Pcg.{pcg32}
 use Rattle.pb_engines.specs.Draws.{drawn_number}
-use Rattle.pb_engines.proofs.ChoiceLemmas.{all_struck, one_drawn, one_struck}
+use Rattle.pb_engines.proofs.ChoiceLemmas.{all_left, all_struck, one_drawn, one_struck}
 use Rattle.pb_engines.proofs.choice.step_drawn.Goals as goal
 
 pub returns-in-Silent-clause-drawn : goal.returns-in-Silent-clause-drawn
@@ -63,3 +64,23 @@ returns-clause-step c =
     let none : length items ≡ 0 = omega (arith, zero, c.loop-candidates.candidates.ok.0) in
     all_struck c.args.verified.now c.requires.verified (machine_view c.args.machine.now) (machine_view c.loop-candidates.machine) c.args.generator.now
     items c.loop-candidates.generator c.requires.machine.reached before.left none before.same
+
+pub loop-candidates-init : goal.loop-candidates-init
+loop-candidates-init c = record {
+  same = refl;
+  machine = c.requires.machine;
+  left = all_left c.args.verified.now.code (machine_view c.args.machine.now) c.args.generator.now _ c.in_ok-find_candidates.ensures;
+}
+
+pub returns-in-Silent-clause-step : goal.returns-in-Silent-clause-step
+returns-in-Silent-clause-step c =
+    let step = c.in-Silent.ensures.step in (
+      step.1,
+      subst (λ (s : State CodeProcess). MovesSilently c.args.verified.now.code c.remove-pick.result c.in-Silent.made s (machine_view c.step_arm.new.machine))
+          c.loop-candidates.invariant.same step.2,
+    )
+
+pub returns-in-Did-clause-step : goal.returns-in-Did-clause-step
+returns-in-Did-clause-step c =
+    subst (λ (s : State CodeProcess). CodeMoves c.args.verified.now.code s c.remove-pick.result (Some c.in-Did.event) (machine_view c.step_arm.new.machine))
+    c.loop-candidates.invariant.same c.in-Did.ensures.step.1

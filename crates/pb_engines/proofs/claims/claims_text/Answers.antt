@@ -64,3 +64,18 @@ returns g c =
     in
     all_of_them (λ process. lines_of_process (resource_names (resolved_view given)) process.0 process.1) names
     claims c.loop-p.p [] c.loop-p.text.items end c.loop-p.invariant
+
+pub loop-p-init : goal.loop-p-init
+loop-p-init g c = c.new-text.ensures.items
+
+pub put_claims-requires-clause-process : goal.put_claims-requires-clause-process
+put_claims-requires-clause-process g c =
+    let h = (as_many c.args.program.now c.args.claims.now c.requires).0 in
+    let n = c.len-p-end.ensures in
+    let t = c.loop-p-test.true in
+    omega (arith, h, n, t)
+
+pub put_claims-requires-clause-width : goal.put_claims-requires-clause-width
+put_claims-requires-clause-width g c =
+    λ q within. (as_many c.args.program.now c.args.claims.now c.requires).1 q within
+    ∙ ap (λ (l : List (Resource _)). length l) (sym c.deref-in-loop-p.ensures.value)

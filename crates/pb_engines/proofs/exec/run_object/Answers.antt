@@ -7,11 +7,11 @@ use Rattle.pb_engines.proofs.exec.run_object.Goals as goal
 
 pub returns-in-Ok-clause-text : goal.returns-in-Ok-clause-text
 returns-in-Ok-clause-text g c =
-    code_is_run c.args.options.steps c.args.bytes.now c.in-Ok.verified.code (labels_view c.in-Ok.field-0-1) _ _ c.tell_run.result c.requires
-    c.in-Ok.ensures.loaded c.tell_run.ensures.text
+    code_is_run c.args.options.steps c.args.bytes.now c.in-Ok.verified.code (labels_view c.in-Ok.labels) _ _ c.tell_run-status.result c.requires
+    c.in-Ok.ensures.loaded c.tell_run-status.ensures.text
 
-pub returns-clause-text : goal.returns-clause-text
-returns-clause-text g c =
+pub returns-in-Err-clause-text : goal.returns-in-Err-clause-text
+returns-in-Err-clause-text g c =
     told_reply (SaysOfExecution c.args.options.steps) c.args.bytes.now c.load_refusal.result _ _ c.tell.result
     c.requires
     (replied_too (SaysOfNoCode c.args.bytes.now) (SaysOfExecution c.args.options.steps c.args.bytes.now)

@@ -1,4 +1,4 @@
-use Rattle.pb_engines.proofs.InputLemmas.{IfSome-of, IfSome-weaker, fails, is_too_long, wants_memory}
+use Rattle.pb_engines.proofs.InputLemmas.{IfSome-of, IfSome-weaker, fails, is_too_long, read_failed, unread_faults, wants_memory}
 use Rattle.pb_engines.proofs.input.read_input.Goals as goal
 
 pub returns-in-Err-Device-clause-told : goal.returns-in-Err-Device-clause-told
@@ -15,3 +15,16 @@ returns-in-Err-Memory-clause-told g c =
     IfSome-of _ _
     (λ bytes. wants_memory bytes c.new-in-Err-Memory.result _ _ c.finish_with-in-Err-Memory.result
     c.new-in-Err-Memory.ensures c.finish_with-in-Err-Memory.ensures.text)
+
+pub returns-in-Err-Device-clause-faults : goal.returns-in-Err-Device-clause-faults
+returns-in-Err-Device-clause-faults g c = read_failed _ _ _ _ (c.in-Err-Device.ensures.fault c.in-Err-Device.field-0-is)
+
+pub returns-in-Err-TooLong-clause-faults : goal.returns-in-Err-TooLong-clause-faults
+returns-in-Err-TooLong-clause-faults g c =
+    unread_faults _ _ _ _ _ _ c.finish_with.result (c.in-Err-TooLong.ensures.no_fault (λ e. let is = c.in-Err-TooLong.field-0-is in cc))
+    c.finish_with.ensures.faults
+
+pub returns-in-Err-Memory-clause-faults : goal.returns-in-Err-Memory-clause-faults
+returns-in-Err-Memory-clause-faults g c =
+    unread_faults _ _ _ _ _ _ c.finish_with-in-Err-Memory.result (c.in-Err-Memory.ensures.no_fault (λ e. let is = c.in-Err-Memory.field-0-is in cc))
+    c.finish_with-in-Err-Memory.ensures.faults

@@ -12,11 +12,11 @@ returns-in-Ok-clause-text g c =
     let labels = c.in-Ok.compiled.labels in
     let steps = c.args.options.run.steps in
     let seed = c.args.options.seed in
-    told_reply (SaysOfRecord steps seed) c.args.text.now c.recording.result _ _ c.tell.result c.requires
+    told_reply (SaysOfRecord steps seed) c.args.text.now c.recording-reply.result _ _ c.tell.result c.requires
     (replied_too (SaysOfRecording code steps seed c.args.text.now) (SaysOfRecord steps seed c.args.text.now)
-    c.recording.result (accepted code labels c.in-Ok.ensures.compiled)
-    (subst (λ (v : VerifiedCode). IfOk c.recording.result (λ r. SaysOfRecording v.code steps seed c.args.text.now r.text.items r.status)) c.verified.ensures
-    c.recording.ensures))
+    c.recording-reply.result (accepted code labels c.in-Ok.ensures.compiled)
+    (subst (λ (v : VerifiedCode). IfOk c.recording-reply.result (λ r. SaysOfRecording v.code steps seed c.args.text.now r.text.items r.status)) c.verified.ensures
+    c.recording-reply.ensures))
     c.tell.ensures.said c.tell.ensures.memory
 
 pub returns-in-Err-clause-text : goal.returns-in-Err-clause-text

@@ -4,8 +4,8 @@ use Rattle.pb_engines.proofs.replay.replay_text.Goals as goal
 
 pub returns-in-Ok-clause-text : goal.returns-in-Ok-clause-text
 returns-in-Ok-clause-text g c =
-    text_is_replayed c.args.bytes.now c.two_parts.result.0.now c.two_parts.result.1.now _ _ _ _ _ c.replay_lines.result
-    c.requires c.two_parts.ensures c.in-Ok.ensures.compiled (ap (λ v. v.code) c.verified.ensures) c.replay_lines.ensures.text
+    text_is_replayed c.args.bytes.now c.two_parts.result.0.now c.two_parts.result.1.now _ _ _ _ _ c.replay_lines-status.result
+    c.requires c.two_parts.ensures c.in-Ok.ensures.compiled (ap (λ v. v.code) c.verified.ensures) c.replay_lines-status.ensures.text
 
 pub returns-in-Err-clause-text : goal.returns-in-Err-clause-text
 returns-in-Err-clause-text g c =

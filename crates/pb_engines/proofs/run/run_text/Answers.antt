@@ -7,8 +7,8 @@ use Rattle.pb_engines.proofs.run.run_text.Goals as goal
 
 pub returns-in-Ok-clause-text : goal.returns-in-Ok-clause-text
 returns-in-Ok-clause-text g c =
-    text_is_run c.args.options.steps c.args.text.now _ _ _ _ _ c.tell_run.result c.requires c.in-Ok.ensures.compiled
-    (ap (λ v. v.code) c.verified.ensures) c.tell_run.ensures.text
+    text_is_run c.args.options.steps c.args.text.now _ _ _ _ _ c.tell_run-status.result c.requires c.in-Ok.ensures.compiled
+    (ap (λ v. v.code) c.verified.ensures) c.tell_run-status.ensures.text
 
 pub returns-in-Err-clause-text : goal.returns-in-Err-clause-text
 returns-in-Err-clause-text g c =
