@@ -81,31 +81,75 @@ pub fn claims_wording(
     tokens: &[Token],
     fault: &ClaimsFault,
 ) -> Result<Wording, NoMemory> {
-    let resource = Shown(&fault.resource);
-    let summary = format!(in alloc;
+    let mut wording = Wording::new(alloc, claim_in_words(alloc, fault)?);
+    tell_claim(alloc, &mut wording, tokens, fault)?;
+    Ok(wording)
+}
+
+fn claim_in_words(alloc: Global, fault: &ClaimsFault) -> Result<String, NoMemory> {
+    Ok(format!(in alloc;
         "process {} may hold {} of {} at once, and the capital is {}",
         Shown(&fault.process),
         fault.claim,
-        resource,
+        Shown(&fault.resource),
         fault.capital
-    )?;
-    let mut wording = Wording::new(alloc, summary);
+    )?)
+}
+
+// Adds the holds that add up to a claim, and what can be done about them.
+fn tell_claim(
+    alloc: Global,
+    wording: &mut Wording,
+    tokens: &[Token],
+    fault: &ClaimsFault,
+) -> Result<(), NoMemory> {
     let peak = process_peak(alloc, tokens, &fault.process, &fault.resource)?;
-    for hold in peak.holds.iter().take(MOST_SHOWN) {
-        if let Some(token) = tokens.get(*hold) {
-            let amount = own_amount(tokens, *hold, &fault.resource);
-            let label = format!(in alloc; "{} of {}: ", amount, resource)?;
-            wording.spot(label, token.start())?;
-        }
+    tell_holds(alloc, wording, tokens, &peak.holds, &fault.resource)?;
+    wording.note(claim_hint(alloc, fault)?)
+}
+
+// Adds the first holds of these, and how many there are more.
+fn tell_holds(
+    alloc: Global,
+    wording: &mut Wording,
+    tokens: &[Token],
+    holds: &[usize],
+    resource: &[u8],
+) -> Result<(), NoMemory> {
+    for hold in holds.iter().take(MOST_SHOWN) {
+        let amount = own_amount(tokens, *hold, resource);
+        tell_hold(alloc, wording, tokens.get(*hold), amount, Shown(resource))?;
     }
-    if peak.holds.len() > MOST_SHOWN {
-        wording.note(format!(in alloc; "and {} more holds", peak.holds.len() - MOST_SHOWN)?)?;
+    if holds.len() > MOST_SHOWN {
+        let more = holds.len() - MOST_SHOWN;
+        wording.note(format!(in alloc; "and {more} more holds")?)?;
     }
-    wording.note(format!(in alloc;
+    Ok(())
+}
+
+// Adds where a hold of this amount is.
+fn tell_hold(
+    alloc: Global,
+    wording: &mut Wording,
+    hold: Option<&Token<'_>>,
+    amount: u64,
+    resource: Shown<'_>,
+) -> Result<(), NoMemory> {
+    match hold {
+        Some(token) => wording.spot(
+            format!(in alloc; "{amount} of {resource}: ")?,
+            token.start(),
+        ),
+        None => Ok(()),
+    }
+}
+
+fn claim_hint(alloc: Global, fault: &ClaimsFault) -> Result<String, NoMemory> {
+    Ok(format!(in alloc;
         "hint: hold less at once, or declare a greater capital: resource {} = {};",
-        resource, fault.claim
-    )?)?;
-    Ok(wording)
+        Shown(&fault.resource),
+        fault.claim
+    )?)
 }
 
 // Returns the peak of a process on a resource.

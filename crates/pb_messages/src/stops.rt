@@ -2,7 +2,7 @@
 
 use crate::wording::{Shown, Wording};
 use pb_banker::Banker;
-use pb_base::{Bundle, Names, NoMemory, Pick};
+use pb_base::{Bundle, Names, NoMemory, Pair, Pick};
 use pb_code::{Code, Instr};
 use pb_history::CountedPick;
 use pb_history::replay::replay_counted;
@@ -62,22 +62,49 @@ pub fn stop_wording(
     lines: &[u8],
     stop: &Stop,
 ) -> Result<Wording, NoMemory> {
-    let names = verified.names();
-    let arm = arm_name(alloc, names, stop.pick)?;
+    let arm = arm_name(alloc, verified.names(), stop.pick)?;
+    arm_wording(alloc, verified, lines, stop, &arm)
+}
+
+// Returns the same, from the name of the arm.
+fn arm_wording(
+    alloc: Global,
+    verified: &Verified,
+    lines: &[u8],
+    stop: &Stop,
+    arm: &String,
+) -> Result<Wording, NoMemory> {
     let summary = format!(in alloc; "{arm} cannot make pick {}", stop.number)?;
     let mut wording = Wording::new(alloc, summary);
-    let before = lines_before(alloc, lines, stop, &arm)?;
-    if let Some(machine) = machine_after(alloc, verified, &before) {
-        note_why(alloc, &mut wording, verified.code(), &machine, stop.pick)?;
-    }
+    tell_why(alloc, &mut wording, verified, lines, stop, arm)?;
     Ok(wording)
+}
+
+// Adds why the arm does not go on after the picks before; nothing if there is too little memory for these.
+fn tell_why(
+    alloc: Global,
+    wording: &mut Wording,
+    verified: &Verified,
+    lines: &[u8],
+    stop: &Stop,
+    arm: &String,
+) -> Result<(), NoMemory> {
+    let before = lines_before(alloc, lines, stop, arm)?;
+    match machine_after(alloc, verified, &before) {
+        Some(machine) => note_why(alloc, wording, verified.code(), &machine, stop.pick),
+        None => Ok(()),
+    }
 }
 
 // Returns the machine behind the picks of pick lines; none if there is too little memory.
 fn machine_after(alloc: Global, verified: &Verified, lines: &[u8]) -> Option<Machine> {
-    let picks = read_picks(alloc, verified.code(), lines).ok()?;
-    let (machine, _) = replay_counted(alloc, verified, &picks).ok()?;
-    Some(machine)
+    let Ok(picks) = read_picks(alloc, verified.code(), lines) else {
+        return None;
+    };
+    match replay_counted(alloc, verified, &picks) {
+        Ok((machine, _)) => Some(machine),
+        Err(_) => None,
+    }
 }
 
 // Returns the name of the arm of a pick.
@@ -129,10 +156,9 @@ fn note_why(
     let thread = standing.thread(arm);
     match asked(code, process, thread) {
         Some(bundle) if !standing.faulted() => {
-            let note = request_note(alloc, &code.names, machine.banker(), bundle)?;
-            wording.note(note)
+            note_request(alloc, wording, &code.names, machine.banker(), bundle)
         }
-        _ => wording.note(String::from_str(alloc, stands(standing.faulted(), thread.state()))?),
+        _ => wording.note_text(alloc, stands(standing.faulted(), thread.state())),
     }
 }
 
@@ -157,28 +183,44 @@ fn asked<'c>(code: &'c Code, process: usize, thread: &Thread) -> Option<&'c Bund
     }
 }
 
-// Returns why a request is refused.
-fn request_note(
+// Notes why a request is refused.
+fn note_request(
     alloc: Global,
+    wording: &mut Wording,
     names: &Names,
     banker: &Banker,
     bundle: &Bundle,
-) -> Result<String, NoMemory> {
+) -> Result<(), NoMemory> {
     for i in 0..bundle.len() {
         let pair = bundle.get(i);
-        let resource = usize::from(pair.resource);
-        if resource < banker.resources() {
-            let cash = banker.cash(resource);
-            if cash < pair.amount {
-                let name = Shown(name_at(&names.resources, pair.resource));
-                return Ok(format!(in alloc;
-                    "it asks for {} of {name}, and the cash is {cash}",
-                    pair.amount
-                )?);
-            }
+        if let Some(cash) = short_cash(banker, pair) {
+            return wording.note(cash_note(alloc, names, pair, cash)?);
         }
     }
+    wording.note_text(
+        alloc,
+        "the cash is enough for its request, but if it were granted some processes could never finish",
+    )
+}
+
+// Returns the cash of a resource, if it is less than what is asked for.
+fn short_cash(banker: &Banker, asked: Pair) -> Option<u32> {
+    let resource = usize::from(asked.resource);
+    if banker.resources() <= resource {
+        return None;
+    }
+    let cash = banker.cash(resource);
+    if cash < asked.amount {
+        Some(cash)
+    } else {
+        None
+    }
+}
+
+fn cash_note(alloc: Global, names: &Names, asked: Pair, cash: u32) -> Result<String, NoMemory> {
+    let name = Shown(name_at(&names.resources, asked.resource));
     Ok(format!(in alloc;
-        "the cash is enough for its request, but if it were granted some processes could never finish"
+        "it asks for {} of {name}, and the cash is {cash}",
+        asked.amount
     )?)
 }

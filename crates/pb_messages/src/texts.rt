@@ -79,40 +79,43 @@ fn text_wording(alloc: Global, text: &[u8], fault: &CompileFault) -> Result<Word
 
 fn lex_wording(alloc: Global, text: &[u8], fault: LexFault) -> Result<Wording, NoMemory> {
     match fault {
-        LexFault::TooLong => {
-            let length = text.len();
-            let summary = format!(in alloc;
-                "the text is {length} bytes long, and at most 65536 are allowed"
-            )?;
-            Ok(Wording::new(alloc, summary))
-        }
+        LexFault::TooLong => too_long(alloc, text.len()),
         LexFault::BadByte(at) => bad_byte(alloc, text.get(at).copied().unwrap_or(0)),
-        LexFault::NumberTooLarge(_) => {
-            let summary = format!(in alloc; "the number is greater than 9223372036854775807")?;
-            let mut wording = Wording::new(alloc, summary);
-            wording.note(format!(in alloc;
-                "hint: the smallest integer is written -9223372036854775807 - 1"
-            )?)?;
-            Ok(wording)
-        }
-        LexFault::NameTooLong(_) => {
-            let summary = format!(in alloc; "the name is longer than 32 bytes")?;
-            Ok(Wording::new(alloc, summary))
-        }
+        LexFault::NumberTooLarge(_) => Wording::noted(
+            alloc,
+            "the number is greater than 9223372036854775807",
+            "hint: the smallest integer is written -9223372036854775807 - 1",
+        ),
+        LexFault::NameTooLong(_) => Wording::of(alloc, "the name is longer than 32 bytes"),
         LexFault::NoMemory => Err(NoMemory),
     }
 }
 
+// Returns the wording of a text of more bytes than are allowed.
+fn too_long(alloc: Global, length: usize) -> Result<Wording, NoMemory> {
+    let summary = format!(in alloc;
+        "the text is {length} bytes long, and at most 65536 are allowed"
+    )?;
+    Ok(Wording::new(alloc, summary))
+}
+
 // Returns the wording of a byte that is not allowed, or at which nothing begins.
 fn bad_byte(alloc: Global, byte: u8) -> Result<Wording, NoMemory> {
-    let summary = if 32 <= byte && byte <= 126 {
-        format!(in alloc; "unexpected character `{}`", Shown(&[byte]))?
-    } else {
-        format!(in alloc; "the byte {byte} is not allowed in a text")?
-    };
-    let mut wording = Wording::new(alloc, summary);
-    wording.note(format!(in alloc; "hint: {}", usual_meaning(byte))?)?;
+    let mut wording = Wording::new(alloc, byte_in_words(alloc, byte)?);
+    wording.hint(alloc, usual_meaning(byte))?;
     Ok(wording)
+}
+
+fn byte_in_words(alloc: Global, byte: u8) -> Result<String, NoMemory> {
+    if 32 <= byte && byte <= 126 {
+        character_in_words(alloc, Shown(&[byte]))
+    } else {
+        Ok(format!(in alloc; "the byte {byte} is not allowed in a text")?)
+    }
+}
+
+fn character_in_words(alloc: Global, character: Shown<'_>) -> Result<String, NoMemory> {
+    Ok(format!(in alloc; "unexpected character `{character}`")?)
 }
 
 // Returns what is usually meant by a byte that is not allowed.

@@ -7,6 +7,7 @@ use crate::cause::Cause;
 use crate::excerpt::{compose, printable_byte, show_place};
 use crate::place::place_of;
 use pb_base::NoMemory;
+use pb_lexer::Token;
 use std::alloc::Global;
 use std::fmt;
 
@@ -54,16 +55,51 @@ impl Wording {
         }
     }
 
+    /// Returns the wording of a fault in these words, with no other place and no note.
+    pub fn of(alloc: Global, summary: &str) -> Result<Wording, NoMemory> {
+        Ok(Wording::new(alloc, String::from_str(alloc, summary)?))
+    }
+
+    /// Returns the wording of a fault in these words, with one note.
+    pub fn noted(alloc: Global, summary: &str, note: &str) -> Result<Wording, NoMemory> {
+        let mut wording = Wording::of(alloc, summary)?;
+        wording.note_text(alloc, note)?;
+        Ok(wording)
+    }
+
     /// Adds a note.
     pub fn note(&mut self, note: String) -> Result<(), NoMemory> {
         self.notes.push(note)?;
         Ok(())
     }
 
+    /// Adds a note in these words.
+    pub fn note_text(&mut self, alloc: Global, note: &str) -> Result<(), NoMemory> {
+        self.note(String::from_str(alloc, note)?)
+    }
+
+    /// Adds a note that says what is usually meant.
+    pub fn hint(&mut self, alloc: Global, hint: &str) -> Result<(), NoMemory> {
+        self.note(format!(in alloc; "hint: {hint}")?)
+    }
+
     /// Adds another place.
     pub fn spot(&mut self, label: String, at: usize) -> Result<(), NoMemory> {
         self.spots.push(Spot { label, at })?;
         Ok(())
+    }
+
+    /// Adds the place of a token, if there is one.
+    pub fn spot_token(
+        &mut self,
+        alloc: Global,
+        label: &str,
+        token: Option<&Token<'_>>,
+    ) -> Result<(), NoMemory> {
+        match token {
+            Some(token) => self.spot(String::from_str(alloc, label)?, token.start()),
+            None => Ok(()),
+        }
     }
 
     // Returns the offset at which the message points first.
@@ -111,17 +147,58 @@ fn details(
     wording: &Wording,
 ) -> Result<Vec<u8>, NoMemory> {
     let mut out = Vec::new(alloc);
+    put_details(alloc, &mut out, label, text, cause, wording)?;
+    Ok(out)
+}
+
+// Puts the lines behind the place of a fault behind a message.
+fn put_details(
+    alloc: Global,
+    out: &mut Vec<u8>,
+    label: &str,
+    text: &[u8],
+    cause: &Cause,
+    wording: &Wording,
+) -> Result<(), NoMemory> {
     for spot in &wording.spots {
-        let label = format!(in alloc; "{}{}", spot.label, label)?;
-        let shown = show_place(alloc, label.as_bytes(), text, spot.at.min(text.len()))?;
-        out.extend_from_slice(&shown)?;
+        put_spot(alloc, out, label, text, spot)?;
     }
     let first = place_of(text, wording.first_place(cause).min(text.len()));
-    let width = format!(in alloc; "{}", first.line)?.len();
+    let width = decimal_width(alloc, first.line)?;
     for note in &wording.notes {
-        put_note(&mut out, width, note)?;
+        put_note(out, width, note)?;
     }
-    Ok(out)
+    Ok(())
+}
+
+// Puts another place behind a message.
+fn put_spot(
+    alloc: Global,
+    out: &mut Vec<u8>,
+    label: &str,
+    text: &[u8],
+    spot: &Spot,
+) -> Result<(), NoMemory> {
+    let label = format!(in alloc; "{}{}", spot.label, label)?;
+    put_place(alloc, out, &label, text, spot.at)
+}
+
+// Puts a place of a text behind a message, as `show_place` shows it.
+fn put_place(
+    alloc: Global,
+    out: &mut Vec<u8>,
+    label: &String,
+    text: &[u8],
+    at: usize,
+) -> Result<(), NoMemory> {
+    let shown = show_place(alloc, label.as_bytes(), text, at.min(text.len()))?;
+    out.extend_from_slice(&shown)?;
+    Ok(())
+}
+
+// Returns how many digits a number has.
+fn decimal_width(alloc: Global, number: usize) -> Result<usize, NoMemory> {
+    Ok(format!(in alloc; "{number}")?.len())
 }
 
 // Puts a note behind a message, behind a margin of this width and a space.
