@@ -46,39 +46,26 @@ fn unsaid_wording(alloc: Global, text: &[u8]) -> Result<Option<Wording>, NoMemor
     };
     if let Some(number) = process_past(&tokens) {
         let summary = "the first format has at most 32 processes";
-        return pointing(alloc, summary, tokens.get(number));
+        return Ok(Some(pointing(alloc, summary, tokens.get(number))));
     }
     match joint_hold(&tokens) {
         Some(number) => {
             let summary = "the first format has no hold of several resources";
-            pointing(alloc, summary, tokens.get(number))
+            Ok(Some(pointing(alloc, summary, tokens.get(number))))
         }
         None => Ok(None),
     }
 }
 
 // Returns the wording that points at a token.
-fn pointing(
-    alloc: Global,
-    summary: &str,
-    token: Option<&Token<'_>>,
-) -> Result<Option<Wording>, NoMemory> {
-    let mut wording = Wording::of(alloc, summary)?;
-    tell_token(alloc, &mut wording, token)?;
-    Ok(Some(wording))
-}
-
-// Adds a token, and what can be done about it.
-fn tell_token(
-    alloc: Global,
-    wording: &mut Wording,
-    token: Option<&Token<'_>>,
-) -> Result<(), NoMemory> {
-    wording.spot_token(alloc, "", token)?;
+fn pointing(alloc: Global, summary: &str, token: Option<&Token<'_>>) -> Wording {
+    let mut wording = Wording::of(alloc, summary);
+    wording.spot_token(alloc, "", token);
     wording.note_text(
         alloc,
         "hint: the second format has it: emit --object 2, or emit with no option",
-    )
+    );
+    wording
 }
 
 // Returns the number of the word `process` before the first process that is too many.

@@ -6,7 +6,7 @@ use crate::wording::{Shown, Wording};
 use pb_base::NoMemory;
 use pb_codegen::ClaimsFault;
 use pb_lexer::{Kind, Mark, Token};
-use std::alloc::Global;
+use std::alloc::{AllocError, Global};
 
 // The most holds that are shown.
 const MOST_SHOWN: usize = 6;
@@ -81,31 +81,21 @@ pub fn claims_wording(
     tokens: &[Token],
     fault: &ClaimsFault,
 ) -> Result<Wording, NoMemory> {
-    let mut wording = Wording::new(alloc, claim_in_words(alloc, fault)?);
-    tell_claim(alloc, &mut wording, tokens, fault)?;
+    let peak = process_peak(alloc, tokens, &fault.process, &fault.resource)?;
+    let mut wording = Wording::new(alloc, claim_in_words(alloc, fault));
+    tell_holds(alloc, &mut wording, tokens, &peak.holds, &fault.resource);
+    wording.note(claim_hint(alloc, fault));
     Ok(wording)
 }
 
-fn claim_in_words(alloc: Global, fault: &ClaimsFault) -> Result<String, NoMemory> {
-    Ok(format!(in alloc;
+fn claim_in_words(alloc: Global, fault: &ClaimsFault) -> Result<String, AllocError> {
+    format!(in alloc;
         "process {} may hold {} of {} at once, and the capital is {}",
         Shown(&fault.process),
         fault.claim,
         Shown(&fault.resource),
         fault.capital
-    )?)
-}
-
-// Adds the holds that add up to a claim, and what can be done about them.
-fn tell_claim(
-    alloc: Global,
-    wording: &mut Wording,
-    tokens: &[Token],
-    fault: &ClaimsFault,
-) -> Result<(), NoMemory> {
-    let peak = process_peak(alloc, tokens, &fault.process, &fault.resource)?;
-    tell_holds(alloc, wording, tokens, &peak.holds, &fault.resource)?;
-    wording.note(claim_hint(alloc, fault)?)
+    )
 }
 
 // Adds the first holds of these, and how many there are more.
@@ -115,41 +105,31 @@ fn tell_holds(
     tokens: &[Token],
     holds: &[usize],
     resource: &[u8],
-) -> Result<(), NoMemory> {
+) {
     for hold in holds.iter().take(MOST_SHOWN) {
-        let amount = own_amount(tokens, *hold, resource);
-        tell_hold(alloc, wording, tokens.get(*hold), amount, Shown(resource))?;
+        tell_hold(alloc, wording, tokens, *hold, resource);
     }
     if holds.len() > MOST_SHOWN {
         let more = holds.len() - MOST_SHOWN;
-        wording.note(format!(in alloc; "and {more} more holds")?)?;
-    }
-    Ok(())
-}
-
-// Adds where a hold of this amount is.
-fn tell_hold(
-    alloc: Global,
-    wording: &mut Wording,
-    hold: Option<&Token<'_>>,
-    amount: u64,
-    resource: Shown<'_>,
-) -> Result<(), NoMemory> {
-    match hold {
-        Some(token) => wording.spot(
-            format!(in alloc; "{amount} of {resource}: ")?,
-            token.start(),
-        ),
-        None => Ok(()),
+        wording.note(format!(in alloc; "and {more} more holds"));
     }
 }
 
-fn claim_hint(alloc: Global, fault: &ClaimsFault) -> Result<String, NoMemory> {
-    Ok(format!(in alloc;
+// Adds where a hold is, and how much it asks for.
+fn tell_hold(alloc: Global, wording: &mut Wording, tokens: &[Token], hold: usize, resource: &[u8]) {
+    if let Some(token) = tokens.get(hold) {
+        let amount = own_amount(tokens, hold, resource);
+        let label = format!(in alloc; "{amount} of {}: ", Shown(resource));
+        wording.spot(label, token.start());
+    }
+}
+
+fn claim_hint(alloc: Global, fault: &ClaimsFault) -> Result<String, AllocError> {
+    format!(in alloc;
         "hint: hold less at once, or declare a greater capital: resource {} = {};",
         Shown(&fault.resource),
         fault.claim
-    )?)
+    )
 }
 
 // Returns the peak of a process on a resource.

@@ -15,7 +15,7 @@ use crate::texts::{early_message, text_message};
 use pb_base::NoMemory;
 use pb_engines::input::LONGEST_INPUT;
 use pb_engines::parts::{first_part, two_parts};
-use std::alloc::Global;
+use std::alloc::{AllocError, Global};
 
 // What is said of an input that is too long.
 const LONG_INPUT: &[u8] = b"error input: the input is longer than 4194304 bytes\n";
@@ -170,11 +170,11 @@ fn put_message(out: &mut Vec<u8>, message: &[u8]) -> Result<(), NoMemory>
 }
 
 // Returns what is said before the line of a text: its number, unless it is the only one.
-fn part_label(alloc: Global, number: u64, is_last: bool) -> Result<String, NoMemory> {
+fn part_label(alloc: Global, number: u64, is_last: bool) -> Result<String, AllocError> {
     if number == 1 && is_last {
         return Ok(String::new(alloc));
     }
-    Ok(format!(in alloc; "text {number}, ")?)
+    format!(in alloc; "text {number}, ")
 }
 
 // Returns the message of a text and the pick lines behind it.

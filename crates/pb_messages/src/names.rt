@@ -5,7 +5,7 @@ use crate::wording::{Shown, Wording};
 use pb_base::NoMemory;
 use pb_lexer::{Mark, Token};
 use pb_names::{Kind as Limited, NameFault};
-use std::alloc::Global;
+use std::alloc::{AllocError, Global};
 
 /// Returns the wording of a fault of names of a text with these tokens.
 pub fn names_wording(
@@ -15,12 +15,17 @@ pub fn names_wording(
 ) -> Result<Wording, NoMemory> {
     match fault {
         NameFault::TooMany(kind) => too_many(alloc, tokens, kind),
-        NameFault::Twice(at) => twice(alloc, tokens, token_at(tokens, at).unwrap_or(0)),
-        NameFault::Unknown(at) => unknown(alloc, tokens, token_at(tokens, at).unwrap_or(0)),
-        NameFault::Amount(at) => amount(alloc, tokens, token_at(tokens, at).unwrap_or(0)),
-        NameFault::Repeated(at) => repeated(alloc, tokens, token_at(tokens, at).unwrap_or(0)),
+        NameFault::Twice(at) => Ok(twice(alloc, tokens, at_or_first(tokens, at))),
+        NameFault::Unknown(at) => Ok(unknown(alloc, tokens, at_or_first(tokens, at))),
+        NameFault::Amount(at) => Ok(amount(alloc, tokens, at_or_first(tokens, at))),
+        NameFault::Repeated(at) => Ok(repeated(alloc, tokens, at_or_first(tokens, at))),
         NameFault::NoMemory => Err(NoMemory),
     }
+}
+
+// Returns the number of the token that begins at an offset, or of the first one.
+fn at_or_first(tokens: &[Token], at: usize) -> usize {
+    token_at(tokens, at).unwrap_or(0)
 }
 
 // The kinds of names.
@@ -52,8 +57,17 @@ fn kind_name(named: Named) -> &'static str {
 }
 
 fn too_many(alloc: Global, tokens: &[Token], kind: Limited) -> Result<Wording, NoMemory> {
-    let mut wording = Wording::of(alloc, limit_in_words(kind))?;
-    tell_too_many(alloc, &mut wording, tokens, kind)?;
+    let first = first_too_many(alloc, tokens, kind)?;
+    let mut wording = Wording::of(alloc, limit_in_words(kind));
+    if let Some(number) = first {
+        wording.spot_token(alloc, "the first over the limit: ", tokens.get(number));
+    }
+    if kind == Limited::Fork || kind == Limited::Arms {
+        wording.note_text(
+            alloc,
+            "hint: statements that need not run side by side can be one arm: begin a; b end",
+        );
+    }
     Ok(wording)
 }
 
@@ -65,25 +79,6 @@ fn limit_in_words(kind: Limited) -> &'static str {
         Limited::Integers => "a process has more than 64 integers",
         Limited::Fork => "a parbegin has more than 16 arms",
         Limited::Arms => "a process has more than 64 arms, counting its body",
-    }
-}
-
-// Adds where there are too many of a kind, and what may be done about it.
-fn tell_too_many(
-    alloc: Global,
-    wording: &mut Wording,
-    tokens: &[Token],
-    kind: Limited,
-) -> Result<(), NoMemory> {
-    if let Some(number) = first_too_many(alloc, tokens, kind)? {
-        wording.spot_token(alloc, "the first over the limit: ", tokens.get(number))?;
-    }
-    match kind {
-        Limited::Fork | Limited::Arms => wording.note_text(
-            alloc,
-            "hint: statements that need not run side by side can be one arm: begin a; b end",
-        ),
-        Limited::Processes | Limited::Resources | Limited::Integers => Ok(()),
     }
 }
 
@@ -208,11 +203,17 @@ pub fn closes(tokens: &[Token], number: usize) -> bool {
         || is_at(tokens, number, Mark::Parend)
 }
 
-fn twice(alloc: Global, tokens: &[Token], number: usize) -> Result<Wording, NoMemory> {
+fn twice(alloc: Global, tokens: &[Token], number: usize) -> Wording {
     let named = declared_kind(tokens, number);
-    let mut wording = Wording::new(alloc, twice_in_words(alloc, tokens, number, named)?);
-    tell_first(alloc, &mut wording, tokens, number, named)?;
-    Ok(wording)
+    let mut wording = Wording::new(alloc, twice_in_words(alloc, tokens, number, named));
+    if let Some(first) = first_declaration(tokens, number, named) {
+        wording.spot_token(alloc, "first declared at ", tokens.get(first));
+    }
+    wording.note_text(
+        alloc,
+        "hint: choose another name; a resource, a process and an integer may share a name",
+    );
+    wording
 }
 
 // Returns in words that a name is declared twice.
@@ -221,11 +222,11 @@ fn twice_in_words(
     tokens: &[Token],
     number: usize,
     named: Named,
-) -> Result<String, NoMemory> {
+) -> Result<String, AllocError> {
     let name = Shown(text_at(tokens, number));
     match named {
         Named::Integer => twice_in_process(alloc, name, Shown(process_name(tokens, number))),
-        _ => Ok(format!(in alloc; "{} {name} is declared twice", kind_name(named))?),
+        _ => format!(in alloc; "{} {name} is declared twice", kind_name(named)),
     }
 }
 
@@ -233,25 +234,8 @@ fn twice_in_process(
     alloc: Global,
     name: Shown<'_>,
     process: Shown<'_>,
-) -> Result<String, NoMemory> {
-    Ok(format!(in alloc; "integer {name} is declared twice in process {process}")?)
-}
-
-// Adds where a name is declared first, and what to do about it.
-fn tell_first(
-    alloc: Global,
-    wording: &mut Wording,
-    tokens: &[Token],
-    number: usize,
-    named: Named,
-) -> Result<(), NoMemory> {
-    if let Some(first) = first_declaration(tokens, number, named) {
-        wording.spot_token(alloc, "first declared at ", tokens.get(first))?;
-    }
-    wording.note_text(
-        alloc,
-        "hint: choose another name; a resource, a process and an integer may share a name",
-    )
+) -> Result<String, AllocError> {
+    format!(in alloc; "integer {name} is declared twice in process {process}")
 }
 
 // Returns the number of the token at which a name is declared that is declared again at this one.
@@ -269,7 +253,7 @@ fn first_declaration(tokens: &[Token], number: usize, named: Named) -> Option<us
     None
 }
 
-fn unknown(alloc: Global, tokens: &[Token], number: usize) -> Result<Wording, NoMemory> {
+fn unknown(alloc: Global, tokens: &[Token], number: usize) -> Wording {
     if is_at(tokens, number.saturating_sub(1), Mark::Of) {
         unknown_resource(alloc, Shown(text_at(tokens, number)))
     } else {
@@ -277,59 +261,53 @@ fn unknown(alloc: Global, tokens: &[Token], number: usize) -> Result<Wording, No
     }
 }
 
-fn unknown_resource(alloc: Global, name: Shown<'_>) -> Result<Wording, NoMemory> {
-    let summary = format!(in alloc; "resource {name} is not declared")?;
+fn unknown_resource(alloc: Global, name: Shown<'_>) -> Wording {
+    let summary = format!(in alloc; "resource {name} is not declared");
     let mut wording = Wording::new(alloc, summary);
-    hint_resource(alloc, &mut wording, name)?;
-    Ok(wording)
-}
-
-fn hint_resource(alloc: Global, wording: &mut Wording, name: Shown<'_>) -> Result<(), NoMemory> {
     wording.note(format!(in alloc;
         "hint: declare it before the first process, with the amount of it: resource {name} = 1;"
-    )?)
+    ));
+    wording
 }
 
-fn unknown_integer(alloc: Global, tokens: &[Token], number: usize) -> Result<Wording, NoMemory> {
-    let name = Shown(text_at(tokens, number));
-    let process = Shown(process_name(tokens, number));
-    let summary = format!(in alloc; "integer {name} is not declared in process {process}")?;
-    let mut wording = Wording::new(alloc, summary);
-    hint_integer(alloc, &mut wording, tokens, number)?;
-    Ok(wording)
-}
-
-// Adds how an integer is declared, and whether another process has one of its name.
-fn hint_integer(
-    alloc: Global,
-    wording: &mut Wording,
-    tokens: &[Token],
-    number: usize,
-) -> Result<(), NoMemory> {
+fn unknown_integer(alloc: Global, tokens: &[Token], number: usize) -> Wording {
     let name = text_at(tokens, number);
-    wording.note(integer_hint(alloc, tokens, number)?)?;
-    match other_owner(tokens, name) {
-        Some(other) => wording.note(owner_hint(alloc, Shown(name), Shown(other))?),
-        None => Ok(()),
+    let process = process_name(tokens, number);
+    let mut wording = Wording::new(
+        alloc,
+        undeclared_in_words(alloc, Shown(name), Shown(process)),
+    );
+    wording.note(integer_hint(alloc, tokens, number));
+    if let Some(other) = other_owner(tokens, name) {
+        wording.note(owner_hint(alloc, Shown(name), Shown(other)));
     }
+    wording
+}
+
+fn undeclared_in_words(
+    alloc: Global,
+    name: Shown<'_>,
+    process: Shown<'_>,
+) -> Result<String, AllocError> {
+    format!(in alloc; "integer {name} is not declared in process {process}")
 }
 
 // Returns how an integer is declared in the process in which a token is.
-fn integer_hint(alloc: Global, tokens: &[Token], number: usize) -> Result<String, NoMemory> {
+fn integer_hint(alloc: Global, tokens: &[Token], number: usize) -> Result<String, AllocError> {
     if declares_integers(tokens, number) {
-        return Ok(String::from_str(
+        return String::from_str(
             alloc,
             "hint: add it to the integers that the process declares",
-        )?);
+        );
     }
     let name = Shown(text_at(tokens, number));
-    Ok(format!(in alloc; "hint: declare it after the first begin of the process: integer {name};")?)
+    format!(in alloc; "hint: declare it after the first begin of the process: integer {name};")
 }
 
-fn owner_hint(alloc: Global, name: Shown<'_>, owner: Shown<'_>) -> Result<String, NoMemory> {
-    Ok(format!(in alloc;
+fn owner_hint(alloc: Global, name: Shown<'_>, owner: Shown<'_>) -> Result<String, AllocError> {
+    format!(in alloc;
         "hint: the integer {name} of process {owner} cannot be used in another process"
-    )?)
+    )
 }
 
 // Returns whether the process in which a token is declares any integer.
@@ -352,41 +330,43 @@ fn other_owner<'t>(tokens: &[Token<'t>], name: &[u8]) -> Option<&'t [u8]> {
     None
 }
 
-fn amount(alloc: Global, tokens: &[Token], number: usize) -> Result<Wording, NoMemory> {
+fn amount(alloc: Global, tokens: &[Token], number: usize) -> Wording {
     let value = Shown(text_at(tokens, number));
     let summary = if is_at(tokens, number.saturating_sub(1), Mark::Equal) {
         capital_in_words(
             alloc,
             value,
             Shown(text_at(tokens, number.saturating_sub(2))),
-        )?
+        )
     } else {
         hold_in_words(
             alloc,
             value,
             Shown(text_at(tokens, number.saturating_add(2))),
-        )?
+        )
     };
-    Ok(Wording::new(alloc, summary))
+    Wording::new(alloc, summary)
 }
 
-fn capital_in_words(alloc: Global, value: Shown<'_>, name: Shown<'_>) -> Result<String, NoMemory> {
-    Ok(format!(in alloc;
-        "resource {name} cannot have the capital {value}: at most 1000000 is allowed"
-    )?)
+fn capital_in_words(
+    alloc: Global,
+    value: Shown<'_>,
+    name: Shown<'_>,
+) -> Result<String, AllocError> {
+    format!(in alloc; "resource {name} cannot have the capital {value}: at most 1000000 is allowed")
 }
 
-fn hold_in_words(alloc: Global, value: Shown<'_>, name: Shown<'_>) -> Result<String, NoMemory> {
-    Ok(format!(in alloc; "a hold cannot be {value} of {name}: an amount is 1 to 1000000")?)
+fn hold_in_words(alloc: Global, value: Shown<'_>, name: Shown<'_>) -> Result<String, AllocError> {
+    format!(in alloc; "a hold cannot be {value} of {name}: an amount is 1 to 1000000")
 }
 
-fn repeated(alloc: Global, tokens: &[Token], number: usize) -> Result<Wording, NoMemory> {
+fn repeated(alloc: Global, tokens: &[Token], number: usize) -> Wording {
     let name = Shown(text_at(tokens, number));
-    let summary = format!(in alloc; "the hold names resource {name} twice")?;
+    let summary = format!(in alloc; "the hold names resource {name} twice");
     let mut wording = Wording::new(alloc, summary);
     wording.note_text(
         alloc,
         "hint: a hold has one amount of each resource: add the two amounts, or put one hold inside the other",
-    )?;
-    Ok(wording)
+    );
+    wording
 }

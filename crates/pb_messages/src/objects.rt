@@ -40,7 +40,7 @@ fn unread_message(alloc: Global, bytes: &[u8], fault: ObjectFault) -> Result<Vec
     let Some(cause) = object_cause(fault) else {
         return Err(NoMemory);
     };
-    let wording = Wording::noted(alloc, line_in_words(fault), hint_of(bytes))?;
+    let wording = Wording::noted(alloc, line_in_words(fault), hint_of(bytes));
     worded(alloc, "", bytes, &cause, &wording)
 }
 
@@ -75,37 +75,30 @@ fn unsafe_message(alloc: Global, bytes: &[u8], fault: VerifyFault) -> Result<Vec
 
 // Returns the wording of a fault of code.
 fn unsafe_wording(alloc: Global, bytes: &[u8], fault: VerifyFault) -> Result<Wording, NoMemory> {
-    let mut wording = Wording::of(alloc, in_words(fault))?;
-    if let Some(process) = faulty_process(alloc, bytes, fault)? {
-        tell_process(alloc, &mut wording, bytes, process, fault)?;
+    match faulty_process(alloc, bytes, fault)? {
+        Some(process) => process_wording(alloc, bytes, process, fault),
+        None => Ok(Wording::of(alloc, in_words(fault))),
     }
-    Ok(wording)
 }
 
-// Adds in which process a fault is, and at which of its places if it is at one.
-fn tell_process(
+// Returns the wording of a fault of a process, with its place if it is at one.
+fn process_wording(
     alloc: Global,
-    wording: &mut Wording,
     bytes: &[u8],
     process: usize,
     fault: VerifyFault,
-) -> Result<(), NoMemory> {
+) -> Result<Wording, NoMemory> {
+    let place = place_to_show(alloc, bytes, process, fault)?;
     let name = name_of(alloc, bytes, process)?;
-    match place_to_show(alloc, bytes, process, fault)? {
-        Some(place) => {
-            let label = place_label(alloc, &name, place)?;
-            wording.spot(label, instruction_offset(bytes, process, place))
-        }
-        None => wording.note(process_note(alloc, &name)?),
+    let mut wording = Wording::of(alloc, in_words(fault));
+    match place {
+        Some(place) => wording.spot(
+            format!(in alloc; "process {}, place {place}: ", Shown(&name)),
+            instruction_offset(bytes, process, place),
+        ),
+        None => wording.note(format!(in alloc; "in process {}", Shown(&name))),
     }
-}
-
-fn place_label(alloc: Global, name: &[u8], place: usize) -> Result<String, NoMemory> {
-    Ok(format!(in alloc; "process {}, place {place}: ", Shown(name))?)
-}
-
-fn process_note(alloc: Global, name: &[u8]) -> Result<String, NoMemory> {
-    Ok(format!(in alloc; "in process {}", Shown(name))?)
+    Ok(wording)
 }
 
 // Returns a fault of code in words.
@@ -249,20 +242,19 @@ fn first_faulty_place(
     Ok(high.checked_sub(1))
 }
 
-// Returns the name of a process of an object.
+// Returns the name of a process of an object; nothing past the last one.
 fn name_of(alloc: Global, bytes: &[u8], process: usize) -> Result<Vec<u8>, NoMemory> {
-    let Ok((code, _)) = read_any(alloc, bytes) else {
-        return Err(NoMemory);
-    };
-    match process_name(&code, process) {
-        Some(name) => Ok(Vec::from_slice(alloc, name)?),
-        None => Ok(Vec::new(alloc)),
+    match read_any(alloc, bytes) {
+        Ok((code, _)) => Ok(Vec::from_slice(alloc, process_name(&code, process))?),
+        Err(_) => Err(NoMemory),
     }
 }
 
-fn process_name(code: &Code, process: usize) -> Option<&[u8]> {
-    let name = code.names.processes.get(process)?;
-    Some(name.as_slice())
+fn process_name(code: &Code, process: usize) -> &[u8] {
+    match code.names.processes.get(process) {
+        Some(name) => name.as_slice(),
+        None => b"",
+    }
 }
 
 // Returns the offset of the line of an instruction in an object.

@@ -9,7 +9,7 @@ use pb_history::replay::replay_counted;
 use pb_machine::{Machine, Thread, ThreadState};
 use pb_picks::read_picks;
 use pb_verifier::Verified;
-use std::alloc::Global;
+use std::alloc::{AllocError, Global};
 
 /// A pick of pick lines.
 #[derive(Clone, Copy)]
@@ -74,26 +74,13 @@ fn arm_wording(
     stop: &Stop,
     arm: &String,
 ) -> Result<Wording, NoMemory> {
-    let summary = format!(in alloc; "{arm} cannot make pick {}", stop.number)?;
-    let mut wording = Wording::new(alloc, summary);
-    tell_why(alloc, &mut wording, verified, lines, stop, arm)?;
-    Ok(wording)
-}
-
-// Adds why the arm does not go on after the picks before; nothing if there is too little memory for these.
-fn tell_why(
-    alloc: Global,
-    wording: &mut Wording,
-    verified: &Verified,
-    lines: &[u8],
-    stop: &Stop,
-    arm: &String,
-) -> Result<(), NoMemory> {
     let before = lines_before(alloc, lines, stop, arm)?;
-    match machine_after(alloc, verified, &before) {
-        Some(machine) => note_why(alloc, wording, verified.code(), &machine, stop.pick),
-        None => Ok(()),
+    let summary = format!(in alloc; "{arm} cannot make pick {}", stop.number);
+    let mut wording = Wording::new(alloc, summary);
+    if let Some(machine) = machine_after(alloc, verified, &before) {
+        note_why(alloc, &mut wording, verified.code(), &machine, stop.pick);
     }
+    Ok(wording)
 }
 
 // Returns the machine behind the picks of pick lines; none if there is too little memory.
@@ -108,9 +95,9 @@ fn machine_after(alloc: Global, verified: &Verified, lines: &[u8]) -> Option<Mac
 }
 
 // Returns the name of the arm of a pick.
-fn arm_name(alloc: Global, names: &Names, pick: Pick) -> Result<String, NoMemory> {
+fn arm_name(alloc: Global, names: &Names, pick: Pick) -> Result<String, AllocError> {
     let process = Shown(name_at(&names.processes, pick.process));
-    Ok(format!(in alloc; "{process}.{}", pick.arm)?)
+    format!(in alloc; "{process}.{}", pick.arm)
 }
 
 // Returns the name with this number; nothing past the end.
@@ -137,26 +124,20 @@ fn lines_before(
 }
 
 // Notes why the arm of a pick does not go on.
-fn note_why(
-    alloc: Global,
-    wording: &mut Wording,
-    code: &Code,
-    machine: &Machine,
-    pick: Pick,
-) -> Result<(), NoMemory> {
+fn note_why(alloc: Global, wording: &mut Wording, code: &Code, machine: &Machine, pick: Pick) {
     let process = usize::from(pick.process);
     let arm = usize::from(pick.arm);
     if machine.processes() <= process {
-        return Ok(());
+        return;
     }
     let standing = machine.proc(process);
     if standing.arms() <= arm {
-        return Ok(());
+        return;
     }
     let thread = standing.thread(arm);
     match asked(code, process, thread) {
         Some(bundle) if !standing.faulted() => {
-            note_request(alloc, wording, &code.names, machine.banker(), bundle)
+            wording.note(request_note(alloc, &code.names, machine.banker(), bundle));
         }
         _ => wording.note_text(alloc, stands(standing.faulted(), thread.state())),
     }
@@ -183,21 +164,20 @@ fn asked<'c>(code: &'c Code, process: usize, thread: &Thread) -> Option<&'c Bund
     }
 }
 
-// Notes why a request is refused.
-fn note_request(
+// Returns why a request is refused.
+fn request_note(
     alloc: Global,
-    wording: &mut Wording,
     names: &Names,
     banker: &Banker,
     bundle: &Bundle,
-) -> Result<(), NoMemory> {
+) -> Result<String, AllocError> {
     for i in 0..bundle.len() {
         let pair = bundle.get(i);
         if let Some(cash) = short_cash(banker, pair) {
-            return wording.note(cash_note(alloc, names, pair, cash)?);
+            return cash_note(alloc, names, pair, cash);
         }
     }
-    wording.note_text(
+    String::from_str(
         alloc,
         "the cash is enough for its request, but if it were granted some processes could never finish",
     )
@@ -217,10 +197,10 @@ fn short_cash(banker: &Banker, asked: Pair) -> Option<u32> {
     }
 }
 
-fn cash_note(alloc: Global, names: &Names, asked: Pair, cash: u32) -> Result<String, NoMemory> {
+fn cash_note(alloc: Global, names: &Names, asked: Pair, cash: u32) -> Result<String, AllocError> {
     let name = Shown(name_at(&names.resources, asked.resource));
-    Ok(format!(in alloc;
+    format!(in alloc;
         "it asks for {} of {name}, and the cash is {cash}",
         asked.amount
-    )?)
+    )
 }

@@ -5,7 +5,7 @@ use crate::wording::{Shown, Wording};
 use pb_base::NoMemory;
 use pb_lexer::{Kind, LexFault, Mark, Token, lex};
 use pb_parser::{ParseFault, parse};
-use std::alloc::Global;
+use std::alloc::{AllocError, Global};
 
 // What may stand at a place, tried by one spelling of it.
 struct Probe {
@@ -145,16 +145,16 @@ struct Phrases {
 pub fn parse_wording(alloc: Global, text: &[u8], fault: ParseFault) -> Result<Wording, NoMemory> {
     match fault {
         ParseFault::Syntax(at) => syntax_wording(alloc, text, at),
-        ParseFault::TooDeep => too_deep(alloc),
-        ParseFault::TooLarge => Wording::of(
+        ParseFault::TooDeep => Ok(too_deep(alloc)),
+        ParseFault::TooLarge => Ok(Wording::of(
             alloc,
             "the program has more than 16384 expressions, statements and processes",
-        ),
+        )),
         ParseFault::NoMemory => Err(NoMemory),
     }
 }
 
-fn too_deep(alloc: Global) -> Result<Wording, NoMemory> {
+fn too_deep(alloc: Global) -> Wording {
     Wording::noted(
         alloc,
         "the text is nested too deeply",
@@ -163,54 +163,39 @@ fn too_deep(alloc: Global) -> Result<Wording, NoMemory> {
 }
 
 fn syntax_wording(alloc: Global, text: &[u8], at: usize) -> Result<Wording, NoMemory> {
-    let Ok(tokens) = lex(alloc, text) else {
-        return Err(NoMemory);
-    };
-    unexpected(
-        alloc,
-        &text[..at.min(text.len())],
-        &tokens,
-        token_at(&tokens, at),
-    )
+    let expected = expected(alloc, &text[..at.min(text.len())])?;
+    match lex(alloc, text) {
+        Ok(tokens) => Ok(unexpected(alloc, &tokens, token_at(&tokens, at), expected)),
+        Err(_) => Err(NoMemory),
+    }
 }
 
-// Returns the wording of the token with a number, or of the end, which cannot stand behind the first part of a text.
+// Returns the wording of the token with a number, or of the end, which cannot stand where it is, with the line that tells
+// what may.
 fn unexpected(
     alloc: Global,
-    before: &[u8],
     tokens: &[Token],
     found: Option<usize>,
-) -> Result<Wording, NoMemory> {
-    let mut wording = Wording::new(alloc, unexpected_in_words(alloc, tokens, found)?);
-    tell_expected(alloc, &mut wording, before, tokens, found)?;
-    Ok(wording)
+    expected: Option<String>,
+) -> Wording {
+    let mut wording = Wording::new(alloc, unexpected_in_words(alloc, tokens, found));
+    if let Some(expected) = expected {
+        wording.note(Ok(expected));
+    }
+    if let Some(hint) = usual_mistake(tokens, found) {
+        wording.hint(alloc, hint);
+    }
+    wording
 }
 
 fn unexpected_in_words(
     alloc: Global,
     tokens: &[Token],
     found: Option<usize>,
-) -> Result<String, NoMemory> {
+) -> Result<String, AllocError> {
     match found {
-        Some(number) => Ok(format!(in alloc; "unexpected `{}`", Shown(text_at(tokens, number)))?),
-        None => Ok(String::from_str(alloc, "unexpected end of the text")?),
-    }
-}
-
-// Adds what may stand behind the first part of a text, and what is usually meant.
-fn tell_expected(
-    alloc: Global,
-    wording: &mut Wording,
-    before: &[u8],
-    tokens: &[Token],
-    found: Option<usize>,
-) -> Result<(), NoMemory> {
-    if let Some(expected) = expected(alloc, before)? {
-        wording.note(expected)?;
-    }
-    match usual_mistake(tokens, found) {
-        Some(hint) => wording.hint(alloc, hint),
-        None => Ok(()),
+        Some(number) => format!(in alloc; "unexpected `{}`", Shown(text_at(tokens, number))),
+        None => String::from_str(alloc, "unexpected end of the text"),
     }
 }
 
@@ -247,16 +232,23 @@ fn put_choices(
     put_choice(line, empty, phrases.expression, "an expression")?;
     put_choice(line, empty, phrases.operator, "an operator")?;
     for probe in &PROBES {
-        if is_told(probe.part_of, phrases) {
-            put_choice(
-                line,
-                empty,
-                may_follow(alloc, text, probe.spelling)?,
-                probe.name,
-            )?;
-        }
+        put_probe(alloc, line, empty, text, phrases, probe)?;
     }
     Ok(())
+}
+
+// Puts what a probe tries behind a line that was `empty` bytes long, if it may stand behind the first part of a text and
+// is told beside these phrases.
+fn put_probe(
+    alloc: Global,
+    line: &mut String,
+    empty: usize,
+    text: &[u8],
+    phrases: Phrases,
+    probe: &Probe,
+) -> Result<(), NoMemory> {
+    let is_one = is_told(probe.part_of, phrases) && may_follow(alloc, text, probe.spelling)?;
+    put_choice(line, empty, is_one, probe.name)
 }
 
 // Puts one more choice behind a line that was `empty` bytes long, if it is one.
