@@ -91,7 +91,9 @@ g1-input =
 abbrev pub g1-entry : Explanation
 g1-entry = record {
   summary = codes "a position that there is not";
-  meaning = codes "The command of `debug` would go before position 0, or behind the last pick.";
+  meaning =
+      codes "The command of `debug` would go before position 0, or behind the last pick; or it is\n"
+      ++ codes "`pick`, at another position than the last, or behind 10,000,000 picks.";
   example = Some (record {
     command = codes "debug";
     input = Text g1-input;

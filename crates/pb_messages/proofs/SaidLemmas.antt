@@ -1,5 +1,5 @@
 -- What is said of an input, from the message that was made.
-use Rattle.std.proofs.Common.{◌≡◌, ◌≢◌, take, ℕ, List, [], codes, Option, Some, None, Result, Ok, Err, IfOk, subst, sym, inl, inr}
+use Rattle.std.proofs.Common.{◌≡◌, ◌≢◌, ◌⊎◌, take, ℕ, List, [], codes, Option, Some, None, Result, Ok, Err, IfOk, subst, sym, inl, inr}
 use Rattle.pb_code.specs.Whole.{Code, ProcessLabels}
 use Rattle.pb_codegen.specs.Compiled.{IsCompiled}
 use Rattle.pb_engines.specs.Loading.{IsLoadFault, load_line}
@@ -52,12 +52,18 @@ module _ {W E : Type 0} (seen : W → List ℕ) where
       stopped picks number (seen told) spelled is (coded (codes "pick ") lines (codes "H1") at (seen told) message)
   stop_told code lines picks number at (Err e) spelled is message = message
 
-  -- the message of what the first format cannot say of an accepted text
+  -- the message of what the first format cannot say of a text
+  pub unsaid_told : (text : List ℕ) (made : Result W E)
+      → IfOk made (λ told. IsMessageAt [] text (codes "E1") None (seen told))
+      → IfOk made (λ told. (seen told ≡ []) ⊎ HasCode (codes "E1") (seen told))
+  unsaid_told text (Ok told) message = inr (coded [] text (codes "E1") None (seen told) message)
+  unsaid_told text (Err e) message = message
+
+  -- what is said of an accepted text, of which the first format can say all or not
   pub format_told : (text : List ℕ) (code : Code) (labels : List ProcessLabels) (made : Result W E) → IsCompiled text code labels
-      → IfOk made (λ told. IsMessageAt [] text (codes "E1") None (seen told)) → IfOk made (λ told. SaysOfFirstFormat text (seen told))
-  format_told text code labels (Ok told) compiled message =
-      inl (compiled_is_accepted text code labels compiled, inr (coded [] text (codes "E1") None (seen told) message))
-  format_told text code labels (Err e) compiled message = message
+      → IfOk made (λ told. (seen told ≡ []) ⊎ HasCode (codes "E1") (seen told)) → IfOk made (λ told. SaysOfFirstFormat text (seen told))
+  format_told text code labels (Ok told) compiled says = inl (compiled_is_accepted text code labels compiled, says)
+  format_told text code labels (Err e) compiled says = says
 
   -- what is said of an object, pick lines and commands
   pub object_debugged : (bytes source rest lines commands : List ℕ) (made : Result W E) → AreTwoParts bytes source rest

@@ -1,6 +1,7 @@
 //! The place of a fault, shown: its line of the text, with a mark.
 
-ghost use Rattle.std.specs.Prelude.{◌≡◌, ◌≤◌, map, length, min, IfOk};
+ghost use Rattle.std.specs.Prelude.{◌≡◌, ◌≤◌, ◌++◌, map, length, min, IfOk, OnOk};
+ghost use Rattle.std.specs.Fmt.{decimal};
 ghost use Rattle.pb_messages.specs.Places.{IsPlace, arrow_line, bar_line, below_byte, excerpt, margin_of, mark_line, message, shown_byte, source_line};
 
 use crate::cause::Cause;
@@ -22,14 +23,29 @@ pub fn compose(
 ) -> Result<Vec<u8>, NoMemory>
     ensures { IfOk result (λ text. text.items ≡ message cause.now.code.now summary.now shown.now details.now) }
 {
-    let mut text = Vec::from_slice(alloc, b"error ")?;
-    text.extend_from_slice(cause.code)?;
+    let mut text = Vec::new(alloc);
+    put_message(&mut text, cause.code, summary, shown, details)?;
+    Ok(text)
+}
+
+// Puts a message behind a text.
+fn put_message(
+    text: &mut Vec<u8>,
+    code: &[u8],
+    summary: &[u8],
+    shown: &[u8],
+    details: &[u8],
+) -> Result<(), NoMemory>
+    ensures { OnOk result (text.new.items ≡ text.old.items ++ message code.now summary.now shown.now details.now) }
+{
+    text.extend_from_slice(b"error ")?;
+    text.extend_from_slice(code)?;
     text.extend_from_slice(b": ")?;
     text.extend_from_slice(summary)?;
-    text.extend_from_slice(b"\n")?;
+    text.push(b'\n')?;
     text.extend_from_slice(shown)?;
     text.extend_from_slice(details)?;
-    Ok(text)
+    Ok(())
 }
 
 /// Returns the place of a byte of a text, or of its end, as a message shows it: its line and column, with a label before
@@ -53,74 +69,86 @@ fn show(alloc: Global, label: &[u8], text: &[u8], place: &Place) -> Result<Vec<u
     requires { IsPlace text.now place.now.at place.now }
     ensures { IfOk result (λ shown. shown.items ≡ excerpt label.now text.now place.now) }
 {
-    let bar = show_bar(alloc, place)?;
-    let source = show_source(alloc, text, place)?;
-    let mark = show_mark(alloc, text, place)?;
-    let mut shown = show_arrow(alloc, label, place)?;
-    shown.extend_from_slice(&bar)?;
-    shown.extend_from_slice(&source)?;
-    shown.extend_from_slice(&mark)?;
+    let mut shown = Vec::new(alloc);
+    put_excerpt(&mut shown, label, text, place)?;
     Ok(shown)
 }
 
-fn show_margin(alloc: Global, place: &Place) -> Result<Vec<u8>, NoMemory>
-    ensures { IfOk result (λ margin. margin.items ≡ margin_of place.now) }
-{
-    let mut digits = itoa::Buffer::new();
-    let mut margin = below(alloc, digits.format(place.line).as_bytes())?;
-    margin.extend_from_slice(b" ")?;
-    Ok(margin)
-}
-
-fn show_arrow(alloc: Global, label: &[u8], place: &Place) -> Result<Vec<u8>, NoMemory>
-    ensures { IfOk result (λ line. line.items ≡ arrow_line label.now place.now) }
-{
-    let mut digits = itoa::Buffer::new();
-    let mut line = show_margin(alloc, place)?;
-    line.extend_from_slice(b"--> ")?;
-    line.extend_from_slice(label)?;
-    line.extend_from_slice(b"line ")?;
-    line.extend_from_slice(digits.format(place.line).as_bytes())?;
-    line.extend_from_slice(b", column ")?;
-    line.extend_from_slice(digits.format(place.column).as_bytes())?;
-    line.extend_from_slice(b"\n")?;
-    Ok(line)
-}
-
-fn show_bar(alloc: Global, place: &Place) -> Result<Vec<u8>, NoMemory>
-    ensures { IfOk result (λ line. line.items ≡ bar_line place.now) }
-{
-    let mut line = show_margin(alloc, place)?;
-    line.extend_from_slice(b"|\n")?;
-    Ok(line)
-}
-
-fn show_source(alloc: Global, text: &[u8], place: &Place) -> Result<Vec<u8>, NoMemory>
+// Puts a place behind a text, as a message shows it.
+fn put_excerpt(out: &mut Vec<u8>, label: &[u8], text: &[u8], place: &Place) -> Result<(), NoMemory>
     requires { IsPlace text.now place.now.at place.now }
-    ensures { IfOk result (λ line. line.items ≡ source_line text.now place.now) }
+    ensures { OnOk result (out.new.items ≡ out.old.items ++ excerpt label.now text.now place.now) }
+{
+    put_arrow(out, label, place)?;
+    put_bar(out, place)?;
+    put_source(out, text, place)?;
+    put_mark(out, text, place)?;
+    Ok(())
+}
+
+// Puts the margin of a place behind a text.
+fn put_margin(out: &mut Vec<u8>, place: &Place) -> Result<(), NoMemory>
+    ensures { OnOk result (out.new.items ≡ out.old.items ++ margin_of place.now) }
+{
+    let mut digits = itoa::Buffer::new();
+    put_below(out, digits.format(place.line).as_bytes())?;
+    out.push(b' ')?;
+    Ok(())
+}
+
+fn put_arrow(out: &mut Vec<u8>, label: &[u8], place: &Place) -> Result<(), NoMemory>
+    ensures { OnOk result (out.new.items ≡ out.old.items ++ arrow_line label.now place.now) }
+{
+    put_margin(out, place)?;
+    out.extend_from_slice(b"--> ")?;
+    out.extend_from_slice(label)?;
+    out.extend_from_slice(b"line ")?;
+    put_number(out, place.line)?;
+    out.extend_from_slice(b", column ")?;
+    put_number(out, place.column)?;
+    out.push(b'\n')?;
+    Ok(())
+}
+
+fn put_number(out: &mut Vec<u8>, number: usize) -> Result<(), NoMemory>
+    ensures { OnOk result (out.new.items ≡ out.old.items ++ decimal number) }
+{
+    let mut digits = itoa::Buffer::new();
+    out.extend_from_slice(digits.format(number).as_bytes())?;
+    Ok(())
+}
+
+fn put_bar(out: &mut Vec<u8>, place: &Place) -> Result<(), NoMemory>
+    ensures { OnOk result (out.new.items ≡ out.old.items ++ bar_line place.now) }
+{
+    put_margin(out, place)?;
+    out.extend_from_slice(b"|\n")?;
+    Ok(())
+}
+
+fn put_source(out: &mut Vec<u8>, text: &[u8], place: &Place) -> Result<(), NoMemory>
+    requires { IsPlace text.now place.now.at place.now }
+    ensures { OnOk result (out.new.items ≡ out.old.items ++ source_line text.now place.now) }
 {
     let from = place.at - WIDTH.min(place.at - place.begin);
     let to = place.at + WIDTH.min(place.end - place.at);
-    let source = printable(alloc, &text[from..to])?;
-    let mut digits = itoa::Buffer::new();
-    let mut line = Vec::from_slice(alloc, digits.format(place.line).as_bytes())?;
-    line.extend_from_slice(b" | ")?;
-    line.extend_from_slice(&source)?;
-    line.extend_from_slice(b"\n")?;
-    Ok(line)
+    put_number(out, place.line)?;
+    out.extend_from_slice(b" | ")?;
+    put_printable(out, &text[from..to])?;
+    out.push(b'\n')?;
+    Ok(())
 }
 
-fn show_mark(alloc: Global, text: &[u8], place: &Place) -> Result<Vec<u8>, NoMemory>
+fn put_mark(out: &mut Vec<u8>, text: &[u8], place: &Place) -> Result<(), NoMemory>
     requires { IsPlace text.now place.now.at place.now }
-    ensures { IfOk result (λ line. line.items ≡ mark_line text.now place.now) }
+    ensures { OnOk result (out.new.items ≡ out.old.items ++ mark_line text.now place.now) }
 {
     let from = place.at - WIDTH.min(place.at - place.begin);
-    let blanks = below(alloc, &text[from..place.at])?;
-    let mut line = show_margin(alloc, place)?;
-    line.extend_from_slice(b"| ")?;
-    line.extend_from_slice(&blanks)?;
-    line.extend_from_slice(b"^\n")?;
-    Ok(line)
+    put_margin(out, place)?;
+    out.extend_from_slice(b"| ")?;
+    put_below(out, &text[from..place.at])?;
+    out.extend_from_slice(b"^\n")?;
+    Ok(())
 }
 
 /// Returns bytes as a message shows them: a carriage return as a space, and a question mark for each other byte that is
@@ -129,10 +157,18 @@ pub fn printable(alloc: Global, bytes: &[u8]) -> Result<Vec<u8>, NoMemory>
     ensures { IfOk result (λ shown. shown.items ≡ map shown_byte bytes.now) }
 {
     let mut shown = Vec::new(alloc);
-    for byte in bytes {
-        shown.push(printable_byte(*byte))?;
-    }
+    put_printable(&mut shown, bytes)?;
     Ok(shown)
+}
+
+// Puts bytes behind a text, as a message shows them.
+fn put_printable(out: &mut Vec<u8>, bytes: &[u8]) -> Result<(), NoMemory>
+    ensures { OnOk result (out.new.items ≡ out.old.items ++ map shown_byte bytes.now) }
+{
+    for byte in bytes {
+        out.push(printable_byte(*byte))?;
+    }
+    Ok(())
 }
 
 /// Returns a byte as a message shows it.
@@ -148,15 +184,14 @@ pub fn printable_byte(byte: u8) -> u8
     }
 }
 
-// Returns what is below bytes before a mark.
-fn below(alloc: Global, bytes: &[u8]) -> Result<Vec<u8>, NoMemory>
-    ensures { IfOk result (λ blanks. blanks.items ≡ map below_byte bytes.now) }
+// Puts what is below bytes before a mark behind a text.
+fn put_below(out: &mut Vec<u8>, bytes: &[u8]) -> Result<(), NoMemory>
+    ensures { OnOk result (out.new.items ≡ out.old.items ++ map below_byte bytes.now) }
 {
-    let mut blanks = Vec::new(alloc);
     for byte in bytes {
-        blanks.push(blank_below(*byte))?;
+        out.push(blank_below(*byte))?;
     }
-    Ok(blanks)
+    Ok(())
 }
 
 fn blank_below(byte: u8) -> u8

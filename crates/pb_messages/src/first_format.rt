@@ -1,7 +1,7 @@
 //! The message of a text whose code the first format can't say.
 
-ghost use Rattle.std.specs.Prelude.{IfOk};
-ghost use Rattle.pb_messages.specs.Said.{SaysOfFirstFormat};
+ghost use Rattle.std.specs.Prelude.{◌≡◌, ◌⊎◌, [], IfOk, codes};
+ghost use Rattle.pb_messages.specs.Said.{HasCode, SaysOfFirstFormat};
 
 use crate::cause::Cause;
 use crate::texts::text_message;
@@ -20,40 +20,52 @@ pub fn first_format_message(alloc: Global, text: &[u8]) -> Result<Vec<u8>, NoMem
     if let Err(message) = text_message(alloc, "", text)? {
         return Ok(message);
     }
+    unsaid_message(alloc, text)
+}
+
+// Returns the message of what the first format can't say of a text; nothing if it can say all.
+fn unsaid_message(alloc: Global, text: &[u8]) -> Result<Vec<u8>, NoMemory>
+    ensures { IfOk result (λ message. (message.items ≡ []) ⊎ HasCode (codes "E1") message.items) }
+{
+    match unsaid_wording(alloc, text)? {
+        Some(wording) => {
+            let cause = Cause {
+                code: b"E1",
+                at: None,
+            };
+            worded(alloc, "", text, &cause, &wording)
+        }
+        None => Ok(Vec::new(alloc)),
+    }
+}
+
+// Returns the wording of what the first format can't say of a text, if there is anything.
+fn unsaid_wording(alloc: Global, text: &[u8]) -> Result<Option<Wording>, NoMemory> {
     let Ok(tokens) = lex(alloc, text) else {
         return Err(NoMemory);
     };
-    let mut wording = if let Some(number) = process_past(&tokens) {
-        let summary = format!(in alloc; "the first format has at most 32 processes")?;
-        pointing(alloc, summary, &tokens, number)?
-    } else if let Some(number) = joint_hold(&tokens) {
-        let summary = format!(in alloc; "the first format has no hold of several resources")?;
-        pointing(alloc, summary, &tokens, number)?
-    } else {
-        return Ok(Vec::new(alloc));
-    };
-    wording.note(format!(in alloc;
-        "hint: the second format has it: emit --object 2, or emit with no option"
-    )?)?;
-    let cause = Cause {
-        code: b"E1",
-        at: None,
-    };
-    worded(alloc, "", text, &cause, &wording)
+    if let Some(number) = process_past(&tokens) {
+        let summary = "the first format has at most 32 processes";
+        return Ok(Some(pointing(alloc, summary, tokens.get(number))));
+    }
+    match joint_hold(&tokens) {
+        Some(number) => {
+            let summary = "the first format has no hold of several resources";
+            Ok(Some(pointing(alloc, summary, tokens.get(number))))
+        }
+        None => Ok(None),
+    }
 }
 
 // Returns the wording that points at a token.
-fn pointing(
-    alloc: Global,
-    summary: String,
-    tokens: &[Token],
-    number: usize,
-) -> Result<Wording, NoMemory> {
-    let mut wording = Wording::new(alloc, summary);
-    if let Some(token) = tokens.get(number) {
-        wording.spot(String::new(alloc), token.start())?;
-    }
-    Ok(wording)
+fn pointing(alloc: Global, summary: &str, token: Option<&Token<'_>>) -> Wording {
+    let mut wording = Wording::of(alloc, summary);
+    wording.spot_token(alloc, "", token);
+    wording.note_text(
+        alloc,
+        "hint: the second format has it: emit --object 2, or emit with no option",
+    );
+    wording
 }
 
 // Returns the number of the word `process` before the first process that is too many.

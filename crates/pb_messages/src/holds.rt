@@ -6,7 +6,7 @@ use crate::wording::{Shown, Wording};
 use pb_base::NoMemory;
 use pb_codegen::ClaimsFault;
 use pb_lexer::{Kind, Mark, Token};
-use std::alloc::Global;
+use std::alloc::{AllocError, Global};
 
 // The most holds that are shown.
 const MOST_SHOWN: usize = 6;
@@ -81,31 +81,55 @@ pub fn claims_wording(
     tokens: &[Token],
     fault: &ClaimsFault,
 ) -> Result<Wording, NoMemory> {
-    let resource = Shown(&fault.resource);
-    let summary = format!(in alloc;
+    let peak = process_peak(alloc, tokens, &fault.process, &fault.resource)?;
+    let mut wording = Wording::new(alloc, claim_in_words(alloc, fault));
+    tell_holds(alloc, &mut wording, tokens, &peak.holds, &fault.resource);
+    wording.note(claim_hint(alloc, fault));
+    Ok(wording)
+}
+
+fn claim_in_words(alloc: Global, fault: &ClaimsFault) -> Result<String, AllocError> {
+    format!(in alloc;
         "process {} may hold {} of {} at once, and the capital is {}",
         Shown(&fault.process),
         fault.claim,
-        resource,
+        Shown(&fault.resource),
         fault.capital
-    )?;
-    let mut wording = Wording::new(alloc, summary);
-    let peak = process_peak(alloc, tokens, &fault.process, &fault.resource)?;
-    for hold in peak.holds.iter().take(MOST_SHOWN) {
-        if let Some(token) = tokens.get(*hold) {
-            let amount = own_amount(tokens, *hold, &fault.resource);
-            let label = format!(in alloc; "{} of {}: ", amount, resource)?;
-            wording.spot(label, token.start())?;
-        }
+    )
+}
+
+// Adds the first holds of these, and how many there are more.
+fn tell_holds(
+    alloc: Global,
+    wording: &mut Wording,
+    tokens: &[Token],
+    holds: &[usize],
+    resource: &[u8],
+) {
+    for hold in holds.iter().take(MOST_SHOWN) {
+        tell_hold(alloc, wording, tokens, *hold, resource);
     }
-    if peak.holds.len() > MOST_SHOWN {
-        wording.note(format!(in alloc; "and {} more holds", peak.holds.len() - MOST_SHOWN)?)?;
+    if holds.len() > MOST_SHOWN {
+        let more = holds.len() - MOST_SHOWN;
+        wording.note(format!(in alloc; "and {more} more holds"));
     }
-    wording.note(format!(in alloc;
+}
+
+// Adds where a hold is, and how much it asks for.
+fn tell_hold(alloc: Global, wording: &mut Wording, tokens: &[Token], hold: usize, resource: &[u8]) {
+    if let Some(token) = tokens.get(hold) {
+        let amount = own_amount(tokens, hold, resource);
+        let label = format!(in alloc; "{amount} of {}: ", Shown(resource));
+        wording.spot(label, token.start());
+    }
+}
+
+fn claim_hint(alloc: Global, fault: &ClaimsFault) -> Result<String, AllocError> {
+    format!(in alloc;
         "hint: hold less at once, or declare a greater capital: resource {} = {};",
-        resource, fault.claim
-    )?)?;
-    Ok(wording)
+        Shown(&fault.resource),
+        fault.claim
+    )
 }
 
 // Returns the peak of a process on a resource.

@@ -1,7 +1,9 @@
 //! The message of a refused input.
 
-ghost use Rattle.std.specs.Prelude.{◌≡◌, ◌↔◌, [], IfOk, IsTrue, OnOk, codes, take};
-ghost use Rattle.pb_messages.specs.Said.{SaysOf, SaysOfObject, SaysOfPickedObject, SaysOfPickedText, SaysOfText, SaysOfTexts};
+ghost use Rattle.std.specs.Prelude.{◌≡◌, ◌↔◌, [], IfNone, IfOk, IfSome, IsTrue, OnOk, codes, take};
+ghost use Rattle.pb_engines.specs.Refusals.{IsAcceptedText};
+ghost use Rattle.pb_messages.specs.Messages.{TellsRefusal};
+ghost use Rattle.pb_messages.specs.Said.{SaysOf, SaysOfObject, SaysOfPickedObject, SaysOfPickedText, SaysOfProgram, SaysOfText, SaysOfTexts};
 ghost use Rattle.pb_messages.specs.Said.{SaysMore, SaysToPerson, behind, long_output};
 ghost use Rattle.pb_messages.specs.declared.message.Reading.TheVariants.{Debugged, Replayed};
 
@@ -13,7 +15,7 @@ use crate::texts::{early_message, text_message};
 use pb_base::NoMemory;
 use pb_engines::input::LONGEST_INPUT;
 use pb_engines::parts::{first_part, two_parts};
-use std::alloc::Global;
+use std::alloc::{AllocError, Global};
 
 // What is said of an input that is too long.
 const LONG_INPUT: &[u8] = b"error input: the input is longer than 4194304 bytes\n";
@@ -54,10 +56,17 @@ pub fn message_of(alloc: Global, reading: Reading, bytes: &[u8]) -> Result<Vec<u
     if bytes.len() > LONGEST_INPUT {
         return Ok(Vec::from_slice(alloc, LONG_INPUT)?);
     }
+    whole_message(alloc, reading, bytes)
+}
+
+// Returns the messages of an input that is not too long.
+fn whole_message(alloc: Global, reading: Reading, bytes: &[u8]) -> Result<Vec<u8>, NoMemory>
+    ensures { IfOk result (λ message. SaysOf reading bytes.now message.items) }
+{
     match reading {
         Reading::Text => whole_text_message(alloc, bytes),
         Reading::Recorded => recorded_message(alloc, bytes),
-        Reading::Claims => Ok(early_message(alloc, bytes)?.unwrap_or(Vec::new(alloc))),
+        Reading::Claims => claims_message(alloc, bytes),
         Reading::FirstFormat => first_format_message(alloc, bytes),
         Reading::Texts => texts_messages(alloc, bytes),
         Reading::Object => whole_object_message(alloc, bytes),
@@ -70,9 +79,30 @@ pub fn message_of(alloc: Global, reading: Reading, bytes: &[u8]) -> Result<Vec<u
 fn whole_text_message(alloc: Global, text: &[u8]) -> Result<Vec<u8>, NoMemory>
     ensures { IfOk result (λ message. SaysOfText text.now [] message.items) }
 {
-    match text_message(alloc, "", text)? {
-        Ok(_) => Ok(Vec::new(alloc)),
-        Err(message) => Ok(message),
+    match refusal_message(alloc, "", text)? {
+        Some(message) => Ok(message),
+        None => Ok(Vec::new(alloc)),
+    }
+}
+
+// Returns the message of a text, if it is refused.
+fn refusal_message(alloc: Global, label: &str, text: &[u8]) -> Result<Option<Vec<u8>>, NoMemory>
+    ensures accepted { IfOk result (λ told. IfNone told (IsAcceptedText text.now)) }
+    ensures refused { IfOk result (λ told. IfSome told (λ message. TellsRefusal label.now text.now message.items)) }
+{
+    match text_message(alloc, label, text)? {
+        Ok(_) => Ok(None),
+        Err(message) => Ok(Some(message)),
+    }
+}
+
+// Returns the message of a text whose capital does not matter, or nothing if it is accepted.
+fn claims_message(alloc: Global, text: &[u8]) -> Result<Vec<u8>, NoMemory>
+    ensures { IfOk result (λ message. SaysOfProgram text.now message.items) }
+{
+    match early_message(alloc, text)? {
+        Some(message) => Ok(message),
+        None => Ok(Vec::new(alloc)),
     }
 }
 
@@ -90,9 +120,9 @@ fn whole_object_message(alloc: Global, object: &[u8]) -> Result<Vec<u8>, NoMemor
 fn recorded_message(alloc: Global, text: &[u8]) -> Result<Vec<u8>, NoMemory>
     ensures { IfOk result (λ message. SaysOfText text.now long_output message.items) }
 {
-    match text_message(alloc, "", text)? {
-        Ok(_) => Ok(Vec::from_slice(alloc, LONG_OUTPUT)?),
-        Err(message) => Ok(message),
+    match refusal_message(alloc, "", text)? {
+        Some(message) => Ok(message),
+        None => Ok(Vec::from_slice(alloc, LONG_OUTPUT)?),
     }
 }
 
@@ -122,9 +152,9 @@ fn texts_messages(alloc: Global, bytes: &[u8]) -> Result<Vec<u8>, NoMemory>
 fn tell_text(alloc: Global, out: &mut Vec<u8>, label: &str, text: &[u8]) -> Result<(), NoMemory>
     ensures { OnOk result (SaysMore text.now out.old.items out.new.items) }
 {
-    match text_message(alloc, label, text)? {
-        Ok(_) => Ok(()),
-        Err(message) => put_message(out, &message),
+    match refusal_message(alloc, label, text)? {
+        Some(message) => put_message(out, &message),
+        None => Ok(()),
     }
 }
 
@@ -140,11 +170,11 @@ fn put_message(out: &mut Vec<u8>, message: &[u8]) -> Result<(), NoMemory>
 }
 
 // Returns what is said before the line of a text: its number, unless it is the only one.
-fn part_label(alloc: Global, number: u64, is_last: bool) -> Result<String, NoMemory> {
+fn part_label(alloc: Global, number: u64, is_last: bool) -> Result<String, AllocError> {
     if number == 1 && is_last {
         return Ok(String::new(alloc));
     }
-    Ok(format!(in alloc; "text {number}, ")?)
+    format!(in alloc; "text {number}, ")
 }
 
 // Returns the message of a text and the pick lines behind it.

@@ -5,7 +5,7 @@ use crate::wording::{Shown, Wording};
 use pb_base::NoMemory;
 use pb_lexer::{Mark, Token};
 use pb_names::{Kind as Limited, NameFault};
-use std::alloc::Global;
+use std::alloc::{AllocError, Global};
 
 /// Returns the wording of a fault of names of a text with these tokens.
 pub fn names_wording(
@@ -15,12 +15,17 @@ pub fn names_wording(
 ) -> Result<Wording, NoMemory> {
     match fault {
         NameFault::TooMany(kind) => too_many(alloc, tokens, kind),
-        NameFault::Twice(at) => twice(alloc, tokens, token_at(tokens, at).unwrap_or(0)),
-        NameFault::Unknown(at) => unknown(alloc, tokens, token_at(tokens, at).unwrap_or(0)),
-        NameFault::Amount(at) => amount(alloc, tokens, token_at(tokens, at).unwrap_or(0)),
-        NameFault::Repeated(at) => repeated(alloc, tokens, token_at(tokens, at).unwrap_or(0)),
+        NameFault::Twice(at) => Ok(twice(alloc, tokens, at_or_first(tokens, at))),
+        NameFault::Unknown(at) => Ok(unknown(alloc, tokens, at_or_first(tokens, at))),
+        NameFault::Amount(at) => Ok(amount(alloc, tokens, at_or_first(tokens, at))),
+        NameFault::Repeated(at) => Ok(repeated(alloc, tokens, at_or_first(tokens, at))),
         NameFault::NoMemory => Err(NoMemory),
     }
+}
+
+// Returns the number of the token that begins at an offset, or of the first one.
+fn at_or_first(tokens: &[Token], at: usize) -> usize {
+    token_at(tokens, at).unwrap_or(0)
 }
 
 // The kinds of names.
@@ -52,28 +57,29 @@ fn kind_name(named: Named) -> &'static str {
 }
 
 fn too_many(alloc: Global, tokens: &[Token], kind: Limited) -> Result<Wording, NoMemory> {
-    let summary = match kind {
-        Limited::Processes => format!(in alloc; "the program has more than 64 processes")?,
-        Limited::Resources => format!(in alloc; "the program has more than 16 resources")?,
-        Limited::Integers => format!(in alloc; "a process has more than 64 integers")?,
-        Limited::Fork => format!(in alloc; "a parbegin has more than 16 arms")?,
-        Limited::Arms => format!(in alloc; "a process has more than 64 arms, counting its body")?,
-    };
-    let mut wording = Wording::new(alloc, summary);
-    if let Some(number) = first_too_many(alloc, tokens, kind)? {
-        if let Some(token) = tokens.get(number) {
-            wording.spot(
-                String::from_str(alloc, "the first over the limit: ")?,
-                token.start(),
-            )?;
-        }
+    let first = first_too_many(alloc, tokens, kind)?;
+    let mut wording = Wording::of(alloc, limit_in_words(kind));
+    if let Some(number) = first {
+        wording.spot_token(alloc, "the first over the limit: ", tokens.get(number));
     }
     if kind == Limited::Fork || kind == Limited::Arms {
-        wording.note(format!(in alloc;
-            "hint: statements that need not run side by side can be one arm: begin a; b end"
-        )?)?;
+        wording.note_text(
+            alloc,
+            "hint: statements that need not run side by side can be one arm: begin a; b end",
+        );
     }
     Ok(wording)
+}
+
+// Returns in words that there are too many of a kind.
+fn limit_in_words(kind: Limited) -> &'static str {
+    match kind {
+        Limited::Processes => "the program has more than 64 processes",
+        Limited::Resources => "the program has more than 16 resources",
+        Limited::Integers => "a process has more than 64 integers",
+        Limited::Fork => "a parbegin has more than 16 arms",
+        Limited::Arms => "a process has more than 64 arms, counting its body",
+    }
 }
 
 // Returns the token with which there are too many of a kind.
@@ -135,23 +141,49 @@ fn integers_behind(tokens: &[Token], number: usize, before: Option<usize>) -> Op
 // Returns the number of the first token of the first arm of a parbegin that has too many.
 fn arm_past_limit(alloc: Global, tokens: &[Token], most: usize) -> Result<Option<usize>, NoMemory> {
     let mut open = Vec::new(alloc);
+    arm_past(tokens, most, &mut open)
+}
+
+// Returns the same. The statements that are open are kept with the number of arms so far, if it is a parbegin.
+fn arm_past(
+    tokens: &[Token],
+    most: usize,
+    open: &mut Vec<Option<usize>>,
+) -> Result<Option<usize>, NoMemory> {
     for number in 0..tokens.len() {
-        if is_at(tokens, number, Mark::Parbegin) {
-            open.push(Some(1usize))?;
-        } else if opens(tokens, number) {
-            open.push(None)?;
-        } else if closes(tokens, number) {
-            let _ = open.pop();
-        } else if is_at(tokens, number, Mark::Semicolon) {
-            if let Some(Some(arms)) = open.last_mut() {
-                *arms = arms.saturating_add(1);
-                if *arms > most {
-                    return Ok(Some(number.saturating_add(1)));
-                }
-            }
+        follow_brackets(tokens, number, open)?;
+        if is_at(tokens, number, Mark::Semicolon) && next_arm(open) > most {
+            return Ok(Some(number.saturating_add(1)));
         }
     }
     Ok(None)
+}
+
+// Goes on by a token, if it opens or closes a statement.
+fn follow_brackets(
+    tokens: &[Token],
+    number: usize,
+    open: &mut Vec<Option<usize>>,
+) -> Result<(), NoMemory> {
+    if is_at(tokens, number, Mark::Parbegin) {
+        open.push(Some(1usize))?;
+    } else if opens(tokens, number) {
+        open.push(None)?;
+    } else if closes(tokens, number) {
+        let _ = open.pop();
+    }
+    Ok(())
+}
+
+// Counts one more arm of the statement that was opened last, and returns how many it has; 0 if it is no parbegin.
+fn next_arm(open: &mut Vec<Option<usize>>) -> usize {
+    match open.last_mut() {
+        Some(Some(arms)) => {
+            *arms = arms.saturating_add(1);
+            *arms
+        }
+        _ => 0,
+    }
 }
 
 /// Returns whether the token opens a statement that another token closes.
@@ -171,31 +203,39 @@ pub fn closes(tokens: &[Token], number: usize) -> bool {
         || is_at(tokens, number, Mark::Parend)
 }
 
-fn twice(alloc: Global, tokens: &[Token], number: usize) -> Result<Wording, NoMemory> {
+fn twice(alloc: Global, tokens: &[Token], number: usize) -> Wording {
     let named = declared_kind(tokens, number);
-    let name = text_at(tokens, number);
-    let kind = kind_name(named);
-    let summary = match named {
-        Named::Integer => format!(in alloc;
-            "{kind} {} is declared twice in process {}",
-            Shown(name),
-            Shown(process_name(tokens, number))
-        )?,
-        _ => format!(in alloc; "{kind} {} is declared twice", Shown(name))?,
-    };
-    let mut wording = Wording::new(alloc, summary);
+    let mut wording = Wording::new(alloc, twice_in_words(alloc, tokens, number, named));
     if let Some(first) = first_declaration(tokens, number, named) {
-        if let Some(token) = tokens.get(first) {
-            wording.spot(
-                String::from_str(alloc, "first declared at ")?,
-                token.start(),
-            )?;
-        }
+        wording.spot_token(alloc, "first declared at ", tokens.get(first));
     }
-    wording.note(format!(in alloc;
-        "hint: choose another name; a resource, a process and an integer may share a name"
-    )?)?;
-    Ok(wording)
+    wording.note_text(
+        alloc,
+        "hint: choose another name; a resource, a process and an integer may share a name",
+    );
+    wording
+}
+
+// Returns in words that a name is declared twice.
+fn twice_in_words(
+    alloc: Global,
+    tokens: &[Token],
+    number: usize,
+    named: Named,
+) -> Result<String, AllocError> {
+    let name = Shown(text_at(tokens, number));
+    match named {
+        Named::Integer => twice_in_process(alloc, name, Shown(process_name(tokens, number))),
+        _ => format!(in alloc; "{} {name} is declared twice", kind_name(named)),
+    }
+}
+
+fn twice_in_process(
+    alloc: Global,
+    name: Shown<'_>,
+    process: Shown<'_>,
+) -> Result<String, AllocError> {
+    format!(in alloc; "integer {name} is declared twice in process {process}")
 }
 
 // Returns the number of the token at which a name is declared that is declared again at this one.
@@ -213,41 +253,61 @@ fn first_declaration(tokens: &[Token], number: usize, named: Named) -> Option<us
     None
 }
 
-fn unknown(alloc: Global, tokens: &[Token], number: usize) -> Result<Wording, NoMemory> {
-    let name = text_at(tokens, number);
+fn unknown(alloc: Global, tokens: &[Token], number: usize) -> Wording {
     if is_at(tokens, number.saturating_sub(1), Mark::Of) {
-        let summary = format!(in alloc; "resource {} is not declared", Shown(name))?;
-        let mut wording = Wording::new(alloc, summary);
-        wording.note(format!(in alloc;
-            "hint: declare it before the first process, with the amount of it: resource {} = 1;",
-            Shown(name)
-        )?)?;
-        return Ok(wording);
-    }
-    let process = process_name(tokens, number);
-    let summary = format!(in alloc;
-        "integer {} is not declared in process {}",
-        Shown(name),
-        Shown(process)
-    )?;
-    let mut wording = Wording::new(alloc, summary);
-    let hint = if declares_integers(tokens, number) {
-        format!(in alloc; "hint: add it to the integers that the process declares")?
+        unknown_resource(alloc, Shown(text_at(tokens, number)))
     } else {
-        format!(in alloc;
-            "hint: declare it after the first begin of the process: integer {};",
-            Shown(name)
-        )?
-    };
-    wording.note(hint)?;
-    if let Some(other) = other_owner(tokens, name) {
-        wording.note(format!(in alloc;
-            "hint: the integer {} of process {} cannot be used in another process",
-            Shown(name),
-            Shown(other)
-        )?)?;
+        unknown_integer(alloc, tokens, number)
     }
-    Ok(wording)
+}
+
+fn unknown_resource(alloc: Global, name: Shown<'_>) -> Wording {
+    let summary = format!(in alloc; "resource {name} is not declared");
+    let mut wording = Wording::new(alloc, summary);
+    wording.note(format!(in alloc;
+        "hint: declare it before the first process, with the amount of it: resource {name} = 1;"
+    ));
+    wording
+}
+
+fn unknown_integer(alloc: Global, tokens: &[Token], number: usize) -> Wording {
+    let name = text_at(tokens, number);
+    let process = process_name(tokens, number);
+    let mut wording = Wording::new(
+        alloc,
+        undeclared_in_words(alloc, Shown(name), Shown(process)),
+    );
+    wording.note(integer_hint(alloc, tokens, number));
+    if let Some(other) = other_owner(tokens, name) {
+        wording.note(owner_hint(alloc, Shown(name), Shown(other)));
+    }
+    wording
+}
+
+fn undeclared_in_words(
+    alloc: Global,
+    name: Shown<'_>,
+    process: Shown<'_>,
+) -> Result<String, AllocError> {
+    format!(in alloc; "integer {name} is not declared in process {process}")
+}
+
+// Returns how an integer is declared in the process in which a token is.
+fn integer_hint(alloc: Global, tokens: &[Token], number: usize) -> Result<String, AllocError> {
+    if declares_integers(tokens, number) {
+        return String::from_str(
+            alloc,
+            "hint: add it to the integers that the process declares",
+        );
+    }
+    let name = Shown(text_at(tokens, number));
+    format!(in alloc; "hint: declare it after the first begin of the process: integer {name};")
+}
+
+fn owner_hint(alloc: Global, name: Shown<'_>, owner: Shown<'_>) -> Result<String, AllocError> {
+    format!(in alloc;
+        "hint: the integer {name} of process {owner} cannot be used in another process"
+    )
 }
 
 // Returns whether the process in which a token is declares any integer.
@@ -270,31 +330,43 @@ fn other_owner<'t>(tokens: &[Token<'t>], name: &[u8]) -> Option<&'t [u8]> {
     None
 }
 
-fn amount(alloc: Global, tokens: &[Token], number: usize) -> Result<Wording, NoMemory> {
-    let is_capital = is_at(tokens, number.saturating_sub(1), Mark::Equal);
+fn amount(alloc: Global, tokens: &[Token], number: usize) -> Wording {
     let value = Shown(text_at(tokens, number));
-    let summary = if is_capital {
-        let name = Shown(text_at(tokens, number.saturating_sub(2)));
-        format!(in alloc;
-            "resource {} cannot have the capital {}: at most 1000000 is allowed",
-            name, value
-        )?
+    let summary = if is_at(tokens, number.saturating_sub(1), Mark::Equal) {
+        capital_in_words(
+            alloc,
+            value,
+            Shown(text_at(tokens, number.saturating_sub(2))),
+        )
     } else {
-        let name = Shown(text_at(tokens, number.saturating_add(2)));
-        format!(in alloc;
-            "a hold cannot be {} of {}: an amount is 1 to 1000000",
-            value, name
-        )?
+        hold_in_words(
+            alloc,
+            value,
+            Shown(text_at(tokens, number.saturating_add(2))),
+        )
     };
-    Ok(Wording::new(alloc, summary))
+    Wording::new(alloc, summary)
 }
 
-fn repeated(alloc: Global, tokens: &[Token], number: usize) -> Result<Wording, NoMemory> {
+fn capital_in_words(
+    alloc: Global,
+    value: Shown<'_>,
+    name: Shown<'_>,
+) -> Result<String, AllocError> {
+    format!(in alloc; "resource {name} cannot have the capital {value}: at most 1000000 is allowed")
+}
+
+fn hold_in_words(alloc: Global, value: Shown<'_>, name: Shown<'_>) -> Result<String, AllocError> {
+    format!(in alloc; "a hold cannot be {value} of {name}: an amount is 1 to 1000000")
+}
+
+fn repeated(alloc: Global, tokens: &[Token], number: usize) -> Wording {
     let name = Shown(text_at(tokens, number));
-    let summary = format!(in alloc; "the hold names resource {} twice", name)?;
+    let summary = format!(in alloc; "the hold names resource {name} twice");
     let mut wording = Wording::new(alloc, summary);
-    wording.note(format!(in alloc;
-        "hint: a hold has one amount of each resource: add the two amounts, or put one hold inside the other"
-    )?)?;
-    Ok(wording)
+    wording.note_text(
+        alloc,
+        "hint: a hold has one amount of each resource: add the two amounts, or put one hold inside the other",
+    );
+    wording
 }

@@ -40,18 +40,25 @@ fn unread_message(alloc: Global, bytes: &[u8], fault: ObjectFault) -> Result<Vec
     let Some(cause) = object_cause(fault) else {
         return Err(NoMemory);
     };
-    let summary = match fault {
-        ObjectFault::Limit(_) => format!(in alloc; "a number in this line is out of range")?,
-        _ => format!(in alloc; "an object cannot have this line here")?,
-    };
-    let mut wording = Wording::new(alloc, summary);
-    let hint = if bytes.starts_with(b"PBO ") {
+    let wording = Wording::noted(alloc, line_in_words(fault), hint_of(bytes));
+    worded(alloc, "", bytes, &cause, &wording)
+}
+
+// Returns in words what a line of an object has wrong.
+fn line_in_words(fault: ObjectFault) -> &'static str {
+    match fault {
+        ObjectFault::Limit(_) => "a number in this line is out of range",
+        _ => "an object cannot have this line here",
+    }
+}
+
+// Returns what is usually meant by bytes that are no object.
+fn hint_of(bytes: &[u8]) -> &'static str {
+    if bytes.starts_with(b"PBO ") {
         "hint: emit writes objects; docs/FORMATS.md, \"Object text\", lists their lines"
     } else {
         "hint: this is not an object: emit writes the object of a text"
-    };
-    wording.note(String::from_str(alloc, hint)?)?;
-    worded(alloc, "", bytes, &cause, &wording)
+    }
 }
 
 // Returns the message of code that is not safe.
@@ -62,19 +69,36 @@ fn unsafe_message(alloc: Global, bytes: &[u8], fault: VerifyFault) -> Result<Vec
     let Some(cause) = verify_cause(fault) else {
         return Err(NoMemory);
     };
-    let summary = String::from_str(alloc, in_words(fault))?;
-    let mut wording = Wording::new(alloc, summary);
-    if let Some(process) = faulty_process(alloc, bytes, fault)? {
-        let name = name_of(alloc, bytes, process)?;
-        match place_to_show(alloc, bytes, process, fault)? {
-            Some(place) => {
-                let label = format!(in alloc; "process {}, place {}: ", Shown(&name), place)?;
-                wording.spot(label, instruction_offset(bytes, process, place))?;
-            }
-            None => wording.note(format!(in alloc; "in process {}", Shown(&name))?)?,
-        }
-    }
+    let wording = unsafe_wording(alloc, bytes, fault)?;
     worded(alloc, "", bytes, &cause, &wording)
+}
+
+// Returns the wording of a fault of code.
+fn unsafe_wording(alloc: Global, bytes: &[u8], fault: VerifyFault) -> Result<Wording, NoMemory> {
+    match faulty_process(alloc, bytes, fault)? {
+        Some(process) => process_wording(alloc, bytes, process, fault),
+        None => Ok(Wording::of(alloc, in_words(fault))),
+    }
+}
+
+// Returns the wording of a fault of a process, with its place if it is at one.
+fn process_wording(
+    alloc: Global,
+    bytes: &[u8],
+    process: usize,
+    fault: VerifyFault,
+) -> Result<Wording, NoMemory> {
+    let place = place_to_show(alloc, bytes, process, fault)?;
+    let name = name_of(alloc, bytes, process)?;
+    let mut wording = Wording::of(alloc, in_words(fault));
+    match place {
+        Some(place) => wording.spot(
+            format!(in alloc; "process {}, place {place}: ", Shown(&name)),
+            instruction_offset(bytes, process, place),
+        ),
+        None => wording.note(format!(in alloc; "in process {}", Shown(&name))),
+    }
+    Ok(wording)
 }
 
 // Returns a fault of code in words.
@@ -104,21 +128,37 @@ fn fault_of_part(
     process: usize,
     kept: usize,
 ) -> Result<Option<VerifyFault>, NoMemory> {
+    match verify(alloc, part_of(alloc, bytes, process, kept)?) {
+        Ok(_) => Ok(None),
+        Err((_, VerifyFault::NoMemory)) => Err(NoMemory),
+        Err((_, fault)) => Ok(Some(fault)),
+    }
+}
+
+// Returns the code of which that is left.
+fn part_of(alloc: Global, bytes: &[u8], process: usize, kept: usize) -> Result<Code, NoMemory> {
     let Ok((mut code, _)) = read_any(alloc, bytes) else {
         return Err(NoMemory);
     };
-    for (p, other) in code.processes.iter_mut().enumerate() {
+    leave_part(alloc, &mut code.processes, process, kept)?;
+    Ok(code)
+}
+
+// Leaves one process, and of that the first instructions.
+fn leave_part(
+    alloc: Global,
+    processes: &mut [ProcessCode],
+    process: usize,
+    kept: usize,
+) -> Result<(), NoMemory> {
+    for (p, other) in processes.iter_mut().enumerate() {
         if p == process {
             cut(other, kept);
         } else {
             *other = nothing(alloc)?;
         }
     }
-    match verify(alloc, code) {
-        Ok(_) => Ok(None),
-        Err((_, VerifyFault::NoMemory)) => Err(NoMemory),
-        Err((_, fault)) => Ok(Some(fault)),
-    }
+    Ok(())
 }
 
 // Returns the code of a process that ends at once.
@@ -202,20 +242,19 @@ fn first_faulty_place(
     Ok(high.checked_sub(1))
 }
 
-// Returns the name of a process of an object.
+// Returns the name of a process of an object; nothing past the last one.
 fn name_of(alloc: Global, bytes: &[u8], process: usize) -> Result<Vec<u8>, NoMemory> {
-    let Ok((code, _)) = read_any(alloc, bytes) else {
-        return Err(NoMemory);
-    };
-    match process_name(&code, process) {
-        Some(name) => Ok(Vec::from_slice(alloc, name)?),
-        None => Ok(Vec::new(alloc)),
+    match read_any(alloc, bytes) {
+        Ok((code, _)) => Ok(Vec::from_slice(alloc, process_name(&code, process))?),
+        Err(_) => Err(NoMemory),
     }
 }
 
-fn process_name(code: &Code, process: usize) -> Option<&[u8]> {
-    let name = code.names.processes.get(process)?;
-    Some(name.as_slice())
+fn process_name(code: &Code, process: usize) -> &[u8] {
+    match code.names.processes.get(process) {
+        Some(name) => name.as_slice(),
+        None => b"",
+    }
 }
 
 // Returns the offset of the line of an instruction in an object.

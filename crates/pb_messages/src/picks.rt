@@ -65,35 +65,38 @@ fn unread_message(
         return Err(NoMemory);
     };
     let wording = match fault {
-        PickFault::NotPicks(at) => bad_line(alloc, lines, at)?,
+        PickFault::NotPicks(at) => bad_line(alloc, lines, at),
         PickFault::TooMany | PickFault::NoMemory => too_many(alloc, code, lines)?,
     };
     worded(alloc, LABEL, lines.text, &cause, &wording)
 }
 
 // Returns the wording of a line that is no pick line of this code.
-fn bad_line(alloc: Global, lines: Lines<'_>, at: usize) -> Result<Wording, NoMemory> {
-    let summary = format!(in alloc;
-        "this is not a pick line of the processes and arms before the line %%"
-    )?;
-    let mut wording = Wording::new(alloc, summary);
-    note_line(alloc, &mut wording, lines, at)?;
-    wording.note(format!(in alloc;
-        "hint: a pick line is P.a COUNT, such as p.0 12: a process, one of its arms, and a number from 1 to 10000000"
-    )?)?;
-    Ok(wording)
+fn bad_line(alloc: Global, lines: Lines<'_>, at: usize) -> Wording {
+    let mut wording = Wording::of(
+        alloc,
+        "this is not a pick line of the processes and arms before the line %%",
+    );
+    note_line(alloc, &mut wording, lines, at);
+    wording.note_text(
+        alloc,
+        "hint: a pick line is P.a COUNT, such as p.0 12: a process, one of its arms, and a number from 1 to 10000000",
+    );
+    wording
 }
 
 // Returns the wording of too many picks.
 fn too_many(alloc: Global, code: &Code, lines: Lines<'_>) -> Result<Wording, NoMemory>
     requires { KeepsLimits (code_view code.now) }
 {
-    let summary = format!(in alloc; "the pick lines up to this one say more than 10000000 picks")?;
-    let mut wording = Wording::new(alloc, summary);
     let at = line_past(alloc, code, lines.text)?;
-    wording.spot(String::new(alloc), at)?;
-    note_line(alloc, &mut wording, lines, at)?;
-    wording.note(format!(in alloc; "hint: record a shorter run: --steps 1000000")?)?;
+    let mut wording = Wording::of(
+        alloc,
+        "the pick lines up to this one say more than 10000000 picks",
+    );
+    wording.spot(Ok(String::new(alloc)), at);
+    note_line(alloc, &mut wording, lines, at);
+    wording.note_text(alloc, "hint: record a shorter run: --steps 1000000");
     Ok(wording)
 }
 
@@ -137,10 +140,11 @@ fn stop_message(
         return Err(NoMemory);
     };
     let mut wording = stop_wording(alloc, verified, lines.text, &stop)?;
-    note_line(alloc, &mut wording, lines, stop.line)?;
-    wording.note(format!(in alloc;
-        "hint: leave the pick out, or make others before it; debug shows the run up to here"
-    )?)?;
+    note_line(alloc, &mut wording, lines, stop.line);
+    wording.note_text(
+        alloc,
+        "hint: leave the pick out, or make others before it; debug shows the run up to here",
+    );
     let cause = Cause {
         code: b"H1",
         at: Some(stop.line),
@@ -149,13 +153,8 @@ fn stop_message(
 }
 
 // Notes which line of the input the pick line at an offset is.
-fn note_line(
-    alloc: Global,
-    wording: &mut Wording,
-    lines: Lines<'_>,
-    at: usize,
-) -> Result<(), NoMemory> {
+fn note_line(alloc: Global, wording: &mut Wording, lines: Lines<'_>, at: usize) {
     let line = place_of(lines.text, at.min(lines.text.len())).line;
     let number = line.saturating_add(lines.before);
-    wording.note(format!(in alloc; "line {number} of the input")?)
+    wording.note(format!(in alloc; "line {number} of the input"));
 }

@@ -2,14 +2,14 @@
 
 use crate::wording::{Shown, Wording};
 use pb_banker::Banker;
-use pb_base::{Bundle, Names, NoMemory, Pick};
+use pb_base::{Bundle, Names, NoMemory, Pair, Pick};
 use pb_code::{Code, Instr};
 use pb_history::CountedPick;
 use pb_history::replay::replay_counted;
 use pb_machine::{Machine, Thread, ThreadState};
 use pb_picks::read_picks;
 use pb_verifier::Verified;
-use std::alloc::Global;
+use std::alloc::{AllocError, Global};
 
 /// A pick of pick lines.
 #[derive(Clone, Copy)]
@@ -62,28 +62,42 @@ pub fn stop_wording(
     lines: &[u8],
     stop: &Stop,
 ) -> Result<Wording, NoMemory> {
-    let names = verified.names();
-    let arm = arm_name(alloc, names, stop.pick)?;
-    let summary = format!(in alloc; "{arm} cannot make pick {}", stop.number)?;
+    let arm = arm_name(alloc, verified.names(), stop.pick)?;
+    arm_wording(alloc, verified, lines, stop, &arm)
+}
+
+// Returns the same, from the name of the arm.
+fn arm_wording(
+    alloc: Global,
+    verified: &Verified,
+    lines: &[u8],
+    stop: &Stop,
+    arm: &String,
+) -> Result<Wording, NoMemory> {
+    let before = lines_before(alloc, lines, stop, arm)?;
+    let summary = format!(in alloc; "{arm} cannot make pick {}", stop.number);
     let mut wording = Wording::new(alloc, summary);
-    let before = lines_before(alloc, lines, stop, &arm)?;
     if let Some(machine) = machine_after(alloc, verified, &before) {
-        note_why(alloc, &mut wording, verified.code(), &machine, stop.pick)?;
+        note_why(alloc, &mut wording, verified.code(), &machine, stop.pick);
     }
     Ok(wording)
 }
 
 // Returns the machine behind the picks of pick lines; none if there is too little memory.
 fn machine_after(alloc: Global, verified: &Verified, lines: &[u8]) -> Option<Machine> {
-    let picks = read_picks(alloc, verified.code(), lines).ok()?;
-    let (machine, _) = replay_counted(alloc, verified, &picks).ok()?;
-    Some(machine)
+    let Ok(picks) = read_picks(alloc, verified.code(), lines) else {
+        return None;
+    };
+    match replay_counted(alloc, verified, &picks) {
+        Ok((machine, _)) => Some(machine),
+        Err(_) => None,
+    }
 }
 
 // Returns the name of the arm of a pick.
-fn arm_name(alloc: Global, names: &Names, pick: Pick) -> Result<String, NoMemory> {
+fn arm_name(alloc: Global, names: &Names, pick: Pick) -> Result<String, AllocError> {
     let process = Shown(name_at(&names.processes, pick.process));
-    Ok(format!(in alloc; "{process}.{}", pick.arm)?)
+    format!(in alloc; "{process}.{}", pick.arm)
 }
 
 // Returns the name with this number; nothing past the end.
@@ -110,29 +124,22 @@ fn lines_before(
 }
 
 // Notes why the arm of a pick does not go on.
-fn note_why(
-    alloc: Global,
-    wording: &mut Wording,
-    code: &Code,
-    machine: &Machine,
-    pick: Pick,
-) -> Result<(), NoMemory> {
+fn note_why(alloc: Global, wording: &mut Wording, code: &Code, machine: &Machine, pick: Pick) {
     let process = usize::from(pick.process);
     let arm = usize::from(pick.arm);
     if machine.processes() <= process {
-        return Ok(());
+        return;
     }
     let standing = machine.proc(process);
     if standing.arms() <= arm {
-        return Ok(());
+        return;
     }
     let thread = standing.thread(arm);
     match asked(code, process, thread) {
         Some(bundle) if !standing.faulted() => {
-            let note = request_note(alloc, &code.names, machine.banker(), bundle)?;
-            wording.note(note)
+            wording.note(request_note(alloc, &code.names, machine.banker(), bundle));
         }
-        _ => wording.note(String::from_str(alloc, stands(standing.faulted(), thread.state()))?),
+        _ => wording.note_text(alloc, stands(standing.faulted(), thread.state())),
     }
 }
 
@@ -163,22 +170,37 @@ fn request_note(
     names: &Names,
     banker: &Banker,
     bundle: &Bundle,
-) -> Result<String, NoMemory> {
+) -> Result<String, AllocError> {
     for i in 0..bundle.len() {
         let pair = bundle.get(i);
-        let resource = usize::from(pair.resource);
-        if resource < banker.resources() {
-            let cash = banker.cash(resource);
-            if cash < pair.amount {
-                let name = Shown(name_at(&names.resources, pair.resource));
-                return Ok(format!(in alloc;
-                    "it asks for {} of {name}, and the cash is {cash}",
-                    pair.amount
-                )?);
-            }
+        if let Some(cash) = short_cash(banker, pair) {
+            return cash_note(alloc, names, pair, cash);
         }
     }
-    Ok(format!(in alloc;
-        "the cash is enough for its request, but if it were granted some processes could never finish"
-    )?)
+    String::from_str(
+        alloc,
+        "the cash is enough for its request, but if it were granted some processes could never finish",
+    )
+}
+
+// Returns the cash of a resource, if it is less than what is asked for.
+fn short_cash(banker: &Banker, asked: Pair) -> Option<u32> {
+    let resource = usize::from(asked.resource);
+    if banker.resources() <= resource {
+        return None;
+    }
+    let cash = banker.cash(resource);
+    if cash < asked.amount {
+        Some(cash)
+    } else {
+        None
+    }
+}
+
+fn cash_note(alloc: Global, names: &Names, asked: Pair, cash: u32) -> Result<String, AllocError> {
+    let name = Shown(name_at(&names.resources, asked.resource));
+    format!(in alloc;
+        "it asks for {} of {name}, and the cash is {cash}",
+        asked.amount
+    )
 }

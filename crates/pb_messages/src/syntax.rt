@@ -5,7 +5,7 @@ use crate::wording::{Shown, Wording};
 use pb_base::NoMemory;
 use pb_lexer::{Kind, LexFault, Mark, Token, lex};
 use pb_parser::{ParseFault, parse};
-use std::alloc::Global;
+use std::alloc::{AllocError, Global};
 
 // What may stand at a place, tried by one spelling of it.
 struct Probe {
@@ -145,68 +145,110 @@ struct Phrases {
 pub fn parse_wording(alloc: Global, text: &[u8], fault: ParseFault) -> Result<Wording, NoMemory> {
     match fault {
         ParseFault::Syntax(at) => syntax_wording(alloc, text, at),
-        ParseFault::TooDeep => too_deep(alloc),
-        ParseFault::TooLarge => {
-            let summary = format!(in alloc;
-                "the program has more than 16384 expressions, statements and processes"
-            )?;
-            Ok(Wording::new(alloc, summary))
-        }
+        ParseFault::TooDeep => Ok(too_deep(alloc)),
+        ParseFault::TooLarge => Ok(Wording::of(
+            alloc,
+            "the program has more than 16384 expressions, statements and processes",
+        )),
         ParseFault::NoMemory => Err(NoMemory),
     }
 }
 
-fn too_deep(alloc: Global) -> Result<Wording, NoMemory> {
-    let summary = format!(in alloc; "the text is nested too deeply")?;
-    let mut wording = Wording::new(alloc, summary);
-    wording.note(format!(in alloc;
-        "hint: the limits are 256 open brackets and statements, 256 of `-` and `not` in a row, and a tree 200 high"
-    )?)?;
-    Ok(wording)
+fn too_deep(alloc: Global) -> Wording {
+    Wording::noted(
+        alloc,
+        "the text is nested too deeply",
+        "hint: the limits are 256 open brackets and statements, 256 of `-` and `not` in a row, and a tree 200 high",
+    )
 }
 
 fn syntax_wording(alloc: Global, text: &[u8], at: usize) -> Result<Wording, NoMemory> {
-    let tokens = match lex(alloc, text) {
-        Ok(tokens) => tokens,
-        Err(_) => return Err(NoMemory),
-    };
-    let found = token_at(&tokens, at);
-    let summary = match found {
-        Some(number) => { format!(in alloc; "unexpected `{}`", Shown(text_at(&tokens, number)))? }
-        None => format!(in alloc; "unexpected end of the text")?,
-    };
-    let mut wording = Wording::new(alloc, summary);
-    if let Some(expected) = expected(alloc, &text[..at.min(text.len())])? {
-        wording.note(expected)?;
+    let expected = expected(alloc, &text[..at.min(text.len())])?;
+    match lex(alloc, text) {
+        Ok(tokens) => Ok(unexpected(alloc, &tokens, token_at(&tokens, at), expected)),
+        Err(_) => Err(NoMemory),
     }
-    if let Some(number) = found {
-        if let Some(hint) = usual_mistake(&tokens, number) {
-            wording.note(format!(in alloc; "hint: {}", hint)?)?;
-        }
+}
+
+// Returns the wording of the token with a number, or of the end, which cannot stand where it is, with the line that tells
+// what may.
+fn unexpected(
+    alloc: Global,
+    tokens: &[Token],
+    found: Option<usize>,
+    expected: Option<String>,
+) -> Wording {
+    let mut wording = Wording::new(alloc, unexpected_in_words(alloc, tokens, found));
+    if let Some(expected) = expected {
+        wording.note(Ok(expected));
     }
-    Ok(wording)
+    if let Some(hint) = usual_mistake(tokens, found) {
+        wording.hint(alloc, hint);
+    }
+    wording
+}
+
+fn unexpected_in_words(
+    alloc: Global,
+    tokens: &[Token],
+    found: Option<usize>,
+) -> Result<String, AllocError> {
+    match found {
+        Some(number) => format!(in alloc; "unexpected `{}`", Shown(text_at(tokens, number))),
+        None => String::from_str(alloc, "unexpected end of the text"),
+    }
 }
 
 // Returns the line that tells what may stand behind the first part of a text; nothing if no token may.
 fn expected(alloc: Global, text: &[u8]) -> Result<Option<String>, NoMemory> {
-    let phrases = Phrases {
-        statement: may_follow(alloc, text, STATEMENT)?,
-        expression: may_follow(alloc, text, EXPRESSION)?,
-        operator: may_follow(alloc, text, OPERATOR)?,
-    };
+    let phrases = phrases_behind(alloc, text)?;
     let mut line = String::from_str(alloc, "expected: ")?;
     let empty = line.len();
-    put_choice(&mut line, empty, phrases.statement, "a statement")?;
-    put_choice(&mut line, empty, phrases.expression, "an expression")?;
-    put_choice(&mut line, empty, phrases.operator, "an operator")?;
-    for probe in &PROBES {
-        let is_told = is_told(probe.part_of, phrases) && may_follow(alloc, text, probe.spelling)?;
-        put_choice(&mut line, empty, is_told, probe.name)?;
-    }
+    put_choices(alloc, &mut line, text, phrases)?;
     if line.len() == empty {
         return Ok(None);
     }
     Ok(Some(line))
+}
+
+// Returns which phrases may begin behind the first part of a text.
+fn phrases_behind(alloc: Global, text: &[u8]) -> Result<Phrases, NoMemory> {
+    Ok(Phrases {
+        statement: may_follow(alloc, text, STATEMENT)?,
+        expression: may_follow(alloc, text, EXPRESSION)?,
+        operator: may_follow(alloc, text, OPERATOR)?,
+    })
+}
+
+// Puts what may stand behind the first part of a text behind the beginning of a line.
+fn put_choices(
+    alloc: Global,
+    line: &mut String,
+    text: &[u8],
+    phrases: Phrases,
+) -> Result<(), NoMemory> {
+    let empty = line.len();
+    put_choice(line, empty, phrases.statement, "a statement")?;
+    put_choice(line, empty, phrases.expression, "an expression")?;
+    put_choice(line, empty, phrases.operator, "an operator")?;
+    for probe in &PROBES {
+        put_probe(alloc, line, empty, text, phrases, probe)?;
+    }
+    Ok(())
+}
+
+// Puts what a probe tries behind a line that was `empty` bytes long, if it may stand behind the first part of a text and
+// is told beside these phrases.
+fn put_probe(
+    alloc: Global,
+    line: &mut String,
+    empty: usize,
+    text: &[u8],
+    phrases: Phrases,
+    probe: &Probe,
+) -> Result<(), NoMemory> {
+    let is_one = is_told(probe.part_of, phrases) && may_follow(alloc, text, probe.spelling)?;
+    put_choice(line, empty, is_one, probe.name)
 }
 
 // Puts one more choice behind a line that was `empty` bytes long, if it is one.
@@ -237,21 +279,27 @@ fn may_follow(alloc: Global, text: &[u8], token: &str) -> Result<bool, NoMemory>
     let mut longer = Vec::from_slice(alloc, text)?;
     longer.push(b' ')?;
     longer.extend_from_slice(token.as_bytes())?;
-    let tokens = match lex(alloc, &longer) {
+    begins_program(alloc, &longer)
+}
+
+// Returns whether some program begins with this text.
+fn begins_program(alloc: Global, text: &[u8]) -> Result<bool, NoMemory> {
+    let tokens = match lex(alloc, text) {
         Ok(tokens) => tokens,
         Err(LexFault::NoMemory) => return Err(NoMemory),
         Err(_) => return Ok(false),
     };
     match parse(alloc, &tokens) {
         Ok(_) => Ok(true),
-        Err(ParseFault::Syntax(at)) => Ok(at == longer.len()),
+        Err(ParseFault::Syntax(at)) => Ok(at == text.len()),
         Err(ParseFault::NoMemory) => Err(NoMemory),
         Err(_) => Ok(false),
     }
 }
 
-// Returns what is usually meant if this token cannot stand.
-fn usual_mistake(tokens: &[Token], number: usize) -> Option<&'static str> {
+// Returns what is usually meant if the token with a number cannot stand.
+fn usual_mistake(tokens: &[Token], found: Option<usize>) -> Option<&'static str> {
+    let number = found?;
     let before = number.checked_sub(1)?;
     if is_at(tokens, before, Mark::Semicolon) && closes(tokens, number) {
         return Some("a semicolon separates statements; the last one has none");

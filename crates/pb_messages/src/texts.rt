@@ -14,7 +14,7 @@ use bumpalo::Bump;
 use pb_base::NoMemory;
 use pb_codegen::{CompileFault, Compiled, analyze, compile};
 use pb_lexer::{LexFault, lex};
-use std::alloc::Global;
+use std::alloc::{AllocError, Global};
 
 /// Returns the message of the first fault of a text, or its code if there is none. A label is put before the line of the
 /// place.
@@ -79,40 +79,39 @@ fn text_wording(alloc: Global, text: &[u8], fault: &CompileFault) -> Result<Word
 
 fn lex_wording(alloc: Global, text: &[u8], fault: LexFault) -> Result<Wording, NoMemory> {
     match fault {
-        LexFault::TooLong => {
-            let length = text.len();
-            let summary = format!(in alloc;
-                "the text is {length} bytes long, and at most 65536 are allowed"
-            )?;
-            Ok(Wording::new(alloc, summary))
-        }
-        LexFault::BadByte(at) => bad_byte(alloc, text.get(at).copied().unwrap_or(0)),
-        LexFault::NumberTooLarge(_) => {
-            let summary = format!(in alloc; "the number is greater than 9223372036854775807")?;
-            let mut wording = Wording::new(alloc, summary);
-            wording.note(format!(in alloc;
-                "hint: the smallest integer is written -9223372036854775807 - 1"
-            )?)?;
-            Ok(wording)
-        }
-        LexFault::NameTooLong(_) => {
-            let summary = format!(in alloc; "the name is longer than 32 bytes")?;
-            Ok(Wording::new(alloc, summary))
-        }
+        LexFault::TooLong => Ok(too_long(alloc, text.len())),
+        LexFault::BadByte(at) => Ok(bad_byte(alloc, text.get(at).copied().unwrap_or(0))),
+        LexFault::NumberTooLarge(_) => Ok(Wording::noted(
+            alloc,
+            "the number is greater than 9223372036854775807",
+            "hint: the smallest integer is written -9223372036854775807 - 1",
+        )),
+        LexFault::NameTooLong(_) => Ok(Wording::of(alloc, "the name is longer than 32 bytes")),
         LexFault::NoMemory => Err(NoMemory),
     }
 }
 
+// Returns the wording of a text of more bytes than are allowed.
+fn too_long(alloc: Global, length: usize) -> Wording {
+    let summary = format!(in alloc;
+        "the text is {length} bytes long, and at most 65536 are allowed"
+    );
+    Wording::new(alloc, summary)
+}
+
 // Returns the wording of a byte that is not allowed, or at which nothing begins.
-fn bad_byte(alloc: Global, byte: u8) -> Result<Wording, NoMemory> {
-    let summary = if 32 <= byte && byte <= 126 {
-        format!(in alloc; "unexpected character `{}`", Shown(&[byte]))?
+fn bad_byte(alloc: Global, byte: u8) -> Wording {
+    let mut wording = Wording::new(alloc, byte_in_words(alloc, byte));
+    wording.hint(alloc, usual_meaning(byte));
+    wording
+}
+
+fn byte_in_words(alloc: Global, byte: u8) -> Result<String, AllocError> {
+    if 32 <= byte && byte <= 126 {
+        format!(in alloc; "unexpected character `{}`", Shown(&[byte]))
     } else {
-        format!(in alloc; "the byte {byte} is not allowed in a text")?
-    };
-    let mut wording = Wording::new(alloc, summary);
-    wording.note(format!(in alloc; "hint: {}", usual_meaning(byte))?)?;
-    Ok(wording)
+        format!(in alloc; "the byte {byte} is not allowed in a text")
+    }
 }
 
 // Returns what is usually meant by a byte that is not allowed.

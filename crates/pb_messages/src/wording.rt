@@ -7,7 +7,8 @@ use crate::cause::Cause;
 use crate::excerpt::{compose, printable_byte, show_place};
 use crate::place::place_of;
 use pb_base::NoMemory;
-use std::alloc::Global;
+use pb_lexer::Token;
+use std::alloc::{AllocError, Global};
 use std::fmt;
 
 /// Bytes of an input, as a message shows them: a carriage return as a space, and a question mark for each other byte that
@@ -33,37 +34,75 @@ pub struct Spot {
     pub at: usize,
 }
 
-/// What a message says beside the code and the place of a fault.
+/// What a message says beside the code and the place of a fault. Parts are added without an answer; if there was too
+/// little memory for one of them it makes no message.
 #[derive(Drop)]
 pub struct Wording {
-    /// The fault in words, without a line feed.
-    pub summary: String,
-    /// Other places.
-    pub spots: Vec<Spot>,
-    /// What is expected or usually meant, a line each.
-    pub notes: Vec<String>,
+    // The fault in words, without a line feed.
+    summary: String,
+    // Other places.
+    spots: Vec<Spot>,
+    // What is expected or usually meant, a line each.
+    notes: Vec<String>,
+    // Whether there was memory for all parts.
+    is_whole: bool,
 }
 
 impl Wording {
     /// Returns the wording of a fault with no other place and no note.
-    pub fn new(alloc: Global, summary: String) -> Wording {
+    pub fn new(alloc: Global, summary: Result<String, AllocError>) -> Wording {
+        let is_whole = summary.is_ok();
         Wording {
-            summary,
+            summary: summary.unwrap_or(String::new(alloc)),
             spots: Vec::new(alloc),
             notes: Vec::new(alloc),
+            is_whole,
         }
     }
 
+    /// Returns the wording of a fault in these words, with no other place and no note.
+    pub fn of(alloc: Global, summary: &str) -> Wording {
+        Wording::new(alloc, String::from_str(alloc, summary))
+    }
+
+    /// Returns the wording of a fault in these words, with one note.
+    pub fn noted(alloc: Global, summary: &str, note: &str) -> Wording {
+        let mut wording = Wording::of(alloc, summary);
+        wording.note_text(alloc, note);
+        wording
+    }
+
     /// Adds a note.
-    pub fn note(&mut self, note: String) -> Result<(), NoMemory> {
-        self.notes.push(note)?;
-        Ok(())
+    pub fn note(&mut self, note: Result<String, AllocError>) {
+        match note {
+            Ok(note) => self.is_whole &= self.notes.push(note).is_ok(),
+            Err(_) => self.is_whole = false,
+        }
+    }
+
+    /// Adds a note in these words.
+    pub fn note_text(&mut self, alloc: Global, note: &str) {
+        self.note(String::from_str(alloc, note));
+    }
+
+    /// Adds a note that says what is usually meant.
+    pub fn hint(&mut self, alloc: Global, hint: &str) {
+        self.note(format!(in alloc; "hint: {hint}"));
     }
 
     /// Adds another place.
-    pub fn spot(&mut self, label: String, at: usize) -> Result<(), NoMemory> {
-        self.spots.push(Spot { label, at })?;
-        Ok(())
+    pub fn spot(&mut self, label: Result<String, AllocError>, at: usize) {
+        match label {
+            Ok(label) => self.is_whole &= self.spots.push(Spot { label, at }).is_ok(),
+            Err(_) => self.is_whole = false,
+        }
+    }
+
+    /// Adds the place of a token, if there is one.
+    pub fn spot_token(&mut self, alloc: Global, label: &str, token: Option<&Token<'_>>) {
+        if let Some(token) = token {
+            self.spot(String::from_str(alloc, label), token.start());
+        }
     }
 
     // Returns the offset at which the message points first.
@@ -87,6 +126,9 @@ pub fn worded(
 ) -> Result<Vec<u8>, NoMemory>
     ensures { IfOk result (λ message. IsMessage label.now text.now cause.now message.items) }
 {
+    if !wording.is_whole {
+        return Err(NoMemory);
+    }
     let shown = show_cause(alloc, label, text, cause)?;
     let details = details(alloc, label, text, cause, wording)?;
     compose(alloc, cause, wording.summary.as_bytes(), &shown, &details)
@@ -111,17 +153,58 @@ fn details(
     wording: &Wording,
 ) -> Result<Vec<u8>, NoMemory> {
     let mut out = Vec::new(alloc);
+    put_details(alloc, &mut out, label, text, cause, wording)?;
+    Ok(out)
+}
+
+// Puts the lines behind the place of a fault behind a message.
+fn put_details(
+    alloc: Global,
+    out: &mut Vec<u8>,
+    label: &str,
+    text: &[u8],
+    cause: &Cause,
+    wording: &Wording,
+) -> Result<(), NoMemory> {
     for spot in &wording.spots {
-        let label = format!(in alloc; "{}{}", spot.label, label)?;
-        let shown = show_place(alloc, label.as_bytes(), text, spot.at.min(text.len()))?;
-        out.extend_from_slice(&shown)?;
+        put_spot(alloc, out, label, text, spot)?;
     }
     let first = place_of(text, wording.first_place(cause).min(text.len()));
-    let width = format!(in alloc; "{}", first.line)?.len();
+    let width = decimal_width(alloc, first.line)?;
     for note in &wording.notes {
-        put_note(&mut out, width, note)?;
+        put_note(out, width, note)?;
     }
-    Ok(out)
+    Ok(())
+}
+
+// Puts another place behind a message.
+fn put_spot(
+    alloc: Global,
+    out: &mut Vec<u8>,
+    label: &str,
+    text: &[u8],
+    spot: &Spot,
+) -> Result<(), NoMemory> {
+    let label = format!(in alloc; "{}{}", spot.label, label)?;
+    put_place(alloc, out, &label, text, spot.at)
+}
+
+// Puts a place of a text behind a message, as `show_place` shows it.
+fn put_place(
+    alloc: Global,
+    out: &mut Vec<u8>,
+    label: &String,
+    text: &[u8],
+    at: usize,
+) -> Result<(), NoMemory> {
+    let shown = show_place(alloc, label.as_bytes(), text, at.min(text.len()))?;
+    out.extend_from_slice(&shown)?;
+    Ok(())
+}
+
+// Returns how many digits a number has.
+fn decimal_width(alloc: Global, number: usize) -> Result<usize, NoMemory> {
+    Ok(format!(in alloc; "{number}")?.len())
 }
 
 // Puts a note behind a message, behind a margin of this width and a space.

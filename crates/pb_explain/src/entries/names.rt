@@ -2,7 +2,7 @@
 
 use super::{Entry, Example, ExampleInput};
 
-pub const N1: Entry = Entry {
+pub static N1: Entry = Entry {
     summary: "too many of a kind",
     meaning: "The word behind N1 says of what: over 64 `processes`, over 16 `resources`, over
 64 `integers` in a process, over 16 arms in one parbegin (`fork`), or over 64
@@ -25,7 +25,7 @@ end
 several between `begin` and `end`, or use an integer again.",
 };
 
-pub const N2: Entry = Entry {
+pub static N2: Entry = Entry {
     summary: "a name that is declared twice",
     meaning: "Two resources, two processes, or two integers of one process have the same name.
 The place is that of the second declaration.",
@@ -45,7 +45,7 @@ end
 may an integer, a resource and a process.",
 };
 
-pub const N3: Entry = Entry {
+pub static N3: Entry = Entry {
     summary: "a name that is not declared",
     meaning: "The name at this place is used as an integer or as a resource, and its process has
 no such integer, or the program no such resource. Capital letters count, and the
@@ -66,7 +66,7 @@ end
 `resource tape = 2;`.",
 };
 
-pub const N4: Entry = Entry {
+pub static N4: Entry = Entry {
     summary: "an amount that is out of range",
     meaning: "There are 0 to 1,000,000 of a resource, and a hold has 1 to 1,000,000 of each of
 its resources. The place is that of the number.",
@@ -86,7 +86,7 @@ end
 and `od`.",
 };
 
-pub const N6: Entry = Entry {
+pub static N6: Entry = Entry {
     summary: "a resource that is named twice in a hold",
     meaning: "A hold names each of its resources once, with the whole amount. The place is that
 of the second name.",
@@ -105,7 +105,7 @@ end
     mend: "Add the amounts, as in `hold 2 of tape do`.",
 };
 
-pub const C1: Entry = Entry {
+pub static C1: Entry = Entry {
     summary: "a claim over the capital",
     meaning: "The claim of a process is the most of a resource that it may ever hold, read off
 its text. This one is more than there is, so that the banker could not promise
@@ -130,7 +130,7 @@ end
 shows the claims of all processes, whatever the capital is.",
 };
 
-pub const E1: Entry = Entry {
+pub static E1: Entry = Entry {
     summary: "an object that the first format cannot have",
     meaning: "Only `emit --object 1` writes this: in the first format of objects a `take` has
 one resource, and there are at most 32 processes.",

@@ -2,7 +2,7 @@
 
 use super::{Entry, Example, ExampleInput};
 
-pub const O1: Entry = Entry {
+pub static O1: Entry = Entry {
     summary: "a line of an object that is not of its form",
     meaning: "The line that begins at this place is not the line that an object has there, is
 not ended by a line feed, is missing, or stands behind the end. Each object has one
@@ -21,7 +21,7 @@ an object was changed by hand, look at this line: docs/FORMATS.md, \"Object text
 has the form of each.",
 };
 
-pub const O2: Entry = Entry {
+pub static O2: Entry = Entry {
     summary: "a number of an object that is out of range",
     meaning: "The line that begins at this place has its form, and a number in it is out of
 range: an object has at most 16 resources and 64 processes, and a process at most
@@ -40,7 +40,7 @@ resources 17
 text\".",
 };
 
-pub const V1: Entry = Entry {
+pub static V1: Entry = Entry {
     summary: "arms that are not sound",
     meaning: "Arm 0 does not begin at place 0, the places at which arms begin do not rise, a jump
 leaves its arm, or the last instruction of an arm is neither `end` nor `jump`.",
@@ -65,7 +65,7 @@ code 2
     mend: "End each arm with `end`, and let jumps stay within the places of their arm.",
 };
 
-pub const V2: Entry = Entry {
+pub static V2: Entry = Entry {
     summary: "operands that do not fit",
     meaning: "There is no one number of operands for a place that is reached: an instruction
 takes an operand that is not there, two ways to a place bring different numbers of
@@ -92,7 +92,7 @@ code 2
 to a place.",
 };
 
-pub const V3: Entry = Entry {
+pub static V3: Entry = Entry {
     summary: "an integer or a resource that is not there",
     meaning: "An instruction names an integer or a resource by a number that the object does not
 have. Both are counted from 0.",
@@ -118,7 +118,7 @@ code 3
     mend: "Use a smaller number, or raise the number of integers in the line `vars`.",
 };
 
-pub const V4: Entry = Entry {
+pub static V4: Entry = Entry {
     summary: "holdings that do not fit",
     meaning: "There is no one list of what is held at a place that is reached: a `give` does not
 return what was taken last, two ways to a place hold different lists, or more than
@@ -146,7 +146,7 @@ code 2
 still open, on each way to it.",
 };
 
-pub const V5: Entry = Entry {
+pub static V5: Entry = Entry {
     summary: "operands or holdings that are left at an end",
     meaning: "An arm can come to its `end` with operands that nothing took, or with something that
 it did not give back.",
@@ -171,7 +171,7 @@ code 2
     mend: "Print or store each operand, and give back what was taken, before the `end`.",
 };
 
-pub const V6: Entry = Entry {
+pub static V6: Entry = Entry {
     summary: "forks and joins that do not fit",
     meaning: "A `fork` has no `join` of the same arms right behind it or a `join` no such `fork`
 before it, a jump goes to a `join`, a fork starts an arm that is not there or not
@@ -199,7 +199,7 @@ code 3
     mend: "Write each `fork` and its `join` as a pair, and start each arm by one of them.",
 };
 
-pub const V7: Entry = Entry {
+pub static V7: Entry = Entry {
     summary: "a process that may hold more than it claims",
     meaning: "The most of a resource that the code of a process may hold at once is more than the
 claim that the object says. The banker lends by claims, so a claim that is too small
@@ -227,7 +227,7 @@ code 3
     mend: "Raise the claim in the line `claims`, or take less.",
 };
 
-pub const V8: Entry = Entry {
+pub static V8: Entry = Entry {
     summary: "a claim over the capital, in an object",
     meaning: "The line `claims` of a process claims more of a resource than there is.",
     example: Some(Example {
@@ -251,7 +251,7 @@ code 1
     mend: "Lower the claim, or raise the capital in the line `resource`.",
 };
 
-pub const V9: Entry = Entry {
+pub static V9: Entry = Entry {
     summary: "code that is out of its limits",
     meaning: "A count, a number or a name of the code is not one that an object may have. No input
 of `parbegin` is refused so, since the lines of an object are looked at first (O1

@@ -2,7 +2,7 @@
 
 use super::{Entry, Example, ExampleInput};
 
-pub const K1: Entry = Entry {
+pub static K1: Entry = Entry {
     summary: "a pick line that is not of its form",
     meaning: "A pick line is `P.a COUNT`: the name of a process, a point, the number of one of its
 arms, a space, and how often the pick is made, from 1 to 10,000,000. This one is not
@@ -22,7 +22,7 @@ p.1 1
 body. Nothing but pick lines may follow the line `%%`, no empty line either.",
 };
 
-pub const K2: Entry = Entry {
+pub static K2: Entry = Entry {
     summary: "too many picks",
     meaning: "The counts of the pick lines are more than 10,000,000 in all.",
     example: Some(Example {
@@ -39,7 +39,7 @@ p.0 1
     mend: "Make fewer picks: record a shorter run, by `--steps`.",
 };
 
-pub const H1: Entry = Entry {
+pub static H1: Entry = Entry {
     summary: "a pick that is not enabled",
     meaning: "The pick with this number, counted from 0, cannot be made: its arm has not been
 started or has ended, its process has ended or faulted, it waits at the `parend` for
@@ -70,9 +70,10 @@ b.0 1
 one, `why` says why an arm does not go on.",
 };
 
-pub const G1: Entry = Entry {
+pub static G1: Entry = Entry {
     summary: "a position that there is not",
-    meaning: "The command of `debug` would go before position 0, or behind the last pick.",
+    meaning: "The command of `debug` would go before position 0, or behind the last pick; or it is
+`pick`, at another position than the last, or behind 10,000,000 picks.",
     example: Some(Example {
         command: "debug",
         input: ExampleInput::Text(
@@ -89,7 +90,7 @@ to 3
 that there are.",
 };
 
-pub const G2: Entry = Entry {
+pub static G2: Entry = Entry {
     summary: "no process of this name",
     meaning: "The command of `debug` names a process that the program does not have.",
     example: Some(Example {
@@ -107,7 +108,7 @@ vars q
 text. Capital letters count.",
 };
 
-pub const G3: Entry = Entry {
+pub static G3: Entry = Entry {
     summary: "no such arm",
     meaning: "The command of `debug` names an arm that its process does not have.",
     example: Some(Example {
@@ -124,7 +125,7 @@ line p.1
     mend: "`threads P` lists the arms of process P. Arm 0 is its body.",
 };
 
-pub const G4: Entry = Entry {
+pub static G4: Entry = Entry {
     summary: "not a command",
     meaning: "The line is not a command of `debug`, or it names an integer that the process does
 not have. Commands have single spaces, and numbers of at most eight digits.",

@@ -2,7 +2,7 @@
 
 use super::{Entry, Example, ExampleInput};
 
-pub const L1: Entry = Entry {
+pub static L1: Entry = Entry {
     summary: "the text is too long",
     meaning: "A text has at most 65,536 bytes, blanks and comments included. Of a longer one
 nothing else is looked at.",
@@ -18,7 +18,7 @@ nothing else is looked at.",
 repeated, or split the program.",
 };
 
-pub const L2: Entry = Entry {
+pub static L2: Entry = Entry {
     summary: "a byte that is not allowed",
     meaning: "The byte at this place is none that a text may have (32 to 126, tab, line feed
 and carriage return), or one at which no token, blank or comment begins, such as
@@ -36,7 +36,7 @@ before a comment. Accented letters and long dashes are not allowed in a comment
 either.",
 };
 
-pub const L3: Entry = Entry {
+pub static L3: Entry = Entry {
     summary: "a number that is too large",
     meaning: "A number of a text is at most 9223372036854775807, the greatest integer of 64
 bits with a sign. The place is that of its first digit.",
@@ -51,7 +51,7 @@ bits with a sign. The place is that of its first digit.",
     mend: "Write a smaller number. The least integer is -9223372036854775807 - 1.",
 };
 
-pub const L4: Entry = Entry {
+pub static L4: Entry = Entry {
     summary: "a name that is too long",
     meaning: "A name has at most 32 bytes. The place is that of its first byte.",
     example: Some(Example {
@@ -69,7 +69,7 @@ end
     mend: "Shorten the name, at each of its uses too.",
 };
 
-pub const P1: Entry = Entry {
+pub static P1: Entry = Entry {
     summary: "the text is not a program",
     meaning: "The tokens do not follow the grammar. The place is the start of the first token
 that cannot stand there behind those before it; if the text only ends too early,
@@ -89,7 +89,7 @@ missing, or `=` may be written for `:=`. Integers are declared right behind the
 in docs/LANGUAGE.md.",
 };
 
-pub const P2: Entry = Entry {
+pub static P2: Entry = Entry {
     summary: "nested too deep",
     meaning: "More than 256 brackets are open at once, where `(`, `begin`, `if`, `while`, `hold`
 and `parbegin` each open one; or more than 256 signs, `-` or `not`, follow one
@@ -112,7 +112,7 @@ and an operator or a statement is one higher than its highest part.",
 200 terms is too high as well: add it up in several statements.",
 };
 
-pub const P3: Entry = Entry {
+pub static P3: Entry = Entry {
     summary: "too many nodes",
     meaning: "A program has at most 16,384 nodes, which are its expressions, statements and
 processes.",
@@ -127,7 +127,7 @@ processes.",
     mend: "Write a loop in place of statements that are repeated, or split the program.",
 };
 
-pub const INPUT: Entry = Entry {
+pub static INPUT: Entry = Entry {
     summary: "the input is too long",
     meaning: "An input has at most 4,194,304 bytes. With `debug --live` this is so of the text
 and of the pick lines, each by itself.",
@@ -143,7 +143,7 @@ and of the pick lines, each by itself.",
 steps, by `--steps`.",
 };
 
-pub const OUTPUT: Entry = Entry {
+pub static OUTPUT: Entry = Entry {
     summary: "what `record` would write is too long",
     meaning: "A text with the pick lines of its run would be over 4,194,304 bytes, which
 `replay` could not read.",

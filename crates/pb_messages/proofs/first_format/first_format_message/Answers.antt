@@ -3,5 +3,5 @@ use Rattle.pb_messages.proofs.first_format.first_format_message.Goals as goal
 
 pub returns : goal.returns
 returns c =
-    format_told (λ told. told.items) c.args.text.now _ _ c.worded.result
-    (rw c.in_default.is at c.in_ok-message.ensures.accepted) c.worded.ensures
+    format_told (λ told. told.items) c.args.text.now _ _ c.unsaid_message.result
+    (rw c.in_default.is at c.in_ok-message.ensures.accepted) c.unsaid_message.ensures

@@ -1,6 +1,6 @@
 use Rattle.std.proofs.Common.{ap, sym}
 use Rattle.pb_explain.specs.Entries.{entry_of}
-use Rattle.pb_explain.proofs.entries.entry_for.Goals as goal
+use Rattle.pb_explain.proofs.entries.entry_at.Goals as goal
 
 pub returns-in-L1 : goal.returns-in-L1
 unfolding entry_of
