@@ -29,8 +29,3 @@ Makes wants is (Err e) answer rest = Fails wants e answer
 -- `part` comes behind whatever `old` was made of, and so `new` was made
 abbrev pub Adds : {X Y : Type 0} → (X → Y → Type 0) → (Y → Y → Y) → X → X → Y → Type 0
 Adds is join old new part = (before : _) → is old before → is new (join before part)
-
--- the fact holds, unless memory runs out
-abbrev pub Builds : {X : Type 0} → (wants : Type 0) → Result X ParseFault → Type 0 → Type 0
-Builds wants (Ok x) fact = fact
-Builds wants (Err e) fact = (e ≡ fault.NoMemory) × wants
