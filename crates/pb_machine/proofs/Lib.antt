@@ -9,6 +9,7 @@ pub mod Operands
 pub mod Picks
 pub mod Quietly
 pub mod Reaching
+pub mod Setting
 pub mod SilentRuns
 pub mod Silently
 pub mod Singly

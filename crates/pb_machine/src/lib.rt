@@ -9,6 +9,7 @@ pub mod laws;
 pub mod look;
 pub mod machine;
 pub mod process;
+mod set_to;
 mod stack;
 pub mod thread;
 mod turn;
