@@ -62,34 +62,75 @@ fn shows_replay(alloc: Global, compiled: &Compiled, debugger: &Debugger, picks: 
     }
 }
 
+/// Returns whether each position shows what a replay of the picks before it ends in, on the way to the end.
+fn goes_there(
+    alloc: Global,
+    compiled: &Compiled,
+    debugger: &mut Debugger<'_>,
+    picks: &[Pick],
+) -> bool
+    requires { length picks.now ≤ 10000000 }
+{
+    for i in 0..picks.len() {
+        if !shows_replay(alloc, compiled, debugger, &picks[..i]) || debugger.step(1).is_err() {
+            return false;
+        }
+    }
+    true
+}
+
+/// Returns whether each position shows what a replay of the picks before it ends in, on the way back from the
+/// end.
+fn goes_back(
+    alloc: Global,
+    compiled: &Compiled,
+    debugger: &mut Debugger<'_>,
+    picks: &[Pick],
+) -> bool
+    requires { length picks.now ≤ 10000000 }
+{
+    for i in 0..picks.len() {
+        let before = &picks[..picks.len() - i];
+        if !shows_replay(alloc, compiled, debugger, before) || debugger.back(1).is_err() {
+            return false;
+        }
+    }
+    true
+}
+
 /// Returns whether each position shows what a replay of the picks before it ends in, on the way to the end
 /// and back to the start.
-fn goes_there_and_back(alloc: Global, example: &Example) -> Option<bool> {
-    let compiled = compile(alloc, alloc, example.text).ok()?;
-    let picks = picks_of(alloc, example)?;
-    let all = picks.as_slice();
-    if 400 < all.len() {
-        return None;
-    }
-    let mut debugger = Debugger::new(alloc, &compiled, all).ok()?;
-    for i in 0..all.len() {
-        if !shows_replay(alloc, &compiled, &debugger, &all[..i]) {
-            return Some(false);
+fn goes_there_and_back(alloc: Global, compiled: &Compiled, picks: &[Pick]) -> bool
+    requires { length picks.now ≤ 10000000 }
+{
+    match Debugger::new(alloc, compiled, picks) {
+        Ok(mut debugger) => {
+            goes_there(alloc, compiled, &mut debugger, picks)
+                && goes_back(alloc, compiled, &mut debugger, picks)
+                && debugger.position() == 0
+                && shows_replay(alloc, compiled, &debugger, &[])
         }
-        debugger.step(1).ok()?;
+        Err(_) => false,
     }
-    for i in 0..all.len() {
-        if !shows_replay(alloc, &compiled, &debugger, &all[..all.len() - i]) {
-            return Some(false);
-        }
-        debugger.back(1).ok()?;
+}
+
+/// Returns whether an example is replayed there and back by its picks, of which there are at most 400.
+fn is_replayed(alloc: Global, example: &Example) -> bool {
+    let Some(picks) = picks_of(alloc, example) else {
+        return false;
+    };
+    if 400 < picks.len() {
+        return false;
     }
-    Some(debugger.position() == 0 && shows_replay(alloc, &compiled, &debugger, &[]))
+    match compile(alloc, alloc, example.text) {
+        Ok(compiled) => goes_there_and_back(alloc, &compiled, &picks),
+        Err(_) => false,
+    }
 }
 
 #[test]
 fn examples_forward_and_back(rt: HostRuntime) {
     for example in &EXAMPLES {
-        assert!(rt; goes_there_and_back(rt.alloc(), example) == Some(true));
+        assert!(rt; is_replayed(rt.alloc(), example));
     }
 }

@@ -1,10 +1,10 @@
 //! Sessions: commands and their answers.
 
 use pb_base::Pick;
-use pb_base::device::{FaultyInput, FaultyOutput, MemoryInput, MemoryOutput};
+use pb_base::device::{FaultyInput, FaultyOutput, Input, MemoryInput, MemoryOutput, Output};
 use pb_codegen::compile;
 use pb_debug::{DebugFault, Debugger};
-use std::alloc::Global;
+use std::alloc::{AllocError, Global};
 
 const A: Pick = Pick { process: 0, arm: 0 };
 
@@ -123,36 +123,51 @@ const CASES: [Case; 10] = [
     },
 ];
 
-/// Returns whether the session of the case answers its commands as expected.
-fn says(alloc: Global, case: &Case) -> Option<bool> {
-    if case.picks.len() > 100 {
-        return None;
+/// Returns whether a session of the debugger answers all these commands so.
+fn answers(alloc: Global, debugger: Debugger<'_>, commands: &[u8], said: &[u8]) -> bool {
+    let mut debugger = debugger;
+    let mut input = MemoryInput::new(commands);
+    match MemoryOutput::new(alloc, 4096) {
+        Ok(mut output) => {
+            debugger.session(&mut input, &mut output).is_ok() && output.as_slice() == said
+        }
+        Err(_) => false,
     }
-    let compiled = compile(alloc, alloc, case.text).ok()?;
-    let mut debugger = Debugger::new(alloc, &compiled, case.picks).ok()?;
-    let mut input = MemoryInput::new(case.commands);
-    let mut output = MemoryOutput::new(alloc, 4096).ok()?;
-    debugger.session(&mut input, &mut output).ok()?;
-    Some(output.as_slice() == case.said)
+}
+
+/// Returns whether a session over this text and these picks answers the commands so.
+fn says(alloc: Global, text: &[u8], picks: &[Pick], commands: &[u8], said: &[u8]) -> bool {
+    if picks.len() > 100 {
+        return false;
+    }
+    let Ok(compiled) = compile(alloc, alloc, text) else {
+        return false;
+    };
+    match Debugger::new(alloc, &compiled, picks) {
+        Ok(debugger) => answers(alloc, debugger, commands, said),
+        Err(_) => false,
+    }
 }
 
 #[test]
 fn commands_are_answered(rt: HostRuntime) {
     for case in &CASES {
-        assert!(rt; says(rt.alloc(), case) == Some(true));
+        assert!(rt; says(rt.alloc(), case.text, case.picks, case.commands, case.said));
     }
 }
 
+/// Asks for lines of the text at three positions, and for lines that are not there.
+const LINES: &[u8] = b"text p.0\nto 2\ntext p.0\nto 5\ntext p.0\ntext p.1\ntext q.0\ntext p\n";
+
 /// Returns whether `text` shows the lines of this text so.
-fn shows_lines(alloc: Global, source: Option<&[u8]>, said: &[u8]) -> Option<bool> {
-    let compiled = compile(alloc, alloc, TWICE).ok()?;
-    let debugger = Debugger::new(alloc, &compiled, &[A, A, A, A, A]).ok()?;
-    let mut debugger = debugger.with_source(source);
-    let commands = b"text p.0\nto 2\ntext p.0\nto 5\ntext p.0\ntext p.1\ntext q.0\ntext p\n";
-    let mut input = MemoryInput::new(commands);
-    let mut output = MemoryOutput::new(alloc, 200).ok()?;
-    debugger.session(&mut input, &mut output).ok()?;
-    Some(output.as_slice() == said)
+fn shows_lines(alloc: Global, source: Option<&[u8]>, said: &[u8]) -> bool {
+    let Ok(compiled) = compile(alloc, alloc, TWICE) else {
+        return false;
+    };
+    match Debugger::new(alloc, &compiled, &[A, A, A, A, A]) {
+        Ok(debugger) => answers(alloc, debugger.with_source(source), LINES, said),
+        Err(_) => false,
+    }
 }
 
 /// A text of one line, without a line feed and with one, and a text of two empty lines.
@@ -166,58 +181,90 @@ const EMPTY: &[u8] = b"\n\n";
 fn lines_of_the_text(rt: HostRuntime) {
     let whole =
         b"1| process p begin print 1;\nat 2\n2| print 2 end\nat 5\nline none\nrefused G3\nrefused G2\nrefused G4\n";
-    assert!(rt; shows_lines(rt.alloc(), Some(TWICE), whole) == Some(true));
+    assert!(rt; shows_lines(rt.alloc(), Some(TWICE), whole));
     let first = b"1| one\nat 2\nno text\nat 5\nline none\nrefused G3\nrefused G2\nrefused G4\n";
-    assert!(rt; shows_lines(rt.alloc(), Some(ONE), first) == Some(true));
-    assert!(rt; shows_lines(rt.alloc(), Some(ONE_ENDED), first) == Some(true));
+    assert!(rt; shows_lines(rt.alloc(), Some(ONE), first));
+    assert!(rt; shows_lines(rt.alloc(), Some(ONE_ENDED), first));
     let empty = b"1| \nat 2\n2| \nat 5\nline none\nrefused G3\nrefused G2\nrefused G4\n";
-    assert!(rt; shows_lines(rt.alloc(), Some(EMPTY), empty) == Some(true));
+    assert!(rt; shows_lines(rt.alloc(), Some(EMPTY), empty));
     let none = b"no text\nat 2\nno text\nat 5\nno text\nrefused G3\nrefused G2\nrefused G4\n";
-    assert!(rt; shows_lines(rt.alloc(), None, none) == Some(true));
+    assert!(rt; shows_lines(rt.alloc(), None, none));
+}
+
+/// Returns a line of this number of letters, and a line that moves to position 1.
+fn long_line(alloc: Global, bytes: usize) -> Result<Vec<u8>, AllocError> {
+    let mut line = Vec::new(alloc);
+    line.resize(bytes, b'x')?;
+    line.extend_from_slice(b"\nto 1")?;
+    Ok(line)
 }
 
 /// Returns whether a line of this number of letters is refused once, and the next line is read.
-fn long_line_is_one(alloc: Global, bytes: usize) -> Option<bool> {
-    let compiled = compile(alloc, alloc, PRINT).ok()?;
-    let mut debugger = Debugger::new(alloc, &compiled, &[A]).ok()?;
-    let mut line = Vec::new(alloc);
-    line.resize(bytes, b'x').ok()?;
-    line.extend_from_slice(b"\nto 1").ok()?;
-    let mut input = MemoryInput::new(&line);
-    let mut output = MemoryOutput::new(alloc, 100).ok()?;
-    debugger.session(&mut input, &mut output).ok()?;
-    Some(output.as_slice() == b"refused G4\nat 1\n".as_slice())
+fn long_line_is_one(alloc: Global, bytes: usize) -> bool {
+    match long_line(alloc, bytes) {
+        Ok(line) => says(alloc, PRINT, &[A], &line, b"refused G4\nat 1\n"),
+        Err(_) => false,
+    }
 }
 
 #[test]
 fn long_lines(rt: HostRuntime) {
     for bytes in [257, 4_096, 1_000_000] {
-        assert!(rt; long_line_is_one(rt.alloc(), bytes) == Some(true));
+        assert!(rt; long_line_is_one(rt.alloc(), bytes));
     }
 }
 
+/// Returns whether a session on this input and output ends by a device that fails, at this position.
+fn fails_at<I: Input, O: Output>(
+    debugger: Debugger<'_>,
+    input: &mut I,
+    output: &mut O,
+    position: u32,
+) -> bool {
+    let mut debugger = debugger;
+    debugger.session(input, output) == Err(DebugFault::Device) && debugger.position() == position
+}
+
 /// Returns whether the lines before a read that fails are answered.
-fn answers_before_a_failed_read(alloc: Global) -> Option<bool> {
-    let compiled = compile(alloc, alloc, PRINT).ok()?;
-    let mut debugger = Debugger::new(alloc, &compiled, &[A, A]).ok()?;
+fn answers_before_a_failed_read(alloc: Global, debugger: Debugger<'_>) -> bool {
     let mut input = FaultyInput::new(b"to 1\nto 2\nto 0", 2, 7);
-    let mut output = MemoryOutput::new(alloc, 100).ok()?;
-    let fails = debugger.session(&mut input, &mut output) == Err(DebugFault::Device);
-    Some(fails && debugger.position() == 2 && output.as_slice() == b"at 1\nat 2\n".as_slice())
+    match MemoryOutput::new(alloc, 100) {
+        Ok(mut output) => {
+            fails_at(debugger, &mut input, &mut output, 2)
+                && output.as_slice() == b"at 1\nat 2\n".as_slice()
+        }
+        Err(_) => false,
+    }
 }
 
 /// Returns whether a write that fails ends the session where its command led.
-fn ends_at_a_failed_write(alloc: Global) -> Option<bool> {
-    let compiled = compile(alloc, alloc, PRINT).ok()?;
-    let mut debugger = Debugger::new(alloc, &compiled, &[A, A]).ok()?;
+fn ends_at_a_failed_write(alloc: Global, debugger: Debugger<'_>) -> bool {
     let mut input = MemoryInput::new(b"to 1\nto 0\nto 2\n");
-    let mut output = FaultyOutput::new(alloc, 100, 6, 1).ok()?;
-    let fails = debugger.session(&mut input, &mut output) == Err(DebugFault::Device);
-    Some(fails && debugger.position() == 0 && output.as_slice() == b"at 1\na".as_slice())
+    match FaultyOutput::new(alloc, 100, 6, 1) {
+        Ok(mut output) => {
+            fails_at(debugger, &mut input, &mut output, 0)
+                && output.as_slice() == b"at 1\na".as_slice()
+        }
+        Err(_) => false,
+    }
+}
+
+/// Returns what a session says of a read that fails, and another one of a write that fails.
+fn at_failing_devices(alloc: Global) -> Option<(bool, bool)> {
+    let Ok(compiled) = compile(alloc, alloc, PRINT) else {
+        return None;
+    };
+    let Ok(debugger) = Debugger::new(alloc, &compiled, &[A, A]) else {
+        return None;
+    };
+    let read = answers_before_a_failed_read(alloc, debugger);
+    let Ok(debugger) = Debugger::new(alloc, &compiled, &[A, A]) else {
+        return None;
+    };
+    Some((read, ends_at_a_failed_write(alloc, debugger)))
 }
 
 #[test]
 fn failing_devices(rt: HostRuntime) {
-    assert!(rt; answers_before_a_failed_read(rt.alloc()) == Some(true));
-    assert!(rt; ends_at_a_failed_write(rt.alloc()) == Some(true));
+    assert!(rt; at_failing_devices(rt.alloc()) == Some((true, true)));
 }
