@@ -19,6 +19,7 @@ mod lesson_4;
 mod lesson_5;
 #[cfg(test)]
 mod lesson_6;
+#[cfg(test)]
 mod lesson_7;
 #[cfg(test)]
 mod limits;
