@@ -74,7 +74,7 @@ pub record IsClaimsFault (program : Program) (claims : Table) (fault : ClaimsFau
   pub first : IsFirstOver claims (capital_of program) over
   pub named : NamesClaim program over fault
 
--- the fault stands in the text, and nothing before it refuses the text; want of memory is always `Memory`
+-- the fault stands in the text, and nothing before it refuses the text; being out of memory is always `Memory`
 abbrev pub IsRefused : List ℕ → CompileFault → Type 0
 IsRefused text (Lex lex.NoMemory) = ⊥
 IsRefused text (Lex fault) = Refuses text fault
@@ -85,7 +85,7 @@ IsRefused text (Claims fault) =
     (program : Program) × (claims : Table) × IsNumbered text program claims × IsClaimsFault program claims fault
 IsRefused text Memory = ⊤
 
--- ---- want of memory is one fault, wherever it comes
+-- ---- out of memory is one fault, wherever it comes
 
 abbrev pub of_lex : LexFault → CompileFault
 of_lex lex.NoMemory = Memory

@@ -123,7 +123,7 @@ const CASES: [Case; 10] = [
     },
 ];
 
-/// Returns whether a session of the debugger answers all these commands so.
+/// Returns whether a session of the debugger answers all these commands as expected.
 fn answers(alloc: Global, debugger: Debugger<'_>, commands: &[u8], said: &[u8]) -> bool {
     let mut debugger = debugger;
     let mut input = MemoryInput::new(commands);
@@ -135,7 +135,7 @@ fn answers(alloc: Global, debugger: Debugger<'_>, commands: &[u8], said: &[u8]) 
     }
 }
 
-/// Returns whether a session over this text and these picks answers the commands so.
+/// Returns whether a session over this text and these picks answers the commands as expected.
 fn says(alloc: Global, text: &[u8], picks: &[Pick], commands: &[u8], said: &[u8]) -> bool {
     if picks.len() > 100 {
         return false;

@@ -1,4 +1,4 @@
--- What a command writes, and its status: lines, of which want of memory or a fault of a device may cut
+-- What a command writes, and its status: lines, of which being out of memory or a fault of a device may cut
 -- off the rest.
 use Rattle.std.specs.Prelude.{◌≡◌, ◌++◌, ◌⊎◌, ℕ, List, [], ◌∷◌, Option, codes}
 use Rattle.pb_base.specs.Device.{appended, AddsPrefix}

@@ -45,7 +45,7 @@ impl Page {
     }
 
     /// Says a text: it is written, or waits on the page. Where the page cannot grow the text is
-    /// written at once, so want of memory is no fault here.
+    /// written at once, so being out of memory is not a fault here.
     pub fn say<O: Output>(&mut self, output: &mut O, text: &[u8]) -> Result<(), DeviceFault>
         ensures ok { OnOk result (Leaves (O.written output.old) (O.written output.new) (self.old ++ text.now) self.new) }
         ensures counted { OnOk result (O.failures output.new ≡ O.failures output.old) }

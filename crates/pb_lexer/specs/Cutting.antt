@@ -105,7 +105,7 @@ pub record First (text : List ℕ) (at : ℕ) (e : LexFault) : Type 0 where
   pub cause : Cause text at e
   pub none_earlier : (place : ℕ) (other : LexFault) → place < at → Cause text place other → ⊥
 
--- the text has this fault; want of memory may come with any text
+-- the text has this fault; memory may run out with any text
 abbrev pub Refuses : List ℕ → LexFault → Type 0
 Refuses text fault.TooLong = longest_text < length text
 Refuses text (fault.BadByte at) = First text at (fault.BadByte at)

@@ -24,7 +24,7 @@ told wrong.Unknown at = Unknown at
 told wrong.Amount at = Amount at
 told wrong.Repeated at = Repeated at
 
--- an answer for want of memory may come at any time
+-- the answer that memory ran out may come at any time
 abbrev pub IsFault : ProgramSyntax → NameFault → Type 0
 IsFault program (TooMany kind) = IsTooMany program kind
 IsFault program (Twice at) = IsFirstCause program (record { at = at; wrong = wrong.Twice })

@@ -85,7 +85,7 @@ fn begins_two(alloc: Global, text: &[u8]) -> Result<bool, ObjectFault>
 }
 
 /// Returns the code that the text spells in the first format, else the first faulty line, as in `read_any`;
-/// the first line of the second format is no line of an object.
+/// the first line of the second format is not a line of an object.
 pub fn read_object(alloc: Global, text: &[u8]) -> Result<Code, ObjectFault>
     // The text spells the code that is returned.
     ensures found { IfOk result (λ code. SpellsOne (code_view code) text.now) }

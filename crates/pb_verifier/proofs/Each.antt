@@ -6,7 +6,7 @@ use Rattle.std.proofs.lemmas.List.{get_or_append_left}
 use Rattle.std.proofs.Math.Seq.{get_or-append_seam}
 pub use Rattle.pb_code.proofs.Each.{EachBelow, same_read, each_more, each_all}
 
--- ---- answers that may be none, or want of memory
+-- ---- answers that may be none, or out of memory
 
 pub some_weaker : {T E : Type 0} (r : Result (Option T) E) {P Q : T → Type 0} → ((t : T) → P t → Q t) → IfOk r (λ
     answer. IfSome answer P) → IfOk r (λ answer. IfSome answer Q)

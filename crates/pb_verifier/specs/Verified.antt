@@ -10,7 +10,7 @@ use Rattle.pb_verifier.specs.Places.{Reached, IsInArm, arms}
 use Rattle.pb_verifier.specs.Limits.{EachProcess, KeepsLimits, PushesFit}
 use Rattle.pb_verifier.specs.Faults.{FitCapital, IsInRange, HasArms, HasForks, AreDepths, AreHoldings, EndsClear, PeakFits, HasPeakWithin, HasPeakOver}
 
--- the code doesn't have this fault; want of memory is none of the code's
+-- the code doesn't have this fault; being out of memory is not a fault of the code
 abbrev pub IsFreeOf : VerifyFault → Code → Type 0
 IsFreeOf OutOfLimits code = KeepsLimits code
 IsFreeOf OverCapital code = FitCapital code

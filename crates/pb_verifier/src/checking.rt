@@ -32,7 +32,7 @@ fn earlier(found: Option<VerifyFault>, fault: VerifyFault) -> VerifyFault
     }
 }
 
-/// Returns whether this is want of memory.
+/// Returns whether this fault is that memory ran out.
 fn is_memory(fault: VerifyFault) -> bool
     ensures { (result ≡ true) ↔ (fault ≡ VerifyFault.NoMemory) }
 {

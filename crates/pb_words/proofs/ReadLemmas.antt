@@ -300,7 +300,7 @@ pub some_text : {E : Type 0} (f : Found) (id : Text) (read : Result (Option ℕ)
     → (read ≡ Ok None → ⊥) → one_of id (rows_of f) ≡ None → ⊥
 some_text f id read none something absent = something (none (one_text-rows f id ∙ absent))
 
--- an error of clap's that is no want of memory comes only where the words have a fault
+-- an error of clap's other than out of memory comes only if the words have a fault
 pub clap_refused : (kinds : Kinds) (e : Error) (fault : WordsFault) → HasKind kinds e → (kind_of e ≡ OutOfMemory → fault ≡ Memory)
     → BlamesWords fault → kinds ≡ [] → ⊥
 clap_refused kinds e (Words text) (inl is) memory blames none = absurd (cc (memory is))
