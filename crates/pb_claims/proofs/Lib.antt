@@ -4,5 +4,4 @@ pub mod NoMore
 pub mod OnePass
 pub mod Reaching
 pub mod Rows
-pub mod Sizes
 pub mod Walks

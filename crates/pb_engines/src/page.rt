@@ -12,8 +12,8 @@ use std::marker::Model;
 // From this length on a page is written.
 const FULL: usize = 4_096;
 
-/// Text that was said and waits to be written, so that an output is not called for each line. After
-/// a fault of the output nothing more should be said.
+/// Text that was said and waits to be written, so that an output is not called for each line. After a fault of the
+/// output nothing waits, and nothing more should be said.
 #[derive(Drop)]
 pub struct Page {
     text: Vec<u8>,
@@ -45,12 +45,14 @@ impl Page {
     }
 
     /// Says a text: it is written, or waits on the page. Where the page cannot grow the text is
-    /// written at once, so being out of memory is not a fault here.
+    /// written at once, so being out of memory is not a fault here. After a fault some first part of what waited and
+    /// of the text is written, and nothing waits.
     pub fn say<O: Output>(&mut self, output: &mut O, text: &[u8]) -> Result<(), DeviceFault>
         ensures ok { OnOk result (Leaves (O.written output.old) (O.written output.new) (self.old ++ text.now) self.new) }
         ensures counted { OnOk result (O.failures output.new ≡ O.failures output.old) }
         ensures prefix { OnErr result (AddsPrefix (O.written output.old) (O.written output.new) (self.old ++ text.now)) }
         ensures fault { OnErr result (O.failures output.new ≡ one_more_failure (O.failures output.old)) }
+        ensures given_up { OnErr result (self.new ≡ []) }
     {
         if self.keep(text) {
             return Ok(());
@@ -59,27 +61,29 @@ impl Page {
         write_all(output, text)
     }
 
-    /// Says a line, which ends in a line feed.
+    /// Says a line, which ends in a line feed, as `say` says a text.
     pub fn say_line<O: Output>(&mut self, output: &mut O, text: &[u8]) -> Result<(), DeviceFault>
         ensures ok { OnOk result (Leaves (O.written output.old) (O.written output.new) (self.old ++ line text.now) self.new) }
         ensures counted { OnOk result (O.failures output.new ≡ O.failures output.old) }
         ensures prefix { OnErr result (AddsPrefix (O.written output.old) (O.written output.new) (self.old ++ line text.now)) }
         ensures fault { OnErr result (O.failures output.new ≡ one_more_failure (O.failures output.old)) }
+        ensures given_up { OnErr result (self.new ≡ []) }
     {
         self.say(output, text)?;
         self.say(output, b"\n")
     }
 
-    /// Writes what waits. After a fault some first part of it is written.
+    /// Writes what waits. After a fault some first part of it is written, and nothing waits.
     pub fn flush<O: Output>(&mut self, output: &mut O) -> Result<(), DeviceFault>
         ensures ok { OnOk result ((O.written output.new ≡ appended (O.written output.old) self.old) × (self.new ≡ [])) }
         ensures counted { OnOk result (O.failures output.new ≡ O.failures output.old) }
         ensures prefix { OnErr result (AddsPrefix (O.written output.old) (O.written output.new) self.old) }
         ensures fault { OnErr result (O.failures output.new ≡ one_more_failure (O.failures output.old)) }
+        ensures given_up { OnErr result (self.new ≡ []) }
     {
-        write_all(output, self.text.as_slice())?;
+        let written = write_all(output, self.text.as_slice());
         self.text.clear();
-        Ok(())
+        written
     }
 
     /// Writes what waits, and returns the status if no write failed.

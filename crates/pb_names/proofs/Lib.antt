@@ -11,6 +11,7 @@ pub mod Numbered
 pub mod Once
 pub mod Parts
 pub mod Ready
+pub mod Sizes
 pub mod Told
 pub mod Views
 pub mod Whole

@@ -1,14 +1,14 @@
 -- What an arm holds, and how a step changes it.
-use Rattle.std.proofs.Common.{◌≡◌, ◌⊎◌, inl, inr, ℕ, ◌+◌, ℤ, Bool, true, false, cond, nat_eq, ◌&&◌, List, [], ◌∷◌, ◌++◌, Option, Some, None, ap, subst, refl, sym, ◌∙◌, arith}
+use Rattle.std.proofs.Common.{◌≡◌, inl, inr, ℕ, ◌+◌, ℤ, Bool, true, false, cond, nat_eq, ◌&&◌, List, [], ◌∷◌, ◌++◌, Option, Some, None, ap, subst, refl, arith}
 use Rattle.pb_base.specs.Arithmetic.{is_zero}
 use Rattle.pb_base.specs.Bundle.{amount_in}
 use Rattle.pb_base.specs.Steppers.{Effect, Silent, Prints, Takes, Returns, Faults, Finishes}
 use Rattle.pb_names.specs.Claims.{held_in, held_in_list, held, held_among}
 use Rattle.pb_names.specs.Program.{Expr, Block, Skip, Then, Stmt, Set, Write, If, While, HoldDo, Parbegin, Arms, NoArm, AndArm}
-use Rattle.pb_names.specs.Source.{ExprStep, Is, Becomes, Fails, step_expr, Item, Assign, Print, Choice, Loop, Hold, GiveBack, Parallel, item_of, items_of, Arm, Doing, Waiting, Ended, Running, Nothing, Beside, begin, is_ended, all_ended, ArmStep, Goes, Breaks, Ends, evaluate, step_items, step_arm, find, find_among, first_some, put, put_among}
+use Rattle.pb_names.specs.Source.{ExprStep, Is, Becomes, Fails, step_expr, Item, Assign, Print, Choice, Loop, Hold, GiveBack, Parallel, item_of, items_of, Arm, Doing, Waiting, Ended, Running, Nothing, Beside, begin, is_ended, all_ended, ArmStep, Goes, Breaks, Ends, evaluate, step_items, step_arm, find, find_among, put, put_among}
 use Rattle.pb_rewrite.specs.Sound.{Owns, IsOwned, IsSingle, AreSingle}
 use Rattle.pb_rewrite.specs.Steps.{AreBelow}
-use Rattle.pb_rewrite.proofs.Swapping.{none_put, none_put_among}
+use Rattle.pb_rewrite.proofs.Swapping.{first_cases, none_put, none_put_among, none_some}
 
 -- ---- what has not begun holds nothing
 
@@ -115,14 +115,6 @@ pub ends_hold : (n r lo hi : ℕ) (vars : List ℤ) (arm : Arm) → IsOwned n lo
 ends_hold n r lo hi vars arm o e = subst (OptionLends n r (held r arm)) e (arm_lends n r lo hi vars arm o)
 
 -- ---- what a run holds, of which one arm is replaced
-
-none_some : (o : Option Arm) (x : Arm) → o ≡ Some x → o ≡ None → ⊥
-none_some o x h none = let e : Some x ≡ None = sym h ∙ none in cc
-
-first_cases : (one two : Option Arm) (x : Arm) → first_some one two ≡ Some x
-    → (one ≡ Some x) ⊎ ((one ≡ None) × (two ≡ Some x))
-first_cases (Some y) two x h = inl h
-first_cases None two x h = inr (refl, h)
 
 replaced_at : (r : ℕ) (b : Bool) (x y t z : Arm) (inner : Option Arm) → cond b (Some t) inner ≡ Some x
     → (inner ≡ Some x → held r z + held r x ≡ held r t + held r y) → held r (cond b y z) + held r x ≡ held r t + held r y

@@ -6,7 +6,7 @@ use Rattle.pb_base.specs.Steppers.{Effect}
 use Rattle.pb_names.specs.Program.{Expr, Block, Skip, Then, Stmt, Set, Write, If, While, HoldDo, Parbegin, Arms, NoArm, AndArm, count, arms_list, arms_in, arms_in_stmt, arms_in_arms, IsNumbered, IsNumberedStmt, AreNumbered}
 use Rattle.pb_names.specs.Source.{ExprStep, Is, Becomes, Fails, step_expr, Item, Assign, Print, Choice, Loop, Hold, GiveBack, Parallel, item_of, items_of, Arm, Doing, Waiting, Ended, Running, Nothing, Beside, begin, ArmStep, Goes, Breaks, Ends, evaluate, step_items, step_arm, all_ended, find, find_among, first_some, put, put_among}
 use Rattle.pb_rewrite.specs.Sound.{StmtNames, BlockNames, ArmsName, OwnsBlock, OwnsItem, Owns, size, IsOwned, AreOwned, IsSingle, AreSingle}
-use Rattle.pb_rewrite.proofs.Swapping.{none_put, none_put_among}
+use Rattle.pb_rewrite.proofs.Swapping.{first_cases, none_put, none_put_among, none_some}
 
 -- ---- the items of a block own what the block owns
 
@@ -150,14 +150,6 @@ Mine m lo hi a = (a ≡ m) ⊎ ((lo ≤ a) × (a < hi))
 abbrev AllMine : ℕ → ℕ → ℕ → ℕ → ℕ → Type 0
 AllMine m k lo hi a = ((m ≤ a) × (a < m + k)) ⊎ ((lo ≤ a) × (a < hi))
 
-none_some : (o : Option Arm) (x : Arm) → o ≡ Some x → o ≡ None → ⊥
-none_some o x h none = let e : Some x ≡ None = sym h ∙ none in cc
-
-first_cases : (one two : Option Arm) (x : Arm) → first_some one two ≡ Some x
-    → (one ≡ Some x) ⊎ (two ≡ Some x)
-first_cases (Some y) two x h = inl h
-first_cases None two x h = inr h
-
 here_or : (a m : ℕ) (x t : Arm) (inner : Option Arm) → cond (nat_eq a m) (Some t) inner ≡ Some x → (a ≡ m) ⊎ (inner ≡ Some x)
 here_or a m x t inner h =
     elim (eqb_tells a m) [ inl e ↦ inl e.1 | inr e ↦ inr (ap (λ b. cond b (Some t) inner) (sym e.0) ∙ h) ]
@@ -198,7 +190,7 @@ mutual
       let le2 = are_owned_le n o.0 hi arms o.2 in
       elim (first_cases (find a m arm) (find_among a (m + 1) arms) x h) [
         | inl e ↦ first_mine m (size arms) lo o.0 hi a le2 (found_mine n m lo o.0 a arm x o.1 e)
-        | inr e ↦ later_mine m (size arms) lo o.0 hi a le1 (found_all n (m + 1) o.0 hi a arms x o.2 e)
+        | inr e ↦ later_mine m (size arms) lo o.0 hi a le1 (found_all n (m + 1) o.0 hi a arms x o.2 e.1)
       ]
     where
       first_mine : (m k lo mid hi a : ℕ) → mid ≤ hi → Mine m lo mid a → AllMine m (1 + k) lo hi a
@@ -266,7 +258,7 @@ mutual
   found_owned_all n m lo hi a (Beside arm arms) x o h =
       elim (first_cases (find a m arm) (find_among a (m + 1) arms) x h) [
         | inl e ↦ found_owned n m lo o.0 a arm x o.1 e
-        | inr e ↦ found_owned_all n (m + 1) o.0 hi a arms x o.2 e
+        | inr e ↦ found_owned_all n (m + 1) o.0 hi a arms x o.2 e.1
       ]
 
 size_put : (a m : ℕ) (y : Arm) (arms : Running) → size (put_among a y m arms) ≡ size arms

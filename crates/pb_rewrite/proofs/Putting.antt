@@ -1,18 +1,10 @@
 -- An arm is taken out of a run and put back.
-use Rattle.std.proofs.Common.{◌≡◌, ◌⊎◌, inl, inr, ℕ, ◌+◌, List, Bool, true, false, cond, nat_eq, Option, Some, None, ap, ap₂, subst, refl, sym, ◌∙◌}
+use Rattle.std.proofs.Common.{◌≡◌, inl, inr, ℕ, ◌+◌, List, Bool, true, false, cond, nat_eq, Option, Some, None, ap, ap₂, subst, refl, sym, ◌∙◌}
 use Rattle.std.specs.Prelude.{IsSome}
 use Rattle.pb_names.specs.Source.{Item, Arm, Doing, Waiting, Ended, Running, Nothing, Beside, find, find_among, first_some, put, put_among}
 use Rattle.pb_rewrite.specs.Sound.{IsSingle, AreSingle}
 use Rattle.pb_rewrite.specs.Steps.{IsSwap}
-use Rattle.pb_rewrite.proofs.Swapping.{none_put, none_put_among}
-
-some_none : (o : Option Arm) (x : Arm) → o ≡ Some x → o ≡ None → ⊥
-some_none o x h none = let e : Some x ≡ None = sym h ∙ none in cc
-
-first_cases : (one two : Option Arm) (x : Arm) → first_some one two ≡ Some x
-    → (one ≡ Some x) ⊎ ((one ≡ None) × (two ≡ Some x))
-first_cases (Some y) two x h = inl h
-first_cases None two x h = inr (refl, h)
+use Rattle.pb_rewrite.proofs.Swapping.{first_cases, none_put, none_put_among, none_some}
 
 -- ---- what is put in the place of an arm that was taken out
 
@@ -55,17 +47,17 @@ there_ended a n x other inner t false h found rest = rest found refl
 mutual
   pub find_ended : (a n : ℕ) (x arm : Arm) → find a n arm ≡ Some x → find a n (put a Ended n arm) ≡ Some Ended
   find_ended a n x (Doing items) h =
-      there_ended a n x (Doing items) None (Doing items) (nat_eq a n) refl h (λ e not. absurd (some_none None x e refl))
+      there_ended a n x (Doing items) None (Doing items) (nat_eq a n) refl h (λ e not. absurd (none_some None x e refl))
   find_ended a n x (Waiting line first arms rest) h =
       there_ended a n x (Waiting line first (put_among a Ended first arms) rest) (find_among a first arms) (Waiting line first arms rest) (nat_eq a n) refl h
       (λ e not. ap (λ b. cond b (Some (Waiting line first (put_among a Ended first arms) rest)) (find_among a first (put_among a Ended first arms))) not
       ∙ find_ended_among a first x arms e)
   find_ended a n x Ended h =
-      there_ended a n x Ended None Ended (nat_eq a n) refl h (λ e not. absurd (some_none None x e refl))
+      there_ended a n x Ended None Ended (nat_eq a n) refl h (λ e not. absurd (none_some None x e refl))
 
   pub find_ended_among : (a n : ℕ) (x : Arm) (arms : Running) → find_among a n arms ≡ Some x
       → find_among a n (put_among a Ended n arms) ≡ Some Ended
-  find_ended_among a n x Nothing h = absurd (some_none None x h refl)
+  find_ended_among a n x Nothing h = absurd (none_some None x h refl)
   find_ended_among a n x (Beside arm arms) h =
       elim (first_cases (find a n arm) (find_among a (n + 1) arms) x h) [
         | inl here ↦ ap (λ o. first_some o (find_among a (n + 1) (put_among a Ended (n + 1) arms))) (find_ended a n x arm here)
@@ -108,12 +100,12 @@ same_at false x t z inner h same = same h
 mutual
   pub put_found : (a n : ℕ) (x arm : Arm) → IsSingle a arm → find a n arm ≡ Some x → put a x n arm ≡ arm
   put_found a n x (Doing items) single h =
-      same_at (nat_eq a n) x (Doing items) (Doing items) None h (λ e. absurd (some_none None x e refl))
+      same_at (nat_eq a n) x (Doing items) (Doing items) None h (λ e. absurd (none_some None x e refl))
   put_found a n x (Waiting line first arms rest) single h =
       same_at (nat_eq a n) x (Waiting line first arms rest) (Waiting line first (put_among a x first arms) rest) (find_among a first arms) h
       (λ e. ap (λ r. Waiting line first r rest) (put_found_among a first x arms single e))
   put_found a n x Ended single h =
-      same_at (nat_eq a n) x Ended Ended None h (λ e. absurd (some_none None x e refl))
+      same_at (nat_eq a n) x Ended Ended None h (λ e. absurd (none_some None x e refl))
 
   put_found_among : (a n : ℕ) (x : Arm) (arms : Running) → AreSingle a n arms → find_among a n arms ≡ Some x
       → put_among a x n arms ≡ arms
@@ -122,7 +114,7 @@ mutual
       elim (first_cases (find a n arm) (find_among a (n + 1) arms) x h) [
         | inl here ↦ ap₂ Beside (put_found a n x arm single.0 here)
             (elim single.1 [
-              | inl none ↦ absurd (some_none (find a n arm) x here none)
+              | inl none ↦ absurd (none_some (find a n arm) x here none)
               | inr none ↦ none_put_among a (n + 1) x arms none
             ])
         | inr later ↦ ap₂ Beside (none_put a n x arm later.0) (put_found_among a (n + 1) x arms single.2 later.1)

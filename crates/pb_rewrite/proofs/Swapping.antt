@@ -1,5 +1,5 @@
 -- An arm that is found among running arms, and what is put in its place.
-use Rattle.std.proofs.Common.{◌≡◌, ℕ, zero, suc, ◌+◌, ◌<◌, ◌≤◌, Bool, true, false, cond, nat_eq, List, [], ◌∷◌, length, get_or, set, map, Option, Some, None, ap, subst, refl, sym, ◌∙◌, inl, inr, arith}
+use Rattle.std.proofs.Common.{◌≡◌, ◌⊎◌, ℕ, zero, suc, ◌+◌, ◌<◌, ◌≤◌, Bool, true, false, cond, nat_eq, List, [], ◌∷◌, length, get_or, set, map, Option, Some, None, ap, subst, refl, sym, ◌∙◌, inl, inr, arith}
 use Rattle.pb_names.specs.Source.{Arm, Doing, Waiting, Ended, Running, Nothing, Beside, find, find_among, first_some, put, put_among}
 use Rattle.pb_rewrite.specs.Sound.{IsSingle, AreSingle}
 use Rattle.std.proofs.lemmas.List.{length-map, get_or-map, map-set}
@@ -31,6 +31,16 @@ not_here : (b : Bool) (w other x y : Arm) (inner : Option Arm) → cond b (Some 
     → cond b other x ≡ y
 not_here true w other x y inner h same = absurd (cc)
 not_here false w other x y inner h same = same h
+
+-- an arm cannot be there and not there
+pub none_some : (o : Option Arm) (x : Arm) → o ≡ Some x → o ≡ None → ⊥
+none_some o x h none = let e : Some x ≡ None = sym h ∙ none in cc
+
+-- what is found first is found in the first place, or else in the second
+pub first_cases : (one two : Option Arm) (x : Arm) → first_some one two ≡ Some x
+    → (one ≡ Some x) ⊎ ((one ≡ None) × (two ≡ Some x))
+first_cases (Some y) two x h = inl h
+first_cases None two x h = inr (refl, h)
 
 inner_none : (b : Bool) (w : Arm) (inner : Option Arm) → cond b (Some w) inner ≡ None → inner ≡ None
 inner_none true w inner h = absurd (cc)

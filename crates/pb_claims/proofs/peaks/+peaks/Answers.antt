@@ -2,7 +2,7 @@ use Rattle.std.proofs.Common.{arith, rules, ap, ◌∙◌}
 use Rattle.pb_names.specs.Claims.{stmt_peak}
 use Rattle.pb_names.specs.View.{stmt_view}
 use Rattle.pb_names.proofs.Views.{view-Parbegin}
-use Rattle.pb_claims.proofs.Sizes.{stmt_within, arm_within, arms_within}
+use Rattle.pb_names.proofs.Sizes.{stmt_within, arm_within, arms_within}
 use Rattle.pb_claims.proofs.Walks.{peak_more, arms_peak_more}
 use Rattle.pb_claims.proofs.peaks.+peaks.Goals as goal
 

@@ -2,7 +2,7 @@ use Rattle.std.proofs.Common.{◌≡◌, ◌+◌, ◌*◌, take}
 use Rattle.pb_names.specs.Claims.{arms_peak, peak}
 use Rattle.pb_names.specs.View.{arms_view, block_view, stmt_view}
 use Rattle.pb_claims.specs.Inferred.{capped}
-use Rattle.pb_claims.proofs.Sizes.{stmt_size, block_size, arms_size}
+use Rattle.pb_names.proofs.Sizes.{stmt_size, block_size, arms_size}
 use Rattle.pb_claims.proofs.peaks.+peaks.Given as goal
 
 abbrev pub decreases-peak_of_stmt : goal.decreases-peak_of_stmt

@@ -1,6 +1,6 @@
 use Rattle.std.proofs.Common.{rules, refl, sym, append-nil, ap, map, ◌++◌, ◌∙◌}
 use Rattle.std.proofs.lemmas.List.{take_all}
-use Rattle.pb_claims.proofs.Sizes.{arm_within, arms_within, stmt_within}
+use Rattle.pb_names.proofs.Sizes.{arm_within, arms_within, stmt_within}
 use Rattle.pb_names.specs.Program.{arms_in_stmt, arms_in, arms_in_arms}
 use Rattle.pb_names.specs.View.{stmt_view, block_view, arms_view}
 use Rattle.pb_names.proofs.Views.{view-If, view-While, view-Hold, view-Parbegin}

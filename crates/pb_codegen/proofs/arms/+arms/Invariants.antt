@@ -1,5 +1,5 @@
 use Rattle.std.proofs.Common.{◌≡◌, ◌+◌, ◌*◌, ◌++◌, map, take}
-use Rattle.pb_claims.proofs.Sizes.{stmt_size, block_size, arms_size}
+use Rattle.pb_names.proofs.Sizes.{stmt_size, block_size, arms_size}
 use Rattle.pb_names.specs.Program.{arms_in, arms_in_arms}
 use Rattle.pb_names.specs.View.{arms_view, block_view, stmt_view}
 use Rattle.pb_codegen.proofs.arms.+arms.Given as goal

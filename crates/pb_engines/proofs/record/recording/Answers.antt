@@ -33,7 +33,7 @@ returns-then-len-gt-LONGEST_INPUT g c =
     let recorded : IsRecorded code steps seed c.in-Some.picks.items =
     subst (λ o. MatchOption o (IsTooLong code steps seed) (λ v. IsRecorded code steps seed v.items)) c.in-Some.is c.in-Ok.ensures.picks in
     let whole = lines_behind c.in_ok-whole.whole.items c.extend_from_slice.new.self.items c.write_picks.new.text.items _ code c.in-Some.picks.items _
-    c.in_ok-extend_from_slice.ensures.items c.in_ok-write_picks.ensures (ap (λ code. code.names) c.code-code.ensures.code) c.deref.ensures.value in
+    c.in_ok-extend_from_slice.ensures.items c.in_ok-write_picks.ensures.ok (ap (λ code. code.names) c.code-code.ensures.code) c.deref.ensures.value in
     reply_is_too_long c.too_long-then-len-gt-LONGEST_INPUT.result (SaysOfRecording code steps seed text) c.too_long-then-len-gt-LONGEST_INPUT.ensures
     (says_too_long code steps seed text c.in_ok-whole.whole.items c.write_picks.new.text.items c.in-Some.picks.items c.in_ok-whole.ensures
     recorded whole (omega arith))
@@ -46,7 +46,7 @@ returns g c =
     let recorded : IsRecorded code steps seed c.in-Some.picks.items =
     subst (λ o. MatchOption o (IsTooLong code steps seed) (λ v. IsRecorded code steps seed v.items)) c.in-Some.is c.in-Ok.ensures.picks in
     let whole = lines_behind c.in_ok-whole.whole.items c.extend_from_slice.new.self.items c.write_picks.new.text.items _ code c.in-Some.picks.items _
-    c.in_ok-extend_from_slice.ensures.items c.in_ok-write_picks.ensures (ap (λ code. code.names) c.code-code.ensures.code) c.deref.ensures.value in
+    c.in_ok-extend_from_slice.ensures.items c.in_ok-write_picks.ensures.ok (ap (λ code. code.names) c.code-code.ensures.code) c.deref.ensures.value in
     says_written code steps seed c.args.text.now c.in_ok-whole.whole.items c.write_picks.new.text.items c.in-Some.picks.items
     c.in_ok-whole.ensures recorded whole (omega arith)
 

@@ -4,7 +4,8 @@ use Rattle.pb_names.specs.Program as plain
 use Rattle.pb_names.specs.View.{expr_view, stmt_view, block_view, arm_view, arms_view, block_of, arms_from}
 use Rattle.pb_names.proofs.Views.{view-Assign, view-Print, view-If, view-While, view-Hold, view-Parbegin}
 use Rattle.pb_tree.proofs.Copies.{copied_more, copied_all}
-use Rattle.pb_rewrite.proofs.Sizes.{stmt_within, arm_within, arms_within, then_within, else_within, repeated_within, held_within}
+use Rattle.pb_names.proofs.Sizes.{stmt_within, arm_within, arms_within}
+use Rattle.pb_rewrite.proofs.Sizes.{then_within, else_within, repeated_within, held_within}
 use Rattle.pb_rewrite.proofs.copies.+copy.Goals as goal
 
 pub copy_list-loop-stmt-preserved : goal.copy_list-loop-stmt-preserved

@@ -1,6 +1,6 @@
 use Rattle.std.proofs.Common.{◌≡◌, ◌+◌, ◌*◌, map, take}
 use Rattle.pb_names.specs.View.{stmt_view, block_view, arm_view, arms_view}
-use Rattle.pb_rewrite.proofs.Sizes.{stmt_size, block_size, arms_size}
+use Rattle.pb_names.proofs.Sizes.{stmt_size, block_size, arms_size}
 use Rattle.pb_rewrite.proofs.copies.+copy.Given as goal
 
 abbrev pub decreases-copy_stmt : goal.decreases-copy_stmt

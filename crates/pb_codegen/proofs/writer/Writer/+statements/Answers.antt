@@ -1,6 +1,6 @@
 use Rattle.std.proofs.Common.{rules, arith, ◌≡◌, ◌≤◌, ◌+◌, length, Some, length-append, ap, drop, refl, ◌∙◌}
 use Rattle.std.proofs.lemmas.List.{take_all, drop_all}
-use Rattle.pb_claims.proofs.Sizes.{stmt_within}
+use Rattle.pb_names.proofs.Sizes.{stmt_within}
 use Rattle.pb_names.specs.Program.{arms_in, arms_in_arms, arms_in_stmt, arms_list}
 use Rattle.pb_names.specs.View.{arms_view, block_view, expr_view, stmt_view}
 use Rattle.pb_names.proofs.Views.{view-Assign, view-Print, view-If, view-While, view-Hold, view-Parbegin}

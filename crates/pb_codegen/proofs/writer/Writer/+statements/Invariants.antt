@@ -1,5 +1,5 @@
 use Rattle.std.proofs.Common.{◌+◌, ◌*◌, take, drop}
-use Rattle.pb_claims.proofs.Sizes.{stmt_size, block_size}
+use Rattle.pb_names.proofs.Sizes.{stmt_size, block_size}
 use Rattle.pb_codegen.specs.Emitted.{Adds, place}
 use Rattle.pb_codegen.specs.Generate.{block_code}
 use Rattle.pb_codegen.specs.Lines.{block_lines, line_of}

@@ -1,7 +1,7 @@
 use Rattle.std.proofs.Common.{◌≡◌, ◌++◌, take}
 use Rattle.pb_base.specs.Lines.{names_view}
 use Rattle.pb_picks.specs.PickLines.{pick_lines}
-use Rattle.pb_picks.proofs.write.write_picks.Given as goal
+use Rattle.pb_picks.proofs.write.put_picks.Given as goal
 
 -- the lines of the picks so far stand behind the text
 abbrev pub invariant-loop-i : goal.invariant-loop-i

@@ -1,6 +1,5 @@
--- A part is smaller than the whole, so a recursion down a program ends.
-use Rattle.std.proofs.Common.{◌≡◌, ℕ, zero, suc, ◌+◌, ◌<◌, ◌≤◌, List, [], ◌∷◌, Vec, length, get_or, arith, ap}
-use Rattle.std.proofs.Common.{◌∙◌}
+-- A part of a program is smaller than the whole, so a recursion down a program ends.
+use Rattle.std.proofs.Common.{◌≡◌, ℕ, zero, suc, ◌+◌, ◌<◌, ◌≤◌, ◌∙◌, List, [], ◌∷◌, Vec, length, get_or, arith, ap}
 use Rattle.pb_names.specs.Program as plain
 use Rattle.pb_names.specs.Program.{Set, Write, If, While, HoldDo, Block, Skip, Then, Arms, NoArm, AndArm}
 use Rattle.pb_names.specs.View.{stmt_view, block_view, arm_view, arms_view}
