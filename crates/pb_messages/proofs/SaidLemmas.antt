@@ -13,8 +13,7 @@ use Rattle.pb_history.specs.declared.fault.ReplayFault.TheVariants.{NotEnabled}
 use Rattle.pb_picks.specs.PickLines.{IsFaulty, SpellsPicks}
 use Rattle.pb_picks.specs.declared.fault.PickFault.{PickFault}
 use Rattle.pb_messages.specs.Causes.{IsCauseOf}
-use Rattle.pb_messages.specs.Messages.{IsMessage, IsShown}
-use Rattle.pb_messages.specs.Places.{message}
+use Rattle.pb_messages.specs.Messages.{IsMessage, IsShown, message}
 use Rattle.pb_messages.specs.Said.{AreSaid, HasCode, HasNoMark, SaysMore, SaysOf, SaysOfFirstFormat, SaysOfLines, SaysOfPickedObject, SaysOfPickedText, SaysOfTexts, TellsObject, all, stopped, unread}
 use Rattle.pb_messages.specs.declared.cause.Cause.{Cause}
 use Rattle.pb_messages.specs.declared.message.Reading.TheVariants.{Debugged}

@@ -1,5 +1,4 @@
 pub mod Causes
 pub mod Kept
 pub mod Messages
-pub mod Places
 pub mod Said

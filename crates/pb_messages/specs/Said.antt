@@ -15,8 +15,7 @@ use Rattle.pb_history.specs.Replays.{IsReplay, IsStopped, spread}
 use Rattle.pb_history.specs.declared.counted.CountedPick.{CountedPick}
 use Rattle.pb_history.specs.declared.fault.ReplayFault.TheVariants.{NotEnabled}
 use Rattle.pb_messages.specs.Causes.{IsCauseOf}
-use Rattle.pb_messages.specs.Messages.{IsMessage, TellsRefusal}
-use Rattle.pb_messages.specs.Places.{message}
+use Rattle.pb_messages.specs.Messages.{IsMessage, TellsRefusal, message}
 use Rattle.pb_messages.specs.declared.cause.Cause.{Cause}
 use Rattle.pb_messages.specs.declared.message.Reading.{Reading}
 use Rattle.pb_messages.specs.declared.message.Reading.TheVariants.{Text, Claims, Recorded, FirstFormat, Texts, Object, Replayed, Debugged}

@@ -9,12 +9,13 @@ ghost use Rattle.pb_messages.specs.declared.message.Reading.TheVariants.{Debugge
 
 use crate::first_format::first_format_message;
 use crate::objects::object_message;
-use crate::picks::{Lines, lines_message};
-use crate::place::place_of;
+use crate::picks::lines_message;
 use crate::texts::{early_message, text_message};
 use pb_base::NoMemory;
 use pb_engines::input::LONGEST_INPUT;
 use pb_engines::parts::{first_part, two_parts};
+use pb_excerpts::place_of;
+use pb_wording::lines::Lines;
 use std::alloc::{AllocError, Global};
 
 // What is said of an input that is too long.

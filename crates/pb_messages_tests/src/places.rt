@@ -1,7 +1,6 @@
 //! Places of offsets, and bytes as they are shown.
 
-use pb_messages::excerpt::printable;
-use pb_messages::place_of;
+use pb_excerpts::{place_of, printable};
 
 #[test]
 fn places(rt: HostRuntime) {

@@ -2,7 +2,7 @@
 
 ghost use Rattle.std.specs.Prelude.{◌≡◌, ◌≢◌, ◌<◌, ◌≤◌, ◌⊎◌, ℕ, ◌-◌, length, slice_index};
 ghost use Rattle.pb_lexer.specs.Cutting.{line_at};
-ghost use Rattle.pb_messages.specs.Places.{IsPlace};
+ghost use Rattle.pb_excerpts.specs.Places.{IsPlace};
 
 /// A byte of a text, or its end.
 #[derive(Clone, Copy)]

@@ -2,7 +2,7 @@
 use Rattle.std.specs.Prelude.{◌≡◌, ◌≢◌, ◌<◌, ◌≤◌, ◌⊎◌, ◌||◌, ◌&&◌, ◌==◌, ℕ, ◌+◌, ◌-◌, min, List, ◌++◌, length, map, codes, slice_index, slice_range, if◌then◌else◌, nat_le}
 use Rattle.std.specs.Fmt.{decimal}
 use Rattle.pb_lexer.specs.Cutting.{line_at}
-use Rattle.pb_messages.specs.declared.place.Place.{Place}
+use Rattle.pb_excerpts.specs.declared.place.Place.{Place}
 
 -- the place of an offset: its line and its column, both from 1, and where that line begins and ends: no line feed is
 -- between these, and one, or an end of the text, is on each side
@@ -60,8 +60,3 @@ mark_line text place =
 -- the place of a fault as it is shown, in four lines
 abbrev pub excerpt : (label text : List ℕ) → Place → List ℕ
 excerpt label text place = arrow_line label place ++ bar_line place ++ source_line text place ++ mark_line text place
-
--- the message of a cause: its code, what is wrong in words, its place, and details
-abbrev pub message : (code summary shown details : List ℕ) → List ℕ
-message code summary shown details =
-    codes "error " ++ code ++ codes ": " ++ summary ++ codes "\n" ++ shown ++ details

@@ -1,5 +1,5 @@
-use Rattle.pb_messages.proofs.PlaceLemmas.{four_texts}
-use Rattle.pb_messages.proofs.excerpt.put_excerpt.Goals as goal
+use Rattle.pb_excerpts.proofs.PlaceLemmas.{four_texts}
+use Rattle.pb_excerpts.proofs.excerpt.put_excerpt.Goals as goal
 
 pub returns : goal.returns
 returns c =

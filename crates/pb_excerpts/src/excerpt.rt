@@ -1,52 +1,15 @@
-//! The place of a fault, shown: its line of the text, with a mark.
+//! The place of a byte, shown: its line of the text, with a mark.
 
 ghost use Rattle.std.specs.Prelude.{◌≡◌, ◌≤◌, ◌++◌, map, length, min, IfOk, OnOk};
 ghost use Rattle.std.specs.Fmt.{decimal};
-ghost use Rattle.pb_messages.specs.Places.{IsPlace, arrow_line, bar_line, below_byte, excerpt, margin_of, mark_line, message, shown_byte, source_line};
+ghost use Rattle.pb_excerpts.specs.Places.{IsPlace, arrow_line, bar_line, below_byte, excerpt, margin_of, mark_line, shown_byte, source_line};
 
-use crate::cause::Cause;
 use crate::place::{Place, place_of};
 use pb_base::NoMemory;
 use std::alloc::Global;
 
 // The most bytes that are shown of a line on each side of a place.
 const WIDTH: usize = 100;
-
-/// Returns a message: the code of a cause, what is wrong in words, the place of the fault, and details, which end in line
-/// feeds.
-pub fn compose(
-    alloc: Global,
-    cause: &Cause,
-    summary: &[u8],
-    shown: &[u8],
-    details: &[u8],
-) -> Result<Vec<u8>, NoMemory>
-    ensures { IfOk result (λ text. text.items ≡ message cause.now.code.now summary.now shown.now details.now) }
-{
-    let mut text = Vec::new(alloc);
-    put_message(&mut text, cause.code, summary, shown, details)?;
-    Ok(text)
-}
-
-// Puts a message behind a text.
-fn put_message(
-    text: &mut Vec<u8>,
-    code: &[u8],
-    summary: &[u8],
-    shown: &[u8],
-    details: &[u8],
-) -> Result<(), NoMemory>
-    ensures { OnOk result (text.new.items ≡ text.old.items ++ message code.now summary.now shown.now details.now) }
-{
-    text.extend_from_slice(b"error ")?;
-    text.extend_from_slice(code)?;
-    text.extend_from_slice(b": ")?;
-    text.extend_from_slice(summary)?;
-    text.push(b'\n')?;
-    text.extend_from_slice(shown)?;
-    text.extend_from_slice(details)?;
-    Ok(())
-}
 
 /// Returns the place of a byte of a text, or of its end, as a message shows it: its line and column, with a label before
 /// them, and the line of the text with a mark under the byte. Of a long line 100 bytes on each side are shown.
