@@ -1,6 +1,7 @@
 """What the checks share: calls of the built program, and the inputs that they give it."""
 import os
 import pathlib
+import re
 import subprocess
 import sys
 import tempfile
@@ -10,6 +11,8 @@ EXAMPLES = sorted((TOP / "examples").glob("*.pb"))
 DONE, REFUSED, WORDS, LIMIT, FAULT, MEMORY, DEVICE, THREADS = range(8)
 # The longest input that a command reads, and the longest text.
 MOST_INPUT, MOST_TEXT = 4_194_304, 65_536
+# Commands of the debugger, with the name of a process in place of P.
+COMMANDS = b"why P.0\nvars P\nthreads P\nloans\nstep 2\nline P.0\ntext P.0\nback 1\nto 3\nnext\nprev\n"
 # A call that takes longer hangs.
 WATCHDOG = 120
 
@@ -82,6 +85,16 @@ def recorded(text, *words):
     return made
 
 
+def first_process(text):
+    """Returns the name of the first process of a text."""
+    return re.search(rb"\bprocess (\w+)", text)[1]
+
+
+def debugged(text):
+    """Returns the text with the picks of a run of it, and commands of the debugger over them."""
+    return recorded(text) + b"%%\n" + COMMANDS.replace(b"P", first_process(text))
+
+
 def inputs():
     """Returns for each command some words and inputs that it accepts, each with a name."""
     texts = [(file.name, file.read_bytes()) for file in EXAMPLES] + [("2,000 prints", many_prints(2000))]
@@ -92,5 +105,8 @@ def inputs():
         yield f"record --seed 7 {name}", ["record", "--seed", "7"], text
         yield f"replay {name}", ["replay"], recorded(text)
         yield f"draw {name}", ["draw"], recorded(text)
+        yield f"debug {name}", ["debug"], debugged(text)
+        yield f"debug --live {name}", ["debug", "--live"], debugged(text)
+        yield f"outcomes {name}", ["outcomes"], text
         yield f"exec {name}", ["exec"], object_of(text)
         yield f"migrate {name}", ["migrate"], first_object_of(text)

@@ -11,7 +11,7 @@ if nothing was found, and 1 if not.
 import subprocess
 import tempfile
 
-from calls import EXAMPLES, TOP, Tally, first_object_of, object_of, program, recorded
+from calls import EXAMPLES, TOP, Tally, debugged, first_object_of, object_of, program, recorded
 
 FOUND = 99
 TOOLS = {
@@ -43,6 +43,8 @@ def main():
         look(tally, "memcheck", ["migrate"], first_object_of(text), file.name)
         for words in (["replay"], ["draw"]):
             look(tally, "memcheck", words, recorded(text), file.name)
+        for words in (["debug"], ["debug", "--live"]):
+            look(tally, "memcheck", words, debugged(text), file.name)
         for tool in ("helgrind", "drd"):
             for quantum in ("1", "64"):
                 look(tally, tool, ["run", "--workers", "4", "--quantum", quantum], text, file.name)

@@ -14,10 +14,10 @@ It is run by hand on Linux with a C compiler; its status is 0 if all is as wante
 import collections
 import concurrent.futures
 import os
-import re
 import tempfile
 
-from calls import DONE, EXAMPLES, MEMORY, THREADS, Tally, call, first_object_of, object_of, preload, program, recorded
+from calls import (DONE, EXAMPLES, MEMORY, THREADS, Tally, call, debugged, first_object_of, first_process, object_of, preload,
+                   program, recorded)
 from texts import LIMITS, many
 
 # A request is refused if its number, counted over all threads, is REFUSED; the file REFUSAL is made then.
@@ -71,7 +71,6 @@ ON_TEXTS = [["check"], ["check", "--heap", "1048576"], ["claims"], ["emit"], ["e
             ["run", "--workers", "1"], ["run", "--workers", "1", "--quantum", "1"], ["run", "--workers", "4"],
             ["record"], ["record", "--seed", "7"], ["record", "--workers", "4", "--quantum", "1"]]
 # With the name of a process in place of P.
-COMMANDS = b"why P.0\nvars P\nthreads P\nloans\nstep 2\nline P.0\ntext P.0\nback 1\nto 3\nnext\nprev\n"
 PICKING = b"to 1\npick P.0\nback 1\nstep 1\n"
 
 
@@ -149,12 +148,10 @@ def cases():
             yield name, ["exec", "--workers", workers], object_of(text)
         yield name, ["migrate"], first_object_of(text)
         yield name, ["outcomes"], text
-        run = recorded(text)
-        yield name, ["replay"], run
-        yield name, ["draw"], run
-        process = re.search(rb"\bprocess (\w+)", text)[1]
-        started = text + b"%%\n" + process + b".0 1\n"
-        for given in (run + b"%%\n" + COMMANDS.replace(b"P", process), started + b"%%\n" + PICKING.replace(b"P", process)):
+        yield name, ["replay"], recorded(text)
+        yield name, ["draw"], recorded(text)
+        started = text + (b"%%\nP.0 1\n%%\n" + PICKING).replace(b"P", first_process(text))
+        for given in (debugged(text), started):
             yield name, ["debug"], given
             yield name, ["debug", "--live"], given
     for kind, most in LIMITS.items():

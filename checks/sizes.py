@@ -60,7 +60,7 @@ FULL_TEXTS = ["(", ")", "-", "not ", "begin ", "parbegin ", "1+", "x:=1;", "whil
 # (more configurations take more than a second)
 OUTCOMES = ["outcomes", "--states", "1000"]
 COMMANDS = [["check"], ["check", "--heap", "16777216"], ["claims"], ["run"], ["emit"], ["emit", "--object", "1"], ["record"],
-            ["record", "--seed", "1"], ["replay"], ["exec"], ["migrate"], ["draw"], OUTCOMES]
+            ["record", "--seed", "1"], ["replay"], ["exec"], ["migrate"], ["draw"], ["debug"], OUTCOMES]
 
 
 def at_the_limits(trial):
