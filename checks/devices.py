@@ -4,9 +4,9 @@
     checks/devices.py [PROGRAM]     PROGRAM is the one that ./parbegin has built if none is given
 
 It is run by hand on Linux and needs a C compiler: LD_PRELOAD puts `read` and `write` before those of the C library.
-A failed read must give status 6 and no byte, or, in `debug --live`, the answers so far; a failed write status 6, the first part of what is written if none fails,
-and no write after it. An output that takes one byte a call, and an input that gives one, change nothing. The status of
-this script is 0 if all is as wanted, and 1 if not.
+A failed read must give status 6 and no byte, or in `debug --live` the answers so far; a failed write status 6, the first
+part of what is written if none fails, and no write after it. An output that takes one byte a call, and an input that
+gives one, change nothing. The status of this script is 0 if all is as wanted, and 1 if not.
 """
 import os
 import subprocess
