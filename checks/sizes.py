@@ -99,11 +99,26 @@ def full_inputs(trial):
     trial.expect("10,000,000 picks", ["run", "--steps", "10000000"], text, LIMIT)
 
 
+def sessions(trial):
+    session = b"process p begin integer i; i := 1; print i end\n%%\np.0 3\n%%\nstep 1\n"
+    for command in ("vars p", "threads p", "loans", "why p.0", "line p.0", "text p.0", "step 1", "fly"):
+        line = command.encode() + b"\n"
+        given = (session + line * (MOST_INPUT // len(line)))[:MOST_INPUT]
+        for words in (["debug"], ["debug", "--live"]):
+            trial.answer(f"4,194,304 bytes of {command}", words, given)
+    # (a move makes picks again from a copy of the machine: 4,194,304 bytes of them take longer than a second)
+    for command in ("to 1", "back 1", "next", "prev"):
+        line = command.encode() + b"\n"
+        for words in (["debug"], ["debug", "--live"]):
+            trial.answer(f"65,536 bytes of {command}", words, session + (line * MOST_TEXT)[:MOST_TEXT])
+
+
 def main():
     trial = Trial()
     at_the_limits(trial)
     full_texts(trial)
     full_inputs(trial)
+    sessions(trial)
     print(f"the longest call took {trial.longest[0]:.2f} seconds of processor time: {trial.longest[1]}")
     trial.tally.end("sizes")
 
