@@ -1,4 +1,5 @@
 pub mod Advances
+pub mod Counting
 pub mod Given
 pub mod Going
 pub mod Growing
