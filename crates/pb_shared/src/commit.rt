@@ -42,16 +42,13 @@ impl<'v, C: CodeBrand> Book<'v, C> {
             allowance,
             made,
             base,
-            state,
+            mut state,
             brand: _,
         } = stretch;
         let process = usize::from(pick.process);
         self.trace.push_silent(pick, made);
-        let before = self.machine.replace(process, state);
-        self.spares[process] = Some(Spare {
-            base,
-            state: before,
-        });
+        self.machine.exchange(process, &mut state);
+        self.spares[process] = Some(Spare { base, state });
         self.slips[process] = None;
         self.left += allowance - made;
         if made == allowance {

@@ -20,8 +20,8 @@ push_silent-requires-clause-fits g c =
     let same = ap (λ (es : List Entry). length es) c.reserve.ensures.same in
     omega (arith, fits, limited, within, same)
 
-pub replace-before-requires : goal.replace-before-requires
-replace-before-requires g c =
+pub exchange-requires : goal.exchange-requires
+exchange-requires g c =
     let s = ledger_of c.self.inside in
     let lent = lent_of c.stretch.inside in
     let by : IsLentBy s lent = rw (← c.self.view_is, ← c.stretch.view_is) at (c.lent.ensures.0 c.if-not-lent.false) in
@@ -79,20 +79,20 @@ invariant_of-self-then-made-allowance g c =
     let by : IsLentBy s lent = rw (← c.self.view_is, ← c.stretch.view_is) at (c.lent.ensures.0 c.if-not-lent.false) in record {
       refers = c.self.invariant.refers;
       legal = legal_as g.C.CodeBrand.code (home s lent) _ (home_legal g.C.CodeBrand.code s lent legal by run)
-          (sym (set_view c.self.inside.machine c.replace-before.new.self c.from-process.result lent.pick.process
-          lent.state c.from-process.ensures c.replace-before.ensures.processes c.replace-before.ensures.banker))
+          (sym (set_view c.self.inside.machine c.exchange.new.self c.from-process.result lent.pick.process
+          lent.state c.from-process.ensures c.exchange.ensures.processes c.exchange.ensures.banker))
           (sym (c.push_silent.ensures.entries ∙ ap (λ (es : List Entry). es ++ silent_picks lent.pick lent.made) c.reserve.ensures.same))
           refl
           refl
           (ap (λ (p : ℕ). slice_set s.slips p None) (sym c.from-process.ensures))
           refl;
-      machine = c.replace-before.ensures.machine g.C.CodeBrand.code c.self.invariant.machine (subst (λ (p : ℕ).
+      machine = c.exchange.ensures.machine g.C.CodeBrand.code c.self.invariant.machine (subst (λ (p : ℕ).
           ComesFrom g.C.CodeBrand.code c.self.inside.machine p c.stretch.inside.state) (sym c.from-process.ensures)
           (comes_home g.C.CodeBrand.code s lent legal by run c.self.inside.machine c.stretch.inside.state refl refl c.stretch.invariant.process.rooms));
       spares = spares_with g.C.CodeBrand.code _ _ (spares_stay g.C.CodeBrand.code _ _ c.self.invariant.spares _ None)
           _ _ (spare_at g.C.CodeBrand.code c.from-process.result _ (record {
             base = subst (λ (p : ℕ). IsProcessOf g.C.CodeBrand.code p c.stretch.inside.base) (sym c.from-process.ensures) c.stretch.invariant.base;
-            state = c.replace-before.ensures.process g.C.CodeBrand.code c.self.invariant.machine;
+            state = c.exchange.ensures.process g.C.CodeBrand.code c.self.invariant.machine;
           }));
     }
 
@@ -102,7 +102,7 @@ try_visible-requires-clause-machine g c =
     let lent = lent_of c.stretch.inside in
     let by : IsLentBy s lent = rw (← c.self.view_is, ← c.stretch.view_is) at (c.lent.ensures.0 c.if-not-lent.false) in
     machine_there g.C.CodeBrand.code c.self.inside.code.now _ (sym c.self.invariant.refers)
-    (c.replace-before.ensures.machine g.C.CodeBrand.code c.self.invariant.machine (subst (λ (p : ℕ). ComesFrom
+    (c.exchange.ensures.machine g.C.CodeBrand.code c.self.invariant.machine (subst (λ (p : ℕ). ComesFrom
     g.C.CodeBrand.code c.self.inside.machine p c.stretch.inside.state) (sym c.from-process.ensures)
     (comes_home g.C.CodeBrand.code s lent c.self.invariant.legal by c.stretch.invariant.run c.self.inside.machine
     c.stretch.inside.state refl refl c.stretch.invariant.process.rooms)))
@@ -114,7 +114,7 @@ invariant_of-self-2 g c =
     let run = c.stretch.invariant.run in
     let by : IsLentBy s lent = rw (← c.self.view_is, ← c.stretch.view_is) at (c.lent.ensures.0 c.if-not-lent.false) in
     let came : Ledger = record {
-      machine = machine_view c.replace-before.new.self;
+      machine = machine_view c.exchange.new.self;
       entries = c.push_silent.new.self.entries;
       limit = s.limit;
       left = s.left + (lent.allowance - lent.made);
@@ -123,8 +123,8 @@ invariant_of-self-2 g c =
     } in
     let legal : IsLegal g.C.CodeBrand.code came = legal_as g.C.CodeBrand.code (home s lent) came (home_legal
     g.C.CodeBrand.code s lent c.self.invariant.legal by run)
-    (sym (set_view c.self.inside.machine c.replace-before.new.self c.from-process.result lent.pick.process lent.state
-    c.from-process.ensures c.replace-before.ensures.processes c.replace-before.ensures.banker))
+    (sym (set_view c.self.inside.machine c.exchange.new.self c.from-process.result lent.pick.process lent.state
+    c.from-process.ensures c.exchange.ensures.processes c.exchange.ensures.banker))
     (sym (c.push_silent.ensures.entries ∙ ap (λ (es : List Entry). es ++ silent_picks lent.pick lent.made) c.reserve.ensures.same))
     refl
     refl
@@ -139,6 +139,6 @@ invariant_of-self-2 g c =
       spares = spares_with g.C.CodeBrand.code _ _ (spares_stay g.C.CodeBrand.code _ _ c.self.invariant.spares _ None)
           _ _ (spare_at g.C.CodeBrand.code c.from-process.result _ (record {
             base = subst (λ (p : ℕ). IsProcessOf g.C.CodeBrand.code p c.stretch.inside.base) (sym c.from-process.ensures) c.stretch.invariant.base;
-            state = c.replace-before.ensures.process g.C.CodeBrand.code c.self.invariant.machine;
+            state = c.exchange.ensures.process g.C.CodeBrand.code c.self.invariant.machine;
           }));
     }
