@@ -37,16 +37,16 @@ fn exchanges(alloc: Global, code: &Verified) -> Result<bool, NoMemory> {
     if machine.processes() == 0 {
         return Ok(false);
     }
-    let copy = machine.proc(0).copy(alloc)?;
+    let mut copy = machine.proc(0).copy(alloc)?;
     let made = machine.run_silent(code, PUSHES, 9);
     if machine.processes() == 0 {
         return Ok(false);
     }
-    let own = machine.replace(0, copy);
+    machine.exchange(0, &mut copy);
     if machine.processes() == 0 {
         return Ok(false);
     }
-    Ok(made == 2 && has_operands(&own, &[1, 0]) && has_operands(machine.proc(0), &[]))
+    Ok(made == 2 && has_operands(&copy, &[1, 0]) && has_operands(machine.proc(0), &[]))
 }
 
 #[test]

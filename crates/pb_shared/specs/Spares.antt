@@ -1,5 +1,6 @@
 -- Processes in which stretches are lent.
-use Rattle.std.specs.Prelude.{◌≡◌, ℕ, List, length, Option, Some, slice_get}
+use Rattle.std.specs.Prelude.{◌≡◌, ℕ, List, length, Option, Some, Box, slice_get}
+use Rattle.std.specs.declared.alloc.Global.{Global}
 use Rattle.pb_machine.specs.Views.{IsProcessOf}
 use Rattle.pb_verifier.specs.Verified.{VerifiedCode}
 use Rattle.pb_shared.specs.declared.slip.Slip.{Slip}
@@ -11,6 +12,6 @@ pub record IsSpareOf (code : VerifiedCode) (p : ℕ) (spare : Spare) : Type 0 wh
   pub state : IsProcessOf code p spare.state
 
 -- there is a place for the spare of each process, and each that is there is one of its process
-pub record AreSpares (code : VerifiedCode) (slips : List (Option Slip)) (spares : List (Option Spare)) : Type 0 where
+pub record AreSpares (code : VerifiedCode) (slips : List (Option Slip)) (spares : List (Option (Box Spare Global))) : Type 0 where
   pub all : length spares ≡ length slips
-  pub each : (p : ℕ) (spare : Spare) → slice_get spares p ≡ Some (Some spare) → IsSpareOf code p spare
+  pub each : (p : ℕ) (spare : Box Spare Global) → slice_get spares p ≡ Some (Some spare) → IsSpareOf code p spare.value

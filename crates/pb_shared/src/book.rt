@@ -26,7 +26,7 @@ pub struct Book<'v, C: CodeBrand> {
     pub(crate) limit: u32,
     pub(crate) left: u32,
     pub(crate) slips: Vec<Option<Slip>>,
-    pub(crate) spares: Vec<Option<Spare>>,
+    pub(crate) spares: Vec<Option<Box<Spare>>>,
     pub(crate) refused: Vec<bool>,
     pub(crate) next_process: u8,
     pub(crate) next_arms: Vec<u8>,
@@ -144,7 +144,7 @@ fn no_slips(alloc: Global, count: usize) -> Result<Vec<Option<Slip>>, NoMemory>
 }
 
 /// Returns the spares of `count` processes, none of which was lent yet.
-fn no_spares(alloc: Global, count: usize) -> Result<Vec<Option<Spare>>, NoMemory>
+fn no_spares(alloc: Global, count: usize) -> Result<Vec<Option<Box<Spare>>>, NoMemory>
     ensures { IfOk result (λ v. v.items ≡ replicate count None) }
 {
     let mut spares = Vec::with_capacity(alloc, count)?;

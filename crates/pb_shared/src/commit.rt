@@ -10,7 +10,6 @@ use crate::book::Book;
 use crate::brand::CodeBrand;
 use crate::fault::CommitFault;
 use crate::slip::Slip;
-use crate::spare::Spare;
 use crate::stretch::Stretch;
 use crate::taken::Taken;
 use crate::visible::try_visible;
@@ -41,17 +40,13 @@ impl<'v, C: CodeBrand> Book<'v, C> {
             pick,
             allowance,
             made,
-            base,
-            state,
+            mut spare,
             brand: _,
         } = stretch;
         let process = usize::from(pick.process);
         self.trace.push_silent(pick, made);
-        let before = self.machine.replace(process, state);
-        self.spares[process] = Some(Spare {
-            base,
-            state: before,
-        });
+        spare.exchange(process, &mut self.machine);
+        self.spares[process] = Some(spare);
         self.slips[process] = None;
         self.left += allowance - made;
         if made == allowance {
@@ -101,12 +96,11 @@ impl<'v, C: CodeBrand> Book<'v, C> {
             pick,
             allowance,
             made: _,
-            base,
-            state,
+            spare,
             brand: _,
         } = stretch;
         let process = usize::from(pick.process);
-        self.spares[process] = Some(Spare { base, state });
+        self.spares[process] = Some(spare);
         self.slips[process] = None;
         self.left += allowance;
         Ok(())
@@ -127,7 +121,7 @@ impl<'v, C: CodeBrand> Book<'v, C> {
         if slip.allowance != stretch.allowance {
             return false;
         }
-        self.machine.proc(process).same(&stretch.base)
+        self.machine.proc(process).same(&stretch.spare.base)
     }
 
     /// Returns the slip of a process, if it is out.

@@ -6,6 +6,7 @@ ghost use Rattle.pb_machine.specs.Views.{proc_view};
 ghost use Rattle.pb_shared.specs.Lending.{Lent, IsSilentRun};
 
 use crate::brand::CodeBrand;
+use crate::spare::Spare;
 use pb_base::Pick;
 use pb_machine::Proc;
 use pb_verifier::Verified;
@@ -18,8 +19,7 @@ pub struct Stretch<'v, C: CodeBrand> {
     pub(crate) pick: Pick,
     pub(crate) allowance: u32,
     pub(crate) made: u32,
-    pub(crate) base: Proc,
-    pub(crate) state: Proc,
+    pub(crate) spare: Box<Spare>,
     pub(crate) brand: PhantomData<C>,
 }
 
@@ -46,7 +46,7 @@ impl<'v, C: CodeBrand> Stretch<'v, C> {
     {
         let code: &'v Verified = self.code;
         let most = max.min(self.allowance - self.made);
-        let count = self.state.run_silent(code, self.pick, most);
+        let count = self.spare.run(code, self.pick, most);
         self.made += count;
         count
     }
@@ -76,14 +76,14 @@ impl<'v, C: CodeBrand> Stretch<'v, C> {
     pub fn base(&self) -> &Proc
         ensures { proc_view result.now ≡ self.now.base }
     {
-        &self.base
+        &self.spare.base
     }
 
     /// Returns the process as it is now.
     pub fn state(&self) -> &Proc
         ensures { proc_view result.now ≡ self.now.state }
     {
-        &self.state
+        &self.spare.state
     }
 
     /// Gives the stretch up. Its process stays out for good.
@@ -93,8 +93,7 @@ impl<'v, C: CodeBrand> Stretch<'v, C> {
             pick: _,
             allowance: _,
             made: _,
-            base: _,
-            state: _,
+            spare: _,
             brand: _,
         } = self;
     }

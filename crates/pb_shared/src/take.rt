@@ -49,30 +49,23 @@ impl<'v, C: CodeBrand> Book<'v, C> {
         ensures starts { IfOk result (λ lent. StartsAt self.old pick allowance lent) }
     {
         let number = usize::from(pick.process);
-        let spare = self.spare(alloc, number)?;
-        let Spare {
-            mut base,
-            mut state,
-        } = spare;
-        let process = self.machine.proc(number);
-        base.set_to(process);
-        state.set_to(process);
+        let mut spare = self.spare(alloc, number)?;
+        spare.set_to(self.machine.proc(number));
         Ok(Stretch {
             code: self.code,
             pick,
             allowance,
             made: 0,
-            base,
-            state,
+            spare,
             brand: PhantomData,
         })
     }
 
     /// Takes the spare of a process, or copies it if it was never lent before.
-    fn spare(&mut self, alloc: Global, process: usize) -> Result<Spare, NoMemory>
+    fn spare(&mut self, alloc: Global, process: usize) -> Result<Box<Spare>, NoMemory>
         requires { slice_get self.old.slips process ≡ Some None }
         ensures same { self.new ≡ self.old }
-        ensures spare { IfOk result (IsSpareOf C.code process) }
+        ensures spare { IfOk result (λ spare. IsSpareOf C.code process spare.value) }
     {
         let kept = self.spares[process].take();
         if let Some(spare) = kept {

@@ -420,7 +420,7 @@ fn silent_picks_apart(rt: HostRuntime) {
     assert!(rt; !apart.silent(&verified, pick));
     assert!(rt; !apart.silent(&verified, Pick { process: 0, arm: 1 }));
     assert!(rt; apart.same(&before));
-    let _ = machine.replace(0, apart);
+    machine.exchange(0, &mut apart);
     assert!(rt; machine.processes() == 1);
     assert!(rt; before.same(machine.proc(0)));
 }

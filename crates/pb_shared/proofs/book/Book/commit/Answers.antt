@@ -1,12 +1,14 @@
-use Rattle.std.proofs.Common.{◌≡◌, ◌<◌, ◌+◌, ◌-◌, ◌++◌, ℕ, List, None, length, slice_set, refl, sym, ap, ◌∙◌, subst, arith}
+use Rattle.std.proofs.Common.{◌≡◌, ◌<◌, ◌+◌, ◌-◌, ◌++◌, ℕ, List, None, length, set, slice_set, refl, sym, ap, ◌∙◌, subst, arith}
 use Rattle.pb_history.specs.Entries.{Entry, silent_picks}
 use Rattle.pb_machine.specs.Steps.{ComesFrom}
-use Rattle.pb_machine.specs.Views.{machine_view, IsProcessOf}
+use Rattle.pb_machine.specs.Views.{machine_view, proc_view}
 use Rattle.pb_shared.specs.Books.{ledger_of}
 use Rattle.pb_shared.specs.Ledgers.{Ledger, IsLegal, IsLentBy, home}
+use Rattle.pb_shared.specs.Spares.{IsSpareOf}
 use Rattle.pb_shared.specs.Stretches.{lent_of}
+use Rattle.pb_shared.specs.declared.spare.Spare.{Spare}
 use Rattle.pb_shared.proofs.Keeping.{back_fits, comes_home, home_legal, legal_as, process_within, set_view, slip_within, machine_there, tries_legal, tries_there}
-use Rattle.pb_shared.proofs.Sparing.{spare_at, spares_stay, spares_with}
+use Rattle.pb_shared.proofs.Sparing.{spare_after, spare_at, spares_stay, spares_with}
 use Rattle.pb_shared.proofs.book.Book.commit.Goals as goal
 
 pub push_silent-requires-clause-fits : goal.push_silent-requires-clause-fits
@@ -20,8 +22,8 @@ push_silent-requires-clause-fits g c =
     let same = ap (λ (es : List Entry). length es) c.reserve.ensures.same in
     omega (arith, fits, limited, within, same)
 
-pub replace-before-requires : goal.replace-before-requires
-replace-before-requires g c =
+pub exchange-requires : goal.exchange-requires
+exchange-requires g c =
     let s = ledger_of c.self.inside in
     let lent = lent_of c.stretch.inside in
     let by : IsLentBy s lent = rw (← c.self.view_is, ← c.stretch.view_is) at (c.lent.ensures.0 c.if-not-lent.false) in
@@ -72,73 +74,86 @@ try_visible-requires-clause-fits g c =
 
 pub invariant_of-self-then-made-allowance : goal.invariant_of-self-then-made-allowance
 invariant_of-self-then-made-allowance g c =
+    let code = g.C.CodeBrand.code in
     let s = ledger_of c.self.inside in
     let lent = lent_of c.stretch.inside in
     let legal = c.self.invariant.legal in
     let run = c.stretch.invariant.run in
-    let by : IsLentBy s lent = rw (← c.self.view_is, ← c.stretch.view_is) at (c.lent.ensures.0 c.if-not-lent.false) in record {
+    let by : IsLentBy s lent = rw (← c.self.view_is, ← c.stretch.view_is) at (c.lent.ensures.0 c.if-not-lent.false) in
+    let was = c.deref_mut.ensures.value in
+    let comes : ComesFrom code c.self.inside.machine c.from-process.result c.deref_mut.result.now.state =
+    subst (λ (x : Spare). ComesFrom code c.self.inside.machine c.from-process.result x.state) (sym was)
+    (subst (λ (p : ℕ). ComesFrom code c.self.inside.machine p c.stretch.inside.spare.value.state) (sym c.from-process.ensures)
+    (comes_home code s lent legal by run c.self.inside.machine c.stretch.inside.spare.value.state refl refl c.stretch.invariant.spare.state.rooms)) in
+    let processes = c.exchange.ensures.processes
+    ∙ ap (λ (x : Spare). set (machine_view c.self.inside.machine).processes c.from-process.result (proc_view x.state)) was in
+    let view = set_view c.self.inside.machine c.exchange.new.machine c.from-process.result lent.pick.process lent.state
+    c.from-process.ensures processes c.exchange.ensures.banker in
+    let entries = c.push_silent.ensures.entries ∙ ap (λ (es : List Entry). es ++ silent_picks lent.pick lent.made) c.reserve.ensures.same in
+    let there = subst (λ (p : ℕ). IsSpareOf code p c.stretch.inside.spare.value) (sym c.from-process.ensures) c.stretch.invariant.spare in
+    let spare = spare_after code c.from-process.result c.stretch.inside.spare.value c.exchange.new.self
+    (c.exchange.ensures.base ∙ ap (λ (x : Spare). x.base) was) there (c.exchange.ensures.process code c.self.invariant.machine) in
+    record {
       refers = c.self.invariant.refers;
-      legal = legal_as g.C.CodeBrand.code (home s lent) _ (home_legal g.C.CodeBrand.code s lent legal by run)
-          (sym (set_view c.self.inside.machine c.replace-before.new.self c.from-process.result lent.pick.process
-          lent.state c.from-process.ensures c.replace-before.ensures.processes c.replace-before.ensures.banker))
-          (sym (c.push_silent.ensures.entries ∙ ap (λ (es : List Entry). es ++ silent_picks lent.pick lent.made) c.reserve.ensures.same))
-          refl
-          refl
+      legal = legal_as code (home s lent) _ (home_legal code s lent legal by run) (sym view) (sym entries) refl refl
           (ap (λ (p : ℕ). slice_set s.slips p None) (sym c.from-process.ensures))
           refl;
-      machine = c.replace-before.ensures.machine g.C.CodeBrand.code c.self.invariant.machine (subst (λ (p : ℕ).
-          ComesFrom g.C.CodeBrand.code c.self.inside.machine p c.stretch.inside.state) (sym c.from-process.ensures)
-          (comes_home g.C.CodeBrand.code s lent legal by run c.self.inside.machine c.stretch.inside.state refl refl c.stretch.invariant.process.rooms));
-      spares = spares_with g.C.CodeBrand.code _ _ (spares_stay g.C.CodeBrand.code _ _ c.self.invariant.spares _ None)
-          _ _ (spare_at g.C.CodeBrand.code c.from-process.result _ (record {
-            base = subst (λ (p : ℕ). IsProcessOf g.C.CodeBrand.code p c.stretch.inside.base) (sym c.from-process.ensures) c.stretch.invariant.base;
-            state = c.replace-before.ensures.process g.C.CodeBrand.code c.self.invariant.machine;
-          }));
+      machine = c.exchange.ensures.machine code c.self.invariant.machine comes;
+      spares = spares_with code _ _ (spares_stay code _ _ c.self.invariant.spares _ None) _ _ (spare_at code c.from-process.result _ spare);
     }
 
 pub try_visible-requires-clause-machine : goal.try_visible-requires-clause-machine
 try_visible-requires-clause-machine g c =
+    let code = g.C.CodeBrand.code in
     let s = ledger_of c.self.inside in
     let lent = lent_of c.stretch.inside in
+    let legal = c.self.invariant.legal in
+    let run = c.stretch.invariant.run in
     let by : IsLentBy s lent = rw (← c.self.view_is, ← c.stretch.view_is) at (c.lent.ensures.0 c.if-not-lent.false) in
-    machine_there g.C.CodeBrand.code c.self.inside.code.now _ (sym c.self.invariant.refers)
-    (c.replace-before.ensures.machine g.C.CodeBrand.code c.self.invariant.machine (subst (λ (p : ℕ). ComesFrom
-    g.C.CodeBrand.code c.self.inside.machine p c.stretch.inside.state) (sym c.from-process.ensures)
-    (comes_home g.C.CodeBrand.code s lent c.self.invariant.legal by c.stretch.invariant.run c.self.inside.machine
-    c.stretch.inside.state refl refl c.stretch.invariant.process.rooms)))
+    let was = c.deref_mut.ensures.value in
+    let comes : ComesFrom code c.self.inside.machine c.from-process.result c.deref_mut.result.now.state =
+    subst (λ (x : Spare). ComesFrom code c.self.inside.machine c.from-process.result x.state) (sym was)
+    (subst (λ (p : ℕ). ComesFrom code c.self.inside.machine p c.stretch.inside.spare.value.state) (sym c.from-process.ensures)
+    (comes_home code s lent legal by run c.self.inside.machine c.stretch.inside.spare.value.state refl refl c.stretch.invariant.spare.state.rooms)) in
+    machine_there code c.self.inside.code.now _ (sym c.self.invariant.refers)
+    (c.exchange.ensures.machine code c.self.invariant.machine comes)
 
 pub invariant_of-self-2 : goal.invariant_of-self-2
 invariant_of-self-2 g c =
+    let code = g.C.CodeBrand.code in
     let s = ledger_of c.self.inside in
     let lent = lent_of c.stretch.inside in
+    let legal = c.self.invariant.legal in
     let run = c.stretch.invariant.run in
     let by : IsLentBy s lent = rw (← c.self.view_is, ← c.stretch.view_is) at (c.lent.ensures.0 c.if-not-lent.false) in
+    let was = c.deref_mut.ensures.value in
+    let processes = c.exchange.ensures.processes
+    ∙ ap (λ (x : Spare). set (machine_view c.self.inside.machine).processes c.from-process.result (proc_view x.state)) was in
+    let view = set_view c.self.inside.machine c.exchange.new.machine c.from-process.result lent.pick.process lent.state
+    c.from-process.ensures processes c.exchange.ensures.banker in
+    let entries = c.push_silent.ensures.entries ∙ ap (λ (es : List Entry). es ++ silent_picks lent.pick lent.made) c.reserve.ensures.same in
+    let there = subst (λ (p : ℕ). IsSpareOf code p c.stretch.inside.spare.value) (sym c.from-process.ensures) c.stretch.invariant.spare in
+    let spare = spare_after code c.from-process.result c.stretch.inside.spare.value c.exchange.new.self
+    (c.exchange.ensures.base ∙ ap (λ (x : Spare). x.base) was) there (c.exchange.ensures.process code c.self.invariant.machine) in
     let came : Ledger = record {
-      machine = machine_view c.replace-before.new.self;
+      machine = machine_view c.exchange.new.machine;
       entries = c.push_silent.new.self.entries;
       limit = s.limit;
       left = s.left + (lent.allowance - lent.made);
       slips = slice_set s.slips c.from-process.result None;
       refused = s.refused;
     } in
-    let legal : IsLegal g.C.CodeBrand.code came = legal_as g.C.CodeBrand.code (home s lent) came (home_legal
-    g.C.CodeBrand.code s lent c.self.invariant.legal by run)
-    (sym (set_view c.self.inside.machine c.replace-before.new.self c.from-process.result lent.pick.process lent.state
-    c.from-process.ensures c.replace-before.ensures.processes c.replace-before.ensures.banker))
-    (sym (c.push_silent.ensures.entries ∙ ap (λ (es : List Entry). es ++ silent_picks lent.pick lent.made) c.reserve.ensures.same))
+    let at_home : IsLegal code came = legal_as code (home s lent) came (home_legal code s lent legal by run)
+    (sym view)
+    (sym entries)
     refl
     refl
     (ap (λ (p : ℕ). slice_set s.slips p None) (sym c.from-process.ensures))
     refl in
     let unused : 0 < came.left = omega (arith, run.within) in record {
       refers = c.self.invariant.refers;
-      legal = tries_legal g.C.CodeBrand.code came _ lent.pick c.try_visible.result legal unused (tries_there
-          c.self.inside.code.now g.C.CodeBrand.code came _ lent.pick c.try_visible.result c.self.invariant.refers
-          c.try_visible.ensures.tries refl refl);
-      machine = machine_there c.self.inside.code.now g.C.CodeBrand.code _ c.self.invariant.refers c.try_visible.ensures.machine;
-      spares = spares_with g.C.CodeBrand.code _ _ (spares_stay g.C.CodeBrand.code _ _ c.self.invariant.spares _ None)
-          _ _ (spare_at g.C.CodeBrand.code c.from-process.result _ (record {
-            base = subst (λ (p : ℕ). IsProcessOf g.C.CodeBrand.code p c.stretch.inside.base) (sym c.from-process.ensures) c.stretch.invariant.base;
-            state = c.replace-before.ensures.process g.C.CodeBrand.code c.self.invariant.machine;
-          }));
+      legal = tries_legal code came _ lent.pick c.try_visible.result at_home unused (tries_there c.self.inside.code.now code came _ lent.pick
+          c.try_visible.result c.self.invariant.refers c.try_visible.ensures.tries refl refl);
+      machine = machine_there c.self.inside.code.now code _ c.self.invariant.refers c.try_visible.ensures.machine;
+      spares = spares_with code _ _ (spares_stay code _ _ c.self.invariant.spares _ None) _ _ (spare_at code c.from-process.result _ spare);
     }

@@ -1,9 +1,11 @@
 use Rattle.std.proofs.Common.{◌≡◌, Some, sym, ap, ◌∙◌, slice_get, arith}
 use Rattle.pb_code.specs.Code.{CodeProcess}
+use Rattle.pb_machine.specs.Views.{proc_view}
 use Rattle.pb_shared.specs.Books.{ledger_of}
 use Rattle.pb_shared.specs.Ledgers.{IsLentBy}
 use Rattle.pb_shared.specs.Stretches.{lent_of}
 use Rattle.pb_shared.specs.declared.slip.Slip.{Slip}
+use Rattle.pb_shared.specs.declared.spare.Spare.{Spare}
 use Rattle.pb_shared.proofs.Keeping.{same_slip, slip_of, slip_there}
 use Rattle.pb_shared.proofs.book.Book.lent.Goals as goal
 
@@ -12,6 +14,7 @@ returns g c =
     let s = ledger_of c.self.inside in
     let lent = lent_of c.stretch.inside in
     let from = c.from-process.ensures in
+    let base : proc_view c.deref.result.now.base ≡ lent.base = ap (λ (x : Spare). proc_view x.base) c.deref.ensures in
     let at : slice_get s.slips c.from-process.result ≡ Some (Some c.in-Some.slip) =
     slip_there s.slips c.from-process.result c.in-Some.slip (rw (← c.self.view_is) at c.in-Some.ensures) in
     let slip : c.in-Some.slip ≡ slip_of lent = same_slip c.in-Some.slip (slip_of lent) (omega (
@@ -20,7 +23,7 @@ returns g c =
     )) (omega (arith, c.if-slip-stretch.false)) in (
       λ yes. rw (← c.self.view_is, ← c.stretch.view_is) (record {
         slip = ap (slice_get s.slips) (sym from) ∙ (at ∙ ap (λ (x : Slip). Some (Some x)) slip);
-        base = ap (slice_get s.machine.processes) (sym from) ∙ (c.proc.ensures.state ∙ ap (λ (x : CodeProcess). Some x) (c.same.ensures.0 yes));
+        base = ap (slice_get s.machine.processes) (sym from) ∙ (c.proc.ensures.state ∙ ap (λ (x : CodeProcess). Some x) (c.same.ensures.0 yes ∙ base));
       }),
       λ by.
           let here : IsLentBy s lent = rw (← c.self.view_is, ← c.stretch.view_is) at by in

@@ -4,7 +4,6 @@ use Rattle.pb_shared.specs.Ledgers.{IsLentBy}
 use Rattle.pb_shared.specs.Stretches.{lent_of}
 use Rattle.pb_shared.proofs.Keeping.{back_fits, given_back_legal, slip_within}
 use Rattle.pb_shared.specs.Spares.{IsSpareOf}
-use Rattle.pb_shared.specs.declared.spare.Spare.{Spare}
 use Rattle.pb_shared.proofs.Sparing.{spare_at, spares_stay, spares_with}
 use Rattle.pb_shared.proofs.book.Book.put_back.Goals as goal
 
@@ -49,15 +48,11 @@ invariant_of-self g c =
       ←
           c.stretch.view_is,
     ) at (c.lent.ensures.0 c.if-not-lent.false) in
-    let spare : Spare = record { base = c.stretch.inside.base; state = c.stretch.inside.state } in record {
+    record {
       refers = c.self.invariant.refers;
       legal = rw c.from-process.ensures (given_back_legal g.C.CodeBrand.code (ledger_of c.self.inside) (lent_of c.stretch.inside) c.self.invariant.legal by);
       machine = c.self.invariant.machine;
-      spares = spares_with g.C.CodeBrand.code _ _ (spares_stay g.C.CodeBrand.code _ _ c.self.invariant.spares _ None) _ (Some spare)
-          (spare_at g.C.CodeBrand.code c.from-process.result spare (subst (λ (p : ℕ). IsSpareOf g.C.CodeBrand.code p
-          spare) (sym c.from-process.ensures) (record {
-            base = c.stretch.invariant.base;
-            state =
-                c.stretch.invariant.process;
-          })));
+      spares = spares_with g.C.CodeBrand.code _ _ (spares_stay g.C.CodeBrand.code _ _ c.self.invariant.spares _ None) _ (Some c.stretch.inside.spare)
+          (spare_at g.C.CodeBrand.code c.from-process.result c.stretch.inside.spare (subst (λ (p : ℕ). IsSpareOf
+          g.C.CodeBrand.code p c.stretch.inside.spare.value) (sym c.from-process.ensures) c.stretch.invariant.spare));
     }

@@ -5,30 +5,30 @@ use Rattle.pb_machine.specs.Steps.{ComesFrom}
 use Rattle.pb_machine.specs.declared.process.Proc.{Proc}
 use Rattle.pb_machine.proofs.Machines.{proc_there, row_of_machine}
 use Rattle.pb_machine.proofs.Silently.{set_machine}
-use Rattle.pb_machine.proofs.machine.Machine.replace.Goals as goal
+use Rattle.pb_machine.proofs.machine.Machine.exchange.Goals as goal
 
 pub returns-clause-processes : goal.returns-clause-processes
 returns-clause-processes c =
-    map-set proc_view c.args.self.now.processes.items c.args.p c.replace.new.dest
-    ∙ ap (λ (x : Proc). set (machine_view c.args.self.now).processes c.args.p (proc_view x)) c.replace.ensures.after
+    map-set proc_view c.args.self.now.processes.items c.args.p c.swap.new.x
+    ∙ ap (λ (x : Proc). set (machine_view c.args.self.now).processes c.args.p (proc_view x)) c.swap.ensures.x_after
 
 pub returns-clause-rooms : goal.returns-clause-rooms
 returns-clause-rooms c =
-    map-set rooms_of c.args.self.now.processes.items c.args.p c.replace.new.dest
-    ∙ ap (λ (x : Proc). set (machine_rooms c.args.self.now) c.args.p (rooms_of x)) c.replace.ensures.after
+    map-set rooms_of c.args.self.now.processes.items c.args.p c.swap.new.x
+    ∙ ap (λ (x : Proc). set (machine_rooms c.args.self.now) c.args.p (rooms_of x)) c.swap.ensures.x_after
 
 pub returns-clause-machine : goal.returns-clause-machine
 returns-clause-machine c v of comes =
-    set_machine v c.args.self.now _ c.args.p c.replace.new.dest refl refl of (subst (ComesFrom v c.args.self.now c.args.p) (sym c.replace.ensures.after) comes)
+    set_machine v c.args.self.now _ c.args.p c.swap.new.x refl refl of (subst (ComesFrom v c.args.self.now c.args.p) (sym c.swap.ensures.x_after) comes)
 
-pub returns-clause-replaced : goal.returns-clause-replaced
-returns-clause-replaced c =
+pub returns-clause-exchanged : goal.returns-clause-exchanged
+returns-clause-exchanged c =
     proc_there c.args.self.now c.args.p c.index_mut.result.now c.requires c.index_mut.ensures.value
-    ∙ ap (λ (x : Proc). Some (proc_view x)) (sym c.replace.ensures.value)
+    ∙ ap (λ (x : Proc). Some (proc_view x)) (sym c.swap.ensures.y_after)
 
 pub returns-clause-process : goal.returns-clause-process
 returns-clause-process c v of =
-    subst (IsProcessOf v c.args.p) (sym c.replace.ensures.value) (record {
+    subst (IsProcessOf v c.args.p) (sym c.swap.ensures.y_after) (record {
       all = _;
       reached = of.reached;
       there = proc_there c.args.self.now c.args.p c.index_mut.result.now c.requires c.index_mut.ensures.value;
