@@ -1,4 +1,4 @@
--- How an arm stands over a run.
+-- The state of an arm over a run: away, going or waiting.
 use Rattle.std.specs.Prelude.{ℕ, Bool, true, false, cond, List, length, Option, Some, None, slice_get}
 use Rattle.pb_base.specs.declared.pick.Pick.{Pick}
 use Rattle.pb_code.specs.Code.{Instr, Push, Load, Store, Compute1, Compute2, Jump, JumpIfZero, PrintTop, Take, Give, Fork, Join, End, ProcessCode, CodeProcess, Thread, Idle, Live, Over, thread}

@@ -107,7 +107,7 @@ fn has_fault(machine: &Machine) -> bool
     false
 }
 
-// Returns the status of a replay that stands here.
+// Returns the status of a replay that has come to here.
 #[tactic(auto, using(crate::proofs::Ending::faulted, crate::proofs::Ending::whole))]
 fn status_at(machine: &Machine) -> Status
     ensures status { IsStatusAt (machine_view machine.now) result }

@@ -25,7 +25,7 @@ IsExprStep vars e (progress.Is v) e' = (e ≡ Number v) × (e' ≡ e)
 IsExprStep vars e progress.Becomes e' = step_expr vars e ≡ Becomes e'
 IsExprStep vars e (progress.Fails kind) e' = step_expr vars e ≡ Fails kind
 
--- the result of an operator stands in its place
+-- the result of an operator is in its place
 abbrev pub IsReplaced : Result ℤ FaultKind → Progress → Expr → Type 0
 IsReplaced made (progress.Is v) e' = ⊥
 IsReplaced made progress.Becomes e' = from_result made ≡ Becomes e'

@@ -30,7 +30,7 @@ pub struct Process<A: Allocator> {
     pub body: Vec<Stmt<A>, A>,
 }
 
-/// A program, all of which lies in memory of `A`.
+/// A program, all of which is in memory of `A`.
 #[derive(Drop)]
 pub struct Program<A: Allocator> {
     /// The resources, in the order of their declaration.
