@@ -26,7 +26,7 @@ use Rattle.pb_verifier.specs.declared.fault.VerifyFault.TheVariants.{OutOfLimits
 use Rattle.pb_verifier.specs.declared.fault.VerifyFault.TheVariants.{WrongArms, WrongForks, NoDepths}
 use Rattle.pb_verifier.specs.declared.fault.VerifyFault.TheVariants.{NoHoldings, LeftAtEnd, OverClaim}
 use Rattle.pb_verifier.specs.declared.fault.VerifyFault.TheVariants.{NoMemory}
-use Rattle.pb_verifier.specs.Faults.{FitCapital, IsInRange, HasArms, HasForks, AreDepths, AreHoldings}
+use Rattle.pb_verifier.specs.Faults.{ClaimsFitCapital, IsInRange, HasArms, HasForks, AreDepths, AreHoldings}
 use Rattle.pb_verifier.specs.Faults.{EndsClear, PeakFits}
 use Rattle.pb_verifier.specs.Limits.{IsName, IsSmallProcess, KeepsLimits}
 use Rattle.pb_verifier.specs.Behaviour.{IsWellBehaved}
@@ -95,7 +95,7 @@ module _ (tree : ProgramSyntax) (program : Program) (claims : Table) (h : CanBeC
   few_capital r u =
       All-map (λ n. n ≤ 1000000) (λ (resource : Resource). resource.capital) program.resources sizes.small r 0 u
 
-  fit_capital : FitCapital code
+  fit_capital : ClaimsFitCapital code
   fit_capital p r u v =
       let n = h.claimed.height in
       let m = length-codes in

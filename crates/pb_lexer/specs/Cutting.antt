@@ -116,11 +116,11 @@ Refuses text fault.NoMemory = Unit {0}
 -- ---- answers
 
 -- the answer is these tokens, unless memory runs out
-abbrev pub Answers : {X : Type 0} → (X → List Token) → Result X LexFault → List Token → Type 0
-Answers view (Ok x) ts = view x ≡ ts
-Answers view (Err e) ts = e ≡ fault.NoMemory
+abbrev pub ReturnsTokens : {X : Type 0} → (X → List Token) → Result X LexFault → List Token → Type 0
+ReturnsTokens view (Ok x) ts = view x ≡ ts
+ReturnsTokens view (Err e) ts = e ≡ fault.NoMemory
 
 -- the answer is this fault, unless memory runs out
-abbrev pub IsFault : {X : Type 0} → Result X LexFault → LexFault → Type 0
-IsFault (Ok x) e = ⊥
-IsFault (Err f) e = (f ≡ fault.NoMemory) ⊎ (f ≡ e)
+abbrev pub ReturnsFault : {X : Type 0} → Result X LexFault → LexFault → Type 0
+ReturnsFault (Ok x) e = ⊥
+ReturnsFault (Err f) e = (f ≡ fault.NoMemory) ⊎ (f ≡ e)

@@ -34,17 +34,17 @@ IsReplaced made (progress.Fails kind) e' = from_result made ≡ Fails kind
 -- ---- one arm
 
 -- the arm cannot step: its step, if there is one, takes what the banker does not allow
-abbrev pub IsRefused : BankerState → ℕ → Effect → Type 0
-IsRefused s p effect.Silent = ⊥
-IsRefused s p (effect.Prints v) = ⊥
-IsRefused s p (effect.Takes bundle) = ¬ IsAllowed s p bundle
-IsRefused s p (effect.Returns bundle) = ⊥
-IsRefused s p (effect.Faults kind) = ⊥
-IsRefused s p effect.Finishes = ⊥
+abbrev pub BankerRefuses : BankerState → ℕ → Effect → Type 0
+BankerRefuses s p effect.Silent = ⊥
+BankerRefuses s p (effect.Prints v) = ⊥
+BankerRefuses s p (effect.Takes bundle) = ¬ IsAllowed s p bundle
+BankerRefuses s p (effect.Returns bundle) = ⊥
+BankerRefuses s p (effect.Faults kind) = ⊥
+BankerRefuses s p effect.Finishes = ⊥
 
 abbrev pub CannotStep : BankerState → ℕ → Option ArmStep → Type 0
 CannotStep s p None = ⊤
-CannotStep s p (Some (Goes vars arm effect)) = IsRefused s p effect
+CannotStep s p (Some (Goes vars arm effect)) = BankerRefuses s p effect
 CannotStep s p (Some (Breaks kind)) = ⊥
 CannotStep s p (Some Ends) = ⊥
 

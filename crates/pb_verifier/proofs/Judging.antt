@@ -12,7 +12,7 @@ use Rattle.pb_verifier.specs.declared.fault.VerifyFault.{VerifyFault}
 use Rattle.pb_verifier.specs.declared.fault.VerifyFault.TheVariants.{OutOfLimits, OverCapital, OutOfRange, WrongArms, WrongForks, NoDepths, NoHoldings, LeftAtEnd, OverClaim, NoMemory}
 use Rattle.pb_code.specs.Whole.{Code}
 use Rattle.pb_verifier.specs.Limits.{KeepsLimits}
-use Rattle.pb_verifier.specs.Faults.{FitCapital, IsInRange, HasArms, HasForks, AreDepths, AreHoldings, EndsClear, PeakFits}
+use Rattle.pb_verifier.specs.Faults.{ClaimsFitCapital, IsInRange, HasArms, HasForks, AreDepths, AreHoldings, EndsClear, PeakFits}
 use Rattle.pb_verifier.specs.Process.{IsEarlier, IsFirstOfProcess, IsProcessFreeOf, IsSoundProcess}
 use Rattle.pb_verifier.specs.Verified.{AreArmDepths, IsAnnotated, IsFreeOf, IsRefusedFor, turn_of}
 use Rattle.pb_verifier.proofs.Each.{each_more}
@@ -144,7 +144,7 @@ module _ (code : Code) where
             earlier = at_more n process (λ p other. (o : VerifyFault) → turn_of o < turn_of first → IsFreeAt code p other o) read before (here e.1);
           }
 
-  module _ (limits : KeepsLimits code) (fit : FitCapital code) where
+  module _ (limits : KeepsLimits code) (fit : ClaimsFitCapital code) where
     pub wide : width_of code.claims ≡ length code.capital
     wide = let some : 1 ≤ length code.processes = limits.some_processes.0 in let rows : length code.claims ≡ length
         code.processes = limits.rows in limits.width 0 [] (omega arith)
