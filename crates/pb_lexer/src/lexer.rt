@@ -6,7 +6,8 @@ ghost use Rattle.std.specs.Char.{is_ascii_alphabetic, is_ascii_digit};
 ghost use Rattle.pb_lexer.specs.Tokens.{tokens};
 ghost use Rattle.pb_lexer.specs.Tokens as spec_tokens;
 ghost use Rattle.pb_lexer.specs.Forms.{is_blank, spelling};
-ghost use Rattle.pb_lexer.specs.Cutting.{longest_text, line_at, IsComment, AreTokensOf, Refuses, ReturnsTokens, ReturnsFault};
+ghost use Rattle.pb_lexer.specs.Cutting.{longest_text, line_at, IsComment, AreTokensOf, Refuses};
+ghost use Rattle.pb_lexer.specs.Cutting.{ReturnsTokens, ReturnsFault};
 ghost use Rattle.pb_lexer.specs.Finding.{Finds};
 
 use crate::error::LexFault;
