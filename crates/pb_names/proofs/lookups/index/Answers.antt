@@ -32,7 +32,8 @@ pub loop-i-init : goal.loop-i-init
 loop-i-init g c =
     linked_none _ c.greatest_slot-greatest.result c.len-count.result _ _
     (omega (arith, c.len-count.ensures, length-map c.args.texts.items (λ text. text.now)))
-    (c.in_ok-first_of.ensures.items_if_clones_equal (λ y same. same)) (ap length (c.in_ok-next_of.ensures.items_if_clones_equal (λ y same. same)) ∙ length-replicate _ _)
+    (c.in_ok-first_of.ensures.items_if_clones_equal (λ y same. same))
+        (ap length (c.in_ok-next_of.ensures.items_if_clones_equal (λ y same. same)) ∙ length-replicate _ _)
 
 pub returns : goal.returns
 returns g c = refl
