@@ -12,7 +12,7 @@ abbrev pub is_name_byte : ℕ → Bool
 is_name_byte b = is_ascii_alphabetic b || is_ascii_digit b || b == 95
 
 -- the words of the language that are not names, in alphabetical order. They are the words of the lexer:
--- reserved_are_words in crates/pb_codegen/proofs/WordTokens.antt proves that both lists are one
+-- reserved_are_words in crates/pb_codegen/proofs/TextTokens.antt proves that both lists are one
 abbrev pub reserved_words : List Word
 reserved_words =
     codes "and" ∷ codes "begin" ∷ codes "div" ∷ codes "do" ∷ codes "else" ∷ codes "end" ∷ codes "fi"

@@ -23,7 +23,7 @@ use Rattle.pb_names.specs.Resolves.{texts, IsNumber, ResolvesDemand}
 use Rattle.pb_names.specs.Search.{IsFree}
 use Rattle.pb_names.specs.declared.causes.Wrong.TheVariants.{Repeated}
 use Rattle.pb_names.proofs.First.{free_left, free_right, free_at, some_same}
-use Rattle.pb_names.proofs.Naming.{name_read}
+use Rattle.pb_names.proofs.NameNumbers.{name_read}
 
 -- ---- nothing is wrong with a pair
 

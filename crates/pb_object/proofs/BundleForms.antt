@@ -16,7 +16,7 @@ use Rattle.pb_object.specs.Words.{paired, mapped}
 use Rattle.pb_object.specs.Instructions.{names_resource, pair_of, pairs_of, most_pairs, bundle_of, pair_words}
 use Rattle.pb_object.specs.Ranges.{IsPair, ArePairs, IsBundle}
 use Rattle.pb_object.proofs.Numbers.{own, none_of, number_again}
-use Rattle.pb_code.proofs.Naming.{both_true}
+use Rattle.pb_code.proofs.NameTests.{both_true}
 use Rattle.pb_object.proofs.LineLemmas.{AreWords}
 use Rattle.pb_object.proofs.Verdicts.{mapped_read, paired_read, guard_read}
 use Rattle.pb_object.proofs.LineForms.{decimal_clean}

@@ -25,7 +25,7 @@ use Rattle.pb_object.specs.Instructions.{alone, two, signed, bare, push_of, bund
 use Rattle.pb_code.specs.Limits.{IsSigned, IsLine}
 use Rattle.pb_object.specs.Ranges.{AreArms, IsInstr, IsPlace}
 use Rattle.pb_object.proofs.Numbers.{own, number_takes, number_again}
-use Rattle.pb_code.proofs.Naming.{both_true}
+use Rattle.pb_code.proofs.NameTests.{both_true}
 use Rattle.pb_object.proofs.LineLemmas.{is_inner, AreWords}
 use Rattle.pb_object.proofs.Verdicts.{mapped_read, paired_read, select_or}
 use Rattle.pb_object.proofs.LineForms.{decimal_clean}

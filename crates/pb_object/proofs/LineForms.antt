@@ -18,7 +18,7 @@ use Rattle.pb_object.specs.Objects.{ResourceRow, counted_words, resource_words, 
 use Rattle.pb_object.specs.Ranges.{IsResource, AreIntegers, AreClaimsInRange, plain_names}
 use Rattle.pb_object.specs.Reading.{counted, resource, process_name, heading, says_number, named_integers, integers, claims}
 use Rattle.pb_object.proofs.Numbers.{own, number_takes, number_again, numeral_is, is_numeral_decimal}
-use Rattle.pb_code.proofs.Naming.{both_true, letter_name}
+use Rattle.pb_code.proofs.NameTests.{both_true, letter_name}
 use Rattle.pb_object.proofs.Verdicts.{mapped_read, paired_read, select_or, only_read, select_same, guard_read}
 use Rattle.pb_object.proofs.LineLemmas.{is_inner, AreWords, all_mono}
 use Rattle.pb_object.proofs.Parts.{AreLine, IsForm}

@@ -7,11 +7,11 @@ use Rattle.pb_names.proofs.Views.{view-Assign, view-Print, view-If, view-While, 
 use Rattle.pb_codegen.specs.Emitted.{HasRoom, place}
 use Rattle.pb_codegen.specs.Generate.{stmt_code, block_code}
 use Rattle.pb_codegen.specs.Lines.{block_lines, line_of}
-use Rattle.pb_codegen.proofs.Emitting.{adds_nothing, adds_as, adds-place, place-replaced, bundle_kept}
-use Rattle.pb_codegen.proofs.Lists.{block_written, few_arms_in_stmt, room_for_stmt}
-use Rattle.pb_names.proofs.Numbered.{length-arms_list}
-use Rattle.pb_codegen.proofs.Rooms.{if_fits, while_fits, hold_fits}
-use Rattle.pb_codegen.proofs.Statements.{adds_if, adds_while, adds_hold}
+use Rattle.pb_codegen.proofs.WriterParts.{adds_nothing, adds_as, adds-place, place-replaced, bundle_kept}
+use Rattle.pb_codegen.proofs.WriterLists.{block_written, few_arms_in_stmt, room_for_stmt}
+use Rattle.pb_names.proofs.NumberedLists.{length-arms_list}
+use Rattle.pb_codegen.proofs.VerifiedEnds.{if_fits, while_fits, hold_fits}
+use Rattle.pb_codegen.proofs.WriterStatements.{adds_if, adds_while, adds_hold}
 use Rattle.pb_codegen.proofs.writer.Writer.+statements.Goals as goal
 
 pub put_block-loop-i-init : goal.put_block-loop-i-init

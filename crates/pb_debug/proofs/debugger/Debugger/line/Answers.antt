@@ -5,8 +5,8 @@ use Rattle.pb_code.specs.Whole.{ProcessLabels}
 use Rattle.pb_machine.specs.Views.{machine_view}
 use Rattle.pb_debug.specs.Searches.{line_in}
 use Rattle.pb_debug.specs.Value.{Debugging}
-use Rattle.pb_debug.proofs.Here.{in_labels, item}
-use Rattle.pb_debug.proofs.Holding.{state_here}
+use Rattle.pb_debug.proofs.Positions.{in_labels, item}
+use Rattle.pb_debug.proofs.ResourceTexts.{state_here}
 use Rattle.pb_debug.proofs.Lines.{line_is}
 use Rattle.pb_debug.proofs.debugger.Debugger.line.Goals as goal
 

@@ -7,9 +7,9 @@ use Rattle.pb_debug.specs.Texts.{never_text, refusal_text}
 use Rattle.pb_debug.specs.Value.{Debugging, state_of}
 use Rattle.pb_debug.specs.declared.fault.DebugFault.TheVariants.{BadCommand}
 use Rattle.pb_debug.specs.declared.search.Watch.TheVariants as watch
-use Rattle.pb_debug.proofs.Here.{in_labels, item}
+use Rattle.pb_debug.proofs.Positions.{in_labels, item}
 use Rattle.pb_debug.proofs.Lines.{labels_here}
-use Rattle.pb_debug.proofs.Saying.{on_ok}
+use Rattle.pb_debug.proofs.NameTexts.{on_ok}
 use Rattle.pb_debug.proofs.debugger.Debugger.say_wrote.Goals as goal
 
 pub index-requires : goal.index-requires
