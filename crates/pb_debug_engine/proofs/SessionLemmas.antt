@@ -52,4 +52,3 @@ one_failed fault.NoArm old new other counts = elim counts [ ]
 one_failed fault.BadCommand old new other counts = elim counts [ ]
 one_failed fault.NoMemory old new other counts = absurd (other refl)
 one_failed fault.Device old new other counts = (λ none. absurd (none refl), λ same. counts)
-

@@ -16,7 +16,7 @@ returns-in-Ok-clause-text g c =
     (replied_too (SaysOfRecording code steps seed c.args.text.now) (SaysOfRecord steps seed c.args.text.now)
     c.recording-reply.result (accepted code labels c.in-Ok.ensures.compiled)
     (subst (λ (v : VerifiedCode). IfOk c.recording-reply.result
-        (λ r. SaysOfRecording v.code steps seed c.args.text.now r.text.items r.status)) c.verified.ensures
+    (λ r. SaysOfRecording v.code steps seed c.args.text.now r.text.items r.status)) c.verified.ensures
     c.recording-reply.ensures))
     c.tell.ensures.said c.tell.ensures.memory
 

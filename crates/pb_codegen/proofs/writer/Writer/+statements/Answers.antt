@@ -106,7 +106,7 @@ put_if-place-other-requires g t c =
     let fits =
     if_fits (place c.args.self.now) c.args.line (expr_view c.args.test.now) (block_view c.args.on_true.now.items) (block_view c.args.on_false.now.items)
     (place c.put_expr.new.self) (place c.put.new.self) (place c.put_block.new.self)
-        (place c.put-2.new.self) c.requires.room.small (adds-place c.in_ok-put_expr.ensures)
+    (place c.put-2.new.self) c.requires.room.small (adds-place c.in_ok-put_expr.ensures)
     (adds-place c.in_ok-put.ensures) (adds-place c.in_ok-put_block.ensures) (adds-place c.in_ok-put-2.ensures) in
     omega (arith, fits)
 
@@ -120,7 +120,7 @@ put_if-put_block-requires-2 g t c κs within =
     let fits =
     if_fits (place c.args.self.now) c.args.line (expr_view c.args.test.now) (block_view c.args.on_true.now.items) (block_view c.args.on_false.now.items)
     (place c.put_expr.new.self) (place c.put.new.self) (place c.put_block.new.self)
-        (place c.patch.new.self) c.requires.room.small (adds-place c.in_ok-put_expr.ensures)
+    (place c.patch.new.self) c.requires.room.small (adds-place c.in_ok-put_expr.ensures)
     (adds-place c.in_ok-put.ensures) (adds-place c.in_ok-put_block.ensures) same in
     let room : HasRoom c.patch.new.self (block_code (place c.patch.new.self) (block_view c.args.on_false.now.items)) =
     record { sound = c.patch.ensures.sound; small = fits } in
@@ -134,7 +134,7 @@ put_if-place-end-requires g t c =
     let fits =
     if_fits (place c.args.self.now) c.args.line (expr_view c.args.test.now) (block_view c.args.on_true.now.items) (block_view c.args.on_false.now.items)
     (place c.put_expr.new.self) (place c.put.new.self) (place c.put_block.new.self)
-        (place c.patch.new.self) c.requires.room.small (adds-place c.in_ok-put_expr.ensures)
+    (place c.patch.new.self) c.requires.room.small (adds-place c.in_ok-put_expr.ensures)
     (adds-place c.in_ok-put.ensures) (adds-place c.in_ok-put_block.ensures) same in
     omega (arith, fits, adds-place c.in_ok-put_block-2.ensures)
 
@@ -176,7 +176,7 @@ pub put_hold-put_block-requires : goal.put_hold-put_block-requires
 put_hold-put_block-requires g t c κs within =
     let fits =
     hold_fits (place c.args.self.now) c.args.line c.args.bundle.now (block_view c.args.body.now.items)
-        (place c.put_take.new.self) c.requires.room.small (adds-place c.in_ok-bundle.ensures.added) in
+    (place c.put_take.new.self) c.requires.room.small (adds-place c.in_ok-bundle.ensures.added) in
     let room : HasRoom c.put_take.new.self (block_code (place c.put_take.new.self) (block_view c.args.body.now.items)) =
     record { sound = c.in_ok-bundle.ensures.added.sound; small = omega (arith, fits) } in
     let few = c.requires.few_arms in
