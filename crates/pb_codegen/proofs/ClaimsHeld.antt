@@ -23,8 +23,8 @@ use Rattle.pb_codegen.proofs.SimulationProcesses.{RunAlike}
 use Rattle.pb_codegen.proofs.ClaimsFreeSteps.{RunFrees, run_frees, located}
 use Rattle.pb_codegen.proofs.ClaimsLoans.{lent_here}
 use Rattle.pb_codegen.proofs.SimulationRuns.{StatesAlike, AtProcess, absent, present, at_process, opening_alike}
-use Rattle.pb_codegen.proofs.Zips.{mapped_from}
 use Rattle.pb_codegen.proofs.SimulationBack.{chain_at, catch_up}
+use Rattle.pb_names.proofs.Wholes.{made_from}
 
 -- ---- all processes
 
@@ -249,7 +249,7 @@ starts_kept bank program h = record {
   beside = opening bank (map code_process (generated program));
   alike = opening_alike bank program h;
   lent = λ p process sp run in_program in_state runs.
-      let g = mapped_from source_process program p sp in_state in
+      let g = made_from source_process program p sp in_state in
       let same : Some g.0 ≡ Some process = sym g.1 ∙ in_program in
       let same' : g.0 ≡ process = cc in
       let sp_is : source_process process ≡ sp = ap source_process (sym same') ∙ g.2 in
@@ -260,7 +260,7 @@ starts_kept bank program h = record {
         subst (λ x. SameArm x (start_of process)) run_is' (same_arm (start_of process)),
         λ r. let z = zero_amount (length bank.capital) (map source_process program) p r in omega (arith, z),
       );
-  covers = λ p sp in_state. let g = mapped_from source_process program p sp in_state in (g.0, g.1);
+  covers = λ p sp in_state. let g = made_from source_process program p sp in_state in (g.0, g.1);
 }
 
 -- in every state that the source reaches

@@ -30,7 +30,8 @@ use Rattle.pb_verifier.proofs.Banking.{pair_in}
 use Rattle.pb_codegen.proofs.SimulationRuns.{StatesAlike, at_process, opening_alike}
 use Rattle.pb_codegen.proofs.ClaimsSafety.{IsSound, IsFairBank, sound_after, sound_opening}
 use Rattle.pb_codegen.proofs.VerifiedBundles.{AsksTidily, IsTidyEffect, asks_tidily, step_tidy}
-use Rattle.pb_codegen.proofs.Zips.{partner, mapped_from}
+use Rattle.pb_names.proofs.Holds.{zip_at}
+use Rattle.pb_names.proofs.Wholes.{made_from}
 
 module _ (tree : ProgramSyntax) (program : Program) (claims : Table) (h : Resolves tree program) where
   abbrev bank : Bank
@@ -56,9 +57,9 @@ module _ (tree : ProgramSyntax) (program : Program) (claims : Table) (h : Resolv
   tidy_code : (p : ℕ) (code : ProcessCode) → slice_get (generated program.processes) p ≡ Some code
       → EachInstr (AsksTidily (length (capital_of program))) code.instrs
   tidy_code p code at =
-      let w = mapped_from process_code program.processes p code at in
+      let w = made_from process_code program.processes p code at in
       let resources = resource_names program in
-      let r = partner (ResolvesProcess resources) tree.processes program.processes p w.0 h.processes w.1 in
+      let r = zip_at (ResolvesProcess resources) tree.processes program.processes p w.0 h.processes w.1 in
       let n : length resources ≡ length (capital_of program) =
       length-map program.resources (λ (resource : Resource). resource.name)
       ∙ sym (length-map program.resources (λ (resource : Resource). resource.capital))

@@ -20,8 +20,7 @@ use Rattle.pb_names.specs.Resolves.{parbegin}
 use Rattle.pb_names.specs.Resolves.{ResolvesStmts, no_stmt, stmt_then, ResolvesArms, no_arm, arm_then}
 use Rattle.pb_names.specs.Resolves.{ResolvesProcess, Resolves, resource_names}
 use Rattle.pb_claims.proofs.OnePass.{is_claim}
-use Rattle.pb_codegen.proofs.TextBundles.{resources_there}
-use Rattle.pb_codegen.proofs.Zips.{partner}
+use Rattle.pb_names.proofs.Holds.{numbers_below, zip_at}
 
 module _ (integers resources : List Name) (r : ℕ) (past : length resources ≤ r) where
   none_of_demands : (demands : List tree.DemandSyntax) (bundle : Bundle)
@@ -30,7 +29,7 @@ module _ (integers resources : List Name) (r : ℕ) (past : length resources ≤
   none_of_demands demands bundle h =
       amount_in-absent bundle r
       (All-weaker (λ (pair : Pair). pair.resource < length resources) (λ (pair : Pair). pair.resource ≢ r)
-      (λ pair u same. omega (arith, u, same, past)) bundle (resources_there resources demands bundle h.each))
+      (λ pair u same. omega (arith, u, same, past)) bundle (numbers_below resources demands bundle h.each))
 
   mutual
     stmt_none : (s : tree.StmtSyntax) (s' : Stmt) → ResolvesStmt integers resources s s' → stmt_peak r s' ≡ 0
@@ -73,7 +72,7 @@ all_claims tree program claims h are p r process at = go (cases_lt r (length pro
     go (inr u) =
         let resources = resource_names program in
         let w =
-        partner (ResolvesProcess resources) tree.processes program.processes p process h.processes at in
+        zip_at (ResolvesProcess resources) tree.processes program.processes p process h.processes at in
         let n = length-map program.resources (λ (resource : Resource). resource.name) in
         let there = slice_get_within program.processes p process at in
         let height = are.height in

@@ -54,4 +54,3 @@ pub mod WriterLoops
 pub mod WriterParts
 pub mod WriterPrograms
 pub mod WriterStatements
-pub mod Zips

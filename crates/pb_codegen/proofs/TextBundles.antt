@@ -16,6 +16,7 @@ use Rattle.pb_tree.specs.Syntax.{DemandSyntax}
 use Rattle.pb_names.specs.Program.{Name}
 use Rattle.pb_names.specs.Resolves.{ResolvesDemand, ResolvesDemands}
 use Rattle.pb_verifier.specs.Limits.{IsUpTo, IsSmallBundle}
+use Rattle.pb_names.proofs.Holds.{numbers_below}
 
 abbrev numbers : Bundle → List ℕ
 numbers bundle = map (λ pair. pair.resource) bundle
@@ -55,16 +56,6 @@ few_pairs n bundle distinct below =
     in
     omega (arith, len, few)
 
-pub resources_there : (resources : List Name) (demands : List DemandSyntax) (bundle : Bundle)
-    → AllZip (ResolvesDemand resources) demands bundle → All (λ pair. pair.resource < length resources) bundle
-resources_there resources [] [] h = All-nil (λ (pair : Pair). pair.resource < length resources)
-resources_there resources [] (pair ∷ bundle) h = elim h [ ]
-resources_there resources (demand ∷ demands) [] h = elim h [ ]
-resources_there resources (demand ∷ demands) (pair ∷ bundle) h =
-    All-cons (λ (pair : Pair). pair.resource < length resources) pair bundle
-    (slice_get_within resources pair.resource demand.resource.text h.0.resource)
-    (resources_there resources demands bundle h.1)
-
 small_amounts : (resources : List Name) (demands : List DemandSyntax) (bundle : Bundle)
     → length resources ≤ 16
     → AllZip (ResolvesDemand resources) demands bundle
@@ -83,7 +74,7 @@ pub small_bundle : (resources : List Name) (demands : List DemandSyntax) (bundle
     → length resources ≤ 16 → ResolvesDemands resources demands bundle
     → IsSmallBundle bundle × All (λ pair. pair.resource < length resources) bundle
 small_bundle resources demands bundle few h =
-    let there = resources_there resources demands bundle h.each in
+    let there = numbers_below resources demands bundle h.each in
     let most = few_pairs (length resources) bundle h.distinct there in (
       record {
         size = (h.some, omega (arith, most, few));

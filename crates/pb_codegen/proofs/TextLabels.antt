@@ -21,7 +21,8 @@ use Rattle.pb_codegen.specs.Generate.{expr_code, block_code, arm_code, arms_code
 use Rattle.pb_codegen.specs.Lines.{stmt_line, line_of, stmt_lines, block_lines, arms_lines}
 use Rattle.pb_codegen.specs.Lines.{process_labels, program_labels}
 use Rattle.pb_codegen.proofs.WriterLines.{length-block_lines}
-use Rattle.pb_codegen.proofs.Zips.{partner, mapped_from}
+use Rattle.pb_names.proofs.Holds.{zip_at}
+use Rattle.pb_names.proofs.Wholes.{made_from}
 
 -- ---- a line or none for each place
 
@@ -181,8 +182,8 @@ pub fitting_labels : (written : tree.ProgramSyntax) (program : Program) (claims 
 fitting_labels written program claims formed h = record {
   all = length-map program.processes process_labels ∙ sym (length-map program.processes process_code);
   each = λ p c l in_code in_labels.
-      let x = mapped_from process_code program.processes p c in_code in
-      let y = mapped_from process_labels program.processes p l in_labels in
+      let x = made_from process_code program.processes p c in_code in
+      let y = made_from process_labels program.processes p l in_labels in
       let both : Some x.0 ≡ Some y.0 = sym x.1 ∙ y.1 in
       let same : x.0 ≡ y.0 = cc in
       subst (λ (code : ProcessCode). FitLabels code l) x.2
@@ -194,7 +195,7 @@ fitting_labels written program claims formed h = record {
         → FitLabels (process_code process) (process_labels process)
     at p process is =
         let w =
-        partner (ResolvesProcess (resource_names program)) written.processes program.processes p process
+        zip_at (ResolvesProcess (resource_names program)) written.processes program.processes p process
         h.processes is
         in
         fitting (resource_names program) w.0 process

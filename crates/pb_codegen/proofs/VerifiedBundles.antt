@@ -20,9 +20,9 @@ use Rattle.pb_code.specs.Code.{ThreadStep, Runs, Traps, Forks, Joins, Stops, wit
 use Rattle.pb_code.specs.Code.{apply_step}
 use Rattle.pb_code.specs.Code.{step_thread, step_process}
 use Rattle.pb_codegen.specs.Generate.{process_code}
-use Rattle.pb_codegen.proofs.TextBundles.{resources_there}
 use Rattle.pb_codegen.proofs.VerifiedInstructions.{IsElsewhere, NamesExpr, NamesStmt, Names, AllName, all_name-append}
 use Rattle.pb_codegen.proofs.VerifiedInstructions.{EachInstr, each_instr_at, each_of_arms}
+use Rattle.pb_names.proofs.Holds.{numbers_below}
 
 -- no resource twice, of the first n
 pub record IsTidy (n : ℕ) (bundle : Bundle) : Type 0 where
@@ -70,7 +70,7 @@ module _ (integers resources : List Name) where
     tidy_stmt _ _ (hold line demands bundle body body' h k) =
         let x = tidy_block body body' k in
         let tidy : IsTidy (length resources) bundle =
-        record { distinct = h.distinct; there = resources_there resources demands bundle h.each }
+        record { distinct = h.distinct; there = numbers_below resources demands bundle h.each }
         in
         ((tidy, tidy, x.0), x.1)
     tidy_stmt _ _ (parbegin line first arms arms' most h) =

@@ -20,7 +20,7 @@ use Rattle.pb_codegen.proofs.VerifiedHeights.{height, height-resolved}
 use Rattle.pb_codegen.proofs.VerifiedInstructions.{each_instr_at}
 use Rattle.pb_codegen.proofs.VerifiedLengths.{code_length}
 use Rattle.pb_codegen.proofs.VerifiedNumbers.{NamesWell, names_well}
-use Rattle.pb_codegen.proofs.Zips.{partner}
+use Rattle.pb_names.proofs.Holds.{zip_at}
 
 -- the arms of each process are numbered
 pub well_numbered : (resources : List Name) (written : List ProcessSyntax) (processes : List Process)
@@ -73,7 +73,7 @@ pub small_capital : (tree : ProgramSyntax) (program : Program) → Resolves tree
     → All (λ resource. resource.capital ≤ 1000000) program.resources
 small_capital tree program h =
     all_from (λ (resource : Resource). resource.capital ≤ 1000000) program.resources (λ k resource at.
-    (partner ResolvesResource tree.resources program.resources k resource h.resources at).2.small)
+    (zip_at ResolvesResource tree.resources program.resources k resource h.resources at).2.small)
 
 module _ (tree : ProgramSyntax) (program : Program) (limits : KeepsLimits tree) (h : Resolves tree program) where
   abbrev resources : List Name
@@ -82,7 +82,7 @@ module _ (tree : ProgramSyntax) (program : Program) (limits : KeepsLimits tree) 
   tree_of : (p : ℕ) (process : Process) → slice_get program.processes p ≡ Some process
       → HasTree resources process
   tree_of p process at =
-      let w = partner (ResolvesProcess resources) tree.processes program.processes p process h.processes at in
+      let w = zip_at (ResolvesProcess resources) tree.processes program.processes p process h.processes at in
       let u = limits_at tree p w.0 limits w.1 in
       record { written = w.0; resolves = w.2; few_nodes = u.0; low = u.1 }
 
@@ -117,7 +117,7 @@ pub fine_process : (tree : ProgramSyntax) (program : Program) → IsFormed tree 
     → Resolves tree program → (p : ℕ) (process : Process) → slice_get program.processes p ≡ Some process
     → IsFine (resource_names program) process
 fine_process tree program formed limits h p process at =
-    let w = partner (ResolvesProcess (resource_names program)) tree.processes program.processes p process h.processes at in
+    let w = zip_at (ResolvesProcess (resource_names program)) tree.processes program.processes p process h.processes at in
     let n = length-map program.resources (λ (resource : Resource). resource.name) in
     let few = h.few_resources in
     let u = limits_at tree p w.0 limits w.1 in

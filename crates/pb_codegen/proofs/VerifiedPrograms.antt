@@ -43,7 +43,8 @@ use Rattle.pb_codegen.proofs.ClaimsKept.{source_asks, source_safe, source_well_f
 use Rattle.pb_codegen.proofs.VerifiedLimits.{in_range, small_process}
 use Rattle.pb_codegen.proofs.VerifiedArmRanges.{has_arms}
 use Rattle.pb_codegen.proofs.TextForms.{read_program_formed}
-use Rattle.pb_codegen.proofs.Zips.{partner, mapped_from}
+use Rattle.pb_names.proofs.Holds.{zip_at}
+use Rattle.pb_names.proofs.Wholes.{made_from}
 
 module _ (tree : ProgramSyntax) (program : Program) (claims : Table) (h : CanBeCompiled tree program claims) where
   abbrev code : Code
@@ -55,7 +56,7 @@ module _ (tree : ProgramSyntax) (program : Program) (claims : Table) (h : CanBeC
       → IsFine (resource_names program) process → Holds p (process_code process))
       → (p : ℕ) (c : ProcessCode) → slice_get code.processes p ≡ Some c → Holds p c
   each_code Holds each p c at =
-      let w = mapped_from process_code program.processes p c at in
+      let w = made_from process_code program.processes p c at in
       subst (Holds p) w.2
       (each p w.0 w.1 (fine_process tree program h.formed h.limits h.numbered p w.0 w.1))
 
@@ -78,7 +79,7 @@ module _ (tree : ProgramSyntax) (program : Program) (claims : Table) (h : CanBeC
       All-map IsName (λ (process : Process). process.name) program.processes
       (all_from (λ (process : Process). IsName process.name) program.processes (λ k process at.
       let w =
-      partner (ResolvesProcess (resource_names program)) tree.processes program.processes k process
+      zip_at (ResolvesProcess (resource_names program)) tree.processes program.processes k process
       h.numbered.processes at
       in
       subst IsName (sym w.2.name) (all_at IsFormedProcess tree.processes h.formed.processes k w.0 w.1).name))
@@ -87,7 +88,7 @@ module _ (tree : ProgramSyntax) (program : Program) (claims : Table) (h : CanBeC
   resource_names_formed =
       All-map IsName (λ (resource : Resource). resource.name) program.resources
       (all_from (λ (resource : Resource). IsName resource.name) program.resources (λ k resource at.
-      let w = partner ResolvesResource tree.resources program.resources k resource h.numbered.resources at in
+      let w = zip_at ResolvesResource tree.resources program.resources k resource h.numbered.resources at in
       subst IsName (sym w.2.name)
       (all_at (λ (written : ResourceSyntax). IsName written.name.text) tree.resources h.formed.resources k w.0 w.1)))
 

@@ -13,6 +13,7 @@ use Rattle.pb_debug.specs.Sessions.{Session, nothing, one_more, session_bytes, S
 use Rattle.pb_debug.specs.Value.{Debugging}
 use Rattle.pb_debug.specs.declared.fault.DebugFault.{DebugFault}
 use Rattle.pb_debug.specs.declared.fault.DebugFault.TheVariants.{PastEnd, NoProcess, NoArm, BadCommand, NoMemory, Device}
+use Rattle.pb_base.proofs.DeviceLemmas.{appended-appended}
 
 -- ---- cutting
 
@@ -84,10 +85,6 @@ kept_nothing (b ∷ bs) e = absurd (omega arith)
 
 -- ---- outputs
 
-pub appended-append : (old : Option (List ℕ)) (a b : List ℕ) → appended (appended old a) b ≡ appended old (a ++ b)
-appended-append None a b = refl
-appended-append (Some held) a b = ap Some (append_assoc held a b)
-
 pub appended_none : (old : Option (List ℕ)) → appended old [] ≡ old
 appended_none None = refl
 appended_none (Some held) = ap Some (append-nil held)
@@ -97,7 +94,7 @@ prefix_more old mid new a b e (done, left, parts, written) = (
   a ++ done,
   left,
   ap (λ (t : List ℕ). a ++ t) parts ∙ sym (append_assoc a done left),
-  written ∙ (ap (λ o. appended o done) e ∙ appended-append old a done),
+  written ∙ (ap (λ o. appended o done) e ∙ appended-appended old a done),
 )
 
 pub whole_prefix : (old new : Option (List ℕ)) (a : List ℕ) → new ≡ appended old a → AddsPrefix old new a
@@ -110,7 +107,7 @@ leaves_more PastEnd old mid new a b e h = elim h [ ]
 leaves_more NoProcess old mid new a b e h = elim h [ ]
 leaves_more NoArm old mid new a b e h = elim h [ ]
 leaves_more BadCommand old mid new a b e h = elim h [ ]
-leaves_more NoMemory old mid new a b e h = h ∙ (ap (λ o. appended o b) e ∙ appended-append old a b)
+leaves_more NoMemory old mid new a b e h = h ∙ (ap (λ o. appended o b) e ∙ appended-appended old a b)
 leaves_more Device old mid new a b e h = prefix_more old mid new a b e h
 
 -- ---- sessions
@@ -139,7 +136,7 @@ module _ (d m next : Debugging) (part xs : List ℕ) (old mid new : Option (List
         session =
             subst (λ (k : Cut). Session d k.lines (fed.text ++ said) next) (sym (cut_end part xs))
             (one_more c.lines fed.text m c.rest said next fed.session says);
-        written = written ∙ (ap (λ o. appended o said) fed.written ∙ appended-append old fed.text said);
+        written = written ∙ (ap (λ o. appended o said) fed.written ∙ appended-appended old fed.text said);
         last = ap (λ (k : Cut). kept k.rest) (sym (cut_end part xs));
       }
 
@@ -204,7 +201,7 @@ module _ (d m next : Debugging) (part xs : List ℕ) (old mid new : Option (List
     session =
         subst (λ (ls : List (List ℕ)). Session d ls (fed.text ++ more.text) next) (sym (first_lines part xs ys))
         (sessions d m next _ _ fed.text more.text fed.session more.session);
-    written = more.written ∙ (ap (λ o. appended o more.text) fed.written ∙ appended-append old fed.text more.text);
+    written = more.written ∙ (ap (λ o. appended o more.text) fed.written ∙ appended-appended old fed.text more.text);
     last = more.last ∙ ap (λ (k : Cut). kept k.rest) (sym (cut-append part xs ys));
   }
 
@@ -291,7 +288,7 @@ module _ (d m : Debugging) (bytes : List ℕ) (old mid : Option (List ℕ)) (lin
         session =
             subst (λ (ls : List (List ℕ)). Session d ls (fed.text ++ said) next) lines
             (one_more whole.lines fed.text m whole.rest said next fed.session says);
-        written = written ∙ (ap (λ o. appended o said) fed.written ∙ appended-append old fed.text said);
+        written = written ∙ (ap (λ o. appended o said) fed.written ∙ appended-appended old fed.text said);
       }
 
   -- it stops there

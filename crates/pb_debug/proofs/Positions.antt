@@ -8,16 +8,10 @@ use Rattle.pb_code.specs.declared.labels.ProcessLabels.{ProcessLabels as GivenLa
 use Rattle.pb_code.specs.Limits.{FitLabels}
 use Rattle.pb_code.specs.Reached.{CodeReaches}
 use Rattle.pb_code.specs.View.{process_labels_view}
-use Rattle.pb_verifier.proofs.Banking.{kept_reached}
+use Rattle.pb_verifier.proofs.Banking.{kept_reached, get_some}
 use Rattle.pb_verifier.specs.declared.fault.VerifyFault.TheVariants.{OutOfLimits}
 use Rattle.pb_debug.specs.Value.{Debugging, IsPosition, state_of}
 use Rattle.pb_history.proofs.Positions.{position_reached}
-
--- what a list has at a place within
-pub item : {A : Type 0} (xs : List A) (i : ℕ) → i < length xs → (x : A) × (slice_get xs i ≡ Some x)
-item [] i lt = absurd (omega arith)
-item (x ∷ xs) zero lt = (x, refl)
-item (x ∷ xs) (suc i) lt = item xs i (omega arith)
 
 module _ (d : Debugging) (h : IsPosition d) where
   pub reached : CodeReaches d.verified.code (state_of d)
@@ -36,7 +30,7 @@ module _ (d : Debugging) (h : IsPosition d) where
     -- the number of an arm is small
     pub few_arms : length process.threads ≤ 64
     few_arms =
-        let of = item d.verified.code.processes p in_code in
+        let of = get_some d.verified.code.processes p in_code in
         let threads = ((kept_reached d.verified.code h.verified.annotated (state_of d) reached).good.fit p of.0 process of.1 there).threads in
         let small = ((h.verified.annotated OutOfLimits).each p of.0 of.1).some_arms.1 in
         omega (arith, threads, small)
@@ -44,7 +38,7 @@ module _ (d : Debugging) (h : IsPosition d) where
     -- as many names as integers
     pub named_vars : (l : GivenLabels) → slice_get d.labels p ≡ Some (process_labels_view l) → length l.integers.items ≡ length process.vars
     named_vars l labels_there =
-        let of = item d.verified.code.processes p in_code in
+        let of = get_some d.verified.code.processes p in_code in
         let fit : FitLabels of.0 (process_labels_view l) = h.fit.each p of.0 (process_labels_view l) of.1 labels_there in
         let vars = ((kept_reached d.verified.code h.verified.annotated (state_of d) reached).good.fit p of.0 process of.1 there).vars in
         let names : length (map (λ (name : Vec ℕ Global). name.items) l.integers.items) ≡ length l.integers.items =

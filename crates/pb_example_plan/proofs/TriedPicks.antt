@@ -17,6 +17,7 @@ use Rattle.pb_verifier.proofs.Banking.{kept_reached}
 use Rattle.pb_verifier.specs.declared.fault.VerifyFault.TheVariants.{OutOfLimits}
 use Rattle.pb_verifier.specs.Verified.{VerifiedCode, IsVerified}
 use Rattle.pb_example_plan.specs.Schedule.{MakesSome, MakesSomeOf}
+use Rattle.pb_verifier.proofs.Requests.{same_pick}
 
 -- ---- picks of what is not there
 
@@ -53,10 +54,6 @@ NoArmBelow code s job arm = (pick : Pick) → pick.process ≡ job → pick.arm 
 -- no arm of a job before this one is enabled
 abbrev pub NoJobBelow : Code → State CodeProcess → (job : ℕ) → Type 0
 NoJobBelow code s job = (pick : Pick) → pick.process < job → CodeStays code s pick
-
-same_pick : (a b : Pick) → a.process ≡ b.process → a.arm ≡ b.arm → a ≡ b
-same_pick a b process arm =
-    ap (λ p. record { process = p; arm = a.arm }) process ∙ ap (λ n. record { process = b.process; arm = n }) arm
 
 pub one_more_arm : (code : Code) (s : State CodeProcess) (p n : ℕ) (pick : Pick) → NoArmBelow code s p n → pick.process ≡ p → pick.arm ≡ n
     → CodeStays code s pick → NoArmBelow code s p (n + 1)

@@ -7,6 +7,7 @@ use Rattle.pb_base.specs.declared.pick.Pick.{Pick}
 use Rattle.pb_history.specs.Entries.{Entry, added, are_same, before, entries_of, is_shown, marks, shown, silent, silent_picks, spans_of}
 use Rattle.pb_history.specs.Traces.{SilentPicksAddOneSpan}
 use Rattle.pb_history.specs.declared.span.Span.{Span}
+use Rattle.pb_code.proofs.NameTests.{both_true}
 
 pub same_itself : (p : Pick) → are_same p p ≡ true
 same_itself p = grind (arith, nat_tests)
@@ -14,13 +15,9 @@ same_itself p = grind (arith, nat_tests)
 eq_same : (a b : ℕ) → (a == b) ≡ true → a ≡ b
 eq_same a b h = grind (arith, nat_tests)
 
-both : (a b : Bool) → (a && b) ≡ true → (a ≡ true) × (b ≡ true)
-both true b h = (refl, h)
-both false b h = cc
-
 pub same_pick : (a b : Pick) → are_same a b ≡ true → a ≡ b
 same_pick a b h =
-    let parts = both (a.process == b.process) (a.arm == b.arm) h in
+    let parts = both_true (a.process == b.process) (a.arm == b.arm) h in
     let p = eq_same a.process b.process parts.0 in
     let q = eq_same a.arm b.arm parts.1 in
     let with_process : ℕ → Pick = λ n. record { process = n; arm = a.arm } in
@@ -34,7 +31,7 @@ not_true false h = refl
 -- a span that takes in another shows nothing, and is of its arm
 pub joins_same : (t s : Span) → (not t.shows && are_same t.pick s.pick) ≡ true → (t.shows ≡ false) × (t.pick ≡ s.pick)
 joins_same t s h =
-    let parts = both (not t.shows) (are_same t.pick s.pick) h in
+    let parts = both_true (not t.shows) (are_same t.pick s.pick) h in
     (not_true t.shows parts.0, same_pick t.pick s.pick parts.1)
 
 -- one entry before a span that takes in another

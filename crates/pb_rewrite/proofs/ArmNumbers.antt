@@ -7,12 +7,9 @@ use Rattle.pb_names.specs.Program.{Expr, Block, Skip, Then, Stmt, Set, Write, If
 use Rattle.pb_names.specs.Source.{ExprStep, Is, Becomes, Fails, step_expr, Item, Assign, Print, Choice, Loop, Hold, GiveBack, Parallel, item_of, items_of, Arm, Doing, Waiting, Ended, Running, Nothing, Beside, begin, ArmStep, Goes, Breaks, Ends, evaluate, step_items, step_arm, all_ended, find, find_among, first_some, put, put_among}
 use Rattle.pb_rewrite.specs.Sound.{StmtNames, BlockNames, ArmsName, OwnsBlock, OwnsItem, Owns, size, IsOwned, AreOwned, IsSingle, AreSingle}
 use Rattle.pb_rewrite.proofs.SwappedArms.{first_cases, none_put, none_put_among, none_some}
+use Rattle.pb_names.proofs.NumberedLists.{length-arms_list}
 
 -- ---- the items of a block own what the block owns
-
-length-arms_list : (arms : Arms) → length (arms_list arms) ≡ count arms
-length-arms_list NoArm = refl
-length-arms_list (AndArm arm arms) = ap suc (length-arms_list arms)
 
 owns_item : (n lo hi m : ℕ) (s : Stmt) → StmtNames n s → lo ≤ m → IsNumberedStmt m s → m + length (arms_in_stmt s) ≤ hi → OwnsItem n lo hi (item_of s)
 owns_item n lo hi m (Set line x e) k l h u = tt
