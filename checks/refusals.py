@@ -28,9 +28,9 @@ PAGE = re.compile(
 )
 HEAD = """# Refusals
 
-What each refusal of an input means, an example that is refused so, and what to do about it. checks/refusals.py writes
-this page from what `parbegin explain` says, and makes the calls. docs/FORMATS.md has the order in which the causes are
-looked for.
+What each refusal of an input means, an example that is refused so, and what to do about it.
+checks/refusals.py writes this page from what `parbegin explain` says, and makes the calls. docs/FORMATS.md
+has the order in which the causes are looked for.
 """
 
 

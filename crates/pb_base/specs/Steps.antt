@@ -1,4 +1,4 @@
--- What one pick does, and what something that makes picks answers.
+-- What one pick does, and what something that makes picks returns.
 use Rattle.std.specs.Prelude.{◌≡◌, Option, Some, None}
 use Rattle.pb_base.specs.declared.event.Event.{Event}
 use Rattle.pb_base.specs.declared.pick.Pick.{Pick}

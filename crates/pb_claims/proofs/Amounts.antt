@@ -9,7 +9,7 @@ use Rattle.std.proofs.lemmas.List.Sums.{sum_by_more}
 use Rattle.std.proofs.lemmas.List.Elements.{All-head, All-tail}
 use Rattle.pb_base.specs.declared.pair.Pair.{Pair}
 use Rattle.pb_base.specs.Bundle.{IsDistinct, amount_in}
-use Rattle.pb_base.proofs.Lending.{amount_of_pair, amount_in-cons}
+use Rattle.pb_base.proofs.Lending.{amount_of_pair, amount_in-cons, IsDistinct-tail}
 use Rattle.pb_tree.specs.Syntax.{DemandSyntax}
 use Rattle.pb_names.specs.Program.{Name}
 use Rattle.pb_names.specs.Resolves.{ResolvesDemand, ResolvesDemands}
@@ -41,9 +41,6 @@ amount_in-none (pair ∷ pairs) r h =
       | inr e ↦ (let none : amount_of_pair r pair ≡ 0 = rw e.0 refl in omega arith)
     ]
 
-later_distinct : (pair : Pair) (pairs : List Pair) → IsDistinct (pair ∷ pairs) → IsDistinct pairs
-later_distinct pair pairs h = λ i j d less within. h (suc i) (suc j) d (omega arith) (omega arith)
-
 first_distinct : (pair : Pair) (pairs : List Pair) → IsDistinct (pair ∷ pairs)
     → All (λ p. pair.resource ≢ p.resource) pairs
 first_distinct pair pairs h = λ k d within. h zero (suc k) d (omega arith) (omega arith)
@@ -62,7 +59,7 @@ amount_in-le (pair ∷ pairs) most r distinct small =
           omega arith)
       | inr e ↦
           (let none : amount_of_pair r pair ≡ 0 = rw e.0 refl in
-          let rest = amount_in-le pairs most r (later_distinct pair pairs distinct)
+          let rest = amount_in-le pairs most r (IsDistinct-tail pair pairs distinct)
           (All-tail (λ p. p.amount ≤ most) pair pairs small) in
           omega arith)
     ]

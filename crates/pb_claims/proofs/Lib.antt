@@ -1,7 +1,7 @@
 pub mod Amounts
 pub mod Bounds
+pub mod GreatestRuns
 pub mod NoMore
 pub mod OnePass
-pub mod Reaching
 pub mod Rows
 pub mod Walks

@@ -33,7 +33,7 @@ pub fn infer<A: Allocator>(alloc: Global, program: &Resolved<A>) -> Result<Claim
     claims_with(alloc, &rows)
 }
 
-/// For each process the row of its claims.
+/// Returns for each process the row of its claims.
 fn rows_of<A: Allocator>(
     alloc: Global,
     processes: &Vec<Process<A>, A>,

@@ -83,8 +83,8 @@ abbrev pub TellsDebugFaults : (live : Bool) → Devices → Devices → Status �
 TellsDebugFaults true = TellsAnyFault
 TellsDebugFaults false = TellsFaults
 
--- a device that fails is reported, and nothing is written if a read fails; `debug --live` alone may have answered the
--- commands before that read
+-- a device that fails is reported, and nothing is written if a read fails; `debug --live` alone may have
+-- carried out the commands before that read
 abbrev pub CallTellsFaults : List (Bor Text) → Devices → Devices → Status → Type 0
 CallTellsFaults words old new status =
     TellsFaults old new status

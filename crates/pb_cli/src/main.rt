@@ -28,7 +28,7 @@ fn start<R: env::Env + AllocGlobal + Threads + Wait + Sync>(
         Ok(words) => words.collect::<Vec<String>>(alloc),
         Err(error) if error.kind() == ErrorKind::OutOfMemory => Err(AllocError),
         Err(_) => {
-            let text = b"error: the words of the call are no UTF-8";
+            let text = b"error: the words of the call are not UTF-8";
             return Page::new(alloc).finish_with(output, text, Status::Words);
         }
     };

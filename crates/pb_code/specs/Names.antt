@@ -11,7 +11,8 @@ Word = List ℕ
 abbrev pub is_name_byte : ℕ → Bool
 is_name_byte b = is_ascii_alphabetic b || is_ascii_digit b || b == 95
 
--- the words of the language that are no names
+-- the words of the language that are not names, in alphabetical order. They are the words of the lexer:
+-- reserved_are_words in crates/pb_codegen/proofs/TextTokens.antt proves that both lists are one
 abbrev pub reserved_words : List Word
 reserved_words =
     codes "and" ∷ codes "begin" ∷ codes "div" ∷ codes "do" ∷ codes "else" ∷ codes "end" ∷ codes "fi"
@@ -23,7 +24,7 @@ reserved_words =
 abbrev pub is_among : List Word → Word → Bool
 is_among words word = list_any (λ w. bytes_eq word w) words
 
--- a letter, then letters, digits or `_`, up to 32 bytes, that is no reserved word
+-- a letter, then letters, digits or `_`, up to 32 bytes, not a reserved word
 unfoldable pub is_name : Word → Bool
 is_name [] = false
 is_name (b ∷ bs) =

@@ -54,7 +54,7 @@ pub record IsCompiled (text : List ℕ) (code : Code) (labels : List ProcessLabe
 -- ---- refusals
 
 -- the cause of a fault of the grammar, for the tokens of a text, and none that is looked for before it: they nest too
--- deep, are no program, are one that is too high, or are one that is too large
+-- deep, are not a program, are one that is too high, or are one that is too large
 abbrev pub IsParseFault : List Token → ParseFault → Type 0
 IsParseFault tokens (parse.Syntax at) = (¬ NestsTooDeep tokens) × IsNoProgram tokens
 IsParseFault tokens parse.TooDeep = NestsTooDeep tokens ⊎ IsTooHigh tokens
@@ -74,7 +74,7 @@ pub record IsClaimsFault (program : Program) (claims : Table) (fault : ClaimsFau
   pub first : IsFirstOver claims (capital_of program) over
   pub named : NamesClaim program over fault
 
--- the fault stands in the text, and nothing before it refuses the text; being out of memory is always `Memory`
+-- the fault is in the text, and nothing before it refuses the text; being out of memory is always `Memory`
 abbrev pub IsRefused : List ℕ → CompileFault → Type 0
 IsRefused text (Lex lex.NoMemory) = ⊥
 IsRefused text (Lex fault) = Refuses text fault

@@ -1,4 +1,5 @@
--- What has been written of a process: its instructions as contracts see them, and how a writer grows.
+-- What has been written of a process: its instructions as contracts see them, and how a writer grows. No
+-- public contract cites this file.
 use Rattle.std.specs.Prelude.{◌≡◌, ℕ, ◌+◌, ◌≤◌, List, ◌++◌, All, length, map, Option, slice_set}
 use Rattle.pb_code.specs.Code.{Instr}
 use Rattle.pb_code.specs.Bundles.{Extends, NamesBelow}
@@ -30,7 +31,7 @@ pub record Adds (old new : Writer) (code : List Instr) (lines : List (Option ℕ
   pub kept : Extends old.bundles.items new.bundles.items
   pub sound : IsSound new
 
--- another instruction stands at a place, and nothing else changed
+-- another instruction is at a place, and nothing else changed
 pub record Replaces (old new : Writer) (at : ℕ) (i : Instr) : Type 0 where
   pub coded : seen new ≡ slice_set (seen old) at i
   pub lined : new.lines.items ≡ old.lines.items

@@ -19,7 +19,7 @@ SourceReaches program claims s =
     × Makes (bank_with program claims) source_step
     (opening (bank_with program claims) (map source_process program.processes)) picks events s
 
--- whatever arm stands at a request, it is within the claim, whether or not the banker allows it
+-- whatever arm is at a request, it is within the claim, whether or not the banker allows it
 abbrev pub SourceAsksWithin : Program → Table → State SourceProcess → Type 0
 SourceAsksWithin program claims s =
     (pick : Pick) (move : Move SourceProcess) (bundle : Bundle) → move_of source_step s pick ≡ Some move

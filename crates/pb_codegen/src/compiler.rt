@@ -29,7 +29,7 @@ pub struct Analysis<A: Allocator> {
 }
 
 /// Numbers the program of a text and infers its claims, whether or not the capital is enough for them. The
-/// program lies in the memory of `trees`.
+/// program is in the memory of `trees`.
 ///
 /// A text is refused by the first of the parts that finds a fault in it, in the order of `CompileFault`. An
 /// error is `Memory` if memory is refused at any time, also before a later part has looked at the text.

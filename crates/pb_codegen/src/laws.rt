@@ -65,7 +65,7 @@ pub fn accepted_texts_have_sound_code()
         → AreClaims program claims → FitCapital claims (capital_of program) → HasSoundCode program claims }
 {}
 
-/// In no state that the source of a program reaches under its claims does an arm stand at a request beyond
+/// In no state that the source of a program reaches under its claims is an arm at a request beyond
 /// its claim.
 pub fn source_requests_stay_within_claims()
     ensures { (tree : ProgramSyntax) (program : Program) (claims : Table)

@@ -17,8 +17,8 @@ CanAppend d = (d.position ≡ length d.picks) × (length d.picks < 10000000)
 abbrev pub appended : Debugging → Pick → Debugging
 appended d pick = moved_to (record d { picks = d.picks ++ pick ∷ [] }) (length d.picks + 1)
 
--- what a pick comes to in the state at the position, and where the debugger then stands: an enabled pick is appended, and any other
--- changes nothing
+-- what a pick comes to in the state at the position, and where the debugger then is: an enabled pick is
+-- appended, and any other changes nothing
 abbrev pub Tries : Debugging → Pick → Step → Debugging → Type 0
 Tries d pick Silent next =
     CodeMoves d.verified.code (state_of d) pick None (state_of next) × (next ≡ appended d pick)

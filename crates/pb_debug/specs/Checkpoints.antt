@@ -21,7 +21,7 @@ view_of d = record {
   interval = d.interval;
 }
 
--- the code is verified; a machine stands at the position, and one at each multiple of the distance up to the last
+-- the code is verified; a machine is at the position, and one at each multiple of the distance up to the last
 pub record IsSound (d : Inside) : Type 0 where
   pub verified : IsVerified d.verified.now
   pub enabled : AreEnabled d.verified.now.code (picks_of d.trace.entries)

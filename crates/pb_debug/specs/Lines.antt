@@ -1,7 +1,7 @@
 -- The lines of bytes: each ends in a line feed, which the last may lack.
 use Rattle.std.specs.Prelude.{ℕ, zero, suc, cond, ◌==◌, List, [], ◌∷◌, ◌++◌, Option, None, slice_get}
 
--- lines that a line feed ends, and what stands behind the last
+-- lines that a line feed ends, and what is after the last
 pub record Cut : Type 0 where
   pub lines : List (List ℕ)
   pub rest : List ℕ

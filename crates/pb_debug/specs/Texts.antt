@@ -63,7 +63,7 @@ var_text name value = line (name ++ codes " " ++ signed_decimal value)
 abbrev pub vars_text : List (List ℕ) → List ℤ → List ℕ
 vars_text names vars = each_below (λ x. var_text (name_of names x) (slice_index_or vars x (pos 0))) (length vars)
 
--- where an arm stands
+-- where an arm is
 abbrev pub standing_text : Thread → List ℕ
 standing_text Idle = codes " idle"
 standing_text (Live place stack) = codes " at " ++ decimal place

@@ -9,7 +9,7 @@ use Rattle.pb_debug.specs.Value.{Debugging, state_of, bank_state}
 use Rattle.pb_debug.specs.declared.why.Why.{Why}
 use Rattle.pb_debug.specs.declared.why.Why.TheVariants.{NotAsking, Cash, Order, Rest}
 
--- an arm of a process stands live at a request for a bundle
+-- an arm of a process is live, at a request for a bundle
 abbrev pub Asks : Debugging → (p a : ℕ) → Bundle → Type 0
 Asks d p a bundle = StandsIn d.verified.code (state_of d) (record { process = p; arm = a }) (Take bundle)
 

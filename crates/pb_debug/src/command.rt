@@ -10,6 +10,7 @@ use crate::words::{
 };
 
 /// A command of a session.
+// To add one: specs/{Commands,View,Spellings,Answers,Texts}, answer.rt, text.rt; docs/CHANGING.md.
 #[derive(Clone, Copy)]
 pub(crate) enum Command<'t> {
     /// `to I`

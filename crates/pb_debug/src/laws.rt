@@ -3,7 +3,7 @@
 ghost use Rattle.pb_debug.specs.Following.{CodeFollowsSource};
 ghost use Rattle.pb_debug.specs.Spellings.{CommandsBySpelling};
 
-/// At each position of enabled picks of the code of a text, the program of the text stands after their shadow, and the
+/// At each position of enabled picks of the code of a text, the program of the text is after their shadow, and the
 /// line of each live arm is the line of that arm's first statement there, none if its list is empty.
 pub fn code_follows_source()
     ensures { CodeFollowsSource }

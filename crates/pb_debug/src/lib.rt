@@ -1,4 +1,4 @@
-//! The debugger: positions in a run, what stands there, and sessions of commands.
+//! The debugger: positions in a run, the state there, and sessions of commands.
 #![tactic(auto)]
 
 mod answer;

@@ -1,4 +1,4 @@
-//! What stands at a position.
+//! The state at a position.
 
 ghost use Rattle.std.specs.Prelude.{◌≡◌, ◌≤◌, length, IfOk, IfErr, Some, slice_get};
 ghost use Rattle.pb_debug.specs.Refusals.{HasArm, HasNoProcess, IsMissing};
@@ -43,7 +43,7 @@ impl<'c> Debugger<'c> {
         self.walker.machine.banker()
     }
 
-    /// Returns the source line at which an arm of a process stands at the position: that of its place if it is live,
+    /// Returns the source line at which an arm of a process is at the position: that of its place if it is live,
     /// none for any other. `NoProcess` or `NoArm` if there is no such process or arm.
     pub fn line(&self, p: usize, arm: usize) -> Result<Option<u32>, DebugFault>
         ensures line { IfOk result (IsLine self.now p arm) }

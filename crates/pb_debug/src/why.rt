@@ -23,7 +23,7 @@ use std::alloc::Global;
 /// Why an arm does not go on, or may.
 #[derive(Drop)]
 pub enum Why {
-    /// It does not stand at a request.
+    /// It is not at a request.
     NotAsking,
     /// It asks for more of a resource than there is cash of it: the first such resource of its request, and its cash.
     Cash { resource: u8, cash: u32 },
@@ -79,7 +79,7 @@ fn reason(alloc: Global, banker: &Banker, p: usize, bundle: &Bundle) -> Result<W
     }
 }
 
-/// Returns the bundle for which an arm asks, if it stands at a request.
+/// Returns the bundle for which an arm asks, if it is at a request.
 pub(crate) fn asked<'c>(code: &'c ProcessCode, thread: &Thread) -> Option<&'c Bundle>
     requires { NamesBundles code.now }
     ensures some { IfSome result (λ bundle. StandsAtTake (process_view code.entry.now) (thread_view thread.now) bundle.now) }

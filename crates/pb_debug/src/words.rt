@@ -81,7 +81,7 @@ fn are_name_bytes(word: &[u8]) -> bool
     word.iter().all(|b| is_name_byte(*b))
 }
 
-/// Whether a word looks like a name: a letter, then letters, digits or `_`.
+/// Returns whether a word looks like a name: a letter, then letters, digits or `_`.
 pub(crate) fn is_word(word: &[u8]) -> bool
     ensures { result ≡ spec.is_word word.now }
 {

@@ -1,6 +1,5 @@
 -- From what a session says to what is said of its commands.
-use Rattle.std.proofs.Common.{◌≡◌, ◌≢◌, ◌++◌, ℕ, List, [], Option, refl, inl, inr, ap, ◌∙◌}
-use Rattle.pb_base.specs.Device.{one_more_failure}
+use Rattle.std.proofs.Common.{◌≡◌, ◌≢◌, ◌++◌, ℕ, List, [], Option, refl, inl, inr}
 use Rattle.pb_debug.specs.Sessions.{SaysAll, SaysSome, CountsBoth}
 use Rattle.pb_debug.specs.Value.{Debugging}
 use Rattle.pb_debug.specs.declared.fault.DebugFault.{DebugFault}
@@ -8,7 +7,7 @@ use Rattle.pb_debug.specs.declared.fault.DebugFault.TheVariants as fault
 use Rattle.pb_debug_engine.specs.Debugs.{SaysOfSession, answered, out_of_memory, broken_off}
 use Rattle.pb_debug_engine.specs.Faults.{TellsAnyFault}
 use Rattle.pb_engines.specs.Answers.{Says, Tells, memory_line}
-use Rattle.pb_engines.specs.Faults.{Devices, TellsWriteFaults}
+use Rattle.pb_engines.specs.Faults.{Devices}
 use Rattle.pb_engines.specs.declared.status.Status.{Status}
 use Rattle.pb_engines.specs.declared.status.Status.TheVariants.{Done, Memory, Device}
 use Rattle.pb_engines.proofs.PageLemmas.{Says-first, Says-then}
@@ -53,11 +52,3 @@ one_failed fault.NoArm old new other counts = elim counts [ ]
 one_failed fault.BadCommand old new other counts = elim counts [ ]
 one_failed fault.NoMemory old new other counts = absurd (other refl)
 one_failed fault.Device old new other counts = (λ none. absurd (none refl), λ same. counts)
-
--- none failed, and then a text is written
-pub none_failed_yet : (old mid new : Devices) (status : Status) → mid.reads ≡ old.reads → mid.writes ≡ old.writes
-    → new.reads ≡ mid.reads → TellsWriteFaults mid.writes new.writes status → TellsAnyFault old new status
-none_failed_yet old mid new status reads writes still (none, one) = (
-  λ no_device. (still ∙ reads, none no_device ∙ writes),
-  λ device. inr (still ∙ reads, one device ∙ ap one_more_failure writes),
-)

@@ -12,7 +12,7 @@ use pb_engines::input::LONGEST_INPUT;
 use pb_engines::parts::{is_mark_at, two_parts};
 use std::alloc::Global;
 
-// Whether a text ends with a line `%%` and its line feed.
+// Returns whether a text ends with a line `%%` and its line feed.
 fn ends_in_mark(text: &[u8]) -> bool
     ensures { IsTrue result ↔ EndsInMark text.now }
 {
@@ -20,7 +20,7 @@ fn ends_in_mark(text: &[u8]) -> bool
 }
 
 // Reads what an input has before its first line `%%`, and that line. It reads a byte at a time, since whoever reads on
-// is to have all that stands behind that line.
+// is to have all that is after that line.
 fn read_part<I: Input>(alloc: Global, input: &mut I) -> Result<Vec<u8>, ReadFault>
     ensures part { IfOk result (λ part. IfSome (I.rest input.old) (λ bytes.
         (rest : List ℕ) × (I.rest input.new ≡ Some rest) × AreTwoParts bytes part.items rest)) }
@@ -57,7 +57,7 @@ fn read_part<I: Input>(alloc: Global, input: &mut I) -> Result<Vec<u8>, ReadFaul
     }
 }
 
-/// What stands before the commands of an input.
+/// What is before the commands of an input.
 #[derive(Drop)]
 pub struct FirstParts {
     /// A text or an object.
@@ -66,7 +66,7 @@ pub struct FirstParts {
     pub lines: Vec<u8>,
 }
 
-/// Reads the two parts of an input that stand before its commands, with the lines `%%` behind them. The commands are
+/// Reads the two parts of an input that are before its commands, with the lines `%%` behind them. The commands are
 /// left to be read.
 pub fn read_first_parts<I: Input>(alloc: Global, input: &mut I) -> Result<FirstParts, ReadFault>
     ensures parts { IfOk result (λ parts. IfSome (I.rest input.old) (λ bytes.

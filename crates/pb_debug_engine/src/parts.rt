@@ -22,7 +22,7 @@ use pb_picks::read_picks;
 use pb_verifier::Verified;
 use std::alloc::Global;
 
-// Whether a first part is an object. No text begins so.
+// Returns whether a first part is an object. No text begins so.
 fn is_object(source: &[u8]) -> bool
     ensures { IsTrue result ↔ IsObject source.now }
 {

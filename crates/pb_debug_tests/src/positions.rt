@@ -1,4 +1,4 @@
-//! Positions in a replay, and what stands there.
+//! Positions in a replay, and the state there.
 
 ghost use Rattle.std.specs.Prelude.{◌≤◌, length};
 ghost use Rattle.pb_history.specs.Replays.{spread};

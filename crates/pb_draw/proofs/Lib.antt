@@ -1,4 +1,4 @@
-pub mod Curving
-pub mod Laning
-pub mod Marking
-pub mod Walking
+pub mod Curves
+pub mod LaneSteps
+pub mod PickMarks
+pub mod Walks

@@ -32,7 +32,7 @@ pub struct Bar {
     pub returned: Option<u32>,
 }
 
-/// How an arm stands.
+/// The state of an arm.
 #[derive(Clone, Copy, Debug, PartialEq, Eq)]
 pub enum Standing {
     /// It is not live.
@@ -43,21 +43,21 @@ pub enum Standing {
     Waiting,
 }
 
-/// From a position on an arm stands so.
+/// The state of an arm from a position on.
 #[derive(Clone, Copy)]
 pub struct LaneStep {
     pub at: u32,
     pub standing: Standing,
 }
 
-/// How an arm stands at each position.
+/// The state of an arm at each position.
 #[derive(Drop)]
 pub struct Lane {
     pub pick: Pick,
     pub steps: Vec<LaneStep>,
 }
 
-/// From a position on there is so much cash.
+/// The cash from a position on.
 #[derive(Clone, Copy)]
 pub struct CashStep {
     pub at: u32,

@@ -1,4 +1,4 @@
-//! How each arm stands over a run.
+//! The state of each arm over a run.
 
 ghost use Rattle.std.specs.Prelude.{◌≡◌, ◌↔◌, ◌-◌, ◌<◌, ℕ, List, IfOk, IsTrue, OnOk, length, slice_get};
 ghost use Rattle.pb_code.specs.View.{instr_view};
@@ -55,7 +55,7 @@ fn asks(instr: Instr) -> bool
     }
 }
 
-// Returns how an arm stands.
+// Returns the state of an arm.
 fn standing_of(verified: &Verified, machine: &Machine, p: usize, arm: usize) -> Standing
     ensures { result ≡ standing_in (slice_get verified.now.code.processes p)
         (slice_get (machine_view machine.now).processes p) arm }
@@ -92,7 +92,7 @@ fn is_same(a: Standing, b: Standing) -> bool
     a == b
 }
 
-// Adds a step to a lane if its arm stands otherwise than it did.
+// Adds a step to a lane if the state of its arm is another than it was.
 fn add_step(
     steps: &mut Vec<LaneStep>,
     last: Standing,
@@ -110,7 +110,7 @@ fn add_step(
     Ok(())
 }
 
-// Returns how an arm stands at each position.
+// Returns the state of an arm at each position.
 fn lane_of(alloc: Global, verified: &Verified, trace: &Trace, pick: Pick) -> Result<Lane, NoMemory>
     requires { AreEnabled verified.now.code (picks_of trace.now.entries) }
     ensures lane { IfOk result (IsLane verified.now.code (picks_of trace.now.entries) pick.process pick.arm) }
@@ -154,7 +154,7 @@ fn add_lanes(
     Ok(())
 }
 
-/// Returns how each arm of each process stands at each position.
+/// Returns the state of each arm of each process at each position.
 pub(crate) fn lanes_of(
     alloc: Global,
     verified: &Verified,

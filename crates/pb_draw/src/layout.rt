@@ -252,7 +252,7 @@ const OTHER_NOTE: &[u8] =
 
 const LEAST_WIDTH: u64 = 560;
 
-// Returns how the line of an arm is drawn that stands so; it has none unless it is live.
+// Returns how the line of an arm in this state is drawn; it has none unless it is live.
 fn line_kind(step: LaneStep) -> Option<RectKind> {
     match step.standing {
         Standing::Away => None,

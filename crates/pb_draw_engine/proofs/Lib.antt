@@ -1,2 +1,2 @@
 pub mod DrawLemmas
-pub mod Ending
+pub mod ReplayStatus

@@ -107,8 +107,8 @@ fn has_fault(machine: &Machine) -> bool
     false
 }
 
-// Returns the status of a replay that stands here.
-#[tactic(auto, using(crate::proofs::Ending::faulted, crate::proofs::Ending::whole))]
+// Returns the status of a replay that has come to here.
+#[tactic(auto, using(crate::proofs::ReplayStatus::faulted, crate::proofs::ReplayStatus::whole))]
 fn status_at(machine: &Machine) -> Status
     ensures status { IsStatusAt (machine_view machine.now) result }
     ensures no_device { result ≢ Device }

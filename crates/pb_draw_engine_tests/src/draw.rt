@@ -13,7 +13,7 @@ struct Case {
     status: Status,
 }
 
-/// What stands in each picture between its size and its shapes.
+/// What is in each picture between its size and its shapes.
 const LOOKS: &[u8] =
     b"\">\n<title>A run, pick by pick</title>\n<style>\ntext{font:11px monospace;fill:#000}\n.name{font-weight:bold}\n.number,.silent,.note{fill:#555;font-size:10px}\n.amount{font-size:10px}\n.paper{fill:#fff}\n.gap{fill:#eee}\n.going{fill:#999}\n.waiting{fill:url(#hatch);stroke:#000;stroke-width:.5}\n.hold{fill:#cde;stroke:#000;stroke-width:.5}\n.cash{fill:#ded}\n.level{fill:#262}\n.print path{fill:#fff;stroke:#000;stroke-width:1.5}\n.fault path{stroke:#c00;stroke-width:2.5}\n</style>\n<defs><pattern id=\"hatch\" width=\"5\" height=\"5\" patternUnits=\"userSpaceOnUse\"><path d=\"M0 5L5 0\" stroke=\"#000\"/></pattern></defs>\n<rect class=\"paper\" width=\"100%\" height=\"100%\"/>\n";
 

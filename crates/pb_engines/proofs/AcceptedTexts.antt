@@ -3,7 +3,7 @@ use Rattle.std.proofs.Common.{◌≡◌, ◌≢◌, ℕ, List, inl, inr, sym, su
 use Rattle.pb_base.specs.Steppers.{Table}
 use Rattle.pb_claims.specs.Fits.{FitCapital, IsFirstOver}
 use Rattle.pb_claims.specs.declared.over_capital.OverCapital.{OverCapital}
-use Rattle.pb_codegen.proofs.OneCode.{one_analysis}
+use Rattle.pb_codegen.proofs.TextOneCode.{one_analysis}
 use Rattle.pb_codegen.specs.Compiled.{IsParseFault, IsRefused}
 use Rattle.pb_codegen.specs.Numbered.{IsNumbered, Spells}
 use Rattle.pb_codegen.specs.declared.fault.CompileFault.TheVariants.{Lex, Names}

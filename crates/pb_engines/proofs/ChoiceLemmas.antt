@@ -24,7 +24,8 @@ use Rattle.pb_engines.specs.Choices.{AreInOrder, AreCandidatesBefore, AreCandida
 use Rattle.pb_engines.specs.Draws.{Draws, DrawsPick, drawn_number, hit, struck}
 use Rattle.pb_engines.specs.Runs.{IsDone}
 use Rattle.pb_engines.proofs.GrantLemmas.{IsEnabled, enabled_or_not}
-use Rattle.pb_engines.proofs.ScheduleLemmas.{looks_staying, no_step_beyond, same_pick}
+use Rattle.pb_engines.proofs.ScheduleLemmas.{looks_staying, no_step_beyond}
+use Rattle.pb_verifier.proofs.Requests.{same_pick}
 
 -- ---- arms and processes that are not there
 

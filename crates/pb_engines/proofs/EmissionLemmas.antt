@@ -7,7 +7,7 @@ use Rattle.pb_code.specs.Whole.{Code, ProcessLabels}
 use Rattle.pb_object.specs.declared.format.Format.TheVariants.{One, Two}
 use Rattle.pb_verifier.specs.Verified.{IsVerified, VerifiedCode}
 use Rattle.pb_verifier.specs.declared.fault.VerifyFault.TheVariants.{OutOfLimits}
-use Rattle.pb_object.proofs.Sayable.{first_text, ranges_text}
+use Rattle.pb_object.proofs.SayableCode.{first_text, ranges_text}
 use Rattle.pb_engines.specs.Answers.{line}
 use Rattle.pb_engines.specs.Emissions.{SaysOfObject, beyond_first, written}
 use Rattle.pb_engines.specs.declared.status.Status.TheVariants.{Done, Refused}

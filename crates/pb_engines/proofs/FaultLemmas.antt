@@ -20,6 +20,7 @@ use Rattle.pb_verifier.proofs.Turns.{turned}
 use Rattle.pb_verifier.specs.Verified.{VerifiedCode, IsVerified}
 use Rattle.pb_engines.specs.Outcomes.{ShowsFault}
 use Rattle.pb_engines.specs.Runs.{HasFault}
+use Rattle.pb_verifier.proofs.Requests.{slice_set_here}
 
 -- ---- effects
 
@@ -43,12 +44,6 @@ shown_fault pick other kind (effect.Faults k) is = (k, refl)
 shown_fault pick other kind effect.Finishes is = absurd cc
 
 -- ---- one pick
-
--- what an index finds after a write there
-set_within : {X : Type 0} (xs : List X) (i : ℕ) (x y : X) → slice_get xs i ≡ Some y → slice_get (slice_set xs i x) i ≡ Some x
-set_within [] i x y there = absurd cc
-set_within (z ∷ xs) zero x y there = refl
-set_within (z ∷ xs) (suc i) x y there = set_within xs i x y there
 
 same_or_not : (i j : ℕ) → (i ≡ j) ⊎ (i ≢ j)
 same_or_not i j = elim (cases_lt i j) [
@@ -104,14 +99,14 @@ module _ (v : VerifiedCode) (verified : IsVerified v) where
               | inl (kind, fault) ↦ (
                 pick.process,
                 m.after,
-                at m.after pick.process (set_within s.processes
+                at m.after pick.process (slice_set_here s.processes
                     pick.process m.after m.before m.here),
                 turn.fails kind fault,
               )
               | inr none ↦ (
                 pick.process,
                 m.after,
-                at m.after pick.process (set_within s.processes pick.process m.after
+                at m.after pick.process (slice_set_here s.processes pick.process m.after
                     m.before m.here),
                 turn.stays none ∙ (ap (λ (q : CodeProcess). q.faulted) (sym before) ∙
                     faulted),
@@ -133,7 +128,7 @@ module _ (v : VerifiedCode) (verified : IsVerified v) where
         pick.process,
         m.after,
         subst (λ (ps : List CodeProcess). slice_get ps pick.process ≡ Some m.after) processes
-            (set_within s.processes pick.process m.after m.before m.here),
+            (slice_set_here s.processes pick.process m.after m.before m.here),
         turn.fails fault.0 (same ∙ fault.1),
       )
 

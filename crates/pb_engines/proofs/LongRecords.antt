@@ -36,9 +36,9 @@ use Rattle.pb_engines.proofs.ChoiceLemmas.{draws_on}
 use Rattle.pb_engines.proofs.RecordLemmas.{LeadTo, is_recorded, recorded_can_be_said}
 use Rattle.pb_engines.proofs.ReportLemmas.{report_is_recorded}
 use Rattle.pb_engines.proofs.RunLemmas.{CodeMakes, makes_last}
-use Rattle.pb_engines.proofs.ScheduleLemmas.{same_pick}
 use Rattle.pb_engines.proofs.SpanLemmas.{AreCounted, picks_of_spans}
 use Rattle.rand_pcg.specs.Lcg.{Lcg}
+use Rattle.pb_verifier.proofs.Requests.{same_pick}
 
 -- ---- one more pick, counted
 

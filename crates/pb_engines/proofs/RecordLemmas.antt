@@ -21,7 +21,7 @@ use Rattle.pb_machine.specs.Steps.{MovesSilently}
 use Rattle.pb_picks.specs.Counted.{AreApart}
 use Rattle.pb_picks.specs.Laws.{CanBeSaid}
 use Rattle.pb_picks.specs.PickLines.{Says, pick_line, pick_lines}
-use Rattle.pb_verifier.proofs.Banking.{kept_reached}
+use Rattle.pb_verifier.proofs.Banking.{kept_reached, get_some}
 use Rattle.pb_verifier.specs.Verified.{IsAnnotated}
 use Rattle.pb_verifier.specs.declared.fault.VerifyFault.TheVariants.{OutOfLimits}
 use Rattle.pb_workers.specs.declared.fault.RunFault.{RunFault}
@@ -135,11 +135,6 @@ is_recorded code steps left seed picks state lead many apart used drawn = record
 
 -- ---- each pick can be said
 
-found : {X : Type 0} (xs : List X) (i : ℕ) → i < length xs → (x : X) × (slice_get xs i ≡ Some x)
-found [] i lt = absurd (omega arith)
-found (x ∷ xs) zero lt = (x, refl)
-found (x ∷ xs) (suc i) lt = found xs i (omega arith)
-
 -- the process and the arm of a pick are there
 abbrev IsThere : Code → Pick → Type 0
 IsThere code pick = (process : ProcessCode) × (slice_get code.processes pick.process ≡ Some process) × (pick.arm < length process.entries)
@@ -152,8 +147,8 @@ module _ (code : Code) (annotated : IsAnnotated code) where
     | inl lt ↦
         let good = (kept_reached code annotated s reached).good in
         let count = good.count in
-        let state = found s.processes pick.process lt in
-        let process = found code.processes pick.process (omega (arith, lt, count)) in
+        let state = get_some s.processes pick.process lt in
+        let process = get_some code.processes pick.process (omega (arith, lt, count)) in
         let threads = (good.fit pick.process process.0 state.0 process.1 state.1).threads in
         elim (cases_lt pick.arm (length state.0.threads)) [
           | inl arm ↦ (process.0, process.1, omega (arith, arm, threads))

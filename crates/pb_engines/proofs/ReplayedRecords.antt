@@ -10,8 +10,8 @@ use Rattle.pb_code.specs.Code.{CodeProcess, code_step}
 use Rattle.pb_code.specs.Limits.{KeepsLimits}
 use Rattle.pb_code.specs.Reached.{CodeStays}
 use Rattle.pb_code.specs.Whole.{Code, ProcessLabels, bank_of, code_opening}
-use Rattle.pb_codegen.proofs.Compiling.{sound}
-use Rattle.pb_codegen.proofs.OneCode.{one_code}
+use Rattle.pb_codegen.proofs.TextOutcomes.{sound}
+use Rattle.pb_codegen.proofs.TextOneCode.{one_code}
 use Rattle.pb_codegen.specs.Compiled.{IsCompiled}
 use Rattle.pb_history.specs.Entries.{Entry, events_of, picks_of}
 use Rattle.pb_history.specs.Leads.{Leads}
@@ -20,7 +20,7 @@ use Rattle.pb_history.specs.declared.counted.CountedPick.{CountedPick}
 use Rattle.pb_history.specs.declared.fault.ReplayFault.{ReplayFault}
 use Rattle.pb_history.specs.declared.fault.ReplayFault.TheVariants.{NotEnabled, NoMemory}
 use Rattle.pb_names.specs.Program.{capital_of}
-use Rattle.pb_picks.proofs.Spelling.{lines_spell, spelled_is_not_faulty, spells_at_most_one}
+use Rattle.pb_picks.proofs.PickSpellings.{lines_spell, spelled_is_not_faulty, spells_at_most_one}
 use Rattle.pb_picks.specs.PickLines.{SpellsPicks, pick_lines}
 use Rattle.pb_verifier.specs.Verified.{IsAnnotated}
 use Rattle.pb_verifier.specs.declared.fault.VerifyFault.TheVariants.{OutOfLimits}

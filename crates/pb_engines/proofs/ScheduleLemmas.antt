@@ -75,10 +75,6 @@ some_made code s after pick (suc made) max silent some moves stops = omega arith
 
 -- ---- numbers of picks
 
-pub same_pick : (a b : Pick) → a.process ≡ b.process → a.arm ≡ b.arm → a ≡ b
-same_pick a b process arm =
-    ap (λ p. record { process = p; arm = a.arm }) process ∙ ap (λ n. record { process = b.process; arm = n }) arm
-
 -- ---- numbers of arms and processes fit a byte
 
 module _ (v : VerifiedCode) (verified : IsVerified v) (m : Machine) (of : IsMachineOf v m) where

@@ -9,11 +9,11 @@ use Rattle.pb_base.specs.Steppers.{Makes, Move, State}
 use Rattle.pb_code.specs.Code.{CodeProcess, Thread, Idle, Live, Over, code_step, step_thread, thread}
 use Rattle.pb_code.specs.Reached.{CodeMoves, CodeReaches, CodeStays}
 use Rattle.pb_code.specs.Whole.{Code, bank_of, code_opening}
-use Rattle.pb_codegen.proofs.OneCode.{one_code}
+use Rattle.pb_codegen.proofs.TextOneCode.{one_code}
 use Rattle.pb_history.specs.Replays.{spread}
 use Rattle.pb_history.specs.declared.counted.CountedPick.{CountedPick}
 use Rattle.pb_verifier.proofs.Banking.{kept_reached}
-use Rattle.pb_verifier.proofs.Finding.{none_live}
+use Rattle.pb_verifier.proofs.LiveSteps.{none_live}
 use Rattle.pb_verifier.proofs.States.{CodeMove, checked, code_move}
 use Rattle.pb_verifier.specs.Verified.{IsAnnotated}
 use Rattle.rand_pcg.specs.Lcg.{Lcg}

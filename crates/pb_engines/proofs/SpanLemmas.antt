@@ -7,7 +7,7 @@ use Rattle.pb_history.specs.Entries.{Entry, all_picks, are_same, before, is_show
 use Rattle.pb_history.specs.Replays.{spread}
 use Rattle.pb_history.specs.declared.counted.CountedPick.{CountedPick}
 use Rattle.pb_history.specs.declared.span.Span.{Span}
-use Rattle.pb_history.proofs.Spanning.{same_pick}
+use Rattle.pb_history.proofs.SpansOfEntries.{same_pick}
 
 both : (a b : Bool) → (a && b) ≡ true → b ≡ true
 both true b h = h

@@ -17,7 +17,7 @@ memory_line = line (codes "memory")
 abbrev pub Leaves : Option (List ℕ) → Option (List ℕ) → List ℕ → List ℕ → Type 0
 Leaves old new text rest = (done : List ℕ) × (text ≡ done ++ rest) × (new ≡ appended old done)
 
--- the whole text was added and the status answered, or a device failed and a first part was added
+-- the whole text was added and the status returned, or a device failed and a first part was added
 abbrev pub Says : Option (List ℕ) → Option (List ℕ) → List ℕ → Status → Status → Type 0
 Says old new text status answered =
     ((new ≡ appended old text) × (answered ≡ status)) ⊎ (AddsPrefix old new text × (answered ≡ Device))

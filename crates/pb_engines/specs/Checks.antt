@@ -33,7 +33,7 @@ abbrev pub check_status : Bool → Status
 check_status true = Refused
 check_status false = Done
 
--- what is said of an input: each of its parts is answered; or the first ones, until memory wants or a write
+-- what is said of an input: each of its parts is answered; or the first ones, until memory runs out or a write
 -- fails
 pub data SaysOfChecks (bytes : List ℕ) : List ℕ → Status → Type 0 where
   answered : (parts : List (List ℕ)) (said : List ℕ) (refused : Bool) → AreParts bytes parts

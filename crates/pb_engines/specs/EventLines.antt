@@ -1,4 +1,4 @@
--- What is said of events if not all of their lines can be.
+-- What is said of events if not all of their lines can be. No public contract cites this file.
 use Rattle.std.specs.Prelude.{ℕ, List, ◌++◌, take}
 use Rattle.pb_base.specs.declared.event.Event.{Event}
 use Rattle.pb_base.specs.Lines.{NameTable}

@@ -17,7 +17,7 @@ pub record IsLoaded (bytes : List ℕ) (code : Code) (labels : List ProcessLabel
   pub spelled : Spells format code labels bytes
   pub safe : IsAnnotated code
 
--- the bytes are no object, by this fault; or they spell code that is refused for it
+-- the bytes are not an object, by this fault; or they spell code that is refused for it
 abbrev pub IsLoadFault : List ℕ → LoadFault → Type 0
 IsLoadFault bytes (Object fault) = IsFaultOf bytes fault
 IsLoadFault bytes (Unsafe fault) =

@@ -1,4 +1,4 @@
--- What is said at the end of a run.
+-- What is said at the end of a run. No public contract cites this file.
 use Rattle.std.specs.Prelude.{◌≡◌, ℕ, List, ◌++◌, Some, codes, slice_get}
 use Rattle.std.specs.Fmt.{decimal}
 use Rattle.pb_base.specs.declared.event.Event.{Event}

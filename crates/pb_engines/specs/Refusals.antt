@@ -105,7 +105,7 @@ pub data SaysOfRefusedText (text : List ℕ) : List ℕ → Status → Type 0 wh
 
 -- ---- objects
 
--- the line of bytes that are no object
+-- the line of bytes that are not an object
 abbrev pub object_line : ObjectFault → Option (List ℕ)
 object_line (object.NotObject at) = Some (at_place (codes "refused O1") at)
 object_line (object.Limit at) = Some (at_place (codes "refused O2") at)

@@ -1,4 +1,4 @@
--- What comes of a pick.
+-- What comes of a pick. No public contract cites this file.
 use Rattle.std.specs.Prelude.{◌≡◌, ◌≤◌, ℕ, Some, ⊤}
 use Rattle.pb_base.specs.declared.pick.Pick.{Pick}
 use Rattle.pb_base.specs.Steppers.{State}

@@ -98,7 +98,7 @@ fn tell_claims<O: Output>(alloc: Global, text: &[u8], output: &mut O) -> Status
 
 /// Writes, for each process of the text on the input and each resource, in the order in which they are
 /// declared, the line of its claim, whether or not the capital is enough; or the refusal line of a text that
-/// is no program.
+/// is not a program.
 ///
 /// After a read that failed nothing is written; after a write that failed, a first part of what was being
 /// said.

@@ -79,9 +79,9 @@ fn emit_text<O: Output>(alloc: Global, format: Format, text: &[u8], output: &mut
     }
 }
 
-/// Compiles the text that the input holds and writes its object in the format asked for. A text that is
-/// refused is answered by its refusal line; one whose code has more than 32 processes, or takes several
-/// resources at once, by the line `refused E1` if the first format was asked for.
+/// Compiles the text that the input holds and writes its object in the format asked for. For a text
+/// that is refused it writes the refusal line; for one whose code has more than 32 processes, or takes several
+/// resources at once, the line `refused E1` if the first format was asked for.
 ///
 /// After a read that failed nothing is written; after a write that failed, a first part of what was being
 /// said.

@@ -40,7 +40,7 @@ fn run_object<O: Output, R: Threads + Wait + Sync>(
 }
 
 /// Runs the object that the input holds, in either format, by worker threads: writes the line of each event,
-/// and at the end `done`, or `limit` with the number of steps if they were used up before. Bytes that are no
+/// and at the end `done`, or `limit` with the number of steps if they were used up before. Bytes that are not an
 /// object, or whose code is not safe, are refused with their refusal line. If a thread could not be started
 /// the line is `threads`.
 ///

@@ -13,10 +13,10 @@ use pb_object::{ObjectFault, read_any};
 use pb_verifier::{Verified, VerifyFault, verify};
 use std::alloc::Global;
 
-/// Why bytes give no code that is safe to run.
+/// Why bytes do not give code that is safe to run.
 #[derive(Clone, Copy, Debug, PartialEq, Eq)]
 pub enum LoadFault {
-    /// They are no object.
+    /// They are not an object.
     Object(ObjectFault),
     /// Their code has this fault.
     Unsafe(VerifyFault),

@@ -24,11 +24,11 @@ use std::sync::Wait;
 use std::thread::Threads;
 
 /// Runs the text that the input holds, and writes what `replay` reads: the text, a line `%%`, and the pick
-/// lines of the run. A text that is refused is answered by its refusal line; if the whole would be longer
-/// than an input may be, the answer is the line `refused output`.
+/// lines of the run. For a text that is refused it writes the refusal line; if the whole would be longer
+/// than an input may be, the line `refused output`.
 ///
 /// Without a seed the picks are those that workers make, as in `run`; with one each is drawn from those that
-/// are enabled, and no thread is started. If one could not be started the answer is the line `threads`. After
+/// are enabled, and no thread is started. If one could not be started it writes the line `threads`. After
 /// a read that failed nothing is written; after a write that failed, a first part of what was being said.
 pub fn record_engine<I: Input, O: Output, R: Threads + Wait + Sync>(
     rt: &R,
@@ -157,7 +157,7 @@ fn record_picks<R: Threads + Wait + Sync>(
     }
 }
 
-// Out of memory, or the line that a thread could not be started.
+// Returns a fault if out of memory, or the line that a thread could not be started.
 fn no_run(alloc: Global, fault: RunFault) -> Result<Reply, NoMemory>
     ensures { IfOk result (λ r.
         (fault ≢ RunFault.NoMemory) × (r.text.items ≡ line (codes "threads")) × (r.status ≡ Status.Threads)) }

@@ -38,8 +38,8 @@ pub enum LinesFault {
 
 /// Makes the picks that the pick lines behind the text of the input say, from the start of the text: writes
 /// the line of each event, and then `done` if every process has ended or faulted, else `open`. A line `%%`
-/// stands between the text and the pick lines. A text, lines or picks that are refused are answered by their
-/// refusal line alone.
+/// is between the text and the pick lines. For a text, lines or picks that are refused it writes their refusal
+/// line alone.
 ///
 /// The status is `Fault` if a process faulted. After a read that failed nothing is written; after a write
 /// that failed, a first part of what was being said.
@@ -141,7 +141,7 @@ fn last_line(machine: &Machine) -> &'static [u8]
     if machine.finished() { b"done" } else { b"open" }
 }
 
-// Returns the status of a replay that stands here.
+// Returns the status of a replay that has come to here.
 #[tactic(auto, using(crate::specs::ReplayLines::some_fault, crate::specs::ReplayLines::no_fault))]
 fn status_at(machine: &Machine) -> Status
     ensures status { IsStatusAt (machine_view machine.now) result }
@@ -154,7 +154,7 @@ fn status_at(machine: &Machine) -> Status
     }
 }
 
-// Says the line of each event, and the last line of a replay that stands here.
+// Says the line of each event, and the last line of a replay that has come to here.
 fn tell_replay<O: Output>(
     alloc: Global,
     names: &Names,

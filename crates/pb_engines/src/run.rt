@@ -16,8 +16,8 @@ use std::sync::Wait;
 use std::thread::Threads;
 
 /// Runs the text that the input holds, by worker threads: writes the line of each event, and at the end
-/// `done`, or `limit` with the number of steps if they were used up before. A text that is refused is
-/// answered by its refusal line. If a thread could not be started the line is `threads`.
+/// `done`, or `limit` with the number of steps if they were used up before. For a text that is
+/// refused it writes the refusal line. If a thread could not be started the line is `threads`.
 ///
 /// After a read that failed nothing is written; after a write that failed, a first part of what was being
 /// said.

@@ -26,11 +26,6 @@ answered s next r NotNow known answers is = (
 )
 answered s next r OverClaim known answers is = (inr (answers.over_claim.0 refl), is)
 
-pub claims_stay : (s next : BankerState) (r : Request) (answer : Answer) → IsAnswer s r answer next → next.claims ≡ s.claims
-claims_stay s next r Granted (known, allowed, is) = ap (λ (t : BankerState). t.claims) is
-claims_stay s next r NotNow (known, not_over, not_allowed, is) = ap (λ (t : BankerState). t.claims) is
-claims_stay s next r OverClaim (hopeless, is) = ap (λ (t : BankerState). t.claims) is
-
 -- ---- one request more
 
 one_behind : (requests : List Request) (i : ℕ) (r : Request) → slice_get requests i ≡ Some r

@@ -1,1 +1,1 @@
-mod Printing
+mod Printouts

@@ -1,1 +1,1 @@
-mod Trying
+mod TriedPicks

@@ -1,6 +1,6 @@
 -- From the reply of `explain` to what is written, and the list so far with one code more.
 use Rattle.std.proofs.Common.{◌≡◌, ◌+◌, ◌<◌, ◌≤◌, ◌++◌, ◌∷◌, ◌∙◌, ℕ, List, [], Option, Result, Ok, Err, IfOk, OnErr, ap, append_assoc, get_or, length, sym, take}
-use Rattle.std.proofs.lemmas.List.{flat_map_more, take_all, take_more}
+use Rattle.std.proofs.lemmas.List.{flat_map_more, take_more}
 use Rattle.pb_base.specs.declared.memory.NoMemory.{NoMemory}
 use Rattle.pb_engines.specs.Answers.{Says, Tells, memory_line}
 use Rattle.pb_engines.specs.declared.reply.Reply.{Reply}
@@ -24,10 +24,6 @@ one_line_more listed i code old so_far new within at before now =
     now ∙ ap (λ (t : List ℕ). t ++ first_line code (entry_of code)) before
     ∙ flat_map_more (λ c. first_line c (entry_of c)) old (take i listed) code
     ∙ ap (λ l. old ++ list_of_codes l) (sym (take_more listed i code within ∙ ap (λ c. take i listed ++ c ∷ []) at))
-
-pub all_lines : (listed : List Code) (i : ℕ) (old new : List ℕ) → length listed ≤ i
-    → new ≡ old ++ list_of_codes (take i listed) → new ≡ old ++ list_of_codes listed
-all_lines listed i old new end is = is ∙ ap (λ l. old ++ list_of_codes l) (take_all i listed end)
 
 -- four texts that were put behind a text, one after another
 pub four_texts : (old a b c d one two three four : List ℕ) → one ≡ old ++ a → two ≡ one ++ b → three ≡ two ++ c → four ≡ three ++ d

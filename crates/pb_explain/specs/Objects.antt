@@ -12,7 +12,7 @@ o1-entry = record {
   summary = codes "a line of an object that is not of its form";
   meaning =
       codes "The line that begins at this place is not the line that an object has there, is\n"
-      ++ codes "not ended by a line feed, is missing, or stands behind the end. Each object has one\n"
+      ++ codes "not ended by a line feed, is missing, or comes after the end. Each object has one\n"
       ++ codes "spelling: single spaces, and no zeros before a number.";
   example = Some (record {
     command = codes "exec";
@@ -94,7 +94,7 @@ abbrev pub v2-entry : Explanation
 v2-entry = record {
   summary = codes "operands that do not fit";
   meaning =
-      codes "There is no one number of operands for a place that is reached: an instruction\n"
+      codes "There is no single number of operands for a place that is reached: an instruction\n"
       ++ codes "takes an operand that is not there, two ways to a place bring different numbers of\n"
       ++ codes "them, or there are more than 256.";
   example = Some (record {
@@ -155,7 +155,7 @@ abbrev pub v4-entry : Explanation
 v4-entry = record {
   summary = codes "holdings that do not fit";
   meaning =
-      codes "There is no one list of what is held at a place that is reached: a `give` does not\n"
+      codes "There is no single list of what is held at a place that is reached: a `give` does not\n"
       ++ codes "return what was taken last, two ways to a place hold different lists, or more than\n"
       ++ codes "256 takes are open.";
   example = Some (record {

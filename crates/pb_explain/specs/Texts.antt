@@ -84,7 +84,7 @@ p1-entry = record {
   summary = codes "the text is not a program";
   meaning =
       codes "The tokens do not follow the grammar. The place is the start of the first token\n"
-      ++ codes "that cannot stand there behind those before it; if the text only ends too early,\n"
+      ++ codes "that cannot be there after those before it; if the text only ends too early,\n"
       ++ codes "it is the end of the last token.";
   example = Some (record {
     command = codes "check";
@@ -92,7 +92,7 @@ p1-entry = record {
     line = codes "refused P1 at 25";
   });
   mend =
-      codes "Look at this place, and just before it. A semicolon stands between statements, and\n"
+      codes "Look at this place, and just before it. A semicolon comes between statements, and\n"
       ++ codes "not behind the last one, as in the example; `fi`, `od`, `parend` or `end` may be\n"
       ++ codes "missing, or `=` may be written for `:=`. Integers are declared right behind the\n"
       ++ codes "`begin` of their process, and resources before the first process. The grammar is\n"

@@ -149,7 +149,7 @@ fn put_explanation(text: &mut Vec<u8>, asked: Option<Code>) -> Result<(), NoMemo
     }
 }
 
-// All that is said.
+// Returns all that is said.
 fn explanation(alloc: Global, asked: Option<Code>) -> Result<Reply, NoMemory>
     ensures { IfOk result (λ reply. SaysOfExplain asked reply.text.items reply.status) }
 {

@@ -1,8 +1,8 @@
-pub mod Laying
+pub mod CountedPicks
 pub mod Leading
 pub mod Positions
-pub mod Replaying
-pub mod Rising
 pub mod Silence
-pub mod Spanning
+pub mod SpanEnds
+pub mod SpanEvents
+pub mod SpansOfEntries
 pub mod Wholes

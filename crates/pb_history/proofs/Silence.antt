@@ -14,7 +14,7 @@ use Rattle.pb_verifier.proofs.States.{CodeMove, code_move}
 use Rattle.pb_history.specs.Entries.{silent_picks}
 use Rattle.pb_history.specs.Leads.{Leads}
 use Rattle.pb_history.specs.Replays.{IsRun}
-use Rattle.pb_history.proofs.Replaying.{ends_run, silent_more}
+use Rattle.pb_history.proofs.CountedPicks.{ends_run, silent_more}
 
 effect_silent : (pick : Pick) (e : Effect) → event_of pick e ≡ None → look_of_effect e ≡ look.Silent
 effect_silent pick Silent h = refl

@@ -1,4 +1,4 @@
--- Spans by where each ends.
+-- Spans by where each ends. No public contract cites this file.
 use Rattle.std.specs.Prelude.{◌≡◌, ℕ, ◌-◌, ◌<◌, List, [], ◌∷◌, Bool, false, not, ◌&&◌, vec_len, vec_capacity}
 use Rattle.pb_base.specs.declared.pick.Pick.{Pick}
 use Rattle.pb_history.specs.Entries.{are_same}

@@ -1,4 +1,4 @@
--- Events that name their bundles by number.
+-- Events that name their bundles by number. No public contract cites this file.
 use Rattle.std.specs.Prelude.{ℕ, ◌-◌, ◌<◌, ◌≤◌, List, [], length, map, min, All, slice_index_or, ⊤, vec_len, vec_capacity}
 use Rattle.pb_base.specs.declared.event.Event.{Event}
 use Rattle.pb_base.specs.declared.event.Event.TheVariants as event

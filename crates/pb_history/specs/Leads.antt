@@ -8,7 +8,7 @@ use Rattle.pb_code.specs.Whole.{Code, bank_of}
 use Rattle.pb_history.specs.Entries.{Entry, events_of, picks_of, silent_picks}
 use Rattle.pb_machine.specs.Steps.{MakesSilently}
 
--- these picks, each enabled in turn, lead from one state to another, and each shows just what stands beside it
+-- these picks, each enabled in turn, lead from one state to another, and each shows just what is beside it
 abbrev pub Leads : Code → State CodeProcess → List Entry → State CodeProcess → Type 0
 Leads code before [] after = after ≡ before
 Leads code before (e ∷ entries) after =

@@ -38,7 +38,7 @@ impl Model for Events {
 }
 
 impl Events {
-    /// No events yet.
+    /// Returns no events.
     pub(crate) fn new(alloc: Global) -> Events
         ensures { result.events ≡ [] }
     {

@@ -36,7 +36,7 @@ impl Model for Spans {
 }
 
 impl Spans {
-    /// No spans yet.
+    /// Returns no spans.
     pub(crate) fn new(alloc: Global) -> Spans
         ensures { result.spans ≡ [] }
     {

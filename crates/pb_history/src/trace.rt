@@ -30,7 +30,7 @@ impl Model for Trace {
 }
 
 impl Trace {
-    /// No picks yet. No memory is taken.
+    /// Returns a trace of no picks. No memory is taken.
     pub fn new(alloc: Global) -> Trace
         ensures { result.entries ≡ [] }
     {

@@ -34,7 +34,7 @@ pub record IsComment (text : List ℕ) (at end : ℕ) : Type 0 where
   pub one_line : (k : ℕ) → at ≤ k → k < end → slice_index text k ≡ 10 → ⊥
   pub ends : (end ≡ length text) ⊎ (slice_index text end ≡ 10)
 
--- from one place to another stands a blank, a comment or a token, which gives these tokens
+-- from one place to another is a blank, a comment or a token, which gives these tokens
 pub data Piece (text : List ℕ) (at end : ℕ) : List Token → Type 0 where
   blank : at < length text → is_blank (slice_index text at) ≡ true → end ≡ at + 1 → Piece text at end []
   comment : IsComment text at end → Piece text at end []
@@ -84,7 +84,7 @@ pub record AreTokensOf (text : List ℕ) (ts : List Token) : Type 0 where
 
 -- ---- faults
 
--- the cause of a fault stands at this place: a byte that is not allowed, in a comment too; or, if the text
+-- the cause of a fault is at this place: a byte that is not allowed, in a comment too; or, if the text
 -- is cut up to there, that nothing begins there, or a number too large, or a name too long
 pub data Cause (text : List ℕ) (at : ℕ) : LexFault → Type 0 where
   no_byte_of_a_text : at < length text → is_allowed (slice_index text at) ≡ false
@@ -99,7 +99,7 @@ pub data Cause (text : List ℕ) (at : ℕ) : LexFault → Type 0 where
       → t.lexeme ≡ Name x → longest_name < length x
       → Cause text at (fault.NameTooLong at)
 
--- the cause stands at this place, and none stands earlier
+-- the cause is at this place, and none is earlier
 pub record First (text : List ℕ) (at : ℕ) (e : LexFault) : Type 0 where
   pub short : length text ≤ longest_text
   pub cause : Cause text at e
@@ -116,11 +116,11 @@ Refuses text fault.NoMemory = Unit {0}
 -- ---- answers
 
 -- the answer is these tokens, unless memory runs out
-abbrev pub Answers : {X : Type 0} → (X → List Token) → Result X LexFault → List Token → Type 0
-Answers view (Ok x) ts = view x ≡ ts
-Answers view (Err e) ts = e ≡ fault.NoMemory
+abbrev pub ReturnsTokens : {X : Type 0} → (X → List Token) → Result X LexFault → List Token → Type 0
+ReturnsTokens view (Ok x) ts = view x ≡ ts
+ReturnsTokens view (Err e) ts = e ≡ fault.NoMemory
 
 -- the answer is this fault, unless memory runs out
-abbrev pub IsFault : {X : Type 0} → Result X LexFault → LexFault → Type 0
-IsFault (Ok x) e = ⊥
-IsFault (Err f) e = (f ≡ fault.NoMemory) ⊎ (f ≡ e)
+abbrev pub ReturnsFault : {X : Type 0} → Result X LexFault → LexFault → Type 0
+ReturnsFault (Ok x) e = ⊥
+ReturnsFault (Err f) e = (f ≡ fault.NoMemory) ⊎ (f ≡ e)

@@ -12,7 +12,7 @@ pub data Lexeme : Type 0 where
   Number : ℤ → Lexeme
   Fixed : Mark → Lexeme
 
--- a token, whose bytes stand in the text from its start up to its end
+-- a token, whose bytes are in the text from its start up to its end
 pub record Token : Type 0 where
   pub lexeme : Lexeme
   pub text : List ℕ

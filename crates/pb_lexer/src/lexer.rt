@@ -6,7 +6,8 @@ ghost use Rattle.std.specs.Char.{is_ascii_alphabetic, is_ascii_digit};
 ghost use Rattle.pb_lexer.specs.Tokens.{tokens};
 ghost use Rattle.pb_lexer.specs.Tokens as spec_tokens;
 ghost use Rattle.pb_lexer.specs.Forms.{is_blank, spelling};
-ghost use Rattle.pb_lexer.specs.Cutting.{longest_text, line_at, IsComment, AreTokensOf, Refuses, Answers, IsFault};
+ghost use Rattle.pb_lexer.specs.Cutting.{longest_text, line_at, IsComment, AreTokensOf, Refuses};
+ghost use Rattle.pb_lexer.specs.Cutting.{ReturnsTokens, ReturnsFault};
 ghost use Rattle.pb_lexer.specs.Finding.{Finds};
 
 use crate::error::LexFault;
@@ -181,10 +182,10 @@ pub fn lex<'t, A: Allocator>(alloc: A, text: &'t [u8]) -> Result<Vec<Token<'t>, 
     ensures fault { IfErr result (λ e. Refuses text.now e) }
     // If the text has tokens, these are returned, unless memory runs out.
     ensures only { (ts : List spec_tokens.Token) → AreTokensOf text.now ts
-        → Answers (λ v. tokens v.items) result ts }
+        → ReturnsTokens (λ v. tokens v.items) result ts }
     // If it has a fault, that is returned, unless memory runs out.
     ensures exact { (e : LexFault) → (e ≡ LexFault.NoMemory → ⊥) → Refuses text.now e
-        → IsFault result e }
+        → ReturnsFault result e }
     // A text over the limit takes no memory.
     ensures long { longest_text < length text.now → result ≡ Err LexFault.TooLong }
 {

@@ -27,7 +27,7 @@ fn is_word(byte: u8) -> bool
     byte.is_ascii_alphabetic() || byte.is_ascii_digit() || byte == b'_'
 }
 
-/// Returns where the letters, digits and `_` end that stand from `start` on.
+/// Returns where the letters, digits and `_` from `start` on end.
 pub(crate) fn word_end(text: &[u8], start: usize) -> usize
     requires { start ≤ length text.now }
     ensures within { (start ≤ result) × (result ≤ length text.now) }
@@ -41,7 +41,7 @@ pub(crate) fn word_end(text: &[u8], start: usize) -> usize
     end
 }
 
-/// Returns where the digits end that stand from `start` on.
+/// Returns where the digits from `start` on end.
 pub(crate) fn digits_end(text: &[u8], start: usize) -> usize
     requires { start ≤ length text.now }
     ensures within { (start ≤ result) × (result ≤ length text.now) }

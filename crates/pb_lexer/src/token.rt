@@ -86,7 +86,7 @@ pub enum Mark {
 /// What a token is.
 #[derive(Clone, Copy, Debug, PartialEq, Eq)]
 pub enum Kind {
-    /// A letter, then letters, digits or `_`, up to 32 bytes, that is no reserved word.
+    /// A letter, then letters, digits or `_`, up to 32 bytes, not a reserved word.
     Name,
     /// Decimal digits, and the number that they say, from 0 to 9223372036854775807.
     Number(i64),

@@ -23,7 +23,7 @@ use Rattle.pb_names.specs.Resolves.{texts, IsNumber, ResolvesDemand}
 use Rattle.pb_names.specs.Search.{IsFree}
 use Rattle.pb_names.specs.declared.causes.Wrong.TheVariants.{Repeated}
 use Rattle.pb_names.proofs.First.{free_left, free_right, free_at, some_same}
-use Rattle.pb_names.proofs.Naming.{name_read}
+use Rattle.pb_names.proofs.NameNumbers.{name_read}
 
 -- ---- nothing is wrong with a pair
 
@@ -43,7 +43,7 @@ again_free names ds i d here free = free_right (free_right (free_at (InDemand na
 -- ---- numbered pairs
 
 -- what a pair was numbered from
-zip_at : {A B : Type 0} (R : A → B → Type 0) (xs : List A) (ys : List B) (k : ℕ) (y : B) → AllZip R xs ys
+pub zip_at : {A B : Type 0} (R : A → B → Type 0) (xs : List A) (ys : List B) (k : ℕ) (y : B) → AllZip R xs ys
     → slice_get ys k ≡ Some y → (x : A) × (slice_get xs k ≡ Some x) × R x y
 zip_at R [] [] k y zip here = absurd (omega (arith, slice_get_within [] k y here))
 zip_at R [] (b ∷ ys) k y zip here = absurd zip
@@ -67,7 +67,7 @@ number_new names ds pairs i d r here free zip number k e below same =
     text = some_same (sym from.2.resource ∙ ap (slice_get names) same ∙ number)
 
 -- each number is that of a name
-numbers_below : (names : List Name) (ds : List DemandSyntax) (pairs : Bundle) → AllZip (ResolvesDemand names) ds pairs
+pub numbers_below : (names : List Name) (ds : List DemandSyntax) (pairs : Bundle) → AllZip (ResolvesDemand names) ds pairs
     → All (λ p. p.resource < length names) pairs
 numbers_below names ds pairs zip k e below =
     let from : (x : DemandSyntax) × (slice_get ds k ≡ Some x) × ResolvesDemand names x (get_or pairs k e) =

@@ -8,8 +8,8 @@ use Rattle.pb_names.specs.Resolves.{ResolvesStmt, assign, print, if_else, while_
 use Rattle.pb_names.specs.Resolves.{ResolvesStmts, no_stmt, stmt_then, ResolvesArms, no_arm, arm_then}
 use Rattle.pb_names.specs.Resolves.{ResolvesProcess, Resolves, resource_names}
 use Rattle.pb_names.proofs.NoCause.{numbered_at}
-use Rattle.pb_names.proofs.Numbered.{count_resolved}
-use Rattle.pb_names.proofs.Whole.{same_length}
+use Rattle.pb_names.proofs.NumberedLists.{count_resolved}
+use Rattle.pb_names.proofs.Wholes.{same_length}
 
 module _ (integers resources : List Name) where
   mutual

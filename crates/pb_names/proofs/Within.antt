@@ -15,8 +15,8 @@ use Rattle.pb_names.specs.declared.fault.Kind.TheVariants.{Processes, Resources,
 use Rattle.pb_names.specs.declared.fault.NameFault.{NameFault}
 use Rattle.pb_names.specs.declared.fault.NameFault.TheVariants.{TooMany, Twice, Unknown, Amount, Repeated, NoMemory}
 use Rattle.pb_names.proofs.NoCause.{program_free}
-use Rattle.pb_names.proofs.Numbered.{count_resolved, inner_of}
-use Rattle.pb_names.proofs.Whole.{same_length}
+use Rattle.pb_names.proofs.NumberedLists.{count_resolved, inner_of}
+use Rattle.pb_names.proofs.Wholes.{same_length}
 
 -- what each process has at most, if each numbered one has
 zip_most : {P : Type 0} (R : tree.ProcessSyntax → P → Type 0) (f : tree.ProcessSyntax → ℕ) (n : ℕ)

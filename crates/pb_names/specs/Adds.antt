@@ -1,4 +1,4 @@
--- What numbering a statement adds to the list that is made.
+-- What numbering a statement adds to the list that is made. No public contract cites this file.
 use Rattle.std.specs.Prelude.{◌≡◌, ℕ, List, [], ◌∷◌, ◌++◌}
 use Rattle.pb_tree.specs.Syntax.{StmtSyntax}
 use Rattle.pb_names.specs.Program.{Name, IsNumberedStmt}

@@ -55,7 +55,7 @@ InExpr integers (variable x) = IsUnknown integers x
 InExpr integers (unary op e) = InExpr integers e
 InExpr integers (binary op a b) = Either (InExpr integers a) (InExpr integers b)
 
--- a pair of a hold: its amount is at least 1, and its resource stands in no pair before it
+-- a pair of a hold: its amount is at least 1, and its resource is in no pair before it
 abbrev pub InDemand : List Name → List DemandSyntax → DemandSyntax → Causes
 InDemand resources before demand =
     Either (IsOutside 1 demand.amount)

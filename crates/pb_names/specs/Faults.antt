@@ -11,7 +11,7 @@ use Rattle.pb_names.specs.declared.fault.NameFault.{NameFault}
 use Rattle.pb_names.specs.declared.fault.NameFault.TheVariants.{TooMany, Twice, Unknown, Amount, Repeated}
 use Rattle.pb_names.specs.declared.fault.NameFault.TheVariants.{NoMemory}
 
--- the cause stands in a program within its limits, and none stands at an earlier place
+-- the cause is in a program within its limits, and none is at an earlier place
 pub record IsFirstCause (program : ProgramSyntax) (cause : Cause) : Type 0 where
   pub within : IsWithinLimits program
   pub stands : InProgram program cause

@@ -1,4 +1,4 @@
--- The line at which an arm of a run stands: that of its first item.
+-- The line at which an arm of a run is: that of its first item.
 use Rattle.std.specs.Prelude.{ℕ, List, [], ◌∷◌, Option, Some, None}
 use Rattle.pb_names.specs.Source.{Item, Assign, Print, Choice, Loop, Hold, GiveBack, Parallel, Arm, Doing}
 use Rattle.pb_names.specs.Source.{Waiting, Ended}

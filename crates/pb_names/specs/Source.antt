@@ -27,7 +27,7 @@ inside f (Is v) = Is v
 inside f (Becomes e) = Becomes (f e)
 inside f (Fails kind) = Fails kind
 
--- the one next place: in the left operand if that is no number, else in the right one, else the operator
+-- the one next place: in the left operand if that is not a number, else in the right one, else the operator
 abbrev pub step_expr : List ℤ → Expr → ExprStep
 step_expr vars (Number v) = Is v
 step_expr vars (Variable x) = Becomes (Number (get_or vars x (pos 0)))

@@ -1,4 +1,4 @@
--- The plain program that a numbered program in memory stands for. Where it lies leaves no trace.
+-- The plain program of a numbered program in memory. Where it is in memory leaves no trace.
 use Rattle.std.specs.Prelude.{List, [], ◌∷◌, map, Vec}
 use Rattle.pb_names.specs.Program.{Number, Variable, Unary, Binary, Set, Write, If, While, HoldDo, Parbegin}
 use Rattle.pb_names.specs.Program.{Block, Skip, Then, Arms, NoArm, AndArm, Program}

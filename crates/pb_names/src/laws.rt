@@ -10,7 +10,7 @@ ghost use Rattle.pb_tree.specs.Syntax.{ProgramSyntax};
 use crate::fault::NameFault;
 
 /// A tree has at most one numbered program.
-#[tactic(auto, using(crate::proofs::Once::resolves_once))]
+#[tactic(auto, using(crate::proofs::OneNumbering::resolves_once))]
 pub fn one_numbering()
     ensures { (written : ProgramSyntax) (a b : Program) → Resolves written a → Resolves written b → a ≡ b }
 {}

@@ -32,7 +32,7 @@ struct Forks {
 
 const NO_FORKS: Forks = Forks { widest: 0, arms: 0 };
 
-/// Of two parts, the wider parbegin and the arms of both.
+/// Returns, of two parts, the wider parbegin and the arms of both.
 fn both(a: Forks, b: Forks) -> Forks
     ensures widest { result.widest ≡ max a.widest b.widest }
     ensures arms { result.arms ≡ saturated (a.arms + b.arms) }

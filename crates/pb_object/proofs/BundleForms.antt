@@ -16,7 +16,7 @@ use Rattle.pb_object.specs.Words.{paired, mapped}
 use Rattle.pb_object.specs.Instructions.{names_resource, pair_of, pairs_of, most_pairs, bundle_of, pair_words}
 use Rattle.pb_object.specs.Ranges.{IsPair, ArePairs, IsBundle}
 use Rattle.pb_object.proofs.Numbers.{own, none_of, number_again}
-use Rattle.pb_code.proofs.Naming.{both_true}
+use Rattle.pb_code.proofs.NameTests.{both_true, false_from}
 use Rattle.pb_object.proofs.LineLemmas.{AreWords}
 use Rattle.pb_object.proofs.Verdicts.{mapped_read, paired_read, guard_read}
 use Rattle.pb_object.proofs.LineForms.{decimal_clean}
@@ -40,10 +40,6 @@ apart_from n (q ∷ ps) h =
           (decimal n)).1 (ap decimal same) in let other = s.0 in cc),
       apart_from n ps s.1,
     )
-
-false_from : (b : Bool) → (b ≡ true → ⊥) → b ≡ false
-false_from true h = absurd (h refl)
-false_from false h = refl
 
 apart_to : (n : ℕ) (ps : List Pair) → n ≤ 15 → ArePairs ps → AllByRecursion (λ q. q.resource ≢ n) ps → names_resource (pair_words ps) (decimal n) ≡ false
 apart_to n [] small good h = refl

@@ -5,7 +5,7 @@ use Rattle.std.specs.List.{slice_split, position, position_or_len, prefix_len, l
 use Rattle.std.proofs.lemmas.Bool.{eqb-true, le-ltb, lt-ltb}
 use Rattle.std.proofs.lemmas.List.{take_at, drop_at, append-nil, length-append, nil_from_length}
 use Rattle.pb_code.specs.Names.{Word}
-use Rattle.pb_code.proofs.Naming.{both_true}
+use Rattle.pb_code.proofs.NameTests.{both_true}
 use Rattle.pb_object.specs.declared.fault.Fault.{Fault}
 use Rattle.pb_object.specs.declared.fault.Fault.TheVariants.{Malformed, Beyond}
 use Rattle.pb_object.specs.declared.words.Verdict.{Verdict}

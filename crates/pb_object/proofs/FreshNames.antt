@@ -4,10 +4,10 @@ use Rattle.std.specs.Str.{bytes_eq}
 use Rattle.std.specs.Fmt.{decimal}
 use Rattle.std.proofs.lemmas.Slice.Eq.{bytes_eq-Decides}
 use Rattle.pb_code.specs.Names.{Word, is_among}
-use Rattle.pb_code.proofs.Naming.{false_from}
+use Rattle.pb_code.proofs.NameTests.{false_from}
 use Rattle.pb_object.specs.Words.{is_new_name}
 use Rattle.pb_object.proofs.BundleForms.{decimal_same}
-use Rattle.pb_object.proofs.Moving.{plain_is_name}
+use Rattle.pb_object.proofs.FirstToSecond.{plain_is_name}
 use Rattle.pb_object.proofs.Numbers.{none_of}
 
 -- the words that are not this one

@@ -25,7 +25,7 @@ use Rattle.pb_object.specs.Instructions.{alone, two, signed, bare, push_of, bund
 use Rattle.pb_code.specs.Limits.{IsSigned, IsLine}
 use Rattle.pb_object.specs.Ranges.{AreArms, IsInstr, IsPlace}
 use Rattle.pb_object.proofs.Numbers.{own, number_takes, number_again}
-use Rattle.pb_code.proofs.Naming.{both_true}
+use Rattle.pb_code.proofs.NameTests.{both_true, false_from}
 use Rattle.pb_object.proofs.LineLemmas.{is_inner, AreWords}
 use Rattle.pb_object.proofs.Verdicts.{mapped_read, paired_read, select_or}
 use Rattle.pb_object.proofs.LineForms.{decimal_clean}
@@ -149,10 +149,6 @@ plain_signed (b ∷ ds) all some =
     let d = (both_true (is_ascii_digit b) (list_all is_ascii_digit ds) all).0 in
     let no : eqb b 45 ≡ false = no_minus b d in
     rw no refl
-
-false_from : (b : Bool) → (b ≡ true → ⊥) → b ≡ false
-false_from true h = absurd (h refl)
-false_from false h = refl
 
 signed_again : (v : ℤ) → IsSigned v → signed (signed_decimal v) ≡ Read v
 unfolding signed

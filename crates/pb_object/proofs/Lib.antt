@@ -2,14 +2,15 @@ pub mod BundleForms
 pub mod Columns
 pub mod Exact
 pub mod FaultLaws
+pub mod FirstToSecond
 pub mod Found
 pub mod FreshNames
 pub mod InstrForms
-pub mod Joining
+pub mod JoinedWords
 pub mod LineForms
 pub mod LineLemmas
+pub mod LineWords
 pub mod Loops
-pub mod Moving
 pub mod NewNames
 pub mod Numbers
 pub mod ObjectExact
@@ -19,8 +20,7 @@ pub mod Parts
 pub mod PlainRead
 pub mod RowsMade
 pub mod Said
-pub mod Sayable
-pub mod Scanning
+pub mod SayableCode
 pub mod Sides
 pub mod SpellingLaws
 pub mod Turns

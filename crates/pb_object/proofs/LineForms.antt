@@ -15,10 +15,10 @@ use Rattle.pb_code.specs.Names.{Word, is_name_byte, reserved_words, is_name, is_
 use Rattle.pb_object.specs.Words.{paired, mapped, number, numbers, is_numeral, is_new_name, are_new}
 use Rattle.pb_object.specs.Instructions.{select}
 use Rattle.pb_object.specs.Objects.{ResourceRow, counted_words, resource_words, process_words, digit_of, integers_words, claims_words}
-use Rattle.pb_object.specs.Ranges.{IsResource, AreIntegers, AreClaims, plain_names}
+use Rattle.pb_object.specs.Ranges.{IsResource, AreIntegers, AreClaimsInRange, plain_names}
 use Rattle.pb_object.specs.Reading.{counted, resource, process_name, heading, says_number, named_integers, integers, claims}
 use Rattle.pb_object.proofs.Numbers.{own, number_takes, number_again, numeral_is, is_numeral_decimal}
-use Rattle.pb_code.proofs.Naming.{both_true, letter_name}
+use Rattle.pb_code.proofs.NameTests.{both_true, letter_name}
 use Rattle.pb_object.proofs.Verdicts.{mapped_read, paired_read, select_or, only_read, select_same, guard_read}
 use Rattle.pb_object.proofs.LineLemmas.{is_inner, AreWords, all_mono}
 use Rattle.pb_object.proofs.Parts.{AreLine, IsForm}
@@ -249,7 +249,7 @@ numbers_clean : (high : ℕ) → high < 2 ^ 64 → (ns : List ℕ) → AllByRecu
 numbers_clean high small [] good = tt
 numbers_clean high small (n ∷ ns) good = (decimal_clean n (let h = good.0 in omega arith), numbers_clean high small ns good.1)
 
-claims_takes : (m : ℕ) (ws : List Word) (ns : List ℕ) → claims m ws ≡ Read ns → (ws ≡ claims_words ns) × AreClaims m ns
+claims_takes : (m : ℕ) (ws : List Word) (ns : List ℕ) → claims m ws ≡ Read ns → (ws ≡ claims_words ns) × AreClaimsInRange m ns
 claims_takes m [] ns e = absurd cc
 claims_takes m (k ∷ ws) ns e =
     let o = only_read k (codes "claims") (cond (eqb (length ws) m) (numbers 0 1000000 ws) Malformed) ns e in
@@ -258,12 +258,12 @@ claims_takes m (k ∷ ws) ns e =
     let count : length ns ≡ m = sym (ap (λ (l : List Word). length l) t.0 ∙ length-map ns decimal) ∙ eqb-true _ _ g.0 in
     ((let a = o.0 in let b = t.0 in cc), (count, t.1))
 
-claims_again : (m : ℕ) (ns : List ℕ) → AreClaims m ns → claims m (claims_words ns) ≡ Read ns
+claims_again : (m : ℕ) (ns : List ℕ) → AreClaimsInRange m ns → claims m (claims_words ns) ≡ Read ns
 claims_again m ns good =
     let count : length (map decimal ns) ≡ m = length-map ns decimal ∙ good.0 in
     rw (count, eqb_same m, numbers_again 1000000 (omega arith) ns good.1) refl
 
-pub claims_is : (m : ℕ) → IsForm (claims m) claims_words (AreClaims m)
+pub claims_is : (m : ℕ) → IsForm (claims m) claims_words (AreClaimsInRange m)
 claims_is m = record {
   takes = claims_takes m;
   again = claims_again m;

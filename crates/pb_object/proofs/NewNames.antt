@@ -4,9 +4,9 @@ use Rattle.std.specs.Prelude.{All, AllPairs}
 use Rattle.std.specs.Str.{bytes_eq}
 use Rattle.std.proofs.lemmas.Slice.Eq.{bytes_eq-Decides}
 use Rattle.pb_code.specs.Names.{Word, is_among, is_name}
-use Rattle.pb_code.proofs.Naming.{false_from}
+use Rattle.pb_code.proofs.NameTests.{false_from}
 use Rattle.pb_object.specs.Words.{is_new_name, are_new}
-use Rattle.pb_object.proofs.Moving.{among_push}
+use Rattle.pb_object.proofs.FirstToSecond.{among_push}
 
 new_step : (a b : Bool) → a ≡ false → b ≡ true → (not a && b) ≡ true
 new_step true b e h = absurd cc

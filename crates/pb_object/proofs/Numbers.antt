@@ -9,7 +9,7 @@ use Rattle.std.proofs.lemmas.Str.Parse.{IsNumeralModel, numerals_by_value, digit
 use Rattle.std.proofs.lemmas.Int.Digits.{digits_value_more}
 use Rattle.std.proofs.lemmas.Fmt.{decimal-digits_value, digits_decimal, digits_value-decimal, decimal_nonempty, first_decimal, decimal_digit}
 use Rattle.std.proofs.lemmas.Bool.{eqb-true, ltb-false, le-ltb, cases_lt}
-use Rattle.pb_code.proofs.Naming.{both_true}
+use Rattle.pb_code.proofs.NameTests.{both_true}
 use Rattle.pb_object.specs.declared.words.Verdict.{Verdict}
 use Rattle.pb_object.specs.declared.words.Verdict.TheVariants.{Malformed, Beyond, Read}
 use Rattle.std.proofs.lemmas.Bool.Decides.{nat_tests}

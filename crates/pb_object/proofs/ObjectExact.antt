@@ -9,7 +9,7 @@ use Rattle.pb_object.specs.declared.format.Format.TheVariants.{One, Two}
 use Rattle.pb_object.specs.Instructions.{place, place_words}
 use Rattle.pb_object.specs.Lines.{line, many, line_text}
 use Rattle.pb_object.specs.Objects.{ResourceRow, ProcessRow, Object, counted_words, resource_words, process_words}
-use Rattle.pb_object.specs.Ranges.{IsPlace, IsResource, AreIntegers, AreClaims, most_processes, plain_names}
+use Rattle.pb_object.specs.Ranges.{IsPlace, IsResource, AreIntegers, AreClaimsInRange, most_processes, plain_names}
 use Rattle.pb_object.specs.Reading.{counted, resource, process_name, heading, integers, claims, resource_at, entry_at, place_at, process_at, process_after, object_at}
 use Rattle.pb_object.proofs.LineLemmas.{is_inner}
 use Rattle.pb_object.proofs.Parts.{IsPart, line_is}
@@ -78,14 +78,14 @@ integers_both format =
     let s = said_of (line (integers format)) _ (AreIntegers format) (integers_part format) [] (no_integers format) in
     (line_exact (integers format) s, s)
 
-some_claims : (m : ℕ) → (cs : List ℕ) × AreClaims m cs
+some_claims : (m : ℕ) → (cs : List ℕ) × AreClaimsInRange m cs
 some_claims zero = ([], (refl, tt))
 some_claims (suc m) = let s = some_claims m in (0 ∷ s.0, (ap suc s.1.0, (omega arith, s.1.1)))
 
 claims_both : (m : ℕ) → Both (line (claims m))
 claims_both m =
     let c = some_claims m in
-    let s = said_of (line (claims m)) _ (AreClaims m) (claims_part m) c.0 c.1 in
+    let s = said_of (line (claims m)) _ (AreClaimsInRange m) (claims_part m) c.0 c.1 in
     (line_exact (claims m) s, s)
 
 an_end : (format : Format) → IsPlace format (None, End)

@@ -13,7 +13,7 @@ use Rattle.pb_object.specs.Words.{is_new_name}
 use Rattle.pb_object.specs.Lines.{line_text, line, many, ◌>>=◌}
 use Rattle.pb_object.specs.Instructions.{place, place_words}
 use Rattle.pb_object.specs.Objects.{ProcessRow, ResourceRow, Object, counted_words, resource_words, process_words, integers_words, claims_words, digit_of, process_text, spelling}
-use Rattle.pb_object.specs.Ranges.{Each, IsPlace, IsResource, IsEntry, IsProcess, IsObject, AreIntegers, AreClaims, most_processes}
+use Rattle.pb_object.specs.Ranges.{Each, IsPlace, IsResource, IsEntry, IsProcess, IsObject, AreIntegers, AreClaimsInRange, most_processes}
 use Rattle.pb_object.specs.Reading.{counted, resource, process_name, heading, integers, claims, resource_at, entry_at, place_at, process_at, process_after, object_at, all_of}
 use Rattle.pb_object.proofs.LineLemmas.{bind_ok, ok_is, is_inner}
 use Rattle.pb_object.proofs.Parts.{IsPart, line_is, many_is}
@@ -70,8 +70,8 @@ pub few_integers : (format : Format) (names : List Word) → AreIntegers format 
 few_integers One names good = good.1
 few_integers Two names good = good.2
 
-pub claims_part : (m : ℕ) → IsPart (line (claims m)) (λ ns. line_text (claims_words ns)) (AreClaims m)
-claims_part m = line_is (claims m) claims_words (AreClaims m) (claims_is m)
+pub claims_part : (m : ℕ) → IsPart (line (claims m)) (λ ns. line_text (claims_words ns)) (AreClaimsInRange m)
+claims_part m = line_is (claims m) claims_words (AreClaimsInRange m) (claims_is m)
 
 seven : (x1 x2 x3 x4 x5 x6 x7 rest : List ℕ)
     → (x1 ++ (x2 ++ (x3 ++ (x4 ++ (x5 ++ (x6 ++ x7)))))) ++ rest ≡ x1 ++ (x2 ++ (x3 ++ (x4 ++ (x5 ++ (x6 ++ (x7 ++ rest))))))

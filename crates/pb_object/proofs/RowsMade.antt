@@ -11,7 +11,7 @@ use Rattle.pb_code.specs.Names.{Word, is_name}
 use Rattle.pb_object.specs.Words.{is_new_name, are_new}
 use Rattle.pb_code.specs.Limits.{IsSmallProcess}
 use Rattle.pb_object.specs.Objects.{ResourceRow, ProcessRow, process_code, process_labels}
-use Rattle.pb_object.specs.Ranges.{Each, IsEntry, IsPlace, IsResource, IsProcess, AreIntegers, AreClaims}
+use Rattle.pb_object.specs.Ranges.{Each, IsEntry, IsPlace, IsResource, IsProcess, AreIntegers, AreClaimsInRange}
 use Rattle.pb_object.specs.Rows.{side_by_side}
 use Rattle.pb_object.proofs.NewNames.{new_parts}
 use Rattle.pb_object.proofs.Sides.{side_left, side_right}
@@ -142,7 +142,7 @@ pub record AreSmall (m : ℕ) (ts : List (List ℕ)) : Type 0 where
   pub width : All (λ row. length row ≡ m) ts
   pub small : (p r : ℕ) → p < length ts → r < m → cell ts p r ≤ 1000000
 
-claims_good : (m : ℕ) (t : List ℕ) (ts : List (List ℕ)) → AreSmall m (t ∷ ts) → AreClaims m t
+claims_good : (m : ℕ) (t : List ℕ) (ts : List (List ℕ)) → AreSmall m (t ∷ ts) → AreClaimsInRange m t
 claims_good m t ts h =
     let wide = h.width 0 t (omega arith) in
     (wide, claims_small t (λ r lt. h.small 0 r (omega arith) (omega (arith, lt, wide))))
@@ -154,7 +154,7 @@ claims_rest m t ts h = record {
 }
 
 process_good : (format : Format) (m : ℕ) (earlier : List ProcessRow) (n : Word) (t : List ℕ) (p : ProcessCode) (l : ProcessLabels)
-    → is_new_name (map (λ r. r.name) earlier) n ≡ true → AreClaims m t → IsSmallProcess p → AreGood format p l →
+    → is_new_name (map (λ r. r.name) earlier) n ≡ true → AreClaimsInRange m t → IsSmallProcess p → AreGood format p l →
     IsProcess format m earlier (process_row n t p l)
 unfolding process_row
 process_good format m earlier n t p l name claims small good =

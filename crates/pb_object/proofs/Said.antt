@@ -21,8 +21,8 @@ use Rattle.pb_object.specs.Ranges.{ArePairs, IsBundle, IsInstr, IsPlace, Each, I
 use Rattle.pb_code.specs.Limits.{IsSigned, IsLine}
 use Rattle.pb_object.specs.Answers.{HasText}
 use Rattle.pb_object.proofs.Columns.{each_all, all_map}
-use Rattle.pb_code.proofs.Naming.{name_decides}
-use Rattle.pb_object.proofs.Sayable.{mapped_at, each_at}
+use Rattle.pb_code.proofs.NameTests.{name_decides}
+use Rattle.pb_object.proofs.SayableCode.{mapped_at, each_at}
 
 -- ---- names
 

@@ -18,7 +18,7 @@ use Rattle.pb_object.specs.Writing.{IsRowOf, IsLabelsOf}
 use Rattle.pb_base.specs.Tables.{width_of}
 use Rattle.pb_object.specs.Ranges.{IsObject, IsProcess}
 use Rattle.pb_object.proofs.Columns.{each_all, all_map, width_is}
-use Rattle.pb_object.proofs.Joining.{flat_push}
+use Rattle.pb_object.proofs.JoinedWords.{flat_push}
 use Rattle.pb_object.proofs.SpellingLaws.{resource_is}
 
 -- the element of a mapped list

@@ -1,4 +1,4 @@
--- Which bytes spell which code, and what reading answers.
+-- Which bytes spell which code, and what reading returns.
 use Rattle.std.specs.Prelude.{◌≡◌, ℕ, Bool, true, false, nat_lt, if◌then◌else◌, List, length, Result, Ok, Err, ⊤}
 use Rattle.pb_object.specs.declared.fault.Fault.{Fault}
 use Rattle.pb_object.specs.declared.fault.ObjectFault.{ObjectFault}
@@ -41,7 +41,7 @@ HasTextOne code = (labels : List ProcessLabels) × HasText One code labels
 
 -- ---- answers
 
--- what reading rows answered is what the text says, unless memory wanted
+-- what reading rows returned is what the text says, unless memory ran out
 abbrev pub AnswersRows : List ℕ → Result Rows ObjectFault → Type 0
 AnswersRows text (Ok rows) = answer_of text ≡ Ok (object_row rows)
 AnswersRows text (Err (NotObject at)) = answer_of text ≡ Err (NotObject at)

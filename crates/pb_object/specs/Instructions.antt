@@ -61,13 +61,13 @@ place_words Two p = decimal (line_number p.0) ∷ instr_words p.1
 
 -- ---- reading
 
--- a word that must stand alone
+-- a word that must be alone
 abbrev pub alone : (Word → Verdict ℕ) → List Word → Verdict ℕ
 alone form [] = Malformed
 alone form (w ∷ []) = form w
 alone form (w ∷ v ∷ ws) = Malformed
 
--- two numbers that must stand alone
+-- two numbers that must be alone
 abbrev pub two : ℕ → ℕ → ℕ → ℕ → List Word → Verdict (ℕ × ℕ)
 two a b c d [] = Malformed
 two a b c d (v ∷ []) = Malformed

@@ -48,7 +48,7 @@ line form text = do
   x ← judged (length text) (form words.0)
   Ok (x, words.1)
 
--- n parts in a row, each read by what stands before it
+-- n parts in a row, each read by what is before it
 unfoldable pub many : {X : Type 0} → (List X → List ℕ → Result (X × List ℕ) Fault) → List X → ℕ → List ℕ
     → Result (List X × List ℕ) Fault
 many part earlier zero text = Ok (earlier, text)

@@ -80,15 +80,15 @@ abbrev pub IsEntry : List ℕ → ℕ → Type 0
 IsEntry earlier e = e ≤ 39999
 
 -- a claim for each of m resources
-abbrev pub AreClaims : ℕ → List ℕ → Type 0
-AreClaims m claims = (length claims ≡ m) × AllByRecursion (λ claim. claim ≤ 1000000) claims
+abbrev pub AreClaimsInRange : ℕ → List ℕ → Type 0
+AreClaimsInRange m claims = (length claims ≡ m) × AllByRecursion (λ claim. claim ≤ 1000000) claims
 
 pub record IsProcess (format : Format) (m : ℕ) (earlier : List ProcessRow) (p : ProcessRow) : Type 0 where
   pub name : is_new_name (map (λ e. e.name) earlier) p.name ≡ true
   pub integers : AreIntegers format p.integers
   pub some_arms : 1 ≤ length p.entries
   pub few_arms : length p.entries ≤ 64
-  pub claims : AreClaims m p.claims
+  pub claims : AreClaimsInRange m p.claims
   pub entries : Each IsEntry [] p.entries
   pub some_places : 1 ≤ length p.places
   pub few_places : length p.places ≤ 40000

@@ -119,7 +119,7 @@ all_of text = do
 
 -- ---- the answer
 
--- the place of a line is the length of what stands before it
+-- the place of a line is the length of what is before it
 abbrev pub placed : ℕ → Result Object Fault → Result Object ObjectFault
 placed n (Ok o) = Ok o
 placed n (Err (Malformed left)) = Err (NotObject (n - left))

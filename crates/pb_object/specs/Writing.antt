@@ -1,4 +1,4 @@
--- What a process of a code and its labels say, row by row.
+-- What a process of a code and its labels say, row by row. No public contract cites this file.
 use Rattle.std.specs.Prelude.{◌≡◌, ℕ, List, [], slice_get, slice_index_or, Some}
 use Rattle.pb_code.specs.Whole.{Code, ProcessLabels}
 use Rattle.pb_object.specs.Objects.{ProcessRow, process_code, process_labels}

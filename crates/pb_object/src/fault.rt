@@ -1,4 +1,4 @@
-//! Why a text is no object.
+//! Why a text is not an object.
 
 ghost use Rattle.std.specs.Prelude.{◌≡◌};
 ghost use Rattle.pb_object.specs.declared.fault.ReadError.TheVariants.{Memory};
@@ -7,7 +7,7 @@ ghost use Rattle.pb_object.specs.declared.fault.ObjectFault.TheVariants.{NoMemor
 use pb_base::NoMemory;
 use std::alloc::{AllocError, AllocFailed};
 
-/// Why a text is no object: its first faulty line, by the place in the text at which that line begins.
+/// Why a text is not an object: its first faulty line, by the place in the text at which that line begins.
 #[derive(Clone, Copy, Debug, PartialEq, Eq, thiserror::Error)]
 pub enum ObjectFault {
     /// The line there is not of the form that it must have, is not ended, is missing, or comes after the end.

@@ -128,7 +128,7 @@ fn push(words: &[&[u8]]) -> Verdict<Instr>
     }
 }
 
-/// Returns two numbers that must stand alone.
+/// Returns two numbers that must be alone.
 fn two(
     low: u64,
     high: u64,

@@ -1,4 +1,4 @@
-//! The lines of an object that are no places.
+//! The lines of an object other than places.
 
 ghost use Rattle.std.specs.Prelude.{◌≡◌, ◌<◌, ◌≤◌, ◌^◌, ◌-◌, ◌∷◌, [], length, map, cond, IfOk, Some, None, codes};
 ghost use Rattle.std.specs.Fmt.{decimal};

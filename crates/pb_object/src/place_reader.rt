@@ -63,7 +63,7 @@ fn pair(resource: &[u8], amount: &[u8]) -> Verdict<Pair>
     }
 }
 
-/// Pairs, no resource twice.
+/// Returns pairs, no resource twice.
 fn pairs(words: &[&[u8]]) -> Verdict<Bundle>
     requires some { 0 < length words.now }
     requires few { length words.now < 33 }

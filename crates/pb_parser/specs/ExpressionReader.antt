@@ -84,7 +84,7 @@ of_level inner level.Sum = sum inner
 of_level inner level.Term = term inner
 of_level inner level.Factor = factor inner
 
--- `a` joined by the operator with what is answered
+-- `a` joined by the operator with what is returned
 abbrev pub joined : BinaryOp → ExprSyntax → Answer ExprSyntax → Answer ExprSyntax
 joined op a answer = and_then answer (λ b rest. Found (tree.binary op a b) rest)
 

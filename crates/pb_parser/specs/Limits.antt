@@ -26,11 +26,11 @@ IsTooLarge ts =
 abbrev pub IsWithinLimits : List Token → Type 0
 IsWithinLimits ts = (¬ NestsTooDeep ts) × ((p : ProgramSyntax) × (ReadsProgram ts p) × KeepsLimits p)
 
--- the tokens are no program
+-- the tokens are not a program
 abbrev pub IsNoProgram : List Token → Type 0
 IsNoProgram ts = (p : ProgramSyntax) → ReadsProgram ts p → ⊥
 
--- the fault says that the tokens are no program
+-- the fault says that the tokens are not a program
 abbrev pub IsSyntax : ParseFault → Type 0
 IsSyntax (fault.Syntax at) = Unit {0}
 IsSyntax _ = ⊥

@@ -5,7 +5,7 @@ use Rattle.std.specs.Prelude.{Bool, true, false, fold, length}
 use Rattle.pb_lexer.specs.declared.token.Mark.TheVariants as mark
 use Rattle.pb_lexer.specs.Tokens.{Lexeme, Fixed, Token}
 
--- how many stand open behind a token: it opens one more, closes one if there is one, or does neither
+-- how many are open after a token: it opens one more, closes one if there is one, or does neither
 abbrev pub open_after : ℕ → Lexeme → ℕ
 open_after n (Fixed mark.Open) = n + 1
 open_after n (Fixed mark.Begin) = n + 1
@@ -20,11 +20,11 @@ open_after n (Fixed mark.Od) = n - 1
 open_after n (Fixed mark.Parend) = n - 1
 open_after n _ = n
 
--- how many stand open behind some tokens
+-- how many are open after some tokens
 abbrev pub open_behind : List Token → ℕ
 open_behind ts = fold (λ n t. open_after n t.lexeme) 0 ts
 
--- somewhere more than 256 stand open
+-- somewhere more than 256 are open
 abbrev pub OpensTooMany : List Token → Type 0
 OpensTooMany ts = (before after : List Token) × (ts ≡ before ++ after) × (256 < open_behind before)
 
@@ -39,7 +39,7 @@ abbrev pub AreSigns : List Token → Type 0
 AreSigns [] = Unit {0}
 AreSigns (t ∷ ts) = (is_sign t.lexeme ≡ true) × AreSigns ts
 
--- somewhere more than 256 signs stand in a row
+-- somewhere more than 256 signs are in a row
 abbrev pub SignsTooMany : List Token → Type 0
 SignsTooMany ts = (before signs after : List Token)
     × (ts ≡ before ++ (signs ++ after)) × (AreSigns signs) × (256 < length signs)

@@ -1,5 +1,5 @@
 -- Private helpers of the proof: the reading of tokens as a function. Nothing outside this crate names it,
--- and no reader need believe it. Here are answers, symbols and words, and chains.
+-- and no reader need believe it. Here are results, symbols and words, and chains.
 use Rattle.std.specs.Prelude.{◌≡◌, ℕ, zero, suc, Bool, true, false, List, [], ◌∷◌, length, Option, Some, None}
 use denote.Enum.Bare.{sameb}
 use Rattle.pb_lexer.specs.contracts.token.Mark.{the_type}

@@ -63,12 +63,12 @@ abbrev pub otherwise_by : Bool → Answer StmtsSyntax → List Token → Answer 
 otherwise_by true some ts = some
 otherwise_by false some ts = Found tree.no_stmt ts
 
--- what stands after "else", if that comes next
+-- what is after "else", if that comes next
 unfoldable pub otherwise : Part StmtsSyntax → Part StmtsSyntax
 otherwise deeper [] = Found tree.no_stmt []
 otherwise deeper (t ∷ ts) = otherwise_by (is_mark mark.Else t.lexeme) (list deeper ts) (t ∷ ts)
 
--- what stands after the first token of a statement, by its kind
+-- what is after the first token of a statement, by its kind
 abbrev pub assignment : ℕ → Token → List ℕ → Part StmtsSyntax
 assignment d t x ts = and_then (expect mark.Assign ts) (λ _ us. and_then (expression d us) (λ e rest.
     Found (single (tree.assign t.line (name_at t x) e)) rest))

@@ -1,4 +1,4 @@
-//! Why tokens are no program, or one over a limit.
+//! Why tokens are not a program, or one over a limit.
 
 ghost use Rattle.std.specs.Prelude.{◌≡◌};
 ghost use Rattle.pb_parser.specs.declared.fault.ParseFault.TheVariants.{NoMemory};
@@ -8,9 +8,8 @@ use pb_base::NoMemory;
 /// Why no tree was made of some tokens. A place is an offset into the text, from 0.
 #[derive(Clone, Copy, Debug, PartialEq, Eq, thiserror::Error)]
 pub enum ParseFault {
-    /// The tokens are no program. At this place begins the first token with which the tokens so far
-    /// begin none; where
-    /// they only end too early, the last token ends there (0 if there is none).
+    /// The tokens are not a program. At this place begins the first token with which the tokens so far begin
+    /// none; if they only end too early, the last token ends there (0 if there is none).
     #[error("syntax error at {0}")]
     Syntax(usize),
     /// The tokens open more than 256 brackets and statements in one another, or have more than 256 signs

@@ -21,7 +21,7 @@ impl Measure {
         nodes: 1,
     };
 
-    /// Of two trees beside one another.
+    /// Returns the measure of two trees beside one another.
     pub(crate) fn beside(self, other: Measure) -> Measure
         ensures { (h n k m : ℕ) → IsMeasure self h n → IsMeasure other k m
             → IsMeasure result (max h k) (n + m) }
@@ -32,7 +32,7 @@ impl Measure {
         }
     }
 
-    /// With one more node, not higher.
+    /// Returns the measure with one more node, not higher.
     pub(crate) fn with_node(self) -> Measure
         ensures { (h n : ℕ) → IsMeasure self h n → IsMeasure result h (1 + n) }
     {
@@ -42,7 +42,7 @@ impl Measure {
         }
     }
 
-    /// With one more node, on top of all.
+    /// Returns the measure with one more node, on top of all.
     pub(crate) fn under_node(self) -> Measure
         ensures { (h n : ℕ) → IsMeasure self h n → IsMeasure result (1 + h) (1 + n) }
     {

@@ -11,7 +11,7 @@ const MOST_OPEN: usize = 256;
 
 const MOST_SIGNS: usize = 256;
 
-/// How many stand open behind a token of the kind.
+/// Returns how many are open after a token of the kind, if `count` were open before it.
 fn open_after(count: usize, kind: Kind) -> usize
     requires { count < 2 ^ 63 }
     ensures { (text : List ℕ) → result ≡ nesting.open_after count (spec_tokens.lexeme kind text) }
@@ -27,7 +27,7 @@ fn open_after(count: usize, kind: Kind) -> usize
     }
 }
 
-/// How many signs stand in a row up to a token of the kind, if `count` stood before it.
+/// Returns how many signs are in a row up to a token of the kind, if `count` were before it.
 fn signs_after(count: usize, kind: Kind) -> usize
     requires { count < 2 ^ 63 }
     ensures { (text : List ℕ)
@@ -39,7 +39,7 @@ fn signs_after(count: usize, kind: Kind) -> usize
     }
 }
 
-/// Whether more than 256 brackets and statements stand open somewhere.
+/// Returns whether more than 256 brackets and statements are open somewhere.
 fn opens_too_many(tokens: &[Token<'_>]) -> bool
     ensures { IsTrue result ↔ OpensTooMany (spec_tokens.tokens tokens.now) }
 {
@@ -53,7 +53,7 @@ fn opens_too_many(tokens: &[Token<'_>]) -> bool
     false
 }
 
-/// Whether more than 256 signs stand in a row somewhere.
+/// Returns whether more than 256 signs are in a row somewhere.
 fn signs_too_many(tokens: &[Token<'_>]) -> bool
     ensures { IsTrue result ↔ SignsTooMany (spec_tokens.tokens tokens.now) }
 {
@@ -67,7 +67,7 @@ fn signs_too_many(tokens: &[Token<'_>]) -> bool
     false
 }
 
-/// Whether the tokens nest too deep.
+/// Returns whether the tokens nest too deep.
 pub(crate) fn nests_too_deep(tokens: &[Token<'_>]) -> bool
     ensures { IsTrue result ↔ NestsTooDeep (spec_tokens.tokens tokens.now) }
 {

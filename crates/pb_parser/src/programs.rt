@@ -25,8 +25,7 @@ const HIGHEST: u64 = 200;
 
 const MOST_NODES: u64 = 16_384;
 
-/// At most this many parts of a program stand in one another if at most 256 brackets and statements stand
-/// open.
+/// At most this many parts of a program are in one another if at most 256 brackets and statements are open.
 const DEPTH: usize = 257;
 
 impl<'a, 't, B: Builder> Parser<'a, 't, B> {

@@ -16,7 +16,7 @@ use std::alloc::Allocator;
 pub(crate) enum Part<A: Allocator> {
     /// A number.
     Number(Number),
-    /// An expression that lies in memory already.
+    /// An expression that is in memory already.
     Made(Box<Expr<A>, A>),
 }
 

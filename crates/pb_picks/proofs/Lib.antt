@@ -1,4 +1,4 @@
-pub mod Counting
+pub mod Counts
 pub mod Numbers
-pub mod Reading
-pub mod Spelling
+pub mod PickParts
+pub mod PickSpellings

@@ -12,7 +12,7 @@ use Rattle.std.proofs.lemmas.Result.{OkIff-at_ok}
 use Rattle.std.proofs.lemmas.Fmt.{IsAscii-decimal, decimal-digits_value, decimal_nonempty, first_decimal, decimal_digit, parse-decimal}
 use Rattle.std.proofs.lemmas.Bool.{eqb-true, cases_lt}
 use Rattle.std.proofs.lemmas.Bool.Decides.{nat_tests}
-use Rattle.pb_code.proofs.Naming.{both_true}
+use Rattle.pb_code.proofs.NameTests.{both_true}
 use Rattle.pb_picks.specs.PickLines.{is_plain}
 
 pub own : IsNumeralModel (λ ds. list_all is_ascii_digit ds ≡ true) (digits_value 10)

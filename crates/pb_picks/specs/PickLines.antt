@@ -13,7 +13,7 @@ use Rattle.pb_picks.specs.declared.fault.PickFault.TheVariants.{NotPicks, TooMan
 abbrev pub Lacks : ℕ → List ℕ → Type 0
 Lacks mark bytes = All (λ b. b ≢ mark) bytes
 
--- no sign stands first, and no zero before more bytes
+-- no sign is first, and no zero before more bytes
 abbrev pub is_plain : List ℕ → Bool
 is_plain [] = false
 is_plain (b ∷ bytes) = not (b == 43) && (not (b == 48) || (length bytes == 0))

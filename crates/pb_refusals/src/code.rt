@@ -6,6 +6,7 @@ use std::fmt;
 use std::str::FromStr;
 
 /// The code of a refusal: the word behind `refused` in the line of a refused input.
+// To add one: specs/Codes, proofs/CodeLemmas, pb_explain, the wording of messages; docs/CHANGING.md.
 #[derive(Clone, Copy, Debug, PartialEq, Eq)]
 pub enum Code {
     /// The text is too long.

@@ -15,7 +15,7 @@ use Rattle.pb_rewrite.specs.declared.arm.Arm.{Arm}
 use Rattle.pb_rewrite.specs.declared.stepping.Stepped.{Stepped}
 use Rattle.pb_rewrite.specs.declared.stepping.Outcome.{Outcome}
 use Rattle.pb_rewrite.specs.declared.stepping.Outcome.TheVariants as outcome
-use Rattle.pb_rewrite.proofs.Left.{silently}
+use Rattle.pb_rewrite.proofs.TestSteps.{silently}
 
 module _ (s : BankerState) (p : ℕ) (vars : List ℤ) where
   -- a step that asks nothing of the banker

@@ -17,7 +17,7 @@ use Rattle.pb_rewrite.specs.Steps as steps
 use Rattle.pb_rewrite.specs.View.{bank_of}
 use Rattle.pb_rewrite.specs.declared.stepping.Outcome.{Outcome}
 use Rattle.pb_rewrite.specs.declared.stepping.Outcome.TheVariants as outcome
-use Rattle.pb_rewrite.proofs.Putting.{put_found}
+use Rattle.pb_rewrite.proofs.TakenArms.{put_found}
 
 -- a list that was lent whole, with all its elements
 pub restored : {X : Type 0} (n : ℕ) (xs ws : List X) → length ws ≡ n → take n (ws ++ drop (length ws) xs) ≡ ws

@@ -20,8 +20,8 @@ use Rattle.pb_rewrite.specs.Steps.{IsProcessStep}
 use Rattle.pb_rewrite.specs.Steps as steps
 use Rattle.pb_rewrite.specs.View.{bank_of, process_view}
 use Rattle.pb_rewrite.specs.declared.process.SourceProcess.{SourceProcess as GivenProcess}
-use Rattle.pb_rewrite.proofs.Holding.{LendsBy, goes_lends, ends_hold, held_put}
-use Rattle.pb_rewrite.proofs.Owning.{owned_single, found_owned, owned_put, keeps_owned, owned_le}
+use Rattle.pb_rewrite.proofs.ArmHoldings.{LendsBy, goes_lends, ends_hold, held_put}
+use Rattle.pb_rewrite.proofs.ArmNumbers.{owned_single, found_owned, owned_put, keeps_owned, owned_le}
 use Rattle.pb_rewrite.proofs.Processes.{process_of, both, first_same, second_same, nothing_made}
 
 -- ---- the row of a process after an effect

@@ -23,7 +23,7 @@ source_banker s = s.banker
 abbrev pub source_bank : {A : Type 0} → Source A → Bank
 source_bank s = bank_of s.banker.state
 
--- it stands where steps have led it
+-- it is where steps have led it
 abbrev pub IsSource : {A : Type 0} → Source A → Type 0
 IsSource s = AreSound s.banker.state (source_view s).processes
 

@@ -25,7 +25,7 @@ IsExprStep vars e (progress.Is v) e' = (e ≡ Number v) × (e' ≡ e)
 IsExprStep vars e progress.Becomes e' = step_expr vars e ≡ Becomes e'
 IsExprStep vars e (progress.Fails kind) e' = step_expr vars e ≡ Fails kind
 
--- the result of an operator stands in its place
+-- the result of an operator is in its place
 abbrev pub IsReplaced : Result ℤ FaultKind → Progress → Expr → Type 0
 IsReplaced made (progress.Is v) e' = ⊥
 IsReplaced made progress.Becomes e' = from_result made ≡ Becomes e'
@@ -34,17 +34,17 @@ IsReplaced made (progress.Fails kind) e' = from_result made ≡ Fails kind
 -- ---- one arm
 
 -- the arm cannot step: its step, if there is one, takes what the banker does not allow
-abbrev pub IsRefused : BankerState → ℕ → Effect → Type 0
-IsRefused s p effect.Silent = ⊥
-IsRefused s p (effect.Prints v) = ⊥
-IsRefused s p (effect.Takes bundle) = ¬ IsAllowed s p bundle
-IsRefused s p (effect.Returns bundle) = ⊥
-IsRefused s p (effect.Faults kind) = ⊥
-IsRefused s p effect.Finishes = ⊥
+abbrev pub BankerRefuses : BankerState → ℕ → Effect → Type 0
+BankerRefuses s p effect.Silent = ⊥
+BankerRefuses s p (effect.Prints v) = ⊥
+BankerRefuses s p (effect.Takes bundle) = ¬ IsAllowed s p bundle
+BankerRefuses s p (effect.Returns bundle) = ⊥
+BankerRefuses s p (effect.Faults kind) = ⊥
+BankerRefuses s p effect.Finishes = ⊥
 
 abbrev pub CannotStep : BankerState → ℕ → Option ArmStep → Type 0
 CannotStep s p None = ⊤
-CannotStep s p (Some (Goes vars arm effect)) = IsRefused s p effect
+CannotStep s p (Some (Goes vars arm effect)) = BankerRefuses s p effect
 CannotStep s p (Some (Breaks kind)) = ⊥
 CannotStep s p (Some Ends) = ⊥
 

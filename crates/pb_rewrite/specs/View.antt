@@ -12,7 +12,7 @@ use Rattle.pb_rewrite.specs.declared.arm.Arm.{Arm, fold-Arm}
 use Rattle.pb_rewrite.specs.declared.arm.Arm.TheOpen.{Arm-F}
 use Rattle.pb_rewrite.specs.declared.process.SourceProcess.{SourceProcess}
 
--- a loop that stands as a statement has its whole test left
+-- a loop that is a statement has its whole test left
 abbrev pub item_view : {A : Type 0} → Item A → plain.Item
 item_view (item.Left stmt) = item_of (stmt_view stmt)
 item_view (item.Loop line test left body) =

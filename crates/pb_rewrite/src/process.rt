@@ -125,7 +125,7 @@ impl<A: Allocator + Clone> SourceProcess<A> {
         }
     }
 
-    /// A fault ends the run, and all that the process holds comes back.
+    /// Ends the run by a fault, and all that the process holds comes back.
     #[cold]
     fn fault(&mut self, banker: &mut Banker, pick: Pick, kind: FaultKind) -> Step
         requires process { pick.process < processes banker.old.state }
@@ -138,7 +138,7 @@ impl<A: Allocator + Clone> SourceProcess<A> {
     }
 }
 
-/// `count` integers, all 0.
+/// Returns `count` integers, all 0.
 fn zeros(alloc: Global, count: usize) -> Result<Vec<i64>, NoMemory>
     ensures { IfOk result (λ vars. vars.items ≡ replicate count (pos 0)) }
 {

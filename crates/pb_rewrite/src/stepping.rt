@@ -414,7 +414,7 @@ fn fork<A: Allocator + Clone>(
     }
 }
 
-/// No arms, with room for `room`.
+/// Returns no arms, with room for `room`.
 fn arms_for<A: Allocator + Clone>(room: usize, alloc: &A) -> Result<Vec<Arm<A>, A>, NoMemory>
     ensures none { IfOk result (λ arms. vec_len arms ≡ 0) }
     ensures room { IfOk result (λ arms. room ≤ vec_capacity arms) }

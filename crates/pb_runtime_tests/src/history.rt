@@ -117,7 +117,7 @@ fn long(alloc: Global) -> Result<Trace, NoMemory> {
     Ok(trace)
 }
 
-/// Returns whether silent picks of an arm, and its pick that shows, are one span, and others stand apart.
+/// Returns whether silent picks of an arm, and its pick that shows, are one span, and others are apart.
 fn spans_are_right(trace: &Trace) -> bool {
     let first = Span {
         pick: FIRST,

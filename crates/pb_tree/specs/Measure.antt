@@ -1,5 +1,5 @@
 -- How many nodes a tree has, and how high it is. Nodes are expressions, statements and processes; amounts,
--- names, resources and the target of an assignment are none, and so no parts of what they stand in.
+-- names, resources and the target of an assignment are none, and so no parts of what they are in.
 use Rattle.std.specs.Prelude.{ℕ, ◌+◌, ◌-◌, ◌^◌, min, max, List, [], ◌∷◌}
 use Rattle.pb_tree.specs.Syntax.{ExprSyntax, number, variable, unary, binary, StmtSyntax, assign, print}
 use Rattle.pb_tree.specs.Syntax.{if_else, while_do, hold, parbegin, StmtsSyntax, no_stmt, stmt_then}

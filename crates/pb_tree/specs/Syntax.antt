@@ -1,15 +1,15 @@
 -- The syntax tree as plain data, with no allocator in it. Every definition of the language speaks of this
--- tree: what it leaves out, as where the tree lies in memory, has no meaning.
+-- tree: what it leaves out, as where the tree is in memory, has no meaning.
 use Rattle.std.specs.Prelude.{ℕ, ℤ, List}
 use Rattle.pb_base.specs.declared.operators.BinaryOp.{BinaryOp}
 use Rattle.pb_base.specs.declared.operators.UnaryOp.{UnaryOp}
 
--- a name's bytes, and the byte offset, from 0, at which it stands
+-- a name's bytes, and its byte offset, from 0
 pub record NameSyntax : Type 0 where
   pub text : List ℕ
   pub at : ℕ
 
--- a number's value, and the byte offset, from 0, at which it stands
+-- a number's value, and its byte offset, from 0
 pub record NumberSyntax : Type 0 where
   pub value : ℤ
   pub at : ℕ
@@ -26,7 +26,7 @@ pub record DemandSyntax : Type 0 where
   pub amount : NumberSyntax
   pub resource : NameSyntax
 
--- A statement says on which line, from 1, its first token stands. `skip` is no statement here, and an inner
+-- A statement says on which line, from 1, its first token is. `skip` is not a statement here, and an inner
 -- `begin .. end` is the list of what is in it.
 mutual
   pub data StmtSyntax : Type 0 where

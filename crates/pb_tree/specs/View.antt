@@ -1,4 +1,4 @@
--- The plain tree that a tree in memory stands for. Where it lies leaves no trace, so two trees with one view
+-- The plain tree of a tree in memory. Where it is in memory leaves no trace, so two trees with one view
 -- are the same tree in whatever memory.
 use Rattle.std.specs.Prelude.{List, [], ◌∷◌, map, Vec}
 use Rattle.pb_tree.specs.Syntax.{NameSyntax, NumberSyntax, ExprSyntax, number, variable, unary, binary}

@@ -89,7 +89,7 @@ impl<A: Allocator> Expr<A> {
         Ok(Box::new(alloc.clone()?, copy)?)
     }
 
-    /// Returns whether the other expression is the same, places included, in whatever memory it lies.
+    /// Returns whether the other expression is the same, places included, in whatever memory it is.
     pub fn same<B: Allocator>(&self, other: &Expr<B>) -> bool
         ensures { IsTrue result ↔ (expr_view self.now ≡ expr_view other.now) }
     {

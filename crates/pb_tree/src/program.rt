@@ -30,7 +30,7 @@ pub struct Process<A: Allocator> {
     pub body: Vec<Stmt<A>, A>,
 }
 
-/// A program, all of which lies in memory of `A`.
+/// A program, all of which is in memory of `A`.
 #[derive(Drop)]
 pub struct Program<A: Allocator> {
     /// The resources, in the order of their declaration.
@@ -73,7 +73,7 @@ impl<A: Allocator> Process<A> {
         })
     }
 
-    /// Returns whether the other process is the same, places and lines included, in whatever memory it lies.
+    /// Returns whether the other process is the same, places and lines included, in whatever memory it is.
     pub fn same<B: Allocator>(&self, other: &Process<B>) -> bool
         ensures { IsTrue result ↔ (process_view self.now ≡ process_view other.now) }
     {
@@ -96,7 +96,7 @@ impl<A: Allocator> Program<A> {
         })
     }
 
-    /// Returns whether the other program is the same, places and lines included, in whatever memory it lies.
+    /// Returns whether the other program is the same, places and lines included, in whatever memory it is.
     pub fn same<B: Allocator>(&self, other: &Program<B>) -> bool
         ensures { IsTrue result ↔ (program_view self.now ≡ program_view other.now) }
     {

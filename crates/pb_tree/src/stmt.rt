@@ -181,7 +181,7 @@ impl<A: Allocator> Stmt<A> {
     }
 
     /// Returns whether the other statement is the same, places and lines included, in whatever memory it
-    /// lies.
+    /// is.
     #[cycle(same)]
     #[tactic(auto, using(crate::proofs::Views::stmt_views))]
     pub fn same<B: Allocator>(&self, other: &Stmt<B>) -> bool

@@ -25,9 +25,9 @@ use Rattle.pb_verifier.specs.declared.fault.VerifyFault.TheVariants.{OutOfLimits
 use Rattle.pb_verifier.specs.Behaviour.{AsksWithin, EndsOrGoesOn, IsDeadlocked}
 use Rattle.pb_verifier.specs.Limits.{KeepsLimits, IsSmallBundle}
 use Rattle.pb_verifier.specs.Verified.{IsAnnotated}
-use Rattle.pb_verifier.proofs.Finding.{can_step, none_live}
-use Rattle.pb_verifier.proofs.Holding.{holds_none, under_peak}
-use Rattle.pb_verifier.proofs.Peaking.{replicate_read}
+use Rattle.pb_verifier.proofs.LiveSteps.{can_step, none_live}
+use Rattle.pb_verifier.proofs.ThreadHoldings.{holds_none, under_peak}
+use Rattle.pb_verifier.proofs.PeakTables.{replicate_read}
 use Rattle.pb_verifier.proofs.States.{CodeMove, code_move, checked, Good, asks_within, bundles_small, good_next, good_start}
 use Rattle.pb_verifier.proofs.Turns.{turned}
 

@@ -8,9 +8,9 @@ use Rattle.pb_verifier.specs.Faults.{HasArms}
 use Rattle.pb_verifier.specs.Flow.{StaysInside, followers}
 use Rattle.pb_verifier.specs.Flow as flow
 use Rattle.pb_verifier.specs.Places.{arms, entry, arm_end, IsInArm}
-use Rattle.pb_verifier.proofs.Arming.{arm_lies, rise_of}
-use Rattle.pb_verifier.proofs.Bridging.{follows_from}
-use Rattle.pb_verifier.proofs.Forking.{arm_of}
+use Rattle.pb_verifier.proofs.ArmOrder.{arm_lies, rise_of}
+use Rattle.pb_verifier.proofs.FaultFacts.{follows_from}
+use Rattle.pb_verifier.proofs.ForkTables.{arm_of}
 use Rattle.pb_verifier.proofs.Lying.{follows_in_arm}
 
 pub stays_inside : (code : ProcessCode) → HasArms code → 1 ≤ arms code → length code.instrs ≤ 40000 → StaysInside code.entries code.instrs

@@ -148,7 +148,7 @@ module _ (codes : List ProcessCode) (s : State CodeProcess) (pick : Pick) (code 
       ∙ ap (option_and_then (λ (i : Instr). option_and_then (apply_step code process pick.arm) (act process.vars i q stack))) instr in
       (moved s pick (after, Takes bundle), move_so (after, Takes bundle) steps, refl)
 
-same_pick : (a b : Pick) → a.process ≡ b.process → a.arm ≡ b.arm → a ≡ b
+pub same_pick : (a b : Pick) → a.process ≡ b.process → a.arm ≡ b.arm → a ≡ b
 same_pick a b p q = λ i. record { process = p i; arm = q i }
 
 pub slice_set_here : {X : Type 0} (xs : List X) (i : ℕ) (x y : X) → slice_get xs i ≡ Some y → slice_get (slice_set xs i x) i ≡ Some x

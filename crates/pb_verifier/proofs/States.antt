@@ -23,9 +23,9 @@ use Rattle.pb_verifier.specs.declared.fault.VerifyFault.TheVariants.{OutOfLimits
 use Rattle.pb_verifier.proofs.Threads.{taken, given}
 use Rattle.pb_verifier.proofs.Lying.{Checked, follows_in_arm, fork_in_arm, place_has, held_next}
 use Rattle.pb_verifier.proofs.Turns.{Turn, runs, traps, forks, joins, stops, Fit, turned, can_act}
-use Rattle.pb_verifier.proofs.Peaking.{replicate_read}
+use Rattle.pb_verifier.proofs.PeakTables.{replicate_read}
 use Rattle.pb_verifier.proofs.Order.{same_or_not, idle_before, order_next, fails_or_lives, fit_next, fit_start}
-use Rattle.pb_verifier.proofs.Holding.{holds, holds_next, holds_none, holds_start, part_of, under_peak}
+use Rattle.pb_verifier.proofs.ThreadHoldings.{holds, holds_next, holds_none, holds_start, part_of, under_peak}
 
 pub slice_set_same : {X : Type 0} (xs : List X) (i : ℕ) (x y : X) → slice_get (slice_set xs i x) i ≡ Some y → x ≡ y
 slice_set_same [] i x y h = cc

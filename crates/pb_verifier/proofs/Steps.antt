@@ -7,11 +7,11 @@ use Rattle.std.proofs.lemmas.Bool.{cases_eq, cases_lt}
 use Rattle.pb_code.specs.Code.{Instr}
 use Rattle.pb_verifier.specs.Flow.{followers, IsGrown, IsReached, reached_entry, reached_next, StaysInside, LeadsBelow}
 use Rattle.pb_verifier.specs.Spread.{Rules, IsAnnotation, CanBeAnnotated, fact_at, notes_of, AllReadable, AgreesAt, IsKept, with_notes}
-use Rattle.pb_verifier.proofs.Searching.{reached_inside, leads_below}
-use Rattle.pb_verifier.proofs.Spreading.{IsSpread, Extended, spread_noted, refuted_fit, next_agrees, spread_same, spread_step}
-use Rattle.pb_verifier.proofs.Ending.{fact_of}
-use Rattle.pb_verifier.proofs.Keeping.{kept_agrees}
-use Rattle.pb_verifier.proofs.Noting.{Noted, note_all}
+use Rattle.pb_verifier.proofs.ReachSearch.{reached_inside, leads_below}
+use Rattle.pb_verifier.proofs.FactSpread.{IsSpread, Extended, spread_noted, refuted_fit, next_agrees, spread_same, spread_step}
+use Rattle.pb_verifier.proofs.EndTables.{fact_of}
+use Rattle.pb_verifier.proofs.FactTables.{kept_agrees}
+use Rattle.pb_verifier.proofs.FactNotes.{Noted, note_all}
 
 -- the order of the reached places
 pub record IsOrder (entries : List ℕ) (instrs : List Instr) (order : List ℕ) : Type 0 where

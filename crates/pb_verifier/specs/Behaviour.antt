@@ -43,7 +43,7 @@ MeetsWhatItNeeds resources code loans p process place (Join first count) =
     HasPlace code (place + 1) × (first + count ≤ length process.threads)
 MeetsWhatItNeeds resources code loans p process place End = ⊤
 
--- each live arm stands at an instruction that has its operands and meets what it needs
+-- each live arm is at an instruction that has its operands and meets what it needs
 abbrev pub PassesTests : Code → State CodeProcess → Type 0
 PassesTests code s =
     (p a place : ℕ) (stack : List ℤ) (process : ProcessCode) (state : CodeProcess)
@@ -53,7 +53,7 @@ PassesTests code s =
     × (act state.vars i place stack ≡ Some step)
     × MeetsWhatItNeeds (length code.capital) process s.loans p state place i
 
--- each live arm stands at a reached place of its own, with as many operands as that place has by its depth
+-- each live arm is at a reached place of its own, with as many operands as that place has by its depth
 abbrev pub StacksHaveTheirDepth : Code → State CodeProcess → Type 0
 StacksHaveTheirDepth code s =
     (p a place : ℕ) (stack : List ℤ) (process : ProcessCode) (state : CodeProcess)
@@ -62,7 +62,7 @@ StacksHaveTheirDepth code s =
     → IsInArm process a place × Reached process place
     × ((depth : ℕ → ℕ) → AreDepths process depth → length stack ≡ depth place)
 
--- whatever arm stands at a request, it is within the claim, whether or not the banker allows it
+-- whatever arm is at a request, it is within the claim, whether or not the banker allows it
 abbrev pub AsksWithin : Code → State CodeProcess → Type 0
 AsksWithin code s =
     (pick : Pick) (move : Move CodeProcess) (bundle : Bundle)

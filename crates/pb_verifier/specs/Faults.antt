@@ -10,8 +10,8 @@ use Rattle.pb_verifier.specs.Places.{InstrAt, arms, entry, arm_end, IsInArm, Jum
 -- ---- claims, integers and resources
 
 -- no claim is over its capital
-abbrev pub FitCapital : Code → Type 0
-FitCapital code =
+abbrev pub ClaimsFitCapital : Code → Type 0
+ClaimsFitCapital code =
     (p r : ℕ) → p < length code.processes → r < length code.capital
     → cell code.claims p r ≤ slice_index code.capital r
 

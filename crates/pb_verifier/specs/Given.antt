@@ -1,4 +1,4 @@
--- The plain instructions of a process as it is given.
+-- The plain instructions of a process as it is given. No public contract cites this file.
 use Rattle.std.specs.Prelude.{◌≡◌, ◌↔◌, ℕ, List, map, slice_get, Some, Contains}
 use Rattle.pb_base.specs.Steppers.{Bundle}
 use Rattle.pb_code.specs.declared.code.ProcessCode.{ProcessCode as GivenProcess}
@@ -14,7 +14,7 @@ plain code i = instr_view code.bundles.items i
 abbrev pub instrs_of : GivenProcess → List Instr
 instrs_of code = map (instr_view code.bundles.items) code.instrs.items
 
--- a take stands at a place
+-- a take is at a place
 abbrev pub IsTakeAt : List Instr → ℕ → Type 0
 IsTakeAt instrs p = (bundle : Bundle) × (slice_get instrs p ≡ Some (Take bundle))
 

@@ -2,7 +2,7 @@
 use Rattle.std.specs.Prelude.{◌≡◌, ◌≤◌, ◌<◌, ◌⊎◌, ℕ, ◌+◌, length, get_or, slice_get, Some}
 use Rattle.pb_code.specs.Code.{Instr, Jump, JumpIfZero, End, ProcessCode}
 
--- an instruction stands at a place
+-- an instruction is at a place
 abbrev pub InstrAt : ProcessCode → ℕ → Instr → Type 0
 InstrAt code place i = slice_get code.instrs place ≡ Some i
 

@@ -9,7 +9,7 @@ use Rattle.pb_code.specs.Code.{CodeProcess, code_step}
 use Rattle.pb_code.specs.Reached.{CodeReaches, CodeMoves}
 use Rattle.pb_code.specs.Whole.{Code, bank_of}
 
--- the arm stands at a request that is not allowed now
+-- the arm is at a request that is not allowed now
 pub record IsRefused (code : Code) (s : State CodeProcess) (pick : Pick) : Type 0 where
   pub move : Move CodeProcess
   pub bundle : Bundle

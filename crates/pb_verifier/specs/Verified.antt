@@ -8,12 +8,12 @@ use Rattle.pb_verifier.specs.declared.fault.VerifyFault.{VerifyFault}
 use Rattle.pb_verifier.specs.declared.fault.VerifyFault.TheVariants.{OutOfLimits, OverCapital, OutOfRange, WrongArms, WrongForks, NoDepths, NoHoldings, LeftAtEnd, OverClaim, NoMemory}
 use Rattle.pb_verifier.specs.Places.{Reached, IsInArm, arms}
 use Rattle.pb_verifier.specs.Limits.{EachProcess, KeepsLimits, PushesFit}
-use Rattle.pb_verifier.specs.Faults.{FitCapital, IsInRange, HasArms, HasForks, AreDepths, AreHoldings, EndsClear, PeakFits, HasPeakWithin, HasPeakOver}
+use Rattle.pb_verifier.specs.Faults.{ClaimsFitCapital, IsInRange, HasArms, HasForks, AreDepths, AreHoldings, EndsClear, PeakFits, HasPeakWithin, HasPeakOver}
 
 -- the code doesn't have this fault; being out of memory is not a fault of the code
 abbrev pub IsFreeOf : VerifyFault → Code → Type 0
 IsFreeOf OutOfLimits code = KeepsLimits code
-IsFreeOf OverCapital code = FitCapital code
+IsFreeOf OverCapital code = ClaimsFitCapital code
 IsFreeOf OutOfRange code = EachProcess code (IsInRange (length code.capital))
 IsFreeOf WrongArms code = EachProcess code HasArms
 IsFreeOf WrongForks code = EachProcess code HasForks

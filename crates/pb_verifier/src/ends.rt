@@ -14,7 +14,7 @@ use crate::holdings::Holding;
 use crate::places::{instr_at, places};
 use pb_code::{Instr, ProcessCode};
 
-/// Returns whether an instruction is no end, or nothing is left there.
+/// Returns whether an instruction is not an end, or nothing is left there.
 fn is_clear(
     code: &ProcessCode,
     instr: Instr,

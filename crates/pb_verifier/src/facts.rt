@@ -51,7 +51,7 @@ pub trait Fact: Copy + Drop {
             ↔ (value (instrs_of code.now) table.now self
             ≡ value (instrs_of code.now) table.now other) };
 
-    /// Lets two facts that mean the same share what they stand on, so that they soon compare as the same.
+    /// Lets two facts that mean the same share what they rest on, so that they soon compare as the same.
     fn share(self, other: Self, code: &ProcessCode, table: &mut Vec<Option<Self>>)
         requires one { IsReadable (instrs_of code.now) table.old.items self }
         requires two { IsReadable (instrs_of code.now) table.old.items other }
@@ -152,7 +152,7 @@ fn note_all<F: Fact>(
     }
 }
 
-/// Lets a fact share what the one that is known at a place stands on.
+/// Lets a fact share what the one that is known at a place rests on.
 fn share_at<F: Fact>(table: &mut Vec<Option<F>>, fact: F, code: &ProcessCode, place: u16)
     requires place { place < length table.old.items }
     requires readable { AllReadable (F.IsReadable (instrs_of code.now) table.old.items) table.old.items }
@@ -166,7 +166,7 @@ fn share_at<F: Fact>(table: &mut Vec<Option<F>>, fact: F, code: &ProcessCode, pl
     }
 }
 
-/// Lets a fact share what the one stands on that is known where the instruction may jump to.
+/// Lets a fact share what the one rests on that is known where the instruction may jump to.
 fn share_at_target<F: Fact>(table: &mut Vec<Option<F>>, fact: F, code: &ProcessCode, instr: Instr)
     requires target { IfSome (target_of (plain code.now instr)) (λ next. next < length table.old.items) }
     requires readable { AllReadable (F.IsReadable (instrs_of code.now) table.old.items) table.old.items }
@@ -181,7 +181,7 @@ fn share_at_target<F: Fact>(table: &mut Vec<Option<F>>, fact: F, code: &ProcessC
     }
 }
 
-/// Lets a fact share what those stand on that are known wherever the instruction at a place leads to.
+/// Lets a fact share what those rest on that are known wherever the instruction at a place leads to.
 fn share_all<F: Fact>(
     table: &mut Vec<Option<F>>,
     fact: F,

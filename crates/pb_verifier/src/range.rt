@@ -2,7 +2,7 @@
 
 ghost use Rattle.std.specs.Prelude.{◌≡◌, ◌↔◌, ◌<◌, ◌≤◌, All, length, true};
 ghost use Rattle.pb_code.specs.View.{code_view, process_view};
-ghost use Rattle.pb_verifier.specs.Faults.{FitCapital, IsInRange, UsesWhatIsThere};
+ghost use Rattle.pb_verifier.specs.Faults.{ClaimsFitCapital, IsInRange, UsesWhatIsThere};
 ghost use Rattle.pb_code.specs.Bundles.{bundle_of};
 ghost use Rattle.pb_verifier.specs.Given.{plain};
 ghost use Rattle.pb_verifier.specs.Limits.{KeepsLimits};
@@ -14,7 +14,7 @@ use pb_code::{Code, Instr, ProcessCode};
 /// Returns whether no claim is over its capital.
 pub fn fit_capital(code: &Code) -> bool
     requires { KeepsLimits (code_view code.now) }
-    ensures { (result ≡ true) ↔ FitCapital (code_view code.now) }
+    ensures { (result ≡ true) ↔ ClaimsFitCapital (code_view code.now) }
 {
     for p in 0..code.processes.len() {
         for r in 0..code.capital.resources() {

@@ -1,2 +1,2 @@
-pub mod Added
+pub mod AddedCommands
 pub mod ReadLemmas

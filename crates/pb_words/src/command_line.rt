@@ -12,7 +12,7 @@ use std::alloc::{AllocError, Global};
 // The version, and the line of `rt version` of the kit that it was proved with.
 const VERSION: &str = "0.1\nproved with rattle-kit-13b logic dac8208d650f15bf";
 
-// What stands above the help. `--quiet` is taken off before these words are read.
+// What is above the help. `--quiet` is taken off before these words are read.
 const ABOUT: &str =
     "Programs with parbegin: checked, run, recorded, debugged and drawn.\nWith --quiet before the command no message explains a refused input";
 
@@ -125,7 +125,7 @@ fn debug_picks<'a>(alloc: Global) -> Result<Command<'a>, AllocError>
 {
     let live = flag(alloc, "live").help("Answer each command as it comes");
     let debug = Command::new(alloc, "debug").about(
-        "Answer the commands that stand behind a program, its picks and lines of %% on standard input",
+        "Carry out the commands after a program, its picks and lines of %% on standard input",
     );
     with_option(debug, live)
 }
@@ -135,7 +135,7 @@ fn draw_picks<'a>(alloc: Global) -> Result<Command<'a>, AllocError>
     ensures { IfOk result (IsCommand draw_command) }
 {
     Ok(Command::new(alloc, "draw").about(
-        "Draw the picks of the lines that stand behind a program and a line of %% on standard input",
+        "Draw the picks of the lines after a program and a line of %% on standard input",
     ))
 }
 
@@ -209,7 +209,7 @@ fn replay_picks<'a>(alloc: Global) -> Result<Command<'a>, AllocError>
     ensures { IfOk result (IsCommand replay_command) }
 {
     Ok(Command::new(alloc, "replay").about(
-        "Make the picks of the lines that stand behind a program and a line of %% on standard input",
+        "Make the picks of the lines after a program and a line of %% on standard input",
     ))
 }
 

@@ -3,7 +3,7 @@
 /// What a worker calls after it has run a stretch and before it brings it home, with no lock held. The turns of each
 /// worker count from 0.
 pub trait Gate: Sync {
-    /// Is called after a run. It may wait.
+    /// Waits after a run, or returns at once.
     fn between(&self, worker: usize, turn: u64);
 
     /// Returns whether the worker is to give the stretch back in place of its commit. It is asked after `between`.

@@ -1,5 +1,5 @@
 use Rattle.std.proofs.Common.{◌∙◌, ℤ, Option, ap, sym}
-use Rattle.pb_example_batch.proofs.Printing.{one_more_event}
+use Rattle.pb_example_batch.proofs.Printouts.{one_more_event}
 use Rattle.pb_example_batch.proofs.last_print.Goals as goal
 use Rattle.pb_example_batch.specs.Results.{result_after}
 use Rattle.pb_history.specs.Entries.{events_of}

@@ -1,5 +1,5 @@
 use Rattle.std.proofs.Common.{◌++◌, ◌∙◌, ◌∷◌, [], ℤ, List, Option, ap, sym}
-use Rattle.pb_example_batch.proofs.Printing.{one_more_job}
+use Rattle.pb_example_batch.proofs.Printouts.{one_more_job}
 use Rattle.pb_example_batch.proofs.results.Goals as goal
 use Rattle.pb_example_batch.specs.Results.{last_prints}
 use Rattle.pb_history.specs.Entries.{events_of}

@@ -1,6 +1,6 @@
 use Rattle.std.proofs.Common.{arith}
 use Rattle.pb_machine.specs.Views.{machine_view}
-use Rattle.pb_example_plan.proofs.Trying.{few_processes, none_at_all}
+use Rattle.pb_example_plan.proofs.TriedPicks.{few_processes, none_at_all}
 use Rattle.pb_example_plan.proofs.step.Goals as goal
 
 pub overflow_cast-job : goal.overflow_cast-job

@@ -1,6 +1,6 @@
 use Rattle.std.proofs.Common.{◌≡◌}
 use Rattle.pb_machine.specs.Views.{machine_view, IsMachineOf}
-use Rattle.pb_example_plan.proofs.Trying.{NoJobBelow}
+use Rattle.pb_example_plan.proofs.TriedPicks.{NoJobBelow}
 use Rattle.pb_example_plan.proofs.step.Given as goal
 
 abbrev pub invariant-loop-job : goal.invariant-loop-job

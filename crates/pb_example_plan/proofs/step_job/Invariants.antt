@@ -1,6 +1,6 @@
 use Rattle.std.proofs.Common.{◌≡◌}
 use Rattle.pb_machine.specs.Views.{machine_view, IsMachineOf}
-use Rattle.pb_example_plan.proofs.Trying.{NoArmBelow}
+use Rattle.pb_example_plan.proofs.TriedPicks.{NoArmBelow}
 use Rattle.pb_example_plan.proofs.step_job.Given as goal
 
 abbrev pub invariant-loop-arm : goal.invariant-loop-arm

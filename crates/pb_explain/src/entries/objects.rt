@@ -5,7 +5,7 @@ use super::{Entry, Example, ExampleInput};
 pub static O1: Entry = Entry {
     summary: "a line of an object that is not of its form",
     meaning: "The line that begins at this place is not the line that an object has there, is
-not ended by a line feed, is missing, or stands behind the end. Each object has one
+not ended by a line feed, is missing, or comes after the end. Each object has one
 spelling: single spaces, and no zeros before a number.",
     example: Some(Example {
         command: "exec",
@@ -67,7 +67,7 @@ code 2
 
 pub static V2: Entry = Entry {
     summary: "operands that do not fit",
-    meaning: "There is no one number of operands for a place that is reached: an instruction
+    meaning: "There is no single number of operands for a place that is reached: an instruction
 takes an operand that is not there, two ways to a place bring different numbers of
 them, or there are more than 256.",
     example: Some(Example {
@@ -120,7 +120,7 @@ code 3
 
 pub static V4: Entry = Entry {
     summary: "holdings that do not fit",
-    meaning: "There is no one list of what is held at a place that is reached: a `give` does not
+    meaning: "There is no single list of what is held at a place that is reached: a `give` does not
 return what was taken last, two ways to a place hold different lists, or more than
 256 takes are open.",
     example: Some(Example {

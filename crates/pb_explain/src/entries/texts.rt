@@ -72,7 +72,7 @@ end
 pub static P1: Entry = Entry {
     summary: "the text is not a program",
     meaning: "The tokens do not follow the grammar. The place is the start of the first token
-that cannot stand there behind those before it; if the text only ends too early,
+that cannot be there after those before it; if the text only ends too early,
 it is the end of the last token.",
     example: Some(Example {
         command: "check",
@@ -82,7 +82,7 @@ it is the end of the last token.",
         ),
         line: "refused P1 at 25",
     }),
-    mend: "Look at this place, and just before it. A semicolon stands between statements, and
+    mend: "Look at this place, and just before it. A semicolon comes between statements, and
 not behind the last one, as in the example; `fi`, `od`, `parend` or `end` may be
 missing, or `=` may be written for `:=`. Integers are declared right behind the
 `begin` of their process, and resources before the first process. The grammar is

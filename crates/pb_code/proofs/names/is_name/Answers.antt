@@ -1,5 +1,5 @@
 use Rattle.std.proofs.Common.{sym, ◌∙◌}
-use Rattle.pb_code.proofs.Naming.{name_decides}
+use Rattle.pb_code.proofs.NameTests.{name_decides}
 use Rattle.pb_code.proofs.names.is_name.Goals as goal
 
 pub returns-clause-name : goal.returns-clause-name

@@ -4,7 +4,7 @@ use Rattle.pb_names.proofs.Sizes.{arm_within, arms_within, stmt_within}
 use Rattle.pb_names.specs.Program.{arms_in_stmt, arms_in, arms_in_arms}
 use Rattle.pb_names.specs.View.{stmt_view, block_view, arms_view}
 use Rattle.pb_names.proofs.Views.{view-If, view-While, view-Hold, view-Parbegin}
-use Rattle.pb_codegen.proofs.Lists.{arms_in-more, arms_in_arms-more, collected}
+use Rattle.pb_codegen.proofs.WriterLists.{arms_in-more, arms_in_arms-more, collected}
 use Rattle.pb_codegen.proofs.arms.+arms.Goals as goal
 
 pub add_arms_in-add_arms_in_stmt-requires : goal.add_arms_in-add_arms_in_stmt-requires

@@ -2,7 +2,7 @@ use Rattle.std.proofs.Common.{sym, append-nil, ap, map, ◌++◌, ◌∷◌, [],
 use Rattle.std.proofs.lemmas.List.{map-append, take_all}
 use Rattle.pb_names.specs.Program.{arms_list}
 use Rattle.pb_names.specs.View.{arms_view, block_view}
-use Rattle.pb_codegen.proofs.Lists.{arms_list-more, collected}
+use Rattle.pb_codegen.proofs.WriterLists.{arms_list-more, collected}
 use Rattle.pb_codegen.proofs.arms.add_arms.Goals as goal
 
 pub loop-arm-init : goal.loop-arm-init

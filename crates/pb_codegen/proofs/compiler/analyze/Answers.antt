@@ -2,7 +2,7 @@ use Rattle.std.proofs.Common.{Err, ap}
 use Rattle.std.proofs.lemmas.Result.{err_from_is_err_and}
 use Rattle.pb_tree.specs.View.{program_view}
 use Rattle.pb_names.specs.View.{resolved_view}
-use Rattle.pb_codegen.proofs.Compiling.{complete, names_come_early, names_refused, numbered, parse_refused, spells}
+use Rattle.pb_codegen.proofs.TextOutcomes.{complete, names_come_early, names_refused, numbered, parse_refused, spells}
 use Rattle.pb_codegen.proofs.compiler.analyze.Goals as goal
 
 pub resolve-requires : goal.resolve-requires

@@ -2,7 +2,7 @@ use Rattle.std.proofs.Common.{subst}
 use Rattle.std.proofs.lemmas.Result.{err_from_is_err_and}
 use Rattle.pb_names.specs.View.{resolved_view}
 use Rattle.pb_verifier.specs.Verified.{IsRefusedFor}
-use Rattle.pb_codegen.proofs.Compiling.{capital_refused, compiled, sound}
+use Rattle.pb_codegen.proofs.TextOutcomes.{capital_refused, compiled, sound}
 use Rattle.pb_codegen.proofs.compiler.compile.Goals as goal
 
 pub check_capital-requires : goal.check_capital-requires

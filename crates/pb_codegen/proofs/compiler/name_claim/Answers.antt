@@ -1,5 +1,5 @@
 use Rattle.std.proofs.Common.{◌≡◌, ◌∙◌, ℕ, get_or, refl, subst, sym}
-use Rattle.pb_codegen.proofs.Naming.{process_name, resource_name}
+use Rattle.pb_codegen.proofs.TextNames.{process_name, resource_name}
 use Rattle.pb_codegen.proofs.compiler.name_claim.Goals as goal
 
 pub returns : goal.returns

@@ -1,6 +1,6 @@
 use Rattle.std.proofs.Common.{◌≤◌, arith, refl, ap, length, ◌∙◌}
 use Rattle.std.proofs.lemmas.List.{length-map}
-use Rattle.pb_codegen.proofs.Loops.{all_written, more_written, each_written}
+use Rattle.pb_codegen.proofs.WriterLoops.{all_written, more_written, each_written}
 use Rattle.pb_codegen.proofs.generate.capital_of.Goals as goal
 
 pub new-requires-clause-small : goal.new-requires-clause-small

@@ -1,8 +1,8 @@
 use Rattle.std.proofs.Common.{◌≤◌, arith, sym, ◌∙◌}
 use Rattle.std.proofs.lemmas.List.{length-map}
 use Rattle.std.proofs.lemmas.Simd.{map-map}
-use Rattle.pb_codegen.proofs.Loops.{all_seen}
-use Rattle.pb_codegen.proofs.Whole.{same_code}
+use Rattle.pb_codegen.proofs.WriterLoops.{all_seen}
+use Rattle.pb_codegen.proofs.WriterPrograms.{same_code}
 use Rattle.pb_names.specs.Program.{Resource}
 use Rattle.pb_names.specs.View.{resource_view}
 use Rattle.pb_codegen.proofs.generate.generate.Goals as goal

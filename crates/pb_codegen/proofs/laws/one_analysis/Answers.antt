@@ -1,4 +1,4 @@
-use Rattle.pb_codegen.proofs.OneCode.{one_analysis}
+use Rattle.pb_codegen.proofs.TextOneCode.{one_analysis}
 use Rattle.pb_codegen.proofs.laws.one_analysis.Goals as goal
 
 pub returns : goal.returns

@@ -1,4 +1,4 @@
-use Rattle.pb_codegen.proofs.OneCode.{one_code}
+use Rattle.pb_codegen.proofs.TextOneCode.{one_code}
 use Rattle.pb_codegen.proofs.laws.one_code.Goals as goal
 
 pub returns : goal.returns

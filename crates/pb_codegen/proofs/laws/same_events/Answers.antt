@@ -1,4 +1,4 @@
-use Rattle.pb_codegen.proofs.Back.{implements}
+use Rattle.pb_codegen.proofs.SimulationBack.{implements}
 use Rattle.pb_codegen.proofs.laws.same_events.Goals as goal
 
 pub returns : goal.returns

@@ -1,4 +1,4 @@
-use Rattle.pb_codegen.proofs.Keeping.{source_safe, source_well_formed}
+use Rattle.pb_codegen.proofs.ClaimsKept.{source_safe, source_well_formed}
 use Rattle.pb_codegen.proofs.laws.source_states_stay_safe.Goals as goal
 
 pub returns-clause-well_formed : goal.returns-clause-well_formed

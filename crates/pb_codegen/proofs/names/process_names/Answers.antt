@@ -1,4 +1,4 @@
-use Rattle.pb_codegen.proofs.Loops.{more_written, each_written}
+use Rattle.pb_codegen.proofs.WriterLoops.{more_written, each_written}
 use Rattle.pb_codegen.proofs.names.process_names.Goals as goal
 
 pub loop-process-preserved : goal.loop-process-preserved

@@ -4,8 +4,8 @@ use Rattle.pb_codegen.specs.Generate.{arms_code, arms_entries}
 use Rattle.pb_codegen.specs.Lines.{arms_lines}
 use Rattle.pb_names.specs.Program.{arms_in}
 use Rattle.pb_names.specs.View.{block_view}
-use Rattle.pb_codegen.proofs.ArmsInOrder.{room_for_arm, wrote_arm, wrote_none}
-use Rattle.pb_codegen.proofs.Loops.{at_read}
+use Rattle.pb_codegen.proofs.VerifiedArmOrder.{room_for_arm, wrote_arm, wrote_none}
+use Rattle.pb_codegen.proofs.WriterLoops.{at_read}
 use Rattle.pb_codegen.proofs.process.write_arms.Goals as goal
 
 pub place-requires : goal.place-requires

@@ -1,6 +1,6 @@
 use Rattle.std.proofs.Common.{map, take}
 use Rattle.pb_names.specs.View.{block_view}
-use Rattle.pb_codegen.proofs.ArmsInOrder.{HasWritten}
+use Rattle.pb_codegen.proofs.VerifiedArmOrder.{HasWritten}
 use Rattle.pb_codegen.proofs.process.write_arms.Given as goal
 
 abbrev pub invariant-loop-arm : goal.invariant-loop-arm

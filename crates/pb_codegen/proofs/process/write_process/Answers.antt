@@ -2,7 +2,7 @@ use Rattle.std.proofs.Common.{◌≤◌, length}
 use Rattle.std.proofs.lemmas.List.Elements.{All-same}
 use Rattle.pb_names.specs.Program.{arms_in, arms_of}
 use Rattle.pb_names.specs.View.{process_view}
-use Rattle.pb_codegen.proofs.ArmsInOrder.{few_arms_in_each}
+use Rattle.pb_codegen.proofs.VerifiedArmOrder.{few_arms_in_each}
 use Rattle.pb_codegen.proofs.process.write_process.Goals as goal
 
 pub write_arms-requires-clause-few_arms : goal.write_arms-requires-clause-few_arms

@@ -4,7 +4,7 @@ use Rattle.pb_codegen.specs.Sizes.{IsGeneratableProcess}
 use Rattle.pb_codegen.specs.Generate.{process_code}
 use Rattle.pb_codegen.specs.Lines.{process_labels}
 use Rattle.pb_names.specs.View.{process_view as plain_process}
-use Rattle.pb_codegen.proofs.Loops.{at_read, more_seen}
+use Rattle.pb_codegen.proofs.WriterLoops.{at_read, more_seen}
 use Rattle.pb_codegen.proofs.process.write_processes.Goals as goal
 
 pub write_process-requires : goal.write_process-requires

@@ -1,5 +1,5 @@
 use Rattle.std.proofs.Common.{◌+◌, ap, sym, Some, ◌∙◌}
-use Rattle.pb_codegen.proofs.Lists.{line_next}
+use Rattle.pb_codegen.proofs.WriterLists.{line_next}
 use Rattle.pb_codegen.proofs.statement.line_after.Goals as goal
 
 pub returns-in-Some : goal.returns-in-Some

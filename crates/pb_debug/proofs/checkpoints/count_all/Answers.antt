@@ -1,7 +1,7 @@
 use Rattle.std.proofs.Common.{◌+◌, get_or, arith}
 use Rattle.pb_history.specs.declared.counted.CountedPick.{CountedPick}
-use Rattle.pb_history.proofs.Rising.{item_there}
-use Rattle.pb_debug.proofs.Walking.{count_more, count_within}
+use Rattle.pb_history.proofs.SpanEnds.{item_there}
+use Rattle.pb_debug.proofs.Walks.{count_more, count_within}
 use Rattle.pb_debug.proofs.checkpoints.count_all.Goals as goal
 
 pub overflow_add-count : goal.overflow_add-count

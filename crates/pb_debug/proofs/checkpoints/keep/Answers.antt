@@ -1,6 +1,6 @@
 use Rattle.std.proofs.Common.{◌≡◌, ℕ, ◌*◌, ◌++◌, ◌∷◌, [], length, refl, sym, ap, ◌∙◌, subst, arith}
 use Rattle.pb_debug.specs.Walks.{AreCheckpoints, IsCheckpoint}
-use Rattle.pb_debug.proofs.Walking.{one_checkpoint_more}
+use Rattle.pb_debug.proofs.Walks.{one_checkpoint_more}
 use Rattle.pb_debug.proofs.checkpoints.keep.Goals as goal
 
 pub returns-clause-checkpoints : goal.returns-clause-checkpoints

@@ -1,6 +1,6 @@
 use Rattle.std.proofs.Common.{◌+◌, List, ℕ, Option, Some, take, ap, ◌∙◌}
 use Rattle.pb_debug.specs.Commands.{arm_of, number_of, stop_at, stop_from}
-use Rattle.pb_debug.proofs.Numbered.{behind}
+use Rattle.pb_debug.proofs.NumberedLines.{behind}
 use Rattle.pb_debug.proofs.command.stop.Goals as goal
 
 pub returns : goal.returns

@@ -2,7 +2,7 @@ use Rattle.std.proofs.Common.{◌+◌, ◌∙◌, subst}
 use Rattle.pb_history.specs.Entries.{picks_of}
 use Rattle.pb_debug.specs.Searches.{value_at}
 use Rattle.pb_debug.specs.Walks.{StandsAfter}
-use Rattle.pb_debug.proofs.Searching.{differ_here, value_here}
+use Rattle.pb_debug.proofs.Searches.{differ_here, value_here}
 use Rattle.pb_debug.proofs.search.changes.Goals as goal
 
 pub returns-clause-changes : goal.returns-clause-changes

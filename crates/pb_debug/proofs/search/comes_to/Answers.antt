@@ -3,7 +3,7 @@ use Rattle.pb_code.specs.View.{labels_view}
 use Rattle.pb_history.specs.Entries.{picks_of}
 use Rattle.pb_debug.specs.Searches.{line_at}
 use Rattle.pb_debug.specs.Walks.{StandsAfter}
-use Rattle.pb_debug.proofs.Searching.{begins_here, line_here}
+use Rattle.pb_debug.proofs.Searches.{begins_here, line_here}
 use Rattle.pb_debug.proofs.search.comes_to.Goals as goal
 
 pub returns-clause-comes : goal.returns-clause-comes

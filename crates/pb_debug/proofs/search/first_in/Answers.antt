@@ -3,7 +3,7 @@ use Rattle.std.proofs.lemmas.Bool.{cases_lt}
 use Rattle.pb_code.specs.View.{labels_view}
 use Rattle.pb_history.specs.Entries.{picks_of}
 use Rattle.pb_debug.specs.Searches.{Does}
-use Rattle.pb_debug.proofs.Searching.{not_true}
+use Rattle.pb_debug.proofs.Searches.{not_true}
 use Rattle.pb_debug.proofs.search.first_in.Goals as goal
 
 pub loop-walker-preserved : goal.loop-walker-preserved

@@ -1,6 +1,6 @@
 use Rattle.std.proofs.Common.{length, sym, ◌∙◌}
 use Rattle.std.proofs.lemmas.Bool.{eqb-true, eqb-false}
-use Rattle.pb_debug.proofs.Numbered.{first_ends, first_is_all, none_in_nothing}
+use Rattle.pb_debug.proofs.NumberedLines.{first_ends, first_is_all, none_in_nothing}
 use Rattle.pb_debug.proofs.source.first_line.Goals as goal
 
 pub returns-then-is_empty : goal.returns-then-is_empty

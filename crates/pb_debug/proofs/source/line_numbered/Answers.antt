@@ -1,7 +1,7 @@
 use Rattle.std.proofs.Common.{◌≡◌, ℕ, ◌+◌, ◌-◌, ◌<◌, ◌≤◌, List, length, take, drop, sym, ap, ◌∙◌, subst, arith}
 use Rattle.std.proofs.lemmas.List.{length-drop, take_all}
 use Rattle.pb_debug.specs.Lines.{line_numbered}
-use Rattle.pb_debug.proofs.Numbered.{later_behind, no_later}
+use Rattle.pb_debug.proofs.NumberedLines.{later_behind, no_later}
 use Rattle.pb_debug.proofs.source.line_numbered.Goals as goal
 
 pub loop-left-preserved : goal.loop-left-preserved

@@ -1,6 +1,6 @@
 use Rattle.pb_base.specs.Lines.{names_view}
 use Rattle.pb_debug.specs.Texts.{loan_text}
-use Rattle.pb_debug.proofs.Each.{each_next}
+use Rattle.pb_debug.proofs.EachNumber.{each_next}
 use Rattle.pb_debug.proofs.text.put_loans_of.Goals as goal
 
 pub loop-r-preserved : goal.loop-r-preserved

@@ -2,7 +2,7 @@ use Rattle.std.proofs.Common.{◌≡◌, ◌++◌, ◌<◌, ℕ, List, codes, le
 use Rattle.std.proofs.lemmas.List.{length-map}
 use Rattle.std.specs.Prelude.{slice_index}
 use Rattle.pb_base.specs.Lines.{names_view, name_of}
-use Rattle.pb_debug.proofs.Each.{each_next, name_there}
+use Rattle.pb_debug.proofs.EachNumber.{each_next, name_there}
 use Rattle.pb_debug.proofs.text.put_names.Goals as goal
 
 pub loop-k-preserved : goal.loop-k-preserved

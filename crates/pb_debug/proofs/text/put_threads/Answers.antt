@@ -2,7 +2,7 @@ use Rattle.std.proofs.Common.{◌++◌, ℕ, List, ap, ◌∙◌}
 use Rattle.pb_code.specs.Code.{Thread, thread}
 use Rattle.pb_machine.specs.Views.{proc_view}
 use Rattle.pb_debug.specs.Texts.{thread_text}
-use Rattle.pb_debug.proofs.Each.{each_next}
+use Rattle.pb_debug.proofs.EachNumber.{each_next}
 use Rattle.pb_debug.proofs.text.put_threads.Goals as goal
 
 pub loop-arm-preserved : goal.loop-arm-preserved

@@ -2,7 +2,7 @@ use Rattle.std.proofs.Common.{rules, ◌≡◌, ◌++◌, ◌<◌, ℕ, ℤ, Lis
 use Rattle.std.specs.Prelude.{pos, slice_index_or}
 use Rattle.pb_base.specs.Lines.{name_of}
 use Rattle.pb_debug.specs.Texts.{var_text}
-use Rattle.pb_debug.proofs.Each.{each_next, name_there}
+use Rattle.pb_debug.proofs.EachNumber.{each_next, name_there}
 use Rattle.pb_debug.proofs.text.put_vars.Goals as goal
 
 pub loop-i-preserved : goal.loop-i-preserved

@@ -1,5 +1,5 @@
 use Rattle.std.proofs.Common.{◌<◌, arith}
-use Rattle.pb_debug.proofs.Walking.{stands_one, stands_silent}
+use Rattle.pb_debug.proofs.Walks.{stands_one, stands_silent}
 use Rattle.pb_debug.proofs.walker.repeat.Goals as goal
 
 pub returns-then-silent-most-clause-stands : goal.returns-then-silent-most-clause-stands

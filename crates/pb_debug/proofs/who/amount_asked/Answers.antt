@@ -1,6 +1,6 @@
 use Rattle.pb_code.specs.View.{process_view}
 use Rattle.pb_machine.specs.Views.{thread_view}
-use Rattle.pb_debug.proofs.Asking.{none_asked}
+use Rattle.pb_debug.proofs.Requests.{none_asked}
 use Rattle.pb_debug.proofs.who.amount_asked.Goals as goal
 
 pub returns-in-None : goal.returns-in-None

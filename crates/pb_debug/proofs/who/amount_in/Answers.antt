@@ -1,5 +1,5 @@
 use Rattle.std.proofs.Common.{arith}
-use Rattle.pb_verifier.proofs.Amounting.{amount_more}
+use Rattle.pb_verifier.proofs.HeldAmounts.{amount_more}
 use Rattle.pb_debug.proofs.who.amount_in.Goals as goal
 
 pub loop-i-preserved : goal.loop-i-preserved

@@ -4,7 +4,7 @@ use Rattle.pb_code.specs.Code.{Thread, thread}
 use Rattle.pb_code.specs.View.{process_view}
 use Rattle.pb_machine.specs.Views.{proc_view}
 use Rattle.pb_debug.specs.Resources.{amount_asked, asker_text}
-use Rattle.pb_debug.proofs.Each.{each_next}
+use Rattle.pb_debug.proofs.EachNumber.{each_next}
 use Rattle.pb_debug.proofs.who.put_askers_in.Goals as goal
 
 pub loop-arm-preserved : goal.loop-arm-preserved

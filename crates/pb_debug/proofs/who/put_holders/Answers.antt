@@ -1,6 +1,6 @@
 use Rattle.pb_base.specs.Lines.{names_view}
 use Rattle.pb_debug.specs.Resources.{holder_text}
-use Rattle.pb_debug.proofs.Each.{each_next}
+use Rattle.pb_debug.proofs.EachNumber.{each_next}
 use Rattle.pb_debug.proofs.who.put_holders.Goals as goal
 
 pub loop-p-preserved : goal.loop-p-preserved

@@ -1,6 +1,6 @@
 use Rattle.std.proofs.Common.{◌+◌, Bool, ℕ, cond, drop, Option, None, option_map, take, ap, ◌∙◌}
 use Rattle.pb_debug.specs.Commands.{arm_at, number_of}
-use Rattle.pb_debug.proofs.Numbered.{behind}
+use Rattle.pb_debug.proofs.NumberedLines.{behind}
 use Rattle.pb_debug.proofs.words.arm_word.Goals as goal
 
 pub returns : goal.returns

@@ -1,6 +1,6 @@
 use Rattle.std.proofs.Common.{◌+◌, List, ℕ, Option, Some, take, ap, ◌∙◌}
 use Rattle.pb_debug.specs.Commands.{both_of, integer_at, word_of}
-use Rattle.pb_debug.proofs.Numbered.{behind}
+use Rattle.pb_debug.proofs.NumberedLines.{behind}
 use Rattle.pb_debug.proofs.words.integer_word.Goals as goal
 
 pub returns : goal.returns

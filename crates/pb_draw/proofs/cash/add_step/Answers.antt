@@ -1,7 +1,7 @@
 use Rattle.std.proofs.Common.{◌≡◌, ◌-◌, List, refl, sym, ◌∙◌, subst, arith}
 use Rattle.pb_draw.specs.Cash.{ShowsCash}
 use Rattle.pb_draw.specs.declared.drawing.CashStep.{CashStep}
-use Rattle.pb_draw.proofs.Curving.{curve_changes_at, curve_stays_at}
+use Rattle.pb_draw.proofs.Curves.{curve_changes_at, curve_stays_at}
 use Rattle.pb_draw.proofs.cash.add_step.Goals as goal
 
 pub returns-in_ok-push : goal.returns-in_ok-push

@@ -3,7 +3,7 @@ use Rattle.std.proofs.lemmas.List.{length-map}
 use Rattle.pb_history.specs.Entries.{Entry, picks_of}
 use Rattle.pb_draw.specs.Cash.{ShowsCash, cash_after}
 use Rattle.pb_draw.specs.Walks.{StandsAfter}
-use Rattle.pb_draw.proofs.Walking.{cash_here}
+use Rattle.pb_draw.proofs.Walks.{cash_here}
 use Rattle.pb_draw.proofs.cash.cash_curve.Goals as goal
 
 pub loop-i-init : goal.loop-i-init

@@ -6,7 +6,7 @@ use Rattle.pb_history.specs.Entries.{Entry, picks_of}
 use Rattle.pb_draw.specs.Bars.{bars_of}
 use Rattle.pb_draw.specs.Marks.{marks_before}
 use Rattle.pb_draw.specs.declared.drawing.Mark.{Mark}
-use Rattle.pb_draw.proofs.Marking.{marks_named}
+use Rattle.pb_draw.proofs.PickMarks.{marks_named}
 use Rattle.pb_draw.proofs.drawing.draw.Goals as goal
 
 pub returns-clause-drawing : goal.returns-clause-drawing

@@ -4,7 +4,7 @@ use Rattle.pb_history.specs.Entries.{picks_of}
 use Rattle.pb_draw.specs.Drawings.{AreLanes}
 use Rattle.pb_draw.specs.Lanes.{IsLane}
 use Rattle.pb_draw.specs.declared.drawing.Lane.{Lane}
-use Rattle.pb_draw.proofs.Laning.{lanes_more}
+use Rattle.pb_draw.proofs.LaneSteps.{lanes_more}
 use Rattle.pb_draw.proofs.lanes.add_lanes.Goals as goal
 
 pub loop-arm-preserved : goal.loop-arm-preserved

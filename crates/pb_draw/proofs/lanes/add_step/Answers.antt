@@ -2,7 +2,7 @@ use Rattle.std.proofs.Common.{◌≡◌, ◌-◌, List, refl, sym, ◌∙◌, su
 use Rattle.pb_draw.specs.Lanes.{ShowsStandings}
 use Rattle.pb_draw.specs.declared.drawing.LaneStep.{LaneStep}
 use Rattle.pb_draw.specs.declared.drawing.Standing.TheVariants.{Away}
-use Rattle.pb_draw.proofs.Curving.{curve_changes_at, curve_stays_at}
+use Rattle.pb_draw.proofs.Curves.{curve_changes_at, curve_stays_at}
 use Rattle.pb_draw.proofs.lanes.add_step.Goals as goal
 
 pub returns : goal.returns

@@ -3,7 +3,7 @@ use Rattle.std.proofs.lemmas.List.{length-map}
 use Rattle.pb_history.specs.Entries.{Entry, picks_of}
 use Rattle.pb_draw.specs.Lanes.{ShowsStandings, standing_after}
 use Rattle.pb_draw.specs.Walks.{StandsAfter}
-use Rattle.pb_draw.proofs.Walking.{standing_here}
+use Rattle.pb_draw.proofs.Walks.{standing_here}
 use Rattle.pb_draw.proofs.lanes.lane_of.Goals as goal
 
 pub loop-i-init : goal.loop-i-init

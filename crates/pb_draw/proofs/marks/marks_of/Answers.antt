@@ -1,5 +1,5 @@
 use Rattle.pb_history.specs.Entries.{picks_of}
-use Rattle.pb_draw.proofs.Marking.{marks_more}
+use Rattle.pb_draw.proofs.PickMarks.{marks_more}
 use Rattle.pb_draw.proofs.marks.marks_of.Goals as goal
 
 pub loop-at-init : goal.loop-at-init

@@ -1,6 +1,6 @@
 use Rattle.std.proofs.Common.{◌∙◌}
 use Rattle.pb_history.specs.Entries.{picks_of}
-use Rattle.pb_draw.proofs.Walking.{shows_event, stands_next}
+use Rattle.pb_draw.proofs.Walks.{shows_event, stands_next}
 use Rattle.pb_draw.proofs.walk.advance.Goals as goal
 
 pub returns-clause-stands : goal.returns-clause-stands

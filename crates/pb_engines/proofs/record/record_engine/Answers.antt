@@ -13,7 +13,8 @@ returns-in-Ok-clause-faults g c =
     read_faults _ _ _ _ _ _ _ c.record_text.result c.in-Ok.ensures.counted (ap g.O.Output.failures c.in-Ok.ensures.untouched) c.record_text.ensures.faults
 
 pub returns-in-Err-clause-text : goal.returns-in-Err-clause-text
-returns-in-Err-clause-text g c = says_unread (SaysOfRecord c.args.options.run.steps c.args.options.seed) (g.I.Input.rest c.args.input.now) _ _ c.in-Err.status c.in-Err.ensures.told
+returns-in-Err-clause-text g c = says_unread (SaysOfRecord c.args.options.run.steps c.args.options.seed)
+    (g.I.Input.rest c.args.input.now) _ _ c.in-Err.status c.in-Err.ensures.told
 
 pub returns-in-Err-clause-faults : goal.returns-in-Err-clause-faults
 returns-in-Err-clause-faults g c = c.in-Err.ensures.faults

@@ -15,7 +15,8 @@ returns-in-Ok-clause-text g c =
     told_reply (SaysOfRecord steps seed) c.args.text.now c.recording-reply.result _ _ c.tell.result c.requires
     (replied_too (SaysOfRecording code steps seed c.args.text.now) (SaysOfRecord steps seed c.args.text.now)
     c.recording-reply.result (accepted code labels c.in-Ok.ensures.compiled)
-    (subst (λ (v : VerifiedCode). IfOk c.recording-reply.result (λ r. SaysOfRecording v.code steps seed c.args.text.now r.text.items r.status)) c.verified.ensures
+    (subst (λ (v : VerifiedCode). IfOk c.recording-reply.result
+    (λ r. SaysOfRecording v.code steps seed c.args.text.now r.text.items r.status)) c.verified.ensures
     c.recording-reply.ensures))
     c.tell.ensures.said c.tell.ensures.memory
 

@@ -1,4 +1,4 @@
-use Rattle.pb_history.proofs.Spanning.{silent_added}
+use Rattle.pb_history.proofs.SpansOfEntries.{silent_added}
 use Rattle.pb_history.proofs.laws.silent_picks_add_one_span.Goals as goal
 
 pub returns : goal.returns

@@ -4,8 +4,8 @@ use Rattle.pb_base.specs.declared.pick.Pick.{Pick}
 use Rattle.pb_history.specs.Entries.{Entry, picks_of}
 use Rattle.pb_history.specs.Replays.{IsStopped, spread}
 use Rattle.pb_history.specs.declared.counted.CountedPick.{CountedPick}
-use Rattle.pb_history.proofs.Replaying.{spread_take, spread_whole, stopped_more}
-use Rattle.pb_history.proofs.Rising.{item_there}
+use Rattle.pb_history.proofs.CountedPicks.{spread_take, spread_whole, stopped_more}
+use Rattle.pb_history.proofs.SpanEnds.{item_there}
 use Rattle.pb_history.proofs.replay.replay_counted.Goals as goal
 
 pub repeat-requires-clause-fits : goal.repeat-requires-clause-fits

@@ -1,7 +1,7 @@
 use Rattle.std.proofs.Common.{Bool, sym, ap, ◌∙◌}
 use Rattle.std.specs.Prelude.{not, ◌&&◌}
 use Rattle.pb_history.specs.Entries.{are_same}
-use Rattle.pb_history.proofs.Rising.{goes_on_last}
+use Rattle.pb_history.proofs.SpanEnds.{goes_on_last}
 use Rattle.pb_history.proofs.spans.continues.Goals as goal
 
 pub returns-then-not-last : goal.returns-then-not-last

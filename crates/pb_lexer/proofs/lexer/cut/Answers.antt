@@ -1,7 +1,7 @@
 use Rattle.std.proofs.Common.{refl, sym}
 use Rattle.std.proofs.lemmas.Result.{err_from_is_err_and}
-use Rattle.pb_lexer.proofs.Scanning.{lexed_start, blank_feed, blank_other, comment_there, comment_over}
-use Rattle.pb_lexer.proofs.Scanning.{token_over, tokens_more, fault_here, fault_in_comment}
+use Rattle.pb_lexer.proofs.LexLoop.{lexed_start, blank_feed, blank_other, comment_there, comment_over}
+use Rattle.pb_lexer.proofs.LexLoop.{token_over, tokens_more, fault_here, fault_in_comment}
 use Rattle.pb_lexer.proofs.lexer.cut.Goals as goal
 
 pub loop-at-init : goal.loop-at-init

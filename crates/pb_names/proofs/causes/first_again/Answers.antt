@@ -1,7 +1,7 @@
 use Rattle.std.proofs.Common.{sym, ◌∙◌}
 use Rattle.pb_tree.specs.View.{name_view}
 use Rattle.pb_names.specs.declared.causes.Wrong.TheVariants.{Twice}
-use Rattle.pb_names.proofs.Naming.{first_own, first_other}
+use Rattle.pb_names.proofs.NameNumbers.{first_own, first_other}
 use Rattle.pb_names.proofs.causes.first_again.Goals as goal
 
 pub returns-then-eq : goal.returns-then-eq

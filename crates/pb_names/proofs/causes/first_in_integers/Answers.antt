@@ -4,7 +4,7 @@ use Rattle.std.proofs.lemmas.List.{length-map}
 use Rattle.pb_tree.specs.View.{name_view}
 use Rattle.pb_names.specs.Causes.{InInteger}
 use Rattle.pb_names.proofs.First.{view_read, among_more, among_all}
-use Rattle.pb_names.proofs.Naming.{text_read, taken_texts}
+use Rattle.pb_names.proofs.NameNumbers.{text_read, taken_texts}
 use Rattle.pb_names.proofs.causes.first_in_integers.Goals as goal
 
 pub first_again-requires : goal.first_again-requires

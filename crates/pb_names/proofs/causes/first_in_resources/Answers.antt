@@ -5,7 +5,7 @@ use Rattle.pb_tree.specs.Syntax.{ResourceSyntax}
 use Rattle.pb_tree.specs.View.{resource_view}
 use Rattle.pb_names.specs.Causes.{InResource}
 use Rattle.pb_names.proofs.First.{view_read, first_either, among_more, among_all}
-use Rattle.pb_names.proofs.Naming.{name_read, taken_names}
+use Rattle.pb_names.proofs.NameNumbers.{name_read, taken_names}
 use Rattle.pb_names.proofs.causes.first_in_resources.Goals as goal
 
 pub first_again-again-requires : goal.first_again-again-requires

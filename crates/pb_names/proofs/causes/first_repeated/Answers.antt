@@ -5,7 +5,7 @@ use borrow.Author.Count.{below_more}
 use Rattle.pb_tree.specs.View.{name_view}
 use Rattle.pb_names.specs.declared.causes.Wrong.TheVariants.{Repeated}
 use Rattle.pb_names.proofs.First.{some_same, view_read}
-use Rattle.pb_names.proofs.Naming.{again_here, again_nowhere, demand_texts}
+use Rattle.pb_names.proofs.NameNumbers.{again_here, again_nowhere, demand_texts}
 use Rattle.pb_names.proofs.causes.first_repeated.Goals as goal
 
 pub returns-then-eq : goal.returns-then-eq

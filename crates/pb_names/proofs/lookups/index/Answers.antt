@@ -2,7 +2,7 @@ use Rattle.std.proofs.lemmas.List.{length-map, length-replicate}
 use Rattle.std.proofs.Common.{◌≡◌, suc, ◌-◌, map, get_or, length, arith, ap, sym, ◌∙◌, refl, subst}
 use Rattle.pb_names.specs.Index.{IsLinked}
 use Rattle.pb_names.proofs.First.{view_read}
-use Rattle.pb_names.proofs.Indexing.{linked_more, linked_none}
+use Rattle.pb_names.proofs.NameIndexes.{linked_more, linked_none}
 use Rattle.pb_names.proofs.lookups.index.Goals as goal
 
 pub loop-i-preserved : goal.loop-i-preserved
@@ -32,7 +32,8 @@ pub loop-i-init : goal.loop-i-init
 loop-i-init g c =
     linked_none _ c.greatest_slot-greatest.result c.len-count.result _ _
     (omega (arith, c.len-count.ensures, length-map c.args.texts.items (λ text. text.now)))
-    (c.in_ok-first_of.ensures.items_if_clones_equal (λ y same. same)) (ap length (c.in_ok-next_of.ensures.items_if_clones_equal (λ y same. same)) ∙ length-replicate _ _)
+    (c.in_ok-first_of.ensures.items_if_clones_equal (λ y same. same))
+    (ap length (c.in_ok-next_of.ensures.items_if_clones_equal (λ y same. same)) ∙ length-replicate _ _)
 
 pub returns : goal.returns
 returns g c = refl

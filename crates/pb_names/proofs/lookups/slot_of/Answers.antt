@@ -1,6 +1,6 @@
 use Rattle.std.proofs.Common.{rules, arith, ap, ◌∙◌, ◌*◌, ◌+◌, bit_and}
 use Rattle.pb_names.specs.Index.{slot}
-use Rattle.pb_names.proofs.Indexing.{slot_of_none, slot_of_one}
+use Rattle.pb_names.proofs.NameIndexes.{slot_of_none, slot_of_one}
 use Rattle.pb_names.proofs.lookups.slot_of.Goals as goal
 
 pub returns-clause-value : goal.returns-clause-value

@@ -1,6 +1,6 @@
 use Rattle.pb_names.specs.Resolves.{if_else}
 use Rattle.pb_names.specs.Search.{names_in}
-use Rattle.pb_names.proofs.Numbered.{numbered_if}
+use Rattle.pb_names.proofs.NumberedLists.{numbered_if}
 use Rattle.pb_names.proofs.Views.{view-If}
 use Rattle.pb_names.proofs.numbering.add_if.Goals as goal
 

@@ -1,6 +1,6 @@
 use Rattle.std.proofs.Common.{refl}
 use Rattle.pb_names.specs.Resolves.{parbegin}
-use Rattle.pb_names.proofs.Numbered.{numbered_parbegin, arms_in_range}
+use Rattle.pb_names.proofs.NumberedLists.{numbered_parbegin, arms_in_range}
 use Rattle.pb_names.proofs.Views.{view-Parbegin}
 use Rattle.pb_names.proofs.numbering.add_parbegin.Goals as goal
 

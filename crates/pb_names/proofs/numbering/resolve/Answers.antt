@@ -1,6 +1,6 @@
 use Rattle.pb_tree.specs.View.{program_view}
 use Rattle.pb_names.specs.Causes.{InProgram}
-use Rattle.pb_names.proofs.Told.{told_first, none_free, none_too_many}
+use Rattle.pb_names.proofs.ToldFaults.{told_first, none_free, none_too_many}
 use Rattle.pb_names.proofs.numbering.resolve.Goals as goal
 
 pub returns-in-Some-2-clause-fault : goal.returns-in-Some-2-clause-fault

@@ -1,5 +1,5 @@
 use Rattle.pb_code.specs.View.{code_view}
-use Rattle.pb_object.proofs.Sayable.{first_text, first_fits}
+use Rattle.pb_object.proofs.SayableCode.{first_text, first_fits}
 use Rattle.pb_object.proofs.first.fits_first_format.Goals as goal
 
 pub returns : goal.returns

@@ -1,6 +1,6 @@
 use Rattle.std.proofs.Common.{arith}
 use Rattle.std.proofs.lemmas.Option.{get_or_from_slice_get}
-use Rattle.pb_object.proofs.Joining.{more_pairs}
+use Rattle.pb_object.proofs.JoinedWords.{more_pairs}
 use Rattle.pb_object.proofs.instr_writer.put_bundle.Goals as goal
 
 pub loop-i-preserved : goal.loop-i-preserved

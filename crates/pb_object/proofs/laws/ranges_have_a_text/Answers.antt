@@ -1,5 +1,5 @@
 use Rattle.pb_object.proofs.Said.{text_keeps}
-use Rattle.pb_object.proofs.Sayable.{ranges_text}
+use Rattle.pb_object.proofs.SayableCode.{ranges_text}
 use Rattle.pb_object.proofs.laws.ranges_have_a_text.Goals as goal
 
 pub returns : goal.returns

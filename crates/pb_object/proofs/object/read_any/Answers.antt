@@ -3,7 +3,7 @@ use Rattle.pb_object.specs.Rows.{object_row}
 use Rattle.pb_code.specs.View.{code_view, labels_view}
 use Rattle.pb_object.proofs.Found.{answer_takes, rows_spelled, only_answer, err_only}
 use Rattle.pb_object.proofs.FaultLaws.{rows_placed}
-use Rattle.pb_object.proofs.Moving.{has_text}
+use Rattle.pb_object.proofs.FirstToSecond.{has_text}
 use Rattle.pb_object.proofs.object.read_any.Goals as goal
 
 pub returns-in_err-rows-clause-only : goal.returns-in_err-rows-clause-only

@@ -1,6 +1,6 @@
 use Rattle.std.proofs.Common.{◌≡◌, get_or, map, arith, eqb, false, rules, tests}
 use Rattle.std.proofs.lemmas.List.{map_push}
-use Rattle.pb_object.proofs.Scanning.{turn_byte, turn_space, turn_feed, turn_end}
+use Rattle.pb_object.proofs.LineWords.{turn_byte, turn_space, turn_feed, turn_end}
 use Rattle.pb_object.proofs.words.words_into.Goals as goal
 use Rattle.pb_object.proofs.words.words_into.Goals.{in-32+in_ok-push-in-32, in_default}
 

@@ -1,5 +1,5 @@
 use Rattle.std.proofs.Common.{◌≤◌, map}
-use Rattle.pb_object.proofs.Scanning.{IsFound}
+use Rattle.pb_object.proofs.LineWords.{IsFound}
 use Rattle.pb_object.proofs.words.words_into.Given as goal
 
 abbrev pub invariant-loop-end : goal.invariant-loop-end

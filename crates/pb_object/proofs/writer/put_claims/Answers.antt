@@ -1,6 +1,6 @@
 use Rattle.std.proofs.Common.{◌<◌, [], codes, length, arith, slice_index_or}
 use Rattle.std.specs.Fmt.{decimal}
-use Rattle.pb_object.proofs.Joining.{more_mapped}
+use Rattle.pb_object.proofs.JoinedWords.{more_mapped}
 use Rattle.pb_object.proofs.writer.put_claims.Goals as goal
 
 pub loop-r-preserved : goal.loop-r-preserved

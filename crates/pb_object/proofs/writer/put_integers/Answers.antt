@@ -1,6 +1,6 @@
 use Rattle.std.proofs.Common.{◌∷◌, [], codes, length}
 use Rattle.std.specs.Fmt.{decimal}
-use Rattle.pb_object.proofs.Joining.{more_mapped}
+use Rattle.pb_object.proofs.JoinedWords.{more_mapped}
 use Rattle.pb_object.proofs.writer.put_integers.Goals as goal
 
 pub loop-name-preserved : goal.loop-name-preserved

@@ -6,7 +6,7 @@ use Rattle.pb_object.specs.declared.format.Format.TheVariants.{Two}
 use Rattle.pb_object.specs.Instructions.{instr_words, line_number, place_words}
 use Rattle.pb_object.specs.Lines.{line_text}
 use Rattle.pb_code.specs.View.{instr_view}
-use Rattle.pb_object.proofs.Joining.{more_places}
+use Rattle.pb_object.proofs.JoinedWords.{more_places}
 use Rattle.pb_object.proofs.writer.put_lined_places.Goals as goal
 
 pub loop-i-preserved : goal.loop-i-preserved

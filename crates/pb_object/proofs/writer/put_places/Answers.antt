@@ -1,7 +1,7 @@
 use Rattle.pb_object.specs.Instructions.{instr_words}
 use Rattle.pb_object.specs.Lines.{line_text}
 use Rattle.pb_code.specs.View.{instr_view}
-use Rattle.pb_object.proofs.Joining.{more_flat}
+use Rattle.pb_object.proofs.JoinedWords.{more_flat}
 use Rattle.pb_object.proofs.writer.put_places.Goals as goal
 
 pub loop-instr-preserved : goal.loop-instr-preserved

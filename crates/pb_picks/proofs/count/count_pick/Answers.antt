@@ -3,10 +3,10 @@ use Rattle.pb_base.specs.declared.pick.Pick.{Pick}
 use Rattle.pb_history.specs.Entries.{are_same}
 use Rattle.pb_history.specs.Replays.{spread}
 use Rattle.pb_history.specs.declared.counted.CountedPick.{CountedPick}
-use Rattle.pb_history.proofs.Spanning.{same_itself, same_pick}
+use Rattle.pb_history.proofs.SpansOfEntries.{same_itself, same_pick}
 use Rattle.pb_picks.specs.Counted.{AreApart}
-use Rattle.pb_picks.proofs.Counting.{apart_grown, apart_more, spread_grown, spread_one}
-use Rattle.pb_picks.proofs.Reading.{one_count_more}
+use Rattle.pb_picks.proofs.Counts.{apart_grown, apart_more, spread_grown, spread_one}
+use Rattle.pb_picks.proofs.PickParts.{one_count_more}
 use Rattle.pb_picks.proofs.count.count_pick.Goals as goal
 
 pub overflow_add-last : goal.overflow_add-last

@@ -1,4 +1,4 @@
-use Rattle.pb_picks.proofs.Spelling.{spelled_is_not_faulty}
+use Rattle.pb_picks.proofs.PickSpellings.{spelled_is_not_faulty}
 use Rattle.pb_picks.proofs.laws.spelled_is_not_faulty.Goals as goal
 
 pub returns : goal.returns

@@ -1,4 +1,4 @@
-use Rattle.pb_picks.proofs.Spelling.{spells_at_most_one}
+use Rattle.pb_picks.proofs.PickSpellings.{spells_at_most_one}
 use Rattle.pb_picks.proofs.laws.spells_at_most_one.Goals as goal
 
 pub returns : goal.returns

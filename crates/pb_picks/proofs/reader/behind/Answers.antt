@@ -1,4 +1,4 @@
-use Rattle.pb_picks.proofs.Reading.{behind_is}
+use Rattle.pb_picks.proofs.PickParts.{behind_is}
 use Rattle.pb_picks.proofs.reader.behind.Goals as goal
 
 pub returns : goal.returns

@@ -1,5 +1,5 @@
 use Rattle.pb_picks.specs.PickLines.{arm_and_count}
-use Rattle.pb_picks.proofs.Reading.{same_rest}
+use Rattle.pb_picks.proofs.PickParts.{same_rest}
 use Rattle.pb_picks.proofs.reader.pick_of_process.Goals as goal
 
 pub returns-in_err-arm : goal.returns-in_err-arm

@@ -1,7 +1,7 @@
 use Rattle.std.proofs.Common.{◌≡◌, ◌≤◌, ℕ, List, arith, subst}
 use Rattle.std.specs.Fmt.{decimal}
 use Rattle.pb_picks.specs.PickLines.{Lacks}
-use Rattle.pb_picks.proofs.Reading.{never_lacks, parts_are, same_number}
+use Rattle.pb_picks.proofs.PickParts.{never_lacks, parts_are, same_number}
 use Rattle.pb_picks.proofs.reader.read_arm_and_count.Goals as goal
 use Rattle.pb_picks.proofs.reader.read_arm_and_count.Goals.{then-arm-arms-via-then-arm-arms, then-arm-arms-via-else-arm-arms+then-count-eq0}
 

@@ -1,6 +1,6 @@
 use Rattle.std.proofs.Common.{◌≢◌, ℕ, List, [], eqb, arith, ap, length}
 use Rattle.pb_code.specs.View.{code_view}
-use Rattle.pb_picks.proofs.Reading.{behind_line, one_count_more, one_line_more}
+use Rattle.pb_picks.proofs.PickParts.{behind_line, one_count_more, one_line_more}
 use Rattle.pb_picks.proofs.reader.read_picks.Goals as goal
 
 pub loop-rest-preserved : goal.loop-rest-preserved

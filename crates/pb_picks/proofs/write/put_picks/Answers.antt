@@ -4,7 +4,7 @@ use Rattle.std.proofs.lemmas.Option.{get_or_from_slice_get, slice_get-get_or, sl
 use Rattle.pb_base.specs.Lines.{names_view}
 use Rattle.pb_history.specs.declared.counted.CountedPick.{CountedPick}
 use Rattle.pb_picks.specs.PickLines.{pick_line, pick_lines}
-use Rattle.pb_picks.proofs.Spelling.{one_line_written}
+use Rattle.pb_picks.proofs.PickSpellings.{one_line_written}
 use Rattle.pb_picks.proofs.write.put_picks.Goals as goal
 
 -- the lines of the picks up to one more

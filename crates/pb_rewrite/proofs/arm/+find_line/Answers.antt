@@ -3,7 +3,7 @@ use Rattle.std.proofs.Common.{◌<◌, length, ap, sym, ◌∙◌, arith}
 use Rattle.pb_names.specs.Source.{find, find_among}
 use Rattle.pb_rewrite.specs.Found.{found_line}
 use Rattle.pb_rewrite.specs.View.{arm_view, running_view}
-use Rattle.pb_rewrite.proofs.Scanning.{looked_further, found_here, found_inside}
+use Rattle.pb_rewrite.proofs.ArmLooks.{looked_further, found_here, found_inside}
 use Rattle.pb_rewrite.proofs.Views.{view-Waiting}
 use Rattle.pb_rewrite.proofs.arm.+find_line.Goals as goal
 

@@ -1,7 +1,7 @@
 use Rattle.std.proofs.Common.{◌≡◌, ℕ, ◌+◌, ◌*◌, ◌<◌, map, get_or, None}
 use Rattle.pb_names.specs.Source.{find, Arm}
 use Rattle.pb_rewrite.specs.View.{arm_view, running_view}
-use Rattle.pb_rewrite.proofs.Swapping.{arm_size, running_size}
+use Rattle.pb_rewrite.proofs.SwappedArms.{arm_size, running_size}
 use Rattle.pb_rewrite.proofs.arm.+swap.Given as goal
 
 abbrev pub invariant-swap_among-loop-i : goal.invariant-swap_among-loop-i

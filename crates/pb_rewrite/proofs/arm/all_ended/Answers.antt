@@ -2,7 +2,7 @@ use borrow.Author.Count.{falls}
 use Rattle.std.proofs.Common.{◌≡◌, ◌+◌, ◌&&◌, true, false, drop, ap, sym, ◌∙◌}
 use Rattle.pb_names.specs.Source.{all_ended, is_ended}
 use Rattle.pb_rewrite.specs.View.{arm_view, running_view}
-use Rattle.pb_rewrite.proofs.Scanning.{ended_more}
+use Rattle.pb_rewrite.proofs.ArmLooks.{ended_more}
 use Rattle.pb_rewrite.proofs.arm.all_ended.Goals as goal
 
 pub returns-then-not-is_ended : goal.returns-then-not-is_ended

@@ -7,7 +7,7 @@ use Rattle.pb_names.specs.View.{expr_view, block_view}
 use Rattle.pb_rewrite.specs.View.{items_view}
 use Rattle.pb_rewrite.proofs.Kept.{kept_if}
 use Rattle.pb_rewrite.proofs.Items.{choice_becomes}
-use Rattle.pb_rewrite.proofs.Left.{choice_chosen, kept_err}
+use Rattle.pb_rewrite.proofs.TestSteps.{choice_chosen, kept_err}
 use Rattle.pb_rewrite.proofs.choosing.choose.Goals as goal
 
 pub returns-in-Is-clause-ok : goal.returns-in-Is-clause-ok

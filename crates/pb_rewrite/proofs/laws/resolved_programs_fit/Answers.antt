@@ -1,4 +1,4 @@
-use Rattle.pb_rewrite.proofs.Resolving.{resolved_fits}
+use Rattle.pb_rewrite.proofs.ResolvedPrograms.{resolved_fits}
 use Rattle.pb_rewrite.proofs.laws.resolved_programs_fit.Goals as goal
 
 pub returns : goal.returns

@@ -1,7 +1,7 @@
 use Rattle.std.proofs.Common.{◌≡◌, ◌<◌, [], ◌∷◌, ◌++◌, length, ap, arith, length-append}
 use Rattle.std.specs.Vec.Iter.{into_iter_items}
 use Rattle.pb_rewrite.specs.declared.arm.Arm.{Fresh}
-use Rattle.pb_rewrite.proofs.Beginning.{one_more, next_seen, room_for_next}
+use Rattle.pb_rewrite.proofs.BegunArms.{one_more, next_seen, room_for_next}
 use Rattle.pb_rewrite.proofs.lists.fresh_arms.Goals as goal
 
 pub loop-body-preserved : goal.loop-body-preserved

@@ -7,7 +7,7 @@ use Rattle.pb_names.specs.View.{expr_view, block_view}
 use Rattle.pb_rewrite.specs.View.{items_view}
 use Rattle.pb_rewrite.proofs.Kept.{kept_loop}
 use Rattle.pb_rewrite.proofs.Items.{loop_becomes}
-use Rattle.pb_rewrite.proofs.Left.{loop_decided, kept_err}
+use Rattle.pb_rewrite.proofs.TestSteps.{loop_decided, kept_err}
 use Rattle.pb_rewrite.proofs.looping.step_loop.Goals as goal
 
 pub returns-in-Is-clause-ok : goal.returns-in-Is-clause-ok

@@ -1,5 +1,5 @@
 use Rattle.pb_rewrite.specs.View.{arm_view}
-use Rattle.pb_rewrite.proofs.Putting.{swapped_in}
+use Rattle.pb_rewrite.proofs.TakenArms.{swapped_in}
 use Rattle.pb_rewrite.proofs.process.put_back.Goals as goal
 
 pub returns : goal.returns

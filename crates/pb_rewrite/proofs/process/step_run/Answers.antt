@@ -3,7 +3,7 @@ use Rattle.pb_names.specs.Source as plain
 use Rattle.pb_names.specs.Source.{find, put}
 use Rattle.pb_rewrite.specs.Sound.{IsSingle}
 use Rattle.pb_rewrite.specs.View.{arm_view}
-use Rattle.pb_rewrite.proofs.Putting.{put_over, find_ended, single_put, put_found, is_there}
+use Rattle.pb_rewrite.proofs.TakenArms.{put_over, find_ended, single_put, put_found, is_there}
 use Rattle.pb_rewrite.proofs.Views.{view-Ended}
 use Rattle.pb_rewrite.proofs.process.step_run.Goals as goal
 

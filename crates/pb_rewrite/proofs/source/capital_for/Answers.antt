@@ -1,7 +1,7 @@
 use Rattle.std.proofs.Common.{◌≡◌, ◌≤◌, ℕ, length, ap, subst, sym, ◌∙◌, arith}
 use Rattle.std.specs.Prelude.{All, IfOk}
 use Rattle.std.proofs.lemmas.List.{take_all}
-use Rattle.pb_rewrite.proofs.Opening.{capitals, capital_pushed, capitals_length}
+use Rattle.pb_rewrite.proofs.Openings.{capitals, capital_pushed, capitals_length}
 use Rattle.pb_rewrite.proofs.source.capital_for.Goals as goal
 
 pub loop-resource-preserved : goal.loop-resource-preserved

@@ -1,5 +1,5 @@
 use Rattle.std.proofs.Common.{◌≡◌, take}
-use Rattle.pb_rewrite.proofs.Opening.{capitals}
+use Rattle.pb_rewrite.proofs.Openings.{capitals}
 use Rattle.pb_rewrite.proofs.source.capital_for.Given as goal
 
 abbrev pub invariant-loop-resource : goal.invariant-loop-resource

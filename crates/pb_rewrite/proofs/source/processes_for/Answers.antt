@@ -1,6 +1,6 @@
 use Rattle.std.proofs.Common.{ap, ◌∙◌, arith}
 use Rattle.std.proofs.lemmas.List.{take_all}
-use Rattle.pb_rewrite.proofs.Opening.{opened, opened_pushed, source_of}
+use Rattle.pb_rewrite.proofs.Openings.{opened, opened_pushed, source_of}
 use Rattle.pb_rewrite.proofs.source.processes_for.Goals as goal
 
 pub loop-process-preserved : goal.loop-process-preserved

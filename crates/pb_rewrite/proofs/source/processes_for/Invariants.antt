@@ -1,6 +1,6 @@
 use Rattle.std.proofs.Common.{◌≡◌, map, take}
 use Rattle.pb_rewrite.specs.View.{process_view}
-use Rattle.pb_rewrite.proofs.Opening.{opened}
+use Rattle.pb_rewrite.proofs.Openings.{opened}
 use Rattle.pb_rewrite.proofs.source.processes_for.Given as goal
 
 abbrev pub invariant-loop-process : goal.invariant-loop-process

@@ -1,6 +1,6 @@
 use Rattle.std.proofs.Common.{arith}
 use Rattle.pb_code.specs.Bundles.{bundle_of}
-use Rattle.pb_verifier.proofs.Amounting.{amount_more}
+use Rattle.pb_verifier.proofs.HeldAmounts.{amount_more}
 use Rattle.pb_verifier.proofs.amounts.amount_of.Goals as goal
 
 pub loop-i-preserved : goal.loop-i-preserved

@@ -6,8 +6,8 @@ use Rattle.pb_verifier.specs.Faults.{in_holdings}
 use Rattle.pb_verifier.specs.Flow.{IsGrown}
 use Rattle.pb_verifier.specs.Given.{instrs_of}
 use Rattle.pb_verifier.specs.Spread.{CanBeAnnotated, IsLeast, notes_of, rules_of}
-use Rattle.pb_verifier.proofs.Amounting.{amounts_by_rules, amounts_of}
-use Rattle.pb_verifier.proofs.Bridging.{no_facts, table_of}
+use Rattle.pb_verifier.proofs.HeldAmounts.{amounts_by_rules, amounts_of}
+use Rattle.pb_verifier.proofs.FaultFacts.{no_facts, table_of}
 use Rattle.pb_verifier.proofs.amounts.amounts.Goals as goal
 
 pub spread-requires-clause-grown : goal.spread-requires-clause-grown

@@ -1,6 +1,6 @@
 use Rattle.std.proofs.Common.{◌≡◌, true, false, refl, arith, below_more}
 use Rattle.pb_code.specs.View.{process_view}
-use Rattle.pb_verifier.proofs.Arming.{arms_from, rise_of}
+use Rattle.pb_verifier.proofs.ArmOrder.{arms_from, rise_of}
 use Rattle.pb_verifier.proofs.arms.has_arms.Goals as goal
 
 pub returns-then-not-entries_rise : goal.returns-then-not-entries_rise

@@ -3,7 +3,7 @@ use Rattle.pb_code.specs.View.{process_view}
 use Rattle.pb_verifier.specs.Arms.{Closes, IsClosed}
 use Rattle.pb_verifier.specs.Given.{plain}
 use Rattle.pb_verifier.specs.Places.{arm_end}
-use Rattle.pb_verifier.proofs.Arming.{arm_lies, closed_by}
+use Rattle.pb_verifier.proofs.ArmOrder.{arm_lies, closed_by}
 use Rattle.pb_verifier.proofs.arms.is_closed.Goals as goal
 
 pub overflow_sub-end_of_arm : goal.overflow_sub-end_of_arm

@@ -1,7 +1,7 @@
 use Rattle.std.proofs.Common.{◌≡◌, true, false, refl, arith}
 use Rattle.pb_code.specs.View.{process_view}
 use Rattle.pb_verifier.specs.Given.{instrs_of, plain}
-use Rattle.pb_verifier.proofs.Arming.{arm_lies, jumps_from, jumps_to, stay_more}
+use Rattle.pb_verifier.proofs.ArmOrder.{arm_lies, jumps_from, jumps_to, stay_more}
 use Rattle.pb_verifier.proofs.arms.jumps_stay.Goals as goal
 
 pub instr_at-requires : goal.instr_at-requires

@@ -1,6 +1,6 @@
 use Rattle.std.proofs.Common.{map}
 use Rattle.pb_code.specs.View.{code_view}
-use Rattle.pb_verifier.proofs.Judging.{IsFoundBefore}
+use Rattle.pb_verifier.proofs.ProcessFaults.{IsFoundBefore}
 use Rattle.pb_verifier.proofs.checking.check.Given as goal
 
 abbrev pub invariant-loop-p : goal.invariant-loop-p

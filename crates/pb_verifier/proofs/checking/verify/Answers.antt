@@ -1,7 +1,7 @@
 use Rattle.std.proofs.Common.{sym, subst}
 use Rattle.pb_code.specs.View.{code_view}
 use Rattle.pb_verifier.specs.Verified.{HasPeaksWithin, VerifiedCode}
-use Rattle.pb_verifier.proofs.Deciding.{annotated_within, refused_over}
+use Rattle.pb_verifier.proofs.ClaimTests.{annotated_within, refused_over}
 use Rattle.pb_verifier.proofs.checking.verify.Goals as goal
 
 pub returns-in-Err-clause-over : goal.returns-in-Err-clause-over

@@ -1,5 +1,5 @@
 use Rattle.pb_code.specs.View.{process_view}
-use Rattle.pb_verifier.proofs.Ending.{IsBestBefore}
+use Rattle.pb_verifier.proofs.EndTables.{IsBestBefore}
 use Rattle.pb_verifier.proofs.deepest.deepest.Given as goal
 
 abbrev pub invariant-loop-place : goal.invariant-loop-place

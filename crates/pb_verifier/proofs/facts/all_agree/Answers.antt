@@ -1,7 +1,7 @@
 use Rattle.std.proofs.Common.{◌+◌, ◌≡◌, true, false, refl, sym}
 use Rattle.pb_verifier.specs.Given.{instrs_of, plain}
 use Rattle.pb_verifier.specs.Spread.{AgreesAt}
-use Rattle.pb_verifier.proofs.Searching.{all_followers, next_follows, target_follows}
+use Rattle.pb_verifier.proofs.ReachSearch.{all_followers, next_follows, target_follows}
 use Rattle.pb_verifier.proofs.facts.all_agree.Goals as goal
 
 pub returns-then-not-agrees_at_target : goal.returns-then-not-agrees_at_target

@@ -1,7 +1,7 @@
 use Rattle.std.proofs.Common.{◌+◌, sym, ◌∙◌}
 use Rattle.pb_verifier.specs.Given.{instrs_of, plain}
-use Rattle.pb_verifier.proofs.Keeping.{kept_agrees}
-use Rattle.pb_verifier.proofs.Searching.{next_follows, target_follows}
+use Rattle.pb_verifier.proofs.FactTables.{kept_agrees}
+use Rattle.pb_verifier.proofs.ReachSearch.{next_follows, target_follows}
 use Rattle.pb_verifier.proofs.facts.share_all.Goals as goal
 
 pub share_at_target-requires-clause-agrees : goal.share_at_target-requires-clause-agrees

@@ -5,7 +5,7 @@ use Rattle.pb_verifier.specs.Spread.{rules_of, fact_at, notes_of, AllReadable, A
 use Rattle.pb_verifier.specs.Flow.{followers}
 use Rattle.pb_verifier.proofs.Steps.{IsTable, started_more, only_more, table_start, table_noted, order_inside, found_here, IsHere, here_leads, here_readable, here_read, here_misfit, here_agrees, shared_done}
 use Rattle.std.proofs.lemmas.List.{get_or_default}
-use Rattle.pb_verifier.proofs.Spreading.{spread_over}
+use Rattle.pb_verifier.proofs.FactSpread.{spread_over}
 use Rattle.pb_verifier.proofs.facts.spread.Goals as goal
 
 entry_inside : {n k : ℕ} (entries : List ℕ) → ((p : ℕ) → Contains entries p → p < n) → k < length entries → get_or entries k 0 < n

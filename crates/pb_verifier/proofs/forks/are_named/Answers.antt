@@ -3,7 +3,7 @@ use Rattle.pb_code.specs.Code.{Fork}
 use Rattle.pb_code.specs.View.{process_view}
 use Rattle.pb_verifier.specs.Given.{instrs_of, plain}
 use Rattle.pb_verifier.proofs.Each.{same_read}
-use Rattle.pb_verifier.proofs.Forking.{IsMarked, fork_given, marked_none, marked_skip, marked_more, unmarked_of, named_from, marked_of, none_marked}
+use Rattle.pb_verifier.proofs.ForkTables.{IsMarked, fork_given, marked_none, marked_skip, marked_more, unmarked_of, named_from, marked_of, none_marked}
 use Rattle.pb_verifier.proofs.forks.are_named.Goals as goal
 use Rattle.pb_verifier.proofs.forks.are_named.Goals.{in-Fork+else-not-mark, in_default}
 

@@ -1,6 +1,6 @@
 use Rattle.std.proofs.Common.{◌≡◌, ◌≤◌, ℕ, ◌<◌, true, false, get_or}
 use Rattle.pb_code.specs.View.{process_view}
-use Rattle.pb_verifier.proofs.Forking.{IsMarked}
+use Rattle.pb_verifier.proofs.ForkTables.{IsMarked}
 use Rattle.pb_verifier.proofs.forks.are_named.Given as goal
 
 abbrev pub invariant-loop-place : goal.invariant-loop-place

@@ -1,8 +1,8 @@
 use Rattle.std.proofs.Common.{◌≡◌, true, false, refl, ap, Some, ◌∙◌, arith}
 use Rattle.pb_code.specs.View.{process_view}
 use Rattle.pb_verifier.specs.Given.{plain}
-use Rattle.pb_verifier.proofs.Arming.{arm_lies, rise_of}
-use Rattle.pb_verifier.proofs.Forking.{later_more}
+use Rattle.pb_verifier.proofs.ArmOrder.{arm_lies, rise_of}
+use Rattle.pb_verifier.proofs.ForkTables.{later_more}
 use Rattle.pb_verifier.proofs.forks.forks_later.Goals as goal
 
 pub instr_at-requires : goal.instr_at-requires

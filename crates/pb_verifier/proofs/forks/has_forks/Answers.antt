@@ -3,7 +3,7 @@ use Rattle.pb_code.specs.View.{process_view}
 use Rattle.pb_verifier.specs.Arms.{IsPaired}
 use Rattle.pb_verifier.specs.Given.{instrs_of, plain}
 use Rattle.pb_verifier.proofs.Each.{each_more, each_all}
-use Rattle.pb_verifier.proofs.Forking.{forks_from, forks_there, named_of}
+use Rattle.pb_verifier.proofs.ForkTables.{forks_from, forks_there, named_of}
 use Rattle.pb_verifier.proofs.forks.has_forks.Goals as goal
 
 pub loop-arm-preserved : goal.loop-arm-preserved

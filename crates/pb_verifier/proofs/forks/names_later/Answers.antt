@@ -1,6 +1,6 @@
 use Rattle.std.proofs.Common.{◌+◌, ◌<◌, ◌≤◌, arith, ltb-true}
 use Rattle.std.proofs.lemmas.Bool.{leb-true, le-leb}
-use Rattle.pb_verifier.proofs.Forking.{forked_by}
+use Rattle.pb_verifier.proofs.ForkTables.{forked_by}
 use Rattle.pb_verifier.proofs.forks.names_later.Goals as goal
 
 pub returns-then-arm-first : goal.returns-then-arm-first

@@ -5,7 +5,7 @@ use Rattle.pb_verifier.specs.Flow.{IsGrown}
 use Rattle.pb_verifier.specs.Given.{instrs_of}
 use Rattle.pb_verifier.specs.Holdings.{held_by}
 use Rattle.pb_verifier.specs.Spread.{CanBeAnnotated, IsLeast, hold_rules, notes_of}
-use Rattle.pb_verifier.proofs.Bridging.{holdings_by_rules, no_facts, table_of}
+use Rattle.pb_verifier.proofs.FaultFacts.{holdings_by_rules, no_facts, table_of}
 use Rattle.pb_verifier.proofs.Each.{none_weaker, some_weaker}
 use Rattle.pb_verifier.proofs.holdings.holdings.Goals as goal
 

@@ -2,7 +2,7 @@ use Rattle.std.proofs.Common.{List, Option, sym, ap, ◌∙◌}
 use Rattle.pb_verifier.specs.declared.holdings.Holding.{Holding}
 use Rattle.pb_verifier.specs.Given.{instrs_of}
 use Rattle.pb_verifier.specs.Spread.{fact_at}
-use Rattle.pb_verifier.proofs.Sharing.{share_step}
+use Rattle.pb_verifier.proofs.SharedHolds.{share_step}
 use Rattle.pb_verifier.proofs.holdings.share_holds.Goals as goal
 
 pub loop-left-preserved : goal.loop-left-preserved

@@ -1,5 +1,5 @@
 use Rattle.pb_verifier.specs.Given.{instrs_of}
-use Rattle.pb_verifier.proofs.Sharing.{AreEqual}
+use Rattle.pb_verifier.proofs.SharedHolds.{AreEqual}
 use Rattle.pb_verifier.proofs.holdings.share_holds.Given as goal
 
 abbrev pub invariant-loop-left : goal.invariant-loop-left

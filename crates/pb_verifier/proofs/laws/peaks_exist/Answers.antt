@@ -1,4 +1,4 @@
-use Rattle.pb_verifier.proofs.Deciding as deciding
+use Rattle.pb_verifier.proofs.ClaimTests as deciding
 use Rattle.pb_verifier.proofs.laws.peaks_exist.Goals as goal
 
 pub returns : goal.returns

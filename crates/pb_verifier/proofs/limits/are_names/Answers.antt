@@ -2,7 +2,7 @@ use Rattle.std.proofs.Common.{◌≡◌, ℕ, List, map, length, true, false, re
 use Rattle.std.proofs.lemmas.List.{length-map}
 use Rattle.pb_verifier.specs.Limits.{IsName}
 use Rattle.pb_verifier.proofs.Each.{each_more}
-use Rattle.pb_verifier.proofs.Limiting.{all_at, apart_more, are_names_from, read_mapped}
+use Rattle.pb_verifier.proofs.LimitTests.{all_at, apart_more, are_names_from, read_mapped}
 use Rattle.pb_verifier.proofs.limits.are_names.Goals as goal
 
 pub returns-then-not-is_name : goal.returns-then-not-is_name

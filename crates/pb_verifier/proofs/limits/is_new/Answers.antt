@@ -1,5 +1,5 @@
 use Rattle.std.proofs.Common.{◌≡◌, ◌<◌, [], map, length, true, false, sym, ◌∙◌, arith}
-use Rattle.pb_verifier.proofs.Limiting.{at_mapped, bytes_differ, bytes_same, new_more}
+use Rattle.pb_verifier.proofs.LimitTests.{at_mapped, bytes_differ, bytes_same, new_more}
 use Rattle.pb_verifier.proofs.limits.is_new.Goals as goal
 
 pub returns-then-eq : goal.returns-then-eq

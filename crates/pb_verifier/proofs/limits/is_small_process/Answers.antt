@@ -5,7 +5,7 @@ use Rattle.std.proofs.lemmas.List.{get_or_default}
 use Rattle.pb_verifier.specs.Given.{instrs_of}
 use Rattle.pb_verifier.specs.Limits.{HasSmallNumbers}
 use Rattle.pb_verifier.proofs.Each.{each_all}
-use Rattle.pb_verifier.proofs.Limiting.{none_empty}
+use Rattle.pb_verifier.proofs.LimitTests.{none_empty}
 use Rattle.pb_verifier.proofs.limits.is_small_process.Goals as goal
 
 pub returns : goal.returns

@@ -4,7 +4,7 @@ use Rattle.pb_base.specs.Tables.{HasWidth}
 use Rattle.pb_code.specs.View.{process_view}
 use Rattle.pb_verifier.specs.Limits.{AreNames, HasSmallPushes, IsSmallProcess}
 use Rattle.pb_verifier.proofs.Each.{each_more, each_all}
-use Rattle.pb_verifier.proofs.Limiting.{read_borrowed}
+use Rattle.pb_verifier.proofs.LimitTests.{read_borrowed}
 use Rattle.pb_verifier.proofs.limits.keeps_limits.Goals as goal
 
 pub returns-then-not-is_small_process : goal.returns-then-not-is_small_process

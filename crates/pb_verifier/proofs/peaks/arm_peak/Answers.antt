@@ -6,10 +6,10 @@ use Rattle.pb_verifier.specs.declared.amounts.Amount.{Amount}
 use Rattle.pb_verifier.specs.Given.{plain}
 use Rattle.pb_verifier.specs.Places.{IsInArm, Reached}
 use Rattle.pb_verifier.specs.Spread.{fact_at}
-use Rattle.pb_verifier.proofs.Arming.{arm_lies, rise_of}
-use Rattle.pb_verifier.proofs.Ending.{fact_of}
-use Rattle.pb_verifier.proofs.Forking.{join_given}
-use Rattle.pb_verifier.proofs.Peaking.{IsBest, best_known, best_over, best_skip, best_start, joins_there}
+use Rattle.pb_verifier.proofs.ArmOrder.{arm_lies, rise_of}
+use Rattle.pb_verifier.proofs.EndTables.{fact_of}
+use Rattle.pb_verifier.proofs.ForkTables.{join_given}
+use Rattle.pb_verifier.proofs.PeakTables.{IsBest, best_known, best_over, best_skip, best_start, joins_there}
 use Rattle.pb_verifier.proofs.peaks.arm_peak.Goals as goal
 use Rattle.pb_verifier.proofs.peaks.arm_peak.Goals.{in-Some+then-here-best, in-Some+else-here-best, in_default}
 

@@ -3,7 +3,7 @@ use Rattle.pb_code.specs.View.{process_view}
 use Rattle.pb_verifier.specs.Amounts.{AreCutOff}
 use Rattle.pb_verifier.specs.Faults.{HasArms, HasForks}
 use Rattle.pb_verifier.specs.Places.{arms}
-use Rattle.pb_verifier.proofs.Peaking.{IsBest}
+use Rattle.pb_verifier.proofs.PeakTables.{IsBest}
 use Rattle.pb_verifier.proofs.peaks.arm_peak.Given as goal
 
 abbrev pub invariant-loop-place : goal.invariant-loop-place

@@ -5,7 +5,7 @@ use Rattle.pb_verifier.specs.declared.amounts.Amount.{Amount}
 use Rattle.pb_verifier.specs.Amounts.{TurnsAmount}
 use Rattle.pb_verifier.specs.Spread.{IsTableOf, notes_of}
 use Rattle.pb_verifier.proofs.Absent.{absent_fits}
-use Rattle.pb_verifier.proofs.Peaking.{peak_fits, peak_least}
+use Rattle.pb_verifier.proofs.PeakTables.{peak_fits, peak_least}
 use Rattle.pb_verifier.proofs.peaks.peak_fits.Goals as goal
 
 pub returns-then-not-takes_any : goal.returns-then-not-takes_any

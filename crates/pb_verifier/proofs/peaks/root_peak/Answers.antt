@@ -2,7 +2,7 @@ use Rattle.std.proofs.Common.{◌≡◌, ◌≢◌, ◌⊎◌, inl, inr, ◌+◌
 use Rattle.std.proofs.lemmas.Bool.{cases_eq}
 use Rattle.pb_code.specs.View.{process_view}
 use Rattle.pb_verifier.specs.Places.{arms}
-use Rattle.pb_verifier.proofs.Peaking.{last_cut, last_more, last_none, replicate_read}
+use Rattle.pb_verifier.proofs.PeakTables.{last_cut, last_more, last_none, replicate_read}
 use Rattle.pb_verifier.proofs.peaks.root_peak.Goals as goal
 
 pub loop-done-init : goal.loop-done-init

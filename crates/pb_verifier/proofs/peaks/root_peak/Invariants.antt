@@ -2,7 +2,7 @@ use Rattle.std.proofs.Common.{ℕ, ◌≤◌, get_or}
 use Rattle.pb_code.specs.View.{process_view}
 use Rattle.pb_verifier.specs.Faults.{HasArms, HasForks}
 use Rattle.pb_verifier.specs.Places.{arms}
-use Rattle.pb_verifier.proofs.Peaking.{AreLast}
+use Rattle.pb_verifier.proofs.PeakTables.{AreLast}
 use Rattle.pb_verifier.proofs.peaks.root_peak.Given as goal
 
 abbrev pub invariant-loop-done : goal.invariant-loop-done

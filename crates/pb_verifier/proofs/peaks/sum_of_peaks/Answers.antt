@@ -1,5 +1,5 @@
 use Rattle.std.proofs.Common.{◌+◌, get_or, arith}
-use Rattle.pb_verifier.proofs.Peaking.{sum_more}
+use Rattle.pb_verifier.proofs.PeakTables.{sum_more}
 use Rattle.pb_verifier.proofs.peaks.sum_of_peaks.Goals as goal
 
 pub loop-k-preserved : goal.loop-k-preserved

@@ -3,7 +3,7 @@ use Rattle.pb_base.specs.Banker.{cell}
 use Rattle.pb_base.specs.Tables.{width_of}
 use Rattle.pb_code.specs.View.{process_view}
 use Rattle.pb_verifier.specs.Faults.{IsInRange}
-use Rattle.pb_verifier.proofs.Judging.{free_below, turn_below}
+use Rattle.pb_verifier.proofs.ProcessFaults.{free_below, turn_below}
 use Rattle.pb_verifier.proofs.process.check_process.Goals as goal
 
 pub returns-then-not-has_forks-clause-refused : goal.returns-then-not-has_forks-clause-refused

@@ -3,7 +3,7 @@ use Rattle.std.proofs.lemmas.List.{get_or_default}
 use Rattle.std.proofs.lemmas.List.Elements.{Contains-get_or}
 use Rattle.pb_verifier.specs.Flow.{followers, with_place, with_marks, with_places}
 use Rattle.pb_verifier.specs.Given.{instrs_of, plain}
-use Rattle.pb_verifier.proofs.Searching.{IsSearch, Visited, VisitedAll, visit_one, hand_inside, hand_small, hand_target, hand_next, hand_done, starts_all, starts_more, extends_contains, search_over}
+use Rattle.pb_verifier.proofs.ReachSearch.{IsSearch, Visited, VisitedAll, visit_one, hand_inside, hand_small, hand_target, hand_next, hand_done, starts_all, starts_more, extends_contains, search_over}
 use Rattle.pb_verifier.proofs.reach.reached.Goals as goal
 
 pub visit-requires : goal.visit-requires

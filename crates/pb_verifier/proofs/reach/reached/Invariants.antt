@@ -1,7 +1,7 @@
 use Rattle.std.proofs.Common.{ℕ, ◌-◌, ◌<◌, length, get_or}
 use Rattle.std.specs.Prelude.{Contains}
 use Rattle.pb_verifier.specs.Given.{instrs_of}
-use Rattle.pb_verifier.proofs.Searching.{IsSearch}
+use Rattle.pb_verifier.proofs.ReachSearch.{IsSearch}
 use Rattle.pb_verifier.proofs.reach.reached.Given as goal
 
 abbrev pub invariant-loop-entry : goal.invariant-loop-entry

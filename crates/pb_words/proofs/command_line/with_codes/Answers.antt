@@ -2,7 +2,7 @@ use Rattle.std.proofs.Common.{◌≡◌, subst}
 use Rattle.std.specs.Prelude.{IfOk}
 use Rattle.clap.specs.Words.{App, app_of}
 use Rattle.pb_words.specs.CommandLine.{emit_command, run_command, with_command, with_code_commands}
-use Rattle.pb_words.proofs.Added.{added, has_rules}
+use Rattle.pb_words.proofs.AddedCommands.{added, has_rules}
 use Rattle.pb_words.proofs.command_line.with_codes.Goals as goal
 
 pub returns : goal.returns

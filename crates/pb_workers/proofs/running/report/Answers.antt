@@ -2,7 +2,7 @@ use Rattle.std.proofs.Common.{Some, sym, ◌∙◌, subst}
 use Rattle.std.specs.Prelude.{Option}
 use Rattle.pb_shared.specs.Ledgers.{HasOutcome}
 use Rattle.pb_shared.specs.declared.outcome.Outcome.{Outcome}
-use Rattle.pb_workers.proofs.Ending.{report_of}
+use Rattle.pb_workers.proofs.BookOutcomes.{report_of}
 use Rattle.pb_workers.proofs.running.report.Goals as goal
 
 pub returns-in-Some-clause-report : goal.returns-in-Some-clause-report

@@ -2,7 +2,7 @@ use Rattle.std.proofs.Common.{rules, w64}
 use Rattle.std.proofs.lemmas.Int.{to_z-of_z}
 use Rattle.pb_names.specs.View.{expr_view}
 use Rattle.pb_names.proofs.Views.{view-Number, view-Variable, view-Unary, view-Binary}
-use Rattle.pb_codegen.proofs.Statements.{adds_unary, adds_binary}
+use Rattle.pb_codegen.proofs.WriterStatements.{adds_unary, adds_binary}
 use Rattle.pb_codegen.proofs.writer.Writer.+put_expr.Goals as goal
 
 pub returns-in_ok-put-in-Binary : goal.returns-in_ok-put-in-Binary

@@ -7,11 +7,11 @@ use Rattle.pb_names.proofs.Views.{view-Assign, view-Print, view-If, view-While, 
 use Rattle.pb_codegen.specs.Emitted.{HasRoom, place}
 use Rattle.pb_codegen.specs.Generate.{stmt_code, block_code}
 use Rattle.pb_codegen.specs.Lines.{block_lines, line_of}
-use Rattle.pb_codegen.proofs.Emitting.{adds_nothing, adds_as, adds-place, place-replaced, bundle_kept}
-use Rattle.pb_codegen.proofs.Lists.{block_written, few_arms_in_stmt, room_for_stmt}
-use Rattle.pb_names.proofs.Numbered.{length-arms_list}
-use Rattle.pb_codegen.proofs.Rooms.{if_fits, while_fits, hold_fits}
-use Rattle.pb_codegen.proofs.Statements.{adds_if, adds_while, adds_hold}
+use Rattle.pb_codegen.proofs.WriterParts.{adds_nothing, adds_as, adds-place, place-replaced, bundle_kept}
+use Rattle.pb_codegen.proofs.WriterLists.{block_written, few_arms_in_stmt, room_for_stmt}
+use Rattle.pb_names.proofs.NumberedLists.{length-arms_list}
+use Rattle.pb_codegen.proofs.VerifiedEnds.{if_fits, while_fits, hold_fits}
+use Rattle.pb_codegen.proofs.WriterStatements.{adds_if, adds_while, adds_hold}
 use Rattle.pb_codegen.proofs.writer.Writer.+statements.Goals as goal
 
 pub put_block-loop-i-init : goal.put_block-loop-i-init
@@ -105,7 +105,8 @@ pub put_if-place-other-requires : goal.put_if-place-other-requires
 put_if-place-other-requires g t c =
     let fits =
     if_fits (place c.args.self.now) c.args.line (expr_view c.args.test.now) (block_view c.args.on_true.now.items) (block_view c.args.on_false.now.items)
-    (place c.put_expr.new.self) (place c.put.new.self) (place c.put_block.new.self) (place c.put-2.new.self) c.requires.room.small (adds-place c.in_ok-put_expr.ensures)
+    (place c.put_expr.new.self) (place c.put.new.self) (place c.put_block.new.self)
+    (place c.put-2.new.self) c.requires.room.small (adds-place c.in_ok-put_expr.ensures)
     (adds-place c.in_ok-put.ensures) (adds-place c.in_ok-put_block.ensures) (adds-place c.in_ok-put-2.ensures) in
     omega (arith, fits)
 
@@ -118,7 +119,8 @@ put_if-put_block-requires-2 g t c κs within =
     let same : (place c.patch.new.self) ≡ (place c.put_block.new.self) + 1 = omega (arith, place-replaced c.patch.ensures, adds-place c.in_ok-put-2.ensures) in
     let fits =
     if_fits (place c.args.self.now) c.args.line (expr_view c.args.test.now) (block_view c.args.on_true.now.items) (block_view c.args.on_false.now.items)
-    (place c.put_expr.new.self) (place c.put.new.self) (place c.put_block.new.self) (place c.patch.new.self) c.requires.room.small (adds-place c.in_ok-put_expr.ensures)
+    (place c.put_expr.new.self) (place c.put.new.self) (place c.put_block.new.self)
+    (place c.patch.new.self) c.requires.room.small (adds-place c.in_ok-put_expr.ensures)
     (adds-place c.in_ok-put.ensures) (adds-place c.in_ok-put_block.ensures) same in
     let room : HasRoom c.patch.new.self (block_code (place c.patch.new.self) (block_view c.args.on_false.now.items)) =
     record { sound = c.patch.ensures.sound; small = fits } in
@@ -131,7 +133,8 @@ put_if-place-end-requires g t c =
     let same : (place c.patch.new.self) ≡ (place c.put_block.new.self) + 1 = omega (arith, place-replaced c.patch.ensures, adds-place c.in_ok-put-2.ensures) in
     let fits =
     if_fits (place c.args.self.now) c.args.line (expr_view c.args.test.now) (block_view c.args.on_true.now.items) (block_view c.args.on_false.now.items)
-    (place c.put_expr.new.self) (place c.put.new.self) (place c.put_block.new.self) (place c.patch.new.self) c.requires.room.small (adds-place c.in_ok-put_expr.ensures)
+    (place c.put_expr.new.self) (place c.put.new.self) (place c.put_block.new.self)
+    (place c.patch.new.self) c.requires.room.small (adds-place c.in_ok-put_expr.ensures)
     (adds-place c.in_ok-put.ensures) (adds-place c.in_ok-put_block.ensures) same in
     omega (arith, fits, adds-place c.in_ok-put_block-2.ensures)
 
@@ -172,7 +175,8 @@ put_while-patch-requires-clause-there g t c =
 pub put_hold-put_block-requires : goal.put_hold-put_block-requires
 put_hold-put_block-requires g t c κs within =
     let fits =
-    hold_fits (place c.args.self.now) c.args.line c.args.bundle.now (block_view c.args.body.now.items) (place c.put_take.new.self) c.requires.room.small (adds-place c.in_ok-bundle.ensures.added) in
+    hold_fits (place c.args.self.now) c.args.line c.args.bundle.now (block_view c.args.body.now.items)
+    (place c.put_take.new.self) c.requires.room.small (adds-place c.in_ok-bundle.ensures.added) in
     let room : HasRoom c.put_take.new.self (block_code (place c.put_take.new.self) (block_view c.args.body.now.items)) =
     record { sound = c.in_ok-bundle.ensures.added.sound; small = omega (arith, fits) } in
     let few = c.requires.few_arms in

@@ -1,5 +1,5 @@
 use Rattle.std.proofs.Common.{refl}
-use Rattle.pb_codegen.proofs.Emitting.{put_at}
+use Rattle.pb_codegen.proofs.WriterParts.{put_at}
 use Rattle.pb_codegen.proofs.writer.Writer.patch.Goals as goal
 
 pub returns : goal.returns

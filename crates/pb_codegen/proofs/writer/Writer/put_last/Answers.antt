@@ -2,8 +2,8 @@ use Rattle.std.proofs.Common.{◌∷◌, ◌++◌, [], ap, refl}
 use Rattle.pb_names.specs.View.{expr_view}
 use Rattle.pb_code.proofs.BundleTables.{plain_same}
 use Rattle.pb_codegen.specs.Generate.{expr_code}
-use Rattle.pb_codegen.proofs.Emitting.{adds_as}
-use Rattle.pb_codegen.proofs.Statements.{adds_last}
+use Rattle.pb_codegen.proofs.WriterParts.{adds_as}
+use Rattle.pb_codegen.proofs.WriterStatements.{adds_last}
 use Rattle.pb_codegen.proofs.writer.Writer.put_last.Goals as goal
 
 pub returns : goal.returns

@@ -1,8 +1,8 @@
 use Rattle.std.proofs.Common.{arith, sym, ◌∙◌}
 use Rattle.std.specs.Prelude.{Some}
 use Rattle.pb_names.specs.View.{arms_view}
-use Rattle.pb_codegen.proofs.Lists.{length-arms_view}
-use Rattle.pb_codegen.proofs.Statements.{adds_parbegin}
+use Rattle.pb_codegen.proofs.WriterLists.{length-arms_view}
+use Rattle.pb_codegen.proofs.WriterStatements.{adds_parbegin}
 use Rattle.pb_codegen.proofs.writer.Writer.put_parbegin.Goals as goal
 
 pub overflow_cast-count : goal.overflow_cast-count

@@ -1,5 +1,5 @@
 use Rattle.std.proofs.Common.{◌∙◌}
-use Rattle.pb_codegen.proofs.Emitting.{put_bundle, got_last}
+use Rattle.pb_codegen.proofs.WriterParts.{put_bundle, got_last}
 use Rattle.pb_codegen.proofs.writer.Writer.put_take.Goals as goal
 
 pub returns-clause-added : goal.returns-clause-added

@@ -6,7 +6,7 @@ use Rattle.pb_history.specs.Entries.{picks_of}
 use Rattle.pb_history.specs.Leads.{Leads}
 use Rattle.pb_machine.specs.declared.machine.Machine.{Machine}
 use Rattle.pb_debug.specs.Walks.{AreCheckpoints}
-use Rattle.pb_debug.proofs.Walking.{checkpoint_here, one_checkpoint_more}
+use Rattle.pb_debug.proofs.Walks.{checkpoint_here, one_checkpoint_more}
 use Rattle.pb_debug.proofs.checkpoints.Replaying.keep.Goals as goal
 
 pub returns-then-len-self-clause-replays : goal.returns-then-len-self-clause-replays

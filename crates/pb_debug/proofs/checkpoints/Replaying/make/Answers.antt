@@ -2,8 +2,8 @@ use Rattle.std.proofs.Common.{rules, ◌-◌, ◌++◌, List, replicate, ap, ◌
 use Rattle.pb_base.specs.declared.pick.Pick.{Pick}
 use Rattle.pb_history.specs.Entries.{picks_of}
 use Rattle.pb_history.specs.Replays.{IsStopped}
-use Rattle.pb_history.proofs.Replaying.{length_on, stopped_more}
-use Rattle.pb_debug.proofs.Walking.{all_made, checkpoints_before, more_made}
+use Rattle.pb_history.proofs.CountedPicks.{length_on, stopped_more}
+use Rattle.pb_debug.proofs.Walks.{all_made, checkpoints_before, more_made}
 use Rattle.pb_debug.proofs.checkpoints.Replaying.make.Goals as goal
 
 pub returns-in_err-repeat-clause-stopped : goal.returns-in_err-repeat-clause-stopped

@@ -4,9 +4,9 @@ use Rattle.pb_base.specs.declared.pick.Pick.{Pick}
 use Rattle.pb_history.specs.Entries.{Entry, picks_of}
 use Rattle.pb_history.specs.Replays.{IsStopped, spread}
 use Rattle.pb_history.specs.declared.counted.CountedPick.{CountedPick}
-use Rattle.pb_history.proofs.Replaying.{spread_take, spread_whole, stopped_more}
-use Rattle.pb_history.proofs.Rising.{item_there}
-use Rattle.pb_debug.proofs.Walking.{count_more, count_within}
+use Rattle.pb_history.proofs.CountedPicks.{spread_take, spread_whole, stopped_more}
+use Rattle.pb_history.proofs.SpanEnds.{item_there}
+use Rattle.pb_debug.proofs.Walks.{count_more, count_within}
 use Rattle.pb_debug.proofs.checkpoints.Replaying.make_all.Goals as goal
 
 pub make-requires-clause-fits : goal.make-requires-clause-fits

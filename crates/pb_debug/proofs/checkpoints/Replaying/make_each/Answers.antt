@@ -3,9 +3,9 @@ use Rattle.std.proofs.lemmas.List.{length-map, length-take-le}
 use Rattle.pb_base.specs.declared.pick.Pick.{Pick}
 use Rattle.pb_history.specs.Entries.{Entry, picks_of}
 use Rattle.pb_history.specs.Replays.{IsStopped}
-use Rattle.pb_history.proofs.Laying.{take_drop}
-use Rattle.pb_history.proofs.Replaying.{stopped_more}
-use Rattle.pb_history.proofs.Rising.{item_there}
+use Rattle.pb_history.proofs.SpanEvents.{take_drop}
+use Rattle.pb_history.proofs.CountedPicks.{stopped_more}
+use Rattle.pb_history.proofs.SpanEnds.{item_there}
 use Rattle.pb_machine.proofs.Growing.{take_at}
 use Rattle.pb_debug.proofs.checkpoints.Replaying.make_each.Goals as goal
 

@@ -1,7 +1,7 @@
 use Rattle.std.proofs.Common.{[], length, refl, sym, subst, arith}
 use Rattle.pb_debug.specs.Walks.{AreCheckpoints, IsCheckpoint}
 use Rattle.pb_debug.specs.declared.checkpoints.Replaying.{Replaying}
-use Rattle.pb_debug.proofs.Walking.{no_checkpoints, one_interval, replays_none}
+use Rattle.pb_debug.proofs.Walks.{no_checkpoints, one_interval, replays_none}
 use Rattle.pb_debug.proofs.checkpoints.Replaying.new.Goals as goal
 
 pub returns-clause-replays : goal.returns-clause-replays

@@ -5,10 +5,11 @@ use Rattle.pb_code.specs.Whole.{ProcessLabels}
 use Rattle.pb_machine.specs.Views.{machine_view}
 use Rattle.pb_debug.specs.Searches.{line_in}
 use Rattle.pb_debug.specs.Value.{Debugging}
-use Rattle.pb_debug.proofs.Here.{in_labels, item}
-use Rattle.pb_debug.proofs.Holding.{state_here}
+use Rattle.pb_debug.proofs.Positions.{in_labels}
+use Rattle.pb_debug.proofs.ResourceTexts.{state_here}
 use Rattle.pb_debug.proofs.Lines.{line_is}
 use Rattle.pb_debug.proofs.debugger.Debugger.line.Goals as goal
+use Rattle.pb_verifier.proofs.Banking.{get_some}
 
 pub returns-clause-line : goal.returns-clause-line
 returns-clause-line c =
@@ -17,7 +18,7 @@ returns-clause-line c =
     let p = c.args.p in
     let a = c.args.arm in
     let shown = c.in_ok-process.ensures.shown in
-    let of = item d.labels p (in_labels d c.in_ok-process.ensures.placed p _ shown) in
+    let of = get_some d.labels p (in_labels d c.in_ok-process.ensures.placed p _ shown) in
     line_is d p a of.0 _ c.line_of_arm.result of.1 shown
     (c.line_of_arm.ensures
     ∙ (ap (λ (ls : List ProcessLabels). line_in (slice_get ls p) (slice_get (machine_view i.walker.machine).processes p) a)

@@ -3,7 +3,7 @@ use Rattle.std.specs.Prelude.{slice_get}
 use Rattle.std.proofs.lemmas.Option.{slice_get_within}
 use Rattle.pb_base.specs.Lines.{NameTable}
 use Rattle.pb_debug.specs.Value.{Debugging, state_of}
-use Rattle.pb_debug.proofs.Saying.{if_some, names_many}
+use Rattle.pb_debug.proofs.NameTexts.{if_some, names_many}
 use Rattle.pb_debug.proofs.debugger.Debugger.process.Goals as goal
 
 pub returns-clause-within : goal.returns-clause-within

@@ -2,7 +2,7 @@ use Rattle.std.proofs.Common.{ℕ, List, Option, option_map, inl, inr, refl, ap}
 use Rattle.pb_debug.specs.Texts.{refusal_text, source_text}
 use Rattle.pb_debug.specs.Value.{Debugging}
 use Rattle.pb_debug.specs.declared.fault.DebugFault.TheVariants.{NoArm}
-use Rattle.pb_debug.proofs.Saying.{on_ok, missing_arm}
+use Rattle.pb_debug.proofs.NameTexts.{on_ok, missing_arm}
 use Rattle.pb_debug.proofs.debugger.Debugger.say_text.Goals as goal
 
 pub returns-in-Ok : goal.returns-in-Ok

@@ -9,8 +9,8 @@ use Rattle.pb_machine.proofs.Going.{events_have_names}
 use Rattle.pb_verifier.specs.declared.fault.VerifyFault.TheVariants.{OutOfLimits}
 use Rattle.pb_debug.specs.Appends.{Tries}
 use Rattle.pb_debug.specs.Value.{state_of}
-use Rattle.pb_debug.proofs.Here.{few_arms, in_code, reached}
-use Rattle.pb_debug.proofs.Saying.{on_ok}
+use Rattle.pb_debug.proofs.Positions.{few_arms, in_code, reached}
+use Rattle.pb_debug.proofs.NameTexts.{on_ok}
 use Rattle.pb_debug.proofs.debugger.Debugger.say_tried.Goals as goal
 
 pub overflow_cast-p : goal.overflow_cast-p

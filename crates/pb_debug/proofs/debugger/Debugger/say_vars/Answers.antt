@@ -4,9 +4,9 @@ use Rattle.std.proofs.lemmas.Option.{slice_get_read}
 use Rattle.pb_code.specs.View.{process_labels_view}
 use Rattle.pb_debug.specs.Texts.{vars_text}
 use Rattle.pb_debug.specs.Value.{Debugging}
-use Rattle.pb_debug.proofs.Here.{in_labels, named_vars}
+use Rattle.pb_debug.proofs.Positions.{in_labels, named_vars}
 use Rattle.pb_debug.proofs.Lines.{labels_here}
-use Rattle.pb_debug.proofs.Saying.{on_ok}
+use Rattle.pb_debug.proofs.NameTexts.{on_ok}
 use Rattle.pb_debug.proofs.debugger.Debugger.say_vars.Goals as goal
 
 pub index-requires : goal.index-requires

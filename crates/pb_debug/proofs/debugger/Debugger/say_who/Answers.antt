@@ -10,10 +10,10 @@ use Rattle.pb_code.specs.Whole.{Code}
 use Rattle.pb_verifier.specs.declared.fault.VerifyFault.TheVariants.{OutOfLimits}
 use Rattle.pb_debug.specs.Resources.{who_text}
 use Rattle.pb_debug.specs.Value.{Debugging, bank_state, state_of}
-use Rattle.pb_debug.proofs.Asking.{names_bundles}
-use Rattle.pb_debug.proofs.Here.{as_many}
-use Rattle.pb_debug.proofs.Holding.{bank_here, placed, state_here, who_here}
-use Rattle.pb_debug.proofs.Saying.{on_ok}
+use Rattle.pb_debug.proofs.Requests.{names_bundles}
+use Rattle.pb_debug.proofs.Positions.{as_many}
+use Rattle.pb_debug.proofs.ResourceTexts.{bank_here, placed, state_here, who_here}
+use Rattle.pb_debug.proofs.NameTexts.{on_ok}
 use Rattle.pb_debug.proofs.debugger.Debugger.say_who.Goals as goal
 
 pub put_who-requires-clause-bundles : goal.put_who-requires-clause-bundles

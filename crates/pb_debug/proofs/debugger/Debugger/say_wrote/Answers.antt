@@ -7,17 +7,18 @@ use Rattle.pb_debug.specs.Texts.{never_text, refusal_text}
 use Rattle.pb_debug.specs.Value.{Debugging, state_of}
 use Rattle.pb_debug.specs.declared.fault.DebugFault.TheVariants.{BadCommand}
 use Rattle.pb_debug.specs.declared.search.Watch.TheVariants as watch
-use Rattle.pb_debug.proofs.Here.{in_labels, item}
+use Rattle.pb_debug.proofs.Positions.{in_labels}
 use Rattle.pb_debug.proofs.Lines.{labels_here}
-use Rattle.pb_debug.proofs.Saying.{on_ok}
+use Rattle.pb_debug.proofs.NameTexts.{on_ok}
 use Rattle.pb_debug.proofs.debugger.Debugger.say_wrote.Goals as goal
+use Rattle.pb_verifier.proofs.Banking.{get_some}
 
 pub index-requires : goal.index-requires
 index-requires c =
     let d = c.args.self.now in
     let given = c.self.inside.labels.now in
     let p = c.in-Some.process in
-    let of = item (state_of d).processes p c.in-Some.ensures.within in
+    let of = get_some (state_of d).processes p c.in-Some.ensures.within in
     let lt = in_labels d c.in-Some.ensures.placed p of.0 of.1 in
     let same = ap (λ (d : Debugging). length d.labels) c.self.view_is in
     omega (arith, lt, same, length-map given.processes.items process_labels_view, given.processes.ok.0)
@@ -27,7 +28,7 @@ returns-in_default-find_name c =
     let d = c.args.self.now in
     let given = c.self.inside.labels.now in
     let p = c.in-Some.process in
-    let of = item (state_of d).processes p c.in-Some.ensures.within in
+    let of = get_some (state_of d).processes p c.in-Some.ensures.within in
     let lt = in_labels d c.in-Some.ensures.placed p of.0 of.1 in
     let same = ap (λ (d : Debugging). length d.labels) c.self.view_is in
     let l = c.index.result.now in
@@ -49,7 +50,7 @@ returns-in-Some-2 c =
     let d = c.args.self.now in
     let given = c.self.inside.labels.now in
     let p = c.in-Some.process in
-    let of = item (state_of d).processes p c.in-Some.ensures.within in
+    let of = get_some (state_of d).processes p c.in-Some.ensures.within in
     let lt = in_labels d c.in-Some.ensures.placed p of.0 of.1 in
     let same = ap (λ (d : Debugging). length d.labels) c.self.view_is in
     let l = c.index.result.now in
@@ -76,7 +77,7 @@ returns-in-None c =
     let d = c.args.self.now in
     let given = c.self.inside.labels.now in
     let p = c.in-Some.process in
-    let of = item (state_of d).processes p c.in-Some.ensures.within in
+    let of = get_some (state_of d).processes p c.in-Some.ensures.within in
     let lt = in_labels d c.in-Some.ensures.placed p of.0 of.1 in
     let same = ap (λ (d : Debugging). length d.labels) c.self.view_is in
     let l = c.index.result.now in

@@ -3,7 +3,7 @@ use Rattle.pb_history.specs.Entries.{size}
 use Rattle.pb_history.specs.Ends.{Rise, goes_on, row_of, spans_from}
 use Rattle.pb_history.specs.declared.spans.SpanEnd.{SpanEnd}
 use Rattle.pb_history.specs.declared.spans.Spans.TheInside.{Inside}
-use Rattle.pb_history.proofs.Rising.{appended, end_for, length_from, replaced, rise_more, size_from, spans_more, with_end}
+use Rattle.pb_history.proofs.SpanEnds.{appended, end_for, length_from, replaced, rise_more, size_from, spans_more, with_end}
 use Rattle.pb_history.proofs.spans.Spans.add.Goals as goal
 use Rattle.pb_history.proofs.spans.Spans.add.Goals.{then-continues, else-continues}
 

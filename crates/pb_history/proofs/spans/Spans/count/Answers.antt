@@ -1,5 +1,5 @@
 use Rattle.std.proofs.Common.{arith}
-use Rattle.pb_history.proofs.Rising.{length_from}
+use Rattle.pb_history.proofs.SpanEnds.{length_from}
 use Rattle.pb_history.proofs.spans.Spans.count.Goals as goal
 
 pub returns : goal.returns

@@ -1,7 +1,7 @@
 use Rattle.std.proofs.Common.{◌≡◌, ◌+◌, ◌<◌, ℕ, Some, length, slice_get, take, sym, ap, ◌∙◌, arith}
 use Rattle.pb_history.specs.Entries.{size}
 use Rattle.pb_history.specs.Ends.{row_of, spans_from}
-use Rattle.pb_history.proofs.Rising.{item_there, length_from, span_at, span_to, starts_before}
+use Rattle.pb_history.proofs.SpanEnds.{item_there, length_from, span_at, span_to, starts_before}
 use Rattle.pb_history.proofs.spans.Spans.get.Goals as goal
 
 pub index-requires : goal.index-requires

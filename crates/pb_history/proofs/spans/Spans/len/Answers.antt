@@ -1,5 +1,5 @@
 use Rattle.std.proofs.Common.{arith}
-use Rattle.pb_history.proofs.Rising.{size_from}
+use Rattle.pb_history.proofs.SpanEnds.{size_from}
 use Rattle.pb_history.proofs.spans.Spans.len.Goals as goal
 
 pub returns : goal.returns

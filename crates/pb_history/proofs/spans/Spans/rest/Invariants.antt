@@ -1,5 +1,5 @@
 use Rattle.std.proofs.Common.{ℕ, ◌-◌, ◌<◌, ◌≤◌, length}
-use Rattle.pb_history.proofs.Rising.{end_of}
+use Rattle.pb_history.proofs.SpanEnds.{end_of}
 use Rattle.pb_history.proofs.spans.Spans.rest.Given as goal
 
 abbrev pub invariant-loop-low : goal.invariant-loop-low

@@ -1,7 +1,7 @@
 use Rattle.std.proofs.Common.{◌≡◌, ◌+◌, ◌-◌, ◌<◌, suc, Some, length, take, sym, ap, ◌∙◌, arith}
 use Rattle.pb_history.specs.Entries.{size}
 use Rattle.pb_history.specs.Ends.{row_of, spans_from}
-use Rattle.pb_history.proofs.Rising.{end_is, item_there, length_from, start_is}
+use Rattle.pb_history.proofs.SpanEnds.{end_is, item_there, length_from, start_is}
 use Rattle.pb_history.proofs.spans.Spans.start.Goals as goal
 
 pub index-before-requires : goal.index-before-requires

@@ -2,7 +2,7 @@ use Rattle.std.proofs.Common.{◌<◌, List, length, ap, ◌∙◌, slice_get, a
 use Rattle.pb_base.specs.declared.event.Event.{Event}
 use Rattle.pb_history.specs.Entries.{events_of}
 use Rattle.pb_history.specs.Traces.{trail_of}
-use Rattle.pb_history.proofs.Laying.{laid_events}
+use Rattle.pb_history.proofs.SpanEvents.{laid_events}
 use Rattle.pb_history.proofs.trace.Trace.event.Goals as goal
 
 pub get-requires : goal.get-requires

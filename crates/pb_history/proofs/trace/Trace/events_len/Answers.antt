@@ -1,6 +1,6 @@
 use Rattle.std.proofs.Common.{List, length, sym, ap, ◌∙◌}
 use Rattle.pb_base.specs.declared.event.Event.{Event}
-use Rattle.pb_history.proofs.Laying.{laid_events}
+use Rattle.pb_history.proofs.SpanEvents.{laid_events}
 use Rattle.pb_history.proofs.trace.Trace.events_len.Goals as goal
 
 pub returns : goal.returns

@@ -1,5 +1,5 @@
 use Rattle.std.proofs.Common.{sym, ◌∙◌}
-use Rattle.pb_history.proofs.Laying.{laid_size}
+use Rattle.pb_history.proofs.SpanEvents.{laid_size}
 use Rattle.pb_history.proofs.trace.Trace.len.Goals as goal
 
 pub returns : goal.returns

@@ -2,7 +2,7 @@ use Rattle.std.proofs.Common.{◌≡◌, ◌+◌, ◌<◌, List, length, ap, ◌
 use Rattle.pb_base.specs.declared.pick.Pick.{Pick}
 use Rattle.pb_history.specs.Traces.{trail_of}
 use Rattle.pb_history.specs.Entries.{all_picks}
-use Rattle.pb_history.proofs.Laying.{laid_picks, laid_size}
+use Rattle.pb_history.proofs.SpanEvents.{laid_picks, laid_size}
 use Rattle.pb_history.proofs.trace.Trace.pick.Goals as goal
 
 pub rest-rest-requires : goal.rest-rest-requires

@@ -3,7 +3,7 @@ use Rattle.pb_base.specs.declared.pick.Pick.{Pick}
 use Rattle.pb_history.specs.Entries.{IsRest}
 use Rattle.pb_history.specs.Traces.{trail_of}
 use Rattle.pb_history.specs.declared.span.Span.{Span}
-use Rattle.pb_history.proofs.Laying.{laid_picks, laid_size}
+use Rattle.pb_history.proofs.SpanEvents.{laid_picks, laid_size}
 use Rattle.pb_history.proofs.trace.Trace.rest_of_span.Goals as goal
 
 pub rest-requires : goal.rest-requires

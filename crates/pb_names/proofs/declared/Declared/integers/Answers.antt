@@ -3,7 +3,7 @@ use Rattle.std.proofs.lemmas.List.{take_all}
 use Rattle.std.proofs.lemmas.Result.{IfOk-weaker}
 use Rattle.std.proofs.lemmas.Simd.{map-map}
 use Rattle.pb_tree.specs.View.{name_view}
-use Rattle.pb_names.proofs.Naming.{texts_more}
+use Rattle.pb_names.proofs.NameNumbers.{texts_more}
 use Rattle.pb_names.proofs.declared.Declared.integers.Goals as goal
 
 pub loop-name-init : goal.loop-name-init

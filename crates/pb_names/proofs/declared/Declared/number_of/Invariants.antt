@@ -1,6 +1,6 @@
 use Rattle.std.proofs.Common.{◌-◌, length}
 use Rattle.pb_names.specs.Search.{names_in}
-use Rattle.pb_names.proofs.Indexing.{IsReached}
+use Rattle.pb_names.proofs.NameIndexes.{IsReached}
 use Rattle.pb_names.proofs.declared.Declared.number_of.Given as goal
 
 abbrev pub invariant-loop-i : goal.invariant-loop-i

@@ -3,7 +3,7 @@ use Rattle.std.proofs.lemmas.List.{take_all}
 use Rattle.std.proofs.lemmas.Result.{IfOk-weaker}
 use Rattle.pb_tree.specs.Syntax.{ProcessSyntax}
 use Rattle.pb_tree.specs.View.{process_view}
-use Rattle.pb_names.proofs.Naming.{declared_texts, texts_more}
+use Rattle.pb_names.proofs.NameNumbers.{declared_texts, texts_more}
 use Rattle.pb_names.proofs.declared.Declared.processes.Goals as goal
 
 pub loop-process-init : goal.loop-process-init

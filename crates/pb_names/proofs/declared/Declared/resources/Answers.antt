@@ -3,7 +3,7 @@ use Rattle.std.proofs.lemmas.List.{take_all}
 use Rattle.std.proofs.lemmas.Result.{IfOk-weaker}
 use Rattle.pb_tree.specs.Syntax.{ResourceSyntax}
 use Rattle.pb_tree.specs.View.{resource_view}
-use Rattle.pb_names.proofs.Naming.{declared_texts, texts_more}
+use Rattle.pb_names.proofs.NameNumbers.{declared_texts, texts_more}
 use Rattle.pb_names.proofs.declared.Declared.resources.Goals as goal
 
 pub loop-resource-init : goal.loop-resource-init

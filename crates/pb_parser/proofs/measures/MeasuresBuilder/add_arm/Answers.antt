@@ -1,4 +1,4 @@
-use Rattle.pb_parser.proofs.Measuring.{arm_measured}
+use Rattle.pb_parser.proofs.MeasureSteps.{arm_measured}
 use Rattle.pb_parser.proofs.measures.MeasuresBuilder.add_arm.Goals as goal
 
 pub returns-clause-made : goal.returns-clause-made

@@ -1,4 +1,4 @@
-use Rattle.pb_parser.proofs.Measuring.{process_measured}
+use Rattle.pb_parser.proofs.MeasureSteps.{process_measured}
 use Rattle.pb_parser.proofs.measures.MeasuresBuilder.add_process.Goals as goal
 
 pub returns-clause-made : goal.returns-clause-made

@@ -1,4 +1,4 @@
-use Rattle.pb_parser.proofs.Measuring.{stmt_measured}
+use Rattle.pb_parser.proofs.MeasureSteps.{stmt_measured}
 use Rattle.pb_parser.proofs.measures.MeasuresBuilder.choice.Goals as goal
 
 pub returns-clause-made : goal.returns-clause-made

@@ -56,7 +56,8 @@ after_factor-returns-in_err-left-in-Comparison g t c = λ a h.
 
 pub after_factor-returns-in_ok-left-in-Comparison : goal.after_factor-returns-in_ok-left-in-Comparison
 after_factor-returns-in_ok-left-in-Comparison g t c = λ a h.
-    then_makes g.B.Builder.is_expr g.B.Builder.wants _ _ _ _ _ _ _ (factors_first _ c.args.level a _ c.in-Comparison.is) (c.in_ok-left-in-Comparison.ensures a h) c.after_term.ensures
+    then_makes g.B.Builder.is_expr g.B.Builder.wants _ _ _ _ _ _ _
+    (factors_first _ c.args.level a _ c.in-Comparison.is) (c.in_ok-left-in-Comparison.ensures a h) c.after_term.ensures
 
 pub after_term-returns-in_err-left-in-Comparison : goal.after_term-returns-in_err-left-in-Comparison
 after_term-returns-in_err-left-in-Comparison g t c = λ a h.
@@ -65,7 +66,8 @@ after_term-returns-in_err-left-in-Comparison g t c = λ a h.
 
 pub after_term-returns-in_ok-left-in-Comparison : goal.after_term-returns-in_ok-left-in-Comparison
 after_term-returns-in_ok-left-in-Comparison g t c = λ a h.
-    then_makes g.B.Builder.is_expr g.B.Builder.wants _ _ _ _ _ _ _ (terms_first _ c.args.level a _ c.in-Comparison.is) (c.in_ok-left-in-Comparison.ensures a h) c.after_sum.ensures
+    then_makes g.B.Builder.is_expr g.B.Builder.wants _ _ _ _ _ _ _
+    (terms_first _ c.args.level a _ c.in-Comparison.is) (c.in_ok-left-in-Comparison.ensures a h) c.after_sum.ensures
 
 pub after_negation-returns-in_err-left-in-Disjunction : goal.after_negation-returns-in_err-left-in-Disjunction
 after_negation-returns-in_err-left-in-Disjunction g t c = λ a h.
@@ -74,7 +76,8 @@ after_negation-returns-in_err-left-in-Disjunction g t c = λ a h.
 
 pub after_negation-returns-in_ok-left-in-Disjunction : goal.after_negation-returns-in_ok-left-in-Disjunction
 after_negation-returns-in_ok-left-in-Disjunction g t c = λ a h.
-    then_makes g.B.Builder.is_expr g.B.Builder.wants _ _ _ _ _ _ _ (negations_first _ c.args.level a _ c.in-Disjunction.is) (c.in_ok-left-in-Disjunction.ensures a h) c.after_conjunction.ensures
+    then_makes g.B.Builder.is_expr g.B.Builder.wants _ _ _ _ _ _ _
+    (negations_first _ c.args.level a _ c.in-Disjunction.is) (c.in_ok-left-in-Disjunction.ensures a h) c.after_conjunction.ensures
 
 pub after_sum-returns-in-Comparison : goal.after_sum-returns-in-Comparison
 unfolding after_sum

@@ -85,7 +85,8 @@ holding-returns g t c =
 pub forking-returns : goal.forking-returns
 forking-returns g t c =
     let a = c.in_ok-arms.ensures in
-    made (λ _. Adds g.B.Builder.is_stmts append c.args.out.now c.fork.new.out) g.B.Builder.wants _ _ _ _ _ (forking_steps _ _ _ _ _ a.syntax a.found c.in_ok-expect.ensures)
+    made (λ _. Adds g.B.Builder.is_stmts append c.args.out.now c.fork.new.out) g.B.Builder.wants _ _ _ _ _
+    (forking_steps _ _ _ _ _ a.syntax a.found c.in_ok-expect.ensures)
     (c.fork.ensures.made a.syntax a.same) c.fork.ensures.fault c.built.ensures.made c.built.ensures.fault
 
 pub otherwise-returns-else-eat : goal.otherwise-returns-else-eat

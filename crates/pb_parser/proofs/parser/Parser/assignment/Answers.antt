@@ -9,5 +9,6 @@ pub returns : goal.returns
 returns g c =
     let e = c.in_ok-value.ensures in
     let same = c.assign.ensures.made e.syntax e.same in
-    made (λ _. Adds g.B.Builder.is_stmts append c.args.out.now c.assign.new.out) g.B.Builder.wants _ _ _ _ _ (assignment_steps _ (token c.args.first) _ _ _ _ e.syntax c.in_ok-expect.ensures e.found)
+    made (λ _. Adds g.B.Builder.is_stmts append c.args.out.now c.assign.new.out) g.B.Builder.wants _ _ _ _ _
+    (assignment_steps _ (token c.args.first) _ _ _ _ e.syntax c.in_ok-expect.ensures e.found)
     (rw (c.line-line.ensures, c.text-text.ensures, c.start-at.ensures) at same) c.assign.ensures.fault c.built.ensures.made c.built.ensures.fault

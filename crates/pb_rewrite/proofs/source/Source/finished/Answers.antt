@@ -3,7 +3,7 @@ use Rattle.std.proofs.lemmas.List.{length-map}
 use Rattle.std.proofs.lemmas.Option.{slice_get_within}
 use Rattle.pb_names.specs.Source.{source_over}
 use Rattle.pb_rewrite.specs.View.{process_view}
-use Rattle.pb_rewrite.proofs.Opening.{none_past}
+use Rattle.pb_rewrite.proofs.Openings.{none_past}
 use Rattle.pb_rewrite.proofs.Sources.{view_at}
 use Rattle.pb_rewrite.proofs.source.Source.finished.Goals as goal
 

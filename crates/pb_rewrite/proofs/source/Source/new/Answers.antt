@@ -4,7 +4,7 @@ use Rattle.pb_names.specs.Program.{capital_of}
 use Rattle.pb_names.specs.View.{resolved_view}
 use Rattle.pb_rewrite.specs.Sound.{AreSound}
 use Rattle.pb_rewrite.specs.View.{process_view}
-use Rattle.pb_rewrite.proofs.Opening.{opens, starts, few_resources, as_wide, within_capital}
+use Rattle.pb_rewrite.proofs.Openings.{opens, starts, few_resources, as_wide, within_capital}
 use Rattle.pb_rewrite.proofs.Sources.{state_with}
 use Rattle.pb_rewrite.proofs.source.Source.new.Goals as goal
 

@@ -167,7 +167,8 @@ same-returns-then-same_list g t c =
     c.line_of.ensures c.line_of-2.ensures c.if-line_of.false
     in
     let line = sym (ap stmt_line left) ∙ lines ∙ ap stmt_line right in (
-      λ yes. same_if left right line (c.same-in-If-If.ensures.0 c.if-same-2.true) (c.same_list.ensures.0 c.if-same_list.true) (c.same_list-then-same_list.ensures.0 yes),
+      λ yes. same_if left right line (c.same-in-If-If.ensures.0 c.if-same-2.true)
+          (c.same_list.ensures.0 c.if-same_list.true) (c.same_list-then-same_list.ensures.0 yes),
       λ same. c.same_list-then-same_list.ensures.1 (if_falses left right same),
     )
 

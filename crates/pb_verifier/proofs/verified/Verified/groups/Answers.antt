@@ -3,7 +3,7 @@ use Rattle.std.specs.Prelude.{slice_get}
 use Rattle.std.proofs.lemmas.List.{length-map}
 use Rattle.pb_code.specs.View.{process_view}
 use Rattle.pb_groups.specs.Groups.{AreGroups}
-use Rattle.pb_verifier.proofs.Limiting.{at_mapped}
+use Rattle.pb_verifier.proofs.LimitTests.{at_mapped}
 use Rattle.pb_verifier.proofs.verified.Verified.groups.Goals as goal
 
 pub returns : goal.returns

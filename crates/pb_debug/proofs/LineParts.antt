@@ -1,0 +1,364 @@
+-- Lines that come in parts.
+use Rattle.std.proofs.Common.{◌≡◌, inl, inr, ℕ, suc, ◌+◌, ◌-◌, ◌<◌, ◌≤◌, ◌++◌, eqb, Bool, true, false, cond, List, [], ◌∷◌, length, take, drop, get_or, Option, Some, None, refl, sym, ap, ◌∙◌, subst, arith, append_assoc, append-nil}
+use Rattle.std.specs.Prelude.{IfSome}
+use Rattle.std.proofs.lemmas.Bool.{cases_lt, lt-ltb}
+use Rattle.std.proofs.lemmas.List.{take_all, take-append-le, length-take-le, take-append-drop, length-drop}
+use Rattle.std.proofs.Math.Seq.{drop-cons, take-add}
+use Rattle.pb_base.specs.Device.{appended, AddsPrefix, GivesNext}
+use Rattle.pb_debug.specs.Answers.{Answers, AnswersRead}
+use Rattle.pb_debug.specs.Buffers.{kept}
+use Rattle.pb_debug.specs.Commands.{Command, command_of}
+use Rattle.pb_debug.specs.Lines.{Cut, one_line_more, cut, last_line, lines_of}
+use Rattle.pb_debug.specs.Sessions.{Session, nothing, one_more, session_bytes, SaysAll, SaysSome, IsTold, StopsAt, Leaves, Fed, FedSome}
+use Rattle.pb_debug.specs.Value.{Debugging}
+use Rattle.pb_debug.specs.declared.fault.DebugFault.{DebugFault}
+use Rattle.pb_debug.specs.declared.fault.DebugFault.TheVariants.{PastEnd, NoProcess, NoArm, BadCommand, NoMemory, Device}
+use Rattle.pb_base.proofs.DeviceLemmas.{appended-appended}
+
+-- ---- cutting
+
+-- what is cut of bytes behind those that were cut
+abbrev joined : Cut → List ℕ → Cut
+joined c bytes = record { lines = c.lines ++ (cut c.rest bytes).lines; rest = (cut c.rest bytes).rest }
+
+cut_step : (part xs ys : List ℕ) (x : ℕ) (b : Bool)
+    → cut [] (xs ++ ys) ≡ joined (cut [] xs) ys
+    → cut (part ++ x ∷ []) (xs ++ ys) ≡ joined (cut (part ++ x ∷ []) xs) ys
+    → cond b (one_line_more part (cut [] (xs ++ ys))) (cut (part ++ x ∷ []) (xs ++ ys))
+    ≡ joined (cond b (one_line_more part (cut [] xs)) (cut (part ++ x ∷ []) xs)) ys
+cut_step part xs ys x true ends goes_on = ap (one_line_more part) ends
+cut_step part xs ys x false ends goes_on = goes_on
+
+pub cut-append : (part xs ys : List ℕ) → cut part (xs ++ ys) ≡ joined (cut part xs) ys
+cut-append part [] ys = refl
+cut-append part (x ∷ xs) ys =
+    cut_step part xs ys x (eqb x 10) (cut-append [] xs ys) (cut-append (part ++ x ∷ []) xs ys)
+
+pub first_lines : (part xs ys : List ℕ) → (cut part (xs ++ ys)).lines ≡ (cut part xs).lines ++ (cut (cut part xs).rest ys).lines
+first_lines part xs ys = ap (λ (c : Cut). c.lines) (cut-append part xs ys)
+
+-- a line feed, and any other byte
+pub cut_end : (part xs : List ℕ) → cut part (xs ++ 10 ∷ []) ≡ record { lines = (cut part xs).lines ++ (cut part xs).rest ∷ []; rest = [] }
+cut_end part xs = cut-append part xs (10 ∷ [])
+
+pub cut_byte : (part xs : List ℕ) (b : ℕ) → eqb b 10 ≡ false
+    → cut part (xs ++ b ∷ []) ≡ record { lines = (cut part xs).lines; rest = (cut part xs).rest ++ b ∷ [] }
+cut_byte part xs b other =
+    let c = cut part xs in
+    let one : cut c.rest (b ∷ []) ≡ record { lines = []; rest = c.rest ++ b ∷ [] } =
+    ap (λ (t : Bool). cond t (one_line_more c.rest (cut [] [])) (cut (c.rest ++ b ∷ []) [])) other in
+    let with : List (List ℕ) → Cut = λ ls. record { lines = ls; rest = c.rest ++ b ∷ [] } in
+    let put : Cut → Cut = λ k. record { lines = c.lines ++ k.lines; rest = k.rest } in
+    cut-append part xs (b ∷ []) ∙ (ap put one ∙ ap with (append-nil c.lines))
+
+-- ---- what is kept of a line
+
+pub kept_again : (r : List ℕ) (b : ℕ) → kept (kept r ++ b ∷ []) ≡ kept (r ++ b ∷ [])
+kept_again r b = elim (cases_lt (length r) 257) [
+  | inl lt ↦ ap (λ (xs : List ℕ). kept (xs ++ b ∷ [])) (take_all 257 r (omega (arith, lt)))
+  | inr le ↦
+      let size : length (kept r) ≡ 257 = length-take-le 257 r le in
+      take-append-le 257 (kept r) (b ∷ []) (omega (arith, size))
+      ∙ (take_all 257 (kept r) (omega (arith, size)) ∙ sym (take-append-le 257 r (b ∷ []) le))
+]
+
+too_long : (line : List ℕ) → 256 < length line → command_of line ≡ None
+unfolding command_of
+too_long line long = rw (lt-ltb 256 (length line) long) refl
+
+-- what is kept says the same
+pub kept_says : (line : List ℕ) → command_of (kept line) ≡ command_of line
+kept_says line = elim (cases_lt (length line) 257) [
+  | inl lt ↦ ap command_of (take_all 257 line (omega (arith, lt)))
+  | inr le ↦
+      let size : length (kept line) ≡ 257 = length-take-le 257 line le in
+      too_long (kept line) (omega (arith, size)) ∙ sym (too_long line (omega (arith, le)))
+]
+
+pub kept_answers : (d : Debugging) (line said : List ℕ) (next : Debugging) → Answers d (kept line) said next → Answers d line said next
+kept_answers d line said next h = subst (λ (c : Option Command). AnswersRead d c said next) (kept_says line) h
+
+-- nothing is kept only of an empty line
+pub kept_nothing : (r : List ℕ) → length (kept r) ≡ 0 → r ≡ []
+kept_nothing [] e = refl
+kept_nothing (b ∷ bs) e = absurd (omega arith)
+
+-- ---- outputs
+
+pub appended_none : (old : Option (List ℕ)) → appended old [] ≡ old
+appended_none None = refl
+appended_none (Some held) = ap Some (append-nil held)
+
+pub prefix_more : (old mid new : Option (List ℕ)) (a b : List ℕ) → mid ≡ appended old a → AddsPrefix mid new b → AddsPrefix old new (a ++ b)
+prefix_more old mid new a b e (done, left, parts, written) = (
+  a ++ done,
+  left,
+  ap (λ (t : List ℕ). a ++ t) parts ∙ sym (append_assoc a done left),
+  written ∙ (ap (λ o. appended o done) e ∙ appended-appended old a done),
+)
+
+pub whole_prefix : (old new : Option (List ℕ)) (a : List ℕ) → new ≡ appended old a → AddsPrefix old new a
+whole_prefix old new a e = (a, [], sym (append-nil a), e)
+
+-- what is left of a text behind what is written
+pub leaves_more : (fault : DebugFault) (old mid new : Option (List ℕ)) (a b : List ℕ) → mid ≡ appended old a → Leaves
+    fault mid new b → Leaves fault old new (a ++ b)
+leaves_more PastEnd old mid new a b e h = elim h [ ]
+leaves_more NoProcess old mid new a b e h = elim h [ ]
+leaves_more NoArm old mid new a b e h = elim h [ ]
+leaves_more BadCommand old mid new a b e h = elim h [ ]
+leaves_more NoMemory old mid new a b e h = h ∙ (ap (λ o. appended o b) e ∙ appended-appended old a b)
+leaves_more Device old mid new a b e h = prefix_more old mid new a b e h
+
+-- ---- sessions
+
+pub sessions : (d m n : Debugging) (l1 l2 : List (List ℕ)) (t1 t2 : List ℕ) → Session d l1 t1 m → Session m l2 t2 n
+    → Session d (l1 ++ l2) (t1 ++ t2) n
+sessions d m n l1 l2 t1 t2 first nothing =
+    subst (λ (t : List ℕ). Session d (l1 ++ []) t m) (sym (append-nil t1))
+    (subst (λ (ls : List (List ℕ)). Session d ls t1 m) (sym (append-nil l1)) first)
+sessions d m n l1 l2 t1 t2 first (one_more lines text mid line said next before answers) =
+    subst (λ (t : List ℕ). Session d (l1 ++ (lines ++ line ∷ [])) t next) (append_assoc t1 text said)
+    (subst (λ (ls : List (List ℕ)). Session d ls ((t1 ++ text) ++ said) next) (append_assoc l1 lines (line ∷ []))
+    (one_more (l1 ++ lines) (t1 ++ text) mid line said next (sessions d m mid l1 lines t1 text first before) answers))
+
+pub fed_nothing : (d : Debugging) (part line : List ℕ) (old : Option (List ℕ)) → line ≡ kept part → Fed d part [] old old line d
+fed_nothing d part line old e = record { text = []; session = nothing; written = sym (appended_none old); last = e }
+
+module _ (d m next : Debugging) (part xs : List ℕ) (old mid new : Option (List ℕ)) (line : List ℕ) (fed : Fed d part xs old mid line m) where
+  -- a line feed: the line is answered
+  pub fed_line : IsTold m line mid new next → Fed d part (xs ++ 10 ∷ []) old new [] next
+  fed_line (said, answers, written) =
+      let c = cut part xs in
+      let says = kept_answers m c.rest said next (subst (λ (l : List ℕ). Answers m l said next) fed.last answers) in
+      record {
+        text = fed.text ++ said;
+        session =
+            subst (λ (k : Cut). Session d k.lines (fed.text ++ said) next) (sym (cut_end part xs))
+            (one_more c.lines fed.text m c.rest said next fed.session says);
+        written = written ∙ (ap (λ o. appended o said) fed.written ∙ appended-appended old fed.text said);
+        last = ap (λ (k : Cut). kept k.rest) (sym (cut_end part xs));
+      }
+
+  -- any other byte is kept
+  pub fed_byte : (b : ℕ) (line' : List ℕ) → eqb b 10 ≡ false → line' ≡ kept (line ++ b ∷ []) → Fed d part (xs ++ b ∷ []) old mid line' m
+  fed_byte b line' other e =
+      let c = cut part xs in
+      record {
+        text = fed.text;
+        session = subst (λ (k : Cut). Session d k.lines fed.text m) (sym (cut_byte part xs b other)) fed.session;
+        written = fed.written;
+        last =
+            e ∙ (ap (λ (l : List ℕ). kept (l ++ b ∷ [])) fed.last
+            ∙ (kept_again c.rest b ∙ ap (λ (k : Cut). kept k.rest) (sym (cut_byte part xs b other))));
+      }
+
+  -- what was fed are some first lines of more
+  pub fed_some : (fault : DebugFault) (ys : List ℕ) → Leaves fault old mid fed.text → FedSome fault d part (xs ++ ys) old mid m
+  fed_some fault ys leaves = record {
+    lines = (cut part xs).lines;
+    later = (cut (cut part xs).rest ys).lines;
+    text = fed.text;
+    of = first_lines part xs ys;
+    session = fed.session;
+    written = leaves;
+  }
+
+  -- a read failed behind them
+  pub fed_broken : (ys : List ℕ) → FedSome Device d part (xs ++ ys) old mid m
+  fed_broken ys = fed_some Device ys (whole_prefix old mid fed.text fed.written)
+
+  -- it stops at a line feed
+  pub fed_stop : (ys : List ℕ) (fault : DebugFault) → StopsAt fault m line mid new next → FedSome fault d part (xs ++ 10 ∷ ys) old new next
+  fed_stop ys PastEnd stop = elim stop [ ]
+  fed_stop ys NoProcess stop = elim stop [ ]
+  fed_stop ys NoArm stop = elim stop [ ]
+  fed_stop ys BadCommand stop = elim stop [ ]
+  fed_stop ys NoMemory (same, none) =
+      let Some' : Option (List ℕ) → Debugging → Type 0 = λ o e. FedSome NoMemory d part (xs ++ 10 ∷ ys) old o e in
+      subst (λ o. Some' o next) (sym none) (subst (λ e. Some' mid e) (sym same) (fed_some NoMemory (10 ∷ ys) fed.written))
+  fed_stop ys Device (said, answers, written) =
+      let c = cut part xs in
+      let says = kept_answers m c.rest said next (subst (λ (l : List ℕ). Answers m l said next) fed.last answers) in
+      let bytes : (xs ++ 10 ∷ []) ++ ys ≡ xs ++ 10 ∷ ys = append_assoc xs (10 ∷ []) ys in
+      let lines = first_lines part (xs ++ 10 ∷ []) ys in
+      let ends = cut_end part xs in
+      record {
+        lines = c.lines ++ c.rest ∷ [];
+        later = (cut [] ys).lines;
+        text = fed.text ++ said;
+        of =
+            ap (λ (bs : List ℕ). (cut part bs).lines) (sym bytes)
+            ∙ (lines ∙ ap (λ (k : Cut). k.lines ++ (cut k.rest ys).lines) ends);
+        session = one_more c.lines fed.text m c.rest said next fed.session says;
+        written = prefix_more old mid new fed.text said fed.written written;
+      }
+
+  -- more bytes
+  pub fed_fed : (ys line' : List ℕ) → Fed m (cut part xs).rest ys mid new line' next → Fed d part (xs ++ ys) old new line' next
+  fed_fed ys line' more = record {
+    text = fed.text ++ more.text;
+    session =
+        subst (λ (ls : List (List ℕ)). Session d ls (fed.text ++ more.text) next) (sym (first_lines part xs ys))
+        (sessions d m next _ _ fed.text more.text fed.session more.session);
+    written = more.written ∙ (ap (λ o. appended o more.text) fed.written ∙ appended-appended old fed.text more.text);
+    last = more.last ∙ ap (λ (k : Cut). kept k.rest) (sym (cut-append part xs ys));
+  }
+
+  pub fed_then_some : (fault : DebugFault) (ys : List ℕ) → FedSome fault m (cut part xs).rest ys mid new next → FedSome fault d part (xs ++ ys) old new next
+  fed_then_some fault ys more = record {
+    lines = (cut part xs).lines ++ more.lines;
+    later = more.later;
+    text = fed.text ++ more.text;
+    of =
+        first_lines part xs ys
+        ∙ (ap (λ (ls : List (List ℕ)). (cut part xs).lines ++ ls) more.of
+        ∙ sym (append_assoc (cut part xs).lines more.lines more.later));
+    session = sessions d m next _ _ fed.text more.text fed.session more.session;
+    written = leaves_more fault old mid new fed.text more.text fed.written more.written;
+  }
+
+-- so it is of more bytes still
+pub some_of_more : (fault : DebugFault) (d next : Debugging) (part xs ys : List ℕ) (old new : Option (List ℕ)) → FedSome fault d part xs old new next
+    → FedSome fault d part (xs ++ ys) old new next
+some_of_more fault d next part xs ys old new some = record {
+  lines = some.lines;
+  later = some.later ++ (cut (cut part xs).rest ys).lines;
+  text = some.text;
+  of =
+      first_lines part xs ys
+      ∙ (ap (λ (ls : List (List ℕ)). ls ++ (cut (cut part xs).rest ys).lines) some.of
+      ∙ append_assoc some.lines some.later (cut (cut part xs).rest ys).lines);
+  session = some.session;
+  written = some.written;
+}
+
+-- ---- all lines of an input
+
+pub says_some : (fault : DebugFault) (d next : Debugging) (bytes : List ℕ) (old new : Option (List ℕ)) → FedSome fault d [] (session_bytes bytes) old new next
+    → SaysSome fault d bytes old new next
+says_some fault d next bytes old new some =
+    let last = last_line (cut [] (session_bytes bytes)).rest in
+    record {
+      lines = some.lines;
+      later = some.later ++ last;
+      text = some.text;
+      of = ap (λ (ls : List (List ℕ)). ls ++ last) some.of ∙ append_assoc some.lines some.later last;
+      session = some.session;
+      written = some.written;
+    }
+
+module _ (d m : Debugging) (bytes : List ℕ) (old mid : Option (List ℕ)) (line : List ℕ) (fed : Fed d [] (session_bytes bytes) old mid line m) where
+  abbrev whole : Cut
+  whole = cut [] (session_bytes bytes)
+
+  -- nothing is left behind the last line feed
+  pub says_all : length line ≡ 0 → SaysAll d bytes old mid m
+  says_all empty =
+      let none : whole.rest ≡ [] = kept_nothing whole.rest (sym (ap length fed.last) ∙ empty) in
+      let lines : whole.lines ≡ lines_of (session_bytes bytes) =
+      sym (append-nil whole.lines) ∙ ap (λ (r : List ℕ). whole.lines ++ last_line r) (sym none) in
+      record {
+        text = fed.text;
+        session = subst (λ (ls : List (List ℕ)). Session d ls fed.text m) lines fed.session;
+        written = fed.written;
+      }
+
+  last_is : (r : List ℕ) → 0 < length r → last_line r ≡ r ∷ []
+  last_is [] some = absurd (omega arith)
+  last_is (b ∷ bs) some = refl
+
+  some_left : 0 < length line → 0 < length whole.rest
+  some_left some = elim (cases_lt 0 (length whole.rest)) [
+    | inl lt ↦ lt
+    | inr le ↦ (
+        let short : kept whole.rest ≡ whole.rest = take_all 257 whole.rest (omega (arith, le)) in
+        let size : length line ≡ length whole.rest = ap length (fed.last ∙ short) in
+        omega (arith, size, some, le))
+  ]
+
+  -- the last line has no line feed
+  pub says_last : (next : Debugging) (new : Option (List ℕ)) → 0 < length line → IsTold m line mid new next → SaysAll d bytes old new next
+  says_last next new some (said, answers, written) =
+      let says = kept_answers m whole.rest said next (subst (λ (l : List ℕ). Answers m l said next) fed.last answers) in
+      let lines : whole.lines ++ whole.rest ∷ [] ≡ lines_of (session_bytes bytes) =
+      ap (λ (ls : List (List ℕ)). whole.lines ++ ls) (sym (last_is whole.rest (some_left some))) in
+      record {
+        text = fed.text ++ said;
+        session =
+            subst (λ (ls : List (List ℕ)). Session d ls (fed.text ++ said) next) lines
+            (one_more whole.lines fed.text m whole.rest said next fed.session says);
+        written = written ∙ (ap (λ o. appended o said) fed.written ∙ appended-appended old fed.text said);
+      }
+
+  -- it stops there
+  pub says_stop : (next : Debugging) (new : Option (List ℕ)) (fault : DebugFault) → 0 < length line → StopsAt fault m line mid new next
+      → SaysSome fault d bytes old new next
+  says_stop next new PastEnd some stop = elim stop [ ]
+  says_stop next new NoProcess some stop = elim stop [ ]
+  says_stop next new NoArm some stop = elim stop [ ]
+  says_stop next new BadCommand some stop = elim stop [ ]
+  says_stop next new NoMemory some (same, none) =
+      let here : SaysSome NoMemory d bytes old mid m = record {
+        lines = whole.lines;
+        later = last_line whole.rest;
+        text = fed.text;
+        of = refl;
+        session = fed.session;
+        written = fed.written;
+      } in
+      subst (λ o. SaysSome NoMemory d bytes old o next) (sym none) (subst (λ e. SaysSome NoMemory d bytes old mid e) (sym same) here)
+  says_stop next new Device some (said, answers, written) =
+      let says = kept_answers m whole.rest said next (subst (λ (l : List ℕ). Answers m l said next) fed.last answers) in
+      let lines : lines_of (session_bytes bytes) ≡ (whole.lines ++ whole.rest ∷ []) ++ [] =
+      ap (λ (ls : List (List ℕ)). whole.lines ++ ls) (last_is whole.rest (some_left some)) ∙ sym (append-nil (whole.lines ++ whole.rest ∷ [])) in
+      record {
+        lines = whole.lines ++ whole.rest ∷ [];
+        later = [];
+        text = fed.text ++ said;
+        of = lines;
+        session = one_more whole.lines fed.text m whole.rest said next fed.session says;
+        written = prefix_more old mid new fed.text said fed.written written;
+      }
+
+pub fed_as : (d : Debugging) (part : List ℕ) (old : Option (List ℕ)) (next next' : Debugging) (xs xs' : List ℕ) (new
+    new' : Option (List ℕ)) (line line' : List ℕ)
+    → Fed d part xs old new line next → xs ≡ xs' → new ≡ new' → line ≡ line' → next ≡ next' → Fed d part xs' old new' line' next'
+fed_as d part old next next' xs xs' new new' line line' fed a b c e =
+    subst (λ n. Fed d part xs' old new' line' n) e (subst (λ l. Fed d part xs' old new' l next) c
+    (subst (λ o. Fed d part xs' old o line next) b (subst (λ x. Fed d part x old new line next) a fed)))
+
+-- bytes, parted at one of them
+pub split_at : (bytes : List ℕ) (i b : ℕ) → i < length bytes → get_or bytes i 0 ≡ b → take i bytes ++ b ∷ drop (i + 1) bytes ≡ bytes
+split_at bytes i b lt e =
+    let n : i + 1 ≡ suc i = omega arith in
+    ap (λ c. take i bytes ++ c ∷ drop (i + 1) bytes) (sym e)
+    ∙ (ap (λ k. take i bytes ++ get_or bytes i 0 ∷ drop k bytes) n
+    ∙ (ap (λ (xs : List ℕ). take i bytes ++ xs) (sym (drop-cons bytes i 0 lt)) ∙ take-append-drop i bytes))
+
+-- ---- reading
+
+pub if_known : (o : Option (List ℕ)) (P : List ℕ → Type 0) → ((bytes : List ℕ) → o ≡ Some bytes → P bytes) → IfSome o P
+if_known None P h = tt
+if_known (Some bytes) P h = h bytes refl
+
+-- what was read follows on what was read before
+pub bytes_read : (bytes buf after : List ℕ) (k n : ℕ) (rest : Option (List ℕ)) → rest ≡ Some (drop k bytes) → GivesNext rest buf n → n ≤ length buf
+    → take k bytes ++ take n (buf ++ after) ≡ take (k + n) bytes
+bytes_read bytes buf after k n rest e given le =
+    let same : take n (drop k bytes) ≡ take n buf = subst (λ o. GivesNext o buf n) e given in
+    ap (λ (xs : List ℕ). take k bytes ++ xs) (take-append-le n buf after le ∙ sym same) ∙ sym (take-add k n bytes)
+
+-- the bytes of a session begin with those that were read
+pub session_more : (bytes : List ℕ) (k : ℕ) → k ≤ 4194304 → (ys : List ℕ) × (take k bytes ++ ys ≡ session_bytes bytes)
+session_more bytes k le =
+    let whole : k + (4194304 - k) ≡ 4194304 = omega arith in
+    (take (4194304 - k) (drop k bytes), sym (take-add k (4194304 - k) bytes) ∙ ap (λ n. take n bytes) whole)
+
+-- where nothing is left, all was read
+pub bytes_end : (bytes : List ℕ) (k : ℕ) → drop k bytes ≡ [] → k ≤ 4194304 → take k bytes ≡ session_bytes bytes
+bytes_end bytes k none le =
+    let size = length-drop k bytes in
+    let zero' : length (drop k bytes) ≡ 0 = ap (λ (xs : List ℕ). length xs) none in
+    let short : length bytes ≤ k = omega (arith, size, zero') in
+    take_all k bytes short ∙ sym (take_all 4194304 bytes (omega (arith, short, le)))

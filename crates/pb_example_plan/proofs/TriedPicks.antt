@@ -1,0 +1,125 @@
+-- Picks that are tried one after another.
+use Rattle.std.proofs.Common.{◌≡◌, ℕ, ◌+◌, ◌<◌, ◌≤◌, List, [], length, get_or, Option, Some, None, option_and_then, option_map, refl, sym, ap, ◌∙◌, subst, inl, inr, arith}
+use Rattle.std.proofs.lemmas.Bool.{cases_lt}
+use Rattle.std.proofs.lemmas.List.{get_or_past}
+use Rattle.std.proofs.lemmas.Option.{slice_get_past, slice_get_within, slice_get-get_or}
+use Rattle.std.specs.Prelude.{slice_get}
+use Rattle.pb_base.specs.declared.pick.Pick.{Pick}
+use Rattle.pb_base.specs.declared.step.Step.TheVariants.{NotEnabled}
+use Rattle.pb_base.specs.Steppers.{State, move_of, moved}
+use Rattle.pb_code.specs.Code.{ProcessCode, CodeProcess, Idle, thread, step_thread, code_step}
+use Rattle.pb_code.specs.Reached.{CodeReaches, CodeStays}
+use Rattle.pb_code.specs.Whole.{Code}
+use Rattle.pb_machine.specs.Views.{machine_view, IsMachineOf}
+use Rattle.pb_machine.specs.declared.machine.Machine.{Machine}
+use Rattle.pb_machine.proofs.Going.{goes_on}
+use Rattle.pb_verifier.proofs.Banking.{kept_reached}
+use Rattle.pb_verifier.specs.declared.fault.VerifyFault.TheVariants.{OutOfLimits}
+use Rattle.pb_verifier.specs.Verified.{VerifiedCode, IsVerified}
+use Rattle.pb_example_plan.specs.Schedule.{MakesSome, MakesSomeOf}
+use Rattle.pb_verifier.proofs.Requests.{same_pick}
+
+-- ---- picks of what is not there
+
+stays_without_move : (code : Code) (s : State CodeProcess) (pick : Pick) → move_of (code_step code.processes) s pick ≡ None → CodeStays code s pick
+stays_without_move code s pick none move is granted = let both : Some move ≡ None = sym is ∙ none in cc
+
+no_step_beyond : (codes : List ProcessCode) (p : ℕ) (process : CodeProcess) (a : ℕ) → length process.threads ≤ a
+    → code_step codes p process a ≡ None
+no_step_beyond codes p process a long = go (slice_get codes p)
+  where
+    go : (code : Option ProcessCode) → option_and_then (λ c. step_thread c process a (thread process.threads a)) code ≡ None
+    go None = refl
+    go (Some c) = ap (step_thread c process a) (get_or_past process.threads a Idle long)
+
+no_such_arm : (code : Code) (s : State CodeProcess) (pick : Pick) (process : CodeProcess) → slice_get s.processes pick.process ≡ Some process
+    → length process.threads ≤ pick.arm → CodeStays code s pick
+no_such_arm code s pick process there long =
+    stays_without_move code s pick (
+    ap (option_and_then (λ p. option_map (moved s pick) (code_step code.processes pick.process p pick.arm))) there
+    ∙ ap (option_map (moved s pick)) (no_step_beyond code.processes pick.process process pick.arm long)
+    )
+
+no_such_process : (code : Code) (s : State CodeProcess) (pick : Pick) → length s.processes ≤ pick.process → CodeStays code s pick
+no_such_process code s pick long =
+    stays_without_move code s pick
+    (ap (option_and_then (λ p. option_map (moved s pick) (code_step code.processes pick.process p pick.arm))) (slice_get_past s.processes pick.process long))
+
+-- ---- those that were tried
+
+-- no arm of this job below this number is enabled
+abbrev pub NoArmBelow : Code → State CodeProcess → (job arm : ℕ) → Type 0
+NoArmBelow code s job arm = (pick : Pick) → pick.process ≡ job → pick.arm < arm → CodeStays code s pick
+
+-- no arm of a job before this one is enabled
+abbrev pub NoJobBelow : Code → State CodeProcess → (job : ℕ) → Type 0
+NoJobBelow code s job = (pick : Pick) → pick.process < job → CodeStays code s pick
+
+pub one_more_arm : (code : Code) (s : State CodeProcess) (p n : ℕ) (pick : Pick) → NoArmBelow code s p n → pick.process ≡ p → pick.arm ≡ n
+    → CodeStays code s pick → NoArmBelow code s p (n + 1)
+one_more_arm code s p n pick below of at stays other other_of less = elim (cases_lt other.arm n) [
+  | inl before ↦ below other other_of before
+  | inr not_before ↦
+      let arm : other.arm ≡ pick.arm = omega (arith, at, not_before, less) in
+      let same : other ≡ pick = same_pick other pick (other_of ∙ sym of) arm in
+      subst (λ (o : Pick). CodeStays code s o) (sym same) stays
+]
+
+pub one_more_job : (code : Code) (s : State CodeProcess) (n : ℕ) → NoJobBelow code s n
+    → ((pick : Pick) → pick.process ≡ n → CodeStays code s pick) → NoJobBelow code s (n + 1)
+one_more_job code s n below none pick less = elim (cases_lt pick.process n) [
+  | inl before ↦ below pick before
+  | inr not_before ↦ none pick (omega (arith, not_before, less))
+]
+
+-- ---- when all were tried
+
+-- no arm of a job is enabled
+pub none_of : (code : Code) (s now : State CodeProcess) (p n : ℕ) (process : CodeProcess) → NoArmBelow code s p n → now ≡ s
+    → slice_get s.processes p ≡ Some process → length process.threads ≤ n → MakesSomeOf code s p NotEnabled now
+none_of code s now p n process below same there long = (
+  λ pick of. elim (cases_lt pick.arm n) [
+    | inl before ↦ below pick of before
+    | inr not_before ↦ no_such_arm code s pick process (subst (λ (k : ℕ). slice_get s.processes k ≡ Some process) (sym
+        of) there) (omega (arith, long, not_before))
+  ],
+  same,
+)
+
+-- no pick is enabled, so every job has ended or faulted
+pub none_at_all : (v : VerifiedCode) (s now : State CodeProcess) (n : ℕ) → IsVerified v → CodeReaches v.code s → NoJobBelow v.code s n
+    → now ≡ s → length s.processes ≤ n → MakesSome v.code s NotEnabled now
+none_at_all v s now n verified reached below same long = (
+  elim (goes_on v verified s reached) [
+    | inl done ↦ done
+    | inr (pick, move, is, granted) ↦ absurd (stays pick move is granted)
+  ],
+  same,
+)
+  where
+    stays : (pick : Pick) → CodeStays v.code s pick
+    stays pick = elim (cases_lt pick.process n) [
+      | inl before ↦ below pick before
+      | inr not_before ↦ no_such_process v.code s pick (omega (arith, long, not_before))
+    ]
+
+-- ---- numbers of arms and jobs fit a byte
+
+module _ (v : VerifiedCode) (verified : IsVerified v) (m : Machine) (of : IsMachineOf v m) where
+  pub few_processes : length (machine_view m).processes ≤ 64
+  few_processes =
+      let count = (kept_reached v.code verified.annotated (machine_view m) of.reached).good.count in
+      let few = (verified.annotated OutOfLimits).some_processes.1 in
+      omega (arith, count, few)
+
+  pub few_arms : (p : ℕ) (process : CodeProcess) → slice_get (machine_view m).processes p ≡ Some process → length process.threads ≤ 64
+  few_arms p process there =
+      let good = (kept_reached v.code verified.annotated (machine_view m) of.reached).good in
+      let count = good.count in
+      let within = slice_get_within (machine_view m).processes p process there in
+      let none : ProcessCode = record { integers = 0; entries = []; instrs = [] } in
+      let code : ProcessCode = get_or v.code.processes p none in
+      let at : slice_get v.code.processes p ≡ Some code = slice_get-get_or v.code.processes p none (omega (arith, count, within)) in
+      let threads = (good.fit p code process at there).threads in
+      let few = ((verified.annotated OutOfLimits).each p code at).some_arms.1 in
+      omega (arith, threads, few)
