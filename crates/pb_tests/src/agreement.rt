@@ -10,15 +10,15 @@ mod states;
 mod tally;
 mod texts;
 
+ghost use Rattle.pb_names.specs.View.{resolved_view};
+ghost use Rattle.pb_rewrite.specs.Sources.{Fits};
+
 use crate::agreement::schedules::follow;
-use crate::agreement::sides::program_of;
+use crate::agreement::sides::{Program, program_of};
 use crate::agreement::tally::Tally;
 use crate::agreement::texts::{LONG, PROCESSES};
-use crate::texts::{EXAMPLES, PROGRAMS};
-use pb_base::NoMemory;
+use crate::texts::{EXAMPLES, PROGRAMS, repeated};
 use std::alloc::Global;
-use std::process::Abort;
-use std::test::Fail;
 
 /// How many schedules each program is stepped under.
 const SCHEDULES: u64 = 300;
@@ -28,7 +28,7 @@ const FEW_SCHEDULES: u64 = 20;
 
 /// Returns the text with a line feed in place of each space but those of comments, so that no two statements
 /// share a line.
-fn spread(alloc: Global, text: &[u8]) -> Result<Vec<u8>, NoMemory> {
+fn spread(alloc: Global, text: &[u8]) -> Option<Vec<u8>> {
     let mut spread = Vec::new(alloc);
     let mut in_comment = false;
     for byte in text {
@@ -38,63 +38,75 @@ fn spread(alloc: Global, text: &[u8]) -> Result<Vec<u8>, NoMemory> {
             _ => in_comment,
         };
         let space = *byte == b' ' && !in_comment;
-        spread.push(if space { b'\n' } else { *byte })?;
+        spread.push(if space { b'\n' } else { *byte }).ok()?;
     }
-    Ok(spread)
+    Some(spread)
 }
 
-/// Steps a program under `schedules` schedules.
-fn agree(
-    rt: &(impl Abort + AllocGlobal),
-    number: usize,
-    text: &[u8],
-    schedules: u64,
-    tally: &mut Tally,
-) -> Result<(), Fail> {
-    let alloc = rt.alloc();
-    let text = spread(alloc, text)?;
-    let program = program_of(alloc, text.as_slice())?;
+/// Returns whether the sides agree on a program under `schedules` schedules.
+fn agree_under(alloc: Global, program: &Program, schedules: u64, tally: &mut Tally) -> bool
+    requires { Fits (resolved_view program.now.analysis.program) program.now.analysis.claims }
+{
     for schedule in 0..schedules {
-        let parting = follow(alloc, &program, schedule, tally)?;
-        assert_eq!(rt; parting, None, "program {number}, schedule {schedule}");
+        match follow(alloc, program, schedule, tally) {
+            Ok(None) => {}
+            _ => return false,
+        }
     }
-    Ok(())
+    true
+}
+
+/// Steps a program under `schedules` schedules. Returns whether the sides agree.
+fn agree(alloc: Global, text: &[u8], schedules: u64, tally: &mut Tally) -> bool {
+    let Some(text) = spread(alloc, text) else {
+        return false;
+    };
+    match program_of(alloc, text.as_slice()) {
+        Ok(program) => agree_under(alloc, &program, schedules, tally),
+        Err(_) => false,
+    }
+}
+
+/// Steps a program of a head, a piece again and again, and a tail under few schedules.
+fn agree_on_long(
+    alloc: Global,
+    head: &[u8],
+    piece: &[u8],
+    times: usize,
+    tail: &[u8],
+    tally: &mut Tally,
+) -> bool {
+    match repeated(alloc, head, piece, times, tail) {
+        Ok(text) => agree(alloc, text.as_slice(), FEW_SCHEDULES, tally),
+        Err(_) => false,
+    }
 }
 
 #[test]
-fn both_sides_agree(rt: HostRuntime) -> Result<(), Fail> {
+fn both_sides_agree(rt: HostRuntime) {
     let mut tally = Tally::new();
     for (number, text) in EXAMPLES.iter().enumerate() {
-        agree(&rt, number, text, SCHEDULES, &mut tally)?;
+        assert!(rt;
+            agree(rt.alloc(), text, SCHEDULES, &mut tally),
+            "example {number}"
+        );
     }
     for (number, text) in PROGRAMS.iter().enumerate() {
-        agree(&rt, EXAMPLES.len() + number, text, SCHEDULES, &mut tally)?;
+        assert!(rt;
+            agree(rt.alloc(), text, SCHEDULES, &mut tally),
+            "program {number}"
+        );
     }
-    assert!(rt; tally.skipped > 1_000, "{tally:?}");
-    assert!(rt; tally.silent > 1_000, "{tally:?}");
-    assert!(rt; tally.not_enabled > 1_000, "{tally:?}");
-    assert!(rt; tally.granted > 1_000, "{tally:?}");
-    assert!(rt; tally.returned > 1_000, "{tally:?}");
-    assert!(rt; tally.printed > 1_000, "{tally:?}");
-    assert!(rt; tally.faulted > 1_000, "{tally:?}");
-    assert!(rt; tally.finished > 1_000, "{tally:?}");
-    Ok(())
+    assert!(rt; tally.has_more_than(1_000));
 }
 
 #[test]
-fn both_sides_agree_on_long_programs(rt: HostRuntime) -> Result<(), Fail> {
-    let alloc = rt.alloc();
+fn both_sides_agree_on_long_programs(rt: HostRuntime) {
     let mut tally = Tally::new();
-    for (number, (head, piece, times, tail)) in LONG.iter().enumerate() {
-        let mut text = Vec::from_slice(alloc, head)?;
-        for _ in 0..*times {
-            text.extend_from_slice(piece)?;
-        }
-        text.extend_from_slice(tail)?;
-        agree(&rt, number, text.as_slice(), FEW_SCHEDULES, &mut tally)?;
+    for (head, piece, times, tail) in &LONG {
+        assert!(rt; agree_on_long(rt.alloc(), *head, *piece, *times, *tail, &mut tally));
     }
-    agree(&rt, LONG.len(), PROCESSES, FEW_SCHEDULES, &mut tally)?;
+    assert!(rt; agree(rt.alloc(), PROCESSES, FEW_SCHEDULES, &mut tally));
     // All but the long row of prints have come to their ends under each schedule.
-    assert_eq!(rt; tally.finished, FEW_SCHEDULES * 66);
-    Ok(())
+    assert!(rt; tally.finished == FEW_SCHEDULES * 66);
 }

@@ -41,7 +41,7 @@ fn customers_are_granted_while_all_can_finish(rt: HostRuntime) {
     let Some(mut banker) = customers(rt.alloc()) else {
         panic!(rt; "out of memory");
     };
-    for (p, amount, answer) in [
+    for (p, amount, answer) in &[
         (0, 4, (Answer::Granted, 3)),
         (1, 2, (Answer::Granted, 3)),
         (2, 1, (Answer::Granted, 6)),
@@ -49,7 +49,7 @@ fn customers_are_granted_while_all_can_finish(rt: HostRuntime) {
         (1, 5, (Answer::OverClaim, 0)),
     ] {
         assert!(rt;
-            asked(&mut banker, p, 0, amount) == Some(answer),
+            asked(&mut banker, *p, 0, *amount) == Some(*answer),
             "{p} asks for {amount}"
         );
     }
@@ -78,15 +78,20 @@ fn has_rest(alloc: Global, banker: &Banker, asking: (usize, u8), wanted: &[u8]) 
     }
 }
 
+/// Returns whether nobody could finish if the second customer had one more than this.
+fn could_not_finish(alloc: Global, banker: &mut Banker) -> bool {
+    if !is_granted(banker, 0, 0, 4) || !is_granted(banker, 1, 0, 2) {
+        return false;
+    }
+    is_granted(banker, 2, 0, 1) && has_rest(alloc, banker, (1, 0), &[0, 1, 2])
+}
+
 #[test]
 fn nobody_could_finish_after_one_more(rt: HostRuntime) {
     let Some(mut banker) = customers(rt.alloc()) else {
         panic!(rt; "out of memory");
     };
-    assert!(rt; is_granted(&mut banker, 0, 0, 4));
-    assert!(rt; is_granted(&mut banker, 1, 0, 2));
-    assert!(rt; is_granted(&mut banker, 2, 0, 1));
-    assert!(rt; has_rest(rt.alloc(), &banker, (1, 0), &[0, 1, 2]));
+    assert!(rt; could_not_finish(rt.alloc(), &mut banker));
 }
 
 /// Returns two processes that claim all of both resources.
@@ -100,19 +105,24 @@ fn pair_of_claims(alloc: Global, amounts: [u32; 2]) -> Option<Banker> {
     Banker::new(alloc, &capital, &claims).ok()
 }
 
+/// Returns whether the second of two crossed requests waits until the first process has given all back.
+fn second_waits(alloc: Global, banker: &mut Banker) -> bool {
+    if !is_granted(banker, 0, 0, 1) || is_granted(banker, 1, 1, 1) {
+        return false;
+    }
+    if !has_rest(alloc, banker, (1, 1), &[0, 1]) || banker.processes() == 0 {
+        return false;
+    }
+    banker.drop_all(0);
+    is_granted(banker, 1, 1, 1) && has_order(alloc, banker, &[1, 0])
+}
+
 #[test]
 fn crossed_requests_wait(rt: HostRuntime) {
     let Some(mut banker) = pair_of_claims(rt.alloc(), [1, 1]) else {
         panic!(rt; "out of memory");
     };
-    assert!(rt; is_granted(&mut banker, 0, 0, 1));
-    assert!(rt; !is_granted(&mut banker, 1, 1, 1));
-    assert!(rt; has_rest(rt.alloc(), &banker, (1, 1), &[0, 1]));
-    if banker.processes() > 0 {
-        banker.drop_all(0);
-    }
-    assert!(rt; is_granted(&mut banker, 1, 1, 1));
-    assert!(rt; has_order(rt.alloc(), &banker, &[1, 0]));
+    assert!(rt; second_waits(rt.alloc(), &mut banker));
 }
 
 /// Returns whether a request for one of the first resource and two of the second is granted.
@@ -136,14 +146,19 @@ fn standing(banker: &Banker, p: usize, r: usize) -> Option<(u32, u32)> {
     Some((banker.loan(p, r), banker.cash(r)))
 }
 
+/// Returns whether the second process is lent nothing if it asks for more than there is of one of two.
+fn none_is_lent(banker: &mut Banker) -> bool {
+    is_granted(banker, 0, 1, 1)
+        && are_both_granted(banker, 1) == Some(false)
+        && standing(banker, 1, 0) == Some((0, 1))
+}
+
 #[test]
 fn all_pairs_or_none(rt: HostRuntime) {
     let Some(mut banker) = pair_of_claims(rt.alloc(), [1, 2]) else {
         panic!(rt; "out of memory");
     };
-    assert!(rt; is_granted(&mut banker, 0, 1, 1));
-    assert!(rt; are_both_granted(&mut banker, 1) == Some(false));
-    assert!(rt; standing(&banker, 1, 0) == Some((0, 1)));
+    assert!(rt; none_is_lent(&mut banker));
 }
 
 /// Gives back so much of a resource, if so much is lent.
@@ -159,14 +174,23 @@ fn is_given_back(banker: &mut Banker, p: usize, r: u8, amount: u32) -> bool {
     true
 }
 
+/// Returns whether a part of what was lent is given back.
+fn part_is_given_back(banker: &mut Banker) -> bool {
+    is_granted(banker, 0, 1, 2)
+        && is_given_back(banker, 0, 1, 1)
+        && standing(banker, 0, 1) == Some((1, 1))
+}
+
+/// Returns whether a copy keeps what there was before a part of what was lent is given back.
+fn copy_keeps(alloc: Global, banker: &mut Banker) -> Option<bool> {
+    let fresh = banker.copy(alloc).ok()?;
+    Some(part_is_given_back(banker) && standing(&fresh, 0, 1) == Some((0, 2)))
+}
+
 #[test]
 fn copies_keep_what_was_given_back(rt: HostRuntime) {
     let Some(mut banker) = pair_of_claims(rt.alloc(), [1, 2]) else {
         panic!(rt; "out of memory");
     };
-    let fresh = banker.copy(rt.alloc());
-    assert!(rt; is_granted(&mut banker, 0, 1, 2));
-    assert!(rt; is_given_back(&mut banker, 0, 1, 1));
-    assert!(rt; standing(&banker, 0, 1) == Some((1, 1)));
-    assert!(rt; fresh.is_ok_and(|it| standing(&it, 0, 1) == Some((0, 2))));
+    assert!(rt; copy_keeps(rt.alloc(), &mut banker) == Some(true));
 }

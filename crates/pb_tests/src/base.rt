@@ -10,55 +10,59 @@ use pb_base::{
 };
 use std::alloc::{AllocError, Global};
 
+const ON_TWO: [(BinaryOp, i64, i64, Result<i64, FaultKind>); 29] = [
+    (BinaryOp::Add, 2, 3, Ok(5)),
+    (BinaryOp::Add, i64::MAX, 1, Err(FaultKind::Overflow)),
+    (BinaryOp::Subtract, 2, 3, Ok(-1)),
+    (BinaryOp::Subtract, i64::MIN, 1, Err(FaultKind::Overflow)),
+    (BinaryOp::Multiply, -2, 3, Ok(-6)),
+    (BinaryOp::Multiply, i64::MIN, -1, Err(FaultKind::Overflow)),
+    (BinaryOp::Quotient, -7, 2, Ok(-3)),
+    (BinaryOp::Quotient, i64::MIN, -1, Err(FaultKind::Overflow)),
+    (BinaryOp::Quotient, 1, 0, Err(FaultKind::Divide)),
+    (BinaryOp::Remainder, -7, 2, Ok(-1)),
+    (BinaryOp::Remainder, 7, -2, Ok(1)),
+    (BinaryOp::Remainder, i64::MIN, -1, Ok(0)),
+    (BinaryOp::Remainder, 1, 0, Err(FaultKind::Divide)),
+    (BinaryOp::Equal, 4, 4, Ok(1)),
+    (BinaryOp::Equal, 4, -4, Ok(0)),
+    (BinaryOp::Unequal, 4, -4, Ok(1)),
+    (BinaryOp::Unequal, 4, 4, Ok(0)),
+    (BinaryOp::Less, -1, 0, Ok(1)),
+    (BinaryOp::Less, 0, 0, Ok(0)),
+    (BinaryOp::AtMost, 0, 0, Ok(1)),
+    (BinaryOp::AtMost, 1, 0, Ok(0)),
+    (BinaryOp::Greater, 1, 0, Ok(1)),
+    (BinaryOp::Greater, 0, 0, Ok(0)),
+    (BinaryOp::AtLeast, 0, 0, Ok(1)),
+    (BinaryOp::AtLeast, -1, 0, Ok(0)),
+    (BinaryOp::And, 2, -1, Ok(1)),
+    (BinaryOp::And, 2, 0, Ok(0)),
+    (BinaryOp::Or, 0, 5, Ok(1)),
+    (BinaryOp::Or, 0, 0, Ok(0)),
+];
+
 #[test]
 fn operators_on_two_numbers(rt: HostRuntime) {
-    for (op, left, right, value) in [
-        (BinaryOp::Add, 2, 3, Ok(5)),
-        (BinaryOp::Add, i64::MAX, 1, Err(FaultKind::Overflow)),
-        (BinaryOp::Subtract, 2, 3, Ok(-1)),
-        (BinaryOp::Subtract, i64::MIN, 1, Err(FaultKind::Overflow)),
-        (BinaryOp::Multiply, -2, 3, Ok(-6)),
-        (BinaryOp::Multiply, i64::MIN, -1, Err(FaultKind::Overflow)),
-        (BinaryOp::Quotient, -7, 2, Ok(-3)),
-        (BinaryOp::Quotient, i64::MIN, -1, Err(FaultKind::Overflow)),
-        (BinaryOp::Quotient, 1, 0, Err(FaultKind::Divide)),
-        (BinaryOp::Remainder, -7, 2, Ok(-1)),
-        (BinaryOp::Remainder, 7, -2, Ok(1)),
-        (BinaryOp::Remainder, i64::MIN, -1, Ok(0)),
-        (BinaryOp::Remainder, 1, 0, Err(FaultKind::Divide)),
-        (BinaryOp::Equal, 4, 4, Ok(1)),
-        (BinaryOp::Equal, 4, -4, Ok(0)),
-        (BinaryOp::Unequal, 4, -4, Ok(1)),
-        (BinaryOp::Unequal, 4, 4, Ok(0)),
-        (BinaryOp::Less, -1, 0, Ok(1)),
-        (BinaryOp::Less, 0, 0, Ok(0)),
-        (BinaryOp::AtMost, 0, 0, Ok(1)),
-        (BinaryOp::AtMost, 1, 0, Ok(0)),
-        (BinaryOp::Greater, 1, 0, Ok(1)),
-        (BinaryOp::Greater, 0, 0, Ok(0)),
-        (BinaryOp::AtLeast, 0, 0, Ok(1)),
-        (BinaryOp::AtLeast, -1, 0, Ok(0)),
-        (BinaryOp::And, 2, -1, Ok(1)),
-        (BinaryOp::And, 2, 0, Ok(0)),
-        (BinaryOp::Or, 0, 5, Ok(1)),
-        (BinaryOp::Or, 0, 0, Ok(0)),
-    ] {
+    for (op, left, right, value) in &ON_TWO {
         assert!(rt;
-            apply(op, left, right) == value,
+            apply(*op, *left, *right) == *value,
             "{op:?} of {left} and {right}"
         );
     }
 }
 
+const ON_ONE: [(UnaryOp, i64, Result<i64, FaultKind>); 4] = [
+    (UnaryOp::Negate, 5, Ok(-5)),
+    (UnaryOp::Negate, i64::MIN, Err(FaultKind::Overflow)),
+    (UnaryOp::Not, 0, Ok(1)),
+    (UnaryOp::Not, -3, Ok(0)),
+];
+
 #[test]
 fn operators_on_one_number(rt: HostRuntime) {
-    for (op, operand, value) in [
-        (UnaryOp::Negate, 5, Ok(-5)),
-        (UnaryOp::Negate, i64::MIN, Err(FaultKind::Overflow)),
-        (UnaryOp::Not, 0, Ok(1)),
-        (UnaryOp::Not, -3, Ok(0)),
-    ] {
-        assert!(rt; apply_unary(op, operand) == value, "{op:?} of {operand}");
+    for (op, operand, value) in &ON_ONE {
+        assert!(rt; apply_unary(*op, *operand) == *value, "{op:?} of {operand}");
     }
 }
 
@@ -84,9 +88,9 @@ fn pair_at(bundle: &Bundle, i: usize) -> Option<(u8, u32)> {
 #[test]
 fn pairs_in_their_order(rt: HostRuntime) {
     let bundle = two_pairs();
-    assert!(rt; pair_at(&bundle, 0) == Some((3, 40)));
-    assert!(rt; pair_at(&bundle, 1) == Some((1, 7)));
-    assert!(rt; pair_at(&bundle, 2) == None);
+    for (i, pair) in &[(0, Some((3, 40))), (1, Some((1, 7))), (2, None)] {
+        assert!(rt; pair_at(&bundle, *i) == *pair);
+    }
 }
 
 /// Returns the amount of a resource in a capital of 10 and 1,000,000.
@@ -100,9 +104,9 @@ fn amount(alloc: Global, r: usize) -> Option<u32> {
 
 #[test]
 fn amounts_by_resource(rt: HostRuntime) {
-    assert!(rt; amount(rt.alloc(), 0) == Some(10));
-    assert!(rt; amount(rt.alloc(), 1) == Some(1_000_000));
-    assert!(rt; amount(rt.alloc(), 2) == None);
+    for (r, wanted) in &[(0, Some(10)), (1, Some(1_000_000)), (2, None)] {
+        assert!(rt; amount(rt.alloc(), *r) == *wanted);
+    }
 }
 
 /// Returns the claim of a process on a resource in a table of three rows.
@@ -116,10 +120,9 @@ fn claim(alloc: Global, p: usize, r: usize) -> Option<u64> {
 
 #[test]
 fn claims_by_process_and_resource(rt: HostRuntime) {
-    assert!(rt; claim(rt.alloc(), 0, 0) == Some(1));
-    assert!(rt; claim(rt.alloc(), 2, 1) == Some(6));
-    assert!(rt; claim(rt.alloc(), 3, 0) == None);
-    assert!(rt; claim(rt.alloc(), 0, 2) == None);
+    for (p, r, wanted) in &[(0, 0, Some(1)), (2, 1, Some(6)), (3, 0, None), (0, 2, None)] {
+        assert!(rt; claim(rt.alloc(), *p, *r) == *wanted);
+    }
 }
 
 /// Returns whether a text of nine bytes is read whole; none if it is refused otherwise than for its length.
@@ -169,18 +172,21 @@ fn writes_byte_by_byte(rt: HostRuntime) {
     assert!(rt; is_written_byte_by_byte(rt.alloc()) == Some(true));
 }
 
-/// Returns whether an output whose third write fails holds what it took before, and takes the rest after it.
+/// Returns whether an output whose third write fails holds what it took before, and takes the rest after it,
+/// but no more.
+fn goes_on(output: &mut FaultyOutput) -> bool {
+    if write_all(output, b"some text").is_ok() || output.as_slice() != b"some t".as_slice() {
+        return false;
+    }
+    if write_all(output, b"ext").is_err() || output.as_slice() != b"some text".as_slice() {
+        return false;
+    }
+    write_all(output, b"more").is_err() && output.failures() == 2
+}
+
 fn goes_on_after_a_fault(alloc: Global) -> Option<bool> {
     let mut output = FaultyOutput::new(alloc, 9, 2, 3).ok()?;
-    if write_all(&mut output, b"some text").is_ok() || output.as_slice() != b"some t".as_slice() {
-        return Some(false);
-    }
-    write_all(&mut output, b"ext").ok()?;
-    if output.as_slice() != b"some text".as_slice() {
-        return Some(false);
-    }
-    let is_full = write_all(&mut output, b"more").is_err();
-    Some(is_full && output.failures() == 2)
+    Some(goes_on(&mut output))
 }
 
 #[test]

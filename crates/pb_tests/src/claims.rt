@@ -38,7 +38,7 @@ process q begin skip end";
 
 #[test]
 fn arms_add_up_and_the_greatest_of_a_list_counts(rt: HostRuntime) {
-    for (text, p, r, wanted) in [
+    for (text, p, r, wanted) in &[
         (ARMS, 0, 0, 4),
         (BRANCHES, 0, 0, 3),
         (TWO, 0, 0, 2),
@@ -47,7 +47,7 @@ fn arms_add_up_and_the_greatest_of_a_list_counts(rt: HostRuntime) {
         (TWO, 1, 1, 0),
     ] {
         assert!(rt;
-            claim(rt.alloc(), text, p, r) == Some(wanted),
+            claim(rt.alloc(), *text, *p, *r) == Some(*wanted),
             "process {p}, resource {r}"
         );
     }

@@ -151,8 +151,8 @@ fn is_written_in_second(alloc: Global, object: &[u8], text: &[u8]) -> bool {
 fn writes_what_it_read(rt: HostRuntime) {
     assert!(rt; is_written(rt.alloc(), FIRST, FIRST));
     assert!(rt; MOVED.len() == 134);
-    for (object, text) in [(SECOND, SECOND), (FIRST, MOVED), (JOINT, JOINT)] {
-        assert!(rt; is_written_in_second(rt.alloc(), object, text));
+    for (object, text) in &[(SECOND, SECOND), (FIRST, MOVED), (JOINT, JOINT)] {
+        assert!(rt; is_written_in_second(rt.alloc(), *object, *text));
     }
 }
 
@@ -196,8 +196,8 @@ const FAULTY: [(&[u8], ObjectFault); 10] = [
 
 #[test]
 fn refuses_the_first_faulty_line(rt: HostRuntime) {
-    for (text, fault) in FAULTY {
-        assert!(rt; object_fault(rt.alloc(), text) == Some(fault));
+    for (text, fault) in &FAULTY {
+        assert!(rt; object_fault(rt.alloc(), *text) == Some(*fault));
     }
 }
 
@@ -265,8 +265,8 @@ fn codes_and_processes_that_are_the_same(rt: HostRuntime) {
     assert!(rt; is_same(alloc, FIRST, SECOND) == Some(true));
     assert!(rt; is_same(alloc, FIRST, JOINT) == Some(false));
     assert!(rt; is_same(alloc, JOINT, &changed) == Some(false));
-    for (p, same) in [(0, Some(true)), (1, Some(false)), (2, None)] {
-        assert!(rt; is_same_process(alloc, JOINT, &changed, p) == same);
+    for (p, same) in &[(0, Some(true)), (1, Some(false)), (2, None)] {
+        assert!(rt; is_same_process(alloc, JOINT, &changed, *p) == *same);
     }
 }
 
@@ -285,7 +285,7 @@ fn what_the_first_format_can_say(rt: HostRuntime) {
 #[test]
 fn words_that_are_names(rt: HostRuntime) {
     assert!(rt; is_name(b"s_1"));
-    for word in [
+    for word in &[
         b"".as_slice(),
         b"1s",
         b"_s",
@@ -293,6 +293,6 @@ fn words_that_are_names(rt: HostRuntime) {
         b"a-b",
         b"a23456789012345678901234567890123",
     ] {
-        assert!(rt; !is_name(word));
+        assert!(rt; !is_name(*word));
     }
 }

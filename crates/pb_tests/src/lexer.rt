@@ -119,37 +119,37 @@ fn knows_each_symbol_and_reserved_word(rt: HostRuntime) {
     assert!(rt; has_marks(rt.alloc(), SYMBOLS_AND_WORDS, &MARKS));
 }
 
+/// Texts, and their first faults.
+const FAULTS: [(&[u8], Option<LexFault>); 14] = [
+    (b"a %", Some(LexFault::BadByte(2))),
+    (b"a : = 1", Some(LexFault::BadByte(2))),
+    (b"1 / 2", Some(LexFault::BadByte(2))),
+    (b"a_b _", Some(LexFault::BadByte(4))),
+    (b"// %$~\n_", Some(LexFault::BadByte(7))),
+    (b"// a \x01 b", Some(LexFault::BadByte(5))),
+    (b"\xff// a", Some(LexFault::BadByte(0))),
+    (b"% 9223372036854775808", Some(LexFault::BadByte(0))),
+    (b"", None),
+    (b"09223372036854775807", None),
+    (
+        b"a 9223372036854775808 \x01",
+        Some(LexFault::NumberTooLarge(2)),
+    ),
+    (
+        b"--99999999999999999999999999999999",
+        Some(LexFault::NumberTooLarge(2)),
+    ),
+    (b"abcdefghijklmnopqrstuvwxyz012345", None),
+    (
+        b" abcdefghijklmnopqrstuvwxyz0123456 %",
+        Some(LexFault::NameTooLong(1)),
+    ),
+];
+
 #[test]
 fn names_the_first_fault(rt: HostRuntime) {
-    for (text, wanted) in [
-        (b"a %".as_slice(), Some(LexFault::BadByte(2))),
-        (b"a : = 1".as_slice(), Some(LexFault::BadByte(2))),
-        (b"1 / 2".as_slice(), Some(LexFault::BadByte(2))),
-        (b"a_b _".as_slice(), Some(LexFault::BadByte(4))),
-        (b"// %$~\n_".as_slice(), Some(LexFault::BadByte(7))),
-        (b"// a \x01 b".as_slice(), Some(LexFault::BadByte(5))),
-        (b"\xff// a".as_slice(), Some(LexFault::BadByte(0))),
-        (
-            b"% 9223372036854775808".as_slice(),
-            Some(LexFault::BadByte(0)),
-        ),
-        (b"".as_slice(), None),
-        (b"09223372036854775807".as_slice(), None),
-        (
-            b"a 9223372036854775808 \x01".as_slice(),
-            Some(LexFault::NumberTooLarge(2)),
-        ),
-        (
-            b"--99999999999999999999999999999999".as_slice(),
-            Some(LexFault::NumberTooLarge(2)),
-        ),
-        (b"abcdefghijklmnopqrstuvwxyz012345".as_slice(), None),
-        (
-            b" abcdefghijklmnopqrstuvwxyz0123456 %".as_slice(),
-            Some(LexFault::NameTooLong(1)),
-        ),
-    ] {
-        assert!(rt; fault(rt.alloc(), text) == wanted);
+    for (text, wanted) in &FAULTS {
+        assert!(rt; fault(rt.alloc(), *text) == *wanted);
     }
 }
 
@@ -190,7 +190,7 @@ fn is_said(alloc: Global, fault: LexFault, words: &str) -> bool {
 
 #[test]
 fn says_faults_in_words(rt: HostRuntime) {
-    for (fault, words) in [
+    for (fault, words) in &[
         (LexFault::TooLong, "the text is over 65,536 bytes"),
         (LexFault::BadByte(0), "bad byte at 0"),
         (
@@ -203,6 +203,6 @@ fn says_faults_in_words(rt: HostRuntime) {
         ),
         (LexFault::NoMemory, "out of memory"),
     ] {
-        assert!(rt; is_said(rt.alloc(), fault, words), "{words}");
+        assert!(rt; is_said(rt.alloc(), *fault, *words), "{words}");
     }
 }

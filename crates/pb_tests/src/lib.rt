@@ -32,4 +32,6 @@ mod texts;
 #[cfg(test)]
 mod tree;
 #[cfg(test)]
+mod trees;
+#[cfg(test)]
 mod verifier;

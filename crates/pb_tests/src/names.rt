@@ -3,22 +3,14 @@
 mod memories;
 
 use crate::texts::{arms, idle, repeated};
+use crate::trees::read;
 use pb_base::{BinaryOp, NoMemory};
-use pb_lexer::lexer::lex;
 use pb_names::{Expr, Kind, NameFault, Resolved, Stmt, is_complete, resolve};
-use pb_parser::parse;
-use pb_tree::Program;
 use std::alloc::Global;
-
-/// Returns the tree of a text.
-fn tree(alloc: Global, text: &[u8]) -> Option<Program<Global>> {
-    let tokens = lex(alloc, text).ok()?;
-    parse(alloc, tokens.as_slice()).ok()
-}
 
 /// Returns the numbered program of a text, or its fault. There is none if the text has no tree.
 fn numbered(alloc: Global, text: &[u8]) -> Option<Result<Resolved<Global>, NameFault>> {
-    let tree = tree(alloc, text)?;
+    let tree = read(alloc, text)?;
     if is_complete(&tree) {
         Some(resolve(alloc, &tree))
     } else {
@@ -174,7 +166,7 @@ fn numbers_the_arms_of_a_parbegin_before_those_inside(rt: HostRuntime) {
 /// Returns whether the tree of a text is complete without the arms of its second statement, if that is a
 /// parbegin, or the pairs, if it is a hold; else without its processes.
 fn is_complete_without(alloc: Global, text: &[u8]) -> Option<bool> {
-    let mut tree = tree(alloc, text)?;
+    let mut tree = read(alloc, text)?;
     match tree.processes.get_mut(0)?.body.get_mut(1) {
         Some(pb_tree::Stmt::Parbegin { arms, .. }) => arms.clear(),
         Some(pb_tree::Stmt::Hold { demands, .. }) => demands.clear(),
@@ -190,9 +182,9 @@ fn asks_for_an_arm_a_pair_and_a_process(rt: HostRuntime) {
         b"resource t = 1; process p begin print 1; hold 1 of t do skip od end",
         b"process p begin skip end",
     ];
-    for text in texts {
-        assert!(rt; verdict(rt.alloc(), text) == Some(Ok(())));
-        assert!(rt; is_complete_without(rt.alloc(), text) == Some(false));
+    for text in &texts {
+        assert!(rt; verdict(rt.alloc(), *text) == Some(Ok(())));
+        assert!(rt; is_complete_without(rt.alloc(), *text) == Some(false));
     }
 }
 
@@ -257,8 +249,8 @@ const TEXTS: [(&[u8], Result<(), NameFault>); 14] = [
 
 #[test]
 fn tells_the_fault_of_least_place(rt: HostRuntime) {
-    for (text, told) in TEXTS {
-        assert!(rt; verdict(rt.alloc(), text) == Some(told));
+    for (text, told) in &TEXTS {
+        assert!(rt; verdict(rt.alloc(), *text) == Some(*told));
     }
 }
 

@@ -5,51 +5,13 @@ mod places;
 mod texts;
 
 use crate::texts::repeated;
+use crate::trees::{Part, made_of, read};
 use linked_list_allocator::LocalHeap;
-use pb_base::{BinaryOp, NoMemory, UnaryOp};
+use pb_base::{BinaryOp, UnaryOp};
 use pb_lexer::lexer::lex;
 use pb_lexer::token::Token;
 use pb_parser::{ParseFault, parse};
-use pb_tree::{Demand, Expr, Name, Number, Process, Program, Resource, Stmt};
 use std::alloc::Global;
-use std::test::Fail;
-
-type Statements = Vec<Stmt<Global>, Global>;
-
-fn name(alloc: Global, text: &[u8], at: usize) -> Result<Name<Global>, NoMemory> {
-    Ok(Name {
-        text: Vec::from_slice(alloc, text)?,
-        at,
-    })
-}
-
-fn variable(alloc: Global, text: &[u8], at: usize) -> Result<Expr<Global>, NoMemory> {
-    Ok(Expr::Variable(name(alloc, text, at)?))
-}
-
-fn number(value: i64, at: usize) -> Expr<Global> {
-    Expr::Number(Number { value, at })
-}
-
-fn unary(alloc: Global, op: UnaryOp, operand: Expr<Global>) -> Result<Expr<Global>, NoMemory> {
-    Ok(Expr::Unary(op, Box::new(alloc, operand)?))
-}
-
-fn binary(
-    alloc: Global,
-    op: BinaryOp,
-    left: Expr<Global>,
-    right: Expr<Global>,
-) -> Result<Expr<Global>, NoMemory> {
-    let left = Box::new(alloc, left)?;
-    Ok(Expr::Binary(op, left, Box::new(alloc, right)?))
-}
-
-fn one(alloc: Global, stmt: Stmt<Global>) -> Result<Statements, NoMemory> {
-    let mut list = Vec::new(alloc);
-    list.push(stmt)?;
-    Ok(list)
-}
 
 const TEXT: &[u8] = b"resource r = 3;
 resource s = 0;
@@ -63,158 +25,97 @@ end
 process q begin if a > b then skip fi; print a = b end
 ";
 
-fn resources(alloc: Global) -> Result<Vec<Resource<Global>, Global>, NoMemory> {
-    let mut resources = Vec::new(alloc);
-    resources.push(Resource {
-        name: name(alloc, b"r", 9)?,
-        capital: Number { value: 3, at: 13 },
-    })?;
-    resources.push(Resource {
-        name: name(alloc, b"s", 25)?,
-        capital: Number { value: 0, at: 29 },
-    })?;
-    Ok(resources)
-}
+/// The tree of that text.
+const TREE: [Part; 72] = [
+    Part::Resource(b"r", 9, 3, 13),
+    Part::Resource(b"s", 25, 0, 29),
+    Part::Integer(b"a", 58),
+    Part::Integer(b"b", 61),
+    Part::List,
+    // a := 1 - 2 * -3 div b mod 4 + (5)
+    Part::Number(1, 71),
+    Part::Number(2, 75),
+    Part::Number(3, 80),
+    Part::Unary(UnaryOp::Negate),
+    Part::Binary(BinaryOp::Multiply),
+    Part::Variable(b"b", 86),
+    Part::Binary(BinaryOp::Quotient),
+    Part::Number(4, 92),
+    Part::Binary(BinaryOp::Remainder),
+    Part::Binary(BinaryOp::Subtract),
+    Part::Number(5, 97),
+    Part::Binary(BinaryOp::Add),
+    Part::Assign(5, b"a", 66),
+    // if not a < b and b >= 2 or a <> b then print a else skip; print b fi
+    Part::Variable(b"a", 110),
+    Part::Variable(b"b", 114),
+    Part::Binary(BinaryOp::Less),
+    Part::Unary(UnaryOp::Not),
+    Part::Variable(b"b", 120),
+    Part::Number(2, 125),
+    Part::Binary(BinaryOp::AtLeast),
+    Part::Binary(BinaryOp::And),
+    Part::Variable(b"a", 130),
+    Part::Variable(b"b", 135),
+    Part::Binary(BinaryOp::Unequal),
+    Part::Binary(BinaryOp::Or),
+    Part::List,
+    Part::Variable(b"a", 148),
+    Part::Print(6),
+    Part::List,
+    Part::Variable(b"b", 167),
+    Part::Print(6),
+    Part::If(6),
+    // while a <= 1 do begin a := 2; skip end od
+    Part::Variable(b"a", 181),
+    Part::Number(1, 186),
+    Part::Binary(BinaryOp::AtMost),
+    Part::List,
+    Part::Number(2, 202),
+    Part::Assign(7, b"a", 197),
+    Part::While(7),
+    // hold 1 of r, 2 of s do parbegin print 3; begin skip; print 4 end; skip parend od
+    Part::Demand(1, 225, b"r", 230),
+    Part::Demand(2, 233, b"s", 238),
+    Part::List,
+    Part::List,
+    Part::Number(3, 258),
+    Part::Print(8),
+    Part::Arm,
+    Part::List,
+    Part::Number(4, 279),
+    Part::Print(8),
+    Part::Arm,
+    Part::List,
+    Part::Arm,
+    Part::Parbegin(8),
+    Part::Hold(8),
+    Part::Process(b"p", 40),
+    // if a > b then skip fi; print a = b
+    Part::List,
+    Part::Variable(b"a", 324),
+    Part::Variable(b"b", 328),
+    Part::Binary(BinaryOp::Greater),
+    Part::List,
+    Part::List,
+    Part::If(10),
+    Part::Variable(b"a", 350),
+    Part::Variable(b"b", 354),
+    Part::Binary(BinaryOp::Equal),
+    Part::Print(10),
+    Part::Process(b"q", 313),
+];
 
-// a := 1 - 2 * -3 div b mod 4 + (5)
-fn assignment(alloc: Global) -> Result<Stmt<Global>, NoMemory> {
-    let minus = unary(alloc, UnaryOp::Negate, number(3, 80))?;
-    let product = binary(alloc, BinaryOp::Multiply, number(2, 75), minus)?;
-    let quotient = binary(
-        alloc,
-        BinaryOp::Quotient,
-        product,
-        variable(alloc, b"b", 86)?,
-    )?;
-    let remainder = binary(alloc, BinaryOp::Remainder, quotient, number(4, 92))?;
-    let difference = binary(alloc, BinaryOp::Subtract, number(1, 71), remainder)?;
-    let value = binary(alloc, BinaryOp::Add, difference, number(5, 97))?;
-    Ok(Stmt::Assign {
-        line: 5,
-        target: name(alloc, b"a", 66)?,
-        value,
-    })
-}
-
-// if not a < b and b >= 2 or a <> b then print a else skip; print b fi
-fn choice(alloc: Global) -> Result<Stmt<Global>, NoMemory> {
-    let a = variable(alloc, b"a", 110)?;
-    let less = binary(alloc, BinaryOp::Less, a, variable(alloc, b"b", 114)?)?;
-    let not_less = unary(alloc, UnaryOp::Not, less)?;
-    let b = variable(alloc, b"b", 120)?;
-    let at_least = binary(alloc, BinaryOp::AtLeast, b, number(2, 125))?;
-    let both = binary(alloc, BinaryOp::And, not_less, at_least)?;
-    let a = variable(alloc, b"a", 130)?;
-    let unequal = binary(alloc, BinaryOp::Unequal, a, variable(alloc, b"b", 135)?)?;
-    let test = binary(alloc, BinaryOp::Or, both, unequal)?;
-    let a = variable(alloc, b"a", 148)?;
-    let on_true = one(alloc, Stmt::Print { line: 6, value: a })?;
-    let b = variable(alloc, b"b", 167)?;
-    let on_false = one(alloc, Stmt::Print { line: 6, value: b })?;
-    Ok(Stmt::If {
-        line: 6,
-        test,
-        on_true,
-        on_false,
-    })
-}
-
-// while a <= 1 do begin a := 2; skip end od
-fn repetition(alloc: Global) -> Result<Stmt<Global>, NoMemory> {
-    let a = variable(alloc, b"a", 181)?;
-    let test = binary(alloc, BinaryOp::AtMost, a, number(1, 186))?;
-    let assign = Stmt::Assign {
-        line: 7,
-        target: name(alloc, b"a", 197)?,
-        value: number(2, 202),
-    };
-    Ok(Stmt::While {
-        line: 7,
-        test,
-        body: one(alloc, assign)?,
-    })
-}
-
-// hold 1 of r, 2 of s do parbegin print 3; begin skip; print 4 end; skip parend od
-fn held(alloc: Global) -> Result<Stmt<Global>, NoMemory> {
-    let mut demands = Vec::new(alloc);
-    demands.push(Demand {
-        amount: Number { value: 1, at: 225 },
-        resource: name(alloc, b"r", 230)?,
-    })?;
-    demands.push(Demand {
-        amount: Number { value: 2, at: 233 },
-        resource: name(alloc, b"s", 238)?,
-    })?;
-    let value = number(3, 258);
-    let mut arms = Vec::new(alloc);
-    arms.push(one(alloc, Stmt::Print { line: 8, value })?)?;
-    let value = number(4, 279);
-    arms.push(one(alloc, Stmt::Print { line: 8, value })?)?;
-    arms.push(Vec::new(alloc))?;
-    Ok(Stmt::Hold {
-        line: 8,
-        demands,
-        body: one(alloc, Stmt::Parbegin { line: 8, arms })?,
-    })
-}
-
-fn first_process(alloc: Global) -> Result<Process<Global>, NoMemory> {
-    let mut integers = Vec::new(alloc);
-    integers.push(name(alloc, b"a", 58)?)?;
-    integers.push(name(alloc, b"b", 61)?)?;
-    let mut body = one(alloc, assignment(alloc)?)?;
-    body.push(choice(alloc)?)?;
-    body.push(repetition(alloc)?)?;
-    body.push(held(alloc)?)?;
-    Ok(Process {
-        name: name(alloc, b"p", 40)?,
-        integers,
-        body,
-    })
-}
-
-fn second_process(alloc: Global) -> Result<Process<Global>, NoMemory> {
-    let a = variable(alloc, b"a", 324)?;
-    let test = binary(alloc, BinaryOp::Greater, a, variable(alloc, b"b", 328)?)?;
-    let mut body = one(
-        alloc,
-        Stmt::If {
-            line: 10,
-            test,
-            on_true: Vec::new(alloc),
-            on_false: Vec::new(alloc),
-        },
-    )?;
-    let a = variable(alloc, b"a", 350)?;
-    let value = binary(alloc, BinaryOp::Equal, a, variable(alloc, b"b", 354)?)?;
-    body.push(Stmt::Print { line: 10, value })?;
-    Ok(Process {
-        name: name(alloc, b"q", 313)?,
-        integers: Vec::new(alloc),
-        body,
-    })
-}
-
-fn expected(alloc: Global) -> Result<Program<Global>, NoMemory> {
-    let mut processes = Vec::new(alloc);
-    processes.push(first_process(alloc)?)?;
-    processes.push(second_process(alloc)?)?;
-    Ok(Program {
-        resources: resources(alloc)?,
-        processes,
-    })
+/// Returns whether the text is read as its tree, which has 52 nodes and height 8.
+fn is_read_as_its_tree(alloc: Global) -> Option<bool> {
+    let program = read(alloc, TEXT)?;
+    let expected = made_of(alloc, &TREE)?;
+    Some(program.same(&expected) && program.nodes() == 52 && program.height() == 8)
 }
 
 #[test]
-fn reads_all_of_the_grammar(rt: HostRuntime) -> Result<(), Fail> {
-    let alloc = rt.alloc();
-    let tokens = lex(alloc, TEXT)?;
-    let program = parse(alloc, tokens.as_slice())?;
-    assert!(rt; program.same(&expected(alloc)?));
-    assert_eq!(rt; program.nodes(), 52);
-    assert_eq!(rt; program.height(), 8);
-    Ok(())
+fn reads_all_of_the_grammar(rt: HostRuntime) {
+    assert!(rt; is_read_as_its_tree(rt.alloc()) == Some(true));
 }
 
 /// Returns the fault of a text, which has tokens.
@@ -241,56 +142,66 @@ const WRONG: [(&[u8], usize); 7] = [
 
 #[test]
 fn names_the_place_of_a_syntax_error(rt: HostRuntime) {
-    for (text, place) in WRONG {
-        assert!(rt; fault(rt.alloc(), text) == Some(ParseFault::Syntax(place)));
+    for (text, place) in &WRONG {
+        assert!(rt; fault(rt.alloc(), *text) == Some(ParseFault::Syntax(*place)));
     }
     assert!(rt; fault(rt.alloc(), b"process p begin skip end") == None);
 }
 
 /// Returns the text with blanks in place of the token.
-fn left_out(alloc: Global, token: &Token<'_>) -> Result<Vec<u8, Global>, NoMemory> {
+fn left_out(alloc: Global, token: &Token<'_>) -> Option<Vec<u8, Global>> {
     let mut text = Vec::new(alloc);
     for (at, byte) in places::TEXT.iter().enumerate() {
         let inside = token.start() <= at && at < token.end();
-        text.push(if inside { b' ' } else { *byte })?;
+        text.push(if inside { b' ' } else { *byte }).ok()?;
     }
-    Ok(text)
+    Some(text)
 }
 
 /// Returns the text with the token twice, and a blank between.
-fn twice(alloc: Global, token: &Token<'_>) -> Result<Vec<u8, Global>, NoMemory> {
+fn twice(alloc: Global, token: &Token<'_>) -> Option<Vec<u8, Global>> {
     let mut text = Vec::new(alloc);
     for (at, byte) in places::TEXT.iter().enumerate() {
         if at == token.end() {
-            text.push(b' ')?;
-            text.extend_from_slice(token.text())?;
+            text.push(b' ').ok()?;
+            text.extend_from_slice(token.text()).ok()?;
         }
-        text.push(*byte)?;
+        text.push(*byte).ok()?;
     }
-    Ok(text)
+    Some(text)
 }
 
-fn expected_fault(place: usize) -> Option<ParseFault> {
-    if place == places::FINE {
-        None
-    } else {
-        Some(ParseFault::Syntax(place))
+/// Returns whether a text has its fault at this place, or none.
+fn has_fault(alloc: Global, text: Option<Vec<u8>>, place: usize) -> bool {
+    let Some(text) = text else {
+        return false;
+    };
+    match fault(alloc, text.as_slice()) {
+        None => place == places::FINE,
+        Some(ParseFault::Syntax(at)) => place != places::FINE && at == place,
+        Some(_) => false,
     }
+}
+
+/// Returns whether each token has the faults of its places, if there are as many.
+fn have_faults(alloc: Global, tokens: &[Token<'_>]) -> bool {
+    for (token, places) in tokens.iter().zip(places::PLACES.iter()) {
+        let is_known = has_fault(alloc, left_out(alloc, token), places[0])
+            && has_fault(alloc, twice(alloc, token), places[1]);
+        if !is_known {
+            return false;
+        }
+    }
+    tokens.len() == places::PLACES.len()
 }
 
 #[test]
-fn finds_the_first_token_that_is_wrong(rt: HostRuntime) -> Result<(), Fail> {
-    let alloc = rt.alloc();
-    assert_eq!(rt; fault(alloc, places::TEXT), None);
-    let tokens = lex(alloc, places::TEXT)?;
-    assert_eq!(rt; tokens.len(), places::PLACES.len());
-    for (token, places) in tokens.iter().zip(places::PLACES.iter()) {
-        let text = left_out(alloc, token)?;
-        assert_eq!(rt; fault(alloc, text.as_slice()), expected_fault(places[0]));
-        let text = twice(alloc, token)?;
-        assert_eq!(rt; fault(alloc, text.as_slice()), expected_fault(places[1]));
-    }
-    Ok(())
+fn finds_the_first_token_that_is_wrong(rt: HostRuntime) {
+    assert!(rt; fault(rt.alloc(), places::TEXT) == None);
+    let Ok(tokens) = lex(rt.alloc(), places::TEXT) else {
+        panic!(rt; "no tokens")
+    };
+    assert!(rt; have_faults(rt.alloc(), tokens.as_slice()));
 }
 
 /// Returns the fault of a text of a head, `count` pieces and a tail.
@@ -318,8 +229,8 @@ const DEEP: [(&[u8], usize, &[u8], ParseFault); 5] = [
 
 #[test]
 fn looks_for_depth_before_the_grammar(rt: HostRuntime) {
-    for (piece, count, tail, told) in DEEP {
-        assert!(rt; repeated_fault(rt.alloc(), b"", piece, count, tail) == Some(told));
+    for (piece, count, tail, told) in &DEEP {
+        assert!(rt; repeated_fault(rt.alloc(), b"", *piece, *count, *tail) == Some(*told));
     }
 }
 
@@ -345,8 +256,8 @@ const LARGE: [(&[u8], &[u8], usize, &[u8], Option<ParseFault>); 4] = [
 
 #[test]
 fn keeps_the_limits_of_the_tree(rt: HostRuntime) {
-    for (head, piece, count, tail, told) in LARGE {
-        assert!(rt; repeated_fault(rt.alloc(), head, piece, count, tail) == told);
+    for (head, piece, count, tail, told) in &LARGE {
+        assert!(rt; repeated_fault(rt.alloc(), *head, *piece, *count, *tail) == *told);
     }
 }
 
@@ -367,15 +278,36 @@ fn fault_without_room(
     }
 }
 
+/// The heads, pieces and tails of texts, how often the piece stands in each, and the fault without memory.
+const WITHOUT_ROOM: [(&[u8], &[u8], usize, &[u8], ParseFault); 3] = [
+    (
+        b"process p begin ",
+        b"x:=1;",
+        8_191,
+        b"x:=1 end",
+        ParseFault::TooLarge,
+    ),
+    (
+        b"process p begin print 1",
+        b"+1",
+        32_000,
+        b" end",
+        ParseFault::TooDeep,
+    ),
+    (
+        b"process p begin ",
+        b"print 1",
+        1,
+        b" end",
+        ParseFault::NoMemory,
+    ),
+];
+
 #[test]
 fn takes_no_room_where_it_refuses(rt: HostRuntime) {
-    let alloc = rt.alloc();
-    let fault = fault_without_room(alloc, b"process p begin ", b"x:=1;", 8_191, b"x:=1 end");
-    assert!(rt; fault == Some(ParseFault::TooLarge));
-    let fault = fault_without_room(alloc, b"process p begin print 1", b"+1", 32_000, b" end");
-    assert!(rt; fault == Some(ParseFault::TooDeep));
-    let fault = fault_without_room(alloc, b"process p begin ", b"x:=1;", 8_000, b" end");
+    for (head, piece, count, tail, told) in &WITHOUT_ROOM {
+        assert!(rt; fault_without_room(rt.alloc(), *head, *piece, *count, *tail) == Some(*told));
+    }
+    let fault = fault_without_room(rt.alloc(), b"process p begin ", b"x:=1;", 8_000, b" end");
     assert!(rt; matches!(fault, Some(ParseFault::Syntax(_))));
-    let fault = fault_without_room(alloc, b"process p begin ", b"print 1", 1, b" end");
-    assert!(rt; fault == Some(ParseFault::NoMemory));
 }

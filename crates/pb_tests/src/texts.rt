@@ -278,14 +278,12 @@ pub fn idle(alloc: Global, count: usize) -> Result<Vec<u8>, NoMemory> {
     Ok(text)
 }
 
+/// A parbegin of 16 arms, and a semicolon.
+#[rattlefmt::skip]
+const SIXTEEN_ARMS: &[u8] = b"parbegin skip;skip;skip;skip;skip;skip;skip;skip;skip;skip;skip;skip;skip;skip;skip;skip parend; ";
+
 /// Returns four parbegins: three of 16 arms, and the last of `last + 1` arms.
 pub fn arms(alloc: Global, last: usize) -> Result<Vec<u8>, NoMemory> {
-    let mut text = Vec::from_slice(alloc, b"process p begin ")?;
-    for _turn in 0..3 {
-        let fork = repeated(alloc, b"parbegin ", b"skip;", 15, b"skip parend; ")?;
-        text.extend_from_slice(fork.as_slice())?;
-    }
-    let fork = repeated(alloc, b"parbegin ", b"skip;", last, b"skip parend end")?;
-    text.extend_from_slice(fork.as_slice())?;
-    Ok(text)
+    let head = repeated(alloc, b"process p begin ", SIXTEEN_ARMS, 3, b"parbegin ")?;
+    repeated(alloc, head.as_slice(), b"skip;", last, b"skip parend end")
 }

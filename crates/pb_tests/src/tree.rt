@@ -1,139 +1,105 @@
 //! One program in three kinds of memory.
 
+use crate::trees::{Part, made_of};
 use bumpalo::Bump;
 use linked_list_allocator::LocalHeap;
-use pb_base::{BinaryOp, NoMemory, UnaryOp};
-use pb_tree::{Demand, Expr, Name, Number, Process, Program, Resource, Stmt, line_of};
-use std::alloc::{AllocError, Allocator, Global};
+use pb_base::{BinaryOp, UnaryOp};
+use pb_tree::{Program, line_of};
+use std::alloc::Global;
 
-fn name<A: Allocator + Copy>(alloc: A, text: &[u8], at: usize) -> Result<Name<A>, NoMemory> {
-    Ok(Name {
-        text: Vec::from_slice(alloc, text)?,
-        at,
-    })
+/// A resource t = 4, and a process p with an integer x and a loop.
+const PROGRAM: [Part; 31] = [
+    Part::Resource(b"t", 9, 4, 13),
+    Part::Integer(b"x", 24),
+    Part::List,
+    // while not x < 3 do
+    Part::Variable(b"x", 40),
+    Part::Number(3, 40),
+    Part::Binary(BinaryOp::Less),
+    Part::Unary(UnaryOp::Not),
+    Part::List,
+    // hold 1 of t, 2 of u do parbegin
+    Part::Demand(1, 60, b"t", 60),
+    Part::Demand(2, 68, b"u", 68),
+    Part::List,
+    // x := x + 1;
+    Part::List,
+    Part::Variable(b"x", 86),
+    Part::Number(1, 86),
+    Part::Binary(BinaryOp::Add),
+    Part::Assign(4, b"x", 81),
+    Part::Arm,
+    // if x = 3 then print x else skip fi
+    Part::List,
+    Part::Variable(b"x", 95),
+    Part::Number(3, 95),
+    Part::Binary(BinaryOp::Equal),
+    Part::List,
+    Part::Variable(b"x", 110),
+    Part::Print(5),
+    Part::List,
+    Part::If(5),
+    Part::Arm,
+    // parend od od
+    Part::Parbegin(3),
+    Part::Hold(3),
+    Part::While(2),
+    Part::Process(b"p", 8),
+];
+
+/// Returns whether the statements of all processes are in this line.
+fn are_in_line(program: &Program<Global>, line: u32) -> bool {
+    for process in &program.processes {
+        for stmt in &process.body {
+            if line_of(stmt) != line {
+                return false;
+            }
+        }
+    }
+    true
 }
 
-fn one<A: Allocator + Copy>(alloc: A, stmt: Stmt<A>) -> Result<Vec<Stmt<A>, A>, NoMemory> {
-    let mut list = Vec::new(alloc);
-    list.push(stmt)?;
-    Ok(list)
+/// Returns whether a copy of a program from an arena is the same as another program, and no more without a
+/// resource.
+fn comes_back(alloc: Global, arena: &Program<&Bump>, global: &Program<Global>) -> Option<bool> {
+    let mut back = arena.copy_into(alloc).ok()?;
+    let is_same = back.same(global);
+    back.resources.pop();
+    Some(is_same && !back.same(global))
 }
 
-// x, an operator and a number
-fn about_x<A: Allocator + Copy>(
-    alloc: A,
-    op: BinaryOp,
-    value: i64,
-    at: usize,
-) -> Result<Expr<A>, NoMemory> {
-    let x = Expr::Variable(name(alloc, b"x", at)?);
-    let number = Expr::Number(Number { value, at });
-    Ok(Expr::Binary(op, Box::new(alloc, x)?, Box::new(alloc, number)?))
+/// Returns whether the program is the same in an arena and in a heap, and copied into the arena and back.
+fn is_same(alloc: Global, global: &Program<Global>) -> Option<bool> {
+    let bump = Bump::new(alloc);
+    let heap = LocalHeap::new(alloc, 16384).ok()?;
+    let arena = made_of(&bump, &PROGRAM)?;
+    let fixed = made_of(&heap, &PROGRAM)?;
+    let copy = global.copy_into(&bump).ok()?;
+    Some(
+        global.same(&arena)
+            && arena.same(&fixed)
+            && fixed.same(global)
+            // the loop, the hold, the parbegin, :=, +, a number
+            && fixed.height() == 6
+            && copy.same(&fixed)
+            && comes_back(alloc, &arena, global)?,
+    )
 }
 
-fn demand<A: Allocator + Copy>(
-    alloc: A,
-    value: i64,
-    resource: &[u8],
-    at: usize,
-) -> Result<Demand<A>, NoMemory> {
-    Ok(Demand {
-        amount: Number { value, at },
-        resource: name(alloc, resource, at)?,
-    })
-}
-
-// parbegin x := x + 1; if x = 3 then print x else skip fi parend
-fn fork<A: Allocator + Copy>(alloc: A) -> Result<Stmt<A>, NoMemory> {
-    let assign = Stmt::Assign {
-        line: 4,
-        target: name(alloc, b"x", 81)?,
-        value: about_x(alloc, BinaryOp::Add, 1, 86)?,
-    };
-    let print = Stmt::Print {
-        line: 5,
-        value: Expr::Variable(name(alloc, b"x", 110)?),
-    };
-    let choice = Stmt::If {
-        line: 5,
-        test: about_x(alloc, BinaryOp::Equal, 3, 95)?,
-        on_true: one(alloc, print)?,
-        on_false: Vec::new(alloc),
-    };
-    let mut arms = Vec::new(alloc);
-    arms.push(one(alloc, assign)?)?;
-    arms.push(one(alloc, choice)?)?;
-    Ok(Stmt::Parbegin { line: 3, arms })
-}
-
-// while not x < 3 do hold 1 of t, 2 of u do FORK od od
-fn looping<A: Allocator + Copy>(alloc: A) -> Result<Stmt<A>, NoMemory> {
-    let mut demands = Vec::new(alloc);
-    demands.push(demand(alloc, 1, b"t", 60)?)?;
-    demands.push(demand(alloc, 2, b"u", 68)?)?;
-    let hold = Stmt::Hold {
-        line: 3,
-        demands,
-        body: one(alloc, fork(alloc)?)?,
-    };
-    let less = about_x(alloc, BinaryOp::Less, 3, 40)?;
-    Ok(Stmt::While {
-        line: 2,
-        test: Expr::Unary(UnaryOp::Not, Box::new(alloc, less)?),
-        body: one(alloc, hold)?,
-    })
-}
-
-// resource t = 4; process p with an integer x and the loop
-fn program<A: Allocator + Copy>(alloc: A) -> Result<Program<A>, NoMemory> {
-    let mut integers = Vec::new(alloc);
-    integers.push(name(alloc, b"x", 24)?)?;
-    let mut processes = Vec::new(alloc);
-    processes.push(Process {
-        name: name(alloc, b"p", 8)?,
-        integers,
-        body: one(alloc, looping(alloc)?)?,
-    })?;
-    let mut resources = Vec::new(alloc);
-    resources.push(Resource {
-        name: name(alloc, b"t", 9)?,
-        capital: Number { value: 4, at: 13 },
-    })?;
-    Ok(Program {
-        resources,
-        processes,
-    })
+/// Returns whether there is no room for the program in a small heap.
+fn has_no_room(alloc: Global, global: &Program<Global>) -> Option<bool> {
+    let small = LocalHeap::new(alloc, 256).ok()?;
+    let copy = global.copy_into(&small);
+    Some(copy.is_err())
 }
 
 #[test]
-fn lies_anywhere(rt: HostRuntime) -> Result<(), AllocError> {
-    let global = program(rt.alloc()).map_err(|_| AllocError)?;
-    let bump = Bump::new(rt.alloc());
-    let arena = program(&bump).map_err(|_| AllocError)?;
-    let heap = LocalHeap::new(rt.alloc(), 16384)?;
-    let fixed = program(&heap).map_err(|_| AllocError)?;
-    assert!(rt; global.same(&arena));
-    assert!(rt; arena.same(&fixed));
-    assert!(rt; fixed.same(&global));
+fn lies_anywhere(rt: HostRuntime) {
+    let Some(global) = made_of(rt.alloc(), &PROGRAM) else {
+        panic!(rt; "no program")
+    };
+    assert!(rt; is_same(rt.alloc(), &global) == Some(true));
     // the process, the loop, not, <, x, 3, the hold, the parbegin, :=, +, x, 1, the if, =, x, 3, print, x
-    assert_eq!(rt; global.nodes(), 18);
-    // the loop, the hold, the parbegin, :=, +, a number
-    assert_eq!(rt; fixed.height(), 6);
-
-    let copy = global.copy_into(&bump).map_err(|_| AllocError)?;
-    assert!(rt; copy.same(&fixed));
-    let mut back = arena.copy_into(rt.alloc()).map_err(|_| AllocError)?;
-    assert!(rt; back.same(&global));
-    back.resources.pop();
-    assert!(rt; !back.same(&global));
-    for process in &global.processes {
-        for stmt in &process.body {
-            assert_eq!(rt; line_of(stmt), 2);
-        }
-    }
-
-    // a heap with too little room
-    let small = LocalHeap::new(rt.alloc(), 256)?;
-    assert!(rt; global.copy_into(&small).is_err());
-    Ok(())
+    assert!(rt; global.nodes() == 18 && are_in_line(&global, 2));
+    assert!(rt; has_no_room(rt.alloc(), &global) == Some(true));
 }

@@ -8,18 +8,37 @@ use pb_object::{read_any, write_object2};
 use pb_verifier::{Verified, VerifyFault, verify};
 use std::alloc::Global;
 
-/// Returns `count` names that begin with a letter.
-fn names(alloc: Global, letter: u8, count: usize) -> Result<Vec<Vec<u8>>, NoMemory> {
-    let mut names = Vec::new(alloc);
-    for k in 0..count {
-        let digit = b'a' + (k % 26) as u8;
-        names.push(Vec::from_slice(alloc, &[letter, digit])?)?;
-    }
-    Ok(names)
+/// Returns one name of two letters.
+fn one_name(alloc: Global, name: &[u8]) -> Option<Vec<Vec<u8>>> {
+    let name = Vec::from_slice(alloc, name).ok()?;
+    vec![in alloc; name].ok()
 }
 
-/// Returns the code of one process over one resource, which it may name by bundle 0, one of it, and bundle 1,
-/// two of it.
+/// Returns the names of one process and one resource.
+fn names(alloc: Global) -> Option<Names> {
+    let processes = one_name(alloc, b"pa")?;
+    let resources = one_name(alloc, b"ra")?;
+    Some(Names {
+        processes,
+        resources,
+    })
+}
+
+/// Returns the code of a process that may name by bundle 0 one of a resource, and by bundle 1 two of it.
+fn process(alloc: Global, integers: u8, entries: &[u16], instrs: &[Instr]) -> Option<ProcessCode> {
+    let bundles = [Bundle::one(0, 1), Bundle::one(0, 2)];
+    let bundles = Vec::from_slice(alloc, &bundles).ok()?;
+    let entries = Vec::from_slice(alloc, entries).ok()?;
+    let instrs = Vec::from_slice(alloc, instrs).ok()?;
+    Some(ProcessCode {
+        integers,
+        entries,
+        bundles,
+        instrs,
+    })
+}
+
+/// Returns the code of one such process over one resource.
 fn one_process(
     alloc: Global,
     integers: u8,
@@ -27,31 +46,23 @@ fn one_process(
     instrs: &[Instr],
     capital: u32,
     claim: u64,
-) -> Result<Code, NoMemory>
+) -> Option<Code>
     requires { capital ≤ 1000000 }
 {
-    let mut bundles = Vec::new(alloc);
-    bundles.push(Bundle::one(0, 1))?;
-    bundles.push(Bundle::one(0, 2))?;
-    let mut processes = Vec::new(alloc);
-    processes.push(ProcessCode {
-        integers,
-        entries: Vec::from_slice(alloc, entries)?,
-        bundles,
-        instrs: Vec::from_slice(alloc, instrs)?,
-    })?;
-    Ok(Code {
-        names: Names {
-            processes: names(alloc, b'p', 1)?,
-            resources: names(alloc, b'r', 1)?,
-        },
-        capital: Capital::new(alloc, &[capital])?,
-        claims: Claims::new(alloc, &[&[claim]])?,
+    let capital = Capital::new(alloc, &[capital]).ok()?;
+    let claims = Claims::new(alloc, &[&[claim]]).ok()?;
+    let names = names(alloc)?;
+    let process = process(alloc, integers, entries, instrs)?;
+    let processes = vec![in alloc; process].ok()?;
+    Some(Code {
+        names,
+        capital,
+        claims,
         processes,
     })
 }
 
-/// Returns the fault of such code, if it has one.
+/// Returns the fault of such code, if it has one, and whether there is such code.
 fn fault_of(
     alloc: Global,
     integers: u8,
@@ -59,13 +70,13 @@ fn fault_of(
     instrs: &[Instr],
     capital: u32,
     claim: u64,
-) -> Result<Option<VerifyFault>, NoMemory>
+) -> Option<Option<VerifyFault>>
     requires { capital ≤ 1000000 }
 {
     let code = one_process(alloc, integers, entries, instrs, capital, claim)?;
     match verify(alloc, code) {
-        Ok(_) => Ok(None),
-        Err((_, fault)) => Ok(Some(fault)),
+        Ok(_) => Some(None),
+        Err((_, fault)) => Some(Some(fault)),
     }
 }
 
@@ -103,8 +114,8 @@ const COUNTING: [Instr; 10] = [
 
 #[test]
 fn code_that_is_accepted(rt: HostRuntime) {
-    assert!(rt; fault_of(rt.alloc(), 0, &[0, 5, 8], &FORKED, 4, 4) == Ok(None));
-    assert!(rt; fault_of(rt.alloc(), 1, &[0], &COUNTING, 4, 0) == Ok(None));
+    assert!(rt; fault_of(rt.alloc(), 0, &[0, 5, 8], &FORKED, 4, 4) == Some(None));
+    assert!(rt; fault_of(rt.alloc(), 1, &[0], &COUNTING, 4, 0) == Some(None));
 }
 
 /// Prints a sum.
@@ -126,7 +137,7 @@ fn is_verified_sum(verified: &Verified) -> bool {
 
 #[test]
 fn the_verified_code_and_its_depths(rt: HostRuntime) {
-    let Ok(code) = one_process(rt.alloc(), 0, &[0], &SUM, 4, 0) else {
+    let Some(code) = one_process(rt.alloc(), 0, &[0], &SUM, 4, 0) else {
         panic!(rt; "out of memory")
     };
     match verify(rt.alloc(), code) {
@@ -145,7 +156,7 @@ fn refusal(alloc: Global, code: Code) -> Option<(VerifyFault, usize)> {
 
 #[test]
 fn the_code_is_handed_back(rt: HostRuntime) {
-    let Ok(code) = one_process(rt.alloc(), 0, &[0], &[Instr::Jump(2), Instr::End], 4, 0) else {
+    let Some(code) = one_process(rt.alloc(), 0, &[0], &[Instr::Jump(2), Instr::End], 4, 0) else {
         panic!(rt; "out of memory")
     };
     assert!(rt; refusal(rt.alloc(), code) == Some((VerifyFault::WrongArms, 1)));
@@ -213,8 +224,8 @@ const CASES: [(u8, &[Instr], u64, Option<VerifyFault>); 12] = [
 
 #[test]
 fn each_fault(rt: HostRuntime) {
-    for (integers, instrs, claim, fault) in CASES {
-        assert!(rt; fault_of(rt.alloc(), integers, &[0], instrs, 4, claim) == Ok(fault));
+    for (integers, instrs, claim, fault) in &CASES {
+        assert!(rt; fault_of(rt.alloc(), *integers, &[0], *instrs, 4, *claim) == Some(*fault));
     }
 }
 
@@ -222,46 +233,71 @@ fn each_fault(rt: HostRuntime) {
 fn an_arm_that_no_fork_names(rt: HostRuntime) {
     let unnamed = [Instr::End, Instr::End];
     let fault = fault_of(rt.alloc(), 0, &[0, 1], &unnamed, 4, 0);
-    assert!(rt; fault == Ok(Some(VerifyFault::WrongForks)));
+    assert!(rt; fault == Some(Some(VerifyFault::WrongForks)));
 }
 
-/// Returns two equal lists of 256 bundles, taken at different places, which many jumps compare.
-fn comparing(alloc: Global) -> Result<Vec<Instr>, NoMemory> {
-    let mut code = Vec::new(alloc);
-    let body: u16 = 2 + 256 + 2 * 9_500 + 1 + 256;
-    code.push(Instr::Push(0))?;
-    code.push(Instr::JumpIfZero(2 + 256 + 2 * 9_500 + 1))?;
-    for _ in 0..256u16 {
-        code.push(ONE)?;
+/// Adds instructions again and again.
+fn repeat(code: &mut Vec<Instr>, instrs: &[Instr], times: usize) -> Option<()> {
+    for _ in 0..times {
+        code.extend_from_slice(instrs).ok()?;
     }
+    Some(())
+}
+
+/// The place behind the jumps and the second list of bundles.
+const PRINTS: u16 = 2 + 256 + 2 * 9_500 + 1 + 256;
+
+/// Adds tests that jump to a print each.
+fn add_jumps(code: &mut Vec<Instr>) -> Option<()> {
     for i in 0..9_500u16 {
-        code.push(Instr::Push(0))?;
-        code.push(Instr::JumpIfZero(body + 2 * i))?;
+        let jump = [Instr::Push(0), Instr::JumpIfZero(PRINTS + 2 * i)];
+        code.extend_from_slice(&jump).ok()?;
     }
-    code.push(Instr::Jump(body))?;
-    for _ in 0..256u16 {
-        code.push(ONE)?;
+    Some(())
+}
+
+/// Adds each of these lists of instructions as often as it says.
+fn add_each(code: &mut Vec<Instr>, lists: &[(&[Instr], usize)]) -> Option<()> {
+    for (instrs, times) in lists {
+        repeat(code, *instrs, *times)?;
     }
-    for _ in 0..9_500u16 {
-        code.push(Instr::Push(0))?;
-        code.push(Instr::Print)?;
-    }
-    for _ in 0..256u16 {
-        code.push(Instr::Give(0))?;
-    }
-    code.push(Instr::End)?;
-    Ok(code)
+    Some(())
+}
+
+const BEFORE_THE_JUMPS: [(&[Instr], usize); 2] = [
+    (
+        &[Instr::Push(0), Instr::JumpIfZero(2 + 256 + 2 * 9_500 + 1)],
+        1,
+    ),
+    (&[ONE], 256),
+];
+
+const BEHIND_THE_JUMPS: [(&[Instr], usize); 5] = [
+    (&[Instr::Jump(PRINTS)], 1),
+    (&[ONE], 256),
+    (&[Instr::Push(0), Instr::Print], 9_500),
+    (&[Instr::Give(0)], 256),
+    (&[Instr::End], 1),
+];
+
+/// Returns two equal lists of 256 bundles, taken at different places, which many jumps compare.
+fn comparing(alloc: Global) -> Option<Vec<Instr>> {
+    let mut code = Vec::new(alloc);
+    add_each(&mut code, &BEFORE_THE_JUMPS)?;
+    add_jumps(&mut code)?;
+    add_each(&mut code, &BEHIND_THE_JUMPS)?;
+    Some(code)
 }
 
 #[test]
 fn many_comparisons(rt: HostRuntime) {
-    let Ok(code) = comparing(rt.alloc()) else {
+    let Some(code) = comparing(rt.alloc()) else {
         panic!(rt; "out of memory")
     };
     let accepted = fault_of(rt.alloc(), 0, &[0], &code, 256, 256);
-    assert!(rt; accepted == Ok(None));
+    assert!(rt; accepted == Some(None));
     let refused = fault_of(rt.alloc(), 0, &[0], &code, 256, 255);
-    assert!(rt; refused == Ok(Some(VerifyFault::OverClaim)));
+    assert!(rt; refused == Some(Some(VerifyFault::OverClaim)));
 }
 
 // ---- texts of objects
@@ -341,8 +377,8 @@ const OBJECTS: [(&[u8], &[u8], VerifyFault); 10] = [
 
 #[test]
 fn each_fault_of_a_text(rt: HostRuntime) {
-    for (capital, rest, fault) in OBJECTS {
-        assert!(rt; fault_in(rt.alloc(), capital, rest) == Some(fault));
+    for (capital, rest, fault) in &OBJECTS {
+        assert!(rt; fault_in(rt.alloc(), *capital, *rest) == Some(*fault));
     }
 }
 
@@ -400,8 +436,8 @@ fn verified_changes(alloc: Global, text: &[u8]) -> Option<usize> {
 
 #[test]
 fn one_byte_changed(rt: HostRuntime) {
-    for text in [LOOP, JOINT] {
-        let Some(verified) = verified_changes(rt.alloc(), text) else {
+    for text in &[LOOP, JOINT] {
+        let Some(verified) = verified_changes(rt.alloc(), *text) else {
             panic!(rt; "a code is not read again")
         };
         assert!(rt; verified > 0 && verified < text.len());

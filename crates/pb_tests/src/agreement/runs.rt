@@ -13,7 +13,7 @@ use pb_rewrite::Source;
 use std::alloc::Global;
 
 /// A silent run of an arm, of at most `max` picks.
-#[derive(Clone, Copy, Debug, PartialEq, Eq)]
+#[derive(Clone, Copy)]
 pub(super) struct Run {
     pub(super) pick: Pick,
     pub(super) max: u32,
@@ -33,7 +33,7 @@ fn same_machines(one: &Machine, other: &Machine) -> bool {
 }
 
 /// Returns whether a pick showed nothing, and was made.
-fn is_silent(seen: Seen) -> bool {
+pub(super) fn is_silent(seen: Seen) -> bool {
     matches!(seen, Seen::Skipped | Seen::Silent)
 }
 

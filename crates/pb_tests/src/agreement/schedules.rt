@@ -72,16 +72,6 @@ fn draw(alloc: Global, machine: &Machine, draws: &mut Draws) -> Result<Pick, NoM
     })
 }
 
-/// Where the two sides first differ.
-#[derive(Clone, Copy, Debug, PartialEq, Eq)]
-pub(super) struct Parting {
-    /// How many runs were made before the one after which they differ.
-    made: usize,
-    /// That run; none if they differ before any.
-    run: Option<Run>,
-    difference: Difference,
-}
-
 /// Returns the limit of a silent run: 0 half of the time, so that a pick is made alone.
 fn limit(draws: &mut Draws) -> u32 {
     if draws.below(2) == 0 {
@@ -101,12 +91,12 @@ fn make_picks(
     source: &mut Source<Global>,
     draws: &mut Draws,
     tally: &mut Tally,
-) -> Result<Option<Parting>, NoMemory>
+) -> Result<Option<Difference>, NoMemory>
     requires machine { IsMachineOf compiled.now.verified machine.old }
     requires beside { IsMachineOf compiled.now.verified beside.old }
     requires source { IsSource source.old }
 {
-    for made in 0..MOST_RUNS {
+    for _made in 0..MOST_RUNS {
         if machine.finished() && draws.below(4) == 0 {
             return Ok(None);
         }
@@ -114,24 +104,20 @@ fn make_picks(
         let max = limit(draws);
         let run = Run { pick, max };
         let difference = make_run(alloc, compiled, machine, beside, source, run, tally)?;
-        if let Some(difference) = difference {
-            return Ok(Some(Parting {
-                made,
-                run: Some(run),
-                difference,
-            }));
+        if difference.is_some() {
+            return Ok(difference);
         }
     }
     Ok(None)
 }
 
-/// Steps a program on both sides under a schedule, and says where they first differ, if they do.
+/// Steps a program on both sides under a schedule, and returns in what they first differ, if they do.
 pub(super) fn follow(
     alloc: Global,
     program: &Program,
     schedule: u64,
     tally: &mut Tally,
-) -> Result<Option<Parting>, NoMemory>
+) -> Result<Option<Difference>, NoMemory>
     requires { Fits (resolved_view program.now.analysis.program) program.now.analysis.claims }
 {
     let compiled = &program.compiled;
@@ -139,12 +125,9 @@ pub(super) fn follow(
     let mut machine = Machine::new(alloc, compiled.verified())?;
     let mut beside = Machine::new(alloc, compiled.verified())?;
     let mut source = Source::new(alloc, alloc, &analysis.program, &analysis.claims)?;
-    if let Some(difference) = first_difference(compiled.labels(), &machine, &source) {
-        return Ok(Some(Parting {
-            made: 0,
-            run: None,
-            difference,
-        }));
+    let difference = first_difference(compiled.labels(), &machine, &source);
+    if difference.is_some() {
+        return Ok(difference);
     }
     let mut draws = Draws::new(schedule);
     make_picks(

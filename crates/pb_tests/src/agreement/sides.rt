@@ -65,7 +65,7 @@ fn is_skipped(code: &Code, machine: &Machine, pick: Pick) -> bool {
 }
 
 /// What a pick shows on both sides, of the process and the arm.
-#[derive(Clone, Copy, Debug, PartialEq, Eq)]
+#[derive(Clone, Copy, PartialEq, Eq)]
 pub(super) enum Seen {
     /// The machine moved numbers about, and the source was not asked.
     Skipped,

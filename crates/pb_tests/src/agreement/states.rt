@@ -10,7 +10,7 @@ use pb_rewrite::Source;
 use std::alloc::Global;
 
 /// In what the two sides differ.
-#[derive(Clone, Copy, Debug, PartialEq, Eq)]
+#[derive(Clone, Copy)]
 pub(super) enum Difference {
     /// In the answer to a pick.
     Answer,

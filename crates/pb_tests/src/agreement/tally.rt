@@ -2,7 +2,7 @@
 
 use crate::agreement::sides::Seen;
 
-#[derive(Clone, Copy, Debug, PartialEq, Eq)]
+#[derive(Clone, Copy)]
 pub(super) struct Tally {
     pub(super) skipped: u64,
     pub(super) silent: u64,
@@ -26,6 +26,18 @@ impl Tally {
             faulted: 0,
             finished: 0,
         }
+    }
+
+    /// Returns whether each result came more often than this.
+    pub(super) fn has_more_than(&self, times: u64) -> bool {
+        self.skipped > times
+            && self.silent > times
+            && self.not_enabled > times
+            && self.granted > times
+            && self.returned > times
+            && self.printed > times
+            && self.faulted > times
+            && self.finished > times
     }
 
     /// Counts what a pick showed.

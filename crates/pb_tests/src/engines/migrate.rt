@@ -3,29 +3,26 @@
 use crate::objects::{FIRST, MOVED, SECOND};
 use pb_base::device::{MemoryInput, MemoryOutput};
 use pb_engines::{Status, migrate_engine};
-use std::process::Abort;
-use std::test::Fail;
+use std::alloc::Global;
 
-/// Migrates an object, and compares what is written.
-fn check(
-    rt: &(impl Abort + AllocGlobal),
-    object: &[u8],
-    status: Status,
-    said: &[u8],
-) -> Result<(), Fail> {
-    let alloc = rt.alloc();
+/// Returns whether this status and this text are the answer to an object.
+fn answers(alloc: Global, object: &[u8], status: Status, said: &[u8]) -> bool {
     let mut input = MemoryInput::new(object);
-    let mut output = MemoryOutput::new(alloc, 256)?;
-    assert_eq!(rt; migrate_engine(alloc, &mut input, &mut output), status);
-    assert_eq!(rt; output.as_slice(), said);
-    Ok(())
+    match MemoryOutput::new(alloc, 256) {
+        Ok(output) => {
+            let mut output = output;
+            let answered = migrate_engine(alloc, &mut input, &mut output);
+            answered == status && output.as_slice() == said
+        }
+        Err(_) => false,
+    }
 }
 
 #[test]
-fn writes_the_second_format(rt: HostRuntime) -> Result<(), Fail> {
-    check(&rt, FIRST, Status::Done, MOVED)?;
-    check(&rt, MOVED, Status::Done, MOVED)?;
-    check(&rt, SECOND, Status::Done, SECOND)
+fn writes_the_second_format(rt: HostRuntime) {
+    for (object, said) in &[(FIRST, MOVED), (MOVED, MOVED), (SECOND, SECOND)] {
+        assert!(rt; answers(rt.alloc(), *object, Status::Done, *said));
+    }
 }
 
 /// Jumps out of its code.
@@ -56,10 +53,15 @@ end
 ";
 
 #[test]
-fn refuses_objects(rt: HostRuntime) -> Result<(), Fail> {
-    check(&rt, JUMPS_OUT, Status::Refused, b"refused V1\n")?;
-    check(&rt, TOO_MANY, Status::Refused, b"refused O2 at 40\n")?;
+fn refuses_objects(rt: HostRuntime) {
     let not_ended = &FIRST[..FIRST.len() - 1];
-    check(&rt, not_ended, Status::Refused, b"refused O1 at 113\n")?;
-    check(&rt, b"", Status::Refused, b"refused O1 at 0\n")
+    let table: [(&[u8], &[u8]); 4] = [
+        (JUMPS_OUT, b"refused V1\n"),
+        (TOO_MANY, b"refused O2 at 40\n"),
+        (not_ended, b"refused O1 at 113\n"),
+        (b"", b"refused O1 at 0\n"),
+    ];
+    for (object, said) in &table {
+        assert!(rt; answers(rt.alloc(), *object, Status::Refused, *said));
+    }
 }

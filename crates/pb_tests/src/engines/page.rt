@@ -2,33 +2,45 @@
 
 use pb_base::device::MemoryOutput;
 use pb_engines::{Page, Status};
-use std::test::Fail;
+use std::alloc::Global;
 
-#[test]
-fn writes_when_finished(rt: HostRuntime) -> Result<(), Fail> {
-    let alloc = rt.alloc();
-    let mut output = MemoryOutput::new(alloc, 64)?;
+/// Returns whether lines are written when a page is finished, and not before.
+fn is_written_when_finished(alloc: Global) -> Option<bool> {
+    let mut output = MemoryOutput::new(alloc, 64).ok()?;
     let mut page = Page::new(alloc);
-    page.say_line(&mut output, b"one")?;
-    assert_eq!(rt; output.as_slice(), b"".as_slice());
-    page.say(&mut output, b"two ")?;
+    page.say_line(&mut output, b"one").ok()?;
+    let is_kept = output.as_slice() == b"".as_slice();
+    page.say(&mut output, b"two ").ok()?;
     let status = page.finish_with(&mut output, b"three", Status::Limit);
-    assert_eq!(rt; status, Status::Limit);
-    assert_eq!(rt; output.as_slice(), b"one\ntwo three\n".as_slice());
-    Ok(())
+    let is_written = output.as_slice() == b"one\ntwo three\n".as_slice();
+    Some(is_kept && status == Status::Limit && is_written)
 }
 
 #[test]
-fn writes_full_pages(rt: HostRuntime) -> Result<(), Fail> {
-    let alloc = rt.alloc();
-    let mut output = MemoryOutput::new(alloc, 8_192)?;
-    let mut page = Page::new(alloc);
+fn writes_when_finished(rt: HostRuntime) {
+    assert!(rt; is_written_when_finished(rt.alloc()) == Some(true));
+}
+
+/// Says 600 lines of eight bytes.
+fn say_lines(page: &mut Page, output: &mut MemoryOutput) -> Option<()> {
     for _ in 0..600 {
-        page.say_line(&mut output, b"1234567")?;
+        page.say_line(output, b"1234567").ok()?;
     }
-    assert_eq!(rt; output.as_slice().len(), 4_103);
-    page.flush(&mut output)?;
-    assert_eq!(rt; page.finish(&mut output, Status::Done), Status::Done);
-    assert_eq!(rt; output.as_slice().len(), 4_800);
-    Ok(())
+    Some(())
+}
+
+/// Returns whether a full page of these lines is written at once, and the rest at the end.
+fn is_written_by_pages(alloc: Global) -> Option<bool> {
+    let mut output = MemoryOutput::new(alloc, 8_192).ok()?;
+    let mut page = Page::new(alloc);
+    say_lines(&mut page, &mut output)?;
+    let before = output.as_slice().len();
+    page.flush(&mut output).ok()?;
+    let status = page.finish(&mut output, Status::Done);
+    Some(before == 4_103 && status == Status::Done && output.as_slice().len() == 4_800)
+}
+
+#[test]
+fn writes_full_pages(rt: HostRuntime) {
+    assert!(rt; is_written_by_pages(rt.alloc()) == Some(true));
 }

@@ -5,9 +5,7 @@ ghost use Rattle.std.specs.Prelude.{◌≡◌, ◌≤◌};
 use crate::texts::{DEVICES, FAULT, HELLO, INCREMENTS, LOST, LOST_RUN, NESTED};
 use pb_base::device::{MemoryInput, MemoryOutput};
 use pb_engines::{RecordOptions, RunOptions, Status, record_engine, replay_engine, run_engine};
-use std::process::Abort;
 use std::sync::Wait;
-use std::test::Fail;
 use std::thread::Threads;
 
 /// Returns one worker, and at most `steps` picks.
@@ -104,8 +102,8 @@ fn writes_the_text_and_its_picks(rt: HostRuntime) {
         (2, b"process p begin print 1 end\n%%\np.0 2\n".as_slice()),
         (0, b"process p begin print 1 end\n%%\n".as_slice()),
     ];
-    for (steps, said) in table {
-        assert_eq!(rt; writes(&rt, HELLO, steps, None, said), Some(true));
+    for (steps, said) in &table {
+        assert!(rt; writes(&rt, HELLO, *steps, None, *said) == Some(true));
     }
 }
 
@@ -127,20 +125,20 @@ fn adds_a_line_feed_and_draws_picks(rt: HostRuntime) {
         (1_000, Some(8), kept.as_slice()),
         (1_000, Some(3), lost.as_slice()),
     ];
-    for (steps, seed, said) in table {
-        assert_eq!(rt; writes(&rt, INCREMENTS, steps, seed, said), Some(true));
+    for (steps, seed, said) in &table {
+        assert!(rt; writes(&rt, INCREMENTS, *steps, *seed, *said) == Some(true));
     }
 }
 
 #[test]
 fn a_seed_draws_the_recorded_example(rt: HostRuntime) {
-    assert_eq!(rt; writes(&rt, LOST, 1_000, Some(5), LOST_RUN), Some(true));
+    assert!(rt; writes(&rt, LOST, 1_000, Some(5), LOST_RUN) == Some(true));
 }
 
 #[test]
 fn a_replay_says_what_the_run_says(rt: HostRuntime) {
-    for text in [HELLO, DEVICES, INCREMENTS, FAULT, NESTED] {
-        assert_eq!(rt; replays_its_run(&rt, text), Some(true));
+    for text in &[HELLO, DEVICES, INCREMENTS, FAULT, NESTED] {
+        assert!(rt; replays_its_run(&rt, *text) == Some(true));
     }
 }
 
@@ -150,7 +148,7 @@ fn seeds_lose_or_keep_an_update(rt: HostRuntime) {
         (3, b"p.0 print 1\np end\ndone\n".as_slice()),
         (8, b"p.0 print 2\np end\ndone\n".as_slice()),
     ];
-    for (seed, said) in table {
-        assert_eq!(rt; replays(&rt, INCREMENTS, seed, said), Some(true));
+    for (seed, said) in &table {
+        assert!(rt; replays(&rt, INCREMENTS, *seed, *said) == Some(true));
     }
 }

@@ -1,13 +1,9 @@
 //! Texts that are run, and what is written of them.
 
-ghost use Rattle.std.specs.Prelude.{◌≤◌};
-
-use crate::texts::{EXAMPLES, FAULT, HELLO, INCREMENTS, PROGRAMS};
+use crate::texts::{EXAMPLES, FAULT, HELLO, INCREMENTS, PROGRAMS, repeated};
 use pb_base::device::{MemoryInput, MemoryOutput};
 use pb_engines::{RunOptions, Status, run_engine};
-use std::process::Abort;
 use std::sync::Wait;
-use std::test::Fail;
 use std::thread::Threads;
 
 /// What is written of each of the programs of `examples/`, in their order.
@@ -150,96 +146,124 @@ done
     ),
 ];
 
-/// Runs a text by one worker for at most `steps` picks, and compares what is written.
-fn check(
-    rt: &(impl Abort + AllocGlobal + Threads + Wait + Sync),
-    quantum: u32,
-    steps: u32,
+/// Returns whether this status and these lines are the answer to a text.
+fn answers(
+    rt: &(impl AllocGlobal + Threads + Wait + Sync),
+    options: RunOptions,
     text: &[u8],
     status: Status,
     said: &[u8],
-) -> Result<(), Fail>
-    requires quantum { 1 ≤ quantum }
-    requires fits { quantum ≤ 4096 }
-    requires steps { steps ≤ 10000000 }
-{
-    let alloc = rt.alloc();
+) -> bool {
     let mut input = MemoryInput::new(text);
-    let mut output = MemoryOutput::new(alloc, 2_048)?;
-    let options = RunOptions {
-        workers: 1,
-        quantum,
-        steps,
-    };
-    let answered = run_engine(rt, alloc, options, &mut input, &mut output);
-    assert_eq!(rt; answered, status);
-    assert_eq!(rt; output.as_slice(), said);
-    Ok(())
+    match MemoryOutput::new(rt.alloc(), 2_048) {
+        Ok(output) => {
+            let mut output = output;
+            let answered = run_engine(rt, rt.alloc(), options, &mut input, &mut output);
+            answered == status && output.as_slice() == said
+        }
+        Err(_) => false,
+    }
 }
 
+/// One worker and at most a million picks.
+const MILLION: RunOptions = RunOptions {
+    workers: 1,
+    quantum: 64,
+    steps: 1_000_000,
+};
+
 #[test]
-fn runs_the_examples(rt: HostRuntime) -> Result<(), Fail> {
+fn runs_the_examples(rt: HostRuntime) {
     for (text, (status, said)) in EXAMPLES.iter().zip(EVENTS.iter()) {
-        check(&rt, 64, 1_000_000, text, *status, said)?;
+        assert!(rt; answers(&rt, MILLION, text, *status, said));
     }
-    Ok(())
 }
 
+const THREE: RunOptions = RunOptions {
+    workers: 1,
+    quantum: 64,
+    steps: 3,
+};
+
+const TWO: RunOptions = RunOptions {
+    workers: 1,
+    quantum: 64,
+    steps: 2,
+};
+
+const NONE: RunOptions = RunOptions {
+    workers: 1,
+    quantum: 64,
+    steps: 0,
+};
+
 #[test]
-fn stops_after_its_steps(rt: HostRuntime) -> Result<(), Fail> {
+fn stops_after_its_steps(rt: HostRuntime) {
     let done = b"p.0 print 1\np end\ndone\n";
-    check(&rt, 64, 3, HELLO, Status::Done, done)?;
-    let printed = b"p.0 print 1\nlimit 2\n";
-    check(&rt, 64, 2, HELLO, Status::Limit, printed)?;
-    check(&rt, 64, 0, HELLO, Status::Limit, b"limit 0\n")
+    assert!(rt; answers(&rt, THREE, HELLO, Status::Done, done));
+    assert!(rt; answers(&rt, TWO, HELLO, Status::Limit, b"p.0 print 1\nlimit 2\n"));
+    assert!(rt; answers(&rt, NONE, HELLO, Status::Limit, b"limit 0\n"));
 }
 
+const THOUSAND: RunOptions = RunOptions {
+    workers: 1,
+    quantum: 64,
+    steps: 1_000,
+};
+
+const ONE_BY_ONE: RunOptions = RunOptions {
+    workers: 1,
+    quantum: 1,
+    steps: 1_000,
+};
+
 #[test]
-fn a_quantum_of_one_loses_an_update(rt: HostRuntime) -> Result<(), Fail> {
+fn a_quantum_of_one_loses_an_update(rt: HostRuntime) {
     let kept = b"p.0 print 2\np end\ndone\n";
-    check(&rt, 64, 1_000, INCREMENTS, Status::Done, kept)?;
+    assert!(rt; answers(&rt, THOUSAND, INCREMENTS, Status::Done, kept));
     let lost = b"p.0 print 1\np end\ndone\n";
-    check(&rt, 1, 1_000, INCREMENTS, Status::Done, lost)
+    assert!(rt; answers(&rt, ONE_BY_ONE, INCREMENTS, Status::Done, lost));
 }
 
 #[test]
-fn tells_branches_and_faults(rt: HostRuntime) -> Result<(), Fail> {
+fn tells_branches_and_faults(rt: HostRuntime) {
     let branches = b"p.0 print 9\np.0 print 8\np end\ndone\n";
-    check(&rt, 64, 1_000, PROGRAMS[19], Status::Done, branches)?;
+    assert!(rt; answers(&rt, THOUSAND, PROGRAMS[19], Status::Done, branches));
     let divided = b"p.0 grant 1 t\np.0 fault divide\ndone\n";
-    check(&rt, 64, 1_000, PROGRAMS[5], Status::Fault, divided)?;
+    assert!(rt; answers(&rt, THOUSAND, PROGRAMS[5], Status::Fault, divided));
     let in_an_arm = b"p.1 grant 1 t\np.2 fault divide\ndone\n";
-    check(&rt, 64, 1_000, FAULT, Status::Fault, in_an_arm)
+    assert!(rt; answers(&rt, THOUSAND, FAULT, Status::Fault, in_an_arm));
 }
 
+/// Texts that are refused, and what is said of them.
+const REFUSED: [(&[u8], &[u8]); 5] = [
+    (b"", b"refused P1 at 0\n"),
+    (b"// only a comment", b"refused P1 at 0\n"),
+    (b"process p begin print 1 % 2 end", b"refused L2 at 24\n"),
+    (b"process p begin x := 1 end", b"refused N3 at 16\n"),
+    (
+        b"resource t = 3; process p begin hold 4 of t do skip od end",
+        b"refused C1 p t claim 4 capital 3\n",
+    ),
+];
+
+const SEVENTEEN: RunOptions = RunOptions {
+    workers: 1,
+    quantum: 64,
+    steps: 17,
+};
+
 #[test]
-fn refuses_texts(rt: HostRuntime) -> Result<(), Fail> {
-    let refused: [(&[u8], &[u8]); 5] = [
-        (b"", b"refused P1 at 0\n"),
-        (b"// only a comment", b"refused P1 at 0\n"),
-        (b"process p begin print 1 % 2 end", b"refused L2 at 24\n"),
-        (b"process p begin x := 1 end", b"refused N3 at 16\n"),
-        (
-            b"resource t = 3; process p begin hold 4 of t do skip od end",
-            b"refused C1 p t claim 4 capital 3\n",
-        ),
-    ];
-    for (text, line) in refused {
-        check(&rt, 64, 17, text, Status::Refused, line)?;
+fn refuses_texts(rt: HostRuntime) {
+    for (text, line) in &REFUSED {
+        assert!(rt; answers(&rt, SEVENTEEN, *text, Status::Refused, *line));
     }
-    Ok(())
 }
 
 #[test]
-fn refuses_a_long_input(rt: HostRuntime) -> Result<(), Fail> {
-    let alloc = rt.alloc();
-    let text = vec![in alloc; b' '; 4_194_305]?;
-    check(
-        &rt,
-        64,
-        17,
-        text.as_slice(),
-        Status::Refused,
-        b"refused input\n",
-    )
+fn refuses_a_long_input(rt: HostRuntime) {
+    let Ok(text) = repeated(rt.alloc(), b"", b" ", 4_194_305, b"") else {
+        panic!(rt; "out of memory")
+    };
+    assert!(rt; answers(&rt, SEVENTEEN, &text, Status::Refused, b"refused input\n"));
 }

@@ -2,14 +2,20 @@
 
 use pb_engines::Status;
 
+const NUMBERS: [(Status, u8); 8] = [
+    (Status::Done, 0),
+    (Status::Refused, 1),
+    (Status::Words, 2),
+    (Status::Limit, 3),
+    (Status::Fault, 4),
+    (Status::Memory, 5),
+    (Status::Device, 6),
+    (Status::Threads, 7),
+];
+
 #[test]
 fn each_status_has_its_number(rt: HostRuntime) {
-    assert_eq!(rt; Status::Done.number(), 0);
-    assert_eq!(rt; Status::Refused.number(), 1);
-    assert_eq!(rt; Status::Words.number(), 2);
-    assert_eq!(rt; Status::Limit.number(), 3);
-    assert_eq!(rt; Status::Fault.number(), 4);
-    assert_eq!(rt; Status::Memory.number(), 5);
-    assert_eq!(rt; Status::Device.number(), 6);
-    assert_eq!(rt; Status::Threads.number(), 7);
+    for (status, number) in &NUMBERS {
+        assert!(rt; status.number() == *number);
+    }
 }

@@ -1,61 +1,70 @@
 //! Texts cut in little memory.
 
+use crate::texts::repeated;
 use linked_list_allocator::LocalHeap;
 use pb_lexer::error::LexFault;
 use pb_lexer::lexer::lex;
-use pb_lexer::token::{Kind, Mark};
-use std::process::Abort;
-use std::test::Fail;
+use pb_lexer::token::{Kind, Mark, Token};
+use std::alloc::Global;
 
-/// Returns whether a text of `brackets` brackets is cut in a heap of `size` bytes; if not, it is out of
-/// memory.
-fn fits(
-    rt: &(impl Abort + AllocGlobal),
-    size: usize,
-    text: &[u8],
-    brackets: usize,
-) -> Result<bool, Fail> {
-    let heap = LocalHeap::new(rt.alloc(), size)?;
-    match lex(&heap, text) {
-        Ok(tokens) => {
-            assert_eq!(rt; tokens.len(), brackets);
-            for (at, token) in tokens.iter().enumerate() {
-                assert!(rt; token.kind() == Kind::Mark(Mark::Open));
-                assert_eq!(rt; token.start(), at);
-            }
-            Ok(true)
-        }
-        Err(fault) => {
-            assert_eq!(rt; fault, LexFault::NoMemory);
-            assert_eq!(rt; heap.used(), 0);
-            Ok(false)
+/// Returns whether the tokens are these brackets, one behind the other.
+fn are_brackets(tokens: &[Token<'_>], brackets: usize) -> bool {
+    for (at, token) in tokens.iter().enumerate() {
+        if token.kind() != Kind::Mark(Mark::Open) || token.start() != at {
+            return false;
         }
     }
+    tokens.len() == brackets
 }
 
-#[test]
-fn runs_out_of_memory_and_fails_for_nothing_else(rt: HostRuntime) -> Result<(), Fail> {
+/// Returns whether a text of `brackets` brackets is cut in a heap of `size` bytes; if not, it is out of
+/// memory. There is no answer if it is cut otherwise, or for another fault.
+fn fits(alloc: Global, size: usize, text: &[u8], brackets: usize) -> Option<bool> {
+    let Ok(heap) = LocalHeap::new(alloc, size) else {
+        return None;
+    };
+    let (is_made, is_as_told) = match lex(&heap, text) {
+        Ok(tokens) => (true, are_brackets(tokens.as_slice(), brackets)),
+        Err(fault) => (false, fault == LexFault::NoMemory && heap.used() == 0),
+    };
+    if is_as_told { Some(is_made) } else { None }
+}
+
+/// Returns the greatest heap that is too small for the brackets, in units of 16 bytes.
+fn too_small(alloc: Global) -> Option<usize> {
     // Room for 8 tokens is asked for first, and then for 16, 32 and 64.
     let text = [b'('; 64];
     let mut too_small = 0;
     for turn in 4..4_096 {
-        if fits(&rt, 16 * turn, &text, text.len())? {
+        if fits(alloc, 16 * turn, &text, text.len())? {
             break;
         }
         too_small = turn;
     }
-    assert!(rt; too_small > 100);
-    assert!(rt; too_small < 4_000);
-    Ok(())
+    Some(too_small)
+}
+
+fn runs_out_of_memory(alloc: Global) -> Option<bool> {
+    let too_small = too_small(alloc)?;
+    Some(too_small > 100 && too_small < 4_000)
 }
 
 #[test]
-fn tells_a_long_text_without_memory(rt: HostRuntime) -> Result<(), Fail> {
-    let mut text = Vec::new(rt.alloc());
-    for _turn in 0..65_537 {
-        text.push(b' ')?;
+fn runs_out_of_memory_and_fails_for_nothing_else(rt: HostRuntime) {
+    assert!(rt; runs_out_of_memory(rt.alloc()) == Some(true));
+}
+
+/// Returns the fault of a text of 65,537 blanks without memory.
+fn fault_of_blanks(alloc: Global) -> Option<LexFault> {
+    let text = repeated(alloc, b"", b" ", 65_537, b"").ok()?;
+    let heap = LocalHeap::new(alloc, 64).ok()?;
+    match lex(&heap, text.as_slice()) {
+        Ok(_) => None,
+        Err(fault) => Some(fault),
     }
-    let heap = LocalHeap::new(rt.alloc(), 64)?;
-    assert!(rt; lex(&heap, text.as_slice()).err() == Some(LexFault::TooLong));
-    Ok(())
+}
+
+#[test]
+fn tells_a_long_text_without_memory(rt: HostRuntime) {
+    assert!(rt; fault_of_blanks(rt.alloc()) == Some(LexFault::TooLong));
 }
