@@ -1,10 +1,21 @@
--- Processes in which stretches are lent.
+-- What is lent of processes.
 use Rattle.std.specs.Prelude.{◌≡◌, ℕ, List, length, Option, Some, Box, slice_get}
 use Rattle.std.specs.declared.alloc.Global.{Global}
-use Rattle.pb_machine.specs.Views.{IsProcessOf}
+use Rattle.pb_machine.specs.Views.{proc_view, IsProcessOf}
 use Rattle.pb_verifier.specs.Verified.{VerifiedCode}
+use Rattle.pb_shared.specs.Lending.{Lent}
 use Rattle.pb_shared.specs.declared.slip.Slip.{Slip}
 use Rattle.pb_shared.specs.declared.spare.Spare.{Spare}
+
+-- its arm, numbers of picks and states
+abbrev pub lent_as : Spare → Lent
+lent_as spare = record {
+  pick = spare.pick;
+  allowance = spare.allowance;
+  made = spare.made;
+  base = proc_view spare.base;
+  state = proc_view spare.state;
+}
 
 -- both are processes of process p, with room for its operands
 pub record IsSpareOf (code : VerifiedCode) (p : ℕ) (spare : Spare) : Type 0 where

@@ -10,6 +10,7 @@ use crate::book::Book;
 use crate::brand::CodeBrand;
 use crate::fault::CommitFault;
 use crate::slip::Slip;
+use crate::spare::Spare;
 use crate::stretch::Stretch;
 use crate::taken::Taken;
 use crate::visible::try_visible;
@@ -37,12 +38,11 @@ impl<'v, C: CodeBrand> Book<'v, C> {
         }
         let Stretch {
             code: _,
-            pick,
-            allowance,
-            made,
             mut spare,
             brand: _,
         } = stretch;
+        let lent: &Spare = &spare;
+        let (pick, allowance, made) = (lent.pick, lent.allowance, lent.made);
         let process = usize::from(pick.process);
         self.trace.push_silent(pick, made);
         spare.exchange(process, &mut self.machine);
@@ -93,13 +93,12 @@ impl<'v, C: CodeBrand> Book<'v, C> {
         }
         let Stretch {
             code: _,
-            pick,
-            allowance,
-            made: _,
             spare,
             brand: _,
         } = stretch;
-        let process = usize::from(pick.process);
+        let lent: &Spare = &spare;
+        let process = usize::from(lent.pick.process);
+        let allowance = lent.allowance;
         self.spares[process] = Some(spare);
         self.slips[process] = None;
         self.left += allowance;
@@ -110,18 +109,18 @@ impl<'v, C: CodeBrand> Book<'v, C> {
     fn lent(&self, stretch: &Stretch<'v, C>) -> bool
         ensures { IsTrue result ↔ IsLentBy self.now stretch.now }
     {
-        let pick = stretch.pick;
-        let process = usize::from(pick.process);
+        let lent: &Spare = &stretch.spare;
+        let process = usize::from(lent.pick.process);
         let Some(slip) = self.slip(process) else {
             return false;
         };
-        if slip.arm != pick.arm {
+        if slip.arm != lent.pick.arm {
             return false;
         }
-        if slip.allowance != stretch.allowance {
+        if slip.allowance != lent.allowance {
             return false;
         }
-        self.machine.proc(process).same(&stretch.spare.base)
+        self.machine.proc(process).same(&lent.base)
     }
 
     /// Returns the slip of a process, if it is out.

@@ -1,9 +1,10 @@
-//! Processes in which stretches are lent.
+//! What is lent of a process.
 
-ghost use Rattle.std.specs.Prelude.{◌≡◌, ◌<◌, ◌≤◌, ℕ, IfOk, Some, length, set, slice_get};
-ghost use Rattle.pb_machine.specs.Steps.{ComesFrom, MakesSilently, StepsAloud};
-ghost use Rattle.pb_machine.specs.Views.{machine_view, proc_view, rooms_of, IsMachineOf, IsProcessOf};
-ghost use Rattle.pb_shared.specs.Spares.{IsSpareOf};
+ghost use Rattle.std.specs.Prelude.{◌≡◌, ◌+◌, ◌<◌, ◌⊎◌, ℕ, IfOk, length, set};
+ghost use Rattle.pb_machine.specs.Steps.{ComesFrom, StepsAloud};
+ghost use Rattle.pb_machine.specs.Views.{machine_view, proc_view, IsMachineOf, IsProcessOf};
+ghost use Rattle.pb_shared.specs.Lending.{IsSilentRun};
+ghost use Rattle.pb_shared.specs.Spares.{lent_as, IsSpareOf};
 ghost use Rattle.pb_verifier.specs.Verified.{VerifiedCode, IsVerified};
 
 use pb_base::{NoMemory, Pick};
@@ -11,49 +12,70 @@ use pb_machine::{Machine, Proc};
 use pb_verifier::Verified;
 use std::alloc::Global;
 
-/// Two processes of one code, whose room serves for each stretch of that process: one for its base, and one for its
-/// state. It is lent in a box, so that what is moved with a stretch is small.
+/// What is lent of a process: the arm, how many picks it may make and how many it made, and the process as it was lent
+/// and as it is now. It comes home with its stretch and serves for the next one of that process, so that this takes no
+/// memory. It is in a box, so that little is moved with a stretch.
 #[derive(Drop)]
 pub struct Spare {
+    pub(crate) pick: Pick,
+    pub(crate) allowance: u32,
+    pub(crate) made: u32,
     pub(crate) base: Proc,
     pub(crate) state: Proc,
 }
 
 impl Spare {
-    /// Copies a process twice.
-    pub(crate) fn copies_of(alloc: Global, process: &Proc) -> Result<Box<Spare>, NoMemory>
+    /// Copies a process twice, for an arm that may make no pick.
+    pub(crate) fn copies_of(
+        alloc: Global,
+        pick: Pick,
+        process: &Proc,
+    ) -> Result<Box<Spare>, NoMemory>
         ensures { IfOk result (λ spare. (v : VerifiedCode) → (p : ℕ) → IsProcessOf v p process.now
             → IsSpareOf v p spare.value) }
     {
         let base = process.copy(alloc)?;
         let state = process.copy(alloc)?;
-        Ok(Box::new(alloc, Spare { base, state })?)
+        Ok(Box::new(
+            alloc,
+            Spare {
+                pick,
+                allowance: 0,
+                made: 0,
+                base,
+                state,
+            },
+        )?)
     }
 
-    /// Sets both to a process of the same code. No memory is taken.
-    pub(crate) fn set_to(&mut self, process: &Proc)
+    /// Sets both processes to one of the same code, for an arm that may make so many picks. No memory is taken.
+    pub(crate) fn begin(&mut self, process: &Proc, pick: Pick, allowance: u32)
         requires { (v : VerifiedCode) × (p : ℕ) × IsVerified v × IsSpareOf v p self.old × IsProcessOf v p process.now }
-        ensures base { proc_view self.new.base ≡ proc_view process.now }
-        ensures state { proc_view self.new.state ≡ proc_view process.now }
+        ensures lent { lent_as self.new ≡ record { pick = pick; allowance = allowance; made = 0; base = proc_view process.now; state = proc_view process.now } }
         ensures spare { (v : VerifiedCode) → (p : ℕ) → IsSpareOf v p self.old → IsProcessOf v p process.now
             → IsSpareOf v p self.new }
     {
+        self.pick = pick;
+        self.allowance = allowance;
+        self.made = 0;
         self.base.set_to(process);
         self.state.set_to(process);
     }
 
-    /// Makes silent picks of the state, as `Proc::run_silent` does. The base stays.
-    pub(crate) fn run(&mut self, code: &Verified, pick: Pick, max: u32) -> u32
-        requires { IsProcessOf code.now pick.process self.old.state }
-        ensures base { self.new.base ≡ self.old.base }
-        ensures within { result ≤ max }
-        ensures made { MakesSilently code.now.code pick.process pick.arm result (proc_view self.old.state)
-            (proc_view self.new.state) }
-        ensures stops { result < max
-            → StepsAloud code.now.code pick.process (proc_view self.new.state) pick.arm }
-        ensures process { IsProcessOf code.now pick.process self.new.state }
+    /// Makes silent picks of the arm, as `Stretch::run` says.
+    pub(crate) fn run(&mut self, code: &Verified, max: u32) -> u32
+        requires run { IsSilentRun code.now.code (lent_as self.old) }
+        requires spare { IsSpareOf code.now self.old.pick.process self.old }
+        ensures same { lent_as self.new ≡ record (lent_as self.old) { made = self.old.made + result; state = proc_view self.new.state } }
+        ensures run { IsSilentRun code.now.code (lent_as self.new) }
+        ensures stops { (result ≡ max) ⊎ ((self.new.made ≡ self.new.allowance)
+            ⊎ StepsAloud code.now.code self.new.pick.process (proc_view self.new.state) self.new.pick.arm) }
+        ensures spare { IsSpareOf code.now self.new.pick.process self.new }
     {
-        self.state.run_silent(code, pick, max)
+        let most = max.min(self.allowance - self.made);
+        let count = self.state.run_silent(code, self.pick, most);
+        self.made += count;
+        count
     }
 
     /// Exchanges the state for the process of a machine from whose state it comes by silent picks. The base stays.

@@ -16,9 +16,6 @@ use std::marker::{Model, PhantomData};
 /// be spent, by `commit`, `put_back` or `forfeit`.
 pub struct Stretch<'v, C: CodeBrand> {
     pub(crate) code: &'v Verified,
-    pub(crate) pick: Pick,
-    pub(crate) allowance: u32,
-    pub(crate) made: u32,
     pub(crate) spare: Box<Spare>,
     pub(crate) brand: PhantomData<C>,
 }
@@ -45,31 +42,28 @@ impl<'v, C: CodeBrand> Stretch<'v, C> {
             ⊎ StepsAloud C.code.code self.new.pick.process self.new.state self.new.pick.arm) }
     {
         let code: &'v Verified = self.code;
-        let most = max.min(self.allowance - self.made);
-        let count = self.spare.run(code, self.pick, most);
-        self.made += count;
-        count
+        self.spare.run(code, max)
     }
 
     /// Returns the arm that it steps.
     pub fn pick(&self) -> Pick
         ensures { result ≡ self.now.pick }
     {
-        self.pick
+        self.spare.pick
     }
 
     /// Returns how many picks it has made.
     pub fn made(&self) -> u32
         ensures { result ≡ self.now.made }
     {
-        self.made
+        self.spare.made
     }
 
     /// Returns how many picks it may make.
     pub fn allowance(&self) -> u32
         ensures { result ≡ self.now.allowance }
     {
-        self.allowance
+        self.spare.allowance
     }
 
     /// Returns the process as it was lent.
@@ -90,9 +84,6 @@ impl<'v, C: CodeBrand> Stretch<'v, C> {
     pub fn forfeit(self) {
         let Stretch {
             code: _,
-            pick: _,
-            allowance: _,
-            made: _,
             spare: _,
             brand: _,
         } = self;

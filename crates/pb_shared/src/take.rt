@@ -49,29 +49,27 @@ impl<'v, C: CodeBrand> Book<'v, C> {
         ensures starts { IfOk result (λ lent. StartsAt self.old pick allowance lent) }
     {
         let number = usize::from(pick.process);
-        let mut spare = self.spare(alloc, number)?;
-        spare.set_to(self.machine.proc(number));
+        let mut spare = self.spare(alloc, pick)?;
+        spare.begin(self.machine.proc(number), pick, allowance);
         Ok(Stretch {
             code: self.code,
-            pick,
-            allowance,
-            made: 0,
             spare,
             brand: PhantomData,
         })
     }
 
     /// Takes the spare of a process, or copies it if it was never lent before.
-    fn spare(&mut self, alloc: Global, process: usize) -> Result<Box<Spare>, NoMemory>
-        requires { slice_get self.old.slips process ≡ Some None }
+    fn spare(&mut self, alloc: Global, pick: Pick) -> Result<Box<Spare>, NoMemory>
+        requires { slice_get self.old.slips pick.process ≡ Some None }
         ensures same { self.new ≡ self.old }
-        ensures spare { IfOk result (λ spare. IsSpareOf C.code process spare.value) }
+        ensures spare { IfOk result (λ spare. IsSpareOf C.code pick.process spare.value) }
     {
+        let process = usize::from(pick.process);
         let kept = self.spares[process].take();
         if let Some(spare) = kept {
             return Ok(spare);
         }
-        Spare::copies_of(alloc, self.machine.proc(process))
+        Spare::copies_of(alloc, pick, self.machine.proc(process))
     }
 
     /// Writes the slip of this arm.

@@ -4,8 +4,8 @@ use Rattle.pb_machine.specs.Steps.{ComesFrom}
 use Rattle.pb_machine.specs.Views.{machine_view, proc_view}
 use Rattle.pb_shared.specs.Books.{ledger_of}
 use Rattle.pb_shared.specs.Ledgers.{Ledger, IsLegal, IsLentBy, home}
-use Rattle.pb_shared.specs.Spares.{IsSpareOf}
-use Rattle.pb_shared.specs.Stretches.{lent_of}
+use Rattle.pb_shared.specs.Lending.{IsSilentRun}
+use Rattle.pb_shared.specs.Spares.{lent_as, IsSpareOf}
 use Rattle.pb_shared.specs.declared.spare.Spare.{Spare}
 use Rattle.pb_shared.proofs.Keeping.{back_fits, comes_home, home_legal, legal_as, process_within, set_view, slip_within, machine_there, tries_legal, tries_there}
 use Rattle.pb_shared.proofs.Sparing.{spare_after, spare_at, spares_stay, spares_with}
@@ -14,19 +14,20 @@ use Rattle.pb_shared.proofs.book.Book.commit.Goals as goal
 pub push_silent-requires-clause-fits : goal.push_silent-requires-clause-fits
 push_silent-requires-clause-fits g c =
     let s = ledger_of c.self.inside in
-    let lent = lent_of c.stretch.inside in
-    let by : IsLentBy s lent = rw (← c.self.view_is, ← c.stretch.view_is) at (c.lent.ensures.0 c.if-not-lent.false) in
+    let lent = lent_as c.deref-lent.result.now in
+    let by : IsLentBy s lent = rw (← c.self.view_is, ← c.stretch.view_is, ← c.deref-lent.ensures) at (c.lent.ensures.0 c.if-not-lent.false) in
     let fits = back_fits g.C.CodeBrand.code s lent c.self.invariant.legal by in
     let limited = c.self.invariant.legal.limited in
-    let within = c.stretch.invariant.run.within in
+    let run : IsSilentRun g.C.CodeBrand.code.code lent = rw (← c.deref-lent.ensures) at c.stretch.invariant.run in
+    let within = run.within in
     let same = ap (λ (es : List Entry). length es) c.reserve.ensures.same in
     omega (arith, fits, limited, within, same)
 
 pub exchange-requires : goal.exchange-requires
 exchange-requires g c =
     let s = ledger_of c.self.inside in
-    let lent = lent_of c.stretch.inside in
-    let by : IsLentBy s lent = rw (← c.self.view_is, ← c.stretch.view_is) at (c.lent.ensures.0 c.if-not-lent.false) in
+    let lent = lent_as c.deref-lent.result.now in
+    let by : IsLentBy s lent = rw (← c.self.view_is, ← c.stretch.view_is, ← c.deref-lent.ensures) at (c.lent.ensures.0 c.if-not-lent.false) in
     let lt = process_within g.C.CodeBrand.code s lent c.self.invariant.legal by in
     let from = c.from-process.ensures in
     omega (arith, lt, from)
@@ -34,8 +35,8 @@ exchange-requires g c =
 pub index_mut-requires : goal.index_mut-requires
 index_mut-requires g c =
     let s = ledger_of c.self.inside in
-    let lent = lent_of c.stretch.inside in
-    let by : IsLentBy s lent = rw (← c.self.view_is, ← c.stretch.view_is) at (c.lent.ensures.0 c.if-not-lent.false) in
+    let lent = lent_as c.deref-lent.result.now in
+    let by : IsLentBy s lent = rw (← c.self.view_is, ← c.stretch.view_is, ← c.deref-lent.ensures) at (c.lent.ensures.0 c.if-not-lent.false) in
     let lt = slip_within g.C.CodeBrand.code s lent c.self.invariant.legal by in
     let from = c.from-process.ensures in
     let all = c.self.invariant.spares.all in
@@ -44,8 +45,8 @@ index_mut-requires g c =
 pub index_mut-requires-2 : goal.index_mut-requires-2
 index_mut-requires-2 g c =
     let s = ledger_of c.self.inside in
-    let lent = lent_of c.stretch.inside in
-    let by : IsLentBy s lent = rw (← c.self.view_is, ← c.stretch.view_is) at (c.lent.ensures.0 c.if-not-lent.false) in
+    let lent = lent_as c.deref-lent.result.now in
+    let by : IsLentBy s lent = rw (← c.self.view_is, ← c.stretch.view_is, ← c.deref-lent.ensures) at (c.lent.ensures.0 c.if-not-lent.false) in
     let lt = slip_within g.C.CodeBrand.code s lent c.self.invariant.legal by in
     let from = c.from-process.ensures in
     omega (arith, lt, from, c.self.inside.slips.ok.0)
@@ -53,8 +54,8 @@ index_mut-requires-2 g c =
 pub overflow_add-self : goal.overflow_add-self
 overflow_add-self g c =
     let s = ledger_of c.self.inside in
-    let lent = lent_of c.stretch.inside in
-    let by : IsLentBy s lent = rw (← c.self.view_is, ← c.stretch.view_is) at (c.lent.ensures.0 c.if-not-lent.false) in
+    let lent = lent_as c.deref-lent.result.now in
+    let by : IsLentBy s lent = rw (← c.self.view_is, ← c.stretch.view_is, ← c.deref-lent.ensures) at (c.lent.ensures.0 c.if-not-lent.false) in
     let fits = back_fits g.C.CodeBrand.code s lent c.self.invariant.legal by in
     let limited = c.self.invariant.legal.limited in
     omega (arith, fits, limited)
@@ -62,11 +63,12 @@ overflow_add-self g c =
 pub try_visible-requires-clause-fits : goal.try_visible-requires-clause-fits
 try_visible-requires-clause-fits g c =
     let s = ledger_of c.self.inside in
-    let lent = lent_of c.stretch.inside in
-    let by : IsLentBy s lent = rw (← c.self.view_is, ← c.stretch.view_is) at (c.lent.ensures.0 c.if-not-lent.false) in
-    let counted = (home_legal g.C.CodeBrand.code s lent c.self.invariant.legal by c.stretch.invariant.run).counted in
+    let lent = lent_as c.deref-lent.result.now in
+    let by : IsLentBy s lent = rw (← c.self.view_is, ← c.stretch.view_is, ← c.deref-lent.ensures) at (c.lent.ensures.0 c.if-not-lent.false) in
+    let run : IsSilentRun g.C.CodeBrand.code.code lent = rw (← c.deref-lent.ensures) at c.stretch.invariant.run in
+    let counted = (home_legal g.C.CodeBrand.code s lent c.self.invariant.legal by run).counted in
     let limited = c.self.invariant.legal.limited in
-    let within = c.stretch.invariant.run.within in
+    let within = run.within in
     let same : length c.push_silent.new.self.entries ≡ length (s.entries ++ silent_picks lent.pick lent.made) =
     ap (λ (es : List Entry). length es) (c.push_silent.ensures.entries ∙ ap (λ (es : List Entry). es ++ silent_picks
     lent.pick lent.made) c.reserve.ensures.same) in
@@ -76,22 +78,24 @@ pub invariant_of-self-then-made-allowance : goal.invariant_of-self-then-made-all
 invariant_of-self-then-made-allowance g c =
     let code = g.C.CodeBrand.code in
     let s = ledger_of c.self.inside in
-    let lent = lent_of c.stretch.inside in
+    let lent = lent_as c.deref-lent.result.now in
     let legal = c.self.invariant.legal in
-    let run = c.stretch.invariant.run in
-    let by : IsLentBy s lent = rw (← c.self.view_is, ← c.stretch.view_is) at (c.lent.ensures.0 c.if-not-lent.false) in
-    let was = c.deref_mut.ensures.value in
+    let run : IsSilentRun g.C.CodeBrand.code.code lent = rw (← c.deref-lent.ensures) at c.stretch.invariant.run in
+    let by : IsLentBy s lent = rw (← c.self.view_is, ← c.stretch.view_is, ← c.deref-lent.ensures) at (c.lent.ensures.0 c.if-not-lent.false) in
+    let was = c.deref_mut.ensures.value ∙ sym c.deref-lent.ensures in
+    let of : IsSpareOf code lent.pick.process c.deref-lent.result.now = rw (← c.deref-lent.ensures) at c.stretch.invariant.spare in
     let comes : ComesFrom code c.self.inside.machine c.from-process.result c.deref_mut.result.now.state =
     subst (λ (x : Spare). ComesFrom code c.self.inside.machine c.from-process.result x.state) (sym was)
-    (subst (λ (p : ℕ). ComesFrom code c.self.inside.machine p c.stretch.inside.spare.value.state) (sym c.from-process.ensures)
-    (comes_home code s lent legal by run c.self.inside.machine c.stretch.inside.spare.value.state refl refl c.stretch.invariant.spare.state.rooms)) in
+    (subst (λ (p : ℕ). ComesFrom code c.self.inside.machine p c.deref-lent.result.now.state) (sym c.from-process.ensures)
+    (comes_home code s lent legal by run c.self.inside.machine c.deref-lent.result.now.state refl refl of.state.rooms)) in
     let processes = c.exchange.ensures.processes
     ∙ ap (λ (x : Spare). set (machine_view c.self.inside.machine).processes c.from-process.result (proc_view x.state)) was in
     let view = set_view c.self.inside.machine c.exchange.new.machine c.from-process.result lent.pick.process lent.state
     c.from-process.ensures processes c.exchange.ensures.banker in
     let entries = c.push_silent.ensures.entries ∙ ap (λ (es : List Entry). es ++ silent_picks lent.pick lent.made) c.reserve.ensures.same in
-    let there = subst (λ (p : ℕ). IsSpareOf code p c.stretch.inside.spare.value) (sym c.from-process.ensures) c.stretch.invariant.spare in
-    let spare = spare_after code c.from-process.result c.stretch.inside.spare.value c.exchange.new.self
+    let of : IsSpareOf code lent.pick.process c.deref-lent.result.now = rw (← c.deref-lent.ensures) at c.stretch.invariant.spare in
+    let there = subst (λ (p : ℕ). IsSpareOf code p c.deref-lent.result.now) (sym c.from-process.ensures) of in
+    let spare = spare_after code c.from-process.result c.deref-lent.result.now c.exchange.new.self
     (c.exchange.ensures.base ∙ ap (λ (x : Spare). x.base) was) there (c.exchange.ensures.process code c.self.invariant.machine) in
     record {
       refers = c.self.invariant.refers;
@@ -106,15 +110,16 @@ pub try_visible-requires-clause-machine : goal.try_visible-requires-clause-machi
 try_visible-requires-clause-machine g c =
     let code = g.C.CodeBrand.code in
     let s = ledger_of c.self.inside in
-    let lent = lent_of c.stretch.inside in
+    let lent = lent_as c.deref-lent.result.now in
     let legal = c.self.invariant.legal in
-    let run = c.stretch.invariant.run in
-    let by : IsLentBy s lent = rw (← c.self.view_is, ← c.stretch.view_is) at (c.lent.ensures.0 c.if-not-lent.false) in
-    let was = c.deref_mut.ensures.value in
+    let run : IsSilentRun g.C.CodeBrand.code.code lent = rw (← c.deref-lent.ensures) at c.stretch.invariant.run in
+    let by : IsLentBy s lent = rw (← c.self.view_is, ← c.stretch.view_is, ← c.deref-lent.ensures) at (c.lent.ensures.0 c.if-not-lent.false) in
+    let was = c.deref_mut.ensures.value ∙ sym c.deref-lent.ensures in
+    let of : IsSpareOf code lent.pick.process c.deref-lent.result.now = rw (← c.deref-lent.ensures) at c.stretch.invariant.spare in
     let comes : ComesFrom code c.self.inside.machine c.from-process.result c.deref_mut.result.now.state =
     subst (λ (x : Spare). ComesFrom code c.self.inside.machine c.from-process.result x.state) (sym was)
-    (subst (λ (p : ℕ). ComesFrom code c.self.inside.machine p c.stretch.inside.spare.value.state) (sym c.from-process.ensures)
-    (comes_home code s lent legal by run c.self.inside.machine c.stretch.inside.spare.value.state refl refl c.stretch.invariant.spare.state.rooms)) in
+    (subst (λ (p : ℕ). ComesFrom code c.self.inside.machine p c.deref-lent.result.now.state) (sym c.from-process.ensures)
+    (comes_home code s lent legal by run c.self.inside.machine c.deref-lent.result.now.state refl refl of.state.rooms)) in
     machine_there code c.self.inside.code.now _ (sym c.self.invariant.refers)
     (c.exchange.ensures.machine code c.self.invariant.machine comes)
 
@@ -122,18 +127,19 @@ pub invariant_of-self-2 : goal.invariant_of-self-2
 invariant_of-self-2 g c =
     let code = g.C.CodeBrand.code in
     let s = ledger_of c.self.inside in
-    let lent = lent_of c.stretch.inside in
+    let lent = lent_as c.deref-lent.result.now in
     let legal = c.self.invariant.legal in
-    let run = c.stretch.invariant.run in
-    let by : IsLentBy s lent = rw (← c.self.view_is, ← c.stretch.view_is) at (c.lent.ensures.0 c.if-not-lent.false) in
-    let was = c.deref_mut.ensures.value in
+    let run : IsSilentRun g.C.CodeBrand.code.code lent = rw (← c.deref-lent.ensures) at c.stretch.invariant.run in
+    let by : IsLentBy s lent = rw (← c.self.view_is, ← c.stretch.view_is, ← c.deref-lent.ensures) at (c.lent.ensures.0 c.if-not-lent.false) in
+    let was = c.deref_mut.ensures.value ∙ sym c.deref-lent.ensures in
     let processes = c.exchange.ensures.processes
     ∙ ap (λ (x : Spare). set (machine_view c.self.inside.machine).processes c.from-process.result (proc_view x.state)) was in
     let view = set_view c.self.inside.machine c.exchange.new.machine c.from-process.result lent.pick.process lent.state
     c.from-process.ensures processes c.exchange.ensures.banker in
     let entries = c.push_silent.ensures.entries ∙ ap (λ (es : List Entry). es ++ silent_picks lent.pick lent.made) c.reserve.ensures.same in
-    let there = subst (λ (p : ℕ). IsSpareOf code p c.stretch.inside.spare.value) (sym c.from-process.ensures) c.stretch.invariant.spare in
-    let spare = spare_after code c.from-process.result c.stretch.inside.spare.value c.exchange.new.self
+    let of : IsSpareOf code lent.pick.process c.deref-lent.result.now = rw (← c.deref-lent.ensures) at c.stretch.invariant.spare in
+    let there = subst (λ (p : ℕ). IsSpareOf code p c.deref-lent.result.now) (sym c.from-process.ensures) of in
+    let spare = spare_after code c.from-process.result c.deref-lent.result.now c.exchange.new.self
     (c.exchange.ensures.base ∙ ap (λ (x : Spare). x.base) was) there (c.exchange.ensures.process code c.self.invariant.machine) in
     let came : Ledger = record {
       machine = machine_view c.exchange.new.machine;

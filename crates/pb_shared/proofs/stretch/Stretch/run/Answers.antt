@@ -1,40 +1,23 @@
-use Rattle.std.proofs.Common.{◌≡◌, arith, ap, sym, subst, ◌∙◌}
-use Rattle.pb_machine.specs.Steps.{MakesSilently}
-use Rattle.pb_machine.specs.Views.{proc_view, IsProcessOf}
+use Rattle.std.proofs.Common.{sym, subst}
 use Rattle.pb_verifier.specs.Verified.{VerifiedCode}
+use Rattle.pb_shared.specs.Lending.{IsSilentRun}
+use Rattle.pb_shared.specs.Spares.{lent_as, IsSpareOf}
 use Rattle.pb_shared.specs.declared.spare.Spare.{Spare}
-use Rattle.pb_shared.proofs.Running.{makes_more}
 use Rattle.pb_shared.proofs.stretch.Stretch.run.Goals as goal
 
-pub run-count-requires : goal.run-count-requires
-run-count-requires g c =
-    let s = c.self.inside in
-    subst (λ (v : VerifiedCode). IsProcessOf v s.pick.process c.deref_mut.result.now.state) (sym c.self.invariant.refers)
-    (subst (λ (x : Spare). IsProcessOf g.C.CodeBrand.code s.pick.process x.state) (sym c.deref_mut.ensures.value)
-    c.self.invariant.spare.state)
+pub run-requires-clause-run : goal.run-requires-clause-run
+run-requires-clause-run g c =
+    subst (λ (v : VerifiedCode). IsSilentRun v.code (lent_as c.deref_mut.result.now)) (sym c.self.invariant.refers)
+    (subst (λ (x : Spare). IsSilentRun g.C.CodeBrand.code.code (lent_as x)) (sym c.deref_mut.ensures.value) c.self.invariant.run)
+
+pub run-requires-clause-spare : goal.run-requires-clause-spare
+run-requires-clause-spare g c =
+    subst (λ (v : VerifiedCode). IsSpareOf v c.deref_mut.result.now.pick.process c.deref_mut.result.now) (sym c.self.invariant.refers)
+    (subst (λ (x : Spare). IsSpareOf g.C.CodeBrand.code x.pick.process x) (sym c.deref_mut.ensures.value) c.self.invariant.spare)
 
 pub invariant_of-self : goal.invariant_of-self
-invariant_of-self g c =
-    let s = c.self.inside in
-    let was = c.deref_mut.ensures.value in
-    let within = c.self.invariant.run.within in
-    let most = c.run-count.ensures.within in
-    let base : c.run-count.new.self.base ≡ s.spare.value.base = c.run-count.ensures.base ∙ ap (λ (x : Spare). x.base) was in
-    let made = subst (λ (v : VerifiedCode). MakesSilently v.code s.pick.process s.pick.arm c.run-count.result
-    (proc_view c.deref_mut.result.now.state) (proc_view c.run-count.new.self.state)) c.self.invariant.refers c.run-count.ensures.made in
-    record {
-      refers = c.self.invariant.refers;
-      run = record {
-        within = omega (arith, within, most);
-        runs = makes_more g.C.CodeBrand.code.code s.pick.process s.pick.arm s.made c.run-count.result
-            (proc_view c.run-count.new.self.base) (proc_view s.spare.value.state) (proc_view c.run-count.new.self.state)
-            (rw (base) c.self.invariant.run.runs) (rw was at made);
-      };
-      spare = record {
-        base = rw base c.self.invariant.spare.base;
-        state = subst (λ (v : VerifiedCode). IsProcessOf v s.pick.process c.run-count.new.self.state) c.self.invariant.refers c.run-count.ensures.process;
-      };
-    }
-
-pub returns-clause-run : goal.returns-clause-run
-returns-clause-run g c = (invariant_of-self g c).run
+invariant_of-self g c = record {
+  refers = c.self.invariant.refers;
+  run = subst (λ (v : VerifiedCode). IsSilentRun v.code (lent_as c.run.new.self)) c.self.invariant.refers c.run.ensures.run;
+  spare = subst (λ (v : VerifiedCode). IsSpareOf v c.run.new.self.pick.process c.run.new.self) c.self.invariant.refers c.run.ensures.spare;
+}

@@ -1,5 +1,5 @@
 use Rattle.pb_machine.proofs.Spares.{fit_rooms, fit_vars}
-use Rattle.pb_shared.proofs.spare.Spare.set_to.Goals as goal
+use Rattle.pb_shared.proofs.spare.Spare.begin.Goals as goal
 
 pub set_to-requires-clause-vars : goal.set_to-requires-clause-vars
 set_to-requires-clause-vars c =
