@@ -497,9 +497,9 @@ fn silent_runs_of_the_machine(rt: HostRuntime) {
     assert!(rt; shown(event) == Seen::Faulted(0, 0, FaultKind::Overflow));
 }
 
-/// How many picks the group at each place of that code makes: a round is two groups, and no group has the
-/// jump alone, the print or the end.
-const COUNTS: [u8; 14] = [4, 3, 2, 1, 5, 4, 3, 2, 0, 3, 2, 1, 0, 0];
+/// How many picks the group at each place of that code makes: behind the first test a round is one group, with the
+/// test of the next round, and no group has the jump alone, the print or the end.
+const COUNTS: [u8; 14] = [4, 3, 2, 1, 9, 4, 3, 2, 0, 3, 2, 1, 0, 0];
 
 /// Returns whether the group at each place makes as many picks.
 fn have_counts(groups: &[Group], counts: &[u8]) -> bool {
