@@ -1,8 +1,8 @@
 //! The outcomes of small texts.
 
 use pb_codegen::compile;
-use pb_explore::explore::explore;
-use pb_explore::{ExploreFault, Found, ProcessOutcome};
+use pb_explore::explore::{explore, explore_by};
+use pb_explore::{ExploreFault, Found, Lending, ProcessOutcome};
 use std::alloc::Global;
 
 /// A text of one process, all its outcomes, each by the only integer of the process and whether it faulted, and whether
@@ -89,9 +89,9 @@ fn outcomes_of_one_process(rt: HostRuntime) {
 }
 
 /// Returns whether both processes that want the devices end, and in no other way.
-fn both_end(alloc: Global) -> Option<bool> {
+fn both_end(alloc: Global, lending: Lending) -> Option<bool> {
     let compiled = compile(alloc, alloc, DEVICES).ok()?;
-    let told = explore(alloc, compiled.verified(), 100_000).ok()?;
+    let told = explore_by(alloc, compiled.verified(), lending, 100_000).ok()?;
     if told.cycles || told.found.len() != 1 || told.found[0].outcome.len() != 2 {
         return Some(false);
     }
@@ -101,7 +101,8 @@ fn both_end(alloc: Global) -> Option<bool> {
 
 #[test]
 fn tape_and_disk(rt: HostRuntime) {
-    assert!(rt; both_end(rt.alloc()) == Some(true));
+    assert!(rt; both_end(rt.alloc(), Lending::ByBanker) == Some(true));
+    assert!(rt; both_end(rt.alloc(), Lending::ByCash) == Some(true));
 }
 
 /// A process that never ends, beside one that does: no outcome, and the search follows the picks of the first alone.

@@ -14,6 +14,7 @@ pub mod Setting
 pub mod SilentRuns
 pub mod Silently
 pub mod Singly
+pub mod Solo
 pub mod Spares
 pub mod Standing
 pub mod Staying

@@ -3,6 +3,7 @@
 
 mod advance;
 mod advance_singly;
+mod alone;
 mod arms;
 mod execute;
 pub mod laws;
