@@ -51,7 +51,13 @@ impl Spare {
     /// Sets both processes to one of the same code, for an arm that may make so many picks. No memory is taken.
     pub(crate) fn begin(&mut self, process: &Proc, pick: Pick, allowance: u32)
         requires { (v : VerifiedCode) × (p : ℕ) × IsVerified v × IsSpareOf v p self.old × IsProcessOf v p process.now }
-        ensures lent { lent_as self.new ≡ record { pick = pick; allowance = allowance; made = 0; base = proc_view process.now; state = proc_view process.now } }
+        ensures lent { lent_as self.new ≡ record {
+          pick = pick;
+          allowance = allowance;
+          made = 0;
+          base = proc_view process.now;
+          state = proc_view process.now;
+        } }
         ensures spare { (v : VerifiedCode) → (p : ℕ) → IsSpareOf v p self.old → IsProcessOf v p process.now
             → IsSpareOf v p self.new }
     {
@@ -66,7 +72,8 @@ impl Spare {
     pub(crate) fn run(&mut self, code: &Verified, max: u32) -> u32
         requires run { IsSilentRun code.now.code (lent_as self.old) }
         requires spare { IsSpareOf code.now self.old.pick.process self.old }
-        ensures same { lent_as self.new ≡ record (lent_as self.old) { made = self.old.made + result; state = proc_view self.new.state } }
+        ensures same { lent_as self.new
+            ≡ record (lent_as self.old) { made = self.old.made + result; state = proc_view self.new.state } }
         ensures run { IsSilentRun code.now.code (lent_as self.new) }
         ensures stops { (result ≡ max) ⊎ ((self.new.made ≡ self.new.allowance)
             ⊎ StepsAloud code.now.code self.new.pick.process (proc_view self.new.state) self.new.pick.arm) }
