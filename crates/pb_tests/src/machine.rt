@@ -404,7 +404,8 @@ const CROSSED_THEN: [Act; 2] = [
     Act::Finished(true),
 ];
 
-/// Returns a copy of the machine, if it does at first what is said of the crossed processes, and then the rest.
+/// Returns a copy of the machine, made between what is said of the crossed processes at first and then, if
+/// the machine does all this.
 fn copied_between(alloc: Global, verified: &Verified, machine: &mut Machine) -> Option<Machine>
     requires { IsMachineOf verified.now machine.old }
 {
@@ -478,7 +479,8 @@ fn stays(verified: &Verified, apart: &mut Proc, before: &Proc) -> bool
     apart.same(before)
 }
 
-/// Returns whether silent picks are made apart from the machine, and those that show something are left to it.
+/// Returns whether silent picks are made apart from the machine, and those that show something are left to
+/// it.
 fn moves_apart(alloc: Global, verified: &Verified, machine: &mut Machine) -> Option<bool>
     requires { IsMachineOf verified.now machine.old }
 {
@@ -528,8 +530,8 @@ const COUNT_AND_OVERFLOW: [Instr; 14] = [
     Instr::End,
 ];
 
-/// Returns whether a run stops at its limit, also in the midst of a round, and before the fault, which it leaves
-/// to the machine; it leaves what as many picks leave that are made one by one.
+/// Returns whether a run stops at its limit, also in the midst of a round, and before the fault, which it
+/// leaves to the machine; it leaves what as many picks leave that are made one by one.
 fn stops(verified: &Verified, run: &mut Proc, one_by_one: &mut Proc) -> bool
     requires run { IsProcessOf verified.now 0 run.old }
     requires picks { IsProcessOf verified.now 0 one_by_one.old }
