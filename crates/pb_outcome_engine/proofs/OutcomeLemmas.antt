@@ -20,7 +20,8 @@ use Rattle.pb_verifier.proofs.Banking.{get_some, kept_reached}
 use Rattle.pb_verifier.proofs.States.{code_move}
 use Rattle.pb_explore.specs.Configurations.{Comes}
 use Rattle.pb_explore.specs.Endings.{found_view}
-use Rattle.pb_explore.specs.Outcomes.{ByBanker, AreOutcomes, CodeLeads, Configuration, Ends, Found, IsExcess, IsWithin, ProcessOutcome, Reaches, TellsEndless, outcome_of, process_outcome}
+use Rattle.pb_explore.specs.declared.lending.Lending.TheVariants.{ByBanker}
+use Rattle.pb_explore.specs.Outcomes.{AreOutcomes, CodeLeads, Configuration, Ends, Found, IsExcess, IsWithin, ProcessOutcome, Reaches, TellsEndless, outcome_of, process_outcome}
 use Rattle.pb_explore.specs.declared.found.Found.{Found as GivenFound}
 use Rattle.pb_explore.proofs.Packing.{get_mapped}
 use Rattle.pb_explore.proofs.Reaching.{reaches_as_code}

@@ -5,7 +5,8 @@ use Rattle.pb_codegen.specs.Compiled.{IsCompiled}
 use Rattle.pb_engines.specs.Refusals.{SaysOfRefusedText}
 use Rattle.pb_engines.specs.declared.status.Status.{Status}
 use Rattle.pb_engines.specs.declared.status.Status.TheVariants.{Done, Limit}
-use Rattle.pb_explore.specs.Outcomes.{ByBanker, AreOutcomes, Found, IsExcess, IsWithin, TellsEndless}
+use Rattle.pb_explore.specs.declared.lending.Lending.TheVariants.{ByBanker}
+use Rattle.pb_explore.specs.Outcomes.{AreOutcomes, Found, IsExcess, IsWithin, TellsEndless}
 use Rattle.pb_outcome_engine.specs.OutcomeLines.{AreOutcomeLines, all_line, excess_line}
 
 -- what is said of code: all of its outcomes, none missing and no two the same, told by at most this number of
