@@ -1,3 +1,4 @@
 pub mod OutcomeLines
 pub mod SaysOutcomes
 pub mod Showing
+pub mod SourceOutcomes

@@ -2,6 +2,7 @@
 #![tactic(auto)]
 
 mod counts;
+pub mod laws;
 mod lines;
 pub mod outcomes;
 
