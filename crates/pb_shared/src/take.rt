@@ -83,14 +83,15 @@ impl<'v, C: CodeBrand> Book<'v, C> {
         ensures { self.new ≡ record self.old { left = self.old.left - allowance; slips = slice_set self.old.slips pick.process (Some (record { arm = pick.arm; allowance = allowance })) } }
     {
         let process = usize::from(pick.process);
+        let next_process = next_of(pick.process, self.processes());
+        let next_arm = next_of(pick.arm, self.arms(pick.process));
         self.slips[process] = Some(Slip {
             arm: pick.arm,
             allowance,
         });
         self.left -= allowance;
-        self.next_process = next_of(pick.process, self.processes());
-        let arms = self.arms(pick.process);
-        set_turn(&mut self.next_arms, process, next_of(pick.arm, arms));
+        self.next_process = next_process;
+        set_turn(&mut self.next_arms, process, next_arm);
     }
 }
 
