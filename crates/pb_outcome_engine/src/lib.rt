@@ -1,9 +1,9 @@
-//! The engine behind the command `outcomes`: every way in which a small program can end,
-//! and every deadlock.
+//! The engine behind the command `outcomes`: every way in which a small program can end, and every deadlock.
 #![tactic(auto)]
 
 mod counts;
 mod deadlocks;
+pub mod laws;
 mod lines;
 mod names;
 pub mod outcomes;
