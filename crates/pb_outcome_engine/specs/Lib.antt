@@ -1,3 +1,4 @@
+pub mod DeadlockLines
 pub mod OutcomeLines
 pub mod SaysOutcomes
 pub mod Showing

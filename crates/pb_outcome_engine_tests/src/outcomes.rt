@@ -2,7 +2,7 @@
 
 use pb_base::device::{MemoryInput, MemoryOutput};
 use pb_engines::{Status, replay_engine};
-use pb_options::OutcomesOptions;
+use pb_options::{Lend, OutcomesOptions};
 use pb_outcome_engine::outcomes_engine;
 use std::alloc::Global;
 
@@ -14,7 +14,15 @@ struct Case {
     status: Status,
 }
 
-const MANY: OutcomesOptions = OutcomesOptions { states: 1_000_000 };
+const MANY: OutcomesOptions = OutcomesOptions {
+    states: 1_000_000,
+    lend: Lend::Banker,
+};
+
+const CASH: OutcomesOptions = OutcomesOptions {
+    states: 1_000_000,
+    lend: Lend::Cash,
+};
 
 /// Two additions, of which one may be lost: 61 configurations.
 const LOST: &[u8] =
@@ -53,13 +61,13 @@ const CASES: [Case; 9] = [
     },
     Case {
         text: LOST,
-        options: OutcomesOptions { states: 61 },
+        options: OutcomesOptions { states: 61, ..MANY },
         said: b"outcome 1\np ended\np.x 2\nreached by\np.0 1\np.1 5\np.2 5\np.0 4\noutcome 2\np ended\np.x 1\nreached by\np.0 1\np.1 3\np.2 1\np.1 2\np.2 4\np.0 4\nall 2 outcomes\n",
         status: Status::Done,
     },
     Case {
         text: LOST,
-        options: OutcomesOptions { states: 60 },
+        options: OutcomesOptions { states: 60, ..MANY },
         said: b"more than 60 configurations\n",
         status: Status::Limit,
     },
