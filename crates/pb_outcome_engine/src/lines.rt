@@ -96,7 +96,12 @@ pub fn put_head(text: &mut Vec<u8>, word: &[u8], number: usize) -> Result<(), No
 }
 
 // Puts the line that says how many outcomes and deadlocks there are and whether some run never ends behind a text.
-fn put_count(text: &mut Vec<u8>, outcomes: usize, deadlocks: usize, cycles: bool) -> Result<(), NoMemory>
+fn put_count(
+    text: &mut Vec<u8>,
+    outcomes: usize,
+    deadlocks: usize,
+    cycles: bool,
+) -> Result<(), NoMemory>
     ensures { OnOk result (text.new.items ≡ text.old.items ++ all_line outcomes deadlocks cycles) }
 {
     put_number(text, b"all ", outcomes)?;

@@ -62,7 +62,11 @@ fn tell_outcomes<O: Output>(
     ensures faults { TellsWriteFaults (O.failures output.old) (O.failures output.new) result }
 {
     match compile_text(alloc, text) {
-        Ok(compiled) => tell(alloc, reply(alloc, options.lend, options.states, &compiled), output),
+        Ok(compiled) => tell(
+            alloc,
+            reply(alloc, options.lend, options.states, &compiled),
+            output,
+        ),
         Err(refusal) => refuse(alloc, refusal, output),
     }
 }
