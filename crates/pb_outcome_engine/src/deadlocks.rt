@@ -107,7 +107,12 @@ fn put_state(text: &mut Vec<u8>, name: &[u8], state: StuckState) -> Result<(), N
 }
 
 // Puts the lines of what a process holds behind a text.
-fn put_holds(text: &mut Vec<u8>, names: &Names, process: &[u8], holds: &[u32]) -> Result<(), NoMemory>
+fn put_holds(
+    text: &mut Vec<u8>,
+    names: &Names,
+    process: &[u8],
+    holds: &[u32],
+) -> Result<(), NoMemory>
     ensures { OnOk result (text.new.items ≡ text.old.items ++ hold_lines (names_view names.now) process.now holds.now) }
 {
     for r in 0..holds.len() {

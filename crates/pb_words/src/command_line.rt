@@ -98,7 +98,10 @@ fn with_lend<'a>(alloc: Global, command: Command<'a>) -> Result<Command<'a>, All
     ensures own { IfOk result (λ c. (out-Command c).has_globals ≡ (out-Command command.entry).has_globals) }
 {
     let lend = word_option_or(alloc, "lend", "banker");
-    with_option(command, lend.help("Who decides on a request: banker or cash"))
+    with_option(
+        command,
+        lend.help("Who decides on a request: banker or cash"),
+    )
 }
 
 // Adds the options of a run by workers.

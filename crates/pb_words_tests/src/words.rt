@@ -229,7 +229,13 @@ fn refusals_tell_what_there_is(rt: HostRuntime) {
     assert!(rt; is_told(rt.alloc(), &unknown, "error: no refusal has this code"));
     assert!(rt; is_told(rt.alloc(), &unknown, " N1 N2 N3 N4 N6 C1 "));
     let nobody = ["parbegin", "outcomes", "--lend", "till"];
-    assert!(rt; is_told(rt.alloc(), &nobody, "error: the value of '--lend' is banker or cash"));
+    assert!(rt;
+        is_told(
+            rt.alloc(),
+            &nobody,
+            "error: the value of '--lend' is banker or cash"
+        )
+    );
     assert!(rt;
         is_told(
             rt.alloc(),
