@@ -77,13 +77,19 @@ const CASES: [Case; 11] = [
     },
     Case {
         text: LOST,
-        options: OutcomesOptions { states: 61, ..MANY },
+        options: OutcomesOptions {
+            states: 61,
+            lend: Lend::Banker,
+        },
         said: b"outcome 1\np ended\np.x 2\nreached by\np.0 1\np.1 5\np.2 5\np.0 4\noutcome 2\np ended\np.x 1\nreached by\np.0 1\np.1 3\np.2 1\np.1 2\np.2 4\np.0 4\nall 2 outcomes\n",
         status: Status::Done,
     },
     Case {
         text: LOST,
-        options: OutcomesOptions { states: 60, ..MANY },
+        options: OutcomesOptions {
+            states: 60,
+            lend: Lend::Banker,
+        },
         said: b"more than 60 configurations\n",
         status: Status::Limit,
     },
