@@ -18,9 +18,9 @@ abbrev pub lending_for : Lend → Lending
 lending_for Banker = ByBanker
 lending_for Cash = ByCash
 
--- what is said of code under this lending: all of its outcomes, then all of its deadlocks, none missing and no two the
--- same, told by at most this number of configurations, and how many they are and whether some run never ends; or that
--- more configurations are reached
+-- what is said of code under this lending: all of its outcomes, then all of its deadlocks, none missing and
+-- no two the same, told by at most this number of configurations, and how many they are and whether some run
+-- never ends; or that more configurations are reached
 pub data SaysOfCode (lending : Lending) (code : Code) (labels : List ProcessLabels) (states : ℕ)
     : List ℕ → Status → Type 0 where
   all_told : (found : List Found) (lines : List ℕ) → AreOutcomes lending code found → IsWithin lending code states
@@ -33,7 +33,8 @@ pub data SaysOfCode (lending : Lending) (code : Code) (labels : List ProcessLabe
   too_many : IsExcess lending code states
       → SaysOfCode lending code labels states (excess_line states) Limit
 
--- what is said of a text: it is refused; or it is accepted, and the outcomes and deadlocks of its code are told
+-- what is said of a text: it is refused; or it is accepted, and the outcomes and deadlocks of its code are
+-- told
 pub data SaysOfOutcomes (lend : Lend) (states : ℕ) (bytes : List ℕ) : List ℕ → Status → Type 0 where
   refused : (text : List ℕ) (status : Status) → SaysOfRefusedText bytes text status
       → SaysOfOutcomes lend states bytes text status

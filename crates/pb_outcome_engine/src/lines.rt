@@ -22,8 +22,8 @@ use pb_history::CountedPick;
 use pb_picks::write_picks;
 use std::alloc::Global;
 
-/// Returns the lines of these outcomes and of these deadlocks, each with its picks, and the line that says how many they
-/// are and whether some run never ends.
+/// Returns the lines of these outcomes and of these deadlocks, each with its picks, and the line that says
+/// how many they are and whether some run never ends.
 pub fn outcomes_text(
     alloc: Global,
     names: &Names,
@@ -95,7 +95,8 @@ pub fn put_head(text: &mut Vec<u8>, word: &[u8], number: usize) -> Result<(), No
     Ok(())
 }
 
-// Puts the line that says how many outcomes and deadlocks there are and whether some run never ends behind a text.
+// Puts the line that says how many outcomes and deadlocks there are and whether some run never ends behind a
+// text.
 fn put_count(
     text: &mut Vec<u8>,
     outcomes: usize,

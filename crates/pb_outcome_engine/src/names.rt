@@ -17,7 +17,8 @@ pub fn name_at(names: &[Vec<u8>], number: usize) -> &[u8]
     }
 }
 
-/// Returns the names of the integers of the process with this number, of which there are none if there is no process.
+/// Returns the names of the integers of the process with this number, of which there are none if there is no
+/// process.
 pub fn integers_at(labels: &[ProcessLabels], number: usize) -> &[Vec<u8>]
     ensures { map (λ name. name.items) result.now ≡ integer_names (map process_labels_view labels.now) number }
 {

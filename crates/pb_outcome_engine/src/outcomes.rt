@@ -23,11 +23,12 @@ use pb_explore::{ExploreFault, Lending};
 use pb_options::{Lend, OutcomesOptions};
 use std::alloc::Global;
 
-/// Writes every outcome of the text that the input holds, under the banker or with loans by the cash alone: how each
-/// process ended, its integers, and picks that lead there; then every deadlock, where each process is, its integers, what
-/// it holds and asks for, and picks that lead there; and at the end how many outcomes and deadlocks there are, and whether
-/// some run never ends. If more configurations than `options.states` are needed, the answer is the line that says so, and
-/// the status `Limit`. A text that is refused is answered by its refusal line.
+/// Writes every outcome of the text that the input holds, under the banker or with loans by the cash alone:
+/// how each process ended, its integers, and picks that lead there; then every deadlock, where each process
+/// is, its integers, what it holds and asks for, and picks that lead there; and at the end how many outcomes
+/// and deadlocks there are, and whether some run never ends. If more configurations than `options.states` are
+/// needed, the answer is the line that says so, and the status `Limit`. A text that is refused is answered by
+/// its refusal line.
 ///
 /// After a read that failed nothing is written; after a write that failed, a first part of what was being
 /// said.
@@ -71,7 +72,8 @@ fn tell_outcomes<O: Output>(
     }
 }
 
-// Returns the lines of all outcomes and deadlocks of a compiled text, or the line that more configurations are reached.
+// Returns the lines of all outcomes and deadlocks of a compiled text, or the line that more configurations
+// are reached.
 fn reply(alloc: Global, lend: Lend, states: u32, compiled: &Compiled) -> Result<Reply, NoMemory>
     requires { AreLabels compiled.now.verified.code compiled.now.labels }
     ensures { IfOk result (λ r.

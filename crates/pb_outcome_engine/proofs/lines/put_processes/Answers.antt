@@ -16,5 +16,6 @@ loop-p-preserved c =
     (λ k o. process_lines (name_of names k) (integer_names labels k) o) p o c.args.text.now.items c.loop-p.text.items _
     c.loop-p-test.true c.index-outcome-p.is c.loop-p.invariant
     (c.in_ok-put_process.ensures
-    ∙ (ap (λ (t : List ℕ). c.loop-p.text.items ++ process_lines t (map (λ name. name.items) c.integers_at.result.now) (process_outcome_view o)) c.name_at.ensures
+    ∙ (ap (λ (t : List ℕ). c.loop-p.text.items
+    ++ process_lines t (map (λ name. name.items) c.integers_at.result.now) (process_outcome_view o)) c.name_at.ensures
     ∙ ap (λ (t : List (List ℕ)). c.loop-p.text.items ++ process_lines (name_of names p) t (process_outcome_view o)) c.integers_at.ensures))
