@@ -1,6 +1,6 @@
 //! Whole inputs, and what is said of them.
 
-use pb_base::device::{MemoryInput, MemoryOutput};
+use pb_base::device::{FaultyInput, MemoryInput, MemoryOutput};
 use pb_engines::{Status, replay_engine};
 use pb_options::{Lend, OutcomesOptions};
 use pb_outcome_engine::outcomes_engine;
@@ -120,6 +120,19 @@ fn outcomes_are_told(rt: HostRuntime) {
     for case in &CASES {
         assert!(rt; says(rt.alloc(), case) == Some(true));
     }
+}
+
+/// Returns whether nothing is said of a text of which a read fails.
+fn says_nothing(alloc: Global) -> Option<bool> {
+    let mut input = FaultyInput::new(LOST, 2, 8);
+    let mut output = MemoryOutput::new(alloc, 64).ok()?;
+    let status = outcomes_engine(alloc, MANY, &mut input, &mut output);
+    Some(status == Status::Device && output.as_slice().is_empty())
+}
+
+#[test]
+fn a_failed_read_is_told(rt: HostRuntime) {
+    assert!(rt; says_nothing(rt.alloc()) == Some(true));
 }
 
 /// The text of the lost update with the picks of its two outcomes, what `replay` says, and its status.
