@@ -1,42 +1,60 @@
 #!/usr/bin/env python3
-"""Times what a stretch costs beside its picks: the take, the commit, the lock for both and the span.
+"""Times what a stretch costs beside its picks (the take, the commit, the lock for both and the span), and
+four workers beside one.
 
-A scratch repository in a temporary folder gets copies of the crates and a small proved program, which runs code that it
-makes by one worker. The code counts, by rounds of nine silent picks. Processor time of a whole call, user and system, is taken
-at quantum 64 and at quantum 4096; the least of all turns counts. Both make as many picks, so their difference by that of
-their numbers of stretches is what a stretch costs. The rows are
+A scratch repository in a temporary folder gets copies of the crates and a small proved program, which runs
+code that it makes. The code counts, by rounds of nine silent picks, 10,000,000 picks in all. The program says
+the time of each round, by the clock; the least of all rounds counts, with the calls turn by turn. The bare
+loop takes one stretch for all picks and calls `Stretch::run` with 64, or with 4096, again and again; the other
+calls are `run_workers`. What a stretch costs is the difference of the two at quantum 64, by the number of
+stretches. The rows are
 
 one arm        a process of one arm and one integer
 long code      the same, with 30,000 instructions more that are never reached
 16 arms        the same, with 16 arms, of which 15 never begin
+four           four processes of one arm and one integer
+
+Then come whole calls of the program with one round, from its start to its exit, in processor time (user and
+system); one worker and four at quantum 4096 on the four processes; and four bare loops at once beside one,
+which is how much four processors can do together.
 
 Wants `rt`.
 
-    python3 benches/stretches.py [TURNS]
+    python3 benches/stretches.py [TURNS [BEFORE]]
+
+A further word is the program of another tree, as this script builds it, for rows of it beside those of this
+one.
 """
 import os
 import subprocess
 import sys
-import tempfile
 
-from scratch import build_proved, print_table, scratch_folder
+from scratch import build_proved, least_of_rows, print_table, said, scratch_folder
 
 TURNS = int(sys.argv[1]) if len(sys.argv) > 1 else 15
-PICKS = 10_000_000
+BEFORE = sys.argv[2] if len(sys.argv) > 2 else None
+PICKS, ROUNDS = 10_000_000, 5
 SHORT, LONG = 64, 4096
-NEEDS = ["pb_base", "pb_code", "pb_verifier", "pb_history", "pb_workers", "anyhow"]
+NEEDS = ["pb_base", "pb_code", "pb_verifier", "pb_history", "pb_shared", "pb_workers", "anyhow"]
 
 MAIN = """\
-//! Runs a process that counts, by one worker, and says how many picks and spans there are. Its words are how many
-//! instructions follow that are never reached, how many arms there are besides the first, the quantum and the limit.
+//! Runs one or four processes that count, and says the nanoseconds of each round and how many picks there were.
+//! Its words are how many processes there are, how many instructions follow that are never reached, how many arms
+//! each has besides the first, how many workers there are (0: one stretch alone), the quantum, the limit and the
+//! rounds.
 #![tactic(auto)]
+
+ghost use Rattle.std.specs.Prelude.{◌≡◌, ◌<◌, ◌≤◌};
 
 use pb_base::{Capital, Claims, Names, NoMemory};
 use pb_code::{Code, Instr, ProcessCode};
+use pb_shared::{Book, CodeBrand, Taken};
 use pb_verifier::{Verified, verify};
 use pb_workers::{Gate, run_workers};
 use std::alloc::Global;
+use std::marker::Brand;
 use std::process::ExitCode;
+use std::time::Instant;
 
 /// A gate that is open.
 struct Open;
@@ -80,74 +98,162 @@ fn process(alloc: Global, idle: u16, arms: u8) -> Result<ProcessCode, NoMemory> 
     Ok(ProcessCode { integers: 1, entries, bundles: Vec::new(alloc), instrs })
 }
 
-/// The verified code of that process alone.
-fn verified(alloc: Global, idle: u16, arms: u8) -> Result<Option<Verified>, NoMemory> {
+/// The verified code of one such process, or of four.
+fn verified(alloc: Global, four: bool, idle: u16, arms: u8) -> Result<Option<Verified>, NoMemory> {
     let mut processes = Vec::new(alloc);
-    processes.push(process(alloc, idle, arms)?)?;
     let mut names = Vec::new(alloc);
-    names.push(Vec::from_slice(alloc, b"p")?)?;
+    for name in if four { b"abcd".as_slice() } else { b"a".as_slice() } {
+        processes.push(process(alloc, idle, arms)?)?;
+        names.push(Vec::from_slice(alloc, &[*name])?)?;
+    }
+    let claims = if four {
+        Claims::new(alloc, &[&[], &[], &[], &[]])?
+    } else {
+        Claims::new(alloc, &[&[]])?
+    };
     let code = Code {
         names: Names { processes: names, resources: Vec::new(alloc) },
         capital: Capital::new(alloc, &[])?,
-        claims: Claims::new(alloc, &[&[]])?,
+        claims,
         processes,
     };
     Ok(verify(alloc, code).ok())
 }
 
+/// Makes picks of one stretch by runs of at most `max`, one after another, with no book between them. Returns how many
+/// were made.
+fn bare<C: CodeBrand>(alloc: Global, code: &Verified, max: u32, limit: u32) -> u32
+    requires brand { code.now ≡ C.code }
+    requires max { 0 < max }
+    requires some { 0 < limit }
+    requires limit { limit ≤ 10000000 }
+{
+    let mut book: Book<'_, C> = match Book::new(alloc, code, limit) {
+        Ok(book) => book,
+        Err(_) => return 0,
+    };
+    let mut stretch = match book.take(alloc, limit) {
+        Ok(Taken::Work(stretch)) => stretch,
+        Ok(Taken::Idle) => return 0,
+        Ok(Taken::Over(_)) => return 0,
+        Err(_) => return 0,
+    };
+    for _ in 0..limit / max + 1 {
+        let _ = stretch.run(max);
+    }
+    let made = stretch.made();
+    stretch.forfeit();
+    made
+}
+
 fn main(rt: HostRuntime) -> anyhow::Result<ExitCode> {
     let alloc = rt.alloc();
     let words: Vec<String> = std::env::args(&rt)?.collect(alloc)?;
-    if words.len() < 5 {
+    if words.len() < 8 {
         return Ok(ExitCode::FAILURE);
     }
-    let idle = words[1].as_str().parse::<u16>()?;
-    let arms = words[2].as_str().parse::<u8>()?;
-    let quantum = words[3].as_str().parse::<u32>()?;
-    let limit = words[4].as_str().parse::<u32>()?;
-    let Ok(Some(code)) = verified(alloc, idle, arms) else {
+    let processes = words[1].as_str().parse::<u8>()?;
+    let idle = words[2].as_str().parse::<u16>()?;
+    let arms = words[3].as_str().parse::<u8>()?;
+    let workers = words[4].as_str().parse::<usize>()?;
+    let quantum = words[5].as_str().parse::<u32>()?;
+    let limit = words[6].as_str().parse::<u32>()?;
+    let rounds = words[7].as_str().parse::<u64>()?;
+    let Ok(Some(code)) = verified(alloc, processes == 4, idle, arms) else {
         return Ok(ExitCode::FAILURE);
     };
-    let Ok(report) = run_workers(&rt, alloc, &code, 1, quantum, limit, &Open) else {
+    if quantum == 0 || limit == 0 || limit > 10_000_000 {
         return Ok(ExitCode::FAILURE);
-    };
-    println!(rt; "{} {}", report.trace.len(), report.trace.spans_len())?;
+    }
+    for _ in 0..rounds {
+        let start = Instant::now(&rt)?;
+        let made = if workers == 0 {
+            bare::<Brand>(alloc, &code, quantum, limit)
+        } else {
+            match run_workers(&rt, alloc, &code, workers, quantum, limit, &Open) {
+                Ok(report) => report.trace.len(),
+                Err(_) => 0,
+            }
+        };
+        let taken = start.elapsed(&rt)?;
+        println!(rt; "{} {}", taken.as_nanos(), made)?;
+    }
     Ok(ExitCode::SUCCESS)
 }
 """
 
-# each with how many instructions are never reached, and how many arms there are besides the first
-PROCESSES = {"one arm": (0, 0), "long code": (30_000, 0), "16 arms": (0, 15)}
+GHOSTS = """\
+use Rattle.bench.proofs.main.Given as goal
+
+abbrev pub ghosts-bare : goal.ghosts-bare
+ghosts-bare g a = record { code = a.code.now }
+"""
+
+# each with how many processes there are, how many instructions are never reached, and how many arms there are besides the
+# first of each process
+SHAPES = {"one arm": (1, 0, 0), "long code": (1, 30_000, 0), "16 arms": (1, 0, 15), "four": (4, 0, 0)}
 
 
-def call(program, shape, quantum):
-    """The processor time of a call in seconds."""
-    with tempfile.TemporaryFile() as said:
-        words = [program, *(str(number) for number in (*shape, quantum, PICKS))]
-        process = subprocess.Popen(words, stdin=subprocess.DEVNULL, stdout=said)
-        _, status, used = os.wait4(process.pid, 0)
-        said.seek(0)
-        if status != 0 or said.read().split() != [str(PICKS).encode(), b"1"]:
-            raise SystemExit("the run made other picks")
-    return used.ru_utime + used.ru_stime
+def clock(program, shape, workers, quantum):
+    """The least time of a round in milliseconds."""
+    least, (made,) = least_of_rows(said([program, *shape, workers, quantum, PICKS, ROUNDS]), 2)
+    if int(made) != PICKS:
+        raise SystemExit("the run made other picks")
+    return least / 1e6
 
 
-def row(program, name, shape):
-    """The times of one process."""
-    best = {quantum: float("inf") for quantum in (SHORT, LONG)}
+def whole(program, shape, workers, quantum):
+    """The processor time of a call with one round, in milliseconds."""
+    words = [str(word) for word in (program, *shape, workers, quantum, PICKS, 1)]
+    process = subprocess.Popen(words, stdin=subprocess.DEVNULL, stdout=subprocess.DEVNULL)
+    _, status, used = os.wait4(process.pid, 0)
+    if status != 0:
+        raise SystemExit("the run failed")
+    return (used.ru_utime + used.ru_stime) * 1e3
+
+
+def at_once(program, count):
+    """The time by the clock of so many bare loops at once, each in a process of its own: that of the slowest one."""
+    words = [str(word) for word in (program, *SHAPES["one arm"], 0, LONG, PICKS, ROUNDS)]
+    calls = [subprocess.Popen(words, stdout=subprocess.PIPE) for _ in range(count)]
+    return max(least_of_rows(call.communicate()[0].decode().split(), 2)[0] for call in calls) / 1e6
+
+
+def least_of(calls):
+    """The least of each of these calls, which are made turn by turn."""
+    best = [float("inf")] * len(calls)
     for _ in range(TURNS):
-        for quantum in best:
-            best[quantum] = min(best[quantum], call(program, shape, quantum))
-    stretches = PICKS / SHORT - PICKS / LONG
-    return [name, best[SHORT] * 1e3, best[LONG] * 1e3, best[SHORT] / best[LONG],
-            (best[SHORT] - best[LONG]) * 1e9 / stretches]
+        best = [min(least, call()) for least, call in zip(best, calls)]
+    return best
+
+
+def beside_bare(name, time, programs, shape):
+    """Rows of one shape, one for each program, beside the bare loop."""
+    calls = [lambda p=p, w=w, q=q: time(p, shape, w, q)
+             for p in programs.values() for w in (0, 1) for q in (SHORT, LONG)]
+    best = least_of(calls)
+    rows = []
+    for i, label in enumerate(programs):
+        bare_short, bare_long, short, long = best[4 * i:4 * i + 4]
+        rows.append([f"{name}{label}", bare_short, short, short / bare_short, bare_long, long, long / bare_long,
+                     (short - bare_short) * 1e6 * SHORT / PICKS])
+    return rows
 
 
 def main():
     with scratch_folder() as folder:
-        program = build_proved(folder, NEEDS, {"src/main.rt": MAIN})
-        head = ["process", f"quantum {SHORT}, milliseconds", f"quantum {LONG}", "ratio", "nanoseconds a stretch"]
-        print_table(head, [row(program, name, shape) for name, shape in PROCESSES.items()])
+        program = build_proved(folder, NEEDS, {"src/main.rt": MAIN, "proofs/main/Invariants.antt": GHOSTS})
+        programs = {"": program} | ({", before": BEFORE} if BEFORE else {})
+        head = ["process", f"bare loop of {SHORT}, milliseconds", f"quantum {SHORT}", "ratio",
+                f"bare loop of {LONG}", f"quantum {LONG}", "ratio", "nanoseconds a stretch"]
+        print_table(head, [row for name, shape in SHAPES.items() for row in beside_bare(name, clock, programs, shape)])
+        print_table(["whole calls"] + head[1:], beside_bare("one arm", whole, programs, SHAPES["one arm"]))
+        calls = [lambda p=p, w=w: clock(p, SHAPES["four"], w, LONG) for p in programs.values() for w in (1, 4)]
+        best = least_of(calls + [lambda: at_once(program, 1), lambda: at_once(program, 4)])
+        rows = [[f"four processes{label}", best[2 * i], best[2 * i + 1], best[2 * i] / best[2 * i + 1]]
+                for i, label in enumerate(programs)]
+        rows.append(["bare loops at once, one and four", best[-2], best[-1], 4 * best[-2] / best[-1]])
+        print_table(["by the clock", "1 worker, milliseconds", "4 workers", "times as fast"], rows)
 
 
 if __name__ == "__main__":

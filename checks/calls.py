@@ -108,5 +108,6 @@ def inputs():
         yield f"debug {name}", ["debug"], debugged(text)
         yield f"debug --live {name}", ["debug", "--live"], debugged(text)
         yield f"outcomes {name}", ["outcomes"], text
+        yield f"outcomes --lend cash {name}", ["outcomes", "--lend", "cash"], text
         yield f"exec {name}", ["exec"], object_of(text)
         yield f"migrate {name}", ["migrate"], first_object_of(text)

@@ -148,6 +148,7 @@ def cases():
             yield name, ["exec", "--workers", workers], object_of(text)
         yield name, ["migrate"], first_object_of(text)
         yield name, ["outcomes"], text
+        yield name, ["outcomes", "--lend", "cash"], text
         yield name, ["replay"], recorded(text)
         yield name, ["draw"], recorded(text)
         started = text + (b"%%\nP.0 1\n%%\n" + PICKING).replace(b"P", first_process(text))

@@ -40,7 +40,7 @@ _parbegin() {
         return
         ;;
     migrate) options="" ;;
-    outcomes) options="--states" ;;
+    outcomes) options="--states --lend" ;;
     record) options="--workers --quantum --steps --seed" ;;
     replay) options="" ;;
     run) options="--workers --quantum --steps" ;;

@@ -30,4 +30,5 @@ complete -c parbegin -n "__fish_seen_subcommand_from exec record run" -l quantum
 complete -c parbegin -n "__fish_seen_subcommand_from exec record run" -l steps -x -d "Most steps of the run"
 complete -c parbegin -n "__fish_seen_subcommand_from explain" -f -a "$codes"
 complete -c parbegin -n "__fish_seen_subcommand_from outcomes" -l states -x -d "Most configurations, 1 to 4000000"
+complete -c parbegin -n "__fish_seen_subcommand_from outcomes" -l lend -x -a "banker cash" -d "Who decides on a request"
 complete -c parbegin -n "__fish_seen_subcommand_from record" -l seed -x -d "Draw the run by this seed"

@@ -1,6 +1,6 @@
 //! Whole inputs, and the pictures or the refusals that are written of them.
 
-use pb_base::device::{MemoryInput, MemoryOutput};
+use pb_base::device::{FaultyInput, MemoryInput, MemoryOutput};
 use pb_draw_engine::draw_engine;
 use pb_engines::{Status, replay_engine};
 use std::alloc::Global;
@@ -105,4 +105,17 @@ fn refusals_are_those_of_replay(rt: HostRuntime) {
     for refusal in &REFUSALS {
         assert!(rt; refuses(rt.alloc(), refusal) == Some(true));
     }
+}
+
+/// Returns whether nothing is written of an input of which a read fails.
+fn says_nothing(alloc: Global) -> Option<bool> {
+    let mut input = FaultyInput::new(b"process p begin print 1 end\n%%\np.0 3\n", 2, 8);
+    let mut output = MemoryOutput::new(alloc, 64).ok()?;
+    let status = draw_engine(alloc, &mut input, &mut output);
+    Some(status == Status::Device && output.as_slice().is_empty())
+}
+
+#[test]
+fn a_failed_read_is_told(rt: HostRuntime) {
+    assert!(rt; says_nothing(rt.alloc()) == Some(true));
 }

@@ -5,5 +5,6 @@
 pub mod options;
 
 pub use options::{
-    CheckOptions, DebugOptions, EmitOptions, OutcomesOptions, RecordOptions, RunOptions,
+    CheckOptions, DebugOptions, EmitOptions, Lend, OutcomesOptions, RecordOptions, RunOptions,
+    UnknownLend,
 };

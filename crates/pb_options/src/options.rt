@@ -1,7 +1,9 @@
 //! What the engines are told beside their input.
 ghost use Rattle.std.specs.Prelude.{◌≡◌, ◌≤◌, ℕ, Some};
+ghost use Rattle.pb_options.specs.Lends.{IsLendOf};
 
 use pb_object::Format;
+use std::str::FromStr;
 
 /// The options of `check_engine`.
 #[derive(Clone, Copy, Debug, PartialEq, Eq)]
@@ -51,11 +53,41 @@ pub struct DebugOptions {
     pub live: bool,
 }
 
+/// Who decides on a request.
+#[derive(Clone, Copy, Debug, PartialEq, Eq)]
+pub enum Lend {
+    /// The banker, who keeps the loans safe.
+    Banker,
+    /// The cash alone: what it suffices for is granted.
+    Cash,
+}
+
+/// The word names nobody who decides on a request.
+#[derive(Clone, Copy, Debug, PartialEq, Eq)]
+pub struct UnknownLend;
+
+/// Reads who decides on a request: `banker` or `cash`.
+impl FromStr for Lend {
+    type Err = UnknownLend;
+
+    ghost from_str_gives = { IsLendOf };
+
+    fn from_str(word: &str) -> Result<Lend, UnknownLend> {
+        match word {
+            "banker" => Ok(Lend::Banker),
+            "cash" => Ok(Lend::Cash),
+            _ => Err(UnknownLend),
+        }
+    }
+}
+
 /// The options of `outcomes_engine`.
 #[derive(Clone, Copy, Debug, PartialEq, Eq)]
 pub struct OutcomesOptions {
     /// The most configurations that are kept, from 1 to 4,000,000.
     pub states: u32,
+    /// Who decides on a request.
+    pub lend: Lend,
     pub ghost some_state: { 1 ≤ states },
     pub ghost states_fit: { states ≤ 4000000 },
 }

@@ -1,19 +1,19 @@
--- The lines of outcomes, one more at a time.
-use Rattle.std.proofs.Common.{◌≡◌, ℕ, suc, ◌+◌, ◌<◌, ◌≤◌, ℤ, pos, false, List, [], ◌∷◌, ◌++◌, ◌∙◌, append_assoc, length, take, get_or, map, sym, ap, subst, arith}
+-- The lines of outcomes and of deadlocks, one more at a time.
+use Rattle.std.proofs.Common.{◌≡◌, ℕ, suc, ◌+◌, ◌<◌, ◌≤◌, List, [], ◌∷◌, ◌++◌, ◌∙◌, append_assoc, length, take, get_or, map, sym, ap, subst, arith}
 use Rattle.std.specs.Prelude.{slice_index_or}
-use Rattle.std.proofs.lemmas.List.{get_or-map, length-map, length-take-le, take_all, take_more}
-use Rattle.pb_base.specs.Lines.{NameTable, name_of}
-use Rattle.pb_code.specs.View.{process_labels_view}
+use Rattle.std.specs.List.{flat_map}
+use Rattle.std.proofs.lemmas.List.{flat_map_more, get_or-map, length-map, length-take-le, take_all, take_more}
+use Rattle.pb_base.specs.Lines.{NameTable}
 use Rattle.pb_code.specs.Whole.{ProcessLabels}
-use Rattle.pb_code.specs.declared.labels.ProcessLabels.{ProcessLabels as GivenLabels}
-use Rattle.pb_engines.specs.Answers.{line}
-use Rattle.pb_explore.specs.Endings.{found_view, process_outcome_view}
-use Rattle.pb_explore.specs.Outcomes.{Found, ProcessOutcome}
+use Rattle.pb_explore.specs.Endings.{found_view}
+use Rattle.pb_explore.specs.Outcomes.{Found}
 use Rattle.pb_explore.specs.declared.found.Found.{Found as GivenFound}
-use Rattle.pb_explore.specs.declared.found.ProcessOutcome.{ProcessOutcome as GivenOutcome}
 use Rattle.pb_history.specs.declared.counted.CountedPick.{CountedPick}
-use Rattle.pb_outcome_engine.specs.OutcomeLines.{AreCounted, AreOutcomeLines, each_below, integer_line, integer_names, none, one_more, outcome_at, outcome_lines, process_lines}
-use Rattle.pb_outcome_engine.specs.Showing.{AreNamed}
+use Rattle.pb_outcome_engine.specs.DeadlockLines.{AreDeadlockLines, deadlock_lines, none as no_stuck, one_more as one_more_stuck}
+use Rattle.pb_outcome_engine.specs.OutcomeLines.{AreCounted, AreOutcomeLines, each_below, none, one_more, outcome_lines}
+use Rattle.pb_explore.specs.Outcomes.{FoundDeadlock}
+use Rattle.pb_explore.specs.Endings.{deadlock_view}
+use Rattle.pb_explore.specs.declared.found.Deadlock.{Deadlock as GivenDeadlock}
 
 -- what is seen of an element that was read
 pub view_at : {A B : Type 0} (f : A → B) (xs : List A) (i : ℕ) (x : A) → i < length xs → x ≡ get_or xs i x
@@ -21,7 +21,7 @@ pub view_at : {A B : Type 0} (f : A → B) (xs : List A) (i : ℕ) (x : A) → i
 view_at f xs i x within at = get_or-map f xs i x (f x) within ∙ ap f (sym at)
 
 -- one more number
-each_more : (said : ℕ → List ℕ) (n : ℕ) (now old so_far new : List ℕ) → said n ≡ now → so_far ≡ old ++ each_below said n
+pub each_more : (said : ℕ → List ℕ) (n : ℕ) (now old so_far new : List ℕ) → said n ≡ now → so_far ≡ old ++ each_below said n
     → new ≡ so_far ++ now → new ≡ old ++ each_below said (n + 1)
 each_more said n now old so_far new is before added =
     let next : n + 1 ≡ suc n = omega arith in
@@ -30,55 +30,21 @@ each_more said n now old so_far new is before added =
     ∙ (ap (λ (t : List ℕ). old ++ (each_below said n ++ t)) (sym is)
     ∙ ap (λ (k : ℕ). old ++ each_below said k) (sym next))))
 
--- the line of one integer more
-pub integer_more : {A : Type 0} (f : A → List ℕ) (process : List ℕ) (names : List A) (values : List ℤ) (x : ℕ) (name : A)
-    (old so_far new : List ℕ) → x < length names → name ≡ get_or names x name
-    → so_far ≡ old ++ each_below (λ k. integer_line process (name_of (map f names) k) (slice_index_or values k (pos 0))) x
-    → new ≡ so_far ++ integer_line process (f name) (slice_index_or values x (pos 0))
-    → new ≡ old ++ each_below (λ k. integer_line process (name_of (map f names) k) (slice_index_or values k (pos 0))) (x + 1)
-integer_more f process names values x name old so_far new in_names at_name before added =
-    let named : name_of (map f names) x ≡ f name = get_or-map f names x name [] in_names ∙ ap f (sym at_name) in
-    each_more (λ k. integer_line process (name_of (map f names) k) (slice_index_or values k (pos 0))) x
-    (integer_line process (f name) (slice_index_or values x (pos 0))) old so_far new
-    (ap (λ (n : List ℕ). integer_line process n (slice_index_or values x (pos 0))) named) before added
+-- the lines of one process more, of which an element is read
+pub view_more : {A B : Type 0} (view : A → B) (xs : List A) (d : B) (said : ℕ → B → List ℕ) (p : ℕ) (x : A) (old so_far new : List ℕ)
+    → p < length xs → x ≡ get_or xs p x → so_far ≡ old ++ each_below (λ k. said k (slice_index_or (map view xs) k d)) p
+    → new ≡ so_far ++ said p (view x) → new ≡ old ++ each_below (λ k. said k (slice_index_or (map view xs) k d)) (p + 1)
+view_more view xs d said p x old so_far new within at before added =
+    each_more (λ k. said k (slice_index_or (map view xs) k d)) p (said p (view x)) old so_far new
+    (ap (said p) (get_or-map view xs p x d within ∙ ap view (sym at))) before added
 
--- the lines of one process more
-module _ {A : Type 0} (f : A → List ℕ) (names : List A) (labels : List GivenLabels) (outcome : List GivenOutcome) where
-  abbrev pub lines_at : ℕ → List ℕ
-  lines_at p = process_lines (name_of (map f names) p) (integer_names (map process_labels_view labels) p) (outcome_at (map process_outcome_view outcome) p)
-
-  module _ (p : ℕ) (name : A) (l : GivenLabels) (o : GivenOutcome) (in_names : p < length names) (in_labels : p < length labels)
-      (in_outcome : p < length outcome) (at_name : name ≡ get_or names p name) (at_l : l ≡ get_or labels p l) (at_o : o ≡ get_or outcome p o) where
-    name_is : name_of (map f names) p ≡ f name
-    name_is = get_or-map f names p name [] in_names ∙ ap f (sym at_name)
-
-    integers_are : integer_names (map process_labels_view labels) p ≡ (process_labels_view l).integers
-    integers_are =
-        ap (λ (x : ProcessLabels). x.integers)
-        (get_or-map process_labels_view labels p l (record { lines = []; integers = [] }) in_labels ∙ ap process_labels_view (sym at_l))
-
-    outcome_is : outcome_at (map process_outcome_view outcome) p ≡ process_outcome_view o
-    outcome_is =
-        get_or-map process_outcome_view outcome p o (record { integers = []; faulted = false }) in_outcome ∙ ap process_outcome_view (sym at_o)
-
-    pub process_more : (old so_far new : List ℕ) → so_far ≡ old ++ each_below lines_at p
-        → new ≡ so_far ++ process_lines (f name) (process_labels_view l).integers (process_outcome_view o) → new ≡ old ++ each_below lines_at (p + 1)
-    process_more old so_far new before added =
-        each_more lines_at p (process_lines (f name) (process_labels_view l).integers (process_outcome_view o)) old so_far new
-        (ap (λ (n : List ℕ). process_lines n (integer_names (map process_labels_view labels) p) (outcome_at (map process_outcome_view outcome) p)) name_is
-        ∙ (ap (λ (x : List (List ℕ)). process_lines (f name) x (outcome_at (map process_outcome_view outcome) p)) integers_are
-        ∙ ap (λ (x : ProcessOutcome). process_lines (f name) (process_labels_view l).integers x) outcome_is))
-        before added
-
-    -- each integer has a name
-    pub integers_fit : AreNamed (map f names) (map process_labels_view labels) (map process_outcome_view outcome)
-        → length l.integers.items ≡ length o.integers.items
-    integers_fit named =
-        let all : length (map process_outcome_view outcome) ≡ length outcome = length-map outcome process_outcome_view in
-        sym (length-map l.integers.items (λ name. name.items))
-        ∙ (ap (λ (x : List (List ℕ)). length x) (sym integers_are)
-        ∙ (named.integers p (omega (arith, all, in_outcome))
-        ∙ ap (λ (x : ProcessOutcome). length x.integers) outcome_is))
+-- the line of one element more
+pub flat_more : {A : Type 0} (said : A → List ℕ) (xs : List A) (i : ℕ) (x : A) (old so_far new : List ℕ) → i < length xs → x ≡ get_or xs i x
+    → so_far ≡ old ++ flat_map said (take i xs) → new ≡ so_far ++ said x → new ≡ old ++ flat_map said (take (i + 1) xs)
+flat_more said xs i x old so_far new within at before added =
+    let more : take (i + 1) xs ≡ take i xs ++ x ∷ [] = take_more xs i x within ∙ ap (λ y. take i xs ++ y ∷ []) (sym at) in
+    added ∙ (ap (λ (t : List ℕ). t ++ said x) before
+    ∙ (flat_map_more said old (take i xs) x ∙ ap (λ ys. old ++ flat_map said ys) (sym more)))
 
 -- no outcome yet
 pub no_outcomes : (names : NameTable) (labels : List ProcessLabels) (found : List Found) (text : List ℕ) → text ≡ []
@@ -111,10 +77,33 @@ all_outcomes names labels found i text end lines =
     let all : length (map found_view found) ≡ length found = length-map found found_view in
     subst (λ (l : List Found). AreOutcomeLines names labels l text) (take_all i (map found_view found) (omega (arith, all, end))) lines
 
--- a word and a number behind a text, and the end of their line
-pub line_put : (old word number end with_number new : List ℕ) → with_number ≡ old ++ (word ++ number) → new ≡ with_number ++ line end
-    → new ≡ old ++ line (word ++ number ++ end)
-line_put old word number end with_number new put then_put =
-    then_put ∙ (ap (λ (text : List ℕ). text ++ line end) put
-    ∙ (append_assoc old (word ++ number) (line end)
-    ∙ ap (λ (text : List ℕ). old ++ text) (sym (append_assoc (word ++ number) end (10 ∷ [])))))
+-- no deadlock yet
+pub no_deadlocks : (names : NameTable) (labels : List ProcessLabels) (found : List FoundDeadlock) (text : List ℕ) → text ≡ []
+    → AreDeadlockLines names labels (take 0 found) text
+no_deadlocks names labels found text empty = subst (λ (t : List ℕ). AreDeadlockLines names labels [] t) (sym empty) no_stuck
+
+-- the lines of one deadlock more
+pub deadlock_more : (names : NameTable) (labels : List ProcessLabels) (found : List GivenDeadlock) (i : ℕ) (d : GivenDeadlock)
+    (picks : List CountedPick) (so_far new : List ℕ) → i < length found → d ≡ get_or found i d
+    → AreDeadlockLines names labels (take i (map deadlock_view found)) so_far → AreCounted (deadlock_view d).picks picks
+    → new ≡ so_far ++ deadlock_lines names labels (i + 1) (deadlock_view d).processes picks
+    → AreDeadlockLines names labels (take (i + 1) (map deadlock_view found)) new
+deadlock_more names labels found i d picks so_far new within at before counted added =
+    let views = map deadlock_view found in
+    let all : length views ≡ length found = length-map found deadlock_view in
+    let inside : i < length views = omega (arith, all, within) in
+    let many : length (take i views) ≡ i = length-take-le i views (omega (arith, inside)) in
+    let list : take i views ++ deadlock_view d ∷ [] ≡ take (i + 1) views =
+    ap (λ g. take i views ++ g ∷ []) (sym (view_at deadlock_view found i d within at)) ∙ sym (take_more views i (deadlock_view d) inside) in
+    let text : so_far ++ deadlock_lines names labels (length (take i views) + 1) (deadlock_view d).processes picks ≡ new =
+    ap (λ n. so_far ++ deadlock_lines names labels (n + 1) (deadlock_view d).processes picks) many ∙ sym added in
+    subst (λ (l : List FoundDeadlock). AreDeadlockLines names labels l new) list
+    (subst (λ (t : List ℕ). AreDeadlockLines names labels (take i views ++ deadlock_view d ∷ []) t) text
+    (one_more_stuck (take i views) so_far (deadlock_view d) picks before counted))
+
+-- the lines of all deadlocks
+pub all_deadlocks : (names : NameTable) (labels : List ProcessLabels) (found : List GivenDeadlock) (i : ℕ) (text : List ℕ) → length found ≤ i
+    → AreDeadlockLines names labels (take i (map deadlock_view found)) text → AreDeadlockLines names labels (map deadlock_view found) text
+all_deadlocks names labels found i text end lines =
+    let all : length (map deadlock_view found) ≡ length found = length-map found deadlock_view in
+    subst (λ (l : List FoundDeadlock). AreDeadlockLines names labels l text) (take_all i (map deadlock_view found) (omega (arith, all, end))) lines

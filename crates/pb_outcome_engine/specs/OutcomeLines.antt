@@ -66,14 +66,20 @@ pub data AreOutcomeLines (names : NameTable) (labels : List ProcessLabels) : Lis
       → AreOutcomeLines names labels (found ++ f ∷ [])
       (lines ++ outcome_lines names labels (length found + 1) f.outcome picks)
 
+-- how many deadlocks there are, if there are some
+abbrev pub deadlocks_text : ℕ → List ℕ
+deadlocks_text zero = []
+deadlocks_text (suc n) = codes ", " ++ decimal (suc n) ++ codes " deadlocks"
+
 -- how the last line ends, by whether some run never ends
 abbrev pub runs_text : Bool → List ℕ
-runs_text true = codes " outcomes, some runs do not end"
-runs_text false = codes " outcomes"
+runs_text true = codes ", some runs do not end"
+runs_text false = []
 
--- the last line: how many outcomes there are, and whether some run never ends
-abbrev pub all_line : ℕ → Bool → List ℕ
-all_line count cycles = line (codes "all " ++ decimal count ++ runs_text cycles)
+-- the last line: how many outcomes and deadlocks there are, and whether some run never ends
+abbrev pub all_line : (outcomes deadlocks : ℕ) → Bool → List ℕ
+all_line outcomes deadlocks cycles =
+    line (codes "all " ++ decimal outcomes ++ codes " outcomes" ++ deadlocks_text deadlocks ++ runs_text cycles)
 
 -- the only line, if more configurations than these are reached
 abbrev pub excess_line : ℕ → List ℕ

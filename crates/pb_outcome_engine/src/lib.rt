@@ -1,8 +1,11 @@
-//! The engine behind the command `outcomes`: every way in which a small program can end.
+//! The engine behind the command `outcomes`: every way in which a small program can end, and every deadlock.
 #![tactic(auto)]
 
 mod counts;
+mod deadlocks;
+pub mod laws;
 mod lines;
+mod names;
 pub mod outcomes;
 
 pub use outcomes::outcomes_engine;

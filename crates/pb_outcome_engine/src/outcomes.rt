@@ -7,7 +7,7 @@ ghost use Rattle.pb_engines.specs.Faults.{TellsFaults, TellsWriteFaults};
 ghost use Rattle.pb_engines.specs.Inputs.{SaysOfInput};
 ghost use Rattle.pb_engines.specs.declared.status.Status.TheVariants.{Limit};
 ghost use Rattle.pb_outcome_engine.specs.OutcomeLines.{excess_line};
-ghost use Rattle.pb_outcome_engine.specs.SaysOutcomes.{SaysOfCode, SaysOfOutcomes};
+ghost use Rattle.pb_outcome_engine.specs.SaysOutcomes.{SaysOfCode, SaysOfOutcomes, lending_for};
 
 use crate::lines::outcomes_text;
 use itoa::Buffer;
@@ -18,15 +18,17 @@ use pb_engines::Status;
 use pb_engines::accept::{compile_text, refuse};
 use pb_engines::input::read_input;
 use pb_engines::reply::{Reply, tell};
-use pb_explore::ExploreFault;
-use pb_explore::explore::explore;
-use pb_options::OutcomesOptions;
+use pb_explore::explore::explore_by;
+use pb_explore::{ExploreFault, Lending};
+use pb_options::{Lend, OutcomesOptions};
 use std::alloc::Global;
 
-/// Writes every outcome of the text that the input holds, under the banker: how each process ended, its integers, and
-/// picks that lead there; and at the end how many outcomes there are, and whether some run never ends. If more
-/// configurations than `options.states` are needed, the answer is the line that says so, and the status `Limit`. A
-/// text that is refused is answered by its refusal line.
+/// Writes every outcome of the text that the input holds, under the banker or with loans by the cash alone:
+/// how each process ended, its integers, and picks that lead there; then every deadlock, where each process
+/// is, its integers, what it holds and asks for, and picks that lead there; and at the end how many outcomes
+/// and deadlocks there are, and whether some run never ends. If more configurations than `options.states` are
+/// needed, the answer is the line that says so, and the status `Limit`. A text that is refused is answered by
+/// its refusal line.
 ///
 /// After a read that failed nothing is written; after a write that failed, a first part of what was being
 /// said.
@@ -37,7 +39,7 @@ pub fn outcomes_engine<I: Input, O: Output>(
     output: &mut O,
 ) -> Status
     ensures text { IfSome (I.rest input.old) (λ bytes.
-        Tells (SaysOfInput (SaysOfOutcomes options.states) bytes) (O.written output.old) (O.written output.new) result) }
+        Tells (SaysOfInput (SaysOfOutcomes options.lend options.states) bytes) (O.written output.old) (O.written output.new) result) }
     ensures faults { TellsFaults
         (record { reads = I.failures input.old; writes = O.failures output.old; written = O.written output.old })
         (record { reads = I.failures input.new; writes = O.failures output.new; written = O.written output.new })
@@ -57,36 +59,52 @@ fn tell_outcomes<O: Output>(
     output: &mut O,
 ) -> Status
     requires { length text.now ≤ 4194304 }
-    ensures text { Tells (SaysOfInput (SaysOfOutcomes options.states) text.now) (O.written output.old) (O.written output.new) result }
+    ensures text { Tells (SaysOfInput (SaysOfOutcomes options.lend options.states) text.now) (O.written output.old) (O.written output.new) result }
     ensures faults { TellsWriteFaults (O.failures output.old) (O.failures output.new) result }
 {
     match compile_text(alloc, text) {
-        Ok(compiled) => tell(alloc, reply(alloc, options.states, &compiled), output),
+        Ok(compiled) => tell(
+            alloc,
+            reply(alloc, options.lend, options.states, &compiled),
+            output,
+        ),
         Err(refusal) => refuse(alloc, refusal, output),
     }
 }
 
-// Returns the lines of all outcomes of a compiled text, or the line that more configurations are reached.
-fn reply(alloc: Global, states: u32, compiled: &Compiled) -> Result<Reply, NoMemory>
+// Returns the lines of all outcomes and deadlocks of a compiled text, or the line that more configurations
+// are reached.
+fn reply(alloc: Global, lend: Lend, states: u32, compiled: &Compiled) -> Result<Reply, NoMemory>
     requires { AreLabels compiled.now.verified.code compiled.now.labels }
     ensures { IfOk result (λ r.
-        SaysOfCode compiled.now.verified.code compiled.now.labels states r.text.items r.status) }
+        SaysOfCode (lending_for lend) compiled.now.verified.code compiled.now.labels states r.text.items r.status) }
 {
     let verified = compiled.verified();
     let code = verified.code();
-    match explore(alloc, verified, states) {
+    match explore_by(alloc, verified, lending(lend), states) {
         Ok(told) => Ok(Reply {
             text: outcomes_text(
                 alloc,
                 &code.names,
                 compiled.labels(),
                 &told.found,
+                &told.deadlocks,
                 told.cycles,
             )?,
             status: Status::Done,
         }),
         Err(ExploreFault::TooMany) => too_many(alloc, states),
         Err(ExploreFault::NoMemory) => Err(NoMemory),
+    }
+}
+
+// Returns who decides on a request, as the search takes it.
+fn lending(lend: Lend) -> Lending
+    ensures { result ≡ lending_for lend }
+{
+    match lend {
+        Lend::Banker => Lending::ByBanker,
+        Lend::Cash => Lending::ByCash,
     }
 }
 

@@ -1,8 +1,8 @@
 //! Whole inputs, and what is said of them.
 
-use pb_base::device::{MemoryInput, MemoryOutput};
+use pb_base::device::{FaultyInput, MemoryInput, MemoryOutput};
 use pb_engines::{Status, replay_engine};
-use pb_options::OutcomesOptions;
+use pb_options::{Lend, OutcomesOptions};
 use pb_outcome_engine::outcomes_engine;
 use std::alloc::Global;
 
@@ -14,13 +14,25 @@ struct Case {
     status: Status,
 }
 
-const MANY: OutcomesOptions = OutcomesOptions { states: 1_000_000 };
+const MANY: OutcomesOptions = OutcomesOptions {
+    states: 1_000_000,
+    lend: Lend::Banker,
+};
+
+const CASH: OutcomesOptions = OutcomesOptions {
+    states: 1_000_000,
+    lend: Lend::Cash,
+};
 
 /// Two additions, of which one may be lost: 61 configurations.
 const LOST: &[u8] =
     b"process p begin integer x; parbegin x := x + 1; x := x + 1 parend; print x end\n";
 
-const CASES: [Case; 9] = [
+/// Two jobs that want the same two devices, in opposite order.
+const DEVICES: &[u8] =
+    b"resource tape = 1; resource disk = 1;\nprocess a begin hold 1 of tape do hold 1 of disk do print 1 od od end\nprocess b begin hold 1 of disk do hold 1 of tape do print 2 od od end\n";
+
+const CASES: [Case; 11] = [
     Case {
         text: LOST,
         options: MANY,
@@ -28,7 +40,7 @@ const CASES: [Case; 9] = [
         status: Status::Done,
     },
     Case {
-        text: b"resource tape = 1; resource disk = 1;\nprocess a begin hold 1 of tape do hold 1 of disk do print 1 od od end\nprocess b begin hold 1 of disk do hold 1 of tape do print 2 od od end\n",
+        text: DEVICES,
         options: MANY,
         said: b"outcome 1\na ended\nb ended\nreached by\na.0 7\nb.0 7\nall 1 outcomes\n",
         status: Status::Done,
@@ -37,6 +49,18 @@ const CASES: [Case; 9] = [
         text: b"process p begin integer x; parbegin print 1 div x; x := 1 parend end\n",
         options: MANY,
         said: b"outcome 1\np faulted\np.x 0\nreached by\np.0 1\np.1 3\noutcome 2\np faulted\np.x 1\nreached by\np.0 1\np.1 2\np.2 2\np.1 1\noutcome 3\np ended\np.x 1\nreached by\np.0 1\np.1 1\np.2 2\np.1 4\np.2 1\np.0 2\nall 3 outcomes\n",
+        status: Status::Done,
+    },
+    Case {
+        text: DEVICES,
+        options: CASH,
+        said: b"outcome 1\na ended\nb ended\nreached by\na.0 7\nb.0 7\ndeadlock 1\na waits\na holds 1 tape\na.0 asks 1 disk\nb waits\nb holds 1 disk\nb.0 asks 1 tape\nreached by\na.0 1\nb.0 1\nall 1 outcomes, 1 deadlocks\n",
+        status: Status::Done,
+    },
+    Case {
+        text: LOST,
+        options: CASH,
+        said: b"outcome 1\np ended\np.x 2\nreached by\np.0 1\np.1 5\np.2 5\np.0 4\noutcome 2\np ended\np.x 1\nreached by\np.0 1\np.1 3\np.2 1\np.1 2\np.2 4\np.0 4\nall 2 outcomes\n",
         status: Status::Done,
     },
     Case {
@@ -53,13 +77,19 @@ const CASES: [Case; 9] = [
     },
     Case {
         text: LOST,
-        options: OutcomesOptions { states: 61 },
+        options: OutcomesOptions {
+            states: 61,
+            lend: Lend::Banker,
+        },
         said: b"outcome 1\np ended\np.x 2\nreached by\np.0 1\np.1 5\np.2 5\np.0 4\noutcome 2\np ended\np.x 1\nreached by\np.0 1\np.1 3\np.2 1\np.1 2\np.2 4\np.0 4\nall 2 outcomes\n",
         status: Status::Done,
     },
     Case {
         text: LOST,
-        options: OutcomesOptions { states: 60 },
+        options: OutcomesOptions {
+            states: 60,
+            lend: Lend::Banker,
+        },
         said: b"more than 60 configurations\n",
         status: Status::Limit,
     },
@@ -90,6 +120,19 @@ fn outcomes_are_told(rt: HostRuntime) {
     for case in &CASES {
         assert!(rt; says(rt.alloc(), case) == Some(true));
     }
+}
+
+/// Returns whether nothing is said of a text of which a read fails.
+fn says_nothing(alloc: Global) -> Option<bool> {
+    let mut input = FaultyInput::new(LOST, 2, 8);
+    let mut output = MemoryOutput::new(alloc, 64).ok()?;
+    let status = outcomes_engine(alloc, MANY, &mut input, &mut output);
+    Some(status == Status::Device && output.as_slice().is_empty())
+}
+
+#[test]
+fn a_failed_read_is_told(rt: HostRuntime) {
+    assert!(rt; says_nothing(rt.alloc()) == Some(true));
 }
 
 /// The text of the lost update with the picks of its two outcomes, what `replay` says, and its status.

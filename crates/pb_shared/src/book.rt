@@ -17,19 +17,20 @@ use pb_verifier::Verified;
 use std::alloc::Global;
 use std::marker::{Model, PhantomData};
 
-/// The book of one machine. It refers to its code, which is that of its brand.
+/// The book of one machine. It refers to its code, which is that of its brand. What each stretch changes is side by
+/// side, so that little memory goes from one processor to another.
 #[derive(Drop)]
 pub struct Book<'v, C: CodeBrand> {
     pub(crate) code: &'v Verified,
-    pub(crate) machine: Machine,
-    pub(crate) trace: Trace,
-    pub(crate) limit: u32,
     pub(crate) left: u32,
+    pub(crate) limit: u32,
+    pub(crate) next_process: u8,
+    pub(crate) trace: Trace,
     pub(crate) slips: Vec<Option<Slip>>,
     pub(crate) spares: Vec<Option<Box<Spare>>>,
     pub(crate) refused: Vec<bool>,
-    pub(crate) next_process: u8,
     pub(crate) next_arms: Vec<u8>,
+    pub(crate) machine: Machine,
     pub(crate) brand: PhantomData<C>,
 }
 

@@ -18,6 +18,7 @@ const MOST: usize = 64;
 
 impl<'v, C: CodeBrand> Book<'v, C> {
     /// Returns the first ready arm, from the process whose turn it is.
+    #[inline(always)]
     pub(crate) fn find_ready(&self) -> Option<Pick>
         ensures { MatchOption result (NoneReady C.code.code self.now) (λ pick. IsReady C.code.code self.now pick) }
     {
@@ -30,6 +31,7 @@ impl<'v, C: CodeBrand> Book<'v, C> {
     }
 
     /// Returns the first ready arm of the processes from one number on and below another.
+    #[inline(always)]
     fn ready_within(&self, from: u8, to: u8) -> Option<Pick>
         ensures { MatchOption result
             ((pick : Pick) → from ≤ pick.process → pick.process < to → IsReady C.code.code self.now pick → ⊥)
@@ -44,6 +46,7 @@ impl<'v, C: CodeBrand> Book<'v, C> {
     }
 
     /// Returns the first ready arm of a process, from the one whose turn it is.
+    #[inline(always)]
     fn ready_arm(&self, process: u8) -> Option<u8>
         ensures { MatchOption result
             ((pick : Pick) → pick.process ≡ process → IsReady C.code.code self.now pick → ⊥)
@@ -63,6 +66,7 @@ impl<'v, C: CodeBrand> Book<'v, C> {
     }
 
     /// Returns the first ready arm of a process from one number on and below another.
+    #[inline(always)]
     fn ready_arm_within(&self, process: u8, from: u8, to: u8) -> Option<u8>
         ensures { MatchOption result
             ((pick : Pick) → pick.process ≡ process → from ≤ pick.arm → pick.arm < to → IsReady C.code.code self.now pick → ⊥)
@@ -77,6 +81,7 @@ impl<'v, C: CodeBrand> Book<'v, C> {
     }
 
     /// Returns whether this arm may be lent.
+    #[inline(always)]
     fn is_ready(&self, pick: Pick) -> bool
         ensures { IsTrue result ↔ IsReady C.code.code self.now pick }
     {
@@ -84,6 +89,7 @@ impl<'v, C: CodeBrand> Book<'v, C> {
     }
 
     /// Returns whether this process is there and at home.
+    #[inline(always)]
     fn is_home(&self, process: u8) -> bool
         ensures { IsTrue result ↔ (slice_get self.now.slips process ≡ Some None) }
     {
@@ -95,6 +101,7 @@ impl<'v, C: CodeBrand> Book<'v, C> {
     }
 
     /// Returns whether an arm can step if the banker lets it.
+    #[inline(always)]
     fn can_step(&self, pick: Pick) -> bool
         ensures { IsTrue result ↔ (look_at C.code.code self.now.machine pick ≢ Stays) }
     {
@@ -106,14 +113,16 @@ impl<'v, C: CodeBrand> Book<'v, C> {
     }
 
     /// Returns how many processes there are.
-    fn processes(&self) -> u8
+    #[inline(always)]
+    pub(crate) fn processes(&self) -> u8
         ensures { (pick : Pick) → IsReady C.code.code self.now pick → pick.process < result }
     {
         self.slips.len().min(MOST) as u8
     }
 
     /// Returns how many arms a process has.
-    fn arms(&self, process: u8) -> u8
+    #[inline(always)]
+    pub(crate) fn arms(&self, process: u8) -> u8
         ensures { (pick : Pick) → pick.process ≡ process → IsReady C.code.code self.now pick → pick.arm < result }
     {
         if usize::from(process) >= self.slips.len() {

@@ -49,6 +49,7 @@ impl Spare {
     }
 
     /// Sets both processes to one of the same code, for an arm that may make so many picks. No memory is taken.
+    #[inline(always)]
     pub(crate) fn begin(&mut self, process: &Proc, pick: Pick, allowance: u32)
         requires { (v : VerifiedCode) × (p : ℕ) × IsVerified v × IsSpareOf v p self.old × IsProcessOf v p process.now }
         ensures lent { lent_as self.new ≡ record {
@@ -86,6 +87,7 @@ impl Spare {
     }
 
     /// Exchanges the state for the process of a machine from whose state it comes by silent picks. The base stays.
+    #[inline(always)]
     pub(crate) fn exchange(&mut self, p: usize, machine: &mut Machine)
         requires { p < length (machine_view machine.old).processes }
         ensures base { self.new.base ≡ self.old.base }

@@ -17,6 +17,7 @@ use std::marker::PhantomData;
 impl<'v, C: CodeBrand> Book<'v, C> {
     /// Lends a ready arm of a process at home, for at most `quantum` picks, if there is one and there are picks left.
     /// Out of memory leaves the book as it was.
+    #[inline(always)]
     pub fn take(&mut self, alloc: Global, quantum: u32) -> Result<Taken<'v, C>, NoMemory>
         requires { 0 < quantum }
         ensures ok { IfOk result (λ taken. Takes C.code self.old quantum taken self.new) }
@@ -38,6 +39,7 @@ impl<'v, C: CodeBrand> Book<'v, C> {
     }
 
     /// Returns a stretch of this arm with nothing made. It takes memory only if the process was never lent before.
+    #[inline(always)]
     fn fresh(
         &mut self,
         alloc: Global,
@@ -59,6 +61,7 @@ impl<'v, C: CodeBrand> Book<'v, C> {
     }
 
     /// Takes the spare of a process, or copies it if it was never lent before.
+    #[inline(always)]
     fn spare(&mut self, alloc: Global, pick: Pick) -> Result<Box<Spare>, NoMemory>
         requires { slice_get self.old.slips pick.process ≡ Some None }
         ensures same { self.new ≡ self.old }
@@ -73,20 +76,29 @@ impl<'v, C: CodeBrand> Book<'v, C> {
     }
 
     /// Writes the slip of this arm.
+    #[inline(always)]
     fn lend(&mut self, pick: Pick, allowance: u32)
         requires at_home { slice_get self.old.slips pick.process ≡ Some None }
         requires within { allowance ≤ self.old.left }
         ensures { self.new ≡ record self.old { left = self.old.left - allowance; slips = slice_set self.old.slips pick.process (Some (record { arm = pick.arm; allowance = allowance })) } }
     {
         let process = usize::from(pick.process);
+        let next_process = next_of(pick.process, self.processes());
+        let next_arm = next_of(pick.arm, self.arms(pick.process));
         self.slips[process] = Some(Slip {
             arm: pick.arm,
             allowance,
         });
         self.left -= allowance;
-        self.next_process = pick.process.saturating_add(1);
-        set_turn(&mut self.next_arms, process, pick.arm.saturating_add(1));
+        self.next_process = next_process;
+        set_turn(&mut self.next_arms, process, next_arm);
     }
+}
+
+/// Returns the number after this one, or 0 if that is not below `count`.
+fn next_of(number: u8, count: u8) -> u8 {
+    let next = number.saturating_add(1);
+    if next < count { next } else { 0 }
 }
 
 /// Sets the arm of a process whose turn it is next.

@@ -8,11 +8,13 @@ use Rattle.clap.proofs.OnLiterals.{clap_on_literals}
 use Rattle.pb_words.specs.CommandLine.{command_line, with_text_commands, with_code_commands, with_object_commands, with_other_commands, with_pick_commands, check_command, claims_command, debug_command, draw_command, emit_command, exec_command, explain_command, migrate_command, outcomes_command, record_command, replay_command, run_command, with_run_rules}
 use Rattle.clap.specs.declared.parser.matches.Found.{Found}
 use Rattle.clap.proofs.WalkLemmas.{one_text-rows}
-use Rattle.pb_words.specs.Read.{BlamesWords, HasCheckNumbers, HasCode, HasEmitNumber, HasFlag, HasNumber, HasNumberIn, HasOptionalNumber, HasStates, HasRecordNumbers, HasRunNumbers, IsReadFrom, IsReadFromMatches}
+use Rattle.pb_words.specs.Read.{BlamesWords, HasCheckNumbers, HasCode, HasEmitNumber, HasFlag, HasNumber, HasNumberIn, HasLend, HasOptionalNumber, HasSearchOptions, HasRecordNumbers, HasRunNumbers, IsReadFrom, IsReadFromMatches}
 use Rattle.pb_words.specs.declared.words.Options.{Options}
 use Rattle.pb_words.specs.declared.words.Options.TheVariants.{Check, Claims, Debug, Draw, Emit, Exec, Explain, Migrate, Outcomes, Record, Replay, Run}
 use Rattle.pb_options.specs.declared.options.CheckOptions.{CheckOptions}
 use Rattle.pb_options.specs.declared.options.EmitOptions.{EmitOptions}
+use Rattle.pb_options.specs.Lends.{IsLendOf, lend_word}
+use Rattle.pb_options.specs.declared.options.Lend.{Lend}
 use Rattle.pb_options.specs.declared.options.OutcomesOptions.{OutcomesOptions}
 use Rattle.pb_options.specs.declared.options.RecordOptions.{RecordOptions}
 use Rattle.pb_options.specs.declared.options.RunOptions.{RunOptions}
@@ -209,7 +211,7 @@ no_explain rows none Replay says =
 no_explain rows none (Run o) says =
     let m : 101 ≡ 114 = ap (λ (l : Text). get_or l 0 0) says.0 in omega (arith, m)
 
-pub no_outcomes : (rows : List Row) → ((o : OutcomesOptions) → HasStates rows o → ⊥) → (o : Options)
+pub no_outcomes : (rows : List Row) → ((o : OutcomesOptions) → HasSearchOptions rows o → ⊥) → (o : Options)
     → IsReadFrom (codes "outcomes") rows o → ⊥
 no_outcomes rows none (Check o) says =
     let m : 111 ≡ 99 = ap (λ (l : Text). get_or l 0 0) says.0 in omega (arith, m)
@@ -267,6 +269,22 @@ code_unread f id e none value code has = go (one_text f id) refl
     go : (o : Option Text) → one_text f id ≡ o → ⊥
     go None empty = absurd (cc (none empty))
     go (Some t) text = unnamed t code (value t text) (sym text ∙ one_text-rows f id ∙ has)
+
+-- the rows have the word of who is read
+pub lend_read : (E : Type 0) (f : Found) (lend : Lend) → (one_text f (codes "lend") ≡ None → Some lend ≡ None)
+    → ((t : Text) → one_text f (codes "lend") ≡ Some t → ReadsOne {E = E} (λ t r. IsLendOf t r) t (Some lend)) → HasLend (rows_of f) lend
+lend_read E f lend none value = sym (one_text-rows f (codes "lend")) ∙ go (one_text f (codes "lend")) refl
+  where
+    go : (o : Option Text) → one_text f (codes "lend") ≡ o → one_text f (codes "lend") ≡ Some (lend_word lend)
+    go None is = absurd (cc (none is))
+    go (Some t) is = is ∙ ap Some (sym (value t is))
+
+-- if nobody is read, the rows have no word for it
+pub lend_unread : (E : Type 0) (f : Found)
+    → ((t : Text) → one_text f (codes "lend") ≡ Some t → ReadsOne {E = E} (λ t r. IsLendOf t r) t None)
+    → (lend : Lend) → HasLend (rows_of f) lend → ⊥
+lend_unread E f value lend has =
+    (value (lend_word lend) (one_text-rows f (codes "lend") ∙ has)).1 lend refl
 
 -- where neither is read, nothing is
 pub no_check_numbers : (rows : List Row) → ((n : ℕ) → HasNumberIn rows (codes "heap") 1024 16777216 n → ⊥)

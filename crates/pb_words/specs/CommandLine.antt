@@ -18,6 +18,10 @@ abbrev pub number_rule_or : Text → ℕ → ℕ → Text → Rule
 number_rule_or name least most default =
     record (number_rule name least most) { defaults = default ∷ [] }
 
+-- `--NAME WORD`, and the word if the option is not given
+abbrev pub word_rule_or : Text → Text → Rule
+word_rule_or name default = record (new_rule name) { long = Some name; defaults = default ∷ [] }
+
 -- `--NAME` alone
 abbrev pub flag_rule : Text → Rule
 flag_rule name = record (new_rule name) { long = Some name; action = Some SetTrue }
@@ -56,7 +60,9 @@ migrate_command = new_app (codes "migrate")
 
 unfoldable pub outcomes_command : App
 outcomes_command =
-    with_rule (new_app (codes "outcomes")) (number_rule_or (codes "states") 1 4000000 (codes "1000000"))
+    with_rule
+    (with_rule (new_app (codes "outcomes")) (number_rule_or (codes "states") 1 4000000 (codes "1000000")))
+    (word_rule_or (codes "lend") (codes "banker"))
 
 unfoldable pub record_command : App
 record_command =

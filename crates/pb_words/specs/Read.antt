@@ -11,6 +11,8 @@ use Rattle.pb_words.specs.declared.words.Options.TheVariants as option
 use Rattle.pb_options.specs.declared.options.DebugOptions.{DebugOptions}
 use Rattle.pb_options.specs.declared.options.CheckOptions.{CheckOptions}
 use Rattle.pb_options.specs.declared.options.EmitOptions.{EmitOptions}
+use Rattle.pb_options.specs.Lends.{lend_word}
+use Rattle.pb_options.specs.declared.options.Lend.{Lend}
 use Rattle.pb_options.specs.declared.options.OutcomesOptions.{OutcomesOptions}
 use Rattle.pb_options.specs.declared.options.RecordOptions.{RecordOptions}
 use Rattle.pb_options.specs.declared.options.RunOptions.{RunOptions}
@@ -61,8 +63,12 @@ HasEmitNumber rows o = HasNumber rows (codes "object") (format_number o.object)
 abbrev pub HasCode : List Row → Option Code → Type 0
 HasCode rows code = one_of (codes "CODE") rows ≡ option_map code_name code
 
-abbrev pub HasStates : List Row → OutcomesOptions → Type 0
-HasStates rows o = HasNumber rows (codes "states") o.states
+-- the word was matched for who decides on a request
+abbrev pub HasLend : List Row → Lend → Type 0
+HasLend rows lend = one_of (codes "lend") rows ≡ Some (lend_word lend)
+
+abbrev pub HasSearchOptions : List Row → OutcomesOptions → Type 0
+HasSearchOptions rows o = HasNumber rows (codes "states") o.states × HasLend rows o.lend
 
 -- the options are those of this subcommand with these matches
 abbrev pub IsReadFrom : Text → List Row → Options → Type 0
@@ -74,7 +80,7 @@ IsReadFrom name rows (option.Emit o) = (name ≡ codes "emit") × HasEmitNumber 
 IsReadFrom name rows (option.Exec o) = (name ≡ codes "exec") × HasRunNumbers rows o
 IsReadFrom name rows (option.Explain code) = (name ≡ codes "explain") × HasCode rows code
 IsReadFrom name rows option.Migrate = name ≡ codes "migrate"
-IsReadFrom name rows (option.Outcomes o) = (name ≡ codes "outcomes") × HasStates rows o
+IsReadFrom name rows (option.Outcomes o) = (name ≡ codes "outcomes") × HasSearchOptions rows o
 IsReadFrom name rows (option.Record o) = (name ≡ codes "record") × HasRecordNumbers rows o
 IsReadFrom name rows option.Replay = name ≡ codes "replay"
 IsReadFrom name rows (option.Run o) = (name ≡ codes "run") × HasRunNumbers rows o

@@ -1,8 +1,8 @@
 //! The command line as clap reads it.
-ghost use Rattle.std.specs.Prelude.{◌≡◌, IfOk, false};
+ghost use Rattle.std.specs.Prelude.{◌≡◌, IfOk, codes, false};
 ghost use Rattle.clap.specs.Words.{App, app_of, rule_of, with_rule};
 ghost use Rattle.clap.specs.declared.builder.command.Command.TheViews.{out-Command};
-ghost use Rattle.pb_words.specs.CommandLine.{check_command, claims_command, debug_command, draw_command, emit_command, flag_rule, exec_command, explain_command, migrate_command, number_rule, number_rule_or, outcomes_command, record_command, replay_command, run_command, that_wants_command, IsCommand};
+ghost use Rattle.pb_words.specs.CommandLine.{check_command, claims_command, debug_command, draw_command, emit_command, flag_rule, exec_command, explain_command, migrate_command, number_rule, number_rule_or, outcomes_command, record_command, replay_command, run_command, that_wants_command, word_rule_or, IsCommand};
 ghost use Rattle.pb_words.specs.CommandLine.{command_line as whole, with_code_commands, with_command, with_object_commands, with_other_commands, with_pick_commands, with_run_rules, with_text_commands};
 
 use clap::builder::ValueParser;
@@ -10,7 +10,7 @@ use clap::{Arg, ArgAction, Command};
 use std::alloc::{AllocError, Global};
 
 // The version, and the line of `rt version` of the kit that it was proved with.
-const VERSION: &str = "0.1\nproved with rattle-kit-13b logic dac8208d650f15bf";
+const VERSION: &str = "0.1\nproved with rattle-kit-13f logic dac8208d650f15bf";
 
 // What is above the help. `--quiet` is taken off before these words are read.
 const ABOUT: &str =
@@ -36,6 +36,13 @@ fn number_option_or<'a>(
     ensures own { result.global ≡ false }
 {
     number_option(alloc, name, least, most).default_value(default)
+}
+
+fn word_option_or<'a>(alloc: Global, name: &'a str, default: &'a str) -> Arg<'a>
+    ensures rule { rule_of result ≡ word_rule_or name.entry.now default.entry.now }
+    ensures own { result.global ≡ false }
+{
+    Arg::new(alloc, name).long(name).default_value(default)
 }
 
 fn flag<'a>(alloc: Global, name: &'a str) -> Arg<'a>
@@ -82,6 +89,19 @@ fn with_number<'a>(
 {
     let option = number_option_or(alloc, name, least, most, default);
     with_option(command, option.help(help))
+}
+
+// Adds the option that says who decides on a request.
+fn with_lend<'a>(alloc: Global, command: Command<'a>) -> Result<Command<'a>, AllocError>
+    ensures app { IfOk result (λ c. app_of c
+        ≡ with_rule (app_of command.entry) (word_rule_or (codes "lend") (codes "banker"))) }
+    ensures own { IfOk result (λ c. (out-Command c).has_globals ≡ (out-Command command.entry).has_globals) }
+{
+    let lend = word_option_or(alloc, "lend", "banker");
+    with_option(
+        command,
+        lend.help("Who decides on a request: banker or cash"),
+    )
 }
 
 // Adds the options of a run by workers.
@@ -189,7 +209,8 @@ fn outcomes_of_text<'a>(alloc: Global) -> Result<Command<'a>, AllocError>
     let outcomes = Command::new(alloc, "outcomes").about(
         "Print every way in which the program read from standard input can end, and whether some run never ends",
     );
-    with_option(outcomes, states)
+    let outcomes = with_option(outcomes, states)?;
+    with_lend(alloc, outcomes)
 }
 
 #[tactic(auto, unfolding(crate::specs::CommandLine::record_command))]

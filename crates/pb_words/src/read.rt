@@ -1,11 +1,12 @@
 //! Reads the words of a call.
 ghost use Rattle.std.specs.Prelude.{◌≡◌, ◌↔◌, IfErr, IfNone, IfOk, IfSome, IsTrue, None, Option, ℕ};
 ghost use Rattle.clap.specs.Words.{found_of, kind_of, one_of, rows_of, subcommand_rows_of};
-ghost use Rattle.pb_words.specs.Read.{BlamesWords, HasCheckNumbers, HasCode, HasDebugFlag, HasEmitNumber, HasFlag, HasNumberIn, HasRecordNumbers, HasRunNumbers, HasStates, IsReadFromMatches, WordsSay};
+ghost use Rattle.pb_words.specs.Read.{BlamesWords, HasCheckNumbers, HasCode, HasDebugFlag, HasEmitNumber, HasFlag, HasNumberIn, HasRecordNumbers, HasRunNumbers, HasLend, HasSearchOptions, IsReadFromMatches, WordsSay};
 ghost use Rattle.pb_words.specs.declared.words.Options.{Options as AnyOptions};
 ghost use Rattle.pb_options.specs.declared.options.CheckOptions.{CheckOptions as AnyCheckOptions};
 ghost use Rattle.pb_options.specs.declared.options.EmitOptions.{EmitOptions as AnyEmitOptions};
 ghost use Rattle.pb_refusals.specs.declared.code.Code.{Code as AnyCode};
+ghost use Rattle.pb_options.specs.declared.options.Lend.{Lend as AnyLend};
 ghost use Rattle.pb_options.specs.declared.options.OutcomesOptions.{OutcomesOptions as AnyOutcomesOptions};
 ghost use Rattle.pb_options.specs.declared.options.RecordOptions.{RecordOptions as AnyRecordOptions};
 ghost use Rattle.pb_options.specs.declared.options.RunOptions.{RunOptions as AnyRunOptions};
@@ -16,10 +17,14 @@ use clap::error::ErrorKind;
 use clap::{ArgMatches, Error};
 use pb_object::Format;
 use pb_options::{
-    CheckOptions, DebugOptions, EmitOptions, OutcomesOptions, RecordOptions, RunOptions,
+    CheckOptions, DebugOptions, EmitOptions, Lend, OutcomesOptions, RecordOptions, RunOptions,
 };
 use pb_refusals::Code;
 use std::alloc::{AllocError, Global};
+
+// The text of a word that names nobody who decides on a request.
+const NO_LEND: &str =
+    "error: the value of '--lend' is banker or cash\n\nFor more information, try '--help'.\n";
 
 // Returns the number of an option, if it was matched with one from `least` to `most`.
 fn number(matches: &ArgMatches<'_>, id: &str, least: u64, most: u64) -> Option<u64>
@@ -95,13 +100,26 @@ fn code_given(matches: &ArgMatches<'_>) -> Option<Option<Code>>
     }
 }
 
+// Returns who decides on a request, if the option was matched with a word for it.
+fn lend(matches: &ArgMatches<'_>) -> Option<Lend>
+    ensures some { IfSome result (HasLend (rows_of (found_of matches.now))) }
+    ensures none { IfNone result ((l : AnyLend) → HasLend (rows_of (found_of matches.now)) l → ⊥) }
+{
+    match matches.get_one::<Lend>("lend") {
+        Some(lend) => Some(lend),
+        None => None,
+    }
+}
+
 fn outcomes_options(matches: &ArgMatches<'_>) -> Option<OutcomesOptions>
-    ensures some { IfSome result (HasStates (rows_of (found_of matches.now))) }
-    ensures none { IfNone result ((o : AnyOutcomesOptions) → HasStates (rows_of (found_of matches.now)) o → ⊥) }
+    ensures some { IfSome result (HasSearchOptions (rows_of (found_of matches.now))) }
+    ensures none { IfNone result ((o : AnyOutcomesOptions) → HasSearchOptions (rows_of (found_of matches.now)) o → ⊥) }
 {
     let states = number(matches, "states", 1, 4_000_000)?;
+    let lend = lend(matches)?;
     Some(OutcomesOptions {
         states: states as u32,
+        lend,
     })
 }
 
@@ -174,11 +192,19 @@ pub fn options(alloc: Global, words: &[&str]) -> Result<Options, WordsFault>
     };
     match read_matches(&matches) {
         Some(options) => Ok(options),
-        // clap has looked at the numbers: only a code is left that is not there.
-        None => match codes_text(alloc) {
+        // clap has looked at the numbers: only a code is left that is not there, or a word for who lends.
+        None => match unread_text(alloc, &matches) {
             Ok(text) => Err(WordsFault::Words(text)),
             Err(_) => Err(WordsFault::Memory),
         },
+    }
+}
+
+// Returns what is wrong with words that clap takes and that name no options.
+fn unread_text(alloc: Global, matches: &ArgMatches<'_>) -> Result<String, AllocError> {
+    match matches.subcommand() {
+        Some(("outcomes", _)) => String::from_str(alloc, NO_LEND),
+        _ => codes_text(alloc),
     }
 }
 

@@ -2,7 +2,7 @@
 
 use pb_object::Format;
 use pb_options::{
-    CheckOptions, DebugOptions, EmitOptions, OutcomesOptions, RecordOptions, RunOptions,
+    CheckOptions, DebugOptions, EmitOptions, Lend, OutcomesOptions, RecordOptions, RunOptions,
 };
 use pb_refusals::Code;
 use pb_words::{Options, WordsFault, options};
@@ -45,7 +45,10 @@ fn commands_have_their_defaults(rt: HostRuntime) {
         ("migrate", Options::Migrate),
         (
             "outcomes",
-            Options::Outcomes(OutcomesOptions { states: 1_000_000 }),
+            Options::Outcomes(OutcomesOptions {
+                states: 1_000_000,
+                lend: Lend::Banker,
+            }),
         ),
         (
             "record",
@@ -95,7 +98,26 @@ fn options_with_one_word_are_read(rt: HostRuntime) {
         (
             "outcomes",
             "--states=4000000",
-            Options::Outcomes(OutcomesOptions { states: 4_000_000 }),
+            Options::Outcomes(OutcomesOptions {
+                states: 4_000_000,
+                lend: Lend::Banker,
+            }),
+        ),
+        (
+            "outcomes",
+            "--lend=cash",
+            Options::Outcomes(OutcomesOptions {
+                states: 1_000_000,
+                lend: Lend::Cash,
+            }),
+        ),
+        (
+            "outcomes",
+            "--lend=banker",
+            Options::Outcomes(OutcomesOptions {
+                states: 1_000_000,
+                lend: Lend::Banker,
+            }),
         ),
     ] {
         assert!(rt;
@@ -164,6 +186,9 @@ fn other_words_are_refused(rt: HostRuntime) {
         ("fly", "text"),
         ("help", "text"),
         ("migrate", "text"),
+        ("outcomes", "--lend=Cash"),
+        ("outcomes", "--lend=till"),
+        ("outcomes", "--lend="),
         ("outcomes", "--states=0"),
         ("outcomes", "--states=4000001"),
         ("outcomes", "text"),
@@ -203,6 +228,14 @@ fn refusals_tell_what_there_is(rt: HostRuntime) {
     let unknown = ["parbegin", "explain", "N5"];
     assert!(rt; is_told(rt.alloc(), &unknown, "error: no refusal has this code"));
     assert!(rt; is_told(rt.alloc(), &unknown, " N1 N2 N3 N4 N6 C1 "));
+    let nobody = ["parbegin", "outcomes", "--lend", "till"];
+    assert!(rt;
+        is_told(
+            rt.alloc(),
+            &nobody,
+            "error: the value of '--lend' is banker or cash"
+        )
+    );
     assert!(rt;
         is_told(
             rt.alloc(),

@@ -21,31 +21,43 @@ pub fn work<'v, C: CodeBrand, G: Gate, R: Wait>(
     requires { 0 < quantum }
 {
     let mut turn = 0u64;
-    let mut taken = shared.take(rt, alloc, quantum);
+    let mut stretch = match work_of(shared.take(rt, alloc, quantum)) {
+        Ok(stretch) => stretch,
+        Err(met) => return met,
+    };
     for _ in rt.forever() {
-        let mut stretch = match taken {
-            Err(NoMemory) => return NO_MEMORY,
-            Ok(Taken::Over(_)) => return NOTHING,
-            Ok(Taken::Idle) => return NOTHING,
-            Ok(Taken::Work(stretch)) => stretch,
-        };
         let _made = stretch.run(quantum);
         gate.between(worker, turn);
-        if gate.give_back(worker, turn) {
+        let taken = if gate.give_back(worker, turn) {
             let ended = give_back(rt, shared, stretch, NOTHING);
             if ended.stranger {
                 return ended;
             }
-            taken = shared.take(rt, alloc, quantum);
+            shared.take(rt, alloc, quantum)
         } else {
-            taken = match shared.commit_and_take(rt, stretch, alloc, quantum) {
+            match shared.commit_and_take(rt, stretch, alloc, quantum) {
                 Ok(next) => next,
                 Err((stretch, fault)) => return hand_back(rt, shared, stretch, fault),
-            };
-        }
+            }
+        };
+        stretch = match work_of(taken) {
+            Ok(stretch) => stretch,
+            Err(met) => return met,
+        };
         turn = turn.wrapping_add(1);
     }
     unreachable!()
+}
+
+/// Returns the stretch that was taken, or what ends the worker that was given none.
+#[inline(always)]
+fn work_of<'v, C: CodeBrand>(taken: Result<Taken<'v, C>, NoMemory>) -> Result<Stretch<'v, C>, Met> {
+    match taken {
+        Ok(Taken::Work(stretch)) => Ok(stretch),
+        Ok(Taken::Over(_)) => Err(NOTHING),
+        Ok(Taken::Idle) => Err(NOTHING),
+        Err(NoMemory) => Err(NO_MEMORY),
+    }
 }
 
 /// Deals with a stretch that was not committed: it is given back if there was no memory, and given up if it is a stranger.

@@ -4,8 +4,8 @@ use crate::objects::FIRST;
 use crate::texts::HELLO;
 use pb_base::device::{FaultyInput, MemoryInput, MemoryOutput};
 use pb_engines::{
-    CheckOptions, EmitOptions, RunOptions, Status, check_engine, claims_engine, emit_engine,
-    exec_engine, migrate_engine, replay_engine, run_engine,
+    CheckOptions, EmitOptions, RecordOptions, RunOptions, Status, check_engine, claims_engine,
+    emit_engine, exec_engine, migrate_engine, record_engine, replay_engine, run_engine,
 };
 use pb_object::Format;
 use std::sync::Wait;
@@ -25,6 +25,7 @@ enum Engine {
     Emit,
     Exec,
     Migrate,
+    Record,
     Replay,
     Run,
 }
@@ -47,6 +48,13 @@ fn answer(
         }
         Engine::Exec => exec_engine(rt, rt.alloc(), SEVEN, input, output),
         Engine::Migrate => migrate_engine(rt.alloc(), input, output),
+        Engine::Record => {
+            let options = RecordOptions {
+                run: SEVEN,
+                seed: None,
+            };
+            record_engine(rt, rt.alloc(), options, input, output)
+        }
         Engine::Replay => replay_engine(rt.alloc(), input, output),
         Engine::Run => run_engine(rt, rt.alloc(), SEVEN, input, output),
     }
@@ -72,12 +80,13 @@ fn tells_a_failed_read(
 }
 
 /// The engines of texts, and those of objects.
-const ENGINES: [(Engine, &[u8], &str); 7] = [
+const ENGINES: [(Engine, &[u8], &str); 8] = [
     (Engine::Check, HELLO, "check"),
     (Engine::Claims, HELLO, "claims"),
     (Engine::Emit, HELLO, "emit"),
     (Engine::Exec, FIRST, "exec"),
     (Engine::Migrate, FIRST, "migrate"),
+    (Engine::Record, HELLO, "record"),
     (Engine::Replay, HELLO, "replay"),
     (Engine::Run, HELLO, "run"),
 ];

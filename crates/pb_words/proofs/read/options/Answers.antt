@@ -20,8 +20,8 @@ returns-in-Some-clause-read c =
     let here = entered ∙ ap (λ (a : App). subcommand_of a texts) whole in
     (sym (ap (λ (a : App). fault_of a texts) whole) ∙ clear, subst (λ m. IsReadFromMatches m c.in-Some.options) here c.in-Some.ensures.some)
 
-pub returns-in-Ok-codes_text-clause-refused : goal.returns-in-Ok-codes_text-clause-refused
-returns-in-Ok-codes_text-clause-refused c blames o says =
+pub returns-in-Ok-unread_text-clause-refused : goal.returns-in-Ok-unread_text-clause-refused
+returns-in-Ok-unread_text-clause-refused c blames o says =
     let texts : List (List ℕ) = map (λ w. w.now) c.args.words.now in
     let whole = c.in-Ok.ensures in
     let entered = (c.in-Ok-try_get_matches_from.ensures.matches (ap is_simple whole ∙ is_simple_command_line)).1 in
