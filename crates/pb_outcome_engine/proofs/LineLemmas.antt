@@ -11,8 +11,8 @@ use Rattle.pb_explore.specs.declared.found.Found.{Found as GivenFound}
 use Rattle.pb_history.specs.declared.counted.CountedPick.{CountedPick}
 use Rattle.pb_outcome_engine.specs.DeadlockLines.{AreDeadlockLines, deadlock_lines, none as no_stuck, one_more as one_more_stuck}
 use Rattle.pb_outcome_engine.specs.OutcomeLines.{AreCounted, AreOutcomeLines, each_below, none, one_more, outcome_lines}
-use Rattle.pb_explore.specs.Outcomes.{FoundDeadlock}
-use Rattle.pb_explore.specs.Endings.{deadlock_view}
+use Rattle.pb_explore.specs.Deadlocks.{FoundDeadlock}
+use Rattle.pb_explore.specs.Deadlocks.{deadlock_view}
 use Rattle.pb_explore.specs.declared.found.Deadlock.{Deadlock as GivenDeadlock}
 
 -- what is seen of an element that was read

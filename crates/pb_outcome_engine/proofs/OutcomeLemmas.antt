@@ -1,5 +1,5 @@
 -- Outcomes and deadlocks of compiled code can be shown: each of their picks is of a process that has a name.
-use Rattle.std.proofs.Common.{◌≡◌, ℕ, ◌<◌, Bool, List, [], ◌∷◌, ◌++◌, length, get_or, map, Result, Ok, Err, IfOk, sym, ap, subst, ◌∙◌, arith}
+use Rattle.std.proofs.Common.{◌≡◌, ℕ, zero, suc, ◌<◌, Bool, List, [], ◌∷◌, ◌++◌, length, get_or, map, Result, Ok, Err, IfOk, sym, ap, subst, ◌∙◌, arith}
 use Rattle.std.specs.Prelude.{All}
 use Rattle.std.proofs.lemmas.List.{get_or-map, length-map, length-set}
 use Rattle.std.proofs.lemmas.List.Elements.{All-cons, All-nil, All-weaker}
@@ -19,17 +19,26 @@ use Rattle.pb_verifier.proofs.States.{code_move}
 use Rattle.pb_explore.specs.Configurations.{Comes}
 use Rattle.pb_explore.specs.Endings.{found_view}
 use Rattle.pb_explore.specs.declared.lending.Lending.{Lending}
-use Rattle.pb_explore.specs.Outcomes.{AreOutcomes, CodeLeads, Configuration, Deadlocks, Ends, Found, IsExcess, IsWithin, Reaches, TellsEndless, outcome_of}
+use Rattle.pb_explore.specs.Outcomes.{AreOutcomes, CodeLeads, Configuration, Ends, Found, IsExcess, IsWithin, Reaches, TellsEndless, outcome_of}
 use Rattle.pb_explore.specs.declared.found.Found.{Found as GivenFound}
 use Rattle.pb_outcome_engine.specs.DeadlockLines.{AreDeadlockLines}
 use Rattle.pb_outcome_engine.specs.OutcomeLines.{AreOutcomeLines, all_line, excess_line}
 use Rattle.pb_outcome_engine.specs.SaysOutcomes.{SaysOfCode, all_told, too_many}
 use Rattle.pb_outcome_engine.specs.Showing.{HaveProcesses}
-use Rattle.pb_explore.specs.Outcomes.{AreDeadlocks, FoundDeadlock, deadlock_of}
-use Rattle.pb_explore.specs.Endings.{deadlock_view}
+use Rattle.pb_explore.specs.Deadlocks.{AreDeadlocks, AreFoundAt, FoundDeadlock, IsFoundAt}
+use Rattle.pb_explore.specs.Deadlocks.{deadlock_view}
 use Rattle.pb_explore.specs.declared.found.Deadlock.{Deadlock as GivenDeadlock}
 
 module _ (lending : Lending) (code : Code) where
+  -- each deadlock that is listed is one
+  each_at : (found : List FoundDeadlock) (stuck : List Configuration) → AreFoundAt lending code found stuck → (k : ℕ) (d : FoundDeadlock)
+      → k < length found → (s : Configuration) × IsFoundAt lending code (get_or found k d) s
+  each_at [] [] are k d lt = absurd (omega (arith, lt))
+  each_at (f ∷ found) (s ∷ stuck) are zero d lt = (s, are.0)
+  each_at (f ∷ found) (s ∷ stuck) are (suc k) d lt = each_at found stuck are.1 k d (omega (arith, lt))
+  each_at [] (s ∷ stuck) are k d lt = elim are [ ]
+  each_at (f ∷ found) [] are k d lt = elim are [ ]
+
   -- each pick that leads somewhere is of one of the processes
   picks_are_there : (s end : Configuration) (picks : List Pick) → Comes (CodeLeads lending code) s picks end
       → All (λ pick. pick.process < length s.processes) picks
@@ -69,10 +78,10 @@ module _ (lending : Lending) (code : Code) where
     deadlocks_shown deadlocks are = λ k d lt.
         let size = length-map deadlocks deadlock_view in
         let f = get_or deadlocks k d in
-        let each = are.each k (deadlock_view d) (omega (arith, size, lt)) in
-        let own = subst (λ (g : FoundDeadlock). (s : Configuration) × Deadlocks lending code g.picks s × (g.processes ≡ deadlock_of code s))
+        let each = each_at (map deadlock_view deadlocks) are.stuck are.each k (deadlock_view d) (omega (arith, size, lt)) in
+        let own = subst (λ (g : FoundDeadlock). (s : Configuration) × IsFoundAt lending code g s)
         (get_or-map deadlock_view deadlocks k d (deadlock_view d) lt) each in
-        have_processes f.picks.items own.0 own.1.0
+        have_processes f.picks.items own.0 own.1.0.0
 
 -- ---- what is said
 

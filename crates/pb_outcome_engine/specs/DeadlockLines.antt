@@ -8,7 +8,7 @@ use Rattle.pb_engines.specs.Answers.{line}
 use Rattle.pb_explore.specs.declared.found.Ask.{Ask}
 use Rattle.pb_explore.specs.declared.found.StuckState.{StuckState}
 use Rattle.pb_explore.specs.declared.found.StuckState.TheVariants.{Ended, Faulted, Waiting}
-use Rattle.pb_explore.specs.Outcomes.{FoundDeadlock, StuckProcess}
+use Rattle.pb_explore.specs.Deadlocks.{FoundDeadlock, StuckProcess}
 use Rattle.pb_history.specs.declared.counted.CountedPick.{CountedPick}
 use Rattle.pb_picks.specs.PickLines.{pick_lines}
 use Rattle.pb_outcome_engine.specs.OutcomeLines.{AreCounted, each_below, integer_lines, integer_names}

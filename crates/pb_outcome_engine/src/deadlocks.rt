@@ -7,7 +7,7 @@ ghost use Rattle.pb_code.specs.View.{labels_view, process_labels_view};
 ghost use Rattle.pb_engines.specs.Answers.{line};
 ghost use Rattle.pb_outcome_engine.specs.DeadlockLines.{AreDeadlockLines, all_stuck_lines, ask_line, deadlock_lines, hold_line, hold_lines, state_text, stuck_lines};
 ghost use Rattle.pb_outcome_engine.specs.Showing.{HaveProcesses};
-ghost use Rattle.pb_explore.specs.Endings.{deadlock_view, stuck_view};
+ghost use Rattle.pb_explore.specs.Deadlocks.{deadlock_view, stuck_view};
 
 use crate::counts::count_picks;
 use crate::lines::{put_head, put_integers, put_number};

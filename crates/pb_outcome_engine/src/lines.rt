@@ -9,7 +9,7 @@ ghost use Rattle.pb_explore.specs.Endings.{found_view, process_outcome_view};
 ghost use Rattle.pb_outcome_engine.specs.DeadlockLines.{AreDeadlockLines};
 ghost use Rattle.pb_outcome_engine.specs.OutcomeLines.{AreOutcomeLines, all_line, deadlocks_text, end_lines, integer_line, integer_lines, outcome_lines, process_lines, runs_text};
 ghost use Rattle.pb_outcome_engine.specs.Showing.{HaveProcesses};
-ghost use Rattle.pb_explore.specs.Endings.{deadlock_view};
+ghost use Rattle.pb_explore.specs.Deadlocks.{deadlock_view};
 
 use crate::counts::count_picks;
 use crate::deadlocks::deadlocks_text;

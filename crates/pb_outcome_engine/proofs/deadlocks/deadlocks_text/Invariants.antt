@@ -2,7 +2,7 @@ use Rattle.std.proofs.Common.{map, take}
 use Rattle.pb_base.specs.Lines.{names_view}
 use Rattle.pb_code.specs.View.{labels_view}
 use Rattle.pb_outcome_engine.specs.DeadlockLines.{AreDeadlockLines}
-use Rattle.pb_explore.specs.Endings.{deadlock_view}
+use Rattle.pb_explore.specs.Deadlocks.{deadlock_view}
 use Rattle.pb_outcome_engine.proofs.deadlocks.deadlocks_text.Given as goal
 
 abbrev pub invariant-loop-i : goal.invariant-loop-i
