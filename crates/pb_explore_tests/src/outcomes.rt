@@ -2,7 +2,9 @@
 
 use pb_codegen::compile;
 use pb_explore::explore::{explore, explore_by};
-use pb_explore::{ExploreFault, Found, Lending, ProcessOutcome};
+use pb_explore::{
+    Deadlock, ExploreFault, Found, Lending, ProcessOutcome, StuckProcess, StuckState,
+};
 use std::alloc::Global;
 
 /// A text of one process, all its outcomes, each by the only integer of the process and whether it faulted, and whether
@@ -103,6 +105,75 @@ fn both_end(alloc: Global, lending: Lending) -> Option<bool> {
 fn tape_and_disk(rt: HostRuntime) {
     assert!(rt; both_end(rt.alloc(), Lending::ByBanker) == Some(true));
     assert!(rt; both_end(rt.alloc(), Lending::ByCash) == Some(true));
+}
+
+/// Returns whether a process waits with this integer, holds one of a resource and none of the other, and its only
+/// request is for one of the other, by its first arm.
+fn is_waiting(process: &StuckProcess, integer: i64, holds: [u32; 2], wanted: u8) -> bool {
+    process.state == StuckState::Waiting
+        && process.integers.as_slice() == [integer].as_slice()
+        && process.holds.as_slice() == holds.as_slice()
+        && process.asks.len() == 1
+        && process.asks[0].arm == 0
+        && asks_for_one(process, wanted)
+}
+
+/// Returns whether the first request of a process is for one of this resource and nothing else.
+fn asks_for_one(process: &StuckProcess, wanted: u8) -> bool {
+    if process.asks.is_empty() || process.asks[0].bundle.len() != 1 {
+        return false;
+    }
+    let pair = process.asks[0].bundle.get(0);
+    pair.resource == wanted && pair.amount == 1
+}
+
+/// Returns whether each of the two processes holds a device and asks for that of the other.
+fn is_crossed(deadlock: &Deadlock) -> bool {
+    deadlock.processes.len() == 2
+        && deadlock.picks.len() == 2
+        && is_waiting(&deadlock.processes[0], 0, [1, 0], 1)
+        && is_waiting(&deadlock.processes[1], 0, [0, 1], 0)
+}
+
+/// Returns how many deadlocks there are by the cash and under the banker, if the first one is of crossed devices.
+fn deadlocks_of_devices(alloc: Global) -> Option<(usize, usize)> {
+    let compiled = compile(alloc, alloc, DEVICES).ok()?;
+    let by_cash = explore_by(alloc, compiled.verified(), Lending::ByCash, 100_000).ok()?;
+    let by_banker = explore(alloc, compiled.verified(), 100_000).ok()?;
+    if by_cash.deadlocks.is_empty() || !is_crossed(&by_cash.deadlocks[0]) {
+        return None;
+    }
+    Some((by_cash.deadlocks.len(), by_banker.deadlocks.len()))
+}
+
+#[test]
+fn deadlock_of_tape_and_disk(rt: HostRuntime) {
+    assert!(rt; deadlocks_of_devices(rt.alloc()) == Some((1, 0)));
+}
+
+/// Three philosophers who take the fork on their left first, and eat once.
+const PHILOSOPHERS: &[u8] = b"resource a = 1; resource b = 1; resource c = 1;
+process p begin hold 1 of a do hold 1 of b do skip od od end
+process q begin hold 1 of b do hold 1 of c do skip od od end
+process r begin hold 1 of c do hold 1 of a do skip od od end";
+
+/// Returns how many deadlocks three philosophers have by the cash, and whether each process of the first one asks.
+fn deadlocks_of_philosophers(alloc: Global) -> Option<(usize, bool)> {
+    let compiled = compile(alloc, alloc, PHILOSOPHERS).ok()?;
+    let told = explore_by(alloc, compiled.verified(), Lending::ByCash, 100_000).ok()?;
+    if told.deadlocks.len() != 1 || told.deadlocks[0].processes.len() != 3 {
+        return None;
+    }
+    let waiting = &told.deadlocks[0].processes;
+    let ask = asks_for_one(&waiting[0], 1)
+        && asks_for_one(&waiting[1], 2)
+        && asks_for_one(&waiting[2], 0);
+    Some((told.deadlocks.len(), ask))
+}
+
+#[test]
+fn deadlock_of_philosophers(rt: HostRuntime) {
+    assert!(rt; deadlocks_of_philosophers(rt.alloc()) == Some((1, true)));
 }
 
 /// A process that never ends, beside one that does: no outcome, and the search follows the picks of the first alone.
