@@ -2,6 +2,7 @@
 #![tactic(auto)]
 
 mod advance;
+mod advance_count;
 mod advance_singly;
 mod alone;
 mod arms;
