@@ -1,4 +1,4 @@
--- How much of a resource stands in a bundle.
+-- How much of a resource is in a bundle.
 use Rattle.std.proofs.Common.{◌≡◌, ◌≢◌, ℕ, zero, suc, ◌+◌, ◌<◌, ◌≤◌, List, [], ◌∷◌, length, get_or, take, arith}
 use Rattle.std.proofs.Common.{ap, sym, refl, inl, inr}
 use Rattle.std.specs.Prelude.{All, slice_get, Some}
@@ -45,7 +45,7 @@ first_distinct : (pair : Pair) (pairs : List Pair) → IsDistinct (pair ∷ pair
     → All (λ p. pair.resource ≢ p.resource) pairs
 first_distinct pair pairs h = λ k d within. h zero (suc k) d (omega arith) (omega arith)
 
--- no more than the greatest amount, since no resource stands there twice
+-- no more than the greatest amount, since no resource is there twice
 amount_in-le : (pairs : List Pair) (most r : ℕ) → IsDistinct pairs → All (λ pair. pair.amount ≤ most) pairs
     → amount_in pairs r ≤ most
 amount_in-le [] most r distinct small = omega arith

@@ -78,7 +78,7 @@ row_at loans p row r =
     omega (arith, e))
     (cases_lt p (length loans))
 
--- of the process that steps, but for a fault
+-- of the process that steps, unless it faults
 pub lent_here : (loans : Table) (p : ℕ) (effect : Effect) (r : ℕ)
     → ((kind : FaultKind) → effect ≡ Faults kind → ⊥)
     → cell (loans_after loans p effect) p r ≤ cell loans p r + taken r effect - given r effect

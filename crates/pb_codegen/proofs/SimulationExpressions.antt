@@ -13,7 +13,7 @@ use Rattle.pb_code.specs.Code.{Instr, Push, Load, Compute1, Compute2, Live, Runs
 use Rattle.pb_code.specs.Code.{is_skip}
 use Rattle.pb_codegen.specs.Generate.{expr_code}
 
--- the instructions stand in the code at this place
+-- the instructions are in the code at this place
 abbrev pub HasAt : List Instr → ℕ → List Instr → Type 0
 HasAt is place [] = Unit {0}
 HasAt is place (i ∷ rest) = (slice_get is place ≡ Some i) × HasAt is (place + 1) rest

@@ -1,4 +1,4 @@
--- Runs that are the same but for what is left of their expressions.
+-- Runs that are the same except for what is left of their expressions.
 use Rattle.std.proofs.Common.{◌≡◌, ◌⊎◌, inl, inr, ℕ, ◌+◌, ℤ, Bool, true, false, cond, ◌&&◌, List, [], ◌∷◌}
 use Rattle.std.proofs.Common.{◌++◌, refl, sym, ap, ◌∙◌, arith, append-nil}
 use Rattle.pb_base.specs.Arithmetic.{is_zero}

@@ -1,4 +1,4 @@
--- The tokens of a text stand on its lines, and the names among them are names.
+-- The tokens of a text are on its lines, and the names among them are names.
 use Rattle.std.proofs.Common.{◌≡◌, ℕ, zero, suc, ◌<◌, ◌≤◌, false, true, List, [], ◌∷◌, ◌++◌, length, map}
 use Rattle.std.proofs.Common.{get_or, refl, sym, subst, take, arith}
 use Rattle.std.specs.Prelude.{Contains, slice_range, ◌==◌}
@@ -83,7 +83,7 @@ line_of_token {text = text} {at = at} {end = end} short is =
     let all = length-take-le at text (omega (arith, before, within)) in
     (omega (arith, line), omega (arith, line, few, all, before, within, short))
 
--- a token that was cut stands on a line of the text, and has the form of a token
+-- a token that was cut is on a line of the text, and has the form of a token
 abbrev WasCut : Token → Type 0
 WasCut t = IsSourceLine t.line × ((bytes : List ℕ) × Form bytes t.lexeme)
 

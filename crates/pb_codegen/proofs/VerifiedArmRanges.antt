@@ -31,7 +31,7 @@ in_at xs p (y ∷ ys) (suc k) x h u at =
 length-arm : (p : ℕ) (arm : Block) → length (arm_code p arm) ≡ length (block_code p arm) + 1
 length-arm p arm = let n = length-append (block_code p arm) (End ∷ []) in omega (arith, n)
 
--- where an arm lies in the code
+-- where an arm is in the code
 pub record Lies (is : List Instr) (p : ℕ) (arms : List Block) (a : ℕ) : Type 0 where
   pub start : ℕ
   pub entry : get_or (arms_entries p arms) a 0 ≡ start
@@ -79,7 +79,7 @@ module _ (process : Process) where
   pub within : (a : ℕ) → a < arms (process_code process) → a < length (arms_of process)
   within a u = let n = length-entries 0 all in omega (arith, n, u)
 
-  -- where each arm of a process lies
+  -- where each arm of a process is
   pub lies : (a : ℕ) → a < arms (process_code process)
       → Lies (process_code process).instrs 0 (arms_of process) a
   lies a u = lies_at instrs 0 all a (within a u) (in_all [] instrs)

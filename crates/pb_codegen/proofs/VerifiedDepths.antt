@@ -28,7 +28,7 @@ length-arm_shapes p arm =
     let a = length-block_shapes p [] arm in
     omega (arith, a, length-append (block_shapes [] arm) (shape 0 [] ∷ []), length-append (block_code p arm) (End ∷ []))
 
--- the shapes of an arm stand where its code does
+-- the shapes of an arm are where its code does
 shapes_lie : (shapes : List Shape) (p : ℕ) (arms : List Block) (a : ℕ) → a < length arms
     → In shapes p (arms_shapes arms) → In shapes (get_or (arms_entries p arms) a 0) (arm_shapes (block_at arms a))
 shapes_lie shapes p [] a u h = absurd (omega (arith, u))

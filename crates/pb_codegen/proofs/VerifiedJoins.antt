@@ -94,7 +94,7 @@ join_after _ zero first n (both f m is h) at =
 join_after _ (suc zero) first n (both f m is h) at = let e : Some (Join f m) ≡ Some (Fork first n) = at in cc
 join_after _ (suc (suc place)) first n (both f m is h) at = join_after is place first n h at
 
--- a fork stands before the join at a place
+-- a fork is before the join at a place
 abbrev pub IsAfterFork : List Instr → (place first n : ℕ) → Type 0
 IsAfterFork is place first n =
     (before : ℕ) × (place ≡ suc before) × (slice_get is before ≡ Some (Fork first n))

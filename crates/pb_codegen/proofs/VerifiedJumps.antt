@@ -12,11 +12,11 @@ use Rattle.pb_codegen.proofs.VerifiedNotes.{In, in_front, in_back}
 use Rattle.pb_codegen.proofs.VerifiedInstructions.{EachInstr, each_instr-append}
 
 module _ (is : List Instr) where
-  -- no join stands at a place
+  -- no join is at a place
   abbrev pub IsNoJoin : ℕ → Type 0
   IsNoJoin place = (first n : ℕ) → slice_get is place ≡ Some (Join first n) → ⊥
 
-  -- another instruction stands there
+  -- another instruction is there
   other_there : (i : Instr) (place : ℕ) → ((first n : ℕ) → i ≡ Join first n → ⊥) → slice_get is place ≡ Some i
       → IsNoJoin place
   other_there i place other at first n join =

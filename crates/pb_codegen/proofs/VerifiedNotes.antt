@@ -44,7 +44,7 @@ abbrev pub arms_shapes : List Block → List Shape
 arms_shapes [] = []
 arms_shapes (arm ∷ arms) = (block_shapes [] arm ++ (shape 0 [] ∷ [])) ++ arms_shapes arms
 
--- a list stands in another
+-- a list is in another
 abbrev pub In : {X : Type 0} → List X → ℕ → List X → Type 0
 In xs p [] = Unit {0}
 In xs p (y ∷ ys) = (slice_get xs p ≡ Some y) × In xs (p + 1) ys

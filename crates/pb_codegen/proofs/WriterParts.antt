@@ -55,7 +55,7 @@ adds_as {a} {b} {code} {other} {lines} {others} h c l = record {
 pub length-seen : (w : Writer) → length (seen w) ≡ place w
 length-seen w = length-map w.instrs.items (instr_view w.bundles.items)
 
--- the next place lies behind the code
+-- the next place is behind the code
 pub adds-place : {a b : Writer} {code : List Instr} {lines : List (Option ℕ)}
     → Adds a b code lines → place b ≡ place a + length code
 adds-place {a} {b} {code} h =

@@ -49,7 +49,7 @@ pub fn analyze<A: Allocator + Clone>(
     Ok(Analysis { program, claims })
 }
 
-/// Compiles a text. Its trees lie in the memory of `trees`, and none of them is left when this returns.
+/// Compiles a text. Its trees are in the memory of `trees`, and none of them is left when this returns.
 ///
 /// A text is refused as by `analyze`, which is the first step of this, and then for the first claim over its
 /// capital. An error leaves nothing behind.

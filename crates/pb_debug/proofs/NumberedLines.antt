@@ -63,7 +63,7 @@ module _ (bs : List ℕ) where
   one_line : None ≡ feed bs → lines_of bs ≡ last_line bs
   one_line h = ap all_of (goes_on [] bs (sym (position_is 10 bs) ∙ sym h))
 
-  -- the first line: what stands before the first line feed, or all if there is none
+  -- the first line: what is before the first line feed, or all if it has none
   pub first_ends : (at : ℕ) → Some at ≡ feed bs → Some (take at bs) ≡ line_numbered bs 1
   first_ends at h = sym (ap (λ (ls : List (List ℕ)). slice_get ls 0) (lines_behind at h))
 
@@ -96,6 +96,6 @@ pub none_in_nothing : (bs : List ℕ) → length bs ≡ 0 → None ≡ line_numb
 none_in_nothing [] h = refl
 none_in_nothing (b ∷ bs) h = absurd (omega (arith, h))
 
--- what stands behind a place of a text
+-- what is behind a place of a text
 pub behind : (text : List ℕ) (n : ℕ) → take (length text - n) (drop n text) ≡ drop n text
 behind text n = let many = length-drop n text in take_all (length text - n) (drop n text) (omega (arith, many))

@@ -112,7 +112,7 @@ position_is byte (b ∷ bs) =
     step_at (eqb b byte) (position_or_len (λ b. eqb b byte) bs) (length bs)
     ∙ ap (λ (o : Option ℕ). cond (eqb b byte) (Some 0) (option_map suc o)) (position_is byte bs)
 
--- what stands before it and behind it
+-- what is before it and behind it
 parts_step : (byte b : ℕ) (bs : List ℕ) (i : ℕ) (t : Bool) → eqb b byte ≡ t → cond t (Some 0) (option_map suc (first_at byte bs)) ≡ Some i
     → ((j : ℕ) → first_at byte bs ≡ Some j → bs ≡ take j bs ++ byte ∷ drop (j + 1) bs)
     → b ∷ bs ≡ take i (b ∷ bs) ++ byte ∷ drop (i + 1) (b ∷ bs)

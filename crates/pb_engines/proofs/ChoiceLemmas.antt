@@ -190,7 +190,7 @@ module _ (code : Code) (s : State CodeProcess) where
 
 -- ---- one is drawn
 
--- what stands in a list stands in it without another number
+-- what is in a list is in it without another number
 stays_in : (picks : List Pick) (i k : ℕ) (pick : Pick) → slice_get picks k ≡ Some pick → k ≢ i
     → (j : ℕ) × (slice_get (remove picks i) j ≡ Some pick)
 stays_in [] i k pick there other = cc

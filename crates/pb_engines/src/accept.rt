@@ -67,7 +67,7 @@ pub fn analyze_text<A: Allocator + Clone>(
     }
 }
 
-/// Returns the code of a text, whose trees lie in the memory of `trees` while it is compiled.
+/// Returns the code of a text, whose trees are in the memory of `trees` while it is compiled.
 pub fn compile_within<A: Allocator + Clone>(
     alloc: Global,
     trees: A,
@@ -82,7 +82,7 @@ pub fn compile_within<A: Allocator + Clone>(
     }
 }
 
-/// Returns the code of a text, whose trees lie in an arena while it is compiled.
+/// Returns the code of a text, whose trees are in an arena while it is compiled.
 pub fn compile_text(alloc: Global, text: &[u8]) -> Result<Compiled, Refusal>
     ensures compiled { IfOk result (λ c. IsCompiled text.now c.verified.code c.labels) }
     ensures refused { IfErr result (IsRefusal text.now) }

@@ -29,7 +29,7 @@ enum Told {
     Broken,
 }
 
-// Looks at one text, whose trees lie in the memory of `trees`.
+// Looks at one text, whose trees are in the memory of `trees`.
 fn look<A: Allocator + Clone>(alloc: Global, trees: A, text: &[u8]) -> Result<(), Refusal>
     ensures accepted { OnOk result (IsAcceptedText text.now) }
     ensures refused { IfErr result (IsRefusal text.now) }
@@ -43,7 +43,7 @@ fn look<A: Allocator + Clone>(alloc: Global, trees: A, text: &[u8]) -> Result<()
     }
 }
 
-// Looks at one text, whose trees lie in a new heap of this size, or else in the arena, which is given up
+// Looks at one text, whose trees are in a new heap of this size, or else in the arena, which is given up
 // afterwards.
 fn look_within(
     alloc: Global,
@@ -144,7 +144,7 @@ fn check_parts<O: Output>(alloc: Global, heap: Option<u64>, bytes: &[u8], output
 /// Checks the texts that the input holds, which lines `%%` part: writes `ok` for a text that is a program,
 /// and its refusal line for one that is not.
 ///
-/// The trees of a text lie in an arena that is given up behind it, or in a new heap of the size that is
+/// The trees of a text are in an arena that is given up behind it, or in a new heap of the size that is
 /// given. After a read that failed nothing is written; after a write that failed, a first part of what was
 /// being said.
 pub fn check_engine<I: Input, O: Output>(

@@ -12,7 +12,7 @@ use std::alloc::Global;
 /// The greatest length of an input, in bytes.
 pub const LONGEST_INPUT: usize = 4_194_304;
 
-/// Returns the whole input. Where there is none to be had, that is said, and the status of the call is the
+/// Returns the whole input. If it cannot be read, writes the line that says so, and the status of the call is the
 /// error.
 pub fn read_input<I: Input, O: Output>(
     alloc: Global,

@@ -62,7 +62,7 @@ token_no_blank : {text : List ℕ} {at e : ℕ} {t : Token} → IsToken text at 
     → is_blank (get_or text at 0) ≡ true → ⊥
 token_no_blank {text = text} {at = at} t b = starts_no_blank (get_or text at 0) (token_starts t) b
 
--- one piece stands at a place
+-- one piece is at a place
 pub same_piece : {text : List ℕ} {at e f : ℕ} {new other : List Token} → Piece text at e new
     → Piece text at f other → (e ≡ f) × (new ≡ other)
 same_piece (blank lt b e) (blank lt' b' f) = (e ∙ sym f, refl)

@@ -1,4 +1,4 @@
--- Where the causes of faults stand.
+-- Where the causes of faults are.
 use Rattle.std.proofs.Common.{◌≡◌, ◌<◌, ◌≤◌, ◌<ℤ◌, ◌≤ℤ◌, ℕ, ℤ, pos, inl, inr, true, List, [], ◌∷◌, ◌++◌}
 use Rattle.std.proofs.Common.{length, get_or, refl, sym, ap, ◌∙◌, subst, arith}
 use Rattle.std.proofs.lemmas.Bool.{cases_order}
@@ -68,7 +68,7 @@ token_fits {us = us} {t = t} c fit lt d tok =
     let after = subst (λ n. AllFit (us ++ n)) same.1 (fit_before x.3 fit) in
     (fit_front us (t ∷ []) after).0
 
--- where a cutting that fits goes, no cause stands before the first byte that is not allowed
+-- where a cutting that fits goes, no cause is before the first byte that is not allowed
 pub none_before : {text : List ℕ} {p q : ℕ} {ts : List Token} → Cut text p ts → AllFit ts → q ≤ p
     → ((k : ℕ) → k < q → is_allowed (get_or text k 0) ≡ true)
     → (place : ℕ) (e : LexFault) → place < q → Cause text place e → ⊥
@@ -118,7 +118,7 @@ token_allowed : {text : List ℕ} {at end : ℕ} {t : Token} → IsToken text at
     → is_allowed (get_or text at 0) ≡ true
 token_allowed {text = text} {at = at} t = starts_allowed (get_or text at 0) (token_starts t)
 
--- one cause stands at a place
+-- one cause is at a place
 one_cause : {text : List ℕ} {at : ℕ} {e f : LexFault} → Cause text at e → Cause text at f → e ≡ f
 one_cause (no_byte_of_a_text a b) (no_byte_of_a_text a' b') = refl
 one_cause (no_byte_of_a_text a b) (nothing_begins a' b' c') = refl

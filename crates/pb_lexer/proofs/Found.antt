@@ -1,4 +1,4 @@
--- The token that stands at a place.
+-- The token that is at a place.
 use Rattle.std.proofs.Common.{◌≡◌, ◌<◌, ◌≤◌, ◌-◌, ◌+◌, ℕ, pos, zero, suc, inl, inr, true, false, List, []}
 use Rattle.std.proofs.Common.{◌∷◌, length, get_or, take, drop, slice_range, refl, sym, ap, ◌∙◌, subst, arith}
 use Rattle.std.proofs.Common.{drop-cons}

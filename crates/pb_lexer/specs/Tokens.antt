@@ -1,4 +1,4 @@
--- Tokens as values: what each says, its bytes, where it starts and ends, and its line. Where its bytes lie in
+-- Tokens as values: what each says, its bytes, where it starts and ends, and its line. Where its bytes are in
 -- memory is left out.
 use Rattle.std.specs.Prelude.{ℕ, ℤ, List, map}
 use Rattle.pb_lexer.specs.declared.token.Mark.{Mark}

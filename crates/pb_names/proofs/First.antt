@@ -17,7 +17,7 @@ first_none P never = record {
   none = λ is c h. never c h;
 }
 
--- there is one, and all others stand at its place or later
+-- there is one, and all others are at its place or later
 pub first_one : (P : Causes) (one : Cause) → P one → ((c : Cause) → P c → one.at ≤ c.at) → IsFirst P (Some one)
 first_one P one here all = record {
   stands = λ c is. let e : one ≡ c = cc in subst P e here;

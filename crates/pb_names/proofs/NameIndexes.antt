@@ -110,7 +110,7 @@ linked_more names name greatest i behind firsts nexts read few is linked = recor
 
 -- ---- how a name is looked for
 
--- the name has no number below this one, where a name of its slot stands or no name
+-- the name has no number below this one, if there is a name of its slot or none
 pub record IsReached (names : List Name) (greatest : ℕ) (name : Name) (i : ℕ) : Type 0 where
   pub none : (k : ℕ) → k < i → slice_get names k ≢ Some name
   pub here : (other : Name) → slice_get names i ≡ Some other → slot greatest other ≡ slot greatest name

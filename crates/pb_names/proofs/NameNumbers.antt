@@ -75,7 +75,7 @@ texts_more of text made after x xs i s pushed same below here before =
 
 -- ---- names that are not declared, and names that are declared before
 
--- a name that stands among the first n, at this place
+-- a name that is among the first n, at this place
 pub again_here : (wrong : Wrong) (names : List Name) (n k : ℕ) (x : NameSyntax) → k < n
     → slice_get names k ≡ Some x.text
     → IsFirst (IsAgain wrong (take n names) x) (Some (record { at = x.at; wrong = wrong }))
@@ -83,7 +83,7 @@ again_here wrong names n k x below here =
     first_one _ _ (record { first = k; again = read_take names n k x.text below here; is = refl })
     (λ c h. let e = ap (λ d. d.at) h.is in omega arith)
 
--- a name that does not stand among the first n
+-- a name that is not among the first n
 pub again_nowhere : (wrong : Wrong) (names : List Name) (n : ℕ) (x : NameSyntax)
     → ((k : ℕ) → k < n → slice_get names k ≢ Some x.text) → IsFirst (IsAgain wrong (take n names) x) None
 again_nowhere wrong names n x other =

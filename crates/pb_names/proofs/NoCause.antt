@@ -28,7 +28,7 @@ numbered_at R (x ∷ ws) [] i w h is = absurd h
 numbered_at R (x ∷ ws) (p ∷ ps) zero w h is = (p, refl, subst (λ y. R y p) (some_same is) h.0)
 numbered_at R (x ∷ ws) (p ∷ ps) (suc i) w h is = numbered_at R ws ps i w h.1 is
 
--- a name among the first names of a list stands before
+-- a name among the first names of a list is before
 stands_before : (names : List Name) (n first : ℕ) (x : Name) → AreDistinct names → slice_get (take n names) first ≡ Some x
     → slice_get names n ≡ Some x → ⊥
 stands_before names n first x distinct again here =

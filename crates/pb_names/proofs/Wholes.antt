@@ -21,7 +21,7 @@ use Rattle.pb_names.proofs.NumberedLists.{inner_of}
 
 -- ---- distinct names
 
--- a list in which no element stands before itself
+-- a list in which no element is before itself
 distinct_list : {X : Type 0} (xs : List X)
     → ((i k : ℕ) (x : X) → slice_get xs i ≡ Some x → k < i → slice_get xs k ≢ Some x)
     → (i j : ℕ) (d : X) → i < j → j < length xs → get_or xs i d ≢ get_or xs j d

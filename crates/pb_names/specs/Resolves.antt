@@ -1,4 +1,4 @@
--- When a numbered program is that of a syntax tree: the tree is well formed, and numbers stand in place of
+-- When a numbered program is that of a syntax tree: the tree is well formed, and numbers replace
 -- its names. Each kind of names (resources, processes, the integers of one process) is numbered from 0 in
 -- order of declaration.
 use Rattle.std.specs.Prelude.{◌≡◌, ◌≢◌, ℕ, ◌≤◌, pos, List, length, map, slice_get, Some, AllPairs}

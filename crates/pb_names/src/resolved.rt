@@ -1,4 +1,4 @@
-//! A numbered program in the memory of any allocator: numbers stand in place of names.
+//! A numbered program in the memory of any allocator: numbers replace names.
 
 use pb_base::{BinaryOp, Bundle, UnaryOp};
 use std::alloc::Allocator;

@@ -8,7 +8,7 @@ use std::str::FromStr;
 /// The options of `check_engine`.
 #[derive(Clone, Copy, Debug, PartialEq, Eq)]
 pub struct CheckOptions {
-    /// The size of the heap for the trees of each text, in bytes, if they are to lie in one.
+    /// The size of the heap for the trees of each text, in bytes, if they are to be in one.
     pub heap: Option<u64>,
     pub ghost heap_suffices: { (size : ℕ) → heap ≡ Some size → 1024 ≤ size },
     pub ghost heap_fits: { (size : ℕ) → heap ≡ Some size → size ≤ 16777216 },

@@ -108,7 +108,7 @@ shorter (g.group is to r) = let x = shorter r in omega arith
 
 -- ---- how deep an expression nests
 
--- how many brackets of an expression stand in one another
+-- how many brackets of an expression are inside one another
 abbrev pub brackets : {l : Level} {ts rest : List Token} {e : ExprSyntax} → Reads l ts e rest → ℕ
 brackets (g.tight r) = brackets r
 brackets (g.chain c op a b) = max (brackets a) (brackets b)

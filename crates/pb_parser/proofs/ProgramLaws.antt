@@ -87,7 +87,7 @@ process_of d t u y ts us rest x xs a is b p q end =
     let m = marked mark.End (list (statement d) us) a y rest q end in
     rw (is, e, p, m) refl
 
--- how many readings stand in one another in a process, in processes and in a program
+-- how many readings are inside one another in a process, in processes and in a program
 
 abbrev pub process_depth : {ts rest : List Token} {p : ProcessSyntax} → ReadsProcess ts p rest → ℕ
 process_depth (g.plain x b l e) = list_depth l

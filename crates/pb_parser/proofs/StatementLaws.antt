@@ -91,7 +91,7 @@ mutual
 -- ---- how deep statements nest
 
 abbrev mutual
-  -- how many readings stand in one another in a statement: itself, statements inside, expressions and their brackets
+  -- how many readings are inside one another in a statement: itself, statements inside, expressions and their brackets
   pub stmt_depth : {ts rest : List Token} {a : StmtsSyntax} → ReadsStmt ts a rest → ℕ
   stmt_depth (g.skip is) = 1
   stmt_depth (g.assign is to e) = 2 + brackets e

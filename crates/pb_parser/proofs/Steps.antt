@@ -56,7 +56,7 @@ pub pair_steps : (ts us vs rest : List Token) (n : NumberSyntax) (x : NameSyntax
 unfolding a_pair
 pair_steps ts us vs rest n x p q r = rw (p, q, r) refl
 
--- nothing stands after `else` where that does not come next
+-- nothing follows `else` if it does not come next
 pub no_else : (deeper : Part StmtsSyntax) (ts rest : List Token) (taken : Bool) → taken ≡ false → TakesMark mark.Else taken ts rest
     → otherwise deeper ts ≡ Found tree.no_stmt rest
 unfolding otherwise

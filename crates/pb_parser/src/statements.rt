@@ -26,7 +26,7 @@ impl<'a, 't, B: Builder> Parser<'a, 't, B> {
     }
 
     // Each kind of statement is read by a call of its own that is not inlined: the locals of all kinds would
-    // lie in each frame of the recursion of statements, and a deep program would need more stack.
+    // be in each frame of the recursion of statements, and a deep program would need more stack.
 
     /// Returns the pairs of a hold.
     #[inline(never)]

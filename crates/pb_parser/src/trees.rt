@@ -76,7 +76,7 @@ fn put<T: Drop, A: Allocator>(list: &mut Vec<T, A>, item: T) -> Result<(), NoMem
     Ok(())
 }
 
-// The calls that build what nests are not inlined: their locals would lie in each frame of the parser's
+// The calls that build what nests are not inlined: their locals would be in each frame of the parser's
 // recursion, and a deep program would need more stack.
 #[tactic(auto, using(pb_tree::proofs::Views::stmt_views))]
 impl<A: Allocator + Clone> Builder for Trees<A> {

@@ -151,7 +151,7 @@ same_says code line c d limits s t =
     (decimal_injective c.pick.arm d.pick.arm (omega (arith, few_c)) (omega (arith, few_d)) numbers.0)
     (decimal_injective c.count d.count (omega (arith, most_c)) (omega (arith, most_d)) numbers.1)
 
--- the first line of a text says one pick, and one rest stands behind it
+-- the first line of a text says one pick, and one rest is behind it
 same_line : (code : Code) (text a x b y : List ℕ) (c d : CountedPick) → KeepsLimits code → IsFirstLine text a x → Says code a c
     → IsFirstLine text b y → Says code b d → (c ≡ d) × (x ≡ y)
 same_line code text a x b y c d limits first s second t =

@@ -10,7 +10,7 @@ use Rattle.pb_rewrite.specs.View.{item_view, items_view}
 use Rattle.pb_rewrite.specs.declared.item.Item.{Item}
 use Rattle.pb_rewrite.specs.declared.item.Item.TheVariants.{Left}
 
--- what was pushed last stands first
+-- what was pushed last is first
 pub items_view-push : {A : Type 0} (items : List (Item A)) (first : Item A)
     → items_view (items ++ first ∷ []) ≡ item_view first ∷ items_view items
 items_view-push items first = ap (map item_view) (reverse-append items (first ∷ []))

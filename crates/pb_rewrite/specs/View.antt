@@ -1,5 +1,5 @@
 -- What contracts see of the residual trees: the plain runs of which the definitions of the source speak.
--- Where they lie leaves no trace, nor whether a list or a test was already begun.
+-- It does not depend on where they are in memory, nor on whether a list or a test was already begun.
 use Rattle.std.specs.Prelude.{List, [], ◌∷◌, map, option_map, reverse}
 use Rattle.pb_base.specs.Banker.{BankerState}
 use Rattle.pb_base.specs.Steppers.{Bank}

@@ -177,7 +177,7 @@ same_pick a b p q = λ i. record { process = p i; arm = q i }
 places_apart : (a b : Pick) → a.arm < 64 → b.arm < 64 → mark_place a ≡ mark_place b → a ≡ b
 places_apart a b lt lt' same = same_pick a b (omega (arith, lt, lt', same)) (omega (arith, lt, lt', same))
 
--- an arm that stands at a request is one of the 64 of its process
+-- an arm that is at a request is one of the 64 of its process
 refused_arm : (code : VerifiedCode) (s : Ledger) (pick : Pick) → IsLegal code s → IsRefused code.code s.machine pick → pick.arm < 64
 refused_arm code s pick legal refused = moves_arm code.code (annotated_of code s legal) s.machine (legal_reached code s legal) pick refused.move refused.asks
 

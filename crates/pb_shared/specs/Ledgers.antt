@@ -42,8 +42,8 @@ abbrev pub allowance_of : Option Slip → ℕ
 allowance_of (Some slip) = slip.allowance
 allowance_of None = 0
 
--- the picks lead from the start to the machine, and each made just what stands beside it; picks made,
--- allowances out and picks left add up to the limit; each arm marked refused stands at a request that is not
+-- the picks lead from the start to the machine, and each made just what is beside it; picks made,
+-- allowances out and picks left add up to the limit; each arm marked refused is at a request that is not
 -- allowed now; and the code is verified
 pub record IsLegal (code : VerifiedCode) (s : Ledger) : Type 0 where
   pub leads : Leads code.code (code_opening code.code) s.entries s.machine
@@ -95,7 +95,7 @@ home s lent = record s {
 abbrev pub given_back : Ledger → Lent → Ledger
 given_back s lent = record s { left = s.left + lent.allowance; slips = slice_set s.slips lent.pick.process None }
 
--- the book after a visible pick: its event stands in the trace, and the marks go where loans came back
+-- the book after a visible pick: its event is in the trace, and the marks go where loans came back
 abbrev pub after_pick : Ledger → State CodeProcess → Pick → Event → Ledger
 after_pick s next pick event = record s {
   machine = next;
@@ -113,7 +113,7 @@ Tries code s pick answer.Refused after =
     IsRefused code s.machine pick × (after ≡ record s { refused = slice_set s.refused (mark_place pick) true })
 Tries code s pick answer.Silent after = (look_at code s.machine pick ≢ Visible) × (after ≡ s)
 
--- a commit: the silent picks stand in the trace, and if some of the allowance is left the visible pick is
+-- a commit: the silent picks are in the trace, and if some of the allowance is left the visible pick is
 -- tried
 abbrev pub Commits : Code → Ledger → Lent → Answer → Ledger → Type 0
 Commits code s lent a after =

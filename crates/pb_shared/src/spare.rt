@@ -48,7 +48,7 @@ impl Spare {
         )?)
     }
 
-    /// Sets both processes to one of the same code, for an arm that may make so many picks. No memory is taken.
+    /// Sets both processes to one of the same code, for an arm that may make this many picks. No memory is taken.
     #[inline(always)]
     pub(crate) fn begin(&mut self, process: &Proc, pick: Pick, allowance: u32)
         requires { (v : VerifiedCode) × (p : ℕ) × IsVerified v × IsSpareOf v p self.old × IsProcessOf v p process.now }

@@ -157,7 +157,7 @@ fn stands(machine: &Machine, p: usize, arm: usize) -> Option<(ThreadState, Optio
 enum Act {
     /// These picks, of a process and an arm each, show this, if they are enabled.
     Picks(&'static [Pick], &'static [Seen]),
-    /// The picks of so many rounds, processes and arms show this, if they are enabled.
+    /// The picks of this many rounds, processes and arms show this, if they are enabled.
     Turns(u8, u8, u8, &'static [Seen]),
     /// A process holds so much of a resource.
     Holds(usize, usize, u32),

@@ -218,7 +218,7 @@ fn repeated_fault(
     }
 }
 
-/// Pieces, how often each stands in a text, the tail of the text, and its fault.
+/// Pieces, how often each occurs in a text, the tail of the text, and its fault.
 const DEEP: [(&[u8], usize, &[u8], ParseFault); 5] = [
     (b"(", 65_536, b"", ParseFault::TooDeep),
     (b"(", 257, b"", ParseFault::TooDeep),
@@ -234,7 +234,7 @@ fn looks_for_depth_before_the_grammar(rt: HostRuntime) {
     }
 }
 
-/// The heads, pieces and tails of texts, how often the piece stands in each, and the fault.
+/// The heads, pieces and tails of texts, how often the piece occurs in each, and the fault.
 const LARGE: [(&[u8], &[u8], usize, &[u8], Option<ParseFault>); 4] = [
     (b"process p begin print ", b"-", 198, b"1 end", None),
     (
@@ -278,7 +278,7 @@ fn fault_without_room(
     }
 }
 
-/// The heads, pieces and tails of texts, how often the piece stands in each, and the fault without memory.
+/// The heads, pieces and tails of texts, how often the piece occurs in each, and the fault without memory.
 const WITHOUT_ROOM: [(&[u8], &[u8], usize, &[u8], ParseFault); 3] = [
     (
         b"process p begin ",

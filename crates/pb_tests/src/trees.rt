@@ -12,7 +12,7 @@ pub fn read(alloc: Global, text: &[u8]) -> Option<Program<Global>> {
     parse(alloc, tokens.as_slice()).ok()
 }
 
-/// A part of a program, which stands behind the parts that it is made of. The line of a statement comes
+/// A part of a program, which comes behind the parts that it is made of. The line of a statement comes
 /// first; a name or a number is followed by its place.
 #[derive(Clone, Copy)]
 pub enum Part {

@@ -46,10 +46,10 @@ pub arms_view-append : {A : Type 0} (xs ys : List (Vec (Stmt A) A))
 arms_view-append [] ys = refl
 arms_view-append (x ∷ xs) ys = ap (arm_then (arm_view x)) (arms_view-append xs ys)
 
--- after a push, the pushed statement or arm stands last
+-- after a push, the pushed statement or arm is last
 pub ruleset list_views = (stmts_view-append, arms_view-append)
 
--- what stands between two lists, or after one, does not matter
+-- what is between two lists, or after one, does not matter
 pub ruleset plain_lists = (
   stmts_of-append,
   arms_of-append,

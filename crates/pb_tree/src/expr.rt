@@ -23,7 +23,7 @@ pub struct Number {
     pub at: usize,
 }
 
-/// An expression, whose parts lie in memory of `A`. Brackets leave no trace.
+/// An expression, whose parts are in memory of `A`. Brackets leave no trace.
 #[derive(Drop)]
 pub enum Expr<A: Allocator> {
     /// A number.

@@ -10,7 +10,7 @@ use crate::expr::{Expr, Name, Number};
 use pb_base::NoMemory;
 use std::alloc::Allocator;
 
-/// A statement, whose parts lie in memory of `A`. Each has the line of its first token, from 1. `skip` makes
+/// A statement, whose parts are in memory of `A`. Each has the line of its first token, from 1. `skip` makes
 /// no statement, and an inner `begin .. end` makes those that are in it.
 // To add one: a Mark, specs/, pb_parser, pb_names, pb_claims, pb_rewrite, pb_codegen; docs/CHANGING.md.
 #[derive(Drop)]
@@ -251,7 +251,7 @@ impl<A: Allocator> Stmt<A> {
         }
     }
 
-    /// Returns whether two lists are the same, places and lines included, in whatever memory they lie.
+    /// Returns whether two lists are the same, places and lines included, in whatever memory they are.
     #[cycle(same)]
     #[tactic(auto, using(crate::proofs::Views::stmt_views))]
     pub fn same_list<B: Allocator>(stmts: &Vec<Stmt<A>, A>, others: &Vec<Stmt<B>, B>) -> bool

@@ -15,7 +15,7 @@ pub record FlowsAt {M : Type 0} (rules : Rules M) (instrs : List Instr) (notes :
   pub fits : rules.Fits instr value
   pub next : (q : ℕ) → Contains (followers instr p) q → notes q ≡ Some (rules.after instr value)
 
--- the first `done` places of the order lead on, and whatever is noted stands in every annotation
+-- the first `done` places of the order lead on, and whatever is noted is in every annotation
 pub record IsSpread {M : Type 0} (rules : Rules M) (entries : List ℕ) (instrs : List Instr) (order : List ℕ) (done : ℕ) (notes : ℕ → Option M) : Type 0 where
   pub starts : (p : ℕ) → Contains entries p → notes p ≡ Some rules.start
   pub flows : (k : ℕ) → k < done → FlowsAt rules instrs notes (get_or order k 0)

@@ -1,4 +1,4 @@
--- In a process that isn't over some live arm can step, but for the banker.
+-- In a process that is not over some live arm can step, if the banker allows it.
 use Rattle.std.proofs.Common.{◌≡◌, inl, inr, ℕ, zero, suc, ◌+◌, ◌<◌, ◌≤◌, ℤ, Bool, true, false, cond, ◌&&◌, List, Option, Some, None, option_and_then, refl, sym, ap, ◌∙◌, subst, arith}
 use Rattle.pb_base.specs.Steppers.{Effect, Silent}
 use Rattle.pb_code.specs.Code.{Instr, Join, ProcessCode, Thread, Idle, Live, Over, CodeProcess, thread, ThreadStep, act, is_over, all_over, dismiss, apply_step, step_thread, step_process}

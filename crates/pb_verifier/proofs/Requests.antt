@@ -138,7 +138,7 @@ module _ (codes : List ProcessCode) (s : State CodeProcess) (pick : Pick) (code 
       ap (option_and_then (λ p. option_map (moved s pick) (code_step codes pick.process p pick.arm))) here
       ∙ (ap (λ c. option_map (moved s pick) (option_and_then (λ c. step_process c process pick.arm) c)) at ∙ ap (option_map (moved s pick)) steps)
 
-  -- the pick asks for a bundle where its arm stands at the request
+  -- the pick asks for a bundle where its arm is at the request
   asks_at : (bundle : Bundle) (q : ℕ) (stack : List ℤ) → thread process.threads pick.arm ≡ Live q stack → InstrAt code q (Take bundle)
       → (move : Move CodeProcess) × (move_of (code_step codes) s pick ≡ Some move) × (move.effect ≡ Takes bundle)
   asks_at bundle q stack live instr =

@@ -161,7 +161,7 @@ pub data Turn (code : ProcessCode) (ok : Checked code) (T T' : ℕ → Thread) (
   stops : (p : ℕ) (s : List ℤ) → T a ≡ Live p s → InstrAt code p End → T' a ≡ Over → ((b : ℕ) → b ≢ a → T' b ≡ T b) →
       effect ≡ ending a → Turn code ok T T' a effect
 
--- the parent of an arm that isn't idle stands at the join that waits for it
+-- the parent of an arm that isn't idle is at the join that waits for it
 pub record Awaited (code : ProcessCode) (T : ℕ → Thread) (c : ℕ) : Type 0 where
   pub parent : ℕ
   pub place : ℕ
@@ -172,7 +172,7 @@ pub record Awaited (code : ProcessCode) (T : ℕ → Thread) (c : ℕ) : Type 0 
   pub forks : InstrAt code place (Fork first count)
   pub among : IsAmong first count c
 
--- threads stand at reached places of their arms, and are idle or waited for
+-- threads are at reached places of their arms, and are idle or waited for
 pub record InOrder (code : ProcessCode) (ok : Checked code) (T : ℕ → Thread) : Type 0 where
   pub stands : (a p : ℕ) (s : List ℤ) → T a ≡ Live p s → IsInArm code a p × Reached code p × (length s ≡ ok.depth p)
   pub awaited : (c : ℕ) → 1 ≤ c → (T c ≡ Idle → ⊥) → Awaited code T c

@@ -1,4 +1,4 @@
-//! Whether arms lie one after another, and are never left but by an end.
+//! Whether arms are one after another, and are left only by an end.
 
 ghost use Rattle.std.specs.Prelude.{◌≡◌, ◌↔◌, ◌<◌, ◌≤◌, ℕ, List, Some, length, true};
 ghost use Rattle.pb_base.specs.Steppers.{Bundle};
@@ -99,7 +99,7 @@ fn is_closed(code: &ProcessCode, arm: usize) -> bool
     closes(instr_at(code, end_of_arm(code, arm) - 1))
 }
 
-/// Returns whether arms lie one after another, and none is left but by an end.
+/// Returns whether arms are one after another, and each is left only by an end.
 pub fn has_arms(code: &ProcessCode) -> bool
     requires { 1 ≤ arms (process_view code.now) }
     ensures { (result ≡ true) ↔ HasArms (process_view code.now) }

@@ -143,7 +143,7 @@ fn note_why(alloc: Global, wording: &mut Wording, code: &Code, machine: &Machine
     }
 }
 
-// Returns how an arm stands that does not ask for anything.
+// Returns the state of an arm that does not ask for anything.
 fn stands(faulted: bool, state: ThreadState) -> &'static str {
     if faulted {
         return "its process has faulted";

@@ -1,4 +1,4 @@
-//! What stands where among the tokens of a text.
+//! The places of the tokens of a text.
 
 use pb_lexer::{Kind, Mark, Token};
 

@@ -1,4 +1,4 @@
-//! Whether the machine and the source stand alike.
+//! Whether the machine and the source are in the same state.
 
 ghost use Rattle.std.specs.Prelude.{◌<◌, length};
 ghost use Rattle.pb_base.specs.Banker.{processes};

@@ -1,4 +1,4 @@
-//! The tree of a program is the same in whatever memory it lies.
+//! The tree of a program is the same in whatever memory it is.
 
 use super::{places, texts};
 use crate::texts::{EXAMPLES, PROGRAMS, arms, idle, repeated};
@@ -29,7 +29,7 @@ fn is_same_in_heap(heap: &LocalHeap, tokens: &[Token<'_>], global: &Program<Glob
     }
 }
 
-/// Returns whether the tree of the text lies in memory of the machine, in an arena and in the heap, and is
+/// Returns whether the tree of the text is in memory of the machine, in an arena and in the heap, and is
 /// the same in each.
 fn is_same(alloc: Global, heap: &LocalHeap, text: &[u8]) -> bool {
     let Ok(tokens) = lex(alloc, text) else {

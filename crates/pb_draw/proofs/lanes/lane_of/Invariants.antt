@@ -4,7 +4,7 @@ use Rattle.pb_draw.specs.Lanes.{ShowsStandings, standing_after}
 use Rattle.pb_draw.specs.Walks.{StandsAfter}
 use Rattle.pb_draw.proofs.lanes.lane_of.Given as goal
 
--- how the arm stands up to this position
+-- what the arm is doing, up to this position
 abbrev pub invariant-loop-i : goal.invariant-loop-i
 invariant-loop-i l = record {
   stands : StandsAfter l.verified (picks_of l.trace.entries) l.i l.machine;
