@@ -14,8 +14,11 @@ use std::alloc::Global;
 use std::hint::spin_loop;
 use std::sync::{Condvar, Mutex, MutexGuard, Wait};
 
-/// How often a thread tries the lock before it may sleep. The lock is held for a part of the time that these tries take.
-const TRIES: u32 = 200;
+/// How often a thread tries the lock before it may sleep. With the pauses that takes some ten microseconds.
+const TRIES: u32 = 32;
+
+/// How often the processor pauses after a try. Each try takes the word of the lock from whoever holds it.
+const PAUSES: u32 = 8;
 
 /// A book, and how many threads wait until a stretch comes home. They are in other lines of memory than the word of
 /// the lock, which threads read while they wait for it.
@@ -54,7 +57,7 @@ impl<'v, C: CodeBrand> Shared<'v, C> {
             if let Some(desk) = self.desk.try_lock() {
                 return desk;
             }
-            spin_loop();
+            pause();
         }
         self.desk.lock(rt)
     }
@@ -159,5 +162,12 @@ impl<'v, C: CodeBrand> Shared<'v, C> {
             book,
         } = self.desk.into_inner();
         book
+    }
+}
+
+/// Waits for a moment between two tries of the lock.
+fn pause() {
+    for _ in 0..PAUSES {
+        spin_loop();
     }
 }
