@@ -14,11 +14,8 @@ use std::alloc::Global;
 use std::hint::spin_loop;
 use std::sync::{Condvar, Mutex, MutexGuard, Wait};
 
-/// How often a thread tries the lock before it may sleep. With the pauses that takes some ten microseconds.
-const TRIES: u32 = 32;
-
-/// How often the processor pauses after a try. Each try takes the word of the lock from whoever holds it.
-const PAUSES: u32 = 8;
+/// How often a thread tries the lock before it may sleep. The lock is held for a part of the time that these tries take.
+const TRIES: u32 = 200;
 
 /// A book, and how many threads wait until a stretch comes home. They are in other lines of memory than the word of
 /// the lock, which threads read while they wait for it.
@@ -57,7 +54,7 @@ impl<'v, C: CodeBrand> Shared<'v, C> {
             if let Some(desk) = self.desk.try_lock() {
                 return desk;
             }
-            pause();
+            spin_loop();
         }
         self.desk.lock(rt)
     }
@@ -162,12 +159,5 @@ impl<'v, C: CodeBrand> Shared<'v, C> {
             book,
         } = self.desk.into_inner();
         book
-    }
-}
-
-/// Waits for a moment between two tries of the lock.
-fn pause() {
-    for _ in 0..PAUSES {
-        spin_loop();
     }
 }
