@@ -45,13 +45,17 @@ impl<'v, C: CodeBrand> Book<'v, C> {
         None
     }
 
-    /// Returns the first ready arm of a process, from the one whose turn it is.
+    /// Returns the first ready arm of a process, from the one whose turn it is. Of a process that is out only the slip is
+    /// looked at: another processor may write the rest.
     #[inline(always)]
     fn ready_arm(&self, process: u8) -> Option<u8>
         ensures { MatchOption result
             ((pick : Pick) → pick.process ≡ process → IsReady C.code.code self.now pick → ⊥)
             (λ arm. (pick : Pick) → pick.process ≡ process → pick.arm ≡ arm → IsReady C.code.code self.now pick) }
     {
+        if !self.is_home(process) {
+            return None;
+        }
         let arms = self.arms(process);
         let next = self
             .next_arms

@@ -11,7 +11,11 @@ use crate::stretch::Stretch;
 use crate::taken::Taken;
 use pb_base::NoMemory;
 use std::alloc::Global;
+use std::hint::spin_loop;
 use std::sync::{Condvar, Mutex, MutexGuard, Wait};
+
+/// How often a thread tries the lock before it may sleep. The lock is held for a part of the time that these tries take.
+const TRIES: u32 = 200;
 
 /// A book, and how many threads wait until a stretch comes home. They are in other lines of memory than the word of
 /// the lock, which threads read while they wait for it.
@@ -42,6 +46,19 @@ impl<'v, C: CodeBrand> Shared<'v, C> {
         }
     }
 
+    /// Takes the lock. A thread tries it for a while before it may sleep: to let it sleep, and to wake it, takes much
+    /// longer than the lock is held.
+    #[inline(always)]
+    fn lock<R: Wait>(&self, rt: &R) -> MutexGuard<'_, Desk<'v, C>> {
+        for _ in 0..TRIES {
+            if let Some(desk) = self.desk.try_lock() {
+                return desk;
+            }
+            spin_loop();
+        }
+        self.desk.lock(rt)
+    }
+
     /// Lends a stretch, or returns the outcome. It waits while the book is idle.
     pub fn take<R: Wait>(
         &self,
@@ -52,7 +69,7 @@ impl<'v, C: CodeBrand> Shared<'v, C> {
         requires { 0 < quantum }
         ensures { IfOk result (λ taken. IsHandedOut quantum taken) }
     {
-        let mut desk = self.desk.lock(rt);
+        let mut desk = self.lock(rt);
         for _ in rt.forever() {
             match desk.book.take(alloc, quantum)? {
                 Taken::Idle => desk = self.wait(rt, desk),
@@ -94,7 +111,7 @@ impl<'v, C: CodeBrand> Shared<'v, C> {
     ) -> Result<Answer, (Stretch<'v, C>, CommitFault)>
         ensures { IfErr result (λ e. e.0 ≡ stretch.entry) }
     {
-        let mut desk = self.desk.lock(rt);
+        let mut desk = self.lock(rt);
         let answer = desk.book.commit(stretch);
         self.give_back(desk);
         answer
@@ -114,7 +131,7 @@ impl<'v, C: CodeBrand> Shared<'v, C> {
         ensures ok { IfOk result (λ taken. IfOk taken (λ taken. IsHandedOut quantum taken)) }
         ensures err { IfErr result (λ e. e.0 ≡ stretch.entry) }
     {
-        let mut desk = self.desk.lock(rt);
+        let mut desk = self.lock(rt);
         let made = desk.book.commit_and_take(stretch, alloc, quantum);
         self.give_back(desk);
         match made {
@@ -128,7 +145,7 @@ impl<'v, C: CodeBrand> Shared<'v, C> {
     pub fn put_back<R: Wait>(&self, rt: &R, stretch: Stretch<'v, C>) -> Result<(), Stretch<'v, C>>
         ensures { IfErr result (λ e. e ≡ stretch.entry) }
     {
-        let mut desk = self.desk.lock(rt);
+        let mut desk = self.lock(rt);
         let answer = desk.book.put_back(stretch);
         self.give_back(desk);
         answer

@@ -1,11 +1,13 @@
 //! Lending a process.
 
-ghost use Rattle.std.specs.Prelude.{◌≡◌, ◌-◌, ◌<◌, ◌≤◌, Some, None, IfOk, OnErr, slice_get, slice_set};
+ghost use Rattle.std.specs.Prelude.{◌≡◌, ◌⊎◌, ℕ, ◌-◌, ◌<◌, ◌≤◌, length, Some, None, IfOk, OnErr, slice_get, slice_set};
+ghost use Rattle.pb_shared.specs.Ledgers.{HasOutcome};
 ghost use Rattle.pb_shared.specs.Spares.{IsSpareOf};
-ghost use Rattle.pb_shared.specs.Taking.{Takes, StartsAt};
+ghost use Rattle.pb_shared.specs.Taking.{NoneReady, Takes, StartsAt};
 
 use crate::book::Book;
 use crate::brand::CodeBrand;
+use crate::outcome::Outcome;
 use crate::slip::Slip;
 use crate::spare::Spare;
 use crate::stretch::Stretch;
@@ -23,19 +25,45 @@ impl<'v, C: CodeBrand> Book<'v, C> {
         ensures ok { IfOk result (λ taken. Takes C.code self.old quantum taken self.new) }
         ensures err { OnErr result (self.new ≡ self.old) }
     {
-        if let Some(outcome) = self.outcome() {
-            return Ok(Taken::Over(outcome));
-        }
         if self.left == 0 {
-            return Ok(Taken::Idle);
+            return Ok(self.over_or_idle());
         }
         let Some(pick) = self.find_ready() else {
-            return Ok(Taken::Idle);
+            return Ok(self.over_or_idle());
         };
+        if let Some(outcome) = self.outcome_beside(usize::from(pick.process)) {
+            return Ok(Taken::Over(outcome));
+        }
         let allowance = quantum.min(self.left);
         let stretch = self.fresh(alloc, pick, allowance)?;
         self.lend(pick, allowance);
         Ok(Taken::Work(stretch))
+    }
+
+    /// Returns the outcome if there is one, where no arm can be lent.
+    fn over_or_idle(&self) -> Taken<'v, C>
+        requires { (self.now.left ≡ 0) ⊎ NoneReady C.code.code self.now }
+        ensures { (quantum : ℕ) → Takes C.code self.now quantum result self.now }
+    {
+        let _ = &self.code;
+        match self.outcome() {
+            Some(outcome) => Taken::Over(outcome),
+            None => Taken::Idle,
+        }
+    }
+
+    /// Returns the outcome if there is one, where picks are left. As long as this process, which is to be lent, is not
+    /// over there is none, and then no other process is looked at: another processor may write them.
+    #[inline(always)]
+    fn outcome_beside(&self, process: usize) -> Option<Outcome>
+        requires process { process < length self.now.slips }
+        requires left { 0 < self.now.left }
+        ensures { HasOutcome self.now result }
+    {
+        if !self.machine.proc(process).is_over() {
+            return None;
+        }
+        self.outcome()
     }
 
     /// Returns a stretch of this arm with nothing made. It takes memory only if the process was never lent before.
