@@ -18,7 +18,8 @@ returns-in_default c =
 
 pub returns-then-len-gt-MANY_BYTES : goal.returns-then-len-gt-MANY_BYTES
 returns-then-len-gt-MANY_BYTES c =
-    let said = more _ _ c.first_part-cut.result.part.now _ _ c.loop-out.invariant (rw c.in-Some.is at c.first_part-cut.ensures.marked) c.in_ok-tell_text.ensures in
+    let said = more _ _ c.first_part-cut.result.part.now _ _ c.loop-out.invariant
+    (rw c.in-Some.is at c.first_part-cut.ensures.marked) c.in_ok-tell_text.ensures in
     let long = c.if-len-gt-MANY_BYTES.true in
     let counted = c.len.ensures in
     first c.in-Some.more.now c.tell_text.new.out.items said (omega (arith, long, counted))
