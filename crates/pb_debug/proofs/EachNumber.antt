@@ -14,11 +14,6 @@ each_next said n old mid new before more =
     ∙ (append_assoc old (each_below said n) (said n)
     ∙ ap (λ k. old ++ each_below said k) next))
 
--- all of them
-pub each_all : (said : ℕ → List ℕ) (n end : ℕ) (old new : List ℕ)
-    → new ≡ old ++ each_below said n → n ≡ end → new ≡ old ++ each_below said end
-each_all said n end old new here same = here ∙ ap (λ k. old ++ each_below said k) same
-
 -- a name as it is held
 pub name_there : (names : List (Vec ℕ Global)) (i : ℕ) (name : Vec ℕ Global) → i < length names → name ≡ get_or names i name
     → name_of (map (λ n. n.items) names) i ≡ name.items

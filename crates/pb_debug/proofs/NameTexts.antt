@@ -45,11 +45,6 @@ missing_arm d p a BadCommand lt h = elim h [ ]
 missing_arm d p a NoMemory lt h = elim h [ ]
 missing_arm d p a Device lt h = elim h [ ]
 
-pub refused_arm : (d : Debugging) (p a : ℕ) (fault : DebugFault) → p < length (state_of d).processes → IsArmFault d p a fault
-    → (fault ≡ NoMemory → ⊥) → HasNoArm d p a
-refused_arm d p a fault lt (inl memory) not = absurd (not memory)
-refused_arm d p a fault lt (inr missing) not = missing_arm d p a fault lt missing
-
 module _ (d : Debugging) (h : IsPosition d) where
   -- each process has a name, and each resource
   pub names_many : length d.verified.code.names.processes ≡ length (state_of d).processes

@@ -24,22 +24,6 @@ use Rattle.pb_verifier.proofs.Requests.{same_pick}
 stays_without_move : (code : Code) (s : State CodeProcess) (pick : Pick) → move_of (code_step code.processes) s pick ≡ None → CodeStays code s pick
 stays_without_move code s pick none move is granted = let both : Some move ≡ None = sym is ∙ none in cc
 
-no_step_beyond : (codes : List ProcessCode) (p : ℕ) (process : CodeProcess) (a : ℕ) → length process.threads ≤ a
-    → code_step codes p process a ≡ None
-no_step_beyond codes p process a long = go (slice_get codes p)
-  where
-    go : (code : Option ProcessCode) → option_and_then (λ c. step_thread c process a (thread process.threads a)) code ≡ None
-    go None = refl
-    go (Some c) = ap (step_thread c process a) (get_or_past process.threads a Idle long)
-
-no_such_arm : (code : Code) (s : State CodeProcess) (pick : Pick) (process : CodeProcess) → slice_get s.processes pick.process ≡ Some process
-    → length process.threads ≤ pick.arm → CodeStays code s pick
-no_such_arm code s pick process there long =
-    stays_without_move code s pick (
-    ap (option_and_then (λ p. option_map (moved s pick) (code_step code.processes pick.process p pick.arm))) there
-    ∙ ap (option_map (moved s pick)) (no_step_beyond code.processes pick.process process pick.arm long)
-    )
-
 no_such_process : (code : Code) (s : State CodeProcess) (pick : Pick) → length s.processes ≤ pick.process → CodeStays code s pick
 no_such_process code s pick long =
     stays_without_move code s pick
@@ -65,26 +49,7 @@ one_more_arm code s p n pick below of at stays other other_of less = elim (cases
       subst (λ (o : Pick). CodeStays code s o) (sym same) stays
 ]
 
-pub one_more_job : (code : Code) (s : State CodeProcess) (n : ℕ) → NoJobBelow code s n
-    → ((pick : Pick) → pick.process ≡ n → CodeStays code s pick) → NoJobBelow code s (n + 1)
-one_more_job code s n below none pick less = elim (cases_lt pick.process n) [
-  | inl before ↦ below pick before
-  | inr not_before ↦ none pick (omega (arith, not_before, less))
-]
-
 -- ---- when all were tried
-
--- no arm of a job is enabled
-pub none_of : (code : Code) (s now : State CodeProcess) (p n : ℕ) (process : CodeProcess) → NoArmBelow code s p n → now ≡ s
-    → slice_get s.processes p ≡ Some process → length process.threads ≤ n → MakesSomeOf code s p NotEnabled now
-none_of code s now p n process below same there long = (
-  λ pick of. elim (cases_lt pick.arm n) [
-    | inl before ↦ below pick of before
-    | inr not_before ↦ no_such_arm code s pick process (subst (λ (k : ℕ). slice_get s.processes k ≡ Some process) (sym
-        of) there) (omega (arith, long, not_before))
-  ],
-  same,
-)
 
 -- no pick is enabled, so every job has ended or faulted
 pub none_at_all : (v : VerifiedCode) (s now : State CodeProcess) (n : ℕ) → IsVerified v → CodeReaches v.code s → NoJobBelow v.code s n

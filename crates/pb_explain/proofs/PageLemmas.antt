@@ -17,14 +17,6 @@ pub told_explanation : (asked : Option Code) (reply : Result Reply NoMemory) (ol
 told_explanation asked (Ok r) old new answered says said memory = (r.text.items, r.status, says, said)
 told_explanation asked (Err e) old new answered says said memory = (memory_line, Memory, no_memory, memory)
 
-pub one_line_more : (listed : List Code) (i : ℕ) (code : Code) (old so_far new : List ℕ) → i < length listed
-    → get_or listed i code ≡ code → so_far ≡ old ++ list_of_codes (take i listed)
-    → new ≡ so_far ++ first_line code (entry_of code) → new ≡ old ++ list_of_codes (take (i + 1) listed)
-one_line_more listed i code old so_far new within at before now =
-    now ∙ ap (λ (t : List ℕ). t ++ first_line code (entry_of code)) before
-    ∙ flat_map_more (λ c. first_line c (entry_of c)) old (take i listed) code
-    ∙ ap (λ l. old ++ list_of_codes l) (sym (take_more listed i code within ∙ ap (λ c. take i listed ++ c ∷ []) at))
-
 -- four texts that were put behind a text, one after another
 pub four_texts : (old a b c d one two three four : List ℕ) → one ≡ old ++ a → two ≡ one ++ b → three ≡ two ++ c → four ≡ three ++ d
     → four ≡ old ++ (((a ++ b) ++ c) ++ d)

@@ -10,12 +10,6 @@ use Rattle.pb_picks.specs.Counted.{AreApart}
 use Rattle.pb_engines.proofs.Apart.{apart_rest, some_first}
 use Rattle.pb_outcome_engine.specs.OutcomeLines.{AreCounted}
 
--- the picks so far, and one more
-pub counted_more : (picks : List Pick) (i : ℕ) (d : Pick) (before after : List CountedPick) → i < length picks
-    → spread before ≡ take i picks → spread after ≡ spread before ++ replicate 1 (get_or picks i d) → spread after ≡ take (i + 1) picks
-counted_more picks i d before after within so_far now =
-    now ∙ ap (λ (ps : List Pick). ps ++ get_or picks i d ∷ []) so_far ∙ sym (take_more picks i d within)
-
 -- how many they are
 pub counted_few : (picks : List Pick) (i : ℕ) (counted : List CountedPick) → i ≤ length picks → spread counted ≡ take i picks
     → length (spread counted) ≡ i
