@@ -453,7 +453,7 @@ class Whole:
 
 def middle_ratio(times, others):
     """The middle of the ratios of two calls, each of one turn: the clock of a machine changes from turn to turn."""
-    return statistics.median(time / other for time, other in zip(times, others))
+    return statistics.median(time / other for time, other in zip(times, others) if other > 0)
 
 
 def starts_of(program, folder):
