@@ -13,10 +13,12 @@ one arm        a process of one arm and one integer
 long code      the same, with 30,000 instructions more that are never reached
 16 arms        the same, with 16 arms, of which 15 never begin
 four           four processes of one arm and one integer
+four compute   four processes of one arm and one integer that do not count: they multiply, add and take the
+               rest, nine silent picks a round as well
 
 Then come whole calls of the program with one round, from its start to its exit, in processor time (user and
-system); one worker and four at quantum 4096 on the four processes; and four bare loops at once beside one,
-which is how much four processors can do together.
+system); one worker, two and four at quantum 4096 on the four processes; and bare loops at once, each in a process of
+its own, which is how much the processors can do together.
 
 Wants `rt`.
 
@@ -39,9 +41,9 @@ NEEDS = ["pb_base", "pb_code", "pb_verifier", "pb_history", "pb_shared", "pb_wor
 
 MAIN = """\
 //! Runs one or four processes that count, and says the nanoseconds of each round and how many picks there were.
-//! Its words are how many processes there are, how many instructions follow that are never reached, how many arms
-//! each has besides the first, how many workers there are (0: one stretch alone), the quantum, the limit and the
-//! rounds.
+//! Its words are whether they compute (1) or count (0), how many processes there are, how many instructions follow
+//! that are never reached, how many arms each has besides the first, how many workers there are (0: one stretch
+//! alone), the quantum, the limit and the rounds.
 #![tactic(auto)]
 
 ghost use Rattle.std.specs.Prelude.{◌≡◌, ◌<◌, ◌≤◌};
@@ -76,9 +78,22 @@ const COUNT: [Instr; 9] = [
     Instr::Jump(0),
 ];
 
-/// The code of a process that counts, and at the end forks the other arms and waits for them.
-fn process(alloc: Global, idle: u16, arms: u8) -> Result<ProcessCode, NoMemory> {
-    let mut instrs = Vec::from_slice(alloc, &COUNT)?;
+/// Computes by rounds of nine picks, for ever.
+const COMPUTE: [Instr; 9] = [
+    Instr::Load(0),
+    Instr::Push(5),
+    Instr::Mul,
+    Instr::Push(3),
+    Instr::Add,
+    Instr::Push(1_000_003),
+    Instr::Mod,
+    Instr::Store(0),
+    Instr::Jump(0),
+];
+
+/// The code of a process that counts, and at the end forks the other arms and waits for them, or of one that computes.
+fn process(alloc: Global, computes: bool, idle: u16, arms: u8) -> Result<ProcessCode, NoMemory> {
+    let mut instrs = Vec::from_slice(alloc, if computes { &COMPUTE } else { &COUNT })?;
     if arms > 0 {
         instrs.push(Instr::Fork { first: 1, count: arms })?;
         instrs.push(Instr::Join { first: 1, count: arms })?;
@@ -99,11 +114,11 @@ fn process(alloc: Global, idle: u16, arms: u8) -> Result<ProcessCode, NoMemory> 
 }
 
 /// The verified code of one such process, or of four.
-fn verified(alloc: Global, four: bool, idle: u16, arms: u8) -> Result<Option<Verified>, NoMemory> {
+fn verified(alloc: Global, computes: bool, four: bool, idle: u16, arms: u8) -> Result<Option<Verified>, NoMemory> {
     let mut processes = Vec::new(alloc);
     let mut names = Vec::new(alloc);
     for name in if four { b"abcd".as_slice() } else { b"a".as_slice() } {
-        processes.push(process(alloc, idle, arms)?)?;
+        processes.push(process(alloc, computes, idle, arms)?)?;
         names.push(Vec::from_slice(alloc, &[*name])?)?;
     }
     let claims = if four {
@@ -149,17 +164,18 @@ fn bare<C: CodeBrand>(alloc: Global, code: &Verified, max: u32, limit: u32) -> u
 fn main(rt: HostRuntime) -> anyhow::Result<ExitCode> {
     let alloc = rt.alloc();
     let words: Vec<String> = std::env::args(&rt)?.collect(alloc)?;
-    if words.len() < 8 {
+    if words.len() < 9 {
         return Ok(ExitCode::FAILURE);
     }
-    let processes = words[1].as_str().parse::<u8>()?;
-    let idle = words[2].as_str().parse::<u16>()?;
-    let arms = words[3].as_str().parse::<u8>()?;
-    let workers = words[4].as_str().parse::<usize>()?;
-    let quantum = words[5].as_str().parse::<u32>()?;
-    let limit = words[6].as_str().parse::<u32>()?;
-    let rounds = words[7].as_str().parse::<u64>()?;
-    let Ok(Some(code)) = verified(alloc, processes == 4, idle, arms) else {
+    let computes = words[1].as_str().parse::<u8>()?;
+    let processes = words[2].as_str().parse::<u8>()?;
+    let idle = words[3].as_str().parse::<u16>()?;
+    let arms = words[4].as_str().parse::<u8>()?;
+    let workers = words[5].as_str().parse::<usize>()?;
+    let quantum = words[6].as_str().parse::<u32>()?;
+    let limit = words[7].as_str().parse::<u32>()?;
+    let rounds = words[8].as_str().parse::<u64>()?;
+    let Ok(Some(code)) = verified(alloc, computes == 1, processes == 4, idle, arms) else {
         return Ok(ExitCode::FAILURE);
     };
     if quantum == 0 || limit == 0 || limit > 10_000_000 {
@@ -189,9 +205,11 @@ abbrev pub ghosts-bare : goal.ghosts-bare
 ghosts-bare g a = record { code = a.code.now }
 """
 
-# each with how many processes there are, how many instructions are never reached, and how many arms there are besides the
-# first of each process
-SHAPES = {"one arm": (1, 0, 0), "long code": (1, 30_000, 0), "16 arms": (1, 0, 15), "four": (4, 0, 0)}
+# each with whether it computes, how many processes there are, how many instructions are never reached, and how many
+# arms there are besides the first of each process
+SHAPES = {"one arm": (0, 1, 0, 0), "long code": (0, 1, 30_000, 0), "16 arms": (0, 1, 0, 15), "four": (0, 4, 0, 0)}
+COMPUTING = {"one": (1, 1, 0, 0), "four": (1, 4, 0, 0)}
+WORKERS = (1, 2, 4)
 
 
 def clock(program, shape, workers, quantum):
@@ -212,9 +230,9 @@ def whole(program, shape, workers, quantum):
     return (used.ru_utime + used.ru_stime) * 1e3
 
 
-def at_once(program, count):
-    """The time by the clock of so many bare loops at once, each in a process of its own: that of the slowest one."""
-    words = [str(word) for word in (program, *SHAPES["one arm"], 0, LONG, PICKS, ROUNDS)]
+def at_once(program, shape, count):
+    """The time by the clock of this number of bare loops at once, each in a process of its own: that of the slowest."""
+    words = [str(word) for word in (program, *shape, 0, LONG, PICKS, ROUNDS)]
     calls = [subprocess.Popen(words, stdout=subprocess.PIPE) for _ in range(count)]
     return max(least_of_rows(call.communicate()[0].decode().split(), 2)[0] for call in calls) / 1e6
 
@@ -248,12 +266,15 @@ def main():
                 f"bare loop of {LONG}", f"quantum {LONG}", "ratio", "nanoseconds a stretch"]
         print_table(head, [row for name, shape in SHAPES.items() for row in beside_bare(name, clock, programs, shape)])
         print_table(["whole calls"] + head[1:], beside_bare("one arm", whole, programs, SHAPES["one arm"]))
-        calls = [lambda p=p, w=w: clock(p, SHAPES["four"], w, LONG) for p in programs.values() for w in (1, 4)]
-        best = least_of(calls + [lambda: at_once(program, 1), lambda: at_once(program, 4)])
-        rows = [[f"four processes{label}", best[2 * i], best[2 * i + 1], best[2 * i] / best[2 * i + 1]]
-                for i, label in enumerate(programs)]
-        rows.append(["bare loops at once, one and four", best[-2], best[-1], 4 * best[-2] / best[-1]])
-        print_table(["by the clock", "1 worker, milliseconds", "4 workers", "times as fast"], rows)
+        rows = []
+        counting = {"one": SHAPES["one arm"], "four": SHAPES["four"]}
+        for name, of in (("count", counting), ("compute", COMPUTING)):
+            for label, p in programs.items():
+                alone, two, all_four = least_of([lambda w=w, p=p: clock(p, of["four"], w, LONG) for w in WORKERS])
+                rows.append([f"four that {name}{label}", alone, two, all_four, alone / two, alone / all_four])
+            alone, two, all_four = least_of([lambda n=n: at_once(program, of["one"], n) for n in WORKERS])
+            rows.append([f"bare loops that {name}", alone, two, all_four, 2 * alone / two, 4 * alone / all_four])
+        print_table(["by the clock, milliseconds", "one", "two", "four", "two by one", "four by one"], rows)
 
 
 if __name__ == "__main__":

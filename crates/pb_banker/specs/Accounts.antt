@@ -1,6 +1,7 @@
 -- What the tables of a banker say: the state that they hold.
 use Rattle.std.specs.Prelude.{◌≡◌, ℕ, ◌<◌, ◌≤◌, List, length, take, map, filter, slice_index, slice_index_or, slice_set, Bool, false, IsTrue}
 use Rattle.std.specs.List.{range_with_len}
+use Rattle.pb_base.specs.declared.limits.TheConstants.{MAX_PROCESSES}
 use Rattle.pb_base.specs.Banker.{BankerState, resources, remaining_claim, cash, row_of, IsWellFormed}
 use Rattle.pb_base.specs.declared.pair.Pair.{Pair}
 use Rattle.pb_base.specs.Bundle.{lend, give_back}
@@ -27,7 +28,7 @@ pub record IsSound (a : Accounts) : Type 0 where
   pub capital_width : a.resources ≤ length a.capital
   pub claims_length : a.processes ≤ length a.claims
   pub loans_length : a.processes ≤ length a.loans
-  pub few : a.processes ≤ 64
+  pub few : a.processes ≤ MAX_PROCESSES
   pub well_formed : IsWellFormed (state_of a)
   pub cash : (r : ℕ) → r < a.resources → slice_index a.cash r ≡ cash (state_of a) r
 

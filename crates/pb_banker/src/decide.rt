@@ -8,7 +8,7 @@ ghost use Rattle.pb_banker.specs.Asking.{Answers, state_after, KeepsOrder, Looke
 use crate::accounts::Accounts;
 use crate::answer::Answer;
 use pb_base::Bundle;
-use pb_base::claims::MAX_PROCESSES;
+use pb_base::limits::MAX_PROCESSES;
 
 /// Grants what a process asks for, or leaves the accounts as they are; `order` is one that finishes.
 pub fn decide(

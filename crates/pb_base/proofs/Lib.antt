@@ -1,7 +1,8 @@
 pub mod BankerLaws
 pub mod DeviceLemmas
 pub mod Groups
-pub mod Lending
+pub mod Lists
+pub mod LoanRows
 pub mod Rows
 pub mod Safety
 pub mod Tails

@@ -1,6 +1,6 @@
 -- The line that each event prints, without the line feed at its end. A number is in decimal, with a minus
 -- sign if it is below zero.
-use Rattle.std.specs.Prelude.{ℕ, ◌<◌, List, [], ◌++◌, length, map, All, codes, slice_index_or}
+use Rattle.std.specs.Prelude.{ℕ, zero, suc, ◌<◌, List, [], ◌∷◌, ◌++◌, length, map, All, codes, slice_index_or}
 use Rattle.std.specs.Fmt.{decimal, signed_decimal}
 use Rattle.std.specs.List.{flat_map}
 use Rattle.pb_base.specs.declared.names.Names.{Names}
@@ -10,6 +10,15 @@ use Rattle.pb_base.specs.declared.operators.FaultKind.{FaultKind}
 use Rattle.pb_base.specs.declared.operators.FaultKind.TheVariants.{Divide, Overflow}
 use Rattle.pb_base.specs.declared.pair.Pair.{Pair}
 use Rattle.pb_base.specs.declared.pick.Pick.{Pick}
+
+-- a line of text ends in a line feed
+abbrev pub line : List ℕ → List ℕ
+line text = text ++ 10 ∷ []
+
+-- what is said of each number below n, one after another
+abbrev pub each_below : (ℕ → List ℕ) → ℕ → List ℕ
+each_below said zero = []
+each_below said (suc n) = each_below said n ++ said n
 
 -- the names by number, each as its bytes
 pub record NameTable : Type 0 where

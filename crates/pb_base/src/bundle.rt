@@ -2,11 +2,9 @@
 
 ghost use Rattle.std.specs.Prelude.{◌≡◌, ◌≢◌, ◌+◌, ◌<◌, ◌≤◌, [], ◌∷◌, ◌++◌, length, All, slice_get, Some};
 
+use crate::limits::MAX_PAIRS;
 use crate::pair::Pair;
 use std::marker::Model;
-
-/// The most pairs of a request.
-pub const MAX_PAIRS: usize = 16;
 
 const NO_PAIR: Pair = Pair {
     resource: 0,

@@ -2,15 +2,10 @@
 
 ghost use Rattle.std.specs.Prelude.{◌≡◌, ◌<◌, ◌≤◌, length, All, IfOk, slice_index};
 
+use crate::limits::{MAX_AMOUNT, MAX_RESOURCES};
 use crate::memory::NoMemory;
 use std::alloc::Global;
 use std::marker::Model;
-
-/// The most resources.
-pub const MAX_RESOURCES: usize = 16;
-
-/// The greatest capital of a resource.
-pub const MAX_CAPITAL: u32 = 1_000_000;
 
 /// The capital of each resource, by its number.
 #[derive(Drop)]
@@ -23,16 +18,18 @@ impl Model for Capital {
 
     ghost Value = { List ℕ };
 
+    ghost use Rattle.pb_base.specs.declared.limits.TheConstants.{MAX_AMOUNT, MAX_RESOURCES};
+
     ghost view = { λ c. c.amounts.items };
 
-    ghost invariant = { λ c. (length c.amounts.items ≤ 16) × All (λ n. n ≤ 1000000) c.amounts.items };
+    ghost invariant = { λ c. (length c.amounts.items ≤ MAX_RESOURCES) × All (λ n. n ≤ MAX_AMOUNT) c.amounts.items };
 }
 
 impl Capital {
     /// Returns the capital with these amounts.
     pub fn new(alloc: Global, amounts: &[u32]) -> Result<Self, NoMemory>
         requires few { length amounts.now ≤ MAX_RESOURCES }
-        requires small { All (λ n. n ≤ MAX_CAPITAL) amounts.now }
+        requires small { All (λ n. n ≤ MAX_AMOUNT) amounts.now }
         ensures { IfOk result (λ c. c ≡ amounts.now) }
     {
         let amounts = amounts.to_vec(alloc)?;
@@ -43,7 +40,7 @@ impl Capital {
     pub fn resources(&self) -> usize
         ensures number { result ≡ length self.now }
         ensures few { result ≤ MAX_RESOURCES }
-        ensures small { All (λ n. n ≤ MAX_CAPITAL) self.now }
+        ensures small { All (λ n. n ≤ MAX_AMOUNT) self.now }
     {
         self.amounts.len()
     }

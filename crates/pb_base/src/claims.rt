@@ -4,12 +4,10 @@ ghost use Rattle.std.specs.Prelude.{◌≡◌, ◌<◌, ◌≤◌, length, map, 
 ghost use Rattle.pb_base.specs.Tables.{HasWidth, width_of};
 ghost use Rattle.pb_base.specs.Banker.{cell};
 
+use crate::limits::{MAX_PROCESSES, MAX_RESOURCES};
 use crate::memory::NoMemory;
 use std::alloc::Global;
 use std::marker::Model;
-
-/// The most processes.
-pub const MAX_PROCESSES: usize = 64;
 
 /// For each process a row with its claim on each resource.
 #[derive(Drop)]
@@ -23,12 +21,13 @@ impl Model for Claims {
     ghost Value = { List (List ℕ) };
 
     ghost use Rattle.pb_base.specs.Tables.{HasWidth, width_of};
+    ghost use Rattle.pb_base.specs.declared.limits.TheConstants.{MAX_PROCESSES, MAX_RESOURCES};
 
     ghost view = { λ c. map (λ row. row.items) c.rows.items };
 
     ghost invariant = { λ c. (0 < length c.rows.items)
-        × (length c.rows.items ≤ 64)
-        × (width_of (map (λ row. row.items) c.rows.items) ≤ 16)
+        × (length c.rows.items ≤ MAX_PROCESSES)
+        × (width_of (map (λ row. row.items) c.rows.items) ≤ MAX_RESOURCES)
         × HasWidth (width_of (map (λ row. row.items) c.rows.items)) (map (λ row. row.items) c.rows.items) };
 }
 
@@ -37,7 +36,7 @@ impl Claims {
     pub fn new(alloc: Global, rows: &[&[u64]]) -> Result<Self, NoMemory>
         requires some { 0 < length rows.now }
         requires few_processes { length rows.now ≤ MAX_PROCESSES }
-        requires few_resources { width_of (map (λ row. row.now) rows.now) ≤ 16 }
+        requires few_resources { width_of (map (λ row. row.now) rows.now) ≤ MAX_RESOURCES }
         requires one_length { HasWidth (width_of (map (λ row. row.now) rows.now))
             (map (λ row. row.now) rows.now) }
         ensures { IfOk result (λ c. c ≡ map (λ row. row.now) rows.now) }

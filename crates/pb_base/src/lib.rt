@@ -9,6 +9,7 @@ pub mod claims;
 pub mod device;
 pub mod event;
 pub mod laws;
+pub mod limits;
 pub mod lines;
 pub mod memory;
 pub mod names;

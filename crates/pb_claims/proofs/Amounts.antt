@@ -9,7 +9,7 @@ use Rattle.std.proofs.lemmas.List.Sums.{sum_by_more}
 use Rattle.std.proofs.lemmas.List.Elements.{All-head, All-tail}
 use Rattle.pb_base.specs.declared.pair.Pair.{Pair}
 use Rattle.pb_base.specs.Bundle.{IsDistinct, amount_in}
-use Rattle.pb_base.proofs.Lending.{amount_of_pair, amount_in-cons, IsDistinct-tail}
+use Rattle.pb_base.proofs.LoanRows.{amount_of_pair, amount_in-cons, IsDistinct-tail}
 use Rattle.pb_tree.specs.Syntax.{DemandSyntax}
 use Rattle.pb_names.specs.Program.{Name}
 use Rattle.pb_names.specs.Resolves.{ResolvesDemand, ResolvesDemands}

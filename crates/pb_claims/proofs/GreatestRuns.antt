@@ -1,11 +1,11 @@
--- Some free run holds as much as the one pass finds: each list has a free run to its end, so the run can go on to
--- where the most is held.
+-- Some free run holds as much as the one pass finds: each list has a free run to its end, so the run can go
+-- on to where the most is held.
 use Rattle.std.proofs.Common.{◌≡◌, ◌⊎◌, inl, inr, ℕ, ◌+◌, ◌<◌, ◌≤◌, max, true, List, [], ◌∷◌, ◌++◌, refl, subst}
 use Rattle.std.proofs.Common.{arith, append-nil}
 use Rattle.std.proofs.lemmas.Bool.{cases_lt}
-use Rattle.pb_names.specs.Program.{Expr, Stmt, Set, Write, If, While, HoldDo, Parbegin, Block, Skip, Then}
+use Rattle.pb_names.specs.Program.{Expr, Stmt, Assign, Print, If, While, Hold, Parbegin, Block, Skip, Then}
 use Rattle.pb_names.specs.Program.{Arms, NoArm, AndArm}
-use Rattle.pb_names.specs.Source.{Item, Choice, Loop, GiveBack, item_of, items_of}
+use Rattle.pb_names.specs.Source.{Item, GiveBack, item_of, items_of}
 use Rattle.pb_names.specs.Source.{Arm, Doing, Waiting, Ended, Running, Nothing, Beside, begin, all_ended}
 use Rattle.pb_names.specs.Claims.{to_end, past_assign, past_print, to_then, to_else, past_loop}
 use Rattle.pb_names.specs.Claims.{into_loop, into_hold, past_give, into_arms, FreeStep, in_list, join, in_arms}
@@ -63,11 +63,11 @@ alone block arm f = subst (λ items. FreeRun (Doing items) arm) (append-nil (ite
 
 mutual
   finish_stmt : (s : Stmt) (rest : List Item) → FreeRun (Doing (item_of s ∷ rest)) (Doing rest)
-  finish_stmt (Set line x e) rest = and_then _ _ at_start (in_list _ _ (past_assign line x e rest))
-  finish_stmt (Write line e) rest = and_then _ _ at_start (in_list _ _ (past_print line e rest))
+  finish_stmt (Assign line x e) rest = and_then _ _ at_start (in_list _ _ (past_assign line x e rest))
+  finish_stmt (Print line e) rest = and_then _ _ at_start (in_list _ _ (past_print line e rest))
   finish_stmt (If line e a b) rest = step_then _ _ _ (in_list _ _ (to_then line e a b rest)) (finish a rest)
   finish_stmt (While line e body) rest = and_then _ _ at_start (in_list _ _ (past_loop line e e body rest))
-  finish_stmt (HoldDo line bundle body) rest =
+  finish_stmt (Hold line bundle body) rest =
       step_then _ _ _ (in_list _ _ (into_hold line bundle body rest))
       (and_then _ _ (finish body (GiveBack line bundle ∷ rest)) (in_list _ _ (past_give line bundle rest)))
   finish_stmt (Parbegin line first arms) rest =
@@ -107,11 +107,11 @@ step_reaches r items next a b step same g = record {
 pick_side : (r line : ℕ) (e : Expr) (a b : Block) (rest : List Item)
     → Reaches r (items_of a ++ rest) (peak r a + held_in_list r rest)
     → Reaches r (items_of b ++ rest) (peak r b + held_in_list r rest)
-    → Reaches r (Choice line e a b ∷ rest) (max (peak r a) (peak r b) + held_in_list r rest)
+    → Reaches r (Item.If line e a b ∷ rest) (max (peak r a) (peak r b) + held_in_list r rest)
 pick_side r line e a b rest f g = go (cases_lt (peak r a) (peak r b))
   where
     go : (peak r a < peak r b) ⊎ (peak r b ≤ peak r a)
-        → Reaches r (Choice line e a b ∷ rest) (max (peak r a) (peak r b) + held_in_list r rest)
+        → Reaches r (Item.If line e a b ∷ rest) (max (peak r a) (peak r b) + held_in_list r rest)
     go (inl u) = step_reaches r _ _ _ _ (in_list _ _ (to_else line e a b rest)) (omega arith) g
     go (inr u) = step_reaches r _ _ _ _ (in_list _ _ (to_then line e a b rest)) (omega arith) f
 
@@ -136,13 +136,13 @@ now_or_later r s block rest f g = go (cases_lt (stmt_peak r s) (peak r block))
 
 mutual
   reach_stmt : (r : ℕ) (s : Stmt) (rest : List Item) → Reaches r (item_of s ∷ rest) (stmt_peak r s + held_in_list r rest)
-  reach_stmt r (Set line x e) rest = record { arm = _; run = at_start; holds = omega arith }
-  reach_stmt r (Write line e) rest = record { arm = _; run = at_start; holds = omega arith }
+  reach_stmt r (Assign line x e) rest = record { arm = _; run = at_start; holds = omega arith }
+  reach_stmt r (Print line e) rest = record { arm = _; run = at_start; holds = omega arith }
   reach_stmt r (If line e a b) rest = pick_side r line e a b rest (reach r a rest) (reach r b rest)
   reach_stmt r (While line e body) rest =
       step_reaches r _ _ _ _ (in_list _ _ (into_loop line e e body rest)) (omega arith)
-      (reach r body (Loop line e e body ∷ rest))
-  reach_stmt r (HoldDo line bundle body) rest =
+      (reach r body (Item.While line e e body ∷ rest))
+  reach_stmt r (Hold line bundle body) rest =
       step_reaches r _ _ _ _ (in_list _ _ (into_hold line bundle body rest)) (omega arith)
       (reach r body (GiveBack line bundle ∷ rest))
   reach_stmt r (Parbegin line first arms) rest =

@@ -1,10 +1,10 @@
--- No free run holds more than the one pass finds. What is yet to be held at most is given for every part of a run,
--- and no free step lets it rise.
+-- No free run holds more than the one pass finds. What is yet to be held at most is given for every part of a
+-- run, and no free step lets it rise.
 use Rattle.std.proofs.Common.{◌≡◌, ℕ, ◌+◌, ◌≤◌, max, List, [], ◌∷◌, ◌++◌, refl, ap, arith, append-nil}
 use Rattle.pb_base.specs.Bundle.{amount_in}
-use Rattle.pb_names.specs.Program.{Stmt, Set, Write, If, While, HoldDo, Parbegin, Block, Skip, Then}
+use Rattle.pb_names.specs.Program.{Stmt, Assign, Print, If, While, Hold, Parbegin, Block, Skip, Then}
 use Rattle.pb_names.specs.Program.{Arms, NoArm, AndArm}
-use Rattle.pb_names.specs.Source.{Item, Assign, Print, Choice, Loop, Hold, GiveBack, Parallel, item_of, items_of}
+use Rattle.pb_names.specs.Source.{Item, GiveBack, item_of, items_of}
 use Rattle.pb_names.specs.Source.{Arm, Doing, Waiting, Ended, Running, Nothing, Beside, begin}
 use Rattle.pb_names.specs.Claims.{FreeListStep, to_end, past_assign, past_print, to_then, to_else, past_loop}
 use Rattle.pb_names.specs.Claims.{into_loop, into_hold, past_give, into_arms, FreeStep, in_list, join, in_arms}
@@ -14,11 +14,11 @@ use Rattle.pb_names.specs.Claims.{held_in_list, held, held_among, stmt_peak, pea
 -- ---- a list that has not begun has nothing to give back
 
 stmt_held : (r : ℕ) (s : Stmt) → held_in r (item_of s) ≡ 0
-stmt_held r (Set line x e) = refl
-stmt_held r (Write line e) = refl
+stmt_held r (Assign line x e) = refl
+stmt_held r (Print line e) = refl
 stmt_held r (If line e a b) = refl
 stmt_held r (While line e body) = refl
-stmt_held r (HoldDo line bundle body) = refl
+stmt_held r (Hold line bundle body) = refl
 stmt_held r (Parbegin line first arms) = refl
 
 pub block_held : (r : ℕ) (block : Block) (rest : List Item) → held_in_list r (items_of block ++ rest) ≡ held_in_list r rest
@@ -28,13 +28,13 @@ block_held r (Then s block) rest = omega (arith, block_held r block rest, stmt_h
 -- ---- the most that is yet to be held
 
 abbrev pub item_peak : ℕ → Item → ℕ
-item_peak r (Assign line x e) = 0
-item_peak r (Print line e) = 0
-item_peak r (Choice line e a b) = max (peak r a) (peak r b)
-item_peak r (Loop line test e body) = peak r body
-item_peak r (Hold line bundle body) = amount_in bundle r + peak r body
+item_peak r (Item.Assign line x e) = 0
+item_peak r (Item.Print line e) = 0
+item_peak r (Item.If line e a b) = max (peak r a) (peak r b)
+item_peak r (Item.While line test e body) = peak r body
+item_peak r (Item.Hold line bundle body) = amount_in bundle r + peak r body
 item_peak r (GiveBack line bundle) = amount_in bundle r
-item_peak r (Parallel line first arms) = arms_peak r arms
+item_peak r (Item.Parbegin line first arms) = arms_peak r arms
 
 abbrev pub list_peak : ℕ → List Item → ℕ
 list_peak r [] = 0
@@ -52,13 +52,13 @@ abbrev mutual
 
 -- what is held now is part of it
 item_held_le : (r : ℕ) (item : Item) → held_in r item ≤ item_peak r item
-item_held_le r (Assign line x e) = omega arith
-item_held_le r (Print line e) = omega arith
-item_held_le r (Choice line e a b) = omega arith
-item_held_le r (Loop line test e body) = omega arith
-item_held_le r (Hold line bundle body) = omega arith
+item_held_le r (Item.Assign line x e) = omega arith
+item_held_le r (Item.Print line e) = omega arith
+item_held_le r (Item.If line e a b) = omega arith
+item_held_le r (Item.While line test e body) = omega arith
+item_held_le r (Item.Hold line bundle body) = omega arith
 item_held_le r (GiveBack line bundle) = omega arith
-item_held_le r (Parallel line first arms) = omega arith
+item_held_le r (Item.Parbegin line first arms) = omega arith
 
 list_held_le : (r : ℕ) (items : List Item) → held_in_list r items ≤ list_peak r items
 list_held_le r [] = omega arith
@@ -76,11 +76,11 @@ mutual
 
 -- of a list that has not begun it is what the one pass finds
 stmt_item_peak : (r : ℕ) (s : Stmt) → item_peak r (item_of s) ≡ stmt_peak r s
-stmt_item_peak r (Set line x e) = refl
-stmt_item_peak r (Write line e) = refl
+stmt_item_peak r (Assign line x e) = refl
+stmt_item_peak r (Print line e) = refl
 stmt_item_peak r (If line e a b) = refl
 stmt_item_peak r (While line e body) = refl
-stmt_item_peak r (HoldDo line bundle body) = refl
+stmt_item_peak r (Hold line bundle body) = refl
 stmt_item_peak r (Parbegin line first arms) = refl
 
 pub block_list_peak : (r : ℕ) (block : Block) (rest : List Item)
@@ -109,7 +109,7 @@ list_step_falls r items next (to_then line e a b rest) = omega (arith, block_lis
 list_step_falls r items next (to_else line e a b rest) = omega (arith, block_list_peak r b rest)
 list_step_falls r items next (past_loop line test e body rest) = omega arith
 list_step_falls r items next (into_loop line test e body rest) =
-    omega (arith, block_list_peak r body (Loop line test test body ∷ rest))
+    omega (arith, block_list_peak r body (Item.While line test test body ∷ rest))
 list_step_falls r items next (into_hold line bundle body rest) =
     omega (arith, block_list_peak r body (GiveBack line bundle ∷ rest))
 list_step_falls r items next (past_give line bundle rest) = omega arith

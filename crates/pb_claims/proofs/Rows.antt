@@ -15,7 +15,8 @@ use Rattle.pb_names.specs.Program.{Block, Process, Program}
 use Rattle.pb_names.specs.View.{block_view, process_view, resource_view, resolved_view}
 use Rattle.pb_names.specs.declared.resolved.Process.{Process as Stored}
 use Rattle.pb_names.specs.declared.resolved.Resolved.{Resolved}
-use Rattle.pb_claims.specs.Inferred.{capped, capped_peaks, AreCappedClaims, HaveSmallClaims}
+use Rattle.pb_tree.specs.Measure.{saturated}
+use Rattle.pb_claims.specs.Inferred.{capped_peaks, AreCappedClaims, HaveSmallClaims}
 use Rattle.pb_claims.proofs.OnePass.{is_claim}
 
 -- what the one pass finds for each process
@@ -32,7 +33,7 @@ rows_of-view n (process ∷ processes) =
 row_width : (n : ℕ) (processes : List Process) (p : ℕ) (d : List ℕ) → p < length processes
     → length (get_or (rows_of n processes) p d) ≡ n
 row_width n [] p d h = absurd (omega arith)
-row_width n (process ∷ processes) zero d h = length-map-range_with_len (λ r. capped (peak r process.body)) 0 n
+row_width n (process ∷ processes) zero d h = length-map-range_with_len (λ r. saturated (peak r process.body)) 0 n
 row_width n (process ∷ processes) (suc p) d h = row_width n processes p d (omega arith)
 
 row_at : (n : ℕ) (processes : List Process) (p : ℕ) (process : Process) → slice_get processes p ≡ Some process
@@ -43,10 +44,10 @@ row_at n processes p process at =
     ∙ ap row (get_or_from_slice_get processes p process process at)
 
 cell_at : (n : ℕ) (processes : List Process) (p r : ℕ) (process : Process) → slice_get processes p ≡ Some process
-    → r < n → cell (rows_of n processes) p r ≡ capped (peak r process.body)
+    → r < n → cell (rows_of n processes) p r ≡ saturated (peak r process.body)
 cell_at n processes p r process at within =
     ap (λ row. get_or row r 0) (row_at n processes p process at)
-    ∙ get_or-map-range_with_len (λ k. capped (peak k process.body)) 0 n r r 0 within (omega arith)
+    ∙ get_or-map-range_with_len (λ k. saturated (peak k process.body)) 0 n r r 0 within (omega arith)
 
 -- so the rows have one length
 pub width_of-rows : (n : ℕ) (processes : List Process) (table : Table) → table ≡ rows_of n processes
@@ -93,9 +94,9 @@ exact_claims program table small h = record {
 -- ---- one more amount of a row
 
 pub row_more : (block : Block) (r amount : ℕ) (before after : List ℕ) → before ≡ capped_peaks r block
-    → amount ≡ capped (peak r block) → after ≡ before ++ amount ∷ [] → after ≡ capped_peaks (r + 1) block
+    → amount ≡ saturated (peak r block) → after ≡ before ++ amount ∷ [] → after ≡ capped_peaks (r + 1) block
 row_more block r amount before after so_far next pushed =
-    let more = map-range_with_len_more (λ k. capped (peak k block)) 0 r r (omega arith) in
+    let more = map-range_with_len_more (λ k. saturated (peak k block)) 0 r r (omega arith) in
     pushed ∙ ap (λ row. row ++ amount ∷ []) so_far ∙ ap (λ x. capped_peaks r block ++ x ∷ []) next ∙ sym more
 
 -- ---- what is answered for a program in memory

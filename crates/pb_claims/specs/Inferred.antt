@@ -5,15 +5,12 @@ use Rattle.std.specs.List.{range_with_len}
 use Rattle.pb_base.specs.Banker.{cell, row_of}
 use Rattle.pb_base.specs.Steppers.{Table}
 use Rattle.pb_names.specs.Claims.{IsClaim, peak}
+use Rattle.pb_tree.specs.Measure.{saturated}
 use Rattle.pb_names.specs.Program.{Block, Process, Program}
-
--- a number that stays at the greatest u64
-abbrev pub capped : ℕ → ℕ
-capped n = min n (2 ^ 64 - 1)
 
 -- the claim of a process on a resource, or the greatest u64 if the claim is larger
 abbrev pub IsCappedClaim : Process → ℕ → ℕ → Type 0
-IsCappedClaim process r amount = (claim : ℕ) × IsClaim process r claim × (amount ≡ capped claim)
+IsCappedClaim process r amount = (claim : ℕ) × IsClaim process r claim × (amount ≡ saturated claim)
 
 -- a row for each process, in it an amount for each resource, and each amount is a capped claim
 pub record AreCappedClaims (program : Program) (claims : Table) : Type 0 where
@@ -29,4 +26,4 @@ pub record HaveSmallClaims (program : Program) : Type 0 where
 
 -- what the one pass finds for each of the first n resources
 abbrev pub capped_peaks : ℕ → Block → List ℕ
-capped_peaks n block = map (λ r. capped (peak r block)) (range_with_len 0 n)
+capped_peaks n block = map (λ r. saturated (peak r block)) (range_with_len 0 n)

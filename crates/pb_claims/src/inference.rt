@@ -7,8 +7,7 @@ ghost use Rattle.pb_names.specs.Meaning.{AreClaims};
 ghost use Rattle.pb_names.specs.View.{block_view, resolved_view};
 
 use crate::peaks::peak_of_list;
-use pb_base::capital::MAX_RESOURCES;
-use pb_base::claims::MAX_PROCESSES;
+use pb_base::limits::{MAX_PROCESSES, MAX_RESOURCES};
 use pb_base::{Claims, NoMemory};
 use pb_names::{Process, Resolved, Stmt};
 use std::alloc::{Allocator, Global};

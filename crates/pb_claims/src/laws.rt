@@ -8,6 +8,8 @@ ghost use Rattle.pb_names.specs.Resolves.{Resolves};
 ghost use Rattle.pb_tree.specs.Measure.{program_nodes};
 ghost use Rattle.pb_tree.specs.Syntax.{ProgramSyntax};
 
+use pb_base::limits::MAX_NODES;
+
 /// The one pass over a process finds the greatest amount that a free run holds.
 pub fn one_pass_finds_the_claim()
     ensures { (process : Process) (r : ℕ) → IsClaim process r (peak r process.body) }
@@ -16,5 +18,5 @@ pub fn one_pass_finds_the_claim()
 /// A program that was resolved from a tree of at most 16,384 nodes has no claim beyond 64 bits.
 pub fn resolved_programs_have_small_claims()
     ensures { (written : ProgramSyntax) (program : Program)
-        → Resolves written program → program_nodes written ≤ 16384 → HaveSmallClaims program }
+        → Resolves written program → program_nodes written ≤ MAX_NODES → HaveSmallClaims program }
 {}

@@ -5,7 +5,7 @@ ghost use Rattle.pb_base.specs.Banker.{cell};
 ghost use Rattle.pb_base.specs.Tables.{width_of};
 ghost use Rattle.pb_claims.specs.Fits.{FitCapital, IsFirstOver, IsFirstInRow, RowFits};
 
-use pb_base::capital::MAX_RESOURCES;
+use pb_base::limits::MAX_RESOURCES;
 use pb_base::{Capital, Claims};
 
 /// A process whose claim on a resource is over the capital: even alone it could not always be served.

@@ -2,7 +2,7 @@
 
 ghost use Rattle.std.specs.Prelude.{◌≡◌};
 ghost use Rattle.pb_base.specs.Bundle.{amount_in};
-ghost use Rattle.pb_claims.specs.Inferred.{capped};
+ghost use Rattle.pb_tree.specs.Measure.{saturated};
 ghost use Rattle.pb_names.specs.Claims.{arms_peak, peak, stmt_peak};
 ghost use Rattle.pb_names.specs.View.{arms_view, block_view, stmt_view};
 
@@ -29,7 +29,7 @@ fn amount_of(bundle: &Bundle, resource: u8) -> u64
 #[cycle(peaks)]
 #[tactic(auto, using(pb_names::proofs::Views::stmt_views))]
 fn peak_of_stmt<A: Allocator>(stmt: &Stmt<A>, resource: u8) -> u64
-    ensures { result ≡ capped (stmt_peak resource (stmt_view stmt.now)) }
+    ensures { result ≡ saturated (stmt_peak resource (stmt_view stmt.now)) }
 {
     match stmt {
         Stmt::Assign { .. } | Stmt::Print { .. } => 0,
@@ -51,7 +51,7 @@ fn peak_of_stmt<A: Allocator>(stmt: &Stmt<A>, resource: u8) -> u64
 #[cycle(peaks)]
 #[tactic(auto, using(pb_names::proofs::Views::stmt_views))]
 pub(crate) fn peak_of_list<A: Allocator>(stmts: &Vec<Stmt<A>, A>, resource: u8) -> u64
-    ensures { result ≡ capped (peak resource (block_view stmts.now.items)) }
+    ensures { result ≡ saturated (peak resource (block_view stmts.now.items)) }
 {
     let mut greatest = 0u64;
     for stmt in stmts {
@@ -65,7 +65,7 @@ pub(crate) fn peak_of_list<A: Allocator>(stmts: &Vec<Stmt<A>, A>, resource: u8) 
 #[cycle(peaks)]
 #[tactic(auto, using(pb_names::proofs::Views::stmt_views))]
 fn peak_of_arms<A: Allocator>(arms: &Vec<Vec<Stmt<A>, A>, A>, resource: u8) -> u64
-    ensures { result ≡ capped (arms_peak resource (arms_view arms.now.items)) }
+    ensures { result ≡ saturated (arms_peak resource (arms_view arms.now.items)) }
 {
     let mut total = 0u64;
     for arm in arms {

@@ -9,14 +9,14 @@ use Rattle.pb_words.specs.declared.words.Options.TheVariants.{Debug}
 use Rattle.pb_options.specs.declared.options.DebugOptions.{DebugOptions}
 use Rattle.pb_engines.specs.Answers.{Says}
 use Rattle.pb_engines.specs.Faults.{Devices}
-use Rattle.pb_cli.specs.Calls.{CallTellsFaults, CallWrites, TellsDebugFaults, fault_status, fault_text}
+use Rattle.pb_cli.specs.Calls.{CallTellsFaults, CallWrites, TellsDebugFaults, fault_status, words_fault_text}
 use Rattle.pb_words.specs.Read.{BlamesWords, WordsSay}
 
 -- what is written where the words were not read
 pub CallWrites-refused : (words : List (Bor (List ℕ))) (rest old new : Option (List ℕ)) (status : Status) (e : WordsFault)
-    → (BlamesWords e → (o : Options) → WordsSay words o → ⊥) → Says old new (fault_text e) (fault_status e) status
+    → (BlamesWords e → (o : Options) → WordsSay words o → ⊥) → Says old new (words_fault_text e) (fault_status e) status
     → CallWrites words rest old new status
-CallWrites-refused words rest old new status (fault.Words text) none says = inr (inl (none tt, (fault_text (fault.Words text), says)))
+CallWrites-refused words rest old new status (fault.Words text) none says = inr (inl (none tt, (words_fault_text (fault.Words text), says)))
 CallWrites-refused words rest old new status fault.Memory none says = inr (inr says)
 
 -- what `debug` tells of its devices is what a call with its words may tell

@@ -22,7 +22,7 @@ use Rattle.pb_engines.specs.Inputs.{SaysOfInput}
 use Rattle.pb_engines.specs.Migrations.{SaysOfMigration}
 use Rattle.pb_engines.specs.Records.{SaysOfRecord}
 use Rattle.pb_engines.specs.ReplayLines.{SaysOfReplay}
-use Rattle.pb_engines.specs.Runs.{SaysOf}
+use Rattle.pb_engines.specs.Runs.{SaysOfTextRun}
 use Rattle.pb_explain.specs.Pages.{SaysOfExplain}
 use Rattle.pb_outcome_engine.specs.SaysOutcomes.{SaysOfOutcomes}
 use Rattle.pb_words.specs.Read.{WordsSay}
@@ -45,12 +45,12 @@ CommandSays option.Migrate = SaysOfInput SaysOfMigration
 CommandSays (option.Outcomes numbers) = SaysOfInput (SaysOfOutcomes numbers.lend numbers.states)
 CommandSays (option.Record numbers) = SaysOfInput (SaysOfRecord numbers.run.steps numbers.seed)
 CommandSays option.Replay = SaysOfInput SaysOfReplay
-CommandSays (option.Run numbers) = SaysOfInput (SaysOf numbers.steps)
+CommandSays (option.Run numbers) = SaysOfInput (SaysOfTextRun numbers.steps)
 
 -- the text and the status if words were not read
-abbrev pub fault_text : WordsFault → List ℕ
-fault_text (fault.Words text) = text.bytes.items
-fault_text fault.Memory = memory_line
+abbrev pub words_fault_text : WordsFault → List ℕ
+words_fault_text (fault.Words text) = text.bytes.items
+words_fault_text fault.Memory = memory_line
 
 abbrev pub fault_status : WordsFault → Status
 fault_status (fault.Words text) = Words

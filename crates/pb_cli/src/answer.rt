@@ -1,7 +1,7 @@
 //! The whole program, over any words, input and output.
 ghost use Rattle.std.specs.Prelude.{◌≡◌, IfSome};
 ghost use Rattle.pb_engines.specs.Answers.{Says, Tells};
-ghost use Rattle.pb_cli.specs.Calls.{fault_status, fault_text, CallTellsFaults, CallWrites, SaysOfCommands, TellsDebugFaults};
+ghost use Rattle.pb_cli.specs.Calls.{fault_status, words_fault_text, CallTellsFaults, CallWrites, SaysOfCommands, TellsDebugFaults};
 ghost use Rattle.pb_engines.specs.Faults.{TellsWriteFaults};
 
 use pb_base::device::{Input, Output};
@@ -73,7 +73,7 @@ fn debug<I: Input, O: Output>(
 
 // Writes the text of a fault, and returns its status.
 fn refuse<O: Output>(alloc: Global, output: &mut O, fault: &WordsFault) -> Status
-    ensures text { Says (O.written output.old) (O.written output.new) (fault_text fault.now) (fault_status fault.now) result }
+    ensures text { Says (O.written output.old) (O.written output.new) (words_fault_text fault.now) (fault_status fault.now) result }
     ensures faults { TellsWriteFaults (O.failures output.old) (O.failures output.new) result }
 {
     let mut page = Page::new(alloc);

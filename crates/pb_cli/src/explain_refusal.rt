@@ -7,8 +7,8 @@ use pb_object::Format;
 use pb_words::{Options, options};
 use std::alloc::Global;
 
-/// Writes what is wrong with the bytes that the command of these words refused, and where, if there is anything to be said
-/// of them and memory for it. The exit status does not depend on it.
+/// Writes what is wrong with the bytes that the command of these words refused, and where, if there is
+/// anything to be said of them and memory for it. The exit status does not depend on it.
 pub fn explain_refusal<O: Output>(alloc: Global, words: &[&str], bytes: &[u8], error: &mut O) {
     let Ok(options) = options(alloc, words) else {
         return;

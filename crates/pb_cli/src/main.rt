@@ -42,8 +42,8 @@ fn start<R: env::Env + AllocGlobal + Threads + Wait + Sync>(
     }
 }
 
-// Does what the words say, and explains a refusal on standard error, unless the first word is `--quiet`. (It is then in
-// the place of the program's name, which is not looked at.)
+// Does what the words say, and explains a refusal on standard error, unless the first word is `--quiet`. (It
+// is then in the place of the program's name, which is not looked at.)
 fn answer_and_explain<R: AllocGlobal + Threads + Wait + Sync>(
     rt: &R,
     alloc: Global,

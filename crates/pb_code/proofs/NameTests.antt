@@ -58,7 +58,7 @@ index_all p (b ∷ bs) h =
     let here : p b ≡ true = h 0 (omega arith) in
     rw (here, index_all p bs (λ k lt. h (suc k) (omega (arith, lt)))) refl
 
-not_true : (b : Bool) → not b ≡ true → b ≡ false
+pub not_true : (b : Bool) → not b ≡ true → b ≡ false
 not_true true h = absurd cc
 not_true false h = refl
 

@@ -2,6 +2,7 @@ pub mod Bundles
 pub mod Code
 pub mod Limits
 pub mod Names
+pub mod Numerals
 pub mod Reached
 pub mod Same
 pub mod View

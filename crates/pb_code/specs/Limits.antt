@@ -1,6 +1,7 @@
 -- Code whose counts, numbers and names are within their limits, and labels that fit it.
-use Rattle.std.specs.Prelude.{◌≡◌, ◌≢◌, ◌≤◌, ◌<◌, ◌^◌, ℕ, true, List, length, slice_get, slice_index, Option, Some, None, All, EachIndex, AllPairs, Contains, ℤ, pos, negsuc, ⊤}
+use Rattle.std.specs.Prelude.{◌-◌, ◌≡◌, ◌≢◌, ◌≤◌, ◌<◌, ◌^◌, ℕ, true, List, length, slice_get, slice_index, Option, Some, None, All, EachIndex, AllPairs, Contains, ℤ, pos, negsuc, ⊤}
 use Rattle.std.specs.Char.{is_ascii_alphabetic}
+use Rattle.pb_base.specs.declared.limits.TheConstants.{MAX_AMOUNT, MAX_ARMS, MAX_FORK, MAX_INTEGERS, MAX_LINE, MAX_NAME, MAX_PAIRS, MAX_PLACES, MAX_PROCESSES, MAX_RESOURCES}
 use Rattle.pb_base.specs.Bundle.{IsDistinct}
 use Rattle.pb_base.specs.Steppers.{Bundle}
 use Rattle.pb_base.specs.Tables.{HasWidth}
@@ -21,7 +22,7 @@ EachProcess code Holds =
 
 -- 1 to 32 letters, digits and `_`, a letter first, and no reserved word
 pub record IsName (name : List ℕ) : Type 0 where
-  pub size : IsUpTo 32 (length name)
+  pub size : IsUpTo MAX_NAME (length name)
   pub begins : is_ascii_alphabetic (slice_index name 0) ≡ true
   pub bytes : EachIndex name (λ k. is_name_byte (slice_index name k) ≡ true)
   pub free : ¬ Contains reserved_words name
@@ -36,41 +37,41 @@ pub record AreNames (count : ℕ) (names : List (List ℕ)) : Type 0 where
 
 -- amounts from 1 to 1,000,000 of 1 to 16 resources, none twice
 pub record IsSmallBundle (bundle : Bundle) : Type 0 where
-  pub size : IsUpTo 16 (length bundle)
-  pub amounts : All (λ pair. (pair.resource < 16) × IsUpTo 1000000 pair.amount) bundle
+  pub size : IsUpTo MAX_PAIRS (length bundle)
+  pub amounts : All (λ pair. (pair.resource < MAX_RESOURCES) × IsUpTo MAX_AMOUNT pair.amount) bundle
   pub distinct : IsDistinct bundle
 
 -- the numbers of an instruction; what may be pushed is said below
 abbrev pub HasSmallNumbers : Instr → Type 0
-HasSmallNumbers (Load x) = x < 64
-HasSmallNumbers (Store x) = x < 64
-HasSmallNumbers (Jump target) = target < 40000
-HasSmallNumbers (JumpIfZero target) = target < 40000
+HasSmallNumbers (Load x) = x < MAX_INTEGERS
+HasSmallNumbers (Store x) = x < MAX_INTEGERS
+HasSmallNumbers (Jump target) = target < MAX_PLACES
+HasSmallNumbers (JumpIfZero target) = target < MAX_PLACES
 HasSmallNumbers (Take bundle) = IsSmallBundle bundle
 HasSmallNumbers (Give bundle) = IsSmallBundle bundle
-HasSmallNumbers (Fork first count) = IsUpTo 63 first × IsUpTo 16 count
-HasSmallNumbers (Join first count) = IsUpTo 63 first × IsUpTo 16 count
+HasSmallNumbers (Fork first count) = IsUpTo (MAX_ARMS - 1) first × IsUpTo MAX_FORK count
+HasSmallNumbers (Join first count) = IsUpTo (MAX_ARMS - 1) first × IsUpTo MAX_FORK count
 HasSmallNumbers i = ⊤
 
 pub record IsSmallProcess (code : ProcessCode) : Type 0 where
-  pub integers : code.integers ≤ 64
-  pub some_arms : IsUpTo 64 (length code.entries)
-  pub entries : All (λ place. place < 40000) code.entries
-  pub some_places : IsUpTo 40000 (length code.instrs)
+  pub integers : code.integers ≤ MAX_INTEGERS
+  pub some_arms : IsUpTo MAX_ARMS (length code.entries)
+  pub entries : All (λ place. place < MAX_PLACES) code.entries
+  pub some_places : IsUpTo MAX_PLACES (length code.instrs)
   pub numbers : (place : ℕ) (i : Instr) → slice_get code.instrs place ≡ Some i → HasSmallNumbers i
 
 -- ---- the whole code
 
 pub record KeepsLimits (code : Code) : Type 0 where
-  pub some_processes : IsUpTo 64 (length code.processes)
-  pub few_resources : length code.capital ≤ 16
-  pub capital : All (λ amount. amount ≤ 1000000) code.capital
+  pub some_processes : IsUpTo MAX_PROCESSES (length code.processes)
+  pub few_resources : length code.capital ≤ MAX_RESOURCES
+  pub capital : All (λ amount. amount ≤ MAX_AMOUNT) code.capital
   pub process_names : AreNames (length code.processes) code.names.processes
   pub resource_names : AreNames (length code.capital) code.names.resources
   pub rows : length code.claims ≡ length code.processes
   pub width : HasWidth (length code.capital) code.claims
   pub claims : (p r : ℕ) → p < length code.processes → r < length code.capital
-      → cell code.claims p r ≤ 1000000
+      → cell code.claims p r ≤ MAX_AMOUNT
   pub each : EachProcess code IsSmallProcess
 
 -- 64 bits with a sign
@@ -91,7 +92,7 @@ PushesFit code = EachProcess code HasSmallPushes
 -- a source line, from 1, or none
 abbrev pub IsLine : Option ℕ → Type 0
 IsLine None = ⊤
-IsLine (Some n) = (1 ≤ n) × (n ≤ 65536)
+IsLine (Some n) = (1 ≤ n) × (n ≤ MAX_LINE)
 
 -- a source line or none for each place, and a name for each integer
 pub record FitLabels (process : ProcessCode) (labels : ProcessLabels) : Type 0 where

@@ -3,6 +3,7 @@ use Rattle.std.specs.Prelude.{ℕ, Bool, false, not, ◌&&◌, ◌||◌, nat_lt,
 use Rattle.std.specs.Str.{bytes_eq}
 use Rattle.std.specs.Char.{is_ascii_alphabetic, is_ascii_digit}
 use Rattle.std.specs.List.{list_any, list_all}
+use Rattle.pb_base.specs.declared.limits.TheConstants.{MAX_NAME}
 
 abbrev pub Word : Type 0
 Word = List ℕ
@@ -29,4 +30,4 @@ unfoldable pub is_name : Word → Bool
 is_name [] = false
 is_name (b ∷ bs) =
     is_ascii_alphabetic b
-    && (list_all is_name_byte bs && (nat_lt (length bs) 32 && not (is_among reserved_words (b ∷ bs))))
+    && (list_all is_name_byte bs && (nat_lt (length bs) MAX_NAME && not (is_among reserved_words (b ∷ bs))))

@@ -6,11 +6,12 @@ ghost use Rattle.pb_code.specs.Bundles.{bundle_of};
 
 use crate::code::ProcessCode;
 use pb_base::Pair;
+use pb_base::limits::MAX_PAIRS;
 
 /// Returns the number of pairs of a bundle, 0 if there is no such bundle.
 pub fn pairs(code: &ProcessCode, bundle: u16) -> usize
     ensures len { result ≡ length (bundle_of code.now bundle) }
-    ensures few { result ≤ 16 }
+    ensures few { result ≤ MAX_PAIRS }
     ensures distinct { IsDistinct (bundle_of code.now bundle) }
 {
     match code.bundles.get(bundle as usize) {

@@ -6,6 +6,8 @@ ghost use Rattle.std.specs.Str.{bytes_eq};
 ghost use Rattle.pb_code.specs.Limits.{IsName};
 ghost use Rattle.pb_code.specs.Names as spec;
 
+use pb_base::limits::MAX_NAME;
+
 /// Returns whether the word is this text.
 fn is(word: &[u8], text: &str) -> bool
     ensures { result ≡ bytes_eq word.now text.now }
@@ -13,13 +15,15 @@ fn is(word: &[u8], text: &str) -> bool
     word == text.as_bytes()
 }
 
+/// Returns whether a byte is a letter, a digit or `_`.
 fn is_name_byte(b: u8) -> bool
     ensures { result ≡ spec.is_name_byte b }
 {
     b.is_ascii_alphabetic() || b.is_ascii_digit() || b == b'_'
 }
 
-fn are_name_bytes(word: &[u8]) -> bool
+/// Returns whether each byte is a letter, a digit or `_`.
+pub fn are_name_bytes(word: &[u8]) -> bool
     ensures { result ≡ list_all spec.is_name_byte word.now }
 {
     word.iter().all(|b| is_name_byte(*b))
@@ -64,7 +68,7 @@ fn has_form(word: &[u8]) -> bool
         [first, rest @ ..] => {
             first.is_ascii_alphabetic()
                 && are_name_bytes(rest)
-                && rest.len() < 32
+                && rest.len() < MAX_NAME
                 && !is_reserved(word)
         }
     }

@@ -1,4 +1,5 @@
--- A step of a process of the source is a free step, or changes only what is left of an expression; or it is a fault.
+-- A step of a process of the source is a free step, or changes only what is left of an expression; or it is a
+-- fault.
 use Rattle.std.proofs.Common.{◌≡◌, ◌⊎◌, inl, inr, ⊎_elim, ℕ, zero, suc, ◌<◌, ◌≤◌, ℤ, Bool, true, false, cond}
 use Rattle.std.proofs.Common.{List, [], ◌∷◌, length, Option, Some, None, option_map, option_and_then, refl}
 use Rattle.std.proofs.Common.{sym, ap, ◌∙◌, subst, arith}
@@ -6,8 +7,8 @@ use Rattle.std.proofs.lemmas.Bool.{cases_lt}
 use Rattle.pb_base.specs.declared.operators.FaultKind.{FaultKind}
 use Rattle.pb_base.specs.Steppers.{Effect, Silent, Faults, ending}
 use Rattle.pb_names.specs.Program.{Expr}
-use Rattle.pb_names.specs.Source.{ExprStep, Is, Becomes, Fails, step_expr, evaluate, Item, Assign, Print}
-use Rattle.pb_names.specs.Source.{Choice, Loop, Hold, GiveBack, Parallel, Arm, Doing, Waiting, Ended}
+use Rattle.pb_names.specs.Source.{ExprStep, Is, Becomes, Fails, step_expr, evaluate, Item}
+use Rattle.pb_names.specs.Source.{GiveBack, Arm, Doing, Waiting, Ended}
 use Rattle.pb_names.specs.Source.{all_ended, ArmStep, Goes, Breaks, Ends, step_items, step_arm, put}
 use Rattle.pb_names.specs.Source.{SourceProcess, settle, step_run}
 use Rattle.pb_names.specs.Claims.{join}
@@ -60,17 +61,17 @@ evaluate_not_faulting (Fails kind) keep done k d = tt
 
 items_not_faulting : (vars : List ℤ) (items : List Item) → NotFaulting (step_items vars items)
 items_not_faulting vars [] = tt
-items_not_faulting vars (Assign line x e ∷ rest) =
+items_not_faulting vars (Item.Assign line x e ∷ rest) =
     evaluate_not_faulting (step_expr vars e) _ _ (λ e' kind w. cc) (λ v kind w. cc)
-items_not_faulting vars (Print line e ∷ rest) =
+items_not_faulting vars (Item.Print line e ∷ rest) =
     evaluate_not_faulting (step_expr vars e) _ _ (λ e' kind w. cc) (λ v kind w. cc)
-items_not_faulting vars (Choice line e a b ∷ rest) =
+items_not_faulting vars (Item.If line e a b ∷ rest) =
     evaluate_not_faulting (step_expr vars e) _ _ (λ e' kind w. cc) (λ v kind w. cc)
-items_not_faulting vars (Loop line test e body ∷ rest) =
+items_not_faulting vars (Item.While line test e body ∷ rest) =
     evaluate_not_faulting (step_expr vars e) _ _ (λ e' kind w. cc) (λ v kind w. cc)
-items_not_faulting vars (Hold line bundle body ∷ rest) = λ kind w. cc
+items_not_faulting vars (Item.Hold line bundle body ∷ rest) = λ kind w. cc
 items_not_faulting vars (GiveBack line bundle ∷ rest) = λ kind w. cc
-items_not_faulting vars (Parallel line first arms ∷ rest) = λ kind w. cc
+items_not_faulting vars (Item.Parbegin line first arms ∷ rest) = λ kind w. cc
 
 arm_not_faulting : (vars : List ℤ) (found : Arm) (st : ArmStep) → step_arm vars found ≡ Some st
     → NotFaulting st

@@ -17,14 +17,14 @@ use Rattle.pb_code.specs.Code.{CodeProcess, code_process}
 use Rattle.pb_verifier.proofs.States.{slice_set_same, slice_set_other, lent_there}
 use Rattle.pb_codegen.specs.Correct.{generated}
 use Rattle.pb_codegen.proofs.SimulationPlaces.{listing_of}
-use Rattle.pb_codegen.proofs.SimulationShapes.{SameArm, same_arm, same_arm_trans, same_arm_sym, step_same, held_same}
-use Rattle.pb_codegen.proofs.SimulationShapes.{taken, given, IsFree}
+use Rattle.pb_codegen.proofs.SimulationShapes.{SameArm, same_arm, same_arm_trans, same_arm_sym, step_same, held_same, IsFree}
 use Rattle.pb_codegen.proofs.SimulationProcesses.{RunAlike}
 use Rattle.pb_codegen.proofs.ClaimsFreeSteps.{RunFrees, run_frees, located}
 use Rattle.pb_codegen.proofs.ClaimsLoans.{lent_here}
 use Rattle.pb_codegen.proofs.SimulationRuns.{StatesAlike, AtProcess, absent, present, at_process, opening_alike}
 use Rattle.pb_codegen.proofs.SimulationBack.{chain_at, catch_up}
 use Rattle.pb_names.proofs.Wholes.{made_from}
+use Rattle.pb_verifier.proofs.Threads.{taken, given}
 
 -- ---- all processes
 

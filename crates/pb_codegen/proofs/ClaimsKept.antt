@@ -1,5 +1,5 @@
--- The source of a resolved program asks within its claims, and if the capital is enough for them its states stay
--- well formed and safe.
+-- The source of a resolved program asks within its claims, and if the capital is enough for them its states
+-- stay well formed and safe.
 use Rattle.std.proofs.Common.{◌≡◌, ℕ, ◌<◌, ◌≤◌, List, [], ◌∷◌, length, get_or, map, Some, sym, ap, ◌∙◌, subst}
 use Rattle.std.proofs.Common.{arith}
 use Rattle.std.specs.Prelude.{slice_get}
@@ -26,7 +26,7 @@ use Rattle.pb_codegen.proofs.SimulationBack.{chain_at, catch_up}
 use Rattle.pb_codegen.proofs.SimulationCatchUp.{Catches, catches}
 use Rattle.pb_codegen.proofs.ClaimsHeld.{asks_at_most, opened}
 use Rattle.pb_codegen.proofs.VerifiedInstructions.{EachInstr}
-use Rattle.pb_verifier.proofs.Banking.{pair_in}
+use Rattle.pb_verifier.proofs.LoansWithinClaims.{pair_in}
 use Rattle.pb_codegen.proofs.SimulationRuns.{StatesAlike, at_process, opening_alike}
 use Rattle.pb_codegen.proofs.ClaimsSafety.{IsSound, IsFairBank, sound_after, sound_opening}
 use Rattle.pb_codegen.proofs.VerifiedBundles.{AsksTidily, IsTidyEffect, asks_tidily, step_tidy}

@@ -9,8 +9,8 @@ use Rattle.pb_base.specs.Banker.{cell, row_of}
 use Rattle.pb_base.specs.Bundle.{amount_in, lend, give_back}
 use Rattle.pb_base.specs.Steppers.{Bundle, Table, Effect, Silent, Prints, Takes, Returns, Faults, Finishes}
 use Rattle.pb_base.specs.Steppers.{loans_after}
-use Rattle.pb_base.proofs.Lending.{amount_in-cons}
-use Rattle.pb_codegen.proofs.SimulationShapes.{taken, given}
+use Rattle.pb_base.proofs.LoanRows.{amount_in-cons}
+use Rattle.pb_verifier.proofs.Threads.{taken, given}
 
 set_at : (row : List ℕ) (q v : ℕ) → get_or (set row q v) q 0 ≤ v
 set_at row q v =

@@ -10,7 +10,7 @@ use Rattle.pb_base.specs.declared.pair.Pair.{Pair}
 use Rattle.pb_base.specs.Banker.{cell, row_of}
 use Rattle.pb_base.specs.Bundle.{amount_in}
 use Rattle.pb_base.specs.Steppers.{Bundle, Table}
-use Rattle.pb_base.proofs.Lending.{amount_in-absent}
+use Rattle.pb_base.proofs.LoanRows.{amount_in-absent}
 use Rattle.pb_tree.specs.Syntax as tree
 use Rattle.pb_names.specs.Claims.{IsClaim, stmt_peak, peak, arms_peak}
 use Rattle.pb_names.specs.Meaning.{AreClaims}

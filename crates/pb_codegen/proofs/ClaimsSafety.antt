@@ -14,11 +14,12 @@ use Rattle.pb_base.specs.Steppers.{IsGranted, banker_state, loans_after}
 use Rattle.pb_base.specs.Steppers as steppers
 use Rattle.pb_base.proofs.BankerLaws.{fewer_loans_stay_safe}
 use Rattle.pb_base.proofs.Groups.{range_below, sum_by-zero_on}
-use Rattle.pb_base.proofs.Lending.{amount_in-le, get_or-lend, length-give_back, length-lend}
+use Rattle.pb_base.proofs.LoanRows.{amount_in-le, get_or-lend, length-give_back, length-lend}
 use Rattle.pb_base.proofs.Rows.{with_row, IsWellFormed-with_row, HasFewerLoans-with_row}
 use Rattle.pb_verifier.proofs.PeakTables.{replicate_read}
 use Rattle.pb_codegen.proofs.ClaimsLoans.{give_back_le}
 use Rattle.pb_codegen.proofs.VerifiedBundles.{IsTidy, IsTidyEffect}
+use Rattle.pb_verifier.proofs.LoansWithinClaims.{zero_loans}
 
 -- loans that a banker may keep
 pub record IsSound (bank : Bank) (loans : Table) : Type 0 where
@@ -91,11 +92,6 @@ module _ (bank : Bank) (loans : Table) (p : ℕ) (sound : IsSound bank loans) (t
   sound_after steppers.Finishes granted tidy = sound
 
 -- ---- nothing is lent
-
-zero_loans : {X : Type 0} (n : ℕ) (xs : List X) (p r : ℕ) → cell (map (λ (x : X). replicate n 0) xs) p r ≡ 0
-zero_loans n [] p r = refl
-zero_loans n (x ∷ xs) zero r = replicate_read n r 0
-zero_loans n (x ∷ xs) (suc p) r = zero_loans n xs p r
 
 zero_rows : {X : Type 0} (n : ℕ) (xs : List X) (p : ℕ) → p < length xs
     → length (row_of (map (λ (x : X). replicate n 0) xs) p) ≡ n

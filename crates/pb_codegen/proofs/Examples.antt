@@ -9,13 +9,14 @@ use Rattle.pb_base.specs.Steppers.{Bundle, State, Stepper, move_of, event_of, op
 use Rattle.pb_base.specs.declared.pick.Pick.{Pick}
 use Rattle.pb_base.specs.declared.event.Event.{Event}
 use Rattle.pb_base.specs.declared.event.Event.TheVariants.{Granted, Returned, Printed, Faulted, Finished}
-use Rattle.pb_names.specs.Program.{Number, Variable, Binary, Stmt, Set, Write, While, HoldDo, Parbegin, Skip}
+use Rattle.pb_names.specs.Program.{Number, Variable, Binary, Stmt, Assign, Print, While, Hold, Parbegin, Skip}
 use Rattle.pb_names.specs.Program.{Then, NoArm, AndArm, Process, IsWellNumbered}
 use Rattle.pb_names.specs.Source.{source_step, source_process}
 use Rattle.pb_code.specs.Code.{Push, Load, Store, Compute2, Jump, JumpIfZero, PrintTop, Take, Give, Fork}
 use Rattle.pb_code.specs.Code.{Join, End, code_step, code_process}
 use Rattle.pb_codegen.specs.Generate.{process_code}
 use Rattle.pb_codegen.specs.Lines.{process_lines}
+use Rattle.pb_names.proofs.Examples.{by_arm}
 
 -- an amount of one resource
 abbrev amounts : ℕ → ℕ → Bundle
@@ -42,19 +43,16 @@ in_code p spans = play (code_step (process_code p ∷ [])) (of_arms spans) (open
       [];
 }) (code_process (process_code p) ∷ []))
 
-abbrev by_arm : ℕ → Pick
-by_arm a = record { process = 0; arm = a }
-
 -- x := x + 1 in two arms, and print x
 abbrev bump : Stmt
-bump = Set 1 0 (Binary Add (Variable 0) (Number (pos 1)))
+bump = Assign 1 0 (Binary Add (Variable 0) (Number (pos 1)))
 
 abbrev two_bumps : Process
 two_bumps = record {
   name = codes "p";
   integers = codes "x" ∷ [];
   body = Then (Parbegin 1 1 (AndArm (Then bump Skip)
-      (AndArm (Then bump Skip) NoArm))) (Then (Write 1 (Variable 0)) Skip);
+      (AndArm (Then bump Skip) NoArm))) (Then (Print 1 (Variable 0)) Skip);
 }
 
 two_bumps_numbered : IsWellNumbered two_bumps
@@ -83,7 +81,7 @@ thrice = record {
   integers = codes "x" ∷ [];
   body =
       Then (While 1 (Binary Less (Variable 0) (Number (pos 3)))
-      (Then (Parbegin 1 1 (AndArm (Then (Write 1 (Variable 0)) Skip) (AndArm (Then (Write 1 (Binary Add (Variable 0) (Number (pos 10)))) Skip) NoArm)))
+      (Then (Parbegin 1 1 (AndArm (Then (Print 1 (Variable 0)) Skip) (AndArm (Then (Print 1 (Binary Add (Variable 0) (Number (pos 10)))) Skip) NoArm)))
       (Then bump Skip))) Skip;
 }
 
@@ -109,8 +107,8 @@ nested_holds = record {
   name = codes "p";
   integers = [];
   body =
-      Then (HoldDo 1 (amounts 0 1) (Then (Parbegin 1 1 (AndArm (Then (HoldDo 1 (amounts 0 1) Skip) Skip) (AndArm (Then
-      (HoldDo 1 (amounts 0 2) Skip) Skip) NoArm))) Skip)) Skip;
+      Then (Hold 1 (amounts 0 1) (Then (Parbegin 1 1 (AndArm (Then (Hold 1 (amounts 0 1) Skip) Skip) (AndArm (Then
+      (Hold 1 (amounts 0 2) Skip) Skip) NoArm))) Skip)) Skip;
 }
 
 nested_holds_code : process_code nested_holds ≡ record {
@@ -137,8 +135,8 @@ abbrev faulty : Process
 faulty = record {
   name = codes "p";
   integers = [];
-  body = Then (Parbegin 1 1 (AndArm (Then (HoldDo 1 (amounts 0 1) (Then (Write 1 (Number (pos 5))) Skip)) Skip)
-      (AndArm (Then (Write 1 (Binary Remainder (Number (pos 1)) (Number (pos 0)))) Skip) NoArm))) Skip;
+  body = Then (Parbegin 1 1 (AndArm (Then (Hold 1 (amounts 0 1) (Then (Print 1 (Number (pos 5))) Skip)) Skip)
+      (AndArm (Then (Print 1 (Binary Remainder (Number (pos 1)) (Number (pos 0)))) Skip) NoArm))) Skip;
 }
 
 faulty_run : in_code faulty ((0, 1) ∷ (1, 1) ∷ (2, 3) ∷ []) ≡ Some
@@ -157,8 +155,8 @@ laid = record {
   integers = codes "x" ∷ [];
   body =
       Then (While 1 (Binary Less (Variable 0) (Number (pos 3)))
-      (Then (Parbegin 2 1 (AndArm (Then (Write 2 (Variable 0)) Skip) (AndArm (Then (Write 3 (Binary Add (Variable 0) (Number (pos 10)))) Skip) NoArm)))
-      (Then (Set 4 0 (Binary Add (Variable 0) (Number (pos 1)))) Skip))) Skip;
+      (Then (Parbegin 2 1 (AndArm (Then (Print 2 (Variable 0)) Skip) (AndArm (Then (Print 3 (Binary Add (Variable 0) (Number (pos 10)))) Skip) NoArm)))
+      (Then (Assign 4 0 (Binary Add (Variable 0) (Number (pos 1)))) Skip))) Skip;
 }
 
 laid_lines : process_lines laid ≡

@@ -7,16 +7,16 @@ use Rattle.pb_base.specs.Arithmetic.{is_zero}
 use Rattle.pb_base.specs.declared.operators.FaultKind.{FaultKind}
 use Rattle.pb_base.specs.Steppers.{Bundle}
 use Rattle.pb_base.specs.Steppers.{Effect, Silent, Prints, Takes, Returns}
-use Rattle.pb_names.specs.Program.{Expr, Number, Stmt, Set, Write, If, While, HoldDo, Parbegin, Block, Skip}
+use Rattle.pb_names.specs.Program.{Expr, Number, Stmt, Assign, Print, If, While, Hold, Parbegin, Block, Skip}
 use Rattle.pb_names.specs.Program.{Then, Arms, NoArm, AndArm, count}
-use Rattle.pb_names.specs.Source.{step_expr, Item, Assign, Print, Choice, Loop, Hold, GiveBack, Parallel}
+use Rattle.pb_names.specs.Source.{step_expr, Item, GiveBack}
 use Rattle.pb_names.specs.Source.{item_of, items_of, Doing, Waiting, begin, ArmStep, Goes, Breaks, Ends}
 use Rattle.pb_names.specs.Source.{evaluate, step_items}
 use Rattle.pb_code.specs.Code.{Instr, Push, Store, Jump, JumpIfZero, PrintTop, Take, Give, Fork, Join, End}
 use Rattle.pb_code.specs.Code.{Live, Runs, Traps, Forks, Stops, act, is_skip}
 use Rattle.pb_codegen.specs.Generate.{expr_code, stmt_code, block_code, arm_code}
 use Rattle.pb_names.specs.HeadLines.{item_line, first_line}
-use Rattle.pb_codegen.specs.Lines.{stmt_line, line_of, stmt_lines, block_lines}
+use Rattle.pb_codegen.specs.Lines.{stmt_source_line, block_line, stmt_lines, block_lines}
 use Rattle.pb_codegen.proofs.WriterLines.{Listing, line_at, LinesAt, lines_front, lines_back, length-stmt_lines}
 use Rattle.pb_codegen.proofs.WriterLines.{length-block_lines, length-same_lines}
 use Rattle.pb_code.proofs.Chains.{after_skip}
@@ -35,11 +35,11 @@ Lines code place ls = LinesAt code.lines place ls
 -- the arms inside have their code at their entries
 abbrev mutual
   pub PlacedStmt : Listing → Stmt → Type 0
-  PlacedStmt code (Set line x e) = Unit {0}
-  PlacedStmt code (Write line e) = Unit {0}
+  PlacedStmt code (Assign line x e) = Unit {0}
+  PlacedStmt code (Print line e) = Unit {0}
   PlacedStmt code (If line e a b) = Placed code a × Placed code b
   PlacedStmt code (While line e body) = Placed code body
-  PlacedStmt code (HoldDo line bundle body) = Placed code body
+  PlacedStmt code (Hold line bundle body) = Placed code body
   PlacedStmt code (Parbegin line first arms) = ArmsPlaced code first arms
 
   pub Placed : Listing → Block → Type 0
@@ -62,18 +62,18 @@ Reaches code line (suc n) p q =
 pub data ItemAt (code : Listing) : Item → (place : ℕ) → (stack : List ℤ) → (after : ℕ) → (next : Option ℕ) → Type 0 where
   assign : (line x : ℕ) (e : Expr) (is : List Instr) (p : ℕ) (s : List ℤ) (after : ℕ) (next : Option ℕ)
       → Left e is s → Has code p (is ++ Store x ∷ []) → Lines code p (replicate (suc (length is)) (Some line))
-      → p + length is + 1 ≡ after → ItemAt code (Assign line x e) p s after next
+      → p + length is + 1 ≡ after → ItemAt code (Item.Assign line x e) p s after next
   print : (line : ℕ) (e : Expr) (is : List Instr) (p : ℕ) (s : List ℤ) (after : ℕ) (next : Option ℕ)
       → Left e is s → Has code p (is ++ PrintTop ∷ [])
       → Lines code p (replicate (suc (length is)) (Some line)) → p + length is + 1 ≡ after
-      → ItemAt code (Print line e) p s after next
+      → ItemAt code (Item.Print line e) p s after next
   choice : (line : ℕ) (e : Expr) (a b : Block) (is : List Instr) (p : ℕ) (s : List ℤ) (then other after : ℕ)
       (next : Option ℕ) → Left e is s → Has code p (is ++ JumpIfZero other ∷ [])
       → Lines code p (replicate (suc (length is)) (Some line)) → p + length is + 1 ≡ then
       → Has code then (block_code then a ++ Jump after ∷ [])
       → Lines code then (block_lines a next ++ next ∷ []) → Has code other (block_code other b)
       → Lines code other (block_lines b next) → other + length (block_code other b) ≡ after → Placed code a
-      → Placed code b → ItemAt code (Choice line e a b) p s after next
+      → Placed code b → ItemAt code (Item.If line e a b) p s after next
   loop : (line : ℕ) (test e : Expr) (body : Block) (is : List Instr) (p : ℕ) (s : List ℤ) (place after : ℕ)
       (next : Option ℕ) → Left e is s → Has code p (is ++ JumpIfZero after ∷ [])
       → Lines code p (replicate (suc (length is)) (Some line))
@@ -81,12 +81,12 @@ pub data ItemAt (code : Listing) : Item → (place : ℕ) → (stack : List ℤ)
       → Has code place (stmt_code place (While line test body))
       → Lines code place (stmt_lines (While line test body) next)
       → place + length (stmt_code place (While line test body)) ≡ after → Placed code body
-      → ItemAt code (Loop line test e body) p s after next
+      → ItemAt code (Item.While line test e body) p s after next
   hold : (line : ℕ) (bundle : Bundle) (body : Block) (p after : ℕ) (next : Option ℕ)
-      → Has code p (stmt_code p (HoldDo line bundle body))
-      → Lines code p (stmt_lines (HoldDo line bundle body) next)
-      → p + length (stmt_code p (HoldDo line bundle body)) ≡ after → Placed code body
-      → ItemAt code (Hold line bundle body) p [] after next
+      → Has code p (stmt_code p (Hold line bundle body))
+      → Lines code p (stmt_lines (Hold line bundle body) next)
+      → p + length (stmt_code p (Hold line bundle body)) ≡ after → Placed code body
+      → ItemAt code (Item.Hold line bundle body) p [] after next
   give : (line : ℕ) (bundle : Bundle) (p after : ℕ) (next : Option ℕ)
       → slice_get code.instrs p ≡ Some (Give bundle) → line_at code p ≡ Some line → p + 1 ≡ after
       → ItemAt code (GiveBack line bundle) p [] after next
@@ -94,7 +94,7 @@ pub data ItemAt (code : Listing) : Item → (place : ℕ) → (stack : List ℤ)
       → slice_get code.instrs p ≡ Some (Fork first (count arms))
       → slice_get code.instrs (p + 1) ≡ Some (Join first (count arms))
       → Lines code p (Some line ∷ Some line ∷ []) → p + 1 + 1 ≡ after → ArmsPlaced code first arms
-      → ItemAt code (Parallel line first arms) p [] after next
+      → ItemAt code (Item.Parbegin line first arms) p [] after next
 
 -- a list of items, and the place and stack at which it goes on; jumps may lead from one item to the next
 pub data StandsAt (code : Listing) : List Item → (place : ℕ) → (stack : List ℤ) → Type 0 where
@@ -139,25 +139,25 @@ from_line code items p s from = go from.jumps from.reaches
 
 -- ---- a block that is begun
 
-stmt_line_is : (s : Stmt) → stmt_line s ≡ item_line (item_of s)
-stmt_line_is (Set line x e) = refl
-stmt_line_is (Write line e) = refl
+stmt_line_is : (s : Stmt) → stmt_source_line s ≡ item_line (item_of s)
+stmt_line_is (Assign line x e) = refl
+stmt_line_is (Print line e) = refl
 stmt_line_is (If line e a b) = refl
 stmt_line_is (While line e body) = refl
-stmt_line_is (HoldDo line bundle body) = refl
+stmt_line_is (Hold line bundle body) = refl
 stmt_line_is (Parbegin line first arms) = refl
 
 line_of_is : (block : Block) (rest : List Item)
-    → line_of block (first_line rest) ≡ first_line (items_of block ++ rest)
+    → block_line block (first_line rest) ≡ first_line (items_of block ++ rest)
 line_of_is Skip rest = refl
 line_of_is (Then s block) rest = ap Some (stmt_line_is s)
 
 pub item_at : (code : Listing) (s : Stmt) (p : ℕ) (next : Option ℕ) → Has code p (stmt_code p s)
     → Lines code p (stmt_lines s next) → PlacedStmt code s
     → ItemAt code (item_of s) p [] (p + length (stmt_code p s)) next
-item_at code (Set line x e) p next h ls placed =
+item_at code (Assign line x e) p next h ls placed =
     assign line x e (expr_code e) p [] _ next (whole e) h ls (omega (arith, length-append (expr_code e) (Store x ∷ [])))
-item_at code (Write line e) p next h ls placed =
+item_at code (Print line e) p next h ls placed =
     print line e (expr_code e) p [] _ next (whole e) h ls (omega (arith, length-append (expr_code e) (PrintTop ∷ [])))
 item_at code (If line e a b) p next h ls placed =
     let then = p + length (expr_code e) + 1 in
@@ -212,7 +212,7 @@ item_at code (While line e body) p next h ls placed =
     let head = replicate (suc (length (expr_code e))) (Some line) in
     loop line e e body (expr_code e) p [] p _ next (whole e) (subst (λ k. Has code p (expr_code e ++ JumpIfZero k ∷ [])) len h1)
     (lines_front code.lines p head (block_lines body (Some line) ++ Some line ∷ []) ls) refl h ls refl placed
-item_at code (HoldDo line bundle body) p next h ls placed = hold line bundle body p _ next h ls refl placed
+item_at code (Hold line bundle body) p next h ls placed = hold line bundle body p _ next h ls refl placed
 item_at code (Parbegin line first arms) p next h ls placed =
     parallel line first arms p _ next h.0 h.1.0 ls (omega arith) placed
 
@@ -224,7 +224,7 @@ block_stands code Skip p rest h ls placed after =
     let e : p + 0 ≡ p = omega arith in subst (λ k. StandsFrom code rest k []) e after
 block_stands code (Then s block) p rest h ls placed after =
     let mid = p + length (stmt_code p s) in
-    let next = line_of block (first_line rest) in
+    let next = block_line block (first_line rest) in
     let len : p + length (block_code p (Then s block)) ≡ mid + length (block_code mid block) =
     omega (arith, length-append (stmt_code p s) (block_code mid block)) in
     let n : p + length (stmt_lines s next) ≡ mid = omega (arith, length-stmt_lines p s next) in
@@ -258,7 +258,7 @@ pub data Follows (code : Listing) (vars : List ℤ) (items : List Item) (p : ℕ
   breaks : (i : Instr) (kind : FaultKind) → slice_get code.instrs p ≡ Some i → is_skip i ≡ false
       → act vars i p s ≡ Some (Traps kind) → step_items vars items ≡ Breaks kind → Follows code vars items p s
   forks : (i : Instr) (line first : ℕ) (arms : Arms) (rest : List Item) (p' : ℕ)
-      → items ≡ Parallel line first arms ∷ rest → slice_get code.instrs p ≡ Some i → is_skip i ≡ false
+      → items ≡ Item.Parbegin line first arms ∷ rest → slice_get code.instrs p ≡ Some i → is_skip i ≡ false
       → act vars i p s ≡ Some (Forks first (count arms) (Live p' []))
       → step_items vars items ≡ Goes vars (Waiting line first (begin arms) rest) Silent
       → slice_get code.instrs p' ≡ Some (Join first (count arms)) → line_at code p' ≡ Some line
@@ -325,33 +325,33 @@ follows_at : (code : Listing) (vars : List ℤ) (items : List Item) (p : ℕ) (s
     → StandsAt code items p s → Follows code vars items p s
 follows_at code vars items p s (at_end p' h line) = ends End h refl refl refl
 follows_at code vars items p s (at_item item rest p' s' after n q (assign line x e is p'' s'' after' next left has lines len) r st) =
-    head_follows code vars e is s p (Store x) (Some line) (λ e'. Assign line x e' ∷ rest) _ left has lines (λ e'. refl)
+    head_follows code vars e is s p (Store x) (Some line) (λ e'. Item.Assign line x e' ∷ rest) _ left has lines (λ e'. refl)
     (λ e' is' s' p' l h ls eq. record {
       jumps = 0;
       first = p';
       reaches = refl;
-      stands = at_item (Assign line x e')
+      stands = at_item (Item.Assign line x e')
           rest p' s' after n q (assign line x e' is' p' s' after _ l h ls (omega arith)) r st;
     })
     (λ v h eq. goes (Store x) (set vars x v) rest Silent (p + 1) [] h refl refl refl (resume code rest after n q (p + 1) r st (omega arith)))
 follows_at code vars items p s (at_item item rest p' s' after n q (print line e is p'' s'' after' next left has lines len) r st) =
-    head_follows code vars e is s p PrintTop (Some line) (λ e'. Print line e' ∷ rest) _ left has lines (λ e'. refl)
+    head_follows code vars e is s p PrintTop (Some line) (λ e'. Item.Print line e' ∷ rest) _ left has lines (λ e'. refl)
     (λ e' is' s' p' l h ls eq. record {
       jumps = 0;
       first = p';
       reaches = refl;
-      stands = at_item (Print line e') rest
+      stands = at_item (Item.Print line e') rest
           p' s' after n q (print line e' is' p' s' after _ l h ls (omega arith)) r st;
     })
     (λ v h eq. goes PrintTop vars rest (Prints v) (p + 1) [] h refl refl refl (resume code rest after n q (p + 1) r st (omega arith)))
 follows_at code vars items p s (at_item item rest p' s' after n q (choice line e a b is p'' s'' then other after' next
     left has lines len hasa linesa hasb linesb lenb pa pb) r st) =
-    head_follows code vars e is s p (JumpIfZero other) (Some line) (λ e'. Choice line e' a b ∷ rest) _ left has lines (λ e'. refl)
+    head_follows code vars e is s p (JumpIfZero other) (Some line) (λ e'. Item.If line e' a b ∷ rest) _ left has lines (λ e'. refl)
     (λ e' is' s' p' l h ls eq. record {
       jumps = 0;
       first = p';
       reaches = refl;
-      stands = at_item (Choice line e' a b)
+      stands = at_item (Item.If line e' a b)
           rest p' s' after n q (choice line e' a b is' p' s' then other after _ l h ls (omega arith) hasa linesa hasb
           linesb lenb pa pb) r st;
     })
@@ -398,12 +398,12 @@ follows_at code vars items p s (at_item item rest p' s' after n q (loop line tes
     omega (arith, length-same_lines (suc (length (expr_code test))) (Some line)) in
     let linesb : Lines code start (body_lines ++ Some line ∷ []) = subst (λ k. Lines code k (body_lines ++ Some line ∷
     [])) n1 (lines_back code.lines place head (body_lines ++ Some line ∷ []) linesw) in
-    head_follows code vars e is s p (JumpIfZero after) (Some line) (λ e'. Loop line test e' body ∷ rest) _ left has lines (λ e'. refl)
+    head_follows code vars e is s p (JumpIfZero after) (Some line) (λ e'. Item.While line test e' body ∷ rest) _ left has lines (λ e'. refl)
     (λ e' is' s' p' l h ls eq. record {
       jumps = 0;
       first = p';
       reaches = refl;
-      stands = at_item (Loop line test e'
+      stands = at_item (Item.While line test e'
           body) rest p' s' after n q (loop line test e' body is' p' s' place after _ l h ls (omega arith) hasw linesw
           lenw placed) r st;
     })
@@ -414,19 +414,19 @@ follows_at code vars items p s (at_item item rest p' s' after n q (loop line tes
     let lb : line_at code (start + length body_code) ≡ Some line = subst (λ k. line_at code (start + k) ≡ Some line)
     (length-block_lines start body (Some line)) (lines_back code.lines start body_lines (Some line ∷ []) linesb).0
     in
-    let again = at_item (Loop line test test body) rest place [] after n q (loop line test test body (expr_code test)
+    let again = at_item (Item.While line test test body) rest place [] after n q (loop line test test body (expr_code test)
     place [] place after _ (whole test) hast linest refl hasw linesw lenw placed) r st in
-    let sb = block_stands code body start (Loop line test test body ∷ rest) (has_front code.instrs start body_code
+    let sb = block_stands code body start (Item.While line test test body ∷ rest) (has_front code.instrs start body_code
     (Jump place ∷ []) hasb) (lines_front code.lines start body_lines (Some line ∷ []) linesb) placed (record {
       jumps = 1;
       first = place;
       reaches = (place, jb, lb, refl);
       stands = again;
     }) in
-    goes (JumpIfZero after) vars (cond (is_zero v) rest (items_of body ++ Loop line test test body ∷ rest)) Silent
+    goes (JumpIfZero after) vars (cond (is_zero v) rest (items_of body ++ Item.While line test test body ∷ rest)) Silent
     (cond (is_zero v) after (p + 1)) [] h refl refl refl
-    (loop_stands code (is_zero v) (items_of body ++ Loop line test test body ∷ rest) rest (p + 1) after
-    (subst (λ k. StandsFrom code (items_of body ++ Loop line test test body ∷ rest) k []) startp sb)
+    (loop_stands code (is_zero v) (items_of body ++ Item.While line test test body ∷ rest) rest (p + 1) after
+    (subst (λ k. StandsFrom code (items_of body ++ Item.While line test test body ∷ rest) k []) startp sb)
     (record { jumps = n; first = q; reaches = r; stands = st })))
 follows_at code vars items p s (at_item item rest p' s' after n q (hold line bundle body p'' after' next has lines len placed) r st) =
     let body_code = block_code (p + 1) body in

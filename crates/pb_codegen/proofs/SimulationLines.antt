@@ -6,7 +6,7 @@ use Rattle.pb_base.specs.Steppers.{Bank}
 use Rattle.pb_base.specs.Steppers.{State}
 use Rattle.pb_names.specs.Program.{AllWellNumbered, Process}
 use Rattle.pb_names.specs.Source.{Arm, Doing, Waiting, Ended, find, SourceProcess}
-use Rattle.pb_code.specs.Code.{CodeProcess, Idle, Live, Over, thread}
+use Rattle.pb_code.specs.Code.{Thread, CodeProcess, Idle, Live, thread}
 use Rattle.pb_names.specs.HeadLines.{first_line, head_line}
 use Rattle.pb_codegen.specs.Lines.{process_lines}
 use Rattle.pb_codegen.specs.Correct.{generated, LinesAgree, IsFollowed}
@@ -33,7 +33,7 @@ module _ (code : Listing) (cp : CodeProcess) (a place : ℕ) (stack : List ℤ) 
       let same : Live h.0 [] ≡ Live place stack = sym h.1 ∙ live in
       let at : h.0 ≡ place = cc in
       subst (λ k. line_at code k ≡ Some line) at h.8
-  arm_line Ended low high h = let w : Over ≡ Live place stack = sym h.0 ∙ live in cc
+  arm_line Ended low high h = let w : Thread.Ended ≡ Live place stack = sym h.0 ∙ live in cc
 
   run_line : (run : Option Arm) → RunAlike code cp.threads cp.faulted run
       → (root : Arm) × (arm : Arm) × (run ≡ Some root) × (find a 0 root ≡ Some arm) ×
@@ -78,13 +78,13 @@ lines_agree program cs ss h p a place stack process cp sp in_program in_code in_
 
 module _ (code : Listing) (cp : CodeProcess) where
   run_over : (run : Option Arm) → RunAlike code cp.threads cp.faulted run
-      → ((cp.faulted ≡ true) ⊎ (thread cp.threads 0 ≡ Over) → (run ≡ None) ⊎ (run ≡ Some Ended)) ×
-      ((run ≡ None) ⊎ (run ≡ Some Ended) → (cp.faulted ≡ true) ⊎ (thread cp.threads 0 ≡ Over))
+      → ((cp.faulted ≡ true) ⊎ (thread cp.threads 0 ≡ Thread.Ended) → (run ≡ None) ⊎ (run ≡ Some Ended)) ×
+      ((run ≡ None) ⊎ (run ≡ Some Ended) → (cp.faulted ≡ true) ⊎ (thread cp.threads 0 ≡ Thread.Ended))
   run_over None h = (λ o. inl refl, λ o. inl h.0)
   run_over (Some (Doing items)) h = (
     elim [
       | inl f ↦ (let w : false ≡ true = sym h.0 ∙ f in cc)
-      | inr t ↦ (let w : Over ≡ Live h.2.0 h.2.1 = sym t ∙
+      | inr t ↦ (let w : Thread.Ended ≡ Live h.2.0 h.2.1 = sym t ∙
           h.2.2 in cc)
     ],
     elim [ inl n ↦ cc | inr n ↦ cc ],
@@ -92,7 +92,7 @@ module _ (code : Listing) (cp : CodeProcess) where
   run_over (Some (Waiting line first arms rest)) h = (
     elim [
       | inl f ↦ (let w : false ≡ true = sym h.0 ∙ f in cc)
-      | inr t ↦ (let w : Over ≡ Live h.2.0 [] = sym t ∙
+      | inr t ↦ (let w : Thread.Ended ≡ Live h.2.0 [] = sym t ∙
           h.2.1 in cc)
     ],
     elim [ inl n ↦ cc | inr n ↦ cc ],

@@ -3,24 +3,24 @@ use Rattle.std.proofs.Common.{◌≡◌, ℕ, ◌+◌, ◌≤◌, ℤ, Bool, tru
 use Rattle.std.proofs.Common.{sym, subst, arith, length-append}
 use Rattle.pb_base.specs.Arithmetic.{is_zero}
 use Rattle.pb_base.specs.Steppers.{Effect}
-use Rattle.pb_names.specs.Program.{Expr, Block, Skip, Then, Stmt, Set, Write, If, While, HoldDo, Parbegin}
+use Rattle.pb_names.specs.Program.{Expr, Block, Skip, Then, Stmt, Assign, Print, If, While, Hold, Parbegin}
 use Rattle.pb_names.specs.Program.{count, arms_list, arms_in, arms_in_stmt, arms_in_arms}
 use Rattle.pb_names.specs.Program.{IsNumbered, IsNumberedStmt, AreNumbered}
-use Rattle.pb_names.specs.Source.{ExprStep, Is, Becomes, Fails, step_expr, Item, Assign, Print, Choice, Loop}
-use Rattle.pb_names.specs.Source.{Hold, GiveBack, Parallel, item_of, items_of, Doing, Waiting, Ended, ArmStep}
+use Rattle.pb_names.specs.Source.{ExprStep, Is, Becomes, Fails, step_expr, Item}
+use Rattle.pb_names.specs.Source.{GiveBack, item_of, items_of, Doing, Waiting, Ended, ArmStep}
 use Rattle.pb_names.specs.Source.{Goes, Breaks, Ends, evaluate, step_items}
 use Rattle.pb_names.proofs.NumberedLists.{length-arms_list}
 use Rattle.pb_codegen.proofs.SimulationTrees.{OwnsBlock, OwnsItem, Owns}
 
 owns_item : (lo hi m : ℕ) (s : Stmt) → lo ≤ m → IsNumberedStmt m s → m + length (arms_in_stmt s) ≤ hi
     → OwnsItem lo hi (item_of s)
-owns_item lo hi m (Set line x e) l n u = tt
-owns_item lo hi m (Write line e) l n u = tt
+owns_item lo hi m (Assign line x e) l n u = tt
+owns_item lo hi m (Print line e) l n u = tt
 owns_item lo hi m (If line e a b) l n u =
     let len = length-append (arms_in a) (arms_in b) in
     ((m, l, n.0, omega (arith, len)), (m + length (arms_in a), omega arith, n.1, omega (arith, len)))
 owns_item lo hi m (While line e body) l n u = (m, l, n, u)
-owns_item lo hi m (HoldDo line bundle body) l n u = (m, l, n, u)
+owns_item lo hi m (Hold line bundle body) l n u = (m, l, n, u)
 owns_item lo hi m (Parbegin line first arms) l n u =
     let e : m ≡ first = sym n.0 in (
       omega arith,
@@ -73,19 +73,19 @@ loop_owns lo hi false rest more r m = m
 step_keeps : (lo hi : ℕ) (vars : List ℤ) (items : List Item) → Owns lo hi items
     → Keeps lo hi (step_items vars items)
 step_keeps lo hi vars [] o = tt
-step_keeps lo hi vars (Assign line x e ∷ rest) o =
+step_keeps lo hi vars (Item.Assign line x e ∷ rest) o =
     evaluate_keeps lo hi (step_expr vars e) _ _ (λ e'. o) (λ v. o.1)
-step_keeps lo hi vars (Print line e ∷ rest) o =
+step_keeps lo hi vars (Item.Print line e ∷ rest) o =
     evaluate_keeps lo hi (step_expr vars e) _ _ (λ e'. o) (λ v. o.1)
-step_keeps lo hi vars (Choice line e a b ∷ rest) o =
+step_keeps lo hi vars (Item.If line e a b ∷ rest) o =
     evaluate_keeps lo hi (step_expr vars e) _ _ (λ e'. o) (λ v. choice_owns lo hi (is_zero v) a b rest o.0.0 o.0.1 o.1)
-step_keeps lo hi vars (Loop line test e body ∷ rest) o =
+step_keeps lo hi vars (Item.While line test e body ∷ rest) o =
     evaluate_keeps lo hi (step_expr vars e) _ _ (λ e'. o) (λ v. loop_owns lo hi (is_zero v) rest _ o.1 (owns_block lo
-    hi body (Loop line test test body ∷ rest) o.0 o))
-step_keeps lo hi vars (Hold line bundle body ∷ rest) o =
+    hi body (Item.While line test test body ∷ rest) o.0 o))
+step_keeps lo hi vars (Item.Hold line bundle body ∷ rest) o =
     owns_block lo hi body (GiveBack line bundle ∷ rest) o.0 (tt, o.1)
 step_keeps lo hi vars (GiveBack line bundle ∷ rest) o = o.1
-step_keeps lo hi vars (Parallel line first arms ∷ rest) o = tt
+step_keeps lo hi vars (Item.Parbegin line first arms ∷ rest) o = tt
 
 pub keeps : (lo hi : ℕ) (vars vars' : List ℤ) (items items' : List Item) (effect : Effect) → Owns lo hi items
     → step_items vars items ≡ Goes vars' (Doing items') effect → Owns lo hi items'

@@ -5,7 +5,7 @@ use Rattle.std.proofs.Common.{length-append}
 use Rattle.std.specs.Prelude.{slice_get}
 use Rattle.std.proofs.Math.ListN.{get_or-map}
 use Rattle.std.proofs.lemmas.List.{length-map}
-use Rattle.pb_names.specs.Program.{Stmt, Set, Write, If, While, HoldDo, Parbegin, Block, Skip, Then, Arms}
+use Rattle.pb_names.specs.Program.{Stmt, Assign, Print, If, While, Hold, Parbegin, Block, Skip, Then, Arms}
 use Rattle.pb_names.specs.Program.{NoArm, AndArm, count, arms_list, arms_in, arms_in_stmt, arms_in_arms}
 use Rattle.pb_names.specs.Program.{IsNumbered, IsNumberedStmt, AreNumbered, Process, arms_of, IsWellNumbered}
 use Rattle.pb_names.specs.Source.{items_of, source_process}
@@ -119,15 +119,15 @@ segment_back code n xs ys s i arm e =
 mutual
   placed_stmt : (code : Listing) (m : ℕ) (s : Stmt) → IsNumberedStmt m s → Segment code m (arms_in_stmt s)
       → PlacedStmt code s
-  placed_stmt code m (Set line x e) n s = tt
-  placed_stmt code m (Write line e) n s = tt
+  placed_stmt code m (Assign line x e) n s = tt
+  placed_stmt code m (Print line e) n s = tt
   placed_stmt code m (If line e a b) n s = (
     placed code m a n.0 (segment_front code m (arms_in a) (arms_in b) s),
     placed code (m + length (arms_in a)) b
         n.1 (segment_back code m (arms_in a) (arms_in b) s),
   )
   placed_stmt code m (While line e body) n s = placed code m body n s
-  placed_stmt code m (HoldDo line bundle body) n s = placed code m body n s
+  placed_stmt code m (Hold line bundle body) n s = placed code m body n s
   placed_stmt code m (Parbegin line first arms) n s =
       let inner = segment_back code m (arms_list arms) (arms_in_arms arms) s in
       subst (λ k. ArmsPlaced code k arms) (sym n.0)

@@ -8,10 +8,10 @@ use Rattle.std.proofs.lemmas.Bool.{cases_lt}
 use Rattle.std.proofs.Math.ListN.{get_or-map}
 use Rattle.pb_base.specs.Steppers.{Effect, Silent, Faults, ending}
 use Rattle.pb_names.specs.Program.{Block, Arms, NoArm, AndArm, count, arms_in, arms_in_arms, AreNumbered}
-use Rattle.pb_names.specs.Source.{Item, Parallel, items_of, Arm, Doing, Waiting, Ended, Running, Nothing}
+use Rattle.pb_names.specs.Source.{Item, items_of, Arm, Doing, Waiting, Ended, Running, Nothing}
 use Rattle.pb_names.specs.Source.{Beside, begin, is_ended, all_ended, ArmStep, Goes, step_arm, find, put}
 use Rattle.pb_names.specs.Source.{SourceProcess, settle, step_run}
-use Rattle.pb_code.specs.Code.{Instr, End, Join, Thread, Idle, Live, Over, CodeProcess, thread, ThreadStep}
+use Rattle.pb_code.specs.Code.{Instr, End, Join, Thread, Idle, Live, CodeProcess, thread, ThreadStep}
 use Rattle.pb_code.specs.Code.{act, is_over, all_over, launch, dismiss, apply_step, step_thread, step_process}
 use Rattle.pb_code.specs.Code.{is_skip, instr_skips, skips_at, is_at_skip}
 use Rattle.pb_verifier.proofs.Threads.{thread_past, length-launch, launch_out, launch_in, length-dismiss, dismiss_out, dismiss_in}
@@ -157,7 +157,7 @@ module _ (code : Listing) (cp : CodeProcess) (a : ℕ) where
 
     module _ (l : Located code cp.threads 0 1 (length cp.threads) root a) (alive : cp.faulted ≡ false) (within : a < length cp.threads) where
       forked : (line first : ℕ) (arms : Arms) (rest : List Item) (p : ℕ) → AreIdle cp.threads l.low l.high → Owns
-          l.low l.high (Parallel line first arms ∷ rest) → slice_get code.instrs p ≡ Some (Join first (count arms)) →
+          l.low l.high (Item.Parbegin line first arms ∷ rest) → slice_get code.instrs p ≡ Some (Join first (count arms)) →
           line_at code p ≡ Some line → StandsFrom code rest (p + 1) [] → ArmsPlaced code first arms → Alike code
           (record {
             vars = cp.vars;
@@ -277,7 +277,7 @@ module _ (code : Listing) (cp : CodeProcess) (a : ℕ) where
           (forked line first arms rest p' h.6 (subst (Owns l.low l.high) is_parallel h.4) joins line_is stands placed)
       doing items f same h (ends i at no_skip acts steps) =
           both _ _ (ending a) (is_skipping h.0 h.1 i false h.2 at no_skip) (code_steps h.0 h.1 i _ h.2 at acts) (source_steps (Doing items) _ f (ap Some steps))
-          (one_new cp.vars Over cp.faulted Ended l alive within h.6 (λ idle e. (e, h.5, idle)))
+          (one_new cp.vars Thread.Ended cp.faulted Ended l alive within h.6 (λ idle e. (e, h.5, idle)))
 
       waiting : (line first : ℕ) (arms : Running) (rest : List Item) (b : Bool) → all_ended arms ≡ b
           → find a 0 root ≡ Some (Waiting line first arms rest)

@@ -7,8 +7,8 @@ use Rattle.pb_base.specs.Bundle.{amount_in}
 use Rattle.pb_base.specs.Steppers.{Effect, Silent, Prints, Takes, Returns, Faults, Finishes}
 use Rattle.pb_names.specs.Program.{Expr, Block}
 use Rattle.pb_names.specs.Program.{Arms, NoArm, AndArm}
-use Rattle.pb_names.specs.Source.{ExprStep, Is, Becomes, Fails, step_expr, Item, Assign, Print, Choice, Loop}
-use Rattle.pb_names.specs.Source.{Hold, GiveBack, Parallel, items_of, Arm, Doing, Waiting, Ended}
+use Rattle.pb_names.specs.Source.{ExprStep, Is, Becomes, Fails, step_expr, Item}
+use Rattle.pb_names.specs.Source.{GiveBack, items_of, Arm, Doing, Waiting, Ended}
 use Rattle.pb_names.specs.Source.{Running, Nothing, Beside, begin, is_ended, all_ended, ArmStep, Goes, Breaks}
 use Rattle.pb_names.specs.Source.{Ends, evaluate, step_items}
 use Rattle.pb_names.specs.Claims.{FreeListStep, to_end, past_assign, past_print, to_then, to_else, past_loop}
@@ -16,18 +16,19 @@ use Rattle.pb_names.specs.Claims.{into_loop, into_hold, past_give, into_arms, Fr
 use Rattle.pb_names.specs.Claims.{in_arms, FreeStepAmong, in_first, in_later, held_in, held_in_list, held}
 use Rattle.pb_names.specs.Claims.{held_among}
 use Rattle.pb_claims.proofs.NoMore.{block_held}
+use Rattle.pb_verifier.proofs.Threads.{taken, given}
 
 pub data SameItem : Item → Item → Type 0 where
-  same_assign : (line x : ℕ) (e e' : Expr) → SameItem (Assign line x e) (Assign line x e')
-  same_print : (line : ℕ) (e e' : Expr) → SameItem (Print line e) (Print line e')
-  same_choice : (line : ℕ) (e e' : Expr) (a b : Block) → SameItem (Choice line e a b) (Choice line e' a b)
+  same_assign : (line x : ℕ) (e e' : Expr) → SameItem (Item.Assign line x e) (Item.Assign line x e')
+  same_print : (line : ℕ) (e e' : Expr) → SameItem (Item.Print line e) (Item.Print line e')
+  same_choice : (line : ℕ) (e e' : Expr) (a b : Block) → SameItem (Item.If line e a b) (Item.If line e' a b)
   same_loop : (line : ℕ) (test e e' : Expr) (body : Block)
-      → SameItem (Loop line test e body) (Loop line test e' body)
+      → SameItem (Item.While line test e body) (Item.While line test e' body)
   same_hold : (line : ℕ) (bundle : Bundle) (body : Block)
-      → SameItem (Hold line bundle body) (Hold line bundle body)
+      → SameItem (Item.Hold line bundle body) (Item.Hold line bundle body)
   same_give : (line : ℕ) (bundle : Bundle) → SameItem (GiveBack line bundle) (GiveBack line bundle)
   same_parallel : (line first : ℕ) (arms : Arms)
-      → SameItem (Parallel line first arms) (Parallel line first arms)
+      → SameItem (Item.Parbegin line first arms) (Item.Parbegin line first arms)
 
 pub data SameItems : List Item → List Item → Type 0 where
   same_none : SameItems [] []
@@ -46,13 +47,13 @@ mutual
         → SameRunning (Beside a xs) (Beside b ys)
 
 same_item : (i : Item) → SameItem i i
-same_item (Assign line x e) = same_assign line x e e
-same_item (Print line e) = same_print line e e
-same_item (Choice line e a b) = same_choice line e e a b
-same_item (Loop line test e body) = same_loop line test e e body
-same_item (Hold line bundle body) = same_hold line bundle body
+same_item (Item.Assign line x e) = same_assign line x e e
+same_item (Item.Print line e) = same_print line e e
+same_item (Item.If line e a b) = same_choice line e e a b
+same_item (Item.While line test e body) = same_loop line test e e body
+same_item (Item.Hold line bundle body) = same_hold line bundle body
 same_item (GiveBack line bundle) = same_give line bundle
-same_item (Parallel line first arms) = same_parallel line first arms
+same_item (Item.Parbegin line first arms) = same_parallel line first arms
 
 pub same_items : (is : List Item) → SameItems is is
 same_items [] = same_none
@@ -143,9 +144,9 @@ list_step_same is js next (to_else line e a b rest) (same_more i j is' js' (same
 list_step_same is js next (past_loop line test e body rest) (same_more i j is' js' (same_loop line' test' f f' body')
     h) = (Doing js', past_loop line test f' body js', same_doing rest js' h)
 list_step_same is js next (into_loop line test e body rest) (same_more i j is' js' (same_loop line' test' f f' body') h) = (
-  Doing (items_of body ++ Loop line test test body ∷ js'),
+  Doing (items_of body ++ Item.While line test test body ∷ js'),
   into_loop line test f' body js',
-  same_doing _ _ (append_same (items_of body) (Loop line test test body ∷ rest) (Loop line test test body ∷ js')
+  same_doing _ _ (append_same (items_of body) (Item.While line test test body ∷ rest) (Item.While line test test body ∷ js')
       (same_more _ _ rest js' (same_loop line test test test body) h)),
 )
 list_step_same is js next (into_hold line bundle body rest) (same_more i j is' js' (same_hold line' bundle' body') h) = (
@@ -232,22 +233,6 @@ ended_held r (Beside Ended arms) e = let a = ended_held r arms e in omega (arith
 
 -- ---- a step of the source is a free step, or changes only what is left of an expression
 
-abbrev pub taken : ℕ → Effect → ℕ
-taken r Silent = 0
-taken r (Prints v) = 0
-taken r (Takes bundle) = amount_in bundle r
-taken r (Returns bundle) = 0
-taken r (Faults kind) = 0
-taken r Finishes = 0
-
-abbrev pub given : ℕ → Effect → ℕ
-given r Silent = 0
-given r (Prints v) = 0
-given r (Takes bundle) = 0
-given r (Returns bundle) = amount_in bundle r
-given r (Faults kind) = 0
-given r Finishes = 0
-
 pub record IsFree (x y : Arm) (effect : Effect) : Type 0 where
   pub way : SameArm x y ⊎ FreeStep x y
   pub balance : (r : ℕ) → held r y + given r effect ≡ held r x + taken r effect
@@ -272,7 +257,7 @@ kept i j rest h = record {
 }
 
 choice_frees : (z : Bool) (line : ℕ) (e : Expr) (a b : Block) (rest : List Item)
-    → IsFree (Doing (Choice line e a b ∷ rest)) (Doing (items_of (cond z b a) ++ rest)) Silent
+    → IsFree (Doing (Item.If line e a b ∷ rest)) (Doing (items_of (cond z b a) ++ rest)) Silent
 choice_frees true line e a b rest = record { way = inr (in_list _ _ (to_else line e a b rest)); balance = λ r. let q = block_held r b rest in omega (arith, q) }
 choice_frees false line e a b rest = record {
   way = inr (in_list _ _ (to_then line e a b rest));
@@ -281,29 +266,29 @@ choice_frees false line e a b rest = record {
 }
 
 loop_frees : (z : Bool) (line : ℕ) (test e : Expr) (body : Block) (rest : List Item)
-    → IsFree (Doing (Loop line test e body ∷ rest))
-    (Doing (cond z rest (items_of body ++ Loop line test test body ∷ rest))) Silent
+    → IsFree (Doing (Item.While line test e body ∷ rest))
+    (Doing (cond z rest (items_of body ++ Item.While line test test body ∷ rest))) Silent
 loop_frees true line test e body rest =
     record { way = inr (in_list _ _ (past_loop line test e body rest)); balance = λ r. omega arith }
 loop_frees false line test e body rest = record {
   way = inr (in_list _ _ (into_loop line test e body rest));
   balance =
-      λ r. let q = block_held r body (Loop line test test body ∷ rest) in omega (arith, q);
+      λ r. let q = block_held r body (Item.While line test test body ∷ rest) in omega (arith, q);
 }
 
 pub step_frees : (vars : List ℤ) (items : List Item) → Frees items (step_items vars items)
 step_frees vars [] = record { way = inr (in_list _ _ to_end); balance = λ r. refl }
-step_frees vars (Assign line x e ∷ rest) =
+step_frees vars (Item.Assign line x e ∷ rest) =
     evaluate_frees _ (step_expr vars e) _ _ (λ e'. kept _ _ rest (same_assign line x e e'))
     (λ v. record { way = inr (in_list _ _ (past_assign line x e rest)); balance = λ r. omega arith })
-step_frees vars (Print line e ∷ rest) =
+step_frees vars (Item.Print line e ∷ rest) =
     evaluate_frees _ (step_expr vars e) _ _ (λ e'. kept _ _ rest (same_print line e e'))
     (λ v. record { way = inr (in_list _ _ (past_print line e rest)); balance = λ r. omega arith })
-step_frees vars (Choice line e a b ∷ rest) =
+step_frees vars (Item.If line e a b ∷ rest) =
     evaluate_frees _ (step_expr vars e) _ _ (λ e'. kept _ _ rest (same_choice line e e' a b)) (λ v. choice_frees (is_zero v) line e a b rest)
-step_frees vars (Loop line test e body ∷ rest) =
+step_frees vars (Item.While line test e body ∷ rest) =
     evaluate_frees _ (step_expr vars e) _ _ (λ e'. kept _ _ rest (same_loop line test e e' body)) (λ v. loop_frees (is_zero v) line test e body rest)
-step_frees vars (Hold line bundle body ∷ rest) =
+step_frees vars (Item.Hold line bundle body ∷ rest) =
     record {
       way = inr (in_list _ _ (into_hold line bundle body rest));
       balance = λ r. let q = block_held r body
@@ -311,5 +296,5 @@ step_frees vars (Hold line bundle body ∷ rest) =
     }
 step_frees vars (GiveBack line bundle ∷ rest) =
     record { way = inr (in_list _ _ (past_give line bundle rest)); balance = λ r. omega arith }
-step_frees vars (Parallel line first arms ∷ rest) =
+step_frees vars (Item.Parbegin line first arms ∷ rest) =
     record { way = inr (in_list _ _ (into_arms line first arms rest)); balance = λ r. let q = begin_held r arms in omega (arith, q) }

@@ -1,13 +1,14 @@
--- The tree of running arms, against the table of threads: each arm of the tree owns a range of numbers for the arms inside it.
+-- The tree of running arms, against the table of threads: each arm of the tree owns a range of numbers for
+-- the arms inside it.
 use Rattle.std.proofs.Common.{◌≡◌, ◌⊎◌, inl, inr, ⊎_elim, ℕ, suc, ◌+◌, ◌<◌, ◌≤◌, ℤ, cond, nat_eq, List, []}
 use Rattle.std.proofs.Common.{◌∷◌, length, Some, None, refl, sym, ap, ◌∙◌, subst, arith, eq-eqb, ne_eqb}
 use Rattle.std.specs.Prelude.{slice_get}
 use Rattle.std.proofs.lemmas.Bool.{cases_lt}
 use Rattle.pb_names.specs.Program.{Block, count, arms_in, arms_in_arms, IsNumbered, AreNumbered}
-use Rattle.pb_names.specs.Source.{Item, Assign, Print, Choice, Loop, Hold, GiveBack, Parallel, Arm, Doing}
+use Rattle.pb_names.specs.Source.{Item, GiveBack, Arm, Doing}
 use Rattle.pb_names.specs.Source.{Waiting, Ended, Running, Nothing, Beside, first_some, find, find_among, put}
 use Rattle.pb_names.specs.Source.{put_among}
-use Rattle.pb_code.specs.Code.{Join, Thread, Idle, Live, Over, thread}
+use Rattle.pb_code.specs.Code.{Join, Thread, Idle, Live, thread}
 use Rattle.pb_names.specs.Claims.{FreeStep, in_arms, FreeStepAmong, in_first, in_later, held, held_among}
 use Rattle.pb_codegen.proofs.SimulationShapes.{SameArm, same_waiting, SameRunning, same_beside, same_items, same_arm}
 use Rattle.pb_codegen.proofs.SimulationShapes.{same_running}
@@ -26,13 +27,13 @@ abbrev pub OwnsBlock : ℕ → ℕ → Block → Type 0
 OwnsBlock lo hi block = (m : ℕ) × (lo ≤ m) × IsNumbered m block × (m + length (arms_in block) ≤ hi)
 
 abbrev pub OwnsItem : ℕ → ℕ → Item → Type 0
-OwnsItem lo hi (Assign line x e) = Unit {0}
-OwnsItem lo hi (Print line e) = Unit {0}
-OwnsItem lo hi (Choice line e a b) = OwnsBlock lo hi a × OwnsBlock lo hi b
-OwnsItem lo hi (Loop line test e body) = OwnsBlock lo hi body
-OwnsItem lo hi (Hold line bundle body) = OwnsBlock lo hi body
+OwnsItem lo hi (Item.Assign line x e) = Unit {0}
+OwnsItem lo hi (Item.Print line e) = Unit {0}
+OwnsItem lo hi (Item.If line e a b) = OwnsBlock lo hi a × OwnsBlock lo hi b
+OwnsItem lo hi (Item.While line test e body) = OwnsBlock lo hi body
+OwnsItem lo hi (Item.Hold line bundle body) = OwnsBlock lo hi body
 OwnsItem lo hi (GiveBack line bundle) = Unit {0}
-OwnsItem lo hi (Parallel line first arms) =
+OwnsItem lo hi (Item.Parbegin line first arms) =
     (lo ≤ first) × AreNumbered (first + count arms) arms
     × (first + count arms + length (arms_in_arms arms) ≤ hi)
 
@@ -48,7 +49,7 @@ abbrev mutual
   Shows code threads n lo hi (Waiting line first arms rest) =
       (p : ℕ) × (thread threads n ≡ Live p []) × (slice_get code.instrs p ≡ Some (Join first (size arms))) × StandsFrom code rest (p + 1) []
       × Owns lo hi rest × (lo ≤ first) × AreIdle threads lo first × AllShow code threads first (first + size arms) hi arms × (line_at code p ≡ Some line)
-  Shows code threads n lo hi Ended = (thread threads n ≡ Over) × (lo ≤ hi) × AreIdle threads lo hi
+  Shows code threads n lo hi Ended = (thread threads n ≡ Thread.Ended) × (lo ≤ hi) × AreIdle threads lo hi
 
   -- the arms n, n + 1 and so on
   pub AllShow : Listing → List Thread → ℕ → ℕ → ℕ → Running → Type 0

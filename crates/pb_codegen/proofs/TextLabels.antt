@@ -18,7 +18,7 @@ use Rattle.pb_code.specs.Whole.{ProcessLabels}
 use Rattle.pb_verifier.proofs.LimitTests.{all_at}
 use Rattle.pb_codegen.specs.Form.{IsSourceLine, IsFullStmt, IsFull, AreFull, IsFormedProcess, IsFormed}
 use Rattle.pb_codegen.specs.Generate.{expr_code, block_code, arm_code, arms_code, process_code, program_code}
-use Rattle.pb_codegen.specs.Lines.{stmt_line, line_of, stmt_lines, block_lines, arms_lines}
+use Rattle.pb_codegen.specs.Lines.{stmt_source_line, block_line, stmt_lines, block_lines, arms_lines}
 use Rattle.pb_codegen.specs.Lines.{process_labels, program_labels}
 use Rattle.pb_codegen.proofs.WriterLines.{length-block_lines}
 use Rattle.pb_names.proofs.Holds.{zip_at}
@@ -74,7 +74,7 @@ lines_of_arms (arm ∷ arms) h =
 
 module _ (integers resources : List Name) where
   begins_on : (s : tree.StmtSyntax) (s' : Stmt) → IsFullStmt s → ResolvesStmt integers resources s s'
-      → IsSourceLine (stmt_line s')
+      → IsSourceLine (stmt_source_line s')
   begins_on _ _ full (assign line x i e e' is h) = full
   begins_on _ _ full (print line e e' h) = full
   begins_on _ _ full (if_else line e e' a b a' b' h k l) = full.0
@@ -84,7 +84,7 @@ module _ (integers resources : List Name) where
 
   -- where what follows a block has a line or none, so has what follows the statement before it
   line_behind : (ss : tree.StmtsSyntax) (block : Block) (after : Option ℕ) → IsFull ss
-      → ResolvesStmts integers resources ss block → IsLine after → IsLine (line_of block after)
+      → ResolvesStmts integers resources ss block → IsLine after → IsLine (block_line block after)
   line_behind _ _ after full no_stmt is = is
   line_behind _ _ after full (stmt_then s s' ss block h k) is = begins_on s s' full.0 h
 
@@ -122,8 +122,8 @@ module _ (integers resources : List Name) where
         → ResolvesStmts integers resources ss block → IsLine after → All IsLine (block_lines block after)
     lined_block _ _ after full no_stmt is = All-nil IsLine
     lined_block _ _ after full (stmt_then s s' ss block h k) is =
-        All-append IsLine (stmt_lines s' (line_of block after)) (block_lines block after)
-        (lined_stmt s s' (line_of block after) full.0 h (line_behind ss block after full.1 k is))
+        All-append IsLine (stmt_lines s' (block_line block after)) (block_lines block after)
+        (lined_stmt s s' (block_line block after) full.0 h (line_behind ss block after full.1 k is))
         (lined_block ss block after full.1 k is)
 
   -- the arms inside

@@ -14,10 +14,10 @@ use Rattle.pb_code.specs.Whole.{Code, ProcessLabels}
 use Rattle.pb_codegen.specs.Compiled.{IsCompiled}
 use Rattle.pb_codegen.specs.Generate.{program_code}
 use Rattle.pb_codegen.specs.Lines.{program_labels}
-use Rattle.pb_codegen.specs.Numbered.{IsNumbered}
+use Rattle.pb_codegen.specs.Numbered.{IsReadAs}
 use Rattle.pb_codegen.proofs.SimulationMeaning.{one_table}
 
-pub one_analysis : (text : List ℕ) (p q : Program) (a b : Table) → IsNumbered text p a → IsNumbered text q b
+pub one_analysis : (text : List ℕ) (p q : Program) (a b : Table) → IsReadAs text p a → IsReadAs text q b
     → (p ≡ q) × (a ≡ b)
 one_analysis text p q a b x y =
     let cut : x.spelled.tokens ≡ y.spelled.tokens =

@@ -10,7 +10,7 @@ use Rattle.pb_lexer.specs.Tokens.{Token}
 use Rattle.pb_tree.specs.Syntax as tree
 use Rattle.pb_parser.specs.declared.fault.ParseFault.{ParseFault}
 use Rattle.pb_parser.specs.declared.fault.ParseFault.TheVariants as parse
-use Rattle.pb_parser.specs.Limits.{IsTooHigh, IsTooLarge, IsNoProgram, IsSyntax, KeepsLimits}
+use Rattle.pb_parser.specs.Limits.{IsTooHigh, IsTooLarge, IsNoProgram, IsSyntax, IsSmallTree}
 use Rattle.pb_parser.specs.Nesting.{NestsTooDeep}
 use Rattle.pb_parser.specs.Programs.{ReadsProgram}
 use Rattle.pb_names.specs.declared.fault.NameFault.{NameFault}
@@ -30,7 +30,7 @@ use Rattle.pb_codegen.specs.Accepted.{HasSoundCode}
 use Rattle.pb_codegen.specs.declared.fault.CompileFault.{CompileFault}
 use Rattle.pb_codegen.specs.declared.fault.CompileFault.TheVariants.{Lex, Parse, Names, Claims, Memory}
 use Rattle.pb_codegen.specs.Compiled.{IsBeforeClaims, IsCapitalFault, IsCompiled, IsRefused, of_parse, of_names}
-use Rattle.pb_codegen.specs.Numbered.{IsNumbered, Spells}
+use Rattle.pb_codegen.specs.Numbered.{IsReadAs, Spells}
 use Rattle.pb_codegen.specs.Form.{IsFormedProcess, IsFullStmt, IsFull, AreFull}
 use Rattle.pb_codegen.specs.Generate.{program_code}
 use Rattle.pb_codegen.specs.Lines.{program_labels}
@@ -45,7 +45,7 @@ use Rattle.pb_codegen.proofs.VerifiedPrograms.{sound_code}
 
 -- a tree that was read within its limits, from tokens that nest not too deep
 pub spells : {T : Type 0} (text : List ℕ) (tokens : List Token) (written : tree.ProgramSyntax) (t : T) (r : Result T ParseFault)
-    → AreTokensOf text tokens → ReadsProgram tokens written → KeepsLimits written
+    → AreTokensOf text tokens → ReadsProgram tokens written → IsSmallTree written
     → r ≡ Ok t → (NestsTooDeep tokens → r ≡ Err parse.TooDeep) → Spells text written
 spells text tokens written t r cut read limits is nested = record {
   tokens = tokens;
@@ -57,7 +57,7 @@ spells text tokens written t r cut read limits is nested = record {
 
 -- the program of a tree that a text spells, with its claims
 pub numbered : (text : List ℕ) (written : tree.ProgramSyntax) (program : Program) (claims : Table) → Spells text written
-    → Resolves written program → (HaveSmallClaims program → AreClaims program claims) → IsNumbered text program claims
+    → Resolves written program → (HaveSmallClaims program → AreClaims program claims) → IsReadAs text program claims
 numbered text written program claims spelled resolves claimed = record {
   tree = written;
   spelled = spelled;
@@ -143,12 +143,12 @@ claims_width written program claims resolves are =
     are.width 0 (omega (arith, some, rows))
 
 -- the code of a program that a text spells has none of the faults that the verifier looks for
-pub sound : (text : List ℕ) (program : Program) (claims : Table) → IsNumbered text program claims
+pub sound : (text : List ℕ) (program : Program) (claims : Table) → IsReadAs text program claims
     → FitCapital claims (capital_of program) → HasSoundCode program claims
 sound text program claims is enough =
     sound_code text is.spelled.tokens is.tree program claims is.spelled.cut is.spelled.read is.spelled.limits is.numbered is.claimed enough
 
-pub compiled : (text : List ℕ) (program : Program) (claims : Table) → IsNumbered text program claims
+pub compiled : (text : List ℕ) (program : Program) (claims : Table) → IsReadAs text program claims
     → FitCapital claims (capital_of program) → IsCompiled text (program_code program claims) (program_labels program)
 compiled text program claims is enough =
     let arms = well_numbered (resource_names program) is.tree.processes program.processes is.numbered.processes in
@@ -184,7 +184,7 @@ capital_width program capital claims is width =
     omega (arith, width, seen, all)
 
 -- a claim over the capital refuses the text
-pub capital_refused : (text : List ℕ) (program : Program) (claims : Table) (fault : CompileFault) → IsNumbered text program claims
+pub capital_refused : (text : List ℕ) (program : Program) (claims : Table) (fault : CompileFault) → IsReadAs text program claims
     → IsCapitalFault program claims fault → IsRefused text fault
 capital_refused text program claims (Lex fault) is h = elim h [ ]
 capital_refused text program claims (Parse fault) is h = elim h [ ]

@@ -10,7 +10,7 @@ use Rattle.pb_codegen.specs.Generate.{arm_code, arms_code, arms_entries}
 use Rattle.pb_codegen.specs.Lines.{block_lines, arms_lines}
 use Rattle.pb_codegen.specs.declared.writer.Writer.{Writer}
 use Rattle.pb_codegen.proofs.WriterParts.{length-seen}
-use Rattle.pb_names.specs.Program.{Stmt, Set, Write, If, While, HoldDo, Parbegin, Block, Skip, Then, Arms}
+use Rattle.pb_names.specs.Program.{Stmt, Assign, Print, If, While, Hold, Parbegin, Block, Skip, Then, Arms}
 use Rattle.pb_names.specs.Program.{NoArm, AndArm, Process, arms_list, arms_in, arms_in_stmt, arms_in_arms}
 use Rattle.pb_names.specs.Program.{arms_of}
 
@@ -161,8 +161,8 @@ more_room n m le arms h = All-weaker (HasFew n) (HasFew m) (λ arm k. omega (ari
 
 mutual
   few_in_stmt : (s : Stmt) → All (HasFew (length (arms_in_stmt s))) (arms_in_stmt s)
-  few_in_stmt (Set line x e) = All-nil (HasFew 0)
-  few_in_stmt (Write line e) = All-nil (HasFew 0)
+  few_in_stmt (Assign line x e) = All-nil (HasFew 0)
+  few_in_stmt (Print line e) = All-nil (HasFew 0)
   few_in_stmt (If line e a b) =
       let n = length (arms_in a ++ arms_in b) in
       let all = length-append (arms_in a) (arms_in b) in
@@ -170,7 +170,7 @@ mutual
       (more_room (length (arms_in a)) n (omega (arith, all)) (arms_in a) (few_in a))
       (more_room (length (arms_in b)) n (omega (arith, all)) (arms_in b) (few_in b))
   few_in_stmt (While line e body) = few_in body
-  few_in_stmt (HoldDo line bundle body) = few_in body
+  few_in_stmt (Hold line bundle body) = few_in body
   few_in_stmt (Parbegin line first arms) =
       let n = length (arms_list arms ++ arms_in_arms arms) in
       let all = length-append (arms_list arms) (arms_in_arms arms) in

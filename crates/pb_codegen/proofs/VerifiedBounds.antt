@@ -2,7 +2,7 @@
 use Rattle.std.proofs.Common.{◌≡◌, ℕ, zero, suc, ◌+◌, ◌≤◌, List, [], ◌∷◌, ◌++◌, length, Some, subst, arith}
 use Rattle.std.specs.Prelude.{slice_get}
 use Rattle.pb_base.specs.Steppers.{Bundle}
-use Rattle.pb_names.specs.Program.{Expr, Number, Variable, Unary, Binary, Stmt, Set, Write, If, While, HoldDo}
+use Rattle.pb_names.specs.Program.{Expr, Number, Variable, Unary, Binary, Stmt, Assign, Print, If, While, Hold}
 use Rattle.pb_names.specs.Program.{Parbegin, Block, Skip, Then, count}
 use Rattle.pb_names.specs.Claims.{stmt_peak, peak, arms_peak}
 use Rattle.pb_code.specs.Code.{Instr, Store, Compute1, Compute2, Jump, JumpIfZero, PrintTop, Give, End}
@@ -41,11 +41,11 @@ module _ (r : ℕ) (most : ℕ → ℕ) where
   -- the arms of each parbegin have the peaks of the one pass
   abbrev mutual
     pub KnownStmt : Stmt → Type 0
-    KnownStmt (Set line x e) = Unit {0}
-    KnownStmt (Write line e) = Unit {0}
+    KnownStmt (Assign line x e) = Unit {0}
+    KnownStmt (Print line e) = Unit {0}
     KnownStmt (If line e a b) = Known a × Known b
     KnownStmt (While line e body) = Known body
-    KnownStmt (HoldDo line bundle body) = Known body
+    KnownStmt (Hold line bundle body) = Known body
     KnownStmt (Parbegin line first arms) = sum_of_arms most first (count arms) ≡ arms_peak r arms
 
     pub Known : Block → Type 0
@@ -82,11 +82,11 @@ module _ (r : ℕ) (most : ℕ → ℕ) (bound : ℕ) where
     stmt_each : (p : ℕ) (hs : List Bundle) (s : Stmt) → length hs + stmt_height s ≤ 255
         → in_holdings r hs + stmt_peak r s ≤ bound → KnownStmt r most s
         → Each Under (stmt_code p s) (stmt_shapes hs s)
-    stmt_each p hs (Set line x e) h u k =
+    stmt_each p hs (Assign line x e) h u k =
         each_append Under (expr_code e) (expr_shapes 0 hs e) (Store x ∷ []) (shape 1 hs ∷ [])
         (expr_each 0 hs e (omega (arith, h)) (omega (arith, h)) (omega (arith, u)))
         ((omega arith, omega (arith, h), omega (arith, u)), tt)
-    stmt_each p hs (Write line e) h u k =
+    stmt_each p hs (Print line e) h u k =
         each_append Under (expr_code e) (expr_shapes 0 hs e) (PrintTop ∷ []) (shape 1 hs ∷ [])
         (expr_each 0 hs e (omega (arith, h)) (omega (arith, h)) (omega (arith, u)))
         ((omega arith, omega (arith, h), omega (arith, u)), tt)
@@ -115,7 +115,7 @@ module _ (r : ℕ) (most : ℕ → ℕ) (bound : ℕ) where
               (block_each start hs body (omega (arith, h)) (omega (arith, u)) k)
               ((omega arith, omega (arith, h), omega (arith, u)), tt),
         )
-    stmt_each p hs (HoldDo line bundle body) h u k = (
+    stmt_each p hs (Hold line bundle body) h u k = (
       (omega arith, omega (arith, h), omega (arith, u)),
       each_append Under (block_code (p + 1) body) (block_shapes (bundle ∷ hs) body) (Give bundle ∷ [])
           (shape 0 (bundle ∷ hs) ∷ [])

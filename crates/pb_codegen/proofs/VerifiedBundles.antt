@@ -14,7 +14,7 @@ use Rattle.pb_names.specs.Resolves.{ResolvesStmt, assign, print, if_else, while_
 use Rattle.pb_names.specs.Resolves.{ResolvesStmts}
 use Rattle.pb_names.specs.Resolves.{no_stmt, stmt_then, ResolvesArms, no_arm, arm_then}
 use Rattle.pb_code.specs.Code.{Instr, Push, Load, Store, Compute1, Compute2, Jump, JumpIfZero, PrintTop, Take}
-use Rattle.pb_code.specs.Code.{Give, Fork, Join, End, ProcessCode, CodeProcess, Thread, Idle, Live, Over}
+use Rattle.pb_code.specs.Code.{Give, Fork, Join, End, ProcessCode, CodeProcess, Thread, Idle, Live, Ended}
 use Rattle.pb_code.specs.Code.{thread}
 use Rattle.pb_code.specs.Code.{ThreadStep, Runs, Traps, Forks, Joins, Stops, with_result, act, all_over}
 use Rattle.pb_code.specs.Code.{apply_step}
@@ -222,4 +222,4 @@ module _ (n : ℕ) (code : ProcessCode) (process : CodeProcess) (a : ℕ) where
       at_thread : (t : Thread) → step_thread code process a t ≡ Some (after, effect) → IsTidyEffect n effect
       at_thread Idle e' = cc
       at_thread (Live place stack) e' = at_place place stack (slice_get code.instrs place) refl e'
-      at_thread Over e' = cc
+      at_thread Ended e' = cc

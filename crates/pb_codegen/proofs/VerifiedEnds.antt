@@ -3,7 +3,7 @@ use Rattle.std.proofs.Common.{ℕ, ◌+◌, ◌≡◌, ◌≤◌, ◌++◌, ◌�
 use Rattle.pb_base.specs.Steppers.{Bundle}
 use Rattle.pb_code.specs.Code.{Jump, JumpIfZero, Give}
 use Rattle.pb_codegen.specs.Generate.{expr_code, stmt_code, block_code}
-use Rattle.pb_names.specs.Program.{Expr, Block, If, While, HoldDo}
+use Rattle.pb_names.specs.Program.{Expr, Block, If, While, Hold}
 
 pub if_fits : (p line : ℕ) (e : Expr) (a b : Block) (q r s t : ℕ) → p + length (stmt_code p (If line e a b)) ≤ 40000
     → q ≡ p + length (expr_code e) → r ≡ q + 1 → s ≡ r + length (block_code r a) → t ≡ s + 1
@@ -34,7 +34,7 @@ while_fits p line e body q r s small is_q is_r is_s =
     omega (arith, m, n)
 
 pub hold_fits : (p line : ℕ) (bundle : Bundle) (body : Block) (r : ℕ)
-    → p + length (stmt_code p (HoldDo line bundle body)) ≤ 40000 → r ≡ p + 1
+    → p + length (stmt_code p (Hold line bundle body)) ≤ 40000 → r ≡ p + 1
     → r + length (block_code r body) + 1 ≤ 40000
 hold_fits p line bundle body r small is_r =
     let same : length (block_code r body) ≡ length (block_code (p + 1) body) =

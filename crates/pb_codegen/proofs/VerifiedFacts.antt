@@ -8,7 +8,7 @@ use Rattle.pb_codegen.proofs.VerifiedNotedCode.{Shape, Notes, Leads, Fits, IsNot
 use Rattle.pb_verifier.specs.Places.{InstrAt, Follows, Reached, at_entry, from}
 use Rattle.pb_verifier.specs.Faults.{pops, pushes, TurnsDepth, AreDepths, TurnsHoldings, AreHoldings}
 use Rattle.pb_verifier.specs.Faults.{EndsClear}
-use Rattle.pb_verifier.proofs.Lying.{same_instr}
+use Rattle.pb_verifier.proofs.ArmPlaces.{same_instr}
 use Rattle.pb_verifier.proofs.Greatest.{one_depth, one_holdings, spread_once}
 
 abbrev pub depth_of : Option Shape → ℕ

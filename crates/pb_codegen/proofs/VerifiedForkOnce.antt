@@ -1,6 +1,6 @@
 -- Each arm of generated code but the first is named by one fork.
 use Rattle.std.proofs.Common.{◌≡◌, ℕ, ◌+◌, List, [], ◌∷◌, ◌++◌, length, refl, ap, arith, length-append}
-use Rattle.pb_names.specs.Program.{Expr, Number, Variable, Unary, Binary, Stmt, Set, Write, If, While, HoldDo}
+use Rattle.pb_names.specs.Program.{Expr, Number, Variable, Unary, Binary, Stmt, Assign, Print, If, While, Hold}
 use Rattle.pb_names.specs.Program.{Parbegin, Block, Skip, Then, Arms, NoArm, AndArm, count, arms_list}
 use Rattle.pb_names.specs.Program.{arms_in}
 use Rattle.pb_names.specs.Program.{arms_in_stmt, arms_in_arms, IsNumbered, IsNumberedStmt, AreNumbered}
@@ -13,11 +13,11 @@ use Rattle.pb_names.proofs.NumberedLists.{length-arms_list}
 
 abbrev mutual
   own_stmt : ℕ → Stmt → ℕ
-  own_stmt b (Set line x e) = 0
-  own_stmt b (Write line e) = 0
+  own_stmt b (Assign line x e) = 0
+  own_stmt b (Print line e) = 0
   own_stmt b (If line e a c) = own b a + own b c
   own_stmt b (While line e body) = own b body
-  own_stmt b (HoldDo line bundle body) = own b body
+  own_stmt b (Hold line bundle body) = own b body
   own_stmt b (Parbegin line first arms) = among b first (count arms)
 
   own : ℕ → Block → ℕ
@@ -50,11 +50,11 @@ module _ (b : ℕ) where
 
   mutual
     times_in-stmt : (p : ℕ) (s : Stmt) → times_in b (stmt_code p s) ≡ own_stmt b s
-    times_in-stmt p (Set line x e) =
+    times_in-stmt p (Assign line x e) =
         let y = times_in-expr e in
         let n = times_in-append b (expr_code e) (Store x ∷ []) in
         omega (arith, y, n)
-    times_in-stmt p (Write line e) =
+    times_in-stmt p (Print line e) =
         let y = times_in-expr e in
         let n = times_in-append b (expr_code e) (PrintTop ∷ []) in
         omega (arith, y, n)
@@ -80,7 +80,7 @@ module _ (b : ℕ) where
         times_in-append b (expr_code e) (JumpIfZero after ∷ (block_code start body ++ (Jump p ∷ []))) in
         let m = times_in-append b (block_code start body) (Jump p ∷ []) in
         omega (arith, x, y, n, m)
-    times_in-stmt p (HoldDo line bundle body) =
+    times_in-stmt p (Hold line bundle body) =
         let y = times_in-block (p + 1) body in
         let m = times_in-append b (block_code (p + 1) body) (Give bundle ∷ []) in
         omega (arith, y, m)
@@ -110,8 +110,8 @@ module _ (b : ℕ) where
   mutual
     named_once_stmt : (n : ℕ) (s : Stmt) → IsNumberedStmt n s
         → own_stmt b s + all_own b (arms_in_stmt s) ≡ among b n (length (arms_in_stmt s))
-    named_once_stmt n (Set line x e) h = refl
-    named_once_stmt n (Write line e) h = refl
+    named_once_stmt n (Assign line x e) h = refl
+    named_once_stmt n (Print line e) h = refl
     named_once_stmt n (If line e a c) h =
         let x = named_once n a h.0 in
         let y = named_once (n + length (arms_in a)) c h.1 in
@@ -120,7 +120,7 @@ module _ (b : ℕ) where
         let sum = all_own-append b (arms_in a) (arms_in c) in
         omega (arith, x, y, split, len, sum)
     named_once_stmt n (While line e body) h = named_once n body h
-    named_once_stmt n (HoldDo line bundle body) h = named_once n body h
+    named_once_stmt n (Hold line bundle body) h = named_once n body h
     named_once_stmt n (Parbegin line first arms) h =
         let x = named_once_arms (n + count arms) arms h.1 in
         let inner = arms_in_arms arms in

@@ -2,7 +2,7 @@
 use Rattle.std.proofs.Common.{◌≡◌, ℕ, suc, max, List, arith}
 use Rattle.pb_tree.specs.Syntax as tree
 use Rattle.pb_tree.specs.Measure as measure
-use Rattle.pb_names.specs.Program.{Expr, Number, Variable, Unary, Binary, Stmt, Set, Write, If, While, HoldDo}
+use Rattle.pb_names.specs.Program.{Expr, Number, Variable, Unary, Binary, Stmt, Assign, Print, If, While, Hold}
 use Rattle.pb_names.specs.Program.{Parbegin, Block, Skip, Then, Arms, NoArm, AndArm, Name}
 use Rattle.pb_names.specs.Resolves.{ResolvesExpr, number, variable, unary, binary, ResolvesStmt, assign}
 use Rattle.pb_names.specs.Resolves.{print}
@@ -17,11 +17,11 @@ expr_height (Binary op a b) = suc (max (expr_height a) (expr_height b))
 
 abbrev mutual
   pub stmt_height : Stmt → ℕ
-  stmt_height (Set line x e) = suc (expr_height e)
-  stmt_height (Write line e) = suc (expr_height e)
+  stmt_height (Assign line x e) = suc (expr_height e)
+  stmt_height (Print line e) = suc (expr_height e)
   stmt_height (If line e a b) = suc (max (expr_height e) (max (height a) (height b)))
   stmt_height (While line e body) = suc (max (expr_height e) (height body))
-  stmt_height (HoldDo line bundle body) = suc (height body)
+  stmt_height (Hold line bundle body) = suc (height body)
   stmt_height (Parbegin line first arms) = suc (arms_height arms)
 
   pub height : Block → ℕ

@@ -4,7 +4,7 @@ use Rattle.std.specs.Prelude.{slice_get}
 use Rattle.pb_base.specs.declared.operators.UnaryOp.{UnaryOp}
 use Rattle.pb_base.specs.declared.operators.BinaryOp.{BinaryOp}
 use Rattle.std.specs.Prelude.{ℤ}
-use Rattle.pb_names.specs.Program.{Expr, Number, Variable, Unary, Binary, Stmt, Set, Write, If, While, HoldDo}
+use Rattle.pb_names.specs.Program.{Expr, Number, Variable, Unary, Binary, Stmt, Assign, Print, If, While, Hold}
 use Rattle.pb_names.specs.Program.{Parbegin, Block, Skip, Then, count}
 use Rattle.pb_code.specs.Code.{Instr, Push, Load, Store, Compute1, Compute2, Jump, JumpIfZero, PrintTop, Take}
 use Rattle.pb_code.specs.Code.{Give, Fork, Join, End}
@@ -47,11 +47,11 @@ module _ (P : Instr → Type 0) where
   -- and those of the arm that has a statement
   abbrev mutual
     pub NamesStmt : Stmt → Type 0
-    NamesStmt (Set line x e) = P (Store x) × NamesExpr e
-    NamesStmt (Write line e) = NamesExpr e
+    NamesStmt (Assign line x e) = P (Store x) × NamesExpr e
+    NamesStmt (Print line e) = NamesExpr e
     NamesStmt (If line e a b) = NamesExpr e × Names a × Names b
     NamesStmt (While line e body) = NamesExpr e × Names body
-    NamesStmt (HoldDo line bundle body) = P (Take bundle) × P (Give bundle) × Names body
+    NamesStmt (Hold line bundle body) = P (Take bundle) × P (Give bundle) × Names body
     NamesStmt (Parbegin line first arms) = P (Fork first (count arms)) × P (Join first (count arms))
 
     pub Names : Block → Type 0
@@ -79,9 +79,9 @@ module _ (P : Instr → Type 0) where
 
     mutual
       each_of_stmt : (p : ℕ) (s : Stmt) → NamesStmt s → EachInstr P (stmt_code p s)
-      each_of_stmt p (Set line x e) h =
+      each_of_stmt p (Assign line x e) h =
           each_instr-append P (expr_code e) (Store x ∷ []) (each_of_expr e h.1) (h.0, tt)
-      each_of_stmt p (Write line e) h =
+      each_of_stmt p (Print line e) h =
           each_instr-append P (expr_code e) (PrintTop ∷ []) (each_of_expr e h) (elsewhere.print, tt)
       each_of_stmt p (If line e a b) h =
           let then = p + length (expr_code e) + 1 in
@@ -102,7 +102,7 @@ module _ (P : Instr → Type 0) where
             each_instr-append P (block_code start body) (Jump p ∷ []) (each_of_block start body h.1)
                 (elsewhere.jump p, tt),
           )
-      each_of_stmt p (HoldDo line bundle body) h = (
+      each_of_stmt p (Hold line bundle body) h = (
         h.0,
         each_instr-append P (block_code (p + 1) body) (Give bundle ∷ []) (each_of_block (p + 1) body h.2)
             (h.1, tt),

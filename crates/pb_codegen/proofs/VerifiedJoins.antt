@@ -1,7 +1,7 @@
 -- In generated code each fork has its join after it, and each join its fork before it.
 use Rattle.std.proofs.Common.{◌≡◌, ℕ, zero, suc, ◌+◌, List, [], ◌∷◌, ◌++◌, length, Some, ap, refl, subst}
 use Rattle.std.specs.Prelude.{slice_get}
-use Rattle.pb_names.specs.Program.{Expr, Number, Variable, Unary, Binary, Stmt, Set, Write, If, While, HoldDo}
+use Rattle.pb_names.specs.Program.{Expr, Number, Variable, Unary, Binary, Stmt, Assign, Print, If, While, Hold}
 use Rattle.pb_names.specs.Program.{Parbegin, Block, Skip, Then, count}
 use Rattle.pb_code.specs.Code.{Instr, Push, Load, Store, Compute1, Compute2, Jump, JumpIfZero, PrintTop, Take}
 use Rattle.pb_code.specs.Code.{Give, Fork, Join, End}
@@ -38,8 +38,8 @@ paired_expr (Binary op a b) =
 
 mutual
   paired_stmt : (p : ℕ) (s : Stmt) → ArePaired (stmt_code p s)
-  paired_stmt p (Set line x e) = paired-append (expr_code e) (Store x ∷ []) (paired_expr e) (one (Store x) tt)
-  paired_stmt p (Write line e) = paired-append (expr_code e) (PrintTop ∷ []) (paired_expr e) (one PrintTop tt)
+  paired_stmt p (Assign line x e) = paired-append (expr_code e) (Store x ∷ []) (paired_expr e) (one (Store x) tt)
+  paired_stmt p (Print line e) = paired-append (expr_code e) (PrintTop ∷ []) (paired_expr e) (one PrintTop tt)
   paired_stmt p (If line e a b) =
       let then = p + length (expr_code e) + 1 in
       let other = then + length (block_code then a) + 1 in
@@ -56,7 +56,7 @@ mutual
       paired-append (expr_code e) (JumpIfZero after ∷ tail) (paired_expr e)
       (alone (JumpIfZero after) tail tt
       (paired-append (block_code start body) (Jump p ∷ []) (paired_block start body) (one (Jump p) tt)))
-  paired_stmt p (HoldDo line bundle body) =
+  paired_stmt p (Hold line bundle body) =
       alone (Take bundle) (block_code (p + 1) body ++ (Give bundle ∷ [])) tt
       (paired-append (block_code (p + 1) body) (Give bundle ∷ []) (paired_block (p + 1) body) (one (Give bundle) tt))
   paired_stmt p (Parbegin line first arms) = both first (count arms) [] none

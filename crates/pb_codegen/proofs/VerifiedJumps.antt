@@ -2,7 +2,7 @@
 use Rattle.std.proofs.Common.{◌≡◌, inl, inr, ⊎_elim, ℕ, ◌+◌, ◌<◌, ◌≤◌, List, [], ◌∷◌, ◌++◌, length, Some}
 use Rattle.std.proofs.Common.{refl, sym, ◌∙◌, subst, arith, length-append}
 use Rattle.std.specs.Prelude.{slice_get}
-use Rattle.pb_names.specs.Program.{Expr, Number, Variable, Unary, Binary, Stmt, Set, Write, If, While, HoldDo}
+use Rattle.pb_names.specs.Program.{Expr, Number, Variable, Unary, Binary, Stmt, Assign, Print, If, While, Hold}
 use Rattle.pb_names.specs.Program.{Parbegin, Block, Skip, Then, count}
 use Rattle.pb_code.specs.Code.{Instr, Push, Load, Store, Compute1, Compute2, Jump, JumpIfZero, PrintTop, Take}
 use Rattle.pb_code.specs.Code.{Give, Fork, Join, End}
@@ -32,11 +32,11 @@ module _ (is : List Instr) where
       expr_begins p a (in_front is p (expr_code a) (expr_code b ++ (Compute2 op ∷ [])) h)
 
   stmt_begins : (p : ℕ) (s : Stmt) → In is p (stmt_code p s) → IsNoJoin p
-  stmt_begins p (Set line x e) h = expr_begins p e (in_front is p (expr_code e) _ h)
-  stmt_begins p (Write line e) h = expr_begins p e (in_front is p (expr_code e) _ h)
+  stmt_begins p (Assign line x e) h = expr_begins p e (in_front is p (expr_code e) _ h)
+  stmt_begins p (Print line e) h = expr_begins p e (in_front is p (expr_code e) _ h)
   stmt_begins p (If line e a b) h = expr_begins p e (in_front is p (expr_code e) _ h)
   stmt_begins p (While line e body) h = expr_begins p e (in_front is p (expr_code e) _ h)
-  stmt_begins p (HoldDo line bundle body) h = other_there (Take bundle) p (λ f n e. cc) h.0
+  stmt_begins p (Hold line bundle body) h = other_there (Take bundle) p (λ f n e. cc) h.0
   stmt_begins p (Parbegin line first arms) h = other_there (Fork first (count arms)) p (λ f n e. cc) h.0
 
   block_begins : (p after : ℕ) (block : Block) → In is p (block_code p block)
@@ -75,10 +75,10 @@ module _ (is : List Instr) where
     mutual
       stmt_jumps : (p : ℕ) (s : Stmt) → lo ≤ p → p + length (stmt_code p s) < hi → In is p (stmt_code p s)
           → IsNoJoin (p + length (stmt_code p s)) → EachInstr JumpsWell (stmt_code p s)
-      stmt_jumps p (Set line x e) l u h next =
+      stmt_jumps p (Assign line x e) l u h next =
           each_instr-append JumpsWell (expr_code e) (Store x ∷ []) (expr_jumps e)
           (λ t j. ⊎_elim (λ x. cc) (λ x. cc) j, tt)
-      stmt_jumps p (Write line e) l u h next =
+      stmt_jumps p (Print line e) l u h next =
           each_instr-append JumpsWell (expr_code e) (PrintTop ∷ []) (expr_jumps e)
           (λ t j. ⊎_elim (λ x. cc) (λ x. cc) j, tt)
       stmt_jumps p (If line e a b) l u h next =
@@ -123,7 +123,7 @@ module _ (is : List Instr) where
                 (other_there (Jump p) j (λ f n e. cc) hj.0))
                 (jump p (l, omega (arith, u, end), expr_begins p e (in_front is p (expr_code e) _ h)), tt),
           )
-      stmt_jumps p (HoldDo line bundle body) l u h next =
+      stmt_jumps p (Hold line bundle body) l u h next =
           let j = p + 1 + length (block_code (p + 1) body) in
           let n = length-append (block_code (p + 1) body) (Give bundle ∷ []) in
           let hj = in_back is (p + 1) (block_code (p + 1) body) (Give bundle ∷ []) h.1 in

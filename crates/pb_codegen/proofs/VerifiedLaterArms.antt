@@ -1,7 +1,7 @@
 -- The forks of an arm of generated code name later arms.
 use Rattle.std.proofs.Common.{◌≡◌, ℕ, zero, suc, ◌+◌, ◌<◌, ◌≤◌, List, [], ◌∷◌, ◌++◌, length, sym, ap, subst}
 use Rattle.std.proofs.Common.{arith}
-use Rattle.pb_names.specs.Program.{Stmt, Set, Write, If, While, HoldDo, Parbegin, Block, Skip, Then, Arms}
+use Rattle.pb_names.specs.Program.{Stmt, Assign, Print, If, While, Hold, Parbegin, Block, Skip, Then, Arms}
 use Rattle.pb_names.specs.Program.{NoArm}
 use Rattle.pb_names.specs.Program.{AndArm, Expr, Number, Variable, Unary, Binary, count, arms_list, arms_in}
 use Rattle.pb_names.specs.Program.{arms_in_stmt, arms_in_arms, IsNumbered, IsNumberedStmt, AreNumbered}
@@ -35,12 +35,12 @@ expr_forks n (Binary op a b) = (expr_forks n a, expr_forks n b)
 -- a block whose arms are numbered from n on forks no earlier one
 mutual
   stmt_forks : (n k : ℕ) (s : Stmt) → k ≤ n → IsNumberedStmt n s → NamesStmt (ForksFrom k) s
-  stmt_forks n k (Set line x e) l h = (tt, expr_forks k e)
-  stmt_forks n k (Write line e) l h = expr_forks k e
+  stmt_forks n k (Assign line x e) l h = (tt, expr_forks k e)
+  stmt_forks n k (Print line e) l h = expr_forks k e
   stmt_forks n k (If line e a b) l h =
       (expr_forks k e, block_forks n k a l h.0, block_forks (n + length (arms_in a)) k b (omega (arith, l)) h.1)
   stmt_forks n k (While line e body) l h = (expr_forks k e, block_forks n k body l h)
-  stmt_forks n k (HoldDo line bundle body) l h = (tt, tt, block_forks n k body l h)
+  stmt_forks n k (Hold line bundle body) l h = (tt, tt, block_forks n k body l h)
   stmt_forks n k (Parbegin line first arms) l h = let e = h.0 in (omega (arith, e, l), tt)
 
   block_forks : (n k : ℕ) (block : Block) → k ≤ n → IsNumbered n block → Names (ForksFrom k) block
@@ -70,12 +70,12 @@ later_list n m (AndArm arm arms) l h = (
 
 mutual
   later_stmt : (n : ℕ) (s : Stmt) → IsNumberedStmt n s → ForkLater n (arms_in_stmt s)
-  later_stmt n (Set line x e) h = tt
-  later_stmt n (Write line e) h = tt
+  later_stmt n (Assign line x e) h = tt
+  later_stmt n (Print line e) h = tt
   later_stmt n (If line e a b) h =
       later-append n (arms_in a) (arms_in b) (later_block n a h.0) (later_block (n + length (arms_in a)) b h.1)
   later_stmt n (While line e body) h = later_block n body h
-  later_stmt n (HoldDo line bundle body) h = later_block n body h
+  later_stmt n (Hold line bundle body) h = later_block n body h
   later_stmt n (Parbegin line first arms) h =
       let e : n + count arms ≡ n + length (arms_list arms) = ap (λ k. n + k) (sym (length-arms_list arms)) in
       later-append n (arms_list arms) (arms_in_arms arms) (later_list n (n + count arms) arms (omega arith) h.1)

@@ -1,5 +1,5 @@
--- How long the code of a resolved process is: at most two instructions for each node of its tree, and an end for
--- each arm.
+-- How long the code of a resolved process is: at most two instructions for each node of its tree, and an end
+-- for each arm.
 use Rattle.std.proofs.Common.{◌≡◌, ℕ, ◌+◌, ◌*◌, ◌≤◌, List, [], ◌∷◌, ◌++◌, length, refl, arith, length-append}
 use Rattle.pb_tree.specs.Syntax as tree
 use Rattle.pb_tree.specs.Measure.{expr_nodes, stmt_nodes, stmts_nodes, arms_nodes}

@@ -4,7 +4,7 @@ use Rattle.std.proofs.Common.{Some, refl, sym, ap, ◌∙◌, subst, arith, appe
 use Rattle.std.specs.Prelude.{slice_get}
 use Rattle.std.proofs.lemmas.Bool.{cases_lt}
 use Rattle.pb_base.specs.Steppers.{Bundle}
-use Rattle.pb_names.specs.Program.{Expr, Number, Variable, Unary, Binary, Stmt, Set, Write, If, While, HoldDo}
+use Rattle.pb_names.specs.Program.{Expr, Number, Variable, Unary, Binary, Stmt, Assign, Print, If, While, Hold}
 use Rattle.pb_names.specs.Program.{Parbegin, Block, Skip, Then, count, Process, arms_of}
 use Rattle.pb_code.specs.Code.{Instr, Push, Load, Store, Compute1, Compute2, Jump, JumpIfZero, PrintTop, Take}
 use Rattle.pb_code.specs.Code.{Give, Fork, Join, End}
@@ -26,13 +26,13 @@ expr_shapes d hs (Binary op a b) =
 
 abbrev mutual
   pub stmt_shapes : List Bundle → Stmt → List Shape
-  stmt_shapes hs (Set line x e) = expr_shapes 0 hs e ++ (shape 1 hs ∷ [])
-  stmt_shapes hs (Write line e) = expr_shapes 0 hs e ++ (shape 1 hs ∷ [])
+  stmt_shapes hs (Assign line x e) = expr_shapes 0 hs e ++ (shape 1 hs ∷ [])
+  stmt_shapes hs (Print line e) = expr_shapes 0 hs e ++ (shape 1 hs ∷ [])
   stmt_shapes hs (If line e a b) =
       expr_shapes 0 hs e ++ (shape 1 hs ∷ (block_shapes hs a ++ (shape 0 hs ∷ block_shapes hs b)))
   stmt_shapes hs (While line e body) =
       expr_shapes 0 hs e ++ (shape 1 hs ∷ (block_shapes hs body ++ (shape 0 hs ∷ [])))
-  stmt_shapes hs (HoldDo line bundle body) =
+  stmt_shapes hs (Hold line bundle body) =
       shape 0 hs ∷ (block_shapes (bundle ∷ hs) body ++ (shape 0 (bundle ∷ hs) ∷ []))
   stmt_shapes hs (Parbegin line first arms) = shape 0 hs ∷ shape 0 hs ∷ []
 
@@ -86,14 +86,14 @@ length-expr_shapes d hs (Binary op a b) =
 mutual
   length-stmt_shapes : (p : ℕ) (hs : List Bundle) (s : Stmt)
       → length (stmt_shapes hs s) ≡ length (stmt_code p s)
-  length-stmt_shapes p hs (Set line x e) = omega (
+  length-stmt_shapes p hs (Assign line x e) = omega (
     arith,
     length-expr_shapes 0 hs e,
     length-append (expr_shapes 0 hs e)
         (shape 1 hs ∷ []),
     length-append (expr_code e) (Store x ∷ []),
   )
-  length-stmt_shapes p hs (Write line e) = omega (
+  length-stmt_shapes p hs (Print line e) = omega (
     arith,
     length-expr_shapes 0 hs e,
     length-append (expr_shapes 0 hs e)
@@ -129,7 +129,7 @@ mutual
         length-append (expr_code e) (JumpIfZero end ∷ (block_code start body ++ (Jump p ∷ []))),
         length-append (block_code start body) (Jump p ∷ []),
       )
-  length-stmt_shapes p hs (HoldDo line bundle body) =
+  length-stmt_shapes p hs (Hold line bundle body) =
       let hb = length-block_shapes (p + 1) (bundle ∷ hs) body in
       omega (
         arith,
@@ -217,11 +217,11 @@ module _ (is : List Instr) (shapes : List Shape) where
       (fit_one t (Compute2 op, suc (suc d), hs, at, sh, subst (λ k. Leads notes k (suc d) hs) (sym len) next))))
 
   stmt_first : (p : ℕ) (hs : List Bundle) (s : Stmt) → In shapes p (stmt_shapes hs s) → Leads notes p 0 hs
-  stmt_first p hs (Set line x e) h = expr_first p 0 hs e (in_front shapes p (expr_shapes 0 hs e) _ h)
-  stmt_first p hs (Write line e) h = expr_first p 0 hs e (in_front shapes p (expr_shapes 0 hs e) _ h)
+  stmt_first p hs (Assign line x e) h = expr_first p 0 hs e (in_front shapes p (expr_shapes 0 hs e) _ h)
+  stmt_first p hs (Print line e) h = expr_first p 0 hs e (in_front shapes p (expr_shapes 0 hs e) _ h)
   stmt_first p hs (If line e a b) h = expr_first p 0 hs e (in_front shapes p (expr_shapes 0 hs e) _ h)
   stmt_first p hs (While line e body) h = expr_first p 0 hs e (in_front shapes p (expr_shapes 0 hs e) _ h)
-  stmt_first p hs (HoldDo line bundle body) h = h.0
+  stmt_first p hs (Hold line bundle body) h = h.0
   stmt_first p hs (Parbegin line first arms) h = h.0
 
   block_first : (p after : ℕ) (hs : List Bundle) (block : Block) → In shapes p (block_shapes hs block)
@@ -240,18 +240,18 @@ module _ (is : List Instr) (shapes : List Shape) where
     stmt_fit : (p : ℕ) (hs : List Bundle) (s : Stmt) → In is p (stmt_code p s)
         → In shapes p (stmt_shapes hs s) → Leads notes (p + length (stmt_code p s)) 0 hs
         → AllFit p (p + length (stmt_code p s))
-    stmt_fit p hs (Set line x e) h s next =
+    stmt_fit p hs (Assign line x e) h s next =
         let q = p + length (expr_code e) in
-        let len : q + 1 ≡ p + length (stmt_code p (Set line x e)) =
+        let len : q + 1 ≡ p + length (stmt_code p (Assign line x e)) =
         omega (arith, length-append (expr_code e) (Store x ∷ [])) in
         let at = (in_back is p (expr_code e) (Store x ∷ []) h).0 in
         let sh = (past_expr p 0 hs e (shape 1 hs ∷ []) s).0 in
         fit_to p (q + 1) _ len (fit_join p q (q + 1)
         (expr_fit p 0 hs e (in_front is p (expr_code e) _ h) (in_front shapes p (expr_shapes 0 hs e) _ s) sh)
         (fit_one q (Store x, 1, hs, at, sh, subst (λ k. Leads notes k 0 hs) (sym len) next)))
-    stmt_fit p hs (Write line e) h s next =
+    stmt_fit p hs (Print line e) h s next =
         let q = p + length (expr_code e) in
-        let len : q + 1 ≡ p + length (stmt_code p (Write line e)) =
+        let len : q + 1 ≡ p + length (stmt_code p (Print line e)) =
         omega (arith, length-append (expr_code e) (PrintTop ∷ [])) in
         let at = (in_back is p (expr_code e) (PrintTop ∷ []) h).0 in
         let sh = (past_expr p 0 hs e (shape 1 hs ∷ []) s).0 in
@@ -310,10 +310,10 @@ module _ (is : List Instr) (shapes : List Shape) where
         (fit_one q (JumpIfZero after, 1, hs, hq.0, sq.0, (next', block_first start j hs body sb refl sj.0)))
         (fit_join start j after (block_fit start hs body (in_front is start (block_code start body) _ hq.1) sb sj.0)
         (fit_one j (Jump p, 0, hs, hj.0, sj.0, sp)))))
-    stmt_fit p hs (HoldDo line bundle body) h s next =
+    stmt_fit p hs (Hold line bundle body) h s next =
         let start = p + 1 in
         let j = start + length (block_code start body) in
-        let len : j + 1 ≡ p + length (stmt_code p (HoldDo line bundle body)) =
+        let len : j + 1 ≡ p + length (stmt_code p (Hold line bundle body)) =
         omega (arith, length-append (block_code start body) (Give bundle ∷ [])) in
         let hj = in_back is start (block_code start body) (Give bundle ∷ []) h.1 in
         let sj = past_block start (bundle ∷ hs) body (shape 0 (bundle ∷ hs) ∷ []) s.1 in

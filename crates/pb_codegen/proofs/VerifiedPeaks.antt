@@ -2,7 +2,7 @@
 use Rattle.std.proofs.Common.{◌≡◌, ℕ, zero, suc, ◌+◌, ◌<◌, ◌≤◌, List, [], ◌∷◌, ◌++◌, length, Some, refl, sym}
 use Rattle.std.proofs.Common.{ap, subst, arith}
 use Rattle.std.specs.Prelude.{slice_get}
-use Rattle.pb_names.specs.Program.{Stmt, Set, Write, If, While, HoldDo, Parbegin, Block, Skip, Then, Arms}
+use Rattle.pb_names.specs.Program.{Stmt, Assign, Print, If, While, Hold, Parbegin, Block, Skip, Then, Arms}
 use Rattle.pb_names.specs.Program.{NoArm}
 use Rattle.pb_names.specs.Program.{AndArm, count, arms_list, arms_in_stmt, arms_in, arms_in_arms}
 use Rattle.pb_names.specs.Program.{IsNumberedStmt, IsNumbered, AreNumbered}
@@ -34,14 +34,14 @@ module _ (r : ℕ) (all : List Block) where
 
   mutual
     known_stmt : (n : ℕ) (s : Stmt) → IsNumberedStmt n s → In all n (arms_in_stmt s) → KnownStmt r most s
-    known_stmt n (Set line x e) num h = tt
-    known_stmt n (Write line e) num h = tt
+    known_stmt n (Assign line x e) num h = tt
+    known_stmt n (Print line e) num h = tt
     known_stmt n (If line e a b) num h = (
       known n a num.0 (in_front all n (arms_in a) (arms_in b) h),
       known (n + length (arms_in a)) b num.1 (in_back all n (arms_in a) (arms_in b) h),
     )
     known_stmt n (While line e body) num h = known n body num h
-    known_stmt n (HoldDo line bundle body) num h = known n body num h
+    known_stmt n (Hold line bundle body) num h = known n body num h
     known_stmt n (Parbegin line first arms) num h =
         subst (λ k. sum_of_arms most k (count arms) ≡ arms_peak r arms) (sym num.0)
         (arms_sum n arms (in_front all n (arms_list arms) (arms_in_arms arms) h))
@@ -65,14 +65,14 @@ module _ (r : ℕ) (all : List Block) where
   mutual
     inner_stmt : (n : ℕ) (s : Stmt) → IsNumberedStmt n s → In all n (arms_in_stmt s) → stmt_height s ≤ 255
         → AllKnown (arms_in_stmt s)
-    inner_stmt n (Set line x e) num h u = tt
-    inner_stmt n (Write line e) num h u = tt
+    inner_stmt n (Assign line x e) num h u = tt
+    inner_stmt n (Print line e) num h u = tt
     inner_stmt n (If line e a b) num h u =
         known_append (arms_in a) (arms_in b)
         (inner n a num.0 (in_front all n (arms_in a) (arms_in b) h) (omega (arith, u)))
         (inner (n + length (arms_in a)) b num.1 (in_back all n (arms_in a) (arms_in b) h) (omega (arith, u)))
     inner_stmt n (While line e body) num h u = inner n body num h (omega (arith, u))
-    inner_stmt n (HoldDo line bundle body) num h u = inner n body num h (omega (arith, u))
+    inner_stmt n (Hold line bundle body) num h u = inner n body num h (omega (arith, u))
     inner_stmt n (Parbegin line first arms) num h u =
         let back =
         subst (λ k. In all (n + k) (arms_in_arms arms)) (length-arms_list arms)

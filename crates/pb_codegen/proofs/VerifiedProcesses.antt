@@ -5,7 +5,7 @@ use Rattle.std.specs.List.{AllZip}
 use Rattle.std.proofs.lemmas.List.{length-map}
 use Rattle.pb_tree.specs.Syntax.{ProcessSyntax, ProgramSyntax}
 use Rattle.pb_tree.specs.Measure.{stmts_nodes, processes_nodes, stmts_height, processes_height}
-use Rattle.pb_parser.specs.Limits.{KeepsLimits}
+use Rattle.pb_parser.specs.Limits.{IsSmallTree}
 use Rattle.pb_names.specs.Program.{Name, Process, Resource, Program, AllWellNumbered}
 use Rattle.pb_names.specs.Resolves.{Resolves, ResolvesProcess, ResolvesResource, resource_names}
 use Rattle.pb_code.specs.Code.{Instr, Fork}
@@ -59,7 +59,7 @@ height_at (q ∷ ps) zero p at =
 height_at (q ∷ ps) (suc k) p at = let rest = height_at ps k p at in omega (arith, rest)
 
 -- the limits of a tree are those of each process
-limits_at : (tree : ProgramSyntax) (k : ℕ) (p : ProcessSyntax) → KeepsLimits tree
+limits_at : (tree : ProgramSyntax) (k : ℕ) (p : ProcessSyntax) → IsSmallTree tree
     → slice_get tree.processes k ≡ Some p
     → (stmts_nodes p.body ≤ 16384) × (stmts_height p.body ≤ 200)
 limits_at tree k p limits at =
@@ -75,7 +75,7 @@ small_capital tree program h =
     all_from (λ (resource : Resource). resource.capital ≤ 1000000) program.resources (λ k resource at.
     (zip_at ResolvesResource tree.resources program.resources k resource h.resources at).2.small)
 
-module _ (tree : ProgramSyntax) (program : Program) (limits : KeepsLimits tree) (h : Resolves tree program) where
+module _ (tree : ProgramSyntax) (program : Program) (limits : IsSmallTree tree) (h : Resolves tree program) where
   abbrev resources : List Name
   resources = resource_names program
 
@@ -113,7 +113,7 @@ pub record IsFine (resources : List Name) (process : Process) : Type 0 where
   pub formed : IsFormedProcess tree.written
   pub few_resources : length resources ≤ 16
 
-pub fine_process : (tree : ProgramSyntax) (program : Program) → IsFormed tree → KeepsLimits tree
+pub fine_process : (tree : ProgramSyntax) (program : Program) → IsFormed tree → IsSmallTree tree
     → Resolves tree program → (p : ℕ) (process : Process) → slice_get program.processes p ≡ Some process
     → IsFine (resource_names program) process
 fine_process tree program formed limits h p process at =

@@ -31,7 +31,7 @@ use Rattle.pb_verifier.specs.Faults.{EndsClear, PeakFits}
 use Rattle.pb_verifier.specs.Limits.{IsName, IsSmallProcess, KeepsLimits}
 use Rattle.pb_verifier.specs.Behaviour.{IsWellBehaved}
 use Rattle.pb_verifier.specs.Verified.{IsAnnotated, IsRefusedFor}
-use Rattle.pb_verifier.proofs.Behaved.{behaved}
+use Rattle.pb_verifier.proofs.SoundBehaviour.{behaved}
 use Rattle.pb_verifier.proofs.LimitTests.{all_from, all_at}
 use Rattle.pb_codegen.specs.Accepted.{CanBeCompiled, HasSoundCode}
 use Rattle.pb_codegen.specs.Form.{IsFormedProcess}
@@ -209,7 +209,7 @@ memory_alone c NoMemory annotated refused = refl
 
 pub sound_code : (text : List ℕ) (tokens : List Token) (tree : ProgramSyntax) (program : Program)
     (claims : Table)
-    → AreTokensOf text tokens → ReadsProgram tokens tree → parser.KeepsLimits tree → Resolves tree program
+    → AreTokensOf text tokens → ReadsProgram tokens tree → parser.IsSmallTree tree → Resolves tree program
     → AreClaims program claims → claimed.FitCapital claims (capital_of program) → HasSoundCode program claims
 sound_code text tokens tree program claims cut read limits numbered are_claims enough =
     let accepted : CanBeCompiled tree program claims = record {

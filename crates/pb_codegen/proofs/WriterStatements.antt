@@ -11,7 +11,7 @@ use Rattle.pb_codegen.specs.Generate.{expr_code, stmt_code, block_code}
 use Rattle.pb_codegen.specs.Lines.{stmt_lines, block_lines}
 use Rattle.pb_codegen.specs.declared.writer.Writer.{Writer}
 use Rattle.pb_codegen.proofs.WriterParts.{adds_then, adds_as, adds-place, place-replaced, replaced}
-use Rattle.pb_names.specs.Program.{Expr, Unary, Binary, If, While, HoldDo, Parbegin, Block, Arms, count}
+use Rattle.pb_names.specs.Program.{Expr, Unary, Binary, If, While, Hold, Parbegin, Block, Arms, count}
 
 -- ---- expressions
 
@@ -156,7 +156,7 @@ pub adds_hold : {w u v x : Writer} (line : ℕ) (bundle : Bundle) (body : Block)
     → Adds w u (Take bundle ∷ []) (Some line ∷ [])
     → Adds u v (block_code (place u) body) (block_lines body (Some line))
     → Adds v x (i ∷ []) (Some line ∷ []) → i ≡ Give bundle
-    → (after : Option ℕ) → Adds w x (stmt_code (place w) (HoldDo line bundle body)) (stmt_lines (HoldDo line bundle body) after)
+    → (after : Option ℕ) → Adds w x (stmt_code (place w) (Hold line bundle body)) (stmt_lines (Hold line bundle body) after)
 adds_hold {w} {u} {v} {x} line bundle body i h k l is after =
     let start : place u ≡ place w + 1 = adds-place h in
     adds_as (adds_then h (adds_then k l))

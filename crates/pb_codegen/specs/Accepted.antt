@@ -2,7 +2,7 @@
 use Rattle.std.specs.Prelude.{◌≡◌}
 use Rattle.pb_base.specs.Steppers.{Table}
 use Rattle.pb_tree.specs.Syntax.{ProgramSyntax}
-use Rattle.pb_parser.specs.Limits.{KeepsLimits}
+use Rattle.pb_parser.specs.Limits.{IsSmallTree}
 use Rattle.pb_names.specs.Meaning.{AreClaims}
 use Rattle.pb_names.specs.Program.{Program, capital_of}
 use Rattle.pb_names.specs.Resolves.{Resolves}
@@ -20,14 +20,14 @@ use Rattle.pb_codegen.specs.SourceBehaviour.{KeepsClaims}
 -- enough for its claims
 pub record CanBeCompiled (tree : ProgramSyntax) (program : Program) (claims : Table) : Type 0 where
   pub formed : IsFormed tree
-  pub limits : KeepsLimits tree
+  pub limits : IsSmallTree tree
   pub numbered : Resolves tree program
   pub claimed : AreClaims program claims
   pub enough : FitCapital claims (capital_of program)
 
 -- what is then true of it and its code: the code can be generated, it has none of the faults that the
--- verifier looks for, and so a refusal comes only if memory runs out; it is well behaved; and the program keeps
--- its claims
+-- verifier looks for, and so a refusal comes only if memory runs out; it is well behaved; and the program
+-- keeps its claims
 pub record HasSoundCode (program : Program) (claims : Table) : Type 0 where
   pub generatable : IsGeneratable program
   pub annotated : IsAnnotated (program_code program claims)

@@ -24,7 +24,7 @@ use Rattle.pb_verifier.specs.Verified.{VerifiedCode}
 use Rattle.pb_codegen.specs.Correct.{MeansTheSame, IsFollowed}
 use Rattle.pb_codegen.specs.Generate.{names_of, program_code}
 use Rattle.pb_codegen.specs.Lines.{program_labels}
-use Rattle.pb_codegen.specs.Numbered.{IsNumbered, Spells}
+use Rattle.pb_codegen.specs.Numbered.{IsReadAs, Spells}
 use Rattle.pb_codegen.specs.SourceBehaviour.{KeepsClaims}
 use Rattle.pb_codegen.specs.declared.fault.ClaimsFault.{ClaimsFault}
 use Rattle.pb_codegen.specs.declared.fault.CompileFault.{CompileFault}
@@ -40,7 +40,7 @@ pub record CompiledText : Type 0 where
 -- all loans are safe; the labels have a line or none for each place of the code, and a name for each integer
 pub record IsCompiled (text : List ℕ) (code : Code) (labels : List ProcessLabels) : Type 0 where
   pub program : Program
-  pub numbered : IsNumbered text program code.claims
+  pub numbered : IsReadAs text program code.claims
   pub generated : code ≡ program_code program code.claims
   pub names : code.names ≡ names_of program
   pub enough : FitCapital code.claims code.capital
@@ -53,8 +53,8 @@ pub record IsCompiled (text : List ℕ) (code : Code) (labels : List ProcessLabe
 
 -- ---- refusals
 
--- the cause of a fault of the grammar, for the tokens of a text, and none that is looked for before it: they nest too
--- deep, are not a program, are one that is too high, or are one that is too large
+-- the cause of a fault of the grammar, for the tokens of a text, and none that is looked for before it: they
+-- nest too deep, are not a program, are one that is too high, or are one that is too large
 abbrev pub IsParseFault : List Token → ParseFault → Type 0
 IsParseFault tokens (parse.Syntax at) = (¬ NestsTooDeep tokens) × IsNoProgram tokens
 IsParseFault tokens parse.TooDeep = NestsTooDeep tokens ⊎ IsTooHigh tokens
@@ -82,7 +82,7 @@ IsRefused text (Parse fault) = (tokens : List Token) × AreTokensOf text tokens 
 IsRefused text (Names names.NoMemory) = ⊥
 IsRefused text (Names fault) = (tree : ProgramSyntax) × Spells text tree × IsFault tree fault
 IsRefused text (Claims fault) =
-    (program : Program) × (claims : Table) × IsNumbered text program claims × IsClaimsFault program claims fault
+    (program : Program) × (claims : Table) × IsReadAs text program claims × IsClaimsFault program claims fault
 IsRefused text Memory = ⊤
 
 -- ---- out of memory is one fault, wherever it comes

@@ -18,7 +18,8 @@ use Rattle.pb_codegen.specs.Lines.{process_lines}
 abbrev pub generated : List Process → List ProcessCode
 generated program = map process_code program
 
--- the code makes the events of the source, and no others; a pick of the source is at most `times` picks of the code
+-- the code makes the events of the source, and no others; a pick of the source is at most `times` picks of
+-- the code
 pub record Implements (source code : List Event → ℕ → Type 0) (times : ℕ) : Type 0 where
   pub no_more : (events : List Event) (n : ℕ) → code events n → source events n
   pub no_less : (events : List Event) (n : ℕ) → source events n → code events (n * times)

@@ -1,6 +1,7 @@
 -- What has been written of a process: its instructions as contracts see them, and how a writer grows. No
 -- public contract cites this file.
 use Rattle.std.specs.Prelude.{◌≡◌, ℕ, ◌+◌, ◌≤◌, List, ◌++◌, All, length, map, Option, slice_set}
+use Rattle.pb_base.specs.declared.limits.TheConstants.{MAX_PLACES}
 use Rattle.pb_code.specs.Code.{Instr}
 use Rattle.pb_code.specs.Bundles.{Extends, NamesBelow}
 use Rattle.pb_code.specs.View.{instr_view}
@@ -22,7 +23,7 @@ pub record IsSound (w : Writer) : Type 0 where
 -- this code fits behind what is written
 pub record HasRoom (w : Writer) (code : List Instr) : Type 0 where
   pub sound : IsSound w
-  pub small : place w + length code ≤ 40000
+  pub small : place w + length code ≤ MAX_PLACES
 
 -- code was written with its lines, behind what was there
 pub record Adds (old new : Writer) (code : List Instr) (lines : List (Option ℕ)) : Type 0 where

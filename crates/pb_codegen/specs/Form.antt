@@ -1,6 +1,7 @@
 -- What a tree that was read has beside its limits: its names are names, each hold has a pair, each parbegin
 -- an arm, each statement begins on a line of a text, and there is a process.
 use Rattle.std.specs.Prelude.{ℕ, ◌≤◌, length, All, ⊤}
+use Rattle.pb_base.specs.declared.limits.TheConstants.{MAX_LINE}
 use Rattle.pb_tree.specs.Syntax.{StmtSyntax, assign, print, if_else, while_do, hold, parbegin, StmtsSyntax}
 use Rattle.pb_tree.specs.Syntax.{no_stmt, stmt_then, ArmsSyntax, no_arm, arm_then, ProcessSyntax, ProgramSyntax}
 use Rattle.pb_names.specs.Limits.{width}
@@ -8,7 +9,7 @@ use Rattle.pb_verifier.specs.Limits.{IsUpTo, IsName}
 
 -- a line of a text, whose size has its limit
 abbrev pub IsSourceLine : ℕ → Type 0
-IsSourceLine line = IsUpTo 65536 line
+IsSourceLine line = IsUpTo MAX_LINE line
 
 -- each statement begins on a line of a text, each hold has a pair, and each parbegin an arm
 abbrev mutual

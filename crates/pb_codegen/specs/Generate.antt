@@ -2,7 +2,7 @@
 use Rattle.std.specs.Prelude.{ℕ, ◌+◌, List, [], ◌∷◌, ◌++◌, length, map}
 use Rattle.pb_base.specs.Lines.{NameTable}
 use Rattle.pb_base.specs.Steppers.{Table}
-use Rattle.pb_names.specs.Program.{Expr, Number, Variable, Unary, Binary, Stmt, Set, Write, If, While, HoldDo}
+use Rattle.pb_names.specs.Program.{Expr, Number, Variable, Unary, Binary, Stmt, Assign, Print, If, While, Hold}
 use Rattle.pb_names.specs.Program.{Parbegin, Block, Skip, Then, count, Process, Program, arms_of, capital_of}
 use Rattle.pb_names.specs.Resolves.{process_names, resource_names}
 use Rattle.pb_code.specs.Whole.{Code}
@@ -19,8 +19,8 @@ expr_code (Binary op a b) = expr_code a ++ (expr_code b ++ (Compute2 op ∷ []))
 -- the code of a statement whose first instruction has this place
 abbrev mutual
   pub stmt_code : ℕ → Stmt → List Instr
-  stmt_code place (Set line x e) = expr_code e ++ (Store x ∷ [])
-  stmt_code place (Write line e) = expr_code e ++ (PrintTop ∷ [])
+  stmt_code place (Assign line x e) = expr_code e ++ (Store x ∷ [])
+  stmt_code place (Print line e) = expr_code e ++ (PrintTop ∷ [])
   stmt_code place (If line e a b) =
       let then = place + length (expr_code e) + 1 in
       let other = then + length (block_code then a) + 1 in
@@ -30,7 +30,7 @@ abbrev mutual
       let start = place + length (expr_code e) + 1 in
       let after = start + length (block_code start body) + 1 in
       expr_code e ++ (JumpIfZero after ∷ (block_code start body ++ (Jump place ∷ [])))
-  stmt_code place (HoldDo line bundle body) =
+  stmt_code place (Hold line bundle body) =
       Take bundle ∷ (block_code (place + 1) body ++ (Give bundle ∷ []))
   stmt_code place (Parbegin line first arms) = Fork first (count arms) ∷ Join first (count arms) ∷ []
 

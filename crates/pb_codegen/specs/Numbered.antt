@@ -4,7 +4,7 @@ use Rattle.pb_base.specs.Steppers.{Table}
 use Rattle.pb_lexer.specs.Cutting.{AreTokensOf}
 use Rattle.pb_lexer.specs.Tokens.{Token}
 use Rattle.pb_tree.specs.Syntax.{ProgramSyntax}
-use Rattle.pb_parser.specs.Limits.{KeepsLimits}
+use Rattle.pb_parser.specs.Limits.{IsSmallTree}
 use Rattle.pb_parser.specs.Nesting.{NestsTooDeep}
 use Rattle.pb_parser.specs.Programs.{ReadsProgram}
 use Rattle.pb_names.specs.Meaning.{AreClaims}
@@ -17,10 +17,10 @@ pub record Spells (text : List ℕ) (tree : ProgramSyntax) : Type 0 where
   pub cut : AreTokensOf text tokens
   pub flat : ¬ NestsTooDeep tokens
   pub read : ReadsProgram tokens tree
-  pub limits : KeepsLimits tree
+  pub limits : IsSmallTree tree
 
 -- the text spells a tree, the program is that of the tree, and these are its claims
-pub record IsNumbered (text : List ℕ) (program : Program) (claims : Table) : Type 0 where
+pub record IsReadAs (text : List ℕ) (program : Program) (claims : Table) : Type 0 where
   pub tree : ProgramSyntax
   pub spelled : Spells text tree
   pub numbered : Resolves tree program
@@ -28,4 +28,4 @@ pub record IsNumbered (text : List ℕ) (program : Program) (claims : Table) : T
 
 -- some text does
 abbrev pub IsSpelled : Program → Table → Type 0
-IsSpelled program claims = (text : List ℕ) × IsNumbered text program claims
+IsSpelled program claims = (text : List ℕ) × IsReadAs text program claims

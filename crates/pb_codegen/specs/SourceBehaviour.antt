@@ -34,8 +34,8 @@ SourceIsSafe program claims s = IsSafe (banker_state (bank_with program claims) 
 abbrev pub SourceIsWellFormed : Program → Table → State SourceProcess → Type 0
 SourceIsWellFormed program claims s = IsWellFormed (banker_state (bank_with program claims) s.loans)
 
--- in every state that the source reaches, requests are within the claims, each loan is within its claim and all
--- loans together within the capital, and the loans are safe
+-- in every state that the source reaches, requests are within the claims, each loan is within its claim and
+-- all loans together within the capital, and the loans are safe
 pub record KeepsClaims (program : Program) (claims : Table) : Type 0 where
   pub asks_within : (s : State SourceProcess) → SourceReaches program claims s
       → SourceAsksWithin program claims s

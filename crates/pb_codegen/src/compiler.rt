@@ -4,7 +4,7 @@ ghost use Rattle.std.specs.Prelude.{◌≡◌, ◌<◌, IfOk, IfErr, OnOk, lengt
 ghost use Rattle.pb_claims.specs.Fits.{FitCapital};
 ghost use Rattle.pb_code.specs.View.{code_view, labels_view};
 ghost use Rattle.pb_codegen.specs.Compiled.{IsBeforeClaims, IsCapitalFault, IsCompiled, IsRefused, NamesClaim};
-ghost use Rattle.pb_codegen.specs.Numbered.{IsNumbered, IsSpelled};
+ghost use Rattle.pb_codegen.specs.Numbered.{IsReadAs, IsSpelled};
 ghost use Rattle.pb_names.specs.Program.{capital_of};
 ghost use Rattle.pb_names.specs.View.{resolved_view};
 ghost use Rattle.pb_verifier.specs.Verified.{IsRefusedFor};
@@ -38,7 +38,7 @@ pub fn analyze<A: Allocator + Clone>(
     trees: A,
     text: &[u8],
 ) -> Result<Analysis<A>, CompileFault>
-    ensures analyzed { IfOk result (λ a. IsNumbered text.now (resolved_view a.program) a.claims) }
+    ensures analyzed { IfOk result (λ a. IsReadAs text.now (resolved_view a.program) a.claims) }
     ensures refused { IfErr result (λ fault. IsRefused text.now fault) }
     ensures early { IfErr result IsBeforeClaims }
 {

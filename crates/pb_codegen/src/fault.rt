@@ -10,8 +10,9 @@ use pb_names::NameFault;
 use pb_parser::ParseFault;
 use std::alloc::AllocError;
 
-/// A process whose claim on a resource is over the capital: even alone it could not always be served. It is the first
-/// such process, and the resource the first of that process, in the order in which the text declares them.
+/// A process whose claim on a resource is over the capital: even alone it could not always be served. It is
+/// the first such process, and the resource the first of that process, in the order in which the text
+/// declares them.
 #[derive(Debug, Drop, PartialEq, Eq, thiserror::Error)]
 #[error("a process claims {claim} of a resource, of which there are {capital}")]
 pub struct ClaimsFault {
@@ -25,8 +26,8 @@ pub struct ClaimsFault {
     pub capital: u32,
 }
 
-/// Why a text is not compiled, by the part that refused it. The parts are asked in this order, and out of memory
-/// anywhere is `Memory`.
+/// Why a text is not compiled, by the part that refused it. The parts are asked in this order, and out of
+/// memory anywhere is `Memory`.
 // To add a refusal: its crate, specs/Compiled, Refusals and refusal.rt of pb_engines; docs/CHANGING.md.
 #[derive(Debug, Drop, PartialEq, Eq, thiserror::Error)]
 pub enum CompileFault {

@@ -9,6 +9,7 @@ ghost use Rattle.pb_names.specs.View.{resolved_view};
 
 use crate::names::program_names;
 use crate::process::{Processes, write_processes};
+use pb_base::limits::{MAX_AMOUNT, MAX_RESOURCES};
 use pb_base::{Capital, Claims, NoMemory};
 use pb_code::{Code, Labels};
 use pb_names::{Resolved, Resource};
@@ -56,8 +57,8 @@ pub(crate) fn capital_of<A: Allocator>(
     alloc: Global,
     resources: &Vec<Resource<A>, A>,
 ) -> Result<Capital, NoMemory>
-    requires few { length resources.now.items ≤ 16 }
-    requires small { All (λ resource. resource.capital ≤ 1000000) resources.now.items }
+    requires few { length resources.now.items ≤ MAX_RESOURCES }
+    requires small { All (λ resource. resource.capital ≤ MAX_AMOUNT) resources.now.items }
     ensures { IfOk result (λ capital. capital ≡ map (λ resource. resource.capital) resources.now.items) }
 {
     let mut amounts = Vec::new(alloc);

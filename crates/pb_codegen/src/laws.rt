@@ -9,7 +9,7 @@ ghost use Rattle.pb_codegen.specs.Compiled.{IsCompiled};
 ghost use Rattle.pb_codegen.specs.Correct.{ImplementsUnder, IsFollowed, generated};
 ghost use Rattle.pb_codegen.specs.Form.{IsFormed};
 ghost use Rattle.pb_codegen.specs.Generate.{program_code};
-ghost use Rattle.pb_codegen.specs.Numbered.{IsNumbered};
+ghost use Rattle.pb_codegen.specs.Numbered.{IsReadAs};
 ghost use Rattle.pb_codegen.specs.Sizes.{IsGeneratable};
 ghost use Rattle.pb_codegen.specs.SourceBehaviour.{SourceAsksWithin, SourceIsSafe, SourceIsWellFormed, SourceReaches};
 ghost use Rattle.pb_lexer.specs.Cutting.{AreTokensOf};
@@ -18,7 +18,7 @@ ghost use Rattle.pb_names.specs.Meaning.{AreClaims};
 ghost use Rattle.pb_names.specs.Program.{AllWellNumbered, Process, Program, capital_of};
 ghost use Rattle.pb_names.specs.Resolves.{Resolves};
 ghost use Rattle.pb_names.specs.Source.{SourceProcess};
-ghost use Rattle.pb_parser.specs.Limits.{KeepsLimits};
+ghost use Rattle.pb_parser.specs.Limits.{IsSmallTree};
 ghost use Rattle.pb_parser.specs.Programs.{ReadsProgram};
 ghost use Rattle.pb_tree.specs.Syntax.{ProgramSyntax};
 ghost use Rattle.pb_verifier.specs.Behaviour.{IsWellBehaved};
@@ -47,7 +47,7 @@ pub fn names_of_read_programs()
 /// A program whose tree is within its limits has code whose places, arms and integers can be numbered.
 pub fn resolved_programs_can_be_generated()
     ensures { (tree : ProgramSyntax) (program : Program)
-        → KeepsLimits tree → Resolves tree program → IsGeneratable program }
+        → IsSmallTree tree → Resolves tree program → IsGeneratable program }
 {}
 
 /// The code of an accepted program, under its claims, has none of the faults that the verifier looks for.
@@ -61,7 +61,7 @@ pub fn generated_code_is_verified()
 /// its claims.
 pub fn accepted_texts_have_sound_code()
     ensures { (text : List ℕ) (tokens : List Token) (tree : ProgramSyntax) (program : Program) (claims : Table)
-        → AreTokensOf text tokens → ReadsProgram tokens tree → KeepsLimits tree → Resolves tree program
+        → AreTokensOf text tokens → ReadsProgram tokens tree → IsSmallTree tree → Resolves tree program
         → AreClaims program claims → FitCapital claims (capital_of program) → HasSoundCode program claims }
 {}
 
@@ -94,7 +94,7 @@ pub fn generated_code_is_well_behaved()
 /// A text spells at most one numbered program, with one table of claims.
 pub fn one_analysis()
     ensures { (text : List ℕ) (program other : Program) (claims others : Table)
-        → IsNumbered text program claims → IsNumbered text other others → (program ≡ other) × (claims ≡ others) }
+        → IsReadAs text program claims → IsReadAs text other others → (program ≡ other) × (claims ≡ others) }
 {}
 
 /// A text is compiled to at most one code, with one list of labels.

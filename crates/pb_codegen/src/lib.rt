@@ -1,4 +1,5 @@
-//! The compiler: from a text to code, and the proof that the text's program and its code make the same events.
+//! The compiler: from a text to code, and the proof that the text's program and its code make the same
+//! events.
 #![tactic(auto)]
 
 mod arms;

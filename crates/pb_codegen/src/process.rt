@@ -13,6 +13,7 @@ use crate::arms::arms_of;
 use crate::names::copy_names;
 use crate::writer::Writer;
 use pb_base::NoMemory;
+use pb_base::limits::{MAX_ARMS, MAX_PLACES};
 use pb_code::{ProcessCode, ProcessLabels};
 use pb_names::{Process, Stmt};
 use std::alloc::{Allocator, Global};
@@ -33,8 +34,8 @@ struct Body {
 
 /// Writes arms one after another.
 fn write_arms<A: Allocator>(alloc: Global, arms: &Vec<&Vec<Stmt<A>, A>>) -> Result<Body, NoMemory>
-    requires small { length (arms_code 0 (map (λ arm. block_view arm.now.items) arms.now.items)) ≤ 40000 }
-    requires few_arms { All (λ arm. length (arms_in arm) ≤ 64) (map (λ arm. block_view arm.now.items) arms.now.items) }
+    requires small { length (arms_code 0 (map (λ arm. block_view arm.now.items) arms.now.items)) ≤ MAX_PLACES }
+    requires few_arms { All (λ arm. length (arms_in arm) ≤ MAX_ARMS) (map (λ arm. block_view arm.now.items) arms.now.items) }
     ensures code { IfOk result (λ w. seen w.writer
         ≡ arms_code 0 (map (λ arm. block_view arm.now.items) arms.now.items)) }
     ensures lines { IfOk result (λ w. w.writer.lines.items

@@ -6,11 +6,12 @@ ghost use Rattle.pb_code.specs.Bundles.{IsPlain};
 ghost use Rattle.pb_code.specs.View.{instr_view};
 ghost use Rattle.pb_codegen.specs.Emitted.{Adds, HasRoom, IsSound, place};
 ghost use Rattle.pb_codegen.specs.Generate.{arm_code, block_code, expr_code, stmt_code};
-ghost use Rattle.pb_codegen.specs.Lines.{block_lines, line_of, stmt_line, stmt_lines};
-ghost use Rattle.pb_names.specs.Program.{arms_in, arms_in_stmt, count, If, While, HoldDo, Parbegin};
+ghost use Rattle.pb_codegen.specs.Lines.{block_lines, block_line, stmt_source_line, stmt_lines};
+ghost use Rattle.pb_names.specs.Program.{arms_in, arms_in_stmt, count, If, While, Hold, Parbegin};
 ghost use Rattle.pb_names.specs.View.{arms_view, block_view, expr_view, stmt_view};
 
 use crate::writer::Writer;
+use pb_base::limits::MAX_ARMS;
 use pb_base::{Bundle, NoMemory};
 use pb_code::Instr;
 use pb_names::{Expr, Stmt};
@@ -18,7 +19,7 @@ use std::alloc::Allocator;
 
 /// Returns the line of a statement's first token.
 fn line_of<A: Allocator>(stmt: &Stmt<A>) -> u32
-    ensures { result ≡ stmt_line (stmt_view stmt.now) }
+    ensures { result ≡ stmt_source_line (stmt_view stmt.now) }
 {
     match stmt {
         Stmt::Assign { line, .. } => *line,
@@ -34,7 +35,7 @@ fn line_of<A: Allocator>(stmt: &Stmt<A>) -> u32
 /// `after`.
 fn line_after<A: Allocator>(stmts: &Vec<Stmt<A>, A>, i: usize, after: Option<u32>) -> Option<u32>
     requires { i < length stmts.now.items }
-    ensures { result ≡ line_of (block_view (drop (i + 1) stmts.now.items)) after }
+    ensures { result ≡ block_line (block_view (drop (i + 1) stmts.now.items)) after }
 {
     match stmts.get(i + 1) {
         Some(next) => Some(line_of(next)),
@@ -47,7 +48,7 @@ impl Writer {
     #[cycle(statements)]
     fn put_stmt<A: Allocator>(&mut self, stmt: &Stmt<A>, after: Option<u32>) -> Result<(), NoMemory>
         requires room { HasRoom self.old (stmt_code (place self.old) (stmt_view stmt.now)) }
-        requires few_arms { length (arms_in_stmt (stmt_view stmt.now)) ≤ 64 }
+        requires few_arms { length (arms_in_stmt (stmt_view stmt.now)) ≤ MAX_ARMS }
         ensures { OnOk result (Adds self.old self.new (stmt_code (place self.old) (stmt_view stmt.now))
             (stmt_lines (stmt_view stmt.now) after)) }
     {
@@ -78,7 +79,7 @@ impl Writer {
         after: Option<u32>,
     ) -> Result<(), NoMemory>
         requires room { HasRoom self.old (block_code (place self.old) (block_view stmts.now.items)) }
-        requires few_arms { length (arms_in (block_view stmts.now.items)) ≤ 64 }
+        requires few_arms { length (arms_in (block_view stmts.now.items)) ≤ MAX_ARMS }
         ensures { OnOk result (Adds self.old self.new (block_code (place self.old) (block_view stmts.now.items))
             (block_lines (block_view stmts.now.items) after)) }
     {
@@ -102,7 +103,7 @@ impl Writer {
         requires room { HasRoom self.old (stmt_code (place self.old)
             (If line (expr_view test.now) (block_view on_true.now.items) (block_view on_false.now.items))) }
         requires few_arms { length (arms_in_stmt
-            (If line (expr_view test.now) (block_view on_true.now.items) (block_view on_false.now.items))) ≤ 64 }
+            (If line (expr_view test.now) (block_view on_true.now.items) (block_view on_false.now.items))) ≤ MAX_ARMS }
         ensures { OnOk result (Adds self.old self.new
             (stmt_code (place self.old)
             (If line (expr_view test.now) (block_view on_true.now.items) (block_view on_false.now.items)))
@@ -133,7 +134,7 @@ impl Writer {
     ) -> Result<(), NoMemory>
         requires room { HasRoom self.old (stmt_code (place self.old)
             (While line (expr_view test.now) (block_view body.now.items))) }
-        requires few_arms { length (arms_in (block_view body.now.items)) ≤ 64 }
+        requires few_arms { length (arms_in (block_view body.now.items)) ≤ MAX_ARMS }
         ensures { OnOk result (Adds self.old self.new
             (stmt_code (place self.old) (While line (expr_view test.now) (block_view body.now.items)))
             (stmt_lines (While line (expr_view test.now) (block_view body.now.items)) (Some line))) }
@@ -158,11 +159,11 @@ impl Writer {
         body: &Vec<Stmt<A>, A>,
     ) -> Result<(), NoMemory>
         requires room { HasRoom self.old (stmt_code (place self.old)
-            (HoldDo line bundle.now (block_view body.now.items))) }
-        requires few_arms { length (arms_in (block_view body.now.items)) ≤ 64 }
+            (Hold line bundle.now (block_view body.now.items))) }
+        requires few_arms { length (arms_in (block_view body.now.items)) ≤ MAX_ARMS }
         ensures { OnOk result (Adds self.old self.new
-            (stmt_code (place self.old) (HoldDo line bundle.now (block_view body.now.items)))
-            (stmt_lines (HoldDo line bundle.now (block_view body.now.items)) (Some line))) }
+            (stmt_code (place self.old) (Hold line bundle.now (block_view body.now.items)))
+            (stmt_lines (Hold line bundle.now (block_view body.now.items)) (Some line))) }
     {
         let bundle = self.put_take(line, bundle)?;
         self.put_block(body, Some(line))?;
@@ -178,7 +179,7 @@ impl Writer {
         arms: &Vec<Vec<Stmt<A>, A>, A>,
     ) -> Result<(), NoMemory>
         requires room { HasRoom self.old (stmt_code (place self.old) (Parbegin line first (arms_view arms.now.items))) }
-        requires few_arms { count (arms_view arms.now.items) ≤ 64 }
+        requires few_arms { count (arms_view arms.now.items) ≤ MAX_ARMS }
         ensures { OnOk result (Adds self.old self.new
             (stmt_code (place self.old) (Parbegin line first (arms_view arms.now.items)))
             (stmt_lines (Parbegin line first (arms_view arms.now.items)) (Some line))) }
@@ -210,7 +211,7 @@ impl Writer {
     /// Appends the list of an arm, and its end.
     pub(crate) fn put_arm<A: Allocator>(&mut self, arm: &Vec<Stmt<A>, A>) -> Result<(), NoMemory>
         requires room { HasRoom self.old (arm_code (place self.old) (block_view arm.now.items)) }
-        requires few_arms { length (arms_in (block_view arm.now.items)) ≤ 64 }
+        requires few_arms { length (arms_in (block_view arm.now.items)) ≤ MAX_ARMS }
         ensures { OnOk result (Adds self.old self.new (arm_code (place self.old) (block_view arm.now.items))
             (block_lines (block_view arm.now.items) None ++ None ∷ [])) }
     {

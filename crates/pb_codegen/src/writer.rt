@@ -6,6 +6,7 @@ ghost use Rattle.pb_code.specs.Bundles.{IsPlain, NamesBelow};
 ghost use Rattle.pb_code.specs.View.{instr_view};
 ghost use Rattle.pb_codegen.specs.Emitted.{Adds, HasRoom, IsSound, Replaces, place};
 
+use pb_base::limits::MAX_PLACES;
 use pb_base::{Bundle, NoMemory};
 use pb_code::Instr;
 use std::alloc::Global;
@@ -34,7 +35,7 @@ impl Writer {
 
     /// Returns the place of the next instruction.
     pub(crate) fn place(&self) -> u16
-        requires { place self.now ≤ 40000 }
+        requires { place self.now ≤ MAX_PLACES }
         ensures { result ≡ place self.now }
     {
         self.instrs.len() as u16

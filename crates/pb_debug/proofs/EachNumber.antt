@@ -1,8 +1,7 @@
 -- What is said of each number below another, as a loop says it.
 use Rattle.std.proofs.Common.{Vec, Global, ◌≡◌, ℕ, suc, ◌+◌, ◌<◌, ◌++◌, List, [], length, map, get_or, sym, ap, ◌∙◌, append_assoc, arith}
 use Rattle.std.proofs.lemmas.List.{get_or-map}
-use Rattle.pb_base.specs.Lines.{name_of}
-use Rattle.pb_debug.specs.Texts.{each_below}
+use Rattle.pb_base.specs.Lines.{name_of, each_below}
 
 -- one number more
 pub each_next : (said : ℕ → List ℕ) (n : ℕ) (old mid new : List ℕ)

@@ -11,17 +11,17 @@ use Rattle.pb_code.specs.Reached.{CodeMoves}
 use Rattle.pb_code.specs.Whole.{bank_of, code_opening}
 use Rattle.pb_codegen.proofs.SimulationPlaces.{get_back}
 use Rattle.pb_history.specs.Entries.{Entry, picks_of}
-use Rattle.pb_history.specs.Positions.{AreEnabled, after, state_after}
+use Rattle.pb_history.specs.Positions.{AreEnabled, after, state_after, IsAfter}
 use Rattle.pb_history.specs.Traces.{Trail}
 use Rattle.pb_history.proofs.Positions.{makes_after, moved_more}
-use Rattle.pb_machine.proofs.Reaching.{makes_more}
+use Rattle.pb_machine.proofs.OneMorePick.{makes_more}
 use Rattle.pb_machine.specs.Views.{IsMachineOf, machine_view}
 use Rattle.pb_machine.specs.declared.machine.Machine.{Machine}
 use Rattle.pb_verifier.specs.Verified.{VerifiedCode}
-use Rattle.pb_debug.specs.Appends.{appended}
+use Rattle.pb_debug.specs.Appends.{with_pick}
 use Rattle.pb_debug.specs.Checkpoints.{IsSound, view_of}
 use Rattle.pb_debug.specs.Value.{Debugging, state_of}
-use Rattle.pb_debug.specs.Walks.{AreCheckpoints, IsCheckpoint, StandsAfter, Walks}
+use Rattle.pb_debug.specs.Walks.{AreCheckpoints, IsCheckpoint, Walks}
 use Rattle.pb_debug.specs.declared.debugger.Debugger.TheInside.{Inside}
 use Rattle.pb_debug.proofs.Walks.{checkpoints_before, interval_some}
 
@@ -47,7 +47,7 @@ module _ (v : VerifiedCode) (picks : List Pick) (pick : Pick) (event : Option Ev
       (take-append-le (length picks) picks (pick ∷ []) (omega arith))
 
   -- a machine that has made the pick is at the position after it
-  pub stands_behind : IsMachineOf v m → StandsAfter v longer (length picks + 1) m
+  pub stands_behind : IsMachineOf v m → IsAfter v longer (length picks + 1) m
   stands_behind of = record {
     machine = of;
     state = moved_more v.code longer (length picks) pick event (machine_view m) there
@@ -124,10 +124,10 @@ module _ (i : Inside) (h : IsSound i) (pick : Pick) (event : Option Event) (m : 
   moves_here =
       subst (λ (s : State CodeProcess). CodeMoves v.code s pick event (machine_view m)) (ap (state_after v.code picks) last) moves
 
-  stands : StandsAfter v (picks_of trace.entries) end m
+  stands : IsAfter v (picks_of trace.entries) end m
   stands =
-      subst (λ (ps : List Pick). StandsAfter v ps end m) (sym same)
-      (subst (λ (n : ℕ). StandsAfter v (picks ++ pick ∷ []) n m) (sym at) (stands_behind v picks pick event m moves_here of))
+      subst (λ (ps : List Pick). IsAfter v ps end m) (sym same)
+      (subst (λ (n : ℕ). IsAfter v (picks ++ pick ∷ []) n m) (sym at) (stands_behind v picks pick event m moves_here of))
 
   here : IsCheckpoint v (picks_of trace.entries) end m
   here =
@@ -145,7 +145,7 @@ module _ (i : Inside) (h : IsSound i) (pick : Pick) (event : Option Event) (m : 
   pub added_state : state_of (view_of next) ≡ machine_view m
   added_state = sym stands.state
 
-  pub added_is : view_of next ≡ appended (view_of i) pick
+  pub added_is : view_of next ≡ with_pick (view_of i) pick
   added_is =
       let d : Debugging = view_of i in
       ap (λ (ps : List Pick). record d { picks = ps; position = end; last_cost = end % i.interval }) same

@@ -5,11 +5,11 @@ use Rattle.std.proofs.lemmas.Bool.{cases_lt, lt-ltb}
 use Rattle.std.proofs.lemmas.List.{take_all, take-append-le, length-take-le, take-append-drop, length-drop}
 use Rattle.std.proofs.Math.Seq.{drop-cons, take-add}
 use Rattle.pb_base.specs.Device.{appended, AddsPrefix, GivesNext}
-use Rattle.pb_debug.specs.Answers.{Answers, AnswersRead}
+use Rattle.pb_debug.specs.Answers.{AnswersLine, AnswersRead}
 use Rattle.pb_debug.specs.Buffers.{kept}
 use Rattle.pb_debug.specs.Commands.{Command, command_of}
-use Rattle.pb_debug.specs.Lines.{Cut, one_line_more, cut, last_line, lines_of}
-use Rattle.pb_debug.specs.Sessions.{Session, nothing, one_more, session_bytes, SaysAll, SaysSome, IsTold, StopsAt, Leaves, Fed, FedSome}
+use Rattle.pb_debug.specs.Lines.{SplitLines, one_line_more, cut, last_line, lines_of}
+use Rattle.pb_debug.specs.Sessions.{Session, nothing, one_more, session_bytes, SaysAll, SaysSome, IsTold, SessionStopsAt, WritesBeforeFault, Fed, FedSome}
 use Rattle.pb_debug.specs.Value.{Debugging}
 use Rattle.pb_debug.specs.declared.fault.DebugFault.{DebugFault}
 use Rattle.pb_debug.specs.declared.fault.DebugFault.TheVariants.{PastEnd, NoProcess, NoArm, BadCommand, NoMemory, Device}
@@ -18,7 +18,7 @@ use Rattle.pb_base.proofs.DeviceLemmas.{appended-appended}
 -- ---- cutting
 
 -- what is cut of bytes behind those that were cut
-abbrev joined : Cut → List ℕ → Cut
+abbrev joined : SplitLines → List ℕ → SplitLines
 joined c bytes = record { lines = c.lines ++ (cut c.rest bytes).lines; rest = (cut c.rest bytes).rest }
 
 cut_step : (part xs ys : List ℕ) (x : ℕ) (b : Bool)
@@ -35,7 +35,7 @@ cut-append part (x ∷ xs) ys =
     cut_step part xs ys x (eqb x 10) (cut-append [] xs ys) (cut-append (part ++ x ∷ []) xs ys)
 
 pub first_lines : (part xs ys : List ℕ) → (cut part (xs ++ ys)).lines ≡ (cut part xs).lines ++ (cut (cut part xs).rest ys).lines
-first_lines part xs ys = ap (λ (c : Cut). c.lines) (cut-append part xs ys)
+first_lines part xs ys = ap (λ (c : SplitLines). c.lines) (cut-append part xs ys)
 
 -- a line feed, and any other byte
 pub cut_end : (part xs : List ℕ) → cut part (xs ++ 10 ∷ []) ≡ record { lines = (cut part xs).lines ++ (cut part xs).rest ∷ []; rest = [] }
@@ -48,7 +48,7 @@ cut_byte part xs b other =
     let one : cut c.rest (b ∷ []) ≡ record { lines = []; rest = c.rest ++ b ∷ [] } =
     ap (λ (t : Bool). cond t (one_line_more c.rest (cut [] [])) (cut (c.rest ++ b ∷ []) [])) other in
     let with : List (List ℕ) → Cut = λ ls. record { lines = ls; rest = c.rest ++ b ∷ [] } in
-    let put : Cut → Cut = λ k. record { lines = c.lines ++ k.lines; rest = k.rest } in
+    let put : SplitLines → Cut = λ k. record { lines = c.lines ++ k.lines; rest = k.rest } in
     cut-append part xs (b ∷ []) ∙ (ap put one ∙ ap with (append-nil c.lines))
 
 -- ---- what is kept of a line
@@ -75,7 +75,7 @@ kept_says line = elim (cases_lt (length line) 257) [
       too_long (kept line) (omega (arith, size)) ∙ sym (too_long line (omega (arith, le)))
 ]
 
-pub kept_answers : (d : Debugging) (line said : List ℕ) (next : Debugging) → Answers d (kept line) said next → Answers d line said next
+pub kept_answers : (d : Debugging) (line said : List ℕ) (next : Debugging) → AnswersLine d (kept line) said next → AnswersLine d line said next
 kept_answers d line said next h = subst (λ (c : Option Command). AnswersRead d c said next) (kept_says line) h
 
 -- nothing is kept only of an empty line
@@ -101,8 +101,8 @@ pub whole_prefix : (old new : Option (List ℕ)) (a : List ℕ) → new ≡ appe
 whole_prefix old new a e = (a, [], sym (append-nil a), e)
 
 -- what is left of a text behind what is written
-pub leaves_more : (fault : DebugFault) (old mid new : Option (List ℕ)) (a b : List ℕ) → mid ≡ appended old a → Leaves
-    fault mid new b → Leaves fault old new (a ++ b)
+pub leaves_more : (fault : DebugFault) (old mid new : Option (List ℕ)) (a b : List ℕ) → mid ≡ appended old a → WritesBeforeFault
+    fault mid new b → WritesBeforeFault fault old new (a ++ b)
 leaves_more PastEnd old mid new a b e h = elim h [ ]
 leaves_more NoProcess old mid new a b e h = elim h [ ]
 leaves_more NoArm old mid new a b e h = elim h [ ]
@@ -130,14 +130,14 @@ module _ (d m next : Debugging) (part xs : List ℕ) (old mid new : Option (List
   pub fed_line : IsTold m line mid new next → Fed d part (xs ++ 10 ∷ []) old new [] next
   fed_line (said, answers, written) =
       let c = cut part xs in
-      let says = kept_answers m c.rest said next (subst (λ (l : List ℕ). Answers m l said next) fed.last answers) in
+      let says = kept_answers m c.rest said next (subst (λ (l : List ℕ). AnswersLine m l said next) fed.last answers) in
       record {
         text = fed.text ++ said;
         session =
-            subst (λ (k : Cut). Session d k.lines (fed.text ++ said) next) (sym (cut_end part xs))
+            subst (λ (k : SplitLines). Session d k.lines (fed.text ++ said) next) (sym (cut_end part xs))
             (one_more c.lines fed.text m c.rest said next fed.session says);
         written = written ∙ (ap (λ o. appended o said) fed.written ∙ appended-appended old fed.text said);
-        last = ap (λ (k : Cut). kept k.rest) (sym (cut_end part xs));
+        last = ap (λ (k : SplitLines). kept k.rest) (sym (cut_end part xs));
       }
 
   -- any other byte is kept
@@ -146,15 +146,15 @@ module _ (d m next : Debugging) (part xs : List ℕ) (old mid new : Option (List
       let c = cut part xs in
       record {
         text = fed.text;
-        session = subst (λ (k : Cut). Session d k.lines fed.text m) (sym (cut_byte part xs b other)) fed.session;
+        session = subst (λ (k : SplitLines). Session d k.lines fed.text m) (sym (cut_byte part xs b other)) fed.session;
         written = fed.written;
         last =
             e ∙ (ap (λ (l : List ℕ). kept (l ++ b ∷ [])) fed.last
-            ∙ (kept_again c.rest b ∙ ap (λ (k : Cut). kept k.rest) (sym (cut_byte part xs b other))));
+            ∙ (kept_again c.rest b ∙ ap (λ (k : SplitLines). kept k.rest) (sym (cut_byte part xs b other))));
       }
 
   -- what was fed are some first lines of more
-  pub fed_some : (fault : DebugFault) (ys : List ℕ) → Leaves fault old mid fed.text → FedSome fault d part (xs ++ ys) old mid m
+  pub fed_some : (fault : DebugFault) (ys : List ℕ) → WritesBeforeFault fault old mid fed.text → FedSome fault d part (xs ++ ys) old mid m
   fed_some fault ys leaves = record {
     lines = (cut part xs).lines;
     later = (cut (cut part xs).rest ys).lines;
@@ -169,7 +169,7 @@ module _ (d m next : Debugging) (part xs : List ℕ) (old mid new : Option (List
   fed_broken ys = fed_some Device ys (whole_prefix old mid fed.text fed.written)
 
   -- it stops at a line feed
-  pub fed_stop : (ys : List ℕ) (fault : DebugFault) → StopsAt fault m line mid new next → FedSome fault d part (xs ++ 10 ∷ ys) old new next
+  pub fed_stop : (ys : List ℕ) (fault : DebugFault) → SessionStopsAt fault m line mid new next → FedSome fault d part (xs ++ 10 ∷ ys) old new next
   fed_stop ys PastEnd stop = elim stop [ ]
   fed_stop ys NoProcess stop = elim stop [ ]
   fed_stop ys NoArm stop = elim stop [ ]
@@ -179,7 +179,7 @@ module _ (d m next : Debugging) (part xs : List ℕ) (old mid new : Option (List
       subst (λ o. Some' o next) (sym none) (subst (λ e. Some' mid e) (sym same) (fed_some NoMemory (10 ∷ ys) fed.written))
   fed_stop ys Device (said, answers, written) =
       let c = cut part xs in
-      let says = kept_answers m c.rest said next (subst (λ (l : List ℕ). Answers m l said next) fed.last answers) in
+      let says = kept_answers m c.rest said next (subst (λ (l : List ℕ). AnswersLine m l said next) fed.last answers) in
       let bytes : (xs ++ 10 ∷ []) ++ ys ≡ xs ++ 10 ∷ ys = append_assoc xs (10 ∷ []) ys in
       let lines = first_lines part (xs ++ 10 ∷ []) ys in
       let ends = cut_end part xs in
@@ -189,7 +189,7 @@ module _ (d m next : Debugging) (part xs : List ℕ) (old mid new : Option (List
         text = fed.text ++ said;
         of =
             ap (λ (bs : List ℕ). (cut part bs).lines) (sym bytes)
-            ∙ (lines ∙ ap (λ (k : Cut). k.lines ++ (cut k.rest ys).lines) ends);
+            ∙ (lines ∙ ap (λ (k : SplitLines). k.lines ++ (cut k.rest ys).lines) ends);
         session = one_more c.lines fed.text m c.rest said next fed.session says;
         written = prefix_more old mid new fed.text said fed.written written;
       }
@@ -202,7 +202,7 @@ module _ (d m next : Debugging) (part xs : List ℕ) (old mid new : Option (List
         subst (λ (ls : List (List ℕ)). Session d ls (fed.text ++ more.text) next) (sym (first_lines part xs ys))
         (sessions d m next _ _ fed.text more.text fed.session more.session);
     written = more.written ∙ (ap (λ o. appended o more.text) fed.written ∙ appended-appended old fed.text more.text);
-    last = more.last ∙ ap (λ (k : Cut). kept k.rest) (sym (cut-append part xs ys));
+    last = more.last ∙ ap (λ (k : SplitLines). kept k.rest) (sym (cut-append part xs ys));
   }
 
   pub fed_then_some : (fault : DebugFault) (ys : List ℕ) → FedSome fault m (cut part xs).rest ys mid new next → FedSome fault d part (xs ++ ys) old new next
@@ -249,7 +249,7 @@ says_some fault d next bytes old new some =
     }
 
 module _ (d m : Debugging) (bytes : List ℕ) (old mid : Option (List ℕ)) (line : List ℕ) (fed : Fed d [] (session_bytes bytes) old mid line m) where
-  abbrev whole : Cut
+  abbrev whole : SplitLines
   whole = cut [] (session_bytes bytes)
 
   -- nothing is left behind the last line feed
@@ -280,7 +280,7 @@ module _ (d m : Debugging) (bytes : List ℕ) (old mid : Option (List ℕ)) (lin
   -- the last line has no line feed
   pub says_last : (next : Debugging) (new : Option (List ℕ)) → 0 < length line → IsTold m line mid new next → SaysAll d bytes old new next
   says_last next new some (said, answers, written) =
-      let says = kept_answers m whole.rest said next (subst (λ (l : List ℕ). Answers m l said next) fed.last answers) in
+      let says = kept_answers m whole.rest said next (subst (λ (l : List ℕ). AnswersLine m l said next) fed.last answers) in
       let lines : whole.lines ++ whole.rest ∷ [] ≡ lines_of (session_bytes bytes) =
       ap (λ (ls : List (List ℕ)). whole.lines ++ ls) (sym (last_is whole.rest (some_left some))) in
       record {
@@ -292,7 +292,7 @@ module _ (d m : Debugging) (bytes : List ℕ) (old mid : Option (List ℕ)) (lin
       }
 
   -- it stops there
-  pub says_stop : (next : Debugging) (new : Option (List ℕ)) (fault : DebugFault) → 0 < length line → StopsAt fault m line mid new next
+  pub says_stop : (next : Debugging) (new : Option (List ℕ)) (fault : DebugFault) → 0 < length line → SessionStopsAt fault m line mid new next
       → SaysSome fault d bytes old new next
   says_stop next new PastEnd some stop = elim stop [ ]
   says_stop next new NoProcess some stop = elim stop [ ]
@@ -309,7 +309,7 @@ module _ (d m : Debugging) (bytes : List ℕ) (old mid : Option (List ℕ)) (lin
       } in
       subst (λ o. SaysSome NoMemory d bytes old o next) (sym none) (subst (λ e. SaysSome NoMemory d bytes old mid e) (sym same) here)
   says_stop next new Device some (said, answers, written) =
-      let says = kept_answers m whole.rest said next (subst (λ (l : List ℕ). Answers m l said next) fed.last answers) in
+      let says = kept_answers m whole.rest said next (subst (λ (l : List ℕ). AnswersLine m l said next) fed.last answers) in
       let lines : lines_of (session_bytes bytes) ≡ (whole.lines ++ whole.rest ∷ []) ++ [] =
       ap (λ (ls : List (List ℕ)). whole.lines ++ ls) (last_is whole.rest (some_left some)) ∙ sym (append-nil (whole.lines ++ whole.rest ∷ [])) in
       record {

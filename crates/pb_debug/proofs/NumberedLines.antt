@@ -3,12 +3,12 @@ use Rattle.std.proofs.Common.{◌≡◌, ℕ, zero, suc, ◌+◌, ◌-◌, ◌<�
 use Rattle.std.specs.Prelude.{slice_get}
 use Rattle.std.specs.List.{position}
 use Rattle.std.proofs.lemmas.List.{take_all, length-drop}
-use Rattle.pb_debug.specs.Lines.{Cut, one_line_more, cut, last_line, lines_of, line_numbered}
+use Rattle.pb_debug.specs.Lines.{SplitLines, one_line_more, cut, last_line, lines_of, line_numbered}
 use Rattle.pb_debug.proofs.Spellings.{first_at, mapped, position_is}
 
 -- ---- the first line feed
 
-abbrev Ends : (part bs : List ℕ) → (at : ℕ) → Cut → Type 0
+abbrev Ends : (part bs : List ℕ) → (at : ℕ) → SplitLines → Type 0
 Ends part bs at c = c ≡ one_line_more (part ++ take at bs) (cut [] (drop (at + 1) bs))
 
 end_step : (part bs : List ℕ) (b at : ℕ) (t : Bool) → cond t (Some 0) (option_map suc (first_at 10 bs)) ≡ Some at
@@ -50,7 +50,7 @@ goes_on part (b ∷ bs) h = goes_step part bs b (eqb b 10) h (goes_on (part ++ b
 
 -- ---- lines
 
-abbrev all_of : Cut → List (List ℕ)
+abbrev all_of : SplitLines → List (List ℕ)
 all_of c = c.lines ++ last_line c.rest
 
 abbrev feed : List ℕ → Option ℕ

@@ -8,7 +8,7 @@ use Rattle.pb_code.specs.declared.labels.ProcessLabels.{ProcessLabels as GivenLa
 use Rattle.pb_code.specs.Limits.{FitLabels}
 use Rattle.pb_code.specs.Reached.{CodeReaches}
 use Rattle.pb_code.specs.View.{process_labels_view}
-use Rattle.pb_verifier.proofs.Banking.{kept_reached, get_some}
+use Rattle.pb_verifier.proofs.LoansWithinClaims.{kept_reached, get_some}
 use Rattle.pb_verifier.specs.declared.fault.VerifyFault.TheVariants.{OutOfLimits}
 use Rattle.pb_debug.specs.Value.{Debugging, IsPosition, state_of}
 use Rattle.pb_history.proofs.Positions.{position_reached}

@@ -8,7 +8,7 @@ use Rattle.pb_code.specs.Whole.{Code, bank_of}
 use Rattle.pb_machine.specs.Views.{machine_view}
 use Rattle.pb_debug.specs.Checkpoints.{IsSound, view_of}
 use Rattle.pb_debug.specs.Resources.{askers_at, askers_in, askers_of, who_text}
-use Rattle.pb_debug.specs.Texts.{each_below}
+use Rattle.pb_base.specs.Lines.{each_below}
 use Rattle.pb_debug.specs.Value.{Debugging, IsPosition, bank_state, state_of}
 use Rattle.pb_debug.specs.declared.debugger.Debugger.TheInside.{Inside}
 

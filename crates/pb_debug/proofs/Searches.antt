@@ -5,18 +5,17 @@ use Rattle.pb_base.specs.declared.pick.Pick.{Pick}
 use Rattle.pb_base.specs.Steppers.{State}
 use Rattle.pb_code.specs.Code.{CodeProcess, code_step}
 use Rattle.pb_code.specs.Whole.{ProcessLabels, bank_of, code_opening}
-use Rattle.pb_history.specs.Positions.{AreEnabled, state_after}
+use Rattle.pb_history.specs.Positions.{AreEnabled, state_after, IsAfter}
 use Rattle.pb_base.specs.Lines.{HasNames}
 use Rattle.pb_history.proofs.Positions.{enabled_at, position_reached}
-use Rattle.pb_machine.proofs.Going.{events_have_names}
+use Rattle.pb_machine.proofs.NeverStuck.{events_have_names}
 use Rattle.pb_verifier.proofs.States.{code_move}
 use Rattle.pb_verifier.specs.declared.fault.VerifyFault.TheVariants.{OutOfLimits}
 use Rattle.std.proofs.lemmas.Option.{slice_get_within}
 use Rattle.pb_machine.specs.Views.{machine_view}
 use Rattle.pb_machine.specs.declared.machine.Machine.{Machine}
-use Rattle.pb_debug.specs.Walks.{StandsAfter}
 use Rattle.pb_verifier.specs.Verified.{VerifiedCode, IsVerified}
-use Rattle.pb_debug.specs.Searches.{Shows, line_at, line_in, value_at, value_in}
+use Rattle.pb_debug.specs.Searches.{Shows, arm_line_at, line_in, value_at, value_in}
 
 -- all that an event of the picks speaks of has a name
 pub shown_named : (v : VerifiedCode) (picks : List Pick) (k : ℕ) (event : Event) → IsVerified v → AreEnabled v.code picks
@@ -27,7 +26,7 @@ shown_named v picks k event verified all s =
 -- ---- integers
 
 -- an integer of a machine at a position is that at the position
-pub value_here : (v : VerifiedCode) (picks : List Pick) (i p x : ℕ) (m : Machine) → StandsAfter v picks i m
+pub value_here : (v : VerifiedCode) (picks : List Pick) (i p x : ℕ) (m : Machine) → IsAfter v picks i m
     → value_in (slice_get (machine_view m).processes p) x ≡ value_at v.code picks i p x
 value_here v picks i p x m h = ap (λ (s : State CodeProcess). value_in (slice_get s.processes p) x) h.state
 
@@ -46,8 +45,8 @@ pick_named v picks k pick verified all there =
 
 -- ---- lines
 
-pub line_here : (v : VerifiedCode) (labels : List ProcessLabels) (picks : List Pick) (i p a : ℕ) (m : Machine) → StandsAfter v picks i m
-    → line_in (slice_get labels p) (slice_get (machine_view m).processes p) a ≡ line_at v.code labels picks i p a
+pub line_here : (v : VerifiedCode) (labels : List ProcessLabels) (picks : List Pick) (i p a : ℕ) (m : Machine) → IsAfter v picks i m
+    → line_in (slice_get labels p) (slice_get (machine_view m).processes p) a ≡ arm_line_at v.code labels picks i p a
 line_here v labels picks i p a m h = ap (λ (s : State CodeProcess). line_in (slice_get labels p) (slice_get s.processes p) a) h.state
 
 pub begins_here : (b before after : Bool) (x y x' y' : Option ℕ) (n : ℕ) → x ≡ x' → y ≡ y' → IsTrue before ↔ (x ≡ Some n) → IsTrue after ↔ (y ≡ Some n)

@@ -13,49 +13,13 @@ use Rattle.std.proofs.lemmas.Str.Parse.{IsNumeralModel, numerals_by_value, digit
 use Rattle.std.proofs.lemmas.Str.{digit_value_digit}
 use Rattle.std.proofs.lemmas.Int.Digits.{digits_value_more}
 use Rattle.pb_code.proofs.NameTests.{both_true}
+use Rattle.pb_code.proofs.NumeralLemmas.{own, numeral_is, is_numeral_decimal}
 use Rattle.pb_code.specs.Names.{is_name_byte}
-use Rattle.pb_debug.specs.Commands.{Command, To, Step, Back, Vars, Threads, Wrote, Until, Loans, Next, Prev, Help, Line, Text, Why, Pick, Who, arm_at, arm_of, both_of, integer_at, integer_of, stop_at, stop_from, stop_of, command_of, is_numeral, is_word, keyed, number_of, parted, word_of}
-use Rattle.pb_debug.specs.Spellings.{CommandsBySpelling, IsProper, spelling}
+use Rattle.pb_code.specs.Numerals.{is_numeral}
+use Rattle.pb_debug.specs.Commands.{Command, To, Step, Back, Vars, Threads, Wrote, Until, Loans, Next, Prev, Help, Line, Text, Why, Pick, Who, arm_at, arm_of, both_of, integer_at, integer_of, stop_at, stop_from, stop_of, command_of, looks_like_name, keyed, number_of, parted, word_of}
+use Rattle.pb_debug.specs.Spellings.{CommandsBySpelling, IsProper, command_spelling}
 
 -- ---- numbers
-
-pub own : IsNumeralModel (λ ds. list_all is_ascii_digit ds ≡ true) (digits_value 10)
-own = numerals_by_value _ (search rules)
-
--- one digit more
-pub digit_more : (ds : List ℕ) (i : ℕ) → list_all is_ascii_digit ds ≡ true → i < length ds
-    → (digits_value 10 (take (i + 1) ds) + 48 ≡ digits_value 10 (take i ds) * 10 + get_or ds i 0) × (48 ≤ get_or ds i 0)
-digit_more ds i all lt =
-    let more = digits_value_more 10 ds i lt in
-    let d : digit_value (get_or ds i 0) + 48 ≡ get_or ds i 0 = digit_value_digit (get_or ds i 0) (digit_at ds i (own.to ds all) lt) in
-    (omega (arith, more, d), omega (arith, d))
-
-numeral_is : (w : List ℕ) → is_numeral w ≡ true → (list_all is_ascii_digit w ≡ true) × (0 < length w) × (get_or w 0 0 ≡ 48 → length w ≡ 1)
-numeral_is [] e = absurd cc
-numeral_is (d ∷ ds) e =
-    let p = both_true (list_all is_ascii_digit (d ∷ ds)) (not (eqb d 48) || eqb (length ds) 0) e in (
-      p.0,
-      omega arith,
-      λ h. let h' : d ≡ 48 = h in let q : eqb (length ds) 0 ≡ true = subst (λ (x : ℕ). (not (eqb x
-          48) || eqb (length ds) 0) ≡ true) h' p.1 in omega (arith, eqb-true (length ds) 0 q),
-    )
-
-lone : (d n : ℕ) → (d ≡ 48 → n ≡ 0) → (not (eqb d 48) || eqb n 0) ≡ true
-lone d n h = grind (arith, nat_tests)
-
-is_numeral_from : (w : List ℕ) → list_all is_ascii_digit w ≡ true → 0 < length w → (get_or w 0 0 ≡ 48 → length w ≡ 1) → is_numeral w ≡ true
-is_numeral_from [] all some zeros = absurd (omega arith)
-is_numeral_from (d ∷ ds) all some zeros =
-    let z : d ≡ 48 → length ds ≡ 0 = λ h. let one : length (d ∷ ds) ≡ 1 = zeros h in omega (arith, one) in
-    rw (all, lone d (length ds) z) refl
-
-is_numeral_decimal : (n : ℕ) → n < 2 ^ 64 → is_numeral (decimal n) ≡ true
-is_numeral_decimal n small =
-    is_numeral_from (decimal n) (digits_decimal own n small) (decimal_nonempty n small) (λ h.
-    elim (cases_lt 0 n) [
-      | inl lt ↦ absurd (omega (arith, first_decimal n lt small, h))
-      | inr le ↦ (let z : n ≡ 0 = omega arith in let d : decimal n ≡ 48 ∷ [] = ap decimal z ∙ decimal_digit 0 (omega arith) in ap (λ (w : List ℕ). length w) d)
-    ])
 
 -- a choice that gives something
 chosen : {A : Type 0} (b : Bool) (x y : Option A) (c : A) → cond b x y ≡ Some c → ((b ≡ true) × (x ≡ Some c)) ⊎ (y ≡ Some c)
@@ -144,7 +108,7 @@ point_behind (b ∷ bs) rest h =
     let p = both_true (is_name_byte b) (list_all is_name_byte bs) h in
     rw (name_byte_no_point b p.0, point_behind bs rest p.1) refl
 
-point_behind_word : (w rest : List ℕ) → is_word w ≡ true → first_at 46 (w ++ 46 ∷ rest) ≡ Some (length w)
+point_behind_word : (w rest : List ℕ) → looks_like_name w ≡ true → first_at 46 (w ++ 46 ∷ rest) ≡ Some (length w)
 point_behind_word [] rest h = absurd cc
 point_behind_word (b ∷ bs) rest h =
     let p = both_true (is_ascii_alphabetic b) (list_all is_name_byte bs) h in
@@ -162,35 +126,35 @@ drop_word (x ∷ bs) rest b =
 
 -- ---- words
 
-word_is : (w p : List ℕ) → word_of w ≡ Some p → (w ≡ p) × (is_word p ≡ true)
+word_is : (w p : List ℕ) → word_of w ≡ Some p → (w ≡ p) × (looks_like_name p ≡ true)
 word_is w p h =
-    let s = sure (is_word w) w p h in
-    (s.1, subst (λ (x : List ℕ). is_word x ≡ true) s.1 s.0)
+    let s = sure (looks_like_name w) w p h in
+    (s.1, subst (λ (x : List ℕ). looks_like_name x ≡ true) s.1 s.0)
 
-word_again : (p : List ℕ) → is_word p ≡ true → word_of p ≡ Some p
+word_again : (p : List ℕ) → looks_like_name p ≡ true → word_of p ≡ Some p
 word_again p h = rw h refl
 
 abbrev ArmWord : Type 0
 ArmWord = List ℕ × ℕ
 
 arm_from : (w : List ℕ) (o : Option ℕ) (x : ArmWord) → first_at 46 w ≡ o → arm_at w o ≡ Some x
-    → (w ≡ x.0 ++ 46 ∷ decimal x.1) × (is_word x.0 ≡ true) × (x.1 < 100000000)
+    → (w ≡ x.0 ++ 46 ∷ decimal x.1) × (looks_like_name x.0 ≡ true) × (x.1 < 100000000)
 arm_from w None x at h = absurd cc
 arm_from w (Some i) x at h =
-    elim (chosen (is_word (take i w)) (option_map (λ arm. (take i w, arm)) (number_of (drop (i + 1) w))) None x h) [
+    elim (chosen (looks_like_name (take i w)) (option_map (λ arm. (take i w, arm)) (number_of (drop (i + 1) w))) None x h) [
       | inl s ↦ (
           let m = mapped (λ (arm : ℕ). (take i w, arm)) (number_of (drop (i + 1) w)) x s.1 in
           let n = number_is (drop (i + 1) w) m.0 m.1 in
           let parts = parts_at 46 w i at ∙ ap (λ (xs : List ℕ). take i w ++ 46 ∷ xs) n.0 in
-          let result : (w ≡ take i w ++ 46 ∷ decimal m.0) × (is_word (take i w) ≡ true) × (m.0 < 100000000) = (parts, s.0, n.1) in
-          subst (λ (y : ArmWord). (w ≡ y.0 ++ 46 ∷ decimal y.1) × (is_word y.0 ≡ true) × (y.1 < 100000000)) m.2 result)
+          let result : (w ≡ take i w ++ 46 ∷ decimal m.0) × (looks_like_name (take i w) ≡ true) × (m.0 < 100000000) = (parts, s.0, n.1) in
+          subst (λ (y : ArmWord). (w ≡ y.0 ++ 46 ∷ decimal y.1) × (looks_like_name y.0 ≡ true) × (y.1 < 100000000)) m.2 result)
       | inr none ↦ absurd cc
     ]
 
-arm_is : (w : List ℕ) (x : ArmWord) → arm_of w ≡ Some x → (w ≡ x.0 ++ 46 ∷ decimal x.1) × (is_word x.0 ≡ true) × (x.1 < 100000000)
+arm_is : (w : List ℕ) (x : ArmWord) → arm_of w ≡ Some x → (w ≡ x.0 ++ 46 ∷ decimal x.1) × (looks_like_name x.0 ≡ true) × (x.1 < 100000000)
 arm_is w x h = arm_from w (first_at 46 w) x refl (subst (λ (o : Option ℕ). arm_at w o ≡ Some x) (position_is 46 w) h)
 
-arm_again : (p : List ℕ) (a : ℕ) → is_word p ≡ true → a < 100000000 → arm_of (p ++ 46 ∷ decimal a) ≡ Some (p, a)
+arm_again : (p : List ℕ) (a : ℕ) → looks_like_name p ≡ true → a < 100000000 → arm_of (p ++ 46 ∷ decimal a) ≡ Some (p, a)
 arm_again p a word lt =
     let w : List ℕ = p ++ 46 ∷ decimal a in
     let at : position (λ b. eqb b 46) w ≡ Some (length p) = position_is 46 w ∙ point_behind_word p (decimal a) word in
@@ -198,7 +162,7 @@ arm_again p a word lt =
     let behind : drop (length p + 1) w ≡ decimal a = drop_word p (decimal a) 46 in
     ap (arm_at w) at ∙ whole w p a before behind word lt
   where
-    whole : (w p : List ℕ) (a : ℕ) → take (length p) w ≡ p → drop (length p + 1) w ≡ decimal a → is_word p ≡ true → a < 100000000
+    whole : (w p : List ℕ) (a : ℕ) → take (length p) w ≡ p → drop (length p + 1) w ≡ decimal a → looks_like_name p ≡ true → a < 100000000
         → arm_at w (Some (length p)) ≡ Some (p, a)
     whole w p a before behind word lt = rw (before, behind, word, number_again a lt) refl
 
@@ -216,7 +180,7 @@ space_behind (b ∷ bs) rest h =
     let p = both_true (is_name_byte b) (list_all is_name_byte bs) h in
     rw (name_byte_no_space b p.0, space_behind bs rest p.1) refl
 
-space_behind_word : (w rest : List ℕ) → is_word w ≡ true → first_at 32 (w ++ 32 ∷ rest) ≡ Some (length w)
+space_behind_word : (w rest : List ℕ) → looks_like_name w ≡ true → first_at 32 (w ++ 32 ∷ rest) ≡ Some (length w)
 space_behind_word [] rest h = absurd cc
 space_behind_word (b ∷ bs) rest h =
     let p = both_true (is_ascii_alphabetic b) (list_all is_name_byte bs) h in
@@ -231,7 +195,7 @@ both_are (Some a) None x h = absurd cc
 both_are (Some a) (Some b) x h = let same : (a, b) ≡ x = cc in (ap (λ (y : IntegerWord). Some y.0) same, ap (λ (y : IntegerWord). Some y.1) same)
 
 integer_from : (w : List ℕ) (o : Option ℕ) (x : IntegerWord) → first_at 32 w ≡ o → integer_at w o ≡ Some x
-    → (w ≡ x.0 ++ 32 ∷ x.1) × (is_word x.0 ≡ true) × (is_word x.1 ≡ true)
+    → (w ≡ x.0 ++ 32 ∷ x.1) × (looks_like_name x.0 ≡ true) × (looks_like_name x.1 ≡ true)
 integer_from w None x at h = absurd cc
 integer_from w (Some i) x at h =
     let both = both_are (word_of (take i w)) (word_of (drop (i + 1) w)) x h in
@@ -240,16 +204,16 @@ integer_from w (Some i) x at h =
     let parts = parts_at 32 w i at in
     (parts ∙ (ap (λ (xs : List ℕ). xs ++ 32 ∷ drop (i + 1) w) first.0 ∙ ap (λ (xs : List ℕ). x.0 ++ 32 ∷ xs) second.0), first.1, second.1)
 
-integer_is : (w : List ℕ) (x : IntegerWord) → integer_of w ≡ Some x → (w ≡ x.0 ++ 32 ∷ x.1) × (is_word x.0 ≡ true) × (is_word x.1 ≡ true)
+integer_is : (w : List ℕ) (x : IntegerWord) → integer_of w ≡ Some x → (w ≡ x.0 ++ 32 ∷ x.1) × (looks_like_name x.0 ≡ true) × (looks_like_name x.1 ≡ true)
 integer_is w x h = integer_from w (first_at 32 w) x refl (subst (λ (o : Option ℕ). integer_at w o ≡ Some x) (position_is 32 w) h)
 
-integer_again : (p x : List ℕ) → is_word p ≡ true → is_word x ≡ true → integer_of (p ++ 32 ∷ x) ≡ Some (p, x)
+integer_again : (p x : List ℕ) → looks_like_name p ≡ true → looks_like_name x ≡ true → integer_of (p ++ 32 ∷ x) ≡ Some (p, x)
 integer_again p x first second =
     let w : List ℕ = p ++ 32 ∷ x in
     let at : position (λ b. eqb b 32) w ≡ Some (length p) = position_is 32 w ∙ space_behind_word p x first in
     ap (integer_at w) at ∙ whole w p x (take_word p (32 ∷ x)) (drop_word p x 32) first second
   where
-    whole : (w p x : List ℕ) → take (length p) w ≡ p → drop (length p + 1) w ≡ x → is_word p ≡ true → is_word x ≡ true
+    whole : (w p x : List ℕ) → take (length p) w ≡ p → drop (length p + 1) w ≡ x → looks_like_name p ≡ true → looks_like_name x ≡ true
         → integer_at w (Some (length p)) ≡ Some (p, x)
     whole w p x before behind first second = rw (before, behind, first, second) refl
 
@@ -271,7 +235,7 @@ space_behind_names (b ∷ bs) digits rest h d =
     let p = both_true (is_name_byte b) (list_all is_name_byte bs) h in
     rw (name_byte_no_space b p.0, space_behind_names bs digits rest p.1 d) refl
 
-space_behind_arm : (w digits rest : List ℕ) → is_word w ≡ true → list_all is_ascii_digit digits ≡ true
+space_behind_arm : (w digits rest : List ℕ) → looks_like_name w ≡ true → list_all is_ascii_digit digits ≡ true
     → first_at 32 ((w ++ 46 ∷ digits) ++ 32 ∷ rest) ≡ Some (length (w ++ 46 ∷ digits))
 space_behind_arm [] digits rest h d = absurd cc
 space_behind_arm (b ∷ bs) digits rest h d =
@@ -279,7 +243,7 @@ space_behind_arm (b ∷ bs) digits rest h d =
     rw (letter_no_space b p.0, space_behind_names bs digits rest p.1 d) refl
 
 abbrev SaysStop : List ℕ → Command → Type 0
-SaysStop w c = (p : List ℕ) × (a : ℕ) × (n : ℕ) × (w ≡ (p ++ 46 ∷ decimal a) ++ 32 ∷ decimal n) × (is_word p ≡ true) × (a < 100000000)
+SaysStop w c = (p : List ℕ) × (a : ℕ) × (n : ℕ) × (w ≡ (p ++ 46 ∷ decimal a) ++ 32 ∷ decimal n) × (looks_like_name p ≡ true) × (a < 100000000)
     × (n < 100000000) × (Until p a n ≡ c)
 
 stop_parts : (first second : List ℕ) (a : Option ArmWord) (n : Option ℕ) (c : Command) → arm_of first ≡ a → number_of second ≡ n → stop_from a n ≡ Some c
@@ -309,7 +273,7 @@ stop_cut w (Some i) c at h =
 stop_is : (w : List ℕ) (c : Command) → stop_of w ≡ Some c → SaysStop w c
 stop_is w c h = stop_cut w (first_at 32 w) c refl (subst (λ (o : Option ℕ). stop_at w o ≡ Some c) (position_is 32 w) h)
 
-stop_again : (p : List ℕ) (a n : ℕ) → is_word p ≡ true → a < 100000000 → n < 100000000
+stop_again : (p : List ℕ) (a n : ℕ) → looks_like_name p ≡ true → a < 100000000 → n < 100000000
     → stop_of ((p ++ 46 ∷ decimal a) ++ 32 ∷ decimal n) ≡ Some (Until p a n)
 stop_again p a n word few small =
     let first : List ℕ = p ++ 46 ∷ decimal a in
@@ -325,7 +289,7 @@ stop_again p a n word few small =
 -- ---- lines
 
 abbrev SaysIt : List ℕ → Command → Type 0
-SaysIt line c = (line ≡ spelling c) × IsProper c
+SaysIt line c = (line ≡ command_spelling c) × IsProper c
 
 -- the key, if the bytes are equal to it
 bytes_same : (xs ys : List ℕ) → bytes_eq xs ys ≡ true → xs ≡ ys
@@ -338,44 +302,44 @@ module _ (key word : List ℕ) (c : Command) where
   with_key : (text : List ℕ) → bytes_eq key text ≡ true → SaysIt (text ++ 32 ∷ word) c → Here
   with_key text h s = subst (λ (k : List ℕ). SaysIt (k ++ 32 ∷ word) c) (sym (bytes_same key text h)) s
 
-  numbered : (text : List ℕ) (f : ℕ → Command) → ((n : ℕ) → spelling (f n) ≡ text ++ 32 ∷ decimal n) → ((n : ℕ) → n < 100000000 → IsProper (f n))
+  numbered : (text : List ℕ) (f : ℕ → Command) → ((n : ℕ) → command_spelling (f n) ≡ text ++ 32 ∷ decimal n) → ((n : ℕ) → n < 100000000 → IsProper (f n))
       → bytes_eq key text ≡ true → option_map f (number_of word) ≡ Some c → Here
   numbered text f spelled proper h o =
       let m = mapped f (number_of word) c o in
       let n = number_is word m.0 m.1 in
-      let e : text ++ 32 ∷ word ≡ spelling (f m.0) = ap (λ (w : List ℕ). text ++ 32 ∷ w) n.0 ∙ sym (spelled m.0) in
+      let e : text ++ 32 ∷ word ≡ command_spelling (f m.0) = ap (λ (w : List ℕ). text ++ 32 ∷ w) n.0 ∙ sym (spelled m.0) in
       with_key text h (subst (SaysIt (text ++ 32 ∷ word)) m.2 (e, proper m.0 n.1))
 
-  named : (text : List ℕ) (f : List ℕ → Command) → ((w : List ℕ) → spelling (f w) ≡ text ++ 32 ∷ w) → ((w : List ℕ) → is_word w ≡ true → IsProper (f w))
+  named : (text : List ℕ) (f : List ℕ → Command) → ((w : List ℕ) → command_spelling (f w) ≡ text ++ 32 ∷ w) → ((w : List ℕ) → looks_like_name w ≡ true → IsProper (f w))
       → bytes_eq key text ≡ true → option_map f (word_of word) ≡ Some c → Here
   named text f spelled proper h o =
       let m = mapped f (word_of word) c o in
       let n = word_is word m.0 m.1 in
-      let e : text ++ 32 ∷ word ≡ spelling (f m.0) = ap (λ (w : List ℕ). text ++ 32 ∷ w) n.0 ∙ sym (spelled m.0) in
+      let e : text ++ 32 ∷ word ≡ command_spelling (f m.0) = ap (λ (w : List ℕ). text ++ 32 ∷ w) n.0 ∙ sym (spelled m.0) in
       with_key text h (subst (SaysIt (text ++ 32 ∷ word)) m.2 (e, proper m.0 n.1))
 
-  armed : (text : List ℕ) (f : ArmWord → Command) → ((x : ArmWord) → spelling (f x) ≡ text ++ 32 ∷ (x.0 ++ 46 ∷ decimal x.1))
-      → ((x : ArmWord) → is_word x.0 ≡ true → x.1 < 100000000 → IsProper (f x))
+  armed : (text : List ℕ) (f : ArmWord → Command) → ((x : ArmWord) → command_spelling (f x) ≡ text ++ 32 ∷ (x.0 ++ 46 ∷ decimal x.1))
+      → ((x : ArmWord) → looks_like_name x.0 ≡ true → x.1 < 100000000 → IsProper (f x))
       → bytes_eq key text ≡ true → option_map f (arm_of word) ≡ Some c → Here
   armed text f spelled proper h o =
       let m = mapped f (arm_of word) c o in
       let n = arm_is word m.0 m.1 in
-      let e : text ++ 32 ∷ word ≡ spelling (f m.0) = ap (λ (w : List ℕ). text ++ 32 ∷ w) n.0 ∙ sym (spelled m.0) in
+      let e : text ++ 32 ∷ word ≡ command_spelling (f m.0) = ap (λ (w : List ℕ). text ++ 32 ∷ w) n.0 ∙ sym (spelled m.0) in
       with_key text h (subst (SaysIt (text ++ 32 ∷ word)) m.2 (e, proper m.0 n.1 n.2))
 
-  written : (text : List ℕ) (f : IntegerWord → Command) → ((x : IntegerWord) → spelling (f x) ≡ text ++ 32 ∷ (x.0 ++ 32 ∷ x.1))
-      → ((x : IntegerWord) → is_word x.0 ≡ true → is_word x.1 ≡ true → IsProper (f x))
+  written : (text : List ℕ) (f : IntegerWord → Command) → ((x : IntegerWord) → command_spelling (f x) ≡ text ++ 32 ∷ (x.0 ++ 32 ∷ x.1))
+      → ((x : IntegerWord) → looks_like_name x.0 ≡ true → looks_like_name x.1 ≡ true → IsProper (f x))
       → bytes_eq key text ≡ true → option_map f (integer_of word) ≡ Some c → Here
   written text f spelled proper h o =
       let m = mapped f (integer_of word) c o in
       let n = integer_is word m.0 m.1 in
-      let e : text ++ 32 ∷ word ≡ spelling (f m.0) = ap (λ (w : List ℕ). text ++ 32 ∷ w) n.0 ∙ sym (spelled m.0) in
+      let e : text ++ 32 ∷ word ≡ command_spelling (f m.0) = ap (λ (w : List ℕ). text ++ 32 ∷ w) n.0 ∙ sym (spelled m.0) in
       with_key text h (subst (SaysIt (text ++ 32 ∷ word)) m.2 (e, proper m.0 n.1 n.2))
 
   stopped : bytes_eq key (codes "until") ≡ true → stop_of word ≡ Some c → Here
   stopped h o =
       let m = stop_is word c o in
-      let e : codes "until" ++ 32 ∷ word ≡ spelling (Until m.0 m.1 m.2) = ap (λ (w : List ℕ). codes "until" ++ 32 ∷ w) m.3 in
+      let e : codes "until" ++ 32 ∷ word ≡ command_spelling (Until m.0 m.1 m.2) = ap (λ (w : List ℕ). codes "until" ++ 32 ∷ w) m.3 in
       with_key (codes "until") h (subst (SaysIt (codes "until" ++ 32 ∷ word)) m.7 (e, (m.4, m.5, m.6)))
 
   keyed_is : keyed key word ≡ Some c → Here
@@ -428,13 +392,13 @@ short_line : (b : Bool) (x : Option Command) (c : Command) → cond b None x ≡
 short_line true x c h = absurd cc
 short_line false x c h = (refl, h)
 
-alone : (line text : List ℕ) (d c : Command) → bytes_eq line text ≡ true → Some d ≡ Some c → text ≡ spelling d → IsProper d → length line ≤ 256
-    → (line ≡ spelling c) × IsProper c × (length line ≤ 256)
+alone : (line text : List ℕ) (d c : Command) → bytes_eq line text ≡ true → Some d ≡ Some c → text ≡ command_spelling d → IsProper d → length line ≤ 256
+    → (line ≡ command_spelling c) × IsProper c × (length line ≤ 256)
 alone line text d c h e spelled proper short =
     let same : d ≡ c = cc in
-    subst (λ (x : Command). (line ≡ spelling x) × IsProper x × (length line ≤ 256)) same (bytes_same line text h ∙ spelled, proper, short)
+    subst (λ (x : Command). (line ≡ command_spelling x) × IsProper x × (length line ≤ 256)) same (bytes_same line text h ∙ spelled, proper, short)
 
-says_what : (line : List ℕ) (c : Command) → command_of line ≡ Some c → (line ≡ spelling c) × IsProper c × (length line ≤ 256)
+says_what : (line : List ℕ) (c : Command) → command_of line ≡ Some c → (line ≡ command_spelling c) × IsProper c × (length line ≤ 256)
 unfolding command_of
 says_what line c h =
     let s = short_line (ltb 256 (length line)) _ c h in
@@ -467,31 +431,31 @@ said_short line c short loans next prev help h =
     let p : parted line (position (λ b. eqb b 32) line) ≡ Some c = ap (parted line) (position_is 32 line) ∙ h in
     rw (s, loans, next, prev, help, p) refl
 
-said_again : (c : Command) → IsProper c → length (spelling c) ≤ 256 → command_of (spelling c) ≡ Some c
+said_again : (c : Command) → IsProper c → length (command_spelling c) ≤ 256 → command_of (command_spelling c) ≡ Some c
 unfolding command_of keyed
-said_again (To n) lt short = said_short (spelling (To n)) (To n) short refl refl refl refl (ap (option_map To) (number_again n lt))
-said_again (Step n) lt short = said_short (spelling (Step n)) (Step n) short refl refl refl refl (ap (option_map Step) (number_again n lt))
-said_again (Back n) lt short = said_short (spelling (Back n)) (Back n) short refl refl refl refl (ap (option_map Back) (number_again n lt))
-said_again (Vars p) word short = said_short (spelling (Vars p)) (Vars p) short refl refl refl refl (ap (option_map Vars) (word_again p word))
-said_again (Threads p) word short = said_short (spelling (Threads p)) (Threads p) short refl refl refl refl (ap (option_map Threads) (word_again p word))
+said_again (To n) lt short = said_short (command_spelling (To n)) (To n) short refl refl refl refl (ap (option_map To) (number_again n lt))
+said_again (Step n) lt short = said_short (command_spelling (Step n)) (Step n) short refl refl refl refl (ap (option_map Step) (number_again n lt))
+said_again (Back n) lt short = said_short (command_spelling (Back n)) (Back n) short refl refl refl refl (ap (option_map Back) (number_again n lt))
+said_again (Vars p) word short = said_short (command_spelling (Vars p)) (Vars p) short refl refl refl refl (ap (option_map Vars) (word_again p word))
+said_again (Threads p) word short = said_short (command_spelling (Threads p)) (Threads p) short refl refl refl refl (ap (option_map Threads) (word_again p word))
 said_again (Wrote p x) proper short =
-    said_short (spelling (Wrote p x)) (Wrote p x) short refl refl refl refl
+    said_short (command_spelling (Wrote p x)) (Wrote p x) short refl refl refl refl
     (ap (option_map (λ (y : IntegerWord). Wrote y.0 y.1)) (integer_again p x proper.0 proper.1))
 said_again (Until p a n) proper short =
-    said_short (spelling (Until p a n)) (Until p a n) short refl refl refl refl (stop_again p a n proper.0 proper.1 proper.2)
+    said_short (command_spelling (Until p a n)) (Until p a n) short refl refl refl refl (stop_again p a n proper.0 proper.1 proper.2)
 said_again Loans proper short = refl
 said_again Next proper short = refl
 said_again Prev proper short = refl
 said_again Help proper short = refl
-said_again (Who r) word short = said_short (spelling (Who r)) (Who r) short refl refl refl refl (ap (option_map Who) (word_again r word))
+said_again (Who r) word short = said_short (command_spelling (Who r)) (Who r) short refl refl refl refl (ap (option_map Who) (word_again r word))
 said_again (Line p a) proper short =
-    said_short (spelling (Line p a)) (Line p a) short refl refl refl refl (ap (option_map (λ (x : ArmWord). Line x.0 x.1)) (arm_again p a proper.0 proper.1))
+    said_short (command_spelling (Line p a)) (Line p a) short refl refl refl refl (ap (option_map (λ (x : ArmWord). Line x.0 x.1)) (arm_again p a proper.0 proper.1))
 said_again (Text p a) proper short =
-    said_short (spelling (Text p a)) (Text p a) short refl refl refl refl (ap (option_map (λ (x : ArmWord). Text x.0 x.1)) (arm_again p a proper.0 proper.1))
+    said_short (command_spelling (Text p a)) (Text p a) short refl refl refl refl (ap (option_map (λ (x : ArmWord). Text x.0 x.1)) (arm_again p a proper.0 proper.1))
 said_again (Why p a) proper short =
-    said_short (spelling (Why p a)) (Why p a) short refl refl refl refl (ap (option_map (λ (x : ArmWord). Why x.0 x.1)) (arm_again p a proper.0 proper.1))
+    said_short (command_spelling (Why p a)) (Why p a) short refl refl refl refl (ap (option_map (λ (x : ArmWord). Why x.0 x.1)) (arm_again p a proper.0 proper.1))
 said_again (Pick p a) proper short =
-    said_short (spelling (Pick p a)) (Pick p a) short refl refl refl refl (ap (option_map (λ (x : ArmWord). Pick x.0 x.1)) (arm_again p a proper.0 proper.1))
+    said_short (command_spelling (Pick p a)) (Pick p a) short refl refl refl refl (ap (option_map (λ (x : ArmWord). Pick x.0 x.1)) (arm_again p a proper.0 proper.1))
 
 pub commands_by_spelling : CommandsBySpelling
 commands_by_spelling line c = (

@@ -11,19 +11,19 @@ use Rattle.pb_code.specs.Whole.{Code, code_opening}
 use Rattle.pb_code.specs.Reached.{CodeMoves}
 use Rattle.pb_history.specs.Entries.{Entry, picks_of}
 use Rattle.pb_history.specs.Leads.{Leads}
-use Rattle.pb_history.specs.Positions.{AreEnabled, after, state_after}
+use Rattle.pb_history.specs.Positions.{AreEnabled, after, state_after, IsAfter}
 use Rattle.pb_history.specs.Replays.{spread}
 use Rattle.pb_history.specs.declared.counted.CountedPick.{CountedPick}
 use Rattle.pb_history.proofs.SpanEvents.{replicate_append}
 use Rattle.pb_history.proofs.CountedPicks.{spread_take, spread_whole}
-use Rattle.pb_history.proofs.Positions.{leads_to, moved_more, not_refused, stepped_more}
-use Rattle.pb_machine.proofs.Growing.{at_push}
+use Rattle.pb_history.proofs.Positions.{leads_to, moved_more, not_refused, stepped_more, stands_next}
+use Rattle.pb_machine.proofs.BuiltLists.{at_push}
 use Rattle.pb_machine.specs.Steps.{IsStep, MovesSilently}
 use Rattle.pb_machine.specs.Views.{machine_view, IsMachineOf}
 use Rattle.pb_machine.specs.declared.machine.Machine.{Machine}
 use Rattle.pb_verifier.specs.Verified.{VerifiedCode}
 use Rattle.pb_debug.specs.Intervals.{IsInterval}
-use Rattle.pb_debug.specs.Walks.{AreCheckpoints, IsCheckpoint, Repeat, Replays, StandsAfter}
+use Rattle.pb_debug.specs.Walks.{AreCheckpoints, IsCheckpoint, Repeat, Replays}
 use Rattle.pb_debug.specs.declared.checkpoints.Replaying.{Replaying}
 
 -- silent picks lead from one position to another
@@ -38,26 +38,17 @@ silent_from code picks i pick most (suc made) s t same le at h =
     moved_more code picks (i + made) pick None t (same made (omega (arith, le))) moves
     ∙ ap (state_after code picks) (let e : i + made + 1 ≡ i + suc made = omega arith in e)
 
--- an enabled pick leads to the next position
-pub stands_next : (v : VerifiedCode) (picks : List Pick) (i : ℕ) (pick : Pick) (m m' : Machine) (result : Step) → AreEnabled v.code picks
-    → slice_get picks i ≡ Some pick → StandsAfter v picks i m → IsStep v.code (machine_view m) pick result (machine_view m') → IsMachineOf v m'
-    → StandsAfter v picks (i + 1) m'
-stands_next v picks i pick m m' result all there at h of =
-    let here = subst (λ (s : State CodeProcess). IsStep v.code s pick result (machine_view m')) at.state h in
-    let not = not_refused v.code picks all i pick result (machine_view m') there here in
-    record { machine = of; state = stepped_more v.code picks i pick result (machine_view m') there here not }
-
 module _ (v : VerifiedCode) (picks : List Pick) (i : ℕ) (pick : Pick) (most : ℕ) (same : Repeat picks i pick most) where
-  pub stands_silent : (made : ℕ) (m m' : Machine) → made ≤ most → StandsAfter v picks i m
-      → MovesSilently v.code pick made (machine_view m) (machine_view m') → IsMachineOf v m' → StandsAfter v picks (i + made) m'
+  pub stands_silent : (made : ℕ) (m m' : Machine) → made ≤ most → IsAfter v picks i m
+      → MovesSilently v.code pick made (machine_view m) (machine_view m') → IsMachineOf v m' → IsAfter v picks (i + made) m'
   stands_silent made m m' le at h of = record {
     machine = of;
     state = silent_from v.code picks i pick most made (machine_view m) (machine_view m') same le at.state h;
   }
 
   -- and one more of them, which is enabled
-  pub stands_one : (made : ℕ) (m m' : Machine) (result : Step) → AreEnabled v.code picks → made < most → StandsAfter v picks (i + made) m
-      → IsStep v.code (machine_view m) pick result (machine_view m') → IsMachineOf v m' → StandsAfter v picks (i + (made + 1)) m'
+  pub stands_one : (made : ℕ) (m m' : Machine) (result : Step) → AreEnabled v.code picks → made < most → IsAfter v picks (i + made) m
+      → IsStep v.code (machine_view m) pick result (machine_view m') → IsMachineOf v m' → IsAfter v picks (i + (made + 1)) m'
   stands_one made m m' result all lt at h of =
       let next = stands_next v picks (i + made) pick m m' result all (same made lt) at h of in
       record {

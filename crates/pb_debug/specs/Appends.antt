@@ -1,5 +1,6 @@
 -- A pick that is tried after the last.
 use Rattle.std.specs.Prelude.{◌≡◌, ◌+◌, ◌<◌, ◌++◌, ◌∷◌, [], length, None, Some}
+use Rattle.pb_base.specs.declared.limits.TheConstants.{MAX_PICKS}
 use Rattle.pb_base.specs.declared.pick.Pick.{Pick}
 use Rattle.pb_base.specs.declared.step.Step.{Step}
 use Rattle.pb_base.specs.declared.step.Step.TheVariants.{Silent, Did, NotEnabled}
@@ -11,20 +12,20 @@ use Rattle.pb_debug.specs.declared.append.Tried.{Tried}
 
 -- the position is that after the last pick, and there may be one more
 abbrev pub CanAppend : Debugging → Type 0
-CanAppend d = (d.position ≡ length d.picks) × (length d.picks < 10000000)
+CanAppend d = (d.position ≡ length d.picks) × (length d.picks < MAX_PICKS)
 
 -- with this pick behind the last, at the position just after it
-abbrev pub appended : Debugging → Pick → Debugging
-appended d pick = moved_to (record d { picks = d.picks ++ pick ∷ [] }) (length d.picks + 1)
+abbrev pub with_pick : Debugging → Pick → Debugging
+with_pick d pick = moved_to (record d { picks = d.picks ++ pick ∷ [] }) (length d.picks + 1)
 
 -- what a pick comes to in the state at the position, and where the debugger then is: an enabled pick is
 -- appended, and any other changes nothing
-abbrev pub Tries : Debugging → Pick → Step → Debugging → Type 0
-Tries d pick Silent next =
-    CodeMoves d.verified.code (state_of d) pick None (state_of next) × (next ≡ appended d pick)
-Tries d pick (Did event) next =
-    CodeMoves d.verified.code (state_of d) pick (Some event) (state_of next) × (next ≡ appended d pick)
-Tries d pick NotEnabled next = CodeStays d.verified.code (state_of d) pick × (next ≡ d)
+abbrev pub TriesPick : Debugging → Pick → Step → Debugging → Type 0
+TriesPick d pick Silent next =
+    CodeMoves d.verified.code (state_of d) pick None (state_of next) × (next ≡ with_pick d pick)
+TriesPick d pick (Did event) next =
+    CodeMoves d.verified.code (state_of d) pick (Some event) (state_of next) × (next ≡ with_pick d pick)
+TriesPick d pick NotEnabled next = CodeStays d.verified.code (state_of d) pick × (next ≡ d)
 
 -- a machine that has tried its pick in the state at the position
 pub record IsTried (d : Debugging) (t : Tried) : Type 0 where

@@ -1,5 +1,6 @@
 -- What a debugger is inside.
 use Rattle.std.specs.Prelude.{◌+◌, ◌*◌, ◌<◌, ◌≤◌, length, option_map}
+use Rattle.pb_base.specs.declared.limits.TheConstants.{MAX_PICKS}
 use Rattle.pb_code.specs.Limits.{AreLabels}
 use Rattle.pb_code.specs.View.{labels_view}
 use Rattle.pb_history.specs.Entries.{picks_of}
@@ -25,7 +26,7 @@ view_of d = record {
 pub record IsSound (d : Inside) : Type 0 where
   pub verified : IsVerified d.verified.now
   pub enabled : AreEnabled d.verified.now.code (picks_of d.trace.entries)
-  pub few : length (picks_of d.trace.entries) ≤ 10000000
+  pub few : length (picks_of d.trace.entries) ≤ MAX_PICKS
   pub within : d.walker.at ≤ length (picks_of d.trace.entries)
   pub cheap : d.last_cost < d.interval
   pub fit : AreLabels d.verified.now.code (labels_view d.labels.now)

@@ -1,10 +1,11 @@
 -- What a line of a session says.
-use Rattle.std.specs.Prelude.{ℕ, ◌+◌, Bool, false, cond, not, ◌&&◌, ◌||◌, nat_lt, ◌==◌, List, [], ◌∷◌, length, take, drop, codes, Option, Some, None, option_map}
-use Rattle.std.specs.Char.{is_ascii_alphabetic, is_ascii_digit}
+use Rattle.std.specs.Prelude.{ℕ, ◌+◌, Bool, false, cond, ◌&&◌, nat_lt, ◌==◌, List, [], ◌∷◌, length, take, drop, codes, Option, Some, None, option_map}
+use Rattle.std.specs.Char.{is_ascii_alphabetic}
 use Rattle.std.specs.List.{list_all, position}
 use Rattle.std.specs.Str.{bytes_eq}
 use Rattle.std.specs.Str.Parse.{digits_value}
 use Rattle.pb_code.specs.Names.{is_name_byte}
+use Rattle.pb_code.specs.Numerals.{is_numeral}
 
 pub data Command : Type 0 where
   To Step Back : (n : ℕ) → Command
@@ -15,28 +16,23 @@ pub data Command : Type 0 where
   Who : (resource : List ℕ) → Command
   Line Text Why Pick : (process : List ℕ) (arm : ℕ) → Command
 
--- digits with no zero before others
-abbrev pub is_numeral : List ℕ → Bool
-is_numeral [] = false
-is_numeral (d ∷ ds) = list_all is_ascii_digit (d ∷ ds) && (not (d == 48) || (length ds == 0))
-
 -- one to eight digits, with no zero before others
 abbrev pub number_of : List ℕ → Option ℕ
 number_of word = cond (is_numeral word && nat_lt (length word) 9) (Some (digits_value 10 word)) None
 
 -- a letter, then letters, digits or `_`: what a name looks like
-abbrev pub is_word : List ℕ → Bool
-is_word [] = false
-is_word (b ∷ bs) = is_ascii_alphabetic b && list_all is_name_byte bs
+abbrev pub looks_like_name : List ℕ → Bool
+looks_like_name [] = false
+looks_like_name (b ∷ bs) = is_ascii_alphabetic b && list_all is_name_byte bs
 
 abbrev pub word_of : List ℕ → Option (List ℕ)
-word_of word = cond (is_word word) (Some word) None
+word_of word = cond (looks_like_name word) (Some word) None
 
 -- `P.a`: a process, and the number of an arm
 abbrev pub arm_at : List ℕ → Option ℕ → Option (List ℕ × ℕ)
 arm_at word None = None
 arm_at word (Some dot) =
-    cond (is_word (take dot word)) (option_map (λ arm. (take dot word, arm)) (number_of (drop (dot + 1) word))) None
+    cond (looks_like_name (take dot word)) (option_map (λ arm. (take dot word, arm)) (number_of (drop (dot + 1) word))) None
 
 abbrev pub arm_of : List ℕ → Option (List ℕ × ℕ)
 arm_of word = arm_at word (position (λ b. b == 46) word)

@@ -1,5 +1,5 @@
--- Debugging against the source: a compiled text's code after some picks, and its source after their shadow: each line
--- shown is that of what the arm does next there.
+-- Debugging against the source: a compiled text's code after some picks, and its source after their shadow:
+-- each line shown is that of what the arm does next there.
 use Rattle.std.specs.Prelude.{◌≡◌, ℕ, ℤ, List, length, map, take, Some, slice_get}
 use Rattle.pb_base.specs.declared.event.Event.{Event}
 use Rattle.pb_base.specs.declared.pick.Pick.{Pick}
@@ -11,7 +11,7 @@ use Rattle.pb_names.specs.HeadLines.{head_line}
 use Rattle.pb_names.specs.Program.{Program}
 use Rattle.pb_names.specs.Source.{Arm, find, SourceProcess, source_process, source_step}
 use Rattle.pb_history.specs.Positions.{AreEnabled, state_after}
-use Rattle.pb_debug.specs.Shown.{line_of}
+use Rattle.pb_debug.specs.Shown.{thread_line}
 
 -- at position i
 pub record FollowsSource (program : Program) (code : Code) (labels : List ProcessLabels) (picks : List Pick) (i : ℕ) : Type 0 where
@@ -27,7 +27,7 @@ pub record FollowsSource (program : Program) (code : Code) (labels : List Proces
       → thread cp.threads a ≡ Live place stack
       → (run : Arm) × (arm : Arm)
       × (sp.run ≡ Some run) × (find a 0 run ≡ Some arm)
-      × (line_of l.lines (thread cp.threads a) ≡ head_line arm)
+      × (thread_line l.lines (thread cp.threads a) ≡ head_line arm)
 
 -- so it is at each position of picks that are all enabled
 abbrev pub CodeFollowsSource : Type 0

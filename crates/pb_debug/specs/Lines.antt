@@ -2,15 +2,15 @@
 use Rattle.std.specs.Prelude.{ℕ, zero, suc, cond, ◌==◌, List, [], ◌∷◌, ◌++◌, Option, None, slice_get}
 
 -- lines that a line feed ends, and what is after the last
-pub record Cut : Type 0 where
+pub record SplitLines : Type 0 where
   pub lines : List (List ℕ)
   pub rest : List ℕ
 
-abbrev pub one_line_more : List ℕ → Cut → Cut
+abbrev pub one_line_more : List ℕ → SplitLines → SplitLines
 one_line_more line c = record { lines = line ∷ c.lines; rest = c.rest }
 
 -- the lines of bytes that come behind the first part of a line
-abbrev pub cut : List ℕ → List ℕ → Cut
+abbrev pub cut : List ℕ → List ℕ → SplitLines
 cut part [] = record { lines = []; rest = part }
 cut part (b ∷ bytes) = cond (b == 10) (one_line_more part (cut [] bytes)) (cut (part ++ b ∷ []) bytes)
 

@@ -4,11 +4,11 @@ use Rattle.std.specs.Fmt.{decimal}
 use Rattle.pb_base.specs.Banker.{BankerState, processes, loan, cash}
 use Rattle.pb_base.specs.Bundle.{amount_in}
 use Rattle.pb_base.specs.declared.pick.Pick.{Pick}
-use Rattle.pb_base.specs.Lines.{NameTable, name_of, pick_text}
+use Rattle.pb_base.specs.Lines.{NameTable, name_of, pick_text, line, each_below}
 use Rattle.pb_base.specs.Steppers.{State}
-use Rattle.pb_code.specs.Code.{Instr, Take, ProcessCode, Thread, Idle, Live, Over, CodeProcess, thread}
+use Rattle.pb_code.specs.Code.{Instr, Take, ProcessCode, Thread, Idle, Live, Ended, CodeProcess, thread}
 use Rattle.pb_code.specs.Whole.{Code}
-use Rattle.pb_debug.specs.Texts.{line, each_below, loan_text, cash_text}
+use Rattle.pb_debug.specs.Texts.{loan_text, cash_text}
 
 -- the amount of a resource for which an instruction asks: that in its bundle, if it is a request
 abbrev pub amount_wanted : Option Instr → ℕ → ℕ
@@ -20,7 +20,7 @@ amount_wanted None r = 0
 abbrev pub amount_asked : ProcessCode → Thread → ℕ → ℕ
 amount_asked code Idle r = 0
 amount_asked code (Live place stack) r = amount_wanted (slice_get code.instrs place) r
-amount_asked code Over r = 0
+amount_asked code Ended r = 0
 
 -- `P holds K R claim C`, if the process holds some of it
 abbrev pub holder_text : NameTable → BankerState → (r p : ℕ) → List ℕ

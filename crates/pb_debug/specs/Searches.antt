@@ -8,7 +8,7 @@ use Rattle.pb_code.specs.Reached.{CodeMoves}
 use Rattle.pb_code.specs.Whole.{Code, ProcessLabels}
 use Rattle.pb_history.specs.Positions.{state_after}
 use Rattle.pb_machine.specs.Steps.{IsStep}
-use Rattle.pb_debug.specs.Shown.{line_of}
+use Rattle.pb_debug.specs.Shown.{thread_line}
 use Rattle.pb_debug.specs.declared.search.Watch.{Watch}
 use Rattle.pb_debug.specs.declared.search.Watch.TheVariants as watch
 
@@ -37,11 +37,11 @@ value_at code picks k p x = value_in (slice_get (state_after code picks k).proce
 abbrev pub line_in : Option ProcessLabels → Option CodeProcess → ℕ → Option ℕ
 line_in None process a = None
 line_in (Some labels) None a = None
-line_in (Some labels) (Some process) a = line_of labels.lines (thread process.threads a)
+line_in (Some labels) (Some process) a = thread_line labels.lines (thread process.threads a)
 
 -- the line of an arm of a process at position k
-abbrev pub line_at : Code → List ProcessLabels → List Pick → (k p a : ℕ) → Option ℕ
-line_at code labels picks k p a = line_in (slice_get labels p) (slice_get (state_after code picks k).processes p) a
+abbrev pub arm_line_at : Code → List ProcessLabels → List Pick → (k p a : ℕ) → Option ℕ
+arm_line_at code labels picks k p a = line_in (slice_get labels p) (slice_get (state_after code picks k).processes p) a
 
 -- pick k does what is looked for: it shows an event; it changes an integer of a process;
 -- an arm is at a line after it, and is not before it
@@ -49,7 +49,7 @@ abbrev pub Does : Code → List ProcessLabels → List Pick → Watch → ℕ �
 Does code labels picks watch.Event k = (event : Event) × Shows code picks k event
 Does code labels picks (watch.Integer p x) k = value_at code picks k p x ≡ value_at code picks (k + 1) p x → ⊥
 Does code labels picks (watch.Line p a n) k =
-    (line_at code labels picks k p a ≡ Some n → ⊥) × (line_at code labels picks (k + 1) p a ≡ Some n)
+    (arm_line_at code labels picks k p a ≡ Some n → ⊥) × (arm_line_at code labels picks (k + 1) p a ≡ Some n)
 
 -- the first number, from one on and below another, of which this holds; none if there is none
 abbrev pub IsFirst : (ℕ → Type 0) → (from past : ℕ) → Option ℕ → Type 0

@@ -1,7 +1,8 @@
 -- Sessions: the lines of an input, and what is answered to them in turn.
 use Rattle.std.specs.Prelude.{◌≡◌, ◌⊎◌, ℕ, List, [], ◌∷◌, ◌++◌, take, Option, Some}
+use Rattle.pb_base.specs.declared.limits.TheConstants.{MAX_INPUT}
 use Rattle.pb_base.specs.Device.{appended, one_more_failure, AddsPrefix}
-use Rattle.pb_debug.specs.Answers.{Answers}
+use Rattle.pb_debug.specs.Answers.{AnswersLine}
 use Rattle.pb_debug.specs.Buffers.{kept}
 use Rattle.pb_debug.specs.Lines.{cut, lines_of}
 use Rattle.pb_debug.specs.Value.{Debugging}
@@ -12,11 +13,11 @@ use Rattle.pb_debug.specs.declared.fault.DebugFault.TheVariants.{PastEnd, NoProc
 pub data Session (d : Debugging) : List (List ℕ) → List ℕ → Debugging → Type 0 where
   nothing : Session d [] [] d
   one_more : (lines : List (List ℕ)) (text : List ℕ) (mid : Debugging) (line said : List ℕ) (next : Debugging)
-      → Session d lines text mid → Answers mid line said next → Session d (lines ++ line ∷ []) (text ++ said) next
+      → Session d lines text mid → AnswersLine mid line said next → Session d (lines ++ line ∷ []) (text ++ said) next
 
 -- the bytes that a session takes from an input
 abbrev pub session_bytes : List ℕ → List ℕ
-session_bytes bytes = take 4194304 bytes
+session_bytes bytes = take MAX_INPUT bytes
 
 -- all lines are answered and the answers are written
 pub record SaysAll (d : Debugging) (bytes : List ℕ) (old new : Option (List ℕ)) (end : Debugging) : Type 0 where
@@ -26,13 +27,13 @@ pub record SaysAll (d : Debugging) (bytes : List ℕ) (old new : Option (List �
 
 -- how much of its text is written where a session ends early: all if out of memory, a first part if a device
 -- failed
-abbrev pub Leaves : DebugFault → Option (List ℕ) → Option (List ℕ) → List ℕ → Type 0
-Leaves PastEnd old new text = ⊥
-Leaves NoProcess old new text = ⊥
-Leaves NoArm old new text = ⊥
-Leaves BadCommand old new text = ⊥
-Leaves NoMemory old new text = new ≡ appended old text
-Leaves Device old new text = AddsPrefix old new text
+abbrev pub WritesBeforeFault : DebugFault → Option (List ℕ) → Option (List ℕ) → List ℕ → Type 0
+WritesBeforeFault PastEnd old new text = ⊥
+WritesBeforeFault NoProcess old new text = ⊥
+WritesBeforeFault NoArm old new text = ⊥
+WritesBeforeFault BadCommand old new text = ⊥
+WritesBeforeFault NoMemory old new text = new ≡ appended old text
+WritesBeforeFault Device old new text = AddsPrefix old new text
 
 -- the answers to the first lines are written, all or a first part of them; the debugger is at the
 -- position to which the last of these lines led
@@ -42,13 +43,14 @@ pub record SaysSome (fault : DebugFault) (d : Debugging) (bytes : List ℕ) (old
   pub text : List ℕ
   pub of : lines_of (session_bytes bytes) ≡ lines ++ later
   pub session : Session d lines text end
-  pub written : Leaves fault old new text
+  pub written : WritesBeforeFault fault old new text
 
 -- the first of the bytes are read, and the others are still to come
 abbrev pub IsReadTo : (bytes read : List ℕ) (left : Option (List ℕ)) → Type 0
 IsReadTo bytes read left = (rest : List ℕ) × (bytes ≡ read ++ rest) × (left ≡ Some rest)
 
--- a read failed: what is written is the text that follows from the bytes read before it, all of it and no more
+-- a read failed: what is written is the text that follows from the bytes read before it, all of it and no
+-- more
 abbrev pub SaysBefore : (Follows : List ℕ → List ℕ → Type 0) → (bytes : List ℕ) → (left old new : Option (List ℕ)) → Type 0
 SaysBefore Follows bytes left old new =
     (read : List ℕ) × (text : List ℕ) × IsReadTo bytes read left × Follows read text × (new ≡ appended old text)
@@ -56,20 +58,20 @@ SaysBefore Follows bytes left old new =
 -- ---- parts of a session
 
 -- why an answer was not written, or not whole: out of memory, and nothing was done; or a device failed
-abbrev pub StopsAt : DebugFault → Debugging → List ℕ → Option (List ℕ) → Option (List ℕ) → Debugging → Type 0
-StopsAt PastEnd d line old new next = ⊥
-StopsAt NoProcess d line old new next = ⊥
-StopsAt NoArm d line old new next = ⊥
-StopsAt BadCommand d line old new next = ⊥
-StopsAt NoMemory d line old new next = (next ≡ d) × (new ≡ old)
-StopsAt Device d line old new next = (said : List ℕ) × Answers d line said next × AddsPrefix old new said
+abbrev pub SessionStopsAt : DebugFault → Debugging → List ℕ → Option (List ℕ) → Option (List ℕ) → Debugging → Type 0
+SessionStopsAt PastEnd d line old new next = ⊥
+SessionStopsAt NoProcess d line old new next = ⊥
+SessionStopsAt NoArm d line old new next = ⊥
+SessionStopsAt BadCommand d line old new next = ⊥
+SessionStopsAt NoMemory d line old new next = (next ≡ d) × (new ≡ old)
+SessionStopsAt Device d line old new next = (said : List ℕ) × AnswersLine d line said next × AddsPrefix old new said
 
 -- a line is answered and the answer is written
 abbrev pub IsTold : Debugging → List ℕ → Option (List ℕ) → Option (List ℕ) → Debugging → Type 0
-IsTold d line old new next = (said : List ℕ) × Answers d line said next × (new ≡ appended old said)
+IsTold d line old new next = (said : List ℕ) × AnswersLine d line said next × (new ≡ appended old said)
 
--- after the first part of a line come some bytes: the lines that end in them are answered, and the first bytes of
--- the last one are kept
+-- after the first part of a line come some bytes: the lines that end in them are answered, and the first
+-- bytes of the last one are kept
 pub record Fed (d : Debugging) (part bytes : List ℕ) (old new : Option (List ℕ)) (line : List ℕ) (next : Debugging) : Type 0 where
   pub text : List ℕ
   pub session : Session d (cut part bytes).lines text next
@@ -83,7 +85,7 @@ pub record FedSome (fault : DebugFault) (d : Debugging) (part bytes : List ℕ) 
   pub text : List ℕ
   pub of : (cut part bytes).lines ≡ lines ++ later
   pub session : Session d lines text next
-  pub written : Leaves fault old new text
+  pub written : WritesBeforeFault fault old new text
 
 -- ---- failures of devices
 
@@ -96,8 +98,8 @@ CountsWrites BadCommand before after = ⊥
 CountsWrites NoMemory before after = after ≡ before
 CountsWrites Device before after = after ≡ one_more_failure before
 
--- how many reads and writes have failed, before and after a session that ended early: one more of them, or out of
--- memory
+-- how many reads and writes have failed, before and after a session that ended early: one more of them, or
+-- out of memory
 abbrev pub CountsBoth : DebugFault → (reads reads' writes writes' : ℕ) → Type 0
 CountsBoth PastEnd reads reads' writes writes' = ⊥
 CountsBoth NoProcess reads reads' writes writes' = ⊥

@@ -4,21 +4,13 @@ use Rattle.std.specs.Fmt.{decimal, signed_decimal}
 use Rattle.pb_base.specs.Banker.{BankerState, processes, resources, claim, loan, cash}
 use Rattle.pb_base.specs.declared.event.Event.{Event}
 use Rattle.pb_base.specs.declared.pick.Pick.{Pick}
-use Rattle.pb_base.specs.Lines.{NameTable, name_of, pick_text, line_of as event_line}
-use Rattle.pb_code.specs.Code.{CodeProcess, Thread, Idle, Live, Over, thread}
+use Rattle.pb_base.specs.Lines.{NameTable, name_of, pick_text, line_of as event_line, line, each_below}
+use Rattle.pb_code.specs.Code.{CodeProcess, Thread, Idle, Live, Ended, thread}
 use Rattle.pb_debug.specs.Lines.{line_numbered}
 use Rattle.pb_debug.specs.declared.fault.DebugFault.{DebugFault}
 use Rattle.pb_debug.specs.declared.fault.DebugFault.TheVariants.{PastEnd, NoProcess, NoArm, BadCommand, NoMemory, Device}
 use Rattle.pb_debug.specs.declared.why.Why.{Why}
 use Rattle.pb_debug.specs.declared.why.Why.TheVariants.{NotAsking, Cash, Order, Rest}
-
-abbrev pub line : List ℕ → List ℕ
-line text = text ++ 10 ∷ []
-
--- what is said of each number below n, one after another
-abbrev pub each_below : (ℕ → List ℕ) → ℕ → List ℕ
-each_below said zero = []
-each_below said (suc n) = each_below said n ++ said n
 
 -- `at I`
 abbrev pub at_text : ℕ → List ℕ
@@ -67,7 +59,7 @@ vars_text names vars = each_below (λ x. var_text (name_of names x) (slice_index
 abbrev pub standing_text : Thread → List ℕ
 standing_text Idle = codes " idle"
 standing_text (Live place stack) = codes " at " ++ decimal place
-standing_text Over = codes " ended"
+standing_text Ended = codes " ended"
 
 abbrev pub thread_text : ℕ → Thread → List ℕ
 thread_text a t = line (decimal a ++ standing_text t)
@@ -134,13 +126,13 @@ refusal_text NoMemory = []
 refusal_text Device = []
 
 -- a command is refused so, and the session goes on
-abbrev pub IsRefusal : DebugFault → Type 0
-IsRefusal PastEnd = ⊤
-IsRefusal NoProcess = ⊤
-IsRefusal NoArm = ⊤
-IsRefusal BadCommand = ⊤
-IsRefusal NoMemory = ⊥
-IsRefusal Device = ⊥
+abbrev pub IsCommandRefusal : DebugFault → Type 0
+IsCommandRefusal PastEnd = ⊤
+IsCommandRefusal NoProcess = ⊤
+IsCommandRefusal NoArm = ⊤
+IsCommandRefusal BadCommand = ⊤
+IsCommandRefusal NoMemory = ⊥
+IsCommandRefusal Device = ⊥
 
 -- all that a reason speaks of has a name
 abbrev pub HasNamesOf : NameTable → Why → Type 0

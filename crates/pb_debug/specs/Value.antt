@@ -1,5 +1,6 @@
 -- What a contract sees of a debugger.
 use Rattle.std.specs.Prelude.{ℕ, ◌%◌, ◌<◌, ◌≤◌, List, length, Option, None}
+use Rattle.pb_base.specs.declared.limits.TheConstants.{MAX_PICKS}
 use Rattle.pb_base.specs.Banker.{BankerState}
 use Rattle.pb_base.specs.declared.pick.Pick.{Pick}
 use Rattle.pb_base.specs.Steppers.{State, banker_state}
@@ -10,8 +11,8 @@ use Rattle.pb_verifier.specs.Verified.{VerifiedCode, IsVerified}
 use Rattle.pb_history.specs.Positions.{AreEnabled, state_after}
 use Rattle.pb_debug.specs.Intervals.{IsInterval, interval_of}
 
--- the code, its labels, the text whose lines are shown, if there is one, and the distance of checkpoints stay; picks are only added behind
--- the last; the position moves, and with it the cost of the last move
+-- the code, its labels, the text whose lines are shown, if there is one, and the distance of checkpoints
+-- stay; picks are only added behind the last; the position moves, and with it the cost of the last move
 pub record Debugging : Type 0 where
   pub verified : VerifiedCode
   pub labels : List ProcessLabels
@@ -29,12 +30,13 @@ state_of d = state_after d.verified.code d.picks d.position
 abbrev pub bank_state : Debugging → BankerState
 bank_state d = banker_state (bank_of d.verified.code) (state_of d).loans
 
--- the code is verified and all picks are enabled, at most 10,000,000 of them; the position is one of theirs; the last move cost less than
--- the distance of checkpoints, which is that for the picks that were there at first; the labels fit the code
+-- the code is verified and all picks are enabled, at most 10,000,000 of them; the position is one of theirs;
+-- the last move cost less than the distance of checkpoints, which is that for the picks that were there at
+-- first; the labels fit the code
 pub record IsPosition (d : Debugging) : Type 0 where
   pub verified : IsVerified d.verified
   pub enabled : AreEnabled d.verified.code d.picks
-  pub few : length d.picks ≤ 10000000
+  pub few : length d.picks ≤ MAX_PICKS
   pub within : d.position ≤ length d.picks
   pub cheap : d.last_cost < d.interval
   pub spaced : IsInterval (length d.picks) d.interval

@@ -4,21 +4,16 @@ use Rattle.pb_base.specs.declared.pick.Pick.{Pick}
 use Rattle.pb_code.specs.Whole.{code_opening}
 use Rattle.pb_history.specs.Entries.{picks_of}
 use Rattle.pb_history.specs.Leads.{Leads}
-use Rattle.pb_history.specs.Positions.{state_after}
+use Rattle.pb_history.specs.Positions.{IsAfter, state_after}
 use Rattle.pb_machine.specs.Views.{machine_view, IsMachineOf}
 use Rattle.pb_machine.specs.declared.machine.Machine.{Machine}
 use Rattle.pb_verifier.specs.Verified.{VerifiedCode}
 use Rattle.pb_debug.specs.declared.checkpoints.Replaying.{Replaying}
 use Rattle.pb_debug.specs.declared.walker.Walker.{Walker}
 
--- a machine of the code in its state at position i
-pub record StandsAfter (v : VerifiedCode) (picks : List Pick) (i : ℕ) (m : Machine) : Type 0 where
-  pub machine : IsMachineOf v m
-  pub state : machine_view m ≡ state_after v.code picks i
-
 -- the machine is in the state at its position
 abbrev pub Walks : VerifiedCode → List Pick → Walker → Type 0
-Walks v picks w = StandsAfter v picks w.at w.machine
+Walks v picks w = IsAfter v picks w.at w.machine
 
 -- the picks from position i on begin with this one, so often
 abbrev pub Repeat : List Pick → (i : ℕ) → Pick → (count : ℕ) → Type 0
@@ -26,7 +21,7 @@ Repeat picks i pick count = (k : ℕ) → k < count → slice_get picks (i + k) 
 
 -- a machine at position i, which is not past the picks
 pub record IsCheckpoint (v : VerifiedCode) (picks : List Pick) (i : ℕ) (m : Machine) : Type 0 where
-  pub stands : StandsAfter v picks i m
+  pub stands : IsAfter v picks i m
   pub within : i ≤ length picks
 
 -- these machines are at the first multiples of the distance
@@ -34,8 +29,8 @@ abbrev pub AreCheckpoints : VerifiedCode → List Pick → (interval : ℕ) → 
 AreCheckpoints v picks interval machines =
     (k : ℕ) (m : Machine) → slice_get machines k ≡ Some m → IsCheckpoint v picks (k * interval) m
 
--- the picks of a replay led its machine to its state, and it has checkpoints up to the last multiple of the distance
--- before the next
+-- the picks of a replay led its machine to its state, and it has checkpoints up to the last multiple of the
+-- distance before the next
 pub record Keeps (v : VerifiedCode) (r : Replaying) : Type 0 where
   pub machine : IsMachineOf v r.machine
   pub leads : Leads v.code (code_opening v.code) r.trace.entries (machine_view r.machine)

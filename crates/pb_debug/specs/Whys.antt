@@ -24,8 +24,8 @@ pub record IsFirstOverCash (s : BankerState) (bundle : Bundle) (resource amount 
   pub resource_is : resource ≡ pair.resource
   pub amount_is : amount ≡ cash s pair.resource
 
--- what becomes of a request for a bundle: the cash is too little; or it is allowed, and the processes finish in
--- this order with the new loan; or it would be unsafe, and these could never finish
+-- what becomes of a request for a bundle: the cash is too little; or it is allowed, and the processes finish
+-- in this order with the new loan; or it would be unsafe, and these could never finish
 abbrev pub IsReason : BankerState → ℕ → Bundle → Why → Type 0
 IsReason s p bundle NotAsking = ⊥
 IsReason s p bundle (Cash resource amount) = IsFirstOverCash s bundle resource amount

@@ -1,8 +1,8 @@
 //! What a session answers to a line.
 
 ghost use Rattle.std.specs.Prelude.{◌≡◌, ◌++◌, ◌<◌, ◌≤◌, ℕ, List, length, map, slice_get, Some, OnOk, OnErr, IfSome, IfNone};
-ghost use Rattle.pb_debug.specs.Answers.{names_of, HasNoName, OfProcess, SaysVars, SaysThreads, SaysLine, SaysText, SaysWho, SaysWhy};
-ghost use Rattle.pb_debug.specs.Answers.{Answers, AnswersCommand, AnswersNext, AnswersPick, AnswersPrev, AnswersUntil, SaysEvent, SaysWrite, SaysWrote, ShowsAny};
+ghost use Rattle.pb_debug.specs.Answers.{shown_names, HasNoName, OfProcess, SaysVars, SaysThreads, SaysLine, SaysText, SaysWho, SaysWhy};
+ghost use Rattle.pb_debug.specs.Answers.{AnswersLine, AnswersCommand, AnswersNext, AnswersPick, AnswersPrev, AnswersUntil, SaysEvent, SaysWrite, SaysWrote, ShowsAny};
 ghost use Rattle.pb_debug.specs.Texts.{at_text, loans_text};
 ghost use Rattle.pb_debug.specs.Value.{IsPosition, bank_state, moved_to, state_of};
 ghost use Rattle.pb_debug.specs.View.{command_view};
@@ -36,8 +36,8 @@ fn find_name(names: &[Vec<u8>], word: &[u8]) -> Option<usize>
 impl<'c> Debugger<'c> {
     // Returns the number of the process of this name.
     fn process(&self, word: &[u8]) -> Option<usize>
-        ensures some { IfSome result (λ p. slice_get (names_of self.now).processes p ≡ Some word.now) }
-        ensures none { IfNone result (HasNoName (names_of self.now) word.now) }
+        ensures some { IfSome result (λ p. slice_get (shown_names self.now).processes p ≡ Some word.now) }
+        ensures none { IfNone result (HasNoName (shown_names self.now) word.now) }
         ensures within { IfSome result (λ p. p < length (state_of self.now).processes) }
         ensures placed { IsPosition self.now }
     {
@@ -99,7 +99,7 @@ impl<'c> Debugger<'c> {
 
     fn say_vars(&self, text: &mut Vec<u8>, word: &[u8]) -> Result<(), NoMemory>
         ensures { OnOk result ((said : List ℕ)
-            × OfProcess (names_of self.now) word.now (SaysVars self.now said) said
+            × OfProcess (shown_names self.now) word.now (SaysVars self.now said) said
             × (text.new.items ≡ text.old.items ++ said)) }
     {
         let Some(p) = self.process(word) else {
@@ -126,7 +126,7 @@ impl<'c> Debugger<'c> {
 
     fn say_wrote(&self, text: &mut Vec<u8>, word: IntegerWord) -> Result<(), NoMemory>
         ensures { OnOk result ((said : List ℕ)
-            × OfProcess (names_of self.now) word.entry.process.now (SaysWrote self.now word.entry.integer.now said) said
+            × OfProcess (shown_names self.now) word.entry.process.now (SaysWrote self.now word.entry.integer.now said) said
             × (text.new.items ≡ text.old.items ++ said)) }
     {
         let Some(process) = self.process(word.process) else {
@@ -167,7 +167,7 @@ impl<'c> Debugger<'c> {
 
     fn say_threads(&self, text: &mut Vec<u8>, word: &[u8]) -> Result<(), NoMemory>
         ensures { OnOk result ((said : List ℕ)
-            × OfProcess (names_of self.now) word.now (SaysThreads self.now said) said
+            × OfProcess (shown_names self.now) word.now (SaysThreads self.now said) said
             × (text.new.items ≡ text.old.items ++ said)) }
     {
         let Some(p) = self.process(word) else {
@@ -180,7 +180,7 @@ impl<'c> Debugger<'c> {
     }
 
     fn say_loans(&self, text: &mut Vec<u8>) -> Result<(), NoMemory>
-        ensures { OnOk result (text.new.items ≡ text.old.items ++ loans_text (names_of self.now) (bank_state self.now)) }
+        ensures { OnOk result (text.new.items ≡ text.old.items ++ loans_text (shown_names self.now) (bank_state self.now)) }
     {
         put_loans(text, self.verified.names(), self.loans())
     }
@@ -197,7 +197,7 @@ impl<'c> Debugger<'c> {
 
     fn say_line(&self, text: &mut Vec<u8>, word: ArmWord) -> Result<(), NoMemory>
         ensures { OnOk result ((said : List ℕ)
-            × OfProcess (names_of self.now) word.entry.process.now (SaysLine self.now word.entry.arm said) said
+            × OfProcess (shown_names self.now) word.entry.process.now (SaysLine self.now word.entry.arm said) said
             × (text.new.items ≡ text.old.items ++ said)) }
     {
         let Some(p) = self.process(word.process) else {
@@ -211,7 +211,7 @@ impl<'c> Debugger<'c> {
 
     fn say_text(&self, text: &mut Vec<u8>, word: ArmWord) -> Result<(), NoMemory>
         ensures { OnOk result ((said : List ℕ)
-            × OfProcess (names_of self.now) word.entry.process.now (SaysText self.now word.entry.arm said) said
+            × OfProcess (shown_names self.now) word.entry.process.now (SaysText self.now word.entry.arm said) said
             × (text.new.items ≡ text.old.items ++ said)) }
     {
         let Some(p) = self.process(word.process) else {
@@ -225,7 +225,7 @@ impl<'c> Debugger<'c> {
 
     fn say_why(&self, text: &mut Vec<u8>, word: ArmWord) -> Result<(), NoMemory>
         ensures { OnOk result ((said : List ℕ)
-            × OfProcess (names_of self.now) word.entry.process.now (SaysWhy self.now word.entry.arm said) said
+            × OfProcess (shown_names self.now) word.entry.process.now (SaysWhy self.now word.entry.arm said) said
             × (text.new.items ≡ text.old.items ++ said)) }
     {
         let Some(p) = self.process(word.process) else {
@@ -300,10 +300,10 @@ impl<'c> Debugger<'c> {
         }
     }
 
-    /// Puts the answer to a line, which is given without its line feed, behind a text. Out of memory: the position is
-    /// as before.
+    /// Puts the answer to a line, which is given without its line feed, behind a text. Out of memory: the
+    /// position is as before.
     pub(crate) fn answer(&mut self, text: &mut Vec<u8>, line: &[u8]) -> Result<(), NoMemory>
-        ensures answer { OnOk result ((said : List ℕ) × Answers self.old line.now said self.new
+        ensures answer { OnOk result ((said : List ℕ) × AnswersLine self.old line.now said self.new
             × (text.new.items ≡ text.old.items ++ said)) }
         ensures unchanged { OnErr result (self.new ≡ self.old) }
     {

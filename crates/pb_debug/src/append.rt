@@ -5,8 +5,8 @@ ghost use Rattle.pb_base.specs.declared.event.Event.{Event as AnyEvent};
 ghost use Rattle.pb_base.specs.declared.step.Step.TheVariants.{Did};
 ghost use Rattle.pb_base.specs.Lines.{HasNames};
 ghost use Rattle.pb_code.specs.Reached.{CodeMoves};
-ghost use Rattle.pb_debug.specs.Answers.{SaysStep, SaysTried, names_of};
-ghost use Rattle.pb_debug.specs.Appends.{CanAppend, IsTried, Tries, appended};
+ghost use Rattle.pb_debug.specs.Answers.{SaysStep, SaysTried, shown_names};
+ghost use Rattle.pb_debug.specs.Appends.{CanAppend, IsTried, TriesPick, with_pick};
 ghost use Rattle.pb_debug.specs.Refusals.{HasArm, IsMoveFault};
 ghost use Rattle.pb_debug.specs.Value.{IsPosition, state_of};
 ghost use Rattle.pb_machine.specs.Views.{IsMachineOf, machine_view};
@@ -16,13 +16,12 @@ use crate::debugger::Debugger;
 use crate::fault::DebugFault;
 use crate::text::{put_at, put_event, put_refusal};
 use crate::walker::Walker;
+use pb_base::limits::MAX_PICKS;
 use pb_base::{Event, NoMemory, Pick, Step};
 use pb_history::Trace;
 use pb_machine::Machine;
 
 // The most picks of a debugger.
-const MOST_PICKS: u32 = 10_000_000;
-
 /// A machine that has tried a pick, and what that came to.
 #[derive(Drop)]
 pub(crate) struct Tried {
@@ -34,7 +33,7 @@ pub(crate) struct Tried {
 // Adds a pick, with its event or with none, behind a trace that has room for it.
 fn push(trace: &mut Trace, pick: Pick, event: Option<Event>)
     requires room { 0 < trace.old.room }
-    requires fits { length trace.old.entries < 10000000 }
+    requires fits { length trace.old.entries < MAX_PICKS }
     ensures { trace.new.entries ≡ trace.old.entries ++ record { pick = pick; event = event } ∷ [] }
 {
     match event {
@@ -49,10 +48,10 @@ impl<'c> Debugger<'c> {
         ensures can { IsTrue result ↔ CanAppend self.now }
         ensures placed { IsPosition self.now }
     {
-        self.position() == self.len() && self.len() < MOST_PICKS
+        self.position() == self.len() && self.len() < MAX_PICKS
     }
 
-    // Tries a pick at the position, by a copy of the machine.
+    // TriesPick a pick at the position, by a copy of the machine.
     fn tried(&self, pick: Pick) -> Result<Tried, NoMemory>
         ensures tried { IfOk result (IsTried self.now) }
         ensures pick { IfOk result (λ tried. tried.pick ≡ pick) }
@@ -66,13 +65,13 @@ impl<'c> Debugger<'c> {
         })
     }
 
-    // Appends an enabled pick, after which the machine is as this one, and goes to just after it. All room is made
-    // before anything changes.
+    // Appends an enabled pick, after which the machine is as this one, and goes to just after it. All room is
+    // made before anything changes.
     fn add(&mut self, machine: Machine, pick: Pick, event: Option<Event>) -> Result<(), NoMemory>
         requires end { CanAppend self.old }
         requires machine { IsMachineOf self.old.verified machine }
         requires moves { CodeMoves self.old.verified.code (state_of self.old) pick event (machine_view machine) }
-        ensures appended { OnOk result (self.new ≡ appended self.old pick) }
+        ensures with_pick { OnOk result (self.new ≡ with_pick self.old pick) }
         ensures state { OnOk result (state_of self.new ≡ machine_view machine) }
         ensures unchanged { OnErr result (self.new ≡ self.old) }
     {
@@ -95,7 +94,7 @@ impl<'c> Debugger<'c> {
     fn settle(&mut self, tried: Tried) -> Result<(), NoMemory>
         requires end { CanAppend self.old }
         requires tried { IsTried self.old tried }
-        ensures tries { OnOk result (Tries self.old tried.pick tried.step self.new) }
+        ensures tries { OnOk result (TriesPick self.old tried.pick tried.step self.new) }
         ensures unchanged { OnErr result (self.new ≡ self.old) }
     {
         let Tried {
@@ -110,11 +109,12 @@ impl<'c> Debugger<'c> {
         }
     }
 
-    /// Tries a pick after the last, and returns what it came to: if it is enabled it is appended, and the position is
-    /// that just after it; else, or if there is no such process or arm, nothing has changed. `PastEnd` if the position
-    /// is not that after the last pick, or there are 10,000,000 picks; after an error nothing has changed.
+    /// TriesPick a pick after the last, and returns what it came to: if it is enabled it is appended, and the
+    /// position is that just after it; else, or if there is no such process or arm, nothing has changed.
+    /// `PastEnd` if the position is not that after the last pick, or there are 10,000,000 picks; after an
+    /// error nothing has changed.
     pub fn append(&mut self, pick: Pick) -> Result<Step, DebugFault>
-        ensures tries { IfOk result (λ step. Tries self.old pick step self.new) }
+        ensures tries { IfOk result (λ step. TriesPick self.old pick step self.new) }
         ensures end { OnOk result (CanAppend self.old) }
         ensures refused { IfErr result (IsMoveFault (CanAppend self.old → ⊥)) }
         ensures unchanged { OnErr result (self.new ≡ self.old) }
@@ -133,7 +133,7 @@ impl<'c> Debugger<'c> {
     // Says what a pick of an arm at the position came to.
     fn say_step(&self, text: &mut Vec<u8>, p: usize, arm: usize, step: Step) -> Result<(), NoMemory>
         requires process { p < length (state_of self.now).processes }
-        requires names { (event : AnyEvent) → step ≡ Did event → HasNames (names_of self.now) event }
+        requires names { (event : AnyEvent) → step ≡ Did event → HasNames (shown_names self.now) event }
         ensures { OnOk result ((said : List ℕ) × SaysStep self.now p arm step said
             × (text.new.items ≡ text.old.items ++ said)) }
     {

@@ -7,8 +7,8 @@ use std::marker::Model;
 
 const ROOM: usize = 257;
 
-/// The first bytes of a line: all of them, up to one more than a command may have. So a line of any length takes no
-/// memory.
+/// The first bytes of a line: all of them, up to one more than a command may have. So a line of any length
+/// takes no memory.
 #[derive(Drop)]
 pub(crate) struct LineBuffer {
     bytes: [u8; ROOM],

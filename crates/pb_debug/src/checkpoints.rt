@@ -8,6 +8,7 @@ ghost use Rattle.pb_history.specs.Entries.{picks_of};
 ghost use Rattle.pb_history.specs.Replays.{IsStopped, spread};
 ghost use Rattle.pb_verifier.specs.Verified.{VerifiedCode};
 
+use pb_base::limits::MAX_PICKS;
 use pb_base::{NoMemory, Pick};
 use pb_history::replay::repeat;
 use pb_history::{CountedPick, ReplayFault, Trace};
@@ -16,18 +17,18 @@ use pb_verifier::Verified;
 use std::alloc::Global;
 
 // The least distance of checkpoints, and how many there are at most but one.
-const LEAST_INTERVAL: u32 = 4_096;
+const MIN_INTERVAL: u32 = 4_096;
 
 const CHECKPOINTS: u32 = 64;
 
 /// Returns the distance of checkpoints for this number of picks.
 pub(crate) fn interval_for(picks: u32) -> u32
-    requires { picks ≤ 10000000 }
+    requires { picks ≤ MAX_PICKS }
     ensures interval { result ≡ interval_of picks }
     ensures some { 0 < result }
-    ensures small { result ≤ 10000000 }
+    ensures small { result ≤ MAX_PICKS }
 {
-    LEAST_INTERVAL.max((picks + CHECKPOINTS - 1) / CHECKPOINTS)
+    MIN_INTERVAL.max((picks + CHECKPOINTS - 1) / CHECKPOINTS)
 }
 
 /// Keeps a copy of a machine, if it is at the next multiple of the distance of checkpoints.
@@ -39,8 +40,8 @@ pub(crate) fn keep(
     at: u32,
 ) -> Result<(), NoMemory>
     requires some { 0 < interval }
-    requires small { interval ≤ 10000000 }
-    requires few { at ≤ 10000000 }
+    requires small { interval ≤ MAX_PICKS }
+    requires few { at ≤ MAX_PICKS }
     requires before { at ≤ length checkpoints.old.items * interval }
     requires after { length checkpoints.old.items * interval ≤ at + interval }
     ensures checkpoints { OnOk result ((v : VerifiedCode) (picks : List AnyPick)
@@ -59,8 +60,8 @@ pub(crate) fn keep(
     Ok(())
 }
 
-/// A replay that goes on: the machine after the picks made so far, their trace, copies of the machine at the multiples
-/// of a distance, and the next multiple.
+/// A replay that goes on: the machine after the picks made so far, their trace, copies of the machine at the
+/// multiples of a distance, and the next multiple.
 #[derive(Drop)]
 pub(crate) struct Replaying {
     pub machine: Machine,
@@ -74,7 +75,7 @@ impl Replaying {
     /// Returns a replay of no picks, with the checkpoint before the first.
     pub fn new(alloc: Global, verified: &Verified, interval: u32) -> Result<Replaying, NoMemory>
         requires some { 0 < interval }
-        requires small { interval ≤ 10000000 }
+        requires small { interval ≤ MAX_PICKS }
         ensures replays { IfOk result (Replays verified.now) }
         ensures none { IfOk result (λ r. r.trace.entries ≡ []) }
         ensures interval { IfOk result (λ r. r.interval ≡ interval) }
@@ -93,8 +94,8 @@ impl Replaying {
 
     // Keeps a copy of the machine, if it has come to the next multiple of the distance.
     fn keep(&mut self, alloc: Global) -> Result<(), NoMemory>
-        requires few { length self.old.trace.entries ≤ 10000000 }
-        requires small { self.old.interval ≤ 10000000 }
+        requires few { length self.old.trace.entries ≤ MAX_PICKS }
+        requires small { self.old.interval ≤ MAX_PICKS }
         requires some { 0 < self.old.interval }
         requires before { length self.old.trace.entries ≤ self.old.next }
         requires after { self.old.next ≤ length self.old.trace.entries + self.old.interval }
@@ -119,9 +120,9 @@ impl Replaying {
         counted: CountedPick,
     ) -> Result<(), ReplayFault>
         requires replays { Replays verified.now self.old }
-        requires fits { length self.old.trace.entries + counted.count ≤ 10000000 }
+        requires fits { length self.old.trace.entries + counted.count ≤ MAX_PICKS }
         requires some { 0 < self.old.interval }
-        requires small { self.old.interval ≤ 10000000 }
+        requires small { self.old.interval ≤ MAX_PICKS }
         ensures replays { OnOk result (Replays verified.now self.new) }
         ensures picks { OnOk result (picks_of self.new.trace.entries
             ≡ picks_of self.old.trace.entries ++ replicate counted.count counted.pick) }
@@ -154,9 +155,9 @@ impl Replaying {
     ) -> Result<(), ReplayFault>
         requires replays { Replays verified.now self.old }
         requires none { self.old.trace.entries ≡ [] }
-        requires few { length picks.now ≤ 10000000 }
+        requires few { length picks.now ≤ MAX_PICKS }
         requires some { 0 < self.old.interval }
-        requires small { self.old.interval ≤ 10000000 }
+        requires small { self.old.interval ≤ MAX_PICKS }
         ensures replays { OnOk result (Replays verified.now self.new) }
         ensures picks { OnOk result (picks_of self.new.trace.entries ≡ picks.now) }
         ensures interval { OnOk result (self.new.interval ≡ self.old.interval) }
@@ -181,9 +182,9 @@ impl Replaying {
     ) -> Result<(), ReplayFault>
         requires replays { Replays verified.now self.old }
         requires none { self.old.trace.entries ≡ [] }
-        requires few { length (spread picks.now) ≤ 10000000 }
+        requires few { length (spread picks.now) ≤ MAX_PICKS }
         requires some { 0 < self.old.interval }
-        requires small { self.old.interval ≤ 10000000 }
+        requires small { self.old.interval ≤ MAX_PICKS }
         ensures replays { OnOk result (Replays verified.now self.new) }
         ensures picks { OnOk result (picks_of self.new.trace.entries ≡ spread picks.now) }
         ensures interval { OnOk result (self.new.interval ≡ self.old.interval) }
@@ -202,7 +203,7 @@ pub(crate) fn replay_picks(
     verified: &Verified,
     picks: &[Pick],
 ) -> Result<Replaying, ReplayFault>
-    requires { length picks.now ≤ 10000000 }
+    requires { length picks.now ≤ MAX_PICKS }
     ensures replays { IfOk result (Replays verified.now) }
     ensures picks { IfOk result (λ r. picks_of r.trace.entries ≡ picks.now) }
     ensures interval { IfOk result (λ r. r.interval ≡ interval_of (length picks.now)) }
@@ -216,7 +217,7 @@ pub(crate) fn replay_picks(
 
 // Returns how many picks these are one by one.
 fn count_all(picks: &[CountedPick]) -> u32
-    requires { length (spread picks.now) ≤ 10000000 }
+    requires { length (spread picks.now) ≤ MAX_PICKS }
     ensures { result ≡ length (spread picks.now) }
 {
     let mut count: u32 = 0;
@@ -227,13 +228,14 @@ fn count_all(picks: &[CountedPick]) -> u32
     count
 }
 
-/// Makes each of these picks as often as its count says, as `replay_counted` does, and keeps checkpoints on the way.
+/// Makes each of these picks as often as its count says, as `replay_counted` does, and keeps checkpoints on
+/// the way.
 pub(crate) fn replay_counted_picks(
     alloc: Global,
     verified: &Verified,
     picks: &[CountedPick],
 ) -> Result<Replaying, ReplayFault>
-    requires { length (spread picks.now) ≤ 10000000 }
+    requires { length (spread picks.now) ≤ MAX_PICKS }
     ensures replays { IfOk result (Replays verified.now) }
     ensures picks { IfOk result (λ r. picks_of r.trace.entries ≡ spread picks.now) }
     ensures interval { IfOk result (λ r. r.interval ≡ interval_of (length (spread picks.now))) }

@@ -48,7 +48,7 @@ pub(crate) enum Command<'t> {
 }
 
 // The most bytes of a command.
-const LONGEST: usize = 256;
+const MAX_COMMAND: usize = 256;
 
 fn is(word: &[u8], text: &str) -> bool
     ensures { result ≡ bytes_eq word.now text.now }
@@ -137,7 +137,7 @@ fn keyed<'t>(key: &[u8], word: &'t [u8]) -> Option<Command<'t>>
 pub(crate) fn read_command(line: &[u8]) -> Option<Command>
     ensures { option_map command_view result ≡ spec.command_of line.now }
 {
-    if LONGEST < line.len() {
+    if MAX_COMMAND < line.len() {
         return None;
     }
     if is(line, "loans") {

@@ -12,6 +12,7 @@ ghost use Rattle.pb_debug.specs.Walks.{Replays, Walks};
 use crate::checkpoints::{Replaying, replay_counted_picks, replay_picks};
 use crate::fault::DebugFault;
 use crate::walker::Walker;
+use pb_base::limits::MAX_PICKS;
 use pb_base::{NoMemory, Pick};
 use pb_code::Labels;
 use pb_codegen::Compiled;
@@ -21,9 +22,10 @@ use pb_verifier::Verified;
 use std::alloc::Global;
 use std::marker::Model;
 
-/// The replay of a list of picks of some code, seen at a position: from 0, before the first pick, up to the number
-/// of picks. Copies of the machine are kept at the multiples of a distance, and a move goes on from the last of them
-/// that is not past its end. Picks may be appended; the distance stays what it was for the picks at first.
+/// The replay of a list of picks of some code, seen at a position: from 0, before the first pick, up to the
+/// number of picks. Copies of the machine are kept at the multiples of a distance, and a move goes on from
+/// the last of them that is not past its end. Picks may be appended; the distance stays what it was for the
+/// picks at first.
 #[derive(Drop)]
 pub struct Debugger<'c> {
     pub(crate) alloc: Global,
@@ -53,14 +55,14 @@ impl<'c> Debugger<'c> {
     ghost use Rattle.pb_debug.specs.Refusals.{IsMoveFault};
     ghost use Rattle.pb_debug.specs.Value.{IsPosition, at_start, moved_to, showing};
 
-    /// Returns the debugger of a compiled text and these picks, at position 0. It refuses as `replay` does: the first
-    /// pick that is not enabled, or out of memory.
+    /// Returns the debugger of a compiled text and these picks, at position 0. It refuses as `replay` does:
+    /// the first pick that is not enabled, or out of memory.
     pub fn new(
         alloc: Global,
         compiled: &'c Compiled,
         picks: &[Pick],
     ) -> Result<Debugger<'c>, ReplayFault>
-        requires few { length picks.now ≤ 10000000 }
+        requires few { length picks.now ≤ MAX_PICKS }
         ensures opened { IfOk result (λ d. d ≡ at_start compiled.entry.now.verified compiled.entry.now.labels picks.now) }
         ensures placed { IfOk result IsPosition }
         ensures stopped { IfErr result (λ fault. IsStopped compiled.entry.now.verified.code picks.now fault) }
@@ -74,7 +76,7 @@ impl<'c> Debugger<'c> {
         compiled: &'c Compiled,
         picks: &[CountedPick],
     ) -> Result<Debugger<'c>, ReplayFault>
-        requires few { length (spread picks.now) ≤ 10000000 }
+        requires few { length (spread picks.now) ≤ MAX_PICKS }
         ensures opened { IfOk result (λ d.
             d ≡ at_start compiled.entry.now.verified compiled.entry.now.labels (spread picks.now)) }
         ensures placed { IfOk result IsPosition }
@@ -83,8 +85,8 @@ impl<'c> Debugger<'c> {
         Debugger::from_object_counted(alloc, compiled.verified(), compiled.labels(), picks)
     }
 
-    /// Returns the debugger of code from anywhere, with labels that fit it, and these picks, at position 0. It
-    /// refuses as `replay` does: the first pick that is not enabled, or out of memory.
+    /// Returns the debugger of code from anywhere, with labels that fit it, and these picks, at position 0.
+    /// It refuses as `replay` does: the first pick that is not enabled, or out of memory.
     pub fn from_object(
         alloc: Global,
         verified: &'c Verified,
@@ -92,7 +94,7 @@ impl<'c> Debugger<'c> {
         picks: &[Pick],
     ) -> Result<Debugger<'c>, ReplayFault>
         requires fit { AreLabels verified.now.code (labels_view labels.now) }
-        requires few { length picks.now ≤ 10000000 }
+        requires few { length picks.now ≤ MAX_PICKS }
         ensures opened { IfOk result (λ d. d ≡ at_start verified.entry.now (labels_view labels.entry.now) picks.now) }
         ensures placed { IfOk result IsPosition }
         ensures stopped { IfErr result (λ fault. IsStopped verified.entry.now.code picks.now fault) }
@@ -109,7 +111,7 @@ impl<'c> Debugger<'c> {
         picks: &[CountedPick],
     ) -> Result<Debugger<'c>, ReplayFault>
         requires fit { AreLabels verified.now.code (labels_view labels.now) }
-        requires few { length (spread picks.now) ≤ 10000000 }
+        requires few { length (spread picks.now) ≤ MAX_PICKS }
         ensures opened { IfOk result (λ d.
             d ≡ at_start verified.entry.now (labels_view labels.entry.now) (spread picks.now)) }
         ensures placed { IfOk result IsPosition }
@@ -127,7 +129,7 @@ impl<'c> Debugger<'c> {
         replaying: Replaying,
     ) -> Result<Debugger<'c>, NoMemory>
         requires fit { AreLabels verified.now.code (labels_view labels.now) }
-        requires few { length (picks_of replaying.trace.entries) ≤ 10000000 }
+        requires few { length (picks_of replaying.trace.entries) ≤ MAX_PICKS }
         requires replays { Replays verified.now replaying }
         requires interval { replaying.interval ≡ interval_of (length (picks_of replaying.trace.entries)) }
         ensures opened { IfOk result (λ d.
@@ -181,8 +183,8 @@ impl<'c> Debugger<'c> {
         self.walker.at
     }
 
-    /// Returns the position that the last move led to, less that of the last checkpoint up to it; 0 before any move.
-    /// A refused move changes nothing.
+    /// Returns the position that the last move led to, less that of the last checkpoint up to it; 0 before
+    /// any move. A refused move changes nothing.
     pub fn last_cost(&self) -> u32
         ensures cost { result ≡ self.now.last_cost }
         ensures placed { IsPosition self.now }
@@ -237,7 +239,8 @@ impl<'c> Debugger<'c> {
         self.to(self.position() + count)
     }
 
-    /// Goes back by a number of picks. `PastEnd` if that is before the first; after an error nothing has changed.
+    /// Goes back by a number of picks. `PastEnd` if that is before the first; after an error nothing has
+    /// changed.
     pub fn back(&mut self, count: u32) -> Result<(), DebugFault>
         ensures moved { OnOk result (self.new ≡ moved_to self.old (self.old.position - count)) }
         ensures within { OnOk result (count ≤ self.old.position) }

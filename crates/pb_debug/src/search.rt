@@ -10,6 +10,7 @@ ghost use Rattle.pb_machine.specs.Views.{machine_view};
 
 use crate::debugger::Debugger;
 use crate::walker::Walker;
+use pb_base::limits::MAX_PICKS;
 use pb_base::{Event, NoMemory, Step};
 use pb_code::Labels;
 use pb_history::Trace;
@@ -87,7 +88,7 @@ fn differ(a: Option<i64>, b: Option<i64>) -> bool
 // Makes the next pick of a trace. Returns whether it changes an integer of a process.
 fn changes(walker: &mut Walker, verified: &Verified, trace: &Trace, p: usize, x: usize) -> bool
     requires enabled { AreEnabled verified.now.code (picks_of trace.now.entries) }
-    requires few { length (picks_of trace.now.entries) ≤ 10000000 }
+    requires few { length (picks_of trace.now.entries) ≤ MAX_PICKS }
     requires walks { Walks verified.now (picks_of trace.now.entries) walker.old }
     requires within { walker.old.at < length (picks_of trace.now.entries) }
     ensures walks { Walks verified.now (picks_of trace.now.entries) walker.new }
@@ -130,7 +131,7 @@ fn comes_to(
     line: u32,
 ) -> bool
     requires enabled { AreEnabled verified.now.code (picks_of trace.now.entries) }
-    requires few { length (picks_of trace.now.entries) ≤ 10000000 }
+    requires few { length (picks_of trace.now.entries) ≤ MAX_PICKS }
     requires walks { Walks verified.now (picks_of trace.now.entries) walker.old }
     requires within { walker.old.at < length (picks_of trace.now.entries) }
     ensures walks { Walks verified.now (picks_of trace.now.entries) walker.new }
@@ -153,7 +154,7 @@ fn does(
     watch: Watch,
 ) -> bool
     requires enabled { AreEnabled verified.now.code (picks_of trace.now.entries) }
-    requires few { length (picks_of trace.now.entries) ≤ 10000000 }
+    requires few { length (picks_of trace.now.entries) ≤ MAX_PICKS }
     requires walks { Walks verified.now (picks_of trace.now.entries) walker.old }
     requires within { walker.old.at < length (picks_of trace.now.entries) }
     ensures walks { Walks verified.now (picks_of trace.now.entries) walker.new }
@@ -172,7 +173,8 @@ fn does(
     }
 }
 
-/// Makes the picks of a trace up to the first that does what is looked for, or to the last. Returns its number.
+/// Makes the picks of a trace up to the first that does what is looked for, or to the last. Returns its
+/// number.
 fn first_in(
     walker: &mut Walker,
     verified: &Verified,
@@ -181,7 +183,7 @@ fn first_in(
     watch: Watch,
 ) -> Option<u32>
     requires enabled { AreEnabled verified.now.code (picks_of trace.now.entries) }
-    requires few { length (picks_of trace.now.entries) ≤ 10000000 }
+    requires few { length (picks_of trace.now.entries) ≤ MAX_PICKS }
     requires walks { Walks verified.now (picks_of trace.now.entries) walker.old }
     ensures { IsFirst (Does verified.now.code (labels_view labels.now) (picks_of trace.now.entries) watch) walker.old.at
         (length (picks_of trace.now.entries)) result }
@@ -205,7 +207,7 @@ fn last_in(
     watch: Watch,
 ) -> Option<u32>
     requires enabled { AreEnabled verified.now.code (picks_of trace.now.entries) }
-    requires few { length (picks_of trace.now.entries) ≤ 10000000 }
+    requires few { length (picks_of trace.now.entries) ≤ MAX_PICKS }
     requires walks { Walks verified.now (picks_of trace.now.entries) walker.old }
     requires before { walker.old.at ≤ past }
     requires within { past ≤ length (picks_of trace.now.entries) }
@@ -231,7 +233,8 @@ impl<'c> Debugger<'c> {
         Ok(first_in(&mut walker, self.verified, self.labels, &self.trace, watch))
     }
 
-    // Returns the number of the last pick from one position on and before another that does what is looked for.
+    // Returns the number of the last pick from one position on and before another that does what is looked
+    // for.
     fn last_between(&self, start: u32, end: u32, watch: Watch) -> Result<Option<u32>, NoMemory>
         requires before { start ≤ end }
         requires within { end ≤ length self.now.picks }

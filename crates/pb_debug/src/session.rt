@@ -3,16 +3,14 @@
 ghost use Rattle.std.specs.Prelude.{◌≡◌, ◌≢◌, [], ℕ, List, IfErr, IfSome, OnOk};
 ghost use Rattle.pb_debug.specs.Buffers.{kept};
 ghost use Rattle.pb_debug.specs.Lines.{cut};
-ghost use Rattle.pb_debug.specs.Sessions.{SaysAll, SaysBefore, SaysSome, IsTold, StopsAt, Fed, FedSome, session_bytes};
+ghost use Rattle.pb_debug.specs.Sessions.{SaysAll, SaysBefore, SaysSome, IsTold, SessionStopsAt, Fed, FedSome, session_bytes};
 ghost use Rattle.pb_debug.specs.Sessions.{CountsWrites, CountsBoth, Session};
 
 use crate::buffer::LineBuffer;
 use crate::debugger::Debugger;
 use crate::fault::DebugFault;
 use pb_base::device::{Input, Output, write_all};
-
-/// The most bytes that a session takes.
-const MOST_BYTES: usize = 4_194_304;
+use pb_base::limits::MAX_INPUT;
 
 const BLOCK: usize = 4_096;
 
@@ -20,7 +18,7 @@ impl<'c> Debugger<'c> {
     // Answers a line.
     fn answer_line<O: Output>(&mut self, line: &[u8], output: &mut O) -> Result<(), DebugFault>
         ensures told { OnOk result (IsTold self.old line.now (O.written output.old) (O.written output.new) self.new) }
-        ensures stopped { IfErr result (λ e. StopsAt e self.old line.now (O.written output.old) (O.written output.new) self.new) }
+        ensures stopped { IfErr result (λ e. SessionStopsAt e self.old line.now (O.written output.old) (O.written output.new) self.new) }
         ensures counted { OnOk result (O.failures output.new ≡ O.failures output.old) }
         ensures fault { IfErr result (λ e. CountsWrites e (O.failures output.old) (O.failures output.new)) }
     {
@@ -80,7 +78,7 @@ impl<'c> Debugger<'c> {
             (O.failures output.old) (O.failures output.new)) }
     {
         let mut block = [0; BLOCK];
-        let mut left = MOST_BYTES;
+        let mut left = MAX_INPUT;
         while 0 < left {
             let most = left.min(BLOCK);
             let Ok(count) = input.read(&mut block[..most]) else {
@@ -97,12 +95,14 @@ impl<'c> Debugger<'c> {
         Ok(())
     }
 
-    /// Reads commands, a line each, and answers each line before it reads on, up to the end of the input or 4,194,304
-    /// bytes. The last line feed may be missing. A refused command is answered so and changes nothing.
+    /// Reads commands, a line each, and answers each line before it reads on, up to the end of the input or
+    /// 4,194,304 bytes. The last line feed may be missing. A refused command is answered so and changes
+    /// nothing.
     ///
-    /// `NoMemory`: the command that was read is not carried out. `Device`: a read or a write failed, and the position
-    /// is that of the last command that was carried out. If a write failed, its answer may be written in part. If a read
-    /// failed, each complete line that was read is answered, and an incomplete one is not. No other fault comes.
+    /// `NoMemory`: the command that was read is not carried out. `Device`: a read or a write failed, and the
+    /// position is that of the last command that was carried out. If a write failed, its answer may be
+    /// written in part. If a read failed, each complete line that was read is answered, and an incomplete one
+    /// is not. No other fault comes.
     pub fn session<I: Input, O: Output>(
         &mut self,
         input: &mut I,

@@ -2,7 +2,7 @@
 
 ghost use Rattle.std.specs.Prelude.{◌≡◌, ◌≤◌, length, IfOk, IfErr, Some, slice_get};
 ghost use Rattle.pb_debug.specs.Refusals.{HasArm, HasNoProcess, IsMissing};
-ghost use Rattle.pb_debug.specs.Shown.{IsShown, IsLine};
+ghost use Rattle.pb_debug.specs.Shown.{IsShown, IsArmLine};
 ghost use Rattle.pb_debug.specs.Value.{IsPosition, bank_state, state_of};
 ghost use Rattle.pb_debug.specs.declared.fault.DebugFault.TheVariants as fault;
 ghost use Rattle.pb_machine.specs.Views.{proc_view};
@@ -14,7 +14,8 @@ use pb_banker::Banker;
 use pb_machine::Proc;
 
 impl<'c> Debugger<'c> {
-    /// Returns a process at the position: its arms and its integers. `NoProcess` if there is none with this number.
+    /// Returns a process at the position: its arms and its integers. `NoProcess` if there is none with this
+    /// number.
     pub fn threads(&self, p: usize) -> Result<&Proc, DebugFault>
         ensures shown { IfOk result (λ process. slice_get (state_of self.now).processes p ≡ Some (proc_view process.now)) }
         ensures refused { IfErr result (λ e. (e ≡ fault.NoProcess) × HasNoProcess self.now p) }
@@ -43,10 +44,10 @@ impl<'c> Debugger<'c> {
         self.walker.machine.banker()
     }
 
-    /// Returns the source line at which an arm of a process is at the position: that of its place if it is live,
-    /// none for any other. `NoProcess` or `NoArm` if there is no such process or arm.
+    /// Returns the source line at which an arm of a process is at the position: that of its place if it is
+    /// live, none for any other. `NoProcess` or `NoArm` if there is no such process or arm.
     pub fn line(&self, p: usize, arm: usize) -> Result<Option<u32>, DebugFault>
-        ensures line { IfOk result (IsLine self.now p arm) }
+        ensures line { IfOk result (IsArmLine self.now p arm) }
         ensures arm { IfOk result (λ _. HasArm self.now p arm) }
         ensures refused { IfErr result (IsMissing self.now p arm) }
     {

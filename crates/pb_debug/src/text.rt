@@ -4,7 +4,7 @@ ghost use Rattle.std.specs.Prelude.{◌≡◌, ◌<◌, ◌≤◌, ◌++◌, ℕ
 ghost use Rattle.pb_base.specs.Banker.{processes, resources, claim, loan, cash};
 ghost use Rattle.pb_base.specs.Lines.{HasNames, names_view, name_of, pick_text};
 ghost use Rattle.pb_debug.specs.Texts as said;
-ghost use Rattle.pb_debug.specs.Texts.{HasNamesOf, IsRefusal};
+ghost use Rattle.pb_debug.specs.Texts.{HasNamesOf, IsCommandRefusal};
 ghost use Rattle.pb_machine.specs.Views.{proc_view, thread_view};
 
 use crate::fault::DebugFault;
@@ -311,7 +311,7 @@ pub(crate) fn put_why(text: &mut Vec<u8>, names: &Names, why: &Why) -> Result<()
 
 /// Puts the line of a refusal of a command behind a text.
 pub(crate) fn put_refusal(text: &mut Vec<u8>, fault: DebugFault) -> Result<(), NoMemory>
-    requires { IsRefusal fault }
+    requires { IsCommandRefusal fault }
     ensures { OnOk result (text.new.items ≡ text.old.items ++ said.refusal_text fault) }
 {
     match fault {

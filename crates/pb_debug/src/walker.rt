@@ -3,11 +3,12 @@
 ghost use Rattle.std.specs.Prelude.{◌≡◌, ◌+◌, ◌<◌, ◌≤◌, ℕ, List, length, IfOk};
 ghost use Rattle.pb_base.specs.declared.pick.Pick.{Pick as AnyPick};
 ghost use Rattle.pb_debug.specs.Searches.{StepsAt};
-ghost use Rattle.pb_debug.specs.Walks.{Repeat, StandsAfter, Walks};
+ghost use Rattle.pb_history.specs.Positions.{IsAfter, AreEnabled};
+ghost use Rattle.pb_debug.specs.Walks.{Repeat, Walks};
 ghost use Rattle.pb_history.specs.Entries.{picks_of};
-ghost use Rattle.pb_history.specs.Positions.{AreEnabled};
 ghost use Rattle.pb_machine.specs.Views.{IsMachineOf};
 
+use pb_base::limits::MAX_PICKS;
 use pb_base::{Pick, Step};
 use pb_history::Trace;
 use pb_machine::Machine;
@@ -26,7 +27,7 @@ impl Walker {
         requires enabled { AreEnabled verified.now.code (picks_of trace.now.entries) }
         requires walks { Walks verified.now (picks_of trace.now.entries) self.old }
         requires within { self.old.at < length (picks_of trace.now.entries) }
-        requires few { length (picks_of trace.now.entries) ≤ 10000000 }
+        requires few { length (picks_of trace.now.entries) ≤ MAX_PICKS }
         ensures walks { Walks verified.now (picks_of trace.now.entries) self.new }
         ensures at { self.new.at ≡ self.old.at + 1 }
         ensures steps { StepsAt verified.now.code (picks_of trace.now.entries) self.old.at result }
@@ -55,15 +56,15 @@ impl Walker {
     }
 }
 
-/// Makes a pick as long as it is silent, and once more, at most `most` times. Returns how often it was made. The pick
-/// is that of the next `most` places of an enabled list.
+/// Makes a pick as long as it is silent, and once more, at most `most` times. Returns how often it was made.
+/// The pick is that of the next `most` places of an enabled list.
 fn repeat(verified: &Verified, machine: &mut Machine, pick: Pick, most: u32) -> u32
     requires machine { IsMachineOf verified.now machine.old }
     requires some { 0 < most }
     ensures some { 0 < result }
     ensures within { result ≤ most }
     ensures stands { (picks : List AnyPick) (i : ℕ) → AreEnabled verified.now.code picks → Repeat picks i pick most
-        → StandsAfter verified.now picks i machine.old → StandsAfter verified.now picks (i + result) machine.new }
+        → IsAfter verified.now picks i machine.old → IsAfter verified.now picks (i + result) machine.new }
 {
     let silent = machine.run_silent(verified, pick, most);
     if silent == most {

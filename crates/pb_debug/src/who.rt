@@ -3,12 +3,11 @@
 ghost use Rattle.std.specs.Prelude.{◌≡◌, ◌==◌, ◌<◌, ◌++◌, ℕ, cond, length, slice_get, Some, OnOk};
 ghost use Rattle.pb_base.specs.Banker.{processes, resources};
 ghost use Rattle.pb_base.specs.Bundle as bundles;
-ghost use Rattle.pb_base.specs.Lines.{names_view};
+ghost use Rattle.pb_base.specs.Lines.{names_view, each_below};
 ghost use Rattle.pb_code.specs.View.{code_view, process_view};
 ghost use Rattle.pb_code.specs.declared.code.ProcessCode.{ProcessCode as GivenProcess};
 ghost use Rattle.pb_debug.specs.Asking.{NamesBundles};
 ghost use Rattle.pb_debug.specs.Resources as said;
-ghost use Rattle.pb_debug.specs.Texts.{each_below};
 ghost use Rattle.pb_machine.specs.Views.{machine_view, proc_view, thread_view};
 
 use crate::text::{end_name, put, put_cash, put_loan, put_number};
@@ -148,7 +147,8 @@ fn put_holders(text: &mut Vec<u8>, names: &Names, banker: &Banker, r: usize) -> 
     Ok(())
 }
 
-/// Puts the lines of a resource behind a text: of those who hold it, of those who ask for it, and of the cash of it.
+/// Puts the lines of a resource behind a text: of those who hold it, of those who ask for it, and of the cash
+/// of it.
 pub(crate) fn put_who(
     text: &mut Vec<u8>,
     code: &Code,

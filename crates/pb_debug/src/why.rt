@@ -25,7 +25,8 @@ use std::alloc::Global;
 pub enum Why {
     /// It is not at a request.
     NotAsking,
-    /// It asks for more of a resource than there is cash of it: the first such resource of its request, and its cash.
+    /// It asks for more of a resource than there is cash of it: the first such resource of its request, and
+    /// its cash.
     Cash { resource: u8, cash: u32 },
     /// It may have what it asks for: then the processes can finish in this order.
     Order(Vec<u8>),
@@ -93,8 +94,8 @@ pub(crate) fn asked<'c>(code: &'c ProcessCode, thread: &Thread) -> Option<&'c Bu
 }
 
 impl<'c> Debugger<'c> {
-    /// Returns why an arm of a process does not go on at the position, or may. `NoProcess` or `NoArm` if there is no
-    /// such process or arm, or out of memory.
+    /// Returns why an arm of a process does not go on at the position, or may. `NoProcess` or `NoArm` if
+    /// there is no such process or arm, or out of memory.
     pub fn why(&self, p: usize, arm: usize) -> Result<Why, DebugFault>
         ensures why { IfOk result (IsWhy self.now p arm) }
         ensures arm { IfOk result (λ _. HasArm self.now p arm) }

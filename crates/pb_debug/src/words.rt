@@ -4,9 +4,11 @@ ghost use Rattle.std.specs.Prelude.{◌≡◌, ◌<◌, ◌==◌, length, option
 ghost use Rattle.std.specs.Char.{is_ascii_digit};
 ghost use Rattle.std.specs.List.{list_all, position};
 ghost use Rattle.std.specs.Str.Parse.{digits_value};
-ghost use Rattle.pb_code.specs.Names as names;
 ghost use Rattle.pb_debug.specs.Commands as spec;
 ghost use Rattle.pb_debug.specs.View.{arm_view, integer_view};
+
+use pb_code::is_numeral;
+use pb_code::names::are_name_bytes;
 
 /// An arm, by the name of its process and its number.
 #[derive(Clone, Copy)]
@@ -28,21 +30,6 @@ pub(crate) struct StopWord<'t> {
     pub process: &'t [u8],
     pub arm: u32,
     pub line: u32,
-}
-
-fn are_digits(word: &[u8]) -> bool
-    ensures { result ≡ list_all is_ascii_digit word.now }
-{
-    word.iter().all(|b| b.is_ascii_digit())
-}
-
-fn is_numeral(word: &[u8]) -> bool
-    ensures { result ≡ spec.is_numeral word.now }
-{
-    match word {
-        [] => false,
-        [first, rest @ ..] => are_digits(word) && (*first != b'0' || rest.is_empty()),
-    }
 }
 
 // Returns the number that up to eight digits write.
@@ -69,21 +56,9 @@ pub(crate) fn number(word: &[u8]) -> Option<u32>
     }
 }
 
-fn is_name_byte(b: u8) -> bool
-    ensures { result ≡ names.is_name_byte b }
-{
-    b.is_ascii_alphabetic() || b.is_ascii_digit() || b == b'_'
-}
-
-fn are_name_bytes(word: &[u8]) -> bool
-    ensures { result ≡ list_all names.is_name_byte word.now }
-{
-    word.iter().all(|b| is_name_byte(*b))
-}
-
 /// Returns whether a word looks like a name: a letter, then letters, digits or `_`.
-pub(crate) fn is_word(word: &[u8]) -> bool
-    ensures { result ≡ spec.is_word word.now }
+pub(crate) fn looks_like_name(word: &[u8]) -> bool
+    ensures { result ≡ spec.looks_like_name word.now }
 {
     match word {
         [] => false,
@@ -95,7 +70,11 @@ pub(crate) fn is_word(word: &[u8]) -> bool
 pub(crate) fn name_word(word: &[u8]) -> Option<&[u8]>
     ensures { option_map (λ w. w.now) result ≡ spec.word_of word.now }
 {
-    if is_word(word) { Some(word) } else { None }
+    if looks_like_name(word) {
+        Some(word)
+    } else {
+        None
+    }
 }
 
 /// Returns the place of the first byte that is this one.
@@ -112,7 +91,7 @@ pub(crate) fn arm_word(word: &[u8]) -> Option<ArmWord>
 {
     let dot = find(word, b'.')?;
     let process = &word[..dot];
-    if !is_word(process) {
+    if !looks_like_name(process) {
         return None;
     }
     let arm = number(&word[dot + 1..])?;

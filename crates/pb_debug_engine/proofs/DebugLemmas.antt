@@ -4,7 +4,7 @@ use Rattle.pb_base.specs.declared.memory.NoMemory.{NoMemory}
 use Rattle.pb_code.specs.Whole.{ProcessLabels}
 use Rattle.pb_codegen.specs.Compiled.{IsCompiled}
 use Rattle.pb_debug.specs.Value.{Debugging}
-use Rattle.pb_debug_engine.specs.Debugs.{GivesCode, IsObject, IsOpened, SaysOfCode, SaysOfDebug, SaysOfParts, SaysOfSession, debugged, no_memory, no_picks, no_room, no_source, with_code}
+use Rattle.pb_debug_engine.specs.Debugs.{GivesCode, IsObjectPart, IsOpened, SaysOfDebugging, SaysOfDebug, SaysOfParts, SaysOfSession, debugged, no_memory, no_picks, no_room, no_source, with_code}
 use Rattle.pb_debug_engine.specs.Faults.{TellsAnyFault}
 use Rattle.pb_debug_engine.specs.Live.{AnswersOfCode, AnswersOfParts}
 use Rattle.pb_engines.proofs.PageLemmas.{AddsPrefix-longer}
@@ -27,7 +27,7 @@ use Rattle.pb_verifier.specs.Verified.{VerifiedCode}
 pub no_picks_told : (verified : VerifiedCode) (labels : List ProcessLabels) (shown : Option (List ℕ)) (lines commands : List ℕ) (reply : Result Reply NoMemory)
     (old new : Option (List ℕ)) (given : Status) → IfOk reply (λ r. SaysOfNoPicks verified.code lines r.text.items r.status)
     → IfOk reply (λ r. Says old new r.text.items r.status given) → OnErr reply (Says old new memory_line Memory given)
-    → Tells (SaysOfCode verified labels shown lines commands) old new given
+    → Tells (SaysOfDebugging verified labels shown lines commands) old new given
 no_picks_told verified labels shown lines commands (Ok r) old new given is says memory =
     (r.text.items, r.status, no_picks r.text.items r.status is, says)
 no_picks_told verified labels shown lines commands (Err e) old new given is says memory = (memory_line, Memory, no_memory, memory)
@@ -35,30 +35,30 @@ no_picks_told verified labels shown lines commands (Err e) old new given is says
 -- the commands are answered
 pub session_told : (verified : VerifiedCode) (labels : List ProcessLabels) (shown : Option (List ℕ)) (lines commands : List ℕ) (d : Debugging)
     (old new : Option (List ℕ)) (given : Status) → IsOpened verified labels shown lines d → Tells (SaysOfSession d commands) old new given
-    → Tells (SaysOfCode verified labels shown lines commands) old new given
+    → Tells (SaysOfDebugging verified labels shown lines commands) old new given
 session_told verified labels shown lines commands d old new given opened (text, status, is, says) =
     (text, status, debugged d opened text status is, says)
 
 -- ---- the three parts
 
 pub code_told : (source lines commands : List ℕ) (verified : VerifiedCode) (labels : List ProcessLabels) (shown : Option (List ℕ)) (old new : Option (List ℕ))
-    (given : Status) → GivesCode source verified.code labels shown → Tells (SaysOfCode verified labels shown lines commands) old new given
+    (given : Status) → GivesCode source verified.code labels shown → Tells (SaysOfDebugging verified labels shown lines commands) old new given
     → Tells (SaysOfParts source lines commands) old new given
 code_told source lines commands verified labels shown old new given gives (text, status, is, says) =
     (text, status, with_code verified labels shown gives text status is, says)
 
 -- the same, of code and labels that are seen so
 pub code_of_text_told : (source lines commands : List ℕ) (seen verified : VerifiedCode) (seen_labels labels : List ProcessLabels)
-    (old new : Option (List ℕ)) (given : Status) → ¬ IsObject source → IsCompiled source verified.code labels → seen ≡ verified
-    → seen_labels ≡ labels → Tells (SaysOfCode seen seen_labels (Some source) lines commands) old new given
+    (old new : Option (List ℕ)) (given : Status) → ¬ IsObjectPart source → IsCompiled source verified.code labels → seen ≡ verified
+    → seen_labels ≡ labels → Tells (SaysOfDebugging seen seen_labels (Some source) lines commands) old new given
     → Tells (SaysOfParts source lines commands) old new given
 code_of_text_told source lines commands seen verified seen_labels labels old new given none compiled same same_labels tells =
     code_told source lines commands verified labels (Some source) old new given (inr (none, compiled, refl))
-    (subst (λ (v : VerifiedCode). Tells (SaysOfCode v labels (Some source) lines commands) old new given) same
-    (subst (λ (l : List ProcessLabels). Tells (SaysOfCode seen l (Some source) lines commands) old new given) same_labels tells))
+    (subst (λ (v : VerifiedCode). Tells (SaysOfDebugging v labels (Some source) lines commands) old new given) same
+    (subst (λ (l : List ProcessLabels). Tells (SaysOfDebugging seen l (Some source) lines commands) old new given) same_labels tells))
 
 -- what is answered by a debugger of that code
-pub text_answers : (source lines : List ℕ) (seen verified : VerifiedCode) (seen_labels labels : List ProcessLabels) → ¬ IsObject source
+pub text_answers : (source lines : List ℕ) (seen verified : VerifiedCode) (seen_labels labels : List ProcessLabels) → ¬ IsObjectPart source
     → IsCompiled source verified.code labels → seen ≡ verified → seen_labels ≡ labels → (taken text : List ℕ)
     → AnswersOfCode seen seen_labels (Some source) lines taken text → AnswersOfParts source lines taken text
 text_answers source lines seen verified seen_labels labels none compiled same same_labels taken text answers = (
@@ -72,7 +72,7 @@ text_answers source lines seen verified seen_labels labels none compiled same sa
 
 -- a reply to an object that gives no code, or for which there was no memory
 pub no_code_told : (source lines commands : List ℕ) (reply : Result Reply NoMemory) (old new : Option (List ℕ)) (given : Status)
-    → IsObject source → IfOk reply (λ r. SaysOfNoCode source r.text.items r.status)
+    → IsObjectPart source → IfOk reply (λ r. SaysOfNoCode source r.text.items r.status)
     → IfOk reply (λ r. Says old new r.text.items r.status given) → OnErr reply (Says old new memory_line Memory given)
     → Tells (SaysOfParts source lines commands) old new given
 no_code_told source lines commands (Ok r) old new given object is says memory =
@@ -86,7 +86,7 @@ part_of_line old new given (inr (part, device)) = inr (AddsPrefix-longer old new
 
 -- a refused text
 pub text_refused : (source lines commands : List ℕ) (old new : Option (List ℕ)) (given : Status) → length source ≤ 4194304
-    → ¬ IsObject source → Tells (SaysOfInput SaysOfRefusedText source) old new given → Tells (SaysOfParts source lines commands) old new given
+    → ¬ IsObjectPart source → Tells (SaysOfInput SaysOfRefusedText source) old new given → Tells (SaysOfParts source lines commands) old new given
 text_refused source lines commands old new given short none (said, status, is, says) = go said status is says
   where
     go : (said : List ℕ) (status : Status) → SaysOfInput SaysOfRefusedText source said status → Says old new said status given

@@ -53,9 +53,6 @@ module _ (xs ys : List ℕ) (at : ℕ) (within : at + 3 ≤ length xs) where
   rest_long : 3 ≤ length (drop at xs)
   rest_long = let size = length-drop at xs in omega (arith, within, size)
 
-  begins_alike : (at ≡ 0 → ⊥) → slice_get (xs ++ ys) (at - 1) ≡ slice_get xs (at - 1)
-  begins_alike some = front xs ys (at - 1) (omega (arith, within))
-
   pub mark_in_more : IsMarkAt xs at → IsMarkAt (xs ++ ys) at
   mark_in_more mark = record {
     begins = elim mark.begins [
@@ -193,7 +190,8 @@ pub says_weaker : (P Q : List ℕ → List ℕ → Type 0) → ((read text : Lis
 says_weaker P Q f None left old new says = tt
 says_weaker P Q f (Some bytes) left old new (read, text, to, follows, written) = (read, text, to, f read text follows, written)
 
--- of what is behind the first part some first bytes are read: the first part, and these, are read of the whole
+-- of what is behind the first part some first bytes are read: the first part, and these, are read of the
+-- whole
 pub first_of_two : (bytes part read rest : List ℕ) → AreTwoParts bytes part (read ++ rest)
     → (before : List ℕ) × (bytes ≡ before ++ rest) × AreTwoParts before part read
 first_of_two bytes part read rest (inr (same, none, unmarked)) =

@@ -19,29 +19,30 @@ use Rattle.pb_verifier.specs.Verified.{VerifiedCode}
 
 -- ---- the three parts of an input
 
--- a text or an object; pick lines behind the first line `%%`; and commands behind the next one. Without such a line the
--- parts behind it are empty
+-- a text or an object; pick lines behind the first line `%%`; and commands behind the next one. Without such
+-- a line the parts behind it are empty
 abbrev pub AreThreeParts : (bytes source lines commands : List ℕ) → Type 0
 AreThreeParts bytes source lines commands =
     (rest : List ℕ) × AreTwoParts bytes source rest × AreTwoParts rest lines commands
 
 -- the first part is an object exactly if it begins with these four bytes
-abbrev pub IsObject : List ℕ → Type 0
-IsObject source = take 4 source ≡ codes "PBO "
+abbrev pub IsObjectPart : List ℕ → Type 0
+IsObjectPart source = take 4 source ≡ codes "PBO "
 
--- the code and the labels that the first part gives, and the text whose lines are shown: the first part, if it is not an object
+-- the code and the labels that the first part gives, and the text whose lines are shown: the first part, if
+-- it is not an object
 abbrev pub GivesCode : (source : List ℕ) → Code → List ProcessLabels → (shown : Option (List ℕ)) → Type 0
 GivesCode source code labels shown =
-    (IsObject source × IsLoaded source code labels × (shown ≡ None))
-    ⊎ ((¬ IsObject source) × IsCompiled source code labels × (shown ≡ Some source))
+    (IsObjectPart source × IsLoaded source code labels × (shown ≡ None))
+    ⊎ ((¬ IsObjectPart source) × IsCompiled source code labels × (shown ≡ Some source))
 
 -- what is said of a first part that gives none
 abbrev pub SaysOfNoSource : (source : List ℕ) → List ℕ → Status → Type 0
 SaysOfNoSource source text status =
-    (IsObject source × SaysOfNoCode source text status) ⊎ ((¬ IsObject source) × SaysOfRefusedText source text status)
+    (IsObjectPart source × SaysOfNoCode source text status) ⊎ ((¬ IsObjectPart source) × SaysOfRefusedText source text status)
 
--- the debugger of the code and of the picks that the lines say, each enabled in turn, before the first of them; with the text
--- whose lines are shown
+-- the debugger of the code and of the picks that the lines say, each enabled in turn, before the first of
+-- them; with the text whose lines are shown
 pub record IsOpened (verified : VerifiedCode) (labels : List ProcessLabels) (shown : Option (List ℕ)) (lines : List ℕ) (d : Debugging)
     : Type 0 where
   pub counted : List CountedPick
@@ -51,8 +52,8 @@ pub record IsOpened (verified : VerifiedCode) (labels : List ProcessLabels) (sho
 
 -- ---- what is said
 
--- of commands: the answers to all of their lines; if memory runs out, the answers to the first lines and then `memory`; if a
--- device fails, the answers to the first lines
+-- of commands: the answers to all of their lines; if memory runs out, the answers to the first lines and then
+-- `memory`; if a device fails, the answers to the first lines
 pub data SaysOfSession (d : Debugging) (commands : List ℕ) : List ℕ → Status → Type 0 where
   answered : (text : List ℕ) (end : Debugging) → Session d (lines_of (session_bytes commands)) text end
       → SaysOfSession d commands text Done
@@ -62,15 +63,16 @@ pub data SaysOfSession (d : Debugging) (commands : List ℕ) : List ℕ → Stat
   broken_off : (lines later : List (List ℕ)) → lines_of (session_bytes commands) ≡ lines ++ later
       → (text : List ℕ) (end : Debugging) → Session d lines text end → SaysOfSession d commands text Device
 
--- of the code of the first part: the lines say no picks, or one of these is not enabled; or the answers to the commands are written
-pub data SaysOfCode (verified : VerifiedCode) (labels : List ProcessLabels) (shown : Option (List ℕ)) (lines commands : List ℕ)
+-- of the code of the first part: the lines say no picks, or one of these is not enabled; or the answers to
+-- the commands are written
+pub data SaysOfDebugging (verified : VerifiedCode) (labels : List ProcessLabels) (shown : Option (List ℕ)) (lines commands : List ℕ)
     : List ℕ → Status → Type 0 where
   no_picks : (text : List ℕ) (status : Status) → SaysOfNoPicks verified.code lines text status
-      → SaysOfCode verified labels shown lines commands text status
-  no_memory : SaysOfCode verified labels shown lines commands memory_line Memory
+      → SaysOfDebugging verified labels shown lines commands text status
+  no_memory : SaysOfDebugging verified labels shown lines commands memory_line Memory
   debugged : (d : Debugging) → IsOpened verified labels shown lines d
       → (text : List ℕ) (status : Status) → SaysOfSession d commands text status
-      → SaysOfCode verified labels shown lines commands text status
+      → SaysOfDebugging verified labels shown lines commands text status
 
 -- of the three parts: the first gives no code; or it gives some
 pub data SaysOfParts (source lines commands : List ℕ) : List ℕ → Status → Type 0 where
@@ -78,7 +80,7 @@ pub data SaysOfParts (source lines commands : List ℕ) : List ℕ → Status �
       → SaysOfParts source lines commands text status
   no_room : SaysOfParts source lines commands memory_line Memory
   with_code : (verified : VerifiedCode) (labels : List ProcessLabels) (shown : Option (List ℕ)) → GivesCode source verified.code labels shown
-      → (text : List ℕ) (status : Status) → SaysOfCode verified labels shown lines commands text status
+      → (text : List ℕ) (status : Status) → SaysOfDebugging verified labels shown lines commands text status
       → SaysOfParts source lines commands text status
 
 -- of an input

@@ -1,5 +1,6 @@
 -- What `debug --live` says of an input, which it reads as it comes.
 use Rattle.std.specs.Prelude.{◌+◌, ◌-◌, ◌<◌, ◌≤◌, ◌⊎◌, ℕ, List, [], Option, codes, length}
+use Rattle.pb_base.specs.declared.limits.TheConstants.{MAX_INPUT}
 use Rattle.pb_base.specs.declared.device.ReadFault.TheVariants as fault
 use Rattle.pb_base.specs.declared.device.ReadFault.{ReadFault}
 use Rattle.pb_code.specs.Whole.{ProcessLabels}
@@ -7,7 +8,8 @@ use Rattle.pb_debug.specs.Lines.{cut}
 use Rattle.pb_debug.specs.Sessions.{Session}
 use Rattle.pb_debug.specs.Value.{Debugging}
 use Rattle.pb_debug_engine.specs.Debugs.{AreThreeParts, GivesCode, IsOpened, SaysOfDebug}
-use Rattle.pb_engines.specs.Answers.{line, memory_line}
+use Rattle.pb_base.specs.Lines.{line}
+use Rattle.pb_engines.specs.Answers.{memory_line}
 use Rattle.pb_engines.specs.Parts.{AreTwoParts, IsMarkAt}
 use Rattle.pb_engines.specs.declared.status.Status.TheVariants.{Refused, Memory, Device}
 use Rattle.pb_engines.specs.declared.status.Status.{Status}
@@ -19,8 +21,8 @@ EndsInMark text = (3 ≤ length text) × IsMarkAt text (length text - 3)
 
 -- there are more than 4,194,304 bytes, and no line `%%` ends in the first 4,194,304
 pub record IsLong (bytes : List ℕ) : Type 0 where
-  pub more : 4194304 < length bytes
-  pub unmarked : (at : ℕ) → at + 3 ≤ 4194304 → ¬ IsMarkAt bytes at
+  pub more : MAX_INPUT < length bytes
+  pub unmarked : (at : ℕ) → at + 3 ≤ MAX_INPUT → ¬ IsMarkAt bytes at
 
 -- the first part is too long, with the line `%%` behind it, or the second is
 abbrev pub HasLongPart : List ℕ → Type 0
@@ -37,7 +39,8 @@ unread_status fault.Device = Device
 unread_status fault.TooLong = Refused
 unread_status fault.Memory = Memory
 
--- one of the first two parts is too long or is not read; or both are, and it is said of the whole input what `debug` says
+-- one of the first two parts is too long or is not read; or both are, and it is said of the whole input what
+-- `debug` says
 pub data SaysOfLive (bytes : List ℕ) : List ℕ → Status → Type 0 where
   too_long : HasLongPart bytes → SaysOfLive bytes (unread_text fault.TooLong) (unread_status fault.TooLong)
   no_memory : SaysOfLive bytes memory_line Memory
@@ -69,8 +72,8 @@ AnswersOfParts source lines commands text =
     (verified : VerifiedCode) × (labels : List ProcessLabels) × (shown : Option (List ℕ)) × GivesCode source verified.code labels shown
     × AnswersOfCode verified labels shown lines commands text
 
--- what is written if a read fails after these bytes: nothing within the first two parts; else the answers to the
--- complete commands among them
+-- what is written if a read fails after these bytes: nothing within the first two parts; else the answers to
+-- the complete commands among them
 pub data SaysOfRead (taken : List ℕ) : List ℕ → Type 0 where
   early : IsEarly taken → SaysOfRead taken []
   late : (source lines commands text : List ℕ) → AreThreeParts taken source lines commands → AnswersOfParts source lines commands text

@@ -8,17 +8,18 @@ ghost use Rattle.pb_engines.specs.Inputs.{SaysOfInput};
 
 use crate::parts::debug_parts;
 use pb_base::device::{Input, MemoryInput, Output};
+use pb_base::limits::MAX_INPUT;
 use pb_engines::Status;
 use pb_engines::input::read_input;
 use pb_engines::parts::two_parts;
 use std::alloc::Global;
 
-/// Debugs the text or the object that the input begins with: makes the picks of the pick lines behind the first line `%%`,
-/// and writes the answers to the commands behind the second. The first part is an object if it begins with `PBO `. If it,
-/// the pick lines or their picks are refused, only the refusal line is written.
+/// Debugs the text or the object that the input begins with: makes the picks of the pick lines behind the
+/// first line `%%`, and writes the answers to the commands behind the second. The first part is an object if
+/// it begins with `PBO `. If it, the pick lines or their picks are refused, only the refusal line is written.
 ///
-/// The status is `Done` at the end of the commands, whatever they were. After a read that failed nothing is written;
-/// after a write that failed, a first part of what was being said.
+/// The status is `Done` at the end of the commands, whatever they were. After a read that failed nothing is
+/// written; after a write that failed, a first part of what was being said.
 pub fn debug_engine<I: Input, O: Output>(alloc: Global, input: &mut I, output: &mut O) -> Status
     ensures text { IfSome (I.rest input.old) (λ bytes.
         Tells (SaysOfInput SaysOfDebug bytes) (O.written output.old) (O.written output.new) result) }
@@ -35,7 +36,7 @@ pub fn debug_engine<I: Input, O: Output>(alloc: Global, input: &mut I, output: &
 
 // Debugs a whole input.
 fn debug_bytes<O: Output>(alloc: Global, bytes: &[u8], output: &mut O) -> Status
-    requires { length bytes.now ≤ 4194304 }
+    requires { length bytes.now ≤ MAX_INPUT }
     ensures text { Tells (SaysOfInput SaysOfDebug bytes.now) (O.written output.old) (O.written output.new) result }
     ensures faults { TellsWriteFaults (O.failures output.old) (O.failures output.new) result }
 {

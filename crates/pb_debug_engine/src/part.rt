@@ -8,7 +8,7 @@ ghost use Rattle.pb_debug_engine.specs.Live.{EndsInMark, HasLongPart, IsEarly, I
 ghost use Rattle.pb_engines.specs.Parts.{AreTwoParts};
 
 use pb_base::device::{Input, ReadFault};
-use pb_engines::input::LONGEST_INPUT;
+use pb_base::limits::MAX_INPUT;
 use pb_engines::parts::{is_mark_at, two_parts};
 use std::alloc::Global;
 
@@ -19,12 +19,12 @@ fn ends_in_mark(text: &[u8]) -> bool
     3 <= text.len() && is_mark_at(text, text.len() - 3)
 }
 
-// Reads what an input has before its first line `%%`, and that line. It reads a byte at a time, since whoever reads on
-// is to have all that is after that line.
+// Reads what an input has before its first line `%%`, and that line. It reads a byte at a time, since whoever
+// reads on is to have all that is after that line.
 fn read_part<I: Input>(alloc: Global, input: &mut I) -> Result<Vec<u8>, ReadFault>
     ensures part { IfOk result (λ part. IfSome (I.rest input.old) (λ bytes.
         (rest : List ℕ) × (I.rest input.new ≡ Some rest) × AreTwoParts bytes part.items rest)) }
-    ensures short { IfOk result (λ part. length part.items ≤ LONGEST_INPUT) }
+    ensures short { IfOk result (λ part. length part.items ≤ MAX_INPUT) }
     ensures counted { OnOk result (I.failures input.new ≡ I.failures input.old) }
     ensures long { IfErr result (λ e. e ≡ ReadFault.TooLong → IfSome (I.rest input.old) IsLong) }
     ensures early { IfErr result (λ e. e ≡ ReadFault.Device → IfSome (I.rest input.old) (λ bytes.
@@ -47,7 +47,7 @@ fn read_part<I: Input>(alloc: Global, input: &mut I) -> Result<Vec<u8>, ReadFaul
         let Ok(()) = part.push(byte[0]) else {
             return Err(ReadFault::Memory);
         };
-        if LONGEST_INPUT < part.len() {
+        if MAX_INPUT < part.len() {
             return Err(ReadFault::TooLong);
         }
         if ends_in_mark(part.as_slice()) {
@@ -66,13 +66,13 @@ pub struct FirstParts {
     pub lines: Vec<u8>,
 }
 
-/// Reads the two parts of an input that are before its commands, with the lines `%%` behind them. The commands are
-/// left to be read.
+/// Reads the two parts of an input that are before its commands, with the lines `%%` behind them. The
+/// commands are left to be read.
 pub fn read_first_parts<I: Input>(alloc: Global, input: &mut I) -> Result<FirstParts, ReadFault>
     ensures parts { IfOk result (λ parts. IfSome (I.rest input.old) (λ bytes.
         (commands : List ℕ) × (I.rest input.new ≡ Some commands)
         × AreThreeParts bytes parts.source.items parts.lines.items commands)) }
-    ensures short { IfOk result (λ parts. length parts.source.items ≤ LONGEST_INPUT) }
+    ensures short { IfOk result (λ parts. length parts.source.items ≤ MAX_INPUT) }
     ensures counted { OnOk result (I.failures input.new ≡ I.failures input.old) }
     ensures long { IfErr result (λ e. e ≡ ReadFault.TooLong → IfSome (I.rest input.old) HasLongPart) }
     ensures early { IfErr result (λ e. e ≡ ReadFault.Device → IfSome (I.rest input.old) (λ bytes.

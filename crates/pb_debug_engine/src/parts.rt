@@ -4,13 +4,14 @@ ghost use Rattle.std.specs.Prelude.{◌≢◌, ◌≤◌, ◌↔◌, IfSome, IsT
 ghost use Rattle.pb_code.specs.Limits.{AreLabels};
 ghost use Rattle.pb_code.specs.View.{labels_view};
 ghost use Rattle.pb_debug.specs.Sessions.{SaysBefore};
-ghost use Rattle.pb_debug_engine.specs.Debugs.{IsObject, SaysOfCode, SaysOfParts};
+ghost use Rattle.pb_debug_engine.specs.Debugs.{IsObjectPart, SaysOfDebugging, SaysOfParts};
 ghost use Rattle.pb_debug_engine.specs.Faults.{TellsAnyFault};
 ghost use Rattle.pb_debug_engine.specs.Live.{AnswersOfCode, AnswersOfParts};
 ghost use Rattle.pb_engines.specs.Answers.{Tells};
 
 use crate::session::tell_session;
 use pb_base::device::{Input, Output};
+use pb_base::limits::MAX_INPUT;
 use pb_code::Labels;
 use pb_debug::Debugger;
 use pb_engines::Status;
@@ -24,7 +25,7 @@ use std::alloc::Global;
 
 // Returns whether a first part is an object. No text begins so.
 fn is_object(source: &[u8]) -> bool
-    ensures { IsTrue result ↔ IsObject source.now }
+    ensures { IsTrue result ↔ IsObjectPart source.now }
 {
     source.starts_with(b"PBO ")
 }
@@ -41,7 +42,7 @@ fn debug_code<I: Input, O: Output>(
 ) -> Status
     requires { AreLabels verified.now.code (labels_view labels.now) }
     ensures text { IfSome (I.rest commands.old) (λ bytes.
-        Tells (SaysOfCode verified.now (labels_view labels.now) (option_map (λ text. text.now) shown.entry) lines.now bytes)
+        Tells (SaysOfDebugging verified.now (labels_view labels.now) (option_map (λ text. text.now) shown.entry) lines.now bytes)
         (O.written output.old) (O.written output.new) result) }
     ensures answered { I.failures commands.new ≢ I.failures commands.old → IfSome (I.rest commands.old) (λ bytes.
         SaysBefore (AnswersOfCode verified.now (labels_view labels.now) (option_map (λ text. text.now) shown.entry) lines.now)
@@ -74,8 +75,8 @@ fn debug_code<I: Input, O: Output>(
     }
 }
 
-/// Debugs a text or an object after the picks of the pick lines: writes the answers to the commands, or the line of the
-/// first refusal. The text or object is judged first, then the pick lines, then the picks.
+/// Debugs a text or an object after the picks of the pick lines: writes the answers to the commands, or the
+/// line of the first refusal. The text or object is judged first, then the pick lines, then the picks.
 pub fn debug_parts<I: Input, O: Output>(
     alloc: Global,
     source: &[u8],
@@ -83,7 +84,7 @@ pub fn debug_parts<I: Input, O: Output>(
     commands: &mut I,
     output: &mut O,
 ) -> Status
-    requires { length source.now ≤ 4194304 }
+    requires { length source.now ≤ MAX_INPUT }
     ensures text { IfSome (I.rest commands.old) (λ bytes.
         Tells (SaysOfParts source.now lines.now bytes) (O.written output.old) (O.written output.new) result) }
     ensures answered { I.failures commands.new ≢ I.failures commands.old → IfSome (I.rest commands.old) (λ bytes.

@@ -1,5 +1,5 @@
-//! Tests of the engines behind `debug`, by their public calls, in a crate of their own, so that they are not proved
-//! again with them.
+//! Tests of the engines behind `debug`, by their public calls, in a crate of their own, so that they are not
+//! proved again with them.
 #![tactic(auto)]
 
 #[cfg(test)]

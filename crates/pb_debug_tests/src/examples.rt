@@ -1,6 +1,7 @@
 //! The examples that make at most 400 picks under `record --seed 7`, each with the picks of that record.
 
-/// A text, and the picks that were recorded: a process, an arm and how often it is picked, three bytes for each.
+/// A text, and the picks that were recorded: a process, an arm and how often it is picked, three bytes for
+/// each.
 pub(crate) struct Example {
     pub text: &'static [u8],
     pub picks: &'static [u8],

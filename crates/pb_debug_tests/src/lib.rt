@@ -1,4 +1,5 @@
-//! Tests of the debugger, by its public calls, in a crate of their own, so that it is not proved again with them.
+//! Tests of the debugger, by its public calls, in a crate of their own, so that it is not proved again with
+//! them.
 #![tactic(auto)]
 
 #[cfg(test)]

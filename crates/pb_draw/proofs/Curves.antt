@@ -40,18 +40,6 @@ module _ {S V : Type 0} (at : S → ℕ) (value : S → V) where
   none_behind_more [] s n early le = (le, tt)
   none_behind_more (t ∷ steps) s n early le = (early.0, none_behind_more steps s n early.1 le)
 
-  -- the first step of a curve
-  pub curve_begins : (v : V) (f : ℕ → V) (s : S) → at s ≡ 0 → value s ≡ f 0 → IsCurve at value v f 0 (s ∷ [])
-  curve_begins v f s here is =
-      let le : at s ≤ 0 = omega (arith, here) in
-      record {
-        shows = λ i within.
-            let none : i ≡ 0 = omega (arith, within) in
-            let past : nat_le (at s) i ≡ true = le-leb (at s) i (omega (arith, le)) in
-            ap (λ (b : Bool). cond b (value s) v) past ∙ (is ∙ ap f (sym none));
-        early = (le, tt);
-      }
-
   -- a position more at which nothing changes
   pub curve_stays : (v : V) (f : ℕ → V) (n : ℕ) (steps : List S) → IsCurve at value v f n steps → f (n + 1) ≡ f n
       → IsCurve at value v f (n + 1) steps

@@ -5,7 +5,7 @@ use Rattle.pb_code.specs.Whole.{Code}
 use Rattle.pb_draw.specs.Drawings.{AreLanes}
 use Rattle.pb_draw.specs.Lanes.{IsLane}
 use Rattle.pb_draw.specs.declared.drawing.Lane.{Lane}
-use Rattle.pb_machine.proofs.Growing.{at_push}
+use Rattle.pb_machine.proofs.BuiltLists.{at_push}
 
 pub lanes_more : (code : Code) (picks : List Pick) (lanes : List Lane) (lane : Lane) → AreLanes code picks lanes
     → IsLane code picks lane.pick.process lane.pick.arm lane → AreLanes code picks (lanes ++ lane ∷ [])

@@ -13,7 +13,7 @@ use Rattle.pb_draw.specs.Walks.{event_at, shown_in}
 use Rattle.pb_draw.specs.declared.drawing.Mark.{Mark}
 use Rattle.pb_history.proofs.Positions.{enabled_at, position_reached}
 use Rattle.pb_history.specs.Positions.{AreEnabled, state_after}
-use Rattle.pb_machine.proofs.Going.{events_have_names}
+use Rattle.pb_machine.proofs.NeverStuck.{events_have_names}
 use Rattle.pb_verifier.specs.Verified.{VerifiedCode, IsVerified}
 
 pub marks_more : (code : Code) (picks : List Pick) (i : ℕ) (pick : Pick) (event : Option Event) (old new : List Mark)

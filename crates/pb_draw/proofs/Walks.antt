@@ -12,22 +12,13 @@ use Rattle.pb_code.specs.Reached.{CodeMoves}
 use Rattle.pb_code.specs.Whole.{Code, bank_of}
 use Rattle.pb_draw.specs.Cash.{cash_after}
 use Rattle.pb_draw.specs.Lanes.{standing_after, standing_in}
-use Rattle.pb_draw.specs.Walks.{StandsAfter, event_at, shown_in, step_event}
-use Rattle.pb_history.proofs.Positions.{not_refused, stepped_more}
-use Rattle.pb_history.specs.Positions.{AreEnabled, state_after}
+use Rattle.pb_history.specs.Positions.{IsAfter, AreEnabled, state_after}
+use Rattle.pb_draw.specs.Walks.{event_at, shown_in, step_event}
+use Rattle.pb_history.proofs.Positions.{not_refused, stepped_more, stands_next}
 use Rattle.pb_machine.specs.Steps.{IsStep}
 use Rattle.pb_machine.specs.Views.{machine_view, IsMachineOf}
 use Rattle.pb_machine.specs.declared.machine.Machine.{Machine}
 use Rattle.pb_verifier.specs.Verified.{VerifiedCode}
-
--- an enabled pick leads to the next position
-pub stands_next : (v : VerifiedCode) (picks : List Pick) (i : ℕ) (pick : Pick) (m m' : Machine) (result : Step) → AreEnabled v.code picks
-    → slice_get picks i ≡ Some pick → StandsAfter v picks i m → IsStep v.code (machine_view m) pick result (machine_view m') → IsMachineOf v m'
-    → StandsAfter v picks (i + 1) m'
-stands_next v picks i pick m m' result all there at h of =
-    let here = subst (λ (s : State CodeProcess). IsStep v.code s pick result (machine_view m')) at.state h in
-    let not = not_refused v.code picks all i pick result (machine_view m') there here in
-    record { machine = of; state = stepped_more v.code picks i pick result (machine_view m') there here not }
 
 -- a pick that is made shows its event
 moved_event : (code : Code) (picks : List Pick) (i : ℕ) (pick : Pick) (event : Option Event) (next : State CodeProcess)
@@ -37,7 +28,7 @@ moved_event code picks i pick event next there m =
     ∙ (ap (λ (o : Option (Move CodeProcess)). option_and_then (λ move. event_of pick move.effect) o) m.1 ∙ m.3)
 
 pub shows_event : (v : VerifiedCode) (picks : List Pick) (i : ℕ) (pick : Pick) (m m' : Machine) (result : Step) → AreEnabled v.code picks
-    → slice_get picks i ≡ Some pick → StandsAfter v picks i m → IsStep v.code (machine_view m) pick result (machine_view m')
+    → slice_get picks i ≡ Some pick → IsAfter v picks i m → IsStep v.code (machine_view m) pick result (machine_view m')
     → step_event result ≡ event_at v.code picks i
 shows_event v picks i pick m m' answer.Silent all there at h =
     sym (moved_event v.code picks i pick None (machine_view m') there
@@ -50,12 +41,12 @@ shows_event v picks i pick m m' answer.NotEnabled all there at h =
     (subst (λ (s : State CodeProcess). IsStep v.code s pick answer.NotEnabled (machine_view m')) at.state h) refl)
 
 -- the cash of a machine is that at its position
-pub cash_here : (v : VerifiedCode) (picks : List Pick) (i r : ℕ) (m : Machine) → StandsAfter v picks i m
+pub cash_here : (v : VerifiedCode) (picks : List Pick) (i r : ℕ) (m : Machine) → IsAfter v picks i m
     → cash (banker_state (bank_of v.code) (machine_view m).loans) r ≡ cash_after v.code picks r i
 cash_here v picks i r m h = ap (λ (s : State CodeProcess). cash (banker_state (bank_of v.code) s.loans) r) h.state
 
--- so is what an arm is doing
-pub standing_here : (v : VerifiedCode) (picks : List Pick) (i p arm : ℕ) (m : Machine) → StandsAfter v picks i m
+-- so is how an arm stands
+pub standing_here : (v : VerifiedCode) (picks : List Pick) (i p arm : ℕ) (m : Machine) → IsAfter v picks i m
     → standing_in (slice_get v.code.processes p) (slice_get (machine_view m).processes p) arm ≡ standing_after v.code picks p arm i
 standing_here v picks i p arm m h =
     ap (λ (s : State CodeProcess). standing_in (slice_get v.code.processes p) (slice_get s.processes p) arm) h.state

@@ -12,20 +12,20 @@ use Rattle.pb_draw.specs.declared.drawing.Mark.{Mark}
 abbrev pub is_arm : Pick → Pick → Bool
 is_arm a b = (a.process == b.process) && (a.arm == b.arm)
 
--- what an event is to the last hold of an arm: a grant of that arm opens one inside it, a return of that arm closes it,
--- and a fault of its process ends it
-abbrev pub turn_of : Pick → Event → Turn
-turn_of arm (Granted pick bundle) = cond (is_arm arm pick) Opens Other
-turn_of arm (Returned pick bundle) = cond (is_arm arm pick) Closes Other
-turn_of arm (Printed pick value) = Other
-turn_of arm (Faulted pick kind) = cond (arm.process == pick.process) Breaks Other
-turn_of arm (Finished process) = Other
+-- what an event is to the last hold of an arm: a grant of that arm opens one inside it, a return of that arm
+-- closes it, and a fault of its process ends it
+abbrev pub hold_turn : Pick → Event → Turn
+hold_turn arm (Granted pick bundle) = cond (is_arm arm pick) Opens Other
+hold_turn arm (Returned pick bundle) = cond (is_arm arm pick) Closes Other
+hold_turn arm (Printed pick value) = Other
+hold_turn arm (Faulted pick kind) = cond (arm.process == pick.process) Breaks Other
+hold_turn arm (Finished process) = Other
 
--- the number of the pick by which an arm gives back a hold that it has before these marks, with `inner` further holds
--- inside it; none if no mark does
+-- the number of the pick by which an arm gives back a hold that it has before these marks, with `inner`
+-- further holds inside it; none if no mark does
 abbrev pub given_back : Pick → (inner : ℕ) → List Mark → Option ℕ
 given_back arm inner [] = None
-given_back arm inner (m ∷ marks) = elim (turn_of arm m.event) [
+given_back arm inner (m ∷ marks) = elim (hold_turn arm m.event) [
   | Opens ↦ given_back arm (inner + 1) marks
   | Closes ↦ cond (inner == 0) (Some m.at) (given_back arm (inner - 1) marks)
   | Breaks ↦ Some m.at

@@ -1,7 +1,8 @@
 -- Step curves: values that change at some positions.
 use Rattle.std.specs.Prelude.{◌≡◌, ℕ, ◌≤◌, nat_le, cond, List, [], ◌∷◌}
 
--- what a curve shows at position i: the value of the last of its steps that is not behind i, and before any step `v`
+-- what a curve shows at position i: the value of the last of its steps that is not behind i, and before any
+-- step `v`
 abbrev pub shown_at : {S V : Type 0} → (at : S → ℕ) → (value : S → V) → (v : V) → List S → (i : ℕ) → V
 shown_at at value v [] i = v
 shown_at at value v (s ∷ steps) i = shown_at at value (cond (nat_le (at s) i) (value s) v) steps i

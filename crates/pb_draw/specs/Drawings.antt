@@ -20,8 +20,8 @@ abbrev pub AreLanes : Code → List Pick → List Lane → Type 0
 AreLanes code picks lanes =
     (k : ℕ) (lane : Lane) → slice_get lanes k ≡ Some lane → IsLane code picks lane.pick.process lane.pick.arm lane
 
--- a drawing shows each event of the picks at its pick, and no other; a bar for each grant, up to where it is given
--- back; the state of each arm, and the cash of each resource, after each first part of the picks
+-- a drawing shows each event of the picks at its pick, and no other; a bar for each grant, up to where it is
+-- given back; the state of each arm, and the cash of each resource, after each first part of the picks
 pub record IsDrawing (code : Code) (picks : List Pick) (d : Drawing) : Type 0 where
   pub many : d.picks ≡ length picks
   pub marks : d.marks.items ≡ marks_before code picks (length picks)

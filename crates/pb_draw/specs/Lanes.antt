@@ -1,7 +1,7 @@
 -- The state of an arm over a run: away, going or waiting.
 use Rattle.std.specs.Prelude.{ℕ, Bool, true, false, cond, List, length, Option, Some, None, slice_get}
 use Rattle.pb_base.specs.declared.pick.Pick.{Pick}
-use Rattle.pb_code.specs.Code.{Instr, Push, Load, Store, Compute1, Compute2, Jump, JumpIfZero, PrintTop, Take, Give, Fork, Join, End, ProcessCode, CodeProcess, Thread, Idle, Live, Over, thread}
+use Rattle.pb_code.specs.Code.{Instr, Push, Load, Store, Compute1, Compute2, Jump, JumpIfZero, PrintTop, Take, Give, Fork, Join, End, ProcessCode, CodeProcess, Thread, Idle, Live, Ended, thread}
 use Rattle.pb_code.specs.Whole.{Code}
 use Rattle.pb_history.specs.Positions.{state_after}
 use Rattle.pb_draw.specs.Curves.{IsCurve}
@@ -35,7 +35,7 @@ standing_before (Some i) = cond (is_request i) Waiting Going
 abbrev pub standing_of : List Instr → Thread → Standing
 standing_of instrs Idle = Away
 standing_of instrs (Live place stack) = standing_before (slice_get instrs place)
-standing_of instrs Over = Away
+standing_of instrs Ended = Away
 
 -- the state of an arm of a process, if both are there
 abbrev pub standing_in : Option ProcessCode → Option CodeProcess → (arm : ℕ) → Standing

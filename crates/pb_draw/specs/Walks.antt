@@ -12,11 +12,6 @@ use Rattle.pb_machine.specs.Views.{machine_view, IsMachineOf}
 use Rattle.pb_machine.specs.declared.machine.Machine.{Machine}
 use Rattle.pb_verifier.specs.Verified.{VerifiedCode}
 
--- a machine of the code in its state after the first i picks
-pub record StandsAfter (v : VerifiedCode) (picks : List Pick) (i : ℕ) (m : Machine) : Type 0 where
-  pub machine : IsMachineOf v m
-  pub state : machine_view m ≡ state_after v.code picks i
-
 -- the event of what a pick came to
 abbrev pub step_event : Step → Option Event
 step_event step.Silent = None

@@ -11,7 +11,7 @@ use std::alloc::Global;
 const SILENT: u64 = 6;
 
 /// A longer silent stretch is as wide as this many silent picks.
-pub(crate) const LONGEST: u32 = 15;
+pub(crate) const MAX_SILENT: u32 = 15;
 
 /// How wide a character is, the room beside a text, and the most characters for which there is room.
 pub(crate) const CHARACTER: u64 = 7;
@@ -21,10 +21,10 @@ const SIDE: u64 = 16;
 // How wide the time before any pick is.
 const START: u64 = 48;
 
-const MOST_CHARACTERS: usize = 100;
+const MAX_CHARACTERS: usize = 100;
 
-/// An event on the axis: the position just after it, where that begins, how wide its pick is, and how many silent
-/// picks come behind it. The first knot is position 0, before any pick.
+/// An event on the axis: the position just after it, where that begins, how wide its pick is, and how many
+/// silent picks come behind it. The first knot is position 0, before any pick.
 #[derive(Clone, Copy)]
 pub(crate) struct Knot {
     pub position: u32,
@@ -35,10 +35,10 @@ pub(crate) struct Knot {
 
 // Returns how wide the first of some silent picks are.
 fn squeezed(picks: u32, of: u32) -> u64 {
-    if of <= LONGEST {
+    if of <= MAX_SILENT {
         u64::from(picks.min(of)) * SILENT
     } else {
-        u64::from(picks.min(of)) * u64::from(LONGEST) * SILENT / u64::from(of)
+        u64::from(picks.min(of)) * u64::from(MAX_SILENT) * SILENT / u64::from(of)
     }
 }
 
@@ -58,7 +58,7 @@ impl Knot {
 // Returns how wide the pick of an event is.
 fn width_of(line: &[u8], number: &[u8], mark: &Mark) -> u64 {
     let characters = caption(line, mark).len().max(number.len());
-    SIDE + characters.min(MOST_CHARACTERS) as u64 * CHARACTER
+    SIDE + characters.min(MAX_CHARACTERS) as u64 * CHARACTER
 }
 
 /// Returns the axis of these events, of a run of `picks` picks. `left` is where it begins.

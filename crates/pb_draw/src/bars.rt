@@ -35,7 +35,7 @@ fn turn_if(holds: bool, turn: Turn) -> Turn
 
 // Returns what an event is to the last hold of an arm.
 fn turn_of(pick: Pick, event: &Event) -> Turn
-    ensures { result ≡ spec.turn_of pick event.now }
+    ensures { result ≡ spec.hold_turn pick event.now }
 {
     match event {
         Event::Granted { pick: by, .. } => turn_if(is_arm(pick, *by), Turn::Opens),

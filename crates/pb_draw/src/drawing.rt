@@ -10,6 +10,7 @@ use crate::bars::bars_of;
 use crate::cash::cash_curves;
 use crate::lanes::lanes_of;
 use crate::marks::marks_of;
+use pb_base::limits::MAX_PICKS;
 use pb_base::{Bundle, Event, NoMemory, Pick};
 use pb_history::Trace;
 use pb_verifier::Verified;
@@ -23,7 +24,8 @@ pub struct Mark {
     pub event: Event,
 }
 
-/// A hold of an arm, with the number of the pick that takes it and that of the pick that gives it back, if one does.
+/// A hold of an arm, with the number of the pick that takes it and that of the pick that gives it back, if
+/// one does.
 #[derive(Clone, Copy)]
 pub struct Bar {
     pub pick: Pick,
@@ -88,7 +90,7 @@ pub struct Drawing {
 /// Returns what the run with this trace shows over its picks. The trace is of a replay of the code.
 pub fn draw(alloc: Global, verified: &Verified, trace: &Trace) -> Result<Drawing, NoMemory>
     requires enabled { AreEnabled verified.now.code (picks_of trace.now.entries) }
-    requires few { length trace.now.entries ≤ 10000000 }
+    requires few { length trace.now.entries ≤ MAX_PICKS }
     ensures drawing { IfOk result (IsDrawing verified.now.code (picks_of trace.now.entries)) }
     ensures named { IfOk result (λ d. All (λ m. HasNames verified.now.code.names m.event) d.marks.items) }
     ensures curves { IfOk result (λ d. length d.curves.items ≡ length verified.now.code.capital) }

@@ -19,7 +19,7 @@ use pb_verifier::Verified;
 use std::alloc::Global;
 
 // No code has as many processes, and no process as many arms.
-const MOST: usize = 255;
+const MAX_LANES: usize = 255;
 
 // Returns whether an instruction asks for a bundle.
 fn asks(instr: Instr) -> bool
@@ -146,7 +146,7 @@ fn add_lanes(
     let arms = verified.code().processes[usize::from(process)]
         .entries
         .len();
-    for arm in 0..arms.min(MOST) as u8 {
+    for arm in 0..arms.min(MAX_LANES) as u8 {
         let pick = Pick { process, arm };
         let lane = lane_of(alloc, verified, trace, pick)?;
         lanes.push(lane)?;
@@ -165,7 +165,7 @@ pub(crate) fn lanes_of(
 {
     let mut lanes = Vec::new(alloc);
     let processes = verified.code().processes.len();
-    for process in 0..processes.min(MOST) as u8 {
+    for process in 0..processes.min(MAX_LANES) as u8 {
         add_lanes(alloc, verified, trace, process, &mut lanes)?;
     }
     Ok(lanes)

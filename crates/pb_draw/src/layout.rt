@@ -4,7 +4,7 @@ ghost use Rattle.std.specs.Prelude.{◌≡◌, All, IfOk, length};
 ghost use Rattle.pb_base.specs.Lines.{HasNames, names_view};
 ghost use Rattle.pb_draw.specs.Pictures.{ShowsEvents};
 
-use crate::axis::{CHARACTER, Knot, LONGEST, axis_of, right_of, x_of};
+use crate::axis::{CHARACTER, Knot, MAX_SILENT, axis_of, right_of, x_of};
 use crate::drawing::{Bar, CashCurve, Drawing, Lane, LaneStep, Standing};
 use crate::picture::{Label, LabelKind, Picture, Rect, RectKind};
 use crate::rows::{HOLD, Row, Rows, TRACK, row_of, rows_of};
@@ -70,7 +70,7 @@ impl Shapes {
     // Adds the stretches that are shortened, and how many picks each has.
     fn add_gaps(&mut self, knots: &[Knot], bottom: u64) -> Result<(), NoMemory> {
         for knot in knots {
-            if knot.silent > LONGEST {
+            if knot.silent > MAX_SILENT {
                 self.add_rect(
                     RectKind::Gap,
                     knot.silent_x(),
@@ -250,7 +250,7 @@ const NOTE: &[u8] =
 const OTHER_NOTE: &[u8] =
     b"hatched: the arm is at a request; grey ground: more than 15 silent picks, shortened";
 
-const LEAST_WIDTH: u64 = 560;
+const MIN_WIDTH: u64 = 560;
 
 // Returns how the line of an arm in this state is drawn; it has none unless it is live.
 fn line_kind(step: LaneStep) -> Option<RectKind> {
@@ -307,7 +307,7 @@ pub fn lay_out(
     shapes.add_note(bottom.saturating_add(38), OTHER_NOTE)?;
     let ticks = ticks_of(alloc, &drawing.marks, &lines, &knots, &rows.rows)?;
     Ok(Picture {
-        width: right_of(&knots).saturating_add(20).max(LEAST_WIDTH),
+        width: right_of(&knots).saturating_add(20).max(MIN_WIDTH),
         height: bottom.saturating_add(50),
         rects: shapes.rects,
         labels: shapes.labels,

@@ -175,7 +175,8 @@ fn put_ticks(text: &mut Vec<u8>, ticks: &[Tick]) -> Result<(), NoMemory>
     Ok(())
 }
 
-/// Returns a picture as SVG: a line for each shape, the rectangles first, then the texts, and then the marks of events.
+/// Returns a picture as SVG: a line for each shape, the rectangles first, then the texts, and then the marks
+/// of events.
 pub fn write_svg(alloc: Global, picture: &Picture) -> Result<Vec<u8>, NoMemory>
     ensures { IfOk result (λ text. text.items ≡ spec.svg picture.now) }
 {

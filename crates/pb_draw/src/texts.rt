@@ -59,8 +59,8 @@ fn behind_space(text: &[u8]) -> &[u8] {
     text
 }
 
-/// Returns what the line of an event says behind the arm: the bundle of a grant or a return, and the event itself of
-/// the others.
+/// Returns what the line of an event says behind the arm: the bundle of a grant or a return, and the event
+/// itself of the others.
 pub(crate) fn caption<'t>(line: &'t [u8], mark: &Mark) -> &'t [u8] {
     let said = behind_space(line);
     match mark.event {

@@ -1,17 +1,17 @@
 //! A machine that makes the picks of a trace.
 
 ghost use Rattle.std.specs.Prelude.{◌≡◌, ◌+◌, ◌<◌, length};
-ghost use Rattle.pb_draw.specs.Walks.{StandsAfter, event_at, step_event};
+ghost use Rattle.pb_history.specs.Positions.{IsAfter, AreEnabled};
+ghost use Rattle.pb_draw.specs.Walks.{event_at, step_event};
 ghost use Rattle.pb_history.specs.Entries.{picks_of};
-ghost use Rattle.pb_history.specs.Positions.{AreEnabled};
 
 use pb_base::{Event, Step};
 use pb_history::Trace;
 use pb_machine::Machine;
 use pb_verifier::Verified;
 
-/// Makes the pick with this number, counted from 0, and returns the event that it shows, if it shows one. The machine
-/// has made those before it.
+/// Makes the pick with this number, counted from 0, and returns the event that it shows, if it shows one. The
+/// machine has made those before it.
 pub(crate) fn advance(
     verified: &Verified,
     trace: &Trace,
@@ -19,9 +19,9 @@ pub(crate) fn advance(
     i: u32,
 ) -> Option<Event>
     requires enabled { AreEnabled verified.now.code (picks_of trace.now.entries) }
-    requires stands { StandsAfter verified.now (picks_of trace.now.entries) i machine.old }
+    requires stands { IsAfter verified.now (picks_of trace.now.entries) i machine.old }
     requires within { i < length trace.now.entries }
-    ensures stands { StandsAfter verified.now (picks_of trace.now.entries) (i + 1) machine.new }
+    ensures stands { IsAfter verified.now (picks_of trace.now.entries) (i + 1) machine.new }
     ensures event { result ≡ event_at verified.now.code (picks_of trace.now.entries) i }
 {
     let pick = trace.pick(i);

@@ -9,7 +9,8 @@ use Rattle.pb_draw.specs.Pictures.{ShowsEvents}
 use Rattle.pb_draw.specs.Svg.{svg}
 use Rattle.pb_draw.specs.declared.drawing.Drawing.{Drawing}
 use Rattle.pb_draw.specs.declared.picture.Picture.{Picture}
-use Rattle.pb_engines.specs.Answers.{line, memory_line}
+use Rattle.pb_base.specs.Lines.{line}
+use Rattle.pb_engines.specs.Answers.{memory_line}
 use Rattle.pb_engines.specs.Parts.{AreTwoParts}
 use Rattle.pb_engines.specs.Refusals.{RefusesWith}
 use Rattle.pb_engines.specs.ReplayLines.{AreReplayed, IsStatusAt, SaysOfNoPicks}
@@ -25,8 +26,8 @@ pub record IsPictured (code : Code) (entries : List Entry) (text : List ℕ) : T
   pub shows : ShowsEvents code.names drawing.marks.items picture
   pub written : text ≡ svg picture
 
--- what is said of the lines behind an accepted text, by its code: their picks are refused; or all are made, and the
--- picture of them is written, with the status of `replay`
+-- what is said of the lines behind an accepted text, by its code: their picks are refused; or all are made,
+-- and the picture of them is written, with the status of `replay`
 pub data SaysOfDrawnLines (code : Code) (lines : List ℕ) : List ℕ → Status → Type 0 where
   not_made : (said : List ℕ) (status : Status) → SaysOfNoPicks code lines said status
       → SaysOfDrawnLines code lines said status

@@ -14,6 +14,7 @@ ghost use Rattle.pb_machine.specs.Views.{machine_view};
 
 use pb_base::NoMemory;
 use pb_base::device::{Input, Output};
+use pb_base::limits::{MAX_INPUT, MAX_PICKS};
 use pb_draw::{draw, lay_out, write_svg};
 use pb_engines::Status;
 use pb_engines::accept::{compile_text, refuse};
@@ -28,12 +29,12 @@ use pb_picks::read_picks;
 use pb_verifier::Verified;
 use std::alloc::Global;
 
-/// Makes the picks that the pick lines behind the text of the input say, from the start of the text, and writes a
-/// picture of that run as SVG. A line `%%` separates the text from the pick lines. If the text, a line or a pick is
-/// refused, only the refusal line is written, as by `replay`.
+/// Makes the picks that the pick lines behind the text of the input say, from the start of the text, and
+/// writes a picture of that run as SVG. A line `%%` separates the text from the pick lines. If the text, a
+/// line or a pick is refused, only the refusal line is written, as by `replay`.
 ///
-/// The status is `Fault` if a process faulted. After a read that failed nothing is written; after a write that failed,
-/// a prefix of the output.
+/// The status is `Fault` if a process faulted. After a read that failed nothing is written; after a write
+/// that failed, a prefix of the output.
 pub fn draw_engine<I: Input, O: Output>(alloc: Global, input: &mut I, output: &mut O) -> Status
     ensures text { IfSome (I.rest input.old) (λ bytes.
         Tells (SaysOfInput SaysOfDraw bytes) (O.written output.old) (O.written output.new) result) }
@@ -50,7 +51,7 @@ pub fn draw_engine<I: Input, O: Output>(alloc: Global, input: &mut I, output: &m
 
 // Draws the run of a whole input.
 fn draw_bytes<O: Output>(alloc: Global, bytes: &[u8], output: &mut O) -> Status
-    requires { length bytes.now ≤ 4194304 }
+    requires { length bytes.now ≤ MAX_INPUT }
     ensures text { Tells (SaysOfInput SaysOfDraw bytes.now) (O.written output.old) (O.written output.new) result }
     ensures faults { TellsWriteFaults (O.failures output.old) (O.failures output.new) result }
 {
@@ -128,7 +129,7 @@ fn drawn(
     machine: &Machine,
 ) -> Result<Reply, NoMemory>
     requires enabled { AreEnabled verified.now.code (picks_of trace.now.entries) }
-    requires few { length trace.now.entries ≤ 10000000 }
+    requires few { length trace.now.entries ≤ MAX_PICKS }
     ensures text { IfOk result (λ r. IsPictured verified.now.code trace.now.entries r.text.items) }
     ensures status { IfOk result (λ r. IsStatusAt (machine_view machine.now) r.status) }
 {

@@ -1,5 +1,5 @@
-//! Tests of the engine behind `draw`, by its public call, in a crate of their own, so that they are not proved again
-//! with it.
+//! Tests of the engine behind `draw`, by its public call, in a crate of their own, so that they are not
+//! proved again with it.
 #![tactic(auto)]
 
 #[cfg(test)]

@@ -5,7 +5,7 @@ use Rattle.pb_claims.specs.Fits.{FitCapital, IsFirstOver}
 use Rattle.pb_claims.specs.declared.over_capital.OverCapital.{OverCapital}
 use Rattle.pb_codegen.proofs.TextOneCode.{one_analysis}
 use Rattle.pb_codegen.specs.Compiled.{IsParseFault, IsRefused}
-use Rattle.pb_codegen.specs.Numbered.{IsNumbered, Spells}
+use Rattle.pb_codegen.specs.Numbered.{IsReadAs, Spells}
 use Rattle.pb_codegen.specs.declared.fault.CompileFault.TheVariants.{Lex, Names}
 use Rattle.pb_lexer.proofs.Cuttings.{one_cutting}
 use Rattle.pb_lexer.proofs.Faults.{no_fault as no_lex_fault}
@@ -18,7 +18,7 @@ use Rattle.pb_names.specs.Program.{Program, capital_of}
 use Rattle.pb_names.specs.declared.fault.NameFault.{NameFault}
 use Rattle.pb_names.specs.declared.fault.NameFault.TheVariants as names
 use Rattle.pb_parser.proofs.ProgramLaws.{one_program}
-use Rattle.pb_parser.specs.Limits.{KeepsLimits}
+use Rattle.pb_parser.specs.Limits.{IsSmallTree}
 use Rattle.pb_parser.specs.Programs.{ReadsProgram}
 use Rattle.pb_parser.specs.declared.fault.ParseFault.{ParseFault}
 use Rattle.pb_parser.specs.declared.fault.ParseFault.TheVariants as parse
@@ -48,12 +48,12 @@ module _ (text : List ℕ) (accepted : IsAcceptedText text) where
   no_parse_fault parse.TooDeep (inl deep) = spelled.flat deep
   no_parse_fault parse.TooDeep (inr (other, reads, high)) =
       let same : other ≡ accepted.numbered.tree = one_program reads spelled.read in
-      let limits : KeepsLimits other = subst KeepsLimits (sym same) spelled.limits in
+      let limits : IsSmallTree other = subst IsSmallTree (sym same) spelled.limits in
       let most = limits.height in
       omega (arith, high, most)
   no_parse_fault parse.TooLarge (flat, low, (other, reads, height, large)) =
       let same : other ≡ accepted.numbered.tree = one_program reads spelled.read in
-      let limits : KeepsLimits other = subst KeepsLimits (sym same) spelled.limits in
+      let limits : IsSmallTree other = subst IsSmallTree (sym same) spelled.limits in
       let most = limits.nodes in
       omega (arith, large, most)
   no_parse_fault parse.NoMemory is = is
@@ -71,7 +71,7 @@ module _ (text : List ℕ) (accepted : IsAcceptedText text) where
   no_names_fault (names.Amount at) is = no_fault_of (names.Amount at) (λ e. absurd cc) is.0 is.1 is.2
   no_names_fault (names.Repeated at) is = no_fault_of (names.Repeated at) (λ e. absurd cc) is.0 is.1 is.2
 
-  none_over : (program : Program) (claims : Table) (over : OverCapital) → IsNumbered text program claims
+  none_over : (program : Program) (claims : Table) (over : OverCapital) → IsReadAs text program claims
       → IsFirstOver claims (capital_of program) over → ⊥
   none_over program claims over numbered first =
       let same = one_analysis text program accepted.program claims accepted.claims numbered accepted.numbered in

@@ -12,15 +12,15 @@ use Rattle.pb_base.specs.Steppers.{State}
 use Rattle.pb_code.specs.Code.{CodeProcess, code_step}
 use Rattle.pb_code.specs.Reached.{CodeReaches, CodeStays}
 use Rattle.pb_code.specs.Whole.{Code}
-use Rattle.pb_machine.proofs.Going.{goes_on}
-use Rattle.pb_machine.specs.Looks.{look_at, look_of}
+use Rattle.pb_machine.proofs.NeverStuck.{goes_on}
+use Rattle.pb_machine.specs.Looks.{look_at, look_of, CanStep}
 use Rattle.pb_machine.specs.declared.look.Look.{Look}
 use Rattle.pb_machine.specs.declared.look.Look.TheVariants.{Stays, Silent, Visible}
-use Rattle.pb_verifier.proofs.Banking.{get_some}
+use Rattle.pb_verifier.proofs.LoansWithinClaims.{get_some}
 use Rattle.pb_verifier.specs.Verified.{VerifiedCode, IsVerified}
 use Rattle.rand_pcg.specs.Lcg.{Lcg}
 use Rattle.rand_pcg.specs.Pcg.{pcg32}
-use Rattle.pb_engines.specs.Choices.{AreInOrder, AreCandidatesBefore, AreCandidates, IsBefore, IsCandidate}
+use Rattle.pb_engines.specs.Choices.{AreInOrder, AreCandidatesBefore, AreCandidates, IsBefore}
 use Rattle.pb_engines.specs.Draws.{Draws, DrawsPick, drawn_number, hit, struck}
 use Rattle.pb_engines.specs.Runs.{IsDone}
 use Rattle.pb_engines.proofs.GrantLemmas.{IsEnabled, enabled_or_not}
@@ -85,10 +85,10 @@ module _ (code : Code) (s : State CodeProcess) where
     order = tt;
   }
 
-  pub one_candidate : (pick : Pick) (picks : List Pick) → AreCandidatesBefore code s pick.process pick.arm picks → IsCandidate code s pick
+  pub one_candidate : (pick : Pick) (picks : List Pick) → AreCandidatesBefore code s pick.process pick.arm picks → CanStep code s pick
       → AreCandidatesBefore code s pick.process (pick.arm + 1) (picks ++ pick ∷ [])
   one_candidate pick picks are is = record {
-    each = All-push (IsCandidate code s) picks pick are.each is;
+    each = All-push (CanStep code s) picks pick are.each is;
     before = All-push (λ p. IsBefore p pick.process (pick.arm + 1)) picks pick
         (All-weaker (λ p. IsBefore p pick.process pick.arm) (λ p. IsBefore p pick.process (pick.arm + 1))
         (further pick.process pick.arm) picks are.before)
@@ -127,7 +127,7 @@ module _ (code : Code) (s : State CodeProcess) where
       next_process pick (inl less) = inl (omega (arith, less))
       next_process pick (inr (same, less)) = inl (omega (arith, same))
 
-      earlier : (pick : Pick) → IsCandidate code s pick → IsBefore pick (p + 1) 0 → IsBefore pick p n
+      earlier : (pick : Pick) → CanStep code s pick → IsBefore pick (p + 1) 0 → IsBefore pick p n
       earlier pick is (inr (same, less)) = absurd (omega (arith, less))
       earlier pick is (inl less) = elim (cases_lt pick.process p) [
         | inl before ↦ inl before

@@ -9,7 +9,7 @@ use Rattle.pb_code.specs.Whole.{Code, code_opening}
 use Rattle.pb_history.specs.Replays.{spread}
 use Rattle.pb_history.specs.declared.counted.CountedPick.{CountedPick}
 use Rattle.pb_engines.specs.Draws.{DrawsRun, IsDrawn, one_more, opening}
-use Rattle.pb_engines.specs.Schedule.{IsWithin, StepsSome}
+use Rattle.pb_engines.specs.Schedule.{MakesAtMost, StepsSome}
 use Rattle.pb_engines.specs.declared.schedule.Next.{Next}
 use Rattle.pb_engines.specs.declared.schedule.Next.TheVariants.{Silent, Did}
 use Rattle.rand_pcg.specs.Lcg.{Lcg}
@@ -25,7 +25,7 @@ module _ (code : Code) (first : Lcg) (picks more : List CountedPick) (before aft
     (pick : Pick) (run : DrawsRun code first (spread picks) before now) (drawn : IsDrawn code before now answer next)
     (step : StepsSome code before answer after) where
   -- one more silent pick
-  pub drawn_silent : (made : ℕ) → answer ≡ Silent pick made → IsWithin 1 answer → spread more ≡ spread picks ++ replicate made pick
+  pub drawn_silent : (made : ℕ) → answer ≡ Silent pick made → MakesAtMost 1 answer → spread more ≡ spread picks ++ replicate made pick
       → DrawsRun code first (spread more) after next
   drawn_silent made is within counted = go made is counted
     where
@@ -35,7 +35,7 @@ module _ (code : Code) (first : Lcg) (picks more : List CountedPick) (before aft
           let some = moves.0 in
           absurd (omega (arith, some))
       go (suc (suc n)) is counted =
-          let few : IsWithin 1 (Silent pick (suc (suc n))) = subst (IsWithin 1) is within in
+          let few : MakesAtMost 1 (Silent pick (suc (suc n))) = subst (MakesAtMost 1) is within in
           absurd (omega (arith, few))
       go (suc zero) is counted =
           let moves : StepsSome code before (Silent pick 1) after = subst (λ (n : Next). StepsSome code before n after) is step in

@@ -1,6 +1,6 @@
 -- From verified code, and labels that fit it, to the texts that it has and what `emit` says of it.
 use Rattle.std.proofs.Common.{◌≡◌, ℕ, List, codes, subst, sym}
-use Rattle.pb_object.specs.Answers.{HasText, HasTextOne, Spells, SpellsOne}
+use Rattle.pb_object.specs.Answers.{HasText, HasTextOne, SpellsCode, SpellsOne}
 use Rattle.pb_code.specs.Limits.{AreLabels}
 use Rattle.pb_object.specs.Formats.{FitsFirst}
 use Rattle.pb_code.specs.Whole.{Code, ProcessLabels}
@@ -8,7 +8,7 @@ use Rattle.pb_object.specs.declared.format.Format.TheVariants.{One, Two}
 use Rattle.pb_verifier.specs.Verified.{IsVerified, VerifiedCode}
 use Rattle.pb_verifier.specs.declared.fault.VerifyFault.TheVariants.{OutOfLimits}
 use Rattle.pb_object.proofs.SayableCode.{first_text, ranges_text}
-use Rattle.pb_engines.specs.Answers.{line}
+use Rattle.pb_base.specs.Lines.{line}
 use Rattle.pb_engines.specs.Emissions.{SaysOfObject, beyond_first, written}
 use Rattle.pb_engines.specs.declared.status.Status.TheVariants.{Done, Refused}
 
@@ -35,11 +35,11 @@ says_first code given labels text same spells =
     written One text (subst (λ (c : Code). SpellsOne c text) same spells)
 
 pub says_second : (code given : Code) (labels seen : List ProcessLabels) (text : List ℕ) → given ≡ code
-    → seen ≡ labels → Spells Two given seen text → SaysOfObject code labels Two text Done
+    → seen ≡ labels → SpellsCode Two given seen text → SaysOfObject code labels Two text Done
 says_second code given labels seen text same same_labels spells =
     written Two text
-    (subst (λ (c : Code). Spells Two c labels text) same
-    (subst (λ (l : List ProcessLabels). Spells Two given l text) same_labels spells))
+    (subst (λ (c : Code). SpellsCode Two c labels text) same
+    (subst (λ (l : List ProcessLabels). SpellsCode Two given l text) same_labels spells))
 
 pub says_beyond : (code given : Code) (labels : List ProcessLabels) (text : List ℕ) → given ≡ code
     → text ≡ codes "refused E1" → ¬ FitsFirst given → SaysOfObject code labels One (line text) Refused

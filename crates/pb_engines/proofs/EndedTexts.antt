@@ -1,5 +1,5 @@
--- A text that is cut into tokens: no line of it begins with a percent sign, and with a line feed behind it it has the same
--- tokens.
+-- A text that is cut into tokens: no line of it begins with a percent sign, and with a line feed behind it it
+-- has the same tokens.
 use Rattle.std.proofs.Common.{◌≡◌, ℕ, ◌+◌, ◌-◌, ◌<◌, ◌≤◌, ◌⊎◌, inl, inr, true, List, [], ◌∷◌, length, take, drop, get_or, slice_range, refl, sym, ap, ◌∙◌, subst, arith, append-nil, length-append}
 use Rattle.std.proofs.lemmas.Bool.{cases_lt}
 use Rattle.std.proofs.lemmas.List.{drop-append-le, get_or_at, get_or_append_left, length-drop, take-append-le}
@@ -7,7 +7,7 @@ use Rattle.std.specs.List.{count_by}
 use Rattle.std.specs.Prelude.{◌==◌, EachIndex}
 use Rattle.pb_code.specs.Whole.{Code, ProcessLabels}
 use Rattle.pb_codegen.specs.Compiled.{IsCompiled}
-use Rattle.pb_codegen.specs.Numbered.{IsNumbered, Spells}
+use Rattle.pb_codegen.specs.Numbered.{IsReadAs, Spells}
 use Rattle.pb_lexer.proofs.Bytes.{no_visible_feed, slice_here, slice_length}
 use Rattle.pb_lexer.proofs.Cuttings.{token_starts}
 use Rattle.pb_lexer.proofs.Forms.{form_visible}
@@ -15,7 +15,7 @@ use Rattle.pb_lexer.proofs.Spellings.{starts}
 use Rattle.pb_lexer.specs.Cutting.{AreTokensOf, Cut, Cuts, IsComment, IsToken, Piece, blank, comment, line_at, more, nothing, token}
 use Rattle.pb_lexer.specs.Forms.{Form, is_allowed, is_blank}
 use Rattle.pb_lexer.specs.Tokens.{Lexeme, Token}
-use Rattle.pb_engines.specs.Answers.{line}
+use Rattle.pb_base.specs.Lines.{line}
 use Rattle.pb_engines.specs.Records.{IsEnded}
 
 -- ---- no line begins with a percent sign
@@ -178,7 +178,7 @@ module _ (text : List ℕ) where
         read = spelled.read;
         limits = spelled.limits;
       } in
-      let numbered : IsNumbered (line text) compiled.program code.claims = record {
+      let numbered : IsReadAs (line text) compiled.program code.claims = record {
         tree = compiled.numbered.tree;
         spelled = spells;
         numbered = compiled.numbered.numbered;

@@ -5,10 +5,10 @@ use Rattle.std.proofs.lemmas.List.{take_all}
 use Rattle.std.specs.Prelude.{slice_get}
 use Rattle.pb_base.specs.declared.event.Event.{Event}
 use Rattle.pb_base.specs.Device.{AddsPrefix}
-use Rattle.pb_base.specs.Lines.{NameTable, line_of}
+use Rattle.pb_base.specs.Lines.{NameTable, line_of, line}
 use Rattle.pb_history.proofs.SpanEvents.{take_drop}
-use Rattle.pb_machine.proofs.Growing.{take_at}
-use Rattle.pb_engines.specs.Answers.{line, memory_line, Leaves, Says, Tells}
+use Rattle.pb_machine.proofs.BuiltLists.{take_at}
+use Rattle.pb_engines.specs.Answers.{memory_line, Leaves, Says, Tells}
 use Rattle.pb_engines.specs.EventLines.{StopsIn, out_of_memory, cut_off}
 use Rattle.pb_engines.specs.Runs.{event_lines}
 use Rattle.pb_engines.specs.declared.status.Status.{Status}

@@ -13,8 +13,8 @@ use Rattle.pb_code.specs.Reached.{CodeMoves, CodeReaches}
 use Rattle.pb_code.specs.Whole.{code_opening}
 use Rattle.pb_history.specs.Entries.{Entry, events_of}
 use Rattle.pb_history.specs.Leads.{Leads}
-use Rattle.pb_machine.proofs.Reaching.{reaches_on}
-use Rattle.pb_verifier.proofs.Banking.{kept_reached}
+use Rattle.pb_machine.proofs.OneMorePick.{reaches_on}
+use Rattle.pb_verifier.proofs.LoansWithinClaims.{kept_reached}
 use Rattle.pb_verifier.proofs.States.{checked, code_move, slice_set_other, slice_set_same}
 use Rattle.pb_verifier.proofs.Turns.{turned}
 use Rattle.pb_verifier.specs.Verified.{VerifiedCode, IsVerified}

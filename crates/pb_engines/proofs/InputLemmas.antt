@@ -2,7 +2,8 @@
 use Rattle.std.proofs.Common.{◌≡◌, ℕ, ◌<◌, ◌≤◌, List, [], ◌++◌, length, Option, Some, None, IfSome, IfOk, OnErr, Result, Ok, Err, refl, subst, ◌∙◌, inl, inr, codes}
 use Rattle.pb_base.specs.Device.{one_more_failure}
 use Rattle.pb_base.specs.declared.memory.NoMemory.{NoMemory}
-use Rattle.pb_engines.specs.Answers.{line, memory_line, Says, Tells}
+use Rattle.pb_base.specs.Lines.{line}
+use Rattle.pb_engines.specs.Answers.{memory_line, Says, Tells}
 use Rattle.pb_engines.specs.Faults.{TellsFaults, TellsWriteFaults}
 use Rattle.pb_engines.specs.Inputs.{SaysOfReading, too_long, no_memory, nothing, SaysOfInput, not_read, read}
 use Rattle.pb_engines.specs.declared.reply.Reply.{Reply}

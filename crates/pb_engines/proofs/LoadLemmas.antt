@@ -2,9 +2,9 @@
 use Rattle.std.proofs.Common.{◌≡◌, ℕ, List, Result, Ok, Err, IfOk, subst, sym}
 use Rattle.pb_base.specs.declared.memory.NoMemory.{NoMemory}
 use Rattle.pb_code.specs.Whole.{Code, ProcessLabels}
-use Rattle.pb_object.specs.Answers.{Spells}
+use Rattle.pb_object.specs.Answers.{SpellsCode}
 use Rattle.pb_object.specs.declared.format.Format.TheVariants.{Two}
-use Rattle.pb_engines.specs.Answers.{line}
+use Rattle.pb_base.specs.Lines.{line}
 use Rattle.pb_engines.specs.Loading.{IsLoaded}
 use Rattle.pb_engines.specs.Migrations.{SaysOfMigration, migrated}
 use Rattle.pb_engines.specs.declared.reply.Reply.{Reply}
@@ -20,9 +20,9 @@ of_refusal (Err e) text Says says is = tt
 
 -- the second format of the code that the bytes spell is what is said of them
 pub is_migrated : (reply : Result Reply NoMemory) (bytes : List ℕ) (code given : Code) (labels : List ProcessLabels) → given ≡ code
-    → IsLoaded bytes code labels → IfOk reply (λ r. Spells Two given labels r.text.items × (r.status ≡ Done))
+    → IsLoaded bytes code labels → IfOk reply (λ r. SpellsCode Two given labels r.text.items × (r.status ≡ Done))
     → IfOk reply (λ r. SaysOfMigration bytes r.text.items r.status)
 is_migrated (Ok r) bytes code given labels same is (spells, status) =
     subst (λ (s : Status). SaysOfMigration bytes r.text.items s) (sym status)
-    (migrated code labels is r.text.items (subst (λ (c : Code). Spells Two c labels r.text.items) same spells))
+    (migrated code labels is r.text.items (subst (λ (c : Code). SpellsCode Two c labels r.text.items) same spells))
 is_migrated (Err e) bytes code given labels same is spells = tt

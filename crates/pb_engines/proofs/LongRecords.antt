@@ -8,7 +8,7 @@ use Rattle.std.proofs.lemmas.List.Elements.{All-head, All-tail}
 use Rattle.std.specs.Fmt.{decimal}
 use Rattle.pb_base.specs.declared.memory.NoMemory.{NoMemory}
 use Rattle.pb_base.specs.declared.pick.Pick.{Pick}
-use Rattle.pb_base.specs.Lines.{name_of}
+use Rattle.pb_base.specs.Lines.{name_of, line}
 use Rattle.pb_base.specs.Steppers.{State, event_of}
 use Rattle.pb_code.specs.Code.{CodeProcess}
 use Rattle.pb_code.specs.Reached.{CodeMoves}
@@ -20,12 +20,11 @@ use Rattle.pb_history.specs.declared.counted.CountedPick.{CountedPick}
 use Rattle.pb_history.specs.declared.span.Span.{Span}
 use Rattle.pb_picks.specs.Counted.{AreApart}
 use Rattle.pb_picks.specs.Laws.{CanBeSaid}
-use Rattle.pb_picks.specs.PickLines.{Says, pick_line, pick_lines}
+use Rattle.pb_picks.specs.PickLines.{SpellsPick, pick_line, pick_lines}
 use Rattle.pb_verifier.specs.Verified.{VerifiedCode, IsVerified}
 use Rattle.pb_verifier.specs.declared.fault.VerifyFault.TheVariants.{OutOfLimits}
 use Rattle.pb_workers.specs.Reports.{IsReport}
 use Rattle.pb_workers.specs.declared.report.Report.{Report}
-use Rattle.pb_engines.specs.Answers.{line}
 use Rattle.pb_engines.specs.Draws.{DrawsRun, generator_of, one_more as draws_one_more}
 use Rattle.pb_engines.specs.Records.{AreCounts, AreTooMany, IsEnded, IsRecorded, IsTooLong, SaysOfRecording, too_long}
 use Rattle.pb_engines.specs.Runs.{Run}
@@ -155,8 +154,8 @@ lines_are_long : (code : Code) → KeepsLimits code → (picks : List CountedPic
 lines_are_long code limits [] said = omega arith
 lines_are_long code limits (c ∷ picks) said =
     let names = code.names.processes in
-    let says = All-head (λ (d : CountedPick). Says code (pick_line names d) d) c picks said in
-    let rest = lines_are_long code limits picks (All-tail (λ (d : CountedPick). Says code (pick_line names d) d) c picks said) in
+    let says = All-head (λ (d : CountedPick). SpellsPick code (pick_line names d) d) c picks said in
+    let rest = lines_are_long code limits picks (All-tail (λ (d : CountedPick). SpellsPick code (pick_line names d) d) c picks said) in
     let few = (limits.each c.pick.process says.process says.there).some_arms.1 in
     let below = says.arm in
     let most = says.most in

@@ -2,7 +2,7 @@
 use Rattle.std.proofs.Common.{◌≡◌, ◌≢◌, ℕ, zero, suc, ◌+◌, ◌-◌, ◌<◌, ◌≤◌, List, [], ◌∷◌, ◌++◌, length, replicate, Option, Some, None, IfErr, IfSome, MatchOption, refl, sym, ap, subst, ◌∙◌, append-nil, append_assoc, length-append, inl, inr, arith, codes, Result, Ok, Err, IfOk}
 use Rattle.std.specs.Prelude.{All, slice_get, slice_index_or}
 use Rattle.std.proofs.lemmas.Option.{slice_get_within}
-use Rattle.pb_base.specs.Lines.{HasProcess, NameTable}
+use Rattle.pb_base.specs.Lines.{HasProcess, NameTable, line}
 use Rattle.std.proofs.lemmas.Bool.{cases_lt}
 use Rattle.std.proofs.lemmas.List.{length-replicate}
 use Rattle.std.proofs.lemmas.List.Elements.{All-cons, All-nil}
@@ -15,20 +15,19 @@ use Rattle.pb_code.specs.Reached.{CodeMoves, CodeReaches}
 use Rattle.pb_code.specs.Whole.{Code, bank_of, code_opening}
 use Rattle.pb_history.specs.Replays.{spread}
 use Rattle.pb_history.specs.declared.counted.CountedPick.{CountedPick}
-use Rattle.pb_history.proofs.Leading.{replicate_more}
-use Rattle.pb_machine.proofs.Reaching.{reaches_on}
+use Rattle.pb_history.proofs.TraceSteps.{replicate_more}
+use Rattle.pb_machine.proofs.OneMorePick.{reaches_on}
 use Rattle.pb_machine.specs.Steps.{MovesSilently}
 use Rattle.pb_picks.specs.Counted.{AreApart}
 use Rattle.pb_picks.specs.Laws.{CanBeSaid}
-use Rattle.pb_picks.specs.PickLines.{Says, pick_line, pick_lines}
-use Rattle.pb_verifier.proofs.Banking.{kept_reached, get_some}
+use Rattle.pb_picks.specs.PickLines.{SpellsPick, pick_line, pick_lines}
+use Rattle.pb_verifier.proofs.LoansWithinClaims.{kept_reached, get_some}
 use Rattle.pb_verifier.specs.Verified.{IsAnnotated}
 use Rattle.pb_verifier.specs.declared.fault.VerifyFault.TheVariants.{OutOfLimits}
 use Rattle.pb_workers.specs.declared.fault.RunFault.{RunFault}
 use Rattle.pb_workers.specs.declared.fault.RunFault.TheVariants.{NoMemory as OutOfMemory}
-use Rattle.pb_engines.specs.Answers.{line}
 use Rattle.pb_engines.specs.Draws.{IsDrawnRun}
-use Rattle.pb_engines.specs.Schedule.{IsWithin, StepsSome}
+use Rattle.pb_engines.specs.Schedule.{MakesAtMost, StepsSome}
 use Rattle.pb_engines.specs.declared.schedule.Next.{Next}
 use Rattle.pb_engines.specs.declared.schedule.Next.TheVariants.{Silent, Did, NotEnabled}
 use Rattle.pb_engines.specs.Records.{IsEnded, IsRecorded, IsTooLong, SaysOfRecording, no_threads, too_long, with_picks, written}
@@ -94,19 +93,19 @@ more_picks picks more pick n same =
     omega (arith, l, a, r)
 
 -- where one pick is left, a single one is within what is left
-pub within_left : (left : ℕ) (next : Next) → 0 < left → IsWithin 1 next → IsWithin left next
+pub within_left : (left : ℕ) (next : Next) → 0 < left → MakesAtMost 1 next → MakesAtMost left next
 within_left left (Silent pick made) some within = omega (arith, some, within)
 within_left left (Did pick event) some within = tt
 within_left left NotEnabled some within = tt
 
 -- silent picks that were made and counted
 pub silent_more : (code : Code) (picks more : List CountedPick) (before after : State CodeProcess) (next : Next) (pick : Pick) (made left steps : ℕ)
-    → next ≡ Silent pick made → StepsSome code before next after → IsWithin left next → LeadTo code picks before
+    → next ≡ Silent pick made → StepsSome code before next after → MakesAtMost left next → LeadTo code picks before
     → length (spread picks) + left ≡ steps → spread more ≡ spread picks ++ replicate made pick
     → LeadTo code more after × (length (spread more) + (left - made) ≡ steps)
 silent_more code picks more before after next pick made left steps same step within lead many counted =
     let moves : StepsSome code before (Silent pick made) after = subst (λ (n : Next). StepsSome code before n after) same step in
-    let few : IsWithin left (Silent pick made) = subst (IsWithin left) same within in
+    let few : MakesAtMost left (Silent pick made) = subst (MakesAtMost left) same within in
     let all = more_picks picks more pick made counted in
     (lead_silent code picks more before after pick made lead counted moves.1, omega (arith, all, few, many))
 
@@ -185,14 +184,14 @@ module _ (code : Code) (annotated : IsAnnotated code) where
 
   said_from : (s end : State CodeProcess) (picks : List CountedPick) (events : List Event) → AreApart picks → length (spread picks) ≤ 10000000
       → CodeReaches code s → Makes (bank_of code) (code_step code.processes) s (spread picks) events end → CanBeSaid code picks
-  said_from s end [] events apart few reached makes = All-nil (λ (c : CountedPick). Says code (pick_line code.names.processes c) c)
+  said_from s end [] events apart few reached makes = All-nil (λ (c : CountedPick). SpellsPick code (pick_line code.names.processes c) c)
   said_from s end (c ∷ picks) events apart few reached makes =
       let some = some_first c picks apart in
       let there = first_is_there c.count s end c.pick (spread picks) events some reached makes in
       let rest = behind c.count s end c.pick (spread picks) events reached makes in
       let all = length-append (replicate c.count c.pick) (spread picks) in
       let count = length-replicate c.count c.pick in
-      let says : Says code (pick_line code.names.processes c) c = record {
+      let says : SpellsPick code (pick_line code.names.processes c) c = record {
         process = there.0;
         there = there.1;
         arm = there.2;
@@ -200,7 +199,7 @@ module _ (code : Code) (annotated : IsAnnotated code) where
         most = omega (arith, all, count, few);
         spelled = refl;
       } in
-      All-cons (λ (d : CountedPick). Says code (pick_line code.names.processes d) d) c picks says
+      All-cons (λ (d : CountedPick). SpellsPick code (pick_line code.names.processes d) d) c picks says
       (said_from rest.0 end picks rest.1 (apart_rest c picks apart) (omega (arith, all, few)) rest.2 rest.3)
 
   pub recorded_can_be_said : (steps : ℕ) (seed : Option ℕ) (picks : List CountedPick) → steps ≤ 10000000 → IsRecorded

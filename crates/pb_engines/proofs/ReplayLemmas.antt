@@ -3,7 +3,7 @@ use Rattle.std.proofs.Common.{◌≡◌, ℕ, zero, suc, ◌≤◌, List, [], �
 use Rattle.std.proofs.lemmas.List.{length-map}
 use Rattle.pb_base.specs.declared.event.Event.{Event}
 use Rattle.pb_base.specs.declared.memory.NoMemory.{NoMemory}
-use Rattle.pb_base.specs.Lines.{NameTable, HasNames}
+use Rattle.pb_base.specs.Lines.{NameTable, HasNames, line}
 use Rattle.pb_base.specs.Steppers.{State}
 use Rattle.pb_code.specs.Code.{CodeProcess}
 use Rattle.pb_code.specs.Reached.{CodeMoves, CodeReaches}
@@ -11,11 +11,11 @@ use Rattle.pb_code.specs.Whole.{Code, CodeCan, ProcessLabels, code_opening}
 use Rattle.pb_codegen.specs.Compiled.{IsCompiled}
 use Rattle.pb_history.specs.Entries.{Entry, events_of, picks_of}
 use Rattle.pb_history.specs.Leads.{Leads}
-use Rattle.pb_history.proofs.Leading.{traces_make}
-use Rattle.pb_machine.proofs.Going.{events_have_names}
-use Rattle.pb_machine.proofs.Reaching.{reaches_on}
+use Rattle.pb_history.proofs.TraceSteps.{traces_make}
+use Rattle.pb_machine.proofs.NeverStuck.{events_have_names}
+use Rattle.pb_machine.proofs.OneMorePick.{reaches_on}
 use Rattle.pb_verifier.specs.Verified.{VerifiedCode, IsVerified}
-use Rattle.pb_engines.specs.Answers.{line, memory_line, Leaves, Says, Tells}
+use Rattle.pb_engines.specs.Answers.{memory_line, Leaves, Says, Tells}
 use Rattle.pb_engines.specs.EventLines.{StopsIn}
 use Rattle.pb_engines.specs.EventLines as stop
 use Rattle.pb_engines.specs.Parts.{AreTwoParts}

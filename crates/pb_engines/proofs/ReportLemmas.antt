@@ -4,7 +4,7 @@ use Rattle.std.specs.Fmt.{decimal}
 use Rattle.std.proofs.lemmas.List.{length-map}
 use Rattle.pb_base.specs.declared.event.Event.{Event}
 use Rattle.pb_base.specs.declared.pick.Pick.{Pick}
-use Rattle.pb_base.specs.Lines.{NameTable, HasNames}
+use Rattle.pb_base.specs.Lines.{NameTable, HasNames, line}
 use Rattle.pb_base.specs.Steppers.{State}
 use Rattle.pb_code.specs.Code.{CodeProcess}
 use Rattle.pb_code.specs.Whole.{Code, code_opening}
@@ -12,20 +12,20 @@ use Rattle.pb_history.specs.Entries.{Entry, events_of, picks_of}
 use Rattle.pb_history.specs.Leads.{Leads}
 use Rattle.pb_history.specs.Replays.{spread}
 use Rattle.pb_history.specs.declared.counted.CountedPick.{CountedPick}
-use Rattle.pb_history.proofs.Leading.{traces_make}
+use Rattle.pb_history.proofs.TraceSteps.{traces_make}
 use Rattle.pb_picks.specs.Counted.{AreApart}
 use Rattle.pb_shared.specs.declared.outcome.Outcome.{Outcome}
 use Rattle.pb_shared.specs.declared.outcome.Outcome.TheVariants as outcome
 use Rattle.pb_verifier.specs.Verified.{VerifiedCode, IsVerified}
 use Rattle.pb_workers.specs.Reports.{EndsAs, IsReport}
 use Rattle.pb_workers.specs.declared.report.Report.{Report}
-use Rattle.pb_engines.specs.Answers.{line, memory_line, Leaves, Says, Tells}
+use Rattle.pb_engines.specs.Answers.{memory_line, Leaves, Says, Tells}
 use Rattle.pb_engines.specs.EventLines.{StopsIn}
 use Rattle.pb_engines.specs.EventLines as stop
 use Rattle.pb_engines.specs.Outcomes.{SaysOfOutcome, ShowsFault, all_done, some_fault, used_up}
 use Rattle.pb_engines.specs.RunLaws.{ReportsFollowTheSource}
 use Rattle.pb_engines.specs.Records.{IsRecorded}
-use Rattle.pb_engines.specs.Runs.{IsDone, Run, SaysOfCode, event_lines, at_limit, cut_off, done, faulted, no_threads, out_of_memory}
+use Rattle.pb_engines.specs.Runs.{IsDone, Run, SaysOfCodeRun, event_lines, at_limit, cut_off, done, faulted, no_threads, out_of_memory}
 use Rattle.pb_engines.specs.declared.status.Status.{Status}
 use Rattle.pb_engines.specs.declared.status.Status.TheVariants.{Done, Fault, Limit, Memory, Threads}
 use Rattle.pb_engines.proofs.FaultLemmas.{faults_are_shown, shown_faults_are}
@@ -103,23 +103,23 @@ first_events code s end (suc n) (e ∷ entries) (next, moves, rest) =
 -- the lines stop before the last
 pub told_stop : (code : Code) (names : NameTable) (steps : ℕ) (report : Report) (w new : Option (List ℕ)) (answered : Status)
     → IsReport code steps report → names ≡ code.names → Tells (StopsIn names (events_of report.trace.entries)) w new answered
-    → Tells (SaysOfCode code steps) w new answered
+    → Tells (SaysOfCodeRun code steps) w new answered
 told_stop code names steps report w new answered is same tells =
     go (subst (λ (n : NameTable). Tells (StopsIn n (events_of report.trace.entries)) w new answered) same tells)
   where
-    of : (text : List ℕ) (status : Status) → StopsIn code.names (events_of report.trace.entries) text status → SaysOfCode code steps text status
+    of : (text : List ℕ) (status : Status) → StopsIn code.names (events_of report.trace.entries) text status → SaysOfCodeRun code steps text status
     of _ _ (stop.out_of_memory n) =
         let h = first_events code (code_opening code) is.end n report.trace.entries is.leads in
         let run = run_of_entries code h.end h.some h.leads in
         let few = h.few in
         let all = is.few in
-        subst (λ (es : List Event). SaysOfCode code steps (event_lines code.names es ++ memory_line) Memory) h.shown
+        subst (λ (es : List Event). SaysOfCodeRun code steps (event_lines code.names es ++ memory_line) Memory) h.shown
         (events_of h.some, length run.picks, out_of_memory h.end run (few_picks h.some steps (omega (arith, few, all))))
     of _ _ stop.cut_off =
         let run = run_of_entries code is.end report.trace.entries is.leads in
         (events_of report.trace.entries, length run.picks, cut_off is.end run (few_picks report.trace.entries steps is.few))
 
-    go : Tells (StopsIn code.names (events_of report.trace.entries)) w new answered → Tells (SaysOfCode code steps) w new answered
+    go : Tells (StopsIn code.names (events_of report.trace.entries)) w new answered → Tells (SaysOfCodeRun code steps) w new answered
     go (text, status, stops, says) = (text, status, of text status stops, says)
 
 -- all lines, and the last one
@@ -127,7 +127,7 @@ pub told_report : (v : VerifiedCode) (names : NameTable) (steps : ℕ) (report :
     (answered : Status) → IsVerified v → IsReport v.code steps report → names ≡ v.code.names
     → Leaves w now (event_lines names (events_of report.trace.entries)) page
     → Tells (SaysOfOutcome (events_of report.trace.entries) steps page report.outcome) now new answered
-    → Tells (SaysOfCode v.code steps) w new answered
+    → Tells (SaysOfCodeRun v.code steps) w new answered
 told_report v names steps report w now new page answered verified is same told (text, status, says, said) =
     go report.outcome is.ends text status says said
   where
@@ -142,7 +142,7 @@ told_report v names steps report w now new page answered verified is same told (
 
     go : (o : Outcome) → EndsAs o steps report.trace.entries is.end → (text : List ℕ) (status : Status)
         → SaysOfOutcome (events_of report.trace.entries) steps page o text status → Says now new text status answered
-        → Tells (SaysOfCode v.code steps) w new answered
+        → Tells (SaysOfCodeRun v.code steps) w new answered
     go outcome.Done over _ _ (all_done none) says = (
       event_lines v.code.names (events_of report.trace.entries) ++ line (codes "done"),
       Done,
@@ -178,7 +178,7 @@ told_report v names steps report w now new page answered verified is same told (
 
 -- there is no report, since there is no memory
 pub told_no_memory : (code : Code) (steps : ℕ) (w new : Option (List ℕ)) (page : List ℕ) (answered : Status) → page ≡ []
-    → Says w new (page ++ memory_line) Memory answered → Tells (SaysOfCode code steps) w new answered
+    → Says w new (page ++ memory_line) Memory answered → Tells (SaysOfCodeRun code steps) w new answered
 told_no_memory code steps w new page answered empty says =
     let run : Run code [] (code_opening code) = record { picks = []; makes = (refl, refl) } in (
       memory_line,
@@ -189,7 +189,7 @@ told_no_memory code steps w new page answered empty says =
 
 -- or no thread
 pub told_no_threads : (code : Code) (steps : ℕ) (w new : Option (List ℕ)) (page : List ℕ) (answered : Status) → page ≡ []
-    → Says w new (page ++ line (codes "threads")) Threads answered → Tells (SaysOfCode code steps) w new answered
+    → Says w new (page ++ line (codes "threads")) Threads answered → Tells (SaysOfCodeRun code steps) w new answered
 told_no_threads code steps w new page answered empty says =
     (line (codes "threads"), Threads, ([], 0, no_threads refl), Says-first w new page (line (codes "threads")) Threads answered empty says)
 

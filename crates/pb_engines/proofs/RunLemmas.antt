@@ -6,7 +6,7 @@ use Rattle.pb_base.specs.Steppers.{State, Makes}
 use Rattle.pb_code.specs.Code.{CodeProcess, code_step}
 use Rattle.pb_code.specs.Reached.{CodeMoves}
 use Rattle.pb_code.specs.Whole.{Code, bank_of, code_opening}
-use Rattle.pb_machine.proofs.Reaching.{makes_more}
+use Rattle.pb_machine.proofs.OneMorePick.{makes_more}
 use Rattle.pb_engines.specs.Runs.{Run}
 
 -- these picks make these events and lead to this state

@@ -11,7 +11,7 @@ use Rattle.pb_code.specs.Reached.{CodeStays}
 use Rattle.pb_code.specs.Whole.{Code}
 use Rattle.pb_machine.specs.Views.{machine_view, IsMachineOf}
 use Rattle.pb_machine.specs.declared.machine.Machine.{Machine}
-use Rattle.pb_verifier.proofs.Banking.{kept_reached}
+use Rattle.pb_verifier.proofs.LoansWithinClaims.{kept_reached}
 use Rattle.pb_verifier.specs.declared.fault.VerifyFault.TheVariants.{OutOfLimits}
 use Rattle.pb_verifier.specs.Verified.{VerifiedCode, IsVerified}
 use Rattle.pb_machine.specs.Looks.{look_at, look_of}
@@ -72,26 +72,3 @@ pub some_made : (code : Code) (s after : State CodeProcess) (pick : Pick) (made 
 some_made code s after pick zero max silent some same stops =
     absurd (stops (omega (arith, some)) (subst (λ (t : State CodeProcess). look_at code t pick ≡ look.Silent) (sym same) silent))
 some_made code s after pick (suc made) max silent some moves stops = omega arith
-
--- ---- numbers of picks
-
--- ---- numbers of arms and processes fit a byte
-
-module _ (v : VerifiedCode) (verified : IsVerified v) (m : Machine) (of : IsMachineOf v m) where
-  pub few_processes : length (machine_view m).processes ≤ 64
-  few_processes =
-      let count = (kept_reached v.code verified.annotated (machine_view m) of.reached).good.count in
-      let few = (verified.annotated OutOfLimits).some_processes.1 in
-      omega (arith, count, few)
-
-  pub few_arms : (p : ℕ) (process : CodeProcess) → slice_get (machine_view m).processes p ≡ Some process → length process.threads ≤ 64
-  few_arms p process there =
-      let good = (kept_reached v.code verified.annotated (machine_view m) of.reached).good in
-      let count = good.count in
-      let within = slice_get_within (machine_view m).processes p process there in
-      let none : ProcessCode = record { integers = 0; entries = []; instrs = [] } in
-      let code : ProcessCode = get_or v.code.processes p none in
-      let at : slice_get v.code.processes p ≡ Some code = slice_get-get_or v.code.processes p none (omega (arith, count, within)) in
-      let threads = (good.fit p code process at there).threads in
-      let few = ((verified.annotated OutOfLimits).each p code at).some_arms.1 in
-      omega (arith, threads, few)

@@ -6,19 +6,20 @@ use Rattle.std.proofs.lemmas.List.Elements.{All-contains}
 use Rattle.pb_base.specs.declared.event.Event.{Event}
 use Rattle.pb_base.specs.declared.pick.Pick.{Pick}
 use Rattle.pb_base.specs.Steppers.{Makes, Move, State}
-use Rattle.pb_code.specs.Code.{CodeProcess, Thread, Idle, Live, Over, code_step, step_thread, thread}
+use Rattle.pb_code.specs.Code.{CodeProcess, Thread, Idle, Live, Ended, code_step, step_thread, thread}
 use Rattle.pb_code.specs.Reached.{CodeMoves, CodeReaches, CodeStays}
 use Rattle.pb_code.specs.Whole.{Code, bank_of, code_opening}
 use Rattle.pb_codegen.proofs.TextOneCode.{one_code}
 use Rattle.pb_history.specs.Replays.{spread}
 use Rattle.pb_history.specs.declared.counted.CountedPick.{CountedPick}
-use Rattle.pb_verifier.proofs.Banking.{kept_reached}
+use Rattle.pb_verifier.proofs.LoansWithinClaims.{kept_reached}
 use Rattle.pb_verifier.proofs.LiveSteps.{none_live}
 use Rattle.pb_verifier.proofs.States.{CodeMove, checked, code_move}
 use Rattle.pb_verifier.specs.Verified.{IsAnnotated}
 use Rattle.rand_pcg.specs.Lcg.{Lcg}
 use Rattle.rand_pcg.specs.Pcg.{pcg32}
-use Rattle.pb_engines.specs.Choices.{AreCandidates, AreInOrder, IsBefore, IsCandidate}
+use Rattle.pb_machine.specs.Looks.{CanStep}
+use Rattle.pb_engines.specs.Choices.{AreCandidates, AreInOrder, IsBefore}
 use Rattle.pb_engines.specs.Draws.{Draws, DrawsPick, DrawsRun, drawn_number, generator_of, hit, one_more, opening, struck}
 use Rattle.pb_engines.specs.RecordLaws.{SeedsWriteOneRecord}
 use Rattle.pb_engines.specs.Records.{IsEnded, IsRecorded, with_picks}
@@ -91,8 +92,8 @@ same_in_order (p ∷ ps) (q ∷ qs) order others within without =
 
 same_candidates : (code : Code) (s : State CodeProcess) (ps qs : List Pick) → AreCandidates code s ps → AreCandidates code s qs → ps ≡ qs
 same_candidates code s ps qs are others =
-    same_in_order ps qs are.order others.order (λ x here. others.all x (All-contains (IsCandidate code s) ps x are.each here))
-    (λ x here. are.all x (All-contains (IsCandidate code s) qs x others.each here))
+    same_in_order ps qs are.order others.order (λ x here. others.all x (All-contains (CanStep code s) ps x are.each here))
+    (λ x here. are.all x (All-contains (CanStep code s) qs x others.each here))
 
 -- ---- a generator draws one pick that is enabled
 
@@ -226,7 +227,7 @@ done_stays code annotated s reached done pick event after moves =
       where
         stands : (t : Thread) → thread m.before.threads pick.arm ≡ t → step_thread m.code m.before pick.arm t ≡ Some (m.after, m.effect) → ⊥
         stands Idle at steps = cc
-        stands Over at steps = cc
+        stands Ended at steps = cc
         stands (Live place stack) at steps =
             let ok = checked code annotated pick.process m.code m.at in
             let fit = (kept_reached code annotated s reached).good.fit pick.process m.code m.before m.at m.here in

@@ -5,7 +5,7 @@ use Rattle.pb_code.specs.Whole.{Code, ProcessLabels, CodeCan, code_opening}
 use Rattle.pb_codegen.specs.Compiled.{IsCompiled}
 use Rattle.pb_engines.specs.Answers.{Says, Tells}
 use Rattle.pb_engines.specs.Refusals.{SaysOfRefusedText, refused as by_line}
-use Rattle.pb_engines.specs.Runs.{SaysOfRun, done, faulted, at_limit, out_of_memory, cut_off, no_threads, SaysOfCode, SaysOf, refused, accepted}
+use Rattle.pb_engines.specs.Runs.{SaysOfRun, done, faulted, at_limit, out_of_memory, cut_off, no_threads, SaysOfCodeRun, SaysOfTextRun, refused, accepted}
 use Rattle.pb_engines.specs.Inputs.{SaysOfInput, read}
 use Rattle.pb_engines.specs.declared.status.Status.{Status}
 use Rattle.pb_engines.specs.declared.status.Status.TheVariants.{Device}
@@ -22,12 +22,12 @@ can_make code steps events _ _ _ (no_threads none) = ([], code_opening code, ome
 
 -- an accepted text, whose code is run
 pub text_is_run : (steps : ℕ) (bytes : List ℕ) (code given : Code) (labels : List ProcessLabels) (old new : Option (List ℕ)) (answered : Status)
-    → length bytes ≤ 4194304 → IsCompiled bytes code labels → given ≡ code → Tells (SaysOfCode given steps) old new answered
-    → Tells (SaysOfInput (SaysOf steps) bytes) old new answered
+    → length bytes ≤ 4194304 → IsCompiled bytes code labels → given ≡ code → Tells (SaysOfCodeRun given steps) old new answered
+    → Tells (SaysOfInput (SaysOfTextRun steps) bytes) old new answered
 text_is_run steps bytes code given labels old new answered short compiled same tells =
-    go (subst (λ (c : Code). Tells (SaysOfCode c steps) old new answered) same tells)
+    go (subst (λ (c : Code). Tells (SaysOfCodeRun c steps) old new answered) same tells)
   where
-    go : Tells (SaysOfCode code steps) old new answered → Tells (SaysOfInput (SaysOf steps) bytes) old new answered
+    go : Tells (SaysOfCodeRun code steps) old new answered → Tells (SaysOfInput (SaysOfTextRun steps) bytes) old new answered
     go told = (
       told.0,
       told.1,
@@ -37,7 +37,7 @@ text_is_run steps bytes code given labels old new answered short compiled same t
     )
 
 -- a refused text
-pub says_refused : (steps : ℕ) (bytes text : List ℕ) (status : Status) → SaysOfRefusedText bytes text status → SaysOf steps bytes text status
+pub says_refused : (steps : ℕ) (bytes text : List ℕ) (status : Status) → SaysOfRefusedText bytes text status → SaysOfTextRun steps bytes text status
 says_refused steps bytes _ _ (by_line refusal is) = refused refusal is
 
 -- ---- nothing is said

@@ -4,10 +4,7 @@ use Rattle.std.specs.Prelude.{◌≡◌, ◌++◌, ◌⊎◌, ℕ, List, [], ◌
 use Rattle.pb_base.specs.Device.{appended, AddsPrefix}
 use Rattle.pb_engines.specs.declared.status.Status.{Status}
 use Rattle.pb_engines.specs.declared.status.Status.TheVariants.{Device}
-
--- a line of text ends in a line feed
-abbrev pub line : List ℕ → List ℕ
-line text = text ++ 10 ∷ []
+use Rattle.pb_base.specs.Lines.{line}
 
 -- the line of a command that wants memory
 abbrev pub memory_line : List ℕ

@@ -1,6 +1,7 @@
 -- What `check` says of an input, and with which status.
 use Rattle.std.specs.Prelude.{◌≡◌, ◌++◌, ◌||◌, ◌⊎◌, ℕ, Bool, true, false, List, [], ◌∷◌, Option, codes}
-use Rattle.pb_engines.specs.Answers.{line, memory_line, Leaves, Spoken}
+use Rattle.pb_base.specs.Lines.{line}
+use Rattle.pb_engines.specs.Answers.{memory_line, Leaves, Spoken}
 use Rattle.pb_base.specs.Device.{AddsPrefix}
 use Rattle.pb_engines.specs.Parts.{AreParts}
 use Rattle.pb_engines.specs.Refusals.{IsAcceptedText, RefusesWith}
@@ -33,8 +34,8 @@ abbrev pub check_status : Bool → Status
 check_status true = Refused
 check_status false = Done
 
--- what is said of an input: each of its parts is answered; or the first ones, until memory runs out or a write
--- fails
+-- what is said of an input: each of its parts is answered; or the first ones, until memory runs out or a
+-- write fails
 pub data SaysOfChecks (bytes : List ℕ) : List ℕ → Status → Type 0 where
   answered : (parts : List (List ℕ)) (said : List ℕ) (refused : Bool) → AreParts bytes parts
       → AnswersTo parts said refused

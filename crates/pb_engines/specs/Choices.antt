@@ -1,15 +1,10 @@
 -- Which picks one is drawn from.
-use Rattle.std.specs.Prelude.{◌≡◌, ◌≢◌, ℕ, ◌<◌, ◌⊎◌, List, [], ◌∷◌, All, Contains, ⊤}
+use Rattle.std.specs.Prelude.{◌≡◌, ℕ, ◌<◌, ◌⊎◌, List, [], ◌∷◌, All, Contains, ⊤}
 use Rattle.pb_base.specs.declared.pick.Pick.{Pick}
 use Rattle.pb_base.specs.Steppers.{State}
 use Rattle.pb_code.specs.Code.{CodeProcess}
 use Rattle.pb_code.specs.Whole.{Code}
-use Rattle.pb_machine.specs.Looks.{look_at}
-use Rattle.pb_machine.specs.declared.look.Look.TheVariants.{Stays}
-
--- a candidate for the next pick: its arm can go on, unless the banker refuses what it asks for
-abbrev pub IsCandidate : Code → State CodeProcess → Pick → Type 0
-IsCandidate code s pick = look_at code s pick ≢ Stays
+use Rattle.pb_machine.specs.Looks.{CanStep}
 
 -- the pick is of an earlier process, or of an earlier arm of the same
 abbrev pub IsBefore : (pick : Pick) → (process arm : ℕ) → Type 0
@@ -22,13 +17,13 @@ AreInOrder (pick ∷ picks) = All (λ later. IsBefore pick later.process later.a
 
 -- all candidates and no others, in the order of their processes and then of their arms
 pub record AreCandidates (code : Code) (s : State CodeProcess) (picks : List Pick) : Type 0 where
-  pub each : All (IsCandidate code s) picks
-  pub all : (pick : Pick) → IsCandidate code s pick → Contains picks pick
+  pub each : All (CanStep code s) picks
+  pub all : (pick : Pick) → CanStep code s pick → Contains picks pick
   pub order : AreInOrder picks
 
 -- the same of the picks before this arm
 pub record AreCandidatesBefore (code : Code) (s : State CodeProcess) (process arm : ℕ) (picks : List Pick) : Type 0 where
-  pub each : All (IsCandidate code s) picks
+  pub each : All (CanStep code s) picks
   pub before : All (λ pick. IsBefore pick process arm) picks
-  pub all : (pick : Pick) → IsCandidate code s pick → IsBefore pick process arm → Contains picks pick
+  pub all : (pick : Pick) → CanStep code s pick → IsBefore pick process arm → Contains picks pick
   pub order : AreInOrder picks

@@ -3,10 +3,10 @@ use Rattle.std.specs.Prelude.{ℕ, List, ◌++◌, ◌∷◌, codes}
 use Rattle.std.specs.Fmt.{decimal}
 use Rattle.std.specs.List.{flat_map, zip}
 use Rattle.pb_base.specs.Steppers.{Table}
-use Rattle.pb_codegen.specs.Numbered.{IsNumbered}
+use Rattle.pb_codegen.specs.Numbered.{IsReadAs}
 use Rattle.pb_names.specs.Program.{Name, Program}
 use Rattle.pb_names.specs.Resolves.{process_names, resource_names}
-use Rattle.pb_engines.specs.Answers.{line}
+use Rattle.pb_base.specs.Lines.{line}
 use Rattle.pb_engines.specs.Refusals.{RefusesEarly}
 use Rattle.pb_engines.specs.declared.status.Status.{Status}
 use Rattle.pb_engines.specs.declared.status.Status.TheVariants.{Done, Refused}
@@ -29,5 +29,5 @@ claim_lines program claims =
 -- what is said of a text: it spells no program; or it spells one, whose claims are told, whatever its capital
 pub data SaysOfClaims (text : List ℕ) : List ℕ → Status → Type 0 where
   refused : (refusal : List ℕ) → RefusesEarly text refusal → SaysOfClaims text (line refusal) Refused
-  claimed : (program : Program) (claims : Table) → IsNumbered text program claims
+  claimed : (program : Program) (claims : Table) → IsReadAs text program claims
       → SaysOfClaims text (claim_lines program claims) Done

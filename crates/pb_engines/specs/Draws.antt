@@ -16,8 +16,8 @@ use Rattle.rand_pcg.specs.Pcg.{multiplier_64, pcg32}
 abbrev pub drawn_number : Lcg → List Pick → ℕ
 drawn_number generator picks = (pcg32 generator).0 % length picks
 
--- the generator draws this pick from the list: the next word falls on it; or on one that is not enabled, which is struck
--- out, and the pick is drawn from the rest
+-- the generator draws this pick from the list: the next word falls on it; or on one that is not enabled,
+-- which is struck out, and the pick is drawn from the rest
 pub data Draws (code : Code) (s : State CodeProcess) : Lcg → List Pick → Pick → Lcg → Type 0 where
   hit : (generator : Lcg) (picks : List Pick) (pick : Pick) → slice_get picks (drawn_number generator picks) ≡ Some pick
       → Draws code s generator picks pick (pcg32 generator).1
@@ -43,7 +43,8 @@ IsDrawn code s generator NotEnabled after = ⊤
 abbrev pub generator_of : ℕ → Lcg
 generator_of seed = started 64 multiplier_64 seed (increment_of 64 54)
 
--- picks of the code, one after another from the start, each drawn from the candidates to which those before it have led
+-- picks of the code, one after another from the start, each drawn from the candidates to which those before
+-- it have led
 pub data DrawsRun (code : Code) (first : Lcg) : List Pick → State CodeProcess → Lcg → Type 0 where
   opening : DrawsRun code first [] (code_opening code) first
   one_more : (picks : List Pick) (before after : State CodeProcess) (now next : Lcg) (pick : Pick) (event : Option Event)

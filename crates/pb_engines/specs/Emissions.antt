@@ -1,12 +1,12 @@
 -- What `emit` says of an input, and with which status.
 use Rattle.std.specs.Prelude.{ℕ, List, codes}
-use Rattle.pb_object.specs.Answers.{Spells, SpellsOne}
+use Rattle.pb_object.specs.Answers.{SpellsCode, SpellsOne}
 use Rattle.pb_object.specs.Formats.{FitsFirst}
 use Rattle.pb_code.specs.Whole.{Code, ProcessLabels}
 use Rattle.pb_object.specs.declared.format.Format.{Format}
 use Rattle.pb_object.specs.declared.format.Format.TheVariants.{One, Two}
 use Rattle.pb_codegen.specs.Compiled.{IsCompiled}
-use Rattle.pb_engines.specs.Answers.{line}
+use Rattle.pb_base.specs.Lines.{line}
 use Rattle.pb_engines.specs.Refusals.{SaysOfRefusedText}
 use Rattle.pb_engines.specs.declared.status.Status.{Status}
 use Rattle.pb_engines.specs.declared.status.Status.TheVariants.{Done, Refused}
@@ -14,7 +14,7 @@ use Rattle.pb_engines.specs.declared.status.Status.TheVariants.{Done, Refused}
 -- the text is the code's in this format, with its labels; the first format has none
 abbrev pub IsWrittenIn : Format → Code → List ProcessLabels → List ℕ → Type 0
 IsWrittenIn One code labels text = SpellsOne code text
-IsWrittenIn Two code labels text = Spells Two code labels text
+IsWrittenIn Two code labels text = SpellsCode Two code labels text
 
 -- what is said of compiled code: its text in the format asked for; or, if that is the first, that this
 -- can't say it

@@ -8,7 +8,8 @@ use Rattle.pb_engines.specs.declared.status.Status.TheVariants.{Device}
 abbrev pub TellsWriteFaults : (old new : ℕ) → Status → Type 0
 TellsWriteFaults old new status = (status ≢ Device → new ≡ old) × (status ≡ Device → new ≡ one_more_failure old)
 
--- the devices of a call: how many reads of its input and writes of its output have failed, and what was written
+-- the devices of a call: how many reads of its input and writes of its output have failed, and what was
+-- written
 pub record Devices : Type 0 where
   pub reads : ℕ
   pub writes : ℕ

@@ -1,6 +1,6 @@
 -- What `migrate` says of an input, and with which status.
 use Rattle.std.specs.Prelude.{ℕ, List}
-use Rattle.pb_object.specs.Answers.{Spells}
+use Rattle.pb_object.specs.Answers.{SpellsCode}
 use Rattle.pb_code.specs.Whole.{Code, ProcessLabels}
 use Rattle.pb_object.specs.declared.format.Format.TheVariants.{Two}
 use Rattle.pb_engines.specs.Loading.{IsLoaded, SaysOfNoCode}
@@ -13,4 +13,4 @@ pub data SaysOfMigration (bytes : List ℕ) : List ℕ → Status → Type 0 whe
   no_code : (text : List ℕ) (status : Status) → SaysOfNoCode bytes text status
       → SaysOfMigration bytes text status
   migrated : (code : Code) (labels : List ProcessLabels) → IsLoaded bytes code labels
-      → (text : List ℕ) → Spells Two code labels text → SaysOfMigration bytes text Done
+      → (text : List ℕ) → SpellsCode Two code labels text → SaysOfMigration bytes text Done

@@ -1,5 +1,6 @@
 -- What `record` wrote can be replayed, and a seed decides it.
 use Rattle.std.specs.Prelude.{◌≡◌, ◌≢◌, ◌⊎◌, ℕ, ◌<◌, ◌≤◌, List, Option, Some, length}
+use Rattle.pb_base.specs.declared.limits.TheConstants.{MAX_PICKS, MAX_TEXT}
 use Rattle.pb_code.specs.Whole.{Code, ProcessLabels}
 use Rattle.pb_codegen.specs.Compiled.{IsCompiled}
 use Rattle.pb_history.specs.declared.counted.CountedPick.{CountedPick}
@@ -10,8 +11,8 @@ use Rattle.pb_engines.specs.ReplayLines.{SaysOfReplay}
 use Rattle.pb_engines.specs.declared.status.Status.{Status}
 use Rattle.pb_engines.specs.declared.status.Status.TheVariants.{Done, Refused}
 
--- the text is the recorded one, ended by a line feed; the lines say the picks of a run of its code, the drawn one if there
--- is a seed
+-- the text is the recorded one, ended by a line feed; the lines say the picks of a run of its code, the drawn
+-- one if there is a seed
 pub record HoldsRun (steps : ℕ) (seed : Option ℕ) (bytes text lines : List ℕ) : Type 0 where
   pub ended : IsEnded bytes text
   pub code : Code
@@ -21,17 +22,17 @@ pub record HoldsRun (steps : ℕ) (seed : Option ℕ) (bytes text lines : List �
   pub recorded : IsRecorded code steps seed picks
   pub said : SpellsPicks code lines picks
 
--- an input is cut by `replay` into the recorded text and the picks of its run, and no line or pick of them is refused;
--- nor is the text, unless the line feed behind it made it longer than a text may be
+-- an input is cut by `replay` into the recorded text and the picks of its run, and no line or pick of them is
+-- refused; nor is the text, unless the line feed behind it made it longer than a text may be
 pub record CanBeReplayed (steps : ℕ) (seed : Option ℕ) (bytes whole : List ℕ) : Type 0 where
   pub cut : (text lines : List ℕ) → AreTwoParts whole text lines → HoldsRun steps seed bytes text lines
-  pub replayed : (length bytes < 65536) ⊎ EndsLine bytes
+  pub replayed : (length bytes < MAX_TEXT) ⊎ EndsLine bytes
       → (said : List ℕ) (status : Status) → SaysOfReplay whole said status → status ≢ Refused
 
 -- what `record` wrote can be replayed
 abbrev pub RecordsCanBeReplayed : Type 0
 RecordsCanBeReplayed =
-    (steps : ℕ) (seed : Option ℕ) (bytes whole : List ℕ) → steps ≤ 10000000 → SaysOfRecord steps seed bytes whole Done
+    (steps : ℕ) (seed : Option ℕ) (bytes whole : List ℕ) → steps ≤ MAX_PICKS → SaysOfRecord steps seed bytes whole Done
     → CanBeReplayed steps seed bytes whole
 
 -- two records of one text with one seed are the same bytes

@@ -15,12 +15,12 @@ use Rattle.pb_claims.specs.Fits.{FitCapital}
 use Rattle.pb_object.specs.declared.fault.ObjectFault.{ObjectFault}
 use Rattle.pb_object.specs.declared.fault.ObjectFault.TheVariants as object
 use Rattle.pb_codegen.specs.Compiled.{IsRefused}
-use Rattle.pb_codegen.specs.Numbered.{IsNumbered}
+use Rattle.pb_codegen.specs.Numbered.{IsReadAs}
 use Rattle.pb_codegen.specs.declared.fault.ClaimsFault.{ClaimsFault}
 use Rattle.pb_codegen.specs.declared.fault.CompileFault.TheVariants.{Lex, Parse, Names, Claims}
 use Rattle.pb_verifier.specs.declared.fault.VerifyFault.{VerifyFault}
 use Rattle.pb_verifier.specs.declared.fault.VerifyFault.TheVariants as verify
-use Rattle.pb_engines.specs.Answers.{line}
+use Rattle.pb_base.specs.Lines.{line}
 use Rattle.pb_engines.specs.declared.accept.Refusal.{Refusal}
 use Rattle.pb_engines.specs.declared.accept.Refusal.TheVariants.{Line, NoMemory}
 use Rattle.pb_engines.specs.declared.status.Status.{Status}
@@ -86,7 +86,7 @@ pub data RefusesWith (text : List ℕ) : List ℕ → Type 0 where
 pub record IsAcceptedText (text : List ℕ) : Type 0 where
   pub program : Program
   pub claims : Table
-  pub numbered : IsNumbered text program claims
+  pub numbered : IsReadAs text program claims
   pub enough : FitCapital claims (capital_of program)
 
 -- a refusal is by the line of the first fault, or out of memory

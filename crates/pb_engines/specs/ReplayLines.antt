@@ -1,7 +1,7 @@
 -- What `replay` says of an input, and with which status.
 use Rattle.std.specs.Prelude.{◌≡◌, ◌++◌, ℕ, List, Option, Some, None, codes, length, take}
 use Rattle.pb_base.specs.declared.event.Event.{Event}
-use Rattle.pb_base.specs.Lines.{NameTable}
+use Rattle.pb_base.specs.Lines.{NameTable, line}
 use Rattle.pb_base.specs.Steppers.{State}
 use Rattle.pb_code.specs.Code.{CodeProcess}
 use Rattle.pb_code.specs.Whole.{Code, ProcessLabels}
@@ -15,7 +15,7 @@ use Rattle.pb_names.specs.Meaning.{SourceCan}
 use Rattle.pb_picks.specs.PickLines.{IsFaulty, SpellsPicks}
 use Rattle.pb_picks.specs.declared.fault.PickFault.{PickFault}
 use Rattle.pb_picks.specs.declared.fault.PickFault.TheVariants as picks
-use Rattle.pb_engines.specs.Answers.{line, memory_line}
+use Rattle.pb_engines.specs.Answers.{memory_line}
 use Rattle.pb_engines.specs.Parts.{AreTwoParts}
 use Rattle.pb_engines.specs.Refusals.{RefusesWith, at_place}
 use Rattle.pb_engines.specs.Runs.{HasFault, IsDone, event_lines}
@@ -24,7 +24,8 @@ use Rattle.pb_engines.specs.declared.replay.LinesFault.TheVariants.{NotRead, Not
 use Rattle.pb_engines.specs.declared.status.Status.{Status}
 use Rattle.pb_engines.specs.declared.status.Status.TheVariants.{Done, Fault, Memory, Refused}
 
--- the lines say picks, and these, each enabled in turn from the start, make these entries and lead to this state
+-- the lines say picks, and these, each enabled in turn from the start, make these entries and lead to this
+-- state
 pub record AreReplayed (code : Code) (lines : List ℕ) (entries : List Entry) (end : State CodeProcess) : Type 0 where
   pub counted : List CountedPick
   pub spelled : SpellsPicks code lines counted
@@ -71,8 +72,8 @@ pub data IsStatusAt (end : State CodeProcess) : Status → Type 0 where
   some_fault : HasFault end → IsStatusAt end Fault
   no_fault : ¬ HasFault end → IsStatusAt end Done
 
--- what is said of picks that made these events and led to this state: the line of each event and the last line; or, if
--- memory runs out, the lines of the first of them, and then `memory`
+-- what is said of picks that made these events and led to this state: the line of each event and the last
+-- line; or, if memory runs out, the lines of the first of them, and then `memory`
 pub data SaysOfEvents (names : NameTable) (events : List Event) (end : State CodeProcess) : List ℕ → Status → Type 0 where
   all_told : (last : List ℕ) → IsLastLine end last → (status : Status) → IsStatusAt end status
       → SaysOfEvents names events end (event_lines names events ++ line last) status
@@ -87,8 +88,9 @@ pub data SaysOfLines (code : Code) (lines : List ℕ) : List ℕ → Status → 
       → (said : List ℕ) (status : Status) → SaysOfEvents code.names (events_of entries) end said status
       → SaysOfLines code lines said status
 
--- what is said of an input, which is a text and pick lines behind it: its text is refused; or the text is accepted,
--- and its lines or their picks are refused; or all picks are made, and their events are told, of which the program can make the same with as many picks
+-- what is said of an input, which is a text and pick lines behind it: its text is refused; or the text is
+-- accepted, and its lines or their picks are refused; or all picks are made, and their events are told, of
+-- which the program can make the same with as many picks
 pub data SaysOfReplay (bytes : List ℕ) : List ℕ → Status → Type 0 where
   no_text : (text lines : List ℕ) → AreTwoParts bytes text lines
       → (refusal : List ℕ) → RefusesWith text refusal → SaysOfReplay bytes (line refusal) Refused

@@ -7,7 +7,8 @@ use Rattle.pb_names.specs.Meaning.{SourceCan}
 use Rattle.pb_workers.specs.Reports.{IsReport}
 use Rattle.pb_workers.specs.declared.report.Report.{Report}
 
--- the events that workers report of compiled code are events that the program of the text can make, with as many picks
+-- the events that workers report of compiled code are events that the program of the text can make, with as
+-- many picks
 abbrev pub ReportsFollowTheSource : Type 0
 ReportsFollowTheSource =
     (text : List ℕ) (code : Code) (labels : List ProcessLabels) (compiled : IsCompiled text code labels)

@@ -4,13 +4,13 @@ use Rattle.std.specs.Fmt.{decimal}
 use Rattle.std.specs.List.{flat_map}
 use Rattle.pb_base.specs.declared.event.Event.{Event}
 use Rattle.pb_base.specs.declared.pick.Pick.{Pick}
-use Rattle.pb_base.specs.Lines.{NameTable, line_of}
+use Rattle.pb_base.specs.Lines.{NameTable, line_of, line}
 use Rattle.pb_base.specs.Steppers.{State, Makes, IsFinished}
 use Rattle.pb_code.specs.Code.{CodeProcess, code_step, code_over}
 use Rattle.pb_code.specs.Whole.{Code, ProcessLabels, bank_of, code_opening}
 use Rattle.pb_codegen.specs.Compiled.{IsCompiled}
 use Rattle.pb_names.specs.Meaning.{SourceCan}
-use Rattle.pb_engines.specs.Answers.{line, memory_line}
+use Rattle.pb_engines.specs.Answers.{memory_line}
 use Rattle.pb_engines.specs.Refusals.{RefusesWith}
 use Rattle.pb_engines.specs.declared.status.Status.{Status}
 use Rattle.pb_engines.specs.declared.status.Status.TheVariants.{Done, Refused, Limit, Fault, Memory, Device, Threads}
@@ -53,14 +53,14 @@ pub data SaysOfRun (code : Code) (steps : ℕ) (events : List Event) : ℕ → L
 
 -- what is said of a text: it is refused; or it is accepted, and some run of its code is told, of which the
 -- program can make the same events with as many picks
-pub data SaysOf (steps : ℕ) (bytes : List ℕ) : List ℕ → Status → Type 0 where
-  refused : (refusal : List ℕ) → RefusesWith bytes refusal → SaysOf steps bytes (line refusal) Refused
+pub data SaysOfTextRun (steps : ℕ) (bytes : List ℕ) : List ℕ → Status → Type 0 where
+  refused : (refusal : List ℕ) → RefusesWith bytes refusal → SaysOfTextRun steps bytes (line refusal) Refused
   accepted : (code : Code) (labels : List ProcessLabels) (compiled : IsCompiled bytes code labels)
       (events : List Event) (n : ℕ) (text : List ℕ) (status : Status)
       → SaysOfRun code steps events n text status → SourceCan compiled.program events n
-      → SaysOf steps bytes text status
+      → SaysOfTextRun steps bytes text status
 
 -- what is said of some run of the code
-abbrev pub SaysOfCode : Code → ℕ → List ℕ → Status → Type 0
-SaysOfCode code steps text status =
+abbrev pub SaysOfCodeRun : Code → ℕ → List ℕ → Status → Type 0
+SaysOfCodeRun code steps text status =
     (events : List Event) × (n : ℕ) × SaysOfRun code steps events n text status

@@ -24,7 +24,7 @@ StepsSome code before (Did pick event) after = CodeMoves code before pick (Some 
 StepsSome code before NotEnabled after = IsDone before × (after ≡ before)
 
 -- no more silent picks were made than this
-abbrev pub IsWithin : ℕ → Next → Type 0
-IsWithin most (Silent pick made) = made ≤ most
-IsWithin most (Did pick event) = ⊤
-IsWithin most NotEnabled = ⊤
+abbrev pub MakesAtMost : ℕ → Next → Type 0
+MakesAtMost most (Silent pick made) = made ≤ most
+MakesAtMost most (Did pick event) = ⊤
+MakesAtMost most NotEnabled = ⊤

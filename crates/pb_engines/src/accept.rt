@@ -4,7 +4,7 @@ ghost use Rattle.pb_engines.specs.Answers.{Tells};
 ghost use Rattle.pb_engines.specs.Inputs.{SaysOfInput};
 ghost use Rattle.pb_engines.specs.Refusals.{IsEarlyRefusal, IsRefusal, RefusesEarly, RefusesWith, SaysOfRefusedText};
 ghost use Rattle.pb_codegen.specs.Compiled.{IsBeforeClaims, IsCompiled, IsRefused};
-ghost use Rattle.pb_codegen.specs.Numbered.{IsNumbered};
+ghost use Rattle.pb_codegen.specs.Numbered.{IsReadAs};
 ghost use Rattle.pb_names.specs.View.{resolved_view};
 ghost use Rattle.pb_engines.specs.Faults.{TellsWriteFaults};
 
@@ -14,6 +14,7 @@ use crate::status::Status;
 use bumpalo::Bump;
 use pb_base::NoMemory;
 use pb_base::device::Output;
+use pb_base::limits::MAX_INPUT;
 use pb_codegen::{Analysis, CompileFault, Compiled, analyze, compile};
 use std::alloc::{Allocator, Global};
 
@@ -58,7 +59,7 @@ pub fn analyze_text<A: Allocator + Clone>(
     trees: A,
     text: &[u8],
 ) -> Result<Analysis<A>, Refusal>
-    ensures analyzed { IfOk result (λ a. IsNumbered text.now (resolved_view a.program) a.claims) }
+    ensures analyzed { IfOk result (λ a. IsReadAs text.now (resolved_view a.program) a.claims) }
     ensures refused { IfErr result (IsEarlyRefusal text.now) }
 {
     match analyze(alloc, trees, text) {
@@ -104,7 +105,7 @@ fn refusal_reply(refusal: Refusal) -> Result<Reply, NoMemory>
 
 /// Writes the line of a refusal, or `memory` if there is no memory for it.
 pub fn refuse<O: Output>(alloc: Global, refusal: Refusal, output: &mut O) -> Status
-    ensures text { (text : List ℕ) → length text ≤ 4194304 → IsRefusal text refusal
+    ensures text { (text : List ℕ) → length text ≤ MAX_INPUT → IsRefusal text refusal
         → Tells (SaysOfInput SaysOfRefusedText text) (O.written output.old) (O.written output.new) result }
     ensures faults { TellsWriteFaults (O.failures output.old) (O.failures output.new) result }
 {

@@ -2,7 +2,7 @@
 ghost use Rattle.std.specs.Prelude.{◌≡◌, ◌+◌, ◌%◌, ◌<◌, IfOk, OnOk, length};
 ghost use Rattle.pb_engines.specs.Choices.{AreCandidatesBefore, AreCandidates};
 ghost use Rattle.pb_engines.specs.Draws.{IsDrawn, generator_of};
-ghost use Rattle.pb_engines.specs.Schedule.{IsWithin, StepsSome};
+ghost use Rattle.pb_engines.specs.Schedule.{MakesAtMost, StepsSome};
 ghost use Rattle.pb_machine.specs.Views.{machine_view, IsMachineOf};
 ghost use Rattle.pb_verifier.specs.Verified.{IsVerified};
 ghost use Rattle.rand_pcg.specs.Pcg.{pcg32};
@@ -46,7 +46,7 @@ impl Chooser {
             StepsSome verified.now.code (machine_view machine.old) next (machine_view machine.new)) }
         ensures drawn { IfOk result (λ next.
             IsDrawn verified.now.code (machine_view machine.old) self.old.generator next self.new.generator) }
-        ensures within { IfOk result (IsWithin 1) }
+        ensures within { IfOk result (MakesAtMost 1) }
     {
         step_drawn(machine, verified, &mut self.generator, &mut self.candidates)
     }
@@ -67,7 +67,7 @@ fn step_drawn(
         StepsSome verified.now.code (machine_view machine.old) next (machine_view machine.new)) }
     ensures drawn { IfOk result (λ next.
         IsDrawn verified.now.code (machine_view machine.old) generator.old next generator.new) }
-    ensures within { IfOk result (IsWithin 1) }
+    ensures within { IfOk result (MakesAtMost 1) }
 {
     find_candidates(machine, verified, candidates)?;
     while !candidates.is_empty() {

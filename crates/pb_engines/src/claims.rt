@@ -15,6 +15,7 @@ use crate::reply::{Reply, refused, tell};
 use crate::status::Status;
 use bumpalo::Bump;
 use pb_base::device::{Input, Output};
+use pb_base::limits::MAX_INPUT;
 use pb_base::{Claims, NoMemory};
 use pb_names::{Resolved, Resource};
 use std::alloc::{Allocator, Global};
@@ -89,7 +90,7 @@ fn claims_reply(alloc: Global, text: &[u8]) -> Result<Reply, NoMemory>
 
 // Writes the reply to a text.
 fn tell_claims<O: Output>(alloc: Global, text: &[u8], output: &mut O) -> Status
-    requires { length text.now ≤ 4194304 }
+    requires { length text.now ≤ MAX_INPUT }
     ensures text { Tells (SaysOfInput SaysOfClaims text.now) (O.written output.old) (O.written output.new) result }
     ensures faults { TellsWriteFaults (O.failures output.old) (O.failures output.new) result }
 {

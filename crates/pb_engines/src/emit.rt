@@ -14,6 +14,7 @@ use crate::reply::{Reply, refused, tell};
 use crate::status::Status;
 use pb_base::NoMemory;
 use pb_base::device::{Input, Output};
+use pb_base::limits::MAX_INPUT;
 use pb_codegen::Compiled;
 use pb_object::{Format, fits_first_format, write_object, write_object2};
 use pb_options::EmitOptions;
@@ -65,7 +66,7 @@ fn object(alloc: Global, format: Format, compiled: &Compiled) -> Result<Reply, N
 
 // Writes the object of a text.
 fn emit_text<O: Output>(alloc: Global, format: Format, text: &[u8], output: &mut O) -> Status
-    requires { length text.now ≤ 4194304 }
+    requires { length text.now ≤ MAX_INPUT }
     ensures text { Tells (SaysOfInput (SaysOfEmission format) text.now) (O.written output.old) (O.written output.new) result }
     ensures faults { TellsWriteFaults (O.failures output.old) (O.failures output.new) result }
 {
@@ -79,8 +80,8 @@ fn emit_text<O: Output>(alloc: Global, format: Format, text: &[u8], output: &mut
     }
 }
 
-/// Compiles the text that the input holds and writes its object in the format asked for. For a text
-/// that is refused it writes the refusal line; for one whose code has more than 32 processes, or takes several
+/// Compiles the text that the input holds and writes its object in the format asked for. For a text that is
+/// refused it writes the refusal line; for one whose code has more than 32 processes, or takes several
 /// resources at once, the line `refused E1` if the first format was asked for.
 ///
 /// After a read that failed nothing is written; after a write that failed, a first part of what was being

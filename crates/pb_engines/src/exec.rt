@@ -11,6 +11,7 @@ use crate::reply::tell;
 use crate::report::tell_run;
 use crate::status::Status;
 use pb_base::device::{Input, Output};
+use pb_base::limits::MAX_INPUT;
 use pb_options::RunOptions;
 use std::alloc::Global;
 use std::sync::Wait;
@@ -24,7 +25,7 @@ fn run_object<O: Output, R: Threads + Wait + Sync>(
     bytes: &[u8],
     output: &mut O,
 ) -> Status
-    requires { length bytes.now ≤ 4194304 }
+    requires { length bytes.now ≤ MAX_INPUT }
     ensures text { Tells (SaysOfInput (SaysOfExecution options.steps) bytes.now) (O.written output.old) (O.written output.new) result }
     ensures faults { TellsWriteFaults (O.failures output.old) (O.failures output.new) result }
 {
@@ -40,9 +41,9 @@ fn run_object<O: Output, R: Threads + Wait + Sync>(
 }
 
 /// Runs the object that the input holds, in either format, by worker threads: writes the line of each event,
-/// and at the end `done`, or `limit` with the number of steps if they were used up before. Bytes that are not an
-/// object, or whose code is not safe, are refused with their refusal line. If a thread could not be started
-/// the line is `threads`.
+/// and at the end `done`, or `limit` with the number of steps if they were used up before. Bytes that are not
+/// an object, or whose code is not safe, are refused with their refusal line. If a thread could not be
+/// started the line is `threads`.
 ///
 /// After a read that failed nothing is written; after a write that failed, a first part of what was being
 /// said.

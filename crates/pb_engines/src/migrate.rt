@@ -5,7 +5,7 @@ ghost use Rattle.pb_engines.specs.Inputs.{SaysOfInput};
 ghost use Rattle.pb_engines.specs.Migrations.{SaysOfMigration};
 ghost use Rattle.pb_engines.specs.Faults.{TellsFaults, TellsWriteFaults};
 ghost use Rattle.pb_code.specs.View.{code_view, labels_view};
-ghost use Rattle.pb_object.specs.Answers.{HasText, Spells};
+ghost use Rattle.pb_object.specs.Answers.{HasText, SpellsCode};
 ghost use Rattle.pb_object.specs.declared.format.Format.TheVariants.{Two};
 
 use crate::input::read_input;
@@ -14,6 +14,7 @@ use crate::reply::{Reply, tell};
 use crate::status::Status;
 use pb_base::NoMemory;
 use pb_base::device::{Input, Output};
+use pb_base::limits::MAX_INPUT;
 use pb_code::{Code, Labels};
 use pb_object::write_object2;
 use std::alloc::Global;
@@ -36,7 +37,7 @@ fn migration(alloc: Global, bytes: &[u8]) -> Result<Reply, NoMemory>
 // Returns the second format of this code, with these labels.
 fn second_format(alloc: Global, code: &Code, labels: &Labels) -> Result<Reply, NoMemory>
     requires { HasText Two (code_view code.now) (labels_view labels.now) }
-    ensures { IfOk result (λ reply. Spells Two (code_view code.now) (labels_view labels.now) reply.text.items × (reply.status ≡ Status.Done)) }
+    ensures { IfOk result (λ reply. SpellsCode Two (code_view code.now) (labels_view labels.now) reply.text.items × (reply.status ≡ Status.Done)) }
 {
     let text = write_object2(alloc, code, labels)?;
     Ok(Reply {
@@ -47,7 +48,7 @@ fn second_format(alloc: Global, code: &Code, labels: &Labels) -> Result<Reply, N
 
 // Writes the reply to the bytes of an object.
 fn tell_migration<O: Output>(alloc: Global, bytes: &[u8], output: &mut O) -> Status
-    requires { length bytes.now ≤ 4194304 }
+    requires { length bytes.now ≤ MAX_INPUT }
     ensures text { Tells (SaysOfInput SaysOfMigration bytes.now) (O.written output.old) (O.written output.new) result }
     ensures faults { TellsWriteFaults (O.failures output.old) (O.failures output.new) result }
 {

@@ -7,6 +7,7 @@ use crate::choice::Chooser;
 use crate::open::Open;
 use crate::schedule::Next;
 use pb_base::NoMemory;
+use pb_base::limits::MAX_PICKS;
 use pb_history::{CountedPick, Trace};
 use pb_machine::Machine;
 use pb_options::RunOptions;
@@ -18,7 +19,7 @@ use std::sync::Wait;
 use std::thread::Threads;
 
 /// The most counted picks that an input can have, since the line of each takes at least 5 bytes.
-const MOST_LINES: usize = 838_860;
+const MAX_LINES: usize = 838_860;
 
 /// Returns the picks of a run of the code by workers; nothing if their lines would be too long for an input.
 /// The numbers of workers, quantum and steps are never the fault.
@@ -50,13 +51,13 @@ pub fn report_picks<R: Threads + Wait + Sync>(
 
 // Returns the picks of a trace; nothing as soon as they are too many for an input.
 fn count_picks(alloc: Global, trace: &Trace) -> Result<Option<Vec<CountedPick>>, NoMemory>
-    requires { length trace.now.entries ≤ 10000000 }
+    requires { length trace.now.entries ≤ MAX_PICKS }
     ensures { IfOk result (λ picks. MatchOption picks (AreTooMany trace.now.entries)
         (λ picks. AreCounts trace.now.entries picks.items)) }
 {
     let mut picks = Vec::new(alloc);
     for i in 0..trace.spans_len() {
-        if picks.len() > MOST_LINES {
+        if picks.len() > MAX_LINES {
             return Ok(None);
         }
         let span = trace.span(i);
@@ -74,7 +75,7 @@ pub fn draw_picks(
     verified: &Verified,
 ) -> Result<Option<Vec<CountedPick>>, NoMemory>
     requires verified { IsVerified verified.now }
-    requires steps { steps ≤ 10000000 }
+    requires steps { steps ≤ MAX_PICKS }
     ensures { IfOk result (λ picks. MatchOption picks (IsTooLong verified.now.code steps (Some seed))
         (λ picks. IsRecorded verified.now.code steps (Some seed) picks.items)) }
 {
@@ -83,7 +84,7 @@ pub fn draw_picks(
     let mut picks = Vec::new(alloc);
     let mut left = steps;
     while left > 0 {
-        if picks.len() > MOST_LINES {
+        if picks.len() > MAX_LINES {
             return Ok(None);
         }
         match chooser.step(&mut machine, verified)? {

@@ -1,6 +1,7 @@
 //! The command `record`, over any input and output.
 ghost use Rattle.std.specs.Prelude.{◌≡◌, ◌≢◌, ◌↔◌, ◌≤◌, IfErr, IfOk, IfSome, IsTrue, MatchOption, codes, length};
-ghost use Rattle.pb_engines.specs.Answers.{Tells, line};
+ghost use Rattle.pb_base.specs.Lines.{line};
+ghost use Rattle.pb_engines.specs.Answers.{Tells};
 ghost use Rattle.pb_engines.specs.Faults.{TellsFaults, TellsWriteFaults};
 ghost use Rattle.pb_engines.specs.Inputs.{SaysOfInput};
 ghost use Rattle.pb_engines.specs.Records.{EndsLine, IsEnded, IsRecorded, IsTooLong, SaysOfRecord, SaysOfRecording};
@@ -8,12 +9,13 @@ ghost use Rattle.pb_engines.specs.declared.status.Status.TheVariants.{Refused};
 ghost use Rattle.pb_verifier.specs.Verified.{IsVerified};
 
 use crate::accept::{compile_text, refuse};
-use crate::input::{LONGEST_INPUT, read_input};
+use crate::input::read_input;
 use crate::picks::{draw_picks, report_picks};
 use crate::reply::{Reply, refused, tell};
 use crate::status::Status;
 use pb_base::NoMemory;
 use pb_base::device::{Input, Output};
+use pb_base::limits::MAX_INPUT;
 use pb_history::CountedPick;
 use pb_options::RecordOptions;
 use pb_picks::write_picks;
@@ -58,7 +60,7 @@ fn record_text<O: Output, R: Threads + Wait + Sync>(
     text: &[u8],
     output: &mut O,
 ) -> Status
-    requires { length text.now ≤ 4194304 }
+    requires { length text.now ≤ MAX_INPUT }
     ensures text { Tells (SaysOfInput (SaysOfRecord options.run.steps options.seed) text.now)
         (O.written output.old) (O.written output.new) result }
     ensures faults { TellsWriteFaults (O.failures output.old) (O.failures output.new) result }
@@ -96,7 +98,7 @@ fn recording<R: Threads + Wait + Sync>(
     };
     whole.extend_from_slice(b"%%\n")?;
     write_picks(&mut whole, &code.names, &picks)?;
-    if whole.len() > LONGEST_INPUT {
+    if whole.len() > MAX_INPUT {
         return too_long(alloc);
     }
     Ok(Reply {

@@ -19,6 +19,7 @@ use crate::refusal::{picks_text, stop_text};
 use crate::reply::{Reply, refused, tell};
 use crate::status::Status;
 use pb_base::device::{Input, Output};
+use pb_base::limits::MAX_INPUT;
 use pb_base::{Names, NoMemory};
 use pb_history::replay::replay_counted;
 use pb_history::{ReplayFault, Trace};
@@ -37,8 +38,8 @@ pub enum LinesFault {
 }
 
 /// Makes the picks that the pick lines behind the text of the input say, from the start of the text: writes
-/// the line of each event, and then `done` if every process has ended or faulted, else `open`. A line `%%`
-/// is between the text and the pick lines. For a text, lines or picks that are refused it writes their refusal
+/// the line of each event, and then `done` if every process has ended or faulted, else `open`. A line `%%` is
+/// between the text and the pick lines. For a text, lines or picks that are refused it writes their refusal
 /// line alone.
 ///
 /// The status is `Fault` if a process faulted. After a read that failed nothing is written; after a write
@@ -59,7 +60,7 @@ pub fn replay_engine<I: Input, O: Output>(alloc: Global, input: &mut I, output: 
 
 // Makes the picks that the lines behind a text say.
 fn replay_text<O: Output>(alloc: Global, bytes: &[u8], output: &mut O) -> Status
-    requires { length bytes.now ≤ 4194304 }
+    requires { length bytes.now ≤ MAX_INPUT }
     ensures text { Tells (SaysOfInput SaysOfReplay bytes.now) (O.written output.old) (O.written output.new) result }
     ensures faults { TellsWriteFaults (O.failures output.old) (O.failures output.new) result }
 {

@@ -1,6 +1,7 @@
 //! A whole answer of a command, and how it is written.
 ghost use Rattle.std.specs.Prelude.{◌≡◌, ◌≢◌, IfErr, IfOk, OnErr};
-ghost use Rattle.pb_engines.specs.Answers.{Says, line, memory_line};
+ghost use Rattle.pb_base.specs.Lines.{line};
+ghost use Rattle.pb_engines.specs.Answers.{Says, memory_line};
 ghost use Rattle.pb_engines.specs.declared.status.Status.TheVariants.{Device};
 ghost use Rattle.pb_engines.specs.Faults.{TellsWriteFaults};
 

@@ -1,10 +1,11 @@
 //! A run by workers, told line by line.
 ghost use Rattle.std.specs.Prelude.{◌≡◌, ◌++◌, codes};
 ghost use Rattle.std.specs.Fmt.{decimal};
-ghost use Rattle.pb_engines.specs.Answers.{line, Says, Tells};
+ghost use Rattle.pb_base.specs.Lines.{line};
+ghost use Rattle.pb_engines.specs.Answers.{Says, Tells};
 ghost use Rattle.pb_engines.specs.Faults.{TellsWriteFaults};
 ghost use Rattle.pb_engines.specs.Outcomes.{SaysOfOutcome};
-ghost use Rattle.pb_engines.specs.Runs.{SaysOfCode};
+ghost use Rattle.pb_engines.specs.Runs.{SaysOfCodeRun};
 ghost use Rattle.pb_history.specs.Entries.{events_of};
 ghost use Rattle.pb_workers.specs.Reports.{IsReport};
 
@@ -30,7 +31,7 @@ pub fn tell_run<O: Output, R: Threads + Wait + Sync>(
     options: RunOptions,
     output: &mut O,
 ) -> Status
-    ensures text { Tells (SaysOfCode verified.now.code options.steps) (O.written output.old) (O.written output.new) result }
+    ensures text { Tells (SaysOfCodeRun verified.now.code options.steps) (O.written output.old) (O.written output.new) result }
     ensures faults { TellsWriteFaults (O.failures output.old) (O.failures output.new) result }
 {
     let run = run_workers(
@@ -60,7 +61,7 @@ fn tell_report<O: Output>(
     output: &mut O,
 ) -> Status
     requires { IsReport verified.now.code steps report.now }
-    ensures text { Tells (SaysOfCode verified.now.code steps) (O.written output.old) (O.written output.new) result }
+    ensures text { Tells (SaysOfCodeRun verified.now.code steps) (O.written output.old) (O.written output.new) result }
     ensures faults { TellsWriteFaults (O.failures output.old) (O.failures output.new) result }
 {
     let code = verified.code();

@@ -2,7 +2,7 @@
 ghost use Rattle.std.specs.Prelude.{◌≡◌, ◌≤◌, ◌⊎◌, IfSome, length};
 ghost use Rattle.pb_engines.specs.Answers.{Tells};
 ghost use Rattle.pb_engines.specs.Inputs.{SaysOfInput};
-ghost use Rattle.pb_engines.specs.Runs.{SaysOf};
+ghost use Rattle.pb_engines.specs.Runs.{SaysOfTextRun};
 ghost use Rattle.pb_engines.specs.Faults.{TellsFaults, TellsWriteFaults};
 
 use crate::accept::{compile_text, refuse};
@@ -10,6 +10,7 @@ use crate::input::read_input;
 use crate::report::tell_run;
 use crate::status::Status;
 use pb_base::device::{Input, Output};
+use pb_base::limits::MAX_INPUT;
 use pb_options::RunOptions;
 use std::alloc::Global;
 use std::sync::Wait;
@@ -29,7 +30,7 @@ pub fn run_engine<I: Input, O: Output, R: Threads + Wait + Sync>(
     output: &mut O,
 ) -> Status
     ensures text { IfSome (I.rest input.old) (λ bytes.
-        Tells (SaysOfInput (SaysOf options.steps) bytes) (O.written output.old) (O.written output.new) result) }
+        Tells (SaysOfInput (SaysOfTextRun options.steps) bytes) (O.written output.old) (O.written output.new) result) }
     ensures faults { TellsFaults
         (record { reads = I.failures input.old; writes = O.failures output.old; written = O.written output.old })
         (record { reads = I.failures input.new; writes = O.failures output.new; written = O.written output.new })
@@ -49,8 +50,8 @@ fn run_text<O: Output, R: Threads + Wait + Sync>(
     text: &[u8],
     output: &mut O,
 ) -> Status
-    requires { length text.now ≤ 4194304 }
-    ensures text { Tells (SaysOfInput (SaysOf options.steps) text.now) (O.written output.old) (O.written output.new) result }
+    requires { length text.now ≤ MAX_INPUT }
+    ensures text { Tells (SaysOfInput (SaysOfTextRun options.steps) text.now) (O.written output.old) (O.written output.new) result }
     ensures faults { TellsWriteFaults (O.failures output.old) (O.failures output.new) result }
 {
     match compile_text(alloc, text) {

@@ -1,6 +1,6 @@
 //! Picks of one arm, made if the arm can go on.
 ghost use Rattle.std.specs.Prelude.{◌≤◌};
-ghost use Rattle.pb_engines.specs.Schedule.{IsWithin, StepsArm};
+ghost use Rattle.pb_engines.specs.Schedule.{MakesAtMost, StepsArm};
 ghost use Rattle.pb_machine.specs.Views.{machine_view, IsMachineOf};
 
 use pb_base::{Event, Pick, Step};
@@ -18,14 +18,14 @@ pub enum Next {
     NotEnabled,
 }
 
-/// Makes a pick, and if that shows nothing, those behind it of the same arm that show nothing either, at most `max` in
-/// all.
+/// Makes a pick, and if that shows nothing, those behind it of the same arm that show nothing either, at most
+/// `max` in all.
 pub fn step_arm(machine: &mut Machine, verified: &Verified, pick: Pick, max: u32) -> Next
     requires machine { IsMachineOf verified.now machine.old }
     requires max { 1 ≤ max }
     ensures machine { IsMachineOf verified.now machine.new }
     ensures step { StepsArm verified.now.code (machine_view machine.old) pick result (machine_view machine.new) }
-    ensures within { IsWithin max result }
+    ensures within { MakesAtMost max result }
 {
     match machine.look(verified, pick) {
         Look::Stays => Next::NotEnabled,

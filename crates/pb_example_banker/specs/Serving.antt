@@ -27,8 +27,9 @@ IsAnswer s r NotNow next =
     IsKnown s r × (IsOverClaim s r.job (asked r) → ⊥) × (IsAllowed s r.job (asked r) → ⊥) × (next ≡ s)
 IsAnswer s r OverClaim next = IsHopeless s r × (next ≡ s)
 
--- from the first state on each request in turn is granted exactly if it is allowed then, and waits unless it is hopeless;
--- the lists have those that were granted, that wait and that are hopeless, each in the order of the requests
+-- from the first state on each request in turn is granted exactly if it is allowed then, and waits unless it
+-- is hopeless; the lists have those that were granted, that wait and that are hopeless, each in the order of
+-- the requests
 pub data Serves (first : BankerState) : (requests granted waiting hopeless : List Request) → BankerState → Type 0 where
   none : Serves first [] [] [] [] first
   grants : (requests granted waiting hopeless : List Request) (r : Request) (s : BankerState)

@@ -96,7 +96,8 @@ fn main(rt: HostRuntime) -> Result<()> {
     let capital = Capital::new(alloc, &[1, 1])?;
     let claims = Claims::new(alloc, &[&[1, 1], &[1, 1], &[1, 0]])?;
     let mut banker = Banker::new(alloc, &capital, &claims)?;
-    // Two jobs need the same tape, device 0, and the same disk, device 1, in opposite order; a third is greedy.
+    // Two jobs need the same tape, device 0, and the same disk, device 1, in opposite order; a third is
+    // greedy.
     let requests = [
         Request::new(1, 1, 1),
         Request::new(0, 0, 1),
@@ -106,7 +107,8 @@ fn main(rt: HostRuntime) -> Result<()> {
     ];
     let mut round = serve(alloc, &mut banker, &requests)?;
     tell(&rt, &round)?;
-    // In this order each job can have by its turn all that it claims. It ends, and all that it had comes back.
+    // In this order each job can have by its turn all that it claims. It ends, and all that it had comes
+    // back.
     for job in &banker.order(alloc)? {
         banker.drop_all(usize::from(*job));
         println!(rt; "job {job} ends")?;

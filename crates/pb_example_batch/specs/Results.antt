@@ -30,8 +30,8 @@ last_print job events = result_from job None events
 abbrev pub last_prints : (jobs : ℕ) → List Event → List (Option ℤ)
 last_prints jobs events = map (λ job. last_print job events) (range_with_len 0 jobs)
 
--- picks of the code lead from its start to a state in which every job has ended or faulted, and the results are what each
--- job printed last, in the order of the jobs
+-- picks of the code lead from its start to a state in which every job has ended or faulted, and the results
+-- are what each job printed last, in the order of the jobs
 pub record AreResults (code : Code) (results : List (Option ℤ)) : Type 0 where
   pub entries : List Entry
   pub end : State CodeProcess

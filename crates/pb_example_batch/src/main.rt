@@ -21,7 +21,7 @@ use std::sync::atomic::{AtomicU64, Ordering};
 use std::thread::Threads;
 
 /// The longest text of a batch, in bytes.
-const LONGEST: usize = 65_536;
+const MAX_TEXT: usize = 65_536;
 
 /// The most picks that the jobs make in all.
 const LIMIT: u32 = 1_000_000;
@@ -109,7 +109,7 @@ fn run_batch<G: Gate, R: Threads + Wait + Sync>(
 
 fn main(rt: HostRuntime) -> Result<()> {
     let alloc = rt.alloc();
-    let text = read_whole(alloc, &mut StandardInput::new(rt.stdin()), LONGEST)?;
+    let text = read_whole(alloc, &mut StandardInput::new(rt.stdin()), MAX_TEXT)?;
     let compiled = compile(alloc, alloc, text.as_slice())?;
     let code = compiled.verified();
     let gate = Turns {

@@ -12,9 +12,9 @@ ghost use Rattle.pb_verifier.specs.Verified.{IsVerified};
 
 use anyhow::Result;
 use pb_base::device::{Output, StandardInput, StandardOutput, read_whole, write_all};
+use pb_base::limits::MAX_INPUT;
 use pb_base::{Pick, Step, event_line};
 use pb_machine::Machine;
-use pb_object::object::MAX_TEXT;
 use pb_object::read_any;
 use pb_verifier::{Verified, verify};
 use std::alloc::Global;
@@ -61,8 +61,8 @@ fn step(machine: &mut Machine, verified: &Verified) -> Step
     Step::NotEnabled
 }
 
-/// Runs the plan, writes the line of each event, and returns the number of picks. Fewer than `limit` were made only if
-/// every job has ended or faulted.
+/// Runs the plan, writes the line of each event, and returns the number of picks. Fewer than `limit` were
+/// made only if every job has ended or faulted.
 fn run<O: Output>(
     alloc: Global,
     verified: &Verified,
@@ -91,7 +91,7 @@ fn run<O: Output>(
 
 fn main(rt: HostRuntime) -> Result<()> {
     let alloc = rt.alloc();
-    let object = read_whole(alloc, &mut StandardInput::new(rt.stdin()), MAX_TEXT)?;
+    let object = read_whole(alloc, &mut StandardInput::new(rt.stdin()), MAX_INPUT)?;
     let (code, _labels) = read_any(alloc, object.as_slice())?;
     let verified = verify(alloc, code).map_err(|(_, fault)| fault)?;
     let mut machine = Machine::new(alloc, &verified)?;

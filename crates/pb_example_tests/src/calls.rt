@@ -12,7 +12,7 @@ use std::sync::Wait;
 use std::thread::Threads;
 
 /// The longest output that is expected, in bytes.
-const LONGEST: usize = 4_096;
+const MAX_OUTPUT: usize = 4_096;
 
 /// A command with what it is told.
 pub enum Command {
@@ -49,7 +49,7 @@ pub fn first_wrong(
 }
 
 fn is_as_expected(rt: &(impl AllocGlobal + Threads + Wait + Sync), call: &Call) -> bool {
-    match MemoryOutput::new(rt.alloc(), LONGEST) {
+    match MemoryOutput::new(rt.alloc(), MAX_OUTPUT) {
         Ok(mut output) => {
             let status = status_of(rt, call, &mut output);
             status == Some(call.status) && output.as_slice() == call.output

@@ -4,8 +4,8 @@ use Rattle.std.specs.Fmt.{decimal}
 use Rattle.pb_lexer.specs.Cutting.{line_at}
 use Rattle.pb_excerpts.specs.declared.place.Place.{Place}
 
--- the place of an offset: its line and its column, both from 1, and where that line begins and ends: no line feed is
--- between these, and one, or an end of the text, is on each side
+-- the place of an offset: its line and its column, both from 1, and where that line begins and ends: no line
+-- feed is between these, and one, or an end of the text, is on each side
 pub record IsPlace (text : List ℕ) (offset : ℕ) (place : Place) : Type 0 where
   pub there : place.at ≡ offset
   pub line : place.line ≡ line_at text offset
@@ -18,7 +18,8 @@ pub record IsPlace (text : List ℕ) (offset : ℕ) (place : Place) : Type 0 whe
   pub first : (place.begin ≡ 0) ⊎ ((0 < place.begin) × (slice_index text (place.begin - 1) ≡ 10))
   pub last : (place.end ≡ length text) ⊎ (slice_index text place.end ≡ 10)
 
--- a byte as it is shown: itself if it is printable or a tab, a space for a carriage return, and else a question mark
+-- a byte as it is shown: itself if it is printable or a tab, a space for a carriage return, and else a
+-- question mark
 abbrev pub shown_byte : ℕ → ℕ
 shown_byte b = if (b == 9) || (nat_le 32 b && nat_le b 126) then b else (if b == 13 then 32 else 63)
 

@@ -11,8 +11,9 @@ use std::alloc::Global;
 // The most bytes that are shown of a line on each side of a place.
 const WIDTH: usize = 100;
 
-/// Returns the place of a byte of a text, or of its end, as a message shows it: its line and column, with a label before
-/// them, and the line of the text with a mark under the byte. Of a long line 100 bytes on each side are shown.
+/// Returns the place of a byte of a text, or of its end, as a message shows it: its line and column, with a
+/// label before them, and the line of the text with a mark under the byte. Of a long line 100 bytes on each
+/// side are shown.
 pub fn show_place(
     alloc: Global,
     label: &[u8],
@@ -114,8 +115,8 @@ fn put_mark(out: &mut Vec<u8>, text: &[u8], place: &Place) -> Result<(), NoMemor
     Ok(())
 }
 
-/// Returns bytes as a message shows them: a carriage return as a space, and a question mark for each other byte that is
-/// neither printable nor a tab.
+/// Returns bytes as a message shows them: a carriage return as a space, and a question mark for each other
+/// byte that is neither printable nor a tab.
 pub fn printable(alloc: Global, bytes: &[u8]) -> Result<Vec<u8>, NoMemory>
     ensures { IfOk result (λ shown. shown.items ≡ map shown_byte bytes.now) }
 {

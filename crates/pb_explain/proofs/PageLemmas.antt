@@ -8,7 +8,7 @@ use Rattle.pb_engines.specs.declared.status.Status.{Status}
 use Rattle.pb_engines.specs.declared.status.Status.TheVariants.{Memory}
 use Rattle.pb_refusals.specs.declared.code.Code.{Code}
 use Rattle.pb_explain.specs.Entries.{entry_of}
-use Rattle.pb_explain.specs.Pages.{SaysOfExplain, first_line, list_of_codes, no_memory}
+use Rattle.pb_explain.specs.Pages.{SaysOfExplain, title_line, list_of_codes, no_memory}
 
 pub told_explanation : (asked : Option Code) (reply : Result Reply NoMemory) (old new : Option (List ℕ)) (answered : Status)
     → IfOk reply (λ r. SaysOfExplain asked r.text.items r.status)

@@ -2,7 +2,8 @@
 use Rattle.std.specs.Prelude.{◌++◌, ◌∷◌, ℕ, List, [], Option, Some, None, codes}
 use Rattle.std.specs.Fmt.{decimal}
 use Rattle.std.specs.List.{flat_map}
-use Rattle.pb_engines.specs.Answers.{line, memory_line}
+use Rattle.pb_base.specs.Lines.{line}
+use Rattle.pb_engines.specs.Answers.{memory_line}
 use Rattle.pb_engines.specs.declared.status.Status.{Status}
 use Rattle.pb_engines.specs.declared.status.Status.TheVariants.{Done, Memory}
 use Rattle.pb_refusals.specs.Codes.{all_codes, code_name}
@@ -11,8 +12,8 @@ use Rattle.pb_explain.specs.Entries.{entry_of}
 use Rattle.pb_explain.specs.Explanation.{Explanation, PlainExample, PlainInput, Text, Repeated}
 
 -- the first line of a page, and the line of a code on the list: the code and the meaning in a few words
-abbrev pub first_line : Code → Explanation → List ℕ
-first_line code entry = line (code_name code ++ codes ": " ++ entry.summary)
+abbrev pub title_line : Code → Explanation → List ℕ
+title_line code entry = line (code_name code ++ codes ": " ++ entry.summary)
 
 -- what makes the first line of an input and a line that is repeated
 abbrev pub repetition_text : List ℕ → ℕ → List ℕ
@@ -39,7 +40,7 @@ examples_text None = []
 
 -- the first line of a page, and the meaning
 abbrev pub meaning_text : Code → Explanation → List ℕ
-meaning_text code entry = first_line code entry ++ codes "\n" ++ line entry.meaning
+meaning_text code entry = title_line code entry ++ codes "\n" ++ line entry.meaning
 
 -- the page of a code: that, the example, and what to do
 abbrev pub page_of_entry : Code → Explanation → List ℕ
@@ -51,7 +52,7 @@ page_of code = page_of_entry code (entry_of code)
 
 -- a line for each code
 abbrev pub list_of_codes : List Code → List ℕ
-list_of_codes listed = flat_map (λ code. first_line code (entry_of code)) listed
+list_of_codes listed = flat_map (λ code. title_line code (entry_of code)) listed
 
 -- the page of the code that is asked for, or the list of all codes
 abbrev pub explanation_of : Option Code → List ℕ

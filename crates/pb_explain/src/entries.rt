@@ -10,8 +10,8 @@ mod texts;
 
 use pb_refusals::Code;
 
-/// What there is to say of the refusals with one code. Its texts are lines of at most 84 bytes, with no line feed
-/// behind the last one.
+/// What there is to say of the refusals with one code. Its texts are lines of at most 84 bytes, with no line
+/// feed behind the last one.
 #[derive(Clone, Copy, Debug)]
 pub struct Entry {
     /// The meaning in a few words.

@@ -1,9 +1,10 @@
 //! The command `explain`, over any output.
 ghost use Rattle.std.specs.Prelude.{◌≡◌, ◌++◌, IfOk, OnOk, option_map};
-ghost use Rattle.pb_engines.specs.Answers.{line as line_of, Tells};
+ghost use Rattle.pb_base.specs.Lines.{line as line_of};
+ghost use Rattle.pb_engines.specs.Answers.{Tells};
 ghost use Rattle.pb_engines.specs.Faults.{TellsWriteFaults};
 ghost use Rattle.pb_explain.specs.Explanation.{plain_entry, plain_example, plain_input, Text, Repeated};
-ghost use Rattle.pb_explain.specs.Pages.{example_text, examples_text, explanation_of, first_line, list_of_codes, meaning_text, page_of, page_of_entry, repetition_text, shell_text, SaysOfExplain};
+ghost use Rattle.pb_explain.specs.Pages.{example_text, examples_text, explanation_of, title_line, list_of_codes, meaning_text, page_of, page_of_entry, repetition_text, shell_text, SaysOfExplain};
 
 use crate::entries::{Entry, Example, ExampleInput, entry_for};
 use pb_base::NoMemory;
@@ -24,7 +25,7 @@ fn put_line(text: &mut Vec<u8>, line: &str) -> Result<(), NoMemory>
 
 // Puts the first line of a page behind a text.
 fn put_first_line(text: &mut Vec<u8>, code: Code, entry: &Entry) -> Result<(), NoMemory>
-    ensures { OnOk result (text.new.items ≡ text.old.items ++ first_line code (plain_entry entry.now)) }
+    ensures { OnOk result (text.new.items ≡ text.old.items ++ title_line code (plain_entry entry.now)) }
 {
     text.extend_from_slice(code.name().as_bytes())?;
     text.extend_from_slice(b": ")?;
@@ -161,8 +162,8 @@ fn explanation(alloc: Global, asked: Option<Code>) -> Result<Reply, NoMemory>
     })
 }
 
-/// Writes what refusals with a code mean, an example of one, and what to do about it; or, if no code is given, a line
-/// for each code, in the order of `Code::ALL`.
+/// Writes what refusals with a code mean, an example of one, and what to do about it; or, if no code is
+/// given, a line for each code, in the order of `Code::ALL`.
 ///
 /// After a write that failed a first part of it is written.
 pub fn explain_engine<O: Output>(alloc: Global, asked: Option<Code>, output: &mut O) -> Status

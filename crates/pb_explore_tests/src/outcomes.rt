@@ -7,16 +7,16 @@ use pb_explore::{
 };
 use std::alloc::Global;
 
-/// A text of one process, all its outcomes, each by the only integer of the process and whether it faulted, and whether
-/// some run never ends.
+/// A text of one process, all its outcomes, each by the only integer of the process and whether it faulted,
+/// and whether some run never ends.
 struct Case {
     text: &'static [u8],
     outcomes: &'static [(i64, bool)],
     cycles: bool,
 }
 
-/// A lost update; a fault that one order of two arms has and another has not; a run that never ends; a loop that ends; a
-/// loop that waits for another arm.
+/// A lost update; a fault that one order of two arms has and another has not; a run that never ends; a loop
+/// that ends; a loop that waits for another arm.
 const CASES: [Case; 5] = [
     Case {
         text: b"process p begin integer x; parbegin x := x + 1; x := x + 1 parend end",
@@ -107,8 +107,8 @@ fn tape_and_disk(rt: HostRuntime) {
     assert!(rt; both_end(rt.alloc(), Lending::ByCash) == Some(true));
 }
 
-/// Returns whether a process waits with this integer, holds one of a resource and none of the other, and its only
-/// request is for one of the other, by its first arm.
+/// Returns whether a process waits with this integer, holds one of a resource and none of the other, and its
+/// only request is for one of the other, by its first arm.
 fn is_waiting(process: &StuckProcess, integer: i64, holds: [u32; 2], wanted: u8) -> bool {
     process.state == StuckState::Waiting
         && process.integers.as_slice() == [integer].as_slice()
@@ -135,7 +135,8 @@ fn is_crossed(deadlock: &Deadlock) -> bool {
         && is_waiting(&deadlock.processes[1], 0, [0, 1], 0)
 }
 
-/// Returns how many deadlocks there are by the cash and under the banker, if the first one is of crossed devices.
+/// Returns how many deadlocks there are by the cash and under the banker, if the first one is of crossed
+/// devices.
 fn deadlocks_of_devices(alloc: Global) -> Option<(usize, usize)> {
     let compiled = compile(alloc, alloc, DEVICES).ok()?;
     let by_cash = explore_by(alloc, compiled.verified(), Lending::ByCash, 100_000).ok()?;
@@ -157,7 +158,8 @@ process p begin hold 1 of a do hold 1 of b do skip od od end
 process q begin hold 1 of b do hold 1 of c do skip od od end
 process r begin hold 1 of c do hold 1 of a do skip od od end";
 
-/// Returns how many deadlocks three philosophers have by the cash, and whether each process of the first one asks.
+/// Returns how many deadlocks three philosophers have by the cash, and whether each process of the first one
+/// asks.
 fn deadlocks_of_philosophers(alloc: Global) -> Option<(usize, bool)> {
     let compiled = compile(alloc, alloc, PHILOSOPHERS).ok()?;
     let told = explore_by(alloc, compiled.verified(), Lending::ByCash, 100_000).ok()?;
@@ -176,7 +178,8 @@ fn deadlock_of_philosophers(rt: HostRuntime) {
     assert!(rt; deadlocks_of_philosophers(rt.alloc()) == Some((1, true)));
 }
 
-/// A process that never ends, beside one that does: no outcome, and the search follows the picks of the first alone.
+/// A process that never ends, beside one that does: no outcome, and the search follows the picks of the first
+/// alone.
 const ENDLESS: &[u8] = b"process p begin while 1 do skip od end process q begin print 1 end";
 
 /// Returns whether the search tells so.

@@ -12,7 +12,7 @@ use Rattle.pb_code.specs.Code.{CodeProcess}
 use Rattle.pb_code.specs.Reached.{CodeMoves, CodeStays}
 use Rattle.pb_code.specs.Whole.{Code, code_opening}
 use Rattle.pb_machine.specs.Steps.{IsStep}
-use Rattle.pb_machine.proofs.Growing.{take_at}
+use Rattle.pb_machine.proofs.BuiltLists.{take_at}
 use Rattle.pb_history.specs.Entries.{Entry, picks_of, run_of, shown, silent_picks}
 use Rattle.pb_history.specs.Leads.{Leads}
 use Rattle.pb_history.specs.Replays.{EndsRun, IsReplay, IsRun, IsStopped, StopsAt, spread}
@@ -20,7 +20,7 @@ use Rattle.pb_history.specs.declared.counted.CountedPick.{CountedPick}
 use Rattle.pb_history.specs.declared.fault.ReplayFault.{ReplayFault}
 use Rattle.pb_history.specs.declared.fault.ReplayFault.TheVariants.{NotEnabled, NoMemory}
 use Rattle.pb_history.proofs.SpanEvents.{picks_shown, picks_silent, replicate_append, take_drop}
-use Rattle.pb_history.proofs.Leading.{leads_append, leads_more, replicate_more}
+use Rattle.pb_history.proofs.TraceSteps.{leads_append, leads_more, replicate_more}
 
 -- ---- picks that stop
 

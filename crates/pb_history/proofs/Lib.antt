@@ -1,8 +1,8 @@
 pub mod CountedPicks
-pub mod Leading
+pub mod NumberedBundles
 pub mod Positions
-pub mod Silence
+pub mod SilentLooks
 pub mod SpanEnds
 pub mod SpanEvents
 pub mod SpansOfEntries
-pub mod Wholes
+pub mod TraceSteps

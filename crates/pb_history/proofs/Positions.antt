@@ -11,11 +11,14 @@ use Rattle.pb_code.specs.Code.{CodeProcess, code_step}
 use Rattle.pb_code.specs.Reached.{CodeReaches, CodeMoves, CodeStays}
 use Rattle.pb_code.specs.Whole.{Code, bank_of, code_opening}
 use Rattle.pb_machine.specs.Steps.{IsStep}
-use Rattle.pb_machine.proofs.Growing.{take_at}
+use Rattle.pb_machine.proofs.BuiltLists.{take_at}
 use Rattle.pb_history.specs.Entries.{Entry, events_of, picks_of}
 use Rattle.pb_history.specs.Leads.{Leads}
-use Rattle.pb_history.proofs.Leading.{traces_make}
-use Rattle.pb_history.specs.Positions.{next_state, after, state_after, AreEnabled, ReplaysReachPositions}
+use Rattle.pb_history.proofs.TraceSteps.{traces_make}
+use Rattle.pb_history.specs.Positions.{next_state, after, state_after, AreEnabled, ReplaysReachPositions, IsAfter}
+use Rattle.pb_machine.specs.Views.{machine_view, IsMachineOf}
+use Rattle.pb_machine.specs.declared.machine.Machine.{Machine}
+use Rattle.pb_verifier.specs.Verified.{VerifiedCode}
 
 pub after-append : {P : Type 0} (step : Stepper P) (s : State P) (xs ys : List Pick)
     → after step s (xs ++ ys) ≡ after step (after step s xs) ys
@@ -146,3 +149,12 @@ pub replays_reach : ReplaysReachPositions
 replays_reach code picks entries end h =
     subst (λ (ps : List Pick). AreEnabled code ps × (end ≡ state_after code ps (length ps))) h.made
     (leads_enabled code entries end h.leads, leads_to code entries end h.leads)
+
+-- an enabled pick leads to the next position
+pub stands_next : (v : VerifiedCode) (picks : List Pick) (i : ℕ) (pick : Pick) (m m' : Machine) (result : Step) → AreEnabled v.code picks
+    → slice_get picks i ≡ Some pick → IsAfter v picks i m → IsStep v.code (machine_view m) pick result (machine_view m') → IsMachineOf v m'
+    → IsAfter v picks (i + 1) m'
+stands_next v picks i pick m m' result all there at h of =
+    let here = subst (λ (s : State CodeProcess). IsStep v.code s pick result (machine_view m')) at.state h in
+    let not = not_refused v.code picks all i pick result (machine_view m') there here in
+    record { machine = of; state = stepped_more v.code picks i pick result (machine_view m') there here not }

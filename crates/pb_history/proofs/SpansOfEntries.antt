@@ -8,6 +8,7 @@ use Rattle.pb_history.specs.Entries.{Entry, added, are_same, before, entries_of,
 use Rattle.pb_history.specs.Traces.{SilentPicksAddOneSpan}
 use Rattle.pb_history.specs.declared.span.Span.{Span}
 use Rattle.pb_code.proofs.NameTests.{both_true}
+use Rattle.pb_history.proofs.TraceSteps.{replicate_more}
 
 pub same_itself : (p : Pick) → are_same p p ≡ true
 same_itself p = grind (arith, nat_tests)
@@ -94,10 +95,6 @@ silent_before p (suc n) s rest same h =
     ap (before (silent p)) (silent_before p n s rest same h)
     ∙ (ap (λ (b : Bool). cond b (record s { count = s.count + n + 1 } ∷ []) (alone (silent p) ∷ (record s { count = s.count + n } ∷ []))) test
     ∙ ap (λ (k : ℕ). record s { count = k } ∷ []) (let e : s.count + n + 1 ≡ s.count + suc n = omega arith in e))
-
-replicate_more : {X : Type 0} (n : ℕ) (x : X) → replicate (suc n) x ≡ replicate n x ++ x ∷ []
-replicate_more zero x = refl
-replicate_more (suc n) x = ap (λ xs. x ∷ xs) (replicate_more n x)
 
 -- the entries of one span fall into that span
 pub spans_of_run : (p : Pick) (count : ℕ) (shows : Bool) (more : List Event) → 0 < count → length more ≡ marks shows

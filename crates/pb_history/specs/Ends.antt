@@ -28,8 +28,8 @@ goes_on [] pick = false
 goes_on (e ∷ []) pick = not e.shows && are_same e.pick pick
 goes_on (e ∷ (d ∷ ends)) pick = goes_on (d ∷ ends) pick
 
-abbrev pub row_of : Inside → SpanRow
-row_of s = record { spans = spans_from 0 s.ends.items; room = vec_capacity s.ends - vec_len s.ends }
+abbrev pub span_row : Inside → SpanRow
+span_row s = record { spans = spans_from 0 s.ends.items; room = vec_capacity s.ends - vec_len s.ends }
 
 abbrev pub AreRising : Inside → Type 0
 AreRising s = Rise 0 s.ends.items s.len

@@ -72,7 +72,8 @@ abbrev pub size : List Span → ℕ
 size [] = 0
 size (s ∷ spans) = s.count + size spans
 
--- the pick with number i, counted from 0, is of the span with number k; this is what that span has from there on
+-- the pick with number i, counted from 0, is of the span with number k; this is what that span has from there
+-- on
 pub record IsRest (spans : List Span) (i : ℕ) (rest : CountedPick) : Type 0 where
   pub k : ℕ
   pub span : Span

@@ -6,17 +6,13 @@ use Rattle.pb_code.specs.Code.{CodeProcess, code_step}
 use Rattle.pb_code.specs.Reached.{CodeMoves}
 use Rattle.pb_code.specs.Whole.{Code, bank_of}
 use Rattle.pb_history.specs.Entries.{Entry, events_of, picks_of, silent_picks}
-use Rattle.pb_machine.specs.Steps.{MakesSilently}
+use Rattle.pb_machine.specs.Steps.{MakesSilently, with_process}
 
 -- these picks, each enabled in turn, lead from one state to another, and each shows just what is beside it
 abbrev pub Leads : Code → State CodeProcess → List Entry → State CodeProcess → Type 0
 Leads code before [] after = after ≡ before
 Leads code before (e ∷ entries) after =
     (next : State CodeProcess) × CodeMoves code before e.pick e.event next × Leads code next entries after
-
--- the state with another process p
-abbrev pub with_process : State CodeProcess → ℕ → CodeProcess → State CodeProcess
-with_process s p process = record { processes = set s.processes p process; loans = s.loans }
 
 -- ---- laws
 

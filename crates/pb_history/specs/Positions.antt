@@ -7,6 +7,9 @@ use Rattle.pb_code.specs.Code.{CodeProcess, code_step}
 use Rattle.pb_code.specs.Whole.{Code, bank_of, code_opening}
 use Rattle.pb_history.specs.Entries.{Entry}
 use Rattle.pb_history.specs.Replays.{IsReplay}
+use Rattle.pb_machine.specs.Views.{machine_view, IsMachineOf}
+use Rattle.pb_machine.specs.declared.machine.Machine.{Machine}
+use Rattle.pb_verifier.specs.Verified.{VerifiedCode}
 
 -- the state that a pick leads to; one that is not enabled changes nothing
 abbrev pub next_state : {P : Type 0} → State P → Option (Move P) → State P
@@ -21,6 +24,11 @@ after step s (pick ∷ picks) = after step (next_state s (move_of step s pick)) 
 -- the state of the code at position i: after the first i picks, from the opening
 abbrev pub state_after : Code → List Pick → ℕ → State CodeProcess
 state_after code picks i = after (code_step code.processes) (code_opening code) (take i picks)
+
+-- a machine of the code in its state at position i
+pub record IsAfter (v : VerifiedCode) (picks : List Pick) (i : ℕ) (m : Machine) : Type 0 where
+  pub machine : IsMachineOf v m
+  pub state : machine_view m ≡ state_after v.code picks i
 
 -- each pick is enabled in turn
 pub record AreEnabled (code : Code) (picks : List Pick) : Type 0 where

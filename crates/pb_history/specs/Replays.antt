@@ -37,7 +37,8 @@ abbrev pub IsStopped : Code → List Pick → ReplayFault → Type 0
 IsStopped code picks (NotEnabled i) = StopsAt code picks i
 IsStopped code picks NoMemory = ⊤
 
--- behind the entries there were, a pick was made at most as often as its count says, and all of them lead to this state
+-- behind the entries there were, a pick was made at most as often as its count says, and all of them lead to
+-- this state
 pub record MakesSome (code : Code) (before after : List Entry) (counted : CountedPick) (end : State CodeProcess) : Type 0 where
   pub done : ℕ
   pub few : done ≤ counted.count

@@ -27,7 +27,8 @@ pub record IsTrace (t : Inside) : Type 0 where
 
 -- ---- a law
 
--- picks of one arm that show nothing make one span more, or none if the last span is of that arm and shows nothing
+-- picks of one arm that show nothing make one span more, or none if the last span is of that arm and shows
+-- nothing
 abbrev pub SilentPicksAddOneSpan : Type 0
 SilentPicksAddOneSpan =
     (entries : List Entry) (pick : Pick) (count : ℕ) → 0 < count

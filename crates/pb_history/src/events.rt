@@ -3,6 +3,7 @@
 ghost use Rattle.std.specs.Prelude.{◌≡◌, ◌-◌, ◌<◌, ◌≤◌, ◌++◌, ◌∷◌, [], length, slice_get, Some, OnOk};
 ghost use Rattle.pb_history.specs.Kept.{whole as whole_event};
 
+use pb_base::limits::MAX_PICKS;
 use pb_base::{Bundle, Event, FaultKind, NoMemory, Pick};
 use std::alloc::Global;
 use std::marker::Model;
@@ -89,7 +90,7 @@ impl Events {
     /// Adds an event.
     pub(crate) fn push(&mut self, event: Event)
         requires room { 0 < self.old.room }
-        requires few { length self.old.events < 10000000 }
+        requires few { length self.old.events < MAX_PICKS }
         ensures events { self.new.events ≡ self.old.events ++ event ∷ [] }
         ensures room { self.old.room - 1 ≤ self.new.room }
     {

@@ -19,8 +19,8 @@ pub fn replays_reach_positions()
     ensures { ReplaysReachPositions }
 {}
 
-/// Picks of one arm that show nothing, behind others, make one span more, or none if the last span is of that arm and
-/// shows nothing.
+/// Picks of one arm that show nothing, behind others, make one span more, or none if the last span is of that
+/// arm and shows nothing.
 pub fn silent_picks_add_one_span()
     ensures { SilentPicksAddOneSpan }
 {}

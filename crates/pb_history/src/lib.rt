@@ -1,4 +1,5 @@
-//! The history of a run: which picks were made and what each showed, kept in little room; and picks made once more.
+//! The history of a run: which picks were made and what each showed, kept in little room; and picks made once
+//! more.
 #![tactic(auto)]
 
 pub mod counted;

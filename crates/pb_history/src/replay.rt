@@ -10,19 +10,20 @@ ghost use Rattle.pb_machine.specs.Views.{machine_view, IsMachineOf};
 use crate::counted::CountedPick;
 use crate::fault::ReplayFault;
 use crate::trace::Trace;
+use pb_base::limits::MAX_PICKS;
 use pb_base::{Pick, Step};
 use pb_machine::Machine;
 use pb_verifier::Verified;
 use std::alloc::Global;
 
-/// Makes these picks in turn, from the start of the code: returns the machine after the last, and the trace of all.
-/// The fault is the first pick that is not enabled, or out of memory.
+/// Makes these picks in turn, from the start of the code: returns the machine after the last, and the trace
+/// of all. The fault is the first pick that is not enabled, or out of memory.
 pub fn replay(
     alloc: Global,
     verified: &Verified,
     picks: &[Pick],
 ) -> Result<(Machine, Trace), ReplayFault>
-    requires { length picks.now ≤ 10000000 }
+    requires { length picks.now ≤ MAX_PICKS }
     ensures replay { IfOk result (λ made.
         IsReplay verified.now.code picks.now made.1.entries (machine_view made.0)) }
     ensures machine { IfOk result (λ made. IsMachineOf verified.now made.0) }
@@ -41,14 +42,14 @@ pub fn replay(
     Ok((machine, trace))
 }
 
-/// Makes each of these picks as often as its count says: the same as `replay` of all the picks one by one, which are
-/// never spread out in memory.
+/// Makes each of these picks as often as its count says: the same as `replay` of all the picks one by one,
+/// which are never spread out in memory.
 pub fn replay_counted(
     alloc: Global,
     verified: &Verified,
     picks: &[CountedPick],
 ) -> Result<(Machine, Trace), ReplayFault>
-    requires { length (spread picks.now) ≤ 10000000 }
+    requires { length (spread picks.now) ≤ MAX_PICKS }
     ensures replay { IfOk result (λ made.
         IsReplay verified.now.code (spread picks.now) made.1.entries (machine_view made.0)) }
     ensures machine { IfOk result (λ made. IsMachineOf verified.now made.0) }
@@ -62,9 +63,9 @@ pub fn replay_counted(
     Ok((machine, trace))
 }
 
-/// Makes a pick as often as its count says, after those of the trace, which have led the machine to its state. The
-/// fault is the first pick that is not enabled, counted with those of the trace, or out of memory: then the picks
-/// before it, or some of them, have been made, and the trace has just those that were.
+/// Makes a pick as often as its count says, after those of the trace, which have led the machine to its
+/// state. The fault is the first pick that is not enabled, counted with those of the trace, or out of memory:
+/// then the picks before it, or some of them, have been made, and the trace has just those that were.
 pub fn repeat(
     verified: &Verified,
     machine: &mut Machine,
@@ -74,7 +75,7 @@ pub fn repeat(
     requires machine { IsMachineOf verified.now machine.old }
     requires leads { Leads verified.now.code (code_opening verified.now.code) trace.old.entries
         (machine_view machine.old) }
-    requires fits { length trace.old.entries + counted.count ≤ 10000000 }
+    requires fits { length trace.old.entries + counted.count ≤ MAX_PICKS }
     ensures picks { OnOk result (picks_of trace.new.entries
         ≡ picks_of trace.old.entries ++ replicate counted.count counted.pick) }
     ensures leads { OnOk result (Leads verified.now.code (code_opening verified.now.code) trace.new.entries
@@ -109,8 +110,8 @@ pub fn repeat(
     Ok(())
 }
 
-/// Makes picks of one arm, at most `max`, up to the first that is not silent: returns how many were silent before it,
-/// and what it came to. The machine makes all silent ones in one call.
+/// Makes picks of one arm, at most `max`, up to the first that is not silent: returns how many were silent
+/// before it, and what it came to. The machine makes all silent ones in one call.
 fn run(verified: &Verified, machine: &mut Machine, pick: Pick, max: u32) -> (u32, Step)
     requires { IsMachineOf verified.now machine.old }
     ensures run { IsRun verified.now.code (machine_view machine.old) pick max result.0 result.1

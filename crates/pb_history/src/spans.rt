@@ -6,6 +6,7 @@ ghost use Rattle.pb_history.specs.Ends.{goes_on};
 
 use crate::counted::CountedPick;
 use crate::span::{Span, are_same};
+use pb_base::limits::MAX_PICKS;
 use pb_base::{NoMemory, Pick};
 use std::alloc::Global;
 use std::marker::Model;
@@ -26,11 +27,11 @@ pub(crate) struct Spans {
 }
 
 impl Model for Spans {
-    ghost use Rattle.pb_history.specs.Ends.{SpanRow, row_of, AreRising};
+    ghost use Rattle.pb_history.specs.Ends.{SpanRow, span_row, AreRising};
 
     ghost Value = { SpanRow };
 
-    ghost view = { row_of };
+    ghost view = { span_row };
 
     ghost invariant = { AreRising };
 }
@@ -120,7 +121,7 @@ impl Spans {
     pub(crate) fn add(&mut self, span: Span)
         requires room { 0 < self.old.room }
         requires some { 0 < span.count }
-        requires fits { size self.old.spans + span.count ≤ 10000000 }
+        requires fits { size self.old.spans + span.count ≤ MAX_PICKS }
         ensures spans { self.new.spans ≡ added self.old.spans span }
         ensures room { self.old.room + length self.old.spans ≡ self.new.room + length self.new.spans }
     {

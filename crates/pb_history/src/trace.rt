@@ -7,6 +7,7 @@ use crate::counted::CountedPick;
 use crate::events::Events;
 use crate::span::Span;
 use crate::spans::Spans;
+use pb_base::limits::MAX_PICKS;
 use pb_base::{Event, NoMemory, Pick};
 use std::alloc::Global;
 use std::marker::Model;
@@ -111,7 +112,7 @@ impl Trace {
 
     /// Adds a pick, with its event or with none. If memory is refused the trace is unchanged.
     pub fn push(&mut self, pick: Pick, event: Option<Event>) -> Result<(), NoMemory>
-        requires { length self.old.entries < 10000000 }
+        requires { length self.old.entries < MAX_PICKS }
         ensures ok { OnOk result
             (self.new.entries ≡ self.old.entries ++ record { pick = pick; event = event } ∷ []) }
         ensures err { OnErr result (self.new.entries ≡ self.old.entries) }
@@ -127,7 +128,7 @@ impl Trace {
 
     /// Adds `count` picks of one arm that show nothing. If memory is refused the trace is unchanged.
     pub fn push_many(&mut self, pick: Pick, count: u32) -> Result<(), NoMemory>
-        requires { length self.old.entries + count ≤ 10000000 }
+        requires { length self.old.entries + count ≤ MAX_PICKS }
         ensures ok { OnOk result (self.new.entries ≡ self.old.entries ++ silent_picks pick count) }
         ensures err { OnErr result (self.new.entries ≡ self.old.entries) }
         ensures room { OnErr result (self.old.room ≤ self.new.room) }
@@ -140,7 +141,7 @@ impl Trace {
     /// Adds `count` picks of one arm that show nothing. There is room.
     pub fn push_silent(&mut self, pick: Pick, count: u32)
         requires room { 0 < self.old.room }
-        requires fits { length self.old.entries + count ≤ 10000000 }
+        requires fits { length self.old.entries + count ≤ MAX_PICKS }
         ensures entries { self.new.entries ≡ self.old.entries ++ silent_picks pick count }
         ensures room { self.old.room - 1 ≤ self.new.room }
     {
@@ -150,7 +151,7 @@ impl Trace {
     /// Adds a pick and its event. There is room.
     pub fn push_shown(&mut self, pick: Pick, event: Event)
         requires room { 0 < self.old.room }
-        requires fits { length self.old.entries < 10000000 }
+        requires fits { length self.old.entries < MAX_PICKS }
         ensures entries { self.new.entries
             ≡ self.old.entries ++ record { pick = pick; event = Some event } ∷ [] }
         ensures room { self.old.room - 1 ≤ self.new.room }
@@ -162,7 +163,7 @@ impl Trace {
     /// which shows it. There is room.
     pub fn push_run(&mut self, pick: Pick, silent: u32, event: Option<Event>)
         requires room { 0 < self.old.room }
-        requires fits { length self.old.entries + silent + length (option_to_list event) ≤ 10000000 }
+        requires fits { length self.old.entries + silent + length (option_to_list event) ≤ MAX_PICKS }
         ensures entries { self.new.entries ≡ self.old.entries ++ run_of pick silent event }
         ensures room { self.old.room - 1 ≤ self.new.room }
     {

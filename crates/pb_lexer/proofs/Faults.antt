@@ -3,13 +3,13 @@ use Rattle.std.proofs.Common.{◌≡◌, ◌<◌, ◌≤◌, ◌<ℤ◌, ◌≤�
 use Rattle.std.proofs.Common.{length, get_or, refl, sym, ap, ◌∙◌, subst, arith}
 use Rattle.std.proofs.lemmas.Bool.{cases_order}
 use Rattle.std.proofs.lemmas.Int.{ints}
+use Rattle.pb_base.specs.declared.limits.TheConstants.{MAX_NAME, MAX_NUMBER, MAX_TEXT}
 use Rattle.pb_lexer.specs.declared.error.LexFault.{LexFault}
 use Rattle.pb_lexer.specs.declared.error.LexFault.TheVariants as fault
 use Rattle.pb_lexer.specs.Tokens.{Lexeme, Name, Number, Fixed, Token}
 use Rattle.pb_lexer.specs.Forms.{is_allowed}
 use Rattle.pb_lexer.specs.Cutting.{IsToken, Piece, token, Cut, Fits, AllFit, AreTokensOf, Cause}
 use Rattle.pb_lexer.specs.Cutting.{no_byte_of_a_text, nothing_begins, large_number, long_name, First, Refuses}
-use Rattle.pb_lexer.specs.Cutting.{largest_number, longest_name, longest_text}
 use Rattle.pb_lexer.proofs.Bytes.{starts_allowed}
 use Rattle.pb_lexer.proofs.Cuttings.{Steps, here, step, steps_up, same_piece, same_token, compare_cuts}
 use Rattle.pb_lexer.proofs.Cuttings.{token_starts}
@@ -31,18 +31,18 @@ fit_before : {text : List ℕ} {at end : ℕ} {ts us : List Token} → Steps tex
 fit_before here h = h
 fit_before (step {ts = ts} {new = new} p s) h = fit_earlier ts new (fit_before s h)
 
-no_large : (l : Lexeme) (n : ℤ) → Fits l → l ≡ Number n → pos largest_number <ℤ n → ⊥
+no_large : (l : Lexeme) (n : ℤ) → Fits l → l ≡ Number n → pos MAX_NUMBER <ℤ n → ⊥
 no_large (Number m) n fits e large =
     let same : m ≡ n = cc in
-    let f : n ≤ℤ pos largest_number = subst (λ x. x ≤ℤ pos largest_number) same fits in
+    let f : n ≤ℤ pos MAX_NUMBER = subst (λ x. x ≤ℤ pos MAX_NUMBER) same fits in
     omega (arith, ints)
 no_large (Name x) n fits e large = cc
 no_large (Fixed m) n fits e large = cc
 
-no_long : (l : Lexeme) (x : List ℕ) → Fits l → l ≡ Name x → longest_name < length x → ⊥
+no_long : (l : Lexeme) (x : List ℕ) → Fits l → l ≡ Name x → MAX_NAME < length x → ⊥
 no_long (Name y) x fits e long =
     let same : y ≡ x = cc in
-    let f = subst (λ z. length z ≤ longest_name) same fits in
+    let f = subst (λ z. length z ≤ MAX_NAME) same fits in
     omega arith
 no_long (Number m) n fits e large = cc
 no_long (Fixed m) n fits e large = cc
@@ -82,7 +82,7 @@ none_before c fit le allowed place _ lt (long_name {t = t} {x = x} d tok is long
     no_long t.lexeme x (token_fits c fit (omega arith) d tok) is long
 
 -- a fault is the first cause
-pub refuses : {text : List ℕ} {at : ℕ} {e : LexFault} → length text ≤ longest_text → Cause text at e
+pub refuses : {text : List ℕ} {at : ℕ} {e : LexFault} → length text ≤ MAX_TEXT → Cause text at e
     → ((place : ℕ) (other : LexFault) → place < at → Cause text place other → ⊥) → Refuses text e
 refuses short (no_byte_of_a_text a b) none =
     record { short = short; cause = no_byte_of_a_text a b; none_earlier = none }
@@ -150,7 +150,7 @@ one_first {text = text} {p = p} {q = q} {e = e} {f = f} x y = elim (cases_order 
 
 -- what a refusal that is not for memory is
 data Ways (text : List ℕ) (e : LexFault) : Type 0 where
-  long : e ≡ fault.TooLong → longest_text < length text → Ways text e
+  long : e ≡ fault.TooLong → MAX_TEXT < length text → Ways text e
   first : {at : ℕ} → First text at e → Ways text e
 
 way : (text : List ℕ) (e : LexFault) → (e ≡ fault.NoMemory → ⊥) → Refuses text e → Ways text e

@@ -4,13 +4,14 @@ use Rattle.std.proofs.Common.{[], ◌∷◌, ◌++◌, length, get_or, refl, sym
 use Rattle.std.proofs.lemmas.List.Sums.{count_by_more_yes, count_by_more_no}
 use Rattle.std.proofs.lemmas.Bool.{cases_order}
 use Rattle.std.proofs.lemmas.Bool.Decides.{nat_tests}
+use Rattle.pb_base.specs.declared.limits.TheConstants.{MAX_TEXT}
 use Rattle.pb_lexer.specs.declared.token.Token.{Token as Given}
 use Rattle.pb_lexer.specs.declared.error.LexFault.{LexFault}
 use Rattle.pb_lexer.specs.declared.error.LexFault.TheVariants as fault
 use Rattle.pb_lexer.specs.Tokens.{Token, token as view, tokens}
 use Rattle.pb_lexer.specs.Forms.{is_allowed, is_blank}
 use Rattle.pb_lexer.specs.Cutting.{IsToken, IsComment, blank, comment, token, Cut, nothing, more, Fits}
-use Rattle.pb_lexer.specs.Cutting.{AllFit, Cause, no_byte_of_a_text, Refuses, longest_text}
+use Rattle.pb_lexer.specs.Cutting.{AllFit, Cause, no_byte_of_a_text, Refuses}
 use Rattle.pb_lexer.specs.Cutting.{line_at}
 use Rattle.pb_lexer.proofs.Spellings.{is_visible}
 use Rattle.pb_lexer.proofs.Bytes.{visible_allowed, no_visible_feed, blank_allowed, slice_here, slice_length}
@@ -147,12 +148,12 @@ token_over text at line end ts t x tok fits = record {
 -- ---- faults
 
 pub fault_here : (text : List ℕ) (at line : ℕ) (ts : List Token) (e : LexFault) → Lexed text at line ts
-    → length text ≤ longest_text → Cause text at e → Refuses text e
+    → length text ≤ MAX_TEXT → Cause text at e → Refuses text e
 fault_here text at line ts e x short cause =
     refuses short cause (none_before x.cut x.fit (omega arith) x.allowed)
 
 pub fault_in_comment : (text : List ℕ) (at line end bad : ℕ) (ts : List Token) → Lexed text at line ts
-    → length text ≤ longest_text → IsComment text at end
+    → length text ≤ MAX_TEXT → IsComment text at end
     → at ≤ bad → bad < end → is_allowed (get_or text bad 0) ≡ false
     → ((k : ℕ) → at ≤ k → k < bad → is_allowed (get_or text k 0) ≡ true)
     → Refuses text (fault.BadByte bad)

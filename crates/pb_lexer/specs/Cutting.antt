@@ -4,6 +4,7 @@ use Rattle.std.specs.Prelude.{◌≡◌, ◌<◌, ◌≤◌, ◌<ℤ◌, ◌≤�
 use Rattle.std.specs.Prelude.{List, [], ◌∷◌, ◌++◌, length, take, slice_index, slice_range, EachIndex}
 use Rattle.std.specs.Prelude.{Result, Ok, Err}
 use Rattle.std.specs.List.{count_by}
+use Rattle.pb_base.specs.declared.limits.TheConstants.{MAX_NAME, MAX_NUMBER, MAX_TEXT}
 use Rattle.pb_lexer.specs.declared.error.LexFault.{LexFault}
 use Rattle.pb_lexer.specs.declared.error.LexFault.TheVariants as fault
 use Rattle.pb_lexer.specs.Tokens.{Lexeme, Name, Number, Fixed, Token}
@@ -52,22 +53,10 @@ Cuts text ts = Cut text (length text) ts
 
 -- ---- limits
 
--- the most bytes of a text
-abbrev pub longest_text : ℕ
-longest_text = 65536
-
--- the most bytes of a name
-abbrev pub longest_name : ℕ
-longest_name = 32
-
--- the greatest number: 2 ^ 63 - 1
-abbrev pub largest_number : ℕ
-largest_number = 9223372036854775807
-
 -- a name or number within its limit
 abbrev pub Fits : Lexeme → Type 0
-Fits (Name x) = length x ≤ longest_name
-Fits (Number n) = n ≤ℤ pos largest_number
+Fits (Name x) = length x ≤ MAX_NAME
+Fits (Number n) = n ≤ℤ pos MAX_NUMBER
 Fits (Fixed m) = Unit {0}
 
 -- each token within its limit
@@ -77,7 +66,7 @@ AllFit (t ∷ ts) = Fits t.lexeme × AllFit ts
 
 -- the text is within all limits and is cut into these tokens
 pub record AreTokensOf (text : List ℕ) (ts : List Token) : Type 0 where
-  pub short : length text ≤ longest_text
+  pub short : length text ≤ MAX_TEXT
   pub allowed : EachIndex text (λ k. is_allowed (slice_index text k) ≡ true)
   pub cuts : Cuts text ts
   pub fit : AllFit ts
@@ -93,21 +82,21 @@ pub data Cause (text : List ℕ) (at : ℕ) : LexFault → Type 0 where
       → ((end : ℕ) (new : List Token) → Piece text at end new → ⊥)
       → Cause text at (fault.BadByte at)
   large_number : {ts : List Token} {end : ℕ} {t : Token} {n : ℤ} → Cut text at ts → IsToken text at end t
-      → t.lexeme ≡ Number n → pos largest_number <ℤ n
+      → t.lexeme ≡ Number n → pos MAX_NUMBER <ℤ n
       → Cause text at (fault.NumberTooLarge at)
   long_name : {ts : List Token} {end : ℕ} {t : Token} {x : List ℕ} → Cut text at ts → IsToken text at end t
-      → t.lexeme ≡ Name x → longest_name < length x
+      → t.lexeme ≡ Name x → MAX_NAME < length x
       → Cause text at (fault.NameTooLong at)
 
 -- the cause is at this place, and none is earlier
 pub record First (text : List ℕ) (at : ℕ) (e : LexFault) : Type 0 where
-  pub short : length text ≤ longest_text
+  pub short : length text ≤ MAX_TEXT
   pub cause : Cause text at e
   pub none_earlier : (place : ℕ) (other : LexFault) → place < at → Cause text place other → ⊥
 
 -- the text has this fault; memory may run out with any text
 abbrev pub Refuses : List ℕ → LexFault → Type 0
-Refuses text fault.TooLong = longest_text < length text
+Refuses text fault.TooLong = MAX_TEXT < length text
 Refuses text (fault.BadByte at) = First text at (fault.BadByte at)
 Refuses text (fault.NumberTooLarge at) = First text at (fault.NumberTooLarge at)
 Refuses text (fault.NameTooLong at) = First text at (fault.NameTooLong at)

@@ -6,7 +6,7 @@ ghost use Rattle.std.specs.Char.{is_ascii_alphabetic, is_ascii_digit};
 ghost use Rattle.pb_lexer.specs.Tokens.{tokens};
 ghost use Rattle.pb_lexer.specs.Tokens as spec_tokens;
 ghost use Rattle.pb_lexer.specs.Forms.{is_blank, spelling};
-ghost use Rattle.pb_lexer.specs.Cutting.{longest_text, line_at, IsComment, AreTokensOf, Refuses};
+ghost use Rattle.pb_lexer.specs.Cutting.{line_at, IsComment, AreTokensOf, Refuses};
 ghost use Rattle.pb_lexer.specs.Cutting.{ReturnsTokens, ReturnsFault};
 ghost use Rattle.pb_lexer.specs.Finding.{Finds};
 
@@ -14,13 +14,8 @@ use crate::error::LexFault;
 use crate::scan::{bad_byte, digits_end, is_blank, line_end, value, word_end};
 use crate::token::{Kind, Mark, Token};
 use crate::words::{reserved, symbol, symbol_of_two};
+use pb_base::limits::{MAX_NAME, MAX_TEXT};
 use std::alloc::Allocator;
-
-/// The most bytes of a text.
-pub const LONGEST_TEXT: usize = 65_536;
-
-/// The most bytes of a name.
-pub const LONGEST_NAME: usize = 32;
 
 /// Returns whether `//` is here.
 fn begins_comment(text: &[u8], at: usize) -> bool
@@ -50,7 +45,7 @@ fn word_at<'t>(text: &'t [u8], at: usize, line: u32) -> Result<Token<'t>, LexFau
             line,
         });
     }
-    if word.len() > LONGEST_NAME {
+    if word.len() > MAX_NAME {
         return Err(LexFault::NameTooLong(at));
     }
     Ok(Token {
@@ -137,9 +132,9 @@ fn token_at<'t>(text: &'t [u8], at: usize, line: u32) -> Result<Token<'t>, LexFa
 fn cut<'t, A: Allocator>(alloc: A, text: &'t [u8]) -> Result<Vec<Token<'t>, A>, LexFault>
     ensures found { IfOk result (λ v. AreTokensOf text.now (tokens v.items)) }
     ensures fault { IfErr result (λ e. Refuses text.now e) }
-    ensures long { longest_text < length text.now → result ≡ Err LexFault.TooLong }
+    ensures long { MAX_TEXT < length text.now → result ≡ Err LexFault.TooLong }
 {
-    if text.len() > LONGEST_TEXT {
+    if text.len() > MAX_TEXT {
         return Err(LexFault::TooLong);
     }
     let mut tokens = Vec::with_capacity(alloc, text.len() / 8)?;
@@ -187,7 +182,7 @@ pub fn lex<'t, A: Allocator>(alloc: A, text: &'t [u8]) -> Result<Vec<Token<'t>, 
     ensures exact { (e : LexFault) → (e ≡ LexFault.NoMemory → ⊥) → Refuses text.now e
         → ReturnsFault result e }
     // A text over the limit takes no memory.
-    ensures long { longest_text < length text.now → result ≡ Err LexFault.TooLong }
+    ensures long { MAX_TEXT < length text.now → result ≡ Err LexFault.TooLong }
 {
     cut(alloc, text)
 }

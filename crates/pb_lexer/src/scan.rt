@@ -4,7 +4,8 @@ ghost use Rattle.std.specs.Prelude.{◌≡◌, ◌<◌, ◌≤◌, ◌⊎◌, �
 ghost use Rattle.std.specs.Prelude.{MatchOption, length, slice_index, EachIndex};
 ghost use Rattle.std.specs.Char.{is_ascii_digit};
 ghost use Rattle.pb_lexer.specs.Forms.{is_allowed, is_blank, is_word, value};
-ghost use Rattle.pb_lexer.specs.Cutting.{largest_number};
+
+use pb_base::limits::MAX_NUMBER;
 
 /// Returns whether a text may have the byte.
 pub(crate) fn is_allowed(byte: u8) -> bool
@@ -87,23 +88,20 @@ pub(crate) fn bad_byte(text: &[u8], start: usize, end: usize) -> Option<usize>
     None
 }
 
-/// The greatest number.
-const LARGEST_NUMBER: u64 = 9_223_372_036_854_775_807;
-
 /// Returns the number that the digits say, if it is not too large.
 pub(crate) fn value(digits: &[u8]) -> Option<u64>
     requires { EachIndex digits.now (λ k. is_ascii_digit (slice_index digits.now k) ≡ true) }
     ensures { MatchOption result
-        (largest_number < value digits.now)
-        (λ n. (n ≡ value digits.now) × (n ≤ largest_number)) }
+        (MAX_NUMBER < value digits.now)
+        (λ n. (n ≡ value digits.now) × (n ≤ MAX_NUMBER)) }
 {
     let mut number = 0;
     for digit in digits {
-        if number > LARGEST_NUMBER / 10 {
+        if number > MAX_NUMBER / 10 {
             return None;
         }
         number = 10 * number + u64::from(*digit - b'0');
-        if number > LARGEST_NUMBER {
+        if number > MAX_NUMBER {
             return None;
         }
     }

@@ -10,9 +10,9 @@ use pb_base::{Event, Pick, Step};
 use pb_verifier::Verified;
 
 impl Proc {
-    /// Makes a pick, whatever it asks for being granted: who calls it lends what the process takes, and takes back
-    /// what it returns. A pick that is not enabled changes nothing. The process is in a state in which the code may
-    /// have it. No memory is taken.
+    /// Makes a pick, whatever it asks for being granted: who calls it lends what the process takes, and takes
+    /// back what it returns. A pick that is not enabled changes nothing. The process is in a state in which
+    /// the code may have it. No memory is taken.
     pub fn step(&mut self, verified: &Verified, pick: Pick) -> Step
         requires { IsProcessOf verified.now pick.process self.old }
         ensures step { IsStepAlone verified.now.code (proc_view self.old) pick result (proc_view self.new) }

@@ -4,7 +4,7 @@ ghost use Rattle.std.specs.Prelude.{◌≡◌, ◌≤◌, ℕ, ℤ, List, [], le
 ghost use Rattle.pb_base.specs.Steppers.{Bundle};
 ghost use Rattle.pb_code.specs.Code.{Compute1, Compute2, act, code_step, step_process};
 ghost use Rattle.pb_code.specs.View.{instr_view, process_view};
-ghost use Rattle.pb_machine.specs.Acts.{IsReady};
+ghost use Rattle.pb_machine.specs.Acts.{IsReadyThread};
 ghost use Rattle.pb_machine.specs.Looks.{look_of, peek_of};
 ghost use Rattle.pb_machine.specs.Ready.{AreReady};
 ghost use Rattle.pb_machine.specs.Views.{proc_view, rooms_of, IsProcessOf};
@@ -83,7 +83,7 @@ impl Proc {
 
 /// Returns what an instruction would come to beside these operands.
 fn peek_at(stack: &Stack, instr: Instr) -> Peek
-    requires { (integers : ℕ) × IsReady (instr_view [] instr) integers (length stack.now.items) stack.now.room }
+    requires { (integers : ℕ) × IsReadyThread (instr_view [] instr) integers (length stack.now.items) stack.now.room }
     ensures { (bundles : List Bundle) → (vars : List ℤ) → (place : ℕ)
         → option_map peek_of (act vars (instr_view bundles instr) place stack.now.items) ≡ Some result }
 {

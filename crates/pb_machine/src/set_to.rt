@@ -7,7 +7,8 @@ ghost use Rattle.pb_verifier.specs.Verified.{VerifiedCode, IsVerified};
 use crate::machine::Machine;
 
 impl Machine {
-    /// Takes over the state of all processes of a machine of the same code, and its banker's. No memory is taken.
+    /// Takes over the state of all processes of a machine of the same code, and its banker's. No memory is
+    /// taken.
     pub fn set_to(&mut self, other: &Machine)
         requires { (v : VerifiedCode) × IsVerified v × IsMachineOf v self.old × IsMachineOf v other.now }
         ensures state { machine_view self.new ≡ machine_view other.now }

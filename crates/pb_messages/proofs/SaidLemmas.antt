@@ -14,7 +14,7 @@ use Rattle.pb_picks.specs.PickLines.{IsFaulty, SpellsPicks}
 use Rattle.pb_picks.specs.declared.fault.PickFault.{PickFault}
 use Rattle.pb_messages.specs.Causes.{IsCauseOf}
 use Rattle.pb_messages.specs.Messages.{IsMessage, IsShown, message}
-use Rattle.pb_messages.specs.Said.{AreSaid, HasCode, HasNoMark, SaysMore, SaysOf, SaysOfFirstFormat, SaysOfLines, SaysOfPickedObject, SaysOfPickedText, SaysOfTexts, TellsObject, all, stopped, unread}
+use Rattle.pb_messages.specs.Said.{AreSaid, HasCode, HasNoMark, SaysMore, SaysByReading, SaysOfFirstFormat, SaysOfPickLines, SaysOfPickedObject, SaysOfPickedText, SaysOfTexts, TellsObject, all, stopped, unread}
 use Rattle.pb_messages.specs.declared.cause.Cause.{Cause}
 use Rattle.pb_messages.specs.declared.message.Reading.TheVariants.{Debugged}
 
@@ -39,24 +39,17 @@ module _ {W E : Type 0} (seen : W → List ℕ) where
   -- the message of lines that say no picks
   pub lines_told : (code : Code) (lines : List ℕ) (fault : PickFault) (cause : Cause) (made : Result W E) → IsFaulty code lines fault
       → IsCauseOf (picks_line fault) (Some cause) → IfOk made (λ told. IsMessage (codes "pick ") lines cause (seen told))
-      → IfOk made (λ told. SaysOfLines code lines (seen told))
+      → IfOk made (λ told. SaysOfPickLines code lines (seen told))
   lines_told code lines fault cause (Ok told) is caused message = unread fault cause (seen told) is caused message
   lines_told code lines fault cause (Err e) is caused message = message
 
   -- the message of a pick that is not enabled
   pub stop_told : (code : Code) (lines : List ℕ) (picks : List CountedPick) (number : ℕ) (at : Option ℕ) (made : Result W E)
       → SpellsPicks code lines picks → IsStopped code (spread picks) (NotEnabled number)
-      → IfOk made (λ told. IsMessageAt (codes "pick ") lines (codes "H1") at (seen told)) → IfOk made (λ told. SaysOfLines code lines (seen told))
+      → IfOk made (λ told. IsMessageAt (codes "pick ") lines (codes "H1") at (seen told)) → IfOk made (λ told. SaysOfPickLines code lines (seen told))
   stop_told code lines picks number at (Ok told) spelled is message =
       stopped picks number (seen told) spelled is (coded (codes "pick ") lines (codes "H1") at (seen told) message)
   stop_told code lines picks number at (Err e) spelled is message = message
-
-  -- the message of what the first format cannot say of a text
-  pub unsaid_told : (text : List ℕ) (made : Result W E)
-      → IfOk made (λ told. IsMessageAt [] text (codes "E1") None (seen told))
-      → IfOk made (λ told. (seen told ≡ []) ⊎ HasCode (codes "E1") (seen told))
-  unsaid_told text (Ok told) message = inr (coded [] text (codes "E1") None (seen told) message)
-  unsaid_told text (Err e) message = message
 
   -- what is said of an accepted text, of which the first format can say all or not
   pub format_told : (text : List ℕ) (code : Code) (labels : List ProcessLabels) (made : Result W E) → IsCompiled text code labels
@@ -67,7 +60,7 @@ module _ {W E : Type 0} (seen : W → List ℕ) where
   -- what is said of an object, pick lines and commands
   pub object_debugged : (bytes source rest lines commands : List ℕ) (made : Result W E) → AreTwoParts bytes source rest
       → AreTwoParts rest lines commands → take 4 source ≡ codes "PBO " → IfOk made (λ told. SaysOfPickedObject source lines (seen told))
-      → IfOk made (λ told. SaysOf Debugged bytes (seen told))
+      → IfOk made (λ told. SaysByReading Debugged bytes (seen told))
   object_debugged bytes source rest lines commands (Ok told) parts more object says =
       (source, rest, lines, commands, parts, more, inl (object, says))
   object_debugged bytes source rest lines commands (Err e) parts more object says = says
@@ -75,7 +68,7 @@ module _ {W E : Type 0} (seen : W → List ℕ) where
   -- what is said of a text, pick lines and commands
   pub text_debugged : (bytes source rest lines commands : List ℕ) (made : Result W E) → AreTwoParts bytes source rest
       → AreTwoParts rest lines commands → take 4 source ≢ codes "PBO " → IfOk made (λ told. SaysOfPickedText source lines (seen told))
-      → IfOk made (λ told. SaysOf Debugged bytes (seen told))
+      → IfOk made (λ told. SaysByReading Debugged bytes (seen told))
   text_debugged bytes source rest lines commands (Ok told) parts more text says =
       (source, rest, lines, commands, parts, more, inr (text, says))
   text_debugged bytes source rest lines commands (Err e) parts more text says = says

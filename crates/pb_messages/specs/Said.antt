@@ -1,10 +1,11 @@
 -- What is said to a person of an input that was refused.
 use Rattle.std.specs.Prelude.{◌≡◌, ◌≢◌, ◌<◌, ◌≤◌, ◌⊎◌, ◌++◌, ◌∷◌, ℕ, List, [], Some, codes, length, take}
+use Rattle.pb_base.specs.declared.limits.TheConstants.{MAX_INPUT}
 use Rattle.pb_base.specs.Steppers.{State, Table}
 use Rattle.pb_code.specs.Code.{CodeProcess}
 use Rattle.pb_code.specs.Whole.{Code, ProcessLabels}
 use Rattle.pb_codegen.specs.Compiled.{IsCompiled}
-use Rattle.pb_codegen.specs.Numbered.{IsNumbered}
+use Rattle.pb_codegen.specs.Numbered.{IsReadAs}
 use Rattle.pb_engines.specs.Loading.{IsLoadFault, IsLoaded, load_line}
 use Rattle.pb_engines.specs.Parts.{AreTwoParts, IsCutAt, IsMarkAt}
 use Rattle.pb_engines.specs.Refusals.{IsAcceptedText}
@@ -44,10 +45,11 @@ SaysOfText text said told = (IsAcceptedText text × (told ≡ said)) ⊎ TellsRe
 -- the same, whatever the capital; nothing if the text spells a program
 abbrev pub SaysOfProgram : (text told : List ℕ) → Type 0
 SaysOfProgram text told =
-    ((program : Program) × (claims : Table) × IsNumbered text program claims × (told ≡ []))
+    ((program : Program) × (claims : Table) × IsReadAs text program claims × (told ≡ []))
     ⊎ TellsRefusal [] text told
 
--- of a text that is to become an object in the first format: its refusal; or nothing, or why the first format cannot
+-- of a text that is to become an object in the first format: its refusal; or nothing, or why the first format
+-- cannot
 abbrev pub SaysOfFirstFormat : (text told : List ℕ) → Type 0
 SaysOfFirstFormat text told =
     (IsAcceptedText text × ((told ≡ []) ⊎ HasCode (codes "E1") told)) ⊎ TellsRefusal [] text told
@@ -73,8 +75,8 @@ pub data AreSaid (bytes : List ℕ) : (rest told : List ℕ) → Type 0 where
   more : (rest before text left told : List ℕ)
       → AreSaid bytes rest before → IsCutAt rest text left → SaysMore text before told → AreSaid bytes left told
 
--- of texts: what is said of all of them, behind the last of which is no line `%%`; or of the first ones, if that has over
--- 4,096 bytes
+-- of texts: what is said of all of them, behind the last of which is no line `%%`; or of the first ones, if
+-- that has over 4,096 bytes
 pub data SaysOfTexts (bytes : List ℕ) : List ℕ → Type 0 where
   all : (text before told : List ℕ)
       → AreSaid bytes text before → HasNoMark text → SaysMore text before told → SaysOfTexts bytes told
@@ -87,45 +89,45 @@ TellsObject bytes told =
     × IsMessage [] bytes cause told
 
 -- of an object: why it is refused, or nothing
-abbrev pub SaysOfObject : (bytes told : List ℕ) → Type 0
-SaysOfObject bytes told =
+abbrev pub SaysOfObjectText : (bytes told : List ℕ) → Type 0
+SaysOfObjectText bytes told =
     ((code : Code) × (labels : List ProcessLabels) × IsLoaded bytes code labels × (told ≡ [])) ⊎ TellsObject bytes told
 
--- of pick lines over some code: nothing if all picks are made; else which line says no picks, or that a pick is not
--- enabled, at some line
-pub data SaysOfLines (code : Code) (lines : List ℕ) : List ℕ → Type 0 where
+-- of pick lines over some code: nothing if all picks are made; else which line says no picks, or that a pick
+-- is not enabled, at some line
+pub data SaysOfPickLines (code : Code) (lines : List ℕ) : List ℕ → Type 0 where
   made : (picks : List CountedPick) (entries : List Entry) (end : State CodeProcess)
-      → SpellsPicks code lines picks → IsReplay code (spread picks) entries end → SaysOfLines code lines []
+      → SpellsPicks code lines picks → IsReplay code (spread picks) entries end → SaysOfPickLines code lines []
   unread : (fault : PickFault) (cause : Cause) (told : List ℕ)
       → IsFaulty code lines fault → IsCauseOf (picks_line fault) (Some cause)
-      → IsMessage (codes "pick ") lines cause told → SaysOfLines code lines told
+      → IsMessage (codes "pick ") lines cause told → SaysOfPickLines code lines told
   stopped : (picks : List CountedPick) (number : ℕ) (told : List ℕ)
       → SpellsPicks code lines picks → IsStopped code (spread picks) (NotEnabled number)
-      → HasCode (codes "H1") told → SaysOfLines code lines told
+      → HasCode (codes "H1") told → SaysOfPickLines code lines told
 
 -- of a text and pick lines
 abbrev pub SaysOfPickedText : (text lines told : List ℕ) → Type 0
 SaysOfPickedText text lines told =
-    ((code : Code) × (labels : List ProcessLabels) × IsCompiled text code labels × SaysOfLines code lines told)
+    ((code : Code) × (labels : List ProcessLabels) × IsCompiled text code labels × SaysOfPickLines code lines told)
     ⊎ TellsRefusal [] text told
 
 -- of an object and pick lines
 abbrev pub SaysOfPickedObject : (bytes lines told : List ℕ) → Type 0
 SaysOfPickedObject bytes lines told =
-    ((code : Code) × (labels : List ProcessLabels) × IsLoaded bytes code labels × SaysOfLines code lines told)
+    ((code : Code) × (labels : List ProcessLabels) × IsLoaded bytes code labels × SaysOfPickLines code lines told)
     ⊎ TellsObject bytes told
 
 -- of an input that is not too long, by how the command reads it
-abbrev pub SaysOf : Reading → (bytes told : List ℕ) → Type 0
-SaysOf Text bytes told = SaysOfText bytes [] told
-SaysOf Claims bytes told = SaysOfProgram bytes told
-SaysOf Recorded bytes told = SaysOfText bytes long_output told
-SaysOf FirstFormat bytes told = SaysOfFirstFormat bytes told
-SaysOf Texts bytes told = SaysOfTexts bytes told
-SaysOf Object bytes told = SaysOfObject bytes told
-SaysOf Replayed bytes told =
+abbrev pub SaysByReading : Reading → (bytes told : List ℕ) → Type 0
+SaysByReading Text bytes told = SaysOfText bytes [] told
+SaysByReading Claims bytes told = SaysOfProgram bytes told
+SaysByReading Recorded bytes told = SaysOfText bytes long_output told
+SaysByReading FirstFormat bytes told = SaysOfFirstFormat bytes told
+SaysByReading Texts bytes told = SaysOfTexts bytes told
+SaysByReading Object bytes told = SaysOfObjectText bytes told
+SaysByReading Replayed bytes told =
     (text : List ℕ) × (lines : List ℕ) × AreTwoParts bytes text lines × SaysOfPickedText text lines told
-SaysOf Debugged bytes told =
+SaysByReading Debugged bytes told =
     (source : List ℕ) × (rest : List ℕ) × (lines : List ℕ) × (commands : List ℕ)
     × AreTwoParts bytes source rest × AreTwoParts rest lines commands
     × (((take 4 source ≡ codes "PBO ") × SaysOfPickedObject source lines told)
@@ -134,4 +136,4 @@ SaysOf Debugged bytes told =
 -- of any input
 abbrev pub SaysToPerson : Reading → (bytes told : List ℕ) → Type 0
 SaysToPerson reading bytes told =
-    ((4194304 < length bytes) × (told ≡ long_input)) ⊎ ((length bytes ≤ 4194304) × SaysOf reading bytes told)
+    ((MAX_INPUT < length bytes) × (told ≡ long_input)) ⊎ ((length bytes ≤ MAX_INPUT) × SaysByReading reading bytes told)

@@ -213,7 +213,8 @@ pub fn picks_cause(fault: PickFault) -> Option<Cause>
     }
 }
 
-/// Returns the cause of a pick that is not enabled; none if it is out of memory. Its place is the number of the pick.
+/// Returns the cause of a pick that is not enabled; none if it is out of memory. Its place is the number of
+/// the pick.
 pub fn stop_cause(fault: ReplayFault) -> Option<Cause>
     ensures { IsCauseOf (stop_line fault) result }
 {

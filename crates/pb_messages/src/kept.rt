@@ -5,15 +5,15 @@ ghost use Rattle.pb_base.specs.Device.{dropped, one_more_failure, GivesNext};
 ghost use Rattle.pb_messages.specs.Kept.{IsAdded, KeepsMore};
 
 use pb_base::device::{DeviceFault, Input};
-use pb_engines::input::LONGEST_INPUT;
+use pb_base::limits::MAX_INPUT;
 use std::alloc::Global;
 use std::marker::Model;
 
 // The most bytes that are kept: those of the longest input, and one more.
-const MOST_KEPT: usize = LONGEST_INPUT + 1;
+const MAX_KEPT: usize = MAX_INPUT + 1;
 
-/// An input that gives what another one gives, and keeps the first 4,194,305 bytes of it, so that a fault in them can be
-/// shown when the command has ended. If there is no memory for them it forgets them, and goes on.
+/// An input that gives what another one gives, and keeps the first 4,194,305 bytes of it, so that a fault in
+/// them can be shown when the command has ended. If there is no memory for them it forgets them, and goes on.
 #[derive(Drop)]
 pub struct KeptInput<I: Input> {
     inner: I,
@@ -38,11 +38,12 @@ impl<I: Input> KeptInput<I> {
         KeptInput {
             inner,
             kept: Some(Vec::new(alloc)),
-            room: MOST_KEPT,
+            room: MAX_KEPT,
         }
     }
 
-    /// Returns the first bytes that were read, at most 4,194,305, or nothing if there was no memory to keep them.
+    /// Returns the first bytes that were read, at most 4,194,305, or nothing if there was no memory to keep
+    /// them.
     pub fn kept(&self) -> Option<&[u8]>
         ensures { option_map (λ bytes. bytes.now) result ≡ self.now.kept }
     {

@@ -3,7 +3,7 @@
 ghost use Rattle.std.specs.Prelude.{◌≡◌, ◌↔◌, [], IfNone, IfOk, IfSome, IsTrue, OnOk, codes, take};
 ghost use Rattle.pb_engines.specs.Refusals.{IsAcceptedText};
 ghost use Rattle.pb_messages.specs.Messages.{TellsRefusal};
-ghost use Rattle.pb_messages.specs.Said.{SaysOf, SaysOfObject, SaysOfPickedObject, SaysOfPickedText, SaysOfProgram, SaysOfText, SaysOfTexts};
+ghost use Rattle.pb_messages.specs.Said.{SaysByReading, SaysOfObjectText, SaysOfPickedObject, SaysOfPickedText, SaysOfProgram, SaysOfText, SaysOfTexts};
 ghost use Rattle.pb_messages.specs.Said.{SaysMore, SaysToPerson, behind, long_output};
 ghost use Rattle.pb_messages.specs.declared.message.Reading.TheVariants.{Debugged, Replayed};
 
@@ -12,7 +12,7 @@ use crate::objects::object_message;
 use crate::picks::lines_message;
 use crate::texts::{early_message, text_message};
 use pb_base::NoMemory;
-use pb_engines::input::LONGEST_INPUT;
+use pb_base::limits::MAX_INPUT;
 use pb_engines::parts::{first_part, two_parts};
 use pb_excerpts::place_of;
 use pb_wording::lines::Lines;
@@ -49,12 +49,12 @@ pub enum Reading {
     Debugged,
 }
 
-/// Returns the message of a refused input, or one for each refused text of it; nothing if there is nothing to be said of
-/// these bytes.
+/// Returns the message of a refused input, or one for each refused text of it; nothing if there is nothing to
+/// be said of these bytes.
 pub fn message_of(alloc: Global, reading: Reading, bytes: &[u8]) -> Result<Vec<u8>, NoMemory>
     ensures { IfOk result (λ message. SaysToPerson reading bytes.now message.items) }
 {
-    if bytes.len() > LONGEST_INPUT {
+    if bytes.len() > MAX_INPUT {
         return Ok(Vec::from_slice(alloc, LONG_INPUT)?);
     }
     whole_message(alloc, reading, bytes)
@@ -62,7 +62,7 @@ pub fn message_of(alloc: Global, reading: Reading, bytes: &[u8]) -> Result<Vec<u
 
 // Returns the messages of an input that is not too long.
 fn whole_message(alloc: Global, reading: Reading, bytes: &[u8]) -> Result<Vec<u8>, NoMemory>
-    ensures { IfOk result (λ message. SaysOf reading bytes.now message.items) }
+    ensures { IfOk result (λ message. SaysByReading reading bytes.now message.items) }
 {
     match reading {
         Reading::Text => whole_text_message(alloc, bytes),
@@ -109,7 +109,7 @@ fn claims_message(alloc: Global, text: &[u8]) -> Result<Vec<u8>, NoMemory>
 
 // Returns the message of an object, or nothing if it is accepted.
 fn whole_object_message(alloc: Global, object: &[u8]) -> Result<Vec<u8>, NoMemory>
-    ensures { IfOk result (λ message. SaysOfObject object.now message.items) }
+    ensures { IfOk result (λ message. SaysOfObjectText object.now message.items) }
 {
     match object_message(alloc, object)? {
         Ok(_) => Ok(Vec::new(alloc)),
@@ -180,7 +180,7 @@ fn part_label(alloc: Global, number: u64, is_last: bool) -> Result<String, Alloc
 
 // Returns the message of a text and the pick lines behind it.
 fn replayed_message(alloc: Global, bytes: &[u8]) -> Result<Vec<u8>, NoMemory>
-    ensures { IfOk result (λ message. SaysOf Replayed bytes.now message.items) }
+    ensures { IfOk result (λ message. SaysByReading Replayed bytes.now message.items) }
 {
     let (text, lines) = two_parts(bytes);
     let before = line_of(bytes, text.len());
@@ -196,7 +196,7 @@ fn replayed_message(alloc: Global, bytes: &[u8]) -> Result<Vec<u8>, NoMemory>
 
 // Returns the message of a text or an object and the pick lines behind it.
 fn debugged_message(alloc: Global, bytes: &[u8]) -> Result<Vec<u8>, NoMemory>
-    ensures { IfOk result (λ message. SaysOf Debugged bytes.now message.items) }
+    ensures { IfOk result (λ message. SaysByReading Debugged bytes.now message.items) }
 {
     let (source, rest) = two_parts(bytes);
     let (text, _) = two_parts(rest);

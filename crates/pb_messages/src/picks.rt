@@ -4,7 +4,7 @@ ghost use Rattle.std.specs.Prelude.{IfOk};
 ghost use Rattle.pb_code.specs.Limits.{KeepsLimits};
 ghost use Rattle.pb_code.specs.View.{code_view};
 ghost use Rattle.pb_history.specs.Replays.{IsStopped, spread};
-ghost use Rattle.pb_messages.specs.Said.{SaysOfLines};
+ghost use Rattle.pb_messages.specs.Said.{SaysOfPickLines};
 ghost use Rattle.pb_picks.specs.PickLines.{IsFaulty, SpellsPicks};
 
 use crate::cause::{Cause, picks_cause};
@@ -29,7 +29,7 @@ pub fn lines_message(
     verified: &Verified,
     lines: Lines<'_>,
 ) -> Result<Vec<u8>, NoMemory>
-    ensures { IfOk result (λ message. SaysOfLines verified.now.code lines.entry.text.now message.items) }
+    ensures { IfOk result (λ message. SaysOfPickLines verified.now.code lines.entry.text.now message.items) }
 {
     let picks = match read_picks(alloc, verified.code(), lines.text) {
         Ok(picks) => picks,
@@ -50,7 +50,7 @@ fn unread_message(
 ) -> Result<Vec<u8>, NoMemory>
     requires limits { KeepsLimits (code_view code.now) }
     requires fault { IsFaulty (code_view code.now) lines.text.now fault }
-    ensures { IfOk result (λ message. SaysOfLines (code_view code.now) lines.entry.text.now message.items) }
+    ensures { IfOk result (λ message. SaysOfPickLines (code_view code.now) lines.entry.text.now message.items) }
 {
     let Some(cause) = picks_cause(fault) else {
         return Err(NoMemory);
@@ -72,7 +72,7 @@ fn stop_message(
 ) -> Result<Vec<u8>, NoMemory>
     requires spelled { SpellsPicks verified.now.code lines.text.now picks.now }
     requires stopped { IsStopped verified.now.code (spread picks.now) fault }
-    ensures { IfOk result (λ message. SaysOfLines verified.now.code lines.entry.text.now message.items) }
+    ensures { IfOk result (λ message. SaysOfPickLines verified.now.code lines.entry.text.now message.items) }
 {
     let ReplayFault::NotEnabled(number) = fault else {
         return Err(NoMemory);

@@ -13,8 +13,8 @@ use pb_codegen::{CompileFault, Compiled, analyze, compile};
 use pb_wording::text_wording;
 use std::alloc::Global;
 
-/// Returns the message of the first fault of a text, or its code if there is none. A label is put before the line of the
-/// place.
+/// Returns the message of the first fault of a text, or its code if there is none. A label is put before the
+/// line of the place.
 pub fn text_message(
     alloc: Global,
     label: &str,

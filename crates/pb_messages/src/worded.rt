@@ -9,8 +9,8 @@ use pb_excerpts::{place_of, show_place};
 use pb_wording::{Spot, Wording};
 use std::alloc::Global;
 
-/// Returns the message of a cause: its code, what is wrong in words, its place in the text, and details. A label is put
-/// before the line of the place.
+/// Returns the message of a cause: its code, what is wrong in words, its place in the text, and details. A
+/// label is put before the line of the place.
 pub fn worded(
     alloc: Global,
     label: &str,
@@ -121,8 +121,8 @@ fn put_note(out: &mut Vec<u8>, width: usize, note: &String) -> Result<(), NoMemo
     Ok(())
 }
 
-// Returns a message: the code of a cause, what is wrong in words, the place of the fault, and details, which end in line
-// feeds.
+// Returns a message: the code of a cause, what is wrong in words, the place of the fault, and details, which
+// end in line feeds.
 fn compose(
     alloc: Global,
     cause: &Cause,

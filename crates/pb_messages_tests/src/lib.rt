@@ -1,5 +1,5 @@
-//! Tests of the messages for a person, by their public calls, in a crate of their own, so that it is not proved again
-//! with them.
+//! Tests of the messages for a person, by their public calls, in a crate of their own, so that it is not
+//! proved again with them.
 #![tactic(auto)]
 
 #[cfg(test)]

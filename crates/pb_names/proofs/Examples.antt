@@ -9,7 +9,7 @@ use Rattle.pb_base.specs.declared.event.Event.TheVariants.{Granted, Returned, Pr
 use Rattle.pb_base.specs.declared.operators.BinaryOp.TheVariants.{Add, Less, Remainder}
 use Rattle.pb_base.specs.declared.operators.FaultKind.TheVariants.{Divide}
 use Rattle.pb_base.specs.declared.pick.Pick.{Pick}
-use Rattle.pb_names.specs.Program.{Number, Variable, Binary, Stmt, Set, Write, While, HoldDo, Parbegin, Skip}
+use Rattle.pb_names.specs.Program.{Number, Variable, Binary, Stmt, Assign, Print, While, Hold, Parbegin, Skip}
 use Rattle.pb_names.specs.Program.{Then, NoArm, AndArm, Process, IsWellNumbered}
 use Rattle.pb_names.specs.Source.{SourceProcess, source_step, source_process}
 
@@ -24,7 +24,7 @@ play (pick ∷ picks) s =
     (move_of source_step s pick)
 
 -- an arm of the one process
-abbrev by_arm : ℕ → Pick
+abbrev pub by_arm : ℕ → Pick
 by_arm a = record { process = 0; arm = a }
 
 -- an arm and a number of picks of it, one such span after another
@@ -45,7 +45,7 @@ of_tape amount = record { resource = 0; amount = amount } ∷ []
 
 -- x := x + 1
 abbrev increment : Stmt
-increment = Set 1 0 (Binary Add (Variable 0) (Number (pos 1)))
+increment = Assign 1 0 (Binary Add (Variable 0) (Number (pos 1)))
 
 -- parbegin x := x + 1; x := x + 1 parend; print x
 abbrev two_increments : Process
@@ -54,7 +54,7 @@ two_increments = record {
   integers = codes "x" ∷ [];
   body =
       Then (Parbegin 1 1 (AndArm (Then increment Skip) (AndArm (Then increment Skip) NoArm)))
-      (Then (Write 1 (Variable 0)) Skip);
+      (Then (Print 1 (Variable 0)) Skip);
 }
 
 two_increments_numbered : IsWellNumbered two_increments
@@ -81,8 +81,8 @@ two_rounds = record {
   body =
       Then (While 1 (Binary Less (Variable 0) (Number (pos 2)))
       (Then (Parbegin 1 1
-      (AndArm (Then (Write 1 (Variable 0)) Skip)
-      (AndArm (Then (Write 1 (Binary Add (Variable 0) (Number (pos 10)))) Skip) NoArm)))
+      (AndArm (Then (Print 1 (Variable 0)) Skip)
+      (AndArm (Then (Print 1 (Binary Add (Variable 0) (Number (pos 10)))) Skip) NoArm)))
       (Then increment Skip))) Skip;
 }
 
@@ -103,10 +103,10 @@ nested_holds = record {
   name = codes "p";
   integers = [];
   body =
-      Then (HoldDo 1 (of_tape 1)
+      Then (Hold 1 (of_tape 1)
       (Then (Parbegin 1 1
-      (AndArm (Then (HoldDo 1 (of_tape 1) Skip) Skip)
-      (AndArm (Then (HoldDo 1 (of_tape 2) Skip) Skip) NoArm))) Skip)) Skip;
+      (AndArm (Then (Hold 1 (of_tape 1) Skip) Skip)
+      (AndArm (Then (Hold 1 (of_tape 2) Skip) Skip) NoArm))) Skip)) Skip;
 }
 
 inner_holds_overlap : run_of nested_holds ((0, 2) ∷ (1, 1) ∷ (2, 1) ∷ (1, 2) ∷ (2, 2) ∷ (0, 3) ∷ [])
@@ -130,8 +130,8 @@ faulty = record {
   integers = [];
   body =
       Then (Parbegin 1 1
-      (AndArm (Then (HoldDo 1 (of_tape 1) (Then (Write 1 (Number (pos 5))) Skip)) Skip)
-      (AndArm (Then (Write 1 (Binary Remainder (Number (pos 1)) (Number (pos 0)))) Skip) NoArm))) Skip;
+      (AndArm (Then (Hold 1 (of_tape 1) (Then (Print 1 (Number (pos 5))) Skip)) Skip)
+      (AndArm (Then (Print 1 (Binary Remainder (Number (pos 1)) (Number (pos 0)))) Skip) NoArm))) Skip;
 }
 
 fault_ends_the_process : run_of faulty ((0, 1) ∷ (1, 1) ∷ (2, 1) ∷ [])

@@ -111,6 +111,3 @@ pub view_read : {S T : Type 0} (view : S → T) (all xs : List S) (i : ℕ) (x :
 view_read view all xs i x list below here =
     ap (λ ys. slice_get (map view ys) i) (sym list)
     ∙ slice_get-map view xs i ∙ ap (option_map view) (slice_get_read xs _ i x refl below here)
-
-pub some_same : {X : Type 0} {x y : X} → Some x ≡ Some y → x ≡ y
-some_same e = cc

@@ -1,6 +1,6 @@
 pub mod CausesMore
 pub mod Completeness
-mod Examples
+pub mod Examples
 pub mod First
 pub mod Forks
 pub mod Holds

@@ -9,7 +9,7 @@ use Rattle.std.proofs.lemmas.List.{get_or-set_same, get_or-set_other, get_or-rep
 use Rattle.std.proofs.lemmas.Option.{slice_get_within}
 use Rattle.pb_names.specs.Index.{IsFirstNumber, IsNext, IsLinked, slot}
 use Rattle.pb_names.specs.Program.{Name}
-use Rattle.pb_names.proofs.First.{some_same}
+use Rattle.pb_base.proofs.Lists.{some_same}
 
 -- ---- the slot of a short name
 

@@ -15,10 +15,10 @@ use Rattle.pb_names.specs.Causes.{InInteger, InProgram}
 use Rattle.pb_names.specs.declared.causes.Cause.{Cause}
 use Rattle.pb_names.specs.declared.causes.Wrong.{Wrong}
 use Rattle.pb_names.specs.declared.causes.Wrong.TheVariants.{Twice}
-use Rattle.pb_names.proofs.First.{some_same}
 use Rattle.pb_names.proofs.NameNumbers.{take_read, text_read, name_read, taken_texts, taken_names}
 use Rattle.pb_names.proofs.OneNumbering.{name_once}
 use Rattle.pb_names.proofs.Wholes.{made_from, resource_names_kept, process_names_kept}
+use Rattle.pb_base.proofs.Lists.{some_same}
 
 -- what an element of the first list was numbered as
 pub numbered_at : {W P : Type 0} (R : W → P → Type 0) (ws : List W) (ps : List P) (i : ℕ) (w : W) → AllZip R ws ps

@@ -3,7 +3,7 @@ use Rattle.std.proofs.Common.{◌≡◌, ℕ, suc, ◌+◌, ◌<◌, ◌≤◌, 
 use Rattle.std.proofs.Common.{arith, ap, subst, refl, length-append}
 use Rattle.std.proofs.lemmas.List.{map-append, map_more}
 use Rattle.pb_tree.specs.Syntax.{StmtSyntax, StmtsSyntax, ArmsSyntax}
-use Rattle.pb_tree.specs.View.{stmt_view, stmts_view, stmts_of, arm_view, arms_view, arms_of}
+use Rattle.pb_tree.specs.View.{stmt_view, stmts_view, stmts_of, arm_view, arms_view, joined_arms}
 use Rattle.pb_tree.specs.declared.stmt.Stmt.{Stmt}
 use Rattle.pb_names.specs.Limits.{width, inner_arms_of_stmt, inner_arms, inner_arms_of_arms}
 use Rattle.pb_names.specs.Program as plain
@@ -109,8 +109,8 @@ numbered_more is rs ss n m bs bs' b pushed after resolved so_far next =
 -- ---- one more arm, at the end
 
 resolves_push_arm : (is rs : List Name) (xs : List StmtsSyntax) (a : StmtsSyntax) (bs : List Block) (b : Block)
-    → ResolvesArms is rs (arms_of xs) (arms_from bs) → ResolvesStmts is rs a b
-    → ResolvesArms is rs (arms_of (xs ++ a ∷ [])) (arms_from (bs ++ b ∷ []))
+    → ResolvesArms is rs (joined_arms xs) (arms_from bs) → ResolvesStmts is rs a b
+    → ResolvesArms is rs (joined_arms (xs ++ a ∷ [])) (arms_from (bs ++ b ∷ []))
 resolves_push_arm is rs [] a [] b so_far next = arm_then a b _ _ next so_far
 resolves_push_arm is rs [] a (c ∷ bs) b so_far next = elim so_far [ ]
 resolves_push_arm is rs (r ∷ xs) a [] b so_far next = elim so_far [ ]

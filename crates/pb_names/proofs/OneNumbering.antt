@@ -4,7 +4,7 @@ use Rattle.std.specs.Prelude.{slice_get}
 use Rattle.std.proofs.lemmas.Option.{slice_get_within, get_or_from_slice_get}
 use Rattle.pb_tree.specs.Syntax as tree
 use Rattle.pb_names.specs.Program.{Name, Expr, Variable, Unary}
-use Rattle.pb_names.specs.Program.{Stmt, Write, Block, Arms}
+use Rattle.pb_names.specs.Program.{Stmt, Print, Block, Arms}
 use Rattle.pb_names.specs.Program.{IsNumberedStmt, IsNumbered, AreNumbered, arms_in, arms_in_stmt, count}
 use Rattle.pb_names.specs.Resolves.{AreDistinct, ResolvesExpr, number, variable, unary, binary}
 use Rattle.pb_names.specs.Resolves.{ResolvesStmt, assign, print, if_else, while_do, hold, parbegin}
@@ -71,7 +71,7 @@ module _ (integers : List Name) (distinct : AreDistinct integers) where
           let p = name_once integers x.text i j distinct h h' in
           let q = expr_once e a b k k' in
           rw (p, q) refl
-      stmt_once n _ _ _ (print line e a h) m (print _ _ b k) m' = ap (Write line) (expr_once e a b h k)
+      stmt_once n _ _ _ (print line e a h) m (print _ _ b k) m' = ap (Print line) (expr_once e a b h k)
       stmt_once n _ _ _ (if_else line e e1 a b a1 b1 h ha hb) m (if_else _ _ e2 _ _ a2 b2 k ka kb) m' =
           let x = expr_once e e1 e2 h k in
           let y = stmts_once n a a1 a2 ha m.0 ka m'.0 in

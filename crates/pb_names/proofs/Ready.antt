@@ -7,11 +7,11 @@ use Rattle.pb_tree.specs.View.{stmt_view, stmts_view, arm_view, arms_view}
 use Rattle.pb_tree.specs.declared.stmt.Stmt.{Stmt}
 use Rattle.pb_names.specs.Limits.{width, inner_arms_of_stmt, inner_arms, inner_arms_of_arms}
 use Rattle.pb_names.specs.Program.{Name}
-use Rattle.pb_names.specs.Ready.{IsReadyStmt, AreReady, AreReadyArms}
+use Rattle.pb_names.specs.Ready.{IsReadyStmt, AreNumberable, AreReadyArms}
 use Rattle.pb_names.proofs.First.{free_left, free_right}
 
 pub ready_true : (is rs : List Name) (n line : ℕ) (e : ExprSyntax) (a b : StmtsSyntax)
-    → IsReadyStmt is rs n (if_else line e a b) → AreReady is rs n a
+    → IsReadyStmt is rs n (if_else line e a b) → AreNumberable is rs n a
 ready_true is rs n line e a b r = record {
   free = free_left (free_right r.free);
   complete = r.complete.0;
@@ -20,7 +20,7 @@ ready_true is rs n line e a b r = record {
 }
 
 pub ready_false : (is rs : List Name) (n m line : ℕ) (e : ExprSyntax) (a b : StmtsSyntax)
-    → m ≡ n + inner_arms a → IsReadyStmt is rs n (if_else line e a b) → AreReady is rs m b
+    → m ≡ n + inner_arms a → IsReadyStmt is rs n (if_else line e a b) → AreNumberable is rs m b
 ready_false is rs n m line e a b after r = record {
   free = free_right (free_right r.free);
   complete = r.complete.1;
@@ -29,7 +29,7 @@ ready_false is rs n m line e a b after r = record {
 }
 
 pub ready_while : (is rs : List Name) (n line : ℕ) (e : ExprSyntax) (body : StmtsSyntax)
-    → IsReadyStmt is rs n (while_do line e body) → AreReady is rs n body
+    → IsReadyStmt is rs n (while_do line e body) → AreNumberable is rs n body
 ready_while is rs n line e body r = record {
   free = free_right r.free;
   complete = r.complete;
@@ -38,7 +38,7 @@ ready_while is rs n line e body r = record {
 }
 
 pub ready_hold : (is rs : List Name) (n line : ℕ) (demands : List DemandSyntax) (body : StmtsSyntax)
-    → IsReadyStmt is rs n (hold line demands body) → AreReady is rs n body
+    → IsReadyStmt is rs n (hold line demands body) → AreNumberable is rs n body
 ready_hold is rs n line demands body r = record {
   free = free_right r.free;
   complete = r.complete.1;
@@ -58,7 +58,7 @@ ready_arms is rs n m line arms after r = record {
 -- ---- the statements of a list
 
 ready_head : (is rs : List Name) (n m : ℕ) (s : StmtSyntax) (ss : StmtsSyntax) → m ≡ n
-    → AreReady is rs n (stmt_then s ss) → IsReadyStmt is rs m s
+    → AreNumberable is rs n (stmt_then s ss) → IsReadyStmt is rs m s
 ready_head is rs n m s ss same r = record {
   free = free_left r.free;
   complete = r.complete.0;
@@ -67,7 +67,7 @@ ready_head is rs n m s ss same r = record {
 }
 
 ready_tail : (is rs : List Name) (n : ℕ) (s : StmtSyntax) (ss : StmtsSyntax)
-    → AreReady is rs n (stmt_then s ss) → AreReady is rs (n + inner_arms_of_stmt s) ss
+    → AreNumberable is rs n (stmt_then s ss) → AreNumberable is rs (n + inner_arms_of_stmt s) ss
 ready_tail is rs n s ss r = record {
   free = free_right r.free;
   complete = r.complete.1;
@@ -77,7 +77,7 @@ ready_tail is rs n s ss r = record {
 
 ready_or : {A : Type 0} (is rs : List Name) (n m : ℕ) (ss : List (Stmt A)) (i : ℕ) (d : Stmt A) → i < length ss
     → m ≡ n + inner_arms (stmts_view (take i ss))
-    → AreReady is rs n (stmts_view ss) → IsReadyStmt is rs m (stmt_view (get_or ss i d))
+    → AreNumberable is rs n (stmts_view ss) → IsReadyStmt is rs m (stmt_view (get_or ss i d))
 ready_or is rs n m [] i d h after r = absurd (omega arith)
 ready_or is rs n m (s ∷ ss) zero d h after r =
     ready_head is rs n m (stmt_view s) (stmts_view ss) (omega arith) r
@@ -88,14 +88,14 @@ ready_or is rs n m (s ∷ ss) (suc i) d h after r =
 -- as a loop reads them
 pub ready_at : {A : Type 0} (is rs : List Name) (n m : ℕ) (all ss : List (Stmt A)) (i : ℕ) (s : Stmt A)
     → ss ≡ all → i < length ss → s ≡ get_or ss i s → m ≡ n + inner_arms (stmts_view (take i ss))
-    → AreReady is rs n (stmts_view all) → IsReadyStmt is rs m (stmt_view s)
+    → AreNumberable is rs n (stmts_view all) → IsReadyStmt is rs m (stmt_view s)
 ready_at is rs n m all ss i s list h here after r =
     subst (λ y. IsReadyStmt is rs m (stmt_view y)) (sym here) (ready_or is rs n m ss i s h after (rw list r))
 
 -- ---- the arms of a parbegin
 
 arm_head : (is rs : List Name) (n m : ℕ) (arm : StmtsSyntax) (arms : ArmsSyntax) → m ≡ n
-    → AreReadyArms is rs n (arm_then arm arms) → AreReady is rs m arm
+    → AreReadyArms is rs n (arm_then arm arms) → AreNumberable is rs m arm
 arm_head is rs n m arm arms same r = record {
   free = free_left r.free;
   complete = r.complete.0;
@@ -114,7 +114,7 @@ arm_tail is rs n arm arms r = record {
 
 arm_or : {A : Type 0} (is rs : List Name) (n m : ℕ) (arms : List (Vec (Stmt A) A)) (i : ℕ) (d : Vec (Stmt A) A)
     → i < length arms → m ≡ n + inner_arms_of_arms (arms_view (take i arms))
-    → AreReadyArms is rs n (arms_view arms) → AreReady is rs m (stmts_view (get_or arms i d).items)
+    → AreReadyArms is rs n (arms_view arms) → AreNumberable is rs m (stmts_view (get_or arms i d).items)
 unfolding arm_view
 arm_or is rs n m [] i d h after r = absurd (omega arith)
 arm_or is rs n m (a ∷ arms) zero d h after r =
@@ -127,9 +127,9 @@ arm_or is rs n m (a ∷ arms) (suc i) d h after r =
 pub arm_ready_at : {A : Type 0} (is rs : List Name) (n m : ℕ) (all arms : List (Vec (Stmt A) A)) (i : ℕ)
     (arm : Vec (Stmt A) A) → arms ≡ all → i < length arms → arm ≡ get_or arms i arm
     → m ≡ n + inner_arms_of_arms (arms_view (take i arms))
-    → AreReadyArms is rs n (arms_view all) → AreReady is rs m (stmts_view arm.items)
+    → AreReadyArms is rs n (arms_view all) → AreNumberable is rs m (stmts_view arm.items)
 arm_ready_at is rs n m all arms i arm list h here after r =
-    subst (λ y. AreReady is rs m (stmts_view y.items)) (sym here) (arm_or is rs n m arms i arm h after (rw list r))
+    subst (λ y. AreNumberable is rs m (stmts_view y.items)) (sym here) (arm_or is rs n m arms i arm h after (rw list r))
 
 -- ---- the lists of a statement have fewer nodes than it has
 

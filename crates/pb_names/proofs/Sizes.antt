@@ -1,7 +1,7 @@
 -- A part of a program is smaller than the whole, so a recursion down a program ends.
 use Rattle.std.proofs.Common.{◌≡◌, ℕ, zero, suc, ◌+◌, ◌<◌, ◌≤◌, ◌∙◌, List, [], ◌∷◌, Vec, length, get_or, arith, ap}
 use Rattle.pb_names.specs.Program as plain
-use Rattle.pb_names.specs.Program.{Set, Write, If, While, HoldDo, Block, Skip, Then, Arms, NoArm, AndArm}
+use Rattle.pb_names.specs.Program.{Assign, Print, If, While, Hold, Block, Skip, Then, Arms, NoArm, AndArm}
 use Rattle.pb_names.specs.View.{stmt_view, block_view, arm_view, arms_view}
 use Rattle.pb_names.specs.declared.resolved.Stmt.{Stmt, Parbegin}
 use Rattle.pb_names.proofs.Views.{view-Parbegin}
@@ -9,11 +9,11 @@ use Rattle.pb_names.proofs.Views.{view-Parbegin}
 -- how many statements a statement has, itself included
 abbrev mutual
   pub stmt_size : plain.Stmt → ℕ
-  stmt_size (Set line x e) = 1
-  stmt_size (Write line e) = 1
+  stmt_size (Assign line x e) = 1
+  stmt_size (Print line e) = 1
   stmt_size (If line e a b) = 1 + (block_size a + block_size b)
   stmt_size (While line e body) = 1 + block_size body
-  stmt_size (HoldDo line bundle body) = 1 + block_size body
+  stmt_size (Hold line bundle body) = 1 + block_size body
   stmt_size (plain.Parbegin line first arms) = 1 + arms_size arms
 
   pub block_size : Block → ℕ

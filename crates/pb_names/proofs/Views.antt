@@ -5,7 +5,6 @@ use Rattle.pb_base.specs.Steppers.{Bundle}
 use Rattle.pb_base.specs.declared.operators.UnaryOp.{UnaryOp}
 use Rattle.pb_base.specs.declared.operators.BinaryOp.{BinaryOp}
 use Rattle.pb_names.specs.Program as plain
-use Rattle.pb_names.specs.Program.{Set, Write, HoldDo}
 use Rattle.pb_names.specs.View.{expr_view, stmt_view, block_view, arm_view, arms_view, arms_from, block_of}
 use Rattle.pb_names.specs.View.{stmt_step}
 use Rattle.pb_names.specs.declared.resolved.Expr.{Expr, Number, Variable, Unary, Binary}
@@ -29,10 +28,10 @@ pub view-Binary : {A : Type 0} (op : BinaryOp) (a b : Box (Expr A) A)
     → expr_view (Binary op a b) ≡ plain.Binary op (expr_view a.value) (expr_view b.value)
 view-Binary op a b = search (rules, expr_lemmas)
 
-pub view-Assign : {A : Type 0} (line x : ℕ) (e : Expr A) → stmt_view (Assign line x e) ≡ Set line x (expr_view e)
+pub view-Assign : {A : Type 0} (line x : ℕ) (e : Expr A) → stmt_view (Assign line x e) ≡ plain.Assign line x (expr_view e)
 view-Assign line x e = search (rules, the_lemmas)
 
-pub view-Print : {A : Type 0} (line : ℕ) (e : Expr A) → stmt_view (Print line e) ≡ Write line (expr_view e)
+pub view-Print : {A : Type 0} (line : ℕ) (e : Expr A) → stmt_view (Print line e) ≡ plain.Print line (expr_view e)
 view-Print line e = search (rules, the_lemmas)
 
 pub view-If : {A : Type 0} (line : ℕ) (e : Expr A) (on_true on_false : Vec (Stmt A) A)
@@ -45,7 +44,7 @@ pub view-While : {A : Type 0} (line : ℕ) (e : Expr A) (body : Vec (Stmt A) A)
 view-While line e body = search (rules, the_lemmas)
 
 pub view-Hold : {A : Type 0} (line : ℕ) (bundle : Bundle) (body : Vec (Stmt A) A)
-    → stmt_view (Hold line bundle body) ≡ HoldDo line bundle (block_view body.items)
+    → stmt_view (Hold line bundle body) ≡ plain.Hold line bundle (block_view body.items)
 view-Hold line bundle body = search (rules, the_lemmas)
 
 pub view-Parbegin : {A : Type 0} (line first : ℕ) (arms : Vec (Vec (Stmt A) A) A)

@@ -1,6 +1,7 @@
 -- What is wrong with the names and amounts of a program, and where: names declared twice, names that are not
 -- declared, amounts out of range, and resources that a hold names again.
 use Rattle.std.specs.Prelude.{◌≡◌, ◌≢◌, ℕ, ◌≤◌, pos, List, map, take, slice_get, Some, ◌⊎◌}
+use Rattle.pb_base.specs.declared.limits.TheConstants.{MAX_AMOUNT}
 use Rattle.pb_tree.specs.Syntax.{NameSyntax, NumberSyntax, DemandSyntax, ResourceSyntax, ProcessSyntax}
 use Rattle.pb_tree.specs.Syntax.{ProgramSyntax, ExprSyntax, number, variable, unary, binary}
 use Rattle.pb_tree.specs.Syntax.{StmtSyntax, assign, print, if_else, while_do, hold, parbegin}
@@ -44,7 +45,7 @@ pub record IsAgain (wrong : Wrong) (before : List Name) (name : NameSyntax) (cau
 
 -- the number is none from the least to 1,000,000
 pub record IsOutside (least : ℕ) (n : NumberSyntax) (cause : Cause) : Type 0 where
-  pub outside : (k : ℕ) → least ≤ k → k ≤ 1000000 → n.value ≢ pos k
+  pub outside : (k : ℕ) → least ≤ k → k ≤ MAX_AMOUNT → n.value ≢ pos k
   pub is : cause ≡ record { at = n.at; wrong = Amount }
 
 -- ---- expressions and statements: variables and targets are integers, holds name resources

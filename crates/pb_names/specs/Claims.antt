@@ -3,33 +3,33 @@
 use Rattle.std.specs.Prelude.{◌≡◌, ℕ, ◌+◌, ◌≤◌, List, [], ◌∷◌, ◌++◌, true, max}
 use Rattle.pb_base.specs.Steppers.{Bundle}
 use Rattle.pb_base.specs.Bundle.{amount_in}
-use Rattle.pb_names.specs.Program.{Process, Expr, Stmt, Set, Write, If, While, HoldDo, Parbegin, Block, Skip}
+use Rattle.pb_names.specs.Program.{Process, Expr, Stmt, Assign, Print, If, While, Hold, Parbegin, Block, Skip}
 use Rattle.pb_names.specs.Program.{Then, Arms, NoArm, AndArm}
-use Rattle.pb_names.specs.Source.{Item, Assign, Print, Choice, Loop, Hold, GiveBack, Parallel, items_of, Arm}
+use Rattle.pb_names.specs.Source.{Item, GiveBack, items_of, Arm}
 use Rattle.pb_names.specs.Source.{Doing, Waiting, Ended, Running, Nothing, Beside, begin, all_ended}
 
 -- a list of items in one free step: an assignment or print goes at once, a test goes either way
 pub data FreeListStep : List Item → Arm → Type 0 where
   to_end : FreeListStep [] Ended
   past_assign : (line x : ℕ) (e : Expr) (rest : List Item)
-      → FreeListStep (Assign line x e ∷ rest) (Doing rest)
+      → FreeListStep (Item.Assign line x e ∷ rest) (Doing rest)
   past_print : (line : ℕ) (e : Expr) (rest : List Item)
-      → FreeListStep (Print line e ∷ rest) (Doing rest)
+      → FreeListStep (Item.Print line e ∷ rest) (Doing rest)
   to_then : (line : ℕ) (e : Expr) (a b : Block) (rest : List Item)
-      → FreeListStep (Choice line e a b ∷ rest) (Doing (items_of a ++ rest))
+      → FreeListStep (Item.If line e a b ∷ rest) (Doing (items_of a ++ rest))
   to_else : (line : ℕ) (e : Expr) (a b : Block) (rest : List Item)
-      → FreeListStep (Choice line e a b ∷ rest) (Doing (items_of b ++ rest))
+      → FreeListStep (Item.If line e a b ∷ rest) (Doing (items_of b ++ rest))
   past_loop : (line : ℕ) (test e : Expr) (body : Block) (rest : List Item)
-      → FreeListStep (Loop line test e body ∷ rest) (Doing rest)
+      → FreeListStep (Item.While line test e body ∷ rest) (Doing rest)
   into_loop : (line : ℕ) (test e : Expr) (body : Block) (rest : List Item)
-      → FreeListStep (Loop line test e body ∷ rest)
-      (Doing (items_of body ++ Loop line test test body ∷ rest))
+      → FreeListStep (Item.While line test e body ∷ rest)
+      (Doing (items_of body ++ Item.While line test test body ∷ rest))
   into_hold : (line : ℕ) (bundle : Bundle) (body : Block) (rest : List Item)
-      → FreeListStep (Hold line bundle body ∷ rest) (Doing (items_of body ++ GiveBack line bundle ∷ rest))
+      → FreeListStep (Item.Hold line bundle body ∷ rest) (Doing (items_of body ++ GiveBack line bundle ∷ rest))
   past_give : (line : ℕ) (bundle : Bundle) (rest : List Item)
       → FreeListStep (GiveBack line bundle ∷ rest) (Doing rest)
   into_arms : (line first : ℕ) (arms : Arms) (rest : List Item)
-      → FreeListStep (Parallel line first arms ∷ rest) (Waiting line first (begin arms) rest)
+      → FreeListStep (Item.Parbegin line first arms ∷ rest) (Waiting line first (begin arms) rest)
 
 -- any list of the run may be the one that steps
 mutual
@@ -51,13 +51,13 @@ pub data FreeRun (start : Arm) : Arm → Type 0 where
   and_then : (arm next : Arm) → FreeRun start arm → FreeStep arm next → FreeRun start next
 
 abbrev pub held_in : ℕ → Item → ℕ
-held_in r (Assign line x e) = 0
-held_in r (Print line e) = 0
-held_in r (Choice line e a b) = 0
-held_in r (Loop line test e body) = 0
-held_in r (Hold line bundle body) = 0
+held_in r (Item.Assign line x e) = 0
+held_in r (Item.Print line e) = 0
+held_in r (Item.If line e a b) = 0
+held_in r (Item.While line test e body) = 0
+held_in r (Item.Hold line bundle body) = 0
 held_in r (GiveBack line bundle) = amount_in bundle r
-held_in r (Parallel line first arms) = 0
+held_in r (Item.Parbegin line first arms) = 0
 
 abbrev pub held_in_list : ℕ → List Item → ℕ
 held_in_list r [] = 0
@@ -87,11 +87,11 @@ IsClaim process r amount =
 -- a hold adds
 abbrev mutual
   pub stmt_peak : ℕ → Stmt → ℕ
-  stmt_peak r (Set line x e) = 0
-  stmt_peak r (Write line e) = 0
+  stmt_peak r (Assign line x e) = 0
+  stmt_peak r (Print line e) = 0
   stmt_peak r (If line e a b) = max (peak r a) (peak r b)
   stmt_peak r (While line e body) = peak r body
-  stmt_peak r (HoldDo line bundle body) = amount_in bundle r + peak r body
+  stmt_peak r (Hold line bundle body) = amount_in bundle r + peak r body
   stmt_peak r (Parbegin line first arms) = arms_peak r arms
 
   pub peak : ℕ → Block → ℕ

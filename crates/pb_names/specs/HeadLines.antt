@@ -1,16 +1,16 @@
 -- The line at which an arm of a run is: that of its first item.
 use Rattle.std.specs.Prelude.{ℕ, List, [], ◌∷◌, Option, Some, None}
-use Rattle.pb_names.specs.Source.{Item, Assign, Print, Choice, Loop, Hold, GiveBack, Parallel, Arm, Doing}
+use Rattle.pb_names.specs.Source.{Item, GiveBack, Arm, Doing}
 use Rattle.pb_names.specs.Source.{Waiting, Ended}
 
 abbrev pub item_line : Item → ℕ
-item_line (Assign line x e) = line
-item_line (Print line e) = line
-item_line (Choice line e a b) = line
-item_line (Loop line test e body) = line
-item_line (Hold line bundle body) = line
+item_line (Item.Assign line x e) = line
+item_line (Item.Print line e) = line
+item_line (Item.If line e a b) = line
+item_line (Item.While line test e body) = line
+item_line (Item.Hold line bundle body) = line
 item_line (GiveBack line bundle) = line
-item_line (Parallel line first arms) = line
+item_line (Item.Parbegin line first arms) = line
 
 abbrev pub first_line : List Item → Option ℕ
 first_line [] = None

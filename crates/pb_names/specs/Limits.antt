@@ -1,5 +1,6 @@
 -- How much of each kind a program has, and how much it may have.
 use Rattle.std.specs.Prelude.{ℕ, suc, ◌+◌, ◌<◌, ◌≤◌, max, List, [], ◌∷◌, length}
+use Rattle.pb_base.specs.declared.limits.TheConstants.{MAX_ARMS, MAX_FORK, MAX_INTEGERS, MAX_PROCESSES, MAX_RESOURCES}
 use Rattle.pb_tree.specs.Syntax.{StmtSyntax, assign, print, if_else, while_do, hold, parbegin}
 use Rattle.pb_tree.specs.Syntax.{StmtsSyntax, no_stmt, stmt_then, ArmsSyntax, no_arm, arm_then}
 use Rattle.pb_tree.specs.Syntax.{ProcessSyntax, ProgramSyntax}
@@ -63,11 +64,11 @@ how_many Arms program = most (λ process. 1 + inner_arms process.body) program.p
 
 -- how many of a kind there may be
 abbrev pub limit : Kind → ℕ
-limit Processes = 64
-limit Resources = 16
-limit Integers = 64
-limit Fork = 16
-limit Arms = 64
+limit Processes = MAX_PROCESSES
+limit Resources = MAX_RESOURCES
+limit Integers = MAX_INTEGERS
+limit Fork = MAX_FORK
+limit Arms = MAX_ARMS
 
 -- the kinds are looked at in this order
 abbrev pub rank : Kind → ℕ

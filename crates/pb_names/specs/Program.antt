@@ -13,11 +13,11 @@ pub data Expr : Type 0 where
 -- statements, with their lines; a parbegin has the number of its first arm
 mutual
   pub data Stmt : Type 0 where
-    Set : (line x : ℕ) → Expr → Stmt
-    Write : (line : ℕ) → Expr → Stmt
+    Assign : (line x : ℕ) → Expr → Stmt
+    Print : (line : ℕ) → Expr → Stmt
     If : (line : ℕ) → Expr → (then other : Block) → Stmt
     While : (line : ℕ) → Expr → (body : Block) → Stmt
-    HoldDo : (line : ℕ) → Bundle → (body : Block) → Stmt
+    Hold : (line : ℕ) → Bundle → (body : Block) → Stmt
     Parbegin : (line first : ℕ) → Arms → Stmt
 
   -- a list of statements
@@ -41,11 +41,11 @@ arms_list (AndArm arm arms) = arm ∷ arms_list arms
 -- the arms inside a statement, in the order of their numbers
 abbrev mutual
   pub arms_in_stmt : Stmt → List Block
-  arms_in_stmt (Set line x e) = []
-  arms_in_stmt (Write line e) = []
+  arms_in_stmt (Assign line x e) = []
+  arms_in_stmt (Print line e) = []
   arms_in_stmt (If line e a b) = arms_in a ++ arms_in b
   arms_in_stmt (While line e body) = arms_in body
-  arms_in_stmt (HoldDo line bundle body) = arms_in body
+  arms_in_stmt (Hold line bundle body) = arms_in body
   arms_in_stmt (Parbegin line first arms) = arms_list arms ++ arms_in_arms arms
 
   pub arms_in : Block → List Block
@@ -59,11 +59,11 @@ abbrev mutual
 -- the arms inside are numbered from n on: those of a parbegin, then what is in them, arm by arm
 abbrev mutual
   pub IsNumberedStmt : ℕ → Stmt → Type 0
-  IsNumberedStmt n (Set line x e) = ⊤
-  IsNumberedStmt n (Write line e) = ⊤
+  IsNumberedStmt n (Assign line x e) = ⊤
+  IsNumberedStmt n (Print line e) = ⊤
   IsNumberedStmt n (If line e a b) = IsNumbered n a × IsNumbered (n + length (arms_in a)) b
   IsNumberedStmt n (While line e body) = IsNumbered n body
-  IsNumberedStmt n (HoldDo line bundle body) = IsNumbered n body
+  IsNumberedStmt n (Hold line bundle body) = IsNumbered n body
   IsNumberedStmt n (Parbegin line first arms) = (first ≡ n) × AreNumbered (n + count arms) arms
 
   pub IsNumbered : ℕ → Block → Type 0

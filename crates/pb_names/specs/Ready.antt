@@ -1,6 +1,7 @@
 -- What holds of a program that is to be numbered: it has the parts that the grammar asks for, nothing is
 -- wrong with its names and amounts, and there are numbers for its arms.
 use Rattle.std.specs.Prelude.{ℕ, ◌+◌, ◌≤◌, List, length, All, ⊤}
+use Rattle.pb_base.specs.declared.limits.TheConstants.{MAX_ARMS, MAX_FORK, MAX_INTEGERS}
 use Rattle.pb_tree.specs.Syntax.{StmtSyntax, assign, print, if_else, while_do, hold, parbegin}
 use Rattle.pb_tree.specs.Syntax.{StmtsSyntax, no_stmt, stmt_then, ArmsSyntax, no_arm, arm_then}
 use Rattle.pb_tree.specs.Syntax.{ProcessSyntax, ProgramSyntax}
@@ -39,27 +40,27 @@ pub record IsComplete (program : ProgramSyntax) : Type 0 where
 
 -- a part with these causes, widest parbegin and inner arms, that is complete, and whose arms get the numbers
 -- from n on
-pub record IsReady (causes : Causes) (IsWhole : Type 0) (widest inner n : ℕ) : Type 0 where
+pub record IsNumberable (causes : Causes) (IsWhole : Type 0) (widest inner n : ℕ) : Type 0 where
   pub free : IsFree causes
   pub complete : IsWhole
-  pub narrow : widest ≤ 16
-  pub room : n + inner ≤ 64
+  pub narrow : widest ≤ MAX_FORK
+  pub room : n + inner ≤ MAX_ARMS
 
 abbrev pub IsReadyStmt : (integers resources : List Name) → ℕ → StmtSyntax → Type 0
 IsReadyStmt integers resources n s =
-    IsReady (InStmt integers resources s) (IsCompleteStmt s) (widest_in_stmt s) (inner_arms_of_stmt s) n
+    IsNumberable (InStmt integers resources s) (IsCompleteStmt s) (widest_in_stmt s) (inner_arms_of_stmt s) n
 
-abbrev pub AreReady : (integers resources : List Name) → ℕ → StmtsSyntax → Type 0
-AreReady integers resources n ss =
-    IsReady (InStmts integers resources ss) (AreComplete ss) (widest_in ss) (inner_arms ss) n
+abbrev pub AreNumberable : (integers resources : List Name) → ℕ → StmtsSyntax → Type 0
+AreNumberable integers resources n ss =
+    IsNumberable (InStmts integers resources ss) (AreComplete ss) (widest_in ss) (inner_arms ss) n
 
 abbrev pub AreReadyArms : (integers resources : List Name) → ℕ → ArmsSyntax → Type 0
 AreReadyArms integers resources n arms =
-    IsReady (InArms integers resources arms) (AreCompleteArms arms) (widest_in_arms arms) (inner_arms_of_arms arms) n
+    IsNumberable (InArms integers resources arms) (AreCompleteArms arms) (widest_in_arms arms) (inner_arms_of_arms arms) n
 
 -- a complete process of few integers, narrow parbegins and few arms
 pub record IsFitting (process : ProcessSyntax) : Type 0 where
-  pub few_integers : length process.integers ≤ 64
+  pub few_integers : length process.integers ≤ MAX_INTEGERS
   pub complete : AreComplete process.body
-  pub narrow : widest_in process.body ≤ 16
-  pub room : 1 + inner_arms process.body ≤ 64
+  pub narrow : widest_in process.body ≤ MAX_FORK
+  pub room : 1 + inner_arms process.body ≤ MAX_ARMS

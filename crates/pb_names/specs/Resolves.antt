@@ -3,6 +3,7 @@
 -- order of declaration.
 use Rattle.std.specs.Prelude.{◌≡◌, ◌≢◌, ℕ, ◌≤◌, pos, List, length, map, slice_get, Some, AllPairs}
 use Rattle.std.specs.List.{AllZip}
+use Rattle.pb_base.specs.declared.limits.TheConstants.{MAX_AMOUNT, MAX_ARMS, MAX_FORK, MAX_INTEGERS, MAX_PROCESSES, MAX_RESOURCES}
 use Rattle.pb_base.specs.declared.operators.UnaryOp.{UnaryOp}
 use Rattle.pb_base.specs.declared.operators.BinaryOp.{BinaryOp}
 use Rattle.pb_base.specs.declared.pair.Pair.{Pair}
@@ -10,7 +11,7 @@ use Rattle.pb_base.specs.Bundle.{IsDistinct}
 use Rattle.pb_base.specs.Steppers.{Bundle}
 use Rattle.pb_tree.specs.Syntax as tree
 use Rattle.pb_names.specs.Program.{Name, Expr, Number, Variable, Unary, Binary}
-use Rattle.pb_names.specs.Program.{Stmt, Set, Write, If, While, HoldDo, Parbegin, Block, Skip, Then, Arms}
+use Rattle.pb_names.specs.Program.{Stmt, Assign, Print, If, While, Hold, Parbegin, Block, Skip, Then, Arms}
 use Rattle.pb_names.specs.Program.{NoArm, AndArm}
 use Rattle.pb_names.specs.Program.{count, Process, Resource, Program, arms_of, IsWellNumbered}
 
@@ -42,7 +43,7 @@ pub record ResolvesDemand (resources : List Name) (demand : tree.DemandSyntax) (
   pub resource : IsNumber resources demand.resource pair.resource
   pub amount : demand.amount.value ≡ pos pair.amount
   pub some : 1 ≤ pair.amount
-  pub small : pair.amount ≤ 1000000
+  pub small : pair.amount ≤ MAX_AMOUNT
 
 -- a hold has a pair; its pairs keep their order, and none names a resource again
 pub record ResolvesDemands (resources : List Name) (demands : List tree.DemandSyntax) (bundle : Bundle)
@@ -56,9 +57,9 @@ mutual
   pub data ResolvesStmt (integers resources : List Name) : tree.StmtSyntax → Stmt → Type 0 where
     assign : (line : ℕ) (x : tree.NameSyntax) (i : ℕ) (e : tree.ExprSyntax) (e' : Expr)
         → IsNumber integers x i → ResolvesExpr integers e e'
-        → ResolvesStmt integers resources (tree.assign line x e) (Set line i e')
+        → ResolvesStmt integers resources (tree.assign line x e) (Assign line i e')
     print : (line : ℕ) (e : tree.ExprSyntax) (e' : Expr)
-        → ResolvesExpr integers e e' → ResolvesStmt integers resources (tree.print line e) (Write line e')
+        → ResolvesExpr integers e e' → ResolvesStmt integers resources (tree.print line e) (Print line e')
     if_else : (line : ℕ) (e : tree.ExprSyntax) (e' : Expr) (a b : tree.StmtsSyntax) (a' b' : Block)
         → ResolvesExpr integers e e'
         → ResolvesStmts integers resources a a' → ResolvesStmts integers resources b b'
@@ -69,9 +70,9 @@ mutual
     hold : (line : ℕ) (demands : List tree.DemandSyntax) (bundle : Bundle)
         (body : tree.StmtsSyntax) (body' : Block)
         → ResolvesDemands resources demands bundle → ResolvesStmts integers resources body body'
-        → ResolvesStmt integers resources (tree.hold line demands body) (HoldDo line bundle body')
+        → ResolvesStmt integers resources (tree.hold line demands body) (Hold line bundle body')
     parbegin : (line first : ℕ) (arms : tree.ArmsSyntax) (arms' : Arms)
-        → (1 ≤ count arms') × (count arms' ≤ 16) → ResolvesArms integers resources arms arms'
+        → (1 ≤ count arms') × (count arms' ≤ MAX_FORK) → ResolvesArms integers resources arms arms'
         → ResolvesStmt integers resources (tree.parbegin line arms) (Parbegin line first arms')
 
   pub data ResolvesStmts (integers resources : List Name) : tree.StmtsSyntax → Block → Type 0 where
@@ -92,16 +93,16 @@ pub record ResolvesProcess (resources : List Name) (written : tree.ProcessSyntax
   pub name : process.name ≡ written.name.text
   pub integers : process.integers ≡ texts written.integers
   pub distinct : AreDistinct process.integers
-  pub few_integers : length process.integers ≤ 64
+  pub few_integers : length process.integers ≤ MAX_INTEGERS
   pub body : ResolvesStmts process.integers resources written.body process.body
   pub numbered : IsWellNumbered process
-  pub few_arms : length (arms_of process) ≤ 64
+  pub few_arms : length (arms_of process) ≤ MAX_ARMS
 
 -- a resource keeps its name and its capital, at most 1,000,000
 pub record ResolvesResource (written : tree.ResourceSyntax) (resource : Resource) : Type 0 where
   pub name : resource.name ≡ written.name.text
   pub capital : written.capital.value ≡ pos resource.capital
-  pub small : resource.capital ≤ 1000000
+  pub small : resource.capital ≤ MAX_AMOUNT
 
 abbrev pub resource_names : Program → List Name
 resource_names program = map (λ resource. resource.name) program.resources
@@ -115,6 +116,6 @@ pub record Resolves (written : tree.ProgramSyntax) (program : Program) : Type 0 
   pub processes : AllZip (ResolvesProcess (resource_names program)) written.processes program.processes
   pub distinct_resources : AreDistinct (resource_names program)
   pub distinct_processes : AreDistinct (process_names program)
-  pub few_resources : length program.resources ≤ 16
+  pub few_resources : length program.resources ≤ MAX_RESOURCES
   pub some_processes : 1 ≤ length program.processes
-  pub few_processes : length program.processes ≤ 64
+  pub few_processes : length program.processes ≤ MAX_PROCESSES

@@ -8,8 +8,8 @@ use Rattle.pb_base.specs.Steppers.{Bundle, Bank}
 use Rattle.pb_base.specs.Steppers.{Effect, Silent, Prints, Takes, Returns, Faults, ending, Stepper, Can}
 use Rattle.pb_base.specs.Steppers.{opening}
 use Rattle.pb_base.specs.declared.event.Event.{Event}
-use Rattle.pb_names.specs.Program.{Expr, Number, Variable, Unary, Binary, Stmt, Set, Write, If, While, HoldDo}
-use Rattle.pb_names.specs.Program.{Parbegin, Block, Skip, Then, Arms, NoArm, AndArm, Process}
+use Rattle.pb_names.specs.Program.{Expr, Number, Variable, Unary, Binary, Stmt}
+use Rattle.pb_names.specs.Program.{Block, Skip, Then, Arms, NoArm, AndArm, Process}
 
 -- ---- expressions
 
@@ -43,19 +43,19 @@ step_expr vars (Binary op a b) = inside (λ a'. Binary op a' b) (step_expr vars 
 pub data Item : Type 0 where
   Assign : (line x : ℕ) (left : Expr) → Item
   Print : (line : ℕ) (left : Expr) → Item
-  Choice : (line : ℕ) (left : Expr) (then other : Block) → Item
-  Loop : (line : ℕ) (test left : Expr) (body : Block) → Item
+  If : (line : ℕ) (left : Expr) (then other : Block) → Item
+  While : (line : ℕ) (test left : Expr) (body : Block) → Item
   Hold : (line : ℕ) → Bundle → (body : Block) → Item
   GiveBack : (line : ℕ) → Bundle → Item
-  Parallel : (line first : ℕ) → Arms → Item
+  Parbegin : (line first : ℕ) → Arms → Item
 
 abbrev pub item_of : Stmt → Item
-item_of (Set line x e) = Assign line x e
-item_of (Write line e) = Print line e
-item_of (If line e a b) = Choice line e a b
-item_of (While line e body) = Loop line e e body
-item_of (HoldDo line bundle body) = Hold line bundle body
-item_of (Parbegin line first arms) = Parallel line first arms
+item_of (Stmt.Assign line x e) = Item.Assign line x e
+item_of (Stmt.Print line e) = Item.Print line e
+item_of (Stmt.If line e a b) = Item.If line e a b
+item_of (Stmt.While line e body) = Item.While line e e body
+item_of (Stmt.Hold line bundle body) = Item.Hold line bundle body
+item_of (Stmt.Parbegin line first arms) = Item.Parbegin line first arms
 
 abbrev pub items_of : Block → List Item
 items_of Skip = []
@@ -100,22 +100,22 @@ evaluate (Fails kind) keep done = Breaks kind
 
 abbrev pub step_items : List ℤ → List Item → ArmStep
 step_items vars [] = Ends
-step_items vars (Assign line x e ∷ rest) =
-    evaluate (step_expr vars e) (λ e'. Goes vars (Doing (Assign line x e' ∷ rest)) Silent)
+step_items vars (Item.Assign line x e ∷ rest) =
+    evaluate (step_expr vars e) (λ e'. Goes vars (Doing (Item.Assign line x e' ∷ rest)) Silent)
     (λ v. Goes (set vars x v) (Doing rest) Silent)
-step_items vars (Print line e ∷ rest) =
-    evaluate (step_expr vars e) (λ e'. Goes vars (Doing (Print line e' ∷ rest)) Silent)
+step_items vars (Item.Print line e ∷ rest) =
+    evaluate (step_expr vars e) (λ e'. Goes vars (Doing (Item.Print line e' ∷ rest)) Silent)
     (λ v. Goes vars (Doing rest) (Prints v))
-step_items vars (Choice line e a b ∷ rest) =
-    evaluate (step_expr vars e) (λ e'. Goes vars (Doing (Choice line e' a b ∷ rest)) Silent)
+step_items vars (Item.If line e a b ∷ rest) =
+    evaluate (step_expr vars e) (λ e'. Goes vars (Doing (Item.If line e' a b ∷ rest)) Silent)
     (λ v. Goes vars (Doing (items_of (cond (is_zero v) b a) ++ rest)) Silent)
-step_items vars (Loop line test e body ∷ rest) =
-    evaluate (step_expr vars e) (λ e'. Goes vars (Doing (Loop line test e' body ∷ rest)) Silent)
-    (λ v. Goes vars (Doing (cond (is_zero v) rest (items_of body ++ Loop line test test body ∷ rest))) Silent)
-step_items vars (Hold line bundle body ∷ rest) =
+step_items vars (Item.While line test e body ∷ rest) =
+    evaluate (step_expr vars e) (λ e'. Goes vars (Doing (Item.While line test e' body ∷ rest)) Silent)
+    (λ v. Goes vars (Doing (cond (is_zero v) rest (items_of body ++ Item.While line test test body ∷ rest))) Silent)
+step_items vars (Item.Hold line bundle body ∷ rest) =
     Goes vars (Doing (items_of body ++ GiveBack line bundle ∷ rest)) (Takes bundle)
 step_items vars (GiveBack line bundle ∷ rest) = Goes vars (Doing rest) (Returns bundle)
-step_items vars (Parallel line first arms ∷ rest) = Goes vars (Waiting line first (begin arms) rest) Silent
+step_items vars (Item.Parbegin line first arms ∷ rest) = Goes vars (Waiting line first (begin arms) rest) Silent
 
 -- running arms are removed once all have ended
 abbrev pub step_arm : List ℤ → Arm → Option ArmStep

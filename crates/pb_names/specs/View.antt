@@ -1,6 +1,6 @@
 -- The plain program of a numbered program in memory. Where it is in memory leaves no trace.
 use Rattle.std.specs.Prelude.{List, [], ◌∷◌, map, Vec}
-use Rattle.pb_names.specs.Program.{Number, Variable, Unary, Binary, Set, Write, If, While, HoldDo, Parbegin}
+use Rattle.pb_names.specs.Program.{Number, Variable, Unary, Binary, Assign, Print, If, While, Hold, Parbegin}
 use Rattle.pb_names.specs.Program.{Block, Skip, Then, Arms, NoArm, AndArm, Program}
 use Rattle.pb_names.specs.Program as plain
 use Rattle.pb_names.specs.declared.resolved.Expr.{Expr, fold-Expr}
@@ -31,12 +31,12 @@ arms_from (arm ∷ arms) = AndArm arm (arms_from arms)
 
 -- one level, with each statement inside already seen as its plain statement
 abbrev pub stmt_step : {A : Type 0} → Stmt-F A plain.Stmt → plain.Stmt
-stmt_step (Stmt-F.Assign line target value) = Set line target (expr_view value)
-stmt_step (Stmt-F.Print line value) = Write line (expr_view value)
+stmt_step (Stmt-F.Assign line target value) = Assign line target (expr_view value)
+stmt_step (Stmt-F.Print line value) = Print line (expr_view value)
 stmt_step (Stmt-F.If line test on_true on_false) =
     If line (expr_view test) (block_of on_true.items) (block_of on_false.items)
 stmt_step (Stmt-F.While line test body) = While line (expr_view test) (block_of body.items)
-stmt_step (Stmt-F.Hold line bundle body) = HoldDo line bundle (block_of body.items)
+stmt_step (Stmt-F.Hold line bundle body) = Hold line bundle (block_of body.items)
 stmt_step (Stmt-F.Parbegin line first arms) =
     Parbegin line first (arms_from (map (λ arm. block_of arm.items) arms.items))
 

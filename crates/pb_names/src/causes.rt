@@ -14,11 +14,9 @@ ghost use Rattle.pb_names.specs.declared.causes.Wrong.TheVariants.{Twice as twic
 use crate::declared::Declared;
 use crate::fault::NameFault;
 use pb_base::NoMemory;
+use pb_base::limits::MAX_AMOUNT;
 use pb_tree::{Demand, Expr, Name, Number, Process, Program, Resource, Stmt};
 use std::alloc::Allocator;
-
-/// The greatest amount of a hold, and the greatest capital.
-pub const MAX_AMOUNT: i64 = 1_000_000;
 
 /// What is wrong at a place.
 #[derive(Clone, Copy, Debug, PartialEq, Eq)]
@@ -66,11 +64,11 @@ fn earlier(a: Option<Cause>, b: Option<Cause>) -> Option<Cause>
 /// Returns a number as an amount from `least` to 1,000,000, if it is one.
 pub fn amount_from(least: u32, number: Number) -> Option<u32>
     ensures value { IfSome result (λ amount. number.value ≡ pos amount) }
-    ensures range { IfSome result (λ amount. (least ≤ amount) × (amount ≤ 1000000)) }
+    ensures range { IfSome result (λ amount. (least ≤ amount) × (amount ≤ MAX_AMOUNT)) }
     ensures outside { IfNone result
-        ((amount : ℕ) → least ≤ amount → amount ≤ 1000000 → number.value ≢ pos amount) }
+        ((amount : ℕ) → least ≤ amount → amount ≤ MAX_AMOUNT → number.value ≢ pos amount) }
 {
-    if number.value < i64::from(least) || number.value > MAX_AMOUNT {
+    if number.value < i64::from(least) || number.value > i64::from(MAX_AMOUNT) {
         return None;
     }
     Some(number.value as u32)

@@ -8,19 +8,9 @@ ghost use Rattle.pb_names.specs.Limits.{inner_arms_of_stmt, inner_arms, inner_ar
 ghost use Rattle.pb_names.specs.Limits.{most, IsTooMany, IsWithinLimits};
 
 use crate::fault::Kind;
+use pb_base::limits::{MAX_ARMS, MAX_FORK, MAX_INTEGERS, MAX_PROCESSES, MAX_RESOURCES};
 use pb_tree::{Process, Program, Stmt};
 use std::alloc::Allocator;
-
-/// The most processes of a program.
-pub const MAX_PROCESSES: usize = 64;
-/// The most resources of a program.
-pub const MAX_RESOURCES: usize = 16;
-/// The most integers of a process.
-pub const MAX_INTEGERS: usize = 64;
-/// The most arms of a parbegin.
-pub const MAX_FORK: usize = 16;
-/// The most arms of a process, its body counted as one.
-pub const MAX_ARMS: usize = 64;
 
 /// The most arms that one parbegin has, and how many arms all parbegins have together. Both stay at the
 /// greatest `usize`.

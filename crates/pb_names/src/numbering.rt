@@ -13,7 +13,7 @@ ghost use Rattle.pb_names.specs.Limits.{IsTooMany, IsWithinLimits, width, widest
 ghost use Rattle.pb_names.specs.Limits.{inner_arms_of_arms};
 ghost use Rattle.pb_names.specs.Program as plain;
 ghost use Rattle.pb_names.specs.Program.{IsNumbered, AreNumbered};
-ghost use Rattle.pb_names.specs.Ready.{IsReadyStmt, AreReady, AreReadyArms, AreComplete, IsFitting};
+ghost use Rattle.pb_names.specs.Ready.{IsReadyStmt, AreNumberable, AreReadyArms, AreComplete, IsFitting};
 ghost use Rattle.pb_names.specs.Ready.{IsComplete};
 ghost use Rattle.pb_names.specs.Resolves.{Resolves, ResolvesExpr, ResolvesStmts, ResolvesArms};
 ghost use Rattle.pb_names.specs.Resolves.{ResolvesDemand, ResolvesDemands, ResolvesProcess, ResolvesResource};
@@ -27,8 +27,9 @@ ghost use Rattle.pb_names.specs.View.{resource_view as resource_of};
 use crate::causes::{amount_from, fault_of, first_cause};
 use crate::declared::Declared;
 use crate::fault::{Kind, NameFault};
-use crate::limits::{MAX_ARMS, MAX_FORK, MAX_INTEGERS, MAX_RESOURCES, too_many};
+use crate::limits::too_many;
 use crate::resolved::{Expr, Process, Resolved, Resource, Stmt};
+use pb_base::limits::{MAX_AMOUNT, MAX_ARMS, MAX_FORK, MAX_INTEGERS, MAX_RESOURCES};
 use pb_base::{BinaryOp, Bundle, NoMemory, Pair, UnaryOp};
 use pb_tree::{Demand, Name, Number};
 use std::alloc::Allocator;
@@ -111,7 +112,7 @@ fn amount_of(least: u32, number: Number) -> u32
     requires { IsFree (IsOutside least (number_view number)) }
     ensures value { number.value ≡ pos result }
     ensures least { least ≤ result }
-    ensures most { result ≤ 1000000 }
+    ensures most { result ≤ MAX_AMOUNT }
 {
     match amount_from(least, number) {
         Some(amount) => amount,
@@ -365,7 +366,7 @@ fn number_list<A: Allocator + Clone>(
 ) -> Result<Vec<Stmt<A>, A>, NoMemory>
     requires few_integers { length (names_in integers.now) ≤ MAX_INTEGERS }
     requires few_resources { length (names_in resources.now) ≤ MAX_RESOURCES }
-    requires ready { AreReady (names_in integers.now) (names_in resources.now) next.old
+    requires ready { AreNumberable (names_in integers.now) (names_in resources.now) next.old
         (stmts_view stmts.now.items) }
     ensures resolves { IfOk result (λ list. ResolvesStmts (names_in integers.now) (names_in resources.now)
         (stmts_view stmts.now.items) (block_view list.items)) }

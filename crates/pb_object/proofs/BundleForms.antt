@@ -15,7 +15,8 @@ use Rattle.pb_code.specs.Names.{Word}
 use Rattle.pb_object.specs.Words.{paired, mapped}
 use Rattle.pb_object.specs.Instructions.{names_resource, pair_of, pairs_of, most_pairs, bundle_of, pair_words}
 use Rattle.pb_object.specs.Ranges.{IsPair, ArePairs, IsBundle}
-use Rattle.pb_object.proofs.Numbers.{own, none_of, number_again}
+use Rattle.pb_code.proofs.NumeralLemmas.{own}
+use Rattle.pb_object.proofs.Numbers.{none_of, number_again}
 use Rattle.pb_code.proofs.NameTests.{both_true, false_from}
 use Rattle.pb_object.proofs.LineLemmas.{AreWords}
 use Rattle.pb_object.proofs.Verdicts.{mapped_read, paired_read, guard_read}
@@ -72,12 +73,12 @@ pairs_takes (r ∷ k ∷ ws) ps e =
     sym (ap (λ (l : List Word). names_resource l (decimal m.0.0.resource)) others.0) ∙ sym (ap (names_resource ws) first.0) ∙ g.0 in
     subst (λ (l : List Pair). (r ∷ k ∷ ws ≡ pair_words l) × ArePairs l) m.2 (
       (let a = first.0 in let b = first.1 in let d = others.0 in cc),
-      (record { resource = first.2; some = first.3; amount = first.4 }, apart_from m.0.0.resource m.0.1 apart, others.1),
+      (record { resource = (let b = first.2 in omega (arith, b)); some = first.3; amount = first.4 }, apart_from m.0.0.resource m.0.1 apart, others.1),
     )
 
 pair_again : (p : Pair) → IsPair p → pair_of (decimal p.resource) (decimal p.amount) ≡ Read p
 pair_again p good = rw (
-  number_again 0 15 p.resource (omega arith) (omega arith) good.resource,
+  number_again 0 15 p.resource (omega arith) (omega arith) (let b = good.resource in omega (arith, b)),
   number_again 1 1000000
       p.amount (omega arith) good.some good.amount,
 ) refl
@@ -86,7 +87,11 @@ pairs_again : (ps : List Pair) → ArePairs ps → pairs_of (pair_words ps) ≡ 
 unfolding pairs_of
 pairs_again [] good = refl
 pairs_again (p ∷ ps) good =
-    rw (apart_to p.resource ps good.0.resource good.2 good.1, pair_again p good.0, pairs_again ps good.2) refl
+    rw (
+      apart_to p.resource ps (let b = good.0.resource in omega (arith, b)) good.2 good.1,
+      pair_again p good.0,
+      pairs_again ps good.2,
+    ) refl
 
 pairs_clean : (ps : List Pair) → ArePairs ps → AreWords (pair_words ps)
 pairs_clean [] good = tt

@@ -8,7 +8,7 @@ use Rattle.pb_base.specs.Tables.{HasWidth, width_of}
 use Rattle.pb_code.specs.Code.{Instr, ProcessCode}
 use Rattle.pb_code.specs.Whole.{Code, ProcessLabels}
 use Rattle.pb_code.specs.View.{instr_view, process_view, process_labels_view}
-use Rattle.pb_object.specs.Objects.{ResourceRow, ProcessRow, process_code, process_labels}
+use Rattle.pb_object.specs.Objects.{ResourceRow, ProcessRow, code_of_row, labels_of_row}
 use Rattle.pb_object.specs.Ranges.{Each, IsResource, IsProcess, most_processes}
 use Rattle.pb_object.specs.Rows.{process_row, resource_row, IsRow}
 use Rattle.pb_object.specs.declared.rows.ResourceRow.{ResourceRow as GivenResource}
@@ -35,7 +35,7 @@ one_code : (integers : ℕ) (entries : List ℕ) (instrs others : List Instr) (c
     }
 one_code integers entries instrs others count e f the is = cc
 
-row_code : (p : GivenProcess) → IsRow p → process_view p.code ≡ process_code (process_row p)
+row_code : (p : GivenProcess) → IsRow p → process_view p.code ≡ code_of_row (process_row p)
 row_code p fit =
     let even : length p.labels.lines.items ≡ length (map (instr_view p.code.bundles.items) p.code.instrs.items) =
     fit.lines ∙ sym (length-map p.code.instrs.items (instr_view p.code.bundles.items)) in
@@ -48,24 +48,24 @@ one_labels : (lines others : List (Option ℕ)) (integers : List (List ℕ)) →
     → (the : ProcessLabels) → the ≡ record { lines = lines; integers = integers } → the ≡ record { lines = others; integers = integers }
 one_labels lines others integers e the is = cc
 
-row_labels : (p : GivenProcess) → IsRow p → process_labels_view p.labels ≡ process_labels (process_row p)
+row_labels : (p : GivenProcess) → IsRow p → process_labels_view p.labels ≡ labels_of_row (process_row p)
 row_labels p fit =
     let even : length p.labels.lines.items ≡ length (map (instr_view p.code.bundles.items) p.code.instrs.items) =
     fit.lines ∙ sym (length-map p.code.instrs.items (instr_view p.code.bundles.items)) in
     one_labels p.labels.lines.items _ (map (λ name. name.items) p.labels.integers.items)
     (sym (side_left p.labels.lines.items (map (instr_view p.code.bundles.items) p.code.instrs.items) even)) (process_labels_view p.labels) refl
 
-pub rows_codes : (ps : List GivenProcess) → All IsRow ps → map process_view (map (λ p. p.code) ps) ≡ map process_code (map process_row ps)
+pub rows_codes : (ps : List GivenProcess) → All IsRow ps → map process_view (map (λ p. p.code) ps) ≡ map code_of_row (map process_row ps)
 rows_codes [] h = refl
 rows_codes (p ∷ ps) h =
     ap (λ (c : ProcessCode). c ∷ map process_view (map (λ p. p.code) ps)) (row_code p (h 0 p (omega arith)))
-    ∙ ap (λ (l : List ProcessCode). process_code (process_row p) ∷ l) (rows_codes ps (λ k d lt. h (suc k) d (omega arith)))
+    ∙ ap (λ (l : List ProcessCode). code_of_row (process_row p) ∷ l) (rows_codes ps (λ k d lt. h (suc k) d (omega arith)))
 
-pub rows_labels : (ps : List GivenProcess) → All IsRow ps → map process_labels_view (map (λ p. p.labels) ps) ≡ map process_labels (map process_row ps)
+pub rows_labels : (ps : List GivenProcess) → All IsRow ps → map process_labels_view (map (λ p. p.labels) ps) ≡ map labels_of_row (map process_row ps)
 rows_labels [] h = refl
 rows_labels (p ∷ ps) h =
     ap (λ (l : ProcessLabels). l ∷ map process_labels_view (map (λ p. p.labels) ps)) (row_labels p (h 0 p (omega arith)))
-    ∙ ap (λ (l : List ProcessLabels). process_labels (process_row p) ∷ l) (rows_labels ps (λ k d lt. h (suc k) d (omega arith)))
+    ∙ ap (λ (l : List ProcessLabels). labels_of_row (process_row p) ∷ l) (rows_labels ps (λ k d lt. h (suc k) d (omega arith)))
 
 -- ---- ranges of columns
 

@@ -1,5 +1,5 @@
--- Readers whose answer rests only on the text up to the end of the line where they stop, and that stop only where the
--- lines before could go on.
+-- Readers whose answer rests only on the text up to the end of the line where they stop, and that stop only
+-- where the lines before could go on.
 use Rattle.std.proofs.Common.{◌≡◌, ◌⊎◌, inl, inr, ℕ, zero, suc, ◌+◌, ◌<◌, ◌≤◌, Bool, true, false, not, eqb, ltb, List, [], ◌∷◌, ◌++◌, length, Some, None, Result, Ok, Err, refl, sym, ap, subst, ◌∙◌, append_assoc, arith}
 use Rattle.std.specs.List.{slice_split, position, position_or_len, prefix_len, list_all}
 use Rattle.std.proofs.lemmas.Bool.{eqb-true, le-ltb, lt-ltb}
@@ -11,7 +11,7 @@ use Rattle.pb_object.specs.declared.fault.Fault.TheVariants.{Malformed, Beyond}
 use Rattle.pb_object.specs.declared.words.Verdict.{Verdict}
 use Rattle.pb_object.specs.declared.words.Verdict.TheVariants as verdict
 use Rattle.pb_object.specs.FaultPlaces.{AreLines}
-use Rattle.pb_object.specs.Lines.{◌>>=◌, words_before, first_line, judged, line, many}
+use Rattle.pb_object.specs.Lines.{◌>>=◌, words_before, first_words, judged, line_by, many}
 use Rattle.pb_object.proofs.LineLemmas.{bind_ok, ok_is, prefix_whole}
 
 abbrev pub left_of : Fault → ℕ
@@ -78,16 +78,16 @@ prefix_all (b ∷ text) h =
     let s = both_true (not (eqb b 10)) (list_all (λ b. not (eqb b 10)) text) h in
     rw (s.0, prefix_all text s.1) (omega arith)
 
-line_found : (l r : List ℕ) → list_all (λ b. not (eqb b 10)) l ≡ true → first_line (l ++ 10 ∷ r) ≡ Ok (slice_split (λ b. eqb b 32) l, r)
-unfolding first_line
+line_found : (l r : List ℕ) → list_all (λ b. not (eqb b 10)) l ≡ true → first_words (l ++ 10 ∷ r) ≡ Ok (slice_split (λ b. eqb b 32) l, r)
+unfolding first_words
 line_found l r clean =
     let at : position_or_len (λ b. eqb b 10) (l ++ 10 ∷ r) ≡ length l = prefix_whole l r clean in
     let below : ltb (length l) (length (l ++ 10 ∷ r)) ≡ true = lt-ltb _ _ (omega (arith, length-append l (10 ∷ r))) in
     let found : position (λ b. eqb b 10) (l ++ 10 ∷ r) ≡ Some (length l) = rw (at, below) refl in
     ap (words_before (l ++ 10 ∷ r)) found ∙ rw (take_at l (10 ∷ r) (length l) refl, drop_at l (10 ∷ r) (length l) refl) refl
 
-line_lost : (text : List ℕ) → list_all (λ b. not (eqb b 10)) text ≡ true → first_line text ≡ Err (Malformed (length text))
-unfolding first_line
+line_lost : (text : List ℕ) → list_all (λ b. not (eqb b 10)) text ≡ true → first_words text ≡ Err (Malformed (length text))
+unfolding first_words
 line_lost text clean =
     let at : position_or_len (λ b. eqb b 10) text ≡ length text = prefix_all text clean in
     let below : ltb (length text) (length text) ≡ false = le-ltb _ _ (omega arith) in
@@ -96,13 +96,13 @@ line_lost text clean =
 
 -- what a line says once its words are judged
 said_line : {X : Type 0} (form : List Word → Verdict X) (l r : List ℕ) → list_all (λ b. not (eqb b 10)) l ≡ true
-    → line form (l ++ 10 ∷ r) ≡ (judged (length (l ++ 10 ∷ r)) (form (slice_split (λ b. eqb b 32) l)) >>= λ x. Ok (x, r))
-unfolding line
+    → line_by form (l ++ 10 ∷ r) ≡ (judged (length (l ++ 10 ∷ r)) (form (slice_split (λ b. eqb b 32) l)) >>= λ x. Ok (x, r))
+unfolding line_by
 said_line form l r clean = rw (line_found l r clean) refl
 
 lost_line : {X : Type 0} (form : List Word → Verdict X) (text : List ℕ) → list_all (λ b. not (eqb b 10)) text ≡ true
-    → line form text ≡ Err (Malformed (length text))
-unfolding line
+    → line_by form text ≡ Err (Malformed (length text))
+unfolding line_by
 lost_line form text clean = rw (line_lost text clean) refl
 
 abbrev pub fault : {A : Type 0} → Fault → Result A Fault
@@ -146,30 +146,30 @@ judged_again n m verdict.Malformed r s f e = (Malformed m, refl)
 judged_again n m verdict.Beyond r s f e = (Beyond m, refl)
 judged_again n m (verdict.Read y) r s f e = absurd cc
 
-line_left : {X : Type 0} (form : List Word → Verdict X) (text : List ℕ) (f : Fault) → line form text ≡ Err f → left_of f ≡ length text
+line_left : {X : Type 0} (form : List Word → Verdict X) (text : List ℕ) (f : Fault) → line_by form text ≡ Err f → left_of f ≡ length text
 line_left {X} form text f e =
     elim (cut text) [
       | inl clean ↦ err_left {A = X × List ℕ} (Malformed (length text)) f (sym (lost_line form text clean) ∙ e)
       | inr c ↦
-          let same : line form text ≡ judged_with (length (c.0 ++ 10 ∷ c.1)) (form (slice_split (λ b. eqb b 32) c.0)) c.1 =
-          ap (line form) c.2 ∙ said_line form c.0 c.1 c.3 in
+          let same : line_by form text ≡ judged_with (length (c.0 ++ 10 ∷ c.1)) (form (slice_split (λ b. eqb b 32) c.0)) c.1 =
+          ap (line_by form) c.2 ∙ said_line form c.0 c.1 c.3 in
           judged_left (length (c.0 ++ 10 ∷ c.1)) (form (slice_split (λ b. eqb b 32) c.0)) c.1 f (sym same ∙ e)
           ∙ ap (λ (t : List ℕ). length t) (sym c.2)
     ]
 
-line_finds : {X : Type 0} (form : List Word → Verdict X) (text : List ℕ) (x : X) (rest : List ℕ) → line form text ≡ Ok (x, rest)
-    → Found (line form) text x rest
+line_finds : {X : Type 0} (form : List Word → Verdict X) (text : List ℕ) (x : X) (rest : List ℕ) → line_by form text ≡ Ok (x, rest)
+    → Found (line_by form) text x rest
 line_finds {X} form text x rest e =
     elim (cut text) [
       | inl clean ↦ absurd (not_ok {A = X × List ℕ} (Malformed (length text)) (x, rest) (sym (lost_line form text clean) ∙ e))
       | inr c ↦
-          let same : line form text ≡ judged_with (length (c.0 ++ 10 ∷ c.1)) (form (slice_split (λ b. eqb b 32) c.0)) c.1 =
-          ap (line form) c.2 ∙ said_line form c.0 c.1 c.3 in
+          let same : line_by form text ≡ judged_with (length (c.0 ++ 10 ∷ c.1)) (form (slice_split (λ b. eqb b 32) c.0)) c.1 =
+          ap (line_by form) c.2 ∙ said_line form c.0 c.1 c.3 in
           let j = judged_read (length (c.0 ++ 10 ∷ c.1)) (form (slice_split (λ b. eqb b 32) c.0)) c.1 x rest (sym same ∙ e) in
           record {
             said = c.0 ++ 10 ∷ [];
             whole = c.2 ∙ ap (λ (r : List ℕ). c.0 ++ 10 ∷ r) j.1 ∙ sym (append_assoc c.0 (10 ∷ []) rest);
-            says = λ other. ap (line form) (append_assoc c.0 (10 ∷ []) other) ∙ said_line form c.0 other c.3 ∙ rw j.0 refl;
+            says = λ other. ap (line_by form) (append_assoc c.0 (10 ∷ []) other) ∙ said_line form c.0 other c.3 ∙ rw j.0 refl;
             lines = inr (c.0, refl);
           }
     ]
@@ -178,8 +178,8 @@ regroup : (text l r tail : List ℕ) → text ≡ l ++ 10 ∷ r → text ++ 10 �
 regroup text l r tail e = ap (λ (t : List ℕ). t ++ 10 ∷ tail) e ∙ append_assoc l (10 ∷ r) (10 ∷ tail)
 
 -- a line that is refused is refused whatever follows it
-line_stays : {X : Type 0} (form : List Word → Verdict X) (text tail other : List ℕ) (f : Fault) → line form (text ++ 10 ∷ tail) ≡ Err f
-    → (g : Fault) × (line form (text ++ 10 ∷ other) ≡ Err g)
+line_stays : {X : Type 0} (form : List Word → Verdict X) (text tail other : List ℕ) (f : Fault) → line_by form (text ++ 10 ∷ tail) ≡ Err f
+    → (g : Fault) × (line_by form (text ++ 10 ∷ other) ≡ Err g)
 line_stays {X} form text tail other f e =
     elim (cut text) [
       | inl clean ↦
@@ -193,11 +193,11 @@ line_stays {X} form text tail other f e =
           let two = regroup text c.0 c.1 other c.2 in
           let r = c.1 ++ 10 ∷ tail in
           let s = c.1 ++ 10 ∷ other in
-          let g = judged_again (length (c.0 ++ 10 ∷ r)) (length (c.0 ++ 10 ∷ s)) (form words) r s f (sym (ap (line form) one ∙ said_line form c.0 r c.3) ∙ e) in
-          (g.0, ap (line form) two ∙ said_line form c.0 s c.3 ∙ g.1)
+          let g = judged_again (length (c.0 ++ 10 ∷ r)) (length (c.0 ++ 10 ∷ s)) (form words) r s f (sym (ap (line_by form) one ∙ said_line form c.0 r c.3) ∙ e) in
+          (g.0, ap (line_by form) two ∙ said_line form c.0 s c.3 ∙ g.1)
     ]
 
-pub line_exact : {X : Type 0} (form : List Word → Verdict X) → IsSayable (line form) → IsExact (line form)
+pub line_exact : {X : Type 0} (form : List Word → Verdict X) → IsSayable (line_by form) → IsExact (line_by form)
 line_exact form sayable = record {
   finds = line_finds form;
   stops = λ text f e. record {
@@ -213,8 +213,8 @@ line_exact form sayable = record {
   stays = λ done text tail other f e left.
       let all = line_left form (done ++ (text ++ 10 ∷ tail)) f e in
       let nothing : done ≡ [] = nil_from_length done (omega (arith, all, left, length-append done (text ++ 10 ∷ tail))) in
-      let g = line_stays form text tail other f (ap (λ (d : List ℕ). line form (d ++ (text ++ 10 ∷ tail))) (sym nothing) ∙ e) in
-      (g.0, ap (λ (d : List ℕ). line form (d ++ (text ++ 10 ∷ other))) nothing ∙ g.1);
+      let g = line_stays form text tail other f (ap (λ (d : List ℕ). line_by form (d ++ (text ++ 10 ∷ tail))) (sym nothing) ∙ e) in
+      (g.0, ap (λ (d : List ℕ). line_by form (d ++ (text ++ 10 ∷ other))) nothing ∙ g.1);
 }
 
 -- ---- one part after the other

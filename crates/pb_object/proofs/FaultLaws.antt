@@ -8,7 +8,7 @@ use Rattle.pb_object.specs.declared.fault.ObjectFault.{ObjectFault}
 use Rattle.pb_object.specs.declared.fault.ObjectFault.TheVariants.{NotObject, Limit, NoMemory}
 use Rattle.pb_object.specs.Answers.{AnswersRows}
 use Rattle.pb_object.specs.FaultPlaces.{IsFaultPlace, IsPlaced}
-use Rattle.pb_object.specs.Objects.{Object, spelling}
+use Rattle.pb_object.specs.Objects.{Object, object_spelling}
 use Rattle.pb_object.specs.Ranges.{IsObject}
 use Rattle.pb_object.specs.Reading.{object_at, all_of, placed, answer_of}
 use Rattle.pb_object.proofs.LineLemmas.{ok_is}
@@ -17,11 +17,11 @@ use Rattle.pb_object.proofs.Exact.{left_of, not_err, fault, err_same, bind_err}
 use Rattle.pb_object.proofs.ObjectExact.{object_both}
 
 -- an object alone is read whole
-read_whole : (o : Object) (text : List ℕ) → IsObject o → text ≡ spelling o → object_at text ≡ Ok (o, [])
-read_whole o text good is = ap object_at (is ∙ sym (append-nil (spelling o))) ∙ object_part.again o [] good
+read_whole : (o : Object) (text : List ℕ) → IsObject o → text ≡ object_spelling o → object_at text ≡ Ok (o, [])
+read_whole o text good is = ap object_at (is ∙ sym (append-nil (object_spelling o))) ∙ object_part.again o [] good
 
 -- nothing is refused in an object
-never : (o : Object) (text : List ℕ) (g : Fault) → IsObject o → text ≡ spelling o → object_at text ≡ Err g → ⊥
+never : (o : Object) (text : List ℕ) (g : Fault) → IsObject o → text ≡ object_spelling o → object_at text ≡ Err g → ⊥
 never o text g good is e = not_err {A = Object × List ℕ} (o, []) g (sym (read_whole o text good is) ∙ e)
 
 refused : (text : List ℕ) (f : Fault) → object_at text ≡ Err f → IsFaultPlace text (length text - left_of f)
@@ -36,12 +36,12 @@ refused text f h =
       parts = s.whole;
       place = omega (arith, long, left, length-append s.done s.rest);
       ended = s.lines;
-      begun = (s.x, s.more, said.1, sym (append-nil (s.done ++ s.more)) ∙ said.0 ∙ append-nil (spelling s.x));
+      begun = (s.x, s.more, said.1, sym (append-nil (s.done ++ s.more)) ∙ said.0 ∙ append-nil (object_spelling s.x));
       stuck = λ line tail is b.
           let whole : text ≡ s.done ++ (line ++ 10 ∷ tail) = s.whole ∙ ap (λ (t : List ℕ). s.done ++ t) is in
           let g = object_both.0.stays s.done line tail b.1 f (ap object_at (sym whole) ∙ h)
           (left ∙ ap (λ (t : List ℕ). length t) is) in
-          let spelled : s.done ++ (line ++ 10 ∷ b.1) ≡ spelling b.0 =
+          let spelled : s.done ++ (line ++ 10 ∷ b.1) ≡ object_spelling b.0 =
           ap (λ (t : List ℕ). s.done ++ t) (sym (append_assoc line (10 ∷ []) b.1))
           ∙ sym (append_assoc s.done (line ++ 10 ∷ []) b.1) ∙ b.3 in
           never b.0 (s.done ++ (line ++ 10 ∷ b.1)) g.0 b.2 spelled g.1;
@@ -60,10 +60,10 @@ gone_on text o rest h some =
       parts = d.whole;
       place = omega (arith, long, length-append d.said rest);
       ended = d.lines;
-      begun = (o, [], said.1, said.0 ∙ append-nil (spelling o));
+      begun = (o, [], said.1, said.0 ∙ append-nil (object_spelling o));
       stuck = λ line tail is b.
           let after : List ℕ = (line ++ 10 ∷ []) ++ b.1 in
-          let spelled : d.said ++ after ≡ spelling b.0 = sym (append_assoc d.said (line ++ 10 ∷ []) b.1) ∙ b.3 in
+          let spelled : d.said ++ after ≡ object_spelling b.0 = sym (append_assoc d.said (line ++ 10 ∷ []) b.1) ∙ b.3 in
           let same = ok_is (o, after) (b.0, []) (sym (d.says after) ∙ read_whole b.0 (d.said ++ after) b.2 spelled) in
           let none : after ≡ [] = ap (λ (p : Object × List ℕ). p.1) same in
           let size = ap (λ (t : List ℕ). length t) none in

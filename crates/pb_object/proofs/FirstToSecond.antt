@@ -21,7 +21,7 @@ use Rattle.pb_object.specs.Objects.{ProcessRow, Object, code_of, labels_of}
 use Rattle.pb_object.specs.Ranges.{Each, IsBundle, IsInstr, IsPlace, plain_names, AreIntegers, IsProcess, IsObject}
 use Rattle.pb_code.specs.Limits.{IsLine}
 use Rattle.pb_object.specs.Answers.{HasText}
-use Rattle.pb_object.proofs.Numbers.{own}
+use Rattle.pb_code.proofs.NumeralLemmas.{own}
 use Rattle.pb_object.proofs.LineLemmas.{all_mono}
 use Rattle.pb_object.proofs.BundleForms.{decimal_same}
 use Rattle.pb_object.proofs.Columns.{few_processes}

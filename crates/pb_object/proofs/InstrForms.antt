@@ -21,13 +21,14 @@ use Rattle.pb_code.specs.View.{instr_view}
 use Rattle.pb_code.specs.Bundles.{IsPlain}
 use Rattle.pb_code.specs.Names.{Word}
 use Rattle.pb_object.specs.Words.{mapped, number}
-use Rattle.pb_object.specs.Instructions.{alone, two, signed, bare, push_of, bundle_of, operation, comparison, plain, instr_of, instr, instr_words, line_of, line_number, place, place_words}
+use Rattle.pb_object.specs.Instructions.{alone, two, signed, bare, push_of, bundle_of, operation, comparison, plain, instr_of, instr, instr_words, line_given, line_number, place, place_words}
 use Rattle.pb_code.specs.Limits.{IsSigned, IsLine}
 use Rattle.pb_object.specs.Ranges.{AreArms, IsInstr, IsPlace}
-use Rattle.pb_object.proofs.Numbers.{own, number_takes, number_again}
+use Rattle.pb_code.proofs.NumeralLemmas.{own}
+use Rattle.pb_object.proofs.Numbers.{number_takes, number_again}
 use Rattle.pb_code.proofs.NameTests.{both_true, false_from}
 use Rattle.pb_object.proofs.LineLemmas.{is_inner, AreWords}
-use Rattle.pb_object.proofs.Verdicts.{mapped_read, paired_read, select_or}
+use Rattle.pb_object.proofs.Verdicts.{mapped_read, paired_read, select_or, read_is}
 use Rattle.pb_object.proofs.LineForms.{decimal_clean}
 use Rattle.pb_object.proofs.BundleForms.{bundle_takes, bundle_again, bundle_clean}
 use Rattle.pb_object.proofs.Parts.{AreLine, IsForm}
@@ -38,9 +39,6 @@ Says k ws i = (k ∷ ws ≡ instr_words (instr_view [] i)) × ((format : Format)
 
 abbrev reading : {T : Type 0} → T → Verdict T
 reading x = Read x
-
-read_is : {T : Type 0} (x y : T) → reading x ≡ reading y → x ≡ y
-read_is x y e = cc
 
 bare_says : (key k : Word) (ws : List Word) (j i : Given) → instr_words (instr_view [] j) ≡ key ∷ [] → ((format :
     Format) → IsInstr format (instr_view [] j)) → IsPlain j
@@ -83,7 +81,7 @@ arms_says key k ws make i words good named h e =
     let m = mapped_read make (two 1 63 1 16 ws) i e in
     let p = two_takes 1 63 1 16 (omega arith) (omega arith) ws m.0 m.1 in
     let line : k ∷ ws ≡ key ∷ decimal m.0.0 ∷ decimal m.0.1 ∷ [] = (let a = p.0 in cc) in
-    subst (λ (x : Given). Says k ws x) m.2 (line ∙ sym (words m.0), good m.0 (p.1.0, p.1.1, p.2.0, p.2.1), named m.0)
+    subst (λ (x : Given). Says k ws x) m.2 (line ∙ sym (words m.0), good m.0 (p.1.0, (let b = p.1.1 in omega (arith, b)), p.2.0, p.2.1), named m.0)
 
 operation_says : (k : Word) (ws : List Word) (i : Given) → operation k ws ≡ Read i → Says k ws i
 unfolding operation
@@ -179,8 +177,8 @@ pub plain_says : (k : Word) (ws : List Word) (i : Given) → plain k ws ≡ Read
 unfolding plain
 plain_says k ws i e =
     select_or k (codes "push") _ _ i e (push_says k ws i) (λ e.
-    select_or k (codes "load") _ _ i e (number_says (codes "load") k ws given.Load i 0 63 (omega arith) (λ n. refl) (λ n h f. h) (λ n. tt)) (λ e.
-    select_or k (codes "store") _ _ i e (number_says (codes "store") k ws given.Store i 0 63 (omega arith) (λ n. refl) (λ n h f. h) (λ n. tt)) (λ e.
+    select_or k (codes "load") _ _ i e (number_says (codes "load") k ws given.Load i 0 63 (omega arith) (λ n. refl) (λ n h f. omega (arith, h)) (λ n. tt)) (λ e.
+    select_or k (codes "store") _ _ i e (number_says (codes "store") k ws given.Store i 0 63 (omega arith) (λ n. refl) (λ n h f. omega (arith, h)) (λ n. tt)) (λ e.
     select_or k (codes "jump") _ _ i e (number_says (codes "jump") k ws given.Jump i 0 39999 (omega arith) (λ n. refl) (λ n h f. h) (λ n. tt)) (λ e.
     select_or k (codes "jzero") _ _ i e (number_says (codes "jzero") k ws given.JumpIfZero i 0 39999 (omega arith) (λ n. refl) (λ n h f. h) (λ n. tt)) (λ e.
     select_or k (codes "print") _ _ i e (bare_says (codes "print") k ws given.Print i refl (λ f. tt) tt) (λ e.
@@ -225,8 +223,8 @@ instr_takes format (k ∷ ws) i e =
 instr_again : (format : Format) (i : Instr) → IsInstr format i → instr format (instr_words i) ≡ Read i
 unfolding instr_of plain comparison operation
 instr_again format (Push v) good = rw (signed_again v good) refl
-instr_again format (Load x) good = rw (number_again 0 63 x (omega arith) (omega arith) good) refl
-instr_again format (Store x) good = rw (number_again 0 63 x (omega arith) (omega arith) good) refl
+instr_again format (Load x) good = rw (number_again 0 63 x (omega arith) (omega arith) (omega (arith, good))) refl
+instr_again format (Store x) good = rw (number_again 0 63 x (omega arith) (omega arith) (omega (arith, good))) refl
 instr_again format (Compute1 unary.Negate) good = refl
 instr_again format (Compute1 unary.Not) good = refl
 instr_again format (Compute2 binary.Add) good = refl
@@ -247,8 +245,8 @@ instr_again format (JumpIfZero t) good = rw (number_again 0 39999 t (omega arith
 instr_again format PrintTop good = refl
 instr_again format (Take ps) good = rw (bundle_again format ps good) refl
 instr_again format (Give ps) good = rw (bundle_again format ps good) refl
-instr_again format (Fork f n) good = rw (number_again 1 63 f (omega arith) good.0 good.1, number_again 1 16 n (omega arith) good.2 good.3) refl
-instr_again format (Join f n) good = rw (number_again 1 63 f (omega arith) good.0 good.1, number_again 1 16 n (omega arith) good.2 good.3) refl
+instr_again format (Fork f n) good = rw (number_again 1 63 f (omega arith) good.0 (let b = good.1 in omega (arith, b)), number_again 1 16 n (omega arith) good.2 good.3) refl
+instr_again format (Join f n) good = rw (number_again 1 63 f (omega arith) good.0 (let b = good.1 in omega (arith, b)), number_again 1 16 n (omega arith) good.2 good.3) refl
 instr_again format End good = refl
 
 number_clean : (n high : ℕ) → n ≤ high → high < 2 ^ 64 → list_all is_inner (decimal n) ≡ true
@@ -260,8 +258,8 @@ signed_clean (negsuc n) good = rw (decimal_clean (suc n) (omega (arith, good))) 
 
 instr_clean : (format : Format) (i : Instr) → IsInstr format i → AreWords (instr_words i)
 instr_clean format (Push v) good = (refl, (signed_clean v good, tt))
-instr_clean format (Load x) good = (refl, (number_clean x 63 good (omega arith), tt))
-instr_clean format (Store x) good = (refl, (number_clean x 63 good (omega arith), tt))
+instr_clean format (Load x) good = (refl, (number_clean x 63 (omega (arith, good)) (omega arith), tt))
+instr_clean format (Store x) good = (refl, (number_clean x 63 (omega (arith, good)) (omega arith), tt))
 instr_clean format (Compute1 unary.Negate) good = (refl, tt)
 instr_clean format (Compute1 unary.Not) good = (refl, tt)
 instr_clean format (Compute2 binary.Add) good = (refl, tt)
@@ -282,8 +280,8 @@ instr_clean format (JumpIfZero t) good = (refl, (number_clean t 39999 good (omeg
 instr_clean format PrintTop good = (refl, tt)
 instr_clean format (Take ps) good = (refl, bundle_clean format ps good)
 instr_clean format (Give ps) good = (refl, bundle_clean format ps good)
-instr_clean format (Fork f n) good = (refl, (number_clean f 63 good.1 (omega arith), (number_clean n 16 good.3 (omega arith), tt)))
-instr_clean format (Join f n) good = (refl, (number_clean f 63 good.1 (omega arith), (number_clean n 16 good.3 (omega arith), tt)))
+instr_clean format (Fork f n) good = (refl, (number_clean f 63 (let b = good.1 in omega (arith, b)) (omega arith), (number_clean n 16 good.3 (omega arith), tt)))
+instr_clean format (Join f n) good = (refl, (number_clean f 63 (let b = good.1 in omega (arith, b)) (omega arith), (number_clean n 16 good.3 (omega arith), tt)))
 instr_clean format End good = (refl, tt)
 
 as_line : (format : Format) (ws : List Word) (i : Instr) → ws ≡ instr_words i → instr format ws ≡ Read i → AreWords ws → AreLine ws
@@ -292,17 +290,17 @@ as_line format (w ∷ ws) i e r h = h
 
 -- ---- places
 
-line_number_of : (w : Word) (n : ℕ) → w ≡ decimal n → n ≤ 65536 → (w ≡ decimal (line_number (line_of n))) × IsLine (line_of n)
+line_number_of : (w : Word) (n : ℕ) → w ≡ decimal n → n ≤ 65536 → (w ≡ decimal (line_number (line_given n))) × IsLine (line_given n)
 line_number_of w zero e h = (e, tt)
 line_number_of w (suc n) e h = (e, (omega arith, h))
 
-line_takes : (w : Word) (line : Option ℕ) → mapped line_of (number 0 65536 w) ≡ Read line → (w ≡ decimal (line_number line)) × IsLine line
+line_takes : (w : Word) (line : Option ℕ) → mapped line_given (number 0 65536 w) ≡ Read line → (w ≡ decimal (line_number line)) × IsLine line
 line_takes w line e =
-    let m = mapped_read line_of (number 0 65536 w) line e in
+    let m = mapped_read line_given (number 0 65536 w) line e in
     let n = number_takes 0 65536 w m.0 (omega arith) m.1 in
     subst (λ (l : Option ℕ). (w ≡ decimal (line_number l)) × IsLine l) m.2 (line_number_of w m.0 n.0 n.2)
 
-line_again : (line : Option ℕ) → IsLine line → mapped line_of (number 0 65536 (decimal (line_number line))) ≡ Read line
+line_again : (line : Option ℕ) → IsLine line → mapped line_given (number 0 65536 (decimal (line_number line))) ≡ Read line
 line_again None good = rw (number_again 0 65536 0 (omega arith) (omega arith) (omega arith)) refl
 line_again (Some zero) good = absurd (let h = good.0 in omega arith)
 line_again (Some (suc n)) good = rw (number_again 0 65536 (suc n) (omega arith) (omega arith) good.1) refl
@@ -322,7 +320,7 @@ place_takes One ws p e =
     subst (λ (q : Option ℕ × Instr). (ws ≡ place_words One q) × IsPlace One q) m.2 (t.0, (refl, t.1))
 place_takes Two [] p e = absurd cc
 place_takes Two (n ∷ ws) p e =
-    let q = paired_read (mapped line_of (number 0 65536 n)) (instr Two ws) p e in
+    let q = paired_read (mapped line_given (number 0 65536 n)) (instr Two ws) p e in
     let a = line_takes n p.0 q.0 in
     let t = instr_takes Two ws p.1 q.1 in
     ((let x = a.0 in let y = t.0 in cc), (a.1, t.1))

@@ -12,12 +12,14 @@ use Rattle.pb_object.specs.declared.words.Verdict.TheVariants.{Malformed, Beyond
 use Rattle.pb_object.specs.declared.format.Format.{Format}
 use Rattle.pb_object.specs.declared.format.Format.TheVariants.{One, Two}
 use Rattle.pb_code.specs.Names.{Word, is_name_byte, reserved_words, is_name, is_among}
-use Rattle.pb_object.specs.Words.{paired, mapped, number, numbers, is_numeral, is_new_name, are_new}
+use Rattle.pb_code.specs.Numerals.{is_numeral}
+use Rattle.pb_object.specs.Words.{paired, mapped, number, numbers, is_new_name, are_new}
 use Rattle.pb_object.specs.Instructions.{select}
 use Rattle.pb_object.specs.Objects.{ResourceRow, counted_words, resource_words, process_words, digit_of, integers_words, claims_words}
 use Rattle.pb_object.specs.Ranges.{IsResource, AreIntegers, AreClaimsInRange, plain_names}
 use Rattle.pb_object.specs.Reading.{counted, resource, process_name, heading, says_number, named_integers, integers, claims}
-use Rattle.pb_object.proofs.Numbers.{own, number_takes, number_again, numeral_is, is_numeral_decimal}
+use Rattle.pb_code.proofs.NumeralLemmas.{own, numeral_is, is_numeral_decimal}
+use Rattle.pb_object.proofs.Numbers.{number_takes, number_again}
 use Rattle.pb_code.proofs.NameTests.{both_true, letter_name}
 use Rattle.pb_object.proofs.Verdicts.{mapped_read, paired_read, select_or, only_read, select_same, guard_read}
 use Rattle.pb_object.proofs.LineLemmas.{is_inner, AreWords, all_mono}

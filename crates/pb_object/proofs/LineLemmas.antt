@@ -8,8 +8,8 @@ use Rattle.std.proofs.lemmas.List.Splits.{slice_split_none, slice_split_at, join
 use Rattle.std.proofs.lemmas.List.Elements.{All-from_recursion}
 use Rattle.pb_object.specs.declared.fault.Fault.{Fault}
 use Rattle.pb_code.specs.Names.{Word}
-use Rattle.pb_object.specs.Lines.{line_text, ◌>>=◌, words_before, first_line}
-use Rattle.pb_code.proofs.NameTests.{both_true}
+use Rattle.pb_object.specs.Lines.{line_text, ◌>>=◌, words_before, first_words}
+use Rattle.pb_code.proofs.NameTests.{both_true, not_true}
 
 -- the value of a step that did not fail
 pub bind_ok : {A B : Type 0} (r : Result A Fault) (f : A → Result B Fault) (y : B) → (r >>= f) ≡ Ok y → (x : A) × (r ≡ Ok x) × (f x ≡ Ok y)
@@ -52,15 +52,11 @@ cut_takes text (Some i) x at e =
     let same = ok_is (slice_split (λ b. eqb b 32) (take i text), drop 1 (drop i text)) x e in
     subst (λ (y : List Word × List ℕ). text ≡ line_text y.0 ++ y.1) same whole
 
-pub first_line_takes : (text : List ℕ) (x : List Word × List ℕ) → first_line text ≡ Ok x → text ≡ line_text x.0 ++ x.1
-unfolding first_line
+pub first_line_takes : (text : List ℕ) (x : List Word × List ℕ) → first_words text ≡ Ok x → text ≡ line_text x.0 ++ x.1
+unfolding first_words
 first_line_takes text x e = cut_takes text (position (λ b. eqb b 10) text) x refl e
 
 -- ---- again
-
-not_true : (b : Bool) → not b ≡ true → b ≡ false
-not_true true h = absurd cc
-not_true false h = refl
 
 all_rec : (p : ℕ → Bool) (xs : List ℕ) → ((b : ℕ) → is_inner b ≡ true → p b ≡ false) → list_all is_inner xs ≡ true → AllByRecursion (λ b. p b ≡ false) xs
 all_rec p [] each h = tt
@@ -94,13 +90,13 @@ prefix_whole (b ∷ text) rest h =
     let i = prefix_whole text rest s.1 in
     rw (s.0, i) (omega arith)
 
-pub first_line_again : (w : Word) (ws : List Word) (rest : List ℕ) → AreWords (w ∷ ws) → first_line (line_text (w ∷ ws) ++ rest) ≡ Ok (w ∷ ws, rest)
-unfolding first_line
+pub first_line_again : (w : Word) (ws : List Word) (rest : List ℕ) → AreWords (w ∷ ws) → first_words (line_text (w ∷ ws) ++ rest) ≡ Ok (w ∷ ws, rest)
+unfolding first_words
 first_line_again w ws rest h =
     let text = join_with_byte 32 (w ∷ ws) in
     let whole : line_text (w ∷ ws) ++ rest ≡ text ++ 10 ∷ rest = append_assoc text (10 ∷ []) rest in
     let at : position_or_len (λ b. eqb b 10) (text ++ 10 ∷ rest) ≡ length text = prefix_whole text rest (no_end w ws h) in
     let below : ltb (length text) (length (text ++ 10 ∷ rest)) ≡ true = lt-ltb _ _ (omega (arith, length-append text (10 ∷ rest))) in
     let found : position (λ b. eqb b 10) (text ++ 10 ∷ rest) ≡ Some (length text) = rw (at, below) refl in
-    ap first_line whole ∙ ap (words_before (text ++ 10 ∷ rest)) found
+    ap first_words whole ∙ ap (words_before (text ++ 10 ∷ rest)) found
     ∙ rw (take_at text (10 ∷ rest) (length text) refl, drop_at text (10 ∷ rest) (length text) refl, split_again w ws h) refl

@@ -11,7 +11,7 @@ use Rattle.std.proofs.lemmas.Bool.Decides.{nat_tests}
 use Rattle.pb_object.specs.declared.fault.Fault.{Fault}
 use Rattle.pb_object.specs.declared.fault.Fault.TheVariants.{Malformed}
 use Rattle.pb_code.specs.Names.{Word}
-use Rattle.pb_object.specs.Lines.{words_before, first_line}
+use Rattle.pb_object.specs.Lines.{words_before, first_words}
 
 -- the bytes put before the first word
 abbrev pub onto : List ℕ → List Word → List Word
@@ -110,8 +110,8 @@ answered_cut : (text : List ℕ) (n : ℕ) (within : Bool)
 answered_cut text n true = refl
 answered_cut text n false = refl
 
-scanned : (text : List ℕ) → first_line text ≡ answered (length text) (scan text)
-unfolding first_line
+scanned : (text : List ℕ) → first_words text ≡ answered (length text) (scan text)
+unfolding first_words
 scanned text =
     answered_cut text (line_length text) (ltb (line_length text) (length text))
     ∙ ap (answered (length text)) (cut_is text)
@@ -187,7 +187,7 @@ turn_space text words start i d lt space so_far =
 
 pub turn_feed : (text : List ℕ) (words : List Word) (start i d : ℕ) → i < length text
     → get_or text i d ≡ 10 → IsFound text words start i
-    → first_line text
+    → first_words text
     ≡ Ok (words ++ between text start i ∷ [], take (length text - (i + 1)) (drop (i + 1) text))
 turn_feed text words start i d lt feed so_far =
     let part = between text start i in
@@ -200,7 +200,7 @@ turn_feed text words start i d lt feed so_far =
     ∙ ap (λ (l : List ℕ). Ok (words ++ part ∷ [], l)) (sym (take_rest text (i + 1)))
 
 pub turn_end : (text : List ℕ) (words : List Word) (start i : ℕ) → length text ≤ i
-    → IsFound text words start i → first_line text ≡ Err (Malformed (length text))
+    → IsFound text words start i → first_words text ≡ Err (Malformed (length text))
 turn_end text words start i le so_far =
     let one : scan (drop i text) ≡ None = ap scan (drop_of_length-le text le) in
     scanned text

@@ -14,17 +14,9 @@ use Rattle.pb_object.specs.declared.words.Verdict.{Verdict}
 use Rattle.pb_object.specs.declared.words.Verdict.TheVariants.{Malformed, Beyond, Read}
 use Rattle.std.proofs.lemmas.Bool.Decides.{nat_tests}
 use Rattle.pb_code.specs.Names.{Word}
-use Rattle.pb_object.specs.Words.{is_numeral, number}
-
-pub own : IsNumeralModel (λ ds. list_all is_ascii_digit ds ≡ true) (digits_value 10)
-own = numerals_by_value _ (search rules)
-
-pub digit_more : (ds : List ℕ) (i : ℕ) → list_all is_ascii_digit ds ≡ true → i < length ds
-    → (digits_value 10 (take (i + 1) ds) + 48 ≡ digits_value 10 (take i ds) * 10 + get_or ds i 0) × (48 ≤ get_or ds i 0)
-digit_more ds i all lt =
-    let more = digits_value_more 10 ds i lt in
-    let d : digit_value (get_or ds i 0) + 48 ≡ get_or ds i 0 = digit_value_digit (get_or ds i 0) (digit_at ds i (own.to ds all) lt) in
-    (omega (arith, more, d), omega (arith, d))
+use Rattle.pb_code.specs.Numerals.{is_numeral}
+use Rattle.pb_code.proofs.NumeralLemmas.{own, numeral_is, is_numeral_decimal}
+use Rattle.pb_object.specs.Words.{number}
 
 pub none_of : (a b : Bool) → (a || b) ≡ false → (a ≡ false) × (b ≡ false)
 none_of true b e = absurd cc
@@ -39,25 +31,6 @@ read_number true true n m e = absurd cc
 read_number true false n m e = (refl, refl, cc)
 read_number false b n m e = absurd cc
 
-pub numeral_is : (w : Word) → is_numeral w ≡ true → (list_all is_ascii_digit w ≡ true) × (0 < length w) × (get_or w 0 0 ≡ 48 → length w ≡ 1)
-numeral_is [] e = absurd cc
-numeral_is (d ∷ ds) e =
-    let p = both_true (list_all is_ascii_digit (d ∷ ds)) (not (eqb d 48) || eqb (length ds) 0) e in (
-      p.0,
-      omega arith,
-      λ h. let h' : d ≡ 48 = h in let q : eqb (length ds) 0 ≡ true = subst (λ (x : ℕ). (not (eqb x
-          48) || eqb (length ds) 0) ≡ true) h' p.1 in omega (arith, eqb-true (length ds) 0 q),
-    )
-
-lone : (d n : ℕ) → (d ≡ 48 → n ≡ 0) → (not (eqb d 48) || eqb n 0) ≡ true
-lone d n h = grind (arith, nat_tests)
-
-pub is_numeral_from : (w : Word) → list_all is_ascii_digit w ≡ true → 0 < length w → (get_or w 0 0 ≡ 48 → length w ≡ 1) → is_numeral w ≡ true
-is_numeral_from [] all some zeros = absurd (omega arith)
-is_numeral_from (d ∷ ds) all some zeros =
-    let z : d ≡ 48 → length ds ≡ 0 = λ h. let one : length (d ∷ ds) ≡ 1 = zeros h in omega (arith, one) in
-    rw (all, lone d (length ds) z) refl
-
 pub number_takes : (low high : ℕ) (w : Word) (n : ℕ) → high < 2 ^ 64 → number low high w ≡ Read n → (w ≡ decimal n) × (low ≤ n) × (n ≤ high)
 unfolding number
 number_takes low high w n small e =
@@ -68,14 +41,6 @@ number_takes low high w n small e =
     let below : digits_value 10 w ≤ high = ltb-false _ _ q.1 in
     let written : decimal (digits_value 10 w) ≡ w = decimal-digits_value own w f.0 f.1 f.2 (omega arith) in
     (sym written ∙ ap decimal p.2, omega (arith, p.2), omega (arith, p.2))
-
-pub is_numeral_decimal : (n : ℕ) → n < 2 ^ 64 → is_numeral (decimal n) ≡ true
-is_numeral_decimal n small =
-    is_numeral_from (decimal n) (digits_decimal own n small) (decimal_nonempty n small) (λ h.
-    elim (cases_lt 0 n) [
-      | inl lt ↦ absurd (omega (arith, first_decimal n lt small, h))
-      | inr le ↦ (let z : n ≡ 0 = omega arith in let d : decimal n ≡ 48 ∷ [] = ap decimal z ∙ decimal_digit 0 (omega arith) in ap (λ (w : Word). length w) d)
-    ])
 
 pub number_again : (low high n : ℕ) → high < 2 ^ 64 → low ≤ n → n ≤ high → number low high (decimal n) ≡ Read n
 unfolding number

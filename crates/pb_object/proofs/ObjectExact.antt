@@ -7,7 +7,7 @@ use Rattle.pb_code.specs.Names.{Word}
 use Rattle.pb_object.specs.declared.format.Format.{Format}
 use Rattle.pb_object.specs.declared.format.Format.TheVariants.{One, Two}
 use Rattle.pb_object.specs.Instructions.{place, place_words}
-use Rattle.pb_object.specs.Lines.{line, many, line_text}
+use Rattle.pb_object.specs.Lines.{line_by, many, line_text}
 use Rattle.pb_object.specs.Objects.{ResourceRow, ProcessRow, Object, counted_words, resource_words, process_words}
 use Rattle.pb_object.specs.Ranges.{IsPlace, IsResource, AreIntegers, AreClaimsInRange, most_processes, plain_names}
 use Rattle.pb_object.specs.Reading.{counted, resource, process_name, heading, integers, claims, resource_at, entry_at, place_at, process_at, process_after, object_at}
@@ -36,20 +36,20 @@ said_of part text Good is x good = (x, text x, λ rest. is.again x rest good)
 
 -- ---- lines
 
-counted_both : (key : Word) (high : ℕ) → 1 ≤ high → high < 2 ^ 64 → list_all is_inner key ≡ true → (low : ℕ) → low ≤ 1 → Both (line (counted key low high))
+counted_both : (key : Word) (high : ℕ) → 1 ≤ high → high < 2 ^ 64 → list_all is_inner key ≡ true → (low : ℕ) → low ≤ 1 → Both (line_by (counted key low high))
 counted_both key high some small clean low few =
-    let s = said_of (line (counted key low high)) (λ n. line_text (counted_words key n)) (λ n. (low ≤ n) × (n ≤ high))
+    let s = said_of (line_by (counted key low high)) (λ n. line_text (counted_words key n)) (λ n. (low ≤ n) × (n ≤ high))
     (counted_part key low high small clean) 1 (few, some) in
     (line_exact (counted key low high) s, s)
 
 -- a number that was read is in range
 counted_within : (key : Word) (low high n : ℕ) (s : List ℕ) → high < 2 ^ 64 → list_all is_inner key ≡ true
-    → Says (line (counted key low high)) n s → n ≤ high
+    → Says (line_by (counted key low high)) n s → n ≤ high
 counted_within key low high n s small clean says = ((counted_part key low high small clean).takes (s ++ []) n [] (says [])).1.1
 
-heading_both : Both (line heading)
+heading_both : Both (line_by heading)
 heading_both =
-    let s = said_of (line heading) _ _ format_part Two tt in
+    let s = said_of (line_by heading) _ _ format_part Two tt in
     (line_exact heading s, s)
 
 resource_both : (earlier : List ResourceRow) → length earlier < 64 → Both (resource_at earlier)
@@ -57,14 +57,14 @@ resource_both earlier few =
     let f = fresh_name (map (λ e. e.name) earlier) (omega (arith, few, length-map earlier (λ (e : ResourceRow). e.name))) in
     let row : ResourceRow = record { name = f.0; capital = 0 } in
     let good : IsResource earlier row = record { name = f.1; capital = omega arith } in
-    let s = said_of (line (resource earlier)) (λ r. line_text (resource_words r)) (IsResource earlier) (line_is
+    let s = said_of (line_by (resource earlier)) (λ r. line_text (resource_words r)) (IsResource earlier) (line_is
     (resource earlier) resource_words (IsResource earlier) (resource_is earlier)) row good in
     (line_exact (resource earlier) s, s)
 
-name_both : (names : List Word) → length names < 64 → Both (line (process_name names))
+name_both : (names : List Word) → length names < 64 → Both (line_by (process_name names))
 name_both names few =
     let f = fresh_name names few in
-    let s = said_of (line (process_name names)) (λ name. line_text (process_words name)) _ (line_is (process_name
+    let s = said_of (line_by (process_name names)) (λ name. line_text (process_words name)) _ (line_is (process_name
     names) process_words _ (name_is names)) f.0 f.1 in
     (line_exact (process_name names) s, s)
 
@@ -73,28 +73,28 @@ unfolding plain_names
 no_integers One = (refl, omega arith)
 no_integers Two = (tt, refl, omega arith)
 
-integers_both : (format : Format) → Both (line (integers format))
+integers_both : (format : Format) → Both (line_by (integers format))
 integers_both format =
-    let s = said_of (line (integers format)) _ (AreIntegers format) (integers_part format) [] (no_integers format) in
+    let s = said_of (line_by (integers format)) _ (AreIntegers format) (integers_part format) [] (no_integers format) in
     (line_exact (integers format) s, s)
 
 some_claims : (m : ℕ) → (cs : List ℕ) × AreClaimsInRange m cs
 some_claims zero = ([], (refl, tt))
 some_claims (suc m) = let s = some_claims m in (0 ∷ s.0, (ap suc s.1.0, (omega arith, s.1.1)))
 
-claims_both : (m : ℕ) → Both (line (claims m))
+claims_both : (m : ℕ) → Both (line_by (claims m))
 claims_both m =
     let c = some_claims m in
-    let s = said_of (line (claims m)) _ (AreClaimsInRange m) (claims_part m) c.0 c.1 in
+    let s = said_of (line_by (claims m)) _ (AreClaimsInRange m) (claims_part m) c.0 c.1 in
     (line_exact (claims m) s, s)
 
 an_end : (format : Format) → IsPlace format (None, End)
 an_end One = (refl, tt)
 an_end Two = (tt, tt)
 
-place_both : (format : Format) → Both (line (place format))
+place_both : (format : Format) → Both (line_by (place format))
 place_both format =
-    let s = said_of (line (place format)) (λ i. line_text (place_words format i)) (IsPlace format) (line_is (place
+    let s = said_of (line_by (place format)) (λ i. line_text (place_words format i)) (IsPlace format) (line_is (place
     format) (place_words format) (IsPlace format) (place_is format)) (None, End) (an_end format) in
     (line_exact (place format) s, s)
 
@@ -122,19 +122,19 @@ abbrev after_count : Format → Word → List Word → List ℕ → List ℕ →
 after_count format name names claims entries count = then_read (many (place_at format) [] count) (after_places name names claims entries)
 
 abbrev after_entries : Format → Word → List Word → List ℕ → List ℕ → Reader ProcessRow
-after_entries format name names claims entries = then_read (line (counted (codes "code") 1 40000)) (after_count format name names claims entries)
+after_entries format name names claims entries = then_read (line_by (counted (codes "code") 1 40000)) (after_count format name names claims entries)
 
 abbrev after_claims : Format → Word → List Word → ℕ → List ℕ → Reader ProcessRow
 after_claims format name names arms claims = then_read (many entry_at [] arms) (after_entries format name names claims)
 
 abbrev after_arms : Format → ℕ → Word → List Word → ℕ → Reader ProcessRow
-after_arms format m name names arms = then_read (line (claims m)) (after_claims format name names arms)
+after_arms format m name names arms = then_read (line_by (claims m)) (after_claims format name names arms)
 
 abbrev after_integers : Format → ℕ → Word → List Word → Reader ProcessRow
-after_integers format m name names = then_read (line (counted (codes "arms") 1 64)) (after_arms format m name names)
+after_integers format m name names = then_read (line_by (counted (codes "arms") 1 64)) (after_arms format m name names)
 
 abbrev after_name : Format → ℕ → Word → Reader ProcessRow
-after_name format m name = then_read (line (integers format)) (after_integers format m name)
+after_name format m name = then_read (line_by (integers format)) (after_integers format m name)
 
 count_both : (format : Format) (name : Word) (names : List Word) (claims entries : List ℕ) (count : ℕ) → Both
     (after_count format name names claims entries count)
@@ -144,7 +144,7 @@ count_both format name names claims entries count =
 
 entries_then : (format : Format) (name : Word) (names : List Word) (claims entries : List ℕ) → Both (after_entries format name names claims entries)
 entries_then format name names claims entries =
-    both_then (line (counted (codes "code") 1 40000)) (after_count format name names claims entries)
+    both_then (line_by (counted (codes "code") 1 40000)) (after_count format name names claims entries)
     (counted_both (codes "code") 40000 (omega arith) (omega arith) refl 1 (omega arith))
     (λ count s says. count_both format name names claims entries count)
 
@@ -155,25 +155,25 @@ claims_then format name names arms claims =
 
 arms_then : (format : Format) (m : ℕ) (name : Word) (names : List Word) (arms : ℕ) → Both (after_arms format m name names arms)
 arms_then format m name names arms =
-    both_then (line (claims m)) (after_claims format name names arms) (claims_both m)
+    both_then (line_by (claims m)) (after_claims format name names arms) (claims_both m)
     (λ claims s says. claims_then format name names arms claims)
 
 integers_then : (format : Format) (m : ℕ) (name : Word) (names : List Word) → Both (after_integers format m name names)
 integers_then format m name names =
-    both_then (line (counted (codes "arms") 1 64)) (after_arms format m name names)
+    both_then (line_by (counted (codes "arms") 1 64)) (after_arms format m name names)
     (counted_both (codes "arms") 64 (omega arith) (omega arith) refl 1 (omega arith))
     (λ arms s says. arms_then format m name names arms)
 
 name_then : (format : Format) (m : ℕ) (name : Word) → Both (after_name format m name)
 name_then format m name =
-    both_then (line (integers format)) (after_integers format m name) (integers_both format)
+    both_then (line_by (integers format)) (after_integers format m name) (integers_both format)
     (λ names s says. integers_then format m name names)
 
 process_both : (format : Format) (m : ℕ) (earlier : List ProcessRow) → length earlier < 64 → Both (process_at format m earlier)
 unfolding process_after
 process_both format m earlier few =
     let names = map (λ e. e.name) earlier in
-    both_then (line (process_name names)) (after_name format m)
+    both_then (line_by (process_name names)) (after_name format m)
     (name_both names (omega (arith, few, length-map earlier (λ (e : ProcessRow). e.name))))
     (λ name s says. name_then format m name)
 
@@ -189,13 +189,13 @@ abbrev after_process_count : Format → ℕ → List ResourceRow → ℕ → Rea
 after_process_count format m resources p = then_read (many (process_at format m) [] p) (after_processes format resources)
 
 abbrev after_resources : Format → ℕ → List ResourceRow → Reader Object
-after_resources format m resources = then_read (line (counted (codes "processes") 1 (most_processes format))) (after_process_count format m resources)
+after_resources format m resources = then_read (line_by (counted (codes "processes") 1 (most_processes format))) (after_process_count format m resources)
 
 abbrev after_resource_count : Format → ℕ → Reader Object
 after_resource_count format m = then_read (many resource_at [] m) (after_resources format m)
 
 abbrev after_format : Format → Reader Object
-after_format format = then_read (line (counted (codes "resources") 0 16)) (after_resource_count format)
+after_format format = then_read (line_by (counted (codes "resources") 0 16)) (after_resource_count format)
 
 few_of : (format : Format) → (1 ≤ most_processes format) × (most_processes format ≤ 64)
 few_of One = (omega arith, omega arith)
@@ -209,7 +209,7 @@ process_count_then format m resources p few =
 resources_then : (format : Format) (m : ℕ) (resources : List ResourceRow) → Both (after_resources format m resources)
 resources_then format m resources =
     let few = few_of format in
-    both_then (line (counted (codes "processes") 1 (most_processes format))) (after_process_count format m resources)
+    both_then (line_by (counted (codes "processes") 1 (most_processes format))) (after_process_count format m resources)
     (counted_both (codes "processes") (most_processes format) few.0 (small_processes format) refl 1 (omega arith))
     (λ p s says. let below = counted_within (codes "processes") 1 (most_processes format) p s (small_processes format) refl says in
     process_count_then format m resources p (let most = few.1 in omega (arith, below, most)))
@@ -221,11 +221,11 @@ resource_count_then format m few =
 
 pub format_then : (format : Format) → Both (after_format format)
 format_then format =
-    both_then (line (counted (codes "resources") 0 16)) (after_resource_count format)
+    both_then (line_by (counted (codes "resources") 0 16)) (after_resource_count format)
     (counted_both (codes "resources") 16 (omega arith) (omega arith) refl 0 (omega arith))
     (λ m s says. let below = counted_within (codes "resources") 0 16 m s (omega arith) refl says in
     resource_count_then format m (omega (arith, below)))
 
 pub object_both : Both object_at
 unfolding object_at
-object_both = both_then (line heading) after_format heading_both (λ format s says. format_then format)
+object_both = both_then (line_by heading) after_format heading_both (λ format s says. format_then format)

@@ -10,9 +10,9 @@ use Rattle.pb_object.specs.declared.format.Format.TheVariants.{One, Two}
 use Rattle.pb_code.specs.Code.{Instr}
 use Rattle.pb_code.specs.Names.{Word}
 use Rattle.pb_object.specs.Words.{is_new_name}
-use Rattle.pb_object.specs.Lines.{line_text, line, many, ◌>>=◌}
+use Rattle.pb_object.specs.Lines.{line_text, line_by, many, ◌>>=◌}
 use Rattle.pb_object.specs.Instructions.{place, place_words}
-use Rattle.pb_object.specs.Objects.{ProcessRow, ResourceRow, Object, counted_words, resource_words, process_words, integers_words, claims_words, digit_of, process_text, spelling}
+use Rattle.pb_object.specs.Objects.{ProcessRow, ResourceRow, Object, counted_words, resource_words, process_words, integers_words, claims_words, digit_of, process_text, object_spelling}
 use Rattle.pb_object.specs.Ranges.{Each, IsPlace, IsResource, IsEntry, IsProcess, IsObject, AreIntegers, AreClaimsInRange, most_processes}
 use Rattle.pb_object.specs.Reading.{counted, resource, process_name, heading, integers, claims, resource_at, entry_at, place_at, process_at, process_after, object_at, all_of}
 use Rattle.pb_object.proofs.LineLemmas.{bind_ok, ok_is, is_inner}
@@ -33,7 +33,7 @@ joined x1 x2 x3 x4 x5 bytes b1 b2 b3 b4 rest e1 e2 e3 e4 e5 =
     e1 ∙ ap (λ (t : List ℕ). x1 ++ t) (e2 ∙ ap (λ (t : List ℕ). x2 ++ t) (e3 ∙ ap (λ (t : List ℕ). x3 ++ t) (e4 ∙ ap (λ (t : List ℕ). x4 ++ t) e5)))
     ∙ sym (five x1 x2 x3 x4 x5 rest)
 
-pub counted_part : (key : Word) (low high : ℕ) → high < 2 ^ 64 → list_all is_inner key ≡ true → IsPart (line (counted
+pub counted_part : (key : Word) (low high : ℕ) → high < 2 ^ 64 → list_all is_inner key ≡ true → IsPart (line_by (counted
     key low high)) (λ n. line_text (counted_words key n)) (λ n. (low ≤ n) × (n ≤ high))
 counted_part key low high small clean = line_is (counted key low high) (counted_words key) (λ n. (low ≤ n) × (n ≤ high)) (counted_is key low high small clean)
 
@@ -58,19 +58,19 @@ pub places_part : (format : Format) (n : ℕ) → IsPart (many (place_at format)
 places_part format n = many_is (place_at format) (λ i. line_text (place_words format i)) (λ earlier i. IsPlace format
     i) (λ earlier. line_is (place format) (place_words format) (IsPlace format) (place_is format)) n
 
-name_part : (earlier : List ProcessRow) → IsPart (line (process_name (map (λ p. p.name) earlier))) (λ name. line_text
+name_part : (earlier : List ProcessRow) → IsPart (line_by (process_name (map (λ p. p.name) earlier))) (λ name. line_text
     (process_words name)) (λ name. is_new_name (map (λ e. e.name) earlier) name ≡ true)
 name_part earlier = line_is (process_name (map (λ p. p.name) earlier)) process_words (λ name. is_new_name (map (λ e.
     e.name) earlier) name ≡ true) (name_is (map (λ p. p.name) earlier))
 
-pub integers_part : (format : Format) → IsPart (line (integers format)) (λ names. line_text (integers_words format names)) (AreIntegers format)
+pub integers_part : (format : Format) → IsPart (line_by (integers format)) (λ names. line_text (integers_words format names)) (AreIntegers format)
 integers_part format = line_is (integers format) (integers_words format) (AreIntegers format) (integers_is format)
 
 pub few_integers : (format : Format) (names : List Word) → AreIntegers format names → length names ≤ 64
 few_integers One names good = good.1
 few_integers Two names good = good.2
 
-pub claims_part : (m : ℕ) → IsPart (line (claims m)) (λ ns. line_text (claims_words ns)) (AreClaimsInRange m)
+pub claims_part : (m : ℕ) → IsPart (line_by (claims m)) (λ ns. line_text (claims_words ns)) (AreClaimsInRange m)
 claims_part m = line_is (claims m) claims_words (AreClaimsInRange m) (claims_is m)
 
 seven : (x1 x2 x3 x4 x5 x6 x7 rest : List ℕ)
@@ -101,33 +101,33 @@ after_count format name integers claims entries count =
 
 abbrev after_entries : Format → Word → List Word → List ℕ → List ℕ × List ℕ → AProcess
 after_entries format name integers claims entries =
-    line (counted (codes "code") 1 40000) entries.1 >>= after_count format name integers claims entries.0
+    line_by (counted (codes "code") 1 40000) entries.1 >>= after_count format name integers claims entries.0
 
 abbrev after_claims : Format → Word → List Word → ℕ → List ℕ × List ℕ → AProcess
 after_claims format name integers arms claims =
     many entry_at [] arms claims.1 >>= after_entries format name integers claims.0
 
 abbrev after_arms : Format → ℕ → Word → List Word → ℕ × List ℕ → AProcess
-after_arms format m name integers arms = line (claims m) arms.1 >>= after_claims format name integers arms.0
+after_arms format m name integers arms = line_by (claims m) arms.1 >>= after_claims format name integers arms.0
 
 abbrev after_integers : Format → ℕ → Word → List Word × List ℕ → AProcess
 after_integers format m name integers =
-    line (counted (codes "arms") 1 64) integers.1 >>= after_arms format m name integers.0
+    line_by (counted (codes "arms") 1 64) integers.1 >>= after_arms format m name integers.0
 
 abbrev after_name : Format → ℕ → Word × List ℕ → AProcess
-after_name format m name = line (integers format) name.1 >>= after_integers format m name.0
+after_name format m name = line_by (integers format) name.1 >>= after_integers format m name.0
 
 process_takes : (format : Format) (m : ℕ) (earlier : List ProcessRow) (bytes : List ℕ) (p : ProcessRow) (rest : List
     ℕ) → process_at format m earlier bytes ≡ Ok (p, rest)
     → (bytes ≡ process_text format p ++ rest) × IsProcess format m earlier p
 unfolding process_after process_text
 process_takes format m earlier bytes p rest e =
-    let a = bind_ok (line (process_name (map (λ p. p.name) earlier)) bytes) (after_name format m) (p, rest) e in
-    let b = bind_ok (line (integers format) a.0.1) (after_integers format m a.0.0) (p, rest) a.2 in
-    let d = bind_ok (line (counted (codes "arms") 1 64) b.0.1) (after_arms format m a.0.0 b.0.0) (p, rest) b.2 in
-    let f = bind_ok (line (claims m) d.0.1) (after_claims format a.0.0 b.0.0 d.0.0) (p, rest) d.2 in
+    let a = bind_ok (line_by (process_name (map (λ p. p.name) earlier)) bytes) (after_name format m) (p, rest) e in
+    let b = bind_ok (line_by (integers format) a.0.1) (after_integers format m a.0.0) (p, rest) a.2 in
+    let d = bind_ok (line_by (counted (codes "arms") 1 64) b.0.1) (after_arms format m a.0.0 b.0.0) (p, rest) b.2 in
+    let f = bind_ok (line_by (claims m) d.0.1) (after_claims format a.0.0 b.0.0 d.0.0) (p, rest) d.2 in
     let g = bind_ok (many entry_at [] d.0.0 f.0.1) (after_entries format a.0.0 b.0.0 f.0.0) (p, rest) f.2 in
-    let h = bind_ok (line (counted (codes "code") 1 40000) g.0.1) (after_count format a.0.0 b.0.0 f.0.0 g.0.0) (p, rest) g.2 in
+    let h = bind_ok (line_by (counted (codes "code") 1 40000) g.0.1) (after_count format a.0.0 b.0.0 f.0.0 g.0.0) (p, rest) g.2 in
     let i = bind_ok (many (place_at format) [] h.0.0 h.0.1) (after_places a.0.0 b.0.0 f.0.0 g.0.0) (p, rest) h.2 in
     let ta = (name_part earlier).takes bytes a.0.0 a.0.1 a.1 in
     let tb = (integers_part format).takes a.0.1 b.0.0 b.0.1 b.1 in
@@ -182,22 +182,22 @@ process_again format m earlier p rest good =
     let arms = length p.entries in
     let count = length p.places in
     ap (process_at format m earlier) regrouped
-    ∙ bind_is (line (process_name (map (λ p. p.name) earlier)) (x1 ++ (x2 ++ (x3 ++ (x4 ++ (x5 ++ (x6 ++ (x7 ++ rest))))))))
+    ∙ bind_is (line_by (process_name (map (λ p. p.name) earlier)) (x1 ++ (x2 ++ (x3 ++ (x4 ++ (x5 ++ (x6 ++ (x7 ++ rest))))))))
     (after_name format m) (p.name, x2 ++ (x3 ++ (x4 ++ (x5 ++ (x6 ++ (x7 ++ rest))))))
     ((name_part earlier).again p.name (x2 ++ (x3 ++ (x4 ++ (x5 ++ (x6 ++ (x7 ++ rest)))))) good.name)
-    ∙ bind_is (line (integers format) (x2 ++ (x3 ++ (x4 ++ (x5 ++ (x6 ++ (x7 ++ rest)))))))
+    ∙ bind_is (line_by (integers format) (x2 ++ (x3 ++ (x4 ++ (x5 ++ (x6 ++ (x7 ++ rest)))))))
     (after_integers format m p.name) (ints, x3 ++ (x4 ++ (x5 ++ (x6 ++ (x7 ++ rest)))))
     ((integers_part format).again ints (x3 ++ (x4 ++ (x5 ++ (x6 ++ (x7 ++ rest))))) good.integers)
-    ∙ bind_is (line (counted (codes "arms") 1 64) (x3 ++ (x4 ++ (x5 ++ (x6 ++ (x7 ++ rest))))))
+    ∙ bind_is (line_by (counted (codes "arms") 1 64) (x3 ++ (x4 ++ (x5 ++ (x6 ++ (x7 ++ rest))))))
     (after_arms format m p.name ints) (arms, x4 ++ (x5 ++ (x6 ++ (x7 ++ rest))))
     ((counted_part (codes "arms") 1 64 (omega arith) refl).again arms (x4 ++ (x5 ++ (x6 ++ (x7 ++ rest)))) (good.some_arms, good.few_arms))
-    ∙ bind_is (line (claims m) (x4 ++ (x5 ++ (x6 ++ (x7 ++ rest)))))
+    ∙ bind_is (line_by (claims m) (x4 ++ (x5 ++ (x6 ++ (x7 ++ rest)))))
     (after_claims format p.name ints arms) (p.claims, x5 ++ (x6 ++ (x7 ++ rest)))
     ((claims_part m).again p.claims (x5 ++ (x6 ++ (x7 ++ rest))) good.claims)
     ∙ bind_is (many entry_at [] arms (x5 ++ (x6 ++ (x7 ++ rest))))
     (after_entries format p.name ints p.claims) (p.entries, x6 ++ (x7 ++ rest))
     ((entries_part arms).again p.entries (x6 ++ (x7 ++ rest)) (refl, good.entries))
-    ∙ bind_is (line (counted (codes "code") 1 40000) (x6 ++ (x7 ++ rest)))
+    ∙ bind_is (line_by (counted (codes "code") 1 40000) (x6 ++ (x7 ++ rest)))
     (after_count format p.name ints p.claims p.entries) (count, x7 ++ rest)
     ((counted_part (codes "code") 1 40000 (omega arith) refl).again count (x7 ++ rest) (good.some_places, good.few_places))
     ∙ bind_is (many (place_at format) [] count (x7 ++ rest))
@@ -218,7 +218,7 @@ pub small_processes : (f : Format) → most_processes f < 2 ^ 64
 small_processes One = omega arith
 small_processes Two = omega arith
 
-pub format_part : IsPart (line heading) (λ f. line_text (codes "PBO" ∷ digit_of f ∷ [])) (λ f. Unit {0})
+pub format_part : IsPart (line_by heading) (λ f. line_text (codes "PBO" ∷ digit_of f ∷ [])) (λ f. Unit {0})
 format_part = line_is heading (λ f. codes "PBO" ∷ digit_of f ∷ []) (λ f. Unit {0}) heading_is
 
 abbrev AnObject : Type 0
@@ -234,21 +234,21 @@ after_number format m resources number =
 
 abbrev after_resources : Format → ℕ → List ResourceRow × List ℕ → AnObject
 after_resources format m resources =
-    line (counted (codes "processes") 1 (most_processes format)) resources.1 >>= after_number format m resources.0
+    line_by (counted (codes "processes") 1 (most_processes format)) resources.1 >>= after_number format m resources.0
 
 abbrev after_m : Format → ℕ × List ℕ → AnObject
 after_m format m = many resource_at [] m.0 m.1 >>= after_resources format m.0
 
 abbrev after_format : Format × List ℕ → AnObject
-after_format format = line (counted (codes "resources") 0 16) format.1 >>= after_m format.0
+after_format format = line_by (counted (codes "resources") 0 16) format.1 >>= after_m format.0
 
-object_takes : (bytes : List ℕ) (o : Object) (rest : List ℕ) → object_at bytes ≡ Ok (o, rest) → (bytes ≡ spelling o ++ rest) × IsObject o
-unfolding object_at spelling
+object_takes : (bytes : List ℕ) (o : Object) (rest : List ℕ) → object_at bytes ≡ Ok (o, rest) → (bytes ≡ object_spelling o ++ rest) × IsObject o
+unfolding object_at object_spelling
 object_takes bytes o rest e =
-    let a = bind_ok (line heading bytes) after_format (o, rest) e in
-    let b = bind_ok (line (counted (codes "resources") 0 16) a.0.1) (after_m a.0.0) (o, rest) a.2 in
+    let a = bind_ok (line_by heading bytes) after_format (o, rest) e in
+    let b = bind_ok (line_by (counted (codes "resources") 0 16) a.0.1) (after_m a.0.0) (o, rest) a.2 in
     let c = bind_ok (many resource_at [] b.0.0 b.0.1) (after_resources a.0.0 b.0.0) (o, rest) b.2 in
-    let d = bind_ok (line (counted (codes "processes") 1 (most_processes a.0.0)) c.0.1) (after_number a.0.0 b.0.0 c.0.0) (o, rest) c.2 in
+    let d = bind_ok (line_by (counted (codes "processes") 1 (most_processes a.0.0)) c.0.1) (after_number a.0.0 b.0.0 c.0.0) (o, rest) c.2 in
     let g = bind_ok (many (process_at a.0.0 b.0.0) [] d.0.0 d.0.1) (after_processes a.0.0 c.0.0) (o, rest) d.2 in
     let ta = format_part.takes bytes a.0.0 a.0.1 a.1 in
     let tb = (counted_part (codes "resources") 0 16 (omega arith) refl).takes a.0.1 b.0.0 b.0.1 b.1 in
@@ -276,10 +276,10 @@ object_takes bytes o rest e =
       few_processes = subst (λ (n : ℕ). n ≤ most_processes a.0.0) (sym tg.1.0) td.1.1;
       processes = subst (λ (m : ℕ). Each (IsProcess a.0.0 m) [] g.0.0) (sym tc.1.0) tg.1.1;
     } in
-    subst (λ (y : Object × List ℕ). (bytes ≡ spelling y.0 ++ y.1) × IsObject y.0) (ok_is (made, g.0.1) (o, rest) g.2) (e1, good)
+    subst (λ (y : Object × List ℕ). (bytes ≡ object_spelling y.0 ++ y.1) × IsObject y.0) (ok_is (made, g.0.1) (o, rest) g.2) (e1, good)
 
-object_again : (o : Object) (rest : List ℕ) → IsObject o → object_at (spelling o ++ rest) ≡ Ok (o, rest)
-unfolding object_at spelling
+object_again : (o : Object) (rest : List ℕ) → IsObject o → object_at (object_spelling o ++ rest) ≡ Ok (o, rest)
+unfolding object_at object_spelling
 object_again o rest good =
     let x1 = line_text (codes "PBO" ∷ digit_of o.format ∷ []) in
     let x2 = line_text (counted_words (codes "resources") (length o.resources)) in
@@ -289,30 +289,31 @@ object_again o rest good =
     let m = length o.resources in
     let number = length o.processes in
     ap object_at (five x1 x2 x3 x4 x5 rest)
-    ∙ bind_is (line heading (x1 ++ (x2 ++ (x3 ++ (x4 ++ (x5 ++ rest)))))) after_format
+    ∙ bind_is (line_by heading (x1 ++ (x2 ++ (x3 ++ (x4 ++ (x5 ++ rest)))))) after_format
     (o.format, x2 ++ (x3 ++ (x4 ++ (x5 ++ rest))))
     (format_part.again o.format (x2 ++ (x3 ++ (x4 ++ (x5 ++ rest)))) tt)
-    ∙ bind_is (line (counted (codes "resources") 0 16) (x2 ++ (x3 ++ (x4 ++ (x5 ++ rest))))) (after_m o.format)
+    ∙ bind_is (line_by (counted (codes "resources") 0 16) (x2 ++ (x3 ++ (x4 ++ (x5 ++ rest))))) (after_m o.format)
     (m, x3 ++ (x4 ++ (x5 ++ rest)))
     ((counted_part (codes "resources") 0 16 (omega arith) refl).again m (x3 ++ (x4 ++ (x5 ++ rest))) (omega arith, good.few_resources))
     ∙ bind_is (many resource_at [] m (x3 ++ (x4 ++ (x5 ++ rest)))) (after_resources o.format m) (o.resources, x4 ++ (x5 ++ rest))
     ((resources_part m).again o.resources (x4 ++ (x5 ++ rest)) (refl, good.resources))
-    ∙ bind_is (line (counted (codes "processes") 1 (most_processes o.format)) (x4 ++ (x5 ++ rest)))
+    ∙ bind_is (line_by (counted (codes "processes") 1 (most_processes o.format)) (x4 ++ (x5 ++ rest)))
     (after_number o.format m o.resources) (number, x5 ++ rest)
     ((counted_part (codes "processes") 1 (most_processes o.format) (small_processes o.format) refl).again number (x5 ++
     rest) (good.some_processes, good.few_processes))
     ∙ bind_is (many (process_at o.format m) [] number (x5 ++ rest)) (after_processes o.format o.resources) (o.processes, rest)
     ((processes_part o.format m number).again o.processes rest (refl, good.processes))
 
-pub object_part : IsPart object_at spelling IsObject
+pub object_part : IsPart object_at object_spelling IsObject
 object_part = record { takes = object_takes; again = object_again }
 
--- an object's text followed by more is an object's text only where nothing follows, and then of the same object
-pub alike : (a b : Object) (more : List ℕ) → IsObject a → IsObject b → spelling a ++ more ≡ spelling b → (a ≡ b) × (more ≡ [])
+-- an object's text followed by more is an object's text only where nothing follows, and then of the same
+-- object
+pub alike : (a b : Object) (more : List ℕ) → IsObject a → IsObject b → object_spelling a ++ more ≡ object_spelling b → (a ≡ b) × (more ≡ [])
 alike a b more ga gb e =
     let first = object_again a more ga in
     let second = object_again b [] gb in
-    let same : object_at (spelling a ++ more) ≡ object_at (spelling b ++ []) = ap object_at (e ∙ sym (append-nil (spelling b))) in
+    let same : object_at (object_spelling a ++ more) ≡ object_at (object_spelling b ++ []) = ap object_at (e ∙ sym (append-nil (object_spelling b))) in
     let pairs : (a, more) ≡ (b, []) = ok_is (a, more) (b, []) (sym first ∙ same ∙ second) in
     (ap (λ (x : Object × List ℕ). x.0) pairs, ap (λ (x : Object × List ℕ). x.1) pairs)
 
@@ -320,18 +321,18 @@ guard_ended : (b : Bool) (d : Fault) (x y : Object) → cond b (Ok x) (Err d) �
 guard_ended true d x y e = (refl, cc)
 guard_ended false d x y e = absurd cc
 
-pub all_takes : (bytes : List ℕ) (o : Object) → all_of bytes ≡ Ok o → IsObject o × (bytes ≡ spelling o)
+pub all_takes : (bytes : List ℕ) (o : Object) → all_of bytes ≡ Ok o → IsObject o × (bytes ≡ object_spelling o)
 unfolding all_of
 all_takes bytes o e =
     let a = bind_ok (object_at bytes) (λ x. cond (eqb (length x.1) 0) (Ok x.0) (Err (Malformed (length x.1)))) o e in
     let g = guard_ended (eqb (length a.0.1) 0) (Malformed (length a.0.1)) a.0.0 o a.2 in
     let t = object_takes bytes a.0.0 a.0.1 a.1 in
     let nothing : a.0.1 ≡ [] = nil_from_length a.0.1 (eqb-true _ _ g.0) in
-    let whole : bytes ≡ spelling a.0.0 = t.0 ∙ ap (λ (r : List ℕ). spelling a.0.0 ++ r) nothing ∙ append-nil (spelling a.0.0) in
-    subst (λ (x : Object). IsObject x × (bytes ≡ spelling x)) g.1 (t.1, whole)
+    let whole : bytes ≡ object_spelling a.0.0 = t.0 ∙ ap (λ (r : List ℕ). object_spelling a.0.0 ++ r) nothing ∙ append-nil (object_spelling a.0.0) in
+    subst (λ (x : Object). IsObject x × (bytes ≡ object_spelling x)) g.1 (t.1, whole)
 
-pub all_again : (o : Object) → IsObject o → all_of (spelling o) ≡ Ok o
+pub all_again : (o : Object) → IsObject o → all_of (object_spelling o) ≡ Ok o
 unfolding all_of
 all_again o good =
-    let read : object_at (spelling o) ≡ Ok (o, []) = ap object_at (sym (append-nil (spelling o))) ∙ object_again o [] good in
+    let read : object_at (object_spelling o) ≡ Ok (o, []) = ap object_at (sym (append-nil (object_spelling o))) ∙ object_again o [] good in
     rw read refl

@@ -7,7 +7,7 @@ use Rattle.pb_object.specs.declared.words.Verdict.{Verdict}
 use Rattle.pb_object.specs.declared.words.Verdict.TheVariants as verdict
 use Rattle.pb_object.specs.declared.fault.Fault.{Fault}
 use Rattle.pb_code.specs.Names.{Word}
-use Rattle.pb_object.specs.Lines.{line_text, ◌>>=◌, first_line, judged, line, many}
+use Rattle.pb_object.specs.Lines.{line_text, ◌>>=◌, first_words, judged, line_by, many}
 use Rattle.pb_object.specs.Ranges.{Each}
 use Rattle.pb_object.proofs.LineLemmas.{AreWords, bind_ok, ok_is, first_line_takes, first_line_again}
 
@@ -32,16 +32,16 @@ judged_ok left verdict.Malformed x e = absurd cc
 judged_ok left verdict.Beyond x e = absurd cc
 judged_ok left (verdict.Read y) x e = cc
 
-first_again : (ws : List Word) (rest : List ℕ) → AreLine ws → first_line (line_text ws ++ rest) ≡ Ok (ws, rest)
+first_again : (ws : List Word) (rest : List ℕ) → AreLine ws → first_words (line_text ws ++ rest) ≡ Ok (ws, rest)
 first_again [] rest h = absurd h
 first_again (w ∷ ws) rest h = first_line_again w ws rest h
 
 pub line_is : {X : Type 0} (form : List Word → Verdict X) (words : X → List Word) (Good : X → Type 0) → IsForm form
-    words Good → IsPart (line form) (λ x. line_text (words x)) Good
-unfolding line
+    words Good → IsPart (line_by form) (λ x. line_text (words x)) Good
+unfolding line_by
 line_is form words Good f = record {
   takes = λ bytes x rest e.
-      let a = bind_ok (first_line bytes) (λ ws. judged (length bytes) (form ws.0) >>= λ y. Ok (y, ws.1)) (x, rest) e in
+      let a = bind_ok (first_words bytes) (λ ws. judged (length bytes) (form ws.0) >>= λ y. Ok (y, ws.1)) (x, rest) e in
       let b = bind_ok (judged (length bytes) (form a.0.0)) (λ y. Ok (y, a.0.1)) (x, rest) a.2 in
       let said = f.takes a.0.0 b.0 (judged_ok (length bytes) (form a.0.0) b.0 b.1) in
       let whole : bytes ≡ line_text (words b.0) ++ a.0.1 = first_line_takes bytes a.0 a.1 ∙ ap (λ (ws : List Word). line_text ws ++ a.0.1) said.0 in

@@ -10,7 +10,7 @@ use Rattle.pb_code.specs.Whole.{ProcessLabels}
 use Rattle.pb_code.specs.Names.{Word, is_name}
 use Rattle.pb_object.specs.Words.{is_new_name, are_new}
 use Rattle.pb_code.specs.Limits.{IsSmallProcess}
-use Rattle.pb_object.specs.Objects.{ResourceRow, ProcessRow, process_code, process_labels}
+use Rattle.pb_object.specs.Objects.{ResourceRow, ProcessRow, code_of_row, labels_of_row}
 use Rattle.pb_object.specs.Ranges.{Each, IsEntry, IsPlace, IsResource, IsProcess, AreIntegers, AreClaimsInRange}
 use Rattle.pb_object.specs.Rows.{side_by_side}
 use Rattle.pb_object.proofs.NewNames.{new_parts}
@@ -84,16 +84,16 @@ Matched format ps ls = (k : ℕ) (p : ProcessCode) (l : ProcessLabels) → slice
 pub record AreColumns (ns : List Word) (ts : List (List ℕ)) (ps : List ProcessCode) (ls : List ProcessLabels) (rows : List ProcessRow) : Type 0 where
   pub names : map (λ r. r.name) rows ≡ ns
   pub claims : map (λ r. r.claims) rows ≡ ts
-  pub codes : map process_code rows ≡ ps
-  pub labels : map process_labels rows ≡ ls
+  pub codes : map code_of_row rows ≡ ps
+  pub labels : map labels_of_row rows ≡ ls
 
-row_code : (format : Format) (n : Word) (t : List ℕ) (p : ProcessCode) (l : ProcessLabels) → AreGood format p l → process_code (process_row n t p l) ≡ p
+row_code : (format : Format) (n : Word) (t : List ℕ) (p : ProcessCode) (l : ProcessLabels) → AreGood format p l → code_of_row (process_row n t p l) ≡ p
 unfolding process_row
 row_code format n t p l good =
     ap (λ (i : ℕ). record { integers = i; entries = p.entries; instrs = map (λ place. place.1) (side_by_side l.lines p.instrs) }) (sym good.count)
     ∙ ap (λ (is : List Instr). record { integers = p.integers; entries = p.entries; instrs = is }) (side_right l.lines p.instrs good.lines)
 
-row_labels : (format : Format) (n : Word) (t : List ℕ) (p : ProcessCode) (l : ProcessLabels) → AreGood format p l → process_labels (process_row n t p l) ≡ l
+row_labels : (format : Format) (n : Word) (t : List ℕ) (p : ProcessCode) (l : ProcessLabels) → AreGood format p l → labels_of_row (process_row n t p l) ≡ l
 unfolding process_row
 row_labels format n t p l good =
     ap (λ (x : List (Option ℕ)). record { lines = x; integers = l.integers }) (side_left l.lines p.instrs good.lines)
@@ -119,10 +119,10 @@ columns format (n ∷ ns) (t ∷ ts) (p ∷ ps) (l ∷ ls) e f g good =
       names = ap (λ (x : List Word). n ∷ x) rest.names;
       claims = ap (λ (x : List (List ℕ)). t ∷ x) rest.claims;
       codes =
-          ap (λ (c : ProcessCode). c ∷ map process_code (process_rows ns ts ps ls)) (row_code format n t p l here)
+          ap (λ (c : ProcessCode). c ∷ map code_of_row (process_rows ns ts ps ls)) (row_code format n t p l here)
           ∙ ap (λ (x : List ProcessCode). p ∷ x) rest.codes;
       labels =
-          ap (λ (c : ProcessLabels). c ∷ map process_labels (process_rows ns ts ps ls)) (row_labels format n t p l here)
+          ap (λ (c : ProcessLabels). c ∷ map labels_of_row (process_rows ns ts ps ls)) (row_labels format n t p l here)
           ∙ ap (λ (x : List ProcessLabels). l ∷ x) rest.labels;
     }
 

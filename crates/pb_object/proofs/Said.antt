@@ -16,7 +16,7 @@ use Rattle.pb_code.specs.Names.{Word, is_name, is_among}
 use Rattle.pb_object.specs.Words.{is_new_name, are_new}
 use Rattle.pb_code.specs.Limits.{AreNames, IsSmallBundle, HasSmallNumbers, IsSmallProcess, FitLabels}
 use Rattle.pb_object.specs.Formats.{KeepsRanges}
-use Rattle.pb_object.specs.Objects.{Object, ProcessRow, ResourceRow, process_code, process_labels, code_of, labels_of}
+use Rattle.pb_object.specs.Objects.{Object, ProcessRow, ResourceRow, code_of_row, labels_of_row, code_of, labels_of}
 use Rattle.pb_object.specs.Ranges.{ArePairs, IsBundle, IsInstr, IsPlace, Each, IsEntry, IsResource, IsProcess, IsObject, most_processes}
 use Rattle.pb_code.specs.Limits.{IsSigned, IsLine}
 use Rattle.pb_object.specs.Answers.{HasText}
@@ -120,20 +120,20 @@ instr_small (JumpIfZero t) h = omega arith
 instr_small PrintTop h = tt
 instr_small (Take ps) h = bundle_small ps h
 instr_small (Give ps) h = bundle_small ps h
-instr_small (Fork f n) h = ((h.0, h.1), (h.2, h.3))
-instr_small (Join f n) h = ((h.0, h.1), (h.2, h.3))
+instr_small (Fork f n) h = ((h.0, (let b = h.1 in omega (arith, b))), (h.2, h.3))
+instr_small (Join f n) h = ((h.0, (let b = h.1 in omega (arith, b))), (h.2, h.3))
 instr_small End h = tt
 
 module _ (m : ℕ) (before : List ProcessRow) (row : ProcessRow) (h : IsProcess Two m before row) where
-  place_good : (k : ℕ) (i : Instr) → slice_get (process_code row).instrs k ≡ Some i → IsInstr Two i
+  place_good : (k : ℕ) (i : Instr) → slice_get (code_of_row row).instrs k ≡ Some i → IsInstr Two i
   place_good k i at =
       let w = mapped_at (λ (x : Option ℕ × Instr). x.1) row.places k i at in
       let good = each_at (λ e place. IsPlace Two place) [] row.places h.places k w.0 w.1 in
       subst (IsInstr Two) w.2 good.1.1
 
-  line_good : (k : ℕ) (d : Option ℕ) → k < length (process_labels row).lines → IsLine (get_or (process_labels row).lines k d)
+  line_good : (k : ℕ) (d : Option ℕ) → k < length (labels_of_row row).lines → IsLine (get_or (labels_of_row row).lines k d)
   line_good k d lt =
-      let w = mapped_at (λ (x : Option ℕ × Instr). x.0) row.places k _ (slice_get-get_or (process_labels row).lines k d lt) in
+      let w = mapped_at (λ (x : Option ℕ × Instr). x.0) row.places k _ (slice_get-get_or (labels_of_row row).lines k d lt) in
       let good = each_at (λ e place. IsPlace Two place) [] row.places h.places k w.0 w.1 in
       subst IsLine w.2 good.1.0
 
@@ -142,7 +142,7 @@ module _ (m : ℕ) (before : List ProcessRow) (row : ProcessRow) (h : IsProcess 
   entries_small earlier (x ∷ entries) e zero d lt = (let s = e.0 in omega (arith, s))
   entries_small earlier (x ∷ entries) e (suc k) d lt = entries_small (earlier ++ x ∷ []) entries e.1 k d (omega (arith, lt))
 
-  pub row_small : IsSmallProcess (process_code row)
+  pub row_small : IsSmallProcess (code_of_row row)
   row_small =
       let n = length-map row.places (λ (x : Option ℕ × Instr). x.1) in
       let some = h.some_places in
@@ -155,10 +155,10 @@ module _ (m : ℕ) (before : List ProcessRow) (row : ProcessRow) (h : IsProcess 
         numbers = λ k i at. instr_small i (place_good k i at);
       }
 
-  pub row_pushes : (k : ℕ) (v : ℤ) → slice_get (process_code row).instrs k ≡ Some (Push v) → IsSigned v
+  pub row_pushes : (k : ℕ) (v : ℤ) → slice_get (code_of_row row).instrs k ≡ Some (Push v) → IsSigned v
   row_pushes k v at = place_good k (Push v) at
 
-  pub row_labels : FitLabels (process_code row) (process_labels row)
+  pub row_labels : FitLabels (code_of_row row) (labels_of_row row)
   row_labels = record {
     lines = length-map row.places (λ (x : Option ℕ × Instr). x.0) ∙ sym (length-map row.places (λ (x : Option ℕ × Instr). x.1));
     small_lines = line_good;
@@ -180,7 +180,7 @@ said_limits o two good =
     let some = good.some_processes in
     let kinds = length-map o.resources (λ (r : ResourceRow). r.capital) in
     let few_kinds = good.few_resources in
-    let count = length-map o.processes process_code in
+    let count = length-map o.processes code_of_row in
     let columns = length-map o.processes (λ (p : ProcessRow). p.claims) in
     let row_of : (k : ℕ) (p : ProcessRow) → slice_get o.processes k ≡ Some p → (before : List ProcessRow) × IsProcess Two m before p =
     λ k p at. each_at (IsProcess Two m) [] o.processes rows k p at in
@@ -197,7 +197,7 @@ said_limits o two good =
             (all_map (λ c. c ≤ 1000000) (λ (r : ResourceRow). r.capital) o.resources
             (each_all IsResource (λ r. r.capital ≤ 1000000) (λ e r g. g.capital) [] o.resources good.resources));
         process_names = rows_named (λ (p : ProcessRow). p.name) (IsProcess Two m) (λ e p g. g.name) (length (map
-            process_code o.processes)) o.processes (sym count) rows;
+            code_of_row o.processes)) o.processes (sym count) rows;
         resource_names = rows_named (λ (r : ResourceRow). r.name) IsResource (λ e r g. g.name) (length (map (λ (r :
             ResourceRow). r.capital) o.resources)) o.resources (sym kinds) good.resources;
         rows = columns ∙ sym count;
@@ -210,24 +210,24 @@ said_limits o two good =
             All-from_recursion (λ claim. claim ≤ 1000000) (get_or (map (λ (q : ProcessRow). q.claims) o.processes) p
             []) c.1 r 0 (omega (arith, v, kinds, wide));
         each = λ p process at.
-            let w = mapped_at process_code o.processes p process at in
+            let w = mapped_at code_of_row o.processes p process at in
             let g = row_of p w.0 w.1 in
             subst IsSmallProcess w.2 (row_small m g.0 w.0 g.1);
       };
       pushes = λ p process at k v read.
-          let w = mapped_at process_code o.processes p process at in
+          let w = mapped_at code_of_row o.processes p process at in
           let g = row_of p w.0 w.1 in
           row_pushes m g.0 w.0 g.1 k v (ap (λ (c : ProcessCode). slice_get c.instrs k) w.2 ∙ read);
       fit = record {
-        all = length-map o.processes process_labels ∙ sym count;
+        all = length-map o.processes labels_of_row ∙ sym count;
         each = λ p process l at said.
-            let w = mapped_at process_code o.processes p process at in
-            let x = mapped_at process_labels o.processes p l said in
+            let w = mapped_at code_of_row o.processes p process at in
+            let x = mapped_at labels_of_row o.processes p l said in
             let same : Some w.0 ≡ Some x.0 = sym w.1 ∙ x.1 in
             let is : w.0 ≡ x.0 = cc in
             let g = row_of p w.0 w.1 in
-            let labels : process_labels w.0 ≡ l = ap process_labels is ∙ x.2 in
-            subst (λ (c : ProcessCode). FitLabels c l) w.2 (subst (FitLabels (process_code w.0)) labels (row_labels m g.0 w.0 g.1));
+            let labels : labels_of_row w.0 ≡ l = ap labels_of_row is ∙ x.2 in
+            subst (λ (c : ProcessCode). FitLabels c l) w.2 (subst (FitLabels (code_of_row w.0)) labels (row_labels m g.0 w.0 g.1));
       };
     }
 

@@ -15,7 +15,7 @@ use Rattle.pb_code.specs.Names.{Word}
 use Rattle.pb_object.specs.Words.{are_new}
 use Rattle.pb_code.specs.Limits.{AreNames, IsSmallBundle, HasSmallNumbers, IsSmallProcess, KeepsLimits, PushesFit}
 use Rattle.pb_object.specs.Formats.{KeepsRanges, IsSingle, FitsFirst}
-use Rattle.pb_object.specs.Objects.{ProcessRow, ResourceRow, process_code}
+use Rattle.pb_object.specs.Objects.{ProcessRow, ResourceRow, code_of_row}
 use Rattle.pb_object.specs.Ranges.{ArePairs, IsBundle, IsInstr, IsPlace, Each, IsProcess, plain_names, most_processes}
 use Rattle.pb_code.specs.Limits.{IsSigned, IsLine}
 use Rattle.pb_object.specs.Rows.{side_by_side}
@@ -56,8 +56,8 @@ instr_two (JumpIfZero t) h s = omega arith
 instr_two PrintTop h s = tt
 instr_two (Take ps) h s = bundle_good 16 ps h h.size.1
 instr_two (Give ps) h s = bundle_good 16 ps h h.size.1
-instr_two (Fork f n) h s = (h.0.0, h.0.1, h.1.0, h.1.1)
-instr_two (Join f n) h s = (h.0.0, h.0.1, h.1.0, h.1.1)
+instr_two (Fork f n) h s = (h.0.0, (let b = h.0.1 in omega (arith, b)), h.1.0, h.1.1)
+instr_two (Join f n) h s = (h.0.0, (let b = h.0.1 in omega (arith, b)), h.1.0, h.1.1)
 instr_two End h s = tt
 
 instr_one : (i : Instr) → HasSmallNumbers i → Signed i → IsSingle i → IsInstr One i
@@ -71,8 +71,8 @@ instr_one (JumpIfZero t) h s one = omega arith
 instr_one PrintTop h s one = tt
 instr_one (Take ps) h s one = bundle_good 1 ps h (omega (arith, one))
 instr_one (Give ps) h s one = bundle_good 1 ps h (omega (arith, one))
-instr_one (Fork f n) h s one = (h.0.0, h.0.1, h.1.0, h.1.1)
-instr_one (Join f n) h s one = (h.0.0, h.0.1, h.1.0, h.1.1)
+instr_one (Fork f n) h s one = (h.0.0, (let b = h.0.1 in omega (arith, b)), h.1.0, h.1.1)
+instr_one (Join f n) h s one = (h.0.0, (let b = h.0.1 in omega (arith, b)), h.1.0, h.1.1)
 instr_one End h s one = tt
 
 abbrev EachPlace : List Instr → (Instr → Type 0) → Type 0
@@ -106,7 +106,7 @@ has_object format code labels h even few good =
     let m : length resources ≡ length code.capital =
     sym (length-map resources (λ (r : ResourceRow). r.name)) ∙ ap (λ (l : List Word). length l) names ∙ kinds in
     let n : length processes ≡ length code.processes =
-    sym (length-map processes process_code) ∙ ap (λ (l : List ProcessCode). length l) cols.codes in
+    sym (length-map processes code_of_row) ∙ ap (λ (l : List ProcessCode). length l) cols.codes in
     let some = h.some_processes.0 in
     let few_kinds = h.few_resources in
     let small : AreSmall (length code.capital) code.claims = record {
@@ -216,7 +216,7 @@ instr_single (Fork f n) h = tt
 instr_single (Join f n) h = tt
 instr_single End h = tt
 
-row_single : (m : ℕ) (before : List ProcessRow) (row : ProcessRow) → IsProcess One m before row → EachPlace (process_code row).instrs IsSingle
+row_single : (m : ℕ) (before : List ProcessRow) (row : ProcessRow) → IsProcess One m before row → EachPlace (code_of_row row).instrs IsSingle
 row_single m before row h k i at =
     let w = mapped_at (λ (x : Option ℕ × Instr). x.1) row.places k i at in
     let good = each_at (λ e place. IsPlace One place) [] row.places h.places k w.0 w.1 in
@@ -226,13 +226,13 @@ pub first_fits : (code : Code) → HasTextOne code → FitsFirst code
 first_fits code h =
     let o = h.1.0 in
     let is = h.1.1 in
-    let processes : code.processes ≡ map process_code o.processes = ap (λ (c : Code). c.processes) is.says_code in
-    let many : length code.processes ≡ length o.processes = ap (λ (l : List ProcessCode). length l) processes ∙ length-map o.processes process_code in
+    let processes : code.processes ≡ map code_of_row o.processes = ap (λ (c : Code). c.processes) is.says_code in
+    let many : length code.processes ≡ length o.processes = ap (λ (l : List ProcessCode). length l) processes ∙ length-map o.processes code_of_row in
     let few : length o.processes ≤ 32 = subst (λ (f : Format). length o.processes ≤ most_processes f) is.is_format is.good.few_processes in
     record {
       few_processes = omega (arith, many, few);
       single = λ p process at place i read.
-          let w = mapped_at process_code o.processes p process (ap (λ (l : List ProcessCode). slice_get l p) (sym processes) ∙ at) in
+          let w = mapped_at code_of_row o.processes p process (ap (λ (l : List ProcessCode). slice_get l p) (sym processes) ∙ at) in
           let rows = subst (λ (f : Format). Each (IsProcess f (length o.resources)) [] o.processes) is.is_format is.good.processes in
           let good = each_at (IsProcess One (length o.resources)) [] o.processes rows p w.0 w.1 in
           row_single (length o.resources) good.0 w.0 good.1 place i

@@ -6,24 +6,24 @@ use Rattle.pb_object.specs.declared.format.Format.TheVariants.{One}
 use Rattle.pb_code.specs.Code.{Instr, ProcessCode}
 use Rattle.pb_code.specs.Whole.{Code, ProcessLabels}
 use Rattle.pb_code.specs.Names.{Word}
-use Rattle.pb_object.specs.Objects.{ResourceRow, ProcessRow, Object, process_code, process_labels, code_of, labels_of, spelling}
+use Rattle.pb_object.specs.Objects.{ResourceRow, ProcessRow, Object, code_of_row, labels_of_row, code_of, labels_of, object_spelling}
 use Rattle.pb_object.specs.Ranges.{Each, IsPlace, IsProcess, plain_names}
 use Rattle.pb_object.specs.Reading.{answer_of}
-use Rattle.pb_object.specs.Answers.{IsObjectOf, Spells, SpellsOne}
+use Rattle.pb_object.specs.Answers.{IsObjectOf, SpellsCode, SpellsOne}
 use Rattle.pb_object.proofs.ObjectLaws.{alike}
 use Rattle.pb_object.proofs.Found.{answer_again}
 
-pub same_object : (f g : Format) (c d : Code) (l m : List ProcessLabels) (text more : List ℕ) → (s : Spells f c l
-    text) → (t : Spells g d m (text ++ more)) → (s.0 ≡ t.0) × (more ≡ [])
+pub same_object : (f g : Format) (c d : Code) (l m : List ProcessLabels) (text more : List ℕ) → (s : SpellsCode f c l
+    text) → (t : SpellsCode g d m (text ++ more)) → (s.0 ≡ t.0) × (more ≡ [])
 same_object f g c d l m text more s t =
     alike s.0 t.0 more s.1.good t.1.good (ap (λ (x : List ℕ). x ++ more) (sym s.2) ∙ t.2)
 
-pub same_code : (f g : Format) (c d : Code) (l m : List ProcessLabels) (text : List ℕ) → Spells f c l text → Spells g d m text → (c ≡ d) × (l ≡ m)
+pub same_code : (f g : Format) (c d : Code) (l m : List ProcessLabels) (text : List ℕ) → SpellsCode f c l text → SpellsCode g d m text → (c ≡ d) × (l ≡ m)
 same_code f g c d l m text s t =
-    let same = (alike s.0 t.0 [] s.1.good t.1.good (append-nil (spelling s.0) ∙ sym s.2 ∙ t.2)).0 in
+    let same = (alike s.0 t.0 [] s.1.good t.1.good (append-nil (object_spelling s.0) ∙ sym s.2 ∙ t.2)).0 in
     (s.1.says_code ∙ ap code_of same ∙ sym t.1.says_code, s.1.says_labels ∙ ap labels_of same ∙ sym t.1.says_labels)
 
-pub answered : (f : Format) (c : Code) (l : List ProcessLabels) (text : List ℕ) → Spells f c l text → length text ≤
+pub answered : (f : Format) (c : Code) (l : List ProcessLabels) (text : List ℕ) → SpellsCode f c l text → length text ≤
     4194304 → (o : Object) × IsObjectOf f c l o × (answer_of text ≡ Ok o)
 answered f c l text s few = (s.0, s.1, answer_again text s.0 s.1.good s.2 few)
 
@@ -61,7 +61,7 @@ by_resources (x ∷ xs) [] e f = absurd cc
 by_resources (x ∷ xs) (y ∷ ys) e f =
     cons_is x y xs ys (resource_is x y (cons_head _ _ _ _ e) (cons_head _ _ _ _ f)) (by_resources xs ys (cons_tail _ _ _ _ e) (cons_tail _ _ _ _ f))
 
-process_is : (p q : ProcessRow) → p.name ≡ q.name → p.claims ≡ q.claims → process_code p ≡ process_code q → process_labels p ≡ process_labels q → p ≡ q
+process_is : (p q : ProcessRow) → p.name ≡ q.name → p.claims ≡ q.claims → code_of_row p ≡ code_of_row q → labels_of_row p ≡ labels_of_row q → p ≡ q
 process_is p q name claims code labels =
     let entries : p.entries ≡ q.entries = ap (λ (c : ProcessCode). c.entries) code in
     let instrs : map (λ place. place.1) p.places ≡ map (λ place. place.1) q.places = ap (λ (c : ProcessCode). c.instrs) code in
@@ -75,7 +75,7 @@ process_is p q name claims code labels =
     ∙ ap (λ (n : List (Option ℕ × Instr)). record { name = q.name; integers = q.integers; claims = q.claims; entries = q.entries; places = n }) places
 
 by_processes : (ps qs : List ProcessRow) → map (λ p. p.name) ps ≡ map (λ p. p.name) qs → map (λ p. p.claims) ps ≡ map (λ p. p.claims) qs
-    → map process_code ps ≡ map process_code qs → map process_labels ps ≡ map process_labels qs → ps ≡ qs
+    → map code_of_row ps ≡ map code_of_row qs → map labels_of_row ps ≡ map labels_of_row qs → ps ≡ qs
 by_processes [] [] e f g h = refl
 by_processes [] (q ∷ qs) e f g h = absurd cc
 by_processes (p ∷ ps) [] e f g h = absurd cc
@@ -96,10 +96,10 @@ by_code a b format code labels =
     ∙ ap (λ (rs : List ResourceRow). record { format = b.format; resources = rs; processes = a.processes }) resources
     ∙ ap (λ (ps : List ProcessRow). record { format = b.format; resources = b.resources; processes = ps }) processes
 
-pub same_text : (f : Format) (c : Code) (l : List ProcessLabels) (x y : List ℕ) → Spells f c l x → Spells f c l y → x ≡ y
+pub same_text : (f : Format) (c : Code) (l : List ProcessLabels) (x y : List ℕ) → SpellsCode f c l x → SpellsCode f c l y → x ≡ y
 same_text f c l x y s t =
     let same : s.0 ≡ t.0 = by_code s.0 t.0 (s.1.is_format ∙ sym t.1.is_format) (sym s.1.says_code ∙ t.1.says_code) (sym s.1.says_labels ∙ t.1.says_labels) in
-    s.2 ∙ ap spelling same ∙ sym t.2
+    s.2 ∙ ap object_spelling same ∙ sym t.2
 
 -- ---- in the first format the code says the labels too
 
@@ -113,7 +113,7 @@ no_lines e g (x ∷ xs) (y ∷ ys) h k same =
     cons_is x.0 y.0 _ _ (h.0.0 ∙ sym k.0.0) (no_lines (e ++ x ∷ []) (g ++ y ∷ []) xs ys h.1 k.1 (cons_tail x.1 y.1 _ _ same))
 
 one_label : (m n : ℕ) (e g : List ProcessRow) (p q : ProcessRow) → IsProcess One m e p → IsProcess One n g q →
-    process_code p ≡ process_code q → process_labels p ≡ process_labels q
+    code_of_row p ≡ code_of_row q → labels_of_row p ≡ labels_of_row q
 one_label m n e g p q h k code =
     let count : length p.integers ≡ length q.integers = ap (λ (c : ProcessCode). c.integers) code in
     let instrs : map (λ place. place.1) p.places ≡ map (λ place. place.1) q.places = ap (λ (c : ProcessCode). c.instrs) code in
@@ -123,12 +123,12 @@ one_label m n e g p q h k code =
     ∙ ap (λ (l : List Word). record { lines = map (λ place. place.0) q.places; integers = l }) integers
 
 one_labels : (m n : ℕ) (e g : List ProcessRow) (ps qs : List ProcessRow) → Each (IsProcess One m) e ps → Each (IsProcess One n) g qs
-    → map process_code ps ≡ map process_code qs → map process_labels ps ≡ map process_labels qs
+    → map code_of_row ps ≡ map code_of_row qs → map labels_of_row ps ≡ map labels_of_row qs
 one_labels m n e g [] [] h k same = refl
 one_labels m n e g [] (q ∷ qs) h k same = absurd cc
 one_labels m n e g (p ∷ ps) [] h k same = absurd cc
 one_labels m n e g (p ∷ ps) (q ∷ qs) h k same =
-    cons_is (process_labels p) (process_labels q) _ _
+    cons_is (labels_of_row p) (labels_of_row q) _ _
     (one_label m n e g p q h.0 k.0 (cons_head _ _ _ _ same)) (one_labels m n (e ++ p ∷ []) (g ++ q ∷ []) ps qs h.1 k.1 (cons_tail _ _ _ _ same))
 
 abbrev Processes : Format → ℕ → List ProcessRow → Type 0
@@ -145,4 +145,4 @@ same_first c x y s t =
     (subst (λ (f : Format). Processes f (length b.resources) b.processes) t.1.1.is_format t.1.1.good.processes)
     (ap (λ (c : Code). c.processes) code) in
     let same : a ≡ b = by_code a b (s.1.1.is_format ∙ sym t.1.1.is_format) code labels in
-    s.1.2 ∙ ap spelling same ∙ sym t.1.2
+    s.1.2 ∙ ap object_spelling same ∙ sym t.1.2

@@ -16,7 +16,7 @@ mapped_read f (Read x) y e = (x, refl, cc)
 abbrev reading : {T : Type 0} → T → Verdict T
 reading x = Read x
 
-read_is : {T : Type 0} (x y : T) → reading x ≡ reading y → x ≡ y
+pub read_is : {T : Type 0} (x y : T) → reading x ≡ reading y → x ≡ y
 read_is x y e = cc
 
 pub paired_read : {A B : Type 0} (v : Verdict A) (w : Verdict B) (y : A × B) → paired v w ≡ Read y → (v ≡ Read y.0) × (w ≡ Read y.1)

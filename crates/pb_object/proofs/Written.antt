@@ -12,7 +12,7 @@ use Rattle.pb_code.specs.Whole.{Code, ProcessLabels}
 use Rattle.pb_code.specs.Names.{Word}
 use Rattle.pb_object.specs.Lines.{line_text}
 use Rattle.pb_object.specs.Instructions.{instr_words, place_words}
-use Rattle.pb_object.specs.Objects.{ResourceRow, ProcessRow, Object, code_of, labels_of, resource_words, digit_of, spelling, process_code, process_labels, counted_words, process_words, integers_words, claims_words, process_text}
+use Rattle.pb_object.specs.Objects.{ResourceRow, ProcessRow, Object, code_of, labels_of, resource_words, digit_of, object_spelling, code_of_row, labels_of_row, counted_words, process_words, integers_words, claims_words, process_text}
 use Rattle.pb_object.specs.Rows.{side_by_side}
 use Rattle.pb_object.specs.Writing.{IsRowOf, IsLabelsOf}
 use Rattle.pb_base.specs.Tables.{width_of}
@@ -61,7 +61,7 @@ in_order old b1 b2 b3 new a b c d e f g h1 h2 h3 h4 =
     h4 ∙ ap (λ (t : List ℕ). t ++ g) (h3 ∙ ap (λ (t : List ℕ). t ++ (c ++ (d ++ (e ++ f)))) (h2 ∙ ap (λ (t : List ℕ). t ++ b) h1)) ∙ regroup old a b c d e f g
 
 pub one_written : (old b1 b2 b3 new : List ℕ) (name : Word) (count : ℕ) (entries : List ℕ) (claims : List ℕ) (instrs : List Instr) (row : ProcessRow)
-    → name ≡ row.name → claims ≡ row.claims → record { integers = count; entries = entries; instrs = instrs } ≡ process_code row
+    → name ≡ row.name → claims ≡ row.claims → record { integers = count; entries = entries; instrs = instrs } ≡ code_of_row row
     → b1 ≡ old ++ line_text (process_words name) → b2 ≡ b1 ++ line_text (counted_words (codes "vars") count)
     → b3 ≡ b2 ++ (line_text (counted_words (codes "arms") (length entries)) ++ (line_text (claims_words claims)
     ++ (flat_map (λ e. line_text (counted_words (codes "arm") e)) entries ++ line_text (counted_words (codes "code") (length instrs)))))
@@ -84,8 +84,8 @@ one_written old b1 b2 b3 new name count entries claims instrs row is_name is_cla
 
 pub two_written : (old b1 b2 b3 new : List ℕ) (name : Word) (names : List Word) (lines : List (Option ℕ)) (count : ℕ)
     (entries : List ℕ) (claims : List ℕ) (instrs : List Instr) (row : ProcessRow)
-    → name ≡ row.name → claims ≡ row.claims → record { integers = count; entries = entries; instrs = instrs } ≡ process_code row
-    → record { lines = lines; integers = names } ≡ process_labels row
+    → name ≡ row.name → claims ≡ row.claims → record { integers = count; entries = entries; instrs = instrs } ≡ code_of_row row
+    → record { lines = lines; integers = names } ≡ labels_of_row row
     → b1 ≡ old ++ line_text (process_words name) → b2 ≡ b1 ++ line_text (integers_words Two names)
     → b3 ≡ b2 ++ (line_text (counted_words (codes "arms") (length entries)) ++ (line_text (claims_words claims)
     ++ (flat_map (λ e. line_text (counted_words (codes "arm") e)) entries ++ line_text (counted_words (codes "code") (length instrs)))))
@@ -123,8 +123,8 @@ processes_text format ps = flat_map (λ p. process_text format p) ps
 apart : (a b c d e : List ℕ) → a ++ (b ++ (c ++ (d ++ e))) ≡ (a ++ (b ++ (c ++ d))) ++ e
 apart a b c d e = simp append_assoc
 
-pub spelling_is : (o : Object) → spelling o ≡ opening o.format o ++ processes_text o.format o.processes
-unfolding spelling
+pub spelling_is : (o : Object) → object_spelling o ≡ opening o.format o ++ processes_text o.format o.processes
+unfolding object_spelling
 spelling_is o =
     apart (line_text (codes "PBO" ∷ digit_of o.format ∷ [])) (line_text (counted_words (codes "resources") (length
     o.resources))) (flat_map (λ r. line_text (resource_words r)) o.resources)
@@ -184,12 +184,12 @@ row_of o whole p is lt =
     record {
       name = ap (λ (c : Code). get_or c.names.processes p []) is ∙ get_or-map name_of o.processes p empty [] lt;
       claims = ap (λ (c : Code). get_or c.claims p []) is ∙ get_or-map claims_of o.processes p empty [] lt;
-      code = ap (λ (c : Code). slice_get c.processes p) is ∙ viewed process_code o.processes p empty lt;
+      code = ap (λ (c : Code). slice_get c.processes p) is ∙ viewed code_of_row o.processes p empty lt;
     }
 
 pub labels_at : (o : Object) (labels : List ProcessLabels) (p : ℕ) → labels ≡ labels_of o → p < length o.processes →
     IsLabelsOf labels p (get_or o.processes p empty)
-labels_at o labels p is lt = ap (λ (l : List ProcessLabels). slice_get l p) is ∙ viewed process_labels o.processes p empty lt
+labels_at o labels p is lt = ap (λ (l : List ProcessLabels). slice_get l p) is ∙ viewed labels_of_row o.processes p empty lt
 
 pub width_at : (o : Object) (whole : Code) (p : ℕ) → IsObject o → whole ≡ code_of o → p < length o.processes → length
     (get_or whole.claims p []) ≡ width_of whole.claims
@@ -206,7 +206,7 @@ width_at o whole p good is lt =
     subst (λ (t : List (List ℕ)). length (get_or t p []) ≡ width_of t) (sym (ap (λ (c : Code). c.claims) is)) (here ∙ sym wide)
 
 pub finished : (format : Format) (o : Object) (out : List ℕ) (p : ℕ) → o.format ≡ format → length o.processes ≤ p
-    → out ≡ opening format o ++ processes_text format (take p o.processes) → out ≡ spelling o
+    → out ≡ opening format o ++ processes_text format (take p o.processes) → out ≡ object_spelling o
 finished format o out p is le e =
     e ∙ ap (λ (ps : List ProcessRow). opening format o ++ processes_text format ps) (take_all p o.processes le)
     ∙ ap (λ (f : Format). opening f o ++ processes_text f o.processes) (sym is) ∙ sym (spelling_is o)
@@ -214,4 +214,4 @@ finished format o out p is le e =
 pub count_of : {A : Type 0} (f : A → ProcessCode) (xs : List A) (o : Object) (whole : Code) → whole ≡ code_of o →
     whole.processes ≡ map f xs → length xs ≡ length o.processes
 count_of f xs o whole is e =
-    sym (length-map xs f) ∙ ap (λ (l : List ProcessCode). length l) (sym e ∙ ap (λ (c : Code). c.processes) is) ∙ length-map o.processes process_code
+    sym (length-map xs f) ∙ ap (λ (l : List ProcessCode). length l) (sym e ∙ ap (λ (c : Code). c.processes) is) ∙ length-map o.processes code_of_row

@@ -1,5 +1,6 @@
 -- Which bytes spell which code, and what reading returns.
 use Rattle.std.specs.Prelude.{◌≡◌, ℕ, Bool, true, false, nat_lt, if◌then◌else◌, List, length, Result, Ok, Err, ⊤}
+use Rattle.pb_base.specs.declared.limits.TheConstants.{MAX_INPUT}
 use Rattle.pb_object.specs.declared.fault.Fault.{Fault}
 use Rattle.pb_object.specs.declared.fault.ObjectFault.{ObjectFault}
 use Rattle.pb_object.specs.declared.fault.ObjectFault.TheVariants.{NotObject, Limit, NoMemory}
@@ -10,8 +11,8 @@ use Rattle.pb_code.specs.declared.code.Code.{Code as GivenCode}
 use Rattle.pb_code.specs.declared.labels.Labels.{Labels}
 use Rattle.pb_code.specs.Whole.{Code, ProcessLabels}
 use Rattle.pb_code.specs.View.{code_view, labels_view}
-use Rattle.pb_object.specs.Lines.{line}
-use Rattle.pb_object.specs.Objects.{Object, code_of, labels_of, spelling}
+use Rattle.pb_object.specs.Lines.{line_by}
+use Rattle.pb_object.specs.Objects.{Object, code_of, labels_of, object_spelling}
 use Rattle.pb_object.specs.Ranges.{IsObject}
 use Rattle.pb_object.specs.Reading.{heading, answer_of}
 use Rattle.pb_object.specs.Rows.{object_row}
@@ -24,12 +25,12 @@ pub record IsObjectOf (format : Format) (code : Code) (labels : List ProcessLabe
   pub says_labels : labels ≡ labels_of o
 
 -- the bytes spell this code and these labels
-abbrev pub Spells : Format → Code → List ProcessLabels → List ℕ → Type 0
-Spells format code labels text = (o : Object) × IsObjectOf format code labels o × (text ≡ spelling o)
+abbrev pub SpellsCode : Format → Code → List ProcessLabels → List ℕ → Type 0
+SpellsCode format code labels text = (o : Object) × IsObjectOf format code labels o × (text ≡ object_spelling o)
 
 -- the bytes spell this code in the first format, which has no labels
 abbrev pub SpellsOne : Code → List ℕ → Type 0
-SpellsOne code text = (labels : List ProcessLabels) × Spells One code labels text
+SpellsOne code text = (labels : List ProcessLabels) × SpellsCode One code labels text
 
 -- code and labels keep the ranges and the rules on names of the format, and fit each other
 abbrev pub HasText : Format → Code → List ProcessLabels → Type 0
@@ -75,8 +76,8 @@ is_two (Err fault) = false
 -- the heading of the second format is as faulty as any other first line
 abbrev pub answer_one : List ℕ → Result Object ObjectFault
 answer_one text =
-    if nat_lt 4194304 (length text) then Err (Limit 0)
-    else if is_two (line heading text) then Err (NotObject 0) else answer_of text
+    if nat_lt MAX_INPUT (length text) then Err (Limit 0)
+    else if is_two (line_by heading text) then Err (NotObject 0) else answer_of text
 
 abbrev pub IsFaultOfOne : List ℕ → ObjectFault → Type 0
 IsFaultOfOne text (NotObject at) = answer_one text ≡ Err (NotObject at)

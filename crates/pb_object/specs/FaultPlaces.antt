@@ -1,16 +1,17 @@
 -- The place of the first faulty line of a text, by the grammar of objects alone.
 use Rattle.std.specs.Prelude.{◌≡◌, ◌⊎◌, ◌<◌, ◌≤◌, ℕ, true, List, [], ◌∷◌, ◌++◌, length, ⊤}
+use Rattle.pb_base.specs.declared.limits.TheConstants.{MAX_INPUT}
 use Rattle.pb_object.specs.declared.fault.ObjectFault.{ObjectFault}
 use Rattle.pb_object.specs.declared.fault.ObjectFault.TheVariants.{NotObject, Limit, NoMemory}
 use Rattle.pb_object.specs.Answers.{is_two}
-use Rattle.pb_object.specs.Lines.{line}
-use Rattle.pb_object.specs.Objects.{Object, spelling}
+use Rattle.pb_object.specs.Lines.{line_by}
+use Rattle.pb_object.specs.Objects.{Object, object_spelling}
 use Rattle.pb_object.specs.Ranges.{IsObject}
 use Rattle.pb_object.specs.Reading.{heading}
 
 -- the spelling of some object, of whatever size, begins with this text
 abbrev pub BeginsObject : List ℕ → Type 0
-BeginsObject text = (o : Object) × (more : List ℕ) × IsObject o × (text ++ more ≡ spelling o)
+BeginsObject text = (o : Object) × (more : List ℕ) × IsObject o × (text ++ more ≡ object_spelling o)
 
 -- nothing, or lines that are all ended
 abbrev pub AreLines : List ℕ → Type 0
@@ -26,17 +27,17 @@ pub record IsFaultPlace (text : List ℕ) (at : ℕ) : Type 0 where
   pub ended : AreLines lines
   pub begun : BeginsObject lines
   pub stuck : (line tail : List ℕ) → rest ≡ line ++ 10 ∷ tail → ¬ BeginsObject (lines ++ (line ++ 10 ∷ []))
-  pub no_object : (o : Object) → IsObject o → text ≡ spelling o → ⊥
+  pub no_object : (o : Object) → IsObject o → text ≡ object_spelling o → ⊥
 
 -- what a refusal says of a text: a fault of form has such a place; one of range too, unless the text is
 -- longer than 4,194,304 bytes, of which it says 0
 abbrev pub IsPlaced : List ℕ → ObjectFault → Type 0
-IsPlaced text (NotObject at) = (length text ≤ 4194304) × IsFaultPlace text at
+IsPlaced text (NotObject at) = (length text ≤ MAX_INPUT) × IsFaultPlace text at
 IsPlaced text (Limit at) =
-    ((4194304 < length text) × (at ≡ 0)) ⊎ ((length text ≤ 4194304) × IsFaultPlace text at)
+    ((MAX_INPUT < length text) × (at ≡ 0)) ⊎ ((length text ≤ MAX_INPUT) × IsFaultPlace text at)
 IsPlaced text NoMemory = ⊤
 
 -- and of a text that is to be of the first format: if its first line names the second, that line is the
 -- faulty one
 abbrev pub IsPlacedOne : List ℕ → ObjectFault → Type 0
-IsPlacedOne text fault = ((is_two (line heading text) ≡ true) × (fault ≡ NotObject 0)) ⊎ IsPlaced text fault
+IsPlacedOne text fault = ((is_two (line_by heading text) ≡ true) × (fault ≡ NotObject 0)) ⊎ IsPlaced text fault

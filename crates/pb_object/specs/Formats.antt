@@ -1,5 +1,6 @@
 -- What each format can say of code within its limits.
 use Rattle.std.specs.Prelude.{◌≡◌, ◌≤◌, ℕ, List, length, slice_get, Some, ⊤}
+use Rattle.pb_base.specs.declared.limits.TheConstants.{MAX_FIRST_PROCESSES}
 use Rattle.pb_code.specs.Code.{Instr, Take, Give}
 use Rattle.pb_code.specs.Limits.{AreLabels, EachProcess, KeepsLimits, PushesFit}
 use Rattle.pb_code.specs.Whole.{Code, ProcessLabels}
@@ -18,6 +19,6 @@ IsSingle i = ⊤
 
 -- what of code within the limits the first format can say
 pub record FitsFirst (code : Code) : Type 0 where
-  pub few_processes : length code.processes ≤ 32
+  pub few_processes : length code.processes ≤ MAX_FIRST_PROCESSES
   pub single : EachProcess code (λ process. (place : ℕ) (i : Instr)
       → slice_get process.instrs place ≡ Some i → IsSingle i)

@@ -2,6 +2,7 @@
 use Rattle.std.specs.Prelude.{ℕ, zero, suc, ◌+◌, ◌-◌, ◌*◌, ◌^◌, Bool, false, cond, ◌&&◌, ◌||◌, nat_lt, ◌==◌, if◌then◌else◌, List, [], ◌∷◌, length, codes, ℤ, pos, negsuc, Option, Some, None}
 use Rattle.std.specs.Str.{bytes_eq}
 use Rattle.std.specs.Fmt.{decimal, signed_decimal}
+use Rattle.pb_base.specs.declared.limits.TheConstants.{MAX_AMOUNT, MAX_ARMS, MAX_FORK, MAX_INTEGERS, MAX_LINE, MAX_PAIRS, MAX_RESOURCES}
 use Rattle.pb_base.specs.declared.pair.Pair.{Pair}
 use Rattle.pb_base.specs.declared.operators.UnaryOp.TheVariants as unary
 use Rattle.pb_base.specs.declared.operators.BinaryOp.TheVariants as binary
@@ -105,7 +106,7 @@ names_resource (r ∷ k ∷ ws) word = bytes_eq r word || names_resource ws word
 -- a resource, and an amount of it
 abbrev pub pair_of : Word → Word → Verdict Pair
 pair_of r k =
-    mapped (λ p. record { resource = p.0; amount = p.1 }) (paired (number 0 15 r) (number 1 1000000 k))
+    mapped (λ p. record { resource = p.0; amount = p.1 }) (paired (number 0 (MAX_RESOURCES - 1) r) (number 1 MAX_AMOUNT k))
 
 -- such pairs, no resource twice
 unfoldable pub pairs_of : List Word → Verdict (List Pair)
@@ -117,7 +118,7 @@ pairs_of (r ∷ k ∷ ws) =
 -- how many pairs there may be
 abbrev pub most_pairs : Format → ℕ
 most_pairs One = 1
-most_pairs Two = 16
+most_pairs Two = MAX_PAIRS
 
 unfoldable pub bundle_of : Format → List Word → Verdict (List Pair)
 bundle_of format ws =
@@ -148,13 +149,13 @@ comparison k ws =
 unfoldable pub plain : Word → List Word → Verdict Given
 plain k ws =
     select k (codes "push") (push_of ws) (
-    select k (codes "load") (mapped given.Load (alone (number 0 63) ws)) (
-    select k (codes "store") (mapped given.Store (alone (number 0 63) ws)) (
+    select k (codes "load") (mapped given.Load (alone (number 0 (MAX_INTEGERS - 1)) ws)) (
+    select k (codes "store") (mapped given.Store (alone (number 0 (MAX_INTEGERS - 1)) ws)) (
     select k (codes "jump") (mapped given.Jump (alone (number 0 39999) ws)) (
     select k (codes "jzero") (mapped given.JumpIfZero (alone (number 0 39999) ws)) (
     select k (codes "print") (bare given.Print ws) (
-    select k (codes "fork") (mapped (λ a. given.Fork a.0 a.1) (two 1 63 1 16 ws)) (
-    select k (codes "join") (mapped (λ a. given.Join a.0 a.1) (two 1 63 1 16 ws)) (
+    select k (codes "fork") (mapped (λ a. given.Fork a.0 a.1) (two 1 (MAX_ARMS - 1) 1 MAX_FORK ws)) (
+    select k (codes "join") (mapped (λ a. given.Join a.0 a.1) (two 1 (MAX_ARMS - 1) 1 MAX_FORK ws)) (
     select k (codes "end") (bare given.End ws) (comparison k ws)))))))))
 
 unfoldable pub instr_of : Format → Word → List Word → Verdict Instr
@@ -167,11 +168,11 @@ instr format [] = Malformed
 instr format (k ∷ ws) = instr_of format k ws
 
 -- a source line
-abbrev pub line_of : ℕ → Option ℕ
-line_of zero = None
-line_of (suc n) = Some (suc n)
+abbrev pub line_given : ℕ → Option ℕ
+line_given zero = None
+line_given (suc n) = Some (suc n)
 
 unfoldable pub place : Format → List Word → Verdict (Option ℕ × Instr)
 place One ws = mapped (λ i. (None, i)) (instr One ws)
 place Two [] = Malformed
-place Two (n ∷ ws) = paired (mapped line_of (number 0 65536 n)) (instr Two ws)
+place Two (n ∷ ws) = paired (mapped line_given (number 0 MAX_LINE n)) (instr Two ws)

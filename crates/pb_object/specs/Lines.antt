@@ -32,8 +32,8 @@ abbrev pub words_before : List ℕ → Option ℕ → Result (List Word × List 
 words_before text None = Err (Malformed (length text))
 words_before text (Some i) = Ok (slice_split (λ b. b == 32) (take i text), drop 1 (drop i text))
 
-unfoldable pub first_line : List ℕ → Result (List Word × List ℕ) Fault
-first_line text = words_before text (position (λ b. b == 10) text)
+unfoldable pub first_words : List ℕ → Result (List Word × List ℕ) Fault
+first_words text = words_before text (position (λ b. b == 10) text)
 
 -- what a line says, if the text from its start on has this number of bytes
 abbrev pub judged : {X : Type 0} → ℕ → Verdict X → Result X Fault
@@ -42,9 +42,9 @@ judged left verdict.Beyond = Err (Beyond left)
 judged left (verdict.Read x) = Ok x
 
 -- what the first line says by its form, and what follows it
-unfoldable pub line : {X : Type 0} → (List Word → Verdict X) → List ℕ → Result (X × List ℕ) Fault
-line form text = do
-  words ← first_line text
+unfoldable pub line_by : {X : Type 0} → (List Word → Verdict X) → List ℕ → Result (X × List ℕ) Fault
+line_by form text = do
+  words ← first_words text
   x ← judged (length text) (form words.0)
   Ok (x, words.1)
 

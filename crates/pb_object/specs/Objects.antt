@@ -30,12 +30,12 @@ pub record Object : Type 0 where
   pub resources : List ResourceRow
   pub processes : List ProcessRow
 
-abbrev pub process_code : ProcessRow → ProcessCode
-process_code p =
+abbrev pub code_of_row : ProcessRow → ProcessCode
+code_of_row p =
     record { integers = length p.integers; entries = p.entries; instrs = map (λ place. place.1) p.places }
 
-abbrev pub process_labels : ProcessRow → ProcessLabels
-process_labels p = record { lines = map (λ place. place.0) p.places; integers = p.integers }
+abbrev pub labels_of_row : ProcessRow → ProcessLabels
+labels_of_row p = record { lines = map (λ place. place.0) p.places; integers = p.integers }
 
 -- the code that an object says
 abbrev pub code_of : Object → Code
@@ -43,12 +43,12 @@ code_of o = record {
   names = record { processes = map (λ p. p.name) o.processes; resources = map (λ r. r.name) o.resources };
   capital = map (λ r. r.capital) o.resources;
   claims = map (λ p. p.claims) o.processes;
-  processes = map process_code o.processes;
+  processes = map code_of_row o.processes;
 }
 
 -- the labels that an object says
 abbrev pub labels_of : Object → List ProcessLabels
-labels_of o = map process_labels o.processes
+labels_of o = map labels_of_row o.processes
 
 -- ---- the spelling
 
@@ -83,8 +83,8 @@ process_text format p =
     ++ (line_text (counted_words (codes "code") (length p.places))
     ++ flat_map (λ place. line_text (place_words format place)) p.places)))))
 
-unfoldable pub spelling : Object → List ℕ
-spelling o =
+unfoldable pub object_spelling : Object → List ℕ
+object_spelling o =
     line_text (codes "PBO" ∷ digit_of o.format ∷ [])
     ++ (line_text (counted_words (codes "resources") (length o.resources))
     ++ (flat_map (λ r. line_text (resource_words r)) o.resources

@@ -1,7 +1,8 @@
 -- The objects that have a spelling: ranges of numbers, and rules on names.
-use Rattle.std.specs.Prelude.{◌≡◌, ◌≢◌, ℕ, zero, suc, ◌≤◌, true, List, [], ◌∷◌, ◌++◌, length, map, Option, None, ⊤}
+use Rattle.std.specs.Prelude.{◌<◌, ◌≡◌, ◌≢◌, ℕ, zero, suc, ◌≤◌, true, List, [], ◌∷◌, ◌++◌, length, map, Option, None, ⊤}
 use Rattle.std.specs.Fmt.{decimal}
 use Rattle.std.specs.List.{AllByRecursion}
+use Rattle.pb_base.specs.declared.limits.TheConstants.{MAX_AMOUNT, MAX_ARMS, MAX_FIRST_PROCESSES, MAX_FORK, MAX_INTEGERS, MAX_PLACES, MAX_PROCESSES, MAX_RESOURCES}
 use Rattle.pb_base.specs.declared.pair.Pair.{Pair}
 use Rattle.pb_code.specs.Limits.{IsLine, IsSigned}
 use Rattle.pb_object.specs.declared.format.Format.{Format}
@@ -15,9 +16,9 @@ use Rattle.pb_object.specs.Objects.{ResourceRow, ProcessRow, Object}
 -- ---- instructions
 
 pub record IsPair (p : Pair) : Type 0 where
-  pub resource : p.resource ≤ 15
+  pub resource : p.resource < MAX_RESOURCES
   pub some : 1 ≤ p.amount
-  pub amount : p.amount ≤ 1000000
+  pub amount : p.amount ≤ MAX_AMOUNT
 
 -- pairs in range, no resource twice
 abbrev pub ArePairs : List Pair → Type 0
@@ -30,12 +31,12 @@ pub record IsBundle (most : ℕ) (ps : List Pair) : Type 0 where
   pub pairs : ArePairs ps
 
 abbrev pub AreArms : ℕ → ℕ → Type 0
-AreArms f n = (1 ≤ f) × (f ≤ 63) × (1 ≤ n) × (n ≤ 16)
+AreArms f n = (1 ≤ f) × (f < MAX_ARMS) × (1 ≤ n) × (n ≤ MAX_FORK)
 
 abbrev pub IsInstr : Format → Instr → Type 0
 IsInstr format (Push v) = IsSigned v
-IsInstr format (Load x) = x ≤ 63
-IsInstr format (Store x) = x ≤ 63
+IsInstr format (Load x) = x < MAX_INTEGERS
+IsInstr format (Store x) = x < MAX_INTEGERS
 IsInstr format (Compute1 op) = ⊤
 IsInstr format (Compute2 op) = ⊤
 IsInstr format (Jump t) = t ≤ 39999
@@ -61,9 +62,9 @@ plain_names (suc n) = plain_names n ++ (118 ∷ decimal n) ∷ []
 
 -- the first format has no names of integers but these
 abbrev pub AreIntegers : Format → List Word → Type 0
-AreIntegers One names = (names ≡ plain_names (length names)) × (length names ≤ 64)
+AreIntegers One names = (names ≡ plain_names (length names)) × (length names ≤ MAX_INTEGERS)
 AreIntegers Two names =
-    AllByRecursion (λ name. is_name name ≡ true) names × (are_new [] names ≡ true) × (length names ≤ 64)
+    AllByRecursion (λ name. is_name name ≡ true) names × (are_new [] names ≡ true) × (length names ≤ MAX_INTEGERS)
 
 -- ---- objects
 
@@ -74,32 +75,32 @@ Each Good earlier (x ∷ xs) = Good earlier x × Each Good (earlier ++ x ∷ [])
 
 pub record IsResource (earlier : List ResourceRow) (r : ResourceRow) : Type 0 where
   pub name : is_new_name (map (λ e. e.name) earlier) r.name ≡ true
-  pub capital : r.capital ≤ 1000000
+  pub capital : r.capital ≤ MAX_AMOUNT
 
 abbrev pub IsEntry : List ℕ → ℕ → Type 0
 IsEntry earlier e = e ≤ 39999
 
 -- a claim for each of m resources
 abbrev pub AreClaimsInRange : ℕ → List ℕ → Type 0
-AreClaimsInRange m claims = (length claims ≡ m) × AllByRecursion (λ claim. claim ≤ 1000000) claims
+AreClaimsInRange m claims = (length claims ≡ m) × AllByRecursion (λ claim. claim ≤ MAX_AMOUNT) claims
 
 pub record IsProcess (format : Format) (m : ℕ) (earlier : List ProcessRow) (p : ProcessRow) : Type 0 where
   pub name : is_new_name (map (λ e. e.name) earlier) p.name ≡ true
   pub integers : AreIntegers format p.integers
   pub some_arms : 1 ≤ length p.entries
-  pub few_arms : length p.entries ≤ 64
+  pub few_arms : length p.entries ≤ MAX_ARMS
   pub claims : AreClaimsInRange m p.claims
   pub entries : Each IsEntry [] p.entries
   pub some_places : 1 ≤ length p.places
-  pub few_places : length p.places ≤ 40000
+  pub few_places : length p.places ≤ MAX_PLACES
   pub places : Each (λ earlier place. IsPlace format place) [] p.places
 
 abbrev pub most_processes : Format → ℕ
-most_processes One = 32
-most_processes Two = 64
+most_processes One = MAX_FIRST_PROCESSES
+most_processes Two = MAX_PROCESSES
 
 pub record IsObject (o : Object) : Type 0 where
-  pub few_resources : length o.resources ≤ 16
+  pub few_resources : length o.resources ≤ MAX_RESOURCES
   pub resources : Each IsResource [] o.resources
   pub some_processes : 1 ≤ length o.processes
   pub few_processes : length o.processes ≤ most_processes o.format

@@ -4,6 +4,7 @@ use Rattle.std.specs.Char.{is_ascii_digit}
 use Rattle.std.specs.Str.Parse.{digits_value}
 use Rattle.std.specs.List.{list_all}
 use Rattle.pb_code.specs.Names.{Word, is_among, is_name}
+use Rattle.pb_code.specs.Numerals.{is_numeral}
 use Rattle.pb_object.specs.declared.words.Verdict.{Verdict}
 use Rattle.pb_object.specs.declared.words.Verdict.TheVariants.{Malformed, Beyond, Read}
 
@@ -25,11 +26,6 @@ paired (Read x) (Read y) = Read (x, y)
 
 -- ---- numbers
 
--- digits, with no zero before others
-abbrev pub is_numeral : Word → Bool
-is_numeral [] = false
-is_numeral (d ∷ ds) = list_all is_ascii_digit (d ∷ ds) && (not (d == 48) || (length ds == 0))
-
 -- a number from low to high
 unfoldable pub number : ℕ → ℕ → Word → Verdict ℕ
 number low high word =
@@ -45,10 +41,10 @@ numbers low high [] = Read []
 numbers low high (w ∷ ws) = mapped (λ p. p.0 ∷ p.1) (paired (number low high w) (numbers low high ws))
 
 -- what was read is from low to high
-abbrev pub IsWithin : ℕ → ℕ → Verdict ℕ → Type 0
-IsWithin low high Malformed = ⊤
-IsWithin low high Beyond = ⊤
-IsWithin low high (Read n) = (low ≤ n) × (n ≤ high)
+abbrev pub IsBetween : ℕ → ℕ → Verdict ℕ → Type 0
+IsBetween low high Malformed = ⊤
+IsBetween low high Beyond = ⊤
+IsBetween low high (Read n) = (low ≤ n) × (n ≤ high)
 
 abbrev pub AreWithin : ℕ → ℕ → ℕ → ℕ → Verdict (ℕ × ℕ) → Type 0
 AreWithin a b c d Malformed = ⊤

@@ -8,6 +8,7 @@ ghost use Rattle.pb_object.specs.Rows.{object_row, IsRow};
 ghost use Rattle.pb_code.specs.View.{code_view, labels_view};
 
 use crate::rows::{ProcessRow, ResourceRow, Rows};
+use pb_base::limits::{MAX_PROCESSES, MAX_RESOURCES};
 use pb_base::{Capital, Claims, Names, NoMemory};
 use pb_code::{Code, Labels, ProcessCode, ProcessLabels};
 use std::alloc::Global;
@@ -77,8 +78,8 @@ fn split_processes(alloc: Global, rows: Vec<ProcessRow>) -> Result<Processes, No
 
 fn claims_of(alloc: Global, rows: &[Vec<u64>]) -> Result<Claims, NoMemory>
     requires some { 0 < length rows.now }
-    requires few_processes { length rows.now ≤ 64 }
-    requires few_resources { width_of (map (λ row. row.items) rows.now) ≤ 16 }
+    requires few_processes { length rows.now ≤ MAX_PROCESSES }
+    requires few_resources { width_of (map (λ row. row.items) rows.now) ≤ MAX_RESOURCES }
     requires one_length { HasWidth (width_of (map (λ row. row.items) rows.now))
         (map (λ row. row.items) rows.now) }
     ensures { IfOk result (λ claims. claims ≡ map (λ row. row.items) rows.now) }

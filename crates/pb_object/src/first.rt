@@ -7,11 +7,9 @@ ghost use Rattle.pb_object.specs.Formats.{FitsFirst, IsSingle};
 ghost use Rattle.pb_code.specs.Limits.{KeepsLimits, PushesFit};
 ghost use Rattle.pb_code.specs.View.{code_view, instr_view, process_view};
 
+use pb_base::limits::MAX_FIRST_PROCESSES;
 use pb_code::bundles::pairs;
 use pb_code::{Code, Instr, ProcessCode};
-
-/// The most processes of the first format.
-const MOST_PROCESSES: usize = 32;
 
 /// Returns whether an instruction takes or gives no more than one resource.
 fn is_single(code: &ProcessCode, instr: Instr) -> bool
@@ -40,7 +38,7 @@ fn are_single(code: &ProcessCode) -> bool
 fn fits_first(code: &Code) -> bool
     ensures { (result ≡ true) ↔ FitsFirst (code_view code.now) }
 {
-    if code.processes.len() > MOST_PROCESSES {
+    if code.processes.len() > MAX_FIRST_PROCESSES {
         return false;
     }
     for p in 0..code.processes.len() {

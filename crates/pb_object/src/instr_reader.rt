@@ -2,9 +2,10 @@
 
 ghost use Rattle.std.specs.Prelude.{◌≡◌, ◌<◌, ◌^◌, ◌-◌, ◌==◌, length, map, IfOk, Ok, codes, ◌≤◌, pos, negsuc, min, true};
 ghost use Rattle.pb_object.specs.Instructions as spec;
-ghost use Rattle.pb_object.specs.Words.{number, IsWithin, AreWithin};
+ghost use Rattle.pb_object.specs.Words.{number, IsBetween, AreWithin};
 
 use crate::words::{Verdict, is, number};
+use pb_base::limits::{MAX_ARMS, MAX_FORK, MAX_INTEGERS};
 use pb_code::Instr;
 
 fn bare(instr: Instr, words: &[&[u8]]) -> Verdict<Instr>
@@ -19,7 +20,7 @@ fn bare(instr: Instr, words: &[&[u8]]) -> Verdict<Instr>
 pub(crate) fn alone(low: u64, high: u64, words: &[&[u8]]) -> Verdict<u64>
     requires { high < 2 ^ 64 - 1 }
     ensures number { result ≡ spec.alone (number low high) (map (λ w. w.now) words.now) }
-    ensures range { IsWithin low high result }
+    ensures range { IsBetween low high result }
 {
     match words {
         [word] => number(low, high, word),
@@ -163,13 +164,13 @@ pub(crate) fn plain(keyword: &[u8], words: &[&[u8]]) -> Verdict<Instr>
     if is(keyword, "push") {
         push(words)
     } else if is(keyword, "load") {
-        match alone(0, 63, words) {
+        match alone(0, MAX_INTEGERS as u64 - 1, words) {
             Verdict::Malformed => Verdict::Malformed,
             Verdict::Beyond => Verdict::Beyond,
             Verdict::Read(x) => Verdict::Read(Instr::Load(x as u8)),
         }
     } else if is(keyword, "store") {
-        match alone(0, 63, words) {
+        match alone(0, MAX_INTEGERS as u64 - 1, words) {
             Verdict::Malformed => Verdict::Malformed,
             Verdict::Beyond => Verdict::Beyond,
             Verdict::Read(x) => Verdict::Read(Instr::Store(x as u8)),
@@ -189,7 +190,7 @@ pub(crate) fn plain(keyword: &[u8], words: &[&[u8]]) -> Verdict<Instr>
     } else if is(keyword, "print") {
         bare(Instr::Print, words)
     } else if is(keyword, "fork") {
-        match two(1, 63, 1, 16, words) {
+        match two(1, MAX_ARMS as u64 - 1, 1, MAX_FORK as u64, words) {
             Verdict::Malformed => Verdict::Malformed,
             Verdict::Beyond => Verdict::Beyond,
             Verdict::Read((first, count)) => Verdict::Read(Instr::Fork {
@@ -198,7 +199,7 @@ pub(crate) fn plain(keyword: &[u8], words: &[&[u8]]) -> Verdict<Instr>
             }),
         }
     } else if is(keyword, "join") {
-        match two(1, 63, 1, 16, words) {
+        match two(1, MAX_ARMS as u64 - 1, 1, MAX_FORK as u64, words) {
             Verdict::Malformed => Verdict::Malformed,
             Verdict::Beyond => Verdict::Beyond,
             Verdict::Read((first, count)) => Verdict::Read(Instr::Join {

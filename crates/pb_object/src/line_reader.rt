@@ -4,22 +4,21 @@ ghost use Rattle.std.specs.Prelude.{◌≡◌, ◌<◌, ◌≤◌, ◌^◌, ◌-
 ghost use Rattle.std.specs.Fmt.{decimal};
 ghost use Rattle.std.specs.List.{list_all};
 ghost use Rattle.std.specs.Option.{option_map};
-ghost use Rattle.pb_object.specs.Lines.{Gives, line};
+ghost use Rattle.pb_object.specs.Lines.{Gives, line_by};
 ghost use Rattle.pb_object.specs.Ranges.{plain_names as plain_names_spec};
 ghost use Rattle.pb_object.specs.Reading as spec;
 ghost use Rattle.pb_object.specs.Rows.{resource_row, named};
-ghost use Rattle.pb_object.specs.Words.{mapped, numbers, are_new, IsWithin};
+ghost use Rattle.pb_object.specs.Words.{mapped, numbers, are_new, IsBetween};
 ghost use Rattle.pb_code.specs.Names.{is_among, is_name as is_name_spec};
 
 use crate::fault::{Fault, ReadError};
 use crate::format::Format;
 use crate::instr_reader::alone;
 use crate::rows::{ProcessRow, ResourceRow};
-use crate::words::{
-    Verdict, copy_of, is, is_numeral, judge_line, number, same, saturated, words_of,
-};
+use crate::words::{Verdict, copy_of, is, judge_line, number, same, saturated, words_of};
 use itoa::Buffer;
-use pb_code::is_name;
+use pb_base::limits::{MAX_AMOUNT, MAX_INTEGERS};
+use pb_code::{is_name, is_numeral};
 use std::alloc::{AllocError, Global};
 
 fn heading(words: &[&[u8]]) -> Verdict<Format>
@@ -40,9 +39,9 @@ fn heading(words: &[&[u8]]) -> Verdict<Format>
 }
 
 /// Returns the format that the first line names, and what follows it.
-#[tactic(auto, unfolding(crate::specs::Lines::line))]
+#[tactic(auto, unfolding(crate::specs::Lines::line_by))]
 pub(crate) fn heading_at(alloc: Global, text: &[u8]) -> Result<(Format, &[u8]), ReadError>
-    ensures { Gives (λ x. (x.0, x.1.now)) result (line spec.heading text.now) }
+    ensures { Gives (λ x. (x.0, x.1.now)) result (line_by spec.heading text.now) }
 {
     let (words, rest) = words_of(alloc, text)?;
     judge_line(text.len(), heading(&words), rest)
@@ -53,7 +52,7 @@ pub(crate) fn heading_at(alloc: Global, text: &[u8]) -> Result<(Format, &[u8]), 
 fn counted(key: &str, low: u64, high: u64, words: &[&[u8]]) -> Verdict<u64>
     requires { high < 2 ^ 64 - 1 }
     ensures number { result ≡ spec.counted key.now low high (map (λ w. w.now) words.now) }
-    ensures range { IsWithin low high result }
+    ensures range { IsBetween low high result }
 {
     match words {
         [keyword, words @ ..] if is(keyword, key) => alone(low, high, words),
@@ -62,7 +61,7 @@ fn counted(key: &str, low: u64, high: u64, words: &[&[u8]]) -> Verdict<u64>
 }
 
 /// Returns the number behind a keyword, and what follows the line.
-#[tactic(auto, unfolding(crate::specs::Lines::line))]
+#[tactic(auto, unfolding(crate::specs::Lines::line_by))]
 pub(crate) fn counted_at<'t>(
     alloc: Global,
     key: &str,
@@ -71,7 +70,7 @@ pub(crate) fn counted_at<'t>(
     text: &'t [u8],
 ) -> Result<(u64, &'t [u8]), ReadError>
     requires { high < 2 ^ 64 - 1 }
-    ensures number { Gives (λ x. (x.0, x.1.now)) result (line (spec.counted key.now low high) text.now) }
+    ensures number { Gives (λ x. (x.0, x.1.now)) result (line_by (spec.counted key.now low high) text.now) }
     ensures range { IfOk result (λ x. (low ≤ x.0) × (x.0 ≤ high)) }
 {
     let (words, rest) = words_of(alloc, text)?;
@@ -105,7 +104,7 @@ fn resource(
             if !is_name(name) || has_resource(earlier, name) {
                 return Ok(Verdict::Malformed);
             }
-            match number(0, 1_000_000, capital) {
+            match number(0, u64::from(MAX_AMOUNT), capital) {
                 Verdict::Malformed => Ok(Verdict::Malformed),
                 Verdict::Beyond => Ok(Verdict::Beyond),
                 Verdict::Read(capital) => {
@@ -122,7 +121,7 @@ fn resource(
 }
 
 /// Returns the resource that the line names, after those before it, and what follows the line.
-#[tactic(auto, unfolding(crate::specs::Lines::line))]
+#[tactic(auto, unfolding(crate::specs::Lines::line_by))]
 pub(crate) fn resource_at<'t>(
     alloc: Global,
     earlier: &[ResourceRow],
@@ -166,14 +165,14 @@ fn process_name<'w>(earlier: &[ProcessRow], words: &[&'w [u8]]) -> Option<&'w [u
 }
 
 /// Returns the name of a process, after those before it, and what follows the line.
-#[tactic(auto, unfolding(crate::specs::Lines::line))]
+#[tactic(auto, unfolding(crate::specs::Lines::line_by))]
 pub(crate) fn name_at<'t>(
     alloc: Global,
     earlier: &[ProcessRow],
     text: &'t [u8],
 ) -> Result<(Vec<u8>, &'t [u8]), ReadError>
     ensures { Gives (λ x. (x.0.items, x.1.now)) result
-        (line (spec.process_name (map (λ p. p.name.items) earlier.now)) text.now) }
+        (line_by (spec.process_name (map (λ p. p.name.items) earlier.now)) text.now) }
 {
     let (words, rest) = words_of(alloc, text)?;
     match process_name(earlier, &words) {
@@ -262,7 +261,7 @@ fn named_integers(
     if !says_number(count, names.len()) || !are_names(names) {
         return Ok(Verdict::Malformed);
     }
-    if 64 < names.len() {
+    if MAX_INTEGERS < names.len() {
         return Ok(Verdict::Beyond);
     }
     match distinct(alloc, names)? {
@@ -280,7 +279,7 @@ fn integers(
         ≡ spec.integers format (map (λ w. w.now) words.now)) }
 {
     match format {
-        Format::One => match counted("vars", 0, 64, words) {
+        Format::One => match counted("vars", 0, MAX_INTEGERS as u64, words) {
             Verdict::Malformed => Ok(Verdict::Malformed),
             Verdict::Beyond => Ok(Verdict::Beyond),
             Verdict::Read(count) => Ok(Verdict::Read(plain_names(alloc, count)?)),
@@ -295,14 +294,14 @@ fn integers(
 }
 
 /// Returns the names of the integers of a process, and what follows the line.
-#[tactic(auto, unfolding(crate::specs::Lines::line))]
+#[tactic(auto, unfolding(crate::specs::Lines::line_by))]
 pub(crate) fn integers_at(
     alloc: Global,
     format: Format,
     text: &[u8],
 ) -> Result<(Vec<Vec<u8>>, &[u8]), ReadError>
     ensures { Gives (λ x. (map (λ name. name.items) x.0.items, x.1.now)) result
-        (line (spec.integers format) text.now) }
+        (line_by (spec.integers format) text.now) }
 {
     let (words, rest) = words_of(alloc, text)?;
     let names = integers(alloc, format, &words)?;
@@ -313,12 +312,12 @@ pub(crate) fn integers_at(
 
 fn amounts(alloc: Global, words: &[&[u8]]) -> Result<Verdict<Vec<u64>>, AllocError>
     ensures { IfOk result (λ v. mapped (λ amounts. amounts.items) v
-        ≡ numbers 0 1000000 (map (λ w. w.now) words.now)) }
+        ≡ numbers 0 MAX_AMOUNT (map (λ w. w.now) words.now)) }
 {
     let mut amounts = Vec::new(alloc);
     let mut beyond = false;
     for word in words {
-        match number(0, 1_000_000, word) {
+        match number(0, MAX_AMOUNT as u64, word) {
             Verdict::Malformed => return Ok(Verdict::Malformed),
             Verdict::Beyond => beyond = true,
             Verdict::Read(amount) => amounts.push(amount)?,
@@ -346,13 +345,13 @@ fn claims(alloc: Global, resources: usize, words: &[&[u8]]) -> Result<Verdict<Ve
 }
 
 /// Returns the claims of a process on these many resources, and what follows the line.
-#[tactic(auto, unfolding(crate::specs::Lines::line))]
+#[tactic(auto, unfolding(crate::specs::Lines::line_by))]
 pub(crate) fn claims_at(
     alloc: Global,
     resources: usize,
     text: &[u8],
 ) -> Result<(Vec<u64>, &[u8]), ReadError>
-    ensures { Gives (λ x. (x.0.items, x.1.now)) result (line (spec.claims resources) text.now) }
+    ensures { Gives (λ x. (x.0.items, x.1.now)) result (line_by (spec.claims resources) text.now) }
 {
     let (words, rest) = words_of(alloc, text)?;
     let claims = claims(alloc, resources, &words)?;

@@ -5,9 +5,9 @@ ghost use Rattle.std.specs.Prelude.{◌≡◌, ◌≤◌, All, IfOk, IfErr, List
 ghost use Rattle.pb_object.specs.declared.format.Format.{Format as Formats};
 ghost use Rattle.pb_object.specs.declared.fault.ObjectFault.TheVariants.{NoMemory};
 ghost use Rattle.pb_object.specs.declared.format.Format.TheVariants.{Two};
-ghost use Rattle.pb_object.specs.Answers.{Spells, SpellsOne, HasText, HasTextOne, AnswersRows, IsAnswer, IsFaultOf, IsAnswerOne, IsFaultOfOne, is_two};
+ghost use Rattle.pb_object.specs.Answers.{SpellsCode, SpellsOne, HasText, HasTextOne, AnswersRows, IsAnswer, IsFaultOf, IsAnswerOne, IsFaultOfOne, is_two};
 ghost use Rattle.pb_object.specs.FaultPlaces.{IsPlaced, IsPlacedOne};
-ghost use Rattle.pb_object.specs.Lines.{line};
+ghost use Rattle.pb_object.specs.Lines.{line_by};
 ghost use Rattle.pb_object.specs.Reading.{heading};
 ghost use Rattle.pb_object.specs.Rows.{IsRow};
 ghost use Rattle.pb_code.specs.View.{code_view, labels_view};
@@ -19,18 +19,16 @@ use crate::format::Format;
 use crate::line_reader::heading_at;
 use crate::reader::read_rows;
 use crate::rows::Rows;
+use pb_base::limits::MAX_INPUT;
 use pb_code::{Code, Labels};
 use std::alloc::Global;
-
-/// The longest text that is read, in bytes.
-pub const MAX_TEXT: usize = 4_194_304;
 
 /// Returns what the text says, or its first faulty line.
 fn rows_of(alloc: Global, text: &[u8]) -> Result<Rows, ObjectFault>
     ensures rows { AnswersRows text.now result }
     ensures fit { IfOk result (λ rows. All IsRow rows.processes.items) }
 {
-    if text.len() > MAX_TEXT {
+    if text.len() > MAX_INPUT {
         return Err(ObjectFault::Limit(0));
     }
     match read_rows(alloc, text) {
@@ -51,16 +49,16 @@ fn rows_of(alloc: Global, text: &[u8]) -> Result<Rows, ObjectFault>
 /// Else the first line that is not as it must be: `NotObject` if it is not of its form, is not ended by a
 /// line feed, is missing, or comes after the end; `Limit` if it is of its form and a number is out of range.
 /// The place is that of the start of the line, or the length of the text if a line is missing. A text of more
-/// than `MAX_TEXT` bytes is `Limit` at 0. `NoMemory` comes wherever a growth is refused.
+/// than `MAX_INPUT` bytes is `Limit` at 0. `NoMemory` comes wherever a growth is refused.
 pub fn read_any(alloc: Global, text: &[u8]) -> Result<(Code, Labels), ObjectFault>
     // The text spells what is returned.
     ensures found { IfOk result (λ x. (format : Formats)
-        × Spells format (code_view x.0) (labels_view x.1) text.now) }
+        × SpellsCode format (code_view x.0) (labels_view x.1) text.now) }
     // What is returned has a text in the second format.
     ensures writable { IfOk result (λ x. HasText Two (code_view x.0) (labels_view x.1)) }
     // What a text spells is returned.
     ensures only { (format : Formats) (code : PlainCode) (labels : List PlainLabels)
-        → Spells format code labels text.now → length text.now ≤ MAX_TEXT → IsAnswer code labels result }
+        → SpellsCode format code labels text.now → length text.now ≤ MAX_INPUT → IsAnswer code labels result }
     // A refusal names the first faulty line.
     ensures fault { IfErr result (IsFaultOf text.now) }
     // By the grammar alone: the lines before the place begin an object, and none begins with the line there
@@ -74,7 +72,7 @@ pub fn read_any(alloc: Global, text: &[u8]) -> Result<(Code, Labels), ObjectFaul
 
 /// Returns whether the first line names the second format.
 fn begins_two(alloc: Global, text: &[u8]) -> Result<bool, ObjectFault>
-    ensures two { IfOk result (λ two. two ≡ is_two (line heading text.now)) }
+    ensures two { IfOk result (λ two. two ≡ is_two (line_by heading text.now)) }
     ensures fault { IfErr result (λ fault. fault ≡ NoMemory) }
 {
     match heading_at(alloc, text) {
@@ -92,14 +90,14 @@ pub fn read_object(alloc: Global, text: &[u8]) -> Result<Code, ObjectFault>
     // It has a text in the first format.
     ensures writable { IfOk result (λ code. HasTextOne (code_view code)) }
     // The code that a text spells is returned.
-    ensures only { (code : PlainCode) → SpellsOne code text.now → length text.now ≤ MAX_TEXT
+    ensures only { (code : PlainCode) → SpellsOne code text.now → length text.now ≤ MAX_INPUT
         → IsAnswerOne code result }
     // A refusal names the first faulty line.
     ensures fault { IfErr result (IsFaultOfOne text.now) }
     // By the grammar alone, as in `read_any`, unless the first line names the second format.
     ensures place { IfErr result (IsPlacedOne text.now) }
 {
-    if text.len() > MAX_TEXT {
+    if text.len() > MAX_INPUT {
         return Err(ObjectFault::Limit(0));
     }
     if begins_two(alloc, text)? {

@@ -10,6 +10,7 @@ ghost use Rattle.pb_code.specs.View.{instr_view};
 use crate::format::Format;
 use crate::instr_reader::plain;
 use crate::words::{Verdict, is, number, same};
+use pb_base::limits::{MAX_AMOUNT, MAX_LINE, MAX_PAIRS, MAX_RESOURCES};
 use pb_base::{Bundle, Pair};
 use pb_code::Instr;
 use std::alloc::AllocError;
@@ -35,7 +36,7 @@ fn names_resource(words: &[&[u8]], resource: &[u8]) -> bool
 
 /// Returns the bundle with one more pair.
 fn with_pair(bundle: Option<Bundle>, pair: Pair) -> Bundle
-    requires room { length (bundle_so_far bundle) < 16 }
+    requires room { length (bundle_so_far bundle) < MAX_PAIRS }
     requires new { All (λ p. p.resource ≢ pair.resource) (bundle_so_far bundle) }
     ensures { result ≡ bundle_so_far bundle ++ pair ∷ [] }
 {
@@ -52,7 +53,10 @@ fn with_pair(bundle: Option<Bundle>, pair: Pair) -> Bundle
 fn pair(resource: &[u8], amount: &[u8]) -> Verdict<Pair>
     ensures { result ≡ spec.pair_of resource.now amount.now }
 {
-    match (number(0, 15, resource), number(1, 1_000_000, amount)) {
+    match (
+        number(0, MAX_RESOURCES as u64 - 1, resource),
+        number(1, u64::from(MAX_AMOUNT), amount),
+    ) {
         (Verdict::Malformed, _) => Verdict::Malformed,
         (_, Verdict::Malformed) => Verdict::Malformed,
         (Verdict::Read(resource), Verdict::Read(amount)) => Verdict::Read(Pair {
@@ -180,16 +184,16 @@ fn instr(
 
 /// Returns a source line.
 fn line_of(line: u64) -> Option<u32>
-    requires { line ≤ 65536 }
-    ensures { result ≡ spec.line_of line }
+    requires { line ≤ MAX_LINE }
+    ensures { result ≡ spec.line_given line }
 {
     if line == 0 { None } else { Some(line as u32) }
 }
 
 /// Returns a place and its source line, of which either may be out of range.
 fn labelled(line: Verdict<u64>, instr: Verdict<Instr>) -> Verdict<(Option<u32>, Instr)>
-    requires { IfRead line (λ line. line ≤ 65536) }
-    ensures { result ≡ paired (mapped spec.line_of line) instr }
+    requires { IfRead line (λ line. line ≤ MAX_LINE) }
+    ensures { result ≡ paired (mapped spec.line_given line) instr }
 {
     match (line, instr) {
         (Verdict::Malformed, _) => Verdict::Malformed,
@@ -224,7 +228,7 @@ pub(crate) fn place(
             [] => Ok(Verdict::Malformed),
             [line, words @ ..] => {
                 let instr = instr(bundles, format, words)?;
-                Ok(labelled(number(0, 65_536, line), instr))
+                Ok(labelled(number(0, u64::from(MAX_LINE), line), instr))
             }
         },
     }

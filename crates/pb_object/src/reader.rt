@@ -2,7 +2,7 @@
 
 ghost use Rattle.std.specs.Prelude.{◌≡◌, ◌<◌, ◌≤◌, ◌+◌, [], length, map, All, IfOk, OnOk, codes, ℕ, slice_index_or};
 ghost use Rattle.pb_object.specs.Instructions.{place as place_spec};
-ghost use Rattle.pb_object.specs.Lines.{Gives, line, many};
+ghost use Rattle.pb_object.specs.Lines.{Gives, line_by, many};
 ghost use Rattle.pb_object.specs.Ranges as ranges;
 ghost use Rattle.pb_object.specs.Reading as spec;
 ghost use Rattle.pb_object.specs.Rows.{resource_row, process_row, object_row, places_row, place_view, IsRow};
@@ -15,6 +15,7 @@ use crate::place_reader::place;
 use crate::rows::{ProcessRow, ResourceRow, Rows};
 use crate::words::{judge_line, words_into};
 use pb_base::Bundle;
+use pb_base::limits::{MAX_ARMS, MAX_FIRST_PROCESSES, MAX_PLACES, MAX_PROCESSES, MAX_RESOURCES};
 use pb_code::{Instr, ProcessCode, ProcessLabels};
 use std::alloc::Global;
 
@@ -53,7 +54,7 @@ fn entries_of(alloc: Global, count: u64, text: &[u8]) -> Result<(Vec<u16>, &[u8]
 
 /// Returns a place, and what follows the line, whose words are now in `words`; the bundle that the place
 /// names is now among those of its process.
-#[tactic(auto, unfolding(crate::specs::Lines::line))]
+#[tactic(auto, unfolding(crate::specs::Lines::line_by))]
 fn place_at<'t>(
     words: &mut Vec<&'t [u8]>,
     bundles: &mut Vec<Bundle>,
@@ -62,7 +63,7 @@ fn place_at<'t>(
 ) -> Result<((Option<u32>, Instr), &'t [u8]), ReadError>
     requires room { length bundles.old.items < 65536 }
     ensures place { Gives (λ x. (place_view bundles.new.items x.0, x.1.now)) result
-        (line (place_spec format) text.now) }
+        (line_by (place_spec format) text.now) }
     ensures names { IfOk result (λ x. NamesBelow (length bundles.new.items) x.0.1) }
     ensures kept { OnOk result (Extends bundles.old.items bundles.new.items) }
     ensures few { OnOk result (length bundles.new.items ≤ length bundles.old.items + 1) }
@@ -86,7 +87,7 @@ fn places_of(
     count: u64,
     text: &[u8],
 ) -> Result<(Places, &[u8]), ReadError>
-    requires { count ≤ 40000 }
+    requires { count ≤ MAX_PLACES }
     ensures read { Gives (λ x. (places_row x.0, x.1.now)) result (many (spec.place_at format) [] count text.now) }
     ensures even { IfOk result (λ x. length x.0.lines.items ≡ length x.0.instrs.items) }
 {
@@ -133,10 +134,10 @@ fn process_at<'t>(
 {
     let (name, rest) = name_at(alloc, earlier, text)?;
     let (integers, rest) = integers_at(alloc, format, rest)?;
-    let (arms, rest) = counted_at(alloc, "arms", 1, 64, rest)?;
+    let (arms, rest) = counted_at(alloc, "arms", 1, MAX_ARMS as u64, rest)?;
     let (claims, rest) = claims_at(alloc, resources, rest)?;
     let (entries, rest) = entries_of(alloc, arms, rest)?;
-    let (count, rest) = counted_at(alloc, "code", 1, 40_000, rest)?;
+    let (count, rest) = counted_at(alloc, "code", 1, MAX_PLACES as u64, rest)?;
     match places_of(alloc, format, count, rest) {
         Err(fault) => Err(fault),
         Ok((places, rest)) => {
@@ -188,11 +189,11 @@ fn processes_of(
 
 fn process_count_at(alloc: Global, format: Format, text: &[u8]) -> Result<(u64, &[u8]), ReadError>
     ensures { Gives (λ x. (x.0, x.1.now)) result
-        (line (spec.counted (codes "processes") 1 (ranges.most_processes format)) text.now) }
+        (line_by (spec.counted (codes "processes") 1 (ranges.most_processes format)) text.now) }
 {
     match format {
-        Format::One => counted_at(alloc, "processes", 1, 32, text),
-        Format::Two => counted_at(alloc, "processes", 1, 64, text),
+        Format::One => counted_at(alloc, "processes", 1, MAX_FIRST_PROCESSES as u64, text),
+        Format::Two => counted_at(alloc, "processes", 1, MAX_PROCESSES as u64, text),
     }
 }
 
@@ -203,7 +204,7 @@ pub(crate) fn read_rows(alloc: Global, text: &[u8]) -> Result<Rows, ReadError>
     ensures fit { IfOk result (λ rows. All IsRow rows.processes.items) }
 {
     let (format, rest) = heading_at(alloc, text)?;
-    let (count, rest) = counted_at(alloc, "resources", 0, 16, rest)?;
+    let (count, rest) = counted_at(alloc, "resources", 0, MAX_RESOURCES as u64, rest)?;
     let (resources, rest) = resources_of(alloc, count, rest)?;
     let (processes_count, rest) = process_count_at(alloc, format, rest)?;
     match processes_of(alloc, format, count as usize, processes_count, rest) {

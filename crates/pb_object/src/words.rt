@@ -4,12 +4,13 @@ ghost use Rattle.std.specs.Prelude.{◌≡◌, ◌<◌, ◌^◌, ◌-◌, map, I
 ghost use Rattle.std.specs.Str.{bytes_eq};
 ghost use Rattle.std.specs.Str.Parse.{digits_value};
 ghost use Rattle.pb_object.specs.declared.words.Verdict.TheVariants.{Read};
-ghost use Rattle.pb_object.specs.Lines.{Fails, Gives, first_line, judged};
+ghost use Rattle.pb_object.specs.Lines.{Fails, Gives, first_words, judged};
 ghost use Rattle.pb_object.specs.Words as spec;
 ghost use Rattle.std.specs.List.{list_all};
 ghost use Rattle.std.specs.Char.{is_ascii_digit};
 
 use crate::fault::{Fault, ReadError};
+use pb_code::is_numeral;
 use std::alloc::{AllocError, Global};
 
 /// What a line or a part of it says.
@@ -27,7 +28,7 @@ pub(crate) fn words_into<'t>(
     words: &mut Vec<&'t [u8]>,
     text: &'t [u8],
 ) -> Result<&'t [u8], ReadError>
-    ensures { Gives (λ rest. (map (λ w. w.now) words.new.items, rest.now)) result (first_line text.now) }
+    ensures { Gives (λ rest. (map (λ w. w.now) words.new.items, rest.now)) result (first_words text.now) }
 {
     words.clear();
     let mut start = 0;
@@ -49,14 +50,15 @@ pub(crate) fn words_into<'t>(
 
 /// Returns the words of the first line, and what follows its end.
 pub(crate) fn words_of(alloc: Global, text: &[u8]) -> Result<(Vec<&[u8]>, &[u8]), ReadError>
-    ensures { Gives (λ x. (map (λ w. w.now) x.0.items, x.1.now)) result (first_line text.now) }
+    ensures { Gives (λ x. (map (λ w. w.now) x.0.items, x.1.now)) result (first_words text.now) }
 {
     let mut words = Vec::new(alloc);
     let rest = words_into(&mut words, text)?;
     Ok((words, rest))
 }
 
-/// Returns what the line is read as, if the text from its start on has `left` bytes, and what follows the line.
+/// Returns what the line is read as, if the text from its start on has `left` bytes, and what follows the
+/// line.
 pub(crate) fn judge_line<T>(
     left: usize,
     verdict: Verdict<T>,
@@ -93,26 +95,6 @@ pub(crate) fn same(a: &[u8], b: &[u8]) -> bool
     a == b
 }
 
-fn are_digits(word: &[u8]) -> bool
-    ensures { result ≡ list_all is_ascii_digit word.now }
-{
-    for byte in word {
-        if !byte.is_ascii_digit() {
-            return false;
-        }
-    }
-    true
-}
-
-pub(crate) fn is_numeral(word: &[u8]) -> bool
-    ensures { result ≡ spec.is_numeral word.now }
-{
-    match word {
-        [] => false,
-        [first, rest @ ..] => are_digits(word) && (*first != b'0' || rest.is_empty()),
-    }
-}
-
 /// Returns the number that digits write, or `u64::MAX` if it is larger.
 pub(crate) fn saturated(digits: &[u8]) -> u64
     requires { list_all is_ascii_digit digits.now ≡ true }
@@ -132,7 +114,7 @@ pub(crate) fn saturated(digits: &[u8]) -> u64
 pub(crate) fn number(low: u64, high: u64, word: &[u8]) -> Verdict<u64>
     requires { high < 2 ^ 64 - 1 }
     ensures number { result ≡ spec.number low high word.now }
-    ensures range { spec.IsWithin low high result }
+    ensures range { spec.IsBetween low high result }
 {
     if !is_numeral(word) {
         return Verdict::Malformed;

@@ -6,7 +6,7 @@ ghost use Rattle.std.specs.List.{flat_map};
 ghost use Rattle.pb_base.specs.Banker.{cell};
 ghost use Rattle.pb_base.specs.Tables.{width_of};
 ghost use Rattle.pb_object.specs.declared.format.Format.TheVariants.{One, Two};
-ghost use Rattle.pb_object.specs.Answers.{HasText, HasTextOne, Spells, SpellsOne};
+ghost use Rattle.pb_object.specs.Answers.{HasText, HasTextOne, SpellsCode, SpellsOne};
 ghost use Rattle.pb_object.specs.Instructions.{instr_words, place_words};
 ghost use Rattle.pb_object.specs.Lines.{line_text};
 ghost use Rattle.pb_object.specs.Objects as spec;
@@ -243,7 +243,7 @@ pub fn write_object(alloc: Global, code: &Code) -> Result<Vec<u8>, NoMemory>
 /// refused.
 pub fn write_object2(alloc: Global, code: &Code, labels: &Labels) -> Result<Vec<u8>, NoMemory>
     requires { HasText Two (code_view code.now) (labels_view labels.now) }
-    ensures { IfOk result (λ text. Spells Two (code_view code.now) (labels_view labels.now) text.items) }
+    ensures { IfOk result (λ text. SpellsCode Two (code_view code.now) (labels_view labels.now) text.items) }
 {
     let mut out = Vec::new(alloc);
     put_opening(&mut out, "2", code)?;

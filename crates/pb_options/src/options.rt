@@ -2,6 +2,7 @@
 ghost use Rattle.std.specs.Prelude.{◌≡◌, ◌≤◌, ℕ, Some};
 ghost use Rattle.pb_options.specs.Lends.{IsLendOf};
 
+use pb_base::limits::{MAX_PICKS, MAX_QUANTUM, MAX_WORKERS};
 use pb_object::Format;
 use std::str::FromStr;
 
@@ -31,10 +32,10 @@ pub struct RunOptions {
     /// The number of picks after which the run stops, at most 10,000,000.
     pub steps: u32,
     pub ghost some_worker: { 1 ≤ workers },
-    pub ghost workers_fit: { workers ≤ 16 },
+    pub ghost workers_fit: { workers ≤ MAX_WORKERS },
     pub ghost some_quantum: { 1 ≤ quantum },
-    pub ghost quantum_fits: { quantum ≤ 4096 },
-    pub ghost steps_fit: { steps ≤ 10000000 },
+    pub ghost quantum_fits: { quantum ≤ MAX_QUANTUM },
+    pub ghost steps_fit: { steps ≤ MAX_PICKS },
 }
 
 /// The options of `record_engine`.

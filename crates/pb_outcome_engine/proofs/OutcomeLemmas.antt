@@ -23,7 +23,7 @@ use Rattle.pb_explore.specs.Outcomes.{AreOutcomes, CodeLeads, Configuration, End
 use Rattle.pb_explore.specs.declared.found.Found.{Found as GivenFound}
 use Rattle.pb_outcome_engine.specs.DeadlockLines.{AreDeadlockLines}
 use Rattle.pb_outcome_engine.specs.OutcomeLines.{AreOutcomeLines, all_line, excess_line}
-use Rattle.pb_outcome_engine.specs.SaysOutcomes.{SaysOfCode, all_told, too_many}
+use Rattle.pb_outcome_engine.specs.SaysOutcomes.{SaysOfSearch, all_told, too_many}
 use Rattle.pb_outcome_engine.specs.Showing.{HaveProcesses}
 use Rattle.pb_explore.specs.Deadlocks.{AreDeadlocks, AreFoundAt, FoundDeadlock, IsFoundAt}
 use Rattle.pb_explore.specs.Deadlocks.{deadlock_view}
@@ -109,7 +109,7 @@ module _ (lending : Lending) (v seen : VerifiedCode) (same : seen ≡ v) (code :
       → (states : ℕ) (cycles : Bool) (lines more text : List ℕ) → IsWithin lending seen.code states → TellsEndless lending seen.code cycles
       → AreOutcomeLines code.names shown (map found_view given) lines → AreDeadlockLines code.names shown (map deadlock_view given_stuck) more
       → text ≡ (lines ++ more) ++ all_line (length given) (length given_stuck) cycles
-      → SaysOfCode lending v.code labels states text Done
+      → SaysOfSearch lending v.code labels states text Done
   says_all found given stuck given_stuck same_found same_stuck outcomes deadlocks states cycles lines more text within endless are stuck_are is =
       let count : length (map found_view found) ≡ length given =
       length-map found found_view ∙ ap (λ (f : List GivenFound). length f) (sym same_found) in
@@ -123,7 +123,7 @@ module _ (lending : Lending) (v seen : VerifiedCode) (same : seen ≡ v) (code :
       subst (λ (n : NameTable). AreDeadlockLines n labels (map deadlock_view stuck) more) same_names
       (subst (λ (l : List ProcessLabels). AreDeadlockLines code.names l (map deadlock_view stuck) more) same_labels
       (subst (λ (f : List GivenDeadlock). AreDeadlockLines code.names shown (map deadlock_view f) more) same_stuck stuck_are)) in
-      subst (λ (t : List ℕ). SaysOfCode lending v.code labels states t Done)
+      subst (λ (t : List ℕ). SaysOfSearch lending v.code labels states t Done)
       (ap (λ n. (lines ++ more) ++ all_line n (length (map deadlock_view stuck)) cycles) count
       ∙ (ap (λ n. (lines ++ more) ++ all_line (length given) n cycles) many ∙ sym is))
       (all_told (map found_view found) lines
@@ -135,9 +135,9 @@ module _ (lending : Lending) (v seen : VerifiedCode) (same : seen ≡ v) (code :
 
 pub says_excess : (lending : Lending) (v seen : VerifiedCode) (labels : List ProcessLabels) (states : ℕ) (reply : Result Reply NoMemory) → seen ≡ v
     → IsExcess lending seen.code states → IfOk reply (λ r. (r.text.items ≡ excess_line states) × (r.status ≡ Limit))
-    → IfOk reply (λ r. SaysOfCode lending v.code labels states r.text.items r.status)
+    → IfOk reply (λ r. SaysOfSearch lending v.code labels states r.text.items r.status)
 says_excess lending v seen labels states (Ok r) same excess (text, status) =
-    subst (λ (t : List ℕ). SaysOfCode lending v.code labels states t r.status) (sym text)
-    (subst (λ (s : Status). SaysOfCode lending v.code labels states (excess_line states) s) (sym status)
+    subst (λ (t : List ℕ). SaysOfSearch lending v.code labels states t r.status) (sym text)
+    (subst (λ (s : Status). SaysOfSearch lending v.code labels states (excess_line states) s) (sym status)
     (too_many (subst (λ (x : VerifiedCode). IsExcess lending x.code states) same excess)))
 says_excess lending v seen labels states (Err e) same excess is = tt

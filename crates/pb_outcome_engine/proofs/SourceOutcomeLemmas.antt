@@ -8,7 +8,7 @@ use Rattle.pb_base.specs.Steppers.{Bank, State, Stepper, Table, IsFinished, IsGr
 use Rattle.pb_names.specs.Program.{AllWellNumbered, Process, Program}
 use Rattle.pb_names.specs.Resolves.{resource_names}
 use Rattle.pb_names.specs.Source.{Arm, Doing, Ended, SourceProcess, Waiting, source_over, source_process, source_step}
-use Rattle.pb_code.specs.Code.{CodeProcess, Live, Over, code_over, code_process, code_step, thread}
+use Rattle.pb_code.specs.Code.{Thread, CodeProcess, Live, code_over, code_process, code_step, thread}
 use Rattle.pb_code.specs.Whole.{Code}
 use Rattle.pb_codegen.specs.Correct.{generated}
 use Rattle.pb_codegen.specs.Generate.{program_code}
@@ -21,26 +21,10 @@ use Rattle.pb_codegen.proofs.VerifiedProcesses.{well_numbered}
 use Rattle.pb_codegen.proofs.WriterLines.{Listing}
 use Rattle.pb_explore.specs.Configurations.{Comes}
 use Rattle.pb_explore.specs.Outcomes.{AreOutcomes, Found, ProcessOutcome, process_outcome}
-use Rattle.pb_explore.specs.Reduction.{Leads}
+use Rattle.pb_explore.specs.Reduction.{LeadsTo}
 use Rattle.pb_explore.specs.declared.lending.Lending.TheVariants.{ByBanker}
 use Rattle.pb_outcome_engine.specs.SourceOutcomes.{IsOutcomeOfCode, IsOutcomeOfProgram, OutcomesAreThoseOfTheProgram, source_outcome}
-
--- ---- runs with their events, and without
-
-module _ {P : Type 0} (bank : Bank) (step : Stepper P) where
-  come : (s end : State P) (picks : List Pick) (events : List Event) → Makes bank step s picks events end
-      → Comes (Leads (IsGranted bank) step) s picks end
-  come s end [] events h = h.1
-  come s end (pick ∷ picks) events h = (h.0.next, (h.0.effect, h.1, h.2), come h.0.next end picks h.3 h.5)
-
-  make : (s end : State P) (picks : List Pick) → Comes (Leads (IsGranted bank) step) s picks end
-      → (events : List Event) × Makes bank step s picks events end
-  make s end [] h = ([], (refl, h))
-  make s end (pick ∷ picks) h =
-      let more = make h.0 end picks h.2 in (
-        option_to_list (event_of pick h.1.0) ++ more.0,
-        (record { next = h.0; effect = h.1.0 }, h.1.1, h.1.2, more.0, refl, more.1),
-      )
+use Rattle.pb_explore.proofs.Reaching.{come, make}
 
 -- ---- states that are alike: the same outcome, and both are endings or neither is
 
@@ -57,19 +41,19 @@ module _ (listing : Listing) (cp : CodeProcess) (sp : SourceProcess) where
       ∙ ap (λ (f : Bool). record { integers = sp.vars; faulted = f }) faulted
 
   over_as : (run : Option Arm) → RunAlike listing cp.threads cp.faulted run
-      → (cp.faulted ≡ true) ⊎ (thread cp.threads 0 ≡ Over) ↔ (run ≡ None) ⊎ (run ≡ Some Ended)
+      → (cp.faulted ≡ true) ⊎ (thread cp.threads 0 ≡ Thread.Ended) ↔ (run ≡ None) ⊎ (run ≡ Some Ended)
   over_as None h = (λ o. inl refl, λ o. inl h.0)
   over_as (Some (Doing items)) h = (
     elim [
       | inl f ↦ (let w : false ≡ true = sym h.0 ∙ f in cc)
-      | inr t ↦ (let w : Over ≡ Live h.2.0 h.2.1 = sym t ∙ h.2.2 in cc)
+      | inr t ↦ (let w : Thread.Ended ≡ Live h.2.0 h.2.1 = sym t ∙ h.2.2 in cc)
     ],
     elim [ inl n ↦ cc | inr n ↦ cc ],
   )
   over_as (Some (Waiting line first arms rest)) h = (
     elim [
       | inl f ↦ (let w : false ≡ true = sym h.0 ∙ f in cc)
-      | inr t ↦ (let w : Over ≡ Live h.2.0 [] = sym t ∙ h.2.1 in cc)
+      | inr t ↦ (let w : Thread.Ended ≡ Live h.2.0 [] = sym t ∙ h.2.1 in cc)
     ],
     elim [ inl n ↦ cc | inr n ↦ cc ],
   )

@@ -2,16 +2,15 @@
 use Rattle.std.specs.Prelude.{ℕ, zero, suc, ◌+◌, List, [], ◌∷◌, ◌++◌, length, codes, get_or, slice_index_or}
 use Rattle.std.specs.Fmt.{decimal}
 use Rattle.std.specs.List.{flat_map}
-use Rattle.pb_base.specs.Lines.{NameTable, name_of, pair_text, pairs_text}
+use Rattle.pb_base.specs.Lines.{NameTable, name_of, pair_text, pairs_text, line, each_below}
 use Rattle.pb_code.specs.Whole.{ProcessLabels}
-use Rattle.pb_engines.specs.Answers.{line}
 use Rattle.pb_explore.specs.declared.found.Ask.{Ask}
 use Rattle.pb_explore.specs.declared.found.StuckState.{StuckState}
 use Rattle.pb_explore.specs.declared.found.StuckState.TheVariants.{Ended, Faulted, Waiting}
 use Rattle.pb_explore.specs.Deadlocks.{FoundDeadlock, StuckProcess}
 use Rattle.pb_history.specs.declared.counted.CountedPick.{CountedPick}
 use Rattle.pb_picks.specs.PickLines.{pick_lines}
-use Rattle.pb_outcome_engine.specs.OutcomeLines.{AreCounted, each_below, integer_lines, integer_names}
+use Rattle.pb_outcome_engine.specs.OutcomeLines.{AreCounted, integer_lines, integer_names}
 
 -- where a process is in a deadlock
 abbrev pub state_text : StuckState → List ℕ

@@ -2,19 +2,13 @@
 use Rattle.std.specs.Prelude.{◌≡◌, ℕ, zero, suc, ◌+◌, ℤ, pos, Bool, true, false, List, [], ◌∷◌, ◌++◌, length, codes, slice_index_or}
 use Rattle.std.specs.Fmt.{decimal, signed_decimal}
 use Rattle.pb_base.specs.declared.pick.Pick.{Pick}
-use Rattle.pb_base.specs.Lines.{NameTable, name_of}
+use Rattle.pb_base.specs.Lines.{NameTable, name_of, each_below, line}
 use Rattle.pb_code.specs.Whole.{ProcessLabels}
-use Rattle.pb_engines.specs.Answers.{line}
 use Rattle.pb_explore.specs.Outcomes.{Found, ProcessOutcome}
 use Rattle.pb_history.specs.Replays.{spread}
 use Rattle.pb_history.specs.declared.counted.CountedPick.{CountedPick}
 use Rattle.pb_picks.specs.Counted.{AreApart}
 use Rattle.pb_picks.specs.PickLines.{pick_lines}
-
--- what is said of each number below n, one after another
-abbrev pub each_below : (ℕ → List ℕ) → ℕ → List ℕ
-each_below said zero = []
-each_below said (suc n) = each_below said n ++ said n
 
 -- the integers of a process have these names
 abbrev pub integer_names : List ProcessLabels → ℕ → List (List ℕ)
@@ -38,14 +32,14 @@ integer_lines process names values =
     each_below (λ x. integer_line process (name_of names x) (slice_index_or values x (pos 0))) (length values)
 
 -- how a process ended, and then its integers
-abbrev pub process_lines : List ℕ → List (List ℕ) → ProcessOutcome → List ℕ
-process_lines name integers outcome =
+abbrev pub outcome_lines_of : List ℕ → List (List ℕ) → ProcessOutcome → List ℕ
+outcome_lines_of name integers outcome =
     line (name ++ end_text outcome.faulted) ++ integer_lines name integers outcome.integers
 
 -- so of each process, by their names and those of their integers
 abbrev pub end_lines : List (List ℕ) → List ProcessLabels → List ProcessOutcome → List ℕ
 end_lines names labels outcome =
-    each_below (λ p. process_lines (name_of names p) (integer_names labels p) (outcome_at outcome p)) (length outcome)
+    each_below (λ p. outcome_lines_of (name_of names p) (integer_names labels p) (outcome_at outcome p)) (length outcome)
 
 -- an outcome with its number, and picks that lead to it
 abbrev pub outcome_lines : NameTable → List ProcessLabels → ℕ → List ProcessOutcome → List CountedPick → List ℕ

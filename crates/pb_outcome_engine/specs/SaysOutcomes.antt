@@ -22,17 +22,17 @@ lending_for Cash = ByCash
 -- what is said of code under this lending: all of its outcomes, then all of its deadlocks, none missing and
 -- no two the same, told by at most this number of configurations, and how many they are and whether some run
 -- never ends; or that more configurations are reached
-pub data SaysOfCode (lending : Lending) (code : Code) (labels : List ProcessLabels) (states : ℕ)
+pub data SaysOfSearch (lending : Lending) (code : Code) (labels : List ProcessLabels) (states : ℕ)
     : List ℕ → Status → Type 0 where
   all_told : (found : List Found) (lines : List ℕ) → AreOutcomes lending code found → IsWithin lending code states
       → AreOutcomeLines code.names labels found lines
       → (deadlocks : List FoundDeadlock) (stuck : List ℕ) → AreDeadlocks lending code deadlocks
       → AreDeadlockLines code.names labels deadlocks stuck
       → (cycles : Bool) → TellsEndless lending code cycles
-      → SaysOfCode lending code labels states
+      → SaysOfSearch lending code labels states
       ((lines ++ stuck) ++ all_line (length found) (length deadlocks) cycles) Done
   too_many : IsExcess lending code states
-      → SaysOfCode lending code labels states (excess_line states) Limit
+      → SaysOfSearch lending code labels states (excess_line states) Limit
 
 -- what is said of a text: it is refused; or it is accepted, and the outcomes and deadlocks of its code are
 -- told
@@ -40,5 +40,5 @@ pub data SaysOfOutcomes (lend : Lend) (states : ℕ) (bytes : List ℕ) : List �
   refused : (text : List ℕ) (status : Status) → SaysOfRefusedText bytes text status
       → SaysOfOutcomes lend states bytes text status
   accepted : (code : Code) (labels : List ProcessLabels) → IsCompiled bytes code labels
-      → (text : List ℕ) (status : Status) → SaysOfCode (lending_for lend) code labels states text status
+      → (text : List ℕ) (status : Status) → SaysOfSearch (lending_for lend) code labels states text status
       → SaysOfOutcomes lend states bytes text status

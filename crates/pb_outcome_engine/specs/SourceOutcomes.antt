@@ -4,20 +4,20 @@ use Rattle.pb_base.specs.declared.pick.Pick.{Pick}
 use Rattle.pb_base.specs.Steppers.{Table, IsGranted, IsFinished, State, opening}
 use Rattle.pb_code.specs.Whole.{Code, ProcessLabels}
 use Rattle.pb_codegen.specs.Compiled.{IsCompiled}
-use Rattle.pb_codegen.specs.Numbered.{IsNumbered}
+use Rattle.pb_codegen.specs.Numbered.{IsReadAs}
 use Rattle.pb_codegen.specs.SourceBehaviour.{bank_with}
 use Rattle.pb_explore.specs.Configurations.{Comes}
 use Rattle.pb_explore.specs.Outcomes.{AreOutcomes, Configuration, Ends, Found, ProcessOutcome, outcome_of}
-use Rattle.pb_explore.specs.Reduction.{Leads}
+use Rattle.pb_explore.specs.Reduction.{LeadsTo}
 use Rattle.pb_explore.specs.declared.lending.Lending.TheVariants.{ByBanker}
 use Rattle.pb_names.specs.Program.{Program}
 use Rattle.pb_names.specs.Source.{SourceProcess, source_over, source_process, source_step}
 
--- the picks, each enabled in turn, lead the source here from its start, under the banker, who knows the capital and
--- these claims
+-- the picks, each enabled in turn, lead the source here from its start, under the banker, who knows the
+-- capital and these claims
 abbrev pub SourceComes : Program → Table → List Pick → State SourceProcess → Type 0
 SourceComes program claims picks s =
-    Comes (Leads (IsGranted (bank_with program claims)) source_step)
+    Comes (LeadsTo (IsGranted (bank_with program claims)) source_step)
     (opening (bank_with program claims) (map source_process program.processes)) picks s
 
 -- the picks lead to an ending: every process has ended or faulted
@@ -42,8 +42,8 @@ abbrev pub IsOutcomeOfCode : Code → List ProcessOutcome → Type 0
 IsOutcomeOfCode code outcome =
     (picks : List Pick) × (end : Configuration) × Ends ByBanker code picks end × (outcome ≡ outcome_of end)
 
--- the code has the outcomes of the program, and no others; and a list of the outcomes of the code is one of those of
--- the program: each that is listed is one, and none is missing
+-- the code has the outcomes of the program, and no others; and a list of the outcomes of the code is one of
+-- those of the program: each that is listed is one, and none is missing
 pub record HasOutcomesOf (program : Program) (code : Code) : Type 0 where
   pub same : (outcome : List ProcessOutcome) → IsOutcomeOfCode code outcome ↔ IsOutcomeOfProgram program code.claims outcome
   pub listed : (found : List Found) → AreOutcomes ByBanker code found → (outcome : List ProcessOutcome)
@@ -53,4 +53,4 @@ pub record HasOutcomesOf (program : Program) (code : Code) : Type 0 where
 abbrev pub OutcomesAreThoseOfTheProgram : Type 0
 OutcomesAreThoseOfTheProgram =
     (text : List ℕ) (code : Code) (labels : List ProcessLabels) → IsCompiled text code labels
-    → (program : Program) × IsNumbered text program code.claims × HasOutcomesOf program code
+    → (program : Program) × IsReadAs text program code.claims × HasOutcomesOf program code

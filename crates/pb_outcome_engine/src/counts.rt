@@ -3,20 +3,18 @@
 ghost use Rattle.std.specs.Prelude.{IfOk};
 ghost use Rattle.pb_outcome_engine.specs.OutcomeLines.{AreCounted};
 
+use pb_base::limits::MAX_PICKS;
 use pb_base::{NoMemory, Pick};
 use pb_history::CountedPick;
 use pb_picks::count_pick;
 use std::alloc::Global;
 
-/// The most picks that lines may say in all.
-const MOST: usize = 10_000_000;
-
-/// Returns the picks, those of one arm that follow one another as one entry. More picks than lines may say are as good
-/// as out of memory: a search that keeps at most 4,000,000 configurations finds none so long.
+/// Returns the picks, those of one arm that follow one another as one entry. More picks than lines may say
+/// are as good as out of memory: a search that keeps at most 4,000,000 configurations finds none so long.
 pub fn count_picks(alloc: Global, picks: &[Pick]) -> Result<Vec<CountedPick>, NoMemory>
     ensures { IfOk result (λ counted. AreCounted picks.now counted.items) }
 {
-    if picks.len() > MOST {
+    if picks.len() > MAX_PICKS as usize {
         return Err(NoMemory);
     }
     let mut counted = Vec::new(alloc);

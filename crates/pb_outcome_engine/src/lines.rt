@@ -2,12 +2,11 @@
 
 ghost use Rattle.std.specs.Prelude.{◌≡◌, ◌++◌, ℕ, List, All, IfOk, OnOk, length, map};
 ghost use Rattle.std.specs.Fmt.{decimal};
-ghost use Rattle.pb_base.specs.Lines.{HasProcess, names_view};
+ghost use Rattle.pb_base.specs.Lines.{HasProcess, names_view, line};
 ghost use Rattle.pb_code.specs.View.{labels_view, process_labels_view};
-ghost use Rattle.pb_engines.specs.Answers.{line};
 ghost use Rattle.pb_explore.specs.Endings.{found_view, process_outcome_view};
 ghost use Rattle.pb_outcome_engine.specs.DeadlockLines.{AreDeadlockLines};
-ghost use Rattle.pb_outcome_engine.specs.OutcomeLines.{AreOutcomeLines, all_line, deadlocks_text, end_lines, integer_line, integer_lines, outcome_lines, process_lines, runs_text};
+ghost use Rattle.pb_outcome_engine.specs.OutcomeLines.{AreOutcomeLines, all_line, deadlocks_text, end_lines, integer_line, integer_lines, outcome_lines, outcome_lines_of, runs_text};
 ghost use Rattle.pb_outcome_engine.specs.Showing.{HaveProcesses};
 ghost use Rattle.pb_explore.specs.Deadlocks.{deadlock_view};
 
@@ -158,7 +157,7 @@ fn put_process(
     outcome: &ProcessOutcome,
 ) -> Result<(), NoMemory>
     ensures { OnOk result (text.new.items ≡ text.old.items
-        ++ process_lines name.now (map (λ name. name.items) integers.now) (process_outcome_view outcome.now)) }
+        ++ outcome_lines_of name.now (map (λ name. name.items) integers.now) (process_outcome_view outcome.now)) }
 {
     text.extend_from_slice(name)?;
     if outcome.faulted {

@@ -7,12 +7,13 @@ ghost use Rattle.pb_engines.specs.Faults.{TellsFaults, TellsWriteFaults};
 ghost use Rattle.pb_engines.specs.Inputs.{SaysOfInput};
 ghost use Rattle.pb_engines.specs.declared.status.Status.TheVariants.{Limit};
 ghost use Rattle.pb_outcome_engine.specs.OutcomeLines.{excess_line};
-ghost use Rattle.pb_outcome_engine.specs.SaysOutcomes.{SaysOfCode, SaysOfOutcomes, lending_for};
+ghost use Rattle.pb_outcome_engine.specs.SaysOutcomes.{SaysOfSearch, SaysOfOutcomes, lending_for};
 
 use crate::lines::outcomes_text;
 use itoa::Buffer;
 use pb_base::NoMemory;
 use pb_base::device::{Input, Output};
+use pb_base::limits::MAX_INPUT;
 use pb_codegen::Compiled;
 use pb_engines::Status;
 use pb_engines::accept::{compile_text, refuse};
@@ -58,7 +59,7 @@ fn tell_outcomes<O: Output>(
     text: &[u8],
     output: &mut O,
 ) -> Status
-    requires { length text.now ≤ 4194304 }
+    requires { length text.now ≤ MAX_INPUT }
     ensures text { Tells (SaysOfInput (SaysOfOutcomes options.lend options.states) text.now) (O.written output.old) (O.written output.new) result }
     ensures faults { TellsWriteFaults (O.failures output.old) (O.failures output.new) result }
 {
@@ -77,7 +78,7 @@ fn tell_outcomes<O: Output>(
 fn reply(alloc: Global, lend: Lend, states: u32, compiled: &Compiled) -> Result<Reply, NoMemory>
     requires { AreLabels compiled.now.verified.code compiled.now.labels }
     ensures { IfOk result (λ r.
-        SaysOfCode (lending_for lend) compiled.now.verified.code compiled.now.labels states r.text.items r.status) }
+        SaysOfSearch (lending_for lend) compiled.now.verified.code compiled.now.labels states r.text.items r.status) }
 {
     let verified = compiled.verified();
     let code = verified.code();

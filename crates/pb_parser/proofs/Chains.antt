@@ -3,7 +3,7 @@ use Rattle.std.proofs.Common.{◌≡◌, ℕ, zero, suc, ◌≤◌, ◌<◌, Lis
 use Rattle.pb_lexer.specs.Tokens.{Token}
 use Rattle.pb_parser.specs.Reader.{Answer, Refused, Found, Part, Join, Stops, and_then, chain_by, chain_from, chain}
 use Rattle.std.specs.Prelude.{IfOk, IfErr}
-use Rattle.pb_parser.specs.Making.{Fails, Makes}
+use Rattle.pb_parser.specs.Making.{Fails, IsMadeOf}
 use Rattle.pb_parser.specs.declared.fault.ParseFault.{ParseFault}
 use Rattle.pb_parser.specs.declared.fault.ParseFault.TheVariants as fault
 
@@ -126,6 +126,6 @@ fails_through_plain wants fault.NoMemory h f = absurd h
 pub made : {X Y N : Type 0} (is : X → Y → Type 0) (wants : Type 0) (m : Result X N) (result : Result X ParseFault)
     (answer : Answer Y) (rest : List Token) (syntax : Y) → answer ≡ Found syntax rest
     → IfOk m (λ x. is x syntax) → IfErr m (λ _. wants)
-    → IfOk m (λ x. result ≡ Ok x) → IfErr m (λ _. result ≡ Err fault.NoMemory) → Makes wants is result answer rest
+    → IfOk m (λ x. result ≡ Ok x) → IfErr m (λ _. result ≡ Err fault.NoMemory) → IsMadeOf wants is result answer rest
 made is wants (Ok x) result answer rest syntax found same none given wanted = rw given (record { syntax = syntax; found = found; same = same })
 made is wants (Err e) result answer rest syntax found same none given wanted = rw wanted none

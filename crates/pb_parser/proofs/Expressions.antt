@@ -341,7 +341,8 @@ opens : (d : ℕ) (ts : List Token) → expression (suc d) ts ≡ of_level (expr
 unfolding expression
 opens d ts = refl
 
--- The tokens that the grammar reads, up to where the parts of a chain end, are what the function has read when it comes there.
+-- The tokens that the grammar reads, up to where the parts of a chain end, are what the function has read
+-- when it comes there.
 reaches : {l : Level} {ts rest : List Token} {e : ExprSyntax} (r : Reads l ts e rest) → (d : ℕ) → brackets r ≤ d → Ends (within l) rest
     → Comes d l ts e rest
 unfolding after

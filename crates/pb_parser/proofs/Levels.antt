@@ -16,7 +16,7 @@ use Rattle.pb_parser.specs.ExpressionReader.{conjunction, disjunction, of_level,
 use Rattle.pb_parser.specs.ExpressionReader.{factors, terms, negations, conjunctions}
 use Rattle.pb_parser.specs.ExpressionReader.{after_factor, after_term, after_sum, after_negation, after_conjunction}
 use Rattle.pb_parser.specs.ExpressionReader.{is_operator, begins_operator}
-use Rattle.pb_parser.specs.Making.{Fails, Finds, Makes}
+use Rattle.pb_parser.specs.Making.{Fails, Finds, IsMadeOf}
 use Rattle.pb_parser.specs.Promises.{TakesOperator}
 use Rattle.pb_parser.proofs.Chains.{chain_stops, fails_through}
 use Rattle.pb_parser.proofs.Expressions.{Ends, stops, related_none}
@@ -37,8 +37,8 @@ first_fails wants e r f whole is h = fails_through wants e h (λ none. is ∙ ap
 pub then_makes : {E : Type 0} (is : E → ExprSyntax → Type 0) (wants : Type 0)
     (result : Result E ParseFault) (x : E) (r whole : Answer ExprSyntax) (f : ExprSyntax → Part ExprSyntax)
     (mid rest : List Token) → whole ≡ and_then r f → Finds is x r mid
-    → ((a : ExprSyntax) → is x a → Makes wants is result (f a mid) rest)
-    → Makes wants is result whole rest
+    → ((a : ExprSyntax) → is x a → IsMadeOf wants is result (f a mid) rest)
+    → IsMadeOf wants is result whole rest
 then_makes is wants result x r whole f mid rest same found next =
     rw (same, found.found) (next found.syntax found.same)
 
@@ -183,7 +183,8 @@ negation_ends inner level.Factor a ts e = refl
 
 -- ---- levels that are read already
 
--- what follows a factor begins with the rest of the term, and what follows a negation with the rest of the conjunction
+-- what follows a factor begins with the rest of the term, and what follows a negation with the rest of the
+-- conjunction
 pub factors_first : (inner : Part ExprSyntax) (l : Level) (a : ExprSyntax) (ts : List Token)
     → (l ≡ level.Comparison) ⊎ ((l ≡ level.Sum) ⊎ (l ≡ level.Term))
     → after_factor inner l a ts ≡ and_then (factors inner a ts) (after_term inner l)
@@ -276,6 +277,6 @@ one_sum is x part a (t ∷ ts) mid stop h =
 pub two_sums : {E : Type 0} (is : E → ExprSyntax → Type 0) (wants : Type 0) (result : Result E ParseFault)
     (part : Part ExprSyntax) (a : ExprSyntax) (op : BinaryOp) (ts mid rest : List Token)
     → TakesOperator level.Comparison (Some op) ts mid
-    → Makes wants is result (joined op a (part mid)) rest → Makes wants is result (related part a ts) rest
+    → IsMadeOf wants is result (joined op a (part mid)) rest → IsMadeOf wants is result (related part a ts) rest
 unfolding related
 two_sums is wants result part a op ts mid rest taken made = rw (taken.1, taken.2) made

@@ -8,7 +8,7 @@ use Rattle.pb_parser.specs.Programs as g
 use Rattle.pb_parser.specs.Programs.{ReadsNames, ReadsResource, ReadsResources, ReadsProcess, ReadsProcesses, ReadsProgram}
 use Rattle.pb_parser.specs.Reader.{Refused, Found, Stops, is_mark, expect, ended, chain}
 use Rattle.pb_parser.specs.StatementReader.{then_mark, between, concat, a_name, a_number, list, statement}
-use Rattle.pb_parser.specs.ProgramReader.{one_name, names, a_resource, resources, integers, integers_by, a_process, processes, program}
+use Rattle.pb_parser.specs.ProgramReader.{one_name, names, a_resource, resources_part, integers, integers_by, a_process, processes_part, program}
 use Rattle.pb_parser.proofs.Marks.{mark_is, is_mark_same, either, expects, expected}
 use Rattle.pb_parser.proofs.Chains.{found_value, found_rest, goes_on, chain_keeps, InChain, chain_enters, chain_more, chain_leaves, chain_refused}
 use Rattle.pb_parser.proofs.Expressions.{ends_mark}
@@ -46,11 +46,11 @@ resource_read (g.resource {t = t} {u = u} {v = v} {w = w} {rest = rest} x eq n s
     rw (x, e, n, f) refl
 
 resources_reach : {ts rest : List Token} {rs : List ResourceSyntax} → ReadsResources ts rs rest
-    → InChain (between mark.Resource concat) a_resource rs rest (resources ts)
-unfolding resources
+    → InChain (between mark.Resource concat) a_resource rs rest (resources_part ts)
+unfolding resources_part
 resources_reach (g.none {ts = ts}) = record { turns = length ts; room = omega arith; same = refl }
 resources_reach (g.another {ts = ts} {mid = mid} {rest = rest} {t = t} {rs = rs} {r = r} l is x) =
-    chain_more (between mark.Resource concat) a_resource rs (r ∷ []) concat t (t ∷ mid) mid rest (resources ts) (resources_reach l) refl
+    chain_more (between mark.Resource concat) a_resource rs (r ∷ []) concat t (t ∷ mid) mid rest (resources_part ts) (resources_reach l) refl
     (joins_between mark.Resource concat t is) (resource_read x) (resource_shorter x)
 
 process_shorter : {ts rest : List Token} {p : ProcessSyntax} → ReadsProcess ts p rest → length rest < length ts
@@ -112,14 +112,14 @@ process_read d (g.integers {t = t} {u = u} {v = v} {w = w} {y = y} {ts = ts} {us
     process_of d t u y (v ∷ ts) us rest x xs a is b (some_integers v w ts us xs i n semi) q end
 
 processes_reach : (d : ℕ) {ts rest : List Token} {ps : List ProcessSyntax} (r : ReadsProcesses ts ps rest) → processes_depth r ≤ d
-    → InChain (between mark.Process concat) (a_process d) ps rest (processes d ts)
-unfolding processes
+    → InChain (between mark.Process concat) (a_process d) ps rest (processes_part d ts)
+unfolding processes_part
 processes_reach d (g.one_process {t = t} {ts = ts} {rest = rest} {p = p} is r) room =
     let e = expects mark.Process t ts is in
     let inside = chain_enters (between mark.Process concat) (a_process d) (p ∷ []) ts rest (process_read d r (omega arith)) in
     rw e inside
 processes_reach d (g.more_processes {ts = ts} {mid = mid} {rest = rest} {t = t} {ps = ps} {p = p} l is r) room =
-    chain_more (between mark.Process concat) (a_process d) ps (p ∷ []) concat t (t ∷ mid) mid rest (processes d ts) (processes_reach d l (omega arith)) refl
+    chain_more (between mark.Process concat) (a_process d) ps (p ∷ []) concat t (t ∷ mid) mid rest (processes_part d ts) (processes_reach d l (omega arith)) refl
     (joins_between mark.Process concat t is) (process_read d r (omega arith)) (process_shorter r)
 
 resources_stop : {ts rest : List Token} {ps : List ProcessSyntax} → ReadsProcesses ts ps rest
@@ -195,8 +195,8 @@ resource_sound ts rest rs p =
 pub a_resource_shorter : (ts rest : List Token) (rs : List ResourceSyntax) → a_resource ts ≡ Found rs rest → length rest < length ts
 a_resource_shorter ts rest rs p = resource_shorter (resource_sound ts rest rs p).2
 
-resources_sound : (ts rest : List Token) (rs : List ResourceSyntax) → resources ts ≡ Found rs rest → ReadsResources ts rs rest
-unfolding resources
+resources_sound : (ts rest : List Token) (rs : List ResourceSyntax) → resources_part ts ≡ Found rs rest → ReadsResources ts rs rest
+unfolding resources_part
 resources_sound ts rest rs p =
     chain_keeps (between mark.Resource concat) a_resource (ReadsResources ts)
     (λ a t mid j b after reads q r.
@@ -249,8 +249,8 @@ first_process : (ts us rest : List Token) (t : Token) (ps : List ProcessSyntax) 
     → ReadsProcesses ts ps rest
 first_process ts us rest t ps p e is same r = rw (e, same) (g.one_process is r)
 
-processes_sound : (d : ℕ) (ts rest : List Token) (ps : List ProcessSyntax) → processes d ts ≡ Found ps rest → ReadsProcesses ts ps rest
-unfolding processes chain
+processes_sound : (d : ℕ) (ts rest : List Token) (ps : List ProcessSyntax) → processes_part d ts ≡ Found ps rest → ReadsProcesses ts ps rest
+unfolding processes_part chain
 processes_sound d ts rest ps p =
     let w = goes_on (expect mark.Process ts) _ p in
     let m = expected mark.Process ts w.1 w.2 in
@@ -271,8 +271,8 @@ all_taken (t ∷ ts) rest p = cc
 pub program_sound : (d : ℕ) (ts rest : List Token) (p : ProgramSyntax) → program d ts ≡ Found p rest → ReadsProgram ts p
 unfolding program
 program_sound d ts rest p q =
-    let x = goes_on (resources ts) _ q in
-    let y = goes_on (processes d x.1) _ x.3 in
+    let x = goes_on (resources_part ts) _ q in
+    let y = goes_on (processes_part d x.1) _ x.3 in
     let z = goes_on (ended y.1) _ y.3 in
     let ps : ReadsProcesses x.1 y.0 [] = subst (ReadsProcesses x.1 y.0) (all_taken y.1 z.1 z.2) (processes_sound d x.1 y.1 y.0 y.2) in
     subst (ReadsProgram ts) (found_value z.3) (g.program (resources_sound ts x.1 x.0 x.2) ps)

@@ -8,7 +8,7 @@ use Rattle.pb_parser.specs.Reader.{Answer, Refused, Found, Part, is_mark, expect
 use Rattle.pb_parser.specs.ExpressionReader.{signed, signed_by, signs}
 use Rattle.pb_tree.specs.Syntax.{ExprSyntax}
 use Rattle.pb_parser.specs.declared.fault.ParseFault.{ParseFault}
-use Rattle.pb_parser.specs.Making.{Fails, Finds, Makes}
+use Rattle.pb_parser.specs.Making.{Fails, Finds, IsMadeOf}
 use Rattle.pb_parser.specs.Promises.{Signs}
 
 taken_once : (m : Mark) (op : UnaryOp) (part : Part ExprSyntax) (t : Token) (mid : List Token) (n : ℕ) → is_mark m t.lexeme ≡ true
@@ -56,7 +56,7 @@ signs_over op count turn answer whole over same = let none : count - turn ≡ 0 
 -- what was made of the operand behind its signs was made of the whole
 pub signed_makes : {E : Type 0} (is : E → ExprSyntax → Type 0) (wants : Type 0) (r : Result E ParseFault) (n : ℕ) (op
     : UnaryOp) (x : E) (answer whole : Answer ExprSyntax)
-    (rest : List Token) → Signs wants is r n op x → Finds is x answer rest → whole ≡ signs n op answer → Makes wants is r whole rest
+    (rest : List Token) → Signs wants is r n op x → Finds is x answer rest → whole ≡ signs n op answer → IsMadeOf wants is r whole rest
 signed_makes is wants (Ok y) n op x answer whole rest made f same =
     let m = made f.syntax f.same rest in
     record { syntax = m.syntax; found = same ∙ ap (signs n op) f.found ∙ m.found; same = m.same }

@@ -9,7 +9,7 @@ use Rattle.pb_parser.specs.Statements as g
 use Rattle.pb_parser.specs.Statements.{ReadsExpr, ReadsPair, ReadsPairs, ReadsStmt, ReadsList, ReadsArms}
 use Rattle.pb_parser.specs.Reader.{Answer, Refused, Found, Part, Stops, is_mark, expect, chain}
 use Rattle.pb_parser.specs.ExpressionReader.{expression}
-use Rattle.pb_parser.specs.StatementReader.{then_mark, joined_if, between, name_by, a_name, number_by, a_number, a_pair, concat, pairs, list, an_arm, arms, otherwise, otherwise_by, statement_by, statement}
+use Rattle.pb_parser.specs.StatementReader.{then_mark, joined_if, between, name_by, a_name, number_by, a_number, a_pair, concat, pairs, list, an_arm, arms_part, otherwise, otherwise_by, statement_by, statement}
 use Rattle.pb_parser.proofs.Marks.{mark_is, is_mark_same, expects, expected}
 use Rattle.pb_parser.proofs.Chains.{found_value, found_rest, goes_on, chain_keeps, InChain, chain_enters, chain_more, chain_leaves}
 use Rattle.pb_parser.proofs.Expressions.{Ends, ends_mark, shorter, brackets, expression_complete, expression_sound}
@@ -91,7 +91,8 @@ mutual
 -- ---- how deep statements nest
 
 abbrev mutual
-  -- how many readings are inside one another in a statement: itself, statements inside, expressions and their brackets
+  -- how many readings are inside one another in a statement: itself, statements inside, expressions and their
+  -- brackets
   pub stmt_depth : {ts rest : List Token} {a : StmtsSyntax} → ReadsStmt ts a rest → ℕ
   stmt_depth (g.skip is) = 1
   stmt_depth (g.assign is to e) = 2 + brackets e
@@ -181,10 +182,10 @@ hold_read d t u v ts us rest ps a is p th q od =
     rw (is, m, n) refl
 
 fork_read : (d : ℕ) (t u : Token) (ts rest : List Token) (a : ArmsSyntax) → Is t mark.Parbegin
-    → arms (statement d) ts ≡ Found a (u ∷ rest) → Is u mark.Parend
+    → arms_part (statement d) ts ≡ Found a (u ∷ rest) → Is u mark.Parend
     → statement (suc d) (t ∷ ts) ≡ Found (single (tree.parbegin t.line a)) rest
 unfolding statement
-fork_read d t u ts rest a is p end = let m = marked mark.Parend (arms (statement d) ts) a u rest p end in rw (is, m) refl
+fork_read d t u ts rest a is p end = let m = marked mark.Parend (arms_part (statement d) ts) a u rest p end in rw (is, m) refl
 
 inner_read : (d : ℕ) (t u : Token) (ts rest : List Token) (a : StmtsSyntax) → Is t mark.Begin
     → list (statement d) ts ≡ Found a (u ∷ rest) → Is u mark.End
@@ -200,8 +201,8 @@ pub list_ends : (d : ℕ) (k : Mark) (u : Token) (ts rest : List Token) (a : Stm
 list_ends d k u ts rest a x is other = chain_leaves _ (statement d) a (u ∷ rest) _ x (stops_at mark.Semicolon k append u rest is other)
 
 arms_end : (d : ℕ) (k : Mark) (u : Token) (ts rest : List Token) (a : ArmsSyntax)
-    → InChain (between mark.Semicolon append_arms) (an_arm (statement d)) a (u ∷ rest) (arms (statement d) ts)
-    → Is u k → is_mark mark.Semicolon (Fixed k) ≡ false → arms (statement d) ts ≡ Found a (u ∷ rest)
+    → InChain (between mark.Semicolon append_arms) (an_arm (statement d)) a (u ∷ rest) (arms_part (statement d) ts)
+    → Is u k → is_mark mark.Semicolon (Fixed k) ≡ false → arms_part (statement d) ts ≡ Found a (u ∷ rest)
 arms_end d k u ts rest a x is other = chain_leaves _ (an_arm (statement d)) a (u ∷ rest) _ x (stops_at mark.Semicolon k append_arms u rest is other)
 
 pub arm_read : (deeper : Part StmtsSyntax) (ts rest : List Token) (a : StmtsSyntax) → deeper ts ≡ Found a rest
@@ -215,8 +216,8 @@ unfolding list
 list_enters d ts rest a p = chain_enters _ (statement d) a ts rest p
 
 arms_enter : (d : ℕ) (ts rest : List Token) (a : StmtsSyntax) → statement d ts ≡ Found a rest
-    → InChain (between mark.Semicolon append_arms) (an_arm (statement d)) (tree.arm_then a tree.no_arm) rest (arms (statement d) ts)
-unfolding arms
+    → InChain (between mark.Semicolon append_arms) (an_arm (statement d)) (tree.arm_then a tree.no_arm) rest (arms_part (statement d) ts)
+unfolding arms_part
 arms_enter d ts rest a p = chain_enters _ (an_arm (statement d)) (tree.arm_then a tree.no_arm) ts rest (arm_read (statement d) ts rest a p)
 
 mutual
@@ -265,7 +266,7 @@ mutual
 
   pub arms_reach : (d : ℕ) {ts rest : List Token} {a : ArmsSyntax} (r : ReadsArms ts a rest) → arms_depth r ≤ d
       → Ends level.Disjunction rest
-      → InChain (between mark.Semicolon append_arms) (an_arm (statement d)) a rest (arms (statement d) ts)
+      → InChain (between mark.Semicolon append_arms) (an_arm (statement d)) a rest (arms_part (statement d) ts)
   arms_reach d (g.first_arm {ts = ts} {rest = rest} {a = a} r) room ends = arms_enter d ts rest a (stmt_read d r room ends)
   arms_reach d (g.next_arm {ts = ts} {mid = mid} {rest = rest} {t = t} {a = a} {b = b} l is r) room ends =
       let x = arms_reach d l (omega arith) (ends_mark level.Disjunction t (Fixed mark.Semicolon) mid is refl) in
@@ -356,9 +357,9 @@ arm_sound deeper sound ts rest a p =
     let x = goes_on (deeper ts) _ p in
     (x.0, sym (found_value x.3), subst (ReadsStmt ts x.0) (found_rest x.3) (sound ts x.1 x.0 x.2))
 
-arms_sound : (deeper : Part StmtsSyntax) → SoundS deeper → (ts rest : List Token) (a : ArmsSyntax) → arms deeper ts ≡ Found a rest
+arms_sound : (deeper : Part StmtsSyntax) → SoundS deeper → (ts rest : List Token) (a : ArmsSyntax) → arms_part deeper ts ≡ Found a rest
     → ReadsArms ts a rest
-unfolding arms chain
+unfolding arms_part chain
 arms_sound deeper sound ts rest a p =
     let x = goes_on (an_arm deeper ts) _ p in
     let f = arm_sound deeper sound ts x.1 x.0 x.2 in
@@ -425,8 +426,8 @@ statement_cases d deeper sound t ts rest a (Fixed mark.Hold) is p =
     let n = then_marked mark.Od (list deeper x.1) y.0 y.1 y.2 in
     becomes_stmt y.3 (g.hold is (pairs_sound ts (m.0 ∷ x.1) x.0 m.2) m.1 (list_sound deeper sound x.1 (n.0 ∷ y.1) y.0 n.2) n.1)
 statement_cases d deeper sound t ts rest a (Fixed mark.Parbegin) is p =
-    let x = goes_on (then_mark mark.Parend (arms deeper ts)) _ p in
-    let m = then_marked mark.Parend (arms deeper ts) x.0 x.1 x.2 in
+    let x = goes_on (then_mark mark.Parend (arms_part deeper ts)) _ p in
+    let m = then_marked mark.Parend (arms_part deeper ts) x.0 x.1 x.2 in
     becomes_stmt x.3 (g.fork is (arms_sound deeper sound ts (m.0 ∷ x.1) x.0 m.2) m.1)
 statement_cases d deeper sound t ts rest a (Fixed mark.Begin) is p =
     let m = then_marked mark.End (list deeper ts) a rest p in

@@ -8,9 +8,9 @@ use Rattle.pb_parser.specs.Grammar.{name_at}
 use Rattle.pb_parser.specs.Lists.{append, append_arms, single, single_arm}
 use Rattle.pb_parser.specs.Reader.{Refused, Found, Part, is_mark, expect, expect_by, ended}
 use Rattle.pb_parser.specs.ExpressionReader.{expression}
-use Rattle.pb_parser.specs.StatementReader.{between, concat, a_name, a_number, pairs, a_pair, list, arms, otherwise, otherwise_by, assignment, printing, choice, looping, holding, forking, statement, an_arm}
+use Rattle.pb_parser.specs.StatementReader.{between, concat, a_name, a_number, pairs, a_pair, list, arms_part, otherwise, otherwise_by, assignment, printing, choice, looping, holding, forking, statement, an_arm}
 use Rattle.pb_parser.specs.Promises.{TakesMark}
-use Rattle.pb_parser.specs.ProgramReader.{one_name, names, a_resource, resources, integers, a_process, processes, program}
+use Rattle.pb_parser.specs.ProgramReader.{one_name, names, a_resource, resources_part, integers, a_process, processes_part, program}
 use Rattle.pb_parser.proofs.Chains.{chain_refused}
 use Rattle.pb_parser.proofs.StatementLaws.{arm_read}
 use Rattle.pb_parser.proofs.Loops.{InLoop, loop_enters, loop_begins, arm_refused}
@@ -47,7 +47,7 @@ pub printing_steps : (d line : ℕ) (ts rest : List Token) (e : ExprSyntax) → 
 printing_steps d line ts rest e p = rw p refl
 
 pub forking_steps : (deeper : Part StmtsSyntax) (line : ℕ) (ts us rest : List Token) (a : ArmsSyntax)
-    → arms deeper ts ≡ Found a us → expect mark.Parend us ≡ Found tt rest
+    → arms_part deeper ts ≡ Found a us → expect mark.Parend us ≡ Found tt rest
     → forking deeper line ts ≡ Found (single (tree.parbegin line a)) rest
 forking_steps deeper line ts us rest a p q = rw (p, q) refl
 
@@ -93,12 +93,12 @@ arm_found d ts rest a p = arm_read (statement d) ts rest a p
 
 pub arms_enter : {P : ArmsSyntax → Type 0} (d : ℕ) (ts rest : List Token) (a : StmtsSyntax) → statement d ts ≡ Found a rest
     → P (single_arm a)
-    → InLoop P (between mark.Semicolon append_arms) (an_arm (statement d)) rest (arms (statement d) ts)
-unfolding arms
+    → InLoop P (between mark.Semicolon append_arms) (an_arm (statement d)) rest (arms_part (statement d) ts)
+unfolding arms_part
 arms_enter d ts rest a p h = loop_enters (between mark.Semicolon append_arms) (an_arm (statement d)) ts rest (single_arm a) (arm_found d ts rest a p) h
 
-pub arms_refused : (d : ℕ) (ts : List Token) → statement d ts ≡ Refused → arms (statement d) ts ≡ Refused
-unfolding arms
+pub arms_refused : (d : ℕ) (ts : List Token) → statement d ts ≡ Refused → arms_part (statement d) ts ≡ Refused
+unfolding arms_part
 arms_refused d ts p = chain_refused (between mark.Semicolon append_arms) (an_arm (statement d)) ts (arm_refused d ts p)
 
 -- ---- declarations
@@ -123,23 +123,23 @@ unfolding a_resource
 resource_steps ts us vs ws rest x n p q r s = rw (p, q, r, s) refl
 
 pub resources_enter : {P : List ResourceSyntax → Type 0} (ts : List Token) → P []
-    → InLoop P (between mark.Resource concat) a_resource ts (resources ts)
-unfolding resources
+    → InLoop P (between mark.Resource concat) a_resource ts (resources_part ts)
+unfolding resources_part
 resources_enter ts h = loop_begins (between mark.Resource concat) a_resource [] ts h
 
 pub processes_enter : {P : List ProcessSyntax → Type 0} (d : ℕ) (ts us rest : List Token) (ps : List ProcessSyntax)
     → expect mark.Process ts ≡ Found tt us
-    → a_process d us ≡ Found ps rest → P ps → InLoop P (between mark.Process concat) (a_process d) rest (processes d ts)
-unfolding processes
+    → a_process d us ≡ Found ps rest → P ps → InLoop P (between mark.Process concat) (a_process d) rest (processes_part d ts)
+unfolding processes_part
 processes_enter d ts us rest ps e p h = rw e (loop_enters (between mark.Process concat) (a_process d) us rest ps p h)
 
-pub processes_refused : (d : ℕ) (ts : List Token) → expect mark.Process ts ≡ Refused → processes d ts ≡ Refused
-unfolding processes
+pub processes_refused : (d : ℕ) (ts : List Token) → expect mark.Process ts ≡ Refused → processes_part d ts ≡ Refused
+unfolding processes_part
 processes_refused d ts p = rw p refl
 
 pub processes_fail : (d : ℕ) (ts us : List Token) → expect mark.Process ts ≡ Found tt us → a_process d us ≡ Refused
-    → processes d ts ≡ Refused
-unfolding processes
+    → processes_part d ts ≡ Refused
+unfolding processes_part
 processes_fail d ts us first p = rw first (chain_refused (between mark.Process concat) (a_process d) us p)
 
 pub process_steps : (d : ℕ) (ts us vs ws ys rest : List Token) (x : NameSyntax) (xs : List NameSyntax) (a : StmtsSyntax)
@@ -157,8 +157,8 @@ pub process_open : (d : ℕ) (ts us vs ws ys : List Token) (x : NameSyntax) (xs 
 unfolding a_process
 process_open d ts us vs ws ys x xs a p q r s f = rw (p, q, r, s, f) refl
 
-pub program_steps : (d : ℕ) (ts us vs : List Token) (rs : List ResourceSyntax) (ps : List ProcessSyntax) → resources ts ≡ Found rs us
-    → processes d us ≡ Found ps vs
+pub program_steps : (d : ℕ) (ts us vs : List Token) (rs : List ResourceSyntax) (ps : List ProcessSyntax) → resources_part ts ≡ Found rs us
+    → processes_part d us ≡ Found ps vs
     → ended vs ≡ Found tt vs → program d ts ≡ Found (record { resources = rs; processes = ps }) vs
 unfolding program
 program_steps d ts us vs rs ps p q r = rw (p, q, r) refl

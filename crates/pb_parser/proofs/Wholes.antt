@@ -8,14 +8,14 @@ use Rattle.pb_tree.specs.Syntax.{ProgramSyntax}
 use Rattle.pb_tree.specs.View.{program_view}
 use Rattle.pb_parser.specs.declared.fault.ParseFault.{ParseFault}
 use Rattle.pb_parser.specs.declared.fault.ParseFault.TheVariants as fault
-use Rattle.pb_parser.specs.Limits.{KeepsLimits, IsTooHigh, IsTooLarge, IsNoProgram, IsWithinLimits, IsSyntax}
+use Rattle.pb_parser.specs.Limits.{IsSmallTree, IsTooHigh, IsTooLarge, IsNoProgram, IsSmallProgram, IsSyntax}
 use Rattle.pb_parser.specs.Nesting.{NestsTooDeep}
 use Rattle.pb_parser.specs.Programs.{ReadsProgram}
 use Rattle.pb_parser.specs.Reader.{Refused, Found, ended}
-use Rattle.pb_parser.specs.ProgramReader.{resources, processes, program}
+use Rattle.pb_parser.specs.ProgramReader.{resources_part, processes_part, program}
 use Rattle.pb_parser.specs.declared.measure.Measure.{Measure}
 use Rattle.pb_parser.specs.Measured.{IsMeasure}
-use Rattle.pb_parser.specs.Making.{Fails, Makes}
+use Rattle.pb_parser.specs.Making.{Fails, IsMadeOf}
 use Rattle.pb_parser.proofs.Chains.{goes_on, found_rest}
 use Rattle.pb_parser.proofs.Depths.{within_depth}
 use Rattle.pb_parser.proofs.ProgramLaws.{program_complete, program_sound, one_program}
@@ -29,13 +29,13 @@ none_left (t ∷ ts) rest p = cc
 program_ends : (d : ℕ) (ts rest : List Token) (p : ProgramSyntax) → program d ts ≡ Found p rest → rest ≡ []
 unfolding program
 program_ends d ts rest p q =
-    let x = goes_on (resources ts) _ q in
-    let y = goes_on (processes d x.1) _ x.3 in
+    let x = goes_on (resources_part ts) _ q in
+    let y = goes_on (processes_part d x.1) _ x.3 in
     let z = goes_on (ended y.1) _ y.3 in
     sym (found_rest z.3) ∙ none_left y.1 z.1 z.2
 
 pub to_the_end : {X : Type 0} (is : X → ProgramSyntax → Type 0) (wants : Type 0) (r : Result X ParseFault) (d : ℕ) (ts rest : List Token)
-    → Makes wants is r (program d ts) rest → Makes wants is r (program d ts) []
+    → IsMadeOf wants is r (program d ts) rest → IsMadeOf wants is r (program d ts) []
 to_the_end is wants (Ok x) d ts rest f = record {
   syntax = f.syntax;
   found = f.found ∙ ap (Found f.syntax)
@@ -48,11 +48,11 @@ to_the_end is wants (Err e) d ts rest f = f
 
 pub record Judged {A : Type 0} (ts : List Token) (r : Result (Program A) ParseFault) : Type 0 where
   pub found : IfOk r (λ p. ReadsProgram ts (program_view p))
-  pub limits : IfOk r (λ p. KeepsLimits (program_view p))
+  pub limits : IfOk r (λ p. IsSmallTree (program_view p))
   pub too_deep : (r ≡ Err fault.TooDeep) ↔ (NestsTooDeep ts ⊎ IsTooHigh ts)
   pub syntax : ((at : ℕ) × (r ≡ Err (fault.Syntax at))) ↔ ((¬ NestsTooDeep ts) × IsNoProgram ts)
   pub too_large : (r ≡ Err fault.TooLarge) ↔ ((¬ NestsTooDeep ts) × IsTooLarge ts)
-  pub memory : r ≡ Err fault.NoMemory → IsWithinLimits ts
+  pub memory : r ≡ Err fault.NoMemory → IsSmallProgram ts
 
 none_reads : (ts : List Token) → (NestsTooDeep ts → ⊥) → program 257 ts ≡ Refused → IsNoProgram ts
 none_reads ts shallow none p reads = let found = program_complete 257 reads (within_depth reads shallow) in cc
@@ -103,15 +103,15 @@ judged_large ts p shallow reads low large = record {
 }
 
 pub judged_made : {A : Type 0} (ts : List Token) (d : ℕ) (r : Result (Program A) ParseFault) (p : ProgramSyntax)
-    → (NestsTooDeep ts → ⊥) → program d ts ≡ Found p [] → KeepsLimits p
-    → Makes (Unit {0}) (λ x y. program_view x ≡ y) r (program d ts) [] → Judged ts r
+    → (NestsTooDeep ts → ⊥) → program d ts ≡ Found p [] → IsSmallTree p
+    → IsMadeOf (Unit {0}) (λ x y. program_view x ≡ y) r (program d ts) [] → Judged ts r
 judged_made ts d (Ok q) p shallow found keeps made =
     let reads = program_sound d ts [] made.syntax made.found in
     let is : made.syntax ≡ p = one_program reads (program_sound d ts [] p found) in
     let seen = made.same ∙ is in
     record {
       found = subst (ReadsProgram ts) (sym made.same) reads;
-      limits = subst KeepsLimits (sym seen) keeps;
+      limits = subst IsSmallTree (sym seen) keeps;
       too_deep = (
         λ e. cc,
         λ s. elim s [

@@ -1,5 +1,6 @@
 -- The limits of a tree. A reader must believe 200 and 16,384.
 use Rattle.std.specs.Prelude.{◌<◌, ◌≤◌, List}
+use Rattle.pb_base.specs.declared.limits.TheConstants.{MAX_HEIGHT, MAX_NODES}
 use Rattle.pb_lexer.specs.Tokens.{Token}
 use Rattle.pb_tree.specs.Syntax.{ProgramSyntax}
 use Rattle.pb_tree.specs.Measure.{program_height, program_nodes}
@@ -9,22 +10,22 @@ use Rattle.pb_parser.specs.Nesting.{NestsTooDeep}
 use Rattle.pb_parser.specs.Programs.{ReadsProgram}
 
 -- the tree is within the limits
-pub record KeepsLimits (p : ProgramSyntax) : Type 0 where
-  pub height : program_height p ≤ 200
-  pub nodes : program_nodes p ≤ 16384
+pub record IsSmallTree (p : ProgramSyntax) : Type 0 where
+  pub height : program_height p ≤ MAX_HEIGHT
+  pub nodes : program_nodes p ≤ MAX_NODES
 
 -- the tokens are a program that is too high
 abbrev pub IsTooHigh : List Token → Type 0
-IsTooHigh ts = (p : ProgramSyntax) × (ReadsProgram ts p) × (200 < program_height p)
+IsTooHigh ts = (p : ProgramSyntax) × (ReadsProgram ts p) × (MAX_HEIGHT < program_height p)
 
 -- the tokens are a program that is not too high, and has too many nodes
 abbrev pub IsTooLarge : List Token → Type 0
 IsTooLarge ts =
-    (p : ProgramSyntax) × (ReadsProgram ts p) × (program_height p ≤ 200) × (16384 < program_nodes p)
+    (p : ProgramSyntax) × (ReadsProgram ts p) × (program_height p ≤ MAX_HEIGHT) × (MAX_NODES < program_nodes p)
 
 -- the tokens are a program within the limits, of tokens that do not nest too deep
-abbrev pub IsWithinLimits : List Token → Type 0
-IsWithinLimits ts = (¬ NestsTooDeep ts) × ((p : ProgramSyntax) × (ReadsProgram ts p) × KeepsLimits p)
+abbrev pub IsSmallProgram : List Token → Type 0
+IsSmallProgram ts = (¬ NestsTooDeep ts) × ((p : ProgramSyntax) × (ReadsProgram ts p) × IsSmallTree p)
 
 -- the tokens are not a program
 abbrev pub IsNoProgram : List Token → Type 0

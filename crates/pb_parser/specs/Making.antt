@@ -21,10 +21,10 @@ pub record Finds {X Y : Type 0} (is : X → Y → Type 0) (x : X) (answer : Answ
   pub same : is x syntax
 
 -- the result was made of the answer, unless memory runs out
-abbrev pub Makes : {X Y : Type 0} → (wants : Type 0) → (X → Y → Type 0) → Result X ParseFault → Answer Y
+abbrev pub IsMadeOf : {X Y : Type 0} → (wants : Type 0) → (X → Y → Type 0) → Result X ParseFault → Answer Y
     → List Token → Type 0
-Makes wants is (Ok x) answer rest = Finds is x answer rest
-Makes wants is (Err e) answer rest = Fails wants e answer
+IsMadeOf wants is (Ok x) answer rest = Finds is x answer rest
+IsMadeOf wants is (Err e) answer rest = Fails wants e answer
 
 -- `part` comes behind whatever `old` was made of, and so `new` was made
 abbrev pub Adds : {X Y : Type 0} → (X → Y → Type 0) → (Y → Y → Y) → X → X → Y → Type 0

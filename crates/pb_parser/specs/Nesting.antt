@@ -2,6 +2,7 @@
 -- looked at, so what opens need not be closed by the word that belongs to it.
 use Rattle.std.specs.Prelude.{◌≡◌, ℕ, ◌+◌, ◌-◌, ◌<◌, ◌++◌, ◌⊎◌, List, [], ◌∷◌}
 use Rattle.std.specs.Prelude.{Bool, true, false, fold, length}
+use Rattle.pb_base.specs.declared.limits.TheConstants.{MAX_OPEN, MAX_SIGNS}
 use Rattle.pb_lexer.specs.declared.token.Mark.TheVariants as mark
 use Rattle.pb_lexer.specs.Tokens.{Lexeme, Fixed, Token}
 
@@ -26,7 +27,7 @@ open_behind ts = fold (λ n t. open_after n t.lexeme) 0 ts
 
 -- somewhere more than 256 are open
 abbrev pub OpensTooMany : List Token → Type 0
-OpensTooMany ts = (before after : List Token) × (ts ≡ before ++ after) × (256 < open_behind before)
+OpensTooMany ts = (before after : List Token) × (ts ≡ before ++ after) × (MAX_OPEN < open_behind before)
 
 -- `-` and `not`
 abbrev pub is_sign : Lexeme → Bool
@@ -42,7 +43,7 @@ AreSigns (t ∷ ts) = (is_sign t.lexeme ≡ true) × AreSigns ts
 -- somewhere more than 256 signs are in a row
 abbrev pub SignsTooMany : List Token → Type 0
 SignsTooMany ts = (before signs after : List Token)
-    × (ts ≡ before ++ (signs ++ after)) × (AreSigns signs) × (256 < length signs)
+    × (ts ≡ before ++ (signs ++ after)) × (AreSigns signs) × (MAX_SIGNS < length signs)
 
 -- too deep, whatever the grammar says
 abbrev pub NestsTooDeep : List Token → Type 0

@@ -17,8 +17,8 @@ a_resource ts = and_then (then_mark mark.Equal (a_name ts)) (λ x us.
     and_then (then_mark mark.Semicolon (a_number us)) (λ n rest.
     Found (record { name = x; capital = n } ∷ []) rest))
 
-unfoldable pub resources : Part (List ResourceSyntax)
-resources ts = chain_from (between mark.Resource concat) a_resource (length ts) [] ts
+unfoldable pub resources_part : Part (List ResourceSyntax)
+resources_part ts = chain_from (between mark.Resource concat) a_resource (length ts) [] ts
 
 abbrev pub integers_by : Bool → Answer (List NameSyntax) → List Token → Answer (List NameSyntax)
 integers_by true some ts = some
@@ -34,10 +34,10 @@ a_process d ts = and_then (then_mark mark.Begin (a_name ts)) (λ x us. and_then 
     and_then (then_mark mark.End (list (statement d) vs)) (λ a rest.
     Found (record { name = x; integers = xs; body = a } ∷ []) rest)))
 
-unfoldable pub processes : ℕ → Part (List ProcessSyntax)
-processes d ts = and_then (expect mark.Process ts) (λ _ us.
+unfoldable pub processes_part : ℕ → Part (List ProcessSyntax)
+processes_part d ts = and_then (expect mark.Process ts) (λ _ us.
     chain (between mark.Process concat) (a_process d) us)
 
 unfoldable pub program : ℕ → Part ProgramSyntax
-program d ts = and_then (resources ts) (λ rs us. and_then (processes d us) (λ ps vs.
+program d ts = and_then (resources_part ts) (λ rs us. and_then (processes_part d us) (λ ps vs.
     and_then (ended vs) (λ _ rest. Found (record { resources = rs; processes = ps }) rest)))

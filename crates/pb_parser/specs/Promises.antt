@@ -27,8 +27,8 @@ Gives view (Ok x) answer rest = answer ≡ Found (view x) rest
 Gives view (Err e) answer rest = Fails ⊥ e answer
 
 -- a name that a token says
-abbrev pub name_of : Given → NameSyntax
-name_of t = name_at (token t) (token t).text
+abbrev pub name_said : Given → NameSyntax
+name_said t = name_at (token t) (token t).text
 
 -- what was made of the operand behind n prefix operators, unless memory runs out
 abbrev pub Signs : {E : Type 0} → (wants : Type 0) → (E → ExprSyntax → Type 0) → Result E ParseFault → ℕ

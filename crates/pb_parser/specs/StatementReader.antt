@@ -56,8 +56,8 @@ list deeper = chain (between mark.Semicolon append) deeper
 unfoldable pub an_arm : Part StmtsSyntax → Part ArmsSyntax
 an_arm deeper ts = and_then (deeper ts) (λ a rest. Found (single_arm a) rest)
 
-unfoldable pub arms : Part StmtsSyntax → Part ArmsSyntax
-arms deeper = chain (between mark.Semicolon append_arms) (an_arm deeper)
+unfoldable pub arms_part : Part StmtsSyntax → Part ArmsSyntax
+arms_part deeper = chain (between mark.Semicolon append_arms) (an_arm deeper)
 
 abbrev pub otherwise_by : Bool → Answer StmtsSyntax → List Token → Answer StmtsSyntax
 otherwise_by true some ts = some
@@ -90,7 +90,7 @@ holding deeper line ts = and_then (then_mark mark.Do (pairs ts)) (λ ps us.
     and_then (then_mark mark.Od (list deeper us)) (λ a rest. Found (single (tree.hold line ps a)) rest))
 
 abbrev pub forking : Part StmtsSyntax → ℕ → Part StmtsSyntax
-forking deeper line ts = and_then (then_mark mark.Parend (arms deeper ts)) (λ a rest.
+forking deeper line ts = and_then (then_mark mark.Parend (arms_part deeper ts)) (λ a rest.
     Found (single (tree.parbegin line a)) rest)
 
 abbrev pub statement_by : ℕ → Part StmtsSyntax → Token → Lexeme → Part StmtsSyntax

@@ -5,11 +5,8 @@ ghost use Rattle.pb_lexer.specs.Tokens as spec_tokens;
 ghost use Rattle.pb_parser.specs.Nesting as nesting;
 ghost use Rattle.pb_parser.specs.Nesting.{OpensTooMany, SignsTooMany, NestsTooDeep};
 
+use pb_base::limits::{MAX_OPEN, MAX_SIGNS};
 use pb_lexer::token::{Kind, Mark, Token};
-
-const MOST_OPEN: usize = 256;
-
-const MOST_SIGNS: usize = 256;
 
 /// Returns how many are open after a token of the kind, if `count` were open before it.
 fn open_after(count: usize, kind: Kind) -> usize
@@ -46,7 +43,7 @@ fn opens_too_many(tokens: &[Token<'_>]) -> bool
     let mut count = 0;
     for token in tokens {
         count = open_after(count, token.kind());
-        if count > MOST_OPEN {
+        if count > MAX_OPEN {
             return true;
         }
     }
@@ -60,7 +57,7 @@ fn signs_too_many(tokens: &[Token<'_>]) -> bool
     let mut count = 0;
     for token in tokens {
         count = signs_after(count, token.kind());
-        if count > MOST_SIGNS {
+        if count > MAX_SIGNS {
             return true;
         }
     }

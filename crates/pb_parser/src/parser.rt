@@ -8,8 +8,8 @@ ghost use Rattle.pb_tree.specs.View.{number_view};
 ghost use Rattle.pb_parser.specs.Reader as reader;
 ghost use Rattle.pb_parser.specs.ExpressionReader as reads;
 ghost use Rattle.pb_parser.specs.StatementReader as parts;
-ghost use Rattle.pb_parser.specs.Making.{Makes};
-ghost use Rattle.pb_parser.specs.Promises.{Begins, Gives, Signs, TakesOperator, TakesMark, name_of};
+ghost use Rattle.pb_parser.specs.Making.{IsMadeOf};
+ghost use Rattle.pb_parser.specs.Promises.{Begins, Gives, Signs, TakesOperator, TakesMark, name_said};
 
 use crate::builder::{Builder, built};
 use crate::fault::ParseFault;
@@ -135,7 +135,7 @@ impl<'a, 't, B: Builder> Parser<'a, 't, B> {
 
     /// Returns the next token, which is a name.
     pub(crate) fn name(&mut self) -> Result<Token<'t>, ParseFault>
-        ensures { Gives name_of result
+        ensures { Gives name_said result
             (parts.a_name (tokens self.old.rest.now)) (tokens self.new.rest.now) }
     {
         let Some(next) = self.peek() else {
@@ -184,7 +184,7 @@ impl<'a, 't, B: Builder> Parser<'a, 't, B> {
     #[inline(always)]
     #[cycle(expression)]
     pub(crate) fn expression(&mut self, depth: usize) -> Result<B::Expr, ParseFault>
-        ensures { Makes B.wants B.is_expr result
+        ensures { IsMadeOf B.wants B.is_expr result
             (reads.expression depth (tokens self.old.rest.now)) (tokens self.new.rest.now) }
     {
         if depth == 0 {
@@ -196,7 +196,7 @@ impl<'a, 't, B: Builder> Parser<'a, 't, B> {
     #[inline(always)]
     #[cycle(expression)]
     fn level(&mut self, depth: usize, level: Level) -> Result<B::Expr, ParseFault>
-        ensures { Makes B.wants B.is_expr result
+        ensures { IsMadeOf B.wants B.is_expr result
             (reads.of_level (reads.expression depth) level (tokens self.old.rest.now))
             (tokens self.new.rest.now) }
     {
@@ -216,7 +216,7 @@ impl<'a, 't, B: Builder> Parser<'a, 't, B> {
     #[cycle(expression)]
     fn logical(&mut self, depth: usize, level: Level) -> Result<B::Expr, ParseFault>
         requires { reads.looseness Level.Negation < reads.looseness level }
-        ensures { Makes B.wants B.is_expr result
+        ensures { IsMadeOf B.wants B.is_expr result
             (reads.of_level (reads.expression depth) level (tokens self.old.rest.now))
             (tokens self.new.rest.now) }
     {
@@ -237,7 +237,7 @@ impl<'a, 't, B: Builder> Parser<'a, 't, B> {
         first: B::Expr,
     ) -> Result<B::Expr, ParseFault>
         requires { (a : ExprSyntax) × B.is_expr first a }
-        ensures { (a : ExprSyntax) → B.is_expr first a → Makes B.wants B.is_expr result
+        ensures { (a : ExprSyntax) → B.is_expr first a → IsMadeOf B.wants B.is_expr result
             (reads.after_negation (reads.expression depth) level a (tokens self.old.rest.now))
             (tokens self.new.rest.now) }
     {
@@ -260,7 +260,7 @@ impl<'a, 't, B: Builder> Parser<'a, 't, B> {
         first: B::Expr,
     ) -> Result<B::Expr, ParseFault>
         requires { (a : ExprSyntax) × B.is_expr first a }
-        ensures { (a : ExprSyntax) → B.is_expr first a → Makes B.wants B.is_expr result
+        ensures { (a : ExprSyntax) → B.is_expr first a → IsMadeOf B.wants B.is_expr result
             (reads.after_conjunction (reads.expression depth) level a (tokens self.old.rest.now))
             (tokens self.new.rest.now) }
     {
@@ -277,7 +277,7 @@ impl<'a, 't, B: Builder> Parser<'a, 't, B> {
     #[cycle(expression)]
     fn arithmetic(&mut self, depth: usize, level: Level) -> Result<B::Expr, ParseFault>
         requires { reads.looseness level < reads.looseness Level.Negation }
-        ensures { Makes B.wants B.is_expr result
+        ensures { IsMadeOf B.wants B.is_expr result
             (reads.of_level (reads.expression depth) level (tokens self.old.rest.now))
             (tokens self.new.rest.now) }
     {
@@ -298,7 +298,7 @@ impl<'a, 't, B: Builder> Parser<'a, 't, B> {
         first: B::Expr,
     ) -> Result<B::Expr, ParseFault>
         requires { (a : ExprSyntax) × B.is_expr first a }
-        ensures { (a : ExprSyntax) → B.is_expr first a → Makes B.wants B.is_expr result
+        ensures { (a : ExprSyntax) → B.is_expr first a → IsMadeOf B.wants B.is_expr result
             (reads.after_factor (reads.expression depth) level a (tokens self.old.rest.now))
             (tokens self.new.rest.now) }
     {
@@ -321,7 +321,7 @@ impl<'a, 't, B: Builder> Parser<'a, 't, B> {
         first: B::Expr,
     ) -> Result<B::Expr, ParseFault>
         requires { (a : ExprSyntax) × B.is_expr first a }
-        ensures { (a : ExprSyntax) → B.is_expr first a → Makes B.wants B.is_expr result
+        ensures { (a : ExprSyntax) → B.is_expr first a → IsMadeOf B.wants B.is_expr result
             (reads.after_term (reads.expression depth) level a (tokens self.old.rest.now))
             (tokens self.new.rest.now) }
     {
@@ -343,7 +343,7 @@ impl<'a, 't, B: Builder> Parser<'a, 't, B> {
         level: Level,
         first: B::Expr,
     ) -> Result<B::Expr, ParseFault>
-        ensures { (a : ExprSyntax) → B.is_expr first a → Makes B.wants B.is_expr result
+        ensures { (a : ExprSyntax) → B.is_expr first a → IsMadeOf B.wants B.is_expr result
             (reads.after_sum (reads.expression depth) level a (tokens self.old.rest.now))
             (tokens self.new.rest.now) }
     {
@@ -365,7 +365,7 @@ impl<'a, 't, B: Builder> Parser<'a, 't, B> {
     ) -> Result<B::Expr, ParseFault>
         requires tighter { reads.looseness part < reads.looseness level }
         requires made { (a : ExprSyntax) × B.is_expr first a }
-        ensures { (a : ExprSyntax) → B.is_expr first a → Makes B.wants B.is_expr result
+        ensures { (a : ExprSyntax) → B.is_expr first a → IsMadeOf B.wants B.is_expr result
             (reader.more (reads.joins level)
             (reads.of_level (reads.expression depth) part) a (tokens self.old.rest.now))
             (tokens self.new.rest.now) }
@@ -387,7 +387,7 @@ impl<'a, 't, B: Builder> Parser<'a, 't, B> {
         op: BinaryOp,
         left: B::Expr,
     ) -> Result<B::Expr, ParseFault>
-        ensures { (a : ExprSyntax) → B.is_expr left a → Makes B.wants B.is_expr result
+        ensures { (a : ExprSyntax) → B.is_expr left a → IsMadeOf B.wants B.is_expr result
             (reads.joined op a (reads.of_level (reads.expression depth) part (tokens self.old.rest.now)))
             (tokens self.new.rest.now) }
     {
@@ -400,7 +400,7 @@ impl<'a, 't, B: Builder> Parser<'a, 't, B> {
     #[cycle(expression)]
     #[tactic(auto, using(crate::proofs::Levels::one_sum, crate::proofs::Levels::two_sums))]
     fn relation(&mut self, depth: usize, left: B::Expr) -> Result<B::Expr, ParseFault>
-        ensures { (a : ExprSyntax) → B.is_expr left a → Makes B.wants B.is_expr result
+        ensures { (a : ExprSyntax) → B.is_expr left a → IsMadeOf B.wants B.is_expr result
             (reads.related (reads.sum (reads.expression depth)) a (tokens self.old.rest.now))
             (tokens self.new.rest.now) }
     {
@@ -414,7 +414,7 @@ impl<'a, 't, B: Builder> Parser<'a, 't, B> {
     #[cycle(expression)]
     #[tactic(auto, unfolding(crate::specs::ExpressionReader::negation))]
     fn negation(&mut self, depth: usize) -> Result<B::Expr, ParseFault>
-        ensures { Makes B.wants B.is_expr result
+        ensures { IsMadeOf B.wants B.is_expr result
             (reads.negation (reads.expression depth) (tokens self.old.rest.now))
             (tokens self.new.rest.now) }
     {
@@ -427,7 +427,7 @@ impl<'a, 't, B: Builder> Parser<'a, 't, B> {
     #[cycle(expression)]
     #[tactic(auto, unfolding(crate::specs::ExpressionReader::factor))]
     fn factor(&mut self, depth: usize) -> Result<B::Expr, ParseFault>
-        ensures { Makes B.wants B.is_expr result
+        ensures { IsMadeOf B.wants B.is_expr result
             (reads.factor (reads.expression depth) (tokens self.old.rest.now))
             (tokens self.new.rest.now) }
     {
@@ -441,7 +441,7 @@ impl<'a, 't, B: Builder> Parser<'a, 't, B> {
     #[cycle(expression)]
     #[tactic(auto, unfolding(crate::specs::ExpressionReader::primary))]
     fn primary(&mut self, depth: usize) -> Result<B::Expr, ParseFault>
-        ensures { Makes B.wants B.is_expr result
+        ensures { IsMadeOf B.wants B.is_expr result
             (reads.primary (reads.expression depth) (tokens self.old.rest.now))
             (tokens self.new.rest.now) }
     {

@@ -3,13 +3,13 @@
 ghost use Rattle.std.specs.Prelude.{◌≡◌, ℕ, [], ◌⊎◌, IfOk, IfErr};
 ghost use Rattle.pb_lexer.specs.Tokens as spec_tokens;
 ghost use Rattle.pb_tree.specs.View.{program_view};
-ghost use Rattle.pb_parser.specs.Limits.{KeepsLimits, IsTooHigh, IsTooLarge, IsNoProgram, IsWithinLimits};
+ghost use Rattle.pb_parser.specs.Limits.{IsSmallTree, IsTooHigh, IsTooLarge, IsNoProgram, IsSmallProgram};
 ghost use Rattle.pb_parser.specs.Limits.{IsSyntax};
 ghost use Rattle.pb_parser.specs.Nesting.{NestsTooDeep};
 ghost use Rattle.pb_parser.specs.Programs.{ReadsProgram};
 ghost use Rattle.pb_parser.specs.ProgramReader as reads;
 ghost use Rattle.pb_parser.specs.StatementReader.{concat};
-ghost use Rattle.pb_parser.specs.Making.{Adds, Makes};
+ghost use Rattle.pb_parser.specs.Making.{Adds, IsMadeOf};
 
 use crate::builder::{Builder, built};
 use crate::fault::ParseFault;
@@ -17,13 +17,10 @@ use crate::measures::Measures;
 use crate::nesting::nests_too_deep;
 use crate::parser::Parser;
 use crate::trees::Trees;
+use pb_base::limits::{MAX_HEIGHT, MAX_NODES};
 use pb_lexer::token::{Mark, Token};
 use pb_tree::Program;
 use std::alloc::Allocator;
-
-const HIGHEST: u64 = 200;
-
-const MOST_NODES: u64 = 16_384;
 
 /// At most this many parts of a program are in one another if at most 256 brackets and statements are open.
 const DEPTH: usize = 257;
@@ -32,7 +29,7 @@ impl<'a, 't, B: Builder> Parser<'a, 't, B> {
     /// Reads a name, and adds it to `out`.
     #[tactic(auto, unfolding(crate::specs::ProgramReader::one_name))]
     fn add_name(&mut self, out: &mut B::Names) -> Result<(), ParseFault>
-        ensures { Makes B.wants (λ _. Adds B.is_names concat out.old out.new) result
+        ensures { IsMadeOf B.wants (λ _. Adds B.is_names concat out.old out.new) result
             (reads.one_name (spec_tokens.tokens self.old.rest.now)) (spec_tokens.tokens self.new.rest.now) }
     {
         let name = self.name()?;
@@ -41,7 +38,7 @@ impl<'a, 't, B: Builder> Parser<'a, 't, B> {
     }
 
     fn names(&mut self) -> Result<B::Names, ParseFault>
-        ensures { Makes B.wants B.is_names result
+        ensures { IsMadeOf B.wants B.is_names result
             (reads.names (spec_tokens.tokens self.old.rest.now)) (spec_tokens.tokens self.new.rest.now) }
     {
         let mut found = self.build.no_names()?;
@@ -55,7 +52,7 @@ impl<'a, 't, B: Builder> Parser<'a, 't, B> {
     /// Reads a resource and how much there is of it, and adds it to `out`.
     #[tactic(auto, unfolding(crate::specs::ProgramReader::a_resource))]
     fn add_resource(&mut self, out: &mut B::Resources) -> Result<(), ParseFault>
-        ensures { Makes B.wants (λ _. Adds B.is_resources concat out.old out.new) result
+        ensures { IsMadeOf B.wants (λ _. Adds B.is_resources concat out.old out.new) result
             (reads.a_resource (spec_tokens.tokens self.old.rest.now)) (spec_tokens.tokens self.new.rest.now) }
     {
         let name = self.name()?;
@@ -67,8 +64,8 @@ impl<'a, 't, B: Builder> Parser<'a, 't, B> {
     }
 
     fn resources(&mut self) -> Result<B::Resources, ParseFault>
-        ensures { Makes B.wants B.is_resources result
-            (reads.resources (spec_tokens.tokens self.old.rest.now)) (spec_tokens.tokens self.new.rest.now) }
+        ensures { IsMadeOf B.wants B.is_resources result
+            (reads.resources_part (spec_tokens.tokens self.old.rest.now)) (spec_tokens.tokens self.new.rest.now) }
     {
         let mut found = self.build.no_resources()?;
         while self.eat(Mark::Resource) {
@@ -80,7 +77,7 @@ impl<'a, 't, B: Builder> Parser<'a, 't, B> {
     /// Returns the names of integers, if some are declared.
     #[tactic(auto, unfolding(crate::specs::ProgramReader::integers))]
     fn integers(&mut self) -> Result<B::Names, ParseFault>
-        ensures { Makes B.wants B.is_names result
+        ensures { IsMadeOf B.wants B.is_names result
             (reads.integers (spec_tokens.tokens self.old.rest.now)) (spec_tokens.tokens self.new.rest.now) }
     {
         if !self.eat(Mark::Integer) {
@@ -94,7 +91,7 @@ impl<'a, 't, B: Builder> Parser<'a, 't, B> {
     /// Reads a process, and adds it to `out`.
     #[tactic(auto, unfolding(crate::specs::ProgramReader::a_process))]
     fn process(&mut self, depth: usize, out: &mut B::Processes) -> Result<(), ParseFault>
-        ensures { Makes B.wants (λ _. Adds B.is_processes concat out.old out.new) result
+        ensures { IsMadeOf B.wants (λ _. Adds B.is_processes concat out.old out.new) result
             (reads.a_process depth (spec_tokens.tokens self.old.rest.now))
             (spec_tokens.tokens self.new.rest.now) }
     {
@@ -108,8 +105,8 @@ impl<'a, 't, B: Builder> Parser<'a, 't, B> {
     }
 
     fn processes(&mut self, depth: usize) -> Result<B::Processes, ParseFault>
-        ensures { Makes B.wants B.is_processes result
-            (reads.processes depth (spec_tokens.tokens self.old.rest.now))
+        ensures { IsMadeOf B.wants B.is_processes result
+            (reads.processes_part depth (spec_tokens.tokens self.old.rest.now))
             (spec_tokens.tokens self.new.rest.now) }
     {
         let mut found = self.build.no_processes()?;
@@ -123,7 +120,7 @@ impl<'a, 't, B: Builder> Parser<'a, 't, B> {
 
     #[tactic(auto, unfolding(crate::specs::ProgramReader::program))]
     fn program(&mut self, depth: usize) -> Result<B::Program, ParseFault>
-        ensures { Makes B.wants B.is_program result
+        ensures { IsMadeOf B.wants B.is_program result
             (reads.program depth (spec_tokens.tokens self.old.rest.now))
             (spec_tokens.tokens self.new.rest.now) }
     {
@@ -136,7 +133,7 @@ impl<'a, 't, B: Builder> Parser<'a, 't, B> {
 
 /// Returns what the builder makes of the tokens.
 fn read<B: Builder>(build: B, tokens: &[Token<'_>]) -> Result<B::Program, ParseFault>
-    ensures { Makes B.wants B.is_program result
+    ensures { IsMadeOf B.wants B.is_program result
         (reads.program DEPTH (spec_tokens.tokens tokens.now)) [] }
 {
     let mut parser = Parser {
@@ -154,7 +151,7 @@ fn read<B: Builder>(build: B, tokens: &[Token<'_>]) -> Result<B::Program, ParseF
 /// the limits, and of no other. An error leaves nothing behind.
 pub fn parse<A: Allocator + Clone>(alloc: A, tokens: &[Token<'_>]) -> Result<Program<A>, ParseFault>
     ensures found { IfOk result (λ p. ReadsProgram (spec_tokens.tokens tokens.now) (program_view p)) }
-    ensures limits { IfOk result (λ p. KeepsLimits (program_view p)) }
+    ensures limits { IfOk result (λ p. IsSmallTree (program_view p)) }
     // Tokens that nest too deep are always refused for that.
     ensures nested { NestsTooDeep (spec_tokens.tokens tokens.now) → result ≡ Err ParseFault.TooDeep }
     // Each refusal has its cause,
@@ -169,16 +166,16 @@ pub fn parse<A: Allocator + Clone>(alloc: A, tokens: &[Token<'_>]) -> Result<Pro
     ensures large { (¬ NestsTooDeep (spec_tokens.tokens tokens.now))
         → IsTooLarge (spec_tokens.tokens tokens.now) → result ≡ Err ParseFault.TooLarge }
     // Memory can run out only for a program within the limits.
-    ensures memory { result ≡ Err ParseFault.NoMemory → IsWithinLimits (spec_tokens.tokens tokens.now) }
+    ensures memory { result ≡ Err ParseFault.NoMemory → IsSmallProgram (spec_tokens.tokens tokens.now) }
 {
     if nests_too_deep(tokens) {
         return Err(ParseFault::TooDeep);
     }
     let measure = read(Measures, tokens)?;
-    if measure.height > HIGHEST {
+    if measure.height > MAX_HEIGHT {
         return Err(ParseFault::TooDeep);
     }
-    if measure.nodes > MOST_NODES {
+    if measure.nodes > MAX_NODES {
         return Err(ParseFault::TooLarge);
     }
     read(Trees { alloc }, tokens)

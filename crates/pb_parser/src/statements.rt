@@ -4,7 +4,7 @@ ghost use Rattle.pb_lexer.specs.Tokens.{tokens};
 ghost use Rattle.pb_lexer.specs.Tokens as spec_tokens;
 ghost use Rattle.pb_parser.specs.Lists.{append};
 ghost use Rattle.pb_parser.specs.StatementReader as reads;
-ghost use Rattle.pb_parser.specs.Making.{Adds, Makes};
+ghost use Rattle.pb_parser.specs.Making.{Adds, IsMadeOf};
 
 use crate::builder::{Builder, built};
 use crate::fault::ParseFault;
@@ -15,7 +15,7 @@ impl<'a, 't, B: Builder> Parser<'a, 't, B> {
     /// Reads an amount of a resource, and adds it to `out`.
     #[tactic(auto, unfolding(crate::specs::StatementReader::a_pair))]
     fn add_pair(&mut self, out: &mut B::Demands) -> Result<(), ParseFault>
-        ensures { Makes B.wants (λ _. Adds B.is_demands reads.concat out.old out.new) result
+        ensures { IsMadeOf B.wants (λ _. Adds B.is_demands reads.concat out.old out.new) result
             (reads.a_pair (tokens self.old.rest.now)) (tokens self.new.rest.now) }
     {
         let amount = self.number()?;
@@ -31,7 +31,7 @@ impl<'a, 't, B: Builder> Parser<'a, 't, B> {
     /// Returns the pairs of a hold.
     #[inline(never)]
     fn pairs(&mut self) -> Result<B::Demands, ParseFault>
-        ensures { Makes B.wants B.is_demands result
+        ensures { IsMadeOf B.wants B.is_demands result
             (reads.pairs (tokens self.old.rest.now)) (tokens self.new.rest.now) }
     {
         let mut found = self.build.no_demands()?;
@@ -45,7 +45,7 @@ impl<'a, 't, B: Builder> Parser<'a, 't, B> {
     /// Reads statements with `;` between them, and adds them to `out`.
     #[cycle(statement)]
     fn list(&mut self, depth: usize, out: &mut B::Stmts) -> Result<(), ParseFault>
-        ensures { Makes B.wants (λ _. Adds B.is_stmts append out.old out.new) result
+        ensures { IsMadeOf B.wants (λ _. Adds B.is_stmts append out.old out.new) result
             (reads.list (reads.statement depth) (tokens self.old.rest.now))
             (tokens self.new.rest.now) }
     {
@@ -59,7 +59,7 @@ impl<'a, 't, B: Builder> Parser<'a, 't, B> {
     /// Returns statements with `;` between them.
     #[cycle(statement)]
     pub(crate) fn body(&mut self, depth: usize) -> Result<B::Stmts, ParseFault>
-        ensures { Makes B.wants B.is_stmts result
+        ensures { IsMadeOf B.wants B.is_stmts result
             (reads.list (reads.statement depth) (tokens self.old.rest.now)) (tokens self.new.rest.now) }
     {
         let mut out = self.build.no_stmts()?;
@@ -70,8 +70,8 @@ impl<'a, 't, B: Builder> Parser<'a, 't, B> {
     /// Returns the arms of a parbegin.
     #[cycle(statement)]
     fn arms(&mut self, depth: usize) -> Result<B::Arms, ParseFault>
-        ensures { Makes B.wants B.is_arms result
-            (reads.arms (reads.statement depth) (tokens self.old.rest.now)) (tokens self.new.rest.now) }
+        ensures { IsMadeOf B.wants B.is_arms result
+            (reads.arms_part (reads.statement depth) (tokens self.old.rest.now)) (tokens self.new.rest.now) }
     {
         let mut found = self.build.no_arms()?;
         let mut body = self.build.no_stmts()?;
@@ -88,7 +88,7 @@ impl<'a, 't, B: Builder> Parser<'a, 't, B> {
     /// Reads a statement with fewer than `depth` others round it and in it, and adds it to `out`.
     #[cycle(statement)]
     fn statement(&mut self, depth: usize, out: &mut B::Stmts) -> Result<(), ParseFault>
-        ensures { Makes B.wants (λ _. Adds B.is_stmts append out.old out.new) result
+        ensures { IsMadeOf B.wants (λ _. Adds B.is_stmts append out.old out.new) result
             (reads.statement depth (tokens self.old.rest.now))
             (tokens self.new.rest.now) }
     {
@@ -111,7 +111,7 @@ impl<'a, 't, B: Builder> Parser<'a, 't, B> {
         first: Token<'t>,
         out: &mut B::Stmts,
     ) -> Result<(), ParseFault>
-        ensures { Makes B.wants (λ _. Adds B.is_stmts append out.old out.new) result
+        ensures { IsMadeOf B.wants (λ _. Adds B.is_stmts append out.old out.new) result
             (reads.statement_by depth (reads.statement depth) (spec_tokens.token first.entry)
             (spec_tokens.lexeme kind (spec_tokens.token first.entry).text) (tokens self.old.rest.now))
             (tokens self.new.rest.now) }
@@ -137,7 +137,7 @@ impl<'a, 't, B: Builder> Parser<'a, 't, B> {
         first: Token<'t>,
         out: &mut B::Stmts,
     ) -> Result<(), ParseFault>
-        ensures { Makes B.wants (λ _. Adds B.is_stmts append out.old out.new) result
+        ensures { IsMadeOf B.wants (λ _. Adds B.is_stmts append out.old out.new) result
             (reads.assignment depth (spec_tokens.token first.entry)
             (spec_tokens.token first.entry).text (tokens self.old.rest.now)) (tokens self.new.rest.now) }
     {
@@ -149,7 +149,7 @@ impl<'a, 't, B: Builder> Parser<'a, 't, B> {
 
     #[inline(never)]
     fn printing(&mut self, depth: usize, line: u32, out: &mut B::Stmts) -> Result<(), ParseFault>
-        ensures { Makes B.wants (λ _. Adds B.is_stmts append out.old out.new) result
+        ensures { IsMadeOf B.wants (λ _. Adds B.is_stmts append out.old out.new) result
             (reads.printing depth line (tokens self.old.rest.now))
             (tokens self.new.rest.now) }
     {
@@ -160,7 +160,7 @@ impl<'a, 't, B: Builder> Parser<'a, 't, B> {
     #[inline(never)]
     #[cycle(statement)]
     fn choice(&mut self, depth: usize, line: u32, out: &mut B::Stmts) -> Result<(), ParseFault>
-        ensures { Makes B.wants (λ _. Adds B.is_stmts append out.old out.new) result
+        ensures { IsMadeOf B.wants (λ _. Adds B.is_stmts append out.old out.new) result
             (reads.choice depth (reads.statement depth) line (tokens self.old.rest.now))
             (tokens self.new.rest.now) }
     {
@@ -176,7 +176,7 @@ impl<'a, 't, B: Builder> Parser<'a, 't, B> {
     #[cycle(statement)]
     #[tactic(auto, unfolding(crate::specs::StatementReader::otherwise))]
     fn otherwise(&mut self, depth: usize) -> Result<B::Stmts, ParseFault>
-        ensures { Makes B.wants B.is_stmts result
+        ensures { IsMadeOf B.wants B.is_stmts result
             (reads.otherwise (reads.statement depth) (tokens self.old.rest.now)) (tokens self.new.rest.now) }
     {
         if self.eat(Mark::Else) {
@@ -189,7 +189,7 @@ impl<'a, 't, B: Builder> Parser<'a, 't, B> {
     #[inline(never)]
     #[cycle(statement)]
     fn looping(&mut self, depth: usize, line: u32, out: &mut B::Stmts) -> Result<(), ParseFault>
-        ensures { Makes B.wants (λ _. Adds B.is_stmts append out.old out.new) result
+        ensures { IsMadeOf B.wants (λ _. Adds B.is_stmts append out.old out.new) result
             (reads.looping depth (reads.statement depth) line (tokens self.old.rest.now))
             (tokens self.new.rest.now) }
     {
@@ -203,7 +203,7 @@ impl<'a, 't, B: Builder> Parser<'a, 't, B> {
     #[inline(never)]
     #[cycle(statement)]
     fn holding(&mut self, depth: usize, line: u32, out: &mut B::Stmts) -> Result<(), ParseFault>
-        ensures { Makes B.wants (λ _. Adds B.is_stmts append out.old out.new) result
+        ensures { IsMadeOf B.wants (λ _. Adds B.is_stmts append out.old out.new) result
             (reads.holding (reads.statement depth) line (tokens self.old.rest.now))
             (tokens self.new.rest.now) }
     {
@@ -217,7 +217,7 @@ impl<'a, 't, B: Builder> Parser<'a, 't, B> {
     #[inline(never)]
     #[cycle(statement)]
     fn forking(&mut self, depth: usize, line: u32, out: &mut B::Stmts) -> Result<(), ParseFault>
-        ensures { Makes B.wants (λ _. Adds B.is_stmts append out.old out.new) result
+        ensures { IsMadeOf B.wants (λ _. Adds B.is_stmts append out.old out.new) result
             (reads.forking (reads.statement depth) line (tokens self.old.rest.now))
             (tokens self.new.rest.now) }
     {
@@ -229,7 +229,7 @@ impl<'a, 't, B: Builder> Parser<'a, 't, B> {
     /// Reads the statements between `begin` and `end`, and adds them to `out`.
     #[cycle(statement)]
     fn inner(&mut self, depth: usize, out: &mut B::Stmts) -> Result<(), ParseFault>
-        ensures { Makes B.wants (λ _. Adds B.is_stmts append out.old out.new) result
+        ensures { IsMadeOf B.wants (λ _. Adds B.is_stmts append out.old out.new) result
             (reads.then_mark Mark.End (reads.list (reads.statement depth) (tokens self.old.rest.now)))
             (tokens self.new.rest.now) }
     {

@@ -14,9 +14,7 @@ use Rattle.std.proofs.lemmas.Bool.{eqb-true, cases_lt}
 use Rattle.std.proofs.lemmas.Bool.Decides.{nat_tests}
 use Rattle.pb_code.proofs.NameTests.{both_true}
 use Rattle.pb_picks.specs.PickLines.{is_plain}
-
-pub own : IsNumeralModel (λ ds. list_all is_ascii_digit ds ≡ true) (digits_value 10)
-own = numerals_by_value _ (search rules)
+use Rattle.pb_code.proofs.NumeralLemmas.{own}
 
 no_sign : (b : ℕ) → not (eqb b 43) ≡ true → b ≢ 43
 no_sign b h = λ e. let t : not (eqb 43 43) ≡ true = subst (λ (x : ℕ). not (eqb x 43) ≡ true) e h in cc

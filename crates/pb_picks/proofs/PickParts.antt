@@ -10,14 +10,14 @@ use Rattle.std.proofs.lemmas.Fmt.{decimal_injective, digits_decimal}
 use Rattle.std.proofs.lemmas.Option.{get_or_from_slice_get}
 use Rattle.pb_code.proofs.Each.{read_mapped, same_read}
 use Rattle.pb_code.proofs.NameTests.{both_true}
-use Rattle.pb_picks.proofs.Numbers.{own}
 use Rattle.pb_base.specs.declared.pick.Pick.{Pick}
 use Rattle.pb_code.specs.Code.{ProcessCode}
 use Rattle.pb_code.specs.Whole.{Code}
 use Rattle.pb_history.specs.Replays.{spread}
 use Rattle.pb_history.specs.declared.counted.CountedPick.{CountedPick}
 use Rattle.pb_history.proofs.CountedPicks.{spread_append}
-use Rattle.pb_picks.specs.PickLines.{IsFirstLine, Lacks, Reads, Says, arm_and_count}
+use Rattle.pb_picks.specs.PickLines.{IsFirstLine, Lacks, ReadsPicks, SpellsPick, arm_and_count}
+use Rattle.pb_code.proofs.NumeralLemmas.{own}
 
 pub behind_is : (line name rest : List ℕ) (r : Option (Bor (List ℕ))) → line ≡ name ++ rest
     → MatchOption r ((after : List ℕ) → rest ≢ (46 ∷ []) ++ after) (λ x. rest ≡ (46 ∷ []) ++ x.now)
@@ -80,9 +80,9 @@ behind_line text line after first = elim first.1 [
 ]
 
 pub one_line_more : (code : Code) (text : List ℕ) (before : List CountedPick) (rest : List ℕ) (c : CountedPick) (line after : List ℕ)
-    → Reads code text before rest → rest ≢ [] → IsFirstLine rest line after → Says code line c → Reads code text (before ++ (c ∷ [])) after
+    → ReadsPicks code text before rest → rest ≢ [] → IsFirstLine rest line after → SpellsPick code line c → ReadsPicks code text (before ++ (c ∷ [])) after
 one_line_more code text [] rest c line after reads some first says =
-    subst (λ (t : List ℕ). Reads code t (c ∷ []) after) (sym reads) (some, line, after, first, says, refl)
+    subst (λ (t : List ℕ). ReadsPicks code t (c ∷ []) after) (sym reads) (some, line, after, first, says, refl)
 one_line_more code text (b ∷ before) rest c line after reads some first says =
     (reads.0, reads.1, reads.2, reads.3, reads.4, one_line_more code reads.2 before rest c line after reads.5 some first says)
 

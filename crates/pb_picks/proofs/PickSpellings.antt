@@ -17,10 +17,10 @@ use Rattle.pb_history.specs.Replays.{spread}
 use Rattle.pb_history.specs.declared.counted.CountedPick.{CountedPick}
 use Rattle.pb_history.proofs.CountedPicks.{spread_append}
 use Rattle.pb_picks.specs.Laws.{CanBeSaid, LinesSpell, SpellsAtMostOne, SpelledIsNotFaulty}
-use Rattle.pb_picks.specs.PickLines.{IsFirstLine, Lacks, Reads, Says, arm_and_count, pick_line, pick_lines}
+use Rattle.pb_picks.specs.PickLines.{IsFirstLine, Lacks, ReadsPicks, SpellsPick, arm_and_count, pick_line, pick_lines}
 use Rattle.pb_picks.specs.declared.fault.PickFault.TheVariants.{NotPicks, TooMany, NoMemory}
-use Rattle.pb_picks.proofs.Numbers.{own}
 use Rattle.pb_picks.proofs.PickParts.{digits_lack, never_lacks, one_count_more, same_parts}
+use Rattle.pb_code.proofs.NumeralLemmas.{own}
 
 -- ---- bytes that a name, a number and a line lack
 
@@ -36,18 +36,18 @@ lacks_both m [] b la lb = lb
 lacks_both m (x ∷ a) b la lb =
     All-cons (λ (n : ℕ). n ≢ m) x (a ++ b) (All-head (λ (n : ℕ). n ≢ m) x a la) (lacks_both m a b (All-tail (λ (n : ℕ). n ≢ m) x a la) lb)
 
-says_name : (code : Code) (line : List ℕ) (c : CountedPick) → KeepsLimits code → Says code line c → IsName (name_of code.names.processes c.pick.process)
+says_name : (code : Code) (line : List ℕ) (c : CountedPick) → KeepsLimits code → SpellsPick code line c → IsName (name_of code.names.processes c.pick.process)
 says_name code line c limits says =
     let w = slice_get_within code.processes c.pick.process says.process says.there in
     let n = limits.process_names.all in
     limits.process_names.formed c.pick.process [] (omega (arith, w, n))
 
-name_lacks_mark : (code : Code) (line : List ℕ) (c : CountedPick) (m : ℕ) → is_name_byte m ≡ false → KeepsLimits code → Says code line c
+name_lacks_mark : (code : Code) (line : List ℕ) (c : CountedPick) (m : ℕ) → is_name_byte m ≡ false → KeepsLimits code → SpellsPick code line c
     → Lacks m (name_of code.names.processes c.pick.process)
 name_lacks_mark code line c m other limits says =
     name_lacks m other (name_of code.names.processes c.pick.process) (says_name code line c limits says).bytes
 
-says_arm : (code : Code) (line : List ℕ) (c : CountedPick) → KeepsLimits code → Says code line c → c.pick.arm ≤ 10000000
+says_arm : (code : Code) (line : List ℕ) (c : CountedPick) → KeepsLimits code → SpellsPick code line c → c.pick.arm ≤ 10000000
 says_arm code line c limits says =
     let most = (limits.each c.pick.process says.process says.there).some_arms.1 in
     let arm = says.arm in
@@ -56,7 +56,7 @@ says_arm code line c limits says =
 number_lacks : (m n : ℕ) → is_ascii_digit m ≡ false → n ≤ 10000000 → Lacks m (decimal n)
 number_lacks m n other few = digits_lack m other (decimal n) (digits_decimal own n (omega arith))
 
-line_lacks : (code : Code) (line : List ℕ) (c : CountedPick) → KeepsLimits code → Says code line c → Lacks 10 (pick_line code.names.processes c)
+line_lacks : (code : Code) (line : List ℕ) (c : CountedPick) → KeepsLimits code → SpellsPick code line c → Lacks 10 (pick_line code.names.processes c)
 line_lacks code line c limits says =
     let counted = All-cons (λ (n : ℕ). n ≢ 10) 32 (decimal c.count) (λ e. absurd (omega (arith, e))) (number_lacks 10 c.count refl says.most) in
     let numbers = lacks_both 10 (decimal c.pick.arm) (32 ∷ decimal c.count) (number_lacks 10 c.pick.arm refl (says_arm code line c limits says)) counted in
@@ -72,17 +72,17 @@ not_empty xs b ys e =
     let a = length-append xs (b ∷ ys) in
     omega (arith, l, a)
 
-reads_written : (code : Code) (picks : List CountedPick) → KeepsLimits code → CanBeSaid code picks → Reads code (pick_lines code.names.processes picks) picks []
+reads_written : (code : Code) (picks : List CountedPick) → KeepsLimits code → CanBeSaid code picks → ReadsPicks code (pick_lines code.names.processes picks) picks []
 reads_written code [] limits all = refl
 reads_written code (c ∷ picks) limits all =
     let names = code.names.processes in
-    let says = All-head (λ (d : CountedPick). Says code (pick_line names d) d) c picks all in (
+    let says = All-head (λ (d : CountedPick). SpellsPick code (pick_line names d) d) c picks all in (
       not_empty (pick_line names c) 10 (pick_lines names picks),
       pick_line names c,
       pick_lines names picks,
       (line_lacks code (pick_line names c) c limits says, inl refl),
       says,
-      reads_written code picks limits (All-tail (λ (d : CountedPick). Says code (pick_line names d) d) c picks all),
+      reads_written code picks limits (All-tail (λ (d : CountedPick). SpellsPick code (pick_line names d) d) c picks all),
     )
 
 pub lines_spell : LinesSpell
@@ -131,7 +131,7 @@ same_place names p q apart inp inq same = elim (cases_lt p q) [
   ]
 ]
 
-same_says : (code : Code) (line : List ℕ) (c d : CountedPick) → KeepsLimits code → Says code line c → Says code line d → c ≡ d
+same_says : (code : Code) (line : List ℕ) (c d : CountedPick) → KeepsLimits code → SpellsPick code line c → SpellsPick code line d → c ≡ d
 same_says code line c d limits s t =
     let names = code.names.processes in
     let parts = same_parts 46 (name_of names c.pick.process) (arm_and_count c.pick.arm c.count) (name_of names
@@ -152,19 +152,19 @@ same_says code line c d limits s t =
     (decimal_injective c.count d.count (omega (arith, most_c)) (omega (arith, most_d)) numbers.1)
 
 -- the first line of a text says one pick, and one rest is behind it
-same_line : (code : Code) (text a x b y : List ℕ) (c d : CountedPick) → KeepsLimits code → IsFirstLine text a x → Says code a c
-    → IsFirstLine text b y → Says code b d → (c ≡ d) × (x ≡ y)
+same_line : (code : Code) (text a x b y : List ℕ) (c d : CountedPick) → KeepsLimits code → IsFirstLine text a x → SpellsPick code a c
+    → IsFirstLine text b y → SpellsPick code b d → (c ≡ d) × (x ≡ y)
 same_line code text a x b y c d limits first s second t =
     let same = same_first text a x b y first second in
-    (same_says code b c d limits (subst (λ (l : List ℕ). Says code l c) same.0 s) t, same.1)
+    (same_says code b c d limits (subst (λ (l : List ℕ). SpellsPick code l c) same.0 s) t, same.1)
 
-same_lists : (code : Code) (text : List ℕ) (a b : List CountedPick) → KeepsLimits code → Reads code text a [] → Reads code text b [] → a ≡ b
+same_lists : (code : Code) (text : List ℕ) (a b : List CountedPick) → KeepsLimits code → ReadsPicks code text a [] → ReadsPicks code text b [] → a ≡ b
 same_lists code text [] [] limits r s = refl
 same_lists code text [] (d ∷ b) limits r s = absurd (s.0 r)
 same_lists code text (c ∷ a) [] limits r s = absurd (r.0 s)
 same_lists code text (c ∷ a) (d ∷ b) limits r s =
     let same = same_line code text r.1 r.2 s.1 s.2 c d limits r.3 r.4 s.3 s.4 in
-    let rest = same_lists code s.2 a b limits (subst (λ (t : List ℕ). Reads code t a []) same.1 r.5) s.5 in
+    let rest = same_lists code s.2 a b limits (subst (λ (t : List ℕ). ReadsPicks code t a []) same.1 r.5) s.5 in
     ap (λ (e : CountedPick). e ∷ a) same.0 ∙ ap (λ es. d ∷ es) rest
 
 pub spells_at_most_one : SpellsAtMostOne
@@ -180,10 +180,10 @@ pub record Goes (code : Code) (picks before : List CountedPick) (rest : List ℕ
   pub after : List ℕ
   pub whole : picks ≡ before ++ (next ∷ more)
   pub first : IsFirstLine rest line after
-  pub says : Says code line next
+  pub says : SpellsPick code line next
 
-goes_on : (code : Code) (text : List ℕ) (picks before : List CountedPick) (rest : List ℕ) → KeepsLimits code → Reads code text before rest → rest ≢ []
-    → Reads code text picks [] → Goes code picks before rest
+goes_on : (code : Code) (text : List ℕ) (picks before : List CountedPick) (rest : List ℕ) → KeepsLimits code → ReadsPicks code text before rest → rest ≢ []
+    → ReadsPicks code text picks [] → Goes code picks before rest
 goes_on code text [] [] rest limits r some s = absurd (some (sym r ∙ s))
 goes_on code text [] (b ∷ before) rest limits r some s = absurd (r.0 s)
 goes_on code text (c ∷ picks) [] rest limits r some s = record {
@@ -197,7 +197,7 @@ goes_on code text (c ∷ picks) [] rest limits r some s = record {
 }
 goes_on code text (c ∷ picks) (b ∷ before) rest limits r some s =
     let same = same_line code text r.1 r.2 s.1 s.2 b c limits r.3 r.4 s.3 s.4 in
-    let on = goes_on code s.2 picks before rest limits (subst (λ (t : List ℕ). Reads code t before rest) same.1 r.5) some s.5 in record {
+    let on = goes_on code s.2 picks before rest limits (subst (λ (t : List ℕ). ReadsPicks code t before rest) same.1 r.5) some s.5 in record {
       next = on.next;
       more = on.more;
       line = on.line;
@@ -219,7 +219,7 @@ pub spelled_is_not_faulty : SpelledIsNotFaulty
 spelled_is_not_faulty code text picks (NotPicks at) limits spells (before, line, rest, stands, place, none) =
     let on = goes_on code text picks before rest limits stands.reads stands.some spells.reads in
     let same = same_first rest on.line on.after line stands.after on.first stands.first in
-    absurd (none on.next (subst (λ (l : List ℕ). Says code l on.next) same.0 on.says))
+    absurd (none on.next (subst (λ (l : List ℕ). SpellsPick code l on.next) same.0 on.says))
 spelled_is_not_faulty code text picks TooMany limits spells (before, line, rest, stands, c, says, many) =
     let on = goes_on code text picks before rest limits stands.reads stands.some spells.reads in
     let same = same_line code rest on.line on.after line stands.after on.next c limits on.first on.says stands.first says in

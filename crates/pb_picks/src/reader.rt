@@ -4,17 +4,15 @@ ghost use Rattle.std.specs.Prelude.{◌≡◌, ◌≢◌, ◌<◌, ◌≤◌, �
 ghost use Rattle.std.specs.Fmt.{decimal};
 ghost use Rattle.pb_code.specs.Limits.{KeepsLimits};
 ghost use Rattle.pb_code.specs.View.{code_view};
-ghost use Rattle.pb_picks.specs.PickLines.{IsFaulty, IsFirstLine, Lacks, Says, SpellsPicks, arm_and_count, is_plain};
+ghost use Rattle.pb_picks.specs.PickLines.{IsFaulty, IsFirstLine, Lacks, SpellsPick, SpellsPicks, arm_and_count, is_plain};
 ghost use Rattle.pb_history.specs.declared.counted.CountedPick.{CountedPick as AnyPick};
 
 use crate::fault::PickFault;
 use pb_base::Pick;
+use pb_base::limits::{MAX_ARMS, MAX_PICKS};
 use pb_code::Code;
 use pb_history::CountedPick;
 use std::alloc::Global;
-
-/// The most picks that lines may say in all.
-const MOST: u32 = 10_000_000;
 
 /// Reads pick lines, `P.a COUNT` each, of the processes and arms of this code. The last line feed may be
 /// missing. The first faulty line decides: `NotPicks` at its start if it is not of the form, or its process
@@ -33,7 +31,7 @@ pub fn read_picks(alloc: Global, code: &Code, text: &[u8]) -> Result<Vec<Counted
             return Err(PickFault::NotPicks(text.len() - rest.len()));
         };
         total += counted.count;
-        if total > MOST {
+        if total > MAX_PICKS {
             return Err(PickFault::TooMany);
         }
         picks.push(counted)?;
@@ -68,8 +66,8 @@ fn split_first(text: &[u8], mark: u8) -> Option<(&[u8], &[u8])>
 /// Returns the pick that a line says, if it says one.
 fn pick_of(code: &Code, line: &[u8]) -> Option<CountedPick>
     requires { KeepsLimits (code_view code.now) }
-    ensures { MatchOption result ((c : AnyPick) → Says (code_view code.now) line.now c → ⊥)
-        (λ c. Says (code_view code.now) line.now c) }
+    ensures { MatchOption result ((c : AnyPick) → SpellsPick (code_view code.now) line.now c → ⊥)
+        (λ c. SpellsPick (code_view code.now) line.now c) }
 {
     for p in 0..code.processes.len() {
         let arms = code.processes[p].entries.len();
@@ -89,11 +87,11 @@ fn pick_of(code: &Code, line: &[u8]) -> Option<CountedPick>
 
 /// Returns the arm and the count of a line, if it begins with this name and its arm is below `arms`.
 fn pick_of_process(line: &[u8], name: &[u8], arms: usize) -> Option<(u8, u32)>
-    requires { arms ≤ 64 }
+    requires { arms ≤ MAX_ARMS }
     ensures { MatchOption result
-        ((arm count : ℕ) → arm < arms → 0 < count → count ≤ 10000000
+        ((arm count : ℕ) → arm < arms → 0 < count → count ≤ MAX_PICKS
         → line.now ≡ name.now ++ (46 ∷ arm_and_count arm count) → ⊥)
-        (λ x. (x.0 < arms) × (0 < x.1) × (x.1 ≤ 10000000)
+        (λ x. (x.0 < arms) × (0 < x.1) × (x.1 ≤ MAX_PICKS)
         × (line.now ≡ name.now ++ (46 ∷ arm_and_count x.0 x.1))) }
 {
     let rest = behind(line, name)?;
@@ -120,10 +118,10 @@ fn after<'t>(text: &'t [u8], start: &[u8]) -> Option<&'t [u8]>
 
 /// Reads the arm, below `arms`, and the count.
 fn read_arm_and_count(text: &[u8], arms: usize) -> Option<(u8, u32)>
-    requires { arms ≤ 64 }
+    requires { arms ≤ MAX_ARMS }
     ensures { MatchOption result
-        ((arm count : ℕ) → arm < arms → 0 < count → count ≤ 10000000 → text.now ≡ arm_and_count arm count → ⊥)
-        (λ x. (x.0 < arms) × (0 < x.1) × (x.1 ≤ 10000000) × (text.now ≡ arm_and_count x.0 x.1)) }
+        ((arm count : ℕ) → arm < arms → 0 < count → count ≤ MAX_PICKS → text.now ≡ arm_and_count arm count → ⊥)
+        (λ x. (x.0 < arms) × (0 < x.1) × (x.1 ≤ MAX_PICKS) × (text.now ≡ arm_and_count x.0 x.1)) }
 {
     let (arm, count) = split_first(text, b' ')?;
     let arm = number(arm)?;
@@ -136,14 +134,14 @@ fn read_arm_and_count(text: &[u8], arms: usize) -> Option<(u8, u32)>
 
 /// Reads a decimal number up to 10,000,000, without a sign and without zeros before it.
 fn number(word: &[u8]) -> Option<u32>
-    ensures { MatchOption result ((n : ℕ) → n ≤ 10000000 → word.now ≡ decimal n → ⊥)
-        (λ n. (n ≤ 10000000) × (word.now ≡ decimal n)) }
+    ensures { MatchOption result ((n : ℕ) → n ≤ MAX_PICKS → word.now ≡ decimal n → ⊥)
+        (λ n. (n ≤ MAX_PICKS) × (word.now ≡ decimal n)) }
 {
     if !is_plain(word) {
         return None;
     }
     let number = parsed(word)?;
-    if number > MOST {
+    if number > MAX_PICKS {
         return None;
     }
     Some(number)
@@ -161,7 +159,7 @@ fn is_plain(word: &[u8]) -> bool
 
 /// Reads a decimal number, which may have a sign and zeros before it.
 fn parsed(word: &[u8]) -> Option<u32>
-    ensures complete { (n : ℕ) → n ≤ 10000000 → word.now ≡ decimal n → result ≡ Some n }
+    ensures complete { (n : ℕ) → n ≤ MAX_PICKS → word.now ≡ decimal n → result ≡ Some n }
     ensures sound { IfSome result (λ n. is_plain word.now ≡ true → word.now ≡ decimal n) }
 {
     match str::from_utf8(word) {

@@ -8,8 +8,8 @@ use itoa::Buffer;
 use pb_base::{Names, NoMemory};
 use pb_history::CountedPick;
 
-/// Appends the lines of these picks to a text, `P.a COUNT` and a line feed each, in their order. Each pick is of a
-/// process that has a name. Out of memory leaves the text as it was.
+/// Appends the lines of these picks to a text, `P.a COUNT` and a line feed each, in their order. Each pick is
+/// of a process that has a name. Out of memory leaves the text as it was.
 pub fn write_picks(text: &mut Vec<u8>, names: &Names, picks: &[CountedPick]) -> Result<(), NoMemory>
     requires { All (λ c. HasProcess (names_view names.now) c.pick.process) picks.now }
     ensures ok { OnOk result

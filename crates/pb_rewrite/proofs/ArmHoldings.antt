@@ -4,8 +4,12 @@ use Rattle.pb_base.specs.Arithmetic.{is_zero}
 use Rattle.pb_base.specs.Bundle.{amount_in}
 use Rattle.pb_base.specs.Steppers.{Effect, Silent, Prints, Takes, Returns, Faults, Finishes}
 use Rattle.pb_names.specs.Claims.{held_in, held_in_list, held, held_among}
-use Rattle.pb_names.specs.Program.{Expr, Block, Skip, Then, Stmt, Set, Write, If, While, HoldDo, Parbegin, Arms, NoArm, AndArm}
-use Rattle.pb_names.specs.Source.{ExprStep, Is, Becomes, Fails, step_expr, Item, Assign, Print, Choice, Loop, Hold, GiveBack, Parallel, item_of, items_of, Arm, Doing, Waiting, Ended, Running, Nothing, Beside, begin, is_ended, all_ended, ArmStep, Goes, Breaks, Ends, evaluate, step_items, step_arm, find, find_among, put, put_among}
+use Rattle.pb_names.specs.Program.{Expr, Block, Skip, Then, Stmt, Assign, Print, If, While, Hold, Parbegin, Arms}
+use Rattle.pb_names.specs.Program.{NoArm, AndArm}
+use Rattle.pb_names.specs.Source.{ExprStep, Is, Becomes, Fails, step_expr, Item, GiveBack, item_of, items_of, Arm}
+use Rattle.pb_names.specs.Source.{Doing, Waiting, Ended, Running, Nothing, Beside, begin, is_ended, all_ended}
+use Rattle.pb_names.specs.Source.{ArmStep, Goes, Breaks, Ends, evaluate, step_items, step_arm, find, find_among, put}
+use Rattle.pb_names.specs.Source.{put_among}
 use Rattle.pb_rewrite.specs.Sound.{Owns, IsOwned, IsSingle, AreSingle}
 use Rattle.pb_rewrite.specs.Steps.{AreBelow}
 use Rattle.pb_rewrite.proofs.SwappedArms.{first_cases, none_put, none_put_among, none_some}
@@ -13,11 +17,11 @@ use Rattle.pb_rewrite.proofs.SwappedArms.{first_cases, none_put, none_put_among,
 -- ---- what has not begun holds nothing
 
 held_stmt : (r : ℕ) (s : Stmt) → held_in r (item_of s) ≡ 0
-held_stmt r (Set line x e) = refl
-held_stmt r (Write line e) = refl
+held_stmt r (Assign line x e) = refl
+held_stmt r (Print line e) = refl
 held_stmt r (If line e a b) = refl
 held_stmt r (While line e body) = refl
-held_stmt r (HoldDo line bundle body) = refl
+held_stmt r (Hold line bundle body) = refl
 held_stmt r (Parbegin line first arms) = refl
 
 held_block : (r : ℕ) (block : Block) (rest : List Item) → held_in_list r (items_of block ++ rest) ≡ held_in_list r rest
@@ -80,18 +84,18 @@ loop_lends r k false rest more one two = two
 
 items_lend : (n r lo hi : ℕ) (vars : List ℤ) (items : List Item) → Owns n lo hi items → Lends n r (held_in_list r items) (step_items vars items)
 items_lend n r lo hi vars [] o = refl
-items_lend n r lo hi vars (Assign line x e ∷ rest) o = evaluate_lends n r _ (step_expr vars e) _ _ (λ e'. refl) (λ v. omega arith)
-items_lend n r lo hi vars (Print line e ∷ rest) o = evaluate_lends n r _ (step_expr vars e) _ _ (λ e'. refl) (λ v. omega arith)
-items_lend n r lo hi vars (Choice line e a b ∷ rest) o =
+items_lend n r lo hi vars (Item.Assign line x e ∷ rest) o = evaluate_lends n r _ (step_expr vars e) _ _ (λ e'. refl) (λ v. omega arith)
+items_lend n r lo hi vars (Item.Print line e ∷ rest) o = evaluate_lends n r _ (step_expr vars e) _ _ (λ e'. refl) (λ v. omega arith)
+items_lend n r lo hi vars (Item.If line e a b ∷ rest) o =
     evaluate_lends n r _ (step_expr vars e) _ _ (λ e'. refl) (λ v. let same = choice_lends r (is_zero v) a b rest in omega arith)
-items_lend n r lo hi vars (Loop line test e body ∷ rest) o =
+items_lend n r lo hi vars (Item.While line test e body ∷ rest) o =
     evaluate_lends n r _ (step_expr vars e) _ _ (λ e'. refl)
-    (λ v. loop_lends r _ (is_zero v) rest (items_of body ++ Loop line test test body ∷ rest) (omega arith) (held_block
-    r body (Loop line test test body ∷ rest)))
-items_lend n r lo hi vars (Hold line bundle body ∷ rest) o =
+    (λ v. loop_lends r _ (is_zero v) rest (items_of body ++ Item.While line test test body ∷ rest) (omega arith) (held_block
+    r body (Item.While line test test body ∷ rest)))
+items_lend n r lo hi vars (Item.Hold line bundle body ∷ rest) o =
     (o.0.0, let same = held_block r body (GiveBack line bundle ∷ rest) in omega arith)
 items_lend n r lo hi vars (GiveBack line bundle ∷ rest) o = (o.0, omega arith)
-items_lend n r lo hi vars (Parallel line first arms ∷ rest) o = let none = held_begin r arms in omega arith
+items_lend n r lo hi vars (Item.Parbegin line first arms ∷ rest) o = let none = held_begin r arms in omega arith
 
 abbrev OptionLends : ℕ → ℕ → ℕ → Option ArmStep → Type 0
 OptionLends n r before None = Unit {0}

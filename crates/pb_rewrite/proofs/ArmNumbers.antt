@@ -3,8 +3,13 @@ use Rattle.std.proofs.Common.{◌≡◌, ◌⊎◌, inl, inr, ℕ, suc, ◌+◌,
 use Rattle.std.proofs.lemmas.Bool.Decides.{eqb_tells}
 use Rattle.pb_base.specs.Arithmetic.{is_zero}
 use Rattle.pb_base.specs.Steppers.{Effect}
-use Rattle.pb_names.specs.Program.{Expr, Block, Skip, Then, Stmt, Set, Write, If, While, HoldDo, Parbegin, Arms, NoArm, AndArm, count, arms_list, arms_in, arms_in_stmt, arms_in_arms, IsNumbered, IsNumberedStmt, AreNumbered}
-use Rattle.pb_names.specs.Source.{ExprStep, Is, Becomes, Fails, step_expr, Item, Assign, Print, Choice, Loop, Hold, GiveBack, Parallel, item_of, items_of, Arm, Doing, Waiting, Ended, Running, Nothing, Beside, begin, ArmStep, Goes, Breaks, Ends, evaluate, step_items, step_arm, all_ended, find, find_among, first_some, put, put_among}
+use Rattle.pb_names.specs.Program.{Expr, Block, Skip, Then, Stmt, Assign, Print, If, While, Hold, Parbegin, Arms}
+use Rattle.pb_names.specs.Program.{NoArm, AndArm, count, arms_list, arms_in, arms_in_stmt, arms_in_arms, IsNumbered}
+use Rattle.pb_names.specs.Program.{IsNumberedStmt, AreNumbered}
+use Rattle.pb_names.specs.Source.{ExprStep, Is, Becomes, Fails, step_expr, Item, GiveBack, item_of, items_of, Arm}
+use Rattle.pb_names.specs.Source.{Doing, Waiting, Ended, Running, Nothing, Beside, begin, ArmStep, Goes, Breaks, Ends}
+use Rattle.pb_names.specs.Source.{evaluate, step_items, step_arm, all_ended, find, find_among, first_some, put}
+use Rattle.pb_names.specs.Source.{put_among}
 use Rattle.pb_rewrite.specs.Sound.{StmtNames, BlockNames, ArmsName, OwnsBlock, OwnsItem, Owns, size, IsOwned, AreOwned, IsSingle, AreSingle}
 use Rattle.pb_rewrite.proofs.SwappedArms.{first_cases, none_put, none_put_among, none_some}
 use Rattle.pb_names.proofs.NumberedLists.{length-arms_list}
@@ -12,13 +17,13 @@ use Rattle.pb_names.proofs.NumberedLists.{length-arms_list}
 -- ---- the items of a block own what the block owns
 
 owns_item : (n lo hi m : ℕ) (s : Stmt) → StmtNames n s → lo ≤ m → IsNumberedStmt m s → m + length (arms_in_stmt s) ≤ hi → OwnsItem n lo hi (item_of s)
-owns_item n lo hi m (Set line x e) k l h u = tt
-owns_item n lo hi m (Write line e) k l h u = tt
+owns_item n lo hi m (Assign line x e) k l h u = tt
+owns_item n lo hi m (Print line e) k l h u = tt
 owns_item n lo hi m (If line e a b) k l h u =
     let len = length-append (arms_in a) (arms_in b) in
     ((k.0, (m, l, h.0, omega (arith, len))), (k.1, (m + length (arms_in a), omega arith, h.1, omega (arith, len))))
 owns_item n lo hi m (While line e body) k l h u = (k, (m, l, h, u))
-owns_item n lo hi m (HoldDo line bundle body) k l h u = (k.0, (k.1, (m, l, h, u)))
+owns_item n lo hi m (Hold line bundle body) k l h u = (k.0, (k.1, (m, l, h, u)))
 owns_item n lo hi m (Parbegin line first arms) k l h u =
     let e : m ≡ first = sym h.0 in (
       k,
@@ -88,16 +93,16 @@ loop_owns n lo hi false rest more r m = m
 
 step_keeps : (n lo hi : ℕ) (vars : List ℤ) (items : List Item) → Owns n lo hi items → Keeps n lo hi (step_items vars items)
 step_keeps n lo hi vars [] o = tt
-step_keeps n lo hi vars (Assign line x e ∷ rest) o = evaluate_keeps n lo hi (step_expr vars e) _ _ (λ e'. o) (λ v. o.1)
-step_keeps n lo hi vars (Print line e ∷ rest) o = evaluate_keeps n lo hi (step_expr vars e) _ _ (λ e'. o) (λ v. o.1)
-step_keeps n lo hi vars (Choice line e a b ∷ rest) o =
+step_keeps n lo hi vars (Item.Assign line x e ∷ rest) o = evaluate_keeps n lo hi (step_expr vars e) _ _ (λ e'. o) (λ v. o.1)
+step_keeps n lo hi vars (Item.Print line e ∷ rest) o = evaluate_keeps n lo hi (step_expr vars e) _ _ (λ e'. o) (λ v. o.1)
+step_keeps n lo hi vars (Item.If line e a b ∷ rest) o =
     evaluate_keeps n lo hi (step_expr vars e) _ _ (λ e'. o) (λ v. choice_owns n lo hi (is_zero v) a b rest o.0.0 o.0.1 o.1)
-step_keeps n lo hi vars (Loop line test e body ∷ rest) o =
+step_keeps n lo hi vars (Item.While line test e body ∷ rest) o =
     evaluate_keeps n lo hi (step_expr vars e) _ _ (λ e'. o) (λ v. loop_owns n lo hi (is_zero v) rest _ o.1 (owns_block
-    n lo hi body (Loop line test test body ∷ rest) o.0 o))
-step_keeps n lo hi vars (Hold line bundle body ∷ rest) o = owns_block n lo hi body (GiveBack line bundle ∷ rest) o.0.1 (o.0.0, o.1)
+    n lo hi body (Item.While line test test body ∷ rest) o.0 o))
+step_keeps n lo hi vars (Item.Hold line bundle body ∷ rest) o = owns_block n lo hi body (GiveBack line bundle ∷ rest) o.0.1 (o.0.0, o.1)
 step_keeps n lo hi vars (GiveBack line bundle ∷ rest) o = o.1
-step_keeps n lo hi vars (Parallel line first arms ∷ rest) o =
+step_keeps n lo hi vars (Item.Parbegin line first arms ∷ rest) o =
     let p = o.0 in (
       p.1,
       subst (λ k. AreOwned n (first + k) hi (begin arms)) (sym (size_begin arms)) (begins n (first + count arms) hi arms p.0 p.2 p.3),

@@ -13,7 +13,7 @@ use Rattle.pb_names.specs.View.{resource_view, process_view as program_process}
 use Rattle.pb_names.specs.declared.resolved.Process.{Process as GivenProgram}
 use Rattle.pb_names.specs.declared.resolved.Resource.{Resource}
 use Rattle.pb_rewrite.specs.Sound.{AreSound, IsSoundRun, BlockNames, Owns, IsOwned}
-use Rattle.pb_rewrite.specs.Sources.{Fits, FitsCapital}
+use Rattle.pb_rewrite.specs.Sources.{FitsClaims, FitsCapital}
 use Rattle.pb_rewrite.specs.View.{process_view}
 use Rattle.pb_rewrite.specs.declared.process.SourceProcess.{SourceProcess as Given}
 use Rattle.pb_rewrite.proofs.ArmHoldings.{held_items}
@@ -98,7 +98,7 @@ starts_sound n row process names numbered none = (
   λ r l. let nothing = none r in let holds = held_items r process.body in omega arith,
 )
 
-module _ (program : Program) (claims : Table) (fits : Fits program claims) where
+module _ (program : Program) (claims : Table) (fits : FitsClaims program claims) where
   loans_open : (start_state (capital_of program) claims).loans
       ≡ map (λ _. replicate (length (capital_of program)) 0) (map source_process program.processes)
   loans_open =
@@ -152,7 +152,7 @@ none_past items i P x here holds before p q less at =
 
 -- ---- the whole
 
-pub opens : (program : Program) (claims : Table) → Fits program claims
+pub opens : (program : Program) (claims : Table) → FitsClaims program claims
     → state_with (map source_process program.processes) (start_state (capital_of program) claims).loans
     ≡ opening (record { capital = capital_of program; claims = claims }) (map source_process program.processes)
 opens program claims fits = ap (state_with (map source_process program.processes)) (loans_open program claims fits)
@@ -160,11 +160,11 @@ opens program claims fits = ap (state_with (map source_process program.processes
 -- ---- the capital that the banker is given
 
 pub few_resources : {A : Type 0} (program : Program) (claims : Table) (resources : List (Resource A))
-    → program.resources ≡ map resource_view resources → Fits program claims → length resources ≤ 16
+    → program.resources ≡ map resource_view resources → FitsClaims program claims → length resources ≤ 16
 few_resources program claims resources are fits =
     omega (arith, fits.few_resources, ap length are, length-map resources resource_view)
 
-pub as_wide : (program : Program) (claims : Table) (capital : List ℕ) → capital ≡ capital_of program → Fits program claims
+pub as_wide : (program : Program) (claims : Table) (capital : List ℕ) → capital ≡ capital_of program → FitsClaims program claims
     → length (row_of claims 0) ≡ length capital
 as_wide program claims capital is fits =
     fits.width 0 (omega (arith, fits.some, fits.height))

@@ -8,8 +8,9 @@ use Rattle.pb_banker.specs.declared.answer.Answer.{Answer}
 use Rattle.pb_banker.specs.declared.answer.Answer.TheVariants.{Granted}
 use Rattle.pb_names.specs.Program.{Block}
 use Rattle.pb_names.specs.Source as plain
-use Rattle.pb_names.specs.Source.{Item, Hold, items_of, GiveBack, step_items, Goes, Running, all_ended, step_arm, Doing, Waiting}
-use Rattle.pb_rewrite.specs.Steps.{AreBelow, AsksBelow, IsArmStep, IsFreeStep, IsUnchanged, Leaves, StepsItems}
+use Rattle.pb_names.specs.Source.{Item, items_of, GiveBack, step_items, Goes, Running, all_ended, step_arm, Doing}
+use Rattle.pb_names.specs.Source.{Waiting}
+use Rattle.pb_rewrite.specs.Steps.{AreBelow, AsksBelow, IsArmStep, IsFreeStep, IsUnchanged, LeavesArm, StepsItems}
 use Rattle.pb_rewrite.specs.View.{arm_view}
 use Rattle.pb_rewrite.specs.declared.arm.Arm.{Arm}
 use Rattle.pb_rewrite.specs.declared.stepping.Stepped.{Stepped}
@@ -51,7 +52,7 @@ module _ (s : BankerState) (p : ℕ) (vars : List ℤ) where
     handed_back (Err back) h = (refl, h ∙ sym same, refl)
 
     pub left_ok : (r : Result (Stepped A) (Arm A)) (arm' : plain.Arm) → step_items vars items ≡ Goes vars arm' Silent
-        → IfOk r (λ st. Leaves st arm') → IfOk r (λ st. StepsItems vars items st vars)
+        → IfOk r (λ st. LeavesArm st arm') → IfOk r (λ st. StepsItems vars items st vars)
     left_ok (Ok stepped) arm' made h = silently vars items stepped.outcome (arm_view stepped.arm) arm' h.0 h.1 made
     left_ok (Err back) arm' made h = tt
 
@@ -85,7 +86,7 @@ asks_same n vars arm before same h = subst (AsksBelow n vars) same h
 
 -- an arm at a hold asks for what it takes
 pub hold_asks : (n : ℕ) (vars : List ℤ) (arm : plain.Arm) (line : ℕ) (bundle : Bundle) (body : Block) (rest : List Item)
-    → arm ≡ Doing (Hold line bundle body ∷ rest) → AsksBelow n vars arm → AreBelow n bundle
+    → arm ≡ Doing (Item.Hold line bundle body ∷ rest) → AsksBelow n vars arm → AreBelow n bundle
 hold_asks n vars arm line bundle body rest same h =
     h vars (Doing (items_of body ++ GiveBack line bundle ∷ rest)) bundle (ap (step_arm vars) same)
 

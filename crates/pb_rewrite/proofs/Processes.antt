@@ -14,14 +14,10 @@ use Rattle.pb_names.specs.Source.{Arm, Ended, ArmStep, Goes, Breaks, Ends, step_
 use Rattle.pb_rewrite.specs.Sound.{IsSingle}
 use Rattle.pb_rewrite.specs.Steps.{CannotStep, IsArmStep, IsProcessStep, IsRunStep, IsSettled}
 use Rattle.pb_rewrite.specs.Steps as steps
-use Rattle.pb_rewrite.specs.View.{bank_of}
+use Rattle.pb_rewrite.specs.View.{bank_view}
 use Rattle.pb_rewrite.specs.declared.stepping.Outcome.{Outcome}
 use Rattle.pb_rewrite.specs.declared.stepping.Outcome.TheVariants as outcome
 use Rattle.pb_rewrite.proofs.TakenArms.{put_found}
-
--- a list that was lent whole, with all its elements
-pub restored : {X : Type 0} (n : ℕ) (xs ws : List X) → length ws ≡ n → take n (ws ++ drop (length ws) xs) ≡ ws
-restored n xs ws e = rw (← e) (take-append_seam ws (drop (length ws) xs))
 
 abbrev pub process_of : List ℤ → Option Arm → SourceProcess
 process_of vars run = record { vars = vars; run = run }
@@ -68,15 +64,15 @@ module _ (s : BankerState) (pick : Pick) (vars : List ℤ) (run : Arm) where
 
   goes : (arm arm' : Arm) (vars' : List ℤ) (effect : Effect) (shown : Option Event) (q : SourceProcess) (s' : BankerState)
       → find pick.arm 0 run ≡ Some arm → step_arm vars arm ≡ Some (Goes vars' arm' effect)
-      → IsGranted (bank_of s) s.loans pick.process effect → event_of pick effect ≡ shown
+      → IsGranted (bank_view s) s.loans pick.process effect → event_of pick effect ≡ shown
       → q ≡ process_of vars' (Some (put pick.arm arm' 0 run)) → s' ≡ after_effect s pick.process effect
-      → steps.Takes s Process pick shown q s'
+      → steps.TakesStep s Process pick shown q s'
   goes arm arm' vars' effect shown q s' there is granted same now after =
       (effect, stepped arm (Some (Goes vars' arm' effect)) there is ∙ ap (λ x. Some (x, effect)) (sym now), granted, same, after)
 
   breaks : (arm : Arm) (kind : FaultKind) (q : SourceProcess) (s' : BankerState) → find pick.arm 0 run ≡ Some arm
       → step_arm vars arm ≡ Some (Breaks kind) → q ≡ process_of vars None → s' ≡ without_loans s pick.process
-      → steps.Takes s Process pick (Some (event.Faulted pick kind)) q s'
+      → steps.TakesStep s Process pick (Some (event.Faulted pick kind)) q s'
   breaks arm kind q s' there is now after =
       (Faults kind, stepped arm (Some (Breaks kind)) there is ∙ ap (λ x. Some (x, Faults kind)) (sym now), tt, refl, after)
 
@@ -99,7 +95,7 @@ module _ (s : BankerState) (pick : Pick) (vars : List ℤ) (run : Arm) where
 
   abbrev Never : Type 0
   Never = (next : SourceProcess) (effect : Effect) → source_step pick.process Process pick.arm ≡ Some (next, effect)
-      → IsGranted (bank_of s) s.loans pick.process effect → ⊥
+      → IsGranted (bank_view s) s.loans pick.process effect → ⊥
 
   never : (made : Option ArmStep) → source_step pick.process Process pick.arm ≡ option_map (settle vars run pick.arm) made
       → CannotStep s pick.process made → Never
@@ -108,7 +104,7 @@ module _ (s : BankerState) (pick : Pick) (vars : List ℤ) (run : Arm) where
   never (Some (Goes vs arm (Prints v))) is cannot next effect steps granted = elim cannot [ ]
   never (Some (Goes vs arm (Takes bundle))) is cannot next effect steps granted =
       let takes = second_same (process_of vs (Some (put pick.arm arm 0 run))) next (Takes bundle) effect (sym is ∙ steps) in
-      cannot (subst (IsGranted (bank_of s) s.loans pick.process) (sym takes) granted)
+      cannot (subst (IsGranted (bank_view s) s.loans pick.process) (sym takes) granted)
   never (Some (Goes vs arm (Returns bundle))) is cannot next effect steps granted = elim cannot [ ]
   never (Some (Goes vs arm (Faults kind))) is cannot next effect steps granted = elim cannot [ ]
   never (Some (Goes vs arm Finishes)) is cannot next effect steps granted = elim cannot [ ]

@@ -12,7 +12,7 @@ use Rattle.pb_names.specs.Resolves.{ResolvesDemand, ResolvesStmt, assign, print,
 use Rattle.pb_names.specs.Resolves.{no_stmt, stmt_then, ResolvesArms, no_arm, arm_then, ResolvesProcess, ResolvesResource, Resolves, resource_names}
 use Rattle.pb_tree.specs.Syntax as tree
 use Rattle.pb_rewrite.specs.Sound.{StmtNames, BlockNames, ArmsName}
-use Rattle.pb_rewrite.specs.Sources.{Fits, FitsCapital}
+use Rattle.pb_rewrite.specs.Sources.{FitsClaims, FitsCapital}
 
 demands_below : (resources : List Name) (demands : List tree.DemandSyntax) (pairs : Bundle) → AllZip (ResolvesDemand resources) demands pairs
     → (k : ℕ) (d : Pair) → k < length pairs → (get_or pairs k d).resource < length resources
@@ -68,7 +68,7 @@ all_small (w ∷ written) (r ∷ resources) h zero d l = h.0.small
 all_small (w ∷ written) (r ∷ resources) h (suc k) d l = all_small written resources h.1 k d (omega arith)
 
 pub resolved_fits : (written : tree.ProgramSyntax) (program : Program) (claims : Table) → Resolves written program
-    → AreClaims program claims → FitsCapital program claims → Fits program claims
+    → AreClaims program claims → FitsCapital program claims → FitsClaims program claims
 resolved_fits written program claims h are within =
     let count = length-map program.resources (λ resource. resource.name) in record {
       some = h.some_processes;

@@ -1,4 +1,5 @@
--- The lists of a statement and the operands of an expression are smaller than the whole, so a recursion down them ends.
+-- The lists of a statement and the operands of an expression are smaller than the whole, so a recursion down
+-- them ends.
 use Rattle.std.proofs.Common.{◌≡◌, ℕ, ◌+◌, ◌<◌, ◌∙◌, Vec, Box, arith, ap}
 use Rattle.pb_names.specs.Program as plain
 use Rattle.pb_names.specs.View.{expr_view, stmt_view, block_view}

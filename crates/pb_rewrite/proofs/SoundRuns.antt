@@ -7,7 +7,7 @@ use Rattle.pb_base.specs.Bundle.{amount_in}
 use Rattle.pb_base.specs.Steppers.{Bundle, Takes, Returns}
 use Rattle.pb_base.specs.declared.pair.Pair.{Pair}
 use Rattle.pb_base.specs.declared.pick.Pick.{Pick}
-use Rattle.pb_base.proofs.Lending.{amount_of_pair, amount_in-cons}
+use Rattle.pb_base.proofs.LoanRows.{amount_of_pair, amount_in-cons}
 use Rattle.pb_names.specs.Source.{Arm, Goes, step_arm, find}
 use Rattle.pb_rewrite.specs.Sound.{IsSingle, IsSoundRun}
 use Rattle.pb_rewrite.specs.Steps.{AreBelow, PickAsksBelow, IsRunStep, IsHeld}

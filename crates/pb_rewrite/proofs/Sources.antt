@@ -12,17 +12,18 @@ use Rattle.pb_base.specs.declared.event.Event.{Event}
 use Rattle.pb_base.specs.declared.pick.Pick.{Pick}
 use Rattle.pb_base.specs.declared.step.Step.{Step}
 use Rattle.pb_base.specs.declared.step.Step.TheVariants as step
-use Rattle.pb_base.proofs.Lending.{get_or-lend, get_or-give_back}
+use Rattle.pb_base.proofs.LoanRows.{get_or-lend, get_or-give_back}
 use Rattle.pb_names.specs.Claims.{held}
 use Rattle.pb_names.specs.Source.{Arm, Ended, ArmStep, Goes, Breaks, Ends, step_arm, find, put, SourceProcess, settle, step_run, source_step}
 use Rattle.pb_rewrite.specs.Sound.{AreSound, IsSoundRun}
 use Rattle.pb_rewrite.specs.Steps.{IsProcessStep}
 use Rattle.pb_rewrite.specs.Steps as steps
-use Rattle.pb_rewrite.specs.View.{bank_of, process_view}
+use Rattle.pb_rewrite.specs.View.{bank_view, process_view}
 use Rattle.pb_rewrite.specs.declared.process.SourceProcess.{SourceProcess as GivenProcess}
 use Rattle.pb_rewrite.proofs.ArmHoldings.{LendsBy, goes_lends, ends_hold, held_put}
 use Rattle.pb_rewrite.proofs.ArmNumbers.{owned_single, found_owned, owned_put, keeps_owned, owned_le}
 use Rattle.pb_rewrite.proofs.Processes.{process_of, both, first_same, second_same, nothing_made}
+use Rattle.pb_base.proofs.Lists.{item_at}
 
 -- ---- the row of a process after an effect
 
@@ -170,8 +171,8 @@ module _ (s s' : BankerState) (ps : List SourceProcess) (pick : Pick) (process q
       ap (option_and_then (λ x. option_map (moved (state_with ps s.loans) pick) (source_step pick.process x pick.arm))) there
       ∙ ap (option_map (moved (state_with ps s.loans) pick)) h
 
-  moves : (shown : Option Event) → steps.Takes s process pick shown q s'
-      → Moves (bank_of s) source_step (state_with ps s.loans) pick shown (state_with (set ps pick.process q) s'.loans)
+  moves : (shown : Option Event) → steps.TakesStep s process pick shown q s'
+      → Moves (bank_view s) source_step (state_with ps s.loans) pick shown (state_with (set ps pick.process q) s'.loans)
   moves shown h = (
     h.0,
     made (Some (both q h.0)) h.1
@@ -181,19 +182,19 @@ module _ (s s' : BankerState) (ps : List SourceProcess) (pick : Pick) (process q
   )
 
   stays : (o : Option (SourceProcess × Effect)) → source_step pick.process process pick.arm ≡ o
-      → ((next : SourceProcess) (effect : Effect) → o ≡ Some (both next effect) → IsGranted (bank_of s) s.loans pick.process effect → ⊥)
-      → Stays (bank_of s) source_step (state_with ps s.loans) pick
+      → ((next : SourceProcess) (effect : Effect) → o ≡ Some (both next effect) → IsGranted (bank_view s) s.loans pick.process effect → ⊥)
+      → Stays (bank_view s) source_step (state_with ps s.loans) pick
   stays None is never move m granted = no_move move (sym (made None is) ∙ m)
   stays (Some next) is never move m granted =
       let same = same_effect (moved (state_with ps s.loans) pick next) move (sym (made (Some next) is) ∙ m) in
-      never next.0 next.1 refl (subst (IsGranted (bank_of s) s.loans pick.process) (sym same) granted)
+      never next.0 next.1 refl (subst (IsGranted (bank_view s) s.loans pick.process) (sym same) granted)
 
   process_stays : q ≡ process → set ps pick.process q ≡ ps
   process_stays same =
       ap (set ps pick.process) (same ∙ sym (get_or_from_slice_get ps pick.process process process there)) ∙ set-get_or ps pick.process process
 
   pub steps_so : (answer : Step) → IsProcessStep s process pick answer q s'
-      → IsStepOf (bank_of s) source_step (state_with ps s.loans) pick answer (state_with (set ps pick.process q) s'.loans)
+      → IsStepOf (bank_view s) source_step (state_with ps s.loans) pick answer (state_with (set ps pick.process q) s'.loans)
   steps_so step.Silent h = moves None h
   steps_so (step.Did shown) h = moves (Some shown) h
   steps_so step.NotEnabled h = (
@@ -207,7 +208,7 @@ module _ (s s' : BankerState) (ps : List SourceProcess) (pick : Pick) (process q
     within : pick.process < processes s
     within = omega (arith, slice_get_within ps pick.process process there, sound.number)
 
-    takes_sound : (shown : Option Event) → steps.Takes s process pick shown q s' → AreSound s' (set ps pick.process q)
+    takes_sound : (shown : Option Event) → steps.TakesStep s process pick shown q s' → AreSound s' (set ps pick.process q)
     takes_sound shown h =
         subst (λ t. AreSound t (set ps pick.process q)) (sym h.4) (record {
           number = length-set ps pick.process q ∙ sound.number;
@@ -234,20 +235,17 @@ module _ (s s' : BankerState) (ps : List SourceProcess) (pick : Pick) (process q
 
 -- a process that is not there
 pub nowhere : (s : BankerState) (ps : List SourceProcess) (pick : Pick) → length ps ≤ pick.process
-    → Stays (bank_of s) source_step (state_with ps s.loans) pick
+    → Stays (bank_view s) source_step (state_with ps s.loans) pick
 nowhere s ps pick past move m granted =
     no_move move (sym (ap (option_and_then (λ x. option_map (moved (state_with ps s.loans) pick) (source_step
     pick.process x pick.arm))) (slice_get_past ps pick.process past)) ∙ m)
 
 -- ---- the same of an answer that may be refused
 
-pub item_at : {X : Type 0} (xs : List X) (i : ℕ) (x : X) → i < length xs → x ≡ get_or xs i x → slice_get xs i ≡ Some x
-item_at xs i x lt at = slice_get-get_or xs i x lt ∙ ap Some (sym at)
-
 module _ {E : Type 0} (s s' : BankerState) (ps : List SourceProcess) (pick : Pick) (process q : SourceProcess)
     (there : slice_get ps pick.process ≡ Some process) where
   pub answer_so : (r : Result Step E) → IfOk r (λ answer. IsProcessStep s process pick answer q s')
-      → IfOk r (λ answer. IsStepOf (bank_of s) source_step (state_with ps s.loans) pick answer (state_with (set ps pick.process q) s'.loans))
+      → IfOk r (λ answer. IsStepOf (bank_view s) source_step (state_with ps s.loans) pick answer (state_with (set ps pick.process q) s'.loans))
   answer_so (Ok answer) h = steps_so s s' ps pick process q there answer h
   answer_so (Err error) h = tt
 
@@ -258,11 +256,11 @@ module _ {E : Type 0} (s s' : BankerState) (ps : List SourceProcess) (pick : Pic
       ap₂ state_with (process_stays s s' ps pick process q there same) (ap (λ t. t.loans) same_loans)
 
   pub bank_stays : (r : Result Step E) → IfOk r (λ answer. IsProcessStep s process pick answer q s') → OnErr r (s' ≡ s)
-      → bank_of s' ≡ bank_of s
-  bank_stays (Ok step.Silent) h same = ap bank_of h.4
-  bank_stays (Ok (step.Did shown)) h same = ap bank_of h.4
-  bank_stays (Ok step.NotEnabled) h same = ap bank_of h.2
-  bank_stays (Err error) h same = ap bank_of same
+      → bank_view s' ≡ bank_view s
+  bank_stays (Ok step.Silent) h same = ap bank_view h.4
+  bank_stays (Ok (step.Did shown)) h same = ap bank_view h.4
+  bank_stays (Ok step.NotEnabled) h same = ap bank_view h.2
+  bank_stays (Err error) h same = ap bank_view same
 
   pub sound_so : IsWellFormed s → AreSound s ps → (r : Result Step E) → IfOk r (λ answer. IsProcessStep s process pick answer q s')
       → OnErr r (q ≡ process) → OnErr r (s' ≡ s) → AreSound s' (set ps pick.process q)

@@ -4,9 +4,9 @@ use Rattle.std.specs.Prelude.{IfOk, IfErr}
 use Rattle.pb_base.specs.Arithmetic.{is_zero}
 use Rattle.pb_base.specs.Steppers.{Silent}
 use Rattle.pb_names.specs.Program.{Expr, Number, Block}
-use Rattle.pb_names.specs.Source.{Item, Choice, Loop, items_of, step_items, Goes}
+use Rattle.pb_names.specs.Source.{Item, items_of, step_items, Goes}
 use Rattle.pb_names.specs.Source as plain
-use Rattle.pb_rewrite.specs.Steps.{Leaves, StepsItems, IsFreeStep}
+use Rattle.pb_rewrite.specs.Steps.{LeavesArm, StepsItems, IsFreeStep}
 use Rattle.pb_rewrite.specs.View.{arm_view}
 use Rattle.pb_rewrite.specs.declared.arm.Arm.{Arm}
 use Rattle.pb_rewrite.specs.declared.stepping.Stepped.{Stepped}
@@ -33,19 +33,19 @@ kept_err (Err arm) before before' h same = h ∙ same
 
 module _ {A : Type 0} (vars : List ℤ) (line : ℕ) (rest : List Item) where
   pub choice_chosen : (a b : Block) (e : Expr) (v : ℤ) (fails : Bool) → fails ≡ is_zero v → e ≡ Number v
-      → (r : Result (Stepped A) (Arm A)) → IfOk r (λ s. Leaves s (plain.Doing (items_of (cond fails b a) ++ rest)))
-      → IfOk r (λ s. StepsItems vars (Choice line e a b ∷ rest) s vars)
+      → (r : Result (Stepped A) (Arm A)) → IfOk r (λ s. LeavesArm s (plain.Doing (items_of (cond fails b a) ++ rest)))
+      → IfOk r (λ s. StepsItems vars (Item.If line e a b ∷ rest) s vars)
   choice_chosen a b e v fails z is (Ok s) left =
-      silently vars (Choice line e a b ∷ rest) s.outcome (arm_view s.arm) _ left.0 (left.1 ∙ ap (λ f. plain.Doing (items_of (cond f b a) ++ rest)) z)
+      silently vars (Item.If line e a b ∷ rest) s.outcome (arm_view s.arm) _ left.0 (left.1 ∙ ap (λ f. plain.Doing (items_of (cond f b a) ++ rest)) z)
       (choice_is vars line rest a b e v is)
   choice_chosen a b e v fails z is (Err arm) left = tt
 
   pub loop_decided : (test : Expr) (body : Block) (e : Expr) (v : ℤ) (fails : Bool) → fails ≡ is_zero v → e ≡ Number v
       → (r : Result (Stepped A) (Arm A))
-      → IfOk r (λ s. Leaves s (plain.Doing (cond fails rest (items_of body ++ Loop line test test body ∷ rest))))
-      → IfOk r (λ s. StepsItems vars (Loop line test e body ∷ rest) s vars)
+      → IfOk r (λ s. LeavesArm s (plain.Doing (cond fails rest (items_of body ++ Item.While line test test body ∷ rest))))
+      → IfOk r (λ s. StepsItems vars (Item.While line test e body ∷ rest) s vars)
   loop_decided test body e v fails z is (Ok s) left =
-      silently vars (Loop line test e body ∷ rest) s.outcome (arm_view s.arm) _ left.0
-      (left.1 ∙ ap (λ f. plain.Doing (cond f rest (items_of body ++ Loop line test test body ∷ rest))) z)
+      silently vars (Item.While line test e body ∷ rest) s.outcome (arm_view s.arm) _ left.0
+      (left.1 ∙ ap (λ f. plain.Doing (cond f rest (items_of body ++ Item.While line test test body ∷ rest))) z)
       (loop_is vars line rest test body e v is)
   loop_decided test body e v fails z is (Err arm) left = tt

@@ -4,20 +4,20 @@ use Rattle.std.specs.Prelude.{◌≡◌, ◌⊎◌, ℕ, ◌+◌, ◌<◌, ◌�
 use Rattle.std.specs.Prelude.{slice_get, slice_index}
 use Rattle.pb_base.specs.Banker.{BankerState, processes, resources, row_of}
 use Rattle.pb_names.specs.Claims.{held}
-use Rattle.pb_names.specs.Program.{Stmt, Set, Write, If, While, HoldDo, Parbegin, Block, Skip, Then, Arms}
+use Rattle.pb_names.specs.Program.{Stmt, Assign, Print, If, While, Hold, Parbegin, Block, Skip, Then, Arms}
 use Rattle.pb_names.specs.Program.{NoArm, AndArm, count, arms_in, arms_in_arms, IsNumbered, AreNumbered}
-use Rattle.pb_names.specs.Source.{Item, Assign, Print, Choice, Loop, Hold, GiveBack, Parallel, Arm, Doing}
+use Rattle.pb_names.specs.Source.{Item, GiveBack, Arm, Doing}
 use Rattle.pb_names.specs.Source.{Waiting, Ended, Running, Nothing, Beside, SourceProcess, find, find_among}
 use Rattle.pb_rewrite.specs.Steps.{AreBelow}
 
 -- each hold inside names some of n resources
 abbrev mutual
   pub StmtNames : ℕ → Stmt → Type 0
-  StmtNames n (Set line x e) = ⊤
-  StmtNames n (Write line e) = ⊤
+  StmtNames n (Assign line x e) = ⊤
+  StmtNames n (Print line e) = ⊤
   StmtNames n (If line e a b) = BlockNames n a × BlockNames n b
   StmtNames n (While line e body) = BlockNames n body
-  StmtNames n (HoldDo line bundle body) = AreBelow n bundle × BlockNames n body
+  StmtNames n (Hold line bundle body) = AreBelow n bundle × BlockNames n body
   StmtNames n (Parbegin line first arms) = ArmsName n arms
 
   pub BlockNames : ℕ → Block → Type 0
@@ -35,13 +35,13 @@ OwnsBlock n lo hi block =
     × ((m : ℕ) × (lo ≤ m) × IsNumbered m block × (m + length (arms_in block) ≤ hi))
 
 abbrev pub OwnsItem : ℕ → ℕ → ℕ → Item → Type 0
-OwnsItem n lo hi (Assign line x e) = ⊤
-OwnsItem n lo hi (Print line e) = ⊤
-OwnsItem n lo hi (Choice line e a b) = OwnsBlock n lo hi a × OwnsBlock n lo hi b
-OwnsItem n lo hi (Loop line test e body) = OwnsBlock n lo hi body
-OwnsItem n lo hi (Hold line bundle body) = AreBelow n bundle × OwnsBlock n lo hi body
+OwnsItem n lo hi (Item.Assign line x e) = ⊤
+OwnsItem n lo hi (Item.Print line e) = ⊤
+OwnsItem n lo hi (Item.If line e a b) = OwnsBlock n lo hi a × OwnsBlock n lo hi b
+OwnsItem n lo hi (Item.While line test e body) = OwnsBlock n lo hi body
+OwnsItem n lo hi (Item.Hold line bundle body) = AreBelow n bundle × OwnsBlock n lo hi body
 OwnsItem n lo hi (GiveBack line bundle) = AreBelow n bundle
-OwnsItem n lo hi (Parallel line first arms) =
+OwnsItem n lo hi (Item.Parbegin line first arms) =
     ArmsName n arms × (lo ≤ first) × AreNumbered (first + count arms) arms
     × (first + count arms + length (arms_in_arms arms) ≤ hi)
 

@@ -12,7 +12,7 @@ use Rattle.pb_base.specs.declared.step.Step.TheVariants as step
 use Rattle.pb_names.specs.Program.{Expr, Number}
 use Rattle.pb_names.specs.Source.{from_result, step_expr, Becomes, Fails, ArmStep, Goes, Breaks, Ends, Arm, Ended, step_arm}
 use Rattle.pb_names.specs.Source.{Item, step_items, Running, find, find_among, put, put_among, SourceProcess, source_step}
-use Rattle.pb_rewrite.specs.View.{arm_view, bank_of}
+use Rattle.pb_rewrite.specs.View.{arm_view, bank_view}
 use Rattle.pb_rewrite.specs.declared.stepping.Stepped.{Stepped}
 use Rattle.pb_rewrite.specs.declared.expression.Progress.{Progress}
 use Rattle.pb_rewrite.specs.declared.expression.Progress.TheVariants as progress
@@ -65,8 +65,8 @@ StepsItems vars items s vars' =
     IsFreeStep vars (Some (step_items vars items)) s.outcome vars' (arm_view s.arm)
 
 -- nothing is seen of the step, and this arm is what is left
-abbrev pub Leaves : {A : Type 0} → Stepped A → Arm → Type 0
-Leaves s arm = (s.outcome ≡ outcome.Silent) × (arm_view s.arm ≡ arm)
+abbrev pub LeavesArm : {A : Type 0} → Stepped A → Arm → Type 0
+LeavesArm s arm = (s.outcome ≡ outcome.Silent) × (arm_view s.arm ≡ arm)
 
 -- this outcome is that of a step of an arm of process p; of the banker it has asked what a hold takes
 abbrev pub IsArmStep : BankerState → ℕ → List ℤ → Arm → Outcome → List ℤ → Arm → BankerState → Type 0
@@ -129,20 +129,20 @@ PickAsksBelow n pick vars run = (arm : Arm) → find pick.arm 0 run ≡ Some arm
 -- ---- one process
 
 -- the process takes this step, which has this event or none, and the loans are those after it
-abbrev pub Takes : BankerState → SourceProcess → Pick → Option Event → SourceProcess → BankerState → Type 0
-Takes s process pick shown process' s' =
+abbrev pub TakesStep : BankerState → SourceProcess → Pick → Option Event → SourceProcess → BankerState → Type 0
+TakesStep s process pick shown process' s' =
     (effect : Effect) × (source_step pick.process process pick.arm ≡ Some (process', effect))
-    × IsGranted (bank_of s) s.loans pick.process effect × (event_of pick effect ≡ shown)
+    × IsGranted (bank_view s) s.loans pick.process effect × (event_of pick effect ≡ shown)
     × (s' ≡ record s { loans = loans_after s.loans pick.process effect })
 
 -- what the answer says of a process and its state after the pick is what the source does
 abbrev pub IsProcessStep : BankerState → SourceProcess → Pick → Step → SourceProcess → BankerState → Type 0
-IsProcessStep s process pick step.Silent process' s' = Takes s process pick None process' s'
-IsProcessStep s process pick (step.Did shown) process' s' = Takes s process pick (Some shown) process' s'
+IsProcessStep s process pick step.Silent process' s' = TakesStep s process pick None process' s'
+IsProcessStep s process pick (step.Did shown) process' s' = TakesStep s process pick (Some shown) process' s'
 IsProcessStep s process pick step.NotEnabled process' s' =
     ((next : SourceProcess) (effect : Effect)
     → source_step pick.process process pick.arm ≡ Some (next, effect)
-    → IsGranted (bank_of s) s.loans pick.process effect → ⊥)
+    → IsGranted (bank_view s) s.loans pick.process effect → ⊥)
     × (process' ≡ process) × (s' ≡ s)
 
 -- what is left to do after a step of an arm: what is given back, or a fault

@@ -15,8 +15,8 @@ use Rattle.pb_rewrite.specs.declared.process.SourceProcess.{SourceProcess}
 -- a loop that is a statement has its whole test left
 abbrev pub item_view : {A : Type 0} → Item A → plain.Item
 item_view (item.Left stmt) = item_of (stmt_view stmt)
-item_view (item.Loop line test left body) =
-    plain.Loop line (expr_view test) (expr_view left) (block_view body.items)
+item_view (item.While line test left body) =
+    plain.While line (expr_view test) (expr_view left) (block_view body.items)
 item_view (item.GiveBack line bundle) = plain.GiveBack line bundle
 
 -- a list that is kept last first
@@ -45,5 +45,5 @@ abbrev pub process_view : {A : Type 0} → SourceProcess A → plain.SourceProce
 process_view p = record { vars = p.vars.items; run = option_map arm_view p.run }
 
 -- the capital and the claims that the banker knows
-abbrev pub bank_of : BankerState → Bank
-bank_of s = record { capital = s.capital; claims = s.claims }
+abbrev pub bank_view : BankerState → Bank
+bank_view s = record { capital = s.capital; claims = s.claims }

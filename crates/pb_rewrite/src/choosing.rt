@@ -1,9 +1,9 @@
 //! One step of an arm at a test of two lists.
 
 ghost use Rattle.std.specs.Prelude.{◌≡◌, ◌<◌, ◌∷◌, ◌++◌, cond, IfOk, IfErr, vec_len, vec_capacity};
-ghost use Rattle.pb_names.specs.Source.{Choice as choice, Doing as doing, items_of};
+ghost use Rattle.pb_names.specs.Source.{If as if_item, Doing as doing, items_of};
 ghost use Rattle.pb_names.specs.View.{block_view, expr_view};
-ghost use Rattle.pb_rewrite.specs.Steps.{Leaves, StepsItems};
+ghost use Rattle.pb_rewrite.specs.Steps.{LeavesArm, StepsItems};
 ghost use Rattle.pb_rewrite.specs.View.{arm_view, items_view};
 
 use crate::arm::Arm;
@@ -25,10 +25,10 @@ pub(crate) fn choose<A: Allocator>(
 ) -> Result<Stepped<A>, Arm<A>>
     requires { vec_len items < vec_capacity items }
     ensures ok { IfOk result (λ s. StepsItems vars.now
-        (choice line (expr_view test) (block_view on_true.items) (block_view on_false.items)
+        (if_item line (expr_view test) (block_view on_true.items) (block_view on_false.items)
         ∷ items_view items.items) s vars.now) }
     ensures err { IfErr result (λ arm. arm_view arm ≡ doing
-        (choice line (expr_view test) (block_view on_true.items) (block_view on_false.items)
+        (if_item line (expr_view test) (block_view on_true.items) (block_view on_false.items)
         ∷ items_view items.items)) }
 {
     let mut test = test;
@@ -63,11 +63,11 @@ fn enter_list<A: Allocator>(
     on_false: Vec<Stmt<A>, A>,
 ) -> Result<Stepped<A>, Arm<A>>
     requires { vec_len items < vec_capacity items }
-    ensures ok { IfOk result (λ s. Leaves s (doing
+    ensures ok { IfOk result (λ s. LeavesArm s (doing
         (items_of (cond fails (block_view on_false.items) (block_view on_true.items))
         ++ items_view items.items))) }
     ensures err { IfErr result (λ arm. arm_view arm ≡ doing
-        (choice line (expr_view test) (block_view on_true.items) (block_view on_false.items)
+        (if_item line (expr_view test) (block_view on_true.items) (block_view on_false.items)
         ∷ items_view items.items)) }
 {
     let mut items = items;

@@ -20,8 +20,8 @@ pub(crate) enum Progress {
     Fails(FaultKind),
 }
 
-/// Rewrites the next place of an expression: in the left operand if that is not a number, else in the right one,
-/// else the operator itself.
+/// Rewrites the next place of an expression: in the left operand if that is not a number, else in the right
+/// one, else the operator itself.
 #[tactic(auto, using(pb_names::proofs::Views::expr_views, crate::proofs::Expressions::expr_steps))]
 pub(crate) fn rewrite<A: Allocator>(expr: &mut Expr<A>, vars: &[i64]) -> Progress
     ensures { IsExprStep vars.now (expr_view expr.old) result (expr_view expr.new) }

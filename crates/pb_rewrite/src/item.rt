@@ -16,7 +16,7 @@ pub enum Item<A: Allocator> {
     /// A statement, with what is left of its expression. A loop is here before its test has begun.
     Left(Stmt<A>),
     /// A loop whose test has begun: its whole test, what is left of it, and its body.
-    Loop {
+    While {
         line: u32,
         test: Expr<A>,
         left: Expr<A>,
@@ -35,7 +35,7 @@ pub(crate) fn line_of<A: Allocator>(item: &Item<A>) -> u32
 {
     match item {
         Item::Left(stmt) => line_of_stmt(stmt),
-        Item::Loop { line, .. } => *line,
+        Item::While { line, .. } => *line,
         Item::GiveBack { line, .. } => *line,
     }
 }

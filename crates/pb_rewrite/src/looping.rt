@@ -1,9 +1,9 @@
 //! One step of an arm at a loop.
 
 ghost use Rattle.std.specs.Prelude.{◌≡◌, ◌+◌, ◌<◌, ◌≤◌, ◌∷◌, ◌++◌, cond, IfOk, IfErr, vec_len, vec_capacity};
-ghost use Rattle.pb_names.specs.Source.{Doing as doing, Loop as repeated, items_of};
+ghost use Rattle.pb_names.specs.Source.{Doing as doing, While as while_item, items_of};
 ghost use Rattle.pb_names.specs.View.{block_view, expr_view};
-ghost use Rattle.pb_rewrite.specs.Steps.{Leaves, StepsItems};
+ghost use Rattle.pb_rewrite.specs.Steps.{LeavesArm, StepsItems};
 ghost use Rattle.pb_rewrite.specs.View.{arm_view, items_view};
 
 use crate::arm::Arm;
@@ -27,16 +27,16 @@ pub(crate) fn step_loop<A: Allocator + Clone>(
 ) -> Result<Stepped<A>, Arm<A>>
     requires { vec_len items < vec_capacity items }
     ensures ok { IfOk result (λ s. StepsItems vars.now
-        (repeated line (expr_view test) (expr_view left) (block_view body.items) ∷ items_view items.items)
+        (while_item line (expr_view test) (expr_view left) (block_view body.items) ∷ items_view items.items)
         s vars.now) }
     ensures err { IfErr result (λ arm. arm_view arm ≡ doing
-        (repeated line (expr_view test) (expr_view left) (block_view body.items) ∷ items_view items.items)) }
+        (while_item line (expr_view test) (expr_view left) (block_view body.items) ∷ items_view items.items)) }
 {
     let mut left = left;
     match rewrite(&mut left, vars) {
         Progress::Is(value) => decide(items, line, test, left, is_false(value), body, alloc),
         Progress::Becomes => {
-            let item = Item::Loop {
+            let item = Item::While {
                 line,
                 test,
                 left,
@@ -65,11 +65,11 @@ fn decide<A: Allocator + Clone>(
     alloc: &A,
 ) -> Result<Stepped<A>, Arm<A>>
     requires { vec_len items < vec_capacity items }
-    ensures ok { IfOk result (λ s. Leaves s (doing (cond fails (items_view items.items)
+    ensures ok { IfOk result (λ s. LeavesArm s (doing (cond fails (items_view items.items)
         (items_of (block_view body.items)
-        ++ repeated line (expr_view test) (expr_view test) (block_view body.items) ∷ items_view items.items)))) }
+        ++ while_item line (expr_view test) (expr_view test) (block_view body.items) ∷ items_view items.items)))) }
     ensures err { IfErr result (λ arm. arm_view arm ≡ doing
-        (repeated line (expr_view test) (expr_view left) (block_view body.items) ∷ items_view items.items)) }
+        (while_item line (expr_view test) (expr_view left) (block_view body.items) ∷ items_view items.items)) }
 {
     if fails {
         return Ok(Stepped {
@@ -94,10 +94,10 @@ fn repeat<A: Allocator>(
 ) -> Result<Stepped<A>, Arm<A>>
     requires room { vec_len items < vec_capacity items }
     requires same { block_view copy.items ≡ block_view body.items }
-    ensures ok { IfOk result (λ s. Leaves s (doing (items_of (block_view body.items)
-        ++ repeated line (expr_view test) (expr_view test) (block_view body.items) ∷ items_view items.items))) }
+    ensures ok { IfOk result (λ s. LeavesArm s (doing (items_of (block_view body.items)
+        ++ while_item line (expr_view test) (expr_view test) (block_view body.items) ∷ items_view items.items))) }
     ensures err { IfErr result (λ arm. arm_view arm ≡ doing
-        (repeated line (expr_view test) (expr_view left) (block_view body.items) ∷ items_view items.items)) }
+        (while_item line (expr_view test) (expr_view left) (block_view body.items) ∷ items_view items.items)) }
 {
     let mut items = items;
     match items.reserve(copy.len() + 1) {
@@ -122,9 +122,9 @@ fn unrepeated<A: Allocator>(
 ) -> Arm<A>
     requires { vec_len items < vec_capacity items }
     ensures { arm_view result ≡ doing
-        (repeated line (expr_view test) (expr_view left) (block_view body.items) ∷ items_view items.items) }
+        (while_item line (expr_view test) (expr_view left) (block_view body.items) ∷ items_view items.items) }
 {
-    let item = Item::Loop {
+    let item = Item::While {
         line,
         test,
         left,

@@ -13,6 +13,7 @@ ghost use Rattle.pb_rewrite.specs.View.{process_view};
 use crate::copies::copy_list;
 use crate::process::SourceProcess;
 use pb_banker::Banker;
+use pb_base::limits::{MAX_AMOUNT, MAX_RESOURCES};
 use pb_base::{Capital, Claims, NoMemory, Pick, Step};
 use pb_names::{Process, Resolved, Resource};
 use std::alloc::{Allocator, Global};
@@ -77,7 +78,7 @@ impl<A: Allocator> Source<A> {
 }
 
 impl<A: Allocator + Clone> Source<A> {
-    ghost use Rattle.pb_rewrite.specs.Sources.{source_view, source_bank, IsSource, Fits};
+    ghost use Rattle.pb_rewrite.specs.Sources.{source_view, source_bank, IsSource, FitsClaims};
 
     /// Returns the program before its first step, its statements copied into `trees`. The error comes only
     /// if memory is refused.
@@ -87,7 +88,7 @@ impl<A: Allocator + Clone> Source<A> {
         program: &Resolved<A>,
         claims: &Claims,
     ) -> Result<Source<A>, NoMemory>
-        requires { Fits (resolved_view program.now) claims.now }
+        requires { FitsClaims (resolved_view program.now) claims.now }
         ensures opening { IfOk result (λ s. source_view s
             ≡ opening (record { capital = capital_of (resolved_view program.now); claims = claims.now })
             (map source_process (resolved_view program.now).processes)) }
@@ -125,8 +126,8 @@ fn capital_for<A: Allocator>(
     alloc: Global,
     resources: &Vec<Resource<A>, A>,
 ) -> Result<Capital, NoMemory>
-    requires few { length resources.now.items ≤ 16 }
-    requires small { All (λ n. n ≤ 1000000) (map (λ r. r.capital) (map resource_view resources.now.items)) }
+    requires few { length resources.now.items ≤ MAX_RESOURCES }
+    requires small { All (λ n. n ≤ MAX_AMOUNT) (map (λ r. r.capital) (map resource_view resources.now.items)) }
     ensures { IfOk result (λ capital. capital ≡ map (λ r. r.capital) (map resource_view resources.now.items)) }
 {
     let mut amounts = Vec::new(alloc);

@@ -2,11 +2,11 @@
 
 ghost use Rattle.std.specs.Prelude.{◌≡◌, ◌+◌, ◌<◌, ◌≤◌, ℤ, List, [], ◌∷◌, Some, IfOk, IfErr, set, vec_len, vec_capacity};
 ghost use Rattle.pb_base.specs.Banker.{processes, resources};
-ghost use Rattle.pb_names.specs.Source.{Assign as assigning, Print as printing, Hold as holding};
-ghost use Rattle.pb_names.specs.Source.{Parallel as forking, Doing as doing, Waiting as waiting};
+ghost use Rattle.pb_names.specs.Source.{Assign as assign_item, Print as print_item, Hold as hold_item};
+ghost use Rattle.pb_names.specs.Source.{Parbegin as parbegin_item, Doing as doing, Waiting as waiting};
 ghost use Rattle.pb_names.specs.Source.{begin, item_of, items_of};
 ghost use Rattle.pb_names.specs.View.{arms_view, block_view, expr_view, stmt_view};
-ghost use Rattle.pb_rewrite.specs.Steps.{AreBelow, AsksBelow, IsArmStep, IsUnchanged, Leaves, StepsItems};
+ghost use Rattle.pb_rewrite.specs.Steps.{AreBelow, AsksBelow, IsArmStep, IsUnchanged, LeavesArm, StepsItems};
 ghost use Rattle.pb_rewrite.specs.View.{arm_view, item_view, items_view};
 
 use crate::arm::{Arm, all_ended};
@@ -169,7 +169,7 @@ fn step_item<A: Allocator + Clone>(
 {
     match first {
         Item::Left(stmt) => step_stmt(items, stmt, vars, banker, p, alloc),
-        Item::Loop {
+        Item::While {
             line,
             test,
             left,
@@ -233,7 +233,7 @@ fn assign<A: Allocator>(
     vars: &mut [i64],
 ) -> Stepped<A>
     requires { vec_len items < vec_capacity items }
-    ensures { StepsItems vars.old (assigning line target (expr_view value) ∷ items_view items.items) result
+    ensures { StepsItems vars.old (assign_item line target (expr_view value) ∷ items_view items.items) result
         vars.new }
 {
     let mut value = value;
@@ -282,7 +282,7 @@ fn print<A: Allocator>(
     vars: &[i64],
 ) -> Stepped<A>
     requires { vec_len items < vec_capacity items }
-    ensures { StepsItems vars.now (printing line (expr_view value) ∷ items_view items.items) result vars.now }
+    ensures { StepsItems vars.now (print_item line (expr_view value) ∷ items_view items.items) result vars.now }
 {
     let mut value = value;
     match rewrite(&mut value, vars) {
@@ -317,10 +317,10 @@ fn enter<A: Allocator>(
     requires process { p < processes banker.old.state }
     requires below { AreBelow (resources banker.old.state) bundle }
     ensures ok { IfOk result (λ s. (vars : List ℤ) → IsArmStep banker.old.state p vars
-        (doing (holding line bundle (block_view body.items) ∷ items_view items.items)) s.outcome vars
+        (doing (hold_item line bundle (block_view body.items) ∷ items_view items.items)) s.outcome vars
         (arm_view s.arm) banker.new.state) }
     ensures err { IfErr result (λ arm'. (vars : List ℤ) → IsUnchanged banker.old.state vars
-        (doing (holding line bundle (block_view body.items) ∷ items_view items.items)) vars
+        (doing (hold_item line bundle (block_view body.items) ∷ items_view items.items)) vars
         (arm_view arm') banker.new.state) }
 {
     let mut items = items;
@@ -343,7 +343,7 @@ fn ask_for<A: Allocator>(
     requires process { p < processes banker.old.state }
     requires below { AreBelow (resources banker.old.state) bundle }
     ensures { (vars : List ℤ) → IsArmStep banker.old.state p vars
-        (doing (holding line bundle (block_view body.items) ∷ items_view items.items)) result.outcome vars
+        (doing (hold_item line bundle (block_view body.items) ∷ items_view items.items)) result.outcome vars
         (arm_view result.arm) banker.new.state }
 {
     match banker.ask(p, &bundle) {
@@ -373,7 +373,7 @@ fn unentered<A: Allocator>(
     body: Vec<Stmt<A>, A>,
 ) -> Arm<A>
     requires { vec_len items < vec_capacity items }
-    ensures { arm_view result ≡ doing (holding line bundle (block_view body.items) ∷ items_view items.items) }
+    ensures { arm_view result ≡ doing (hold_item line bundle (block_view body.items) ∷ items_view items.items) }
 {
     let stmt = Stmt::Hold { line, bundle, body };
     Arm::Doing(with_first(items, Item::Left(stmt)))
@@ -388,10 +388,10 @@ fn fork<A: Allocator + Clone>(
     alloc: &A,
 ) -> Result<Stepped<A>, Arm<A>>
     requires { vec_len items < vec_capacity items }
-    ensures ok { IfOk result (λ s. Leaves s
+    ensures ok { IfOk result (λ s. LeavesArm s
         (waiting line first (begin (arms_view bodies.items)) (items_view items.items))) }
     ensures err { IfErr result (λ arm. arm_view arm ≡ doing
-        (forking line first (arms_view bodies.items) ∷ items_view items.items)) }
+        (parbegin_item line first (arms_view bodies.items) ∷ items_view items.items)) }
 {
     match arms_for(bodies.len(), alloc) {
         Ok(arms) => Ok(Stepped {

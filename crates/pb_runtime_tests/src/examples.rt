@@ -53,7 +53,8 @@ end
     (b"process p begin print 1 end
 ", 2),
     (b"// Two arms add one to the same integer. To read it and to assign to it are two steps, so if both arms read it before
-// either assigns, one of the two additions is lost. `run` goes arm by arm and loses none; the run of lost.run loses one.
+// either assigns, one of the two additions is lost. `run` goes arm by arm and loses none; the run of lost.run
+// loses one.
 process p
 begin
   integer x;

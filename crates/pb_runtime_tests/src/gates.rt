@@ -5,7 +5,8 @@ use pb_shared::Outcome;
 use pb_workers::{Gate, run_workers};
 use std::sync::atomic::{AtomicBool, Ordering};
 
-/// A gate that holds the first call, whichever worker makes it, until the other worker has made its call for turn 1.
+/// A gate that holds the first call, whichever worker makes it, until the other worker has made its call for
+/// turn 1.
 #[derive(Drop)]
 struct Meeting {
     taken: AtomicBool,

@@ -4,6 +4,7 @@ ghost use Rattle.std.specs.Prelude.{◌≤◌, length};
 ghost use Rattle.pb_history.specs.Replays.{spread};
 
 use crate::codes::{DEVICES, INCREMENTS, PRINT, verified};
+use pb_base::limits::MAX_PICKS;
 use pb_base::{Bundle, Event, NoMemory, Pick};
 use pb_history::replay::{repeat, replay, replay_counted};
 use pb_history::{CountedPick, ReplayFault, Span, Trace};
@@ -11,12 +12,9 @@ use pb_machine::Machine;
 use pb_verifier::Verified;
 use std::alloc::Global;
 
-/// The most picks of a trace.
-const MOST: u32 = 10_000_000;
-
 /// Adds a pick, if the trace is not full.
 fn add(trace: &mut Trace, pick: Pick, event: Option<Event>) -> Result<(), NoMemory> {
-    if trace.len() < MOST {
+    if trace.len() < MAX_PICKS {
         trace.push(pick, event)?;
     }
     Ok(())
@@ -25,7 +23,7 @@ fn add(trace: &mut Trace, pick: Pick, event: Option<Event>) -> Result<(), NoMemo
 /// Adds silent picks, if the trace has room for them.
 fn add_many(trace: &mut Trace, pick: Pick, count: u32) -> Result<(), NoMemory> {
     let len = trace.len();
-    if len <= MOST && count <= MOST - len {
+    if len <= MAX_PICKS && count <= MAX_PICKS - len {
         trace.push_many(pick, count)?;
     }
     Ok(())
@@ -35,7 +33,7 @@ fn add_many(trace: &mut Trace, pick: Pick, count: u32) -> Result<(), NoMemory> {
 fn add_run(trace: &mut Trace, pick: Pick, silent: u32, value: i64) -> Result<(), NoMemory> {
     let len = trace.len();
     trace.reserve(1)?;
-    if len < MOST && silent < MOST - len {
+    if len < MAX_PICKS && silent < MAX_PICKS - len {
         trace.push_run(pick, silent, Some(Event::Printed { pick, value }));
     }
     Ok(())

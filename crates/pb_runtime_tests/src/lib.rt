@@ -1,5 +1,5 @@
-//! Tests of processes, traces, pick lines, books, stretches and workers, by their public calls, in a crate of their own, since
-//! they start threads.
+//! Tests of processes, traces, pick lines, books, stretches and workers, by their public calls, in a crate of
+//! their own, since they start threads.
 #![tactic(auto)]
 
 #[cfg(test)]

@@ -5,13 +5,11 @@ ghost use Rattle.std.specs.Prelude.{All};
 ghost use Rattle.pb_base.specs.Lines.{HasProcess, names_view};
 
 use crate::codes::{DEVICES, verified};
+use pb_base::limits::MAX_PICKS;
 use pb_base::{Names, Pick};
 use pb_history::CountedPick;
 use pb_picks::{PickFault, count_pick, read_picks, write_picks};
 use std::alloc::Global;
-
-/// The most picks that lines may say in all.
-const MOST: u32 = 10_000_000;
 
 /// Returns what lines say of the code over two devices.
 fn read(alloc: Global, lines: &[u8]) -> Option<Result<Vec<CountedPick>, PickFault>> {
@@ -74,7 +72,7 @@ fn the_first_faulty_line_decides(rt: HostRuntime) {
 /// Returns the picks of a table counted one after another, or nothing if they can't be counted.
 fn counted(alloc: Global, table: &[CountedPick]) -> Option<Vec<CountedPick>> {
     let mut picks = Vec::new(alloc);
-    let mut left = MOST;
+    let mut left = MAX_PICKS;
     for i in 0..table.len() {
         let CountedPick { pick, count } = table[i];
         if count == 0 || count > left {

@@ -1,5 +1,5 @@
-pub mod Keeping
-pub mod Looking
-pub mod Marking
-pub mod Running
-pub mod Sparing
+pub mod ArmLooks
+pub mod LegalCalls
+pub mod SilentRuns
+pub mod SpareStretches
+pub mod TakenMarks

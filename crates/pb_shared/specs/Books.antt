@@ -17,8 +17,8 @@ ledger_of b = record {
   refused = b.refused.items;
 }
 
--- the book refers to this code and is legal, the machine has the banker of the code and room for all operands, and
--- the spares are of their processes
+-- the book refers to this code and is legal, the machine has the banker of the code and room for all
+-- operands, and the spares are of their processes
 pub record IsSound {C : Type 0} (code : VerifiedCode) (b : Inside C) : Type 0 where
   pub refers : b.code.now ≡ code
   pub legal : IsLegal code (ledger_of b)

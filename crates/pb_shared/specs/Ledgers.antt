@@ -1,6 +1,7 @@
 -- The book of a machine: what it says, when that is right, and what its calls do to it.
 use Rattle.std.specs.Prelude.{◌≡◌, ◌≢◌, ◌⊎◌, ℕ, ◌+◌, ◌-◌, ◌*◌, ◌<◌, ◌≤◌, List, [], ◌∷◌, ◌++◌, length, map, replicate, Option, Some, None, Bool, true, false, cond, is_none, slice_get, slice_index_or, slice_set}
 use Rattle.std.specs.List.{sum_by, list_all}
+use Rattle.pb_base.specs.declared.limits.TheConstants.{MAX_ARMS, MAX_PICKS}
 use Rattle.pb_base.specs.declared.event.Event.{Event}
 use Rattle.pb_base.specs.declared.pick.Pick.{Pick}
 use Rattle.pb_base.specs.Steppers.{State, IsFinished}
@@ -8,10 +9,10 @@ use Rattle.pb_code.specs.Code.{CodeProcess, code_over}
 use Rattle.pb_code.specs.Reached.{CodeMoves}
 use Rattle.pb_code.specs.Whole.{Code, code_opening}
 use Rattle.pb_history.specs.Entries.{Entry, silent_picks}
-use Rattle.pb_history.specs.Leads.{Leads, with_process}
+use Rattle.pb_history.specs.Leads.{Leads}
 use Rattle.pb_machine.specs.Looks.{look_at}
 use Rattle.pb_machine.specs.declared.look.Look.TheVariants.{Visible, Stays}
-use Rattle.pb_verifier.specs.Requests.{IsRefused, frees}
+use Rattle.pb_verifier.specs.Requests.{IsDenied, frees}
 use Rattle.pb_verifier.specs.Verified.{VerifiedCode, IsVerified}
 use Rattle.pb_shared.specs.Lending.{Lent}
 use Rattle.pb_shared.specs.declared.answer.Answer.{Answer}
@@ -19,6 +20,7 @@ use Rattle.pb_shared.specs.declared.answer.Answer.TheVariants as answer
 use Rattle.pb_shared.specs.declared.outcome.Outcome.{Outcome}
 use Rattle.pb_shared.specs.declared.outcome.Outcome.TheVariants.{Done, Limit}
 use Rattle.pb_shared.specs.declared.slip.Slip.{Slip}
+use Rattle.pb_machine.specs.Steps.{with_process}
 
 -- what contracts see of a book: the state of the machine; the picks that were made; the limit, and how many
 -- picks are left; a slip for each process that is out; and which arms are marked refused, 64 for each process
@@ -32,7 +34,7 @@ pub record Ledger : Type 0 where
 
 -- the place of an arm among the marks, and whether it is marked
 abbrev pub mark_place : Pick → ℕ
-mark_place pick = 64 * pick.process + pick.arm
+mark_place pick = MAX_ARMS * pick.process + pick.arm
 
 abbrev pub is_marked : List Bool → Pick → Bool
 is_marked marks pick = slice_index_or marks (mark_place pick) false
@@ -48,9 +50,9 @@ allowance_of None = 0
 pub record IsLegal (code : VerifiedCode) (s : Ledger) : Type 0 where
   pub leads : Leads code.code (code_opening code.code) s.entries s.machine
   pub counted : length s.entries + sum_by allowance_of s.slips + s.left ≡ s.limit
-  pub limited : s.limit ≤ 10000000
+  pub limited : s.limit ≤ MAX_PICKS
   pub slots : length s.slips ≡ length s.machine.processes
-  pub marks : (pick : Pick) → pick.arm < 64 → is_marked s.refused pick ≡ true → IsRefused code.code s.machine pick
+  pub marks : (pick : Pick) → pick.arm < MAX_ARMS → is_marked s.refused pick ≡ true → IsDenied code.code s.machine pick
   pub verified : IsVerified code
 
 -- nothing was picked yet
@@ -61,7 +63,7 @@ new_ledger code limit = record {
   limit = limit;
   left = limit;
   slips = replicate (length code.code.processes) None;
-  refused = replicate (64 * length code.code.processes) false;
+  refused = replicate (MAX_ARMS * length code.code.processes) false;
 }
 
 -- every process is at home
@@ -110,7 +112,7 @@ Tries code s pick answer.Did after =
     (next : State CodeProcess) × (event : Event) × CodeMoves code s.machine pick (Some event) next
     × (after ≡ after_pick s next pick event)
 Tries code s pick answer.Refused after =
-    IsRefused code s.machine pick × (after ≡ record s { refused = slice_set s.refused (mark_place pick) true })
+    IsDenied code s.machine pick × (after ≡ record s { refused = slice_set s.refused (mark_place pick) true })
 Tries code s pick answer.Silent after = (look_at code s.machine pick ≢ Visible) × (after ≡ s)
 
 -- a commit: the silent picks are in the trace, and if some of the allowance is left the visible pick is
@@ -122,8 +124,8 @@ Commits code s lent a after =
 
 -- ---- an arm is lent
 
--- an arm that may be lent: its process is at home, it is not marked refused, and it can step, the banker left aside:
--- it is live, and does not wait for arms that have not all ended
+-- an arm that may be lent: its process is at home, it is not marked refused, and it can step, the banker left
+-- aside: it is live, and does not wait for arms that have not all ended
 pub record IsReady (code : Code) (s : Ledger) (pick : Pick) : Type 0 where
   pub at_home : slice_get s.slips pick.process ≡ Some None
   pub steps : look_at code s.machine pick ≢ Stays

@@ -5,8 +5,8 @@ use Rattle.pb_code.specs.Code.{CodeProcess}
 use Rattle.pb_code.specs.Whole.{Code}
 use Rattle.pb_machine.specs.Steps.{MakesSilently}
 
--- what contracts see of a stretch: its arm; how many picks it may make, and how many it made; the process as it was
--- lent, and as it is now
+-- what contracts see of a stretch: its arm; how many picks it may make, and how many it made; the process as
+-- it was lent, and as it is now
 pub record Lent : Type 0 where
   pub pick : Pick
   pub allowance : ℕ

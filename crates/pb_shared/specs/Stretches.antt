@@ -9,8 +9,8 @@ use Rattle.pb_shared.specs.declared.stretch.Stretch.TheInside.{Inside}
 abbrev pub lent_of : {C : Type 0} → Inside C → Lent
 lent_of s = lent_as s.spare.value
 
--- the stretch refers to this code, its picks are silent, and the process, as it was lent and as it is now, is in a
--- state that the code may have, with room for all operands
+-- the stretch refers to this code, its picks are silent, and the process, as it was lent and as it is now, is
+-- in a state that the code may have, with room for all operands
 pub record IsSound {C : Type 0} (code : VerifiedCode) (s : Inside C) : Type 0 where
   pub refers : s.code.now ≡ code
   pub run : IsSilentRun code.code (lent_of s)

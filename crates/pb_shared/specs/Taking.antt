@@ -36,8 +36,8 @@ pub record IsFresh (code : Code) (s : Ledger) (quantum : ℕ) (lent : Lent) : Ty
 abbrev pub NoneReady : Code → Ledger → Type 0
 NoneReady code s = (pick : Pick) → IsReady code s pick → ⊥
 
--- what a take returns, and the book afterwards: a ready arm is lent; or none can be lent, and then some process is
--- out; or there is an outcome
+-- what a take returns, and the book afterwards: a ready arm is lent; or none can be lent, and then some
+-- process is out; or there is an outcome
 abbrev pub Takes : {C : Type 0} → VerifiedCode → Ledger → ℕ → Taken C → Ledger → Type 0
 Takes code s quantum (Work lent) after = HasOutcome s None × IsFresh code.code s quantum lent × (after ≡ lent_out s lent)
 Takes code s quantum Idle after =

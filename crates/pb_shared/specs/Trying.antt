@@ -9,7 +9,7 @@ use Rattle.pb_code.specs.Whole.{Code}
 use Rattle.pb_history.specs.Entries.{Entry}
 use Rattle.pb_machine.specs.Looks.{look_at}
 use Rattle.pb_machine.specs.declared.look.Look.TheVariants.{Visible}
-use Rattle.pb_verifier.specs.Requests.{IsRefused, frees}
+use Rattle.pb_verifier.specs.Requests.{IsDenied, frees}
 use Rattle.pb_shared.specs.Ledgers.{mark_place}
 use Rattle.pb_shared.specs.declared.answer.Answer.{Answer}
 use Rattle.pb_shared.specs.declared.answer.Answer.TheVariants.{Did, Refused, Silent}
@@ -21,6 +21,6 @@ TriesOn code s entries left refused pick Did s' entries' left' refused' =
     × (entries' ≡ entries ++ record { pick = pick; event = Some event } ∷ []) × (left' ≡ left - 1)
     × (refused' ≡ cond (frees (Some event)) (map (λ _. false) refused) refused)
 TriesOn code s entries left refused pick Refused s' entries' left' refused' =
-    IsRefused code s pick × (s' ≡ s) × (entries' ≡ entries) × (left' ≡ left) × (refused' ≡ slice_set refused (mark_place pick) true)
+    IsDenied code s pick × (s' ≡ s) × (entries' ≡ entries) × (left' ≡ left) × (refused' ≡ slice_set refused (mark_place pick) true)
 TriesOn code s entries left refused pick Silent s' entries' left' refused' =
     (look_at code s pick ≢ Visible) × (s' ≡ s) × (entries' ≡ entries) × (left' ≡ left) × (refused' ≡ refused)

@@ -6,19 +6,19 @@ ghost use Rattle.pb_shared.specs.Ledgers.{IsLegal, HasOutcome, new_ledger, all_h
 ghost use Rattle.pb_shared.specs.declared.outcome.Outcome.TheVariants.{Limit};
 
 use crate::brand::CodeBrand;
-use crate::marks::MARKS;
 use crate::outcome::Outcome;
 use crate::slip::Slip;
 use crate::spare::Spare;
 use pb_base::NoMemory;
+use pb_base::limits::{MAX_ARMS, MAX_PICKS, MAX_PROCESSES};
 use pb_history::Trace;
 use pb_machine::Machine;
 use pb_verifier::Verified;
 use std::alloc::Global;
 use std::marker::{Model, PhantomData};
 
-/// The book of one machine. It refers to its code, which is that of its brand. What each stretch changes is side by
-/// side, so that little memory goes from one processor to another.
+/// The book of one machine. It refers to its code, which is that of its brand. What each stretch changes is
+/// side by side, so that little memory goes from one processor to another.
 #[derive(Drop)]
 pub struct Book<'v, C: CodeBrand> {
     pub(crate) code: &'v Verified,
@@ -47,10 +47,11 @@ impl<'v, C: CodeBrand> Model for Book<'v, C> {
 }
 
 impl<'v, C: CodeBrand> Book<'v, C> {
-    /// Opens a book at the start of the brand's code, for at most `limit` picks. A limit is at most 10,000,000.
+    /// Opens a book at the start of the brand's code, for at most `limit` picks. A limit is at most
+    /// 10,000,000.
     pub fn new(alloc: Global, code: &'v Verified, limit: u32) -> Result<Book<'v, C>, NoMemory>
         requires brand { code.now ≡ C.code }
-        requires limit { limit ≤ 10000000 }
+        requires limit { limit ≤ MAX_PICKS }
         ensures { IfOk result (λ b. b ≡ new_ledger C.code limit) }
     {
         let _ = code.code();
@@ -75,8 +76,8 @@ impl<'v, C: CodeBrand> Book<'v, C> {
         })
     }
 
-    /// Returns the outcome, if there is one: done if all processes have ended or faulted, else the limit if no pick is
-    /// left and no process is out.
+    /// Returns the outcome, if there is one: done if all processes have ended or faulted, else the limit if
+    /// no pick is left and no process is out.
     pub fn outcome(&self) -> Option<Outcome>
         ensures outcome { HasOutcome self.now result }
         ensures limit { result ≡ Some Limit → length self.now.entries ≡ self.now.limit }
@@ -157,10 +158,10 @@ fn no_spares(alloc: Global, count: usize) -> Result<Vec<Option<Box<Spare>>>, NoM
 
 /// Returns the marks of `count` processes, none of which is set.
 fn no_marks(alloc: Global, count: usize) -> Result<Vec<bool>, NoMemory>
-    requires { count ≤ 64 }
-    ensures { IfOk result (λ v. v.items ≡ replicate (64 * count) false) }
+    requires { count ≤ MAX_PROCESSES }
+    ensures { IfOk result (λ v. v.items ≡ replicate (MAX_ARMS * count) false) }
 {
     let mut marks = Vec::new(alloc);
-    marks.resize(MARKS * count, false)?;
+    marks.resize(MAX_ARMS * count, false)?;
     Ok(marks)
 }

@@ -18,9 +18,9 @@ use pb_base::NoMemory;
 use std::alloc::Global;
 
 impl<'v, C: CodeBrand> Book<'v, C> {
-    /// Takes a stretch home. Its silent picks are appended, and then, if some of its allowance is left and the arm
-    /// is at a visible pick, that pick is tried. A stretch that this book did not lend is handed back, and so is
-    /// one for which there was no memory; then the book is as it was.
+    /// Takes a stretch home. Its silent picks are appended, and then, if some of its allowance is left and
+    /// the arm is at a visible pick, that pick is tried. A stretch that this book did not lend is handed
+    /// back, and so is one for which there was no memory; then the book is as it was.
     #[inline(always)]
     pub fn commit(
         &mut self,
@@ -63,8 +63,8 @@ impl<'v, C: CodeBrand> Book<'v, C> {
         ))
     }
 
-    /// Takes a stretch home as `commit` does, and then lends the next as `take` does. A stretch that is handed back leaves
-    /// the book as it was; out of memory in the take leaves it as the commit did.
+    /// Takes a stretch home as `commit` does, and then lends the next as `take` does. A stretch that is
+    /// handed back leaves the book as it was; out of memory in the take leaves it as the commit did.
     #[inline(always)]
     pub fn commit_and_take(
         &mut self,

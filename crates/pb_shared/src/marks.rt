@@ -4,15 +4,13 @@ ghost use Rattle.std.specs.Prelude.{◌≡◌, slice_set, map, true, false};
 ghost use Rattle.pb_shared.specs.Ledgers.{is_marked, mark_place};
 
 use pb_base::Pick;
-
-/// How many marks each process has: one for each arm that it may have.
-pub const MARKS: usize = 64;
+use pb_base::limits::MAX_ARMS;
 
 /// Returns the place of an arm in the list of marks.
 fn mark_place(pick: Pick) -> usize
     ensures { result ≡ mark_place pick }
 {
-    MARKS * usize::from(pick.process) + usize::from(pick.arm)
+    MAX_ARMS * usize::from(pick.process) + usize::from(pick.arm)
 }
 
 /// Returns whether an arm is marked.

@@ -11,10 +11,8 @@ use crate::book::Book;
 use crate::brand::CodeBrand;
 use crate::marks::is_marked;
 use pb_base::Pick;
+use pb_base::limits::{MAX_ARMS, MAX_PROCESSES};
 use pb_machine::Look;
-
-/// The most processes there are, and the most arms of one.
-const MOST: usize = 64;
 
 impl<'v, C: CodeBrand> Book<'v, C> {
     /// Returns the first ready arm, from the process whose turn it is.
@@ -45,8 +43,8 @@ impl<'v, C: CodeBrand> Book<'v, C> {
         None
     }
 
-    /// Returns the first ready arm of a process, from the one whose turn it is. Of a process that is out only the slip is
-    /// looked at: another processor may write the rest.
+    /// Returns the first ready arm of a process, from the one whose turn it is. Of a process that is out only
+    /// the slip is looked at: another processor may write the rest.
     #[inline(always)]
     fn ready_arm(&self, process: u8) -> Option<u8>
         ensures { MatchOption result
@@ -121,7 +119,7 @@ impl<'v, C: CodeBrand> Book<'v, C> {
     pub(crate) fn processes(&self) -> u8
         ensures { (pick : Pick) → IsReady C.code.code self.now pick → pick.process < result }
     {
-        self.slips.len().min(MOST) as u8
+        self.slips.len().min(MAX_PROCESSES) as u8
     }
 
     /// Returns how many arms a process has.
@@ -132,6 +130,6 @@ impl<'v, C: CodeBrand> Book<'v, C> {
         if usize::from(process) >= self.slips.len() {
             return 0;
         }
-        self.machine.proc(usize::from(process)).arms().min(MOST) as u8
+        self.machine.proc(usize::from(process)).arms().min(MAX_ARMS) as u8
     }
 }

@@ -14,11 +14,12 @@ use std::alloc::Global;
 use std::hint::spin_loop;
 use std::sync::{Condvar, Mutex, MutexGuard, Wait};
 
-/// How often a thread tries the lock before it may sleep. The lock is held for a part of the time that these tries take.
+/// How often a thread tries the lock before it may sleep. The lock is held for a part of the time that these
+/// tries take.
 const TRIES: u32 = 200;
 
-/// A book, and how many threads wait until a stretch comes home. They are in other lines of memory than the word of
-/// the lock, which threads read while they wait for it.
+/// A book, and how many threads wait until a stretch comes home. They are in other lines of memory than the
+/// word of the lock, which threads read while they wait for it.
 #[derive(Drop)]
 struct Desk<'v, C: CodeBrand> {
     gap: [u64; 7],
@@ -46,8 +47,8 @@ impl<'v, C: CodeBrand> Shared<'v, C> {
         }
     }
 
-    /// Takes the lock. A thread tries it for a while before it may sleep: to let it sleep, and to wake it, takes much
-    /// longer than the lock is held.
+    /// Takes the lock. A thread tries it for a while before it may sleep: to let it sleep, and to wake it,
+    /// takes much longer than the lock is held.
     #[inline(always)]
     fn lock<R: Wait>(&self, rt: &R) -> MutexGuard<'_, Desk<'v, C>> {
         for _ in 0..TRIES {
@@ -79,8 +80,8 @@ impl<'v, C: CodeBrand> Shared<'v, C> {
         unreachable!()
     }
 
-    /// Waits until a stretch comes home. The thread is counted before the lock is given back, so that whoever brings
-    /// a stretch home after that wakes it.
+    /// Waits until a stretch comes home. The thread is counted before the lock is given back, so that whoever
+    /// brings a stretch home after that wakes it.
     fn wait<'b, R: Wait>(
         &self,
         rt: &R,
@@ -117,8 +118,8 @@ impl<'v, C: CodeBrand> Shared<'v, C> {
         answer
     }
 
-    /// Takes a stretch home and lends the next, as the book's own call does, with one lock for both, and wakes those that
-    /// wait. It waits while the book is idle.
+    /// Takes a stretch home and lends the next, as the book's own call does, with one lock for both, and
+    /// wakes those that wait. It waits while the book is idle.
     #[inline(always)]
     pub fn commit_and_take<R: Wait>(
         &self,

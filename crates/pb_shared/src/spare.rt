@@ -12,9 +12,9 @@ use pb_machine::{Machine, Proc};
 use pb_verifier::Verified;
 use std::alloc::Global;
 
-/// What is lent of a process: the arm, how many picks it may make and how many it made, and the process as it was lent
-/// and as it is now. It comes home with its stretch and serves for the next one of that process, so that this takes no
-/// memory. It is in a box, so that little is moved with a stretch.
+/// What is lent of a process: the arm, how many picks it may make and how many it made, and the process as it
+/// was lent and as it is now. It comes home with its stretch and serves for the next one of that process, so
+/// that this takes no memory. It is in a box, so that little is moved with a stretch.
 #[derive(Drop)]
 pub struct Spare {
     pub(crate) pick: Pick,
@@ -48,7 +48,8 @@ impl Spare {
         )?)
     }
 
-    /// Sets both processes to one of the same code, for an arm that may make this many picks. No memory is taken.
+    /// Sets both processes to one of the same code, for an arm that may make this many picks. No memory is
+    /// taken.
     #[inline(always)]
     pub(crate) fn begin(&mut self, process: &Proc, pick: Pick, allowance: u32)
         requires { (v : VerifiedCode) × (p : ℕ) × IsVerified v × IsSpareOf v p self.old × IsProcessOf v p process.now }
@@ -86,7 +87,8 @@ impl Spare {
         count
     }
 
-    /// Exchanges the state for the process of a machine from whose state it comes by silent picks. The base stays.
+    /// Exchanges the state for the process of a machine from whose state it comes by silent picks. The base
+    /// stays.
     #[inline(always)]
     pub(crate) fn exchange(&mut self, p: usize, machine: &mut Machine)
         requires { p < length (machine_view machine.old).processes }

@@ -12,8 +12,8 @@ use pb_machine::Proc;
 use pb_verifier::Verified;
 use std::marker::{Model, PhantomData};
 
-/// A process lent to one worker, with one arm to step. It refers to the code alone, and so can hold no lock. It has to
-/// be spent, by `commit`, `put_back` or `forfeit`.
+/// A process lent to one worker, with one arm to step. It refers to the code alone, and so can hold no lock.
+/// It has to be spent, by `commit`, `put_back` or `forfeit`.
 pub struct Stretch<'v, C: CodeBrand> {
     pub(crate) code: &'v Verified,
     pub(crate) spare: Box<Spare>,
@@ -33,8 +33,8 @@ impl<'v, C: CodeBrand> Model for Stretch<'v, C> {
 }
 
 impl<'v, C: CodeBrand> Stretch<'v, C> {
-    /// Makes silent picks of the arm until `max` are made, the allowance is used, or the next pick is visible or not
-    /// enabled, and returns how many it made. It takes no lock and no memory.
+    /// Makes silent picks of the arm until `max` are made, the allowance is used, or the next pick is visible
+    /// or not enabled, and returns how many it made. It takes no lock and no memory.
     pub fn run(&mut self, max: u32) -> u32
         ensures same { self.new ≡ record self.old { made = self.old.made + result; state = self.new.state } }
         ensures run { IsSilentRun C.code.code self.new }

@@ -17,8 +17,8 @@ use std::alloc::Global;
 use std::marker::PhantomData;
 
 impl<'v, C: CodeBrand> Book<'v, C> {
-    /// Lends a ready arm of a process at home, for at most `quantum` picks, if there is one and there are picks left.
-    /// Out of memory leaves the book as it was.
+    /// Lends a ready arm of a process at home, for at most `quantum` picks, if there is one and there are
+    /// picks left. Out of memory leaves the book as it was.
     #[inline(always)]
     pub fn take(&mut self, alloc: Global, quantum: u32) -> Result<Taken<'v, C>, NoMemory>
         requires { 0 < quantum }
@@ -52,8 +52,9 @@ impl<'v, C: CodeBrand> Book<'v, C> {
         }
     }
 
-    /// Returns the outcome if there is one, where picks are left. As long as this process, which is to be lent, is not
-    /// over there is none, and then no other process is looked at: another processor may write them.
+    /// Returns the outcome if there is one, where picks are left. As long as this process, which is to be
+    /// lent, is not over there is none, and then no other process is looked at: another processor may write
+    /// them.
     #[inline(always)]
     fn outcome_beside(&self, process: usize) -> Option<Outcome>
         requires process { process < length self.now.slips }
@@ -66,7 +67,8 @@ impl<'v, C: CodeBrand> Book<'v, C> {
         self.outcome()
     }
 
-    /// Returns a stretch of this arm with nothing made. It takes memory only if the process was never lent before.
+    /// Returns a stretch of this arm with nothing made. It takes memory only if the process was never lent
+    /// before.
     #[inline(always)]
     fn fresh(
         &mut self,

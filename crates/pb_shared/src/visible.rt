@@ -7,6 +7,7 @@ ghost use Rattle.pb_verifier.specs.Requests.{frees};
 
 use crate::answer::Answer;
 use crate::marks::{clear, mark};
+use pb_base::limits::MAX_PICKS;
 use pb_base::{Event, Pick, Step};
 use pb_history::Trace;
 use pb_machine::{Look, Machine};
@@ -23,7 +24,7 @@ pub fn try_visible(
 ) -> Answer
     requires some_left { 0 < left.old }
     requires room { 0 < trace.old.room }
-    requires fits { length trace.old.entries < 10000000 }
+    requires fits { length trace.old.entries < MAX_PICKS }
     requires machine { IsMachineOf code.now machine.old }
     ensures tries { TriesOn code.now.code (machine_view machine.old) trace.old.entries left.old refused.old.items pick
         result (machine_view machine.new) trace.new.entries left.new refused.new.items }

@@ -11,7 +11,7 @@ mod tally;
 mod texts;
 
 ghost use Rattle.pb_names.specs.View.{resolved_view};
-ghost use Rattle.pb_rewrite.specs.Sources.{Fits};
+ghost use Rattle.pb_rewrite.specs.Sources.{FitsClaims};
 
 use crate::agreement::schedules::follow;
 use crate::agreement::sides::{Program, program_of};
@@ -45,7 +45,7 @@ fn spread(alloc: Global, text: &[u8]) -> Option<Vec<u8>> {
 
 /// Returns whether the sides agree on a program under `schedules` schedules.
 fn agree_under(alloc: Global, program: &Program, schedules: u64, tally: &mut Tally) -> bool
-    requires { Fits (resolved_view program.now.analysis.program) program.now.analysis.claims }
+    requires { FitsClaims (resolved_view program.now.analysis.program) program.now.analysis.claims }
 {
     for schedule in 0..schedules {
         match follow(alloc, program, schedule, tally) {

@@ -4,7 +4,8 @@ ghost use Rattle.std.specs.Prelude.{◌≤◌, length};
 
 use crate::objects::{FIRST, MOVED, SECOND};
 use pb_base::Bundle;
-use pb_code::{Code, Instr, Labels, is_name};
+use pb_code::names::are_name_bytes;
+use pb_code::{Code, Instr, Labels, is_name, is_numeral};
 use pb_object::{
     ObjectFault, fits_first_format, read_any, read_object, write_object, write_object2,
 };
@@ -295,4 +296,15 @@ fn words_that_are_names(rt: HostRuntime) {
     ] {
         assert!(rt; !is_name(*word));
     }
+}
+
+#[test]
+fn numerals_have_no_zero_before_digits(rt: HostRuntime) {
+    assert!(rt; is_numeral(b"0"));
+    assert!(rt; is_numeral(b"107"));
+    assert!(rt; !is_numeral(b""));
+    assert!(rt; !is_numeral(b"07"));
+    assert!(rt; !is_numeral(b"1a"));
+    assert!(rt; are_name_bytes(b"a_1"));
+    assert!(rt; !are_name_bytes(b"a-1"));
 }

@@ -1,4 +1,5 @@
-//! Tests of the crates by their public calls alone, in one crate, so that none of them is proved again with its tests.
+//! Tests of the crates by their public calls alone, in one crate, so that none of them is proved again with
+//! its tests.
 #![tactic(auto)]
 
 #[cfg(test)]

@@ -615,8 +615,8 @@ fn silent_runs_of_the_machine(rt: HostRuntime) {
     assert!(rt; seen == Some(Seen::Faulted(0, 0, FaultKind::Overflow)));
 }
 
-/// How many picks the group at each place of that code makes: behind the first test a round is one group, with the
-/// test of the next round, and no group has the jump alone, the print or the end.
+/// How many picks the group at each place of that code makes: behind the first test a round is one group,
+/// with the test of the next round, and no group has the jump alone, the print or the end.
 const COUNTS: [u8; 14] = [4, 3, 2, 1, 9, 4, 3, 2, 0, 3, 2, 1, 0, 0];
 
 /// Returns whether the group at each place makes as many picks.

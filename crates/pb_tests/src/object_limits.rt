@@ -2,15 +2,13 @@
 
 use crate::texts::repeated;
 use pb_base::NoMemory;
+use pb_base::limits::MAX_INPUT;
 use pb_object::{ObjectFault, read_any};
 use std::alloc::Global;
 
 /// All lines of an object of one process before those of its places.
 const ONE_PROCESS: &[u8] =
     b"PBO 2\nresources 0\nprocesses 1\nprocess p\nvars 0\narms 1\nclaims\narm 0\n";
-
-/// The longest text that is read.
-const MOST_BYTES: usize = 4_194_304;
 
 /// Returns the object of one process of `places` places, whose number is in this line.
 fn one_process(alloc: Global, code: &[u8], places: usize) -> Result<Vec<u8>, NoMemory> {
@@ -61,7 +59,7 @@ fn one_place_more_is_refused(rt: HostRuntime) {
 
 #[test]
 fn a_text_of_the_most_bytes_is_read(rt: HostRuntime) {
-    let Ok(mut text) = repeated(rt.alloc(), b"", b"x", MOST_BYTES, b"") else {
+    let Ok(mut text) = repeated(rt.alloc(), b"", b"x", MAX_INPUT, b"") else {
         panic!(rt; "out of memory")
     };
     assert!(rt; fault(rt.alloc(), &text) == Some(ObjectFault::NotObject(0)));
@@ -90,7 +88,7 @@ fn an_object_of_the_most_bytes_is_read(rt: HostRuntime) {
     let Ok(text) = four_processes(rt.alloc(), "ddd") else {
         panic!(rt; "out of memory")
     };
-    assert!(rt; text.len() == MOST_BYTES);
+    assert!(rt; text.len() == MAX_INPUT);
     assert!(rt; has_places(rt.alloc(), &text, &[40_000, 40_000, 40_000, 11_065]));
 }
 
@@ -99,7 +97,7 @@ fn an_object_of_one_byte_more_is_refused(rt: HostRuntime) {
     let Ok(text) = four_processes(rt.alloc(), "dddd") else {
         panic!(rt; "out of memory")
     };
-    assert!(rt; text.len() == MOST_BYTES + 1);
+    assert!(rt; text.len() == MAX_INPUT + 1);
     assert!(rt; fault(rt.alloc(), &text) == Some(ObjectFault::Limit(0)));
 }
 

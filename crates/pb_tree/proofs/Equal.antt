@@ -3,7 +3,7 @@ use Rattle.std.proofs.Common.{◌≡◌, ℕ, ◌+◌, ◌<◌, List, [], ◌∷
 use Rattle.std.proofs.Common.{◌≤◌, Bool, true, false, arith, sym, ◌∙◌, refl}
 use Rattle.std.proofs.lemmas.List.{map_more, get_or-map, length-map, take_all}
 use Rattle.pb_tree.specs.Syntax.{StmtSyntax, StmtsSyntax}
-use Rattle.pb_tree.specs.View.{stmts_of, arms_of}
+use Rattle.pb_tree.specs.View.{stmts_of, joined_arms}
 
 -- a list of statements is told by its elements
 pub same_stmts : (xs ys : List StmtSyntax) → stmts_of xs ≡ stmts_of ys → xs ≡ ys
@@ -16,12 +16,12 @@ same_stmts (x ∷ xs) (y ∷ ys) e =
     cc
 
 -- a list of arms is told by its elements
-pub same_arms : (xs ys : List StmtsSyntax) → arms_of xs ≡ arms_of ys → xs ≡ ys
+pub same_arms : (xs ys : List StmtsSyntax) → joined_arms xs ≡ joined_arms ys → xs ≡ ys
 same_arms [] [] e = refl
 same_arms [] (y ∷ ys) e = absurd (cc)
 same_arms (x ∷ xs) [] e = absurd (cc)
 same_arms (x ∷ xs) (y ∷ ys) e =
-    let tails : arms_of xs ≡ arms_of ys = cc in
+    let tails : joined_arms xs ≡ joined_arms ys = cc in
     let rest = same_arms xs ys tails in
     cc
 

@@ -2,7 +2,7 @@
 use Rattle.std.proofs.Common.{◌≡◌, List, [], ◌∷◌, ◌++◌, Vec, ap, refl}
 use Rattle.pb_tree.specs.Syntax.{StmtSyntax, StmtsSyntax, no_stmt, stmt_then, stmts_append}
 use Rattle.pb_tree.specs.Syntax.{ArmsSyntax, no_arm, arm_then, arms_append}
-use Rattle.pb_tree.specs.View.{stmt_view, stmts_view, stmts_of, arm_view, arms_view, arms_of}
+use Rattle.pb_tree.specs.View.{stmt_view, stmts_view, stmts_of, arm_view, arms_view, joined_arms}
 use Rattle.pb_tree.specs.declared.stmt.Stmt.{Stmt}
 
 -- ---- plain lists
@@ -12,7 +12,7 @@ pub stmts_of-append : (xs ys : List StmtSyntax)
 stmts_of-append [] ys = refl
 stmts_of-append (x ∷ xs) ys = ap (stmt_then x) (stmts_of-append xs ys)
 
-pub arms_of-append : (xs ys : List StmtsSyntax) → arms_of (xs ++ ys) ≡ arms_append (arms_of xs) (arms_of ys)
+pub arms_of-append : (xs ys : List StmtsSyntax) → joined_arms (xs ++ ys) ≡ arms_append (joined_arms xs) (joined_arms ys)
 arms_of-append [] ys = refl
 arms_of-append (x ∷ xs) ys = ap (arm_then x) (arms_of-append xs ys)
 

@@ -4,7 +4,7 @@ use Rattle.std.proofs.lemmas.Simd.{map-map}
 use Rattle.pb_tree.specs.Syntax.{StmtSyntax, unary, binary, number, variable, assign, print, if_else}
 use Rattle.pb_tree.specs.Syntax.{while_do, hold, parbegin}
 use Rattle.pb_tree.specs.View.{name_view, number_view, expr_view, demand_view, stmt_view, stmts_view}
-use Rattle.pb_tree.specs.View.{arm_view, arms_view, arms_of, stmts_of, stmt_step}
+use Rattle.pb_tree.specs.View.{arm_view, arms_view, joined_arms, stmts_of, stmt_step}
 use Rattle.pb_tree.specs.declared.expr.Name.{Name}
 use Rattle.pb_tree.specs.declared.expr.Number.{Number as NumberLiteral}
 use Rattle.pb_tree.specs.declared.expr.Expr.{Expr, Number, Variable, Unary, Binary, the_lemmas as expr_lemmas}
@@ -56,7 +56,7 @@ unfolding arm_view
 view-Parbegin {A} line arms =
     ap stmt_view (sym (rolls-Parbegin line arms))
     ∙ fold-roll-Stmt A StmtSyntax stmt_step (Stmt-F.Parbegin line arms)
-    ∙ ap (λ r. parbegin line (arms_of r)) (map-map (λ arm. stmts_of arm.items) _ arms.items)
+    ∙ ap (λ r. parbegin line (joined_arms r)) (map-map (λ arm. stmts_of arm.items) _ arms.items)
 
 pub view-arm : {A : Type 0} (arm : Vec (Stmt A) A) → arm_view arm ≡ stmts_view arm.items
 unfolding arm_view

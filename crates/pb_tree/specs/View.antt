@@ -45,9 +45,9 @@ stmts_of [] = no_stmt
 stmts_of (s ∷ ss) = stmt_then s (stmts_of ss)
 
 -- a list of plain arms as one plain tree
-abbrev pub arms_of : List StmtsSyntax → ArmsSyntax
-arms_of [] = no_arm
-arms_of (arm ∷ arms) = arm_then arm (arms_of arms)
+abbrev pub joined_arms : List StmtsSyntax → ArmsSyntax
+joined_arms [] = no_arm
+joined_arms (arm ∷ arms) = arm_then arm (joined_arms arms)
 
 -- one level of a statement, with each statement inside already seen as its plain tree
 abbrev pub stmt_step : {A : Type 0} → Stmt-F A StmtSyntax → StmtSyntax
@@ -57,7 +57,7 @@ stmt_step (Stmt-F.If line test on_true on_false) =
     if_else line (expr_view test) (stmts_of on_true.items) (stmts_of on_false.items)
 stmt_step (Stmt-F.While line test body) = while_do line (expr_view test) (stmts_of body.items)
 stmt_step (Stmt-F.Hold line demands body) = hold line (map demand_view demands.items) (stmts_of body.items)
-stmt_step (Stmt-F.Parbegin line arms) = parbegin line (arms_of (map (λ arm. stmts_of arm.items) arms.items))
+stmt_step (Stmt-F.Parbegin line arms) = parbegin line (joined_arms (map (λ arm. stmts_of arm.items) arms.items))
 
 -- a statement
 abbrev pub stmt_view : {A : Type 0} → Stmt A → StmtSyntax
@@ -73,7 +73,7 @@ arm_view arm = stmts_view arm.items
 
 -- the arms of a parbegin
 abbrev pub arms_view : {A : Type 0} → List (Vec (Stmt A) A) → ArmsSyntax
-arms_view arms = arms_of (map arm_view arms)
+arms_view arms = joined_arms (map arm_view arms)
 
 -- a resource
 abbrev pub resource_view : {A : Type 0} → Resource A → ResourceSyntax

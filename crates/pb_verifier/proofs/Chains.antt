@@ -8,7 +8,7 @@ use Rattle.pb_code.specs.declared.instr.Instr.TheVariants as given
 use Rattle.pb_code.specs.View.{instr_view}
 use Rattle.pb_verifier.specs.declared.holdings.Holding.{Holding}
 use Rattle.pb_verifier.specs.Spread.{fact_at, HoldFits, tail}
-use Rattle.pb_verifier.specs.Holdings.{taken, last_of, held, IsChain, held_by, CanBeRead}
+use Rattle.pb_verifier.specs.Holdings.{taken, last_of, held, IsChain, held_bundles, CanBeRead}
 
 pub record ChainAt (instrs : List Instr) (table : List (Option Holding)) (n last : ℕ) : Type 0 where
   pub bundle : Bundle
@@ -61,9 +61,9 @@ module _ (instrs : List Instr) (table : List (Option Holding)) where
   some_held zero last given fits = elim fits [ ]
   some_held (suc n) last given fits = omega arith
 
-  pub next_give : (self b : Holding) (given : Bundle) → CanBeRead instrs table self → HoldFits (Give given) (held_by
+  pub next_give : (self b : Holding) (given : Bundle) → CanBeRead instrs table self → HoldFits (Give given) (held_bundles
       instrs table self) → fact_at table self.last ≡ Some b
-      → (held_by instrs table b ≡ tail (held_by instrs table self)) × CanBeRead instrs table b
+      → (held_bundles instrs table b ≡ tail (held_bundles instrs table self)) × CanBeRead instrs table b
   next_give self b given readable fits e =
       let u : 0 < self.count = some_held self.count self.last given fits in
       let h : (b.count ≡ self.count - 1) × IsChain instrs table (self.count - 1) b.last × (Held (self.count - 1)
@@ -73,7 +73,7 @@ module _ (instrs : List Instr) (table : List (Option Holding)) where
       (ap (λ (n : ℕ). Held n b.last) count ∙ h.2, (subst (λ (n : ℕ). IsChain instrs table n b.last) (sym count) h.1, omega arith))
 
   pub fits_give : (self : Holding) (last given : Bundle) → 0 < self.count → CanBeRead instrs table self → slice_get
-      instrs self.last ≡ Some (Take last) → HoldFits (Give given) (held_by instrs table self) ↔ (last ≡ given)
+      instrs self.last ≡ Some (Take last) → HoldFits (Give given) (held_bundles instrs table self) ↔ (last ≡ given)
   fits_give self last given u readable read =
       let c : ChainAt instrs table self.count self.last = chain_at instrs table self.count self.last u readable.0 in
       let same : c.bundle ≡ last = same_take self.last c.bundle last c.read read in (
@@ -104,7 +104,7 @@ module _ (instrs : List Instr) (table : List (Option Holding)) where
         ),
       )
 
-  pub counts_same : (self other : Holding) → held_by instrs table self ≡ held_by instrs table other → self.count ≡ other.count
+  pub counts_same : (self other : Holding) → held_bundles instrs table self ≡ held_bundles instrs table other → self.count ≡ other.count
   counts_same self other e = sym (held_length instrs table self.count self.last) ∙ ap length e ∙ held_length instrs table other.count other.last
 
 -- an instruction that neither takes nor gives finds what it needs
@@ -139,9 +139,9 @@ fits_other bundles (given.Give k) hs no_take no_give = absurd (no_give k refl)
 
 -- a take more
 pub chain_more : (instrs : List Instr) (table : List (Option Holding)) (self : Holding) (place : ℕ) (bundle : Bundle) → CanBeRead instrs table self
-    → slice_get instrs place ≡ Some (Take bundle) → fact_at table place ≡ Some self → suc (length (held_by instrs table self)) ≤ 256
+    → slice_get instrs place ≡ Some (Take bundle) → fact_at table place ≡ Some self → suc (length (held_bundles instrs table self)) ≤ 256
     → IsChain instrs table (self.count + 1) place × (self.count + 1 ≤ 256)
 chain_more instrs table self place bundle readable read noted few =
-    let n : length (held_by instrs table self) ≡ self.count = held_length instrs table self.count self.last in
+    let n : length (held_bundles instrs table self) ≡ self.count = held_length instrs table self.count self.last in
     let e : suc self.count ≡ self.count + 1 = omega arith in
     (subst (λ (n : ℕ). IsChain instrs table n place) e (bundle, self, read, noted, refl, readable.0), omega arith)

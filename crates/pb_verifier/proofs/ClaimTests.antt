@@ -13,7 +13,7 @@ use Rattle.pb_verifier.specs.Behaviour.{PeaksExist}
 use Rattle.pb_verifier.specs.Faults.{AreHoldings, ArePeaks, HasArms, HasForks, HasPeakOver, HasPeakWithin}
 use Rattle.pb_verifier.specs.Limits.{IsSmallProcess}
 use Rattle.pb_verifier.specs.Verified.{HasPeaksWithin, IsAnnotated, IsFreeOf, IsRefusedFor, SomePeakIsOver, turn_of}
-use Rattle.pb_verifier.proofs.Behaved.{peaks_decide}
+use Rattle.pb_verifier.proofs.SoundBehaviour.{peaks_decide}
 use Rattle.pb_verifier.proofs.ReachedPlaces.{peaks_of}
 use Rattle.pb_verifier.proofs.Greatest.{least_of}
 

@@ -9,7 +9,7 @@ use Rattle.pb_verifier.specs.declared.depths.Depth.{Depth}
 use Rattle.pb_verifier.specs.declared.holdings.Holding.{Holding}
 use Rattle.pb_verifier.specs.Ends.{IsClearAt}
 use Rattle.pb_verifier.specs.Faults.{EndsClear, TurnsDepth, TurnsHoldings}
-use Rattle.pb_verifier.specs.Holdings.{held, held_by}
+use Rattle.pb_verifier.specs.Holdings.{held, held_bundles}
 use Rattle.pb_verifier.specs.Places.{InstrAt, Reached, at_entry, IsInArm, entry}
 use Rattle.pb_verifier.specs.Spread.{IsTableOf, fact_at, notes_of}
 use Rattle.pb_verifier.specs.Verified.{IsDepthOf}
@@ -41,9 +41,9 @@ module _ (code : ProcessCode) (depths : List (Option Depth)) where
   Depths = notes_of (λ (d : Depth). d.count) depths
 
   module _ (holdings : List (Option Holding)) (is_depths : IsTableOf code TurnsDepth 0 Depths) (is_holdings :
-      IsTableOf code TurnsHoldings [] (notes_of (held_by code.instrs holdings) holdings)) where
+      IsTableOf code TurnsHoldings [] (notes_of (held_bundles code.instrs holdings) holdings)) where
     abbrev Holds : ℕ → Option (List Bundle)
-    Holds = notes_of (held_by code.instrs holdings) holdings
+    Holds = notes_of (held_bundles code.instrs holdings) holdings
 
     none_left : (n last : ℕ) → n ≡ 0 → held code.instrs holdings n last ≡ []
     none_left zero last e = refl
@@ -55,7 +55,7 @@ module _ (code : ProcessCode) (depths : List (Option Depth)) where
         let nd : (x : ℕ) × (Depths p ≡ Some x) = is_depths.noted p r in
         let nh : (x : List Bundle) × (Holds p ≡ Some x) = is_holdings.noted p r in
         let d = fact_of (λ (d : Depth). d.count) depths p nd.0 nd.1 in
-        let h = fact_of (held_by code.instrs holdings) holdings p nh.0 nh.1 in (
+        let h = fact_of (held_bundles code.instrs holdings) holdings p nh.0 nh.1 in (
           is_depths.agrees depth are_depths p nd.0 nd.1 ∙ sym d.2 ∙ c.0 d.0 d.1,
           is_holdings.agrees held are_holdings p nh.0 nh.1 ∙ sym h.2 ∙ none_left h.0.count h.0.last (c.1 h.0 h.1),
         )
@@ -70,9 +70,9 @@ module _ (code : ProcessCode) (depths : List (Option Depth)) where
               let z = (clear (is_depths.only p d.count n)).0 in
               sym (ap (λ (o : Option ℕ). unwrap_or o 0) n) ∙ z,
           λ h e.
-              let n : Holds p ≡ Some (held_by code.instrs holdings h) = ap (option_map (held_by code.instrs holdings)) e in
-              let z = (clear (is_holdings.only p (held_by code.instrs holdings h) n)).1 in
-              let empty : held_by code.instrs holdings h ≡ [] = sym (ap (λ (o : Option (List Bundle)). unwrap_or o []) n) ∙ z in
+              let n : Holds p ≡ Some (held_bundles code.instrs holdings h) = ap (option_map (held_bundles code.instrs holdings)) e in
+              let z = (clear (is_holdings.only p (held_bundles code.instrs holdings h) n)).1 in
+              let empty : held_bundles code.instrs holdings h ≡ [] = sym (ap (λ (o : Option (List Bundle)). unwrap_or o []) n) ∙ z in
               sym (held_length code.instrs holdings h.count h.last) ∙ ap length empty,
         )
 

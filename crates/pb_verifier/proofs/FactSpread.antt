@@ -4,7 +4,7 @@ use Rattle.std.specs.Prelude.{Contains, slice_get}
 use Rattle.std.proofs.lemmas.List.{get_or_default}
 use Rattle.std.proofs.lemmas.Bool.{cases_lt}
 use Rattle.pb_code.specs.Code.{Instr}
-use Rattle.pb_verifier.specs.Flow.{Follows, followers, IsGrown}
+use Rattle.pb_verifier.specs.Flow.{FlowsTo, followers, IsGrown}
 use Rattle.pb_verifier.specs.Spread.{Rules, IsAnnotation, CanBeAnnotated}
 
 pub record FlowsAt {M : Type 0} (rules : Rules M) (instrs : List Instr) (notes : ℕ → Option M) (p : ℕ) : Type 0 where
@@ -54,7 +54,7 @@ module _ {M : Type 0} (rules : Rules M) (entries : List ℕ) (instrs : List Inst
       length order → (m : M) × (notes (get_or order done 0) ≡ Some m)
   spread_noted done notes h grown u = go (grown done u)
     where
-      go : Contains entries (get_or order done 0) ⊎ ((j : ℕ) × (j < done) × Follows instrs (get_or order j 0) (get_or
+      go : Contains entries (get_or order done 0) ⊎ ((j : ℕ) × (j < done) × FlowsTo instrs (get_or order j 0) (get_or
           order done 0)) → (m : M) × (notes (get_or order done 0) ≡ Some m)
       go (inl c) = (rules.start, h.starts (get_or order done 0) c)
       go (inr f) =

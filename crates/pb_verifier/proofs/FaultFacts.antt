@@ -8,7 +8,7 @@ use Rattle.std.proofs.lemmas.Bool.{eq-eqb}
 use Rattle.std.proofs.Common.{eqb-true}
 use Rattle.pb_code.specs.Code.{Instr, Push, Load, Store, Compute1, Compute2, Jump, JumpIfZero, PrintTop, Take, Give, Fork, Join, End, ProcessCode}
 use Rattle.pb_verifier.specs.Places.{arms, entry, InstrAt, Reached, at_entry, from, Spreads, Follows}
-use Rattle.pb_verifier.specs.Flow.{IsReached, reached_entry, reached_next, followers, goes_on, StaysInside}
+use Rattle.pb_verifier.specs.Flow.{IsReachedPlace, reached_entry, reached_next, followers, goes_on, StaysInside}
 use Rattle.pb_base.specs.Steppers.{Bundle}
 use Rattle.pb_verifier.specs.Faults.{pops, pushes, TurnsDepth, TurnsHoldings}
 use Rattle.pb_verifier.specs.Spread.{depth_rules, hold_rules, HoldFits, held_after, tail, Rules, IsAnnotation, IsLeast, CanBeAnnotated, IsTableOf}
@@ -55,11 +55,11 @@ follows_to End p q e = elim e [ ]
 -- ---- what is reached
 
 module _ (code : ProcessCode) where
-  pub reached_from : (p : ℕ) → IsReached code.entries code.instrs p → Reached code p
+  pub reached_from : (p : ℕ) → IsReachedPlace code.entries code.instrs p → Reached code p
   reached_from p (reached_entry _ c) = at_entry c.0 p c.1 (sym (get_or_default code.entries c.0 0 p c.1 ∙ c.2))
   reached_from p (reached_next q _ r f) = from q p f.0 (reached_from q r) f.1 (follows_from f.0 q p f.2)
 
-  pub reached_to : (p : ℕ) → Reached code p → IsReached code.entries code.instrs p
+  pub reached_to : (p : ℕ) → Reached code p → IsReachedPlace code.entries code.instrs p
   reached_to p (at_entry a _ u e) = reached_entry p (subst (λ (x : ℕ). Contains code.entries x) (sym e) (Contains-get_or code.entries a 0 u))
   reached_to p (from q _ i r read f) = reached_next q p (reached_to q r) (i, read, follows_to i q p f)
 
@@ -97,7 +97,7 @@ module _ {X : Type 0} (code : ProcessCode) (Turns : Instr → X → X → Type 0
   Facts fact = Spreads code Turns rules.start fact
 
   -- an annotation notes each reached place
-  noted_all : (notes : ℕ → Option X) → IsAnnotation rules code.entries code.instrs notes → (p : ℕ) → IsReached
+  noted_all : (notes : ℕ → Option X) → IsAnnotation rules code.entries code.instrs notes → (p : ℕ) → IsReachedPlace
       code.entries code.instrs p → (x : X) × (notes p ≡ Some x)
   noted_all notes a p (reached_entry _ c) = (rules.start, a.starts p c)
   noted_all notes a p (reached_next q _ r f) =
@@ -108,11 +108,11 @@ module _ {X : Type 0} (code : ProcessCode) (Turns : Instr → X → X → Type 0
       (rules.after flow.0 before.0, flow.3 p (subst (λ (i : Instr). Contains (followers i q) p) same f.2))
 
   -- facts at reached places are an annotation of them
-  annotation_of : (order : List ℕ) → StaysInside code.entries code.instrs → ((p : ℕ) → Contains order p ↔ IsReached code.entries code.instrs p)
+  annotation_of : (order : List ℕ) → StaysInside code.entries code.instrs → ((p : ℕ) → Contains order p ↔ IsReachedPlace code.entries code.instrs p)
       → (fact : ℕ → X) → Facts fact → IsAnnotation rules code.entries code.instrs (λ p. cond (is_listed order p) (Some (fact p)) None)
   annotation_of order inside reached fact facts = record { starts = starts; flows = λ p x e. flows p x (is_listed order p) refl e }
     where
-      here : (p : ℕ) → IsReached code.entries code.instrs p → cond (is_listed order p) (Some (fact p)) None ≡ Some (fact p)
+      here : (p : ℕ) → IsReachedPlace code.entries code.instrs p → cond (is_listed order p) (Some (fact p)) None ≡ Some (fact p)
       here p r = ap (λ (b : Bool). cond b (Some (fact p)) None) (listed_to order p ((reached p).1 r))
 
       starts : (p : ℕ) → Contains code.entries p → cond (is_listed order p) (Some (fact p)) None ≡ Some rules.start
@@ -126,7 +126,7 @@ module _ {X : Type 0} (code : ProcessCode) (Turns : Instr → X → X → Type 0
       flows p x false l e = cc
       flows p x true l e =
           let is : fact p ≡ x = let s : Some (fact p) ≡ Some x = e in cc in
-          let r : IsReached code.entries code.instrs p = (reached p).0 (listed_from order p l) in
+          let r : IsReachedPlace code.entries code.instrs p = (reached p).0 (listed_from order p l) in
           let w : p < length code.instrs = reached_inside code.entries code.instrs inside p r in
           let at : (i : Instr) × (slice_get code.instrs p ≡ Some i) = (get_or code.instrs p End, slice_get-get_or code.instrs p End w) in
           let f : (after : X) × Turns at.0 (fact p) after × ((next : ℕ) → Follows at.0 p next → fact next ≡ after) =
@@ -136,11 +136,11 @@ module _ {X : Type 0} (code : ProcessCode) (Turns : Instr → X → X → Type 0
           (followers i p) q → cond (is_listed order q) (Some (fact q)) None ≡ Some (rules.after i y))) is
           (at.0, at.1, turn.0, λ q c. here q (reached_next p q r (at.0, at.1, c)) ∙ ap Some (f.2 q (follows_from at.0 p q c) ∙ turn.1))
 
-  pub no_facts : (order : List ℕ) → StaysInside code.entries code.instrs → ((p : ℕ) → Contains order p ↔ IsReached code.entries code.instrs p)
+  pub no_facts : (order : List ℕ) → StaysInside code.entries code.instrs → ((p : ℕ) → Contains order p ↔ IsReachedPlace code.entries code.instrs p)
       → ¬ CanBeAnnotated rules code.entries code.instrs → ¬ ((fact : ℕ → X) × Facts fact)
   no_facts order inside reached none (fact, facts) = none ((λ p. cond (is_listed order p) (Some (fact p)) None), annotation_of order inside reached fact facts)
 
-  pub table_of : (order : List ℕ) → StaysInside code.entries code.instrs → ((p : ℕ) → Contains order p ↔ IsReached code.entries code.instrs p)
+  pub table_of : (order : List ℕ) → StaysInside code.entries code.instrs → ((p : ℕ) → Contains order p ↔ IsReachedPlace code.entries code.instrs p)
       → (notes : ℕ → Option X) → IsLeast rules code.entries code.instrs notes → IsTableOf code Turns rules.start notes
   table_of order inside reached notes least = record {
     spreads = record { starts = starts; flows = flows };

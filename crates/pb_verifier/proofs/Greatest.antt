@@ -4,7 +4,7 @@ use Rattle.pb_base.specs.Steppers.{Bundle}
 use Rattle.pb_code.specs.Code.{Instr, Push, Load, Store, Compute1, Compute2, Jump, JumpIfZero, PrintTop, Take, Give, Fork, Join, End, ProcessCode}
 use Rattle.pb_verifier.specs.Places.{InstrAt, arms, IsInArm, IsAmong, Reached, at_entry, from, Spreads}
 use Rattle.pb_verifier.specs.Faults.{HasArms, HasForks, TurnsDepth, TurnsHoldings, in_joined, sum_of_arms, StayUnder, IsAttained}
-use Rattle.pb_verifier.proofs.Lying.{fork_in_arm}
+use Rattle.pb_verifier.proofs.ArmPlaces.{fork_in_arm}
 
 -- what an instruction makes of a fact is one fact
 abbrev pub IsOne : {X : Type 0} → (Instr → X → X → Type 0) → Type 0

@@ -11,7 +11,7 @@ use Rattle.pb_verifier.specs.Places.{arms, entry, arm_end, IsInArm}
 use Rattle.pb_verifier.proofs.ArmOrder.{arm_lies, rise_of}
 use Rattle.pb_verifier.proofs.FaultFacts.{follows_from}
 use Rattle.pb_verifier.proofs.ForkTables.{arm_of}
-use Rattle.pb_verifier.proofs.Lying.{follows_in_arm}
+use Rattle.pb_verifier.proofs.ArmPlaces.{follows_in_arm}
 
 pub stays_inside : (code : ProcessCode) → HasArms code → 1 ≤ arms code → length code.instrs ≤ 40000 → StaysInside code.entries code.instrs
 stays_inside code h some few = record { few = few; starts = starts; next = next }
@@ -21,7 +21,7 @@ stays_inside code h some few = record { few = few; starts = starts; next = next 
         let e : entry code c.0 ≡ p = get_or_default code.entries c.0 0 p c.1 ∙ c.2 in
         subst (λ (x : ℕ). x < length code.instrs) e (h.inside c.0 c.1)
 
-    next : (p q : ℕ) → flow.Follows code.instrs p q → q < length code.instrs
+    next : (p q : ℕ) → flow.FlowsTo code.instrs p q → q < length code.instrs
     next p q f =
         let a : (a : ℕ) × IsInArm code a p = arm_of code h some p (slice_get_within code.instrs p f.0 f.1) in
         let there : IsInArm code a.0 q = follows_in_arm code h a.0 p q f.0 a.1 f.1 (follows_from f.0 p q f.2) in

@@ -1,7 +1,6 @@
 pub mod Absent
 pub mod ArmOrder
-pub mod Banking
-pub mod Behaved
+pub mod ArmPlaces
 pub mod Chains
 pub mod ClaimTests
 pub mod Each
@@ -16,14 +15,15 @@ pub mod HeldAmounts
 pub mod Inside
 pub mod LimitTests
 pub mod LiveSteps
-pub mod Lying
+pub mod LoansWithinClaims
 pub mod Order
 pub mod PeakTables
 pub mod ProcessFaults
-pub mod ReachSearch
 pub mod ReachedPlaces
+pub mod ReachSearch
 pub mod Requests
 pub mod SharedHolds
+pub mod SoundBehaviour
 pub mod States
 pub mod Steps
 pub mod Sums

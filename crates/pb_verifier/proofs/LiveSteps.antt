@@ -1,10 +1,10 @@
 -- In a process that is not over some live arm can step, if the banker allows it.
 use Rattle.std.proofs.Common.{◌≡◌, inl, inr, ℕ, zero, suc, ◌+◌, ◌<◌, ◌≤◌, ℤ, Bool, true, false, cond, ◌&&◌, List, Option, Some, None, option_and_then, refl, sym, ap, ◌∙◌, subst, arith}
 use Rattle.pb_base.specs.Steppers.{Effect, Silent}
-use Rattle.pb_code.specs.Code.{Instr, Join, ProcessCode, Thread, Idle, Live, Over, CodeProcess, thread, ThreadStep, act, is_over, all_over, dismiss, apply_step, step_thread, step_process}
+use Rattle.pb_code.specs.Code.{Instr, Join, ProcessCode, Thread, Idle, Live, Ended, CodeProcess, thread, ThreadStep, act, is_over, all_over, dismiss, apply_step, step_thread, step_process}
 use Rattle.pb_code.specs.Code.{code_over}
 use Rattle.pb_verifier.specs.Places.{InstrAt, arms, IsInArm, IsAmong}
-use Rattle.pb_verifier.proofs.Lying.{Checked, fork_in_arm, place_has}
+use Rattle.pb_verifier.proofs.ArmPlaces.{Checked, fork_in_arm, place_has}
 use Rattle.pb_verifier.proofs.Turns.{Acts, acts_run, acts_trap, acts_fork, acts_join, acts_stop, can_act, Fit}
 use Rattle.std.specs.Prelude.{set}
 
@@ -30,7 +30,7 @@ module _ (code : ProcessCode) (ok : Checked code) (process : CodeProcess) (fit :
       go : (t : Thread) → thread process.threads c ≡ t → is_over t ≡ false → (p : ℕ) × (s : List ℤ) × (thread process.threads c ≡ Live p s)
       go Idle e n = elim (busy e) [ ]
       go (Live p s) e n = (p, s, e)
-      go Over e n = cc
+      go Ended e n = cc
 
   -- from a live arm down to one that waits for no other
   some_arm : (fuel a p : ℕ) (s : List ℤ) → arms code ≤ a + fuel → thread process.threads a ≡ Live p s → CanStep code process
@@ -87,7 +87,7 @@ module _ (code : ProcessCode) (ok : Checked code) (process : CodeProcess) (fit :
           main : (t : Thread) → thread process.threads 0 ≡ t → CanStep code process
           main Idle h = elim (fit.begun e h) [ ]
           main (Live p s) h = some_arm (arms code) 0 p s (omega arith) h
-          main Over h = elim (going (inr h)) [ ]
+          main Ended h = elim (going (inr h)) [ ]
 
   -- in a process that is over no arm is live
   pub none_live : code_over process → (a p : ℕ) (s : List ℤ) → thread process.threads a ≡ Live p s → ⊥
@@ -95,7 +95,7 @@ module _ (code : ProcessCode) (ok : Checked code) (process : CodeProcess) (fit :
   none_live (inr ended) a p s live = up a a p s (omega arith) live
     where
       up : (fuel a p : ℕ) (s : List ℤ) → a ≤ fuel → thread process.threads a ≡ Live p s → ⊥
-      up fuel zero p s u live' = let z : Over ≡ Live p s = sym ended ∙ live' in cc
+      up fuel zero p s u live' = let z : Ended ≡ Live p s = sym ended ∙ live' in cc
       up zero (suc a) p s u live' = omega (arith, u)
       up (suc fuel) (suc a) p s u live' =
           let w = fit.order.awaited (suc a) (omega arith) (λ e. let z : Idle ≡ Live p s = sym e ∙ live' in cc) in

@@ -5,9 +5,9 @@ use Rattle.std.proofs.lemmas.List.{length-map, length-replicate}
 use Rattle.std.proofs.Math.ListN.{get_or-map}
 use Rattle.pb_base.specs.declared.operators.FaultKind.{FaultKind}
 use Rattle.pb_base.specs.Steppers.{Effect, Silent, Faults}
-use Rattle.pb_code.specs.Code.{Instr, Fork, Join, End, ProcessCode, Thread, Idle, Live, Over, CodeProcess, thread, code_process}
+use Rattle.pb_code.specs.Code.{Instr, Fork, Join, End, ProcessCode, Thread, Idle, Live, Ended, CodeProcess, thread, code_process}
 use Rattle.pb_verifier.specs.Places.{InstrAt, arms, entry, IsInArm, IsAmong, Reached, at_entry, from}
-use Rattle.pb_verifier.proofs.Lying.{Checked, same_instr, IsPlain, entry_in_arm, one_arm, next_in_arm, follows_in_arm, before_join, no_join, no_join_at_entry}
+use Rattle.pb_verifier.proofs.ArmPlaces.{Checked, same_instr, IsPlain, entry_in_arm, one_arm, next_in_arm, follows_in_arm, before_join, no_join, no_join_at_entry}
 use Rattle.pb_verifier.proofs.Turns.{Turn, runs, traps, forks, joins, stops, Awaited, InOrder, Fit, Turned, ending_no_fault}
 
 pub same_or_not : (a b : ℕ) → (a ≡ b) ⊎ (a ≢ b)
@@ -23,12 +23,12 @@ among_or_not first count b = ⊎_elim (λ l. inr (inl l)) (λ l. ⊎_elim (λ m.
 pub idle_or_not : (t : Thread) → (t ≡ Idle) ⊎ (t ≡ Idle → ⊥)
 idle_or_not Idle = inl refl
 idle_or_not (Live p s) = inr (λ e. cc)
-idle_or_not Over = inr (λ e. cc)
+idle_or_not Ended = inr (λ e. cc)
 
 abbrev place_of : Thread → ℕ
 place_of Idle = 0
 place_of (Live p s) = p
-place_of Over = 0
+place_of Ended = 0
 
 pub same_place : (p q : ℕ) (s t : List ℤ) → Live p s ≡ Live q t → p ≡ q
 same_place p q s t e = ap place_of e
@@ -37,7 +37,7 @@ module _ (code : ProcessCode) (ok : Checked code) where
   abbrev Stands : ℕ → Thread → Type 0
   Stands a Idle = Unit {0}
   Stands a (Live p s) = IsInArm code a p × Reached code p × (length s ≡ ok.depth p)
-  Stands a Over = Unit {0}
+  Stands a Ended = Unit {0}
 
   module _ (T T' : ℕ → Thread) (order : InOrder code ok T) where
     abbrev Same : ℕ → Type 0
@@ -177,8 +177,9 @@ module _ (code : ProcessCode) (ok : Checked code) where
               (same_or_not b a);
         }
 
-    joined : (a p : ℕ) (s : List ℤ) (first count : ℕ) → T a ≡ Live p s → InstrAt code p (Join first count) → T' a ≡ Live (p + 1) s → length s ≡ ok.depth (p + 1)
-        → ((b : ℕ) → IsAmong first count b → (T b ≡ Over) × (T' b ≡ Idle)) → ((b : ℕ) → b ≢ a → (b < first) ⊎ (first + count ≤ b) → Same b) → InOrder code ok T'
+    joined : (a p : ℕ) (s : List ℤ) (first count : ℕ) → T a ≡ Live p s → InstrAt code p (Join first count) → T' a ≡ Live (p + 1) s
+        → length s ≡ ok.depth (p + 1)
+        → ((b : ℕ) → IsAmong first count b → (T b ≡ Ended) × (T' b ≡ Idle)) → ((b : ℕ) → b ≢ a → (b < first) ⊎ (first + count ≤ b) → Same b) → InOrder code ok T'
     joined a p s first count live join now len dismissed others =
         let here = order.stands a p s live in
         let stands : Stands a (Live (p + 1) s) = (
@@ -208,7 +209,7 @@ module _ (code : ProcessCode) (ok : Checked code) where
               let x = w.among.0 in let y = w.among.1 in
               ⊎_elim (λ o. omega (arith, x, y, e1, e2, o)) (λ o. omega (arith, x, y, e1, e2, o)) out) in
               still_awaited c w (⊎_elim
-              (λ among. let e : Live (w.place + 1) w.stack ≡ Over = sym w.waits ∙ (dismissed w.parent among).0 in cc)
+              (λ among. let e : Live (w.place + 1) w.stack ≡ Ended = sym w.waits ∙ (dismissed w.parent among).0 in cc)
               (λ out'. others w.parent elsewhere out')
               (among_or_not first count w.parent)))
               (among_or_not first count c);
@@ -256,7 +257,7 @@ module _ (code : ProcessCode) (ok : Checked code) where
     order_next a effect (forks p s first count live fork now len same launched others e l u) = forked a p s first count live fork now len launched others l u
     order_next a effect (joins p s first count live join now len same dismissed others e l u) = joined a p s first count live join now len dismissed others
     order_next a effect (stops p s live at now others e) =
-        alone a p s End Over live at (λ first count e. cc) now (λ e. cc) tt (λ q' first count u e join. cc) others
+        alone a p s End Ended live at (λ first count e. cc) now (λ e. cc) tt (λ q' first count u e join. cc) others
 
     -- arm 0 stays begun where nothing fails
     begun_next : (a : ℕ) (effect : Effect) → Turn code ok T T' a effect → ((kind : FaultKind) → effect ≡ Faults kind → ⊥) → (T 0 ≡ Idle → ⊥) → T' 0 ≡ Idle → ⊥
@@ -270,7 +271,7 @@ module _ (code : ProcessCode) (ok : Checked code) where
         ⊎_elim (λ e. let z : Live (p + 1) s ≡ Idle = sym now ∙ (ap T' (sym e) ∙ idle) in cc) (λ ne. busy (sym (others
         0 ne (inl (omega (arith, l)))) ∙ idle)) (same_or_not 0 a)
     begun_next a effect (stops p s live at now others e) none busy idle =
-        ⊎_elim (λ e. let z : Over ≡ Idle = sym now ∙ (ap T' (sym e) ∙ idle) in cc) (λ ne. busy (sym (others 0 ne) ∙ idle)) (same_or_not 0 a)
+        ⊎_elim (λ e. let z : Ended ≡ Idle = sym now ∙ (ap T' (sym e) ∙ idle) in cc) (λ ne. busy (sym (others 0 ne) ∙ idle)) (same_or_not 0 a)
 
     -- a step fails and leaves all idle, or is that of a live arm and doesn't fail
     pub fails_or_lives : (a : ℕ) (effect : Effect) → Turn code ok T T' a effect

@@ -14,7 +14,7 @@ use Rattle.pb_verifier.proofs.HeldAmounts.{held_is}
 use Rattle.pb_verifier.proofs.Each.{same_read}
 use Rattle.pb_verifier.proofs.ForkTables.{arm_of}
 use Rattle.pb_verifier.proofs.Greatest.{least}
-use Rattle.pb_verifier.proofs.Lying.{entry_in_arm, place_has, fork_in_arm}
+use Rattle.pb_verifier.proofs.ArmPlaces.{entry_in_arm, place_has, fork_in_arm}
 
 pub sum_more : (f : ℕ → ℕ) (first k : ℕ) → sum_of_arms f first (k + 1) ≡ sum_of_arms f first k + f (first + k)
 sum_more f first zero = let e : f first ≡ f (first + 0) = ap f (omega arith) in omega (arith, e)

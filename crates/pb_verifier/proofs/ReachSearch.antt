@@ -7,7 +7,7 @@ use Rattle.std.proofs.lemmas.List.Sums.{sum_by-set}
 use Rattle.std.proofs.lemmas.List.Elements.{Contains-append_left, Contains-push, Contains-push_cases, Contains-get_or}
 use Rattle.std.proofs.lemmas.Bool.{cases_lt, cases_eq, both_ways}
 use Rattle.pb_code.specs.Code.{Instr}
-use Rattle.pb_verifier.specs.Flow.{Follows, followers, IsReached, reached_entry, reached_next, StaysInside, IsGrown, LeadsBelow, target_of, goes_on, with_marks, with_place, with_places}
+use Rattle.pb_verifier.specs.Flow.{FlowsTo, followers, IsReachedPlace, reached_entry, reached_next, StaysInside, IsGrown, LeadsBelow, target_of, goes_on, with_marks, with_place, with_places}
 
 -- how many places are not found yet
 abbrev pub unmarked : List Bool → ℕ
@@ -22,13 +22,13 @@ pub record IsSearch (entries : List ℕ) (instrs : List Instr) (next : ℕ) (fou
   pub counted : length order + unmarked found ≡ length instrs
   pub next_in : next ≤ length order
   pub marked : Marks found order
-  pub reached : (p : ℕ) → Contains order p → IsReached entries instrs p
-  pub closed : (k q : ℕ) → k < next → Follows instrs (get_or order k 0) q → Contains order q
+  pub reached : (p : ℕ) → Contains order p → IsReachedPlace entries instrs p
+  pub closed : (k q : ℕ) → k < next → FlowsTo instrs (get_or order k 0) q → Contains order q
   pub grown : IsGrown entries instrs order
 
 -- what makes a place worth visiting: it is an entry, or follows the place at hand
 abbrev pub IsDue : List ℕ → List Instr → ℕ → List ℕ → ℕ → Type 0
-IsDue entries instrs next order p = Contains entries p ⊎ ((next < length order) × Follows instrs (get_or order next 0) p)
+IsDue entries instrs next order p = Contains entries p ⊎ ((next < length order) × FlowsTo instrs (get_or order next 0) p)
 
 -- the order grew
 abbrev pub Extends : List ℕ → List ℕ → Type 0
@@ -60,7 +60,7 @@ pub record Visited (entries : List ℕ) (instrs : List Instr) (next : ℕ) (foun
   pub there : Contains order' p
 
 abbrev pub IsGrownAt : List ℕ → List Instr → List ℕ → ℕ → ℕ → Type 0
-IsGrownAt entries instrs order k p = Contains entries p ⊎ ((j : ℕ) × (j < k) × Follows instrs (get_or order j 0) p)
+IsGrownAt entries instrs order k p = Contains entries p ⊎ ((j : ℕ) × (j < k) × FlowsTo instrs (get_or order j 0) p)
 
 pub grown_extends : (entries : List ℕ) (instrs : List Instr) (order longer : List ℕ) (k p : ℕ) → Extends order longer
     → k ≤ length order → IsGrownAt entries instrs order k p → IsGrownAt entries instrs longer k p
@@ -68,7 +68,7 @@ grown_extends entries instrs order longer k p e u (inl c) = inl c
 grown_extends entries instrs order longer k p e u (inr f) =
     let b : f.0 < k = f.1 in
     let w : f.0 < length order = omega arith in
-    inr (f.0, f.1, subst (λ (x : ℕ). Follows instrs x p) (sym (extends_at order longer f.0 e w)) f.2)
+    inr (f.0, f.1, subst (λ (x : ℕ). FlowsTo instrs x p) (sym (extends_at order longer f.0 e w)) f.2)
 
 visit_new : (entries : List ℕ) (instrs : List Instr) (next : ℕ) (found : List Bool) (order : List ℕ) (p : ℕ) →
     IsSearch entries instrs next found order → p < length found → IsDue entries instrs next order p
@@ -91,7 +91,7 @@ visit_new entries instrs next found order p h u due fresh =
         reached = λ q c. reaches q (Contains-push_cases order p q c);
         closed = λ k q v f.
             let w : k < length order = let c : next ≤ length order = h.next_in in omega arith in
-            Contains-append_left order (p ∷ []) q (h.closed k q v (subst (λ (x : ℕ). Follows instrs x q) (extends_at order (order ++ p ∷ []) k grew w) f));
+            Contains-append_left order (p ∷ []) q (h.closed k q v (subst (λ (x : ℕ). FlowsTo instrs x q) (extends_at order (order ++ p ∷ []) k grew w) f));
         grown = λ k v. grows k v (cases_lt k (length order));
       };
       extends = grew;
@@ -104,13 +104,13 @@ visit_new entries instrs next found order p h u due fresh =
         let l : length (set found p true) ≡ length found = length-set found p true in
         Contains-append_left order (p ∷ []) q (h.marked q (omega arith) (sym (get_or-set_other found p q true true other) ∙ e))
 
-    due_reached : IsDue entries instrs next order p → IsReached entries instrs p
+    due_reached : IsDue entries instrs next order p → IsReachedPlace entries instrs p
     due_reached (inl c) = reached_entry p c
     due_reached (inr f) = reached_next (get_or order next 0) p (h.reached (get_or order next 0) (Contains-get_or order next 0 f.0)) f.1
 
-    reaches : (q : ℕ) → Contains order q ⊎ (p ≡ q) → IsReached entries instrs q
+    reaches : (q : ℕ) → Contains order q ⊎ (p ≡ q) → IsReachedPlace entries instrs q
     reaches q (inl c) = h.reached q c
-    reaches q (inr same) = subst (λ (x : ℕ). IsReached entries instrs x) same (due_reached due)
+    reaches q (inr same) = subst (λ (x : ℕ). IsReachedPlace entries instrs x) same (due_reached due)
 
     grew : Extends order (order ++ p ∷ [])
     grew = (p ∷ [], refl)
@@ -132,7 +132,7 @@ visit_new entries instrs next found order p h u due fresh =
         newest k w (inr f) =
             let b : next < length order = f.0 in
             let b' : next < k = omega arith in
-            inr (next, b', subst (λ (x : ℕ). Follows instrs x p) (sym (extends_at order (order ++ p ∷ []) next grew f.0)) f.1)
+            inr (next, b', subst (λ (x : ℕ). FlowsTo instrs x p) (sym (extends_at order (order ++ p ∷ []) next grew f.0)) f.1)
 
 -- a place that is found already is marked again
 visit_old : (entries : List ℕ) (instrs : List Instr) (next : ℕ) (found : List Bool) (order : List ℕ) (p : ℕ) →
@@ -169,7 +169,7 @@ due_extends entries instrs next order longer p e (inr f) =
     let a : next < length order = f.0 in
     let b : length order ≤ length longer = extends_length order longer e in
     let u : next < length longer = omega arith in
-    inr (u, subst (λ (x : ℕ). Follows instrs x p) (sym (extends_at order longer next e f.0)) f.1)
+    inr (u, subst (λ (x : ℕ). FlowsTo instrs x p) (sym (extends_at order longer next e f.0)) f.1)
 
 pub contains_head : (p : ℕ) (ps : List ℕ) → Contains (p ∷ ps) p
 contains_head p ps = (0, omega arith, refl)
@@ -219,7 +219,7 @@ visit_all entries instrs next found order (p ∷ places) h due =
 -- the place at hand is done once all that follow it are found
 pub search_next : (entries : List ℕ) (instrs : List Instr) (next : ℕ) (found : List Bool) (order : List ℕ) → IsSearch
     entries instrs next found order → next < length order
-    → ((q : ℕ) → Follows instrs (get_or order next 0) q → Contains order q) → IsSearch entries instrs (next + 1) found order
+    → ((q : ℕ) → FlowsTo instrs (get_or order next 0) q → Contains order q) → IsSearch entries instrs (next + 1) found order
 search_next entries instrs next found order h u all =
     let w : next + 1 ≤ length order = omega arith in
     record {
@@ -233,24 +233,24 @@ search_next entries instrs next found order h u all =
       grown = h.grown;
     }
   where
-    closed : (k q : ℕ) → k < next + 1 → (k < next) ⊎ (next ≤ k) → Follows instrs (get_or order k 0) q → Contains order q
+    closed : (k q : ℕ) → k < next + 1 → (k < next) ⊎ (next ≤ k) → FlowsTo instrs (get_or order k 0) q → Contains order q
     closed k q v (inl w) f = h.closed k q w f
     closed k q v (inr w) f =
         let e : k ≡ next = omega arith in
-        all q (subst (λ (x : ℕ). Follows instrs (get_or order x 0) q) e f)
+        all q (subst (λ (x : ℕ). FlowsTo instrs (get_or order x 0) q) e f)
 
 -- at the end exactly the reached places are found
 pub search_over : (entries : List ℕ) (instrs : List Instr) (next : ℕ) (found : List Bool) (order : List ℕ) → IsSearch
     entries instrs next found order → length order ≤ next
-    → ((p : ℕ) → Contains entries p → Contains order p) → (p : ℕ) → IsReached entries instrs p → Contains order p
+    → ((p : ℕ) → Contains entries p → Contains order p) → (p : ℕ) → IsReachedPlace entries instrs p → Contains order p
 search_over entries instrs next found order h u starts _ (reached_entry p c) = starts p c
 search_over entries instrs next found order h u starts _ (reached_next p q r f) = next_of p q (search_over entries instrs next found order h u starts p r) f
   where
-    next_of : (p q : ℕ) → Contains order p → Follows instrs p q → Contains order q
+    next_of : (p q : ℕ) → Contains order p → FlowsTo instrs p q → Contains order q
     next_of p q c f =
         let w : c.0 < length order = c.1 in
         let v : c.0 < next = omega arith in
-        h.closed c.0 q v (subst (λ (x : ℕ). Follows instrs x q) (sym (get_or_default order c.0 0 p c.1 ∙ c.2)) f)
+        h.closed c.0 q v (subst (λ (x : ℕ). FlowsTo instrs x q) (sym (get_or_default order c.0 0 p c.1 ∙ c.2)) f)
 
 pub search_start : (entries : List ℕ) (instrs : List Instr) (found : List Bool) → length found ≡ length instrs →
     unmarked found ≡ length instrs → ((p : ℕ) → get_or found p false ≡ false) → IsSearch entries instrs 0 found []
@@ -270,7 +270,7 @@ search_start entries instrs found l n none =
     marked : (p : ℕ) → p < length found → get_or found p true ≡ true → Contains [] p
     marked p u e = absurd (both_ways (get_or found p true) (get_or_default found p true false u ∙ none p) e)
 
-pub reached_inside : (entries : List ℕ) (instrs : List Instr) → StaysInside entries instrs → (p : ℕ) → IsReached entries instrs p → p < length instrs
+pub reached_inside : (entries : List ℕ) (instrs : List Instr) → StaysInside entries instrs → (p : ℕ) → IsReachedPlace entries instrs p → p < length instrs
 reached_inside entries instrs inside _ (reached_entry p c) = inside.starts p c
 reached_inside entries instrs inside _ (reached_next p q r f) = inside.next p q f
 
@@ -304,10 +304,10 @@ module _ (entries : List ℕ) (instrs : List Instr) (next : ℕ) (found : List B
 
   pub hand_due : (q : ℕ) → Contains (followers i p) q → (q < length found) × IsDue entries instrs next order q
   hand_due q c =
-      let f : Follows instrs p q = (i, hand_read, c) in
+      let f : FlowsTo instrs p q = (i, hand_read, c) in
       let l : length found ≡ length instrs = h.search.sized in
       let u : q < length instrs = h.inside.next p q f in
-      (omega arith, inr (h.within, subst (λ (x : ℕ). Follows instrs x q) hand_place f))
+      (omega arith, inr (h.within, subst (λ (x : ℕ). FlowsTo instrs x q) hand_place f))
 
   pub hand_target : IfSome (target_of i) (λ q. q < length found)
   hand_target = go (target_of i) (λ q e. (hand_due q (jumps q e)).0)
@@ -342,10 +342,10 @@ module _ (entries : List ℕ) (instrs : List Instr) (next : ℕ) (found : List B
       order (followers i p)) next all.extends h.within ∙ sym hand_place in (
         all,
         search_next entries instrs next (with_marks found (followers i p)) (with_places found order (followers i p)) all.search u
-            (λ q f. follows q (subst (λ (x : ℕ). Follows instrs x q) same f)),
+            (λ q f. follows q (subst (λ (x : ℕ). FlowsTo instrs x q) same f)),
       )
     where
-      follows : (q : ℕ) → Follows instrs p q → Contains (with_places found order (followers i p)) q
+      follows : (q : ℕ) → FlowsTo instrs p q → Contains (with_places found order (followers i p)) q
       follows q f =
           let e : Some f.0 ≡ Some i = sym f.1 ∙ hand_read in
           let e' : f.0 ≡ i = cc in

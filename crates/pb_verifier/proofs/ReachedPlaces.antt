@@ -10,13 +10,13 @@ use Rattle.pb_code.specs.Code.{Instr, End, ProcessCode}
 use Rattle.pb_verifier.specs.declared.amounts.Amount.{Amount}
 use Rattle.pb_verifier.specs.Amounts.{IsPeakOf, clamped, held_at}
 use Rattle.pb_verifier.specs.Faults.{ArePeaks, HasArms, HasForks, in_holdings, in_joined}
-use Rattle.pb_verifier.specs.Flow.{IsReached, StaysInside, followers, with_marks, with_places}
+use Rattle.pb_verifier.specs.Flow.{IsReachedPlace, StaysInside, followers, with_marks, with_places}
 use Rattle.pb_verifier.specs.Limits.{IsSmallProcess}
 use Rattle.pb_verifier.specs.Places.{InstrAt, IsInArm, Reached, arm_end, arms, entry}
 use Rattle.pb_verifier.proofs.ArmOrder.{arm_lies, rise_of}
 use Rattle.pb_verifier.proofs.FaultFacts.{is_listed, listed_from, listed_to, reached_from, reached_to}
 use Rattle.pb_verifier.proofs.Inside.{stays_inside}
-use Rattle.pb_verifier.proofs.Lying.{place_has}
+use Rattle.pb_verifier.proofs.ArmPlaces.{place_has}
 use Rattle.pb_verifier.proofs.PeakTables.{AreLast, IsBest, best_more, best_over, best_skip, best_start, last_more, last_none, replicate_read}
 use Rattle.pb_verifier.proofs.ReachSearch.{IsSearch, extends_contains, hand_done, hand_inside, search_over, search_start, unmarked, visit_all}
 
@@ -25,7 +25,7 @@ use Rattle.pb_verifier.proofs.ReachSearch.{IsSearch, extends_contains, hand_done
 module _ (entries : List ℕ) (instrs : List Instr) (inside : StaysInside entries instrs) where
   -- a list of the reached places
   abbrev ListsReached : List ℕ → Type 0
-  ListsReached order = (p : ℕ) → Contains order p ↔ IsReached entries instrs p
+  ListsReached order = (p : ℕ) → Contains order p ↔ IsReachedPlace entries instrs p
 
   unmarked_none : (n : ℕ) → unmarked (replicate n false) ≡ n
   unmarked_none n = let each = sum_by-replicate (λ (b : Bool). cond {A = ℕ} b 0 1) n false in omega (arith, each)
@@ -64,7 +64,7 @@ module _ (entries : List ℕ) (instrs : List Instr) (inside : StaysInside entrie
         (λ p c. extends_contains order (with_places found order (followers i (get_or order next 0))) p done.0.extends (starts p c))
   ]
 
-  pub reached_list : (all : List ℕ) × ((p : ℕ) → Contains all p ↔ IsReached entries instrs p)
+  pub reached_list : (all : List ℕ) × ((p : ℕ) → Contains all p ↔ IsReachedPlace entries instrs p)
   reached_list =
       let none : List Bool = replicate (length instrs) false in
       let sized : length none ≡ length instrs = length-replicate (length instrs) false in
@@ -92,7 +92,7 @@ module _ (code : ProcessCode) (lie : HasArms code) (fork : HasForks code) (small
   is_reached : (p : ℕ) → Reached code p ⊎ (Reached code p → ⊥)
   is_reached p = go (is_listed all.0 p) refl
     where
-      all : (all : List ℕ) × ((p : ℕ) → Contains all p ↔ IsReached code.entries code.instrs p)
+      all : (all : List ℕ) × ((p : ℕ) → Contains all p ↔ IsReachedPlace code.entries code.instrs p)
       all = reached_list code.entries code.instrs (stays_inside code lie some small.some_places.1)
 
       go : (b : Bool) → is_listed all.0 p ≡ b → Reached code p ⊎ (Reached code p → ⊥)

@@ -9,17 +9,17 @@ use Rattle.pb_base.specs.Banker.{BankerState, capital, claim, loan, processes, r
 use Rattle.pb_base.specs.Steppers.{Bundle, Table, Effect, Silent, Prints, Takes, Returns, Faults, Finishes, IsGranted, State, Move, banker_state, ending, event_of, loans_after, moved, move_of}
 use Rattle.pb_base.proofs.BankerLaws.{fewer_loans_stay_safe, loan-with_loan, loan-with_loan_other}
 use Rattle.pb_base.proofs.Groups.{range_below, sum_by-le_on}
-use Rattle.pb_base.proofs.Lending.{amount_in-le, get_or-lend, length-lend}
+use Rattle.pb_base.proofs.LoanRows.{amount_in-le, get_or-lend, length-lend}
 use Rattle.pb_base.proofs.Rows.{IsWellFormed-with_row}
-use Rattle.pb_code.specs.Code.{Instr, Take, ProcessCode, Thread, Idle, Live, Over, CodeProcess, thread, step_thread, step_process, code_step, act, apply_step}
+use Rattle.pb_code.specs.Code.{Instr, Take, ProcessCode, Thread, Idle, Live, Ended, CodeProcess, thread, step_thread, step_process, code_step, act, apply_step}
 use Rattle.pb_code.specs.Whole.{Code, bank_of}
 use Rattle.pb_verifier.specs.Limits.{IsSmallBundle}
 use Rattle.pb_verifier.specs.Places.{InstrAt}
-use Rattle.pb_verifier.specs.Requests.{IsRefused, frees, RefusedStays, RefusedStops}
+use Rattle.pb_verifier.specs.Requests.{IsDenied, frees, RefusedStays, RefusedStops}
 use Rattle.pb_verifier.specs.Verified.{IsAnnotated}
 use Rattle.pb_verifier.specs.declared.fault.VerifyFault.TheVariants.{OutOfLimits}
-use Rattle.pb_verifier.proofs.Banking.{Kept, kept_next, kept_reached, well_formed}
-use Rattle.pb_verifier.proofs.Lying.{Checked}
+use Rattle.pb_verifier.proofs.LoansWithinClaims.{Kept, kept_next, kept_reached, well_formed}
+use Rattle.pb_verifier.proofs.ArmPlaces.{Checked}
 use Rattle.pb_verifier.proofs.Order.{same_or_not, among_or_not, idle_before}
 use Rattle.pb_verifier.proofs.States.{code_move, checked, bundles_small, slice_set_other}
 use Rattle.pb_verifier.proofs.Turns.{Turn, runs, traps, forks, joins, stops, InOrder, turned}
@@ -126,7 +126,7 @@ module _ (code : ProcessCode) (ok : Checked code) (T T' : ℕ → Thread) where
       (λ out. others b ne out)
       (among_or_not first count b)
   others_stay order a effect (joins q s first count live join now len same dismissed others e l r) fine b p u ne there = ⊎_elim
-      (λ among. let z : Over ≡ Live p u = sym (dismissed b among).0 ∙ there in cc)
+      (λ among. let z : Ended ≡ Live p u = sym (dismissed b among).0 ∙ there in cc)
       (λ out. others b ne out)
       (among_or_not first count b)
   others_stay order a effect (stops q s live instr now others e) fine b p u ne there = others b ne
@@ -220,7 +220,7 @@ module _ (whole : Code) (annotated : IsAnnotated whole) where
       let kept' = kept_next whole annotated s pick move kept m moves.2 in
       let still : (move : Move CodeProcess) × (move_of (code_step whole.processes) next refused ≡ Some move) × (move.effect ≡ Takes r.bundle) = ⊎_elim
       (λ e. ⊎_elim
-      (λ a. elim (refused_stops s next pick event (subst (IsRefused whole s) (same_pick refused pick e a) r) moves) [ ])
+      (λ a. elim (refused_stops s next pick event (subst (IsDenied whole s) (same_pick refused pick e a) r) moves) [ ])
       (λ ne.
       let same_code : w.code ≡ m.code = (let both : Some w.code ≡ Some m.code = sym w.at ∙ (ap (slice_get whole.processes) e ∙ m.at) in cc) in
       let same_before : w.before ≡ m.before = (let both : Some w.before ≡ Some m.before = sym w.here ∙ (ap (slice_get s.processes) e ∙ m.here) in cc) in

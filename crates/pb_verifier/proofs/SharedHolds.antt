@@ -6,7 +6,7 @@ use Rattle.std.proofs.lemmas.List.{get_or_past}
 use Rattle.pb_code.specs.Code.{Instr}
 use Rattle.pb_verifier.specs.declared.holdings.Holding.{Holding}
 use Rattle.pb_verifier.specs.Spread.{fact_at, notes_of, tail, AllReadable, IsKept}
-use Rattle.pb_verifier.specs.Holdings.{taken, last_of, held, IsChain, held_by, CanBeRead}
+use Rattle.pb_verifier.specs.Holdings.{taken, last_of, held, IsChain, held_bundles, CanBeRead}
 use Rattle.pb_verifier.proofs.Chains.{held_before}
 use Rattle.pb_verifier.proofs.FactTables.{kept_twice}
 
@@ -16,7 +16,7 @@ record Swap (instrs : List Instr) (table : List (Option Holding)) (p : ℕ) (old
   here : fact_at table p ≡ Some old
   count : new.count ≡ old.count
   readable : CanBeRead instrs table new
-  means : held_by instrs table new ≡ held_by instrs table old
+  means : held_bundles instrs table new ≡ held_bundles instrs table old
 
 module _ (instrs : List Instr) (table : List (Option Holding)) (p : ℕ) (old new : Holding)
     (swap : Swap instrs table p old new) where
@@ -68,7 +68,7 @@ module _ (instrs : List Instr) (table : List (Option Holding)) (p : ℕ) (old ne
   swap_list (suc n) last chain = list_longer n last chain (swap_list n)
 
   swap_kept : AllReadable (CanBeRead instrs table) table
-      → IsKept (held_by instrs) (CanBeRead instrs) table Later
+      → IsKept (held_bundles instrs) (CanBeRead instrs) table Later
   swap_kept all = record {
     sized = length-set table p (Some new);
     readable = λ q f e. readable q f e (cases_eq q p);
@@ -77,7 +77,7 @@ module _ (instrs : List Instr) (table : List (Option Holding)) (p : ℕ) (old ne
   }
     where
       facts : (f : Holding) → CanBeRead instrs table f
-          → CanBeRead instrs Later f × (held_by instrs Later f ≡ held_by instrs table f)
+          → CanBeRead instrs Later f × (held_bundles instrs Later f ≡ held_bundles instrs table f)
       facts f r = let k : KeepsList f.count f.last = swap_list f.count f.last r.0 in ((k.0, r.1), k.1)
 
       now : (q : ℕ) → q ≡ p → fact_at Later q ≡ Some new
@@ -93,22 +93,22 @@ module _ (instrs : List Instr) (table : List (Option Holding)) (p : ℕ) (old ne
           (facts f (all q f (sym (get_or-set_other table p q (Some new) None other) ∙ e))).0
 
       noted : (q : ℕ) (o : Option Holding) → fact_at table q ≡ o
-          → option_map (held_by instrs Later) (fact_at table q)
-          ≡ option_map (held_by instrs table) (fact_at table q)
+          → option_map (held_bundles instrs Later) (fact_at table q)
+          ≡ option_map (held_bundles instrs table) (fact_at table q)
       noted q None e =
-          ap (option_map (held_by instrs Later)) e ∙ sym (ap (option_map (held_by instrs table)) e)
+          ap (option_map (held_bundles instrs Later)) e ∙ sym (ap (option_map (held_bundles instrs table)) e)
       noted q (Some f) e =
-          ap (option_map (held_by instrs Later)) e ∙ ap Some (facts f (all q f e)).1
-          ∙ sym (ap (option_map (held_by instrs table)) e)
+          ap (option_map (held_bundles instrs Later)) e ∙ ap Some (facts f (all q f e)).1
+          ∙ sym (ap (option_map (held_bundles instrs table)) e)
 
       notes : (q : ℕ) → (q ≡ p) ⊎ (q ≢ p)
-          → notes_of (held_by instrs Later) Later q ≡ notes_of (held_by instrs table) table q
+          → notes_of (held_bundles instrs Later) Later q ≡ notes_of (held_bundles instrs table) table q
       notes q (inl same) =
-          ap (option_map (held_by instrs Later)) (now q same)
+          ap (option_map (held_bundles instrs Later)) (now q same)
           ∙ ap Some ((facts new swap.readable).1 ∙ swap.means)
-          ∙ sym (ap (option_map (held_by instrs table)) (ap (fact_at table) same ∙ swap.here))
+          ∙ sym (ap (option_map (held_bundles instrs table)) (ap (fact_at table) same ∙ swap.here))
       notes q (inr other) =
-          ap (option_map (held_by instrs Later)) (get_or-set_other table p q (Some new) None other)
+          ap (option_map (held_bundles instrs Later)) (get_or-set_other table p q (Some new) None other)
           ∙ noted q (fact_at table q) refl
 
 -- two equal lists of n holds in a table that came from another
@@ -116,7 +116,7 @@ pub record AreEqual (instrs : List Instr) (first table : List (Option Holding)) 
   pub one : IsChain instrs table n a
   pub two : IsChain instrs table n b
   pub same : held instrs table n a ≡ held instrs table n b
-  pub kept : IsKept (held_by instrs) (CanBeRead instrs) first table
+  pub kept : IsKept (held_bundles instrs) (CanBeRead instrs) first table
 
 noted_inside : (table : List (Option Holding)) (p : ℕ) (f : Holding)
     → fact_at table p ≡ Some f → p < length table
@@ -151,6 +151,6 @@ share_step instrs first table n a b x y equal u notex notey =
       one = onward.0;
       two = other.0;
       same = onward.1 ∙ tails ∙ sym other.1;
-      kept = kept_twice (held_by instrs) (CanBeRead instrs) first table (set table b (Some x)) equal.kept
+      kept = kept_twice (held_bundles instrs) (CanBeRead instrs) first table (set table b (Some x)) equal.kept
           (swap_kept instrs table b y x swap equal.kept.readable);
     }

@@ -9,7 +9,7 @@ use Rattle.pb_base.specs.declared.operators.FaultKind.{FaultKind}
 use Rattle.pb_base.specs.Bundle.{amount_in, lend, give_back}
 use Rattle.pb_base.specs.Banker.{cell}
 use Rattle.pb_base.specs.Steppers.{Bundle, Table}
-use Rattle.pb_base.proofs.Lending.{AllBelow, get_or-lend, get_or-give_back, length-lend, length-give_back, amount_in-absent}
+use Rattle.pb_base.proofs.LoanRows.{AllBelow, get_or-lend, get_or-give_back, length-lend, length-give_back, amount_in-absent}
 use Rattle.pb_code.specs.Whole.{Code, code_opening}
 use Rattle.pb_base.specs.declared.pick.Pick.{Pick}
 use Rattle.pb_base.specs.Steppers.{Effect, Silent, Prints, Takes, Returns, Faults, Finishes, ending, loans_after, State, Move, moved, move_of}
@@ -21,7 +21,7 @@ use Rattle.pb_verifier.specs.Faults.{in_holdings}
 use Rattle.pb_verifier.specs.Verified.{IsAnnotated}
 use Rattle.pb_verifier.specs.declared.fault.VerifyFault.TheVariants.{OutOfLimits, OutOfRange, WrongArms, WrongForks, NoDepths, NoHoldings, LeftAtEnd, OverClaim}
 use Rattle.pb_verifier.proofs.Threads.{taken, given}
-use Rattle.pb_verifier.proofs.Lying.{Checked, follows_in_arm, fork_in_arm, place_has, held_next}
+use Rattle.pb_verifier.proofs.ArmPlaces.{Checked, follows_in_arm, fork_in_arm, place_has, held_next}
 use Rattle.pb_verifier.proofs.Turns.{Turn, runs, traps, forks, joins, stops, Fit, turned, can_act}
 use Rattle.pb_verifier.proofs.PeakTables.{replicate_read}
 use Rattle.pb_verifier.proofs.Order.{same_or_not, idle_before, order_next, fails_or_lives, fit_next, fit_start}

@@ -5,7 +5,7 @@ use Rattle.std.proofs.lemmas.List.{get_or_default}
 use Rattle.std.proofs.lemmas.List.Elements.{Contains-get_or}
 use Rattle.std.proofs.lemmas.Bool.{cases_eq, cases_lt}
 use Rattle.pb_code.specs.Code.{Instr}
-use Rattle.pb_verifier.specs.Flow.{followers, IsGrown, IsReached, reached_entry, reached_next, StaysInside, LeadsBelow}
+use Rattle.pb_verifier.specs.Flow.{followers, IsGrown, IsReachedPlace, reached_entry, reached_next, StaysInside, LeadsBelow}
 use Rattle.pb_verifier.specs.Spread.{Rules, IsAnnotation, CanBeAnnotated, fact_at, notes_of, AllReadable, AgreesAt, IsKept, with_notes}
 use Rattle.pb_verifier.proofs.ReachSearch.{reached_inside, leads_below}
 use Rattle.pb_verifier.proofs.FactSpread.{IsSpread, Extended, spread_noted, refuted_fit, next_agrees, spread_same, spread_step}
@@ -16,7 +16,7 @@ use Rattle.pb_verifier.proofs.FactNotes.{Noted, note_all}
 -- the order of the reached places
 pub record IsOrder (entries : List ℕ) (instrs : List Instr) (order : List ℕ) : Type 0 where
   pub inside : StaysInside entries instrs
-  pub reached : (p : ℕ) → Contains order p ↔ IsReached entries instrs p
+  pub reached : (p : ℕ) → Contains order p ↔ IsReachedPlace entries instrs p
   pub grown : IsGrown entries instrs order
 
 module _ (entries : List ℕ) (instrs : List Instr) (order : List ℕ) (h : IsOrder entries instrs order) where

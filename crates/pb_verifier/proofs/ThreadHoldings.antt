@@ -5,11 +5,11 @@ use Rattle.std.proofs.lemmas.List.{length-map}
 use Rattle.std.proofs.Math.ListN.{get_or-map}
 use Rattle.pb_base.specs.declared.operators.FaultKind.{FaultKind}
 use Rattle.pb_base.specs.Steppers.{Effect, Faults, ending}
-use Rattle.pb_code.specs.Code.{Instr, Push, Load, Store, Compute1, Compute2, Jump, JumpIfZero, PrintTop, Take, Give, Fork, Join, End, ProcessCode, Thread, Idle, Live, Over, thread, code_process}
+use Rattle.pb_code.specs.Code.{Instr, Push, Load, Store, Compute1, Compute2, Jump, JumpIfZero, PrintTop, Take, Give, Fork, Join, End, ProcessCode, Thread, Idle, Live, Ended, thread, code_process}
 use Rattle.pb_verifier.specs.Places.{arms}
 use Rattle.pb_verifier.specs.Faults.{in_holdings, in_joined, StayUnder}
 use Rattle.pb_verifier.proofs.Threads.{taken, given}
-use Rattle.pb_verifier.proofs.Lying.{Checked, place_has}
+use Rattle.pb_verifier.proofs.ArmPlaces.{Checked, place_has}
 use Rattle.pb_verifier.proofs.Turns.{Turn, runs, traps, forks, joins, stops, InOrder}
 use Rattle.pb_verifier.proofs.Order.{same_or_not, among_or_not, idle_before}
 use Rattle.pb_verifier.proofs.Sums.{total, total_same, total_le, total_add, total_zero, total_swap, part_le, total_change, at_one, one_le, at_range, range_le, in_range}
@@ -20,7 +20,7 @@ module _ (code : ProcessCode) (ok : Checked code) where
   abbrev pub held_by : ℕ → Thread → ℕ
   held_by r Idle = 0
   held_by r (Live p s) = in_holdings r (ok.held p)
-  held_by r Over = 0
+  held_by r Ended = 0
 
   abbrev pub holds : ℕ → (ℕ → Thread) → ℕ
   holds r T = total (arms code) (λ a. held_by r (T a))
@@ -88,7 +88,7 @@ module _ (code : ProcessCode) (ok : Checked code) where
       go : (b : ℕ) (t : Thread) → T b ≡ t → held_by r (T b) ≡ 0
       go b Idle e = ap (held_by r) e
       go b (Live p s) e = elim (none b p s e) [ ]
-      go b Over e = ap (held_by r) e
+      go b Ended e = ap (held_by r) e
 
   pub holds_start : (r : ℕ) → holds r (thread (code_process code).threads) ≡ 0
   holds_start r = total_same (arms code) (λ b. held_by r (thread (code_process code).threads b)) (λ b. 0) at ∙ total_zero (arms code)
@@ -116,7 +116,7 @@ module _ (code : ProcessCode) (ok : Checked code) where
     abbrev busy : ℕ → Thread → ℕ
     busy c Idle = 0
     busy c (Live p s) = peak c
-    busy c Over = peak c
+    busy c Ended = peak c
 
     -- what an arm that waits for arm c leaves to it
     abbrev instr_leaves : Instr → ℕ → ℕ
@@ -130,7 +130,7 @@ module _ (code : ProcessCode) (ok : Checked code) where
     abbrev leaves : Thread → ℕ → ℕ
     leaves Idle c = 0
     leaves (Live p s) c = place_leaves (slice_get code.instrs p) c
-    leaves Over c = 0
+    leaves Ended c = 0
 
     leaves_le : (i : Instr) → total (arms code) (instr_leaves i) ≤ in_joined peak i
     leaves_le (Push v) = let z = total_zero (arms code) in omega (arith, z)
@@ -153,7 +153,7 @@ module _ (code : ProcessCode) (ok : Checked code) where
       where
         go : (t : Thread) → T b ≡ t → held_by r t + total (arms code) (leaves t) ≤ busy b t
         go Idle e = let z = total_zero (arms code) in omega (arith, z)
-        go Over e = let z = total_zero (arms code) in omega (arith, z)
+        go Ended e = let z = total_zero (arms code) in omega (arith, z)
         go (Live p s) e =
             let here = order.stands b p s e in
             let i = place_has code ok.lie b p here.0 in
@@ -170,7 +170,7 @@ module _ (code : ProcessCode) (ok : Checked code) where
         top : (t : Thread) → (⊥) ⊎ (busy 0 t ≤ at_one peak 0 0 + total (arms code) (λ b. leaves (T b) 0))
         top Idle = inr (omega arith)
         top (Live p s) = inr (omega arith)
-        top Over = inr (omega arith)
+        top Ended = inr (omega arith)
     left_to (suc c) u = go (T (suc c)) refl
       where
         waited : (T (suc c) ≡ Idle → ⊥) → peak (suc c) ≤ at_one peak 0 (suc c) + total (arms code) (λ b. leaves (T b) (suc c))
@@ -187,7 +187,7 @@ module _ (code : ProcessCode) (ok : Checked code) where
         go : (t : Thread) → T (suc c) ≡ t → busy (suc c) t ≤ at_one peak 0 (suc c) + total (arms code) (λ b. leaves (T b) (suc c))
         go Idle e = omega arith
         go (Live p s) e = waited (λ z. let y : Live p s ≡ Idle = sym e ∙ z in cc)
-        go Over e = waited (λ z. let y : Over ≡ Idle = sym e ∙ z in cc)
+        go Ended e = waited (λ z. let y : Ended ≡ Idle = sym e ∙ z in cc)
 
     pub under_peak : holds r T ≤ peak 0
     under_peak =

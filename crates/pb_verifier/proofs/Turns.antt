@@ -7,12 +7,12 @@ use Rattle.pb_base.specs.declared.operators.FaultKind.{FaultKind}
 use Rattle.pb_base.specs.Arithmetic.{apply, apply_unary, is_zero}
 use Rattle.pb_base.specs.Steppers.{Bundle}
 use Rattle.pb_base.specs.Steppers.{Effect, Silent, Prints, Takes, Returns, Faults, ending}
-use Rattle.pb_code.specs.Code.{Instr, Push, Load, Store, Compute1, Compute2, Jump, JumpIfZero, PrintTop, Take, Give, Fork, Join, End, ProcessCode, Thread, Idle, Live, Over, CodeProcess, thread, ThreadStep, Runs, Traps, Forks, Joins, Stops, with_result, act, is_over, all_over, dismiss, apply_step, step_thread, step_process}
+use Rattle.pb_code.specs.Code.{Instr, Push, Load, Store, Compute1, Compute2, Jump, JumpIfZero, PrintTop, Take, Give, Fork, Join, End, ProcessCode, Thread, Idle, Live, Ended, CodeProcess, thread, ThreadStep, Runs, Traps, Forks, Joins, Stops, with_result, act, is_over, all_over, dismiss, apply_step, step_thread, step_process}
 use Rattle.pb_verifier.specs.Places.{InstrAt, arms, entry, IsInArm, IsAmong, Follows, Reached}
 use Rattle.pb_verifier.specs.Faults.{in_holdings}
 use Rattle.pb_verifier.proofs.Threads.{taken, given}
 use Rattle.pb_verifier.proofs.Threads.{thread_past, length-launch, launch_out, launch_in, length-dismiss, dismiss_out, dismiss_in}
-use Rattle.pb_verifier.proofs.Lying.{Checked, IsPlain, fork_in_arm, place_has, depth_next, deep, held_next}
+use Rattle.pb_verifier.proofs.ArmPlaces.{Checked, IsPlain, fork_in_arm, place_has, depth_next, deep, held_next}
 
 -- what an instruction does on its own
 pub data Acts (code : ProcessCode) (ok : Checked code) (vars : List ℤ) (i : Instr) (p : ℕ) (s : List ℤ) (step : ThreadStep) : Type 0 where
@@ -155,10 +155,10 @@ pub data Turn (code : ProcessCode) (ok : Checked code) (T T' : ℕ → Thread) (
       effect
   joins : (p : ℕ) (s : List ℤ) (first count : ℕ) → T a ≡ Live p s → InstrAt code p (Join first count)
       → T' a ≡ Live (p + 1) s → length s ≡ ok.depth (p + 1) → ok.held (p + 1) ≡ ok.held p
-      → ((b : ℕ) → IsAmong first count b → (T b ≡ Over) × (T' b ≡ Idle)) → ((b : ℕ) → b ≢ a → (b < first) ⊎ (first +
+      → ((b : ℕ) → IsAmong first count b → (T b ≡ Ended) × (T' b ≡ Idle)) → ((b : ℕ) → b ≢ a → (b < first) ⊎ (first +
       count ≤ b) → T' b ≡ T b) → effect ≡ Silent → a < first → first + count ≤ arms code → Turn code ok T T' a
       effect
-  stops : (p : ℕ) (s : List ℤ) → T a ≡ Live p s → InstrAt code p End → T' a ≡ Over → ((b : ℕ) → b ≢ a → T' b ≡ T b) →
+  stops : (p : ℕ) (s : List ℤ) → T a ≡ Live p s → InstrAt code p End → T' a ≡ Ended → ((b : ℕ) → b ≢ a → T' b ≡ T b) →
       effect ≡ ending a → Turn code ok T T' a effect
 
 -- the parent of an arm that isn't idle is at the join that waits for it
@@ -197,22 +197,22 @@ ending_no_fault zero kind e = cc
 ending_no_fault (suc a) kind e = cc
 
 -- all of a range are over
-over_in : (threads : List Thread) (first n : ℕ) → all_over threads first n ≡ true → (b : ℕ) → IsAmong first n b → thread threads b ≡ Over
+over_in : (threads : List Thread) (first n : ℕ) → all_over threads first n ≡ true → (b : ℕ) → IsAmong first n b → thread threads b ≡ Ended
 over_in threads first zero h b u = elim (let w : ⊥ = let x = u.0 in let y = u.1 in omega (arith, x, y) in w) [ ]
 over_in threads first (suc n) h b u = go (thread threads first) refl h (λ rest l. over_in threads (first + 1) n rest b (l, let y = u.1 in omega (arith, y)))
   where
-    at : thread threads first ≡ Over → (first + 1 ≤ b → thread threads b ≡ Over) → thread threads b ≡ Over
+    at : thread threads first ≡ Ended → (first + 1 ≤ b → thread threads b ≡ Ended) → thread threads b ≡ Ended
     at e later = ⊎_elim (λ l. later (omega (arith, l))) (λ l. let x = u.0 in let same : first ≡ b = omega (
       arith,
       l,
       x,
-    ) in subst (λ k. thread threads k ≡ Over) same e) (cases_lt first b)
+    ) in subst (λ k. thread threads k ≡ Ended) same e) (cases_lt first b)
 
     go : (t : Thread) → thread threads first ≡ t → is_over t && all_over threads (first + 1) n ≡ true → (all_over
-        threads (first + 1) n ≡ true → first + 1 ≤ b → thread threads b ≡ Over) → thread threads b ≡ Over
+        threads (first + 1) n ≡ true → first + 1 ≤ b → thread threads b ≡ Ended) → thread threads b ≡ Ended
     go Idle e z later = cc
     go (Live p s) e z later = cc
-    go Over e z later = at e (later z)
+    go Ended e z later = at e (later z)
 
 module _ (code : ProcessCode) (ok : Checked code) where
   live_within : (threads : List Thread) (a p : ℕ) (s : List ℤ) → thread threads a ≡ Live p s → a < length threads
@@ -320,8 +320,9 @@ module _ (code : ProcessCode) (ok : Checked code) where
       let u = live_within before.threads a p s live in
       made before _ after a (ending a) effect (record {
         vars = refl;
-        threads = length-set before.threads a Over;
-        turn = stops p s live (at ∙ ap Some is) (get_or-set_same before.threads a Over Idle u) (λ b ne. get_or-set_other before.threads a b Over Idle ne) refl;
+        threads = length-set before.threads a Ended;
+        turn = stops p s live (at ∙ ap Some is) (get_or-set_same before.threads a Ended Idle u)
+            (λ b ne. get_or-set_other before.threads a b Ended Idle ne) refl;
         fails = λ kind z. elim (ending_no_fault a kind z) [ ];
         stays = λ none. refl;
       }) (ap (apply_step code before a) (sym same) ∙ h)
@@ -333,7 +334,7 @@ module _ (code : ProcessCode) (ok : Checked code) where
     where
       go : (t : Thread) → thread before.threads a ≡ t → step_thread code before a t ≡ Some (after, effect) → Turned code ok before after a effect
       go Idle e h' = cc
-      go Over e h' = cc
+      go Ended e h' = cc
       go (Live p s) e h' =
           let here = fit.order.stands a p s e in
           let i = place_has code ok.lie a p here.0 in

@@ -2,6 +2,7 @@
 -- public contract cites this file.
 use Rattle.std.specs.Prelude.{◌≡◌, ◌≤◌, ◌<◌, ◌+◌, ◌-◌, ℕ, List, Option, length, min, option_map, unwrap_or, slice_index}
 use Rattle.std.proofs.Common.{ap, arith}
+use Rattle.pb_base.specs.declared.limits.TheConstants.{MAX_ARMS}
 use Rattle.pb_base.specs.Bundle.{amount_in}
 use Rattle.pb_base.specs.Steppers.{Bundle}
 use Rattle.pb_code.specs.Code.{Instr, Push, Load, Store, Compute1, Compute2, Jump, JumpIfZero, PrintTop, Take, Give, Fork, Join, End, ProcessCode}
@@ -78,6 +79,6 @@ pub record IsPeakOf (code : ProcessCode) (table : List (Option Amount)) (peak : 
 
 -- the peaks of the arms from one on, cut off
 pub record AreCutOff (code : ProcessCode) (from : ℕ) (peak : ℕ → ℕ) (peaks : List ℕ) : Type 0 where
-  pub sized : length peaks ≡ 64
+  pub sized : length peaks ≡ MAX_ARMS
   pub small : (b : ℕ) → slice_index peaks b ≤ 1000001
   pub cut : (b : ℕ) → from ≤ b → b < arms code → slice_index peaks b ≡ clamped (peak b)

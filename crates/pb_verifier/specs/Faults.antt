@@ -1,5 +1,6 @@
 -- What code must have to be free of each fault but that of limits.
 use Rattle.std.specs.Prelude.{◌≡◌, ◌≤◌, ◌<◌, ◌⊎◌, ℕ, zero, suc, ◌+◌, List, [], ◌∷◌, length, slice_index, All, ⊤}
+use Rattle.pb_base.specs.declared.limits.TheConstants.{MAX_DEPTH, MAX_HOLDS}
 use Rattle.pb_base.specs.Bundle.{amount_in}
 use Rattle.pb_base.specs.Banker.{cell}
 use Rattle.pb_base.specs.Steppers.{Bundle}
@@ -74,7 +75,7 @@ pushes i = 0
 
 -- an instruction at this depth, of at most 256, finds its operands; the depth is `after` behind it
 abbrev pub TurnsDepth : Instr → ℕ → ℕ → Type 0
-TurnsDepth i depth after = (pops i ≤ depth) × (depth ≤ 256) × (after + pops i ≡ depth + pushes i)
+TurnsDepth i depth after = (pops i ≤ depth) × (depth ≤ MAX_DEPTH) × (after + pops i ≡ depth + pushes i)
 
 abbrev pub AreDepths : ProcessCode → (ℕ → ℕ) → Type 0
 AreDepths code depth = Spreads code TurnsDepth 0 depth
@@ -83,7 +84,7 @@ AreDepths code depth = Spreads code TurnsDepth 0 depth
 
 -- a take adds its bundle, of at most 256; a give has the last as its bundle, and removes it
 abbrev pub TurnsHoldings : Instr → List Bundle → List Bundle → Type 0
-TurnsHoldings (Take bundle) held after = (after ≡ bundle ∷ held) × (length after ≤ 256)
+TurnsHoldings (Take bundle) held after = (after ≡ bundle ∷ held) × (length after ≤ MAX_HOLDS)
 TurnsHoldings (Give bundle) held after = held ≡ bundle ∷ after
 TurnsHoldings i held after = after ≡ held
 

@@ -1,6 +1,7 @@
--- The same places and reached places as lists, for the verifier's own functions: no public contract cites
--- this file.
+-- The places and reached places of Places once more, as lists that the verifier can make, for its own
+-- functions: no public contract cites this file. proofs/FaultFacts.antt shows that both are the same.
 use Rattle.std.specs.Prelude.{◌≡◌, ℕ, ◌+◌, ◌<◌, ◌≤◌, ◌⊎◌, Bool, true, false, cond, List, [], ◌∷◌, ◌++◌, length, Contains, slice_get, slice_index, slice_index_or, slice_set, Option, Some, None, IfSome, option_to_list}
+use Rattle.pb_base.specs.declared.limits.TheConstants.{MAX_PLACES}
 use Rattle.pb_code.specs.Code.{Instr}
 use Rattle.pb_code.specs.Code.{Push, Load, Store, Compute1, Compute2, Jump, JumpIfZero, PrintTop, Take, Give, Fork, Join, End}
 
@@ -38,23 +39,23 @@ goes_on End = false
 abbrev pub followers : Instr → ℕ → List ℕ
 followers i p = option_to_list (target_of i) ++ cond (goes_on i) ((p + 1) ∷ []) []
 
-abbrev pub Follows : List Instr → ℕ → ℕ → Type 0
-Follows instrs p q = (i : Instr) × (slice_get instrs p ≡ Some i) × Contains (followers i p) q
+abbrev pub FlowsTo : List Instr → ℕ → ℕ → Type 0
+FlowsTo instrs p q = (i : Instr) × (slice_get instrs p ≡ Some i) × Contains (followers i p) q
 
 -- entries are reached, and what follows from reached places
-pub data IsReached (entries : List ℕ) (instrs : List Instr) : ℕ → Type 0 where
-  reached_entry : (p : ℕ) → Contains entries p → IsReached entries instrs p
-  reached_next : (p q : ℕ) → IsReached entries instrs p → Follows instrs p q → IsReached entries instrs q
+pub data IsReachedPlace (entries : List ℕ) (instrs : List Instr) : ℕ → Type 0 where
+  reached_entry : (p : ℕ) → Contains entries p → IsReachedPlace entries instrs p
+  reached_next : (p q : ℕ) → IsReachedPlace entries instrs p → FlowsTo instrs p q → IsReachedPlace entries instrs q
 
 -- entries and what follows from a place are places
 pub record StaysInside (entries : List ℕ) (instrs : List Instr) : Type 0 where
-  pub few : length instrs ≤ 40000
+  pub few : length instrs ≤ MAX_PLACES
   pub starts : (p : ℕ) → Contains entries p → p < length instrs
-  pub next : (p q : ℕ) → Follows instrs p q → q < length instrs
+  pub next : (p q : ℕ) → FlowsTo instrs p q → q < length instrs
 
 -- what an instruction at a place leads to is below n
 pub record LeadsBelow (i : Instr) (p n : ℕ) : Type 0 where
-  pub small : p < 40000
+  pub small : p < MAX_PLACES
   pub target : IfSome (target_of i) (λ q. q < n)
   pub next : goes_on i ≡ true → p + 1 < n
 
@@ -63,7 +64,7 @@ abbrev pub IsGrown : List ℕ → List Instr → List ℕ → Type 0
 IsGrown entries instrs order =
     (k : ℕ) → k < length order
     → Contains entries (slice_index order k)
-    ⊎ ((j : ℕ) × (j < k) × Follows instrs (slice_index order j) (slice_index order k))
+    ⊎ ((j : ℕ) × (j < k) × FlowsTo instrs (slice_index order j) (slice_index order k))
 
 -- ---- the search
 

@@ -5,7 +5,7 @@ use Rattle.pb_code.specs.declared.code.ProcessCode.{ProcessCode as GivenProcess}
 use Rattle.pb_code.specs.declared.instr.Instr.{Instr as Given}
 use Rattle.pb_code.specs.Code.{Instr, Take}
 use Rattle.pb_code.specs.View.{instr_view}
-use Rattle.pb_verifier.specs.Flow.{IsGrown, IsReached, StaysInside}
+use Rattle.pb_verifier.specs.Flow.{IsGrown, IsReachedPlace, StaysInside}
 
 -- an instruction of this process, with its bundle in place of the bundle's number
 abbrev pub plain : GivenProcess → Given → Instr
@@ -21,5 +21,5 @@ IsTakeAt instrs p = (bundle : Bundle) × (slice_get instrs p ≡ Some (Take bund
 -- the reached places of a process, each after one that leads to it
 pub record IsOrderOf (code : GivenProcess) (order : List ℕ) : Type 0 where
   pub inside : StaysInside code.entries.items (instrs_of code)
-  pub reached : (p : ℕ) → Contains order p ↔ IsReached code.entries.items (instrs_of code) p
+  pub reached : (p : ℕ) → Contains order p ↔ IsReachedPlace code.entries.items (instrs_of code) p
   pub grown : IsGrown code.entries.items (instrs_of code) order

@@ -2,6 +2,7 @@
 -- contract cites this file.
 use Rattle.std.specs.Prelude.{◌≡◌, ◌≢◌, ℕ, zero, suc, ◌≤◌, List, [], ◌∷◌, slice_get, slice_set, Option, Some, None, refl}
 use Rattle.std.proofs.Common.{sym, ◌∙◌, ap, arith, get_or-set_other}
+use Rattle.pb_base.specs.declared.limits.TheConstants.{MAX_HOLDS}
 use Rattle.pb_base.specs.Steppers.{Bundle}
 use Rattle.pb_code.specs.Code.{Instr}
 use Rattle.pb_code.specs.Code.{Push, Load, Store, Compute1, Compute2, Jump, JumpIfZero, PrintTop, Take, Give, Fork, Join, End}
@@ -45,11 +46,11 @@ IsChain instrs table (suc n) last =
     (bundle : Bundle) × (before : Holding) × (slice_get instrs last ≡ Some (Take bundle))
     × (fact_at table last ≡ Some before) × (before.count ≡ n) × IsChain instrs table n before.last
 
-abbrev pub held_by : List Instr → List (Option Holding) → Holding → List Bundle
-held_by instrs table h = held instrs table h.count h.last
+abbrev pub held_bundles : List Instr → List (Option Holding) → Holding → List Bundle
+held_bundles instrs table h = held instrs table h.count h.last
 
 abbrev pub CanBeRead : List Instr → List (Option Holding) → Holding → Type 0
-CanBeRead instrs table h = IsChain instrs table h.count h.last × (h.count ≤ 256)
+CanBeRead instrs table h = IsChain instrs table h.count h.last × (h.count ≤ MAX_HOLDS)
 
 -- a fact at a place that had none changes no chain
 pub chain_keeps : (instrs : List Instr) (table : List (Option Holding)) (p : ℕ) (new : Holding)
@@ -72,6 +73,6 @@ chain_keeps instrs table p new none (suc n) last (bundle, before, read, noted, c
 
 -- no hold is an empty list
 pub none_held : (instrs : List Instr) (table : List (Option Holding)) (n last : ℕ) → n ≡ 0
-    → (IsChain instrs table n last × (n ≤ 256)) × (held instrs table n last ≡ [])
+    → (IsChain instrs table n last × (n ≤ MAX_HOLDS)) × (held instrs table n last ≡ [])
 none_held instrs table zero last e = ((tt, omega arith), refl)
 none_held instrs table (suc n) last e = absurd (omega arith)

@@ -10,7 +10,7 @@ use Rattle.pb_code.specs.Reached.{CodeReaches, CodeMoves}
 use Rattle.pb_code.specs.Whole.{Code, bank_of}
 
 -- the arm is at a request that is not allowed now
-pub record IsRefused (code : Code) (s : State CodeProcess) (pick : Pick) : Type 0 where
+pub record IsDenied (code : Code) (s : State CodeProcess) (pick : Pick) : Type 0 where
   pub move : Move CodeProcess
   pub bundle : Bundle
   pub asks : move_of (code_step code.processes) s pick ≡ Some move
@@ -31,10 +31,10 @@ abbrev pub RefusedStays : Code → Type 0
 RefusedStays code =
     (s next : State CodeProcess) (pick refused : Pick) (event : Option Event)
     → CodeReaches code s → CodeMoves code s pick event next → frees event ≡ false
-    → IsRefused code s refused → IsRefused code next refused
+    → IsDenied code s refused → IsDenied code next refused
 
 -- an arm that was refused cannot be picked
 abbrev pub RefusedStops : Code → Type 0
 RefusedStops code =
     (s next : State CodeProcess) (pick : Pick) (event : Option Event)
-    → IsRefused code s pick → CodeMoves code s pick event next → ⊥
+    → IsDenied code s pick → CodeMoves code s pick event next → ⊥

@@ -1,11 +1,13 @@
 -- Facts that hold at places, spread from the entries along the code, for the verifier's own functions: no
--- public contract cites this file.
+-- public contract cites this file. Depths and holdings are here as the verifier computes them, and in Faults
+-- as contracts speak of them; proofs/FaultFacts.antt shows that both are the same.
 use Rattle.std.specs.Prelude.{◌≡◌, ℕ, suc, ◌+◌, ◌-◌, ◌≤◌, List, [], ◌∷◌, length, Contains, slice_get, slice_index_or, slice_set, Option, Some, None, option_map, unwrap_or}
+use Rattle.pb_base.specs.declared.limits.TheConstants.{MAX_DEPTH, MAX_HOLDS}
 use Rattle.pb_base.specs.Steppers.{Bundle}
 use Rattle.pb_code.specs.Code.{Instr, ProcessCode}
 use Rattle.pb_code.specs.Code.{Push, Load, Store, Compute1, Compute2, Jump, JumpIfZero, PrintTop, Take, Give, Fork, Join, End}
 use Rattle.pb_verifier.specs.Faults.{pops, pushes}
-use Rattle.pb_verifier.specs.Flow.{IsReached, followers}
+use Rattle.pb_verifier.specs.Flow.{IsReachedPlace, followers}
 use Rattle.pb_verifier.specs.Places.{Spreads, Reached}
 
 -- a kind of fact: what holds at entries, what an instruction needs, and what holds after it
@@ -27,7 +29,7 @@ pub record IsAnnotation {M : Type 0} (rules : Rules M) (entries : List ℕ) (ins
 -- an annotation of the reached places alone, with which each other agrees
 pub record IsLeast {M : Type 0} (rules : Rules M) (entries : List ℕ) (instrs : List Instr) (notes : ℕ → Option M) : Type 0 where
   pub annotation : IsAnnotation rules entries instrs notes
-  pub reached : (p : ℕ) (m : M) → notes p ≡ Some m → IsReached entries instrs p
+  pub reached : (p : ℕ) (m : M) → notes p ≡ Some m → IsReachedPlace entries instrs p
   pub agrees : (other : ℕ → Option M) → IsAnnotation rules entries instrs other → (p : ℕ) (m : M)
       → notes p ≡ Some m → other p ≡ Some m
 
@@ -38,7 +40,7 @@ CanBeAnnotated {M = M} rules entries instrs = (notes : ℕ → Option M) × IsAn
 abbrev pub depth_rules : Rules ℕ
 depth_rules = record {
   start = 0;
-  Fits = λ i depth. (pops i ≤ depth) × (depth ≤ 256);
+  Fits = λ i depth. (pops i ≤ depth) × (depth ≤ MAX_DEPTH);
   after = λ i depth. depth - pops i + pushes i;
 }
 
@@ -53,7 +55,7 @@ HoldFits (Compute2 op) held = Unit {0}
 HoldFits (Jump target) held = Unit {0}
 HoldFits (JumpIfZero target) held = Unit {0}
 HoldFits PrintTop held = Unit {0}
-HoldFits (Take bundle) held = suc (length held) ≤ 256
+HoldFits (Take bundle) held = suc (length held) ≤ MAX_HOLDS
 HoldFits (Give bundle) [] = ⊥
 HoldFits (Give bundle) (last ∷ held) = last ≡ bundle
 HoldFits (Fork first count) held = Unit {0}

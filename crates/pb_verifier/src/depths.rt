@@ -9,11 +9,9 @@ ghost use Rattle.pb_verifier.specs.Spread.{IsTableOf, notes_of};
 use crate::facts::{Fact, spread};
 use crate::places::{popped, pushed};
 use pb_base::NoMemory;
+use pb_base::limits::MAX_DEPTH;
 use pb_code::{Instr, ProcessCode};
 use std::alloc::Global;
-
-/// The most operands at a place.
-pub const MAX_DEPTH: u16 = 256;
 
 /// How many operands there are.
 #[derive(Clone, Copy)]
@@ -23,6 +21,7 @@ pub struct Depth {
 
 impl Fact for Depth {
     ghost use Rattle.std.specs.Prelude.{◌+◌, ◌-◌, ◌≤◌, refl};
+    ghost use Rattle.pb_base.specs.declared.limits.TheConstants.{MAX_DEPTH};
     ghost use Rattle.pb_verifier.specs.Faults.{pops, pushes};
 
     ghost Value = { ℕ };
@@ -31,7 +30,7 @@ impl Fact for Depth {
 
     ghost start = { λ _. 0 };
 
-    ghost Fits = { λ i depth. (pops i ≤ depth) × (depth ≤ 256) };
+    ghost Fits = { λ i depth. (pops i ≤ depth) × (depth ≤ MAX_DEPTH) };
 
     ghost after = { λ i depth. depth - pops i + pushes i };
 

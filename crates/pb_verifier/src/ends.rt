@@ -6,7 +6,7 @@ ghost use Rattle.pb_code.specs.View.{process_view};
 ghost use Rattle.pb_verifier.specs.Ends.{IsClearAt};
 ghost use Rattle.pb_verifier.specs.Faults.{EndsClear, TurnsDepth, TurnsHoldings};
 ghost use Rattle.pb_verifier.specs.Given.{instrs_of, plain};
-ghost use Rattle.pb_verifier.specs.Holdings.{held_by};
+ghost use Rattle.pb_verifier.specs.Holdings.{held_bundles};
 ghost use Rattle.pb_verifier.specs.Spread.{IsTableOf, notes_of};
 
 use crate::depths::Depth;
@@ -47,7 +47,7 @@ pub fn ends_clear(
     requires few_holdings { length holdings.now ≡ length (instrs_of code.now) }
     requires depths { IsTableOf (process_view code.now) TurnsDepth 0 (notes_of (λ d. d.count) depths.now) }
     requires holdings { IsTableOf (process_view code.now) TurnsHoldings []
-        (notes_of (held_by (instrs_of code.now) holdings.now) holdings.now) }
+        (notes_of (held_bundles (instrs_of code.now) holdings.now) holdings.now) }
     ensures { (result ≡ true) ↔ EndsClear (process_view code.now) }
 {
     for place in 0..places(code) {

@@ -2,7 +2,7 @@
 
 ghost use Rattle.std.specs.Prelude.{◌≡◌, ◌↔◌, ◌<◌, ◌+◌, ℕ, List, Option, Some, None, length, Contains, IfOk, IfSome, IfNone, slice_get, slice_set, true};
 ghost use Rattle.pb_code.specs.Code.{Instr};
-ghost use Rattle.pb_verifier.specs.Flow.{followers, target_of, IsGrown, IsReached, LeadsBelow, StaysInside};
+ghost use Rattle.pb_verifier.specs.Flow.{followers, target_of, IsGrown, IsReachedPlace, LeadsBelow, StaysInside};
 ghost use Rattle.pb_verifier.specs.Given.{instrs_of, plain};
 ghost use Rattle.pb_verifier.specs.Spread.{AgreesAt, AllReadable, CanBeAnnotated, IsKept, IsLeast, fact_at, notes_of, rules_of, with_note, with_notes};
 
@@ -213,7 +213,7 @@ pub fn spread<F: Fact>(
     first: F,
 ) -> Result<Option<Vec<Option<F>>>, NoMemory>
     requires inside { StaysInside entries.now (instrs_of code.now) }
-    requires reached { (p : ℕ) → Contains order.now p ↔ IsReached entries.now (instrs_of code.now) p }
+    requires reached { (p : ℕ) → Contains order.now p ↔ IsReachedPlace entries.now (instrs_of code.now) p }
     requires grown { IsGrown entries.now (instrs_of code.now) order.now }
     requires first { F.IsFirst first }
     ensures yes { IfOk result (λ answer. IfSome answer (λ table.

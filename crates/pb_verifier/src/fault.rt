@@ -13,10 +13,12 @@ pub enum VerifyFault {
     /// An instruction names an integer or a resource that is not there.
     #[error("no such integer or resource")]
     OutOfRange,
-    /// Arm 0 does not begin at place 0, arms do not rise, an arm begins past the end, is left by a jump, or is not closed by `end` or `jump`.
+    /// Arm 0 does not begin at place 0, arms do not rise, an arm begins past the end, is left by a jump, or
+    /// is not closed by `end` or `jump`.
     #[error("an arm has unsound bounds")]
     WrongArms,
-    /// A fork names an earlier arm, has no join after it, or there is another way to a join, or an arm is forked nowhere or twice.
+    /// A fork names an earlier arm, has no join after it, or there is another way to a join, or an arm is
+    /// forked nowhere or twice.
     #[error("forks and joins do not fit")]
     WrongForks,
     /// Some reached place cannot be given one number of operands, enough for it and at most 256.

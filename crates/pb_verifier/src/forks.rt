@@ -10,8 +10,8 @@ ghost use Rattle.pb_verifier.specs.Given.{plain};
 ghost use Rattle.pb_verifier.specs.Places.{InstrAt, arms};
 
 use crate::arms::{arm_count, arm_entry, end_of_arm};
-use crate::limits::MAX_ARMS;
 use crate::places::{instr_at, places};
+use pb_base::limits::{MAX_ARMS, MAX_PLACES};
 use pb_code::{Instr, ProcessCode};
 
 /// Returns whether an instruction forks no arms but later ones that are there.
@@ -83,7 +83,7 @@ fn has_no_join(code: &ProcessCode, place: usize) -> bool
 
 /// Returns whether a fork has its join after it, a join its fork before it, and a jump leads to no join.
 fn is_paired(code: &ProcessCode, place: usize, instr: Instr) -> bool
-    requires { place < 40000 }
+    requires { place < MAX_PLACES }
     ensures { (result ≡ true) ↔ IsPaired (process_view code.now) place (plain code.now instr) }
 {
     match instr {
@@ -115,7 +115,7 @@ fn mark(marks: &mut [bool], first: usize, end: usize) -> bool
 
 /// Returns whether each arm but the first is named by a fork, and by one alone.
 fn are_named(code: &ProcessCode) -> bool
-    requires few { arms (process_view code.now) ≤ 64 }
+    requires few { arms (process_view code.now) ≤ MAX_ARMS }
     requires there { (place first count : ℕ)
         → InstrAt (process_view code.now) place (Fork first count)
         → first + count ≤ arms (process_view code.now) }
@@ -142,8 +142,8 @@ fn are_named(code: &ProcessCode) -> bool
 pub fn has_forks(code: &ProcessCode) -> bool
     requires arms { HasArms (process_view code.now) }
     requires some { 1 ≤ arms (process_view code.now) }
-    requires few { arms (process_view code.now) ≤ 64 }
-    requires short { length (process_view code.now).instrs ≤ 40000 }
+    requires few { arms (process_view code.now) ≤ MAX_ARMS }
+    requires short { length (process_view code.now).instrs ≤ MAX_PLACES }
     ensures { (result ≡ true) ↔ HasForks (process_view code.now) }
 {
     for arm in 0..arm_count(code) {

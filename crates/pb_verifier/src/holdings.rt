@@ -8,16 +8,14 @@ ghost use Rattle.pb_verifier.specs.Faults.{AreHoldings, TurnsHoldings};
 ghost use Rattle.pb_code.specs.Bundles.{bundle_of};
 ghost use Rattle.pb_verifier.specs.Given.{IsOrderOf, IsTakeAt, instrs_of};
 ghost use Rattle.pb_verifier.specs.Spread.{AllReadable, HoldFits, IsKept, IsTableOf, fact_at, held_after, notes_of};
-ghost use Rattle.pb_verifier.specs.Holdings.{CanBeRead, IsChain, held, held_by};
+ghost use Rattle.pb_verifier.specs.Holdings.{CanBeRead, IsChain, held, held_bundles};
 
 use crate::facts::{Fact, spread};
 use pb_base::NoMemory;
+use pb_base::limits::MAX_HOLDS;
 use pb_code::bundles::{pair_at, pairs};
 use pb_code::{Instr, ProcessCode};
 use std::alloc::Global;
-
-/// The most bundles that one arm holds.
-pub const MAX_HOLDS: u16 = 256;
 
 /// A list of bundles: how many there are, and where the last was taken.
 #[derive(Clone, Copy)]
@@ -99,7 +97,7 @@ fn share_holds(code: &ProcessCode, table: &mut Vec<Option<Holding>>, count: u16,
     requires same { held (instrs_of code.now) table.old.items count one
         ≡ held (instrs_of code.now) table.old.items count two }
     requires readable { AllReadable (CanBeRead (instrs_of code.now) table.old.items) table.old.items }
-    ensures { IsKept (held_by (instrs_of code.now)) (CanBeRead (instrs_of code.now))
+    ensures { IsKept (held_bundles (instrs_of code.now)) (CanBeRead (instrs_of code.now))
         table.old.items table.new.items }
 {
     let mut left = count;
@@ -131,7 +129,7 @@ impl Fact for Holding {
 
     ghost after = { held_after };
 
-    ghost value = { held_by };
+    ghost value = { held_bundles };
 
     ghost IsReadable = { CanBeRead };
 
@@ -178,7 +176,7 @@ pub fn holdings(
 ) -> Result<Option<Vec<Option<Holding>>>, NoMemory>
     requires { IsOrderOf code.now order.now }
     ensures yes { IfOk result (λ answer. IfSome answer (λ table.
-        IsTableOf (process_view code.now) TurnsHoldings [] (notes_of (held_by (instrs_of code.now) table.items) table.items))) }
+        IsTableOf (process_view code.now) TurnsHoldings [] (notes_of (held_bundles (instrs_of code.now) table.items) table.items))) }
     ensures long { IfOk result (λ answer. IfSome answer
         (λ table. length table.items ≡ length (instrs_of code.now))) }
     ensures no { IfOk result (λ answer. IfNone answer

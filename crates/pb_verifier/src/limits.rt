@@ -1,6 +1,6 @@
 //! Whether counts, names and numbers are within their limits.
 
-ghost use Rattle.std.specs.Prelude.{◌≡◌, ◌≢◌, ◌↔◌, ◌<◌, ◌≤◌, ℕ, ℤ, [], AllPairs, length, map, slice_index_or, true};
+ghost use Rattle.std.specs.Prelude.{◌≡◌, ◌≢◌, ◌↔◌, ◌-◌, ◌<◌, ◌≤◌, ℕ, ℤ, [], AllPairs, length, map, slice_index_or, true};
 ghost use Rattle.pb_base.specs.Lines.{names_view};
 ghost use Rattle.pb_base.specs.Banker.{cell};
 ghost use Rattle.pb_base.specs.Tables.{HasWidth};
@@ -13,22 +13,11 @@ ghost use Rattle.pb_verifier.specs.Limits.{AreNames, HasSmallNumbers, IsSmallBun
 
 use crate::places::{instr_at, places};
 use pb_base::Claims;
-use pb_base::capital::MAX_RESOURCES;
-use pb_base::claims::MAX_PROCESSES;
+use pb_base::limits::{
+    MAX_AMOUNT, MAX_ARMS, MAX_FORK, MAX_INTEGERS, MAX_PLACES, MAX_PROCESSES, MAX_RESOURCES,
+};
 use pb_code::bundles::{pair_at, pairs};
 use pb_code::{Code, Instr, ProcessCode, is_name};
-
-/// The most places of a process.
-pub const MAX_PLACES: usize = 40_000;
-
-/// The most arms of a process.
-pub const MAX_ARMS: usize = 64;
-
-/// The most integers of a process.
-pub const MAX_INTEGERS: u8 = 64;
-
-/// The greatest amount in a bundle, and the greatest claim.
-pub const MAX_AMOUNT: u32 = 1_000_000;
 
 /// Returns whether a name differs from all after it.
 fn is_new(names: &[Vec<u8>], k: usize) -> bool
@@ -85,9 +74,9 @@ fn is_small_bundle(code: &ProcessCode, bundle: u16) -> bool
 
 /// Returns whether the arms that a fork or a join names can be arms.
 fn are_small_arms(first: u8, count: u8) -> bool
-    ensures { (result ≡ true) ↔ ((1 ≤ first) × (first ≤ 63)) × ((1 ≤ count) × (count ≤ 16)) }
+    ensures { (result ≡ true) ↔ ((1 ≤ first) × (first ≤ MAX_ARMS - 1)) × ((1 ≤ count) × (count ≤ MAX_FORK)) }
 {
-    first >= 1 && first <= 63 && count >= 1 && count <= 16
+    first >= 1 && first < MAX_ARMS as u8 && count >= 1 && count <= MAX_FORK as u8
 }
 
 /// Returns whether the numbers of an instruction are within their limits.
@@ -97,7 +86,7 @@ fn has_small_numbers(code: &ProcessCode, instr: Instr) -> bool
     ensures pushes { (v : ℤ) → plain code.now instr ≡ Push v → IsSigned v }
 {
     match instr {
-        Instr::Load(x) | Instr::Store(x) => x < MAX_INTEGERS,
+        Instr::Load(x) | Instr::Store(x) => x < MAX_INTEGERS as u8,
         Instr::Jump(target) | Instr::JumpIfZero(target) => (target as usize) < MAX_PLACES,
         Instr::Take(bundle) | Instr::Give(bundle) => is_small_bundle(code, bundle),
         Instr::Fork { first, count } | Instr::Join { first, count } => are_small_arms(first, count),
@@ -110,7 +99,7 @@ fn is_small_process(code: &ProcessCode) -> bool
     ensures limits { (result ≡ true) ↔ IsSmallProcess (process_view code.now) }
     ensures pushes { result ≡ true → HasSmallPushes (process_view code.now) }
 {
-    if code.integers > MAX_INTEGERS {
+    if code.integers > MAX_INTEGERS as u8 {
         return false;
     }
     if code.entries.is_empty() || code.entries.len() > MAX_ARMS {
@@ -136,7 +125,7 @@ fn is_small_process(code: &ProcessCode) -> bool
 fn are_small_claims(claims: &Claims, processes: usize, resources: usize) -> bool
     ensures { (result ≡ true)
         ↔ (length claims.now ≡ processes) × HasWidth resources claims.now
-        × ((p r : ℕ) → p < processes → r < resources → cell claims.now p r ≤ 1000000) }
+        × ((p r : ℕ) → p < processes → r < resources → cell claims.now p r ≤ MAX_AMOUNT) }
 {
     if claims.processes() != processes || claims.resources() != resources {
         return false;

@@ -15,8 +15,8 @@ ghost use Rattle.pb_verifier.specs.Spread.{IsTableOf, fact_at, notes_of};
 
 use crate::amounts::{Amount, MAX_HELD, amounts, takes_any};
 use crate::arms::{arm_count, arm_entry, end_of_arm};
-use crate::limits::MAX_ARMS;
 use crate::places::instr_at;
+use pb_base::limits::{MAX_AMOUNT, MAX_ARMS, MAX_RESOURCES};
 use pb_base::{Claims, NoMemory};
 use pb_code::{Instr, ProcessCode};
 use std::alloc::Global;
@@ -67,8 +67,8 @@ pub fn peaks_fit(
     requires forks { HasForks (process_view code.now) }
     requires holdings { HasHoldings (process_view code.now) }
     requires process { process < length claims.now }
-    requires few { width_of claims.now ≤ 16 }
-    requires claims { (r : ℕ) → r < width_of claims.now → cell claims.now process r ≤ 1000000 }
+    requires few { width_of claims.now ≤ MAX_RESOURCES }
+    requires claims { (r : ℕ) → r < width_of claims.now → cell claims.now process r ≤ MAX_AMOUNT }
     ensures { IfOk result (λ fits. (fits ≡ true) ↔ ((r : ℕ) → r < width_of claims.now
         → PeakFits (process_view code.now) r (cell claims.now process r))) }
 {
@@ -93,7 +93,7 @@ fn peak_fits(
     requires arms { HasArms (process_view code.now) }
     requires forks { HasForks (process_view code.now) }
     requires holdings { HasHoldings (process_view code.now) }
-    requires claim { claim ≤ 1000000 }
+    requires claim { claim ≤ MAX_AMOUNT }
     ensures { IfOk result (λ fits. (fits ≡ true) ↔ PeakFits (process_view code.now) resource claim) }
 {
     if !takes_any(code, resource) {
@@ -139,7 +139,7 @@ fn arm_peak(
         (notes_of (λ a. (a.resource, a.held)) table.now) }
     requires long { length table.now ≡ length (instrs_of code.now) }
     requires little { (p : ℕ) (a : Amount) → fact_at table.now p ≡ Some a → a.held ≤ 256000000 }
-    requires sized { length peaks.now ≡ 64 }
+    requires sized { length peaks.now ≡ MAX_ARMS }
     requires cut { (b : ℕ) → slice_index peaks.now b ≤ OVER }
     ensures peak { (peak : ℕ → ℕ) → AreCutOff (process_view code.now) (arm + 1) peak peaks.now
         → (greatest : ℕ) × (result ≡ clamped greatest) × IsPeakOf (process_view code.now) table.now peak arm greatest }

@@ -18,6 +18,7 @@ use crate::peaks::peaks_fit;
 use crate::range::is_in_range;
 use crate::reach::reached_places;
 use pb_base::Claims;
+use pb_base::limits::{MAX_AMOUNT, MAX_RESOURCES};
 use pb_code::ProcessCode;
 use std::alloc::Global;
 
@@ -30,8 +31,8 @@ pub fn check_process(
 ) -> Result<Vec<u16>, VerifyFault>
     requires small { IsSmallProcess (process_view code.now) }
     requires process { process < length claims.now }
-    requires few { width_of claims.now ≤ 16 }
-    requires claims { (r : ℕ) → r < width_of claims.now → cell claims.now process r ≤ 1000000 }
+    requires few { width_of claims.now ≤ MAX_RESOURCES }
+    requires claims { (r : ℕ) → r < width_of claims.now → cell claims.now process r ≤ MAX_AMOUNT }
     ensures sound { IfOk result (λ depths.
         IsSoundProcess (width_of claims.now) (cell claims.now process) (process_view code.now) depths.items) }
     ensures refused { IfErr result

@@ -3,12 +3,13 @@
 ghost use Rattle.std.specs.Prelude.{◌≡◌, ◌↔◌, ◌<◌, ◌+◌, ◌≤◌, ℕ, length, Contains, IfOk, IfSome, slice_set, true};
 ghost use Rattle.pb_code.specs.View.{process_view};
 ghost use Rattle.pb_verifier.specs.Faults.{HasArms};
-ghost use Rattle.pb_verifier.specs.Flow.{followers, goes_on, target_of, IsGrown, IsReached, StaysInside, with_marks, with_place, with_places};
+ghost use Rattle.pb_verifier.specs.Flow.{followers, goes_on, target_of, IsGrown, IsReachedPlace, StaysInside, with_marks, with_place, with_places};
 ghost use Rattle.pb_verifier.specs.Given.{IsOrderOf, instrs_of, plain};
 ghost use Rattle.pb_verifier.specs.Places.{arms};
 
 use crate::places::{falls_through, instr_at, target};
 use pb_base::NoMemory;
+use pb_base::limits::MAX_PLACES;
 use pb_code::{Instr, ProcessCode};
 use std::alloc::Global;
 
@@ -34,7 +35,7 @@ fn visit_followers(
     instr: Instr,
     place: u16,
 ) -> Result<(), NoMemory>
-    requires small { place < 40000 }
+    requires small { place < MAX_PLACES }
     requires target { IfSome (target_of (plain code.now instr))
         (λ next. next < length found.old.items) }
     requires next { goes_on (plain code.now instr) ≡ true → place + 1 < length found.old.items }
@@ -56,7 +57,7 @@ fn visit_followers(
 fn reached(alloc: Global, entries: &[u16], code: &ProcessCode) -> Result<Vec<u16>, NoMemory>
     requires inside { StaysInside entries.now (instrs_of code.now) }
     ensures reached { IfOk result (λ order. (p : ℕ)
-        → Contains order.items p ↔ IsReached entries.now (instrs_of code.now) p) }
+        → Contains order.items p ↔ IsReachedPlace entries.now (instrs_of code.now) p) }
     ensures grown { IfOk result (λ order. IsGrown entries.now (instrs_of code.now) order.items) }
 {
     let mut found = vec![in alloc; false; code.instrs.len()]?;
@@ -78,7 +79,7 @@ fn reached(alloc: Global, entries: &[u16], code: &ProcessCode) -> Result<Vec<u16
 pub fn reached_places(alloc: Global, code: &ProcessCode) -> Result<Vec<u16>, NoMemory>
     requires arms { HasArms (process_view code.now) }
     requires some { 1 ≤ arms (process_view code.now) }
-    requires few { length (instrs_of code.now) ≤ 40000 }
+    requires few { length (instrs_of code.now) ≤ MAX_PLACES }
     ensures { IfOk result (λ order. IsOrderOf code.now order.items) }
 {
     reached(alloc, &code.entries, code)

@@ -3,10 +3,9 @@
 use crate::tokens::is_at;
 use crate::wording::Wording;
 use pb_base::NoMemory;
+use pb_base::limits::MAX_FIRST_PROCESSES;
 use pb_lexer::{Mark, Token, lex};
 use std::alloc::Global;
-
-const MOST_PROCESSES: usize = 32;
 
 /// Returns the wording of what the first format can't say of a text, if there is anything.
 pub fn unsaid_wording(alloc: Global, text: &[u8]) -> Result<Option<Wording>, NoMemory> {
@@ -43,7 +42,7 @@ fn process_past(tokens: &[Token]) -> Option<usize> {
     for number in 0..tokens.len() {
         if is_at(tokens, number, Mark::Process) {
             count = count.saturating_add(1);
-            if count > MOST_PROCESSES {
+            if count > MAX_FIRST_PROCESSES {
                 return Some(number);
             }
         }

@@ -9,7 +9,7 @@ use pb_lexer::{Kind, Mark, Token};
 use std::alloc::{AllocError, Global};
 
 // The most holds that are shown.
-const MOST_SHOWN: usize = 6;
+const MAX_SHOWN: usize = 6;
 
 // The greatest amount of a resource that is held at once, and the tokens of the holds of which it is the sum.
 #[derive(Drop)]
@@ -18,8 +18,8 @@ struct Peak {
     holds: Vec<usize>,
 }
 
-// A statement that is open: what it adds itself, the greatest peak of its parts, and of a parbegin the peaks of the arms
-// before this one together.
+// A statement that is open: what it adds itself, the greatest peak of its parts, and of a parbegin the peaks
+// of the arms before this one together.
 #[derive(Drop)]
 struct Frame {
     is_parbegin: bool,
@@ -106,11 +106,11 @@ fn tell_holds(
     holds: &[usize],
     resource: &[u8],
 ) {
-    for hold in holds.iter().take(MOST_SHOWN) {
+    for hold in holds.iter().take(MAX_SHOWN) {
         tell_hold(alloc, wording, tokens, *hold, resource);
     }
-    if holds.len() > MOST_SHOWN {
-        let more = holds.len() - MOST_SHOWN;
+    if holds.len() > MAX_SHOWN {
+        let more = holds.len() - MAX_SHOWN;
         wording.note(format!(in alloc; "and {more} more holds"));
     }
 }

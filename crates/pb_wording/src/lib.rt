@@ -1,5 +1,5 @@
-//! What a person is told of each fault, in words: what is wrong, other places that have to do with it, and what is
-//! usually meant.
+//! What a person is told of each fault, in words: what is wrong, other places that have to do with it, and
+//! what is usually meant.
 #![tactic(auto)]
 
 mod first_format;

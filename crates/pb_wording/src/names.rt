@@ -123,8 +123,8 @@ fn integer_past_limit(tokens: &[Token]) -> Option<usize> {
     None
 }
 
-// Returns how many integers a process has declared up to a token, if that is in a declaration, from how many it had
-// declared before.
+// Returns how many integers a process has declared up to a token, if that is in a declaration, from how many
+// it had declared before.
 fn integers_behind(tokens: &[Token], number: usize, before: Option<usize>) -> Option<usize> {
     if is_at(tokens, number, Mark::Integer) {
         return Some(0);
@@ -144,7 +144,8 @@ fn arm_past_limit(alloc: Global, tokens: &[Token], most: usize) -> Result<Option
     arm_past(tokens, most, &mut open)
 }
 
-// Returns the same. The statements that are open are kept with the number of arms so far, if it is a parbegin.
+// Returns the same. The statements that are open are kept with the number of arms so far, if it is a
+// parbegin.
 fn arm_past(
     tokens: &[Token],
     most: usize,
@@ -175,7 +176,8 @@ fn follow_brackets(
     Ok(())
 }
 
-// Counts one more arm of the statement that was opened last, and returns how many it has; 0 if it is no parbegin.
+// Counts one more arm of the statement that was opened last, and returns how many it has; 0 if it is no
+// parbegin.
 fn next_arm(open: &mut Vec<Option<usize>>) -> usize {
     match open.last_mut() {
         Some(Some(arms)) => {

@@ -81,8 +81,8 @@ fn in_words(fault: VerifyFault) -> &'static str {
     }
 }
 
-// Returns the fault of the code of an object of which one process alone is left, and of that the first instructions: the
-// others jump to themselves, except forks and joins.
+// Returns the fault of the code of an object of which one process alone is left, and of that the first
+// instructions: the others jump to themselves, except forks and joins.
 fn fault_of_part(
     alloc: Global,
     bytes: &[u8],
@@ -180,7 +180,8 @@ fn place_to_show(
     }
 }
 
-// Returns the first place of a process such that the code up to it has the fault; nothing if it has it without any.
+// Returns the first place of a process such that the code up to it has the fault; nothing if it has it
+// without any.
 fn first_faulty_place(
     alloc: Global,
     bytes: &[u8],

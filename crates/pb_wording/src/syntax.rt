@@ -170,8 +170,8 @@ fn syntax_wording(alloc: Global, text: &[u8], at: usize) -> Result<Wording, NoMe
     }
 }
 
-// Returns the wording of the token with a number, or of the end, which cannot stand where it is, with the line that tells
-// what may.
+// Returns the wording of the token with a number, or of the end, which cannot stand where it is, with the
+// line that tells what may.
 fn unexpected(
     alloc: Global,
     tokens: &[Token],
@@ -237,8 +237,8 @@ fn put_choices(
     Ok(())
 }
 
-// Puts what a probe tries behind a line that was `empty` bytes long, if it may stand behind the first part of a text and
-// is told beside these phrases.
+// Puts what a probe tries behind a line that was `empty` bytes long, if it may stand behind the first part of
+// a text and is told beside these phrases.
 fn put_probe(
     alloc: Global,
     line: &mut String,

@@ -5,8 +5,8 @@ use pb_lexer::Token;
 use std::alloc::{AllocError, Global};
 use std::fmt;
 
-/// Bytes of an input, as a message shows them: a carriage return as a space, and a question mark for each other byte that
-/// is neither printable nor a tab.
+/// Bytes of an input, as a message shows them: a carriage return as a space, and a question mark for each
+/// other byte that is neither printable nor a tab.
 #[derive(Clone, Copy)]
 pub struct Shown<'t>(pub &'t [u8]);
 
@@ -28,8 +28,8 @@ pub struct Spot {
     pub at: usize,
 }
 
-/// What a message says beside the code and the place of a fault. Parts are added without an answer; if there was too
-/// little memory for one of them it makes no message.
+/// What a message says beside the code and the place of a fault. Parts are added without an answer; if there
+/// was too little memory for one of them it makes no message.
 #[derive(Drop)]
 pub struct Wording {
     /// The fault in words, without a line feed.

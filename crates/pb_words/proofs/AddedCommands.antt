@@ -7,11 +7,6 @@ use Rattle.clap.specs.declared.builder.command.Command.TheViews.{out-Command}
 use Rattle.pb_words.specs.CommandLine.{with_command, IsCommand}
 
 module _ {E : Type 0} (a : App) where
-  -- no subcommand inherits from a command of this form
-  pub has_no_globals : (r : Result Command E) → IfOk r (IsCommand a) → IfOk r (λ c. (out-Command c).has_globals ≡ false)
-  has_no_globals (Ok c) h = h.1
-  has_no_globals (Err e) h = tt
-
   pub has_rules : (r : Result Command E) → IfOk r (IsCommand a) → IfOk r (λ c. app_of c ≡ a)
   has_rules (Ok c) h = h.0
   has_rules (Err e) h = tt

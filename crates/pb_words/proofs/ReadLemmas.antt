@@ -78,7 +78,8 @@ flag_unread gives f id refused value = (
   λ given. let read = value (codes "true") (one_text-rows f id ∙ given) in absurd (refused (codes "true") read.0 read.1 refl),
 )
 
--- where nothing is read from the name and the rows of the subcommand that was entered, nothing is read from the matches
+-- where nothing is read from the name and the rows of the subcommand that was entered, nothing is read from
+-- the matches
 pub nothing_read : (m : Option (Text × List Row)) (name : Text) (rows : List Row) → Some name ≡ option_map (λ p. p.0) m
     → Some rows ≡ option_map (λ p. p.1) m → ((o : Options) → IsReadFrom name rows o → ⊥) → (o : Options) → IsReadFromMatches m o → ⊥
 nothing_read m name rows named is none o (other, found, entered, says) =

@@ -3,7 +3,8 @@
 /// Why workers report nothing.
 #[derive(Clone, Copy, Debug, PartialEq, Eq, thiserror::Error)]
 pub enum RunFault {
-    /// The number of workers is none of 1 to 16, the quantum none of 1 to 4,096, or the limit over 10,000,000.
+    /// The number of workers is none of 1 to 16, the quantum none of 1 to 4,096, or the limit over
+    /// 10,000,000.
     #[error("a number of workers, quantum or steps out of its range")]
     Limits,
     /// Out of memory.

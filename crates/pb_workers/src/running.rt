@@ -9,6 +9,7 @@ use crate::gate::Gate;
 use crate::met::{Met, NOTHING};
 use crate::report::Report;
 use crate::work::work;
+use pb_base::limits::{MAX_PICKS, MAX_QUANTUM, MAX_WORKERS};
 use pb_shared::{Book, CodeBrand, Shared};
 use pb_verifier::Verified;
 use std::alloc::Global;
@@ -33,7 +34,12 @@ pub fn run_workers<G: Gate, R: Threads + Wait + Sync>(
     ensures limits { MatchResult result (λ _. InRange workers quantum limit)
         (λ fault. (fault ≡ Limits) ↔ (InRange workers quantum limit → ⊥)) }
 {
-    if workers == 0 || workers > 16 || quantum == 0 || quantum > 4096 || limit > 10_000_000 {
+    if workers == 0
+        || workers > MAX_WORKERS
+        || quantum == 0
+        || quantum > MAX_QUANTUM
+        || limit > MAX_PICKS
+    {
         return Err(RunFault::Limits);
     }
     run_branded::<Brand, G, R>(rt, alloc, code, workers, quantum, limit, gate)
@@ -51,7 +57,7 @@ fn run_branded<C: CodeBrand, G: Gate, R: Threads + Wait + Sync>(
 ) -> Result<Report, RunFault>
     requires brand { code.now ≡ C.code }
     requires quantum { 0 < quantum }
-    requires limit { limit ≤ 10000000 }
+    requires limit { limit ≤ MAX_PICKS }
     ensures report { IfOk result (λ report. IsReport code.now.code limit report) }
     ensures limits { IfErr result (λ fault. fault ≡ Limits → ⊥) }
 {

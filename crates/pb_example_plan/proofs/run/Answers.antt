@@ -2,7 +2,7 @@ use Rattle.std.proofs.Common.{subst, sym}
 use Rattle.pb_base.specs.Lines.{HasNames}
 use Rattle.pb_base.specs.Steppers.{IsFinished}
 use Rattle.pb_code.specs.Code.{code_over}
-use Rattle.pb_machine.proofs.Going.{events_have_names}
+use Rattle.pb_machine.proofs.NeverStuck.{events_have_names}
 use Rattle.pb_machine.specs.Views.{machine_view}
 use Rattle.pb_example_plan.proofs.run.Goals as goal
 

@@ -1,7 +1,8 @@
 use Rattle.std.proofs.Common.{arith}
 use Rattle.pb_machine.specs.Views.{machine_view}
-use Rattle.pb_example_plan.proofs.TriedPicks.{few_processes, none_at_all}
+use Rattle.pb_example_plan.proofs.TriedPicks.{none_at_all}
 use Rattle.pb_example_plan.proofs.step.Goals as goal
+use Rattle.pb_machine.proofs.Counts.{few_processes}
 
 pub overflow_cast-job : goal.overflow_cast-job
 overflow_cast-job c =

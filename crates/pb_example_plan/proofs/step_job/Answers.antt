@@ -1,8 +1,9 @@
 use Rattle.std.proofs.Common.{◌∙◌, arith, refl, subst}
 use Rattle.pb_code.specs.Reached.{CodeStays}
 use Rattle.pb_machine.specs.Views.{machine_view}
-use Rattle.pb_example_plan.proofs.TriedPicks.{few_arms, one_more_arm}
+use Rattle.pb_example_plan.proofs.TriedPicks.{one_more_arm}
 use Rattle.pb_example_plan.proofs.step_job.Goals as goal
+use Rattle.pb_machine.proofs.Counts.{few_arms}
 
 pub overflow_cast-pick : goal.overflow_cast-pick
 overflow_cast-pick c =

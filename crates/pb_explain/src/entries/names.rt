@@ -1,4 +1,5 @@
-//! The refusals of texts by their names, amounts and claims, and of what the first format of objects cannot say.
+//! The refusals of texts by their names, amounts and claims, and of what the first format of objects cannot
+//! say.
 
 use super::{Entry, Example, ExampleInput};
 

@@ -2,7 +2,7 @@
 
 ghost use Rattle.pb_machine.specs.Views.{IsMachineOf};
 ghost use Rattle.pb_names.specs.View.{resolved_view};
-ghost use Rattle.pb_rewrite.specs.Sources.{Fits, IsSource};
+ghost use Rattle.pb_rewrite.specs.Sources.{FitsClaims, IsSource};
 
 use crate::agreement::runs::is_silent;
 use crate::agreement::sides::{Program, Seen, program_of, step_both};
@@ -69,7 +69,7 @@ fn takes_turns(
 /// Returns whether these turns show what is wanted, and at their end all processes are over and nothing is
 /// lent.
 fn replays_in(alloc: Global, program: &Program, turns: &[Turn], wanted: &[Seen]) -> Option<bool>
-    requires { Fits (resolved_view program.now.analysis.program) program.now.analysis.claims }
+    requires { FitsClaims (resolved_view program.now.analysis.program) program.now.analysis.claims }
 {
     let compiled = &program.compiled;
     let analysis = &program.analysis;

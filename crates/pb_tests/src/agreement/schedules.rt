@@ -2,7 +2,7 @@
 
 ghost use Rattle.pb_machine.specs.Views.{IsMachineOf};
 ghost use Rattle.pb_names.specs.View.{resolved_view};
-ghost use Rattle.pb_rewrite.specs.Sources.{Fits, IsSource};
+ghost use Rattle.pb_rewrite.specs.Sources.{FitsClaims, IsSource};
 
 use crate::agreement::draws::Draws;
 use crate::agreement::runs::{Run, make_run};
@@ -16,10 +16,10 @@ use pb_rewrite::Source;
 use std::alloc::Global;
 
 /// The most runs of one schedule: some programs have no end.
-const MOST_RUNS: usize = 500;
+const MAX_RUNS: usize = 500;
 
 /// A silent run is of fewer picks.
-const LONGEST_RUN: usize = 12;
+const MAX_RUN: usize = 12;
 
 /// Adds the picks of a process's live arms.
 fn push_live(process: &Proc, p: usize, picks: &mut Vec<Pick>) -> Result<(), NoMemory> {
@@ -77,7 +77,7 @@ fn limit(draws: &mut Draws) -> u32 {
     if draws.below(2) == 0 {
         return 0;
     }
-    u32::from(small(draws, LONGEST_RUN))
+    u32::from(small(draws, MAX_RUN))
 }
 
 /// Makes drawn picks on both sides until all processes are over and some picks more, and compares the sides
@@ -96,7 +96,7 @@ fn make_picks(
     requires beside { IsMachineOf compiled.now.verified beside.old }
     requires source { IsSource source.old }
 {
-    for _made in 0..MOST_RUNS {
+    for _made in 0..MAX_RUNS {
         if machine.finished() && draws.below(4) == 0 {
             return Ok(None);
         }
@@ -118,7 +118,7 @@ pub(super) fn follow(
     schedule: u64,
     tally: &mut Tally,
 ) -> Result<Option<Difference>, NoMemory>
-    requires { Fits (resolved_view program.now.analysis.program) program.now.analysis.claims }
+    requires { FitsClaims (resolved_view program.now.analysis.program) program.now.analysis.claims }
 {
     let compiled = &program.compiled;
     let analysis = &program.analysis;

@@ -3,7 +3,7 @@
 ghost use Rattle.std.specs.Prelude.{IfOk};
 ghost use Rattle.pb_machine.specs.Views.{IsMachineOf};
 ghost use Rattle.pb_names.specs.View.{resolved_view};
-ghost use Rattle.pb_rewrite.specs.Sources.{Fits, IsSource};
+ghost use Rattle.pb_rewrite.specs.Sources.{FitsClaims, IsSource};
 
 use crate::agreement::answers::same_step;
 use pb_base::{Event, FaultKind, NoMemory, Pick, Step};
@@ -26,7 +26,7 @@ pub(super) struct Program {
 /// Returns the program of an accepted text.
 pub(super) fn program_of(alloc: Global, text: &[u8]) -> Result<Program, CompileFault>
     ensures { IfOk result (λ program.
-        Fits (resolved_view program.analysis.program) program.analysis.claims) }
+        FitsClaims (resolved_view program.analysis.program) program.analysis.claims) }
 {
     let compiled = compile(alloc, alloc, text)?;
     let analysis = analyze(alloc, alloc, text)?;

@@ -1,7 +1,7 @@
 use Rattle.std.proofs.Common.{List, ℕ, subst, sym}
 use Rattle.pb_engines.specs.declared.status.Status.TheVariants.{Words}
 use Rattle.pb_engines.specs.Answers.{Says}
-use Rattle.pb_cli.specs.Calls.{fault_status, fault_text}
+use Rattle.pb_cli.specs.Calls.{fault_status, words_fault_text}
 use Rattle.pb_engines.proofs.PageLemmas.{Says-first, Says-then}
 use Rattle.pb_cli.proofs.answer.refuse.Goals as goal
 
@@ -11,5 +11,5 @@ returns-in-Ok-clause-text g c =
     let said = Says-first _ _ c.new-page.result c.as_bytes.result.now Words c.finish.result c.new-page.ensures then in
     let text = subst (λ (t : List ℕ). Says (g.O.Output.written c.args.output.now) (g.O.Output.written
     c.finish.new.output) t Words c.finish.result) c.as_bytes.ensures.value said in
-    subst (λ f. Says (g.O.Output.written c.args.output.now) (g.O.Output.written c.finish.new.output) (fault_text f)
+    subst (λ f. Says (g.O.Output.written c.args.output.now) (g.O.Output.written c.finish.new.output) (words_fault_text f)
     (fault_status f) c.finish.result) (sym c.in-Words.is) text

@@ -1,7 +1,7 @@
 use Rattle.std.proofs.Common.{◌+◌, ◌∙◌, subst}
 use Rattle.pb_history.specs.Entries.{picks_of}
 use Rattle.pb_debug.specs.Searches.{value_at}
-use Rattle.pb_debug.specs.Walks.{StandsAfter}
+use Rattle.pb_history.specs.Positions.{IsAfter}
 use Rattle.pb_debug.proofs.Searches.{differ_here, value_here}
 use Rattle.pb_debug.proofs.search.changes.Goals as goal
 
@@ -13,7 +13,7 @@ returns-clause-changes c =
     let p = c.args.p in
     let x = c.args.x in
     let next = c.advance.new.self in
-    let there : StandsAfter v picks (at + 1) next.machine = subst (λ n. StandsAfter v picks n next.machine) c.advance.ensures.at c.advance.ensures.walks in
+    let there : IsAfter v picks (at + 1) next.machine = subst (λ n. IsAfter v picks n next.machine) c.advance.ensures.at c.advance.ensures.walks in
     differ_here c.differ.result c.value_of-before.result c.value_of-after.result (value_at v.code picks at p x) (value_at v.code picks (at + 1) p x)
     (c.value_of-before.ensures ∙ value_here v picks at p x c.args.walker.now.machine c.requires.walks)
     (c.value_of-after.ensures ∙ value_here v picks (at + 1) p x next.machine there)

@@ -1,8 +1,8 @@
 use Rattle.std.proofs.Common.{◌+◌, ◌∙◌, subst}
 use Rattle.pb_code.specs.View.{labels_view}
 use Rattle.pb_history.specs.Entries.{picks_of}
-use Rattle.pb_debug.specs.Searches.{line_at}
-use Rattle.pb_debug.specs.Walks.{StandsAfter}
+use Rattle.pb_debug.specs.Searches.{arm_line_at}
+use Rattle.pb_history.specs.Positions.{IsAfter}
 use Rattle.pb_debug.proofs.Searches.{begins_here, line_here}
 use Rattle.pb_debug.proofs.search.comes_to.Goals as goal
 
@@ -15,9 +15,9 @@ returns-clause-comes c =
     let p = c.args.p in
     let a = c.args.arm in
     let next = c.advance.new.self in
-    let there : StandsAfter v picks (at + 1) next.machine = subst (λ n. StandsAfter v picks n next.machine) c.advance.ensures.at c.advance.ensures.walks in
+    let there : IsAfter v picks (at + 1) next.machine = subst (λ n. IsAfter v picks n next.machine) c.advance.ensures.at c.advance.ensures.walks in
     begins_here c.begins.result c.is_line.result c.is_line-2.result c.line_of_arm-before.result c.line_of_arm-after.result
-    (line_at v.code labels picks at p a) (line_at v.code labels picks (at + 1) p a) c.args.line
+    (arm_line_at v.code labels picks at p a) (arm_line_at v.code labels picks (at + 1) p a) c.args.line
     (c.line_of_arm-before.ensures ∙ line_here v labels picks at p a c.args.walker.now.machine c.requires.walks)
     (c.line_of_arm-after.ensures ∙ line_here v labels picks (at + 1) p a next.machine there)
     c.is_line.ensures c.is_line-2.ensures c.begins.ensures

@@ -1,7 +1,7 @@
 use Rattle.std.proofs.Common.{◌<◌, length, refl, arith}
 use Rattle.pb_code.specs.View.{code_view, process_view}
 use Rattle.pb_machine.specs.Views.{machine_view, proc_view}
-use Rattle.pb_machine.proofs.Given.{codes_number, code_at}
+use Rattle.pb_machine.proofs.GivenCode.{codes_number, code_at}
 use Rattle.pb_debug.proofs.ResourceTexts.{askers_next}
 use Rattle.pb_debug.proofs.who.put_askers.Goals as goal
 

@@ -2,7 +2,7 @@ use Rattle.std.proofs.Common.{◌≡◌, ◌++◌}
 use Rattle.pb_code.specs.View.{code_view}
 use Rattle.pb_machine.specs.Views.{machine_view}
 use Rattle.pb_debug.specs.Resources.{askers_at}
-use Rattle.pb_debug.specs.Texts.{each_below}
+use Rattle.pb_base.specs.Lines.{each_below}
 use Rattle.pb_debug.proofs.who.put_askers.Given as goal
 
 abbrev pub invariant-loop-p : goal.invariant-loop-p

@@ -1,10 +1,9 @@
 use Rattle.std.proofs.Common.{◌≡◌, ◌++◌}
-use Rattle.pb_base.specs.Lines.{names_view}
+use Rattle.pb_base.specs.Lines.{names_view, each_below}
 use Rattle.pb_code.specs.Code.{thread}
 use Rattle.pb_code.specs.View.{process_view}
 use Rattle.pb_machine.specs.Views.{proc_view}
 use Rattle.pb_debug.specs.Resources.{amount_asked, asker_text}
-use Rattle.pb_debug.specs.Texts.{each_below}
 use Rattle.pb_debug.proofs.who.put_askers_in.Given as goal
 
 abbrev pub invariant-loop-arm : goal.invariant-loop-arm

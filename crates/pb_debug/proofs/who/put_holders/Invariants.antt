@@ -1,7 +1,6 @@
 use Rattle.std.proofs.Common.{◌≡◌, ◌++◌}
-use Rattle.pb_base.specs.Lines.{names_view}
+use Rattle.pb_base.specs.Lines.{names_view, each_below}
 use Rattle.pb_debug.specs.Resources.{holder_text}
-use Rattle.pb_debug.specs.Texts.{each_below}
 use Rattle.pb_debug.proofs.who.put_holders.Given as goal
 
 abbrev pub invariant-loop-p : goal.invariant-loop-p

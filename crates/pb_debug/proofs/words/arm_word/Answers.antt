@@ -9,5 +9,5 @@ returns c =
     let dot = c.in_ok-dot.dot in
     let process = take dot word in
     ap (λ (o : Option ℕ). option_map (λ arm. (process, arm)) o) (c.in_ok-arm.ensures ∙ ap number_of (behind word (dot + 1)))
-    ∙ (ap (λ (b : Bool). cond b (option_map (λ arm. (process, arm)) (number_of (drop (dot + 1) word))) None) c.if-not-is_word.ensures
+    ∙ (ap (λ (b : Bool). cond b (option_map (λ arm. (process, arm)) (number_of (drop (dot + 1) word))) None) c.if-not-looks_like_name.ensures
     ∙ ap (arm_at word) c.in_ok-dot.ensures.place)

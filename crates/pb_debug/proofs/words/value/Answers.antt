@@ -1,7 +1,7 @@
 use Rattle.std.proofs.Common.{◌<◌, ◌^◌, ◌+◌, arith}
 use Rattle.std.specs.Str.Parse.{digits_value}
 use Rattle.std.proofs.lemmas.Str.Parse.{digits_value-take-le, digits_value_short}
-use Rattle.pb_debug.proofs.Spellings.{digit_more, own}
+use Rattle.pb_code.proofs.NumeralLemmas.{digit_more, own}
 use Rattle.pb_debug.proofs.words.value.Goals as goal
 
 pub overflow_mul-number : goal.overflow_mul-number

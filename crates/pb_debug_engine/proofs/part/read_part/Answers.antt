@@ -26,8 +26,8 @@ returns-then-count-eq0-clause-part g c =
     let bytes : text ++ after ≡ text = ap (λ (a : List ℕ). text ++ a) end.0 ∙ append-nil text in
     ([], end.1, subst (λ (t : List ℕ). AreTwoParts t part []) (sym bytes) whole))
 
-pub returns-then-len-gt-LONGEST_INPUT-clause-long : goal.returns-then-len-gt-LONGEST_INPUT-clause-long
-returns-then-len-gt-LONGEST_INPUT-clause-long g c same =
+pub returns-then-len-gt-MAX_INPUT-clause-long : goal.returns-then-len-gt-MAX_INPUT-clause-long
+returns-then-len-gt-MAX_INPUT-clause-long g c same =
     let text = c.loop-count.part.items in
     let b = get_or c.read.new.buf 0 0 in
     let few = c.loop-count.invariant.few in
@@ -35,7 +35,7 @@ returns-then-len-gt-LONGEST_INPUT-clause-long g c same =
     let kept = c.read.auto.buf in
     let more = ap (λ (t : List ℕ). length t) c.in-Ok-push.ensures.items in
     let size = length-append text (b ∷ []) in
-    let long = c.if-len-gt-LONGEST_INPUT.true in
+    let long = c.if-len-gt-MAX_INPUT.true in
     let counted = c.len.ensures in
     let full : length text ≡ 4194304 = omega (arith, few, more, size, long, counted) in
     let read = read_one (g.I.Input.rest c.args.input.now) (g.I.Input.rest c.loop-count.input) (g.I.Input.rest c.read.new.self) text c.read.new.buf

@@ -2,7 +2,7 @@ use Rattle.std.proofs.Common.{◌≡◌, ◌+◌, ◌-◌, ℕ, length, ap, ◌�
 use Rattle.std.proofs.lemmas.List.{length-map}
 use Rattle.pb_history.specs.Entries.{Entry, picks_of}
 use Rattle.pb_draw.specs.Cash.{ShowsCash, cash_after}
-use Rattle.pb_draw.specs.Walks.{StandsAfter}
+use Rattle.pb_history.specs.Positions.{IsAfter}
 use Rattle.pb_draw.proofs.Walks.{cash_here}
 use Rattle.pb_draw.proofs.cash.cash_curve.Goals as goal
 
@@ -10,7 +10,7 @@ pub loop-i-init : goal.loop-i-init
 loop-i-init c =
     let v = c.args.verified.now in
     let picks = picks_of c.args.trace.now.entries in
-    let stands : StandsAfter v picks 0 c.in_ok-machine.machine =
+    let stands : IsAfter v picks 0 c.in_ok-machine.machine =
     record { machine = c.in_ok-machine.ensures.machine; state = c.in_ok-machine.ensures.opening } in
     let last : c.cash_of-last.result ≡ cash_after v.code picks c.args.r 0 =
     c.cash_of-last.ensures ∙ cash_here v picks 0 c.args.r c.in_ok-machine.machine stands in

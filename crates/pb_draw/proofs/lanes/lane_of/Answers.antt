@@ -2,7 +2,7 @@ use Rattle.std.proofs.Common.{◌≡◌, ◌+◌, ◌-◌, ℕ, length, ap, ◌�
 use Rattle.std.proofs.lemmas.List.{length-map}
 use Rattle.pb_history.specs.Entries.{Entry, picks_of}
 use Rattle.pb_draw.specs.Lanes.{ShowsStandings, standing_after}
-use Rattle.pb_draw.specs.Walks.{StandsAfter}
+use Rattle.pb_history.specs.Positions.{IsAfter}
 use Rattle.pb_draw.proofs.Walks.{standing_here}
 use Rattle.pb_draw.proofs.lanes.lane_of.Goals as goal
 
@@ -12,7 +12,7 @@ loop-i-init c =
     let picks = picks_of c.args.trace.now.entries in
     let p = c.from-p.result in
     let arm = c.from-arm.result in
-    let stands : StandsAfter v picks 0 c.in_ok-machine.machine =
+    let stands : IsAfter v picks 0 c.in_ok-machine.machine =
     record { machine = c.in_ok-machine.ensures.machine; state = c.in_ok-machine.ensures.opening } in
     let last : c.standing_of-last.result ≡ standing_after v.code picks p arm 0 =
     c.standing_of-last.ensures ∙ standing_here v picks 0 p arm c.in_ok-machine.machine stands in

@@ -1,7 +1,8 @@
 use Rattle.std.proofs.Common.{◌∙◌}
 use Rattle.pb_history.specs.Entries.{picks_of}
-use Rattle.pb_draw.proofs.Walks.{shows_event, stands_next}
+use Rattle.pb_draw.proofs.Walks.{shows_event}
 use Rattle.pb_draw.proofs.walk.advance.Goals as goal
+use Rattle.pb_history.proofs.Positions.{stands_next}
 
 pub returns-clause-stands : goal.returns-clause-stands
 returns-clause-stands c =

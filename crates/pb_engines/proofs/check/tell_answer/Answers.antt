@@ -1,5 +1,5 @@
 use Rattle.std.proofs.Common.{false, codes}
-use Rattle.pb_engines.specs.Answers.{line}
+use Rattle.pb_base.specs.Lines.{line}
 use Rattle.pb_engines.specs.Checks.{well}
 use Rattle.pb_engines.proofs.check.tell_answer.Goals as goal
 

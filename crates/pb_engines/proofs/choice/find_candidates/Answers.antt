@@ -1,8 +1,8 @@
 use Rattle.std.proofs.Common.{arith}
 use Rattle.pb_machine.specs.Views.{machine_view}
 use Rattle.pb_engines.proofs.ChoiceLemmas.{all_found}
-use Rattle.pb_engines.proofs.ScheduleLemmas.{few_processes}
 use Rattle.pb_engines.proofs.choice.find_candidates.Goals as goal
+use Rattle.pb_machine.proofs.Counts.{few_processes}
 
 pub overflow_cast-process : goal.overflow_cast-process
 overflow_cast-process c =

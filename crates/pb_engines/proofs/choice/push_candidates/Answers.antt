@@ -4,9 +4,9 @@ use Rattle.pb_base.specs.declared.pick.Pick.{Pick}
 use Rattle.pb_machine.specs.Views.{machine_view, proc_view}
 use Rattle.pb_engines.specs.Choices.{AreCandidatesBefore}
 use Rattle.pb_engines.proofs.ChoiceLemmas.{one_candidate, one_stays, process_is_over}
-use Rattle.pb_engines.proofs.ScheduleLemmas.{few_arms}
 use Rattle.pb_engines.proofs.choice.push_candidates.Goals as goal
 use Rattle.pb_engines.proofs.choice.push_candidates.Goals.{in-Stays, in-Silent+in_ok-push-in-Silent}
+use Rattle.pb_machine.proofs.Counts.{few_arms}
 
 pub overflow_cast-pick : goal.overflow_cast-pick
 overflow_cast-pick c =

@@ -17,8 +17,8 @@ loop-i-preserved c = (
   c.in_ok-count_pick.ensures.apart,
 )
 
-pub returns-then-len-gt-MOST_LINES : goal.returns-then-len-gt-MOST_LINES
-returns-then-len-gt-MOST_LINES c =
+pub returns-then-len-gt-MAX_LINES : goal.returns-then-len-gt-MAX_LINES
+returns-then-len-gt-MAX_LINES c =
     counts_too_many c.args.trace.now.entries c.loop-i.i c.loop-i.picks.items c.loop-i.invariant.0 c.loop-i.invariant.1 (omega arith)
 
 pub returns : goal.returns

@@ -42,8 +42,8 @@ loop-left-preserved c =
           c.in_ok-count_pick-in-Did.ensures.picks;
     }
 
-pub returns-then-len-gt-MOST_LINES : goal.returns-then-len-gt-MOST_LINES
-returns-then-len-gt-MOST_LINES c =
+pub returns-then-len-gt-MAX_LINES : goal.returns-then-len-gt-MAX_LINES
+returns-then-len-gt-MAX_LINES c =
     let before = c.loop-left.invariant in
     too_many_picks c.args.verified.now c.requires.verified c.args.seed c.loop-left.left c.args.steps c.loop-left.picks.items
     (machine_view c.loop-left.machine) c.loop-left.chooser.generator c.requires.steps before.lead before.apart before.many before.drawn (omega arith)

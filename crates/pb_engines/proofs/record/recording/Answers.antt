@@ -24,8 +24,8 @@ write_picks-requires g c =
     have_processes code steps seed c.in-Some.picks.items _ _ c.code-code.ensures.verified.annotated
     c.args.options.run.steps_fit recorded c.deref.ensures.value (ap (λ code. code.names) c.code-code.ensures.code)
 
-pub returns-then-len-gt-LONGEST_INPUT : goal.returns-then-len-gt-LONGEST_INPUT
-returns-then-len-gt-LONGEST_INPUT g c =
+pub returns-then-len-gt-MAX_INPUT : goal.returns-then-len-gt-MAX_INPUT
+returns-then-len-gt-MAX_INPUT g c =
     let code = c.args.verified.now.code in
     let text = c.args.text.now in
     let steps = c.args.options.run.steps in
@@ -34,7 +34,7 @@ returns-then-len-gt-LONGEST_INPUT g c =
     subst (λ o. MatchOption o (IsTooLong code steps seed) (λ v. IsRecorded code steps seed v.items)) c.in-Some.is c.in-Ok.ensures.picks in
     let whole = lines_behind c.in_ok-whole.whole.items c.extend_from_slice.new.self.items c.write_picks.new.text.items _ code c.in-Some.picks.items _
     c.in_ok-extend_from_slice.ensures.items c.in_ok-write_picks.ensures.ok (ap (λ code. code.names) c.code-code.ensures.code) c.deref.ensures.value in
-    reply_is_too_long c.too_long-then-len-gt-LONGEST_INPUT.result (SaysOfRecording code steps seed text) c.too_long-then-len-gt-LONGEST_INPUT.ensures
+    reply_is_too_long c.too_long-then-len-gt-MAX_INPUT.result (SaysOfRecording code steps seed text) c.too_long-then-len-gt-MAX_INPUT.ensures
     (says_too_long code steps seed text c.in_ok-whole.whole.items c.write_picks.new.text.items c.in-Some.picks.items c.in_ok-whole.ensures
     recorded whole (omega arith))
 

@@ -1,6 +1,6 @@
 use Rattle.std.proofs.Common.{ap}
 use Rattle.pb_engines.specs.Refusals.{SaysOfRefusedText}
-use Rattle.pb_engines.specs.Runs.{SaysOf}
+use Rattle.pb_engines.specs.Runs.{SaysOfTextRun}
 use Rattle.pb_engines.proofs.InputLemmas.{said_too}
 use Rattle.pb_engines.proofs.TextLemmas.{says_refused, text_is_run}
 use Rattle.pb_engines.proofs.run.run_text.Goals as goal
@@ -12,5 +12,5 @@ returns-in-Ok-clause-text g c =
 
 pub returns-in-Err-clause-text : goal.returns-in-Err-clause-text
 returns-in-Err-clause-text g c =
-    said_too SaysOfRefusedText (SaysOf c.args.options.steps) c.args.text.now _ _ c.refuse.result (says_refused c.args.options.steps c.args.text.now)
+    said_too SaysOfRefusedText (SaysOfTextRun c.args.options.steps) c.args.text.now _ _ c.refuse.result (says_refused c.args.options.steps c.args.text.now)
     (c.refuse.ensures.text c.args.text.now c.requires c.in-Err.ensures.refused)

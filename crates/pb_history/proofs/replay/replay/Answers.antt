@@ -4,7 +4,7 @@ use Rattle.pb_code.specs.Reached.{CodeMoves}
 use Rattle.pb_machine.specs.Views.{machine_view}
 use Rattle.pb_history.specs.Replays.{IsReplay}
 use Rattle.pb_history.specs.Entries.{Entry}
-use Rattle.pb_history.proofs.Leading.{replay_more, shown_step, silent_step}
+use Rattle.pb_history.proofs.TraceSteps.{replay_more, shown_step, silent_step}
 use Rattle.pb_history.proofs.SpanEnds.{item_there}
 use Rattle.pb_history.proofs.replay.replay.Goals as goal
 use Rattle.pb_history.proofs.replay.replay.Goals.{in-Silent, in-Did}

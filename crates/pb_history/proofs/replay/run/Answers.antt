@@ -1,6 +1,6 @@
 use Rattle.std.proofs.Common.{◌<◌, arith}
 use Rattle.pb_machine.specs.Views.{machine_view}
-use Rattle.pb_history.proofs.Silence.{all_silent, one_behind}
+use Rattle.pb_history.proofs.SilentLooks.{all_silent, one_behind}
 use Rattle.pb_history.proofs.replay.run.Goals as goal
 
 pub returns-then-made-max-clause-run : goal.returns-then-made-max-clause-run

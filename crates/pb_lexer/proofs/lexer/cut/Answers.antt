@@ -22,7 +22,7 @@ returns-in-Some-clause-fault g c =
     let line = c.line_end-end.ensures in
     let begins = c.if-begins_comment.ensures.yes refl in
     let bad = c.in-Some.ensures in
-    fault_in_comment _ l.at _ _ _ _ l.invariant c.if-text-gt-LONGEST_TEXT.false
+    fault_in_comment _ l.at _ _ _ _ l.invariant c.if-text-gt-MAX_TEXT.false
     (comment_there _ _ _ begins line.within line.each line.stops) bad.0 bad.1 bad.2 bad.3
 
 pub loop-at-preserved-then-begins_comment : goal.loop-at-preserved-then-begins_comment
@@ -38,7 +38,7 @@ returns-in_err-token-clause-fault g c =
     let l = c.loop-at in
     let p = err_from_is_err_and c.from_residual-in_err-token.result c.from_residual-in_err-token.ensures.1 in
     let cause = c.in_err-token.ensures _ l.invariant.cut in
-    rw (p.1, p.2) (fault_here _ l.at _ _ _ l.invariant c.if-text-gt-LONGEST_TEXT.false cause)
+    rw (p.1, p.2) (fault_here _ l.at _ _ _ l.invariant c.if-text-gt-MAX_TEXT.false cause)
 
 pub loop-at-preserved : goal.loop-at-preserved
 loop-at-preserved g c =

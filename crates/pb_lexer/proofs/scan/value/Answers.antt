@@ -7,7 +7,7 @@ returns-then-number c =
     let l = c.loop-digit in
     too_large _ l.number l.digit-index (omega arith) (omega arith) l.invariant.same
 
-pub returns-then-number-gt-LARGEST_NUMBER : goal.returns-then-number-gt-LARGEST_NUMBER
-returns-then-number-gt-LARGEST_NUMBER c =
+pub returns-then-number-gt-MAX_NUMBER : goal.returns-then-number-gt-MAX_NUMBER
+returns-then-number-gt-MAX_NUMBER c =
     let l = c.loop-digit in
     too_large _ l.number l.digit-index (omega arith) (omega arith) l.invariant.same

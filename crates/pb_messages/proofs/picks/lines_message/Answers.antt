@@ -3,7 +3,7 @@ use Rattle.pb_code.specs.Limits.{KeepsLimits}
 use Rattle.pb_code.specs.Whole.{Code}
 use Rattle.pb_history.specs.declared.counted.CountedPick.{CountedPick}
 use Rattle.pb_machine.specs.Views.{machine_view}
-use Rattle.pb_messages.specs.Said.{SaysOfLines, made}
+use Rattle.pb_messages.specs.Said.{SaysOfPickLines, made}
 use Rattle.pb_picks.specs.PickLines.{IsFaulty, SpellsPicks}
 use Rattle.pb_verifier.specs.declared.fault.VerifyFault.TheVariants.{OutOfLimits}
 use Rattle.pb_messages.proofs.picks.lines_message.Goals as goal
@@ -25,5 +25,5 @@ returns-in-Ok-replay_counted c =
     let spelled = subst (λ (code : Code). SpellsPicks code c.args.lines.text.now c.in-Ok.picks.items) c.code.ensures.code c.in-Ok.ensures.read in
     let read = subst (λ (picks : List CountedPick). SpellsPicks c.args.verified.now.code c.args.lines.text.now picks)
     (sym c.deref.ensures.value) spelled in
-    subst (λ (told : List ℕ). SaysOfLines c.args.verified.now.code c.args.lines.text.now told) (sym c.new.ensures.items)
+    subst (λ (told : List ℕ). SaysOfPickLines c.args.verified.now.code c.args.lines.text.now told) (sym c.new.ensures.items)
     (made c.deref.result.now replayed.1.entries (machine_view replayed.0) read c.in-Ok-replay_counted.ensures.replay)

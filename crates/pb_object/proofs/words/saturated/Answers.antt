@@ -1,5 +1,5 @@
 use Rattle.std.proofs.Common.{arith}
-use Rattle.pb_object.proofs.Numbers.{digit_more}
+use Rattle.pb_code.proofs.NumeralLemmas.{digit_more}
 use Rattle.pb_object.proofs.words.saturated.Goals as goal
 
 pub loop-digit-preserved : goal.loop-digit-preserved

@@ -5,7 +5,7 @@ use Rattle.pb_code.specs.Code.{Instr, ProcessCode}
 use Rattle.pb_code.specs.Whole.{ProcessLabels}
 use Rattle.pb_object.specs.Instructions.{place_words}
 use Rattle.pb_object.specs.Lines.{line_text}
-use Rattle.pb_object.specs.Objects.{process_code, process_labels}
+use Rattle.pb_object.specs.Objects.{code_of_row, labels_of_row}
 use Rattle.pb_object.specs.Rows.{side_by_side}
 use Rattle.std.specs.List.{flat_map}
 use Rattle.pb_code.specs.View.{process_view, process_labels_view, instr_view}
@@ -18,8 +18,8 @@ put_lined_places-requires c =
     let body = c.index-body.result.now in
     let label = c.index-label.result.now in
     let row = c.requires.row.0 in
-    let whole = viewed_at process_view code.processes.items c.args.p body (process_code row) c.requires.process c.index-body.ensures c.requires.row.1.code in
-    let labels = viewed_at process_labels_view c.args.labels.now.processes.items c.args.p label (process_labels row)
+    let whole = viewed_at process_view code.processes.items c.args.p body (code_of_row row) c.requires.process c.index-body.ensures c.requires.row.1.code in
+    let labels = viewed_at process_labels_view c.args.labels.now.processes.items c.args.p label (labels_of_row row)
     c.requires.labels c.index-label.ensures c.requires.row.2 in
     let lines : label.lines.items ≡ map (λ place. place.0) row.places = ap (λ (l : ProcessLabels). l.lines) labels in
     let instrs : map (instr_view body.bundles.items) body.instrs.items ≡ map (λ place. place.1) row.places = ap (λ (c : ProcessCode). c.instrs) whole in
@@ -35,8 +35,8 @@ returns c = λ row is are.
     let label = c.index-label.result.now in
     let name = c.deref.ensures.value ∙ named_at (λ name. name.items) code.names.processes.items p c.index.result.now
     c.requires.name c.index.ensures ∙ is.name in
-    let whole = viewed_at process_view code.processes.items p body (process_code row) c.requires.process c.index-body.ensures is.code in
-    let labels = viewed_at process_labels_view c.args.labels.now.processes.items p label (process_labels row) c.requires.labels c.index-label.ensures are in
+    let whole = viewed_at process_view code.processes.items p body (code_of_row row) c.requires.process c.index-body.ensures is.code in
+    let labels = viewed_at process_labels_view c.args.labels.now.processes.items p label (labels_of_row row) c.requires.labels c.index-label.ensures are in
     let claims = slice_index_or code.claims p [] in
     let instrs = map (instr_view body.bundles.items) body.instrs.items in
     let count = sym (length-map body.instrs.items (instr_view body.bundles.items)) in

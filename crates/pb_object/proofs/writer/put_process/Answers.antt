@@ -1,6 +1,6 @@
 use Rattle.std.proofs.Common.{◌++◌, ◌∙◌, ap, sym, map, ℕ, slice_index_or, []}
 use Rattle.std.proofs.lemmas.List.{length-map}
-use Rattle.pb_object.specs.Objects.{process_code}
+use Rattle.pb_object.specs.Objects.{code_of_row}
 use Rattle.pb_code.specs.View.{process_view, instr_view}
 use Rattle.pb_object.proofs.Written.{one_written, named_at, viewed_at, between}
 use Rattle.pb_object.proofs.writer.put_process.Goals as goal
@@ -12,7 +12,7 @@ returns c = λ row is.
     let body = c.index-body.result.now in
     let name = c.deref.ensures.value ∙ named_at (λ name. name.items) code.names.processes.items p c.index.result.now
     c.requires.name c.index.ensures ∙ is.name in
-    let whole = viewed_at process_view code.processes.items p body (process_code row) c.requires.process c.index-body.ensures is.code in
+    let whole = viewed_at process_view code.processes.items p body (code_of_row row) c.requires.process c.index-body.ensures is.code in
     let claims = slice_index_or code.claims p [] in
     let count = sym (length-map body.instrs.items (instr_view body.bundles.items)) in
     let middle = c.in_ok-put_middle.ensures ∙ ap (λ (n : ℕ). c.put_counted.new.out.items ++ between body.entries.items claims n) count in

@@ -1,8 +1,7 @@
 use Rattle.std.proofs.Common.{◌≡◌, ◌++◌}
 use Rattle.std.specs.Prelude.{slice_index_or}
-use Rattle.pb_base.specs.Lines.{names_view}
+use Rattle.pb_base.specs.Lines.{names_view, each_below}
 use Rattle.pb_outcome_engine.specs.DeadlockLines.{hold_line}
-use Rattle.pb_outcome_engine.specs.OutcomeLines.{each_below}
 use Rattle.pb_outcome_engine.proofs.deadlocks.put_holds.Given as goal
 
 abbrev pub invariant-loop-r : goal.invariant-loop-r

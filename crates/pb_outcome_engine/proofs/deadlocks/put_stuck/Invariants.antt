@@ -1,8 +1,8 @@
 use Rattle.std.proofs.Common.{◌≡◌, ◌++◌, map}
-use Rattle.pb_base.specs.Lines.{name_of, names_view}
+use Rattle.pb_base.specs.Lines.{name_of, names_view, each_below}
 use Rattle.pb_code.specs.View.{process_labels_view}
 use Rattle.pb_outcome_engine.specs.DeadlockLines.{stuck_at, stuck_lines}
-use Rattle.pb_outcome_engine.specs.OutcomeLines.{each_below, integer_names}
+use Rattle.pb_outcome_engine.specs.OutcomeLines.{integer_names}
 use Rattle.pb_explore.specs.Deadlocks.{stuck_view}
 use Rattle.pb_outcome_engine.proofs.deadlocks.put_stuck.Given as goal
 

@@ -1,7 +1,7 @@
 use Rattle.std.proofs.Common.{◌≡◌, ◌++◌, map}
 use Rattle.std.specs.Prelude.{pos, slice_index_or}
-use Rattle.pb_base.specs.Lines.{name_of}
-use Rattle.pb_outcome_engine.specs.OutcomeLines.{each_below, integer_line}
+use Rattle.pb_base.specs.Lines.{name_of, each_below}
+use Rattle.pb_outcome_engine.specs.OutcomeLines.{integer_line}
 use Rattle.pb_outcome_engine.proofs.lines.put_integers.Given as goal
 
 abbrev pub invariant-loop-x : goal.invariant-loop-x

@@ -2,7 +2,7 @@ use Rattle.pb_code.specs.View.{code_view, labels_view}
 use Rattle.std.proofs.Common.{IfOk, subst}
 use Rattle.pb_engines.specs.declared.status.Status.TheVariants.{Done}
 use Rattle.pb_explore.specs.declared.lending.Lending.{Lending}
-use Rattle.pb_outcome_engine.specs.SaysOutcomes.{SaysOfCode}
+use Rattle.pb_outcome_engine.specs.SaysOutcomes.{SaysOfSearch}
 use Rattle.pb_outcome_engine.proofs.OutcomeLemmas.{deadlocks_here, found_here, says_all, says_excess}
 use Rattle.pb_outcome_engine.proofs.outcomes.reply.Goals as goal
 
@@ -21,7 +21,7 @@ outcomes_text-requires-clause-deadlocks c =
 pub returns-in_ok-outcomes_text-in-Ok : goal.returns-in_ok-outcomes_text-in-Ok
 returns-in_ok-outcomes_text-in-Ok c =
     let (lines, stuck, are, stuck_are, is) = c.in_ok-outcomes_text-in-Ok.ensures in
-    subst (λ (lending : Lending). SaysOfCode lending c.args.compiled.now.verified.code c.args.compiled.now.labels c.args.states
+    subst (λ (lending : Lending). SaysOfSearch lending c.args.compiled.now.verified.code c.args.compiled.now.labels c.args.states
     c.in_ok-outcomes_text-in-Ok.field-0.items Done) c.lending.ensures
     (says_all c.lending.result c.args.compiled.now.verified c.verified-verified.result.now c.verified-verified.ensures (code_view c.code-code.result.now)
     c.code-code.ensures.code c.args.compiled.now.labels (labels_view c.labels.result.now) c.labels.ensures.labels
@@ -32,6 +32,6 @@ returns-in_ok-outcomes_text-in-Ok c =
 pub returns-in-Err-TooMany : goal.returns-in-Err-TooMany
 returns-in-Err-TooMany c =
     subst (λ (lending : Lending). IfOk c.too_many.result
-    (λ r. SaysOfCode lending c.args.compiled.now.verified.code c.args.compiled.now.labels c.args.states r.text.items r.status)) c.lending.ensures
+    (λ r. SaysOfSearch lending c.args.compiled.now.verified.code c.args.compiled.now.labels c.args.states r.text.items r.status)) c.lending.ensures
     (says_excess c.lending.result c.args.compiled.now.verified c.verified-verified.result.now c.args.compiled.now.labels c.args.states c.too_many.result
     c.verified-verified.ensures (c.in-Err-TooMany.ensures.too_many c.in-Err-TooMany.field-0-is) c.too_many.ensures)

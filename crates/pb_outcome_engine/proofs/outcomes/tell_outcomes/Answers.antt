@@ -1,6 +1,6 @@
 use Rattle.pb_engines.specs.Refusals.{SaysOfRefusedText}
 use Rattle.pb_engines.proofs.InputLemmas.{replied_too, said_too, told_reply}
-use Rattle.pb_outcome_engine.specs.SaysOutcomes.{SaysOfCode, SaysOfOutcomes, accepted, refused}
+use Rattle.pb_outcome_engine.specs.SaysOutcomes.{SaysOfSearch, SaysOfOutcomes, accepted, refused}
 use Rattle.pb_outcome_engine.specs.SaysOutcomes.{lending_for}
 use Rattle.pb_outcome_engine.proofs.outcomes.tell_outcomes.Goals as goal
 
@@ -14,7 +14,7 @@ returns-in-Ok-clause-text g c =
     let lend = c.args.options.lend in
     let states = c.args.options.states in
     told_reply (SaysOfOutcomes lend states) c.args.text.now c.reply.result _ _ c.tell.result c.requires
-    (replied_too (SaysOfCode (lending_for lend) code labels states) (SaysOfOutcomes lend states c.args.text.now)
+    (replied_too (SaysOfSearch (lending_for lend) code labels states) (SaysOfOutcomes lend states c.args.text.now)
     c.reply.result (accepted code labels c.in-Ok.ensures.compiled) c.reply.ensures)
     c.tell.ensures.said c.tell.ensures.memory
 

@@ -25,12 +25,12 @@ returns-in_err-measure g c =
       memory = j.memory;
     }
 
-pub returns-then-measure-gt-HIGHEST : goal.returns-then-measure-gt-HIGHEST
-returns-then-measure-gt-HIGHEST g c =
+pub returns-then-measure-gt-MAX_HEIGHT : goal.returns-then-measure-gt-MAX_HEIGHT
+returns-then-measure-gt-MAX_HEIGHT g c =
     let shallow = not_nested (tokens c.args.tokens.now) c.if-nests_too_deep.ensures in
     let m = c.in_ok-measure.ensures in
     let j = judged_high (tokens c.args.tokens.now) m.syntax shallow (program_sound _ _ _ m.syntax m.found) (is_high _
-    _ _ m.same c.if-measure-gt-HIGHEST.true) in
+    _ _ m.same c.if-measure-gt-MAX_HEIGHT.true) in
     record {
       found = j.found;
       limits = j.limits;
@@ -44,13 +44,13 @@ returns-then-measure-gt-HIGHEST g c =
       memory = j.memory;
     }
 
-pub returns-then-measure-gt-MOST_NODES : goal.returns-then-measure-gt-MOST_NODES
-returns-then-measure-gt-MOST_NODES g c =
+pub returns-then-measure-gt-MAX_NODES : goal.returns-then-measure-gt-MAX_NODES
+returns-then-measure-gt-MAX_NODES g c =
     let shallow = not_nested (tokens c.args.tokens.now) c.if-nests_too_deep.ensures in
     let m = c.in_ok-measure.ensures in
     let j = judged_large (tokens c.args.tokens.now) m.syntax shallow (program_sound _ _ _ m.syntax m.found) (not_high
-    _ _ _ m.same c.if-measure-gt-HIGHEST.false)
-    (is_large _ _ _ m.same c.if-measure-gt-MOST_NODES.true) in
+    _ _ _ m.same c.if-measure-gt-MAX_HEIGHT.false)
+    (is_large _ _ _ m.same c.if-measure-gt-MAX_NODES.true) in
     record {
       found = j.found;
       limits = j.limits;
@@ -70,9 +70,9 @@ returns g c =
     let m = c.in_ok-measure.ensures in
     let j = judged_made (tokens c.args.tokens.now) _ c.read-2.result m.syntax shallow m.found
     (record {
-      height = not_high _ _ _ m.same c.if-measure-gt-HIGHEST.false;
+      height = not_high _ _ _ m.same c.if-measure-gt-MAX_HEIGHT.false;
       nodes = not_large _ _ _ m.same
-          c.if-measure-gt-MOST_NODES.false;
+          c.if-measure-gt-MAX_NODES.false;
     }) c.read-2.ensures in
     record {
       found = j.found;

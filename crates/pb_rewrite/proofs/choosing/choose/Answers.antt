@@ -20,7 +20,7 @@ returns-in-Is-clause-ok g c =
 pub returns-in-Is-clause-err : goal.returns-in-Is-clause-err
 returns-in-Is-clause-err g c =
     kept_err c.enter_list.result _ _ c.enter_list.ensures.err
-    (ap (λ e. plain.Doing (plain.Choice c.args.line e (block_view c.args.on_true.items) (block_view
+    (ap (λ e. plain.Doing (plain.If c.args.line e (block_view c.args.on_true.items) (block_view
     c.args.on_false.items) ∷ items_view c.args.items.items)) c.in-Is.ensures.1)
 
 pub returns-in-Becomes-clause-ok : goal.returns-in-Becomes-clause-ok

@@ -60,14 +60,14 @@ pub copy_stmt-returns-in_ok-value-in-Assign : goal.copy_stmt-returns-in_ok-value
 copy_stmt-returns-in_ok-value-in-Assign g t c =
     let a = c.in-Assign in
     view-Assign a.line a.target c.in_ok-value-in-Assign.value
-    ∙ ap (plain.Set a.line a.target) c.in_ok-value-in-Assign.ensures
+    ∙ ap (plain.Assign a.line a.target) c.in_ok-value-in-Assign.ensures
     ∙ sym (ap stmt_view a.is ∙ view-Assign a.line a.target a.value)
 
 pub copy_stmt-returns-in_ok-value-in-Print : goal.copy_stmt-returns-in_ok-value-in-Print
 copy_stmt-returns-in_ok-value-in-Print g t c =
     let a = c.in-Print in
     view-Print a.line c.in_ok-value-in-Print.value
-    ∙ ap (plain.Write a.line) c.in_ok-value-in-Print.ensures
+    ∙ ap (plain.Print a.line) c.in_ok-value-in-Print.ensures
     ∙ sym (ap stmt_view a.is ∙ view-Print a.line a.value)
 
 pub copy_stmt-returns-in_ok-on_false-in-If : goal.copy_stmt-returns-in_ok-on_false-in-If
@@ -89,7 +89,7 @@ pub copy_stmt-returns-in_ok-body-in-Hold : goal.copy_stmt-returns-in_ok-body-in-
 copy_stmt-returns-in_ok-body-in-Hold g t c =
     let a = c.in-Hold in
     view-Hold a.line a.bundle c.in_ok-body-in-Hold.body
-    ∙ ap (plain.HoldDo a.line a.bundle) c.in_ok-body-in-Hold.ensures
+    ∙ ap (plain.Hold a.line a.bundle) c.in_ok-body-in-Hold.ensures
     ∙ sym (ap stmt_view a.is ∙ view-Hold a.line a.bundle a.body)
 
 pub copy_stmt-returns-in_ok-arms-in-Parbegin : goal.copy_stmt-returns-in_ok-arms-in-Parbegin

@@ -17,7 +17,7 @@ returns-in-Ok-clause-ok g c =
     ∙ ap₂ (λ i old. i ∷ old) (ap plain.item_of (view-While c.args.line c.args.test c.args.body)) (ap items_view c.reserve.ensures.items) in (
       refl,
       entered c.with_body.result
-          (items_of (block_view c.args.body.items) ++ plain.Loop c.args.line (expr_view c.args.test) (expr_view
+          (items_of (block_view c.args.body.items) ++ plain.While c.args.line (expr_view c.args.test) (expr_view
           c.args.test) (block_view c.args.body.items) ∷ items_view c.args.items.items)
           (c.with_body.ensures ∙ ap₂ (λ b old. items_of b ++ old) c.requires.same whole),
     )
@@ -25,5 +25,5 @@ returns-in-Ok-clause-ok g c =
 pub returns-in-Err-clause-err : goal.returns-in-Err-clause-err
 returns-in-Err-clause-err g c =
     c.unrepeated.ensures
-    ∙ ap (λ old. plain.Doing (plain.Loop c.args.line (expr_view c.args.test) (expr_view c.args.left) (block_view c.args.body.items) ∷ items_view old))
+    ∙ ap (λ old. plain.Doing (plain.While c.args.line (expr_view c.args.test) (expr_view c.args.left) (block_view c.args.body.items) ∷ items_view old))
     c.reserve.ensures.items

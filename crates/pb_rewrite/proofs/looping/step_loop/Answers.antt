@@ -20,7 +20,7 @@ returns-in-Is-clause-ok g c =
 pub returns-in-Is-clause-err : goal.returns-in-Is-clause-err
 returns-in-Is-clause-err g c =
     kept_err c.decide.result _ _ c.decide.ensures.err
-    (ap (λ e. plain.Doing (plain.Loop c.args.line (expr_view c.args.test) e (block_view c.args.body.items) ∷ items_view c.args.items.items)) c.in-Is.ensures.1)
+    (ap (λ e. plain.Doing (plain.While c.args.line (expr_view c.args.test) e (block_view c.args.body.items) ∷ items_view c.args.items.items)) c.in-Is.ensures.1)
 
 pub returns-in-Becomes-clause-ok : goal.returns-in-Becomes-clause-ok
 returns-in-Becomes-clause-ok g c =

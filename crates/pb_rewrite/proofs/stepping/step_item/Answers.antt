@@ -31,21 +31,21 @@ returns-in-Left-clause-err g c =
     (plain.Doing (plain.item_of (stmt_view c.in-Left.stmt) ∷ rest)) seen
     c.step_stmt.new.vars c.step_stmt.new.banker.state c.step_stmt.result c.step_stmt.ensures.err
 
-pub returns-in-Loop-clause-ok : goal.returns-in-Loop-clause-ok
-returns-in-Loop-clause-ok g c =
-    let a = c.in-Loop in
+pub returns-in-While-clause-ok : goal.returns-in-While-clause-ok
+returns-in-While-clause-ok g c =
+    let a = c.in-While in
     let rest = items_view c.args.items.items in
     let seen = ap (λ i. plain.Doing (item_view i ∷ rest)) a.is in
     free_ok c.args.banker.now.state c.args.p c.args.vars.now (plain.Doing (item_view c.args.first ∷ rest))
-    (plain.Loop a.line (expr_view a.test) (expr_view a.left) (block_view a.body.items) ∷ rest) seen c.step_loop.result c.step_loop.ensures.ok
+    (plain.While a.line (expr_view a.test) (expr_view a.left) (block_view a.body.items) ∷ rest) seen c.step_loop.result c.step_loop.ensures.ok
 
-pub returns-in-Loop-clause-err : goal.returns-in-Loop-clause-err
-returns-in-Loop-clause-err g c =
-    let a = c.in-Loop in
+pub returns-in-While-clause-err : goal.returns-in-While-clause-err
+returns-in-While-clause-err g c =
+    let a = c.in-While in
     let rest = items_view c.args.items.items in
     let seen = ap (λ i. plain.Doing (item_view i ∷ rest)) a.is in
     handed_back c.args.banker.now.state c.args.p c.args.vars.now (plain.Doing (item_view c.args.first ∷ rest))
-    (plain.Loop a.line (expr_view a.test) (expr_view a.left) (block_view a.body.items) ∷ rest) seen c.step_loop.result c.step_loop.ensures.err
+    (plain.While a.line (expr_view a.test) (expr_view a.left) (block_view a.body.items) ∷ rest) seen c.step_loop.result c.step_loop.ensures.err
 
 pub returns-in-GiveBack-clause-ok : goal.returns-in-GiveBack-clause-ok
 returns-in-GiveBack-clause-ok g c =

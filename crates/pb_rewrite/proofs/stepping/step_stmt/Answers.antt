@@ -31,7 +31,7 @@ returns-in-If-clause-ok g c =
     let seen = ap (λ s. plain.Doing (item_of (stmt_view s) ∷ rest)) a.is ∙ ap (λ s. plain.Doing (item_of s ∷ rest))
     (view-If a.line a.test a.on_true a.on_false) in
     free_ok c.args.banker.now.state c.args.p c.args.vars.now (plain.Doing (item_of (stmt_view c.args.stmt) ∷ rest))
-    (plain.Choice a.line (expr_view a.test) (block_view a.on_true.items) (block_view a.on_false.items) ∷ rest) seen c.choose.result c.choose.ensures.ok
+    (plain.If a.line (expr_view a.test) (block_view a.on_true.items) (block_view a.on_false.items) ∷ rest) seen c.choose.result c.choose.ensures.ok
 
 pub returns-in-If-clause-err : goal.returns-in-If-clause-err
 returns-in-If-clause-err g c =
@@ -40,25 +40,25 @@ returns-in-If-clause-err g c =
     let seen = ap (λ s. plain.Doing (item_of (stmt_view s) ∷ rest)) a.is ∙ ap (λ s. plain.Doing (item_of s ∷ rest))
     (view-If a.line a.test a.on_true a.on_false) in
     handed_back c.args.banker.now.state c.args.p c.args.vars.now (plain.Doing (item_of (stmt_view c.args.stmt) ∷ rest))
-    (plain.Choice a.line (expr_view a.test) (block_view a.on_true.items) (block_view a.on_false.items) ∷ rest) seen c.choose.result c.choose.ensures.err
+    (plain.If a.line (expr_view a.test) (block_view a.on_true.items) (block_view a.on_false.items) ∷ rest) seen c.choose.result c.choose.ensures.err
 
 pub returns-in-Ok-clause-ok : goal.returns-in-Ok-clause-ok
 returns-in-Ok-clause-ok g c =
     let a = c.in-While in
     let rest = items_view c.args.items.items in
     let seen = ap (λ s. plain.Doing (item_of (stmt_view s) ∷ rest)) a.is ∙ ap (λ s. plain.Doing (item_of s ∷ rest)) (view-While a.line a.test a.body)
-    ∙ ap (λ e. plain.Doing (plain.Loop a.line (expr_view a.test) e (block_view a.body.items) ∷ rest)) (sym c.in-Ok.ensures) in
+    ∙ ap (λ e. plain.Doing (plain.While a.line (expr_view a.test) e (block_view a.body.items) ∷ rest)) (sym c.in-Ok.ensures) in
     free_ok c.args.banker.now.state c.args.p c.args.vars.now (plain.Doing (item_of (stmt_view c.args.stmt) ∷ rest))
-    (plain.Loop a.line (expr_view a.test) (expr_view c.in-Ok.left) (block_view a.body.items) ∷ rest) seen c.step_loop.result c.step_loop.ensures.ok
+    (plain.While a.line (expr_view a.test) (expr_view c.in-Ok.left) (block_view a.body.items) ∷ rest) seen c.step_loop.result c.step_loop.ensures.ok
 
 pub returns-in-Ok-clause-err : goal.returns-in-Ok-clause-err
 returns-in-Ok-clause-err g c =
     let a = c.in-While in
     let rest = items_view c.args.items.items in
     let seen = ap (λ s. plain.Doing (item_of (stmt_view s) ∷ rest)) a.is ∙ ap (λ s. plain.Doing (item_of s ∷ rest)) (view-While a.line a.test a.body)
-    ∙ ap (λ e. plain.Doing (plain.Loop a.line (expr_view a.test) e (block_view a.body.items) ∷ rest)) (sym c.in-Ok.ensures) in
+    ∙ ap (λ e. plain.Doing (plain.While a.line (expr_view a.test) e (block_view a.body.items) ∷ rest)) (sym c.in-Ok.ensures) in
     handed_back c.args.banker.now.state c.args.p c.args.vars.now (plain.Doing (item_of (stmt_view c.args.stmt) ∷ rest))
-    (plain.Loop a.line (expr_view a.test) (expr_view c.in-Ok.left) (block_view a.body.items) ∷ rest) seen c.step_loop.result c.step_loop.ensures.err
+    (plain.While a.line (expr_view a.test) (expr_view c.in-Ok.left) (block_view a.body.items) ∷ rest) seen c.step_loop.result c.step_loop.ensures.err
 
 pub returns-in-Err-clause-err : goal.returns-in-Err-clause-err
 returns-in-Err-clause-err g c =
@@ -98,7 +98,7 @@ returns-in-Parbegin-clause-ok g c =
     let a = c.in-Parbegin in
     let rest = items_view c.args.items.items in
     let arm = plain.Doing (item_of (stmt_view c.args.stmt) ∷ rest) in
-    let items = plain.Parallel a.line a.first (arms_view a.arms.items) ∷ rest in
+    let items = plain.Parbegin a.line a.first (arms_view a.arms.items) ∷ rest in
     let seen = ap (λ s. plain.Doing (item_of (stmt_view s) ∷ rest)) a.is ∙ ap (λ s. plain.Doing (item_of s ∷ rest)) (view-Parbegin a.line a.first a.arms) in
     free_ok c.args.banker.now.state c.args.p c.args.vars.now arm items seen c.fork.result
     (left_ok c.args.banker.now.state c.args.p c.args.vars.now arm items seen c.fork.result
@@ -110,4 +110,4 @@ returns-in-Parbegin-clause-err g c =
     let rest = items_view c.args.items.items in
     let seen = ap (λ s. plain.Doing (item_of (stmt_view s) ∷ rest)) a.is ∙ ap (λ s. plain.Doing (item_of s ∷ rest)) (view-Parbegin a.line a.first a.arms) in
     handed_back c.args.banker.now.state c.args.p c.args.vars.now (plain.Doing (item_of (stmt_view c.args.stmt) ∷ rest))
-    (plain.Parallel a.line a.first (arms_view a.arms.items) ∷ rest) seen c.fork.result c.fork.ensures.err
+    (plain.Parbegin a.line a.first (arms_view a.arms.items) ∷ rest) seen c.fork.result c.fork.ensures.err

@@ -1,5 +1,5 @@
 use Rattle.std.proofs.Common.{None, ◌∷◌, ◌++◌, [], ap, ◌∙◌}
-use Rattle.pb_shared.proofs.Sparing.{none_more}
+use Rattle.pb_shared.proofs.SpareStretches.{none_more}
 use Rattle.pb_shared.proofs.book.no_spares.Goals as goal
 
 pub loop-process-preserved : goal.loop-process-preserved

@@ -1,5 +1,5 @@
-use Rattle.pb_machine.proofs.Staying.{live_arms_step}
-use Rattle.pb_shared.proofs.Keeping.{legal_reached}
+use Rattle.pb_machine.proofs.ReadyArms.{live_arms_step}
+use Rattle.pb_shared.proofs.LegalCalls.{legal_reached}
 use Rattle.pb_shared.proofs.laws.ready_arms.Goals as goal
 
 pub returns : goal.returns

@@ -1,5 +1,5 @@
 use Rattle.std.proofs.Common.{arith}
-use Rattle.pb_shared.proofs.Marking.{wiped_more}
+use Rattle.pb_shared.proofs.TakenMarks.{wiped_more}
 use Rattle.pb_shared.proofs.marks.clear.Goals as goal
 
 pub loop-place-preserved : goal.loop-place-preserved

@@ -1,6 +1,6 @@
 use Rattle.std.proofs.Common.{refl, sym}
 use Rattle.pb_machine.specs.Views.{machine_view}
-use Rattle.pb_shared.proofs.Looking.{blocked_refused}
+use Rattle.pb_shared.proofs.ArmLooks.{blocked_refused}
 use Rattle.pb_shared.proofs.visible.try_visible.Goals as goal
 
 pub returns-in-NotEnabled-clause-tries : goal.returns-in-NotEnabled-clause-tries

@@ -6,7 +6,7 @@ use Rattle.pb_verifier.specs.Places.{IsInArm}
 use Rattle.pb_verifier.specs.Spread.{fact_at}
 use Rattle.pb_verifier.proofs.ArmOrder.{arm_lies, rise_of}
 use Rattle.pb_verifier.proofs.EndTables.{IsBestBefore, best_start, best_over, best_keeps, best_takes}
-use Rattle.pb_verifier.proofs.Lying.{entry_in_arm}
+use Rattle.pb_verifier.proofs.ArmPlaces.{entry_in_arm}
 use Rattle.pb_verifier.proofs.deepest.deepest.Goals as goal
 use Rattle.pb_verifier.proofs.deepest.deepest.Goals.{in-Some+then-depth-best, in-Some+else-depth-best, in_default}
 

@@ -3,7 +3,7 @@ use Rattle.pb_code.specs.View.{process_view}
 use Rattle.pb_verifier.specs.Faults.{TurnsHoldings}
 use Rattle.pb_verifier.specs.Flow.{IsGrown}
 use Rattle.pb_verifier.specs.Given.{instrs_of}
-use Rattle.pb_verifier.specs.Holdings.{held_by}
+use Rattle.pb_verifier.specs.Holdings.{held_bundles}
 use Rattle.pb_verifier.specs.Spread.{CanBeAnnotated, IsLeast, hold_rules, notes_of}
 use Rattle.pb_verifier.proofs.FaultFacts.{holdings_by_rules, no_facts, table_of}
 use Rattle.pb_verifier.proofs.Each.{none_weaker, some_weaker}
@@ -17,8 +17,8 @@ returns-clause-yes c =
     some_weaker c.spread.result
     (λ table least.
     table_of (process_view c.args.code.now) TurnsHoldings hold_rules holdings_by_rules c.args.order.now
-    c.requires.inside c.requires.reached (notes_of (held_by (instrs_of c.args.code.now) table.items) table.items)
-    (subst (λ (es : List ℕ). IsLeast hold_rules es (instrs_of c.args.code.now) (notes_of (held_by (instrs_of
+    c.requires.inside c.requires.reached (notes_of (held_bundles (instrs_of c.args.code.now) table.items) table.items)
+    (subst (λ (es : List ℕ). IsLeast hold_rules es (instrs_of c.args.code.now) (notes_of (held_bundles (instrs_of
     c.args.code.now) table.items) table.items)) c.deref.ensures.value least))
     c.spread.ensures.yes
 

@@ -1,4 +1,4 @@
-use Rattle.pb_verifier.proofs.Behaved.{behaved}
+use Rattle.pb_verifier.proofs.SoundBehaviour.{behaved}
 use Rattle.pb_verifier.proofs.laws.verified_code_is_well_behaved.Goals as goal
 
 pub returns : goal.returns

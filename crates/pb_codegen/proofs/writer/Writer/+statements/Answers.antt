@@ -6,7 +6,7 @@ use Rattle.pb_names.specs.View.{arms_view, block_view, expr_view, stmt_view}
 use Rattle.pb_names.proofs.Views.{view-Assign, view-Print, view-If, view-While, view-Hold, view-Parbegin}
 use Rattle.pb_codegen.specs.Emitted.{HasRoom, place}
 use Rattle.pb_codegen.specs.Generate.{stmt_code, block_code}
-use Rattle.pb_codegen.specs.Lines.{block_lines, line_of}
+use Rattle.pb_codegen.specs.Lines.{block_lines, block_line}
 use Rattle.pb_codegen.proofs.WriterParts.{adds_nothing, adds_as, adds-place, place-replaced, bundle_kept}
 use Rattle.pb_codegen.proofs.WriterLists.{block_written, few_arms_in_stmt, room_for_stmt}
 use Rattle.pb_names.proofs.NumberedLists.{length-arms_list}
@@ -213,5 +213,5 @@ put_block-returns g t c =
     omega (arith, ap length c.deref-stmt-items.ensures.value) in
     let all = take_all c.loop-i.i stmts end in
     adds_as c.loop-i.invariant (ap (λ ss. block_code p (block_view ss)) all)
-    (ap (λ ss. block_lines (block_view ss) (line_of (block_view (drop c.loop-i.i stmts)) after)) all
-    ∙ ap (λ ss. block_lines (block_view stmts) (line_of (block_view ss) after)) (drop_all c.loop-i.i stmts end))
+    (ap (λ ss. block_lines (block_view ss) (block_line (block_view (drop c.loop-i.i stmts)) after)) all
+    ∙ ap (λ ss. block_lines (block_view stmts) (block_line (block_view ss) after)) (drop_all c.loop-i.i stmts end))

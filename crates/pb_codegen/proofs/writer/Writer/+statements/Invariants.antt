@@ -2,7 +2,7 @@ use Rattle.std.proofs.Common.{◌+◌, ◌*◌, take, drop}
 use Rattle.pb_names.proofs.Sizes.{stmt_size, block_size}
 use Rattle.pb_codegen.specs.Emitted.{Adds, place}
 use Rattle.pb_codegen.specs.Generate.{block_code}
-use Rattle.pb_codegen.specs.Lines.{block_lines, line_of}
+use Rattle.pb_codegen.specs.Lines.{block_lines, block_line}
 use Rattle.pb_names.specs.View.{block_view, stmt_view}
 use Rattle.pb_codegen.proofs.writer.Writer.+statements.Given as goal
 
@@ -25,4 +25,4 @@ abbrev pub invariant-put_block-loop-i : goal.invariant-put_block-loop-i
 invariant-put_block-loop-i g l =
     let done = block_view (take l.i l.stmts.items) in
     Adds l.initial.self l.self (block_code (place l.initial.self) done)
-    (block_lines done (line_of (block_view (drop l.i l.stmts.items)) l.after))
+    (block_lines done (block_line (block_view (drop l.i l.stmts.items)) l.after))

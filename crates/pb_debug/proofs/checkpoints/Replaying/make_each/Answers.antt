@@ -6,7 +6,7 @@ use Rattle.pb_history.specs.Replays.{IsStopped}
 use Rattle.pb_history.proofs.SpanEvents.{take_drop}
 use Rattle.pb_history.proofs.CountedPicks.{stopped_more}
 use Rattle.pb_history.proofs.SpanEnds.{item_there}
-use Rattle.pb_machine.proofs.Growing.{take_at}
+use Rattle.pb_machine.proofs.BuiltLists.{take_at}
 use Rattle.pb_debug.proofs.checkpoints.Replaying.make_each.Goals as goal
 
 pub make-requires-clause-fits : goal.make-requires-clause-fits

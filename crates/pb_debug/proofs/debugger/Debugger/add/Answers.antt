@@ -3,7 +3,7 @@ use Rattle.std.proofs.lemmas.List.{length-map}
 use Rattle.pb_code.specs.Reached.{CodeMoves}
 use Rattle.pb_history.specs.Entries.{Entry, picks_of}
 use Rattle.pb_machine.specs.Views.{IsMachineOf, machine_view}
-use Rattle.pb_debug.specs.Appends.{CanAppend, appended}
+use Rattle.pb_debug.specs.Appends.{CanAppend, with_pick}
 use Rattle.pb_debug.specs.Checkpoints.{view_of}
 use Rattle.pb_debug.specs.Value.{Debugging, state_of}
 use Rattle.pb_debug.proofs.FurtherPicks.{added_is, added_sound, added_state, still_sound}
@@ -78,4 +78,4 @@ returns-clause-appended c =
     let one : List Entry = record { pick = pick; event = c.args.event } ∷ [] in
     let entries = c.push.ensures ∙ ap (λ (es : List Entry). es ++ one) c.in_ok-reserve.ensures.same in
     added_is i c.self.invariant pick c.args.event m c.push.new.trace c.keep.new.checkpoints end entries can.0 can.1 of moves at
-    ∙ ap (λ (d : Debugging). appended d pick) c.self.view_is
+    ∙ ap (λ (d : Debugging). with_pick d pick) c.self.view_is

@@ -9,7 +9,7 @@ use Rattle.pb_debug.proofs.Positions.{in_labels}
 use Rattle.pb_debug.proofs.ResourceTexts.{state_here}
 use Rattle.pb_debug.proofs.Lines.{line_is}
 use Rattle.pb_debug.proofs.debugger.Debugger.line.Goals as goal
-use Rattle.pb_verifier.proofs.Banking.{get_some}
+use Rattle.pb_verifier.proofs.LoansWithinClaims.{get_some}
 
 pub returns-clause-line : goal.returns-clause-line
 returns-clause-line c =

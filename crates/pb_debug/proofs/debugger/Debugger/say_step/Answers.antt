@@ -1,7 +1,7 @@
 use Rattle.std.proofs.Common.{◌≡◌, ◌+◌, sym, ap, ◌∙◌, subst, arith}
 use Rattle.pb_base.specs.declared.step.Step.{Step}
 use Rattle.pb_base.specs.Lines.{NameTable, HasNames, names_view}
-use Rattle.pb_debug.specs.Answers.{SaysStep, names_of}
+use Rattle.pb_debug.specs.Answers.{SaysStep, shown_names}
 use Rattle.pb_debug.specs.Texts.{at_text, event_text}
 use Rattle.pb_debug.specs.Value.{Debugging}
 use Rattle.pb_debug.proofs.NameTexts.{on_ok}
@@ -18,7 +18,7 @@ pub put_event-requires : goal.put_event-requires
 put_event-requires c =
     let d = c.args.self.now in
     let event = c.in-Did.event in
-    let same : names_view c.names.result.now ≡ names_of d = c.names.ensures ∙ ap (λ (d : Debugging). d.verified.code.names) c.self.view_is in
+    let same : names_view c.names.result.now ≡ shown_names d = c.names.ensures ∙ ap (λ (d : Debugging). d.verified.code.names) c.self.view_is in
     subst (λ (n : NameTable). HasNames n event) (sym same) (c.requires.names event c.in-Did.is)
 
 pub returns-in-Silent : goal.returns-in-Silent
@@ -36,11 +36,11 @@ returns-in-Did c =
     let d = c.args.self.now in
     let event = c.in-Did.event in
     let next = c.position-next.result + 1 in
-    let same : names_view c.names.result.now ≡ names_of d = c.names.ensures ∙ ap (λ (d : Debugging). d.verified.code.names) c.self.view_is in
+    let same : names_view c.names.result.now ≡ shown_names d = c.names.ensures ∙ ap (λ (d : Debugging). d.verified.code.names) c.self.view_is in
     let said = event_text (names_view c.names.result.now) next event in
-    let is : said ≡ event_text (names_of d) (d.position + 1) event =
+    let is : said ≡ event_text (shown_names d) (d.position + 1) event =
     ap (λ (n : NameTable). event_text n next event) same
-    ∙ ap (λ i. event_text (names_of d) (i + 1) event) c.position-next.ensures.position in
+    ∙ ap (λ i. event_text (shown_names d) (i + 1) event) c.position-next.ensures.position in
     on_ok c.put_event.result _ _ c.put_event.ensures
     (λ e. (said, subst (λ (s : Step). SaysStep d c.args.p c.args.arm s said) (sym c.in-Did.is) is, e))
 

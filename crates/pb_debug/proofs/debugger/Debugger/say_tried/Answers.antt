@@ -5,9 +5,9 @@ use Rattle.pb_base.specs.declared.step.Step.{Step}
 use Rattle.pb_code.specs.Reached.{CodeMoves}
 use Rattle.pb_machine.specs.Steps.{IsStep}
 use Rattle.pb_machine.specs.Views.{machine_view}
-use Rattle.pb_machine.proofs.Going.{events_have_names}
+use Rattle.pb_machine.proofs.NeverStuck.{events_have_names}
 use Rattle.pb_verifier.specs.declared.fault.VerifyFault.TheVariants.{OutOfLimits}
-use Rattle.pb_debug.specs.Appends.{Tries}
+use Rattle.pb_debug.specs.Appends.{TriesPick}
 use Rattle.pb_debug.specs.Value.{state_of}
 use Rattle.pb_debug.proofs.Positions.{few_arms, in_code, reached}
 use Rattle.pb_debug.proofs.NameTexts.{on_ok}
@@ -47,5 +47,5 @@ returns-clause-said c =
     let next = c.settle.new.self in
     let s = c.in_ok-say_step.ensures in
     on_ok c.settle.result _ _ c.settle.ensures.tries (λ tries.
-    let tried = subst (λ (pick : Pick). Tries d pick t.step next) c.in_ok-tried.ensures.pick tries in
+    let tried = subst (λ (pick : Pick). TriesPick d pick t.step next) c.in_ok-tried.ensures.pick tries in
     (s.0, inr (c.if-not-can_append.ensures.can.0 refl, (t.step, tried, s.1)), s.2))

@@ -11,7 +11,7 @@ use Rattle.pb_debug.proofs.Positions.{in_labels}
 use Rattle.pb_debug.proofs.Lines.{labels_here}
 use Rattle.pb_debug.proofs.NameTexts.{on_ok}
 use Rattle.pb_debug.proofs.debugger.Debugger.say_wrote.Goals as goal
-use Rattle.pb_verifier.proofs.Banking.{get_some}
+use Rattle.pb_verifier.proofs.LoansWithinClaims.{get_some}
 
 pub index-requires : goal.index-requires
 index-requires c =

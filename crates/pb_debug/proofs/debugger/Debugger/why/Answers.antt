@@ -3,7 +3,7 @@ use Rattle.std.specs.Prelude.{All}
 use Rattle.pb_base.specs.Banker.{BankerState, processes, resources, IsWithinClaim}
 use Rattle.pb_code.specs.View.{process_view}
 use Rattle.pb_machine.specs.Views.{thread_view}
-use Rattle.pb_machine.proofs.Given.{codes_number, code_at}
+use Rattle.pb_machine.proofs.GivenCode.{codes_number, code_at}
 use Rattle.pb_verifier.specs.declared.fault.VerifyFault.TheVariants.{OutOfLimits}
 use Rattle.pb_debug.specs.Value.{Debugging, state_of, bank_state}
 use Rattle.pb_debug.specs.Whys.{IsReason}

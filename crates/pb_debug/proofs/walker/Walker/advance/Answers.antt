@@ -5,8 +5,8 @@ use Rattle.pb_history.specs.Entries.{picks_of}
 use Rattle.pb_history.specs.Positions.{state_after}
 use Rattle.pb_machine.specs.Steps.{IsStep}
 use Rattle.pb_machine.specs.Views.{machine_view}
-use Rattle.pb_debug.proofs.Walks.{stands_next}
 use Rattle.pb_debug.proofs.walker.Walker.advance.Goals as goal
+use Rattle.pb_history.proofs.Positions.{stands_next}
 
 pub overflow_add-self : goal.overflow_add-self
 overflow_add-self c =

@@ -9,7 +9,7 @@ use Rattle.pb_history.specs.Kept.{whole}
 use Rattle.pb_history.specs.declared.events.KeptEvent.{KeptEvent}
 use Rattle.pb_history.specs.declared.events.KeptEvent.TheVariants.{Printed}
 use Rattle.pb_history.specs.declared.events.Events.TheInside.{Inside}
-use Rattle.pb_history.proofs.Wholes.{last_bundle, wholes_kept}
+use Rattle.pb_history.proofs.NumberedBundles.{last_bundle, wholes_kept}
 use Rattle.pb_history.proofs.events.Events.push.Goals as goal
 use Rattle.pb_history.proofs.events.Events.push.Goals.{in-Granted, in-Returned, in-Printed, in-Faulted, in-Finished}
 

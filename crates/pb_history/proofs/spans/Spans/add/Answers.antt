@@ -1,6 +1,6 @@
 use Rattle.std.proofs.Common.{◌≡◌, ◌+◌, ◌-◌, ◌≤◌, ◌∷◌, ◌++◌, [], ℕ, List, length, take, sym, ap, ◌∙◌, subst, vec_capacity, arith}
 use Rattle.pb_history.specs.Entries.{size}
-use Rattle.pb_history.specs.Ends.{Rise, goes_on, row_of, spans_from}
+use Rattle.pb_history.specs.Ends.{Rise, goes_on, span_row, spans_from}
 use Rattle.pb_history.specs.declared.spans.SpanEnd.{SpanEnd}
 use Rattle.pb_history.specs.declared.spans.Spans.TheInside.{Inside}
 use Rattle.pb_history.proofs.SpanEnds.{appended, end_for, length_from, replaced, rise_more, size_from, spans_more, with_end}
@@ -10,7 +10,7 @@ use Rattle.pb_history.proofs.spans.Spans.add.Goals.{then-continues, else-continu
 pub overflow_add-self : goal.overflow_add-self
 overflow_add-self c =
     let t = c.self.inside in
-    let fits : size (row_of t).spans + c.args.span.count ≤ 10000000 = rw (← c.self.view_is) at c.requires.fits in
+    let fits : size (span_row t).spans + c.args.span.count ≤ 10000000 = rw (← c.self.view_is) at c.requires.fits in
     let all = size_from 0 t.len t.ends.items c.self.invariant in
     let len : c.if-continues.self-inside.len ≡ t.len = elim c.if-continues.branch [
       | then-continues w ↦ cc

@@ -1,7 +1,7 @@
 use Rattle.std.proofs.Common.{◌≡◌, ◌+◌, ◌-◌, ◌/◌, ◌<◌, ⊎_elim, Some, length, slice_get, take, refl, sym, ap, ◌∙◌, arith}
 use Rattle.std.proofs.lemmas.Bool.{cases_lt}
 use Rattle.pb_history.specs.Entries.{all_picks, size}
-use Rattle.pb_history.specs.Ends.{row_of, spans_from}
+use Rattle.pb_history.specs.Ends.{span_row, spans_from}
 use Rattle.pb_history.proofs.SpanEnds.{all_before, begins_by, end_is, ends_rise, item_there, pick_at, size_from, span_at, span_to, starts_before}
 use Rattle.pb_history.proofs.spans.Spans.rest.Goals as goal
 
@@ -49,7 +49,7 @@ index-requires c =
     let ends = t.ends.items in
     let i = c.args.i in
     let low = c.loop-low.low in
-    let within : i < size (row_of t).spans = rw (← c.self.view_is) at c.requires in
+    let within : i < size (span_row t).spans = rw (← c.self.view_is) at c.requires in
     let len = size_from 0 t.len ends c.self.invariant in
     let lt : low < length ends = ⊎_elim (λ l. l)
     (λ l.
@@ -64,7 +64,7 @@ overflow_sub-count c =
     let ends = t.ends.items in
     let i = c.args.i in
     let low = c.loop-low.low in
-    let within : i < size (row_of t).spans = rw (← c.self.view_is) at c.requires in
+    let within : i < size (span_row t).spans = rw (← c.self.view_is) at c.requires in
     let len = size_from 0 t.len ends c.self.invariant in
     let lt : low < length ends = ⊎_elim (λ l. l)
     (λ l.
@@ -84,7 +84,7 @@ returns-clause-some c =
     let ends = t.ends.items in
     let i = c.args.i in
     let low = c.loop-low.low in
-    let within : i < size (row_of t).spans = rw (← c.self.view_is) at c.requires in
+    let within : i < size (span_row t).spans = rw (← c.self.view_is) at c.requires in
     let len = size_from 0 t.len ends c.self.invariant in
     let lt : low < length ends = ⊎_elim (λ l. l)
     (λ l.
@@ -104,7 +104,7 @@ returns-clause-picks c =
     let ends = t.ends.items in
     let i = c.args.i in
     let low = c.loop-low.low in
-    let within : i < size (row_of t).spans = rw (← c.self.view_is) at c.requires in
+    let within : i < size (span_row t).spans = rw (← c.self.view_is) at c.requires in
     let len = size_from 0 t.len ends c.self.invariant in
     let lt : low < length ends = ⊎_elim (λ l. l)
     (λ l.
@@ -128,7 +128,7 @@ returns-clause-span c =
     let ends = t.ends.items in
     let i = c.args.i in
     let low = c.loop-low.low in
-    let within : i < size (row_of t).spans = rw (← c.self.view_is) at c.requires in
+    let within : i < size (span_row t).spans = rw (← c.self.view_is) at c.requires in
     let len = size_from 0 t.len ends c.self.invariant in
     let lt : low < length ends = ⊎_elim (λ l. l)
     (λ l.

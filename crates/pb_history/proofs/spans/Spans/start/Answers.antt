@@ -1,13 +1,13 @@
 use Rattle.std.proofs.Common.{◌≡◌, ◌+◌, ◌-◌, ◌<◌, suc, Some, length, take, sym, ap, ◌∙◌, arith}
 use Rattle.pb_history.specs.Entries.{size}
-use Rattle.pb_history.specs.Ends.{row_of, spans_from}
+use Rattle.pb_history.specs.Ends.{span_row, spans_from}
 use Rattle.pb_history.proofs.SpanEnds.{end_is, item_there, length_from, start_is}
 use Rattle.pb_history.proofs.spans.Spans.start.Goals as goal
 
 pub index-before-requires : goal.index-before-requires
 index-before-requires c =
     let t = c.self.inside in
-    let within : c.args.i < length (row_of t).spans = rw (← c.self.view_is) at c.requires in
+    let within : c.args.i < length (span_row t).spans = rw (← c.self.view_is) at c.requires in
     let same = length_from 0 t.ends.items in
     omega (arith, within, same, t.ends.ok.0)
 
@@ -16,7 +16,7 @@ returns c =
     let t = c.self.inside in
     let ends = t.ends.items in
     let i = c.args.i in
-    let within : i < length (row_of t).spans = rw (← c.self.view_is) at c.requires in
+    let within : i < length (span_row t).spans = rw (← c.self.view_is) at c.requires in
     let same = length_from 0 ends in
     let lt : i - 1 < length ends = omega (arith, within, same) in
     let e = c.index-before.result.now in

@@ -4,7 +4,7 @@ use Rattle.pb_machine.specs.Views.{proc_view, rooms_of, machine_view, machine_ro
 use Rattle.pb_machine.specs.Steps.{ComesFrom}
 use Rattle.pb_machine.specs.declared.process.Proc.{Proc}
 use Rattle.pb_machine.proofs.Machines.{proc_there, row_of_machine}
-use Rattle.pb_machine.proofs.Silently.{set_machine}
+use Rattle.pb_machine.proofs.SilentPicks.{set_machine}
 use Rattle.pb_machine.proofs.machine.Machine.exchange.Goals as goal
 
 pub returns-clause-processes : goal.returns-clause-processes

@@ -2,8 +2,8 @@ use Rattle.std.proofs.Common.{◌≡◌, Some, refl, arith}
 use Rattle.std.specs.Prelude.{slice_get}
 use Rattle.std.specs.Vec.{with_item}
 use Rattle.pb_machine.proofs.SilentRuns.{machine_aloud, machine_moves, machine_stays}
-use Rattle.pb_machine.proofs.Threads.{item_at}
 use Rattle.pb_machine.proofs.machine.Machine.run_silent.Goals as goal
+use Rattle.pb_base.proofs.Lists.{item_at}
 
 pub returns-clause-made : goal.returns-clause-made
 returns-clause-made c =

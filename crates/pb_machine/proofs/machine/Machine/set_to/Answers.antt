@@ -3,12 +3,12 @@ use Rattle.std.specs.Prelude.{slice_get}
 use Rattle.std.proofs.lemmas.List.{take_more_set}
 use Rattle.std.proofs.Math.Seq.{map-set_same}
 use Rattle.pb_machine.specs.Views.{proc_view, rooms_of}
-use Rattle.pb_machine.proofs.Growing.{pushed_more}
-use Rattle.pb_machine.proofs.Setting.{all_set, as_many_processes, as_many_rows, machine_as, process_of, rest_on, same_rest}
-use Rattle.pb_machine.proofs.Silently.{copied_view}
+use Rattle.pb_machine.proofs.BuiltLists.{pushed_more}
+use Rattle.pb_machine.proofs.SetMachines.{all_set, as_many_processes, as_many_rows, machine_as, process_of, rest_on, same_rest}
+use Rattle.pb_machine.proofs.SilentPicks.{copied_view}
 use Rattle.pb_machine.proofs.Spares.{fit_rooms, fit_vars}
-use Rattle.pb_machine.proofs.Threads.{item_at}
 use Rattle.pb_machine.proofs.machine.Machine.set_to.Goals as goal
+use Rattle.pb_base.proofs.Lists.{item_at}
 
 pub index-requires : goal.index-requires
 index-requires c =
@@ -24,7 +24,8 @@ set_to-requires-clause-vars c =
     let count = as_many_processes of.0 of.1 c.args.self.now c.args.other.now of.2 of.3 in
     fit_vars of.0 of.1 c.loop-p.p c.index_mut.result.now c.index.result.now
     (process_of of.0 c.args.self.now of.2 c.loop-p.p c.index_mut.result.now lt
-    (same_rest c.loop-p.self.processes.items c.args.self.now.processes.items c.loop-p.p c.index_mut.result.now c.loop-p.invariant.rest c.index_mut.ensures.value))
+    (same_rest c.loop-p.self.processes.items c.args.self.now.processes.items c.loop-p.p c.index_mut.result.now
+    c.loop-p.invariant.rest c.index_mut.ensures.value))
     (process_of of.0 c.args.other.now of.3 c.loop-p.p c.index.result.now (omega (arith, lt, count)) c.index.ensures)
 
 pub set_to-requires-clause-rooms : goal.set_to-requires-clause-rooms
@@ -34,7 +35,8 @@ set_to-requires-clause-rooms c =
     let count = as_many_processes of.0 of.1 c.args.self.now c.args.other.now of.2 of.3 in
     fit_rooms of.0 of.1 c.loop-p.p c.index_mut.result.now c.index.result.now
     (process_of of.0 c.args.self.now of.2 c.loop-p.p c.index_mut.result.now lt
-    (same_rest c.loop-p.self.processes.items c.args.self.now.processes.items c.loop-p.p c.index_mut.result.now c.loop-p.invariant.rest c.index_mut.ensures.value))
+    (same_rest c.loop-p.self.processes.items c.args.self.now.processes.items c.loop-p.p c.index_mut.result.now
+    c.loop-p.invariant.rest c.index_mut.ensures.value))
     (process_of of.0 c.args.other.now of.3 c.loop-p.p c.index.result.now (omega (arith, lt, count)) c.index.ensures)
 
 pub loop-p-preserved : goal.loop-p-preserved

@@ -5,7 +5,7 @@ use Rattle.pb_machine.specs.declared.look.Look.TheVariants as look
 use Rattle.pb_machine.specs.declared.look.Peek.TheVariants as peek
 use Rattle.pb_machine.specs.declared.thread.ThreadState.TheVariants as given
 use Rattle.pb_machine.proofs.Looks.{ends_later, ends_first}
-use Rattle.pb_machine.proofs.Turning.{executable, joins_there, peeks, place_within}
+use Rattle.pb_machine.proofs.ProcessTurns.{executable, joins_there, peeks, place_within}
 use Rattle.pb_machine.proofs.process.Proc.glance.Goals as goal
 
 pub index-instr-requires : goal.index-instr-requires

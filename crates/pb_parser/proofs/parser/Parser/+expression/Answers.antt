@@ -3,7 +3,7 @@ use Rattle.std.proofs.lemmas.Result.{err_from_is_err_and}
 use Rattle.pb_base.specs.declared.operators.UnaryOp.TheVariants as sign
 use Rattle.pb_lexer.specs.Tokens.{tokens}
 use Rattle.pb_parser.specs.ExpressionReader.{expression, joined, negation, factor, after_sum, after_conjunction, of_level}
-use Rattle.pb_parser.specs.Making.{Makes}
+use Rattle.pb_parser.specs.Making.{IsMadeOf}
 use Rattle.pb_parser.proofs.Chains.{fails_through, made}
 use Rattle.pb_parser.proofs.Levels.{first_fails, then_makes, then_nothing, splits_at_factor, splits_at_negation, factor_ends, negation_ends}
 use Rattle.pb_parser.proofs.Levels.{factors_first, terms_first, negations_first, factor_alone, term_alone, sum_alone, negation_alone, conjunction_alone}
@@ -20,7 +20,7 @@ pub expression-returns : goal.expression-returns
 unfolding expression
 expression-returns g t c =
     let e : c.args.depth ≡ suc (c.args.depth - 1) = omega arith in
-    subst (λ n. Makes g.B.Builder.wants g.B.Builder.is_expr c.level.result (expression n (tokens
+    subst (λ n. IsMadeOf g.B.Builder.wants g.B.Builder.is_expr c.level.result (expression n (tokens
     c.args.self.now.rest.now)) (tokens c.level.new.self.rest.now)) (sym e) c.level.ensures
 
 pub factor-returns-in_err-operand : goal.factor-returns-in_err-operand

@@ -2,7 +2,7 @@ use Rattle.std.proofs.Common.{length, ◌+◌, ◌*◌}
 use Rattle.pb_lexer.specs.declared.token.Mark.TheVariants as mark
 use Rattle.pb_lexer.specs.Tokens.{tokens}
 use Rattle.pb_parser.specs.Lists.{append, append_arms}
-use Rattle.pb_parser.specs.StatementReader.{between, statement, list, an_arm, arms}
+use Rattle.pb_parser.specs.StatementReader.{between, statement, list, an_arm, arms_part}
 use Rattle.pb_parser.specs.Making.{Adds}
 use Rattle.pb_parser.proofs.Loops.{InLoop}
 use Rattle.pb_parser.proofs.parser.Parser.+statement.Given as goal
@@ -52,7 +52,7 @@ decreases-list-loop-self g l = length (tokens l.self.rest.now)
 abbrev pub invariant-arms-loop-self : goal.invariant-arms-loop-self
 invariant-arms-loop-self g l =
     InLoop (g.B.Builder.is_arms l.found) (between mark.Semicolon append_arms) (an_arm (statement l.depth)) (tokens l.self.rest.now)
-    (arms (statement l.depth) (tokens l.fn.self.rest.now))
+    (arms_part (statement l.depth) (tokens l.fn.self.rest.now))
 
 abbrev pub decreases-arms-loop-self : goal.decreases-arms-loop-self
 decreases-arms-loop-self g l = length (tokens l.self.rest.now)

@@ -4,8 +4,9 @@ use Rattle.pb_rewrite.specs.Sound.{IsSoundRun}
 use Rattle.pb_rewrite.specs.Steps.{IsProcessStep, IsSettled}
 use Rattle.pb_rewrite.specs.View.{arm_view, process_view}
 use Rattle.pb_rewrite.proofs.SoundRuns.{sound_single, sound_asks, run_held}
-use Rattle.pb_rewrite.proofs.Processes.{process_of, restored, run_settled}
+use Rattle.pb_rewrite.proofs.Processes.{process_of, run_settled}
 use Rattle.pb_rewrite.proofs.process.SourceProcess.step.Goals as goal
+use Rattle.pb_base.proofs.Lists.{restored}
 
 pub step_run-requires-clause-single : goal.step_run-requires-clause-single
 step_run-requires-clause-single g c =

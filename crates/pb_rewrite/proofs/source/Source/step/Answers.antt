@@ -4,7 +4,7 @@ use Rattle.std.proofs.lemmas.List.{length-map, map-set}
 use Rattle.pb_base.specs.Steps.{IsStepOf}
 use Rattle.pb_names.specs.Source.{source_step}
 use Rattle.pb_rewrite.specs.Sound.{AreSound}
-use Rattle.pb_rewrite.specs.View.{bank_of, process_view}
+use Rattle.pb_rewrite.specs.View.{bank_view, process_view}
 use Rattle.pb_rewrite.proofs.Sources.{answer_so, refused_so, bank_stays, sound_so, nowhere, state_with, view_at}
 use Rattle.pb_rewrite.proofs.source.Source.step.Goals as goal
 
@@ -31,7 +31,7 @@ returns-clause-step g c =
     let p = c.args.pick.process in
     let within : p < length items = omega (arith, c.args.self.now.processes.ok.0) in
     let there = view_at items p c.index_mut.result.now within c.index_mut.ensures.value in
-    subst (λ ps. IfOk c.step.result (λ answer. IsStepOf (bank_of s) source_step (state_with (map process_view items)
+    subst (λ ps. IfOk c.step.result (λ answer. IsStepOf (bank_view s) source_step (state_with (map process_view items)
     s.loans) c.args.pick answer (state_with ps c.step.new.banker.state.loans)))
     (sym (map-set process_view items p c.step.new.self))
     (answer_so s c.step.new.banker.state (map process_view items) c.args.pick (process_view c.index_mut.result.now) (process_view c.step.new.self) there

@@ -2,8 +2,8 @@ use Rattle.std.proofs.Common.{◌≡◌, ℕ, Some, slice_get, ap, sym, ◌∙�
 use Rattle.pb_machine.specs.Views.{proc_view}
 use Rattle.pb_shared.specs.Books.{ledger_of}
 use Rattle.pb_shared.specs.Ledgers.{IsReady}
-use Rattle.pb_shared.proofs.Keeping.{annotated_of, legal_reached}
-use Rattle.pb_shared.proofs.Looking.{few_arms, steps_within}
+use Rattle.pb_shared.proofs.LegalCalls.{annotated_of, legal_reached}
+use Rattle.pb_shared.proofs.ArmLooks.{few_arms, steps_within}
 use Rattle.pb_shared.proofs.book.Book.arms.Goals as goal
 
 pub returns : goal.returns

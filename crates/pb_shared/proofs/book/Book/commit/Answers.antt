@@ -7,8 +7,8 @@ use Rattle.pb_shared.specs.Ledgers.{Ledger, IsLegal, IsLentBy, home}
 use Rattle.pb_shared.specs.Lending.{IsSilentRun}
 use Rattle.pb_shared.specs.Spares.{lent_as, IsSpareOf}
 use Rattle.pb_shared.specs.declared.spare.Spare.{Spare}
-use Rattle.pb_shared.proofs.Keeping.{back_fits, comes_home, home_legal, legal_as, process_within, set_view, slip_within, machine_there, tries_legal, tries_there}
-use Rattle.pb_shared.proofs.Sparing.{spare_after, spare_at, spares_stay, spares_with}
+use Rattle.pb_shared.proofs.LegalCalls.{back_fits, comes_home, home_legal, legal_as, process_within, set_view, slip_within, machine_there, tries_legal, tries_there}
+use Rattle.pb_shared.proofs.SpareStretches.{spare_after, spare_at, spares_stay, spares_with}
 use Rattle.pb_shared.proofs.book.Book.commit.Goals as goal
 
 pub push_silent-requires-clause-fits : goal.push_silent-requires-clause-fits

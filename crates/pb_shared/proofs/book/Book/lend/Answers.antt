@@ -1,8 +1,8 @@
 use Rattle.std.proofs.Common.{◌≡◌, ◌≤◌, Some, None, slice_get}
 use Rattle.pb_shared.specs.declared.slip.Slip.{Slip}
 use Rattle.pb_shared.specs.Books.{ledger_of}
-use Rattle.pb_shared.proofs.Keeping.{lent_legal}
-use Rattle.pb_shared.proofs.Sparing.{spares_stay}
+use Rattle.pb_shared.proofs.LegalCalls.{lent_legal}
+use Rattle.pb_shared.proofs.SpareStretches.{spares_stay}
 use Rattle.pb_shared.proofs.book.Book.lend.Goals as goal
 
 pub invariant_of-self : goal.invariant_of-self

@@ -4,7 +4,7 @@ use Rattle.pb_shared.specs.Books.{ledger_of}
 use Rattle.pb_shared.specs.Ledgers.{IsLentBy}
 use Rattle.pb_shared.specs.Spares.{lent_as}
 use Rattle.pb_shared.specs.declared.slip.Slip.{Slip}
-use Rattle.pb_shared.proofs.Keeping.{same_slip, slip_of, slip_there}
+use Rattle.pb_shared.proofs.LegalCalls.{same_slip, slip_of, slip_there}
 use Rattle.pb_shared.proofs.book.Book.lent.Goals as goal
 
 pub returns : goal.returns

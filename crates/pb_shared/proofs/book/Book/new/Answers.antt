@@ -6,8 +6,8 @@ use Rattle.pb_code.specs.Whole.{code_opening}
 use Rattle.pb_machine.specs.Views.{machine_view, IsMachineOf}
 use Rattle.pb_verifier.specs.Verified.{IsVerified, VerifiedCode}
 use Rattle.pb_shared.specs.Ledgers.{new_ledger}
-use Rattle.pb_shared.proofs.Keeping.{legal_as, new_legal}
-use Rattle.pb_shared.proofs.Sparing.{spares_new}
+use Rattle.pb_shared.proofs.LegalCalls.{legal_as, new_legal}
+use Rattle.pb_shared.proofs.SpareStretches.{spares_new}
 use Rattle.pb_shared.proofs.book.Book.new.Goals as goal
 
 pub invariant_of-result : goal.invariant_of-result

@@ -3,7 +3,7 @@ use Rattle.pb_base.specs.Steppers.{IsFinished}
 use Rattle.pb_code.specs.Code.{code_over}
 use Rattle.pb_shared.specs.Books.{ledger_of}
 use Rattle.pb_shared.specs.Ledgers.{all_home}
-use Rattle.pb_shared.proofs.Keeping.{at_limit}
+use Rattle.pb_shared.proofs.LegalCalls.{at_limit}
 use Rattle.pb_shared.proofs.book.Book.outcome.Goals as goal
 use Rattle.pb_shared.proofs.book.Book.outcome.Goals.{else-self-eq0-via-then-self-eq0+else-all_home, else-self-eq0-via-else-self-eq0}
 

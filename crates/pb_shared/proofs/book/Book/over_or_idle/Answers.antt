@@ -2,7 +2,7 @@ use Rattle.std.proofs.Common.{refl, None, subst, ⊎_elim}
 use Rattle.std.specs.Prelude.{Option}
 use Rattle.pb_shared.specs.Ledgers.{IsLegal, HasOutcome}
 use Rattle.pb_shared.specs.declared.outcome.Outcome.{Outcome}
-use Rattle.pb_shared.proofs.Keeping.{none_ready_out}
+use Rattle.pb_shared.proofs.LegalCalls.{none_ready_out}
 use Rattle.pb_shared.proofs.book.Book.over_or_idle.Goals as goal
 
 pub returns-in-None : goal.returns-in-None

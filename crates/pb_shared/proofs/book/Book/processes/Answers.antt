@@ -2,8 +2,8 @@ use Rattle.std.proofs.Common.{arith}
 use Rattle.std.proofs.lemmas.Option.{slice_get_within}
 use Rattle.pb_shared.specs.Books.{ledger_of}
 use Rattle.pb_shared.specs.Ledgers.{IsReady}
-use Rattle.pb_shared.proofs.Keeping.{annotated_of, legal_reached}
-use Rattle.pb_shared.proofs.Looking.{few_processes}
+use Rattle.pb_shared.proofs.LegalCalls.{annotated_of, legal_reached}
+use Rattle.pb_shared.proofs.ArmLooks.{few_processes}
 use Rattle.pb_shared.proofs.book.Book.processes.Goals as goal
 
 pub returns : goal.returns

@@ -1,10 +1,10 @@
 use Rattle.std.proofs.Common.{ℕ, Some, None, sym, subst, arith}
 use Rattle.pb_shared.specs.Books.{ledger_of}
 use Rattle.pb_shared.specs.Ledgers.{IsLentBy}
-use Rattle.pb_shared.proofs.Keeping.{back_fits, given_back_legal, slip_within}
+use Rattle.pb_shared.proofs.LegalCalls.{back_fits, given_back_legal, slip_within}
 use Rattle.pb_shared.specs.Spares.{lent_as, IsSpareOf}
 use Rattle.pb_shared.specs.declared.spare.Spare.{Spare}
-use Rattle.pb_shared.proofs.Sparing.{spare_at, spares_stay, spares_with}
+use Rattle.pb_shared.proofs.SpareStretches.{spare_at, spares_stay, spares_with}
 use Rattle.pb_shared.proofs.book.Book.put_back.Goals as goal
 
 pub index_mut-requires : goal.index_mut-requires
@@ -52,7 +52,8 @@ invariant_of-self g c =
     subst (λ (x : Spare). IsSpareOf g.C.CodeBrand.code x.pick.process c.stretch.inside.spare.value) (sym c.deref-lent.ensures) c.stretch.invariant.spare in
     record {
       refers = c.self.invariant.refers;
-      legal = rw c.from-process.ensures (given_back_legal g.C.CodeBrand.code (ledger_of c.self.inside) (lent_as c.deref-lent.result.now) c.self.invariant.legal by);
+      legal = rw c.from-process.ensures
+          (given_back_legal g.C.CodeBrand.code (ledger_of c.self.inside) (lent_as c.deref-lent.result.now) c.self.invariant.legal by);
       machine = c.self.invariant.machine;
       spares = spares_with g.C.CodeBrand.code _ _ (spares_stay g.C.CodeBrand.code _ _ c.self.invariant.spares _ None) _ (Some c.stretch.inside.spare)
           (spare_at g.C.CodeBrand.code c.from-process.result c.stretch.inside.spare (subst (λ (p : ℕ). IsSpareOf

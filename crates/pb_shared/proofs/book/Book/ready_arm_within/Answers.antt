@@ -1,8 +1,8 @@
 use Rattle.std.proofs.Common.{◌≡◌, true, ⊎_elim, subst, arith}
 use Rattle.std.proofs.lemmas.Bool.{cases_lt}
 use Rattle.pb_shared.specs.Ledgers.{IsReady}
-use Rattle.pb_shared.proofs.Keeping.{same_pick}
 use Rattle.pb_shared.proofs.book.Book.ready_arm_within.Goals as goal
+use Rattle.pb_verifier.proofs.Requests.{same_pick}
 
 pub loop-arm-preserved : goal.loop-arm-preserved
 loop-arm-preserved g c pick process from lt ready = ⊎_elim

@@ -1,10 +1,10 @@
 use Rattle.std.proofs.Common.{◌≡◌, ℕ, Some, None, ap, ◌∙◌, slice_get, subst, sym, arith}
 use Rattle.std.proofs.lemmas.Option.{slice_get_within}
-use Rattle.pb_machine.proofs.Threads.{item_at}
 use Rattle.pb_shared.specs.Books.{ledger_of}
 use Rattle.pb_shared.specs.Spares.{IsSpareOf}
-use Rattle.pb_shared.proofs.Sparing.{none_at, spares_with}
+use Rattle.pb_shared.proofs.SpareStretches.{none_at, spares_with}
 use Rattle.pb_shared.proofs.book.Book.spare.Goals as goal
+use Rattle.pb_base.proofs.Lists.{item_at}
 
 pub index_mut-requires : goal.index_mut-requires
 index_mut-requires g c =

@@ -1,6 +1,6 @@
 use Rattle.std.proofs.Common.{arith}
 use Rattle.pb_machine.specs.Views.{proc_view}
-use Rattle.pb_shared.proofs.Running.{makes_more}
+use Rattle.pb_shared.proofs.SilentRuns.{makes_more}
 use Rattle.pb_shared.proofs.spare.Spare.run.Goals as goal
 
 pub returns-clause-run : goal.returns-clause-run

@@ -1,6 +1,6 @@
 use borrow.Author.Count.{falls}
 use Rattle.std.proofs.Common.{map, rules, ap, refl, ◌∙◌}
-use Rattle.pb_tree.specs.View.{stmt_view, stmts_view, arm_view, arms_view, stmts_of, arms_of}
+use Rattle.pb_tree.specs.View.{stmt_view, stmts_view, arm_view, arms_view, stmts_of, joined_arms}
 use Rattle.pb_tree.proofs.Copies.{copied_more, copied_all}
 use Rattle.pb_tree.proofs.Smaller.{stmt_within, arm_within, arms_within, then_within, else_within}
 use Rattle.pb_tree.proofs.Smaller.{repeated_within, held_within}
@@ -38,7 +38,7 @@ copy_list-returns g t c =
 
 pub copy_arms-returns : goal.copy_arms-returns
 copy_arms-returns g t c =
-    ap arms_of (copied_all arm_view arm_view _ _ _ c.loop-arm.invariant c.loop-arm-test.false)
+    ap joined_arms (copied_all arm_view arm_view _ _ _ c.loop-arm.invariant c.loop-arm-test.false)
     ∙ ap arms_view c.deref-arm-items.ensures.value
 
 pub copy_list-copy_into-requires : goal.copy_list-copy_into-requires

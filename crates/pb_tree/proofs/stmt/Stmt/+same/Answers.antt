@@ -1,7 +1,7 @@
 use borrow.Author.Count.{falls}
 use Rattle.std.proofs.Common.{arith, rules, ap, sym, refl, ◌∙◌}
 use Rattle.pb_tree.specs.Syntax.{stmt_line}
-use Rattle.pb_tree.specs.View.{stmt_view, stmts_of, arm_view, arms_of}
+use Rattle.pb_tree.specs.View.{stmt_view, stmts_of, arm_view, joined_arms}
 use Rattle.pb_tree.proofs.Equal.{not_both, same_stmts, same_arms, same_length, same_read, same_step, same_all}
 use Rattle.pb_tree.proofs.Smaller.{stmt_within, arm_within, arms_within, then_within, else_within}
 use Rattle.pb_tree.proofs.Smaller.{repeated_within, held_within}
@@ -103,7 +103,7 @@ same_arms-loop-i-smaller g t c = falls _ _ c.loop-i-test.true
 pub same_arms-returns : goal.same_arms-returns
 same_arms-returns g t c = (
   λ yes.
-      ap arms_of (
+      ap joined_arms (
       same_all arm_view arm_view _ _ _ _ c.loop-i.invariant c.deref-arm-items.ensures.value
       c.loop-i-test.false (omega arith)
       ),

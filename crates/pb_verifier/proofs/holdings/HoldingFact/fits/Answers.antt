@@ -5,14 +5,14 @@ use Rattle.pb_base.specs.Steppers.{Bundle}
 use Rattle.pb_code.specs.Code.{Instr, Give, Take}
 use Rattle.pb_verifier.specs.Given.{instrs_of, plain}
 use Rattle.pb_verifier.specs.Spread.{HoldFits}
-use Rattle.pb_verifier.specs.Holdings.{held_by}
+use Rattle.pb_verifier.specs.Holdings.{held_bundles}
 use Rattle.pb_verifier.proofs.Chains.{fits_give, fits_other, held_length}
 use Rattle.pb_verifier.proofs.holdings.HoldingFact.fits.Goals as goal
 
 pub returns-then-self-gt0 : goal.returns-then-self-gt0
 returns-then-self-gt0 c =
     let bundles : List Bundle = c.args.code.now.bundles.items in
-    let held : List Bundle = held_by (instrs_of c.args.code.now) c.args._table.now c.args.self in
+    let held : List Bundle = held_bundles (instrs_of c.args.code.now) c.args._table.now c.args.self in
     let is : plain c.args.code.now c.args.instr ≡ Give (slice_index_or bundles c.in-Give.given []) = ap (plain c.args.code.now) c.in-Give.is in
     let g =
     fits_give (instrs_of c.args.code.now) c.args._table.now c.args.self (slice_index_or bundles c.taken_at.result [])
@@ -25,7 +25,7 @@ returns-then-self-gt0 c =
 
 pub returns-in_default : goal.returns-in_default
 returns-in_default c = (
-  λ e. fits_other c.args.code.now.bundles.items c.args.instr (held_by (instrs_of c.args.code.now) c.args._table.now
+  λ e. fits_other c.args.code.now.bundles.items c.args.instr (held_bundles (instrs_of c.args.code.now) c.args._table.now
       c.args.self) c.in_default.not-Take c.in_default.not-Give,
   λ h. refl,
 )
@@ -38,7 +38,7 @@ room n held e =
 pub returns-in-Take : goal.returns-in-Take
 returns-in-Take c =
     let instrs : List Instr = instrs_of c.args.code.now in
-    let held : List Bundle = held_by instrs c.args._table.now c.args.self in
+    let held : List Bundle = held_bundles instrs c.args._table.now c.args.self in
     let is : plain c.args.code.now c.args.instr ≡ Take (slice_index_or c.args.code.now.bundles.items c.in-Take.field-0
     []) = ap (plain c.args.code.now) c.in-Take.is in
     let r = room c.args.self.count held (held_length instrs c.args._table.now c.args.self.count c.args.self.last) in

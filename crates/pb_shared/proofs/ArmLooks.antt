@@ -11,11 +11,12 @@ use Rattle.pb_code.specs.Reached.{CodeReaches, CodeMoves, CodeStays}
 use Rattle.pb_code.specs.Whole.{Code, bank_of}
 use Rattle.pb_machine.specs.Looks.{look_at, look_of, look_of_effect}
 use Rattle.pb_machine.specs.declared.look.Look.TheVariants as look
-use Rattle.pb_verifier.proofs.Banking.{kept_reached}
+use Rattle.pb_verifier.proofs.LoansWithinClaims.{kept_reached}
 use Rattle.pb_verifier.proofs.States.{CodeMove, code_move}
-use Rattle.pb_verifier.specs.Requests.{IsRefused}
+use Rattle.pb_verifier.specs.Requests.{IsDenied}
 use Rattle.pb_verifier.specs.Verified.{IsAnnotated}
 use Rattle.pb_verifier.specs.declared.fault.VerifyFault.TheVariants.{OutOfLimits}
+use Rattle.pb_machine.proofs.NeverStuck.{found}
 
 effect_steps : (e : Effect) → look_of_effect e ≡ look.Stays → ⊥
 effect_steps Silent h = cc
@@ -24,14 +25,6 @@ effect_steps (Takes bundle) h = cc
 effect_steps (Returns bundle) h = cc
 effect_steps (Faults kind) h = cc
 effect_steps Finishes h = cc
-
-effect_unseen : (pick : Pick) (e : Effect) → event_of pick e ≡ None → look_of_effect e ≡ look.Visible → ⊥
-effect_unseen pick Silent h v = cc
-effect_unseen pick (Prints v) h v' = cc
-effect_unseen pick (Takes bundle) h v = cc
-effect_unseen pick (Returns bundle) h v = cc
-effect_unseen pick (Faults kind) h v = cc
-effect_unseen pick Finishes h v = cc
 
 module _ (code : Code) (s : State CodeProcess) (pick : Pick) where
   look_is : (move : Move CodeProcess) (m : CodeMove code.processes s pick move) → look_at code s pick ≡ look_of_effect m.effect
@@ -43,21 +36,13 @@ module _ (code : Code) (s : State CodeProcess) (pick : Pick) where
   pub moves_look : (move : Move CodeProcess) → move_of (code_step code.processes) s pick ≡ Some move → look_at code s pick ≢ look.Stays
   moves_look move h stays = let m = code_move code.processes s pick move h in effect_steps m.effect (sym (look_is move m) ∙ stays)
 
-  -- a pick with no event is not visible
-  pub silent_unseen : (next : State CodeProcess) → CodeMoves code s pick None next → look_at code s pick ≢ look.Visible
-  silent_unseen next h visible =
-      let move : Move CodeProcess = record { next = next; effect = h.0 } in
-      let m = code_move code.processes s pick move h.1 in
-      let same : m.effect ≡ h.0 = ap (λ (x : Move CodeProcess). x.effect) m.is in
-      effect_unseen pick m.effect (ap (event_of pick) same ∙ h.3) (sym (look_is move m) ∙ visible)
-
   -- a visible pick that is not enabled is a request that is not allowed
-  pub blocked_refused : CodeStays code s pick → look_at code s pick ≡ look.Visible → IsRefused code s pick
+  pub blocked_refused : CodeStays code s pick → look_at code s pick ≡ look.Visible → IsDenied code s pick
   blocked_refused stays visible = at_process (slice_get s.processes pick.process) refl visible
     where
       by : (process : CodeProcess) (made : CodeProcess × Effect) → slice_get s.processes pick.process ≡ Some process →
           code_step code.processes pick.process process pick.arm ≡ Some made
-          → (e : Effect) → made.1 ≡ e → look_of_effect e ≡ look.Visible → IsRefused code s pick
+          → (e : Effect) → made.1 ≡ e → look_of_effect e ≡ look.Visible → IsDenied code s pick
       by process made there steps e is seen = go e is seen
         where
           moves : move_of (code_step code.processes) s pick ≡ Some (moved s pick made)
@@ -68,7 +53,7 @@ module _ (code : Code) (s : State CodeProcess) (pick : Pick) where
           enabled : (e : Effect) → made.1 ≡ e → IsGranted (bank_of code) s.loans pick.process e → ⊥
           enabled e is granted = stays (moved s pick made) moves (subst (IsGranted (bank_of code) s.loans pick.process) (sym is) granted)
 
-          go : (e : Effect) → made.1 ≡ e → look_of_effect e ≡ look.Visible → IsRefused code s pick
+          go : (e : Effect) → made.1 ≡ e → look_of_effect e ≡ look.Visible → IsDenied code s pick
           go Silent is seen = cc
           go (Prints v) is seen = elim (enabled (Prints v) is tt) [ ]
           go (Takes bundle) is seen = record {
@@ -83,12 +68,12 @@ module _ (code : Code) (s : State CodeProcess) (pick : Pick) where
           go Finishes is seen = elim (enabled Finishes is tt) [ ]
 
       at_step : (process : CodeProcess) → slice_get s.processes pick.process ≡ Some process → (o : Option (CodeProcess × Effect))
-          → code_step code.processes pick.process process pick.arm ≡ o → look_of o ≡ look.Visible → IsRefused code s pick
+          → code_step code.processes pick.process process pick.arm ≡ o → look_of o ≡ look.Visible → IsDenied code s pick
       at_step process there None steps seen = cc
       at_step process there (Some made) steps seen = by process made there steps made.1 refl seen
 
       at_process : (o : Option CodeProcess) → slice_get s.processes pick.process ≡ o
-          → look_of (option_and_then (λ process. code_step code.processes pick.process process pick.arm) o) ≡ look.Visible → IsRefused code s pick
+          → look_of (option_and_then (λ process. code_step code.processes pick.process process pick.arm) o) ≡ look.Visible → IsDenied code s pick
       at_process None there seen = cc
       at_process (Some process) there seen = at_step process there (code_step code.processes pick.process process pick.arm) refl seen
 
@@ -105,11 +90,6 @@ module _ (code : Code) (s : State CodeProcess) (pick : Pick) where
           at_code : (o : Option ProcessCode) → look_of (option_and_then (λ c. step_process c process pick.arm) o) ≡ look.Stays
           at_code None = refl
           at_code (Some c) = ap (λ (t : Thread). look_of (step_thread c process pick.arm t)) (get_or_past process.threads pick.arm Idle l)
-
-found : {X : Type 0} (xs : List X) (i : ℕ) → i < length xs → (x : X) × (slice_get xs i ≡ Some x)
-found [] i lt = absurd (omega arith)
-found (x ∷ xs) zero lt = (x, refl)
-found (x ∷ xs) (suc i) lt = found xs i (omega arith)
 
 -- there are 64 processes at most, each with 64 arms at most
 module _ (code : Code) (annotated : IsAnnotated code) (s : State CodeProcess) (reached : CodeReaches code s) where

@@ -33,7 +33,8 @@ module _ (code : VerifiedCode) where
   spare_after p spare after base is state = record { base = subst (IsProcessOf code p) (sym base) is.base; state = state }
 
   -- the one that is put in a place
-  pub spare_at : (p : ℕ) (spare : Box Spare Global) → IsSpareOf code p spare.value → (found : Box Spare Global) → Some spare ≡ Some found → IsSpareOf code p found.value
+  pub spare_at : (p : ℕ) (spare : Box Spare Global) → IsSpareOf code p spare.value → (found : Box Spare Global)
+      → Some spare ≡ Some found → IsSpareOf code p found.value
   spare_at p spare is found same = subst (λ (x : Box Spare Global). IsSpareOf code p x.value) (let e : spare ≡ found = cc in e) is
 
   -- none is put there

@@ -12,19 +12,19 @@ use Rattle.pb_base.specs.Steppers.{State, Move, IsFinished}
 use Rattle.pb_code.specs.Code.{CodeProcess, code_over, code_process}
 use Rattle.pb_code.specs.Reached.{CodeReaches, CodeMoves}
 use Rattle.pb_code.specs.Whole.{Code, code_opening}
-use Rattle.pb_machine.specs.Steps.{ComesSilently, at_once, one_more, ComesFrom, MakesSilently}
+use Rattle.pb_machine.specs.Steps.{ComesSilently, at_once, one_more, ComesFrom, MakesSilently, with_process}
 use Rattle.pb_machine.specs.Views.{proc_view, rooms_of, machine_view, row, HaveRoom, IsMachineOf}
 use Rattle.pb_machine.specs.declared.machine.Machine.{Machine}
 use Rattle.pb_machine.specs.declared.process.Proc.{Proc}
-use Rattle.pb_machine.proofs.Going.{goes_on}
-use Rattle.pb_machine.proofs.Reaching.{reaches_on}
+use Rattle.pb_machine.proofs.NeverStuck.{goes_on}
+use Rattle.pb_machine.proofs.OneMorePick.{reaches_on}
 use Rattle.pb_history.specs.Entries.{Entry, silent_picks}
-use Rattle.pb_history.specs.Leads.{Leads, with_process}
-use Rattle.pb_history.proofs.Leading.{leads_append, leads_more, leads_reaches, silent_lead}
-use Rattle.pb_verifier.specs.Requests.{IsRefused, frees}
+use Rattle.pb_history.specs.Leads.{Leads}
+use Rattle.pb_history.proofs.TraceSteps.{leads_append, leads_more, leads_reaches, silent_lead}
+use Rattle.pb_verifier.specs.Requests.{IsDenied, frees}
 use Rattle.pb_verifier.specs.Verified.{IsAnnotated, IsVerified, VerifiedCode}
 use Rattle.pb_verifier.proofs.States.{code_move}
-use Rattle.pb_verifier.proofs.Requests.{refused_stays, refused_stops}
+use Rattle.pb_verifier.proofs.Requests.{refused_stays, refused_stops, same_pick}
 use Rattle.pb_shared.specs.Ledgers.{Ledger, IsLegal, IsLentBy, Tries, after_pick, all_home, allowance_of, given_back, home, is_marked, mark_place, new_ledger}
 use Rattle.pb_shared.specs.Lending.{Lent, IsSilentRun}
 use Rattle.pb_shared.specs.Taking.{NoneReady}
@@ -32,7 +32,7 @@ use Rattle.pb_shared.specs.Trying.{TriesOn}
 use Rattle.pb_shared.specs.declared.answer.Answer.{Answer}
 use Rattle.pb_shared.specs.declared.answer.Answer.TheVariants as answer
 use Rattle.pb_shared.specs.declared.slip.Slip.{Slip}
-use Rattle.pb_shared.proofs.Looking.{moves_arm, moves_look}
+use Rattle.pb_shared.proofs.ArmLooks.{moves_arm, moves_look}
 
 -- ---- what stays
 
@@ -56,8 +56,8 @@ slip_of lent = record { arm = lent.pick.arm; allowance = lent.allowance }
 
 -- a request that was refused stays so over picks that free nothing
 refused_lasts : (code : Code) → IsAnnotated code → (a b : State CodeProcess) (es : List Entry) (mark : Pick) → CodeReaches code a → Leads code a es b
-    → All (λ e. frees e.event ≡ false) es → IsRefused code a mark → IsRefused code b mark
-refused_lasts code annotated a b [] mark reached h f r = subst (λ (s : State CodeProcess). IsRefused code s mark) (sym h) r
+    → All (λ e. frees e.event ≡ false) es → IsDenied code a mark → IsDenied code b mark
+refused_lasts code annotated a b [] mark reached h f r = subst (λ (s : State CodeProcess). IsDenied code s mark) (sym h) r
 refused_lasts code annotated a b (e ∷ es) mark reached h f r =
     refused_lasts code annotated h.0 b es mark (reaches_on code a h.0 e.pick e.event reached h.1) h.2 (λ k d lt. f (suc k) d (omega arith))
     (refused_stays code annotated a h.0 e.pick mark e.event reached h.1 (f 0 e (omega arith)) r)
@@ -144,7 +144,7 @@ none_marked (b ∷ marks) (suc i) h = none_marked marks i h
 -- marks stay right after a pick, or are taken away
 marks_after : (code : VerifiedCode) (s : Ledger) (next : State CodeProcess) (pick : Pick) (event : Event) (b : Bool) → frees (Some event) ≡ b → IsLegal code s
     → CodeMoves code.code s.machine pick (Some event) next
-    → (mark : Pick) → mark.arm < 64 → is_marked (cond b (map (λ (m : Bool). false) s.refused) s.refused) mark ≡ true → IsRefused code.code next mark
+    → (mark : Pick) → mark.arm < 64 → is_marked (cond b (map (λ (m : Bool). false) s.refused) s.refused) mark ≡ true → IsDenied code.code next mark
 marks_after code s next pick event true is legal moves mark lt marked = elim (none_marked s.refused (mark_place mark) marked) [ ]
 marks_after code s next pick event false is legal moves mark lt marked =
     refused_stays code.code (annotated_of code s legal) s.machine next pick mark (Some event) (legal_reached code s legal) moves is (legal.marks mark lt marked)
@@ -170,18 +170,15 @@ after_pick_legal code s next pick event legal some moves = record {
   verified = legal.verified;
 }
 
-pub same_pick : (a b : Pick) → a.process ≡ b.process → a.arm ≡ b.arm → a ≡ b
-same_pick a b p q = λ i. record { process = p i; arm = q i }
-
 -- two arms that share a place are the same
 places_apart : (a b : Pick) → a.arm < 64 → b.arm < 64 → mark_place a ≡ mark_place b → a ≡ b
 places_apart a b lt lt' same = same_pick a b (omega (arith, lt, lt', same)) (omega (arith, lt, lt', same))
 
 -- an arm that is at a request is one of the 64 of its process
-refused_arm : (code : VerifiedCode) (s : Ledger) (pick : Pick) → IsLegal code s → IsRefused code.code s.machine pick → pick.arm < 64
+refused_arm : (code : VerifiedCode) (s : Ledger) (pick : Pick) → IsLegal code s → IsDenied code.code s.machine pick → pick.arm < 64
 refused_arm code s pick legal refused = moves_arm code.code (annotated_of code s legal) s.machine (legal_reached code s legal) pick refused.move refused.asks
 
-pub refused_legal : (code : VerifiedCode) (s : Ledger) (pick : Pick) → IsLegal code s → IsRefused code.code s.machine pick
+pub refused_legal : (code : VerifiedCode) (s : Ledger) (pick : Pick) → IsLegal code s → IsDenied code.code s.machine pick
     → IsLegal code (record s { refused = slice_set s.refused (mark_place pick) true })
 refused_legal code s pick legal refused = record {
   leads = legal.leads;
@@ -189,7 +186,7 @@ refused_legal code s pick legal refused = record {
   limited = legal.limited;
   slots = legal.slots;
   marks = λ mark lt marked.
-      ⊎_elim (λ same. subst (IsRefused code.code s.machine) (sym (places_apart mark pick lt (refused_arm code s pick legal refused) same)) refused)
+      ⊎_elim (λ same. subst (IsDenied code.code s.machine) (sym (places_apart mark pick lt (refused_arm code s pick legal refused) same)) refused)
       (λ other. legal.marks mark lt (sym (get_or-set_other s.refused (mark_place pick) (mark_place mark) true false other) ∙ marked))
       (cases_eq (mark_place mark) (mark_place pick));
   verified = legal.verified;

@@ -10,13 +10,13 @@ use Rattle.pb_code.specs.Reached.{CodeReaches, CodeMoves}
 use Rattle.pb_code.specs.Whole.{Code, code_opening}
 use Rattle.pb_base.specs.declared.step.Step.{Step}
 use Rattle.pb_base.specs.declared.step.Step.TheVariants as answer
-use Rattle.pb_machine.specs.Steps.{IsStep}
-use Rattle.pb_machine.proofs.Growing.{take_at}
-use Rattle.pb_machine.proofs.Reaching.{slice_get-set_same}
-use Rattle.pb_machine.proofs.Silently.{silent_move}
+use Rattle.pb_machine.specs.Steps.{IsStep, with_process}
+use Rattle.pb_machine.proofs.BuiltLists.{take_at}
+use Rattle.pb_machine.proofs.OneMorePick.{slice_get-set_same}
+use Rattle.pb_machine.proofs.SilentPicks.{silent_move, set_again, set_back}
 use Rattle.pb_history.specs.Replays.{IsReplay}
 use Rattle.pb_history.specs.Entries.{Entry, events_of, picks_of, silent_picks}
-use Rattle.pb_history.specs.Leads.{Leads, TracesMake, SilentPicksLead, with_process}
+use Rattle.pb_history.specs.Leads.{Leads, TracesMake, SilentPicksLead}
 
 -- one trace after another
 pub leads_append : (code : Code) (a b c : State CodeProcess) (xs ys : List Entry) → Leads code a xs b → Leads code b ys c → Leads code a (xs ++ ys) c
@@ -42,16 +42,6 @@ traces_make code before after (e ∷ entries) h = (
 
 pub leads_reaches : (code : Code) (s : State CodeProcess) (entries : List Entry) → Leads code (code_opening code) entries s → CodeReaches code s
 leads_reaches code s entries h = (picks_of entries, events_of entries, traces_make code (code_opening code) s entries h)
-
-set_again : {X : Type 0} (xs : List X) (i : ℕ) (x y : X) → set (set xs i x) i y ≡ set xs i y
-set_again [] i x y = refl
-set_again (z ∷ xs) zero x y = refl
-set_again (z ∷ xs) (suc i) x y = ap (λ ys. z ∷ ys) (set_again xs i x y)
-
-set_back : {X : Type 0} (xs : List X) (i : ℕ) (x : X) → slice_get xs i ≡ Some x → set xs i x ≡ xs
-set_back [] i x h = refl
-set_back (z ∷ xs) zero x h = let e : z ≡ x = cc in cc
-set_back (z ∷ xs) (suc i) x h = ap (λ ys. z ∷ ys) (set_back xs i x h)
 
 pub replicate_more : {X : Type 0} (n : ℕ) (x : X) → replicate (suc n) x ≡ replicate n x ++ x ∷ []
 replicate_more zero x = refl

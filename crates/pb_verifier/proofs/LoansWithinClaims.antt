@@ -1,4 +1,5 @@
--- The loans of verified code stay within the claims and the capital, and safe; and some process can always go on.
+-- The loans of verified code stay within the claims and the capital, and safe; and some process can always go
+-- on.
 use Rattle.std.proofs.Common.{◌≡◌, ◌⊎◌, inl, inr, ⊎_elim, ℕ, zero, suc, ◌+◌, ◌<◌, ◌≤◌, Bool, true, false, cond, eqb, List, [], ◌∷◌, ◌++◌, length, get_or, map, replicate, Option, Some, None, option_map, option_and_then, refl, sym, ap, ◌∙◌, subst, arith, get_or-set_same, length-append}
 use Rattle.std.specs.Prelude.{slice_get, All}
 use Rattle.std.proofs.lemmas.List.{get_or_append_left, length-map}
@@ -16,9 +17,9 @@ use Rattle.pb_base.specs.Banker.{BankerState, capital, loan, processes, everyone
 use Rattle.pb_base.specs.Steppers.{Bundle, Table, Effect, Silent, Prints, Takes, Returns, Faults, Finishes as Ends, IsGranted, State, Move, Makes, moved, move_of, banker_state, loans_after, CanGoOn, IsFinished}
 use Rattle.pb_base.proofs.BankerLaws.{fewer_loans_stay_safe, first_borrower_may_ask, order_below}
 use Rattle.pb_base.proofs.Groups.{range_below, sum_by-zero_on}
-use Rattle.pb_base.proofs.Lending.{amount_in-le, amount_in-cons, get_or-give_back, get_or-lend, length-give_back, length-lend}
+use Rattle.pb_base.proofs.LoanRows.{amount_in-le, amount_in-cons, get_or-give_back, get_or-lend, length-give_back, length-lend}
 use Rattle.pb_base.proofs.Rows.{with_row, IsWellFormed-with_row, HasFewerLoans-with_row}
-use Rattle.pb_code.specs.Code.{ProcessCode, Thread, Idle, Live, Over, CodeProcess, thread, step_process, code_step, code_process, code_over}
+use Rattle.pb_code.specs.Code.{ProcessCode, Thread, Idle, Live, Ended, CodeProcess, thread, step_process, code_step, code_process, code_over}
 use Rattle.pb_code.specs.Reached.{CodeReaches}
 use Rattle.pb_code.specs.Whole.{Code, bank_of, code_opening}
 use Rattle.pb_verifier.specs.declared.fault.VerifyFault.TheVariants.{OutOfLimits, OverCapital, OverClaim}
@@ -52,13 +53,18 @@ over_or_not : (process : CodeProcess) → code_over process ⊎ (code_over proce
 over_or_not process = failed process.faulted refl
   where
     ended : process.faulted ≡ false → (t : Thread) → thread process.threads 0 ≡ t → code_over process ⊎ (code_over process → ⊥)
-    ended f Idle e = inr (λ h. ⊎_elim (λ x. let z : true ≡ false = sym x ∙ f in cc) (λ x. let z : Idle ≡ Over = sym e ∙ x in cc) h)
-    ended f (Live p s) e = inr (λ h. ⊎_elim (λ x. let z : true ≡ false = sym x ∙ f in cc) (λ x. let z : Live p s ≡ Over = sym e ∙ x in cc) h)
-    ended f Over e = inl (inr e)
+    ended f Idle e = inr (λ h. ⊎_elim (λ x. let z : true ≡ false = sym x ∙ f in cc) (λ x. let z : Idle ≡ Ended = sym e ∙ x in cc) h)
+    ended f (Live p s) e = inr (λ h. ⊎_elim (λ x. let z : true ≡ false = sym x ∙ f in cc) (λ x. let z : Live p s ≡ Ended = sym e ∙ x in cc) h)
+    ended f Ended e = inl (inr e)
 
     failed : (b : Bool) → process.faulted ≡ b → code_over process ⊎ (code_over process → ⊥)
     failed true e = inl (inl e)
     failed false e = ended e (thread process.threads 0) refl
+
+pub zero_loans : {X : Type 0} (n : ℕ) (xs : List X) (p r : ℕ) → cell (map (λ (x : X). replicate n 0) xs) p r ≡ 0
+zero_loans n [] p r = refl
+zero_loans n (x ∷ xs) zero r = replicate_read n r 0
+zero_loans n (x ∷ xs) (suc p) r = zero_loans n xs p r
 
 module _ (whole : Code) (annotated : IsAnnotated whole) where
   abbrev bank_at : Table → BankerState
@@ -193,11 +199,6 @@ module _ (whole : Code) (annotated : IsAnnotated whole) where
       }
 
   -- ---- the opening
-
-  zero_loans : {X : Type 0} (n : ℕ) (xs : List X) (p r : ℕ) → cell (map (λ (x : X). replicate n 0) xs) p r ≡ 0
-  zero_loans n [] p r = refl
-  zero_loans n (x ∷ xs) zero r = replicate_read n r 0
-  zero_loans n (x ∷ xs) (suc p) r = zero_loans n xs p r
 
   kept_start : Kept (code_opening whole)
   kept_start =
