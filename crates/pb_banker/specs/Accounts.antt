@@ -1,5 +1,5 @@
 -- What the tables of a banker say: the state that they hold.
-use Rattle.std.specs.Prelude.{◌≡◌, ℕ, ◌<◌, ◌≤◌, List, length, take, map, filter, slice_index, slice_index_or, slice_set, Bool, false, IsTrue}
+use Rattle.std.specs.Prelude.{◌≡◌, ℕ, zero, suc, ◌<◌, ◌≤◌, List, [], ◌∷◌, length, take, drop, map, filter, slice_index, slice_index_or, slice_set, Bool, false, IsTrue}
 use Rattle.std.specs.List.{range_with_len}
 use Rattle.pb_base.specs.declared.limits.TheConstants.{MAX_PROCESSES}
 use Rattle.pb_base.specs.Banker.{BankerState, resources, remaining_claim, cash, row_of, IsWellFormed}
@@ -10,6 +10,11 @@ use Rattle.pb_banker.specs.declared.accounts.Accounts.{Accounts}
 -- the first p rows of a table, each cut to its first r columns
 abbrev pub corner : ℕ → ℕ → List (List ℕ) → List (List ℕ)
 corner p r table = map (λ row. take r row) (take p table)
+
+-- so many rows of one width, cut one after another from amounts
+abbrev pub rows_from : (rows width : ℕ) → List ℕ → List (List ℕ)
+rows_from zero width amounts = []
+rows_from (suc rows) width amounts = take width amounts ∷ rows_from rows width (drop width amounts)
 
 abbrev pub state_of : Accounts → BankerState
 state_of a =

@@ -16,3 +16,21 @@ start_state capital claims = record {
   claims = claims;
   loans = replicate (length claims) (replicate (length capital) 0);
 }
+
+-- what was saved of a lender: the loans of each process; and for a banker the kept order and `looked`
+pub record LoansValue : Type 0 where
+  pub loans : List (List ℕ)
+  pub order : List ℕ
+  pub looked : ℕ
+
+-- what is saved of a banker
+abbrev pub saved_of : BankerValue → LoansValue
+saved_of b = record { loans = b.state.loans; order = b.kept_order; looked = b.looked }
+
+-- the banker with what was saved, under its own capital and claims
+abbrev pub restored : BankerValue → LoansValue → BankerValue
+restored b saved = record {
+  state = record b.state { loans = saved.loans };
+  kept_order = saved.order;
+  looked = saved.looked;
+}

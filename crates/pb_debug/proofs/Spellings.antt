@@ -310,7 +310,8 @@ module _ (key word : List ℕ) (c : Command) where
       let e : text ++ 32 ∷ word ≡ command_spelling (f m.0) = ap (λ (w : List ℕ). text ++ 32 ∷ w) n.0 ∙ sym (spelled m.0) in
       with_key text h (subst (SaysIt (text ++ 32 ∷ word)) m.2 (e, proper m.0 n.1))
 
-  named : (text : List ℕ) (f : List ℕ → Command) → ((w : List ℕ) → command_spelling (f w) ≡ text ++ 32 ∷ w) → ((w : List ℕ) → looks_like_name w ≡ true → IsProper (f w))
+  named : (text : List ℕ) (f : List ℕ → Command) → ((w : List ℕ) → command_spelling (f w) ≡ text ++ 32 ∷ w)
+      → ((w : List ℕ) → looks_like_name w ≡ true → IsProper (f w))
       → bytes_eq key text ≡ true → option_map f (word_of word) ≡ Some c → Here
   named text f spelled proper h o =
       let m = mapped f (word_of word) c o in
@@ -437,7 +438,8 @@ said_again (To n) lt short = said_short (command_spelling (To n)) (To n) short r
 said_again (Step n) lt short = said_short (command_spelling (Step n)) (Step n) short refl refl refl refl (ap (option_map Step) (number_again n lt))
 said_again (Back n) lt short = said_short (command_spelling (Back n)) (Back n) short refl refl refl refl (ap (option_map Back) (number_again n lt))
 said_again (Vars p) word short = said_short (command_spelling (Vars p)) (Vars p) short refl refl refl refl (ap (option_map Vars) (word_again p word))
-said_again (Threads p) word short = said_short (command_spelling (Threads p)) (Threads p) short refl refl refl refl (ap (option_map Threads) (word_again p word))
+said_again (Threads p) word short =
+    said_short (command_spelling (Threads p)) (Threads p) short refl refl refl refl (ap (option_map Threads) (word_again p word))
 said_again (Wrote p x) proper short =
     said_short (command_spelling (Wrote p x)) (Wrote p x) short refl refl refl refl
     (ap (option_map (λ (y : IntegerWord). Wrote y.0 y.1)) (integer_again p x proper.0 proper.1))
@@ -449,13 +451,17 @@ said_again Prev proper short = refl
 said_again Help proper short = refl
 said_again (Who r) word short = said_short (command_spelling (Who r)) (Who r) short refl refl refl refl (ap (option_map Who) (word_again r word))
 said_again (Line p a) proper short =
-    said_short (command_spelling (Line p a)) (Line p a) short refl refl refl refl (ap (option_map (λ (x : ArmWord). Line x.0 x.1)) (arm_again p a proper.0 proper.1))
+    said_short (command_spelling (Line p a)) (Line p a) short refl refl refl refl
+    (ap (option_map (λ (x : ArmWord). Line x.0 x.1)) (arm_again p a proper.0 proper.1))
 said_again (Text p a) proper short =
-    said_short (command_spelling (Text p a)) (Text p a) short refl refl refl refl (ap (option_map (λ (x : ArmWord). Text x.0 x.1)) (arm_again p a proper.0 proper.1))
+    said_short (command_spelling (Text p a)) (Text p a) short refl refl refl refl
+    (ap (option_map (λ (x : ArmWord). Text x.0 x.1)) (arm_again p a proper.0 proper.1))
 said_again (Why p a) proper short =
-    said_short (command_spelling (Why p a)) (Why p a) short refl refl refl refl (ap (option_map (λ (x : ArmWord). Why x.0 x.1)) (arm_again p a proper.0 proper.1))
+    said_short (command_spelling (Why p a)) (Why p a) short refl refl refl refl
+    (ap (option_map (λ (x : ArmWord). Why x.0 x.1)) (arm_again p a proper.0 proper.1))
 said_again (Pick p a) proper short =
-    said_short (command_spelling (Pick p a)) (Pick p a) short refl refl refl refl (ap (option_map (λ (x : ArmWord). Pick x.0 x.1)) (arm_again p a proper.0 proper.1))
+    said_short (command_spelling (Pick p a)) (Pick p a) short refl refl refl refl
+    (ap (option_map (λ (x : ArmWord). Pick x.0 x.1)) (arm_again p a proper.0 proper.1))
 
 pub commands_by_spelling : CommandsBySpelling
 commands_by_spelling line c = (

@@ -24,7 +24,7 @@ use Rattle.pb_explore.specs.Outcomes.{AreOutcomes, Found, ProcessOutcome, proces
 use Rattle.pb_explore.specs.Reduction.{LeadsTo}
 use Rattle.pb_explore.specs.declared.lending.Lending.TheVariants.{ByBanker}
 use Rattle.pb_outcome_engine.specs.SourceOutcomes.{IsOutcomeOfCode, IsOutcomeOfProgram, OutcomesAreThoseOfTheProgram, source_outcome}
-use Rattle.pb_explore.proofs.Reaching.{come, make}
+use Rattle.pb_explore.proofs.ReachedByBanker.{come, make}
 
 -- ---- states that are alike: the same outcome, and both are endings or neither is
 

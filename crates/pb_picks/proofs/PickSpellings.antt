@@ -72,7 +72,8 @@ not_empty xs b ys e =
     let a = length-append xs (b ∷ ys) in
     omega (arith, l, a)
 
-reads_written : (code : Code) (picks : List CountedPick) → KeepsLimits code → CanBeSaid code picks → ReadsPicks code (pick_lines code.names.processes picks) picks []
+reads_written : (code : Code) (picks : List CountedPick) → KeepsLimits code → CanBeSaid code picks
+    → ReadsPicks code (pick_lines code.names.processes picks) picks []
 reads_written code [] limits all = refl
 reads_written code (c ∷ picks) limits all =
     let names = code.names.processes in

@@ -1,6 +1,6 @@
 //! Three small bankers: who is granted what, and in which order all can finish.
 
-use pb_banker::{Answer, Banker};
+use pb_banker::{Answer, Banker, Loans, Till};
 use pb_base::{Bundle, Capital, Claims, Pair};
 use std::alloc::Global;
 
@@ -193,4 +193,64 @@ fn copies_keep_what_was_given_back(rt: HostRuntime) {
         panic!(rt; "out of memory");
     };
     assert!(rt; copy_keeps(rt.alloc(), &mut banker) == Some(true));
+}
+
+/// Saves what is lent, takes back what a process holds, and returns what it holds and what is left of a
+/// resource after what was saved is restored.
+fn restored(alloc: Global, banker: &mut Banker, p: usize, r: usize) -> Option<(u32, u32)> {
+    if p >= banker.processes() {
+        return None;
+    }
+    let mut saved = Loans::new(alloc);
+    match banker.save(&mut saved) {
+        Ok(()) => {}
+        Err(_) => return None,
+    }
+    banker.drop_all(p);
+    banker.restore(&saved);
+    standing(banker, p, r)
+}
+
+#[test]
+fn saved_loans_come_back(rt: HostRuntime) {
+    let Some(mut banker) = pair_of_claims(rt.alloc(), [1, 2]) else {
+        panic!(rt; "out of memory");
+    };
+    assert!(rt; is_granted(&mut banker, 0, 1, 1));
+    assert!(rt; restored(rt.alloc(), &mut banker, 0, 1) == Some((1, 1)));
+}
+
+/// Saves what a till has lent, takes back what a process holds, restores what was saved, and returns what the
+/// process holds of a resource.
+fn restored_by_till(alloc: Global, till: &mut Till, p: usize, r: usize) -> Option<u32> {
+    if p >= till.processes() || r >= till.resources() {
+        return None;
+    }
+    let mut saved = Loans::new(alloc);
+    match till.save(&mut saved) {
+        Ok(()) => {}
+        Err(_) => return None,
+    }
+    till.drop_all(p);
+    till.restore(&saved);
+    Some(till.loan(p, r))
+}
+
+/// A till that has lent 2 of 3 to the first of two processes.
+fn till(alloc: Global) -> Option<Till> {
+    let capital = Capital::new(alloc, &[3]).ok()?;
+    let claims = Claims::new(alloc, &[&[2], &[1]]).ok()?;
+    let mut till = Till::new(&capital, &claims);
+    if till.lend(0, &Bundle::one(0, 2)) {
+        return Some(till);
+    }
+    None
+}
+
+#[test]
+fn tills_restore_what_was_saved(rt: HostRuntime) {
+    let Some(mut till) = till(rt.alloc()) else {
+        panic!(rt; "out of memory");
+    };
+    assert!(rt; restored_by_till(rt.alloc(), &mut till, 0, 0) == Some(2));
 }

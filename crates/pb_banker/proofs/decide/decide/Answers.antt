@@ -2,7 +2,7 @@ use Rattle.std.proofs.Common.{take, arith, sym, ap, subst}
 use Rattle.pb_base.specs.Banker.{Finishes}
 use Rattle.pb_banker.specs.declared.accounts.Accounts.{Accounts}
 use Rattle.pb_banker.specs.Accounts.{state_of, IsSound}
-use Rattle.pb_banker.proofs.Deciding.{undone, not_over}
+use Rattle.pb_banker.proofs.RefusedRequests.{undone, not_over}
 use Rattle.pb_banker.proofs.decide.decide.Goals as goal
 
 pub returns-clause-answer : goal.returns-clause-answer
