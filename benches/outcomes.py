@@ -7,9 +7,14 @@ greatest resident memory. SPIN is run twice: with no reduction (`spin -o3 -a`, `
 parbegin follows a single pick only of a process with one live arm: so in programs of one process it reduces nothing while its
 arms are live.
 
+Then come programs of three processes of two integers each, made here, with the memory that parbegin takes for each
+configuration of them: the greatest resident memory of a call, less that of a call on a program of no statement.
+
 Wants the built program, `spin` and `gcc` (Debian's packages). A search of SPIN that takes longer than a minute is left out.
 
-    python3 benches/outcomes.py [TURNS]
+    python3 benches/outcomes.py [TURNS [memory]]
+
+With the word `memory` it is the second table alone, which wants neither of the packages.
 """
 import os
 import pathlib
@@ -97,12 +102,38 @@ def rows(folder):
             yield name, title, f"{states:,}", f"{other:.3f}", rate, f"{used / 1e6:.0f}", f"{seconds / other:.2f}"
 
 
+def sharing(rounds):
+    """Returns three processes that hold a unit of one resource of two, by turns, and add."""
+    one = "process {0}\nbegin integer n, sum; while n < {1} do n := n + 1; hold 1 of disk do sum := sum + n od od end\n"
+    return "resource disk = 2;\n" + "".join(one.format(name, rounds) for name in "abc")
+
+
+def dining(rounds):
+    """Returns three philosophers."""
+    one = ("process {0}\nbegin integer n, sum; while n < {3} do n := n + 1; "
+           "hold 1 of {1} do hold 1 of {2} do sum := sum + n od od od end\n")
+    forks = "".join(f"resource {fork} = 1;\n" for fork in ("f", "g", "h"))
+    return forks + "".join(one.format(name, *hands, rounds) for name, hands in zip("abc", ("fg", "gh", "hf")))
+
+
+def memory_rows():
+    base = least(outcomes(), b"process a begin skip end\n")[2]
+    for title, text in [(f"one resource of two units, {rounds} rounds", sharing(rounds)) for rounds in (20, 30)] + [
+        (f"three philosophers, {rounds} rounds", dining(rounds)) for rounds in (16, 20)]:
+        count = configurations(text.encode())
+        _, seconds, memory = least(outcomes(), text.encode())
+        yield title, f"{count:,}", f"{seconds:.2f}", f"{memory / 1e6:.1f}", f"{(memory - base) / count:.1f}"
+
+
 def main():
     if not PROGRAM.exists():
         sys.exit("the program is not built: ./parbegin builds it")
     heads = ("Program", "By", "Configurations", "Seconds", "Million a second", "MB", "parbegin's time by SPIN's")
     with tempfile.TemporaryDirectory(prefix="parbegin-outcomes-") as folder:
-        print_table(heads, rows(pathlib.Path(folder)))
+        if sys.argv[2:] != ["memory"]:
+            print_table(heads, rows(pathlib.Path(folder)))
+            print()
+    print_table(("Program", "Configurations", "Seconds", "MB", "Bytes a configuration"), memory_rows())
 
 
 main()
