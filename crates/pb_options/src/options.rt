@@ -1,8 +1,8 @@
 //! What the engines are told beside their input.
 ghost use Rattle.std.specs.Prelude.{◌≡◌, ◌≤◌, ℕ, Some};
+ghost use Rattle.pb_base.specs.declared.limits.TheConstants.{MAX_PICKS, MAX_QUANTUM, MAX_WORKERS};
 ghost use Rattle.pb_options.specs.Lends.{IsLendOf};
 
-use pb_base::limits::{MAX_PICKS, MAX_QUANTUM, MAX_WORKERS};
 use pb_object::Format;
 use std::str::FromStr;
 
