@@ -47,8 +47,8 @@ cut_byte part xs b other =
     let c = cut part xs in
     let one : cut c.rest (b ∷ []) ≡ record { lines = []; rest = c.rest ++ b ∷ [] } =
     ap (λ (t : Bool). cond t (one_line_more c.rest (cut [] [])) (cut (c.rest ++ b ∷ []) [])) other in
-    let with : List (List ℕ) → Cut = λ ls. record { lines = ls; rest = c.rest ++ b ∷ [] } in
-    let put : SplitLines → Cut = λ k. record { lines = c.lines ++ k.lines; rest = k.rest } in
+    let with : List (List ℕ) → SplitLines = λ ls. record { lines = ls; rest = c.rest ++ b ∷ [] } in
+    let put : SplitLines → SplitLines = λ k. record { lines = c.lines ++ k.lines; rest = k.rest } in
     cut-append part xs (b ∷ []) ∙ (ap put one ∙ ap with (append-nil c.lines))
 
 -- ---- what is kept of a line

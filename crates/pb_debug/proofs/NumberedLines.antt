@@ -40,12 +40,12 @@ goes_step : (part bs : List ℕ) (b : ℕ) (t : Bool) → cond t (Some 0) (optio
     → cond t (one_line_more part (cut [] bs)) (cut (part ++ b ∷ []) bs) ≡ record { lines = []; rest = part ++ b ∷ bs }
 goes_step part bs b true h rest = absurd cc
 goes_step part bs b false h rest =
-    let whole : List ℕ → Cut = λ text. record { lines = []; rest = text } in
+    let whole : List ℕ → SplitLines = λ text. record { lines = []; rest = text } in
     rest (none_left (first_at 10 bs) h) ∙ ap whole (append_assoc part (b ∷ []) bs)
 
 -- with no line feed there is no end
 goes_on : (part bs : List ℕ) → first_at 10 bs ≡ None → cut part bs ≡ record { lines = []; rest = part ++ bs }
-goes_on part [] h = let whole : List ℕ → Cut = λ text. record { lines = []; rest = text } in ap whole (sym (append-nil part))
+goes_on part [] h = let whole : List ℕ → SplitLines = λ text. record { lines = []; rest = text } in ap whole (sym (append-nil part))
 goes_on part (b ∷ bs) h = goes_step part bs b (eqb b 10) h (goes_on (part ++ b ∷ []) bs)
 
 -- ---- lines

@@ -4,7 +4,8 @@ use Rattle.std.specs.Fmt.{decimal, signed_decimal}
 use Rattle.pb_base.specs.Banker.{BankerState, processes, resources, claim, loan, cash}
 use Rattle.pb_base.specs.declared.event.Event.{Event}
 use Rattle.pb_base.specs.declared.pick.Pick.{Pick}
-use Rattle.pb_base.specs.Lines.{NameTable, name_of, pick_text, line_of as event_line, line, each_below}
+use Rattle.pb_base.specs.Lines.{NameTable, name_of, pick_text, line_of as event_line}
+pub use Rattle.pb_base.specs.Lines.{line, each_below}
 use Rattle.pb_code.specs.Code.{CodeProcess, Thread, Idle, Live, Ended, thread}
 use Rattle.pb_debug.specs.Lines.{line_numbered}
 use Rattle.pb_debug.specs.declared.fault.DebugFault.{DebugFault}

@@ -51,7 +51,7 @@ impl<'c> Debugger<'c> {
         self.position() == self.len() && self.len() < MAX_PICKS
     }
 
-    // TriesPick a pick at the position, by a copy of the machine.
+    // Tries a pick at the position, by a copy of the machine.
     fn tried(&self, pick: Pick) -> Result<Tried, NoMemory>
         ensures tried { IfOk result (IsTried self.now) }
         ensures pick { IfOk result (λ tried. tried.pick ≡ pick) }
@@ -71,7 +71,7 @@ impl<'c> Debugger<'c> {
         requires end { CanAppend self.old }
         requires machine { IsMachineOf self.old.verified machine }
         requires moves { CodeMoves self.old.verified.code (state_of self.old) pick event (machine_view machine) }
-        ensures with_pick { OnOk result (self.new ≡ with_pick self.old pick) }
+        ensures appended { OnOk result (self.new ≡ with_pick self.old pick) }
         ensures state { OnOk result (state_of self.new ≡ machine_view machine) }
         ensures unchanged { OnErr result (self.new ≡ self.old) }
     {
@@ -109,7 +109,7 @@ impl<'c> Debugger<'c> {
         }
     }
 
-    /// TriesPick a pick after the last, and returns what it came to: if it is enabled it is appended, and the
+    /// Tries a pick after the last, and returns what it came to: if it is enabled it is appended, and the
     /// position is that just after it; else, or if there is no such process or arm, nothing has changed.
     /// `PastEnd` if the position is not that after the last pick, or there are 10,000,000 picks; after an
     /// error nothing has changed.
