@@ -8,7 +8,7 @@ parbegin follows a single pick only of a process with one live arm: so in progra
 arms are live.
 
 Then come programs of three processes of two integers each, made here, with the memory that parbegin takes for each
-configuration of them: the greatest resident memory of a call, less that of a call on a program of no statement.
+configuration of them: the greatest resident memory of a call, all that the program needs included.
 
 Wants the built program, `spin` and `gcc` (Debian's packages). A search of SPIN that takes longer than a minute is left out.
 
@@ -117,12 +117,11 @@ def dining(rounds):
 
 
 def memory_rows():
-    base = least(outcomes(), b"process a begin skip end\n")[2]
     for title, text in [(f"one resource of two units, {rounds} rounds", sharing(rounds)) for rounds in (20, 30)] + [
         (f"three philosophers, {rounds} rounds", dining(rounds)) for rounds in (16, 20)]:
         count = configurations(text.encode())
         _, seconds, memory = least(outcomes(), text.encode())
-        yield title, f"{count:,}", f"{seconds:.2f}", f"{memory / 1e6:.1f}", f"{(memory - base) / count:.1f}"
+        yield title, f"{count:,}", f"{seconds:.2f}", f"{memory / 1e6:.1f}", f"{memory / count:.1f}"
 
 
 def main():
