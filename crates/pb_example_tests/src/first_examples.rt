@@ -71,8 +71,7 @@ const HELLO: &[u8] = b"process p begin print 1 end
 /// The file lost.pb.
 #[rattlefmt::skip]
 const LOST: &[u8] = b"// Two arms add one to the same integer. To read it and to assign to it are two steps, so if both arms read it before
-// either assigns, one of the two additions is lost. `run` goes arm by arm and loses none; the run of lost.run
-// loses one.
+// either assigns, one of the two additions is lost. `run` goes arm by arm and loses none; the run of lost.run loses one.
 process p
 begin
   integer x;
@@ -142,8 +141,7 @@ process b begin hold 1 of disk, 1 of tape do print 2 od end
 /// The file lost.run.
 #[rattlefmt::skip]
 const LOST_RUN: &[u8] = b"// Two arms add one to the same integer. To read it and to assign to it are two steps, so if both arms read it before
-// either assigns, one of the two additions is lost. `run` goes arm by arm and loses none; the run of lost.run
-// loses one.
+// either assigns, one of the two additions is lost. `run` goes arm by arm and loses none; the run of lost.run loses one.
 process p
 begin
   integer x;
@@ -352,8 +350,7 @@ done
         input: LOST,
         status: Status::Done,
         output: b"// Two arms add one to the same integer. To read it and to assign to it are two steps, so if both arms read it before
-// either assigns, one of the two additions is lost. `run` goes arm by arm and loses none; the run of lost.run
-// loses one.
+// either assigns, one of the two additions is lost. `run` goes arm by arm and loses none; the run of lost.run loses one.
 process p
 begin
   integer x;

@@ -22,8 +22,8 @@ end
 /// The file 2-updates/peterson.pb.
 #[rattlefmt::skip]
 const PETERSON: &[u8] = b"// Peterson's algorithm: two arms exclude one another by integers alone. An arm says that it wants to go in, lets the
-// other go first, and waits until the other does not want to, or has let it go first. So no addition is lost,
-// in any order of steps. It waits by asking again and again, which takes steps.
+// other go first, and waits until the other does not want to, or has let it go first. So no addition is lost, in any
+// order of steps. It waits by asking again and again, which takes steps.
 process peterson
 begin
   integer wants1, wants2, first, x, i, j;

@@ -7,8 +7,8 @@ use std::test::Fail;
 /// The file 3-banker/barber.pb.
 #[rattlefmt::skip]
 const BARBER: &[u8] = b"// The sleeping barber, as far as holds express it: a shop with three places, one of them the barber's chair. A customer
-// who finds no place waits outside, where in the story he would leave: a hold waits, and never gives up. The
-// barber is a resource, and sleeps while nobody holds him.
+// who finds no place waits outside, where in the story he would leave: a hold waits, and never gives up. The barber is
+// a resource, and sleeps while nobody holds him.
 resource place = 3;
 resource barber = 1;
 process ann begin hold 1 of place do hold 1 of barber do print 1 od od end
@@ -50,8 +50,8 @@ end
 /// The file 3-banker/five_philosophers.pb.
 #[rattlefmt::skip]
 const FIVE_PHILOSOPHERS: &[u8] = b"// Five philosophers at a round table, with a fork between each two of them. Each takes the fork at the left and then
-// the one at the right. The fifth waits for his first fork, although it is free: with it each would have one
-// fork, and nobody could eat.
+// the one at the right. The fifth waits for his first fork, although it is free: with it each would have one fork,
+// and nobody could eat.
 resource fork1 = 1;
 resource fork2 = 1;
 resource fork3 = 1;
@@ -78,8 +78,8 @@ process reader3 begin hold 1 of permit do print 3 od end
 /// The file 3-banker/waits.pb.
 #[rattlefmt::skip]
 const WAITS: &[u8] = b"// The banker makes somebody wait although there is enough. Two borrowers may come to need three florins each, and there
-// are three. Once `a` has one, `b` may not have one of the two that are left: then neither could get all that
-// it may still ask for.
+// are three. Once `a` has one, `b` may not have one of the two that are left: then neither could get all that it may
+// still ask for.
 resource florin = 3;
 process a begin hold 1 of florin do print 1; hold 2 of florin do print 2 od od end
 process b begin hold 1 of florin do print 3; hold 2 of florin do print 4 od od end
@@ -88,8 +88,8 @@ process b begin hold 1 of florin do print 3; hold 2 of florin do print 4 od od e
 /// The file 3-banker/waits_refused.run.
 #[rattlefmt::skip]
 const WAITS_REFUSED_RUN: &[u8] = b"// The banker makes somebody wait although there is enough. Two borrowers may come to need three florins each, and there
-// are three. Once `a` has one, `b` may not have one of the two that are left: then neither could get all that
-// it may still ask for.
+// are three. Once `a` has one, `b` may not have one of the two that are left: then neither could get all that it may
+// still ask for.
 resource florin = 3;
 process a begin hold 1 of florin do print 1; hold 2 of florin do print 2 od od end
 process b begin hold 1 of florin do print 3; hold 2 of florin do print 4 od od end

@@ -25,8 +25,8 @@ process b begin hold 1 of disk do hold 1 of tape do print 4 od od end
 /// The file 5-deadlock/in_turn.pb.
 #[rattlefmt::skip]
 const IN_TURN: &[u8] = b"// The same two transfers, each of which gives back the first account before it takes the second. Nobody holds one and
-// asks for another, so there is no deadlock even without a banker. Yet this banker makes `withdraw` wait for
-// an account that is there: it knows what a process may hold, and not when.
+// asks for another, so there is no deadlock even without a banker. Yet this banker makes `withdraw` wait for an account
+// that is there: it knows what a process may hold, and not when.
 resource savings = 1;
 resource giro = 1;
 process deposit
@@ -44,8 +44,7 @@ end
 /// The file 5-deadlock/ordered.pb.
 #[rattlefmt::skip]
 const ORDERED: &[u8] = b"// The same two transfers, which both take the accounts in one order. That prevents a deadlock without a banker, and
-// this banker finds nothing to keep back: a request waits only while the account that it asks for is not
-// there.
+// this banker finds nothing to keep back: a request waits only while the account that it asks for is not there.
 resource savings = 1;
 resource giro = 1;
 process deposit

@@ -89,8 +89,8 @@ end
 /// The file solutions/no_turn.pb.
 #[rattlefmt::skip]
 const NO_TURN: &[u8] = b"// Lesson 2, exercise 4: Peterson's algorithm without `first`. If both arms say that they want to go in before either
-// has looked, each waits for the other for ever. They are not stuck, since each can still make steps, but
-// they get nowhere: this is a livelock. The banker knows nothing of it, since nothing is held.
+// has looked, each waits for the other for ever. They are not stuck, since each can still make steps, but they get
+// nowhere: this is a livelock. The banker knows nothing of it, since nothing is held.
 process peterson
 begin
   integer wants1, wants2, x, i, j;
@@ -133,8 +133,7 @@ process five begin hold 1 of fork1 do hold 1 of fork5 do print 5 od od end
 /// The file solutions/readers_for_ever.pb.
 #[rattlefmt::skip]
 const READERS_FOR_EVER: &[u8] = b"// Lesson 5, exercise 5: two readers that never end, each of which takes its next permit as soon as it has given back the
-// last one. There are runs in which the writer never gets both permits, since one of the readers always has
-// one.
+// last one. There are runs in which the writer never gets both permits, since one of the readers always has one.
 resource permit = 2;
 process reader1 begin while 1 do hold 1 of permit do print 1 od od end
 process reader2 begin while 1 do hold 1 of permit do print 2 od od end
