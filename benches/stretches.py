@@ -18,7 +18,8 @@ four compute   four processes of one arm and one integer that do not count: they
 
 Then come whole calls of the program with one round, from its start to its exit, in processor time (user and
 system); one worker, two and four at quantum 4096 on the four processes; and bare loops at once, each in a process of
-its own, which is how much the processors can do together.
+its own on a processor of its own, which is how much the processors can do together. Of the last two the least of all
+rounds is shown, and the middle.
 
 Wants `rt`.
 
@@ -28,6 +29,7 @@ A further word is the program of another tree, as this script builds it, for row
 one.
 """
 import os
+import statistics
 import subprocess
 import sys
 
@@ -208,7 +210,7 @@ ghosts-bare g a = record { code = a.code.now }
 # each with whether it computes, how many processes there are, how many instructions are never reached, and how many
 # arms there are besides the first of each process
 SHAPES = {"one arm": (0, 1, 0, 0), "long code": (0, 1, 30_000, 0), "16 arms": (0, 1, 0, 15), "four": (0, 4, 0, 0)}
-COMPUTING = {"one": (1, 1, 0, 0), "four": (1, 4, 0, 0)}
+COMPUTING = ((1, 1, 0, 0), (1, 4, 0, 0))
 WORKERS = (1, 2, 4)
 
 
@@ -230,11 +232,35 @@ def whole(program, shape, workers, quantum):
     return (used.ru_utime + used.ru_stime) * 1e3
 
 
+def rounds(call):
+    """The times of the rounds of a call that was started, in milliseconds."""
+    words = call.communicate()[0].split()
+    if {int(made) for made in words[1::2]} != {PICKS}:
+        raise SystemExit("the run made other picks")
+    return [int(taken) / 1e6 for taken in words[0::2]]
+
+
+def start(program, shape, workers, processor=None):
+    """Starts a call at quantum 4096, on one processor if it is given."""
+    words = [str(word) for word in (program, *shape, workers, LONG, PICKS, ROUNDS)]
+    pinned = (lambda: os.sched_setaffinity(0, {processor})) if processor is not None else None
+    return subprocess.Popen(words, stdout=subprocess.PIPE, preexec_fn=pinned)
+
+
 def at_once(program, shape, count):
-    """The time by the clock of this number of bare loops at once, each in a process of its own: that of the slowest."""
-    words = [str(word) for word in (program, *shape, 0, LONG, PICKS, ROUNDS)]
-    calls = [subprocess.Popen(words, stdout=subprocess.PIPE) for _ in range(count)]
-    return max(least_of_rows(call.communicate()[0].decode().split(), 2)[0] for call in calls) / 1e6
+    """The times of the rounds of this number of bare loops at once: of each round that of the slowest."""
+    calls = [start(program, shape, 0, processor) for processor in range(count)]
+    return [max(times) for times in zip(*map(rounds, calls))]
+
+
+def together(program, one, four):
+    """The times of all rounds of one, two and four workers, and of bare loops at once, turn by turn."""
+    workers, bare = ([[] for _ in WORKERS] for _ in range(2))
+    for _ in range(TURNS):
+        for number, by_workers, by_loops in zip(WORKERS, workers, bare):
+            by_workers += rounds(start(program, four, number))
+            by_loops += at_once(program, one, number)
+    return workers, bare
 
 
 def least_of(calls):
@@ -267,14 +293,18 @@ def main():
         print_table(head, [row for name, shape in SHAPES.items() for row in beside_bare(name, clock, programs, shape)])
         print_table(["whole calls"] + head[1:], beside_bare("one arm", whole, programs, SHAPES["one arm"]))
         rows = []
-        counting = {"one": SHAPES["one arm"], "four": SHAPES["four"]}
+        counting = (SHAPES["one arm"], SHAPES["four"])
         for name, of in (("count", counting), ("compute", COMPUTING)):
             for label, p in programs.items():
-                alone, two, all_four = least_of([lambda w=w, p=p: clock(p, of["four"], w, LONG) for w in WORKERS])
-                rows.append([f"four that {name}{label}", alone, two, all_four, alone / two, alone / all_four])
-            alone, two, all_four = least_of([lambda n=n: at_once(program, of["one"], n) for n in WORKERS])
-            rows.append([f"bare loops that {name}", alone, two, all_four, 2 * alone / two, 4 * alone / all_four])
-        print_table(["by the clock, milliseconds", "one", "two", "four", "two by one", "four by one"], rows)
+                workers, bare = together(p, *of)
+                for title, take in (("least", min), ("middle", statistics.median)):
+                    alone, two, all_four = map(take, workers)
+                    faster = [alone / two, alone / all_four]
+                    rows.append([f"four that {name}{label}", title, alone, two, all_four, *faster])
+                    alone, two, all_four = map(take, bare)
+                    faster = [2 * alone / two, 4 * alone / all_four]
+                    rows.append([f"bare loops that {name}", title, alone, two, all_four, *faster])
+        print_table(["by the clock, milliseconds", "round", "one", "two", "four", "two by one", "four by one"], rows)
 
 
 if __name__ == "__main__":
