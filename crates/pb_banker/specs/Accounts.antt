@@ -11,7 +11,7 @@ use Rattle.pb_banker.specs.declared.accounts.Accounts.{Accounts}
 abbrev pub corner : ℕ → ℕ → List (List ℕ) → List (List ℕ)
 corner p r table = map (λ row. take r row) (take p table)
 
--- so many rows of one width, cut one after another from amounts
+-- this number of rows of one width, cut one after another from a list of amounts
 abbrev pub rows_from : (rows width : ℕ) → List ℕ → List (List ℕ)
 rows_from zero width amounts = []
 rows_from (suc rows) width amounts = take width amounts ∷ rows_from rows width (drop width amounts)
