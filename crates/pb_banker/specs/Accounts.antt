@@ -1,5 +1,6 @@
 -- What the tables of a banker say: the state that they hold.
-use Rattle.std.specs.Prelude.{◌≡◌, ℕ, zero, suc, ◌<◌, ◌≤◌, List, [], ◌∷◌, length, take, drop, map, filter, slice_index, slice_index_or, slice_set, Bool, false, IsTrue}
+use Rattle.std.specs.Prelude.{◌≡◌, ℕ, zero, suc, ◌<◌, ◌≤◌, List, [], ◌∷◌, length, take, drop, map, filter}
+use Rattle.std.specs.Prelude.{slice_index, slice_index_or, slice_set, Bool, false, IsTrue}
 use Rattle.std.specs.List.{range_with_len}
 use Rattle.pb_base.specs.declared.limits.TheConstants.{MAX_PROCESSES}
 use Rattle.pb_base.specs.Banker.{BankerState, resources, remaining_claim, cash, row_of, IsWellFormed}

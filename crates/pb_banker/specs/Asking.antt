@@ -1,7 +1,8 @@
 -- What a call of `ask` does.
 use Rattle.std.specs.Prelude.{◌≡◌, ◌≢◌, ℕ, ◌+◌, ◌*◌, ◌≤◌, List, ◌↔◌}
 use Rattle.pb_base.specs.declared.pair.Pair.{Pair}
-use Rattle.pb_base.specs.Banker.{BankerState, processes, with_loan, Finishes, IsLeastFirst, IsAllowed, IsOverClaim, IsWithinClaim, IsWithinCash}
+use Rattle.pb_base.specs.Banker.{BankerState, processes, with_loan, Finishes, IsLeastFirst, IsAllowed, IsOverClaim}
+use Rattle.pb_base.specs.Banker.{IsWithinClaim, IsWithinCash}
 use Rattle.pb_banker.specs.declared.answer.Answer.{Answer}
 use Rattle.pb_banker.specs.declared.answer.Answer.TheVariants.{Granted, NotNow, OverClaim}
 

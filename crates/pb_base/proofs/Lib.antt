@@ -1,4 +1,5 @@
 pub mod BankerLaws
+pub mod Cases
 pub mod DeviceLemmas
 pub mod Groups
 pub mod Lists

@@ -1,5 +1,6 @@
 -- Lists and optional values, as several crates need them.
-use Rattle.std.proofs.Common.{◌≡◌, ℕ, ◌<◌, ◌++◌, List, length, take, drop, get_or, Some, sym, ap, ◌∙◌}
+use Rattle.std.proofs.Common.{◌≡◌, ℕ, zero, suc, ◌+◌, ◌<◌, List, [], ◌∷◌, ◌++◌, length, get_or, map, take, drop}
+use Rattle.std.proofs.Common.{Some, refl, sym, ap, ◌∙◌, arith, add-one}
 use Rattle.std.specs.Prelude.{slice_get}
 use Rattle.std.proofs.Math.Seq.{take-append_seam}
 use Rattle.std.proofs.lemmas.Option.{slice_get-get_or}
@@ -15,3 +16,34 @@ restored n xs ws e = rw (← e) (take-append_seam ws (drop (length ws) xs))
 -- what is found twice is one
 pub some_same : {X : Type 0} {x y : X} → Some x ≡ Some y → x ≡ y
 some_same e = cc
+
+-- an index within a list finds something
+pub get_some : {X : Type 0} (xs : List X) (i : ℕ) → i < length xs → (x : X) × (slice_get xs i ≡ Some x)
+get_some [] i u = absurd (omega arith)
+get_some (x ∷ xs) zero u = (x, refl)
+get_some (x ∷ xs) (suc i) u = get_some xs i (omega arith)
+
+-- what is found in a list is found in a longer one
+pub get_left : {X : Type 0} (xs ys : List X) (i : ℕ) (x : X) → slice_get xs i ≡ Some x
+    → slice_get (xs ++ ys) i ≡ Some x
+get_left [] ys i x h = cc
+get_left (y ∷ xs) ys zero x h = h
+get_left (y ∷ xs) ys (suc i) x h = get_left xs ys i x h
+
+-- what is found in a mapped list is made of what is found in the list
+pub get_mapped : {X Y : Type 0} (f : X → Y) (xs : List X) (i : ℕ) (y : Y) → slice_get (map f xs) i ≡ Some y
+    → (x : X) × (slice_get xs i ≡ Some x) × (f x ≡ y)
+get_mapped f [] i y h = cc
+get_mapped f (x ∷ xs) zero y h = (x, refl, cc)
+get_mapped f (x ∷ xs) (suc i) y h = get_mapped f xs i y h
+
+-- an element after those before it
+pub take_next : {X : Type 0} (xs : List X) (i : ℕ) (x : X) → slice_get xs i ≡ Some x
+    → take (i + 1) xs ≡ take i xs ++ x ∷ []
+take_next xs i x h = rw add-one (next xs i x h)
+  where
+    next : {X : Type 0} (xs : List X) (i : ℕ) (x : X) → slice_get xs i ≡ Some x
+        → take (suc i) xs ≡ take i xs ++ x ∷ []
+    next [] i x h = cc
+    next (y ∷ xs) zero x h = let e : y ≡ x = cc in cc
+    next (y ∷ xs) (suc i) x h = ap (λ ys. y ∷ ys) (next xs i x h)

@@ -1,11 +1,13 @@
 -- The arithmetic of the language: integers of 64 bits, and the two faults.
-use Rattle.std.specs.Prelude.{suc, zero, ◌^◌, ℤ, pos, negsuc, ◌+ℤ◌, ◌-ℤ◌, ◌*ℤ◌, neg_ℤ, Bool, true, false, not, ◌&&◌, ◌||◌, nat_lt, int_lt, int_le, int_div, int_rem, if◌then◌else◌, Result, Ok, Err}
+use Rattle.std.specs.Prelude.{suc, zero, ◌^◌, ℤ, pos, negsuc, ◌+ℤ◌, ◌-ℤ◌, ◌*ℤ◌, neg_ℤ, Bool, true, false, not, ◌&&◌}
+use Rattle.std.specs.Prelude.{◌||◌, nat_lt, int_lt, int_le, int_div, int_rem, if◌then◌else◌, Result, Ok, Err}
 use Rattle.pb_base.specs.declared.operators.FaultKind.{FaultKind}
 use Rattle.pb_base.specs.declared.operators.FaultKind.TheVariants.{Divide, Overflow}
 use Rattle.pb_base.specs.declared.operators.UnaryOp.{UnaryOp}
 use Rattle.pb_base.specs.declared.operators.UnaryOp.TheVariants.{Negate, Not}
 use Rattle.pb_base.specs.declared.operators.BinaryOp.{BinaryOp}
-use Rattle.pb_base.specs.declared.operators.BinaryOp.TheVariants.{Add, Subtract, Multiply, Quotient, Remainder, Equal, Unequal, Less, AtMost, Greater, AtLeast, And, Or}
+use Rattle.pb_base.specs.declared.operators.BinaryOp.TheVariants.{Add, Subtract, Multiply, Quotient, Remainder, Equal}
+use Rattle.pb_base.specs.declared.operators.BinaryOp.TheVariants.{Unequal, Less, AtMost, Greater, AtLeast, And, Or}
 
 abbrev pub is_zero : ℤ → Bool
 is_zero (pos zero) = true

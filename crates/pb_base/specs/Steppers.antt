@@ -1,6 +1,7 @@
 -- Processes that take one step at a time, a pick a step, under the banker. The source of a program is such a
 -- thing, and so is its code; what both share is here once.
-use Rattle.std.specs.Prelude.{◌≡◌, ℕ, zero, suc, ◌≤◌, ℤ, List, [], ◌∷◌, ◌++◌, length, map, replicate, slice_get, slice_set, Option, Some, None, option_map, option_and_then, option_to_list, ⊤}
+use Rattle.std.specs.Prelude.{◌≡◌, ℕ, zero, suc, ◌≤◌, ℤ, List, [], ◌∷◌, ◌++◌, length, map, replicate, slice_get}
+use Rattle.std.specs.Prelude.{slice_set, Option, Some, None, option_map, option_and_then, option_to_list, ⊤}
 use Rattle.pb_base.specs.declared.operators.FaultKind.{FaultKind}
 use Rattle.pb_base.specs.declared.pair.Pair.{Pair}
 use Rattle.pb_base.specs.Bundle.{lend, give_back}

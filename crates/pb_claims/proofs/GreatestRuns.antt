@@ -11,7 +11,7 @@ use Rattle.pb_names.specs.Claims.{to_end, past_assign, past_print, to_then, to_e
 use Rattle.pb_names.specs.Claims.{into_loop, into_hold, past_give, into_arms, FreeStep, in_list, join, in_arms}
 use Rattle.pb_names.specs.Claims.{FreeStepAmong, in_first, in_later, FreeRun, at_start, and_then}
 use Rattle.pb_names.specs.Claims.{held_in_list, held, held_among, stmt_peak, peak, arms_peak}
-use Rattle.pb_claims.proofs.NoMore.{block_held}
+use Rattle.pb_names.proofs.Holdings.{block_held}
 
 -- ---- runs one after another, and of arms side by side
 

@@ -10,20 +10,7 @@ use Rattle.pb_names.specs.Claims.{FreeListStep, to_end, past_assign, past_print,
 use Rattle.pb_names.specs.Claims.{into_loop, into_hold, past_give, into_arms, FreeStep, in_list, join, in_arms}
 use Rattle.pb_names.specs.Claims.{FreeStepAmong, in_first, in_later, FreeRun, at_start, and_then, held_in}
 use Rattle.pb_names.specs.Claims.{held_in_list, held, held_among, stmt_peak, peak, arms_peak}
-
--- ---- a list that has not begun has nothing to give back
-
-stmt_held : (r : ℕ) (s : Stmt) → held_in r (item_of s) ≡ 0
-stmt_held r (Assign line x e) = refl
-stmt_held r (Print line e) = refl
-stmt_held r (If line e a b) = refl
-stmt_held r (While line e body) = refl
-stmt_held r (Hold line bundle body) = refl
-stmt_held r (Parbegin line first arms) = refl
-
-pub block_held : (r : ℕ) (block : Block) (rest : List Item) → held_in_list r (items_of block ++ rest) ≡ held_in_list r rest
-block_held r Skip rest = refl
-block_held r (Then s block) rest = omega (arith, block_held r block rest, stmt_held r s)
+use Rattle.pb_names.proofs.Holdings.{block_held}
 
 -- ---- the most that is yet to be held
 

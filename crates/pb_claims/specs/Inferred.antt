@@ -1,6 +1,6 @@
 -- What is returned for a program: in a row for each process its claim on each resource, or the greatest u64
 -- if the claim is larger.
-use Rattle.std.specs.Prelude.{◌≡◌, ℕ, ◌<◌, ◌-◌, ◌^◌, min, List, length, map, slice_get, Some}
+use Rattle.std.specs.Prelude.{◌≡◌, ℕ, ◌<◌, ◌^◌, List, length, map, slice_get, Some}
 use Rattle.std.specs.List.{range_with_len}
 use Rattle.pb_base.specs.Banker.{cell, row_of}
 use Rattle.pb_base.specs.Steppers.{Table}

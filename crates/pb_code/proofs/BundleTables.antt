@@ -1,5 +1,6 @@
 -- Instructions that name bundles, while more bundles come behind.
-use Rattle.std.proofs.Common.{◌≡◌, ℕ, suc, ◌<◌, ◌≤◌, List, [], ◌∷◌, ◌++◌, length, get_or, map, refl, ap, ◌∙◌, arith, All}
+use Rattle.std.proofs.Common.{◌≡◌, ℕ, suc, ◌<◌, ◌≤◌, List, [], ◌∷◌, ◌++◌, length, get_or, map, refl, ap, ◌∙◌, arith}
+use Rattle.std.proofs.Common.{All}
 use Rattle.std.proofs.lemmas.List.{length-append, get_or_append_left}
 use Rattle.pb_base.specs.declared.pair.Pair.{Pair}
 use Rattle.pb_code.specs.declared.instr.Instr.{Instr as Given}

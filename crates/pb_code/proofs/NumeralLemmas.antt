@@ -1,5 +1,6 @@
 -- Numbers in decimal digits, and what they are equal to.
-use Rattle.std.proofs.Common.{◌≡◌, ℕ, ◌+◌, ◌*◌, ◌^◌, ◌<◌, ◌≤◌, true, not, ◌||◌, eqb, List, [], ◌∷◌, length, get_or, refl, ap, subst, ◌∙◌, arith, rules, inl, inr, take}
+use Rattle.std.proofs.Common.{◌≡◌, ℕ, ◌+◌, ◌*◌, ◌^◌, ◌<◌, ◌≤◌, true, not, ◌||◌, eqb, List, [], ◌∷◌, length, get_or}
+use Rattle.std.proofs.Common.{refl, ap, subst, ◌∙◌, arith, rules, inl, inr, take}
 use Rattle.std.specs.List.{list_all}
 use Rattle.std.specs.Char.{is_ascii_digit, digit_value}
 use Rattle.std.specs.Fmt.{decimal}
@@ -10,7 +11,7 @@ use Rattle.std.proofs.lemmas.Int.Digits.{digits_value_more}
 use Rattle.std.proofs.lemmas.Fmt.{digits_decimal, decimal_nonempty, first_decimal, decimal_digit}
 use Rattle.std.proofs.lemmas.Bool.{eqb-true, cases_lt}
 use Rattle.std.proofs.lemmas.Bool.Decides.{nat_tests}
-use Rattle.pb_code.proofs.NameTests.{both_true}
+use Rattle.pb_base.proofs.Cases.{both_true}
 use Rattle.pb_code.specs.Names.{Word}
 use Rattle.pb_code.specs.Numerals.{is_numeral}
 

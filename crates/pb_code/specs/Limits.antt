@@ -1,7 +1,9 @@
 -- Code whose counts, numbers and names are within their limits, and labels that fit it.
-use Rattle.std.specs.Prelude.{◌-◌, ◌≡◌, ◌≢◌, ◌≤◌, ◌<◌, ◌^◌, ℕ, true, List, length, slice_get, slice_index, Option, Some, None, All, EachIndex, AllPairs, Contains, ℤ, pos, negsuc, ⊤}
+use Rattle.std.specs.Prelude.{◌-◌, ◌≡◌, ◌≢◌, ◌≤◌, ◌<◌, ◌^◌, ℕ, true, List, length, slice_get, slice_index, Option}
+use Rattle.std.specs.Prelude.{Some, None, All, EachIndex, AllPairs, Contains, ℤ, pos, negsuc, ⊤}
 use Rattle.std.specs.Char.{is_ascii_alphabetic}
-use Rattle.pb_base.specs.declared.limits.TheConstants.{MAX_AMOUNT, MAX_ARMS, MAX_FORK, MAX_INTEGERS, MAX_LINE, MAX_NAME, MAX_PAIRS, MAX_PLACES, MAX_PROCESSES, MAX_RESOURCES}
+use Rattle.pb_base.specs.declared.limits.TheConstants.{MAX_AMOUNT, MAX_ARMS, MAX_FORK, MAX_INTEGERS, MAX_LINE}
+use Rattle.pb_base.specs.declared.limits.TheConstants.{MAX_NAME, MAX_PAIRS, MAX_PLACES, MAX_PROCESSES, MAX_RESOURCES}
 use Rattle.pb_base.specs.Bundle.{IsDistinct}
 use Rattle.pb_base.specs.Steppers.{Bundle}
 use Rattle.pb_base.specs.Tables.{HasWidth}

@@ -12,10 +12,12 @@ use Rattle.pb_names.specs.Source.{GiveBack, Arm, Doing, Waiting, Ended}
 use Rattle.pb_names.specs.Source.{all_ended, ArmStep, Goes, Breaks, Ends, step_items, step_arm, put}
 use Rattle.pb_names.specs.Source.{SourceProcess, settle, step_run}
 use Rattle.pb_names.specs.Claims.{join}
+use Rattle.pb_names.proofs.Holdings.{ended_held}
+use Rattle.pb_names.proofs.ArmNumbers.{Mine}
 use Rattle.pb_code.specs.Code.{CodeProcess}
 use Rattle.pb_codegen.proofs.WriterLines.{Listing}
-use Rattle.pb_codegen.proofs.SimulationShapes.{ended_held, IsFree, Frees, step_frees}
-use Rattle.pb_codegen.proofs.SimulationTrees.{Mine, outside, Located, locate}
+use Rattle.pb_codegen.proofs.SimulationShapes.{IsFree, Frees, step_frees}
+use Rattle.pb_codegen.proofs.SimulationTrees.{outside, Located, locate}
 use Rattle.pb_codegen.proofs.SimulationProcesses.{RunAlike}
 use Rattle.pb_codegen.proofs.SimulationPauses.{nowhere}
 

@@ -10,6 +10,7 @@ use Rattle.pb_base.specs.declared.pick.Pick.{Pick}
 use Rattle.pb_base.specs.declared.event.Event.{Event}
 use Rattle.pb_base.specs.Steppers.{Bank, Bundle, Effect, Takes, Faults, loans_after, State, Move, moved}
 use Rattle.pb_base.specs.Steppers.{move_of, Makes, opening}
+use Rattle.pb_base.proofs.Lists.{get_mapped}
 use Rattle.pb_names.specs.Program.{Process, AllWellNumbered}
 use Rattle.pb_names.specs.Source.{Arm, SourceProcess, step_run, source_step, source_process}
 use Rattle.pb_names.specs.Claims.{IsClaim, FreeRun, at_start, and_then, held, start_of}
@@ -17,13 +18,13 @@ use Rattle.pb_code.specs.Code.{CodeProcess, code_process}
 use Rattle.pb_verifier.proofs.States.{slice_set_same, slice_set_other, lent_there}
 use Rattle.pb_codegen.specs.Correct.{generated}
 use Rattle.pb_codegen.proofs.SimulationPlaces.{listing_of}
-use Rattle.pb_codegen.proofs.SimulationShapes.{SameArm, same_arm, same_arm_trans, same_arm_sym, step_same, held_same, IsFree}
+use Rattle.pb_codegen.proofs.SimulationShapes.{SameArm, same_arm, same_arm_trans, same_arm_sym, step_same, held_same}
+use Rattle.pb_codegen.proofs.SimulationShapes.{IsFree}
 use Rattle.pb_codegen.proofs.SimulationProcesses.{RunAlike}
 use Rattle.pb_codegen.proofs.ClaimsFreeSteps.{RunFrees, run_frees, located}
 use Rattle.pb_codegen.proofs.ClaimsLoans.{lent_here}
 use Rattle.pb_codegen.proofs.SimulationRuns.{StatesAlike, AtProcess, absent, present, at_process, opening_alike}
 use Rattle.pb_codegen.proofs.SimulationBack.{chain_at, catch_up}
-use Rattle.pb_names.proofs.Wholes.{made_from}
 use Rattle.pb_verifier.proofs.Threads.{taken, given}
 
 -- ---- all processes
@@ -249,7 +250,7 @@ starts_kept bank program h = record {
   beside = opening bank (map code_process (generated program));
   alike = opening_alike bank program h;
   lent = λ p process sp run in_program in_state runs.
-      let g = made_from source_process program p sp in_state in
+      let g = get_mapped source_process program p sp in_state in
       let same : Some g.0 ≡ Some process = sym g.1 ∙ in_program in
       let same' : g.0 ≡ process = cc in
       let sp_is : source_process process ≡ sp = ap source_process (sym same') ∙ g.2 in
@@ -260,7 +261,7 @@ starts_kept bank program h = record {
         subst (λ x. SameArm x (start_of process)) run_is' (same_arm (start_of process)),
         λ r. let z = zero_amount (length bank.capital) (map source_process program) p r in omega (arith, z),
       );
-  covers = λ p sp in_state. let g = made_from source_process program p sp in_state in (g.0, g.1);
+  covers = λ p sp in_state. let g = get_mapped source_process program p sp in_state in (g.0, g.1);
 }
 
 -- in every state that the source reaches

@@ -9,6 +9,7 @@ use Rattle.std.proofs.lemmas.Option.{slice_get_within}
 use Rattle.pb_base.specs.declared.event.Event.{Event}
 use Rattle.pb_base.specs.declared.pick.Pick.{Pick}
 use Rattle.pb_base.specs.Steppers.{Bank, Table, State, Move, Makes, loans_after, opening}
+use Rattle.pb_base.proofs.Lists.{get_mapped}
 use Rattle.pb_tree.specs.Syntax.{ProgramSyntax}
 use Rattle.pb_names.specs.Meaning.{AreClaims}
 use Rattle.pb_names.specs.Program.{Resource, Program, AllWellNumbered, capital_of}
@@ -19,7 +20,8 @@ use Rattle.pb_code.specs.Code.{CodeProcess, ProcessCode, code_process}
 use Rattle.pb_verifier.proofs.States.{code_move}
 use Rattle.pb_codegen.specs.Correct.{generated}
 use Rattle.pb_codegen.specs.Generate.{process_code}
-use Rattle.pb_codegen.specs.SourceBehaviour.{bank_with, SourceReaches, SourceAsksWithin, SourceIsSafe, SourceIsWellFormed}
+use Rattle.pb_codegen.specs.SourceBehaviour.{bank_with, SourceReaches, SourceAsksWithin, SourceIsSafe}
+use Rattle.pb_codegen.specs.SourceBehaviour.{SourceIsWellFormed}
 use Rattle.pb_codegen.proofs.VerifiedProcesses.{well_numbered, small_capital}
 use Rattle.pb_codegen.proofs.ClaimsOnAll.{all_claims}
 use Rattle.pb_codegen.proofs.SimulationBack.{chain_at, catch_up}
@@ -31,7 +33,6 @@ use Rattle.pb_codegen.proofs.SimulationRuns.{StatesAlike, at_process, opening_al
 use Rattle.pb_codegen.proofs.ClaimsSafety.{IsSound, IsFairBank, sound_after, sound_opening}
 use Rattle.pb_codegen.proofs.VerifiedBundles.{AsksTidily, IsTidyEffect, asks_tidily, step_tidy}
 use Rattle.pb_names.proofs.Holds.{zip_at}
-use Rattle.pb_names.proofs.Wholes.{made_from}
 
 module _ (tree : ProgramSyntax) (program : Program) (claims : Table) (h : Resolves tree program) where
   abbrev bank : Bank
@@ -57,7 +58,7 @@ module _ (tree : ProgramSyntax) (program : Program) (claims : Table) (h : Resolv
   tidy_code : (p : ℕ) (code : ProcessCode) → slice_get (generated program.processes) p ≡ Some code
       → EachInstr (AsksTidily (length (capital_of program))) code.instrs
   tidy_code p code at =
-      let w = made_from process_code program.processes p code at in
+      let w = get_mapped process_code program.processes p code at in
       let resources = resource_names program in
       let r = zip_at (ResolvesProcess resources) tree.processes program.processes p w.0 h.processes w.1 in
       let n : length resources ≡ length (capital_of program) =

@@ -16,7 +16,6 @@ use Rattle.pb_base.proofs.BankerLaws.{fewer_loans_stay_safe}
 use Rattle.pb_base.proofs.Groups.{range_below, sum_by-zero_on}
 use Rattle.pb_base.proofs.LoanRows.{amount_in-le, get_or-lend, length-give_back, length-lend}
 use Rattle.pb_base.proofs.Rows.{with_row, IsWellFormed-with_row, HasFewerLoans-with_row}
-use Rattle.pb_verifier.proofs.PeakTables.{replicate_read}
 use Rattle.pb_codegen.proofs.ClaimsLoans.{give_back_le}
 use Rattle.pb_codegen.proofs.VerifiedBundles.{IsTidy, IsTidyEffect}
 use Rattle.pb_verifier.proofs.LoansWithinClaims.{zero_loans}

@@ -20,7 +20,8 @@ use Rattle.pb_codegen.specs.Lines.{stmt_source_line, block_line, stmt_lines, blo
 use Rattle.pb_codegen.proofs.WriterLines.{Listing, line_at, LinesAt, lines_front, lines_back, length-stmt_lines}
 use Rattle.pb_codegen.proofs.WriterLines.{length-block_lines, length-same_lines}
 use Rattle.pb_code.proofs.Chains.{after_skip}
-use Rattle.pb_codegen.proofs.SimulationExpressions.{HasAt, has_front, has_back, Left, whole, Progress, finished, pushes}
+use Rattle.pb_codegen.proofs.SimulationExpressions.{HasAt, has_front, has_back, Left, whole, Progress, finished}
+use Rattle.pb_codegen.proofs.SimulationExpressions.{pushes}
 use Rattle.pb_codegen.proofs.SimulationExpressions.{works, traps, progress}
 
 abbrev pub entry : Listing → ℕ → ℕ

@@ -8,7 +8,9 @@ use Rattle.pb_base.specs.declared.operators.UnaryOp.{UnaryOp}
 use Rattle.pb_base.specs.declared.operators.BinaryOp.{BinaryOp}
 use Rattle.pb_base.specs.Steppers.{Silent}
 use Rattle.pb_names.specs.Program.{Expr, Number, Variable, Unary, Binary}
-use Rattle.pb_names.specs.Source.{Becomes, Fails, from_result, inside, step_expr}
+use Rattle.pb_names.specs.Source.{Becomes, Fails, from_result, step_expr}
+use Rattle.pb_names.proofs.ExpressionSteps.{unary_becomes, unary_fails, left_becomes, left_fails, right_becomes}
+use Rattle.pb_names.proofs.ExpressionSteps.{right_fails}
 use Rattle.pb_code.specs.Code.{Instr, Push, Load, Compute1, Compute2, Live, Runs, Traps, with_result, act}
 use Rattle.pb_code.specs.Code.{is_skip}
 use Rattle.pb_codegen.specs.Generate.{expr_code}
@@ -58,50 +60,6 @@ pub data Progress (vars : List ℤ) (e : Expr) (code : List Instr) (stack : List
       → step_expr vars e ≡ Fails kind
       → ((p : ℕ) (below : List ℤ) → act vars i p (stack ++ below) ≡ Some (Traps kind))
       → Progress vars e code stack
-
--- ---- the source's step under an operator
-
-unary_becomes : (vars : List ℤ) (op : UnaryOp) (a a' : Expr) → step_expr vars a ≡ Becomes a'
-    → step_expr vars (Unary op a) ≡ Becomes (Unary op a')
-unary_becomes vars op (Number v) a' h = cc
-unary_becomes vars op (Variable x) a' h = ap (inside (Unary op)) h
-unary_becomes vars op (Unary o b) a' h = ap (inside (Unary op)) h
-unary_becomes vars op (Binary o b c) a' h = ap (inside (Unary op)) h
-
-unary_fails : (vars : List ℤ) (op : UnaryOp) (a : Expr) (kind : FaultKind) → step_expr vars a ≡ Fails kind
-    → step_expr vars (Unary op a) ≡ Fails kind
-unary_fails vars op (Number v) kind h = cc
-unary_fails vars op (Variable x) kind h = ap (inside (Unary op)) h
-unary_fails vars op (Unary o b) kind h = ap (inside (Unary op)) h
-unary_fails vars op (Binary o b c) kind h = ap (inside (Unary op)) h
-
-left_becomes : (vars : List ℤ) (op : BinaryOp) (a a' b : Expr) → step_expr vars a ≡ Becomes a'
-    → step_expr vars (Binary op a b) ≡ Becomes (Binary op a' b)
-left_becomes vars op (Number v) a' b h = cc
-left_becomes vars op (Variable x) a' b h = ap (inside (λ c. Binary op c b)) h
-left_becomes vars op (Unary o c) a' b h = ap (inside (λ c. Binary op c b)) h
-left_becomes vars op (Binary o c d) a' b h = ap (inside (λ c. Binary op c b)) h
-
-left_fails : (vars : List ℤ) (op : BinaryOp) (a b : Expr) (kind : FaultKind) → step_expr vars a ≡ Fails kind
-    → step_expr vars (Binary op a b) ≡ Fails kind
-left_fails vars op (Number v) b kind h = cc
-left_fails vars op (Variable x) b kind h = ap (inside (λ c. Binary op c b)) h
-left_fails vars op (Unary o c) b kind h = ap (inside (λ c. Binary op c b)) h
-left_fails vars op (Binary o c d) b kind h = ap (inside (λ c. Binary op c b)) h
-
-right_becomes : (vars : List ℤ) (op : BinaryOp) (v : ℤ) (b b' : Expr) → step_expr vars b ≡ Becomes b'
-    → step_expr vars (Binary op (Number v) b) ≡ Becomes (Binary op (Number v) b')
-right_becomes vars op v (Number w) b' h = cc
-right_becomes vars op v (Variable x) b' h = ap (inside (Binary op (Number v))) h
-right_becomes vars op v (Unary o c) b' h = ap (inside (Binary op (Number v))) h
-right_becomes vars op v (Binary o c d) b' h = ap (inside (Binary op (Number v))) h
-
-right_fails : (vars : List ℤ) (op : BinaryOp) (v : ℤ) (b : Expr) (kind : FaultKind)
-    → step_expr vars b ≡ Fails kind → step_expr vars (Binary op (Number v) b) ≡ Fails kind
-right_fails vars op v (Number w) kind h = cc
-right_fails vars op v (Variable x) kind h = ap (inside (Binary op (Number v))) h
-right_fails vars op v (Unary o c) kind h = ap (inside (Binary op (Number v))) h
-right_fails vars op v (Binary o c d) kind h = ap (inside (Binary op (Number v))) h
 
 -- ---- progress
 

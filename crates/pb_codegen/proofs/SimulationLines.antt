@@ -12,10 +12,11 @@ use Rattle.pb_codegen.specs.Lines.{process_lines}
 use Rattle.pb_codegen.specs.Correct.{generated, LinesAgree, IsFollowed}
 use Rattle.pb_base.specs.Steppers.{IsFinished}
 use Rattle.pb_names.specs.Source.{source_over}
+use Rattle.pb_names.proofs.ArmNumbers.{Mine}
 use Rattle.pb_code.specs.Code.{code_over}
 use Rattle.pb_codegen.proofs.WriterLines.{Listing, line_at}
 use Rattle.pb_codegen.proofs.SimulationArms.{from_line}
-use Rattle.pb_codegen.proofs.SimulationTrees.{Shows, Mine, locate}
+use Rattle.pb_codegen.proofs.SimulationTrees.{Shows, locate}
 use Rattle.pb_verifier.proofs.Threads.{thread_past}
 use Rattle.pb_codegen.proofs.SimulationProcesses.{Alike, RunAlike}
 use Rattle.pb_codegen.proofs.SimulationPlaces.{listing_of}

@@ -3,11 +3,11 @@ use Rattle.std.proofs.Common.{◌≡◌, ℕ, suc, ◌<◌, List, [], ◌∷◌,
 use Rattle.std.proofs.Common.{subst, arith}
 use Rattle.pb_base.specs.Banker.{row_of, cell}
 use Rattle.pb_base.specs.Steppers.{Table}
+use Rattle.pb_base.proofs.Lists.{get_some}
 use Rattle.pb_names.specs.Program.{Program, AllWellNumbered, capital_of}
 use Rattle.pb_names.specs.Source.{SourceCanUnder}
 use Rattle.pb_names.specs.Meaning.{AreClaims}
 use Rattle.pb_claims.proofs.Bounds.{claim-unique}
-use Rattle.pb_verifier.proofs.LoansWithinClaims.{get_some}
 use Rattle.pb_codegen.specs.Generate.{program_code}
 use Rattle.pb_codegen.specs.Correct.{MeansTheSame}
 use Rattle.pb_codegen.proofs.SimulationBack.{implements}

@@ -13,11 +13,12 @@ use Rattle.pb_code.specs.Code.{CodeProcess, thread}
 use Rattle.pb_codegen.specs.Generate.{expr_code}
 use Rattle.pb_codegen.proofs.SimulationExpressions.{Left, unpushed, pushed, unloaded, under, on_left, on_right}
 use Rattle.pb_names.specs.HeadLines.{first_line}
+use Rattle.pb_names.proofs.ArmNumbers.{Mine}
 use Rattle.pb_codegen.proofs.WriterLines.{Listing}
 use Rattle.pb_code.proofs.Chains.{after_skip, Stops, Skips, Chain}
 use Rattle.pb_codegen.proofs.SimulationArms.{Has, Reaches, ItemAt, assign, print, choice, loop, hold, give}
 use Rattle.pb_codegen.proofs.SimulationArms.{parallel, StandsAt, at_end, at_item}
-use Rattle.pb_codegen.proofs.SimulationTrees.{Shows, Mine, outside, locate}
+use Rattle.pb_codegen.proofs.SimulationTrees.{Shows, outside, locate}
 use Rattle.pb_codegen.proofs.SimulationProcesses.{Alike, RunAlike}
 
 abbrev Pause : Listing → ℕ → Type 0

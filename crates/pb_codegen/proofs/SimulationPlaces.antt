@@ -5,6 +5,7 @@ use Rattle.std.proofs.Common.{length-append}
 use Rattle.std.specs.Prelude.{slice_get}
 use Rattle.std.proofs.Math.ListN.{get_or-map}
 use Rattle.std.proofs.lemmas.List.{length-map}
+use Rattle.pb_base.proofs.Lists.{get_left}
 use Rattle.pb_names.specs.Program.{Stmt, Assign, Print, If, While, Hold, Parbegin, Block, Skip, Then, Arms}
 use Rattle.pb_names.specs.Program.{NoArm, AndArm, count, arms_list, arms_in, arms_in_stmt, arms_in_arms}
 use Rattle.pb_names.specs.Program.{IsNumbered, IsNumberedStmt, AreNumbered, Process, arms_of, IsWellNumbered}
@@ -21,12 +22,6 @@ use Rattle.pb_codegen.proofs.SimulationNumbers.{owns_block}
 use Rattle.pb_codegen.proofs.SimulationProcesses.{Alike, arm_stands}
 
 -- ---- lists
-
-get_front : {X : Type 0} (xs ys : List X) (i : ℕ) (x : X) → slice_get xs i ≡ Some x
-    → slice_get (xs ++ ys) i ≡ Some x
-get_front [] ys i x h = cc
-get_front (y ∷ xs) ys zero x h = h
-get_front (y ∷ xs) ys (suc i) x h = get_front xs ys i x h
 
 pub get_back : {X : Type 0} (xs ys : List X) (i : ℕ) → slice_get (xs ++ ys) (length xs + i) ≡ slice_get ys i
 get_back [] ys i = ap (slice_get ys) (omega arith)
@@ -108,7 +103,7 @@ abbrev Segment : Listing → ℕ → List Block → Type 0
 Segment code n arms = (i : ℕ) (arm : Block) → slice_get arms i ≡ Some arm → At code (n + i) arm
 
 segment_front : (code : Listing) (n : ℕ) (xs ys : List Block) → Segment code n (xs ++ ys) → Segment code n xs
-segment_front code n xs ys s i arm e = s i arm (get_front xs ys i arm e)
+segment_front code n xs ys s i arm e = s i arm (get_left xs ys i arm e)
 
 segment_back : (code : Listing) (n : ℕ) (xs ys : List Block) → Segment code n (xs ++ ys)
     → Segment code (n + length xs) ys

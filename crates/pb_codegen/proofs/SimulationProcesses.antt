@@ -8,13 +8,15 @@ use Rattle.std.proofs.lemmas.Bool.{cases_lt}
 use Rattle.std.proofs.Math.ListN.{get_or-map}
 use Rattle.pb_base.specs.Steppers.{Effect, Silent, Faults, ending}
 use Rattle.pb_names.specs.Program.{Block, Arms, NoArm, AndArm, count, arms_in, arms_in_arms, AreNumbered}
-use Rattle.pb_names.specs.Source.{Item, items_of, Arm, Doing, Waiting, Ended, Running, Nothing}
+use Rattle.pb_names.specs.Source.{Item, items_of, Arm, Doing, Waiting, Ended, Running, Nothing, running_arms}
 use Rattle.pb_names.specs.Source.{Beside, begin, is_ended, all_ended, ArmStep, Goes, step_arm, find, put}
 use Rattle.pb_names.specs.Source.{SourceProcess, settle, step_run}
+use Rattle.pb_names.proofs.ArmNumbers.{Mine, running_begin}
 use Rattle.pb_code.specs.Code.{Instr, End, Join, Thread, Idle, Live, CodeProcess, thread, ThreadStep}
 use Rattle.pb_code.specs.Code.{act, is_over, all_over, launch, dismiss, apply_step, step_thread, step_process}
 use Rattle.pb_code.specs.Code.{is_skip, instr_skips, skips_at, is_at_skip}
-use Rattle.pb_verifier.proofs.Threads.{thread_past, length-launch, launch_out, launch_in, length-dismiss, dismiss_out, dismiss_in}
+use Rattle.pb_verifier.proofs.Threads.{thread_past, length-launch, launch_out, launch_in, length-dismiss, dismiss_out}
+use Rattle.pb_verifier.proofs.Threads.{dismiss_in}
 use Rattle.pb_codegen.specs.Generate.{block_code, arm_code}
 use Rattle.pb_codegen.specs.Lines.{block_lines}
 use Rattle.pb_codegen.proofs.WriterLines.{Listing, line_at, lines_front, lines_back, length-block_lines}
@@ -22,7 +24,8 @@ use Rattle.pb_code.proofs.Chains.{after_skip, Chain, chain_on}
 use Rattle.pb_codegen.proofs.SimulationExpressions.{has_front, has_back}
 use Rattle.pb_codegen.proofs.SimulationArms.{entry, Has, Lines, Placed, ArmsPlaced, StandsFrom, at_end}
 use Rattle.pb_codegen.proofs.SimulationArms.{block_stands, Follows, skips, goes, breaks, forks, ends, follows}
-use Rattle.pb_codegen.proofs.SimulationTrees.{size, AreIdle, Owns, Shows, AllShow, Mine, all_show_le, outside, Located}
+use Rattle.pb_codegen.proofs.SimulationTrees.{AreIdle, Owns, Shows, AllShow, all_show_le, outside}
+use Rattle.pb_codegen.proofs.SimulationTrees.{Located}
 use Rattle.pb_codegen.proofs.SimulationTrees.{locate}
 use Rattle.pb_codegen.proofs.SimulationNumbers.{owns_block, keeps}
 
@@ -61,10 +64,6 @@ begin_shows code threads n lo hi (AndArm arm arms) placed numbered u live idle =
       begin_shows code threads (n + 1) mid hi arms placed.3 numbered.1 len (λ b l v. live b (omega arith) (omega arith)) (λ b l v. idle b (omega arith) v),
     )
 
-size_begin : (arms : Arms) → size (begin arms) ≡ count arms
-size_begin NoArm = refl
-size_begin (AndArm arm arms) = ap suc (size_begin arms)
-
 over_ended : (code : Listing) (threads : List Thread) (n lo hi : ℕ) (arm : Arm)
     → Shows code threads n lo hi arm → is_over (thread threads n) ≡ is_ended arm
 over_ended code threads n lo hi (Doing items) h = ap is_over h.2
@@ -72,10 +71,10 @@ over_ended code threads n lo hi (Waiting line first arms rest) h = ap is_over h.
 over_ended code threads n lo hi Ended h = ap is_over h.0
 
 all_over_ended : (code : Listing) (threads : List Thread) (n lo hi : ℕ) (arms : Running)
-    → AllShow code threads n lo hi arms → all_over threads n (size arms) ≡ all_ended arms
+    → AllShow code threads n lo hi arms → all_over threads n (running_arms arms) ≡ all_ended arms
 all_over_ended code threads n lo hi Nothing h = refl
 all_over_ended code threads n lo hi (Beside arm arms) h =
-    ap (λ b. b && all_over threads (n + 1) (size arms)) (over_ended code threads n lo h.0 arm h.1)
+    ap (λ b. b && all_over threads (n + 1) (running_arms arms)) (over_ended code threads n lo h.0 arm h.1)
     ∙ ap (λ b. is_ended arm && b) (all_over_ended code threads (n + 1) h.0 hi arms h.2)
 
 ended_idle : (code : Listing) (threads : List Thread) (n lo hi : ℕ) (arms : Running)
@@ -179,7 +178,7 @@ module _ (code : Listing) (cp : CodeProcess) (a : ℕ) where
           let len : length mid ≡ length cp.threads = length-set cp.threads a (Live p []) in
           let other : (b : ℕ) → (b < first) ⊎ (first + count arms ≤ b) → (b ≡ a → ⊥) → thread threads' b ≡ thread cp.threads b =
           λ b o ne. launch_out code.entries mid first (count arms) b o ∙ get_or-set_other cp.threads a b (Live p []) Idle ne in
-          let e : count arms ≡ size (begin arms) = sym (size_begin arms) in
+          let e : count arms ≡ running_arms (begin arms) = sym (running_begin arms) in
           settled cp.vars threads' cp.faulted (Waiting line first (begin arms) rest) l alive (omega arith)
           (length-launch code.entries mid first (count arms) ∙ len)
           (λ b out. other b (apart b first (count arms) out (omega arith) (omega arith)) (λ q. out (inl q))) (
@@ -206,7 +205,7 @@ module _ (code : Listing) (cp : CodeProcess) (a : ℕ) where
           line first arms rest)) → all_ended arms ≡ true → Alike code (record {
             vars = cp.vars;
             threads = dismiss (set
-                cp.threads a (Live (h.0 + 1) [])) first (size arms);
+                cp.threads a (Live (h.0 + 1) [])) first (running_arms arms);
             faulted = cp.faulted;
           }) (record {
             vars = cp.vars;
@@ -216,26 +215,26 @@ module _ (code : Listing) (cp : CodeProcess) (a : ℕ) where
       joined line first arms rest h ended =
           let t = Live (h.0 + 1) [] in
           let low_first : l.low ≤ first = h.5 in
-          let enough = all_show_le code cp.threads first (first + size arms) l.high arms h.7 in
+          let enough = all_show_le code cp.threads first (first + running_arms arms) l.high arms h.7 in
           let less : a < l.low = l.before in
           let bound : l.high ≤ length cp.threads = l.under in
           let mid = set cp.threads a t in
-          let threads' = dismiss mid first (size arms) in
+          let threads' = dismiss mid first (running_arms arms) in
           let len : length mid ≡ length cp.threads = length-set cp.threads a t in
-          let other : (b : ℕ) → (b < first) ⊎ (first + size arms ≤ b) → (b ≡ a → ⊥) → thread threads' b ≡ thread cp.threads b =
-          λ b o ne. dismiss_out mid first (size arms) b o ∙ get_or-set_other cp.threads a b t Idle ne in
-          settled cp.vars threads' cp.faulted (Doing rest) l alive (omega arith) (length-dismiss mid first (size arms) ∙ len)
-          (λ b out. other b (apart b first (size arms) out (omega arith) enough) (λ q. out (inl q))) (
+          let other : (b : ℕ) → (b < first) ⊎ (first + running_arms arms ≤ b) → (b ≡ a → ⊥) → thread threads' b ≡ thread cp.threads b =
+          λ b o ne. dismiss_out mid first (running_arms arms) b o ∙ get_or-set_other cp.threads a b t Idle ne in
+          settled cp.vars threads' cp.faulted (Doing rest) l alive (omega arith) (length-dismiss mid first (running_arms arms) ∙ len)
+          (λ b out. other b (apart b first (running_arms arms) out (omega arith) enough) (λ q. out (inl q))) (
             h.0 + 1,
             [],
-            dismiss_out mid first (size arms) a (inl (omega arith)) ∙ get_or-set_same cp.threads a t Idle within,
+            dismiss_out mid first (running_arms arms) a (inl (omega arith)) ∙ get_or-set_same cp.threads a t Idle within,
             h.3,
             h.4,
             omega arith,
             λ b lo u. ⊎_elim (λ q. other b (inl q) (λ z. omega arith) ∙ h.6 b lo q)
-                (λ q. ⊎_elim (λ r. dismiss_in mid first (size arms) b q r (omega arith))
-                (λ r. other b (inr r) (λ z. omega arith) ∙ ended_idle code cp.threads first (first + size arms) l.high
-                arms h.7 ended b r u) (cases_lt b (first + size arms)))
+                (λ q. ⊎_elim (λ r. dismiss_in mid first (running_arms arms) b q r (omega arith))
+                (λ r. other b (inr r) (λ z. omega arith) ∙ ended_idle code cp.threads first (first + running_arms arms) l.high
+                arms h.7 ended b r u) (cases_lt b (first + running_arms arms)))
                 (cases_lt b first),
           )
         where
@@ -284,34 +283,34 @@ module _ (code : Listing) (cp : CodeProcess) (a : ℕ) where
           → (h : Shows code cp.threads a l.low l.high (Waiting line first arms rest))
           → StepsAlike code cp (record { vars = cp.vars; run = Some root }) a
       waiting line first arms rest true e f h =
-          let over = all_over_ended code cp.threads first (first + size arms) l.high arms h.7 ∙ e in
+          let over = all_over_ended code cp.threads first (first + running_arms arms) l.high arms h.7 ∙ e in
           let joins : Option (CodeProcess × Effect) = Some (
             record {
               vars = cp.vars;
               threads = dismiss (set cp.threads
-                  a (Live (h.0 + 1) [])) first (size arms);
+                  a (Live (h.0 + 1) [])) first (running_arms arms);
               faulted = cp.faulted;
             },
             Silent,
           ) in
-          both _ _ Silent (is_skipping h.0 [] (Join first (size arms)) false h.1 h.2 refl)
-          (code_steps h.0 [] (Join first (size arms)) _ h.1 h.2 refl ∙ ap (λ o. cond o joins None) over)
+          both _ _ Silent (is_skipping h.0 [] (Join first (running_arms arms)) false h.1 h.2 refl)
+          (code_steps h.0 [] (Join first (running_arms arms)) _ h.1 h.2 refl ∙ ap (λ o. cond o joins None) over)
           (ap (option_and_then (λ arm. option_map (settle cp.vars root a) (step_arm cp.vars arm))) f ∙ ap (λ o.
           option_map (settle cp.vars root a) (cond o (Some (Goes cp.vars (Doing rest) Silent)) None)) e)
           (joined line first arms rest h e)
       waiting line first arms rest false e f h =
-          let over = all_over_ended code cp.threads first (first + size arms) l.high arms h.7 ∙ e in
+          let over = all_over_ended code cp.threads first (first + running_arms arms) l.high arms h.7 ∙ e in
           let joins : Option (CodeProcess × Effect) = Some (
             record {
               vars = cp.vars;
               threads = dismiss (set cp.threads
-                  a (Live (h.0 + 1) [])) first (size arms);
+                  a (Live (h.0 + 1) [])) first (running_arms arms);
               faulted = cp.faulted;
             },
             Silent,
           ) in
           neither
-          (code_steps h.0 [] (Join first (size arms)) _ h.1 h.2 refl ∙ ap (λ o. cond o joins None) over)
+          (code_steps h.0 [] (Join first (running_arms arms)) _ h.1 h.2 refl ∙ ap (λ o. cond o joins None) over)
           (ap (option_and_then (λ arm. option_map (settle cp.vars root a) (step_arm cp.vars arm))) f ∙ ap (λ o.
           option_map (settle cp.vars root a) (cond o (Some (Goes cp.vars (Doing rest) Silent)) None)) e)
 

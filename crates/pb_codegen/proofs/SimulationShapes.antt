@@ -1,12 +1,11 @@
 -- Runs that are the same except for what is left of their expressions.
 use Rattle.std.proofs.Common.{◌≡◌, ◌⊎◌, inl, inr, ℕ, ◌+◌, ℤ, Bool, true, false, cond, ◌&&◌, List, [], ◌∷◌}
-use Rattle.std.proofs.Common.{◌++◌, refl, sym, ap, ◌∙◌, arith, append-nil}
+use Rattle.std.proofs.Common.{◌++◌, refl, sym, ap, ◌∙◌, arith}
 use Rattle.pb_base.specs.Arithmetic.{is_zero}
 use Rattle.pb_base.specs.Steppers.{Bundle}
-use Rattle.pb_base.specs.Bundle.{amount_in}
-use Rattle.pb_base.specs.Steppers.{Effect, Silent, Prints, Takes, Returns, Faults, Finishes}
+use Rattle.pb_base.specs.Steppers.{Effect, Silent}
 use Rattle.pb_names.specs.Program.{Expr, Block}
-use Rattle.pb_names.specs.Program.{Arms, NoArm, AndArm}
+use Rattle.pb_names.specs.Program.{Arms}
 use Rattle.pb_names.specs.Source.{ExprStep, Is, Becomes, Fails, step_expr, Item}
 use Rattle.pb_names.specs.Source.{GiveBack, items_of, Arm, Doing, Waiting, Ended}
 use Rattle.pb_names.specs.Source.{Running, Nothing, Beside, begin, is_ended, all_ended, ArmStep, Goes, Breaks}
@@ -15,7 +14,7 @@ use Rattle.pb_names.specs.Claims.{FreeListStep, to_end, past_assign, past_print,
 use Rattle.pb_names.specs.Claims.{into_loop, into_hold, past_give, into_arms, FreeStep, in_list, join}
 use Rattle.pb_names.specs.Claims.{in_arms, FreeStepAmong, in_first, in_later, held_in, held_in_list, held}
 use Rattle.pb_names.specs.Claims.{held_among}
-use Rattle.pb_claims.proofs.NoMore.{block_held}
+use Rattle.pb_names.proofs.Holdings.{block_held, begin_held}
 use Rattle.pb_verifier.proofs.Threads.{taken, given}
 
 pub data SameItem : Item → Item → Type 0 where
@@ -217,19 +216,6 @@ mutual
   running_held_same r xs ys same_nothing = refl
   running_held_same r xs ys (same_beside a b as' bs' h g) =
       let p = held_same r a b h in let q = running_held_same r as' bs' g in omega (arith, p, q)
-
-pub begin_held : (r : ℕ) (arms : Arms) → held_among r (begin arms) ≡ 0
-begin_held r NoArm = refl
-begin_held r (AndArm arm arms) =
-    let a = begin_held r arms in
-    let e = block_held r arm [] in
-    let n : held_in_list r (items_of arm) ≡ 0 = ap (held_in_list r) (sym (append-nil (items_of arm))) ∙ e in omega (arith, a, n)
-
-pub ended_held : (r : ℕ) (arms : Running) → all_ended arms ≡ true → held_among r arms ≡ 0
-ended_held r Nothing e = refl
-ended_held r (Beside (Doing items) arms) e = cc
-ended_held r (Beside (Waiting line first inner rest) arms) e = cc
-ended_held r (Beside Ended arms) e = let a = ended_held r arms e in omega (arith, a)
 
 -- ---- a step of the source is a free step, or changes only what is left of an expression
 

@@ -5,19 +5,16 @@ use Rattle.std.proofs.Common.{◌∷◌, length, Some, None, refl, sym, ap, ◌�
 use Rattle.std.specs.Prelude.{slice_get}
 use Rattle.std.proofs.lemmas.Bool.{cases_lt}
 use Rattle.pb_names.specs.Program.{Block, count, arms_in, arms_in_arms, IsNumbered, AreNumbered}
-use Rattle.pb_names.specs.Source.{Item, GiveBack, Arm, Doing}
+use Rattle.pb_names.specs.Source.{Item, GiveBack, Arm, Doing, running_arms}
 use Rattle.pb_names.specs.Source.{Waiting, Ended, Running, Nothing, Beside, first_some, find, find_among, put}
 use Rattle.pb_names.specs.Source.{put_among}
 use Rattle.pb_code.specs.Code.{Join, Thread, Idle, Live, thread}
 use Rattle.pb_names.specs.Claims.{FreeStep, in_arms, FreeStepAmong, in_first, in_later, held, held_among}
+use Rattle.pb_names.proofs.ArmNumbers.{Mine, AllMine}
 use Rattle.pb_codegen.proofs.SimulationShapes.{SameArm, same_waiting, SameRunning, same_beside, same_items, same_arm}
 use Rattle.pb_codegen.proofs.SimulationShapes.{same_running}
 use Rattle.pb_codegen.proofs.WriterLines.{Listing, line_at}
 use Rattle.pb_codegen.proofs.SimulationArms.{StandsFrom}
-
-abbrev pub size : Running → ℕ
-size Nothing = 0
-size (Beside arm arms) = suc (size arms)
 
 abbrev pub AreIdle : List Thread → ℕ → ℕ → Type 0
 AreIdle threads lo hi = (a : ℕ) → lo ≤ a → a < hi → thread threads a ≡ Idle
@@ -47,8 +44,9 @@ abbrev mutual
   Shows code threads n lo hi (Doing items) =
       (p : ℕ) × (s : List ℤ) × (thread threads n ≡ Live p s) × StandsFrom code items p s × Owns lo hi items × (lo ≤ hi) × AreIdle threads lo hi
   Shows code threads n lo hi (Waiting line first arms rest) =
-      (p : ℕ) × (thread threads n ≡ Live p []) × (slice_get code.instrs p ≡ Some (Join first (size arms))) × StandsFrom code rest (p + 1) []
-      × Owns lo hi rest × (lo ≤ first) × AreIdle threads lo first × AllShow code threads first (first + size arms) hi arms × (line_at code p ≡ Some line)
+      (p : ℕ) × (thread threads n ≡ Live p []) × (slice_get code.instrs p ≡ Some (Join first (running_arms arms))) × StandsFrom code rest (p + 1) []
+      × Owns lo hi rest × (lo ≤ first) × AreIdle threads lo first
+      × AllShow code threads first (first + running_arms arms) hi arms × (line_at code p ≡ Some line)
   Shows code threads n lo hi Ended = (thread threads n ≡ Thread.Ended) × (lo ≤ hi) × AreIdle threads lo hi
 
   -- the arms n, n + 1 and so on
@@ -57,18 +55,12 @@ abbrev mutual
   AllShow code threads n lo hi (Beside arm arms) =
       (mid : ℕ) × Shows code threads n lo mid arm × AllShow code threads (n + 1) mid hi arms
 
-abbrev pub Mine : ℕ → ℕ → ℕ → ℕ → Type 0
-Mine n lo hi a = (a ≡ n) ⊎ ((lo ≤ a) × (a < hi))
-
-abbrev pub AllMine : ℕ → ℕ → ℕ → ℕ → ℕ → Type 0
-AllMine n k lo hi a = ((n ≤ a) × (a < n + k)) ⊎ ((lo ≤ a) × (a < hi))
-
 mutual
   pub shows_le : (code : Listing) (threads : List Thread) (n lo hi : ℕ) (arm : Arm)
       → Shows code threads n lo hi arm → lo ≤ hi
   shows_le code threads n lo hi (Doing items) h = h.5
   shows_le code threads n lo hi (Waiting line first arms rest) h =
-      let e = all_show_le code threads first (first + size arms) hi arms h.7 in omega (arith, e, h.5)
+      let e = all_show_le code threads first (first + running_arms arms) hi arms h.7 in omega (arith, e, h.5)
   shows_le code threads n lo hi Ended h = h.1
 
   pub all_show_le : (code : Listing) (threads : List Thread) (n lo hi : ℕ) (arms : Running)
@@ -106,7 +98,7 @@ mutual
   frame code threads threads' n lo hi (Doing items) h same =
       (h.0, h.1, same n (inl refl) ∙ h.2, h.3, h.4, h.5, idle_frame threads threads' lo hi h.6 (λ a l u. same a (inr (l, u))))
   frame code threads threads' n lo hi (Waiting line first arms rest) h same =
-      let le = all_show_le code threads first (first + size arms) hi arms h.7 in (
+      let le = all_show_le code threads first (first + running_arms arms) hi arms h.7 in (
         h.0,
         same n (inl refl) ∙ h.1,
         h.2,
@@ -114,7 +106,8 @@ mutual
         h.4,
         h.5,
         idle_frame threads threads' lo first h.6 (λ a l u. same a (inr (l, omega (arith, le)))),
-        all_frame code threads threads' first (first + size arms) hi arms h.7 (λ a m. same a (inr (inner_range first (size arms) hi lo a h.5 le m))),
+        all_frame code threads threads' first (first + running_arms arms) hi arms h.7
+            (λ a m. same a (inr (inner_range first (running_arms arms) hi lo a h.5 le m))),
         h.8,
       )
   frame code threads threads' n lo hi Ended h same =
@@ -122,7 +115,7 @@ mutual
 
   pub all_frame : (code : Listing) (threads threads' : List Thread) (n lo hi : ℕ) (arms : Running)
       → AllShow code threads n lo hi arms
-      → ((a : ℕ) → AllMine n (size arms) lo hi a → thread threads' a ≡ thread threads a)
+      → ((a : ℕ) → AllMine n (running_arms arms) lo hi a → thread threads' a ≡ thread threads a)
       → AllShow code threads' n lo hi arms
   all_frame code threads threads' n lo hi Nothing h same =
       (h.0, idle_frame threads threads' lo hi h.1 (λ a l u. same a (inr (l, u))))
@@ -130,8 +123,8 @@ mutual
       let le1 = shows_le code threads n lo h.0 arm h.1 in
       let le2 = all_show_le code threads (n + 1) h.0 hi arms h.2 in (
         h.0,
-        frame code threads threads' n lo h.0 arm h.1 (λ a m. same a (first_mine n (size arms) lo h.0 hi a le2 m)),
-        all_frame code threads threads' (n + 1) h.0 hi arms h.2 (λ a m. same a (later_mine n (size arms) lo h.0 hi a le1 m)),
+        frame code threads threads' n lo h.0 arm h.1 (λ a m. same a (first_mine n (running_arms arms) lo h.0 hi a le2 m)),
+        all_frame code threads threads' (n + 1) h.0 hi arms h.2 (λ a m. same a (later_mine n (running_arms arms) lo h.0 hi a le1 m)),
       )
 
 -- ---- an arm that isn't in the tree
@@ -151,30 +144,31 @@ mutual
       (if_other a n _ _ ne, λ new. if_other a n _ _ ne)
   outside code threads n lo hi (Waiting line first arms rest) a h out =
       let ne : a ≡ n → ⊥ = λ e. out (inl e) in
-      let le = all_show_le code threads first (first + size arms) hi arms h.7 in
-      let inner = all_outside code threads first (first + size arms) hi arms a h.7 (λ m. out (inr (inner_range first (size arms) hi lo a h.5 le m))) in
+      let le = all_show_le code threads first (first + running_arms arms) hi arms h.7 in
+      let inner = all_outside code threads first (first + running_arms arms) hi arms a h.7
+      (λ m. out (inr (inner_range first (running_arms arms) hi lo a h.5 le m))) in
       (if_other a n _ _ ne ∙ inner.0, λ new. if_other a n _ _ ne ∙ ap (λ r. Waiting line first r rest) (inner.1 new))
   outside code threads n lo hi Ended a h out =
       let ne : a ≡ n → ⊥ = λ e. out (inl e) in
       (if_other a n _ _ ne, λ new. if_other a n _ _ ne)
 
   all_outside : (code : Listing) (threads : List Thread) (n lo hi : ℕ) (arms : Running) (a : ℕ)
-      → AllShow code threads n lo hi arms → (AllMine n (size arms) lo hi a → ⊥)
+      → AllShow code threads n lo hi arms → (AllMine n (running_arms arms) lo hi a → ⊥)
       → (find_among a n arms ≡ None) × ((new : Arm) → put_among a new n arms ≡ arms)
   all_outside code threads n lo hi Nothing a h out = (refl, λ new. refl)
   all_outside code threads n lo hi (Beside arm arms) a h out =
       let le1 = shows_le code threads n lo h.0 arm h.1 in
       let le2 = all_show_le code threads (n + 1) h.0 hi arms h.2 in
       let one =
-      outside code threads n lo h.0 arm a h.1 (λ m. out (first_mine n (size arms) lo h.0 hi a le2 m)) in
-      let more = all_outside code threads (n + 1) h.0 hi arms a h.2 (λ m. out (later_mine n (size arms) lo h.0 hi a le1 m)) in (
+      outside code threads n lo h.0 arm a h.1 (λ m. out (first_mine n (running_arms arms) lo h.0 hi a le2 m)) in
+      let more = all_outside code threads (n + 1) h.0 hi arms a h.2 (λ m. out (later_mine n (running_arms arms) lo h.0 hi a le1 m)) in (
         ap (λ o. first_some o (find_among a (n + 1) arms)) one.0 ∙ more.0,
         λ new. ap (λ x. Beside x (put_among a new (n + 1) arms)) (one.1 new) ∙ ap (λ r. Beside arm r) (more.1 new),
       )
 
 -- ---- an arm that is in the tree
 
-put_size : (a : ℕ) (new : Arm) (n : ℕ) (arms : Running) → size (put_among a new n arms) ≡ size arms
+put_size : (a : ℕ) (new : Arm) (n : ℕ) (arms : Running) → running_arms (put_among a new n arms) ≡ running_arms arms
 put_size a new n Nothing = refl
 put_size a new n (Beside arm arms) = ap suc (put_size a new (n + 1) arms)
 
@@ -207,7 +201,7 @@ record AllLocated (code : Listing) (threads : List Thread) (n lo hi : ℕ) (arms
   before : a < low
   under : high ≤ hi
   after : n ≤ a
-  back : (threads' : List Thread) (new : Arm) → ((b : ℕ) → AllMine n (size arms) lo hi b → (Mine a low high b → ⊥) →
+  back : (threads' : List Thread) (new : Arm) → ((b : ℕ) → AllMine n (running_arms arms) lo hi b → (Mine a low high b → ⊥) →
       thread threads' b ≡ thread threads b) → Shows code threads' a low high new → AllShow code threads' n lo hi
       (put_among a new n arms)
   free : (new : Arm) → FreeStep found new → FreeStepAmong arms (put_among a new n arms)
@@ -249,30 +243,30 @@ which n k lo mid hi a less l u m = sides (cases_lt n a) (cases_lt a lo) (cases_l
 
 waiting_located : (code : Listing) (threads : List Thread) (n lo hi line first : ℕ) (arms : Running) (rest : List
     Item) (a : ℕ) → Shows code threads n lo hi (Waiting line first arms rest) → n < lo → (a ≡ n → ⊥) → (lo ≤ a) × (a <
-    hi) → (a < first) ⊎ (first ≤ a) → (AllMine first (size arms) (first + size arms) hi a → AllLocated code threads
-    first (first + size arms) hi arms a ⊎ (find_among a first arms ≡ None) × (thread threads a ≡ Idle)) → Located code
+    hi) → (a < first) ⊎ (first ≤ a) → (AllMine first (running_arms arms) (first + running_arms arms) hi a → AllLocated code threads
+    first (first + running_arms arms) hi arms a ⊎ (find_among a first arms ≡ None) × (thread threads a ≡ Idle)) → Located code
     threads n lo hi (Waiting line first arms rest) a ⊎ (find a n (Waiting line first arms rest) ≡ None) × (thread
     threads a ≡ Idle)
 waiting_located code threads n lo hi line first arms rest a h less ne r (inl q) inner =
-    let le = all_show_le code threads first (first + size arms) hi arms h.7 in
-    let none = all_outside code threads first (first + size arms) hi arms a h.7 (elim [ inl m ↦ (omega arith) | inr m ↦ (omega arith) ]) in
+    let le = all_show_le code threads first (first + running_arms arms) hi arms h.7 in
+    let none = all_outside code threads first (first + running_arms arms) hi arms a h.7 (elim [ inl m ↦ (omega arith) | inr m ↦ (omega arith) ]) in
     inr (if_other a n _ _ ne ∙ none.0, h.6 a r.0 q)
 waiting_located code threads n lo hi line first arms rest a h less ne r (inr q) inner =
-    let le = all_show_le code threads first (first + size arms) hi arms h.7 in
-    ⊎_elim lift (λ none. inr (if_other a n _ _ ne ∙ none.0, none.1)) (inner (side (cases_lt a (first + size arms))))
+    let le = all_show_le code threads first (first + running_arms arms) hi arms h.7 in
+    ⊎_elim lift (λ none. inr (if_other a n _ _ ne ∙ none.0, none.1)) (inner (side (cases_lt a (first + running_arms arms))))
   where
-    side : (a < first + size arms) ⊎ (first + size arms ≤ a)
-        → AllMine first (size arms) (first + size arms) hi a
+    side : (a < first + running_arms arms) ⊎ (first + running_arms arms ≤ a)
+        → AllMine first (running_arms arms) (first + running_arms arms) hi a
     side (inl u) = inl (q, u)
     side (inr u) = inr (u, r.1)
 
-    lift : AllLocated code threads first (first + size arms) hi arms a
+    lift : AllLocated code threads first (first + running_arms arms) hi arms a
         → Located code threads n lo hi (Waiting line first arms rest) a ⊎
         (find a n (Waiting line first arms rest) ≡ None) × (thread threads a ≡ Idle)
     lift l =
-        let le = all_show_le code threads first (first + size arms) hi arms h.7 in
+        let le = all_show_le code threads first (first + running_arms arms) hi arms h.7 in
         let lo_first : lo ≤ first = h.5 in
-        let above : first + size arms ≤ l.low = l.above in
+        let above : first + running_arms arms ≤ l.low = l.above in
         inl (record {
           found = l.found;
           low = l.low;
@@ -284,7 +278,7 @@ waiting_located code threads n lo hi line first arms rest a h less ne r (inr q) 
           before = l.before;
           under = l.under;
           back = λ threads' new same s.
-              let inner' = l.back threads' new (λ b m out. same b (inr (inner_range first (size arms) hi lo b lo_first le m)) out) s in
+              let inner' = l.back threads' new (λ b m out. same b (inr (inner_range first (running_arms arms) hi lo b lo_first le m)) out) s in
               let shown : Shows code threads' n lo hi (Waiting line first (put_among a new first arms) rest) = (
                 h.0,
                 same n (inl refl) (elim [ inl m ↦ (omega arith) | inr m ↦ (omega arith) ]) ∙ h.1,
@@ -307,8 +301,8 @@ waiting_located code threads n lo hi line first arms rest a h less ne r (inr q) 
         })
 
 first_located : (code : Listing) (threads : List Thread) (n lo hi : ℕ) (arm : Arm) (arms : Running) (a : ℕ)
-    (h : AllShow code threads n lo hi (Beside arm arms)) → n + suc (size arms) ≤ lo
-    → (AllMine (n + 1) (size arms) h.0 hi a → ⊥) → Mine n lo h.0 a → Located code threads n lo h.0 arm a
+    (h : AllShow code threads n lo hi (Beside arm arms)) → n + suc (running_arms arms) ≤ lo
+    → (AllMine (n + 1) (running_arms arms) h.0 hi a → ⊥) → Mine n lo h.0 a → Located code threads n lo h.0 arm a
     → AllLocated code threads n lo hi (Beside arm arms) a
 first_located code threads n lo hi arm arms a h less out m l =
     let le1 = shows_le code threads n lo h.0 arm h.1 in
@@ -330,8 +324,9 @@ first_located code threads n lo hi arm arms a h less out m l =
       under = omega arith;
       after = after m;
       back = λ threads' new same s.
-          let one = l.back threads' new (λ b m' out'. same b (first_mine n (size arms) lo h.0 hi b le2 m') out') s in
-          let more = all_frame code threads threads' (n + 1) h.0 hi arms h.2 (λ b m'. same b (later_mine n (size arms) lo h.0 hi b le1 m') (apart b m')) in
+          let one = l.back threads' new (λ b m' out'. same b (first_mine n (running_arms arms) lo h.0 hi b le2 m') out') s in
+          let more = all_frame code threads threads' (n + 1) h.0 hi arms h.2
+          (λ b m'. same b (later_mine n (running_arms arms) lo h.0 hi b le1 m') (apart b m')) in
           (h.0, one, subst (λ x. AllShow code threads' (n + 1) h.0 hi x) (sym (none.1 new)) more);
       free = λ new s. subst (λ x. FreeStepAmong (Beside arm arms) (Beside (put a new n arm) x)) (sym (none.1 new))
           (in_first arm (put a new n arm) arms (l.free new s));
@@ -344,13 +339,13 @@ first_located code threads n lo hi arm arms a h less out m l =
     after (inl e) = omega arith
     after (inr r) = omega arith
 
-    apart : (b : ℕ) → AllMine (n + 1) (size arms) h.0 hi b → Mine a l.low l.high b → ⊥
-    apart b m' (inl e) = out (subst (λ k. AllMine (n + 1) (size arms) h.0 hi k) e m')
+    apart : (b : ℕ) → AllMine (n + 1) (running_arms arms) h.0 hi b → Mine a l.low l.high b → ⊥
+    apart b m' (inl e) = out (subst (λ k. AllMine (n + 1) (running_arms arms) h.0 hi k) e m')
     apart b (inl m') (inr r) = let q1 = l.above in let q2 = l.under in omega arith
     apart b (inr m') (inr r) = let q1 = l.above in let q2 = l.under in omega arith
 
 later_located : (code : Listing) (threads : List Thread) (n lo hi : ℕ) (arm : Arm) (arms : Running) (a : ℕ)
-    (h : AllShow code threads n lo hi (Beside arm arms)) → n + suc (size arms) ≤ lo → (Mine n lo h.0 a → ⊥)
+    (h : AllShow code threads n lo hi (Beside arm arms)) → n + suc (running_arms arms) ≤ lo → (Mine n lo h.0 a → ⊥)
     → AllLocated code threads (n + 1) h.0 hi arms a → AllLocated code threads n lo hi (Beside arm arms) a
 later_located code threads n lo hi arm arms a h less out l =
     let le1 = shows_le code threads n lo h.0 arm h.1 in
@@ -372,8 +367,8 @@ later_located code threads n lo hi arm arms a h less out l =
       under = l.under;
       after = omega arith;
       back = λ threads' new same s.
-          let one = frame code threads threads' n lo h.0 arm h.1 (λ b m'. same b (first_mine n (size arms) lo h.0 hi b le2 m') (apart b m')) in
-          let more = l.back threads' new (λ b m' out'. same b (later_mine n (size arms) lo h.0 hi b le1 m') out') s in
+          let one = frame code threads threads' n lo h.0 arm h.1 (λ b m'. same b (first_mine n (running_arms arms) lo h.0 hi b le2 m') (apart b m')) in
+          let more = l.back threads' new (λ b m' out'. same b (later_mine n (running_arms arms) lo h.0 hi b le1 m') out') s in
           (h.0, subst (λ x. Shows code threads' n lo h.0 x) (sym (none.1 new)) one, more);
       free = λ new s. subst (λ x. FreeStepAmong (Beside arm arms) (Beside x (put_among a new (n + 1) arms))) (sym
           (none.1 new)) (in_later arm arms (put_among a new (n + 1) arms) (l.free new s));
@@ -388,10 +383,10 @@ later_located code threads n lo hi arm arms a h less out l =
     apart b (inr m') (inr r) = let q1 = l.above in omega arith
 
 beside_located : (code : Listing) (threads : List Thread) (n lo hi : ℕ) (arm : Arm) (arms : Running) (a : ℕ) (h :
-    AllShow code threads n lo hi (Beside arm arms)) → n + suc (size arms) ≤ lo → (Mine n lo h.0 a → Located code
-    threads n lo h.0 arm a ⊎ (find a n arm ≡ None) × (thread threads a ≡ Idle)) → (AllMine (n + 1) (size arms) h.0 hi
+    AllShow code threads n lo hi (Beside arm arms)) → n + suc (running_arms arms) ≤ lo → (Mine n lo h.0 a → Located code
+    threads n lo h.0 arm a ⊎ (find a n arm ≡ None) × (thread threads a ≡ Idle)) → (AllMine (n + 1) (running_arms arms) h.0 hi
     a → AllLocated code threads (n + 1) h.0 hi arms a ⊎ (find_among a (n + 1) arms ≡ None) × (thread threads a ≡
-    Idle)) → Mine n lo h.0 a × (AllMine (n + 1) (size arms) h.0 hi a → ⊥) ⊎ AllMine (n + 1) (size arms) h.0 hi a ×
+    Idle)) → Mine n lo h.0 a × (AllMine (n + 1) (running_arms arms) h.0 hi a → ⊥) ⊎ AllMine (n + 1) (running_arms arms) h.0 hi a ×
     (Mine n lo h.0 a → ⊥) → AllLocated code threads n lo hi (Beside arm arms) a ⊎ (find_among a n (Beside arm arms) ≡
     None) × (thread threads a ≡ Idle)
 beside_located code threads n lo hi arm arms a h less one more (inl w) =
@@ -416,14 +411,14 @@ mutual
   locate code threads n lo hi (Waiting line first arms rest) a h less (inr r) =
       let ne : a ≡ n → ⊥ = λ e. omega arith in
       waiting_located code threads n lo hi line first arms rest a h less ne r (cases_lt a first) (λ m. all_locate code
-      threads first (first + size arms) hi arms a h.7 (omega arith) m)
+      threads first (first + running_arms arms) hi arms a h.7 (omega arith) m)
   locate code threads n lo hi Ended a h less (inl e) =
       inl (here code threads n lo hi Ended a h less e (if_same a n _ _ e) (λ new. if_same a n _ _ e))
   locate code threads n lo hi Ended a h less (inr r) =
       let ne : a ≡ n → ⊥ = λ e. omega arith in inr (if_other a n _ _ ne, h.2 a r.0 r.1)
 
   all_locate : (code : Listing) (threads : List Thread) (n lo hi : ℕ) (arms : Running) (a : ℕ)
-      → AllShow code threads n lo hi arms → n + size arms ≤ lo → AllMine n (size arms) lo hi a
+      → AllShow code threads n lo hi arms → n + running_arms arms ≤ lo → AllMine n (running_arms arms) lo hi a
       → AllLocated code threads n lo hi arms a ⊎ (find_among a n arms ≡ None) × (thread threads a ≡ Idle)
   all_locate code threads n lo hi Nothing a h less (inl m) = elim (let w : ⊥ = omega arith in w) [ ]
   all_locate code threads n lo hi Nothing a h less (inr m) = inr (refl, h.1 a m.0 m.1)
@@ -433,4 +428,4 @@ mutual
       beside_located code threads n lo hi arm arms a h less
       (λ m'. locate code threads n lo h.0 arm a h.1 (omega arith) m')
       (λ m'. all_locate code threads (n + 1) h.0 hi arms a h.2 (omega arith) m')
-      (which n (size arms) lo h.0 hi a less le1 le2 m)
+      (which n (running_arms arms) lo h.0 hi a less le1 le2 m)

@@ -11,7 +11,8 @@ use Rattle.pb_names.specs.Limits.{width}
 use Rattle.pb_parser.specs.Grammar.{name_at}
 use Rattle.pb_parser.specs.Lists.{append, append_arms, single_arm}
 use Rattle.pb_parser.specs.Statements.{ReadsPair, pair, ReadsPairs, ReadsStmt, skip, assign, print, choice, choices}
-use Rattle.pb_parser.specs.Statements.{loop, hold, fork, inner, ReadsList, first, next, ReadsArms, first_arm, next_arm}
+use Rattle.pb_parser.specs.Statements.{loop, hold, fork, inner, ReadsList, first, next, ReadsArms, first_arm}
+use Rattle.pb_parser.specs.Statements.{next_arm}
 use Rattle.pb_parser.specs.Statements as pairs
 use Rattle.pb_parser.specs.Programs.{ReadsNames, ReadsResource, resource, ReadsResources, none, another}
 use Rattle.pb_parser.specs.Programs.{ReadsProcess, plain, integers, ReadsProcesses, one_process, more_processes}

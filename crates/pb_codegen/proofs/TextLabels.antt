@@ -11,6 +11,7 @@ use Rattle.pb_names.specs.Resolves.{ResolvesStmt, assign, print, if_else, while_
 use Rattle.pb_names.specs.Resolves.{ResolvesStmts, no_stmt, stmt_then, ResolvesArms, no_arm, arm_then}
 use Rattle.pb_names.specs.Resolves.{ResolvesProcess, Resolves, resource_names}
 use Rattle.pb_base.specs.Steppers.{Table}
+use Rattle.pb_base.proofs.Lists.{get_mapped}
 use Rattle.pb_code.specs.Code.{End, ProcessCode}
 use Rattle.pb_code.specs.Limits.{IsName, FitLabels, AreLabels}
 use Rattle.pb_code.specs.Limits.{IsLine}
@@ -22,7 +23,6 @@ use Rattle.pb_codegen.specs.Lines.{stmt_source_line, block_line, stmt_lines, blo
 use Rattle.pb_codegen.specs.Lines.{process_labels, program_labels}
 use Rattle.pb_codegen.proofs.WriterLines.{length-block_lines}
 use Rattle.pb_names.proofs.Holds.{zip_at}
-use Rattle.pb_names.proofs.Wholes.{made_from}
 
 -- ---- a line or none for each place
 
@@ -182,8 +182,8 @@ pub fitting_labels : (written : tree.ProgramSyntax) (program : Program) (claims 
 fitting_labels written program claims formed h = record {
   all = length-map program.processes process_labels ∙ sym (length-map program.processes process_code);
   each = λ p c l in_code in_labels.
-      let x = made_from process_code program.processes p c in_code in
-      let y = made_from process_labels program.processes p l in_labels in
+      let x = get_mapped process_code program.processes p c in_code in
+      let y = get_mapped process_labels program.processes p l in_labels in
       let both : Some x.0 ≡ Some y.0 = sym x.1 ∙ y.1 in
       let same : x.0 ≡ y.0 = cc in
       subst (λ (code : ProcessCode). FitLabels code l) x.2

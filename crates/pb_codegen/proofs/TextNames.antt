@@ -1,5 +1,6 @@
 -- The names of a process and of a resource, by number.
-use Rattle.std.proofs.Common.{◌≡◌, ℕ, zero, suc, ◌<◌, List, [], ◌∷◌, length, map, get_or, slice_index_or, sym, ap, arith}
+use Rattle.std.proofs.Common.{◌≡◌, ℕ, zero, suc, ◌<◌, List, [], ◌∷◌, length, map, get_or, slice_index_or, sym, ap}
+use Rattle.std.proofs.Common.{arith}
 use Rattle.pb_names.specs.Program.{Process as PlainProcess, Resource as PlainResource}
 use Rattle.pb_names.specs.View.{process_view, resource_view}
 use Rattle.pb_names.specs.declared.resolved.Process.{Process}

@@ -14,8 +14,6 @@ use Rattle.pb_names.specs.Program.{Stmt, Assign, Print, If, While, Hold, Parbegi
 use Rattle.pb_names.specs.Program.{NoArm, AndArm, Process, arms_list, arms_in, arms_in_stmt, arms_in_arms}
 use Rattle.pb_names.specs.Program.{arms_of}
 
--- ---- the code of one arm
-
 -- ---- one more arm
 
 code_more : (p : ℕ) (front : List Block) (arm : Block)

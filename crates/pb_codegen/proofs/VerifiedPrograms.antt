@@ -6,6 +6,7 @@ use Rattle.std.proofs.lemmas.List.{get_or_default, length-map}
 use Rattle.std.proofs.lemmas.List.Elements.{All-map}
 use Rattle.pb_base.specs.Banker.{cell}
 use Rattle.pb_base.specs.Steppers.{Bundle, Table}
+use Rattle.pb_base.proofs.Lists.{get_mapped}
 use Rattle.pb_tree.specs.Syntax.{ResourceSyntax, ProgramSyntax}
 use Rattle.pb_names.specs.Claims.{peak}
 use Rattle.pb_names.specs.Program.{Process, Resource, Program, capital_of}
@@ -44,7 +45,6 @@ use Rattle.pb_codegen.proofs.VerifiedLimits.{in_range, small_process}
 use Rattle.pb_codegen.proofs.VerifiedArmRanges.{has_arms}
 use Rattle.pb_codegen.proofs.TextForms.{read_program_formed}
 use Rattle.pb_names.proofs.Holds.{zip_at}
-use Rattle.pb_names.proofs.Wholes.{made_from}
 
 module _ (tree : ProgramSyntax) (program : Program) (claims : Table) (h : CanBeCompiled tree program claims) where
   abbrev code : Code
@@ -56,7 +56,7 @@ module _ (tree : ProgramSyntax) (program : Program) (claims : Table) (h : CanBeC
       → IsFine (resource_names program) process → Holds p (process_code process))
       → (p : ℕ) (c : ProcessCode) → slice_get code.processes p ≡ Some c → Holds p c
   each_code Holds each p c at =
-      let w = made_from process_code program.processes p c at in
+      let w = get_mapped process_code program.processes p c at in
       subst (Holds p) w.2
       (each p w.0 w.1 (fine_process tree program h.formed h.limits h.numbered p w.0 w.1))
 

@@ -9,7 +9,7 @@ use Rattle.pb_codegen.specs.Lines.{stmt_source_line, stmt_lines, block_line, blo
 use Rattle.pb_codegen.specs.declared.writer.Writer.{Writer}
 use Rattle.pb_codegen.proofs.WriterParts.{adds_then, adds_as, adds-place}
 use Rattle.pb_names.specs.Program as plain
-use Rattle.pb_names.specs.Program.{Block, Skip, Then, Arms, NoArm, AndArm, count, arms_list, arms_in}
+use Rattle.pb_names.specs.Program.{Block, count, arms_list, arms_in}
 use Rattle.pb_names.specs.Program.{arms_in_stmt, arms_in_arms}
 use Rattle.pb_names.specs.View.{stmt_view, block_of, block_view, arm_view, arms_view}
 use Rattle.pb_names.specs.declared.resolved.Stmt.{Stmt}

@@ -1,6 +1,7 @@
 -- How large a program may be of which code is generated.
 use Rattle.std.specs.Prelude.{◌≤◌, length, All}
-use Rattle.pb_base.specs.declared.limits.TheConstants.{MAX_AMOUNT, MAX_ARMS, MAX_INTEGERS, MAX_PLACES, MAX_PROCESSES, MAX_RESOURCES}
+use Rattle.pb_base.specs.declared.limits.TheConstants.{MAX_AMOUNT, MAX_ARMS, MAX_INTEGERS, MAX_PLACES, MAX_PROCESSES}
+use Rattle.pb_base.specs.declared.limits.TheConstants.{MAX_RESOURCES}
 use Rattle.pb_names.specs.Program.{Process, Program, arms_of}
 use Rattle.pb_codegen.specs.Generate.{process_code}
 

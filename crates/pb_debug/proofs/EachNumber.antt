@@ -1,5 +1,6 @@
 -- What is said of each number below another, as a loop says it.
-use Rattle.std.proofs.Common.{Vec, Global, ◌≡◌, ℕ, suc, ◌+◌, ◌<◌, ◌++◌, List, [], length, map, get_or, sym, ap, ◌∙◌, append_assoc, arith}
+use Rattle.std.proofs.Common.{Vec, Global, ◌≡◌, ℕ, suc, ◌+◌, ◌<◌, ◌++◌, List, [], length, map, get_or, sym, ap, ◌∙◌}
+use Rattle.std.proofs.Common.{append_assoc, arith}
 use Rattle.std.proofs.lemmas.List.{get_or-map}
 use Rattle.pb_base.specs.Lines.{name_of, each_below}
 

@@ -1,5 +1,6 @@
 -- What a session says of what is named.
-use Rattle.std.proofs.Common.{◌≡◌, inl, inr, ℕ, ◌+◌, ◌<◌, ◌≤◌, ◌++◌, List, [], ◌∷◌, length, take, set, Option, Some, None, Result, Ok, Err, refl, sym, ap, ◌∙◌, subst, arith, length-append}
+use Rattle.std.proofs.Common.{◌≡◌, ℕ, ◌+◌, ◌<◌, ◌≤◌, ◌++◌, List, [], ◌∷◌, length, take, set, Option, Some}
+use Rattle.std.proofs.Common.{None, Result, Ok, Err, refl, sym, ap, ◌∙◌, subst, arith, length-append}
 use Rattle.std.specs.Prelude.{OnOk, IfErr, IfSome, All}
 use Rattle.std.proofs.lemmas.List.Elements.{All-filter}
 use Rattle.std.proofs.lemmas.List.FromFn.{length-range_with_len, get_or-range_with_len}
@@ -9,10 +10,11 @@ use Rattle.pb_base.specs.Banker.{BankerState, processes, everyone, with_loan}
 use Rattle.pb_base.specs.declared.pair.Pair.{Pair}
 use Rattle.std.proofs.lemmas.List.{take_more_set, take_all, take-append-le, length-take-le}
 use Rattle.pb_verifier.specs.declared.fault.VerifyFault.TheVariants.{OutOfLimits}
-use Rattle.pb_debug.specs.Refusals.{HasNoArm, IsMissing, IsArmFault}
+use Rattle.pb_debug.specs.Refusals.{HasNoArm, IsMissing}
 use Rattle.pb_debug.specs.Value.{Debugging, IsPosition, state_of, bank_state}
 use Rattle.pb_debug.specs.declared.fault.DebugFault.{DebugFault}
-use Rattle.pb_debug.specs.declared.fault.DebugFault.TheVariants.{PastEnd, NoProcess, NoArm, BadCommand, NoMemory, Device}
+use Rattle.pb_debug.specs.declared.fault.DebugFault.TheVariants.{PastEnd, NoProcess, NoArm, BadCommand, NoMemory}
+use Rattle.pb_debug.specs.declared.fault.DebugFault.TheVariants.{Device}
 use Rattle.pb_debug.specs.Buffers.{kept}
 use Rattle.pb_debug.specs.Texts.{HasNamesOf}
 use Rattle.pb_debug.specs.Whys.{IsWhy}

@@ -1,14 +1,16 @@
 -- What is known of a debugger at its position.
-use Rattle.std.proofs.Common.{Vec, Global, ◌≡◌, ℕ, zero, suc, ◌<◌, ◌≤◌, List, [], ◌∷◌, length, map, Some, refl, sym, ◌∙◌, arith}
+use Rattle.std.proofs.Common.{Vec, Global, ◌≡◌, ℕ, ◌<◌, ◌≤◌, length, map, Some, sym}
+use Rattle.std.proofs.Common.{◌∙◌, arith}
 use Rattle.std.specs.Prelude.{slice_get}
 use Rattle.std.proofs.lemmas.List.{length-map}
 use Rattle.std.proofs.lemmas.Option.{slice_get_within}
+use Rattle.pb_base.proofs.Lists.{get_some}
 use Rattle.pb_code.specs.Code.{CodeProcess}
 use Rattle.pb_code.specs.declared.labels.ProcessLabels.{ProcessLabels as GivenLabels}
 use Rattle.pb_code.specs.Limits.{FitLabels}
 use Rattle.pb_code.specs.Reached.{CodeReaches}
 use Rattle.pb_code.specs.View.{process_labels_view}
-use Rattle.pb_verifier.proofs.LoansWithinClaims.{kept_reached, get_some}
+use Rattle.pb_verifier.proofs.LoansWithinClaims.{kept_reached}
 use Rattle.pb_verifier.specs.declared.fault.VerifyFault.TheVariants.{OutOfLimits}
 use Rattle.pb_debug.specs.Value.{Debugging, IsPosition, state_of}
 use Rattle.pb_history.proofs.Positions.{position_reached}

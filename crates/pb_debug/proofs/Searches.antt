@@ -1,5 +1,6 @@
 -- Searches along the picks.
-use Rattle.std.proofs.Common.{◌≡◌, ◌↔◌, Bool, true, false, ℤ, ℕ, ◌+◌, ◌<◌, List, Option, Some, sym, ap, ◌∙◌, arith, slice_get, IsTrue, length}
+use Rattle.std.proofs.Common.{◌≡◌, ◌↔◌, Bool, true, false, ℤ, ℕ, ◌+◌, ◌<◌, List, Option, Some, sym, ap, ◌∙◌, arith}
+use Rattle.std.proofs.Common.{slice_get, IsTrue, length}
 use Rattle.pb_base.specs.declared.event.Event.{Event}
 use Rattle.pb_base.specs.declared.pick.Pick.{Pick}
 use Rattle.pb_base.specs.Steppers.{State}

@@ -1,22 +1,26 @@
 -- A line says a command exactly if it is its spelling.
-use Rattle.std.proofs.Common.{◌≡◌, inl, inr, ℕ, suc, ◌+◌, ◌*◌, ◌<◌, ◌≤◌, ◌^◌, Bool, true, false, cond, not, ◌&&◌, ◌||◌, eqb, ltb, List, [], ◌∷◌, ◌++◌, length, take, drop, get_or, Option, Some, None, option_map, refl, sym, ap, ◌∙◌, subst, arith, rules}
+use Rattle.std.proofs.Common.{◌≡◌, inl, inr, ℕ, suc, ◌+◌, ◌<◌, ◌≤◌, ◌^◌, Bool, true, false, cond, not, ◌&&◌}
+use Rattle.std.proofs.Common.{eqb, ltb, List, [], ◌∷◌, ◌++◌, length, take, drop, Option, Some, None}
+use Rattle.std.proofs.Common.{option_map, refl, sym, ap, ◌∙◌, subst, arith, rules}
 use Rattle.std.specs.Prelude.{codes, ◌⊎◌}
-use Rattle.std.specs.Char.{digit_value, is_ascii_digit, is_ascii_alphabetic}
+use Rattle.std.specs.Char.{is_ascii_digit, is_ascii_alphabetic}
 use Rattle.std.specs.Fmt.{decimal}
 use Rattle.std.specs.List.{list_all, position, position_or_len}
 use Rattle.std.specs.Str.{bytes_eq}
 use Rattle.std.specs.Str.Parse.{digits_value}
 use Rattle.std.proofs.lemmas.Bool.{eqb-true, ltb-true, ltb-false, lt-ltb, le-ltb, cases_lt}
 use Rattle.std.proofs.lemmas.Bool.Decides.{nat_tests}
-use Rattle.std.proofs.lemmas.Fmt.{decimal-digits_value, digits_decimal, digits_value-decimal, decimal_nonempty, first_decimal, decimal_digit, length-decimal-le}
-use Rattle.std.proofs.lemmas.Str.Parse.{IsNumeralModel, numerals_by_value, digit_at, digits_value_short}
-use Rattle.std.proofs.lemmas.Str.{digit_value_digit}
-use Rattle.std.proofs.lemmas.Int.Digits.{digits_value_more}
-use Rattle.pb_code.proofs.NameTests.{both_true}
+use Rattle.std.proofs.lemmas.Fmt.{decimal-digits_value, digits_decimal, digits_value-decimal}
+use Rattle.std.proofs.lemmas.Fmt.{length-decimal-le}
+use Rattle.std.proofs.lemmas.Str.Parse.{digits_value_short}
+use Rattle.pb_base.proofs.Cases.{both_true}
 use Rattle.pb_code.proofs.NumeralLemmas.{own, numeral_is, is_numeral_decimal}
 use Rattle.pb_code.specs.Names.{is_name_byte}
 use Rattle.pb_code.specs.Numerals.{is_numeral}
-use Rattle.pb_debug.specs.Commands.{Command, To, Step, Back, Vars, Threads, Wrote, Until, Loans, Next, Prev, Help, Line, Text, Why, Pick, Who, arm_at, arm_of, both_of, integer_at, integer_of, stop_at, stop_from, stop_of, command_of, looks_like_name, keyed, number_of, parted, word_of}
+use Rattle.pb_debug.specs.Commands.{Command, To, Step, Back, Vars, Threads, Wrote, Until, Loans, Next, Prev, Help}
+use Rattle.pb_debug.specs.Commands.{Line, Text, Why, Pick, Who, arm_at, arm_of, both_of, integer_at, integer_of}
+use Rattle.pb_debug.specs.Commands.{stop_at, stop_from, stop_of, command_of, looks_like_name, keyed, number_of}
+use Rattle.pb_debug.specs.Commands.{parted, word_of}
 use Rattle.pb_debug.specs.Spellings.{CommandsBySpelling, IsProper, command_spelling}
 
 -- ---- numbers

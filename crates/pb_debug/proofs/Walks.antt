@@ -1,5 +1,6 @@
 -- Machines that walk along a trace.
-use Rattle.std.proofs.Common.{◌≡◌, inl, inr, ℕ, zero, suc, ◌+◌, ◌-◌, ◌*◌, ◌<◌, ◌≤◌, List, [], ◌∷◌, ◌++◌, Some, None, take, drop, length, replicate, sym, ap, ◌∙◌, subst, append_assoc, length-append, arith}
+use Rattle.std.proofs.Common.{◌≡◌, inl, inr, ℕ, zero, suc, ◌+◌, ◌-◌, ◌*◌, ◌<◌, ◌≤◌, List, [], ◌∷◌, ◌++◌, Some, None}
+use Rattle.std.proofs.Common.{take, drop, length, replicate, sym, ap, ◌∙◌, subst, append_assoc, length-append, arith}
 use Rattle.std.specs.Prelude.{slice_get}
 use Rattle.std.proofs.lemmas.List.{length-map, length-replicate, take-append-le}
 use Rattle.std.proofs.lemmas.Option.{slice_get_within}
@@ -16,7 +17,7 @@ use Rattle.pb_history.specs.Replays.{spread}
 use Rattle.pb_history.specs.declared.counted.CountedPick.{CountedPick}
 use Rattle.pb_history.proofs.SpanEvents.{replicate_append}
 use Rattle.pb_history.proofs.CountedPicks.{spread_take, spread_whole}
-use Rattle.pb_history.proofs.Positions.{leads_to, moved_more, not_refused, stepped_more, stands_next}
+use Rattle.pb_history.proofs.Positions.{leads_to, moved_more, stands_next}
 use Rattle.pb_machine.proofs.BuiltLists.{at_push}
 use Rattle.pb_machine.specs.Steps.{IsStep, MovesSilently}
 use Rattle.pb_machine.specs.Views.{machine_view, IsMachineOf}

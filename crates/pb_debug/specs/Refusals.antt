@@ -3,7 +3,8 @@ use Rattle.std.specs.Prelude.{◌≡◌, ◌⊎◌, ℕ, ◌<◌, ◌≤◌, len
 use Rattle.pb_code.specs.Code.{CodeProcess}
 use Rattle.pb_debug.specs.Value.{Debugging, state_of}
 use Rattle.pb_debug.specs.declared.fault.DebugFault.{DebugFault}
-use Rattle.pb_debug.specs.declared.fault.DebugFault.TheVariants.{PastEnd, NoProcess, NoArm, BadCommand, NoMemory, Device}
+use Rattle.pb_debug.specs.declared.fault.DebugFault.TheVariants.{PastEnd, NoProcess, NoArm, BadCommand, NoMemory}
+use Rattle.pb_debug.specs.declared.fault.DebugFault.TheVariants.{Device}
 
 -- why a move is refused, if it is past an end exactly if this holds
 abbrev pub IsMoveFault : Type 0 → DebugFault → Type 0

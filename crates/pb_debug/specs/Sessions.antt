@@ -7,7 +7,8 @@ use Rattle.pb_debug.specs.Buffers.{kept}
 use Rattle.pb_debug.specs.Lines.{cut, lines_of}
 use Rattle.pb_debug.specs.Value.{Debugging}
 use Rattle.pb_debug.specs.declared.fault.DebugFault.{DebugFault}
-use Rattle.pb_debug.specs.declared.fault.DebugFault.TheVariants.{PastEnd, NoProcess, NoArm, BadCommand, NoMemory, Device}
+use Rattle.pb_debug.specs.declared.fault.DebugFault.TheVariants.{PastEnd, NoProcess, NoArm, BadCommand, NoMemory}
+use Rattle.pb_debug.specs.declared.fault.DebugFault.TheVariants.{Device}
 
 -- the lines are answered in turn by this text, and lead from one position to another
 pub data Session (d : Debugging) : List (List ℕ) → List ℕ → Debugging → Type 0 where

@@ -1,7 +1,8 @@
 -- How each command is spelled.
 use Rattle.std.specs.Prelude.{◌≡◌, ◌↔◌, ℕ, ◌<◌, ◌≤◌, true, List, ◌∷◌, ◌++◌, length, codes, Some, ⊤}
 use Rattle.std.specs.Fmt.{decimal}
-use Rattle.pb_debug.specs.Commands.{Command, To, Step, Back, Vars, Threads, Wrote, Until, Loans, Next, Prev, Help, Line, Text, Why, Pick, Who, command_of, looks_like_name}
+use Rattle.pb_debug.specs.Commands.{Command, To, Step, Back, Vars, Threads, Wrote, Until, Loans, Next, Prev, Help}
+use Rattle.pb_debug.specs.Commands.{Line, Text, Why, Pick, Who, command_of, looks_like_name}
 
 -- the bytes of a command: a word, and behind a space a number, a name, or a process and an arm with a point
 -- between

@@ -1,5 +1,6 @@
 -- The lines that a session answers, each with its line feed.
-use Rattle.std.specs.Prelude.{ℕ, zero, suc, ℤ, pos, cond, List, [], ◌∷◌, ◌++◌, length, slice_index, slice_index_or, Option, Some, None, codes, All, ◌<◌, ⊤}
+use Rattle.std.specs.Prelude.{ℕ, ℤ, pos, cond, List, [], ◌++◌, length, slice_index, slice_index_or}
+use Rattle.std.specs.Prelude.{Option, Some, None, codes, All, ◌<◌, ⊤}
 use Rattle.std.specs.Fmt.{decimal, signed_decimal}
 use Rattle.pb_base.specs.Banker.{BankerState, processes, resources, claim, loan, cash}
 use Rattle.pb_base.specs.declared.event.Event.{Event}
@@ -9,7 +10,8 @@ pub use Rattle.pb_base.specs.Lines.{line, each_below}
 use Rattle.pb_code.specs.Code.{CodeProcess, Thread, Idle, Live, Ended, thread}
 use Rattle.pb_debug.specs.Lines.{line_numbered}
 use Rattle.pb_debug.specs.declared.fault.DebugFault.{DebugFault}
-use Rattle.pb_debug.specs.declared.fault.DebugFault.TheVariants.{PastEnd, NoProcess, NoArm, BadCommand, NoMemory, Device}
+use Rattle.pb_debug.specs.declared.fault.DebugFault.TheVariants.{PastEnd, NoProcess, NoArm, BadCommand, NoMemory}
+use Rattle.pb_debug.specs.declared.fault.DebugFault.TheVariants.{Device}
 use Rattle.pb_debug.specs.declared.why.Why.{Why}
 use Rattle.pb_debug.specs.declared.why.Why.TheVariants.{NotAsking, Cash, Order, Rest}
 

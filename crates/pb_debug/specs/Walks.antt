@@ -4,7 +4,7 @@ use Rattle.pb_base.specs.declared.pick.Pick.{Pick}
 use Rattle.pb_code.specs.Whole.{code_opening}
 use Rattle.pb_history.specs.Entries.{picks_of}
 use Rattle.pb_history.specs.Leads.{Leads}
-use Rattle.pb_history.specs.Positions.{IsAfter, state_after}
+use Rattle.pb_history.specs.Positions.{IsAfter}
 use Rattle.pb_machine.specs.Views.{machine_view, IsMachineOf}
 use Rattle.pb_machine.specs.declared.machine.Machine.{Machine}
 use Rattle.pb_verifier.specs.Verified.{VerifiedCode}

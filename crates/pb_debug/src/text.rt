@@ -2,7 +2,7 @@
 
 ghost use Rattle.std.specs.Prelude.{◌≡◌, ◌<◌, ◌≤◌, ◌++◌, ℕ, length, map, codes, OnOk, All};
 ghost use Rattle.pb_base.specs.Banker.{processes, resources, claim, loan, cash};
-ghost use Rattle.pb_base.specs.Lines.{HasNames, names_view, name_of, pick_text};
+ghost use Rattle.pb_base.specs.Lines.{HasNames, each_below, names_view, name_of, pick_text};
 ghost use Rattle.pb_debug.specs.Texts as said;
 ghost use Rattle.pb_debug.specs.Texts.{HasNamesOf, IsCommandRefusal};
 ghost use Rattle.pb_machine.specs.Views.{proc_view, thread_view};
@@ -253,6 +253,18 @@ pub(crate) fn put_cash(
     end_name(text, b" ", &names.resources[r])
 }
 
+// Puts the lines of all cash behind a text.
+fn put_all_cash(text: &mut Vec<u8>, names: &Names, banker: &Banker) -> Result<(), NoMemory>
+    requires { length (names_view names.now).resources ≡ resources banker.now.state }
+    ensures { OnOk result (text.new.items ≡ text.old.items
+        ++ each_below (λ r. said.cash_text (names_view names.now) (cash banker.now.state r) r) (resources banker.now.state)) }
+{
+    for r in 0..banker.resources() {
+        put_cash(text, names, banker.cash(r), r)?;
+    }
+    Ok(())
+}
+
 /// Puts the lines of all loans and of the cash behind a text.
 pub(crate) fn put_loans(text: &mut Vec<u8>, names: &Names, banker: &Banker) -> Result<(), NoMemory>
     requires process_names { length (names_view names.now).processes ≡ processes banker.now.state }
@@ -262,10 +274,7 @@ pub(crate) fn put_loans(text: &mut Vec<u8>, names: &Names, banker: &Banker) -> R
     for p in 0..banker.processes() {
         put_loans_of(text, names, banker, p)?;
     }
-    for r in 0..banker.resources() {
-        put_cash(text, names, banker.cash(r), r)?;
-    }
-    Ok(())
+    put_all_cash(text, names, banker)
 }
 
 /// Puts the line of a source line behind a text.

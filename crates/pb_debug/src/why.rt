@@ -6,11 +6,12 @@ ghost use Rattle.pb_base.specs.Steppers.{Bundle};
 ghost use Rattle.pb_code.specs.Code.{Thread, Take};
 ghost use Rattle.pb_code.specs.View.{process_view};
 ghost use Rattle.pb_code.specs.declared.instr.Instr.TheVariants as given;
-ghost use Rattle.pb_debug.specs.Asking.{StandsAtTake, NamesBundles};
+ghost use Rattle.pb_debug.specs.Asking.{NamesBundles};
 ghost use Rattle.pb_debug.specs.Refusals.{HasArm, IsArmFault};
 ghost use Rattle.pb_debug.specs.Value.{IsPosition};
 ghost use Rattle.pb_debug.specs.Whys.{IsFirstOverCash, IsReason, IsWhy};
 ghost use Rattle.pb_machine.specs.Views.{thread_view};
+ghost use Rattle.pb_machine.specs.Turns.{IsAtTake};
 
 use crate::debugger::Debugger;
 use crate::fault::DebugFault;
@@ -83,8 +84,8 @@ fn reason(alloc: Global, banker: &Banker, p: usize, bundle: &Bundle) -> Result<W
 /// Returns the bundle for which an arm asks, if it is at a request.
 pub(crate) fn asked<'c>(code: &'c ProcessCode, thread: &Thread) -> Option<&'c Bundle>
     requires { NamesBundles code.now }
-    ensures some { IfSome result (λ bundle. StandsAtTake (process_view code.entry.now) (thread_view thread.now) bundle.now) }
-    ensures none { IfNone result ((bundle : Bundle) → StandsAtTake (process_view code.entry.now) (thread_view thread.now) bundle → ⊥) }
+    ensures some { IfSome result (λ bundle. IsAtTake (process_view code.entry.now) (thread_view thread.now) bundle.now) }
+    ensures none { IfNone result ((bundle : Bundle) → IsAtTake (process_view code.entry.now) (thread_view thread.now) bundle → ⊥) }
 {
     let place = usize::from(thread.place()?);
     match code.instrs.get(place) {

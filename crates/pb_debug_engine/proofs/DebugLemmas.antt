@@ -1,10 +1,12 @@
 -- From what is said of each part of an input to what is said of it all.
-use Rattle.std.proofs.Common.{◌≡◌, ◌≤◌, ℕ, List, [], length, Option, Some, Result, Ok, Err, IfOk, OnErr, refl, subst, inl, inr, arith}
+use Rattle.std.proofs.Common.{◌≡◌, ◌≤◌, ℕ, List, [], length, Option, Some, Result, Ok, Err, IfOk, OnErr, refl, subst}
+use Rattle.std.proofs.Common.{inl, inr, arith}
 use Rattle.pb_base.specs.declared.memory.NoMemory.{NoMemory}
 use Rattle.pb_code.specs.Whole.{ProcessLabels}
 use Rattle.pb_codegen.specs.Compiled.{IsCompiled}
 use Rattle.pb_debug.specs.Value.{Debugging}
-use Rattle.pb_debug_engine.specs.Debugs.{GivesCode, IsObjectPart, IsOpened, SaysOfDebugging, SaysOfDebug, SaysOfParts, SaysOfSession, debugged, no_memory, no_picks, no_room, no_source, with_code}
+use Rattle.pb_debug_engine.specs.Debugs.{GivesCode, IsObjectPart, IsOpened, SaysOfDebugging, SaysOfDebug, SaysOfParts}
+use Rattle.pb_debug_engine.specs.Debugs.{SaysOfSession, debugged, no_memory, no_picks, no_room, no_source, with_code}
 use Rattle.pb_debug_engine.specs.Faults.{TellsAnyFault}
 use Rattle.pb_debug_engine.specs.Live.{AnswersOfCode, AnswersOfParts}
 use Rattle.pb_engines.proofs.PageLemmas.{AddsPrefix-longer}

@@ -6,13 +6,15 @@ use Rattle.pb_base.specs.declared.device.ReadFault.TheVariants as fault
 use Rattle.pb_debug.specs.Sessions.{IsReadTo, SaysBefore}
 use Rattle.pb_debug_engine.specs.Debugs.{AreThreeParts, SaysOfParts}
 use Rattle.pb_debug_engine.specs.Faults.{TellsAnyFault}
-use Rattle.pb_debug_engine.specs.Live.{AnswersOfParts, HasLongPart, IsEarly, SaysOfLive, SaysOfRead, early, late, no_memory, nothing, read, too_long, unread_status, unread_text}
+use Rattle.pb_debug_engine.specs.Live.{AnswersOfParts, HasLongPart, IsEarly, SaysOfLive, SaysOfRead, early, late}
+use Rattle.pb_debug_engine.specs.Live.{no_memory, nothing, read, too_long, unread_status, unread_text}
 use Rattle.pb_debug_engine.proofs.PartLemmas.{first_of_three, nothing_behind}
 use Rattle.pb_engines.proofs.InputLemmas.{IfSome-of, IfSome-weaker}
 use Rattle.pb_engines.specs.Answers.{Says, Tells}
 use Rattle.pb_engines.specs.Faults.{Devices}
 use Rattle.pb_engines.specs.declared.status.Status.{Status}
-use Rattle.pb_engines.specs.declared.status.Status.TheVariants.{Done, Refused, Words, Limit, Fault, Memory, Device, Threads}
+use Rattle.pb_engines.specs.declared.status.Status.TheVariants.{Done, Refused, Words, Limit, Fault, Memory, Device}
+use Rattle.pb_engines.specs.declared.status.Status.TheVariants.{Threads}
 
 -- the first two parts are read, and the third is answered
 pub live_told : (o mid old new : Option (List ℕ)) (source lines seen shown : List ℕ) (given : Status)

@@ -1,5 +1,5 @@
 -- Machines that walk along a trace, and what its picks show.
-use Rattle.std.proofs.Common.{◌≡◌, ℕ, ◌+◌, List, Option, Some, None, refl, sym, ap, ◌∙◌, subst}
+use Rattle.std.proofs.Common.{◌≡◌, ℕ, List, Option, Some, None, refl, sym, ap, ◌∙◌, subst}
 use Rattle.std.specs.Prelude.{option_and_then, slice_get}
 use Rattle.pb_base.specs.Banker.{cash}
 use Rattle.pb_base.specs.Steppers.{State, Move, banker_state, event_of}
@@ -14,9 +14,9 @@ use Rattle.pb_draw.specs.Cash.{cash_after}
 use Rattle.pb_draw.specs.Lanes.{standing_after, standing_in}
 use Rattle.pb_history.specs.Positions.{IsAfter, AreEnabled, state_after}
 use Rattle.pb_draw.specs.Walks.{event_at, shown_in, step_event}
-use Rattle.pb_history.proofs.Positions.{not_refused, stepped_more, stands_next}
+use Rattle.pb_history.proofs.Positions.{not_refused}
 use Rattle.pb_machine.specs.Steps.{IsStep}
-use Rattle.pb_machine.specs.Views.{machine_view, IsMachineOf}
+use Rattle.pb_machine.specs.Views.{machine_view}
 use Rattle.pb_machine.specs.declared.machine.Machine.{Machine}
 use Rattle.pb_verifier.specs.Verified.{VerifiedCode}
 

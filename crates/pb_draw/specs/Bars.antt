@@ -1,22 +1,19 @@
 -- The holds of a run: a bar from each grant up to where it is given back.
-use Rattle.std.specs.Prelude.{ℕ, ◌+◌, ◌-◌, Bool, cond, ◌==◌, ◌&&◌, List, [], ◌∷◌, ◌++◌, Option, Some, None}
+use Rattle.std.specs.Prelude.{ℕ, ◌+◌, ◌-◌, cond, ◌==◌, List, [], ◌∷◌, ◌++◌, Option, Some, None}
 use Rattle.pb_base.specs.declared.event.Event.{Event}
 use Rattle.pb_base.specs.declared.event.Event.TheVariants.{Granted, Returned, Printed, Faulted, Finished}
 use Rattle.pb_base.specs.declared.pick.Pick.{Pick}
+use Rattle.pb_history.specs.Entries.{are_same}
 use Rattle.pb_draw.specs.declared.bars.Turn.{Turn}
 use Rattle.pb_draw.specs.declared.bars.Turn.TheVariants.{Opens, Closes, Breaks, Other}
 use Rattle.pb_draw.specs.declared.drawing.Bar.{Bar}
 use Rattle.pb_draw.specs.declared.drawing.Mark.{Mark}
 
--- both are of one arm of one process
-abbrev pub is_arm : Pick → Pick → Bool
-is_arm a b = (a.process == b.process) && (a.arm == b.arm)
-
 -- what an event is to the last hold of an arm: a grant of that arm opens one inside it, a return of that arm
 -- closes it, and a fault of its process ends it
 abbrev pub hold_turn : Pick → Event → Turn
-hold_turn arm (Granted pick bundle) = cond (is_arm arm pick) Opens Other
-hold_turn arm (Returned pick bundle) = cond (is_arm arm pick) Closes Other
+hold_turn arm (Granted pick bundle) = cond (are_same arm pick) Opens Other
+hold_turn arm (Returned pick bundle) = cond (are_same arm pick) Closes Other
 hold_turn arm (Printed pick value) = Other
 hold_turn arm (Faulted pick kind) = cond (arm.process == pick.process) Breaks Other
 hold_turn arm (Finished process) = Other

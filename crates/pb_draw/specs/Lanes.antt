@@ -1,7 +1,8 @@
 -- The state of an arm over a run: away, going or waiting.
 use Rattle.std.specs.Prelude.{ℕ, Bool, true, false, cond, List, length, Option, Some, None, slice_get}
 use Rattle.pb_base.specs.declared.pick.Pick.{Pick}
-use Rattle.pb_code.specs.Code.{Instr, Push, Load, Store, Compute1, Compute2, Jump, JumpIfZero, PrintTop, Take, Give, Fork, Join, End, ProcessCode, CodeProcess, Thread, Idle, Live, Ended, thread}
+use Rattle.pb_code.specs.Code.{Instr, Push, Load, Store, Compute1, Compute2, Jump, JumpIfZero, PrintTop, Take, Give}
+use Rattle.pb_code.specs.Code.{Fork, Join, End, ProcessCode, CodeProcess, Thread, Idle, Live, Ended, thread}
 use Rattle.pb_code.specs.Whole.{Code}
 use Rattle.pb_history.specs.Positions.{state_after}
 use Rattle.pb_draw.specs.Curves.{IsCurve}

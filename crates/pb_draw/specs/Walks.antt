@@ -1,5 +1,5 @@
 -- A machine along a run, and what each pick shows.
-use Rattle.std.specs.Prelude.{◌≡◌, ℕ, List, Option, Some, None, option_and_then, slice_get}
+use Rattle.std.specs.Prelude.{ℕ, List, Option, Some, None, option_and_then, slice_get}
 use Rattle.pb_base.specs.declared.event.Event.{Event}
 use Rattle.pb_base.specs.declared.pick.Pick.{Pick}
 use Rattle.pb_base.specs.declared.step.Step.{Step}
@@ -8,9 +8,6 @@ use Rattle.pb_base.specs.Steppers.{State, Stepper, event_of, move_of}
 use Rattle.pb_code.specs.Code.{CodeProcess, code_step}
 use Rattle.pb_code.specs.Whole.{Code}
 use Rattle.pb_history.specs.Positions.{state_after}
-use Rattle.pb_machine.specs.Views.{machine_view, IsMachineOf}
-use Rattle.pb_machine.specs.declared.machine.Machine.{Machine}
-use Rattle.pb_verifier.specs.Verified.{VerifiedCode}
 
 -- the event of what a pick came to
 abbrev pub step_event : Step → Option Event

@@ -2,6 +2,7 @@
 
 ghost use Rattle.std.specs.Prelude.{◌≡◌, ◌++◌, IfOk, OnOk, if◌then◌else◌};
 ghost use Rattle.pb_draw.specs.Bars as spec;
+ghost use Rattle.pb_history.specs.Entries.{are_same};
 
 use crate::drawing::{Bar, Mark};
 use pb_base::{Event, NoMemory, Pick};
@@ -21,7 +22,7 @@ pub(crate) enum Turn {
 
 // Returns whether both are of one arm of one process.
 fn is_arm(a: Pick, b: Pick) -> bool
-    ensures { result ≡ spec.is_arm a b }
+    ensures { result ≡ are_same a b }
 {
     a.process == b.process && a.arm == b.arm
 }

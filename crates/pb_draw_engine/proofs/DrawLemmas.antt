@@ -6,7 +6,8 @@ use Rattle.pb_base.specs.Steppers.{State}
 use Rattle.pb_code.specs.Code.{CodeProcess}
 use Rattle.pb_code.specs.Whole.{Code, ProcessLabels}
 use Rattle.pb_codegen.specs.Compiled.{IsCompiled}
-use Rattle.pb_draw_engine.specs.Draws.{IsPictured, SaysOfDraw, SaysOfDrawnLines, not_made, no_memory, drawn, no_text, with_code}
+use Rattle.pb_draw_engine.specs.Draws.{IsPictured, SaysOfDraw, SaysOfDrawnLines, not_made, no_memory, drawn, no_text}
+use Rattle.pb_draw_engine.specs.Draws.{with_code}
 use Rattle.pb_engines.specs.Answers.{Says, Tells, memory_line}
 use Rattle.pb_engines.specs.Inputs.{SaysOfInput, too_long, nothing, not_read, read}
 use Rattle.pb_engines.specs.Inputs as input

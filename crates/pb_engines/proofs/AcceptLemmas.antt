@@ -5,7 +5,8 @@ use Rattle.pb_code.specs.Whole.{Code, ProcessLabels}
 use Rattle.pb_codegen.specs.Compiled.{IsCompiled}
 use Rattle.pb_claims.specs.Fits.{FitCapital}
 use Rattle.pb_base.specs.Lines.{line}
-use Rattle.pb_engines.specs.Refusals.{IsAcceptedText, RefusesEarly, RefusesWith, SaysOfRefusedText, early, refused as by_line}
+use Rattle.pb_engines.specs.Refusals.{IsAcceptedText, RefusesEarly, RefusesWith, SaysOfRefusedText, early}
+use Rattle.pb_engines.specs.Refusals.{refused as by_line}
 use Rattle.pb_engines.specs.declared.reply.Reply.{Reply}
 use Rattle.pb_engines.specs.declared.status.Status.{Status}
 use Rattle.pb_engines.specs.declared.status.Status.TheVariants.{Refused}

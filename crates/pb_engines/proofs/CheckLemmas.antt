@@ -1,9 +1,11 @@
 -- Texts that are looked at one after another, and their answers.
-use Rattle.std.proofs.Common.{◌≡◌, ℕ, ◌+◌, Bool, true, false, List, [], ◌∷◌, ◌++◌, drop, Option, Some, None, IfSome, IfNone, refl, sym, subst, inl, inr, append_assoc, append-nil, ◌||◌}
+use Rattle.std.proofs.Common.{◌≡◌, ℕ, ◌+◌, Bool, true, false, List, [], ◌∷◌, ◌++◌, drop, Option, Some, None, IfSome}
+use Rattle.std.proofs.Common.{IfNone, refl, sym, subst, inl, inr, append_assoc, append-nil, ◌||◌}
 use Rattle.pb_base.specs.Device.{AddsPrefix}
 use Rattle.pb_base.specs.Lines.{line}
 use Rattle.pb_engines.specs.Answers.{memory_line, Leaves, Says, Tells, Spoken}
-use Rattle.pb_engines.specs.Checks.{ill, AnswersTo, none, then, IsLeft, AreFirstParts, check_status, SaysOfChecks, answered, out_of_memory, cut_off, TellsAnswer, AreTold}
+use Rattle.pb_engines.specs.Checks.{ill, AnswersTo, none, then, IsLeft, AreFirstParts, check_status, SaysOfChecks}
+use Rattle.pb_engines.specs.Checks.{answered, out_of_memory, cut_off, TellsAnswer, AreTold}
 use Rattle.pb_engines.specs.Parts.{IsMarkAt, IsCutAt, AreParts, last, more}
 use Rattle.pb_engines.specs.Refusals.{RefusesWith}
 use Rattle.pb_engines.specs.declared.check.Told.TheVariants as told

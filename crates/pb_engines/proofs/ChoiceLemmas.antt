@@ -1,5 +1,6 @@
 -- Candidates for the next pick, found arm by arm.
-use Rattle.std.proofs.Common.{◌≡◌, ◌≢◌, ℕ, zero, suc, ◌+◌, ◌<◌, ◌≤◌, ◌⊎◌, inl, inr, List, [], ◌∷◌, ◌++◌, length, length-append, Some, All, refl, sym, ap, ◌∙◌, subst, arith}
+use Rattle.std.proofs.Common.{◌≡◌, ◌≢◌, ℕ, zero, suc, ◌+◌, ◌<◌, ◌≤◌, ◌⊎◌, inl, inr, List, [], ◌∷◌, ◌++◌, length}
+use Rattle.std.proofs.Common.{length-append, Some, All, refl, sym, ap, ◌∙◌, subst, arith}
 use Rattle.std.specs.Prelude.{Contains, option_and_then, remove, slice_get}
 use Rattle.std.proofs.lemmas.Bool.{cases_lt}
 use Rattle.std.proofs.lemmas.List.{get_or_append_left, get_or_at}
@@ -9,6 +10,7 @@ use Rattle.std.proofs.lemmas.Option.{get_or_from_slice_get, slice_get-get_or, sl
 use Rattle.std.proofs.lemmas.Nat.{mod_below}
 use Rattle.pb_base.specs.declared.pick.Pick.{Pick}
 use Rattle.pb_base.specs.Steppers.{State}
+use Rattle.pb_base.proofs.Lists.{get_some}
 use Rattle.pb_code.specs.Code.{CodeProcess, code_step}
 use Rattle.pb_code.specs.Reached.{CodeReaches, CodeStays}
 use Rattle.pb_code.specs.Whole.{Code}
@@ -16,7 +18,6 @@ use Rattle.pb_machine.proofs.NeverStuck.{goes_on}
 use Rattle.pb_machine.specs.Looks.{look_at, look_of, CanStep}
 use Rattle.pb_machine.specs.declared.look.Look.{Look}
 use Rattle.pb_machine.specs.declared.look.Look.TheVariants.{Stays, Silent, Visible}
-use Rattle.pb_verifier.proofs.LoansWithinClaims.{get_some}
 use Rattle.pb_verifier.specs.Verified.{VerifiedCode, IsVerified}
 use Rattle.rand_pcg.specs.Lcg.{Lcg}
 use Rattle.rand_pcg.specs.Pcg.{pcg32}

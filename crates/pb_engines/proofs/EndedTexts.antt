@@ -1,6 +1,7 @@
 -- A text that is cut into tokens: no line of it begins with a percent sign, and with a line feed behind it it
 -- has the same tokens.
-use Rattle.std.proofs.Common.{◌≡◌, ℕ, ◌+◌, ◌-◌, ◌<◌, ◌≤◌, ◌⊎◌, inl, inr, true, List, [], ◌∷◌, length, take, drop, get_or, slice_range, refl, sym, ap, ◌∙◌, subst, arith, append-nil, length-append}
+use Rattle.std.proofs.Common.{◌≡◌, ℕ, ◌+◌, ◌-◌, ◌<◌, ◌≤◌, ◌⊎◌, inl, inr, true, List, [], ◌∷◌, length, take, drop}
+use Rattle.std.proofs.Common.{get_or, slice_range, refl, sym, ap, ◌∙◌, subst, arith, append-nil, length-append}
 use Rattle.std.proofs.lemmas.Bool.{cases_lt}
 use Rattle.std.proofs.lemmas.List.{drop-append-le, get_or_at, get_or_append_left, length-drop, take-append-le}
 use Rattle.std.specs.List.{count_by}
@@ -12,7 +13,8 @@ use Rattle.pb_lexer.proofs.Bytes.{no_visible_feed, slice_here, slice_length}
 use Rattle.pb_lexer.proofs.Cuttings.{token_starts}
 use Rattle.pb_lexer.proofs.Forms.{form_visible}
 use Rattle.pb_lexer.proofs.Spellings.{starts}
-use Rattle.pb_lexer.specs.Cutting.{AreTokensOf, Cut, Cuts, IsComment, IsToken, Piece, blank, comment, line_at, more, nothing, token}
+use Rattle.pb_lexer.specs.Cutting.{AreTokensOf, Cut, Cuts, IsComment, IsToken, Piece, blank, comment, line_at, more}
+use Rattle.pb_lexer.specs.Cutting.{nothing, token}
 use Rattle.pb_lexer.specs.Forms.{Form, is_allowed, is_blank}
 use Rattle.pb_lexer.specs.Tokens.{Lexeme, Token}
 use Rattle.pb_base.specs.Lines.{line}

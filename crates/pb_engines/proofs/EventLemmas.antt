@@ -1,13 +1,14 @@
 -- The lines of events, told one after another.
-use Rattle.std.proofs.Common.{◌≡◌, ℕ, ◌+◌, ◌≤◌, List, [], ◌∷◌, ◌++◌, length, take, drop, Option, Some, refl, sym, ap, ◌∙◌, subst, inr, append-nil}
+use Rattle.std.proofs.Common.{◌≡◌, ℕ, ◌+◌, ◌≤◌, List, [], ◌∷◌, ◌++◌, length, take, drop, Option, Some, refl, sym, ap}
+use Rattle.std.proofs.Common.{◌∙◌, subst, inr, append-nil}
 use Rattle.std.proofs.lemmas.Grind.{flat_map-append}
 use Rattle.std.proofs.lemmas.List.{take_all}
 use Rattle.std.specs.Prelude.{slice_get}
 use Rattle.pb_base.specs.declared.event.Event.{Event}
 use Rattle.pb_base.specs.Device.{AddsPrefix}
 use Rattle.pb_base.specs.Lines.{NameTable, line_of, line}
+use Rattle.pb_base.proofs.Lists.{take_next}
 use Rattle.pb_history.proofs.SpanEvents.{take_drop}
-use Rattle.pb_machine.proofs.BuiltLists.{take_at}
 use Rattle.pb_engines.specs.Answers.{memory_line, Leaves, Says, Tells}
 use Rattle.pb_engines.specs.EventLines.{StopsIn, out_of_memory, cut_off}
 use Rattle.pb_engines.specs.Runs.{event_lines}
@@ -19,7 +20,7 @@ use Rattle.pb_engines.proofs.PageLemmas.{AddsPrefix-longer, AddsPrefix-more, Lea
 one_more_event : (names : NameTable) (events : List Event) (i : ℕ) (event : Event) → slice_get events i ≡ Some event
     → event_lines names (take (i + 1) events) ≡ event_lines names (take i events) ++ line (line_of names event)
 one_more_event names events i event there =
-    ap (event_lines names) (take_at events i event there)
+    ap (event_lines names) (take_next events i event there)
     ∙ (flat_map-append (λ e. line (line_of names e)) (take i events) (event ∷ [])
     ∙ ap (λ (more : List ℕ). event_lines names (take i events) ++ more) (append-nil (line (line_of names event))))
 

@@ -1,13 +1,14 @@
 -- A process has faulted exactly if a fault was shown.
-use Rattle.std.proofs.Common.{◌≡◌, ◌≢◌, ◌⊎◌, ℕ, zero, suc, List, [], ◌∷◌, ◌++◌, Option, Some, None, true, false, map, option_to_list, refl, sym, ap, ◌∙◌, subst, inl, inr, arith}
+use Rattle.std.proofs.Common.{◌≡◌, ◌⊎◌, ℕ, zero, suc, List, [], ◌∷◌, ◌++◌, Option, Some, None, true, false, map}
+use Rattle.std.proofs.Common.{option_to_list, refl, sym, ap, ◌∙◌, subst, inl, inr}
 use Rattle.std.specs.Prelude.{slice_get, slice_set}
-use Rattle.std.proofs.lemmas.Bool.{cases_lt}
 use Rattle.pb_base.specs.declared.event.Event.{Event}
 use Rattle.pb_base.specs.declared.event.Event.TheVariants.{Faulted}
 use Rattle.pb_base.specs.declared.operators.FaultKind.{FaultKind}
 use Rattle.pb_base.specs.declared.pick.Pick.{Pick}
 use Rattle.pb_base.specs.Steppers.{Effect, Faults, State, event_of}
 use Rattle.pb_base.specs.Steppers as effect
+use Rattle.pb_base.proofs.Cases.{same_or_not}
 use Rattle.pb_code.specs.Code.{CodeProcess, ProcessCode, code_process}
 use Rattle.pb_code.specs.Reached.{CodeMoves, CodeReaches}
 use Rattle.pb_code.specs.Whole.{code_opening}
@@ -44,15 +45,6 @@ shown_fault pick other kind (effect.Faults k) is = (k, refl)
 shown_fault pick other kind effect.Finishes is = absurd cc
 
 -- ---- one pick
-
-same_or_not : (i j : ℕ) → (i ≡ j) ⊎ (i ≢ j)
-same_or_not i j = elim (cases_lt i j) [
-  | inl less ↦ inr (λ same. omega (arith, less, same))
-  | inr not_less ↦ elim (cases_lt j i) [
-    | inl more ↦ inr (λ same. omega (arith, more, same))
-    | inr not_more ↦ inl (omega (arith, not_less, not_more))
-  ]
-]
 
 module _ (v : VerifiedCode) (verified : IsVerified v) where
   -- after a pick some process has faulted exactly if one had, or if the pick shows a fault

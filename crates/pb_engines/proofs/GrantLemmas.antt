@@ -1,14 +1,18 @@
 -- Each request is allowed or is not, and each pick is enabled or is not.
-use Rattle.std.proofs.Common.{◌≡◌, ℕ, zero, suc, ◌+◌, ◌<◌, ◌≤◌, ◌⊎◌, inl, inr, Bool, true, false, List, [], ◌∷◌, ◌++◌, length, length-append, get_or, set, replicate, All, Option, Some, None, refl, sym, ◌∙◌, subst, arith}
+use Rattle.std.proofs.Common.{◌≡◌, ℕ, zero, suc, ◌+◌, ◌<◌, ◌≤◌, ◌⊎◌, inl, inr, Bool, true, false, List, [], ◌∷◌, ◌++◌}
+use Rattle.std.proofs.Common.{length, length-append, get_or, set, replicate, All, Option, Some, None, refl, sym, ◌∙◌}
+use Rattle.std.proofs.Common.{subst, arith}
 use Rattle.std.proofs.lemmas.Bool.{cases_lt, false≢true}
 use Rattle.std.proofs.lemmas.List.{get_or-replicate, length-replicate, length-set}
 use Rattle.std.proofs.lemmas.List.Elements.{All-cons, All-head, All-nil, All-tail}
-use Rattle.pb_banker.proofs.Filtered.{bool_cases}
 use Rattle.pb_banker.proofs.Search.{Progress, Progress-all, Progress-more, Progress-start, Progress-unsafe}
-use Rattle.pb_base.specs.Banker.{BankerState, FitsAfter, IsAllowed, IsSafe, IsWithinCash, IsWithinClaim, cash, claim, held_by, loan, processes, remaining_claim, resources, with_loan}
+use Rattle.pb_base.specs.Banker.{BankerState, FitsAfter, IsAllowed, IsSafe, IsWithinCash, IsWithinClaim, cash, claim}
+use Rattle.pb_base.specs.Banker.{held_by, loan, processes, remaining_claim, resources, with_loan}
 use Rattle.pb_base.specs.declared.pair.Pair.{Pair}
 use Rattle.pb_base.specs.declared.pick.Pick.{Pick}
-use Rattle.pb_base.specs.Steppers.{Bank, Bundle, Effect, Faults, Finishes, IsGranted, Move, Prints, Returns, Silent, State, Table, Takes, banker_state, move_of}
+use Rattle.pb_base.specs.Steppers.{Bank, Bundle, Effect, Faults, Finishes, IsGranted, Move, Prints, Returns, Silent}
+use Rattle.pb_base.specs.Steppers.{State, Table, Takes, banker_state, move_of}
+use Rattle.pb_base.proofs.Cases.{bool_cases}
 use Rattle.pb_code.specs.Code.{CodeProcess, code_step}
 use Rattle.pb_code.specs.Reached.{CodeStays}
 use Rattle.pb_code.specs.Whole.{Code, bank_of}

@@ -1,5 +1,6 @@
 -- From what was read, and what is said of it, to what is said of an input.
-use Rattle.std.proofs.Common.{◌≡◌, ℕ, ◌<◌, ◌≤◌, List, [], ◌++◌, length, Option, Some, None, IfSome, IfOk, OnErr, Result, Ok, Err, refl, subst, ◌∙◌, inl, inr, codes}
+use Rattle.std.proofs.Common.{◌≡◌, ℕ, ◌<◌, ◌≤◌, List, [], ◌++◌, length, Option, Some, None, IfSome, IfOk, OnErr}
+use Rattle.std.proofs.Common.{Result, Ok, Err, refl, subst, ◌∙◌, inl, inr, codes}
 use Rattle.pb_base.specs.Device.{one_more_failure}
 use Rattle.pb_base.specs.declared.memory.NoMemory.{NoMemory}
 use Rattle.pb_base.specs.Lines.{line}

@@ -1,5 +1,7 @@
 -- A run of too many counted picks, however it goes on, is too long for an input.
-use Rattle.std.proofs.Common.{◌≡◌, ◌≢◌, ℕ, zero, suc, ◌+◌, ◌*◌, ◌<◌, ◌≤◌, ◌⊎◌, inl, inr, Result, Ok, Err, IfOk, List, [], ◌∷◌, ◌++◌, length, replicate, take, Option, Some, None, option_to_list, refl, sym, ap, subst, ◌∙◌, append-nil, append_assoc, length-append, arith, codes}
+use Rattle.std.proofs.Common.{◌≡◌, ◌≢◌, ℕ, zero, suc, ◌+◌, ◌*◌, ◌<◌, ◌≤◌, ◌⊎◌, inl, inr, Result, Ok, Err, IfOk, List}
+use Rattle.std.proofs.Common.{[], ◌∷◌, ◌++◌, length, replicate, take, Option, Some, None, option_to_list, refl, sym}
+use Rattle.std.proofs.Common.{ap, subst, ◌∙◌, append-nil, append_assoc, length-append, arith, codes}
 use Rattle.std.specs.Prelude.{MatchOption}
 use Rattle.std.proofs.lemmas.Bool.{cases_order}
 use Rattle.std.proofs.lemmas.Fmt.{decimal_nonempty}

@@ -1,5 +1,6 @@
 -- Texts that are said one after another.
-use Rattle.std.proofs.Common.{◌≡◌, ◌++◌, ℕ, List, [], Option, Some, None, refl, subst, ap, sym, ◌∙◌, append_assoc, append-nil, inl, inr, Result, Ok, Err, OnErr}
+use Rattle.std.proofs.Common.{◌≡◌, ◌++◌, ℕ, List, [], Option, Some, None, refl, subst, ap, sym, ◌∙◌, append_assoc}
+use Rattle.std.proofs.Common.{append-nil, inl, inr, Result, Ok, Err, OnErr}
 use Rattle.pb_base.specs.Device.{appended, one_more_failure, AddsPrefix}
 use Rattle.pb_base.proofs.DeviceLemmas.{appended-appended}
 use Rattle.pb_engines.specs.declared.status.Status.{Status}

@@ -1,5 +1,7 @@
 -- Picks of a run that are recorded, one after another, and what is written of them.
-use Rattle.std.proofs.Common.{◌≡◌, ◌≢◌, ℕ, zero, suc, ◌+◌, ◌-◌, ◌<◌, ◌≤◌, List, [], ◌∷◌, ◌++◌, length, replicate, Option, Some, None, IfErr, IfSome, MatchOption, refl, sym, ap, subst, ◌∙◌, append-nil, append_assoc, length-append, inl, inr, arith, codes, Result, Ok, Err, IfOk}
+use Rattle.std.proofs.Common.{◌≡◌, ◌≢◌, ℕ, zero, suc, ◌+◌, ◌-◌, ◌<◌, ◌≤◌, List, [], ◌∷◌, ◌++◌, length, replicate}
+use Rattle.std.proofs.Common.{Option, Some, None, IfErr, IfSome, MatchOption, refl, sym, ap, subst, ◌∙◌, append-nil}
+use Rattle.std.proofs.Common.{append_assoc, length-append, inl, inr, arith, codes, Result, Ok, Err, IfOk}
 use Rattle.std.specs.Prelude.{All, slice_get, slice_index_or}
 use Rattle.std.proofs.lemmas.Option.{slice_get_within}
 use Rattle.pb_base.specs.Lines.{HasProcess, NameTable, line}
@@ -10,9 +12,11 @@ use Rattle.pb_base.specs.declared.event.Event.{Event}
 use Rattle.pb_base.specs.declared.memory.NoMemory.{NoMemory}
 use Rattle.pb_base.specs.declared.pick.Pick.{Pick}
 use Rattle.pb_base.specs.Steppers.{Makes, State, event_of}
+use Rattle.pb_base.proofs.Lists.{get_some}
 use Rattle.pb_code.specs.Code.{CodeProcess, ProcessCode, code_step}
 use Rattle.pb_code.specs.Reached.{CodeMoves, CodeReaches}
 use Rattle.pb_code.specs.Whole.{Code, bank_of, code_opening}
+use Rattle.pb_code.proofs.StayingPicks.{no_such_process}
 use Rattle.pb_history.specs.Replays.{spread}
 use Rattle.pb_history.specs.declared.counted.CountedPick.{CountedPick}
 use Rattle.pb_history.proofs.TraceSteps.{replicate_more}
@@ -21,7 +25,7 @@ use Rattle.pb_machine.specs.Steps.{MovesSilently}
 use Rattle.pb_picks.specs.Counted.{AreApart}
 use Rattle.pb_picks.specs.Laws.{CanBeSaid}
 use Rattle.pb_picks.specs.PickLines.{SpellsPick, pick_line, pick_lines}
-use Rattle.pb_verifier.proofs.LoansWithinClaims.{kept_reached, get_some}
+use Rattle.pb_verifier.proofs.LoansWithinClaims.{kept_reached}
 use Rattle.pb_verifier.specs.Verified.{IsAnnotated}
 use Rattle.pb_verifier.specs.declared.fault.VerifyFault.TheVariants.{OutOfLimits}
 use Rattle.pb_workers.specs.declared.fault.RunFault.{RunFault}
@@ -30,14 +34,15 @@ use Rattle.pb_engines.specs.Draws.{IsDrawnRun}
 use Rattle.pb_engines.specs.Schedule.{MakesAtMost, StepsSome}
 use Rattle.pb_engines.specs.declared.schedule.Next.{Next}
 use Rattle.pb_engines.specs.declared.schedule.Next.TheVariants.{Silent, Did, NotEnabled}
-use Rattle.pb_engines.specs.Records.{IsEnded, IsRecorded, IsTooLong, SaysOfRecording, no_threads, too_long, with_picks, written}
+use Rattle.pb_engines.specs.Records.{IsEnded, IsRecorded, IsTooLong, SaysOfRecording, no_threads, too_long}
+use Rattle.pb_engines.specs.Records.{with_picks, written}
 use Rattle.pb_engines.specs.Runs.{IsDone, Run}
 use Rattle.pb_engines.specs.declared.reply.Reply.{Reply}
 use Rattle.pb_engines.specs.declared.status.Status.{Status}
 use Rattle.pb_engines.specs.declared.status.Status.TheVariants.{Done, Refused, Threads}
 use Rattle.pb_engines.proofs.Apart.{apart_rest, some_first}
 use Rattle.pb_engines.proofs.RunLemmas.{CodeMakes, makes_last}
-use Rattle.pb_engines.proofs.ScheduleLemmas.{no_such_arm, no_such_process}
+use Rattle.pb_engines.proofs.ScheduleLemmas.{no_such_arm}
 
 -- ---- picks that are made
 

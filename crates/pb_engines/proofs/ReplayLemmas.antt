@@ -1,5 +1,6 @@
 -- Picks that are made again, and their events, told one after another.
-use Rattle.std.proofs.Common.{◌≡◌, ℕ, zero, suc, ◌≤◌, List, [], ◌∷◌, ◌++◌, length, take, Option, Some, None, All, option_to_list, Result, Ok, Err, IfOk, OnErr, refl, sym, ap, subst, inl, inr, arith}
+use Rattle.std.proofs.Common.{◌≡◌, ℕ, zero, suc, ◌≤◌, List, [], ◌∷◌, ◌++◌, length, take, Option, Some, None, All}
+use Rattle.std.proofs.Common.{option_to_list, Result, Ok, Err, IfOk, OnErr, refl, sym, ap, subst, inl, inr, arith}
 use Rattle.std.proofs.lemmas.List.{length-map}
 use Rattle.pb_base.specs.declared.event.Event.{Event}
 use Rattle.pb_base.specs.declared.memory.NoMemory.{NoMemory}
@@ -22,7 +23,9 @@ use Rattle.pb_engines.specs.Parts.{AreTwoParts}
 use Rattle.pb_engines.specs.Inputs.{SaysOfInput, too_long, nothing, not_read, read}
 use Rattle.pb_engines.specs.Inputs as input
 use Rattle.pb_engines.specs.Refusals.{SaysOfRefusedText, refused as by_line}
-use Rattle.pb_engines.specs.ReplayLines.{AreReplayed, IsLastLine, IsStatusAt, SaysOfEvents, SaysOfLines, SaysOfNoPicks, SaysOfReplay, all_told, out_of_memory, not_made, no_memory, replayed, no_text, no_picks, made_again}
+use Rattle.pb_engines.specs.ReplayLines.{AreReplayed, IsLastLine, IsStatusAt, SaysOfEvents, SaysOfLines}
+use Rattle.pb_engines.specs.ReplayLines.{SaysOfNoPicks, SaysOfReplay, all_told, out_of_memory, not_made, no_memory}
+use Rattle.pb_engines.specs.ReplayLines.{replayed, no_text, no_picks, made_again}
 use Rattle.pb_engines.specs.Runs.{event_lines}
 use Rattle.pb_engines.specs.declared.reply.Reply.{Reply}
 use Rattle.pb_engines.specs.declared.status.Status.{Status}

@@ -1,5 +1,6 @@
 -- What was recorded can be replayed.
-use Rattle.std.proofs.Common.{◌≡◌, ◌≢◌, ℕ, zero, suc, ◌<◌, ◌≤◌, ◌⊎◌, List, [], ◌∷◌, length, length-append, take, Option, Some, None, refl, sym, ap, subst, ◌∙◌, inl, inr, arith}
+use Rattle.std.proofs.Common.{◌≡◌, ◌≢◌, ℕ, zero, suc, ◌<◌, ◌≤◌, ◌⊎◌, List, [], ◌∷◌, length, length-append, take}
+use Rattle.std.proofs.Common.{Option, Some, None, refl, sym, ap, subst, ◌∙◌, inl, inr, arith}
 use Rattle.std.specs.Prelude.{slice_get}
 use Rattle.pb_base.specs.declared.event.Event.{Event}
 use Rattle.pb_base.specs.declared.pick.Pick.{Pick}
@@ -26,9 +27,12 @@ use Rattle.pb_verifier.specs.Verified.{IsAnnotated}
 use Rattle.pb_verifier.specs.declared.fault.VerifyFault.TheVariants.{OutOfLimits}
 use Rattle.pb_engines.specs.RecordLaws.{HoldsRun, RecordsCanBeReplayed}
 use Rattle.pb_engines.specs.Parts.{AreTwoParts}
-use Rattle.pb_engines.specs.Records.{EndsLine, IsEnded, IsRecorded, SaysOfRecord, SaysOfRecording, accepted, no_threads, refused, too_long, with_picks, written}
+use Rattle.pb_engines.specs.Records.{EndsLine, IsEnded, IsRecorded, SaysOfRecord, SaysOfRecording, accepted}
+use Rattle.pb_engines.specs.Records.{no_threads, refused, too_long, with_picks, written}
 use Rattle.pb_engines.specs.Refusals.{RefusesWith, refused as by_line}
-use Rattle.pb_engines.specs.ReplayLines.{IsLinesFault, SaysOfEvents, SaysOfReplay, all_told, lines_line, made_again, no_fault, no_picks, no_text, out_of_memory, picks_line, refused as not_made, some_fault, stop_line}
+use Rattle.pb_engines.specs.ReplayLines.{IsLinesFault, SaysOfEvents, SaysOfReplay, all_told, lines_line, made_again}
+use Rattle.pb_engines.specs.ReplayLines.{no_fault, no_picks, no_text, out_of_memory, picks_line, refused as not_made}
+use Rattle.pb_engines.specs.ReplayLines.{some_fault, stop_line}
 use Rattle.pb_engines.specs.declared.replay.LinesFault.{LinesFault}
 use Rattle.pb_engines.specs.declared.replay.LinesFault.TheVariants.{NotMade, NotRead}
 use Rattle.pb_engines.specs.declared.status.Status.{Status}

@@ -1,5 +1,6 @@
 -- What workers report, as a run of the code, and what is said of it.
-use Rattle.std.proofs.Common.{◌≡◌, ℕ, zero, suc, ◌≤◌, List, [], ◌∷◌, ◌++◌, length, take, All, Option, Some, None, option_to_list, refl, sym, ap, ◌∙◌, subst, arith, codes}
+use Rattle.std.proofs.Common.{◌≡◌, ℕ, zero, suc, ◌≤◌, List, [], ◌∷◌, ◌++◌, length, take, All, Option, Some, None}
+use Rattle.std.proofs.Common.{option_to_list, refl, sym, ap, ◌∙◌, subst, arith, codes}
 use Rattle.std.specs.Fmt.{decimal}
 use Rattle.std.proofs.lemmas.List.{length-map}
 use Rattle.pb_base.specs.declared.event.Event.{Event}
@@ -25,7 +26,8 @@ use Rattle.pb_engines.specs.EventLines as stop
 use Rattle.pb_engines.specs.Outcomes.{SaysOfOutcome, ShowsFault, all_done, some_fault, used_up}
 use Rattle.pb_engines.specs.RunLaws.{ReportsFollowTheSource}
 use Rattle.pb_engines.specs.Records.{IsRecorded}
-use Rattle.pb_engines.specs.Runs.{IsDone, Run, SaysOfCodeRun, event_lines, at_limit, cut_off, done, faulted, no_threads, out_of_memory}
+use Rattle.pb_engines.specs.Runs.{IsDone, Run, SaysOfCodeRun, event_lines, at_limit, cut_off, done, faulted}
+use Rattle.pb_engines.specs.Runs.{no_threads, out_of_memory}
 use Rattle.pb_engines.specs.declared.status.Status.{Status}
 use Rattle.pb_engines.specs.declared.status.Status.TheVariants.{Done, Fault, Limit, Memory, Threads}
 use Rattle.pb_engines.proofs.FaultLemmas.{faults_are_shown, shown_faults_are}

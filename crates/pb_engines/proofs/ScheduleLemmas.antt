@@ -1,27 +1,20 @@
 -- Picks that are tried.
-use Rattle.std.proofs.Common.{◌≡◌, ◌≢◌, ℕ, zero, suc, ◌<◌, ◌≤◌, List, [], length, get_or, Option, Some, None, option_and_then, option_map, refl, sym, ap, ◌∙◌, subst, arith}
+use Rattle.std.proofs.Common.{◌≡◌, ◌≢◌, ℕ, zero, suc, ◌<◌, ◌≤◌, List, length, get_or, Option, Some, None}
+use Rattle.std.proofs.Common.{option_and_then, option_map, refl, sym, ap, ◌∙◌, subst, arith}
 use Rattle.std.proofs.lemmas.List.{get_or_past}
-use Rattle.std.proofs.lemmas.Option.{slice_get_past, slice_get_within, slice_get-get_or}
 use Rattle.std.specs.Prelude.{slice_get}
 use Rattle.pb_base.specs.declared.pick.Pick.{Pick}
-use Rattle.pb_base.specs.Steppers.{Effect, State, move_of, moved}
+use Rattle.pb_base.specs.Steppers.{Effect, State, moved}
 use Rattle.pb_base.specs.Steppers as effect
 use Rattle.pb_code.specs.Code.{ProcessCode, CodeProcess, Idle, thread, step_thread, code_step}
 use Rattle.pb_code.specs.Reached.{CodeStays}
 use Rattle.pb_code.specs.Whole.{Code}
-use Rattle.pb_machine.specs.Views.{machine_view, IsMachineOf}
-use Rattle.pb_machine.specs.declared.machine.Machine.{Machine}
-use Rattle.pb_verifier.proofs.LoansWithinClaims.{kept_reached}
-use Rattle.pb_verifier.specs.declared.fault.VerifyFault.TheVariants.{OutOfLimits}
-use Rattle.pb_verifier.specs.Verified.{VerifiedCode, IsVerified}
+use Rattle.pb_code.proofs.StayingPicks.{stays_without_move}
 use Rattle.pb_machine.specs.Looks.{look_at, look_of}
 use Rattle.pb_machine.specs.Steps.{MovesSilently}
 use Rattle.pb_machine.specs.declared.look.Look.TheVariants as look
 
 -- ---- picks of what is not there
-
-stays_where_none : (code : Code) (s : State CodeProcess) (pick : Pick) → move_of (code_step code.processes) s pick ≡ None → CodeStays code s pick
-stays_where_none code s pick none move is granted = let both : Some move ≡ None = sym is ∙ none in cc
 
 pub no_step_beyond : (codes : List ProcessCode) (p : ℕ) (process : CodeProcess) (a : ℕ) → length process.threads ≤ a
     → code_step codes p process a ≡ None
@@ -35,20 +28,14 @@ no_step_beyond codes p process a long = go (slice_get codes p)
 pub no_such_arm : (code : Code) (s : State CodeProcess) (pick : Pick) (process : CodeProcess) → slice_get s.processes pick.process ≡ Some process
     → length process.threads ≤ pick.arm → CodeStays code s pick
 no_such_arm code s pick process there long =
-    stays_where_none code s pick (
+    stays_without_move code s pick (
     ap (option_and_then (λ p. option_map (moved s pick) (code_step code.processes pick.process p pick.arm))) there
     ∙ ap (option_map (moved s pick)) (no_step_beyond code.processes pick.process process pick.arm long)
     )
 
--- a process that is not there
-pub no_such_process : (code : Code) (s : State CodeProcess) (pick : Pick) → length s.processes ≤ pick.process → CodeStays code s pick
-no_such_process code s pick long =
-    stays_where_none code s pick
-    (ap (option_and_then (λ p. option_map (moved s pick) (code_step code.processes pick.process p pick.arm))) (slice_get_past s.processes pick.process long))
-
 -- a pick that looks as if it stays is not enabled
 pub looks_staying : (code : Code) (s : State CodeProcess) (pick : Pick) → look_at code s pick ≡ look.Stays → CodeStays code s pick
-looks_staying code s pick stays = stays_where_none code s pick (go (slice_get s.processes pick.process) stays)
+looks_staying code s pick stays = stays_without_move code s pick (go (slice_get s.processes pick.process) stays)
   where
     none : (process : CodeProcess) (made : Option (CodeProcess × Effect)) → look_of made ≡ look.Stays
         → option_map (moved s pick) made ≡ None

@@ -1,5 +1,6 @@
 -- A seed draws one run, and what is recorded of it is the same each time.
-use Rattle.std.proofs.Common.{◌≡◌, ℕ, zero, suc, ◌+◌, ◌<◌, ◌⊎◌, List, [], ◌∷◌, ◌++◌, length, length-append, Option, Some, refl, sym, ap, subst, ◌∙◌, inl, inr, arith}
+use Rattle.std.proofs.Common.{◌≡◌, ℕ, zero, suc, ◌+◌, ◌<◌, ◌⊎◌, List, [], ◌∷◌, ◌++◌, length, length-append, Option}
+use Rattle.std.proofs.Common.{Some, refl, sym, ap, subst, ◌∙◌, inl, inr, arith}
 use Rattle.std.specs.Prelude.{Contains, remove, slice_get}
 use Rattle.std.proofs.lemmas.Bool.{cases_order}
 use Rattle.std.proofs.lemmas.List.Elements.{All-contains}
@@ -20,7 +21,8 @@ use Rattle.rand_pcg.specs.Lcg.{Lcg}
 use Rattle.rand_pcg.specs.Pcg.{pcg32}
 use Rattle.pb_machine.specs.Looks.{CanStep}
 use Rattle.pb_engines.specs.Choices.{AreCandidates, AreInOrder, IsBefore}
-use Rattle.pb_engines.specs.Draws.{Draws, DrawsPick, DrawsRun, drawn_number, generator_of, hit, one_more, opening, struck}
+use Rattle.pb_engines.specs.Draws.{Draws, DrawsPick, DrawsRun, drawn_number, generator_of, hit, one_more, opening}
+use Rattle.pb_engines.specs.Draws.{struck}
 use Rattle.pb_engines.specs.RecordLaws.{SeedsWriteOneRecord}
 use Rattle.pb_engines.specs.Records.{IsEnded, IsRecorded, with_picks}
 use Rattle.pb_engines.specs.Runs.{IsDone, Run}

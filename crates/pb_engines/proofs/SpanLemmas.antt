@@ -1,17 +1,16 @@
 -- The picks of the spans that entries fall into.
-use Rattle.std.proofs.Common.{◌≡◌, ℕ, zero, suc, ◌+◌, ◌<◌, ◌≤◌, List, [], ◌∷◌, ◌++◌, length, take, replicate, Bool, true, false, Some, refl, sym, ap, ◌∙◌, subst, append-nil, append_assoc, length-append, arith}
+use Rattle.std.proofs.Common.{◌≡◌, ℕ, zero, suc, ◌+◌, ◌<◌, ◌≤◌, List, [], ◌∷◌, ◌++◌, length, take, replicate, Bool}
+use Rattle.std.proofs.Common.{true, false, Some, refl, sym, ap, ◌∙◌, subst, append-nil, append_assoc, length-append}
+use Rattle.std.proofs.Common.{arith}
 use Rattle.std.specs.Prelude.{cond, not, ◌&&◌, slice_get}
 use Rattle.std.proofs.lemmas.List.{length-map, length-replicate, take_all}
 use Rattle.pb_base.specs.declared.pick.Pick.{Pick}
+use Rattle.pb_base.proofs.Cases.{both_true}
 use Rattle.pb_history.specs.Entries.{Entry, all_picks, are_same, before, is_shown, picks_of, spans_of}
 use Rattle.pb_history.specs.Replays.{spread}
 use Rattle.pb_history.specs.declared.counted.CountedPick.{CountedPick}
 use Rattle.pb_history.specs.declared.span.Span.{Span}
 use Rattle.pb_history.proofs.SpansOfEntries.{same_pick}
-
-both : (a b : Bool) → (a && b) ≡ true → b ≡ true
-both true b h = h
-both false b h = absurd cc
 
 -- one entry before spans is one pick before theirs
 before_picks : (e : Entry) (spans : List Span) → all_picks (before e spans) ≡ e.pick ∷ all_picks spans
@@ -22,7 +21,7 @@ before_picks e (s ∷ spans) = go (not (is_shown e.event) && are_same e.pick s.p
         → all_picks (cond joins (record s { count = s.count + 1 } ∷ spans) (record { pick = e.pick; count = 1; shows = is_shown e.event } ∷ (s ∷ spans)))
         ≡ e.pick ∷ all_picks (s ∷ spans)
     go true is =
-        let same : e.pick ≡ s.pick = same_pick e.pick s.pick (both (not (is_shown e.event)) (are_same e.pick s.pick) is) in
+        let same : e.pick ≡ s.pick = same_pick e.pick s.pick (both_true (not (is_shown e.event)) (are_same e.pick s.pick) is).1 in
         let one : s.count + 1 ≡ suc s.count = omega arith in
         ap (λ (n : ℕ). replicate n s.pick ++ all_picks spans) one
         ∙ ap (λ (p : Pick). p ∷ (replicate s.count s.pick ++ all_picks spans)) (sym same)

@@ -1,11 +1,13 @@
 -- From what is said of code, or of a fault, to what is said of a text.
-use Rattle.std.proofs.Common.{◌≡◌, ℕ, ◌≤◌, List, [], length, Option, Some, None, refl, sym, ap, subst, inl, arith, append-nil}
+use Rattle.std.proofs.Common.{◌≡◌, ℕ, ◌≤◌, List, [], length, Option, Some, None, refl, sym, ap, subst, inl, arith}
+use Rattle.std.proofs.Common.{append-nil}
 use Rattle.pb_base.specs.declared.event.Event.{Event}
 use Rattle.pb_code.specs.Whole.{Code, ProcessLabels, CodeCan, code_opening}
 use Rattle.pb_codegen.specs.Compiled.{IsCompiled}
 use Rattle.pb_engines.specs.Answers.{Says, Tells}
 use Rattle.pb_engines.specs.Refusals.{SaysOfRefusedText, refused as by_line}
-use Rattle.pb_engines.specs.Runs.{SaysOfRun, done, faulted, at_limit, out_of_memory, cut_off, no_threads, SaysOfCodeRun, SaysOfTextRun, refused, accepted}
+use Rattle.pb_engines.specs.Runs.{SaysOfRun, done, faulted, at_limit, out_of_memory, cut_off, no_threads}
+use Rattle.pb_engines.specs.Runs.{SaysOfCodeRun, SaysOfTextRun, refused, accepted}
 use Rattle.pb_engines.specs.Inputs.{SaysOfInput, read}
 use Rattle.pb_engines.specs.declared.status.Status.{Status}
 use Rattle.pb_engines.specs.declared.status.Status.TheVariants.{Device}

@@ -1,6 +1,6 @@
 -- What a command writes, and its status: lines, of which being out of memory or a fault of a device may cut
 -- off the rest.
-use Rattle.std.specs.Prelude.{◌≡◌, ◌++◌, ◌⊎◌, ℕ, List, [], ◌∷◌, Option, codes}
+use Rattle.std.specs.Prelude.{◌≡◌, ◌++◌, ◌⊎◌, ℕ, List, Option, codes}
 use Rattle.pb_base.specs.Device.{appended, AddsPrefix}
 use Rattle.pb_engines.specs.declared.status.Status.{Status}
 use Rattle.pb_engines.specs.declared.status.Status.TheVariants.{Device}

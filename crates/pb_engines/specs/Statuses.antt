@@ -1,7 +1,8 @@
 -- The exit status of the program.
 use Rattle.std.specs.Prelude.{ℕ}
 use Rattle.pb_engines.specs.declared.status.Status.{Status}
-use Rattle.pb_engines.specs.declared.status.Status.TheVariants.{Done, Refused, Words, Limit, Fault, Memory, Device, Threads}
+use Rattle.pb_engines.specs.declared.status.Status.TheVariants.{Done, Refused, Words, Limit, Fault, Memory, Device}
+use Rattle.pb_engines.specs.declared.status.Status.TheVariants.{Threads}
 
 -- the number of each status
 abbrev pub status_number : Status → ℕ

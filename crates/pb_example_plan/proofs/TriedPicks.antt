@@ -1,33 +1,18 @@
 -- Picks that are tried one after another.
-use Rattle.std.proofs.Common.{◌≡◌, ℕ, ◌+◌, ◌<◌, ◌≤◌, List, [], length, get_or, Option, Some, None, option_and_then, option_map, refl, sym, ap, ◌∙◌, subst, inl, inr, arith}
+use Rattle.std.proofs.Common.{◌≡◌, ℕ, ◌+◌, ◌<◌, ◌≤◌, length, Some}
+use Rattle.std.proofs.Common.{sym, ◌∙◌, subst, inl, inr, arith}
 use Rattle.std.proofs.lemmas.Bool.{cases_lt}
-use Rattle.std.proofs.lemmas.List.{get_or_past}
-use Rattle.std.proofs.lemmas.Option.{slice_get_past, slice_get_within, slice_get-get_or}
-use Rattle.std.specs.Prelude.{slice_get}
 use Rattle.pb_base.specs.declared.pick.Pick.{Pick}
 use Rattle.pb_base.specs.declared.step.Step.TheVariants.{NotEnabled}
-use Rattle.pb_base.specs.Steppers.{State, move_of, moved}
-use Rattle.pb_code.specs.Code.{ProcessCode, CodeProcess, Idle, thread, step_thread, code_step}
+use Rattle.pb_base.specs.Steppers.{State}
+use Rattle.pb_code.specs.Code.{CodeProcess}
 use Rattle.pb_code.specs.Reached.{CodeReaches, CodeStays}
 use Rattle.pb_code.specs.Whole.{Code}
-use Rattle.pb_machine.specs.Views.{machine_view, IsMachineOf}
-use Rattle.pb_machine.specs.declared.machine.Machine.{Machine}
+use Rattle.pb_code.proofs.StayingPicks.{no_such_process}
 use Rattle.pb_machine.proofs.NeverStuck.{goes_on}
-use Rattle.pb_verifier.proofs.LoansWithinClaims.{kept_reached}
-use Rattle.pb_verifier.specs.declared.fault.VerifyFault.TheVariants.{OutOfLimits}
 use Rattle.pb_verifier.specs.Verified.{VerifiedCode, IsVerified}
-use Rattle.pb_example_plan.specs.Schedule.{MakesSome, MakesSomeOf}
+use Rattle.pb_example_plan.specs.Schedule.{MakesSome}
 use Rattle.pb_verifier.proofs.Requests.{same_pick}
-
--- ---- picks of what is not there
-
-stays_without_move : (code : Code) (s : State CodeProcess) (pick : Pick) → move_of (code_step code.processes) s pick ≡ None → CodeStays code s pick
-stays_without_move code s pick none move is granted = let both : Some move ≡ None = sym is ∙ none in cc
-
-no_such_process : (code : Code) (s : State CodeProcess) (pick : Pick) → length s.processes ≤ pick.process → CodeStays code s pick
-no_such_process code s pick long =
-    stays_without_move code s pick
-    (ap (option_and_then (λ p. option_map (moved s pick) (code_step code.processes pick.process p pick.arm))) (slice_get_past s.processes pick.process long))
 
 -- ---- those that were tried
 

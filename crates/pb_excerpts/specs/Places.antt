@@ -1,5 +1,6 @@
 -- Where a byte of a text is, and how that is shown.
-use Rattle.std.specs.Prelude.{◌≡◌, ◌≢◌, ◌<◌, ◌≤◌, ◌⊎◌, ◌||◌, ◌&&◌, ◌==◌, ℕ, ◌+◌, ◌-◌, min, List, ◌++◌, length, map, codes, slice_index, slice_range, if◌then◌else◌, nat_le}
+use Rattle.std.specs.Prelude.{◌≡◌, ◌≢◌, ◌<◌, ◌≤◌, ◌⊎◌, ◌||◌, ◌&&◌, ◌==◌, ℕ, ◌+◌, ◌-◌, min, List, ◌++◌, length, map}
+use Rattle.std.specs.Prelude.{codes, slice_index, slice_range, if◌then◌else◌, nat_le}
 use Rattle.std.specs.Fmt.{decimal}
 use Rattle.pb_lexer.specs.Cutting.{line_at}
 use Rattle.pb_excerpts.specs.declared.place.Place.{Place}

@@ -1,14 +1,13 @@
 -- From the reply of `explain` to what is written, and the list so far with one code more.
-use Rattle.std.proofs.Common.{◌≡◌, ◌+◌, ◌<◌, ◌≤◌, ◌++◌, ◌∷◌, ◌∙◌, ℕ, List, [], Option, Result, Ok, Err, IfOk, OnErr, ap, append_assoc, get_or, length, sym, take}
-use Rattle.std.proofs.lemmas.List.{flat_map_more, take_more}
+use Rattle.std.proofs.Common.{◌≡◌, ◌+◌, ◌++◌, ◌∙◌, ℕ, List, Option, Result, Ok, Err, IfOk, OnErr}
+use Rattle.std.proofs.Common.{ap, append_assoc}
 use Rattle.pb_base.specs.declared.memory.NoMemory.{NoMemory}
 use Rattle.pb_engines.specs.Answers.{Says, Tells, memory_line}
 use Rattle.pb_engines.specs.declared.reply.Reply.{Reply}
 use Rattle.pb_engines.specs.declared.status.Status.{Status}
 use Rattle.pb_engines.specs.declared.status.Status.TheVariants.{Memory}
 use Rattle.pb_refusals.specs.declared.code.Code.{Code}
-use Rattle.pb_explain.specs.Entries.{entry_of}
-use Rattle.pb_explain.specs.Pages.{SaysOfExplain, title_line, list_of_codes, no_memory}
+use Rattle.pb_explain.specs.Pages.{SaysOfExplain, no_memory}
 
 pub told_explanation : (asked : Option Code) (reply : Result Reply NoMemory) (old new : Option (List ℕ)) (answered : Status)
     → IfOk reply (λ r. SaysOfExplain asked r.text.items r.status)

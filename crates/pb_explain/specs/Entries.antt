@@ -2,9 +2,11 @@
 use Rattle.pb_refusals.specs.declared.code.Code.{Code}
 use Rattle.pb_refusals.specs.declared.code.Code.TheVariants as code
 use Rattle.pb_explain.specs.Explanation.{Explanation}
-use Rattle.pb_explain.specs.Texts.{l1-entry, l2-entry, l3-entry, l4-entry, p1-entry, p2-entry, p3-entry, input-entry, output-entry}
+use Rattle.pb_explain.specs.Texts.{l1-entry, l2-entry, l3-entry, l4-entry, p1-entry, p2-entry, p3-entry, input-entry}
+use Rattle.pb_explain.specs.Texts.{output-entry}
 use Rattle.pb_explain.specs.Names.{n1-entry, n2-entry, n3-entry, n4-entry, n6-entry, c1-entry, e1-entry}
-use Rattle.pb_explain.specs.Objects.{o1-entry, o2-entry, v1-entry, v2-entry, v3-entry, v4-entry, v5-entry, v6-entry, v7-entry, v8-entry, v9-entry}
+use Rattle.pb_explain.specs.Objects.{o1-entry, o2-entry, v1-entry, v2-entry, v3-entry, v4-entry, v5-entry, v6-entry}
+use Rattle.pb_explain.specs.Objects.{v7-entry, v8-entry, v9-entry}
 use Rattle.pb_explain.specs.Runs.{k1-entry, k2-entry, h1-entry, g1-entry, g2-entry, g3-entry, g4-entry}
 
 unfoldable pub entry_of : Code → Explanation

@@ -1,7 +1,7 @@
 -- What there is to say of the refusals of texts by their names, amounts and claims, and of what the first
 -- format of objects cannot have.
-use Rattle.std.specs.Prelude.{◌++◌, ℕ, List, Some, None, codes}
-use Rattle.pb_explain.specs.Explanation.{Explanation, Text, Repeated}
+use Rattle.std.specs.Prelude.{◌++◌, ℕ, List, Some, codes}
+use Rattle.pb_explain.specs.Explanation.{Explanation, Text}
 
 abbrev pub n1-input : List ℕ
 n1-input =

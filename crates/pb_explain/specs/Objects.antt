@@ -1,6 +1,6 @@
 -- What there is to say of the refusals of objects, by their text and by their code.
 use Rattle.std.specs.Prelude.{◌++◌, ℕ, List, Some, None, codes}
-use Rattle.pb_explain.specs.Explanation.{Explanation, Text, Repeated}
+use Rattle.pb_explain.specs.Explanation.{Explanation, Text}
 
 abbrev pub o1-input : List ℕ
 o1-input =

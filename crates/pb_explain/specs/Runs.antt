@@ -1,6 +1,6 @@
 -- What there is to say of the refusals of pick lines, of picks, and of commands of a session.
-use Rattle.std.specs.Prelude.{◌++◌, ℕ, List, Some, None, codes}
-use Rattle.pb_explain.specs.Explanation.{Explanation, Text, Repeated}
+use Rattle.std.specs.Prelude.{◌++◌, ℕ, List, Some, codes}
+use Rattle.pb_explain.specs.Explanation.{Explanation, Text}
 
 abbrev pub k1-input : List ℕ
 k1-input =

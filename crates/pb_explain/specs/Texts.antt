@@ -1,5 +1,5 @@
 -- What there is to say of the refusals of texts by their bytes, tokens and grammar, and of what is too long.
-use Rattle.std.specs.Prelude.{◌++◌, ℕ, List, Some, None, codes}
+use Rattle.std.specs.Prelude.{◌++◌, ℕ, List, Some, codes}
 use Rattle.pb_explain.specs.Explanation.{Explanation, Text, Repeated}
 
 abbrev pub l1-entry : Explanation

@@ -4,7 +4,9 @@ ghost use Rattle.pb_base.specs.Lines.{line as line_of};
 ghost use Rattle.pb_engines.specs.Answers.{Tells};
 ghost use Rattle.pb_engines.specs.Faults.{TellsWriteFaults};
 ghost use Rattle.pb_explain.specs.Explanation.{plain_entry, plain_example, plain_input, Text, Repeated};
-ghost use Rattle.pb_explain.specs.Pages.{example_text, examples_text, explanation_of, title_line, list_of_codes, meaning_text, page_of, page_of_entry, repetition_text, shell_text, SaysOfExplain};
+ghost use Rattle.pb_explain.specs.Pages.{example_text, examples_text, explanation_of, title_line, list_of_codes};
+ghost use Rattle.pb_explain.specs.Pages.{meaning_text, page_of, page_of_entry, repetition_text, shell_text};
+ghost use Rattle.pb_explain.specs.Pages.{SaysOfExplain};
 
 use crate::entries::{Entry, Example, ExampleInput, entry_for};
 use pb_base::NoMemory;

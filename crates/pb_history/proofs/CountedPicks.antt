@@ -1,5 +1,7 @@
 -- Counted picks, and picks that stop.
-use Rattle.std.proofs.Common.{◌≡◌, ℕ, zero, suc, ◌+◌, ◌<◌, ◌≤◌, List, [], ◌∷◌, ◌++◌, length, map, take, drop, replicate, Some, refl, sym, ap, ◌∙◌, subst, append_assoc, append-nil, length-append, arith}
+use Rattle.std.proofs.Common.{◌≡◌, ℕ, zero, suc, ◌+◌, ◌<◌, ◌≤◌, List, [], ◌∷◌, ◌++◌, length, map, take, drop}
+use Rattle.std.proofs.Common.{replicate, Some, refl, sym, ap, ◌∙◌, subst, append_assoc, append-nil, length-append}
+use Rattle.std.proofs.Common.{arith}
 use Rattle.std.specs.Prelude.{Option, None, slice_get, option_to_list}
 use Rattle.std.proofs.lemmas.List.{length-map, length-replicate, map-append, take-append-le}
 use Rattle.std.proofs.lemmas.Option.{slice_get_within}
@@ -8,11 +10,11 @@ use Rattle.pb_base.specs.declared.pick.Pick.{Pick}
 use Rattle.pb_base.specs.declared.step.Step.{Step}
 use Rattle.pb_base.specs.declared.step.Step.TheVariants as answer
 use Rattle.pb_base.specs.Steppers.{State}
+use Rattle.pb_base.proofs.Lists.{take_next}
 use Rattle.pb_code.specs.Code.{CodeProcess}
 use Rattle.pb_code.specs.Reached.{CodeMoves, CodeStays}
 use Rattle.pb_code.specs.Whole.{Code, code_opening}
 use Rattle.pb_machine.specs.Steps.{IsStep}
-use Rattle.pb_machine.proofs.BuiltLists.{take_at}
 use Rattle.pb_history.specs.Entries.{Entry, picks_of, run_of, shown, silent_picks}
 use Rattle.pb_history.specs.Leads.{Leads}
 use Rattle.pb_history.specs.Replays.{EndsRun, IsReplay, IsRun, IsStopped, StopsAt, spread}
@@ -195,7 +197,7 @@ spread_append (c ∷ xs) ys =
 pub spread_take : (xs : List CountedPick) (i : ℕ) (c : CountedPick) → slice_get xs i ≡ Some c
     → spread (take (i + 1) xs) ≡ spread (take i xs) ++ replicate c.count c.pick
 spread_take xs i c h =
-    ap spread (take_at xs i c h)
+    ap spread (take_next xs i c h)
     ∙ (spread_append (take i xs) (c ∷ []) ∙ ap (λ (ps : List Pick). spread (take i xs) ++ ps) (append-nil (replicate c.count c.pick)))
 
 -- and those behind it

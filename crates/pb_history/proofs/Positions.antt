@@ -1,5 +1,6 @@
 -- The state at each position of a replay, from the one before.
-use Rattle.std.proofs.Common.{◌≡◌, ℕ, zero, suc, ◌+◌, List, [], ◌∷◌, ◌++◌, length, take, Option, Some, None, option_to_list, refl, sym, ap, ◌∙◌, subst, arith}
+use Rattle.std.proofs.Common.{◌≡◌, ℕ, zero, suc, ◌+◌, List, [], ◌∷◌, ◌++◌, length, take, Option, Some, None}
+use Rattle.std.proofs.Common.{option_to_list, refl, sym, ap, ◌∙◌, subst, arith}
 use Rattle.std.specs.Prelude.{slice_get}
 use Rattle.std.proofs.lemmas.List.{take_all}
 use Rattle.pb_base.specs.declared.event.Event.{Event}
@@ -7,11 +8,11 @@ use Rattle.pb_base.specs.declared.pick.Pick.{Pick}
 use Rattle.pb_base.specs.declared.step.Step.{Step}
 use Rattle.pb_base.specs.declared.step.Step.TheVariants as answer
 use Rattle.pb_base.specs.Steppers.{Bank, State, Stepper, Move, IsGranted, Makes, event_of, move_of}
+use Rattle.pb_base.proofs.Lists.{take_next}
 use Rattle.pb_code.specs.Code.{CodeProcess, code_step}
 use Rattle.pb_code.specs.Reached.{CodeReaches, CodeMoves, CodeStays}
 use Rattle.pb_code.specs.Whole.{Code, bank_of, code_opening}
 use Rattle.pb_machine.specs.Steps.{IsStep}
-use Rattle.pb_machine.proofs.BuiltLists.{take_at}
 use Rattle.pb_history.specs.Entries.{Entry, events_of, picks_of}
 use Rattle.pb_history.specs.Leads.{Leads}
 use Rattle.pb_history.proofs.TraceSteps.{traces_make}
@@ -58,7 +59,7 @@ module _ (code : Code) (picks : List Pick) where
   pub state_more : (i : ℕ) (pick : Pick) → slice_get picks i ≡ Some pick
       → state_after code picks (i + 1) ≡ next_state (state_after code picks i) (move_of step (state_after code picks i) pick)
   state_more i pick at =
-      ap (after step (code_opening code)) (take_at picks i pick at)
+      ap (after step (code_opening code)) (take_next picks i pick at)
       ∙ after-append step (code_opening code) (take i picks) (pick ∷ [])
 
   -- a pick that was made leads to the next position

@@ -1,10 +1,14 @@
 -- Spans, and their events.
-use Rattle.std.proofs.Common.{◌≡◌, ℕ, zero, suc, ◌+◌, ◌-◌, ◌<◌, ◌≤◌, List, [], ◌∷◌, ◌++◌, length, map, take, drop, replicate, Bool, true, false, refl, sym, ap, ◌∙◌, subst, append_assoc, append-nil, length-append, length-drop, arith}
+use Rattle.std.proofs.Common.{◌≡◌, ℕ, zero, suc, ◌+◌, ◌-◌, ◌<◌, ◌≤◌, List, [], ◌∷◌, ◌++◌, length, map, take, drop}
+use Rattle.std.proofs.Common.{replicate, Bool, true, false, refl, sym, ap, ◌∙◌, subst, append_assoc, append-nil}
+use Rattle.std.proofs.Common.{length-append, length-drop, arith}
 use Rattle.std.specs.Prelude.{cond, not, ◌&&◌, option_to_list}
-use Rattle.std.proofs.lemmas.List.{length-map, length-replicate, length-take-le, map-append, take-append-le, drop-append-le}
+use Rattle.std.proofs.lemmas.List.{length-map, length-replicate, length-take-le, map-append, take-append-le}
+use Rattle.std.proofs.lemmas.List.{drop-append-le}
 use Rattle.pb_base.specs.declared.event.Event.{Event}
 use Rattle.pb_base.specs.declared.pick.Pick.{Pick}
-use Rattle.pb_history.specs.Entries.{Entry, added, all_picks, are_same, entries_of, events_of, marks, picks_of, shown, silent_picks, size, spans_of}
+use Rattle.pb_history.specs.Entries.{Entry, added, all_picks, are_same, entries_of, events_of, marks, picks_of, shown}
+use Rattle.pb_history.specs.Entries.{silent_picks, size, spans_of}
 use Rattle.pb_history.specs.Traces.{AreLaid}
 use Rattle.pb_history.specs.declared.span.Span.{Span}
 use Rattle.pb_history.proofs.SpansOfEntries.{joins_same, spans_of_append, spans_of_run}

@@ -1,13 +1,15 @@
 -- The spans that entries fall into.
-use Rattle.std.proofs.Common.{◌≡◌, ℕ, zero, suc, ◌+◌, ◌-◌, ◌<◌, List, [], ◌∷◌, ◌++◌, length, replicate, Bool, true, false, refl, sym, ap, ◌∙◌, append-nil, arith}
+use Rattle.std.proofs.Common.{◌≡◌, ℕ, zero, suc, ◌+◌, ◌-◌, ◌<◌, List, [], ◌∷◌, ◌++◌, length, replicate, Bool, true}
+use Rattle.std.proofs.Common.{false, refl, sym, ap, ◌∙◌, append-nil, arith}
 use Rattle.std.specs.Prelude.{cond, not, ◌&&◌, ◌==◌}
 use Rattle.std.proofs.lemmas.Bool.Decides.{nat_tests}
 use Rattle.pb_base.specs.declared.event.Event.{Event}
 use Rattle.pb_base.specs.declared.pick.Pick.{Pick}
-use Rattle.pb_history.specs.Entries.{Entry, added, are_same, before, entries_of, is_shown, marks, shown, silent, silent_picks, spans_of}
+use Rattle.pb_base.proofs.Cases.{both_true, not_true}
+use Rattle.pb_history.specs.Entries.{Entry, added, are_same, before, entries_of, is_shown, marks, shown, silent}
+use Rattle.pb_history.specs.Entries.{silent_picks, spans_of}
 use Rattle.pb_history.specs.Traces.{SilentPicksAddOneSpan}
 use Rattle.pb_history.specs.declared.span.Span.{Span}
-use Rattle.pb_code.proofs.NameTests.{both_true}
 use Rattle.pb_history.proofs.TraceSteps.{replicate_more}
 
 pub same_itself : (p : Pick) → are_same p p ≡ true
@@ -24,10 +26,6 @@ same_pick a b h =
     let with_process : ℕ → Pick = λ n. record { process = n; arm = a.arm } in
     let with_arm : ℕ → Pick = λ n. record { process = b.process; arm = n } in
     ap with_process p ∙ ap with_arm q
-
-not_true : (b : Bool) → not b ≡ true → b ≡ false
-not_true true h = cc
-not_true false h = refl
 
 -- a span that takes in another shows nothing, and is of its arm
 pub joins_same : (t s : Span) → (not t.shows && are_same t.pick s.pick) ≡ true → (t.shows ≡ false) × (t.pick ≡ s.pick)

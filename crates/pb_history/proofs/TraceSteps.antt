@@ -1,5 +1,6 @@
 -- Traces, one pick after another.
-use Rattle.std.proofs.Common.{◌≡◌, ℕ, zero, suc, ◌+◌, List, [], ◌∷◌, ◌++◌, take, replicate, set, Option, Some, None, option_to_list, refl, sym, ap, ◌∙◌, subst}
+use Rattle.std.proofs.Common.{◌≡◌, ℕ, zero, suc, ◌+◌, List, [], ◌∷◌, ◌++◌, take, replicate, set, Option, Some, None}
+use Rattle.std.proofs.Common.{option_to_list, refl, sym, ap, ◌∙◌, subst}
 use Rattle.std.specs.Prelude.{slice_get}
 use Rattle.std.proofs.lemmas.List.{map-append}
 use Rattle.pb_base.specs.declared.event.Event.{Event}
@@ -10,8 +11,8 @@ use Rattle.pb_code.specs.Reached.{CodeReaches, CodeMoves}
 use Rattle.pb_code.specs.Whole.{Code, code_opening}
 use Rattle.pb_base.specs.declared.step.Step.{Step}
 use Rattle.pb_base.specs.declared.step.Step.TheVariants as answer
+use Rattle.pb_base.proofs.Lists.{take_next}
 use Rattle.pb_machine.specs.Steps.{IsStep, with_process}
-use Rattle.pb_machine.proofs.BuiltLists.{take_at}
 use Rattle.pb_machine.proofs.OneMorePick.{slice_get-set_same}
 use Rattle.pb_machine.proofs.SilentPicks.{silent_move, set_again, set_back}
 use Rattle.pb_history.specs.Replays.{IsReplay}
@@ -67,7 +68,7 @@ pub replay_more : (code : Code) (picks : List Pick) (i : ℕ) (entries : List En
     → IsReplay code (take (i + 1) picks) (entries ++ record { pick = pick; event = event } ∷ []) b
 replay_more code picks i entries a b pick event r there m = record {
   made = map-append (λ (e : Entry). e.pick) entries (record { pick = pick; event = event } ∷ []) ∙ (ap (λ ps. ps ++
-      pick ∷ []) r.made ∙ sym (take_at picks i pick there));
+      pick ∷ []) r.made ∙ sym (take_next picks i pick there));
   leads = leads_more code (code_opening code) a b entries pick event r.leads m;
 }
 

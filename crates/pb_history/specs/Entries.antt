@@ -1,5 +1,6 @@
 -- Entries, the picks of a run each with what it shows, and the spans that they fall into.
-use Rattle.std.specs.Prelude.{◌≡◌, ℕ, ◌+◌, ◌-◌, ◌≤◌, ◌==◌, List, [], ◌∷◌, ◌++◌, map, take, drop, replicate, Bool, true, false, cond, not, ◌&&◌, Option, Some, None, option_to_list, slice_get}
+use Rattle.std.specs.Prelude.{◌≡◌, ℕ, ◌+◌, ◌-◌, ◌≤◌, ◌==◌, List, [], ◌∷◌, ◌++◌, map, take, drop, replicate, Bool}
+use Rattle.std.specs.Prelude.{true, false, cond, not, ◌&&◌, Option, Some, None, option_to_list, slice_get}
 use Rattle.pb_base.specs.declared.event.Event.{Event}
 use Rattle.pb_base.specs.declared.pick.Pick.{Pick}
 use Rattle.pb_history.specs.declared.counted.CountedPick.{CountedPick}

@@ -1,5 +1,6 @@
 -- Events that name their bundles by number. No public contract cites this file.
-use Rattle.std.specs.Prelude.{ℕ, ◌-◌, ◌<◌, ◌≤◌, List, [], length, map, min, All, slice_index_or, ⊤, vec_len, vec_capacity}
+use Rattle.std.specs.Prelude.{ℕ, ◌-◌, ◌<◌, ◌≤◌, List, [], length, map, min, All, slice_index_or, ⊤, vec_len}
+use Rattle.std.specs.Prelude.{vec_capacity}
 use Rattle.pb_base.specs.declared.event.Event.{Event}
 use Rattle.pb_base.specs.declared.event.Event.TheVariants as event
 use Rattle.pb_base.specs.declared.pair.Pair.{Pair}

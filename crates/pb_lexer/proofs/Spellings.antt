@@ -9,6 +9,7 @@ use Rattle.std.specs.Char.{is_ascii_digit}
 use Rattle.std.specs.Int.{is_in_range}
 use Rattle.std.specs.Str.{bytes_eq}
 use Rattle.std.proofs.Common.{◌&&◌, ◌||◌, eqb, cond, zero, suc}
+use Rattle.pb_base.proofs.Cases.{both_true}
 use Rattle.pb_lexer.specs.Forms.{spelling, is_word}
 
 case_two : (m : Mark) → length (spelling m) ≡ 2 → is_ascii_alphabetic (get_or (spelling m) 0 0) ≡ true
@@ -163,14 +164,6 @@ pub spelling_no_digit : (m : Mark) → is_ascii_digit (get_or (spelling m) 0 0) 
 spelling_no_digit mark.Assign = refl
 spelling_no_digit _ = refl
 
-and_left : (a b : Bool) → (a && b) ≡ true → a ≡ true
-and_left true b h = refl
-and_left false b h = h
-
-and_right : (a b : Bool) → (a && b) ≡ true → b ≡ true
-and_right true b h = h
-and_right false b h = cc
-
 -- a byte of a token
 abbrev pub is_visible : ℕ → Bool
 is_visible b = is_in_range 33 126 b
@@ -182,9 +175,9 @@ all_visible (b ∷ bs) = is_visible b && all_visible bs
 all_visible_each : (bs : List ℕ) → all_visible bs ≡ true → (k : ℕ) → k < length bs
     → is_visible (get_or bs k 0) ≡ true
 all_visible_each [] h k lt = absurd (omega arith)
-all_visible_each (b ∷ bs) h zero lt = and_left (is_visible b) (all_visible bs) h
+all_visible_each (b ∷ bs) h zero lt = (both_true (is_visible b) (all_visible bs) h).0
 all_visible_each (b ∷ bs) h (suc k) lt =
-    all_visible_each bs (and_right (is_visible b) (all_visible bs) h) k (omega arith)
+    all_visible_each bs (both_true (is_visible b) (all_visible bs) h).1 k (omega arith)
 
 spelling_all_visible : (m : Mark) → all_visible (spelling m) ≡ true
 spelling_all_visible mark.Assign = refl
@@ -200,8 +193,8 @@ all_word (b ∷ bs) = is_word b && all_word bs
 
 all_word_each : (bs : List ℕ) → all_word bs ≡ true → (k : ℕ) → k < length bs → is_word (get_or bs k 0) ≡ true
 all_word_each [] h k lt = absurd (omega arith)
-all_word_each (b ∷ bs) h zero lt = and_left (is_word b) (all_word bs) h
-all_word_each (b ∷ bs) h (suc k) lt = all_word_each bs (and_right (is_word b) (all_word bs) h) k (omega arith)
+all_word_each (b ∷ bs) h zero lt = (both_true (is_word b) (all_word bs) h).0
+all_word_each (b ∷ bs) h (suc k) lt = all_word_each bs (both_true (is_word b) (all_word bs) h).1 k (omega arith)
 
 spelling_all_word : (m : Mark) → is_ascii_alphabetic (get_or (spelling m) 0 0) ≡ true
     → all_word (spelling m) ≡ true

@@ -1,5 +1,6 @@
 -- What is said of an input, from the message that was made.
-use Rattle.std.proofs.Common.{◌≡◌, ◌≢◌, ◌⊎◌, take, ℕ, List, [], codes, Option, Some, None, Result, Ok, Err, IfOk, subst, sym, inl, inr}
+use Rattle.std.proofs.Common.{◌≡◌, ◌≢◌, ◌⊎◌, take, ℕ, List, [], codes, Option, Some, Result, Ok, Err, IfOk}
+use Rattle.std.proofs.Common.{subst, sym, inl, inr}
 use Rattle.pb_code.specs.Whole.{Code, ProcessLabels}
 use Rattle.pb_codegen.specs.Compiled.{IsCompiled}
 use Rattle.pb_engines.specs.Loading.{IsLoadFault, load_line}
@@ -14,7 +15,9 @@ use Rattle.pb_picks.specs.PickLines.{IsFaulty, SpellsPicks}
 use Rattle.pb_picks.specs.declared.fault.PickFault.{PickFault}
 use Rattle.pb_messages.specs.Causes.{IsCauseOf}
 use Rattle.pb_messages.specs.Messages.{IsMessage, IsShown, message}
-use Rattle.pb_messages.specs.Said.{AreSaid, HasCode, HasNoMark, SaysMore, SaysByReading, SaysOfFirstFormat, SaysOfPickLines, SaysOfPickedObject, SaysOfPickedText, SaysOfTexts, TellsObject, all, stopped, unread}
+use Rattle.pb_messages.specs.Said.{AreSaid, HasCode, HasNoMark, SaysMore, SaysByReading, SaysOfFirstFormat}
+use Rattle.pb_messages.specs.Said.{SaysOfPickLines, SaysOfPickedObject, SaysOfPickedText, SaysOfTexts, TellsObject}
+use Rattle.pb_messages.specs.Said.{all, stopped, unread}
 use Rattle.pb_messages.specs.declared.cause.Cause.{Cause}
 use Rattle.pb_messages.specs.declared.message.Reading.TheVariants.{Debugged}
 

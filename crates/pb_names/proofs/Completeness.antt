@@ -1,5 +1,6 @@
 -- Pairs of the holds in lists of statements and arms, one element at a time.
-use Rattle.std.proofs.Common.{◌≡◌, ℕ, zero, suc, ◌+◌, ◌<◌, List, [], ◌∷◌, Vec, map, length, take, get_or, arith, add-one}
+use Rattle.std.proofs.Common.{◌≡◌, ℕ, zero, suc, ◌+◌, ◌<◌, List, [], ◌∷◌, Vec, map, length, take, get_or, arith}
+use Rattle.std.proofs.Common.{add-one}
 use Rattle.std.proofs.Common.{subst, sym, ◌∙◌, Bool, true, false, not}
 use Rattle.std.specs.Bool.{◌==◌}
 use Rattle.std.specs.Prelude.{◌≤◌, All, IsTrue, slice_get, Some}

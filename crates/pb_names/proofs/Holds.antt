@@ -1,6 +1,6 @@
 -- The pairs of a hold get the numbers of their resources, one pair more at a time.
 use Rattle.std.proofs.Common.{◌≡◌, ◌≢◌, ℕ, zero, suc, ◌+◌, ◌<◌, List, [], ◌∷◌, ◌++◌, map, length, take, get_or}
-use Rattle.std.proofs.Common.{Some, arith, ap, sym, ◌∙◌, refl, add-one, true, subst}
+use Rattle.std.proofs.Common.{Some, arith, ap, sym, ◌∙◌, refl, true, subst}
 use Rattle.std.specs.Prelude.{slice_get, All, AllPairs}
 use Rattle.std.specs.List.{AllZip, list_any}
 use Rattle.std.proofs.Math.Dec.{eqb}
@@ -24,7 +24,7 @@ use Rattle.pb_names.specs.Search.{IsFree}
 use Rattle.pb_names.specs.declared.causes.Wrong.TheVariants.{Repeated}
 use Rattle.pb_names.proofs.First.{free_left, free_right, free_at}
 use Rattle.pb_names.proofs.NameNumbers.{name_read}
-use Rattle.pb_base.proofs.Lists.{some_same}
+use Rattle.pb_base.proofs.Lists.{some_same, take_next}
 
 -- ---- nothing is wrong with a pair
 
@@ -132,15 +132,6 @@ zip_push R [] [] x y zip next = (next, tt)
 zip_push R [] (b ∷ ys) x y zip next = absurd zip
 zip_push R (a ∷ xs) [] x y zip next = absurd zip
 zip_push R (a ∷ xs) (b ∷ ys) x y zip next = (zip.0, zip_push R xs ys x y zip.1 next)
-
--- the first n elements and the next
-take_next : {X : Type 0} (xs : List X) (i : ℕ) (x : X) → slice_get xs i ≡ Some x → take (i + 1) xs ≡ take i xs ++ x ∷ []
-take_next {X = X} xs i x here = rw add-one (next xs i x here)
-  where
-    next : (xs : List X) (i : ℕ) (x : X) → slice_get xs i ≡ Some x → take (suc i) xs ≡ take i xs ++ x ∷ []
-    next [] i x here = absurd (omega (arith, slice_get_within [] i x here))
-    next (y ∷ xs) zero x here = ap (λ z. z ∷ []) (some_same here)
-    next (y ∷ xs) (suc i) x here = ap (λ zs. y ∷ zs) (next xs i x here)
 
 pub zip_more : {A B : Type 0} (R : A → B → Type 0) (xs : List A) (ys ys' : List B) (i : ℕ) (x : A) (y : B)
     → slice_get xs i ≡ Some x → ys' ≡ ys ++ y ∷ [] → AllZip R (take i xs) ys → R x y

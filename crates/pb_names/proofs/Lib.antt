@@ -1,8 +1,11 @@
+pub mod ArmNumbers
 pub mod CausesMore
 pub mod Completeness
 pub mod Examples
+pub mod ExpressionSteps
 pub mod First
 pub mod Forks
+pub mod Holdings
 pub mod Holds
 pub mod NameIndexes
 pub mod NameNumbers

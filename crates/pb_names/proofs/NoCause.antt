@@ -1,5 +1,6 @@
 -- A tree that has a numbered program has no cause of a fault.
-use Rattle.std.proofs.Common.{◌≡◌, ℕ, zero, suc, ◌<◌, List, [], ◌∷◌, map, take, Some, arith, ap, sym, ◌∙◌, refl, subst, inl, inr}
+use Rattle.std.proofs.Common.{◌≡◌, ℕ, zero, suc, List, [], ◌∷◌, map, take, Some, arith, ap, sym, ◌∙◌, refl}
+use Rattle.std.proofs.Common.{subst, inl, inr}
 use Rattle.std.specs.Prelude.{slice_get}
 use Rattle.std.specs.List.{AllZip}
 use Rattle.std.proofs.lemmas.Option.{slice_get_within, get_or_from_slice_get}
@@ -7,7 +8,8 @@ use Rattle.pb_base.specs.Steppers.{Bundle}
 use Rattle.pb_tree.specs.Syntax as tree
 use Rattle.pb_names.specs.Program.{Name, Expr, Stmt, Block, Arms, Program}
 use Rattle.pb_names.specs.Resolves.{texts, AreDistinct, ResolvesExpr, number, variable, unary, binary}
-use Rattle.pb_names.specs.Resolves.{ResolvesStmt, assign, print, if_else, while_do, hold, parbegin, ResolvesDemands, ResolvesDemand}
+use Rattle.pb_names.specs.Resolves.{ResolvesStmt, assign, print, if_else, while_do, hold, parbegin, ResolvesDemands}
+use Rattle.pb_names.specs.Resolves.{ResolvesDemand}
 use Rattle.pb_names.specs.Resolves.{ResolvesStmts, no_stmt, stmt_then, ResolvesArms, no_arm, arm_then}
 use Rattle.pb_names.specs.Resolves.{ResolvesResource, ResolvesProcess, Resolves, resource_names, process_names}
 use Rattle.pb_names.specs.Causes.{Among, IsAgain, InExpr, InDemand, InStmt, InStmts, InArms}
@@ -17,8 +19,8 @@ use Rattle.pb_names.specs.declared.causes.Wrong.{Wrong}
 use Rattle.pb_names.specs.declared.causes.Wrong.TheVariants.{Twice}
 use Rattle.pb_names.proofs.NameNumbers.{take_read, text_read, name_read, taken_texts, taken_names}
 use Rattle.pb_names.proofs.OneNumbering.{name_once}
-use Rattle.pb_names.proofs.Wholes.{made_from, resource_names_kept, process_names_kept}
-use Rattle.pb_base.proofs.Lists.{some_same}
+use Rattle.pb_names.proofs.Wholes.{resource_names_kept, process_names_kept}
+use Rattle.pb_base.proofs.Lists.{some_same, get_mapped}
 
 -- what an element of the first list was numbered as
 pub numbered_at : {W P : Type 0} (R : W → P → Type 0) (ws : List W) (ps : List P) (i : ℕ) (w : W) → AllZip R ws ps
@@ -58,8 +60,8 @@ module _ (integers resources : List Name) (known : AreDistinct resources) where
               (let all = texts (map (λ d. d.resource) ds) in
               let again = take_read all k.place x.first k.element.resource.text
               (ap (λ ts. slice_get ts x.first) (taken_names (λ d. d.resource) ds k.place) ∙ x.again) in
-              let t = made_from (λ n. n.text) (map (λ d. d.resource) ds) x.first k.element.resource.text again.1 in
-              let d = made_from (λ d. d.resource) ds x.first t.0 t.1 in
+              let t = get_mapped (λ n. n.text) (map (λ d. d.resource) ds) x.first k.element.resource.text again.1 in
+              let d = get_mapped (λ d. d.resource) ds x.first t.0 t.1 in
               let other = numbered_at (ResolvesDemand resources) ds b x.first d.0 h.each d.1 in
               let same_text : d.0.resource.text ≡ k.element.resource.text = ap (λ n. n.text) d.2 ∙ t.2 in
               let same : other.0.resource ≡ at.0.resource = name_once resources k.element.resource.text other.0.resource at.0.resource known

@@ -1,5 +1,6 @@
 -- A tree has at most one numbered program.
-use Rattle.std.proofs.Common.{◌≡◌, ℕ, ◌+◌, ◌<◌, List, [], ◌∷◌, map, length, Some, arith, ap, sym, ◌∙◌, refl, subst, suc, pos}
+use Rattle.std.proofs.Common.{◌≡◌, ℕ, ◌+◌, ◌<◌, List, [], ◌∷◌, map, length, Some, arith, ap, sym, ◌∙◌, refl, subst}
+use Rattle.std.proofs.Common.{suc, pos}
 use Rattle.std.specs.Prelude.{slice_get}
 use Rattle.std.proofs.lemmas.Option.{slice_get_within, get_or_from_slice_get}
 use Rattle.pb_tree.specs.Syntax as tree

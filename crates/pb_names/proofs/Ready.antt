@@ -1,5 +1,6 @@
 -- The parts of what is ready to be numbered are ready.
-use Rattle.std.proofs.Common.{◌≡◌, ℕ, zero, suc, ◌+◌, ◌<◌, List, [], ◌∷◌, Vec, length, take, get_or, arith, ap, sym, subst}
+use Rattle.std.proofs.Common.{◌≡◌, ℕ, zero, suc, ◌+◌, ◌<◌, List, [], ◌∷◌, Vec, length, take, get_or, arith, ap, sym}
+use Rattle.std.proofs.Common.{subst}
 use Rattle.pb_tree.specs.Syntax.{ExprSyntax, StmtSyntax, StmtsSyntax, stmt_then, ArmsSyntax, arm_then}
 use Rattle.pb_tree.specs.Syntax.{DemandSyntax, if_else, while_do, hold, parbegin}
 use Rattle.pb_tree.specs.Measure.{stmt_nodes, stmts_nodes}

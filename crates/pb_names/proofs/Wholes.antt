@@ -18,7 +18,7 @@ use Rattle.pb_names.proofs.First.{free_left, free_right, free_at}
 use Rattle.pb_names.proofs.Holds.{zip_more}
 use Rattle.pb_names.proofs.NameNumbers.{read_take, taken_texts, taken_names}
 use Rattle.pb_names.proofs.NumberedLists.{inner_of}
-use Rattle.pb_base.proofs.Lists.{some_same}
+use Rattle.pb_base.proofs.Lists.{get_mapped}
 
 -- ---- distinct names
 
@@ -30,20 +30,12 @@ distinct_list xs once i j d less below same =
     once j i (get_or xs j d) (slice_get-get_or xs j d below) less
     (slice_get-get_or xs i d (omega arith) ∙ ap Some same)
 
--- what an element of a list was made from
-pub made_from : {S T : Type 0} (f : S → T) (xs : List S) (i : ℕ) (y : T) → slice_get (map f xs) i ≡ Some y
-    → (x : S) × (slice_get xs i ≡ Some x) × (f x ≡ y)
-made_from f [] zero y here = absurd (cc)
-made_from f [] (suc i) y here = absurd (cc)
-made_from f (x ∷ xs) zero y here = (x, refl, some_same here)
-made_from f (x ∷ xs) (suc i) y here = made_from f xs i y here
-
 pub distinct_integers : (names : List NameSyntax) → IsFree (Among InInteger names) → AreDistinct (texts names)
 distinct_integers names free = distinct_list (texts names) once
   where
     once : (i k : ℕ) (t : Name) → slice_get (texts names) i ≡ Some t → k < i → slice_get (texts names) k ≢ Some t
     once i k t here below there =
-        let from = made_from (λ name. name.text) names i t here in
+        let from = get_mapped (λ name. name.text) names i t here in
         let taken = read_take (texts names) i k t below there in
         (free_at InInteger names i from.0 from.1 free).free _
         (record {
@@ -60,8 +52,8 @@ distinct_names {T} name xs free = distinct_list (texts (map name xs)) once
     once : (i k : ℕ) (t : Name) → slice_get (texts (map name xs)) i ≡ Some t → k < i
         → slice_get (texts (map name xs)) k ≢ Some t
     once i k t here below there =
-        let text = made_from (λ name. name.text) (map name xs) i t here in
-        let from = made_from name xs i text.0 text.1 in
+        let text = get_mapped (λ name. name.text) (map name xs) i t here in
+        let from = get_mapped name xs i text.0 text.1 in
         let taken = read_take (texts (map name xs)) i k t below there in
         (free i from.0 from.1).free _
         (record {

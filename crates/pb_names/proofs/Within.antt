@@ -1,13 +1,13 @@
 -- A tree that has a numbered program is within the limits, and has no fault.
-use Rattle.std.proofs.Common.{◌≡◌, ℕ, suc, ◌+◌, ◌≤◌, List, [], ◌∷◌, length, arith, ap, refl}
+use Rattle.std.proofs.Common.{◌≡◌, ℕ, ◌+◌, ◌≤◌, List, [], ◌∷◌, length, arith, ap, refl}
 use Rattle.std.specs.List.{AllZip}
-use Rattle.std.proofs.lemmas.List.{length-map, length-append}
+use Rattle.std.proofs.lemmas.List.{length-map}
 use Rattle.pb_tree.specs.Syntax as tree
-use Rattle.pb_names.specs.Program.{NoArm, AndArm, Name, Stmt, Block, Arms, Program, count, arms_list, arms_in, arms_in_stmt, arms_in_arms}
+use Rattle.pb_names.specs.Program.{Name, Stmt, Block, Arms, Program, count}
 use Rattle.pb_names.specs.Resolves.{ResolvesStmt, assign, print, if_else, while_do, hold, parbegin}
 use Rattle.pb_names.specs.Resolves.{ResolvesStmts, no_stmt, stmt_then, ResolvesArms, no_arm, arm_then}
 use Rattle.pb_names.specs.Resolves.{ResolvesResource, ResolvesProcess, Resolves, resource_names}
-use Rattle.pb_names.specs.Limits.{width, widest_in_stmt, widest_in, widest_in_arms, inner_arms_of_stmt, inner_arms, inner_arms_of_arms}
+use Rattle.pb_names.specs.Limits.{widest_in_stmt, widest_in, widest_in_arms, inner_arms}
 use Rattle.pb_names.specs.Limits.{most, how_many, limit, IsTooMany, IsWithinLimits}
 use Rattle.pb_names.specs.Faults.{IsFault}
 use Rattle.pb_names.specs.declared.fault.Kind.{Kind}

@@ -3,7 +3,8 @@
 -- order of declaration.
 use Rattle.std.specs.Prelude.{◌≡◌, ◌≢◌, ℕ, ◌≤◌, pos, List, length, map, slice_get, Some, AllPairs}
 use Rattle.std.specs.List.{AllZip}
-use Rattle.pb_base.specs.declared.limits.TheConstants.{MAX_AMOUNT, MAX_ARMS, MAX_FORK, MAX_INTEGERS, MAX_PROCESSES, MAX_RESOURCES}
+use Rattle.pb_base.specs.declared.limits.TheConstants.{MAX_AMOUNT, MAX_ARMS, MAX_FORK, MAX_INTEGERS, MAX_PROCESSES}
+use Rattle.pb_base.specs.declared.limits.TheConstants.{MAX_RESOURCES}
 use Rattle.pb_base.specs.declared.operators.UnaryOp.{UnaryOp}
 use Rattle.pb_base.specs.declared.operators.BinaryOp.{BinaryOp}
 use Rattle.pb_base.specs.declared.pair.Pair.{Pair}

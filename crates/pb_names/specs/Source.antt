@@ -1,5 +1,5 @@
 -- What a program does: each arm rewrites the first item of its list, one indivisible action at a time.
-use Rattle.std.specs.Prelude.{◌≡◌, ◌⊎◌, ℕ, ◌+◌, ℤ, pos, List, [], ◌∷◌, ◌++◌, get_or, set, length, map}
+use Rattle.std.specs.Prelude.{◌≡◌, ◌⊎◌, ℕ, suc, ◌+◌, ℤ, pos, List, [], ◌∷◌, ◌++◌, get_or, set, length, map}
 use Rattle.std.specs.Prelude.{replicate, Bool, true, false, cond, ◌&&◌, nat_eq, Option, Some, None}
 use Rattle.std.specs.Prelude.{option_map, option_and_then, Result, Ok, Err}
 use Rattle.pb_base.specs.Arithmetic.{apply, apply_unary, is_zero}
@@ -85,6 +85,11 @@ is_ended Ended = true
 abbrev pub all_ended : Running → Bool
 all_ended Nothing = true
 all_ended (Beside arm arms) = is_ended arm && all_ended arms
+
+-- the number of running arms
+abbrev pub running_arms : Running → ℕ
+running_arms Nothing = 0
+running_arms (Beside arm arms) = suc (running_arms arms)
 
 -- ---- one step of one arm
 

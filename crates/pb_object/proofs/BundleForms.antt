@@ -1,5 +1,6 @@
 -- Bundles: what is read is what is spelled.
-use Rattle.std.proofs.Common.{◌≡◌, ◌≢◌, ℕ, ◌+◌, ◌*◌, ◌^◌, ◌<◌, ◌≤◌, Bool, true, false, cond, ◌&&◌, ltb, List, [], ◌∷◌, length, refl, sym, ap, subst, ◌∙◌, arith}
+use Rattle.std.proofs.Common.{◌≡◌, ◌≢◌, ℕ, ◌+◌, ◌*◌, ◌^◌, ◌<◌, ◌≤◌, Bool, true, false, cond, ◌&&◌, ltb, List, [], ◌∷◌}
+use Rattle.std.proofs.Common.{length, refl, sym, ap, subst, ◌∙◌, arith}
 use Rattle.std.specs.Str.{bytes_eq}
 use Rattle.std.specs.Str.Parse.{digits_value}
 use Rattle.std.specs.Fmt.{decimal}
@@ -8,6 +9,7 @@ use Rattle.std.proofs.lemmas.Bool.{ltb-true, lt-ltb}
 use Rattle.std.proofs.lemmas.Slice.Eq.{bytes_eq-Decides}
 use Rattle.std.proofs.lemmas.Fmt.{digits_value-decimal}
 use Rattle.pb_base.specs.declared.pair.Pair.{Pair}
+use Rattle.pb_base.proofs.Cases.{both_true}
 use Rattle.pb_object.specs.declared.words.Verdict.{Verdict}
 use Rattle.pb_object.specs.declared.words.Verdict.TheVariants.{Malformed, Read}
 use Rattle.pb_object.specs.declared.format.Format.{Format}
@@ -17,7 +19,7 @@ use Rattle.pb_object.specs.Instructions.{names_resource, pair_of, pairs_of, most
 use Rattle.pb_object.specs.Ranges.{IsPair, ArePairs, IsBundle}
 use Rattle.pb_code.proofs.NumeralLemmas.{own}
 use Rattle.pb_object.proofs.Numbers.{none_of, number_again}
-use Rattle.pb_code.proofs.NameTests.{both_true, false_from}
+use Rattle.pb_code.proofs.NameTests.{false_from}
 use Rattle.pb_object.proofs.LineLemmas.{AreWords}
 use Rattle.pb_object.proofs.Verdicts.{mapped_read, paired_read, guard_read}
 use Rattle.pb_object.proofs.LineForms.{decimal_clean}

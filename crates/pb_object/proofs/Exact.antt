@@ -1,11 +1,13 @@
 -- Readers whose answer rests only on the text up to the end of the line where they stop, and that stop only
 -- where the lines before could go on.
-use Rattle.std.proofs.Common.{◌≡◌, ◌⊎◌, inl, inr, ℕ, zero, suc, ◌+◌, ◌<◌, ◌≤◌, Bool, true, false, not, eqb, ltb, List, [], ◌∷◌, ◌++◌, length, Some, None, Result, Ok, Err, refl, sym, ap, subst, ◌∙◌, append_assoc, arith}
+use Rattle.std.proofs.Common.{◌≡◌, ◌⊎◌, inl, inr, ℕ, zero, suc, ◌+◌, ◌<◌, ◌≤◌, Bool, true, false, not, eqb, ltb, List}
+use Rattle.std.proofs.Common.{[], ◌∷◌, ◌++◌, length, Some, None, Result, Ok, Err, refl, sym, ap, subst, ◌∙◌}
+use Rattle.std.proofs.Common.{append_assoc, arith}
 use Rattle.std.specs.List.{slice_split, position, position_or_len, prefix_len, list_all}
 use Rattle.std.proofs.lemmas.Bool.{eqb-true, le-ltb, lt-ltb}
 use Rattle.std.proofs.lemmas.List.{take_at, drop_at, append-nil, length-append, nil_from_length}
+use Rattle.pb_base.proofs.Cases.{both_true}
 use Rattle.pb_code.specs.Names.{Word}
-use Rattle.pb_code.proofs.NameTests.{both_true}
 use Rattle.pb_object.specs.declared.fault.Fault.{Fault}
 use Rattle.pb_object.specs.declared.fault.Fault.TheVariants.{Malformed, Beyond}
 use Rattle.pb_object.specs.declared.words.Verdict.{Verdict}
@@ -193,7 +195,8 @@ line_stays {X} form text tail other f e =
           let two = regroup text c.0 c.1 other c.2 in
           let r = c.1 ++ 10 ∷ tail in
           let s = c.1 ++ 10 ∷ other in
-          let g = judged_again (length (c.0 ++ 10 ∷ r)) (length (c.0 ++ 10 ∷ s)) (form words) r s f (sym (ap (line_by form) one ∙ said_line form c.0 r c.3) ∙ e) in
+          let g = judged_again (length (c.0 ++ 10 ∷ r)) (length (c.0 ++ 10 ∷ s)) (form words) r s f
+          (sym (ap (line_by form) one ∙ said_line form c.0 r c.3) ∙ e) in
           (g.0, ap (line_by form) two ∙ said_line form c.0 s c.3 ∙ g.1)
     ]
 

@@ -1,5 +1,7 @@
 -- Instruction lines: what is read is what is spelled.
-use Rattle.std.proofs.Common.{◌≡◌, ℕ, zero, suc, ◌-◌, ◌^◌, ◌<◌, ◌≤◌, Bool, true, false, cond, eqb, List, [], ◌∷◌, length, get_or, refl, sym, ap, subst, ◌∙◌, arith, codes, ℤ, pos, negsuc, Option, Some, None}
+use Rattle.std.proofs.Common.{◌≡◌, ℕ, zero, suc, ◌-◌, ◌^◌, ◌<◌, ◌≤◌, Bool, true, false, cond, eqb, List, [], ◌∷◌}
+use Rattle.std.proofs.Common.{length, get_or, refl, sym, ap, subst, ◌∙◌, arith, codes, ℤ, pos, negsuc, Option, Some}
+use Rattle.std.proofs.Common.{None}
 use Rattle.std.specs.List.{list_all}
 use Rattle.std.specs.Char.{is_ascii_digit}
 use Rattle.std.specs.Str.{bytes_eq}
@@ -14,19 +16,22 @@ use Rattle.pb_object.specs.declared.format.Format.{Format}
 use Rattle.pb_object.specs.declared.format.Format.TheVariants.{One, Two}
 use Rattle.pb_base.specs.declared.operators.UnaryOp.TheVariants as unary
 use Rattle.pb_base.specs.declared.operators.BinaryOp.TheVariants as binary
+use Rattle.pb_base.proofs.Cases.{both_true}
 use Rattle.pb_code.specs.declared.instr.Instr.{Instr as Given}
 use Rattle.pb_code.specs.declared.instr.Instr.TheVariants as given
-use Rattle.pb_code.specs.Code.{Instr, Push, Load, Store, Compute1, Compute2, Jump, JumpIfZero, PrintTop, Take, Give, Fork, Join, End}
+use Rattle.pb_code.specs.Code.{Instr, Push, Load, Store, Compute1, Compute2, Jump, JumpIfZero, PrintTop, Take, Give}
+use Rattle.pb_code.specs.Code.{Fork, Join, End}
 use Rattle.pb_code.specs.View.{instr_view}
 use Rattle.pb_code.specs.Bundles.{IsPlain}
 use Rattle.pb_code.specs.Names.{Word}
 use Rattle.pb_object.specs.Words.{mapped, number}
-use Rattle.pb_object.specs.Instructions.{alone, two, signed, bare, push_of, bundle_of, operation, comparison, plain, instr_of, instr, instr_words, line_given, line_number, place, place_words}
+use Rattle.pb_object.specs.Instructions.{alone, two, signed, bare, push_of, bundle_of, operation, comparison, plain}
+use Rattle.pb_object.specs.Instructions.{instr_of, instr, instr_words, line_given, line_number, place, place_words}
 use Rattle.pb_code.specs.Limits.{IsSigned, IsLine}
 use Rattle.pb_object.specs.Ranges.{AreArms, IsInstr, IsPlace}
 use Rattle.pb_code.proofs.NumeralLemmas.{own}
 use Rattle.pb_object.proofs.Numbers.{number_takes, number_again}
-use Rattle.pb_code.proofs.NameTests.{both_true, false_from}
+use Rattle.pb_code.proofs.NameTests.{false_from}
 use Rattle.pb_object.proofs.LineLemmas.{is_inner, AreWords}
 use Rattle.pb_object.proofs.Verdicts.{mapped_read, paired_read, select_or, read_is}
 use Rattle.pb_object.proofs.LineForms.{decimal_clean}
@@ -36,9 +41,6 @@ use Rattle.pb_object.proofs.Parts.{AreLine, IsForm}
 -- what the line of an instruction that takes and gives nothing says: its words and its ranges
 abbrev Says : Word → List Word → Given → Type 0
 Says k ws i = (k ∷ ws ≡ instr_words (instr_view [] i)) × ((format : Format) → IsInstr format (instr_view [] i)) × IsPlain i
-
-abbrev reading : {T : Type 0} → T → Verdict T
-reading x = Read x
 
 bare_says : (key k : Word) (ws : List Word) (j i : Given) → instr_words (instr_view [] j) ≡ key ∷ [] → ((format :
     Format) → IsInstr format (instr_view [] j)) → IsPlain j
@@ -178,7 +180,8 @@ unfolding plain
 plain_says k ws i e =
     select_or k (codes "push") _ _ i e (push_says k ws i) (λ e.
     select_or k (codes "load") _ _ i e (number_says (codes "load") k ws given.Load i 0 63 (omega arith) (λ n. refl) (λ n h f. omega (arith, h)) (λ n. tt)) (λ e.
-    select_or k (codes "store") _ _ i e (number_says (codes "store") k ws given.Store i 0 63 (omega arith) (λ n. refl) (λ n h f. omega (arith, h)) (λ n. tt)) (λ e.
+    select_or k (codes "store") _ _ i e (number_says (codes "store") k ws given.Store i 0 63 (omega arith) (λ n. refl)
+    (λ n h f. omega (arith, h)) (λ n. tt)) (λ e.
     select_or k (codes "jump") _ _ i e (number_says (codes "jump") k ws given.Jump i 0 39999 (omega arith) (λ n. refl) (λ n h f. h) (λ n. tt)) (λ e.
     select_or k (codes "jzero") _ _ i e (number_says (codes "jzero") k ws given.JumpIfZero i 0 39999 (omega arith) (λ n. refl) (λ n h f. h) (λ n. tt)) (λ e.
     select_or k (codes "print") _ _ i e (bare_says (codes "print") k ws given.Print i refl (λ f. tt) tt) (λ e.
@@ -245,8 +248,16 @@ instr_again format (JumpIfZero t) good = rw (number_again 0 39999 t (omega arith
 instr_again format PrintTop good = refl
 instr_again format (Take ps) good = rw (bundle_again format ps good) refl
 instr_again format (Give ps) good = rw (bundle_again format ps good) refl
-instr_again format (Fork f n) good = rw (number_again 1 63 f (omega arith) good.0 (let b = good.1 in omega (arith, b)), number_again 1 16 n (omega arith) good.2 good.3) refl
-instr_again format (Join f n) good = rw (number_again 1 63 f (omega arith) good.0 (let b = good.1 in omega (arith, b)), number_again 1 16 n (omega arith) good.2 good.3) refl
+instr_again format (Fork f n) good =
+    rw (
+      number_again 1 63 f (omega arith) good.0 (let b = good.1 in omega (arith, b)),
+      number_again 1 16 n (omega arith) good.2 good.3,
+    ) refl
+instr_again format (Join f n) good =
+    rw (
+      number_again 1 63 f (omega arith) good.0 (let b = good.1 in omega (arith, b)),
+      number_again 1 16 n (omega arith) good.2 good.3,
+    ) refl
 instr_again format End good = refl
 
 number_clean : (n high : ℕ) → n ≤ high → high < 2 ^ 64 → list_all is_inner (decimal n) ≡ true
@@ -280,8 +291,12 @@ instr_clean format (JumpIfZero t) good = (refl, (number_clean t 39999 good (omeg
 instr_clean format PrintTop good = (refl, tt)
 instr_clean format (Take ps) good = (refl, bundle_clean format ps good)
 instr_clean format (Give ps) good = (refl, bundle_clean format ps good)
-instr_clean format (Fork f n) good = (refl, (number_clean f 63 (let b = good.1 in omega (arith, b)) (omega arith), (number_clean n 16 good.3 (omega arith), tt)))
-instr_clean format (Join f n) good = (refl, (number_clean f 63 (let b = good.1 in omega (arith, b)) (omega arith), (number_clean n 16 good.3 (omega arith), tt)))
+instr_clean format (Fork f n) good =
+    let first = number_clean f 63 (let b = good.1 in omega (arith, b)) (omega arith) in
+    (refl, (first, (number_clean n 16 good.3 (omega arith), tt)))
+instr_clean format (Join f n) good =
+    let first = number_clean f 63 (let b = good.1 in omega (arith, b)) (omega arith) in
+    (refl, (first, (number_clean n 16 good.3 (omega arith), tt)))
 instr_clean format End good = (refl, tt)
 
 as_line : (format : Format) (ws : List Word) (i : Instr) → ws ≡ instr_words i → instr format ws ≡ Read i → AreWords ws → AreLine ws

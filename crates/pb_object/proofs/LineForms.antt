@@ -1,5 +1,6 @@
 -- What each kind of line that is no place reads is what it spells.
-use Rattle.std.proofs.Common.{◌≡◌, ℕ, zero, suc, ◌^◌, ◌<◌, ◌≤◌, Bool, true, false, cond, not, ◌&&◌, eqb, ltb, List, [], ◌∷◌, length, refl, sym, ap, subst, ◌∙◌, arith, map, codes}
+use Rattle.std.proofs.Common.{◌≡◌, ℕ, zero, suc, ◌^◌, ◌<◌, ◌≤◌, Bool, true, false, cond, not, ◌&&◌, eqb, ltb, List}
+use Rattle.std.proofs.Common.{[], ◌∷◌, length, refl, sym, ap, subst, ◌∙◌, arith, map, codes}
 use Rattle.std.specs.List.{list_all, AllByRecursion}
 use Rattle.std.specs.Char.{is_ascii_alphabetic, is_ascii_digit}
 use Rattle.std.specs.Fmt.{decimal}
@@ -8,6 +9,7 @@ use Rattle.std.specs.Str.Parse.{digits_value}
 use Rattle.std.proofs.lemmas.Bool.{eqb-true, ltb-false, le-ltb}
 use Rattle.std.proofs.lemmas.List.{length-append, length-map}
 use Rattle.std.proofs.lemmas.Fmt.{digits_decimal, decimal-digits_value, digits_value-decimal}
+use Rattle.pb_base.proofs.Cases.{both_true}
 use Rattle.pb_object.specs.declared.words.Verdict.TheVariants.{Malformed, Beyond, Read}
 use Rattle.pb_object.specs.declared.format.Format.{Format}
 use Rattle.pb_object.specs.declared.format.Format.TheVariants.{One, Two}
@@ -15,12 +17,14 @@ use Rattle.pb_code.specs.Names.{Word, is_name_byte, reserved_words, is_name, is_
 use Rattle.pb_code.specs.Numerals.{is_numeral}
 use Rattle.pb_object.specs.Words.{paired, mapped, number, numbers, is_new_name, are_new}
 use Rattle.pb_object.specs.Instructions.{select}
-use Rattle.pb_object.specs.Objects.{ResourceRow, counted_words, resource_words, process_words, digit_of, integers_words, claims_words}
+use Rattle.pb_object.specs.Objects.{ResourceRow, counted_words, resource_words, process_words, digit_of}
+use Rattle.pb_object.specs.Objects.{integers_words, claims_words}
 use Rattle.pb_object.specs.Ranges.{IsResource, AreIntegers, AreClaimsInRange, plain_names}
-use Rattle.pb_object.specs.Reading.{counted, resource, process_name, heading, says_number, named_integers, integers, claims}
+use Rattle.pb_object.specs.Reading.{counted, resource, process_name, heading, says_number, named_integers, integers}
+use Rattle.pb_object.specs.Reading.{claims}
 use Rattle.pb_code.proofs.NumeralLemmas.{own, numeral_is, is_numeral_decimal}
 use Rattle.pb_object.proofs.Numbers.{number_takes, number_again}
-use Rattle.pb_code.proofs.NameTests.{both_true, letter_name}
+use Rattle.pb_code.proofs.NameTests.{letter_name}
 use Rattle.pb_object.proofs.Verdicts.{mapped_read, paired_read, select_or, only_read, select_same, guard_read}
 use Rattle.pb_object.proofs.LineLemmas.{is_inner, AreWords, all_mono}
 use Rattle.pb_object.proofs.Parts.{AreLine, IsForm}

@@ -1,15 +1,18 @@
 -- A line that is cut off is the line that was written, and the other way round.
-use Rattle.std.proofs.Common.{◌≡◌, ℕ, suc, ◌<◌, Bool, true, false, not, ◌&&◌, eqb, ltb, List, [], ◌∷◌, ◌++◌, length, get_or, take, drop, Option, Some, None, Result, Ok, Err, refl, sym, ap, subst, ◌∙◌, append_assoc, arith, drop-cons}
-use Rattle.std.specs.List.{slice_split, join_with_byte, position, position_or_len, prefix_len, list_all, AllByRecursion, All}
+use Rattle.std.proofs.Common.{◌≡◌, ℕ, suc, ◌<◌, Bool, true, false, not, ◌&&◌, eqb, ltb, List, [], ◌∷◌, ◌++◌, length}
+use Rattle.std.proofs.Common.{get_or, take, drop, Option, Some, None, Result, Ok, Err, refl, sym, ap, subst, ◌∙◌}
+use Rattle.std.proofs.Common.{append_assoc, arith, drop-cons}
+use Rattle.std.specs.List.{slice_split, join_with_byte, position, position_or_len, prefix_len, list_all}
+use Rattle.std.specs.List.{AllByRecursion, All}
 use Rattle.std.proofs.lemmas.Bool.{eqb-true, lt-ltb}
 use Rattle.std.proofs.lemmas.List.{take_at, drop_at, take-append-drop, length-append}
 use Rattle.std.proofs.lemmas.List.Quantifiers.{position-Some}
 use Rattle.std.proofs.lemmas.List.Splits.{slice_split_none, slice_split_at, join_with_byte-slice_split}
 use Rattle.std.proofs.lemmas.List.Elements.{All-from_recursion}
+use Rattle.pb_base.proofs.Cases.{both_true, not_true}
 use Rattle.pb_object.specs.declared.fault.Fault.{Fault}
 use Rattle.pb_code.specs.Names.{Word}
 use Rattle.pb_object.specs.Lines.{line_text, ◌>>=◌, words_before, first_words}
-use Rattle.pb_code.proofs.NameTests.{both_true, not_true}
 
 -- the value of a step that did not fail
 pub bind_ok : {A B : Type 0} (r : Result A Fault) (f : A → Result B Fault) (y : B) → (r >>= f) ≡ Ok y → (x : A) × (r ≡ Ok x) × (f x ≡ Ok y)

@@ -1,5 +1,6 @@
 -- Names that differ from one another.
-use Rattle.std.proofs.Common.{◌≡◌, ◌≢◌, suc, Bool, true, false, not, ◌&&◌, List, [], ◌∷◌, ◌++◌, get_or, refl, sym, arith}
+use Rattle.std.proofs.Common.{◌≡◌, ◌≢◌, suc, Bool, true, false, not, ◌&&◌, List, [], ◌∷◌, ◌++◌, get_or, refl, sym}
+use Rattle.std.proofs.Common.{arith}
 use Rattle.std.specs.Prelude.{All, AllPairs}
 use Rattle.std.specs.Str.{bytes_eq}
 use Rattle.std.proofs.lemmas.Slice.Eq.{bytes_eq-Decides}

@@ -1,5 +1,6 @@
 -- Reading an object stops only where the lines before could go on, and rests only on the lines up to there.
-use Rattle.std.proofs.Common.{◌≡◌, ℕ, zero, suc, ◌^◌, ◌<◌, ◌≤◌, true, List, [], ◌∷◌, ◌++◌, length, map, codes, Option, None, refl, ap, arith}
+use Rattle.std.proofs.Common.{◌≡◌, ℕ, zero, suc, ◌^◌, ◌<◌, ◌≤◌, true, List, [], ◌∷◌, ◌++◌, length, map, codes, Option}
+use Rattle.std.proofs.Common.{None, refl, ap, arith}
 use Rattle.std.specs.List.{list_all}
 use Rattle.std.proofs.lemmas.List.{length-map}
 use Rattle.pb_code.specs.Code.{Instr, End}
@@ -10,14 +11,16 @@ use Rattle.pb_object.specs.Instructions.{place, place_words}
 use Rattle.pb_object.specs.Lines.{line_by, many, line_text}
 use Rattle.pb_object.specs.Objects.{ResourceRow, ProcessRow, Object, counted_words, resource_words, process_words}
 use Rattle.pb_object.specs.Ranges.{IsPlace, IsResource, AreIntegers, AreClaimsInRange, most_processes, plain_names}
-use Rattle.pb_object.specs.Reading.{counted, resource, process_name, heading, integers, claims, resource_at, entry_at, place_at, process_at, process_after, object_at}
+use Rattle.pb_object.specs.Reading.{counted, resource, process_name, heading, integers, claims, resource_at, entry_at}
+use Rattle.pb_object.specs.Reading.{place_at, process_at, process_after, object_at}
 use Rattle.pb_object.proofs.LineLemmas.{is_inner}
 use Rattle.pb_object.proofs.Parts.{IsPart, line_is}
 use Rattle.pb_object.proofs.LineForms.{resource_is, name_is}
 use Rattle.pb_object.proofs.InstrForms.{place_is}
 use Rattle.pb_object.proofs.ObjectLaws.{counted_part, claims_part, format_part, integers_part, small_processes}
 use Rattle.pb_object.proofs.FreshNames.{fresh_name}
-use Rattle.pb_object.proofs.Exact.{Reader, Says, IsExact, IsSayable, line_exact, then_read, then_exact, then_sayable, read_all, end_exact, end_sayable, many_exact}
+use Rattle.pb_object.proofs.Exact.{Reader, Says, IsExact, IsSayable, line_exact, then_read, then_exact, then_sayable}
+use Rattle.pb_object.proofs.Exact.{read_all, end_exact, end_sayable, many_exact}
 
 abbrev pub Both : {X : Type 0} → Reader X → Type 0
 Both part = IsExact part × IsSayable part

@@ -1,5 +1,6 @@
 -- What is read of an object is what it spells, and what is spelled is read, whatever follows.
-use Rattle.std.proofs.Common.{◌≡◌, ℕ, ◌^◌, ◌<◌, ◌≤◌, Bool, true, false, cond, eqb, List, [], ◌∷◌, ◌++◌, length, Option, Result, Ok, Err, refl, sym, ap, subst, ◌∙◌, append_assoc, arith, codes, map}
+use Rattle.std.proofs.Common.{◌≡◌, ℕ, ◌^◌, ◌<◌, ◌≤◌, Bool, true, false, cond, eqb, List, [], ◌∷◌, ◌++◌, length}
+use Rattle.std.proofs.Common.{Option, Result, Ok, Err, refl, sym, ap, subst, ◌∙◌, append_assoc, arith, codes, map}
 use Rattle.std.specs.List.{flat_map, list_all}
 use Rattle.std.proofs.lemmas.Bool.{eqb-true}
 use Rattle.std.proofs.lemmas.List.{append-nil, nil_from_length}
@@ -12,9 +13,12 @@ use Rattle.pb_code.specs.Names.{Word}
 use Rattle.pb_object.specs.Words.{is_new_name}
 use Rattle.pb_object.specs.Lines.{line_text, line_by, many, ◌>>=◌}
 use Rattle.pb_object.specs.Instructions.{place, place_words}
-use Rattle.pb_object.specs.Objects.{ProcessRow, ResourceRow, Object, counted_words, resource_words, process_words, integers_words, claims_words, digit_of, process_text, object_spelling}
-use Rattle.pb_object.specs.Ranges.{Each, IsPlace, IsResource, IsEntry, IsProcess, IsObject, AreIntegers, AreClaimsInRange, most_processes}
-use Rattle.pb_object.specs.Reading.{counted, resource, process_name, heading, integers, claims, resource_at, entry_at, place_at, process_at, process_after, object_at, all_of}
+use Rattle.pb_object.specs.Objects.{ProcessRow, ResourceRow, Object, counted_words, resource_words, process_words}
+use Rattle.pb_object.specs.Objects.{integers_words, claims_words, digit_of, process_text, object_spelling}
+use Rattle.pb_object.specs.Ranges.{Each, IsPlace, IsResource, IsEntry, IsProcess, IsObject, AreIntegers}
+use Rattle.pb_object.specs.Ranges.{AreClaimsInRange, most_processes}
+use Rattle.pb_object.specs.Reading.{counted, resource, process_name, heading, integers, claims, resource_at, entry_at}
+use Rattle.pb_object.specs.Reading.{place_at, process_at, process_after, object_at, all_of}
 use Rattle.pb_object.proofs.LineLemmas.{bind_ok, ok_is, is_inner}
 use Rattle.pb_object.proofs.Parts.{IsPart, line_is, many_is}
 use Rattle.pb_object.proofs.LineForms.{counted_is, heading_is, resource_is, name_is, integers_is, claims_is}

@@ -1,5 +1,6 @@
 -- What an object of the second format says keeps the limits.
-use Rattle.std.proofs.Common.{◌≡◌, ◌≢◌, ℕ, zero, suc, ◌<◌, ◌≤◌, Bool, true, false, not, ◌&&◌, ◌||◌, List, [], ◌∷◌, ◌++◌, length, get_or, map, refl, sym, ap, subst, ◌∙◌, arith, Option, Some, ℤ}
+use Rattle.std.proofs.Common.{◌≡◌, ◌≢◌, ℕ, zero, suc, ◌<◌, ◌≤◌, Bool, true, false, not, ◌&&◌, List, [], ◌∷◌}
+use Rattle.std.proofs.Common.{◌++◌, length, get_or, map, refl, sym, ap, subst, ◌∙◌, arith, Option, Some, ℤ}
 use Rattle.std.specs.Prelude.{All, AllPairs, slice_get}
 use Rattle.std.specs.List.{AllByRecursion}
 use Rattle.std.specs.Str.{bytes_eq}
@@ -8,27 +9,27 @@ use Rattle.std.proofs.lemmas.List.Elements.{All-from_recursion}
 use Rattle.std.proofs.lemmas.Slice.Eq.{bytes_eq-Decides}
 use Rattle.std.proofs.lemmas.Option.{slice_get-get_or}
 use Rattle.pb_base.specs.declared.pair.Pair.{Pair}
+use Rattle.pb_base.proofs.Lists.{get_mapped}
 use Rattle.pb_object.specs.declared.format.Format.{Format}
 use Rattle.pb_object.specs.declared.format.Format.TheVariants.{Two}
-use Rattle.pb_code.specs.Code.{Instr, Push, Load, Store, Compute1, Compute2, Jump, JumpIfZero, PrintTop, Take, Give, Fork, Join, End, ProcessCode}
+use Rattle.pb_code.specs.Code.{Instr, Push, Load, Store, Compute1, Compute2, Jump, JumpIfZero, PrintTop, Take, Give}
+use Rattle.pb_code.specs.Code.{Fork, Join, End, ProcessCode}
 use Rattle.pb_code.specs.Whole.{Code, ProcessLabels}
 use Rattle.pb_code.specs.Names.{Word, is_name, is_among}
 use Rattle.pb_object.specs.Words.{is_new_name, are_new}
 use Rattle.pb_code.specs.Limits.{AreNames, IsSmallBundle, HasSmallNumbers, IsSmallProcess, FitLabels}
 use Rattle.pb_object.specs.Formats.{KeepsRanges}
 use Rattle.pb_object.specs.Objects.{Object, ProcessRow, ResourceRow, code_of_row, labels_of_row, code_of, labels_of}
-use Rattle.pb_object.specs.Ranges.{ArePairs, IsBundle, IsInstr, IsPlace, Each, IsEntry, IsResource, IsProcess, IsObject, most_processes}
+use Rattle.pb_object.specs.Ranges.{ArePairs, IsBundle, IsInstr, IsPlace, Each, IsEntry, IsResource, IsProcess}
+use Rattle.pb_object.specs.Ranges.{IsObject, most_processes}
 use Rattle.pb_code.specs.Limits.{IsSigned, IsLine}
 use Rattle.pb_object.specs.Answers.{HasText}
 use Rattle.pb_object.proofs.Columns.{each_all, all_map}
 use Rattle.pb_code.proofs.NameTests.{name_decides}
-use Rattle.pb_object.proofs.SayableCode.{mapped_at, each_at}
+use Rattle.pb_object.proofs.SayableCode.{each_at}
+use Rattle.pb_object.proofs.Numbers.{none_of}
 
 -- ---- names
-
-none_left : (b c : Bool) → (b || c) ≡ false → (b ≡ false) × (c ≡ false)
-none_left true c h = absurd cc
-none_left false c h = (refl, h)
 
 new_split : (b c : Bool) → (not b && c) ≡ true → (b ≡ false) × (c ≡ true)
 new_split true c h = absurd cc
@@ -36,9 +37,9 @@ new_split false c h = (refl, h)
 
 among_split : (xs : List Word) (v w : Word) → is_among (xs ++ v ∷ []) w ≡ false → (is_among xs w ≡ false) × (w ≢ v)
 among_split [] v w h =
-    (refl, λ same. let s = none_left (bytes_eq w v) false h in let e = s.0 in let is : bytes_eq w v ≡ true = (bytes_eq-Decides w v).1 same in cc)
+    (refl, λ same. let s = none_of (bytes_eq w v) false h in let e = s.0 in let is : bytes_eq w v ≡ true = (bytes_eq-Decides w v).1 same in cc)
 among_split (x ∷ xs) v w h =
-    let s = none_left (bytes_eq w x) (is_among (xs ++ v ∷ []) w) h in
+    let s = none_of (bytes_eq w x) (is_among (xs ++ v ∷ []) w) h in
     let rest = among_split xs v w s.1 in
     (rw (s.0, rest.0) refl, rest.1)
 
@@ -127,13 +128,13 @@ instr_small End h = tt
 module _ (m : ℕ) (before : List ProcessRow) (row : ProcessRow) (h : IsProcess Two m before row) where
   place_good : (k : ℕ) (i : Instr) → slice_get (code_of_row row).instrs k ≡ Some i → IsInstr Two i
   place_good k i at =
-      let w = mapped_at (λ (x : Option ℕ × Instr). x.1) row.places k i at in
+      let w = get_mapped (λ (x : Option ℕ × Instr). x.1) row.places k i at in
       let good = each_at (λ e place. IsPlace Two place) [] row.places h.places k w.0 w.1 in
       subst (IsInstr Two) w.2 good.1.1
 
   line_good : (k : ℕ) (d : Option ℕ) → k < length (labels_of_row row).lines → IsLine (get_or (labels_of_row row).lines k d)
   line_good k d lt =
-      let w = mapped_at (λ (x : Option ℕ × Instr). x.0) row.places k _ (slice_get-get_or (labels_of_row row).lines k d lt) in
+      let w = get_mapped (λ (x : Option ℕ × Instr). x.0) row.places k _ (slice_get-get_or (labels_of_row row).lines k d lt) in
       let good = each_at (λ e place. IsPlace Two place) [] row.places h.places k w.0 w.1 in
       subst IsLine w.2 good.1.0
 
@@ -187,7 +188,7 @@ said_limits o two good =
     let claimed : (k : ℕ) (row : List ℕ) → slice_get (map (λ (p : ProcessRow). p.claims) o.processes) k ≡ Some row
     → (length row ≡ m) × AllByRecursion (λ claim. claim ≤ 1000000) row =
     λ k row at.
-    let w = mapped_at (λ (p : ProcessRow). p.claims) o.processes k row at in
+    let w = get_mapped (λ (p : ProcessRow). p.claims) o.processes k row at in
     subst (λ (l : List ℕ). (length l ≡ m) × AllByRecursion (λ claim. claim ≤ 1000000) l) w.2 (row_of k w.0 w.1).1.claims in
     record {
       limits = record {
@@ -210,19 +211,19 @@ said_limits o two good =
             All-from_recursion (λ claim. claim ≤ 1000000) (get_or (map (λ (q : ProcessRow). q.claims) o.processes) p
             []) c.1 r 0 (omega (arith, v, kinds, wide));
         each = λ p process at.
-            let w = mapped_at code_of_row o.processes p process at in
+            let w = get_mapped code_of_row o.processes p process at in
             let g = row_of p w.0 w.1 in
             subst IsSmallProcess w.2 (row_small m g.0 w.0 g.1);
       };
       pushes = λ p process at k v read.
-          let w = mapped_at code_of_row o.processes p process at in
+          let w = get_mapped code_of_row o.processes p process at in
           let g = row_of p w.0 w.1 in
           row_pushes m g.0 w.0 g.1 k v (ap (λ (c : ProcessCode). slice_get c.instrs k) w.2 ∙ read);
       fit = record {
         all = length-map o.processes labels_of_row ∙ sym count;
         each = λ p process l at said.
-            let w = mapped_at code_of_row o.processes p process at in
-            let x = mapped_at labels_of_row o.processes p l said in
+            let w = get_mapped code_of_row o.processes p process at in
+            let x = get_mapped labels_of_row o.processes p l said in
             let same : Some w.0 ≡ Some x.0 = sym w.1 ∙ x.1 in
             let is : w.0 ≡ x.0 = cc in
             let g = row_of p w.0 w.1 in

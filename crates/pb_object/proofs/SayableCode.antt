@@ -1,5 +1,6 @@
 -- Code within its limits, with labels that fit it, has a text; and what of it the first format can say.
-use Rattle.std.proofs.Common.{◌≡◌, ◌≢◌, ℕ, zero, suc, ◌<◌, ◌≤◌, true, List, [], ◌∷◌, ◌++◌, length, map, refl, sym, ap, subst, ◌∙◌, arith, Option, Some, None, ℤ}
+use Rattle.std.proofs.Common.{◌≡◌, ◌≢◌, ℕ, zero, suc, ◌<◌, ◌≤◌, true, List, [], ◌∷◌, ◌++◌, length, map, refl, sym, ap}
+use Rattle.std.proofs.Common.{subst, ◌∙◌, arith, Option, Some, None, ℤ}
 use Rattle.std.specs.Prelude.{All, AllPairs, slice_get}
 use Rattle.std.specs.List.{AllByRecursion}
 use Rattle.std.specs.Option.{option_map}
@@ -7,9 +8,11 @@ use Rattle.std.proofs.lemmas.List.{length-map}
 use Rattle.std.proofs.lemmas.List.Elements.{recursion_from_All}
 use Rattle.std.proofs.lemmas.Option.{slice_get-map}
 use Rattle.pb_base.specs.declared.pair.Pair.{Pair}
+use Rattle.pb_base.proofs.Lists.{get_mapped}
 use Rattle.pb_object.specs.declared.format.Format.{Format}
 use Rattle.pb_object.specs.declared.format.Format.TheVariants.{One, Two}
-use Rattle.pb_code.specs.Code.{Instr, Push, Load, Store, Compute1, Compute2, Jump, JumpIfZero, PrintTop, Take, Give, Fork, Join, End, ProcessCode}
+use Rattle.pb_code.specs.Code.{Instr, Push, Load, Store, Compute1, Compute2, Jump, JumpIfZero, PrintTop, Take, Give}
+use Rattle.pb_code.specs.Code.{Fork, Join, End, ProcessCode}
 use Rattle.pb_code.specs.Whole.{Code, ProcessLabels}
 use Rattle.pb_code.specs.Names.{Word}
 use Rattle.pb_object.specs.Words.{are_new}
@@ -24,7 +27,8 @@ use Rattle.pb_object.proofs.Columns.{whole_code}
 use Rattle.pb_object.proofs.LineForms.{length_plain_names}
 use Rattle.pb_object.proofs.NewNames.{apart_are_new}
 use Rattle.pb_code.proofs.NameTests.{formed_are_names}
-use Rattle.pb_object.proofs.RowsMade.{resource_rows, resource_names, resource_capitals, resources_good, process_rows, AreGood, Matched, AreColumns, columns, AreSmall, processes_good}
+use Rattle.pb_object.proofs.RowsMade.{resource_rows, resource_names, resource_capitals, resources_good, process_rows}
+use Rattle.pb_object.proofs.RowsMade.{AreGood, Matched, AreColumns, columns, AreSmall, processes_good}
 
 -- ---- places
 
@@ -187,11 +191,6 @@ first_text code h pushes first = (
       (plain_good p (h.each k p a) (λ j i at v e. pushes k p a j v (at ∙ ap Some e)) (first.single k p a))),
 )
 
-pub mapped_at : {A B : Type 0} (f : A → B) (xs : List A) (k : ℕ) (y : B) → slice_get (map f xs) k ≡ Some y → (x : A) × (slice_get xs k ≡ Some x) × (f x ≡ y)
-mapped_at f [] k y e = absurd cc
-mapped_at f (x ∷ xs) zero y e = (x, refl, cc)
-mapped_at f (x ∷ xs) (suc k) y e = mapped_at f xs k y e
-
 pub each_at : {X : Type 0} (Good : List X → X → Type 0) (earlier xs : List X) → Each Good earlier xs → (k : ℕ) (x : X) → slice_get xs k ≡ Some x
     → (before : List X) × Good before x
 each_at Good earlier [] h k x e = absurd cc
@@ -218,7 +217,7 @@ instr_single End h = tt
 
 row_single : (m : ℕ) (before : List ProcessRow) (row : ProcessRow) → IsProcess One m before row → EachPlace (code_of_row row).instrs IsSingle
 row_single m before row h k i at =
-    let w = mapped_at (λ (x : Option ℕ × Instr). x.1) row.places k i at in
+    let w = get_mapped (λ (x : Option ℕ × Instr). x.1) row.places k i at in
     let good = each_at (λ e place. IsPlace One place) [] row.places h.places k w.0 w.1 in
     subst IsSingle w.2 (instr_single w.0.1 good.1.1)
 
@@ -232,7 +231,7 @@ first_fits code h =
     record {
       few_processes = omega (arith, many, few);
       single = λ p process at place i read.
-          let w = mapped_at code_of_row o.processes p process (ap (λ (l : List ProcessCode). slice_get l p) (sym processes) ∙ at) in
+          let w = get_mapped code_of_row o.processes p process (ap (λ (l : List ProcessCode). slice_get l p) (sym processes) ∙ at) in
           let rows = subst (λ (f : Format). Each (IsProcess f (length o.resources)) [] o.processes) is.is_format is.good.processes in
           let good = each_at (IsProcess One (length o.resources)) [] o.processes rows p w.0 w.1 in
           row_single (length o.resources) good.0 w.0 good.1 place i

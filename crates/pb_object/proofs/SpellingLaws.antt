@@ -6,7 +6,8 @@ use Rattle.pb_object.specs.declared.format.Format.TheVariants.{One}
 use Rattle.pb_code.specs.Code.{Instr, ProcessCode}
 use Rattle.pb_code.specs.Whole.{Code, ProcessLabels}
 use Rattle.pb_code.specs.Names.{Word}
-use Rattle.pb_object.specs.Objects.{ResourceRow, ProcessRow, Object, code_of_row, labels_of_row, code_of, labels_of, object_spelling}
+use Rattle.pb_object.specs.Objects.{ResourceRow, ProcessRow, Object, code_of_row, labels_of_row, code_of, labels_of}
+use Rattle.pb_object.specs.Objects.{object_spelling}
 use Rattle.pb_object.specs.Ranges.{Each, IsPlace, IsProcess, plain_names}
 use Rattle.pb_object.specs.Reading.{answer_of}
 use Rattle.pb_object.specs.Answers.{IsObjectOf, SpellsCode, SpellsOne}

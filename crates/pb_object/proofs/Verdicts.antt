@@ -13,7 +13,7 @@ mapped_read f Malformed y e = absurd cc
 mapped_read f Beyond y e = absurd cc
 mapped_read f (Read x) y e = (x, refl, cc)
 
-abbrev reading : {T : Type 0} → T → Verdict T
+abbrev pub reading : {T : Type 0} → T → Verdict T
 reading x = Read x
 
 pub read_is : {T : Type 0} (x y : T) → reading x ≡ reading y → x ≡ y

@@ -1,5 +1,6 @@
 -- What is written is what the rows spell.
-use Rattle.std.proofs.Common.{◌≡◌, ℕ, ◌+◌, ◌<◌, ◌≤◌, List, [], ◌∷◌, ◌++◌, length, take, get_or, map, refl, sym, ap, subst, ◌∙◌, append_assoc, codes, arith, Option, Some, slice_get}
+use Rattle.std.proofs.Common.{◌≡◌, ℕ, ◌+◌, ◌<◌, ◌≤◌, List, [], ◌∷◌, ◌++◌, length, take, get_or, map, refl, sym, ap}
+use Rattle.std.proofs.Common.{subst, ◌∙◌, append_assoc, codes, arith, Option, Some, slice_get}
 use Rattle.std.specs.List.{flat_map}
 use Rattle.std.proofs.lemmas.List.{length-map, take_more, take_all, get_or-map}
 use Rattle.std.proofs.lemmas.List.Elements.{All-from_recursion}
@@ -12,7 +13,9 @@ use Rattle.pb_code.specs.Whole.{Code, ProcessLabels}
 use Rattle.pb_code.specs.Names.{Word}
 use Rattle.pb_object.specs.Lines.{line_text}
 use Rattle.pb_object.specs.Instructions.{instr_words, place_words}
-use Rattle.pb_object.specs.Objects.{ResourceRow, ProcessRow, Object, code_of, labels_of, resource_words, digit_of, object_spelling, code_of_row, labels_of_row, counted_words, process_words, integers_words, claims_words, process_text}
+use Rattle.pb_object.specs.Objects.{ResourceRow, ProcessRow, Object, code_of, labels_of, resource_words, digit_of}
+use Rattle.pb_object.specs.Objects.{object_spelling, code_of_row, labels_of_row, counted_words, process_words}
+use Rattle.pb_object.specs.Objects.{integers_words, claims_words, process_text}
 use Rattle.pb_object.specs.Rows.{side_by_side}
 use Rattle.pb_object.specs.Writing.{IsRowOf, IsLabelsOf}
 use Rattle.pb_base.specs.Tables.{width_of}

@@ -1,5 +1,6 @@
 -- A line, and what follows it.
-use Rattle.std.specs.Prelude.{◌≡◌, ℕ, zero, suc, ◌==◌, List, [], ◌∷◌, ◌++◌, length, take, drop, Option, Some, None, Result, Ok, Err}
+use Rattle.std.specs.Prelude.{◌≡◌, ℕ, zero, suc, ◌==◌, List, [], ◌∷◌, ◌++◌, length, take, drop, Option, Some, None}
+use Rattle.std.specs.Prelude.{Result, Ok, Err}
 use Rattle.std.specs.List.{slice_split, join_with_byte, position}
 use Rattle.pb_object.specs.declared.words.Verdict.{Verdict}
 use Rattle.pb_object.specs.declared.words.Verdict.TheVariants as verdict

@@ -1,13 +1,16 @@
 -- The objects that have a spelling: ranges of numbers, and rules on names.
-use Rattle.std.specs.Prelude.{◌<◌, ◌≡◌, ◌≢◌, ℕ, zero, suc, ◌≤◌, true, List, [], ◌∷◌, ◌++◌, length, map, Option, None, ⊤}
+use Rattle.std.specs.Prelude.{◌<◌, ◌≡◌, ◌≢◌, ℕ, zero, suc, ◌≤◌, true, List, [], ◌∷◌, ◌++◌, length, map, Option, None}
+use Rattle.std.specs.Prelude.{⊤}
 use Rattle.std.specs.Fmt.{decimal}
 use Rattle.std.specs.List.{AllByRecursion}
-use Rattle.pb_base.specs.declared.limits.TheConstants.{MAX_AMOUNT, MAX_ARMS, MAX_FIRST_PROCESSES, MAX_FORK, MAX_INTEGERS, MAX_PLACES, MAX_PROCESSES, MAX_RESOURCES}
+use Rattle.pb_base.specs.declared.limits.TheConstants.{MAX_AMOUNT, MAX_ARMS, MAX_FIRST_PROCESSES, MAX_FORK}
+use Rattle.pb_base.specs.declared.limits.TheConstants.{MAX_INTEGERS, MAX_PLACES, MAX_PROCESSES, MAX_RESOURCES}
 use Rattle.pb_base.specs.declared.pair.Pair.{Pair}
 use Rattle.pb_code.specs.Limits.{IsLine, IsSigned}
 use Rattle.pb_object.specs.declared.format.Format.{Format}
 use Rattle.pb_object.specs.declared.format.Format.TheVariants.{One, Two}
-use Rattle.pb_code.specs.Code.{Instr, Push, Load, Store, Compute1, Compute2, Jump, JumpIfZero, PrintTop, Take, Give, Fork, Join, End}
+use Rattle.pb_code.specs.Code.{Instr, Push, Load, Store, Compute1, Compute2, Jump, JumpIfZero, PrintTop, Take, Give}
+use Rattle.pb_code.specs.Code.{Fork, Join, End}
 use Rattle.pb_code.specs.Names.{Word, is_name}
 use Rattle.pb_object.specs.Words.{is_new_name, are_new}
 use Rattle.pb_object.specs.Instructions.{most_pairs}

@@ -1,8 +1,7 @@
 -- Words of a line: numbers and names that are new.
-use Rattle.std.specs.Prelude.{ℕ, ◌≤◌, Bool, true, false, not, ◌&&◌, ◌||◌, nat_lt, ◌==◌, if◌then◌else◌, List, [], ◌∷◌, ◌++◌, length, ⊤}
-use Rattle.std.specs.Char.{is_ascii_digit}
+use Rattle.std.specs.Prelude.{ℕ, ◌≤◌, Bool, true, not, ◌&&◌, ◌||◌, nat_lt, List, [], ◌∷◌, if◌then◌else◌}
+use Rattle.std.specs.Prelude.{◌++◌, ⊤}
 use Rattle.std.specs.Str.Parse.{digits_value}
-use Rattle.std.specs.List.{list_all}
 use Rattle.pb_code.specs.Names.{Word, is_among, is_name}
 use Rattle.pb_code.specs.Numerals.{is_numeral}
 use Rattle.pb_object.specs.declared.words.Verdict.{Verdict}

@@ -1,5 +1,6 @@
 -- The lines of outcomes and of deadlocks, one more at a time.
-use Rattle.std.proofs.Common.{◌≡◌, ℕ, suc, ◌+◌, ◌<◌, ◌≤◌, List, [], ◌∷◌, ◌++◌, ◌∙◌, append_assoc, length, take, get_or, map, sym, ap, subst, arith}
+use Rattle.std.proofs.Common.{◌≡◌, ℕ, suc, ◌+◌, ◌<◌, ◌≤◌, List, [], ◌∷◌, ◌++◌, ◌∙◌, append_assoc, length, take}
+use Rattle.std.proofs.Common.{get_or, map, sym, ap, subst, arith}
 use Rattle.std.specs.Prelude.{slice_index_or}
 use Rattle.std.specs.List.{flat_map}
 use Rattle.std.proofs.lemmas.List.{flat_map_more, get_or-map, length-map, length-take-le, take_all, take_more}
@@ -9,7 +10,8 @@ use Rattle.pb_explore.specs.Endings.{found_view}
 use Rattle.pb_explore.specs.Outcomes.{Found}
 use Rattle.pb_explore.specs.declared.found.Found.{Found as GivenFound}
 use Rattle.pb_history.specs.declared.counted.CountedPick.{CountedPick}
-use Rattle.pb_outcome_engine.specs.DeadlockLines.{AreDeadlockLines, deadlock_lines, none as no_stuck, one_more as one_more_stuck}
+use Rattle.pb_outcome_engine.specs.DeadlockLines.{AreDeadlockLines, deadlock_lines, none as no_stuck}
+use Rattle.pb_outcome_engine.specs.DeadlockLines.{one_more as one_more_stuck}
 use Rattle.pb_outcome_engine.specs.OutcomeLines.{AreCounted, AreOutcomeLines, none, one_more, outcome_lines}
 use Rattle.pb_explore.specs.Deadlocks.{FoundDeadlock}
 use Rattle.pb_explore.specs.Deadlocks.{deadlock_view}

@@ -1,5 +1,6 @@
 -- Outcomes and deadlocks of compiled code can be shown: each of their picks is of a process that has a name.
-use Rattle.std.proofs.Common.{◌≡◌, ℕ, zero, suc, ◌<◌, Bool, List, [], ◌∷◌, ◌++◌, length, get_or, map, Result, Ok, Err, IfOk, sym, ap, subst, ◌∙◌, arith}
+use Rattle.std.proofs.Common.{◌≡◌, ℕ, zero, suc, ◌<◌, Bool, List, [], ◌∷◌, ◌++◌, length, get_or, map, Result, Ok, Err}
+use Rattle.std.proofs.Common.{IfOk, sym, ap, subst, ◌∙◌, arith}
 use Rattle.std.specs.Prelude.{All}
 use Rattle.std.proofs.lemmas.List.{get_or-map, length-map, length-set}
 use Rattle.std.proofs.lemmas.List.Elements.{All-cons, All-nil, All-weaker}
@@ -19,7 +20,8 @@ use Rattle.pb_verifier.proofs.States.{code_move}
 use Rattle.pb_explore.specs.Configurations.{Comes}
 use Rattle.pb_explore.specs.Endings.{found_view}
 use Rattle.pb_explore.specs.declared.lending.Lending.{Lending}
-use Rattle.pb_explore.specs.Outcomes.{AreOutcomes, CodeLeads, Configuration, Ends, Found, IsExcess, IsWithin, Reaches, TellsEndless, outcome_of}
+use Rattle.pb_explore.specs.Outcomes.{AreOutcomes, CodeLeads, Configuration, Ends, Found, IsExcess, IsWithin, Reaches}
+use Rattle.pb_explore.specs.Outcomes.{TellsEndless, outcome_of}
 use Rattle.pb_explore.specs.declared.found.Found.{Found as GivenFound}
 use Rattle.pb_outcome_engine.specs.DeadlockLines.{AreDeadlockLines}
 use Rattle.pb_outcome_engine.specs.OutcomeLines.{AreOutcomeLines, all_line, excess_line}

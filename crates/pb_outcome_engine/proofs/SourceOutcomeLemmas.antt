@@ -1,10 +1,9 @@
 -- The outcomes of code are those of its program.
-use Rattle.std.proofs.Common.{◌≡◌, ◌↔◌, ◌⊎◌, inl, inr, ◌++◌, ℤ, Bool, true, false, List, [], ◌∷◌, map, Option, Some, None, option_to_list, refl, sym, ap, ◌∙◌, subst}
+use Rattle.std.proofs.Common.{◌≡◌, ◌↔◌, ◌⊎◌, inl, inr, ℤ, Bool, true, false, List, [], ◌∷◌, map, Option, Some}
+use Rattle.std.proofs.Common.{None, refl, sym, ap, ◌∙◌, subst}
 use Rattle.std.specs.Prelude.{Contains, is_none, slice_index_or}
 use Rattle.std.proofs.lemmas.List.Elements.{All-contains, All-map}
-use Rattle.pb_base.specs.declared.event.Event.{Event}
-use Rattle.pb_base.specs.declared.pick.Pick.{Pick}
-use Rattle.pb_base.specs.Steppers.{Bank, State, Stepper, Table, IsFinished, IsGranted, Makes, event_of, opening}
+use Rattle.pb_base.specs.Steppers.{Bank, State, Table, IsFinished, opening}
 use Rattle.pb_names.specs.Program.{AllWellNumbered, Process, Program}
 use Rattle.pb_names.specs.Resolves.{resource_names}
 use Rattle.pb_names.specs.Source.{Arm, Doing, Ended, SourceProcess, Waiting, source_over, source_process, source_step}
@@ -16,14 +15,14 @@ use Rattle.pb_codegen.specs.SourceBehaviour.{bank_with}
 use Rattle.pb_codegen.proofs.SimulationBack.{followed}
 use Rattle.pb_codegen.proofs.SimulationPlaces.{listing_of}
 use Rattle.pb_codegen.proofs.SimulationProcesses.{Alike, RunAlike}
-use Rattle.pb_codegen.proofs.SimulationRuns.{AllAlike, AtProcess, StatesAlike, absent, at_process, opening_alike, present, shadowed}
+use Rattle.pb_codegen.proofs.SimulationRuns.{AllAlike, AtProcess, StatesAlike, absent, at_process, opening_alike}
+use Rattle.pb_codegen.proofs.SimulationRuns.{present, shadowed}
 use Rattle.pb_codegen.proofs.VerifiedProcesses.{well_numbered}
 use Rattle.pb_codegen.proofs.WriterLines.{Listing}
-use Rattle.pb_explore.specs.Configurations.{Comes}
 use Rattle.pb_explore.specs.Outcomes.{AreOutcomes, Found, ProcessOutcome, process_outcome}
-use Rattle.pb_explore.specs.Reduction.{LeadsTo}
 use Rattle.pb_explore.specs.declared.lending.Lending.TheVariants.{ByBanker}
-use Rattle.pb_outcome_engine.specs.SourceOutcomes.{IsOutcomeOfCode, IsOutcomeOfProgram, OutcomesAreThoseOfTheProgram, source_outcome}
+use Rattle.pb_outcome_engine.specs.SourceOutcomes.{IsOutcomeOfCode, IsOutcomeOfProgram, OutcomesAreThoseOfTheProgram}
+use Rattle.pb_outcome_engine.specs.SourceOutcomes.{source_outcome}
 use Rattle.pb_explore.proofs.ReachedByBanker.{come, make}
 
 -- ---- states that are alike: the same outcome, and both are endings or neither is

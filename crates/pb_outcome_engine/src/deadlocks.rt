@@ -4,7 +4,8 @@ ghost use Rattle.std.specs.Prelude.{◌≡◌, ◌++◌, All, IfOk, OnOk, map};
 ghost use Rattle.std.specs.List.{flat_map};
 ghost use Rattle.pb_base.specs.Lines.{HasProcess, names_view, pair_text, pairs_text, line};
 ghost use Rattle.pb_code.specs.View.{labels_view, process_labels_view};
-ghost use Rattle.pb_outcome_engine.specs.DeadlockLines.{AreDeadlockLines, all_stuck_lines, ask_line, deadlock_lines, hold_line, hold_lines, state_text, stuck_lines};
+ghost use Rattle.pb_outcome_engine.specs.DeadlockLines.{AreDeadlockLines, all_stuck_lines, ask_line, deadlock_lines};
+ghost use Rattle.pb_outcome_engine.specs.DeadlockLines.{hold_line, hold_lines, state_text, stuck_lines};
 ghost use Rattle.pb_outcome_engine.specs.Showing.{HaveProcesses};
 ghost use Rattle.pb_explore.specs.Deadlocks.{deadlock_view, stuck_view};
 

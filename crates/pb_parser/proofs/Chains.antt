@@ -1,5 +1,6 @@
 -- Chains, whatever their parts are.
-use Rattle.std.proofs.Common.{◌≡◌, ℕ, zero, suc, ◌≤◌, ◌<◌, List, [], ◌∷◌, length, Option, Some, None, Result, Ok, Err, refl, ◌∙◌, subst, arith}
+use Rattle.std.proofs.Common.{◌≡◌, ℕ, zero, suc, ◌≤◌, ◌<◌, List, [], ◌∷◌, length, Option, Some, None, Result, Ok, Err}
+use Rattle.std.proofs.Common.{refl, ◌∙◌, subst, arith}
 use Rattle.pb_lexer.specs.Tokens.{Token}
 use Rattle.pb_parser.specs.Reader.{Answer, Refused, Found, Part, Join, Stops, and_then, chain_by, chain_from, chain}
 use Rattle.std.specs.Prelude.{IfOk, IfErr}

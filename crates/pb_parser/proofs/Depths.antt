@@ -1,9 +1,11 @@
 -- Tokens that do not nest too deep are read within a depth of 257.
-use Rattle.std.proofs.Common.{◌≡◌, ℕ, ◌+◌, ◌-◌, ◌≤◌, ◌<◌, List, [], ◌∷◌, ◌++◌, fold, Some, refl, ap, subst, ◌∙◌, inl, arith}
+use Rattle.std.proofs.Common.{◌≡◌, ℕ, ◌+◌, ◌-◌, ◌≤◌, ◌<◌, List, [], ◌∷◌, ◌++◌, fold, Some, refl, ap, subst, ◌∙◌, inl}
+use Rattle.std.proofs.Common.{arith}
 use Rattle.pb_base.specs.declared.operators.BinaryOp.{BinaryOp}
 use Rattle.pb_lexer.specs.declared.token.Mark.TheVariants as mark
 use Rattle.pb_lexer.specs.Tokens.{Lexeme, Name, Number, Fixed, Token}
-use Rattle.pb_tree.specs.Syntax.{NameSyntax, ExprSyntax, DemandSyntax, StmtsSyntax, ArmsSyntax, ResourceSyntax, ProcessSyntax, ProgramSyntax}
+use Rattle.pb_tree.specs.Syntax.{NameSyntax, ExprSyntax, DemandSyntax, StmtsSyntax, ArmsSyntax, ResourceSyntax}
+use Rattle.pb_tree.specs.Syntax.{ProcessSyntax, ProgramSyntax}
 use Rattle.pb_parser.specs.declared.level.Level.{Level}
 use Rattle.pb_parser.specs.declared.level.Level.TheVariants as level
 use Rattle.pb_parser.specs.Grammar as expr
@@ -11,7 +13,8 @@ use Rattle.pb_parser.specs.Grammar.{Reads, operator}
 use Rattle.pb_parser.specs.Statements as stmt
 use Rattle.pb_parser.specs.Statements.{ReadsPair, ReadsPairs, ReadsStmt, ReadsList, ReadsArms}
 use Rattle.pb_parser.specs.Programs as prog
-use Rattle.pb_parser.specs.Programs.{ReadsNames, ReadsResource, ReadsResources, ReadsProcess, ReadsProcesses, ReadsProgram}
+use Rattle.pb_parser.specs.Programs.{ReadsNames, ReadsResource, ReadsResources, ReadsProcess, ReadsProcesses}
+use Rattle.pb_parser.specs.Programs.{ReadsProgram}
 use Rattle.pb_parser.specs.Nesting.{open_after, open_behind, NestsTooDeep}
 use Rattle.pb_parser.proofs.Expressions.{brackets, home, home_is, rank_pos}
 use Rattle.pb_parser.proofs.StatementLaws.{stmt_depth, list_depth, arms_depth}

@@ -1,19 +1,24 @@
 -- What the reading of expressions gives is what the grammar reads, and nothing else.
-use Rattle.std.proofs.Common.{◌≡◌, ℕ, ℤ, zero, suc, ◌+◌, max, ◌≤◌, ◌<◌, List, [], ◌∷◌, length, Option, Some, None, Bool, true, false, refl, sym, ◌∙◌, subst, inl, inr, arith}
+use Rattle.std.proofs.Common.{◌≡◌, ℕ, ℤ, zero, suc, ◌+◌, max, ◌≤◌, ◌<◌, List, [], ◌∷◌, length, Option, Some, None}
+use Rattle.std.proofs.Common.{Bool, true, false, refl, sym, ◌∙◌, subst, inl, inr, arith}
 use Rattle.pb_lexer.specs.declared.token.Mark.{Mark}
 use Rattle.pb_lexer.specs.declared.token.Mark.TheVariants as mark
 use Rattle.pb_base.specs.declared.operators.UnaryOp.{UnaryOp}
 use Rattle.pb_base.specs.declared.operators.UnaryOp.TheVariants as sign
 use Rattle.pb_base.specs.declared.operators.BinaryOp.{BinaryOp}
+use Rattle.pb_base.proofs.Cases.{bool_cases}
 use Rattle.pb_parser.specs.declared.level.Level.{Level}
 use Rattle.pb_parser.specs.declared.level.Level.TheVariants as level
 use Rattle.pb_lexer.specs.Tokens.{Lexeme, Name, Number, Fixed, Token}
 use Rattle.pb_tree.specs.Syntax as tree
 use Rattle.pb_parser.specs.Grammar as g
 use Rattle.pb_parser.specs.Reader.{Refused, Found, Part, Stops, is_mark, expect, chain_from, chain}
-use Rattle.pb_parser.specs.ExpressionReader.{joined_by, primary_by, related_by, signed_by, signed, primary, joins, factor, term, sum, related, comparison, negation, conjunction, disjunction, of_level, expression}
-use Rattle.pb_parser.proofs.Marks.{mark_is, is_mark_same, either, expected}
-use Rattle.pb_parser.proofs.Chains.{chain_stops, chain_turns, chain_begins, found_value, found_rest, goes_on, chain_keeps}
+use Rattle.pb_parser.specs.ExpressionReader.{joined_by, primary_by, related_by, signed_by, signed, primary, joins}
+use Rattle.pb_parser.specs.ExpressionReader.{factor, term, sum, related, comparison, negation, conjunction}
+use Rattle.pb_parser.specs.ExpressionReader.{disjunction, of_level, expression}
+use Rattle.pb_parser.proofs.Marks.{mark_is, is_mark_same, expected}
+use Rattle.pb_parser.proofs.Chains.{chain_stops, chain_turns, chain_begins, found_value, found_rest, goes_on}
+use Rattle.pb_parser.proofs.Chains.{chain_keeps}
 use Rattle.pb_tree.specs.Syntax.{ExprSyntax}
 use Rattle.pb_parser.specs.Grammar.{name_at, number_at, Reads, Chains, operator, tighter}
 
@@ -226,7 +231,7 @@ signed_other : (m : Mark) (op : UnaryOp) (part : Part ExprSyntax) (ts rest : Lis
     → ((t : Token) (us : List Token) → is_mark m t.lexeme ≡ true → part (t ∷ us) ≡ Refused) → signed m op part ts ≡ Found e rest
 unfolding signed
 signed_other m op part [] rest e p none = p
-signed_other m op part (t ∷ ts) rest e p none = elim (either (is_mark m t.lexeme)) [
+signed_other m op part (t ∷ ts) rest e p none = elim (bool_cases (is_mark m t.lexeme)) [
   | inl is ↦ absurd (let n = none t ts is in cc)
   | inr other ↦ rw other p
 ]

@@ -1,18 +1,21 @@
 -- The steps of the parser's loops over names, demands, statements, arms and processes.
-use Rattle.std.proofs.Common.{◌≡◌, ℕ, zero, suc, ◌<◌, List, [], ◌∷◌, length, Some, None, Bool, true, false, refl, sym, ap, ◌∙◌, subst, arith}
+use Rattle.std.proofs.Common.{◌≡◌, ℕ, zero, suc, ◌<◌, List, [], ◌∷◌, length, Some, None, Bool, true, false, refl, sym}
+use Rattle.std.proofs.Common.{ap, ◌∙◌, subst, arith}
 use Rattle.pb_lexer.specs.declared.token.Mark.{Mark}
 use Rattle.pb_base.specs.declared.operators.BinaryOp.{BinaryOp}
 use Rattle.pb_lexer.specs.Tokens.{Token}
 use Rattle.pb_tree.specs.Syntax as tree
-use Rattle.pb_tree.specs.Syntax.{ExprSyntax, StmtsSyntax, ArmsSyntax, DemandSyntax, no_stmt, stmt_then, no_arm, arm_then}
+use Rattle.pb_tree.specs.Syntax.{ExprSyntax, StmtsSyntax, DemandSyntax, no_stmt, stmt_then}
 use Rattle.pb_parser.specs.declared.level.Level.{Level}
-use Rattle.pb_parser.specs.Reader.{Answer, Refused, Found, Part, Join, Stops, is_mark, expect, expect_by, chain_from, chain}
+use Rattle.pb_parser.specs.Reader.{Answer, Refused, Found, Part, Join, Stops, is_mark, expect, expect_by, chain_from}
+use Rattle.pb_parser.specs.Reader.{chain}
 use Rattle.pb_parser.specs.declared.fault.ParseFault.{ParseFault}
 use Rattle.pb_parser.specs.Making.{Fails, Finds, Adds}
 use Rattle.pb_parser.specs.Promises.{TakesMark, TakesOperator}
 use Rattle.pb_parser.specs.ExpressionReader.{joins, joined}
 use Rattle.pb_parser.specs.StatementReader.{between, joined_if, a_pair, an_arm, statement, statement_by}
-use Rattle.pb_parser.proofs.Chains.{InChain, chain_enters, chain_more, chain_leaves, chain_fails, fails_through, goes_on, found_value, found_rest}
+use Rattle.pb_parser.proofs.Chains.{InChain, chain_enters, chain_more, chain_leaves, chain_fails, fails_through}
+use Rattle.pb_parser.proofs.Chains.{goes_on, found_value, found_rest}
 use Rattle.pb_parser.proofs.StatementLaws.{pair_sound, pair_shorter, statement_sound, stmt_shorter}
 use Rattle.pb_parser.specs.Lists.{append}
 

@@ -1,5 +1,6 @@
 -- The test for a symbol or reserved word.
-use Rattle.std.proofs.Common.{◌≡◌, ℕ, List, [], ◌∷◌, Bool, true, false, refl, ap, ◌⊎◌, inl, inr, rules, arith, ◌<◌, length, get_or}
+use Rattle.std.proofs.Common.{◌≡◌, ℕ, List, [], ◌∷◌, Bool, true, false, refl, ap, rules, arith, ◌<◌}
+use Rattle.std.proofs.Common.{length, get_or}
 use denote.Enum.Bare.{same_true, true_same}
 use Rattle.pb_lexer.specs.contracts.token.Mark.{the_type}
 use Rattle.pb_lexer.specs.declared.token.Mark.{Mark}
@@ -18,10 +19,6 @@ mark_is m (Number n) e = cc
 pub is_mark_same : (m : Mark) (k : Lexeme) → k ≡ Fixed m → is_mark m k ≡ true
 unfolding is_mark
 is_mark_same m k e = rw e (true_same the_type m m refl)
-
-pub either : (b : Bool) → (b ≡ true) ⊎ (b ≡ false)
-either true = inl refl
-either false = inr refl
 
 pub expects : (m : Mark) (t : Token) (ts : List Token) → t.lexeme ≡ Fixed m → expect m (t ∷ ts) ≡ Found tt ts
 expects m t ts e = rw (is_mark_same m t.lexeme e) refl

@@ -1,7 +1,9 @@
 -- The measure of one more statement, arm or process.
 use Rattle.std.proofs.Common.{◌≡◌, ℕ, ◌+◌, max, List, [], ◌∷◌, sym, subst, arith}
-use Rattle.pb_tree.specs.Syntax.{StmtSyntax, StmtsSyntax, ArmsSyntax, ProcessSyntax, no_stmt, stmt_then, no_arm, arm_then}
-use Rattle.pb_tree.specs.Measure.{stmt_height, stmts_height, arms_height, processes_height, stmt_nodes, stmts_nodes, arms_nodes, processes_nodes}
+use Rattle.pb_tree.specs.Syntax.{StmtSyntax, StmtsSyntax, ArmsSyntax, ProcessSyntax, no_stmt, stmt_then, no_arm}
+use Rattle.pb_tree.specs.Syntax.{arm_then}
+use Rattle.pb_tree.specs.Measure.{stmt_height, stmts_height, arms_height, processes_height, stmt_nodes, stmts_nodes}
+use Rattle.pb_tree.specs.Measure.{arms_nodes, processes_nodes}
 use Rattle.pb_parser.specs.declared.measure.Measure.{Measure}
 use Rattle.pb_parser.specs.Lists.{append, append_arms, single, single_arm}
 use Rattle.pb_parser.specs.Measured.{IsMeasure}

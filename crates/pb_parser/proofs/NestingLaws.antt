@@ -1,5 +1,6 @@
 -- What nests too deep, seen from a place in the tokens.
-use Rattle.std.proofs.Common.{◌≡◌, ℕ, ◌+◌, ◌<◌, ◌≤◌, ◌++◌, ◌⊎◌, inl, inr, List, [], ◌∷◌, Bool, true, false, MatchBool, fold, drop, get_or, drop-cons, add-one, length, refl, ap, sym, ◌∙◌, subst, arith}
+use Rattle.std.proofs.Common.{◌≡◌, ℕ, ◌+◌, ◌<◌, ◌≤◌, ◌++◌, ◌⊎◌, inl, inr, List, [], ◌∷◌, Bool, true, false, MatchBool}
+use Rattle.std.proofs.Common.{fold, drop, get_or, drop-cons, add-one, length, refl, ap, sym, ◌∙◌, subst, arith}
 use Rattle.std.proofs.Math.ListN.{drop_of_length-le}
 use Rattle.pb_lexer.specs.declared.token.Token.{Token as Given}
 use Rattle.pb_lexer.specs.declared.token.Kind.{Kind}

@@ -1,18 +1,25 @@
 -- What the reading of programs gives is what the grammar reads, and nothing else.
-use Rattle.std.proofs.Common.{◌≡◌, ℕ, ℤ, zero, suc, max, ◌≤◌, ◌<◌, List, [], ◌∷◌, length, Bool, true, false, refl, sym, ap, ◌∙◌, subst, inl, inr, arith}
+use Rattle.std.proofs.Common.{◌≡◌, ℕ, ℤ, zero, suc, max, ◌≤◌, ◌<◌, List, [], ◌∷◌, length, Bool, true, false, refl}
+use Rattle.std.proofs.Common.{sym, ap, ◌∙◌, subst, inl, inr, arith}
+use Rattle.pb_base.proofs.Cases.{bool_cases}
 use Rattle.pb_lexer.specs.declared.token.Mark.TheVariants as mark
 use Rattle.pb_parser.specs.declared.level.Level.TheVariants as level
 use Rattle.pb_lexer.specs.Tokens.{Name, Number, Fixed, Token}
 use Rattle.pb_parser.specs.Statements.{ReadsList}
 use Rattle.pb_parser.specs.Programs as g
-use Rattle.pb_parser.specs.Programs.{ReadsNames, ReadsResource, ReadsResources, ReadsProcess, ReadsProcesses, ReadsProgram}
+use Rattle.pb_parser.specs.Programs.{ReadsNames, ReadsResource, ReadsResources, ReadsProcess, ReadsProcesses}
+use Rattle.pb_parser.specs.Programs.{ReadsProgram}
 use Rattle.pb_parser.specs.Reader.{Refused, Found, Stops, is_mark, expect, ended, chain}
 use Rattle.pb_parser.specs.StatementReader.{then_mark, between, concat, a_name, a_number, list, statement}
-use Rattle.pb_parser.specs.ProgramReader.{one_name, names, a_resource, resources_part, integers, integers_by, a_process, processes_part, program}
-use Rattle.pb_parser.proofs.Marks.{mark_is, is_mark_same, either, expects, expected}
-use Rattle.pb_parser.proofs.Chains.{found_value, found_rest, goes_on, chain_keeps, InChain, chain_enters, chain_more, chain_leaves, chain_refused}
+use Rattle.pb_parser.specs.ProgramReader.{one_name, names, a_resource, resources_part, integers, integers_by}
+use Rattle.pb_parser.specs.ProgramReader.{a_process, processes_part, program}
+use Rattle.pb_parser.proofs.Marks.{mark_is, is_mark_same, expects, expected}
+use Rattle.pb_parser.proofs.Chains.{found_value, found_rest, goes_on, chain_keeps, InChain, chain_enters, chain_more}
+use Rattle.pb_parser.proofs.Chains.{chain_leaves, chain_refused}
 use Rattle.pb_parser.proofs.Expressions.{ends_mark}
-use Rattle.pb_parser.proofs.StatementLaws.{joins_between, stops_at, marked, then_marked, joined_between, name_found, number_found, list_reach, list_ends, list_shorter, list_depth, list_sound, statement_sound}
+use Rattle.pb_parser.proofs.StatementLaws.{joins_between, stops_at, marked, then_marked, joined_between, name_found}
+use Rattle.pb_parser.proofs.StatementLaws.{number_found, list_reach, list_ends, list_shorter, list_depth, list_sound}
+use Rattle.pb_parser.proofs.StatementLaws.{statement_sound}
 use Rattle.pb_tree.specs.Syntax.{NameSyntax, NumberSyntax, StmtsSyntax, ResourceSyntax, ProcessSyntax, ProgramSyntax}
 use Rattle.pb_parser.specs.Grammar.{Is, name_at, number_at}
 use Rattle.pb_parser.specs.Lists.{append}
@@ -65,7 +72,7 @@ no_statement (suc d) t ts is = rw is refl
 no_integers : (d : ℕ) (ts rest : List Token) (a : StmtsSyntax) → list (statement d) ts ≡ Found a rest → integers ts ≡ Found [] ts
 unfolding integers list
 no_integers d [] rest a p = refl
-no_integers d (t ∷ ts) rest a p = elim (either (is_mark mark.Integer t.lexeme)) [
+no_integers d (t ∷ ts) rest a p = elim (bool_cases (is_mark mark.Integer t.lexeme)) [
   | inl is ↦ absurd (let n = chain_refused (between mark.Semicolon append) (statement d) (t ∷ ts) (no_statement d t ts
       (mark_is mark.Integer t.lexeme is)) in cc)
   | inr other ↦ rw other refl
@@ -119,7 +126,8 @@ processes_reach d (g.one_process {t = t} {ts = ts} {rest = rest} {p = p} is r) r
     let inside = chain_enters (between mark.Process concat) (a_process d) (p ∷ []) ts rest (process_read d r (omega arith)) in
     rw e inside
 processes_reach d (g.more_processes {ts = ts} {mid = mid} {rest = rest} {t = t} {ps = ps} {p = p} l is r) room =
-    chain_more (between mark.Process concat) (a_process d) ps (p ∷ []) concat t (t ∷ mid) mid rest (processes_part d ts) (processes_reach d l (omega arith)) refl
+    chain_more (between mark.Process concat) (a_process d) ps (p ∷ []) concat t (t ∷ mid) mid rest
+    (processes_part d ts) (processes_reach d l (omega arith)) refl
     (joins_between mark.Process concat t is) (process_read d r (omega arith)) (process_shorter r)
 
 resources_stop : {ts rest : List Token} {ps : List ProcessSyntax} → ReadsProcesses ts ps rest

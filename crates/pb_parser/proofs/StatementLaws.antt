@@ -1,5 +1,6 @@
 -- What the reading of statements gives is what the grammar reads, and nothing else.
-use Rattle.std.proofs.Common.{◌≡◌, ℕ, ℤ, zero, suc, ◌+◌, max, ◌≤◌, ◌<◌, List, [], ◌∷◌, length, Some, Bool, true, false, refl, sym, ap, ◌∙◌, subst, arith}
+use Rattle.std.proofs.Common.{◌≡◌, ℕ, ℤ, zero, suc, ◌+◌, max, ◌≤◌, ◌<◌, List, [], ◌∷◌, length, Some, Bool, true}
+use Rattle.std.proofs.Common.{false, refl, sym, ap, ◌∙◌, subst, arith}
 use Rattle.pb_lexer.specs.declared.token.Mark.{Mark}
 use Rattle.pb_lexer.specs.declared.token.Mark.TheVariants as mark
 use Rattle.pb_parser.specs.declared.level.Level.TheVariants as level
@@ -9,9 +10,12 @@ use Rattle.pb_parser.specs.Statements as g
 use Rattle.pb_parser.specs.Statements.{ReadsExpr, ReadsPair, ReadsPairs, ReadsStmt, ReadsList, ReadsArms}
 use Rattle.pb_parser.specs.Reader.{Answer, Refused, Found, Part, Stops, is_mark, expect, chain}
 use Rattle.pb_parser.specs.ExpressionReader.{expression}
-use Rattle.pb_parser.specs.StatementReader.{then_mark, joined_if, between, name_by, a_name, number_by, a_number, a_pair, concat, pairs, list, an_arm, arms_part, otherwise, otherwise_by, statement_by, statement}
+use Rattle.pb_parser.specs.StatementReader.{then_mark, joined_if, between, name_by, a_name, number_by, a_number}
+use Rattle.pb_parser.specs.StatementReader.{a_pair, concat, pairs, list, an_arm, arms_part, otherwise, otherwise_by}
+use Rattle.pb_parser.specs.StatementReader.{statement_by, statement}
 use Rattle.pb_parser.proofs.Marks.{mark_is, is_mark_same, expects, expected}
-use Rattle.pb_parser.proofs.Chains.{found_value, found_rest, goes_on, chain_keeps, InChain, chain_enters, chain_more, chain_leaves}
+use Rattle.pb_parser.proofs.Chains.{found_value, found_rest, goes_on, chain_keeps, InChain, chain_enters, chain_more}
+use Rattle.pb_parser.proofs.Chains.{chain_leaves}
 use Rattle.pb_parser.proofs.Expressions.{Ends, ends_mark, shorter, brackets, expression_complete, expression_sound}
 use Rattle.pb_tree.specs.Syntax.{ExprSyntax, NameSyntax, NumberSyntax, StmtsSyntax, ArmsSyntax, DemandSyntax}
 use Rattle.pb_parser.specs.Grammar.{Is, name_at, number_at}

@@ -3,14 +3,18 @@ use Rattle.std.proofs.Common.{◌≡◌, ◌∙◌, ℕ, Bool, true, false, List
 use Rattle.pb_lexer.specs.declared.token.Mark.TheVariants as mark
 use Rattle.pb_lexer.specs.Tokens.{Token}
 use Rattle.pb_tree.specs.Syntax as tree
-use Rattle.pb_tree.specs.Syntax.{NameSyntax, NumberSyntax, ExprSyntax, StmtsSyntax, ArmsSyntax, DemandSyntax, ResourceSyntax, ProcessSyntax, ProgramSyntax}
+use Rattle.pb_tree.specs.Syntax.{NameSyntax, NumberSyntax, ExprSyntax, StmtsSyntax, ArmsSyntax, DemandSyntax}
+use Rattle.pb_tree.specs.Syntax.{ResourceSyntax, ProcessSyntax}
 use Rattle.pb_parser.specs.Grammar.{name_at}
 use Rattle.pb_parser.specs.Lists.{append, append_arms, single, single_arm}
 use Rattle.pb_parser.specs.Reader.{Refused, Found, Part, is_mark, expect, expect_by, ended}
 use Rattle.pb_parser.specs.ExpressionReader.{expression}
-use Rattle.pb_parser.specs.StatementReader.{between, concat, a_name, a_number, pairs, a_pair, list, arms_part, otherwise, otherwise_by, assignment, printing, choice, looping, holding, forking, statement, an_arm}
+use Rattle.pb_parser.specs.StatementReader.{between, concat, a_name, a_number, pairs, a_pair, list, arms_part}
+use Rattle.pb_parser.specs.StatementReader.{otherwise, otherwise_by, assignment, printing, choice, looping, holding}
+use Rattle.pb_parser.specs.StatementReader.{forking, statement, an_arm}
 use Rattle.pb_parser.specs.Promises.{TakesMark}
-use Rattle.pb_parser.specs.ProgramReader.{one_name, names, a_resource, resources_part, integers, a_process, processes_part, program}
+use Rattle.pb_parser.specs.ProgramReader.{one_name, names, a_resource, resources_part, integers, a_process}
+use Rattle.pb_parser.specs.ProgramReader.{processes_part, program}
 use Rattle.pb_parser.proofs.Chains.{chain_refused}
 use Rattle.pb_parser.proofs.StatementLaws.{arm_read}
 use Rattle.pb_parser.proofs.Loops.{InLoop, loop_enters, loop_begins, arm_refused}

@@ -6,7 +6,8 @@ use Rattle.pb_tree.specs.declared.expr.Name.{Name}
 use Rattle.pb_tree.specs.declared.stmt.Demand.{Demand}
 use Rattle.pb_tree.specs.declared.stmt.Stmt.{Stmt, Assign, Print, If, While, Hold, Parbegin}
 use Rattle.pb_tree.specs.Syntax as tree
-use Rattle.pb_tree.specs.Syntax.{NameSyntax, ExprSyntax, DemandSyntax, StmtSyntax, StmtsSyntax, ArmsSyntax, stmt_then, arm_then}
+use Rattle.pb_tree.specs.Syntax.{NameSyntax, ExprSyntax, DemandSyntax, StmtSyntax, StmtsSyntax, ArmsSyntax, stmt_then}
+use Rattle.pb_tree.specs.Syntax.{arm_then}
 use Rattle.pb_tree.specs.View.{name_view, expr_view, demand_view, stmt_view, stmts_view, arm_view, arms_view}
 use Rattle.pb_tree.proofs.Views.{view-Assign, view-Print, view-If, view-While, view-Hold, view-Parbegin}
 use Rattle.pb_parser.specs.Lists.{append, append_arms, single, single_arm}

@@ -5,7 +5,7 @@ use Rattle.pb_lexer.specs.declared.token.Mark.{Mark}
 use Rattle.pb_lexer.specs.declared.token.Mark.TheVariants as mark
 use Rattle.pb_lexer.specs.Tokens.{Lexeme, Name, Number, Fixed, Token}
 use Rattle.pb_tree.specs.Syntax as tree
-use Rattle.pb_tree.specs.Syntax.{ExprSyntax, StmtsSyntax, ArmsSyntax, DemandSyntax, NameSyntax, NumberSyntax}
+use Rattle.pb_tree.specs.Syntax.{StmtsSyntax, ArmsSyntax, DemandSyntax, NameSyntax, NumberSyntax}
 use Rattle.pb_parser.specs.Grammar.{name_at, number_at}
 use Rattle.pb_parser.specs.Lists.{single, single_arm, append, append_arms}
 use Rattle.pb_parser.specs.Reader.{Answer, Refused, Found, Part, Join, and_then, is_mark, expect, chain}

@@ -1,5 +1,6 @@
 -- Counts that follow one another, and one more.
-use Rattle.std.proofs.Common.{◌≡◌, ◌≢◌, ℕ, ◌+◌, ◌<◌, List, [], ◌∷◌, ◌++◌, replicate, sym, ap, ◌∙◌, append-nil, append_assoc}
+use Rattle.std.proofs.Common.{◌≡◌, ◌≢◌, ℕ, ◌+◌, ◌<◌, List, [], ◌∷◌, ◌++◌, replicate, sym, ap, ◌∙◌, append-nil}
+use Rattle.std.proofs.Common.{append_assoc}
 use Rattle.pb_base.specs.declared.pick.Pick.{Pick}
 use Rattle.pb_history.specs.Replays.{spread}
 use Rattle.pb_history.specs.declared.counted.CountedPick.{CountedPick}

@@ -1,5 +1,6 @@
 -- The parts of a pick line, and one more line that is read.
-use Rattle.std.proofs.Common.{true, false, get_or, map, ◌≡◌, ◌≢◌, ℕ, ◌+◌, ◌<◌, ◌≤◌, inl, inr, List, [], ◌∷◌, ◌++◌, length, replicate, refl, sym, ap, subst, ◌∙◌, arith, Option, None, Some, Bor}
+use Rattle.std.proofs.Common.{true, false, get_or, map, ◌≡◌, ◌≢◌, ℕ, ◌+◌, ◌<◌, ◌≤◌, inl, inr, List, [], ◌∷◌, ◌++◌}
+use Rattle.std.proofs.Common.{length, replicate, refl, sym, ap, subst, ◌∙◌, arith, Option, None, Some, Bor}
 use Rattle.std.specs.Prelude.{MatchOption, slice_get}
 use Rattle.std.specs.List.{list_all}
 use Rattle.std.specs.Char.{is_ascii_digit}
@@ -9,8 +10,8 @@ use Rattle.std.proofs.lemmas.List.Elements.{All-cons, All-head, All-nil, All-tai
 use Rattle.std.proofs.lemmas.Fmt.{decimal_injective, digits_decimal}
 use Rattle.std.proofs.lemmas.Option.{get_or_from_slice_get}
 use Rattle.pb_code.proofs.Each.{read_mapped, same_read}
-use Rattle.pb_code.proofs.NameTests.{both_true}
 use Rattle.pb_base.specs.declared.pick.Pick.{Pick}
+use Rattle.pb_base.proofs.Cases.{both_true}
 use Rattle.pb_code.specs.Code.{ProcessCode}
 use Rattle.pb_code.specs.Whole.{Code}
 use Rattle.pb_history.specs.Replays.{spread}

@@ -1,8 +1,10 @@
 -- The codes of refusals, and their names.
 use Rattle.std.specs.Prelude.{◌≡◌, ℕ, List, [], ◌∷◌, Result, MatchResult, codes}
 use Rattle.pb_refusals.specs.declared.code.Code.{Code}
-use Rattle.pb_refusals.specs.declared.code.Code.TheVariants.{L1, L2, L3, L4, P1, P2, P3, N1, N2, N3, N4, N6, C1, E1, O1, O2, V1}
-use Rattle.pb_refusals.specs.declared.code.Code.TheVariants.{V2, V3, V4, V5, V6, V7, V8, V9, K1, K2, H1, G1, G2, G3, G4, Input, Output}
+use Rattle.pb_refusals.specs.declared.code.Code.TheVariants.{L1, L2, L3, L4, P1, P2, P3, N1, N2, N3, N4, N6, C1, E1}
+use Rattle.pb_refusals.specs.declared.code.Code.TheVariants.{O1, O2, V1}
+use Rattle.pb_refusals.specs.declared.code.Code.TheVariants.{V2, V3, V4, V5, V6, V7, V8, V9, K1, K2, H1, G1, G2, G3}
+use Rattle.pb_refusals.specs.declared.code.Code.TheVariants.{G4, Input, Output}
 
 -- the word behind `refused`
 abbrev pub code_name : Code → List ℕ

@@ -1,57 +1,19 @@
 -- What an arm holds, and how a step changes it.
-use Rattle.std.proofs.Common.{◌≡◌, inl, inr, ℕ, ◌+◌, ℤ, Bool, true, false, cond, nat_eq, ◌&&◌, List, [], ◌∷◌, ◌++◌, Option, Some, None, ap, subst, refl, arith}
+use Rattle.std.proofs.Common.{◌≡◌, inl, inr, ℕ, ◌+◌, ℤ, Bool, true, false, cond, nat_eq, List, [], ◌∷◌, ◌++◌}
+use Rattle.std.proofs.Common.{Option, Some, None, ap, subst, refl, arith}
 use Rattle.pb_base.specs.Arithmetic.{is_zero}
 use Rattle.pb_base.specs.Bundle.{amount_in}
 use Rattle.pb_base.specs.Steppers.{Effect, Silent, Prints, Takes, Returns, Faults, Finishes}
 use Rattle.pb_names.specs.Claims.{held_in, held_in_list, held, held_among}
-use Rattle.pb_names.specs.Program.{Expr, Block, Skip, Then, Stmt, Assign, Print, If, While, Hold, Parbegin, Arms}
-use Rattle.pb_names.specs.Program.{NoArm, AndArm}
-use Rattle.pb_names.specs.Source.{ExprStep, Is, Becomes, Fails, step_expr, Item, GiveBack, item_of, items_of, Arm}
-use Rattle.pb_names.specs.Source.{Doing, Waiting, Ended, Running, Nothing, Beside, begin, is_ended, all_ended}
+use Rattle.pb_names.specs.Program.{Expr, Block, Assign, Print, If, While, Hold, Parbegin}
+use Rattle.pb_names.specs.Source.{ExprStep, Is, Becomes, Fails, step_expr, Item, GiveBack, items_of, Arm}
+use Rattle.pb_names.specs.Source.{Doing, Waiting, Ended, Running, Nothing, Beside, begin, all_ended}
 use Rattle.pb_names.specs.Source.{ArmStep, Goes, Breaks, Ends, evaluate, step_items, step_arm, find, find_among, put}
 use Rattle.pb_names.specs.Source.{put_among}
+use Rattle.pb_names.proofs.Holdings.{block_held, begin_held, ended_held}
 use Rattle.pb_rewrite.specs.Sound.{Owns, IsOwned, IsSingle, AreSingle}
 use Rattle.pb_rewrite.specs.Steps.{AreBelow}
 use Rattle.pb_rewrite.proofs.SwappedArms.{first_cases, none_put, none_put_among, none_some}
-
--- ---- what has not begun holds nothing
-
-held_stmt : (r : ℕ) (s : Stmt) → held_in r (item_of s) ≡ 0
-held_stmt r (Assign line x e) = refl
-held_stmt r (Print line e) = refl
-held_stmt r (If line e a b) = refl
-held_stmt r (While line e body) = refl
-held_stmt r (Hold line bundle body) = refl
-held_stmt r (Parbegin line first arms) = refl
-
-held_block : (r : ℕ) (block : Block) (rest : List Item) → held_in_list r (items_of block ++ rest) ≡ held_in_list r rest
-held_block r Skip rest = refl
-held_block r (Then s block) rest = let one = held_stmt r s in let more = held_block r block rest in omega arith
-
-pub held_items : (r : ℕ) (block : Block) → held_in_list r (items_of block) ≡ 0
-held_items r Skip = refl
-held_items r (Then s block) = let one = held_stmt r s in let more = held_items r block in omega arith
-
-held_begin : (r : ℕ) (arms : Arms) → held_among r (begin arms) ≡ 0
-held_begin r NoArm = refl
-held_begin r (AndArm arm arms) = let one = held_items r arm in let more = held_begin r arms in omega arith
-
-both_true : (a b : Bool) → (a && b) ≡ true → (a ≡ true) × (b ≡ true)
-both_true true b h = (refl, h)
-both_true false b h = absurd (cc)
-
-held_over : (r : ℕ) (arm : Arm) → is_ended arm ≡ true → held r arm ≡ 0
-held_over r (Doing items) h = absurd (cc)
-held_over r (Waiting line first arms rest) h = absurd (cc)
-held_over r Ended h = refl
-
-held_all_over : (r : ℕ) (arms : Running) → all_ended arms ≡ true → held_among r arms ≡ 0
-held_all_over r Nothing h = refl
-held_all_over r (Beside arm arms) h =
-    let both = both_true (is_ended arm) (all_ended arms) h in
-    let one = held_over r arm both.0 in
-    let more = held_all_over r arms both.1 in
-    omega arith
 
 -- ---- what a step lends or takes back
 
@@ -75,8 +37,8 @@ evaluate_lends n r before (Becomes e) keep done k d = k e
 evaluate_lends n r before (Fails kind) keep done k d = tt
 
 choice_lends : (r : ℕ) (z : Bool) (a b : Block) (rest : List Item) → held_in_list r (items_of (cond z b a) ++ rest) ≡ held_in_list r rest
-choice_lends r true a b rest = held_block r b rest
-choice_lends r false a b rest = held_block r a rest
+choice_lends r true a b rest = block_held r b rest
+choice_lends r false a b rest = block_held r a rest
 
 loop_lends : (r k : ℕ) (z : Bool) (rest more : List Item) → held_in_list r rest ≡ k → held_in_list r more ≡ k → held_in_list r (cond z rest more) ≡ k
 loop_lends r k true rest more one two = one
@@ -90,12 +52,12 @@ items_lend n r lo hi vars (Item.If line e a b ∷ rest) o =
     evaluate_lends n r _ (step_expr vars e) _ _ (λ e'. refl) (λ v. let same = choice_lends r (is_zero v) a b rest in omega arith)
 items_lend n r lo hi vars (Item.While line test e body ∷ rest) o =
     evaluate_lends n r _ (step_expr vars e) _ _ (λ e'. refl)
-    (λ v. loop_lends r _ (is_zero v) rest (items_of body ++ Item.While line test test body ∷ rest) (omega arith) (held_block
+    (λ v. loop_lends r _ (is_zero v) rest (items_of body ++ Item.While line test test body ∷ rest) (omega arith) (block_held
     r body (Item.While line test test body ∷ rest)))
 items_lend n r lo hi vars (Item.Hold line bundle body ∷ rest) o =
-    (o.0.0, let same = held_block r body (GiveBack line bundle ∷ rest) in omega arith)
+    (o.0.0, let same = block_held r body (GiveBack line bundle ∷ rest) in omega arith)
 items_lend n r lo hi vars (GiveBack line bundle ∷ rest) o = (o.0, omega arith)
-items_lend n r lo hi vars (Item.Parbegin line first arms ∷ rest) o = let none = held_begin r arms in omega arith
+items_lend n r lo hi vars (Item.Parbegin line first arms ∷ rest) o = let none = begin_held r arms in omega arith
 
 abbrev OptionLends : ℕ → ℕ → ℕ → Option ArmStep → Type 0
 OptionLends n r before None = Unit {0}
@@ -103,7 +65,7 @@ OptionLends n r before (Some step) = Lends n r before step
 
 join_lends : (n r before : ℕ) (vars : List ℤ) (arms : Running) (rest : List Item) (b : Bool) → all_ended arms ≡ b
     → before ≡ held_among r arms + held_in_list r rest → OptionLends n r before (cond b (Some (Goes vars (Doing rest) Silent)) None)
-join_lends n r before vars arms rest true h same = let none = held_all_over r arms h in omega arith
+join_lends n r before vars arms rest true h same = let none = ended_held r arms h in omega arith
 join_lends n r before vars arms rest false h same = tt
 
 arm_lends : (n r lo hi : ℕ) (vars : List ℤ) (arm : Arm) → IsOwned n lo hi arm → OptionLends n r (held r arm) (step_arm vars arm)

@@ -1,18 +1,22 @@
 -- Arms have numbers of their own, and each step keeps it so.
-use Rattle.std.proofs.Common.{◌≡◌, ◌⊎◌, inl, inr, ℕ, suc, ◌+◌, ◌<◌, ◌≤◌, ℤ, Bool, true, false, cond, nat_eq, List, [], ◌∷◌, ◌++◌, length, Option, Some, None, ap, subst, refl, sym, ◌∙◌, arith, length-append, append-nil}
+use Rattle.std.proofs.Common.{◌≡◌, ◌⊎◌, inl, inr, ℕ, suc, ◌+◌, ◌<◌, ◌≤◌, ℤ, Bool, true, false, cond, nat_eq, List, []}
+use Rattle.std.proofs.Common.{◌∷◌, ◌++◌, length, Option, Some, None, ap, subst, refl, sym, ◌∙◌, arith, length-append}
+use Rattle.std.proofs.Common.{append-nil}
 use Rattle.std.proofs.lemmas.Bool.Decides.{eqb_tells}
 use Rattle.pb_base.specs.Arithmetic.{is_zero}
 use Rattle.pb_base.specs.Steppers.{Effect}
 use Rattle.pb_names.specs.Program.{Expr, Block, Skip, Then, Stmt, Assign, Print, If, While, Hold, Parbegin, Arms}
 use Rattle.pb_names.specs.Program.{NoArm, AndArm, count, arms_list, arms_in, arms_in_stmt, arms_in_arms, IsNumbered}
 use Rattle.pb_names.specs.Program.{IsNumberedStmt, AreNumbered}
-use Rattle.pb_names.specs.Source.{ExprStep, Is, Becomes, Fails, step_expr, Item, GiveBack, item_of, items_of, Arm}
+use Rattle.pb_names.specs.Source.{ExprStep, Is, Becomes, Fails, step_expr, Item, GiveBack, item_of, items_of, Arm, running_arms}
 use Rattle.pb_names.specs.Source.{Doing, Waiting, Ended, Running, Nothing, Beside, begin, ArmStep, Goes, Breaks, Ends}
 use Rattle.pb_names.specs.Source.{evaluate, step_items, step_arm, all_ended, find, find_among, first_some, put}
 use Rattle.pb_names.specs.Source.{put_among}
-use Rattle.pb_rewrite.specs.Sound.{StmtNames, BlockNames, ArmsName, OwnsBlock, OwnsItem, Owns, size, IsOwned, AreOwned, IsSingle, AreSingle}
+use Rattle.pb_rewrite.specs.Sound.{StmtNames, BlockNames, ArmsName, OwnsBlock, OwnsItem, Owns, IsOwned}
+use Rattle.pb_rewrite.specs.Sound.{AreOwned, IsSingle, AreSingle}
 use Rattle.pb_rewrite.proofs.SwappedArms.{first_cases, none_put, none_put_among, none_some}
 use Rattle.pb_names.proofs.NumberedLists.{length-arms_list}
+use Rattle.pb_names.proofs.ArmNumbers.{running_begin, Mine, AllMine}
 
 -- ---- the items of a block own what the block owns
 
@@ -65,10 +69,6 @@ begins n lo hi (AndArm arm arms) k h u =
       begins n mid hi arms k.1 h.1 (omega (arith, len)),
     )
 
-size_begin : (arms : Arms) → size (begin arms) ≡ count arms
-size_begin NoArm = refl
-size_begin (AndArm arm arms) = omega (arith, size_begin arms)
-
 -- ---- one step of an arm
 
 abbrev Keeps : ℕ → ℕ → ℕ → ArmStep → Type 0
@@ -105,7 +105,7 @@ step_keeps n lo hi vars (GiveBack line bundle ∷ rest) o = o.1
 step_keeps n lo hi vars (Item.Parbegin line first arms ∷ rest) o =
     let p = o.0 in (
       p.1,
-      subst (λ k. AreOwned n (first + k) hi (begin arms)) (sym (size_begin arms)) (begins n (first + count arms) hi arms p.0 p.2 p.3),
+      subst (λ k. AreOwned n (first + k) hi (begin arms)) (sym (running_begin arms)) (begins n (first + count arms) hi arms p.0 p.2 p.3),
       o.1,
     )
 
@@ -133,7 +133,7 @@ mutual
   pub owned_le : (n lo hi : ℕ) (arm : Arm) → IsOwned n lo hi arm → lo ≤ hi
   owned_le n lo hi (Doing items) o = owns_le n lo hi items o
   owned_le n lo hi (Waiting line first arms rest) o =
-      let inner = are_owned_le n (first + size arms) hi arms o.1 in
+      let inner = are_owned_le n (first + running_arms arms) hi arms o.1 in
       let low = o.0 in
       omega arith
   owned_le n lo hi Ended o = o
@@ -144,13 +144,6 @@ mutual
       let a = owned_le n lo o.0 arm o.1 in
       let b = are_owned_le n o.0 hi arms o.2 in
       omega (arith, a, b)
-
--- an arm that is found is this one, or has its number in the range
-abbrev Mine : ℕ → ℕ → ℕ → ℕ → Type 0
-Mine m lo hi a = (a ≡ m) ⊎ ((lo ≤ a) × (a < hi))
-
-abbrev AllMine : ℕ → ℕ → ℕ → ℕ → ℕ → Type 0
-AllMine m k lo hi a = ((m ≤ a) × (a < m + k)) ⊎ ((lo ≤ a) × (a < hi))
 
 here_or : (a m : ℕ) (x t : Arm) (inner : Option Arm) → cond (nat_eq a m) (Some t) inner ≡ Some x → (a ≡ m) ⊎ (inner ≡ Some x)
 here_or a m x t inner h =
@@ -175,8 +168,8 @@ mutual
         | inl e ↦ inl e
         | inr e ↦
             (let low = o.0 in
-            let le = are_owned_le n (first + size arms) hi arms o.1 in
-            inr (within first (size arms) hi lo a (found_all n first (first + size arms) hi a arms x o.1 e) low le))
+            let le = are_owned_le n (first + running_arms arms) hi arms o.1 in
+            inr (within first (running_arms arms) hi lo a (found_all n first (first + running_arms arms) hi a arms x o.1 e) low le))
       ]
     where
       within : (first k hi lo a : ℕ) → AllMine first k (first + k) hi a → lo ≤ first → first + k ≤ hi → (lo ≤ a) × (a < hi)
@@ -185,21 +178,21 @@ mutual
   found_mine n m lo hi a Ended x o h =
       elim (here_or a m x Ended None h) [ inl e ↦ inl e | inr e ↦ absurd (none_some None x e refl) ]
 
-  found_all : (n m lo hi a : ℕ) (arms : Running) (x : Arm) → AreOwned n lo hi arms → find_among a m arms ≡ Some x → AllMine m (size arms) lo hi a
+  found_all : (n m lo hi a : ℕ) (arms : Running) (x : Arm) → AreOwned n lo hi arms → find_among a m arms ≡ Some x → AllMine m (running_arms arms) lo hi a
   found_all n m lo hi a Nothing x o h = absurd (none_some None x h refl)
   found_all n m lo hi a (Beside arm arms) x o h =
       let le1 = owned_le n lo o.0 arm o.1 in
       let le2 = are_owned_le n o.0 hi arms o.2 in
       elim (first_cases (find a m arm) (find_among a (m + 1) arms) x h) [
-        | inl e ↦ first_mine m (size arms) lo o.0 hi a le2 (found_mine n m lo o.0 a arm x o.1 e)
-        | inr e ↦ later_mine m (size arms) lo o.0 hi a le1 (found_all n (m + 1) o.0 hi a arms x o.2 e.1)
+        | inl e ↦ first_mine m (running_arms arms) lo o.0 hi a le2 (found_mine n m lo o.0 a arm x o.1 e)
+        | inr e ↦ later_mine m (running_arms arms) lo o.0 hi a le1 (found_all n (m + 1) o.0 hi a arms x o.2 e.1)
       ]
     where
-      first_mine : (m k lo mid hi a : ℕ) → mid ≤ hi → Mine m lo mid a → AllMine m (1 + k) lo hi a
+      first_mine : (m k lo mid hi a : ℕ) → mid ≤ hi → Mine m lo mid a → AllMine m (suc k) lo hi a
       first_mine m k lo mid hi a u (inl e) = inl (omega arith)
       first_mine m k lo mid hi a u (inr e) = inr (omega arith)
 
-      later_mine : (m k lo mid hi a : ℕ) → lo ≤ mid → AllMine (m + 1) k mid hi a → AllMine m (1 + k) lo hi a
+      later_mine : (m k lo mid hi a : ℕ) → lo ≤ mid → AllMine (m + 1) k mid hi a → AllMine m (suc k) lo hi a
       later_mine m k lo mid hi a l (inl e) = inl (omega arith)
       later_mine m k lo mid hi a l (inr e) = inr (omega arith)
 
@@ -219,10 +212,10 @@ mutual
   pub owned_single : (n lo hi a : ℕ) (arm : Arm) → IsOwned n lo hi arm → IsSingle a arm
   owned_single n lo hi a (Doing items) o = tt
   owned_single n lo hi a (Waiting line first arms rest) o =
-      owned_all_single n first (first + size arms) hi a arms (omega arith) o.1
+      owned_all_single n first (first + running_arms arms) hi a arms (omega arith) o.1
   owned_single n lo hi a Ended o = tt
 
-  owned_all_single : (n m lo hi a : ℕ) (arms : Running) → m + size arms ≤ lo → AreOwned n lo hi arms → AreSingle a m arms
+  owned_all_single : (n m lo hi a : ℕ) (arms : Running) → m + running_arms arms ≤ lo → AreOwned n lo hi arms → AreSingle a m arms
   owned_all_single n m lo hi a Nothing l o = tt
   owned_all_single n m lo hi a (Beside arm arms) l o =
       let le1 = owned_le n lo o.0 arm o.1 in (
@@ -231,7 +224,7 @@ mutual
           | inl e ↦ inl e
           | inr e ↦ elim (maybe_none (find_among a (m + 1) arms)) [
             | inl f ↦ inr f
-            | inr f ↦ absurd (not_both m (size arms) lo o.0 hi a (omega arith) le1
+            | inr f ↦ absurd (not_both m (running_arms arms) lo o.0 hi a (omega arith) le1
                 (found_mine n m lo o.0 a arm e.0 o.1 e.1) (found_all n (m + 1) o.0 hi a arms f.0 o.2 f.1))
           ]
         ],
@@ -250,7 +243,7 @@ mutual
   found_owned n m lo hi a (Waiting line first arms rest) x o h =
       elim (taken_at a m x (Waiting line first arms rest) (find_among a first arms) h) [
         | inl e ↦ (lo, hi, subst (IsOwned n lo hi) e o)
-        | inr e ↦ found_owned_all n first (first + size arms) hi a arms x o.1 e
+        | inr e ↦ found_owned_all n first (first + running_arms arms) hi a arms x o.1 e
       ]
   found_owned n m lo hi a Ended x o h =
       elim (taken_at a m x Ended None h) [ inl e ↦ (lo, hi, subst (IsOwned n lo hi) e o) | inr e ↦ absurd (none_some None x e refl) ]
@@ -263,9 +256,9 @@ mutual
         | inr e ↦ found_owned_all n (m + 1) o.0 hi a arms x o.2 e.1
       ]
 
-size_put : (a m : ℕ) (y : Arm) (arms : Running) → size (put_among a y m arms) ≡ size arms
+size_put : (a m : ℕ) (y : Arm) (arms : Running) → running_arms (put_among a y m arms) ≡ running_arms arms
 size_put a m y Nothing = refl
-size_put a m y (Beside arm arms) = ap (λ k. 1 + k) (size_put a (m + 1) y arms)
+size_put a m y (Beside arm arms) = ap suc (size_put a (m + 1) y arms)
 
 abbrev KeepsRange : ℕ → Arm → Arm → Type 0
 KeepsRange n x y = (lo hi : ℕ) → IsOwned n lo hi x → IsOwned n lo hi y
@@ -288,7 +281,7 @@ mutual
       (λ e. (
         o.0,
         subst (λ k. AreOwned n (first + k) hi (put_among a y first arms)) (sym (size_put a first y arms))
-            (owned_put_among n first (first + size arms) hi a x y arms o.1 single e keep),
+            (owned_put_among n first (first + running_arms arms) hi a x y arms o.1 single e keep),
         o.2,
       ))
   owned_put n m lo hi a x y Ended o single h keep =

@@ -1,5 +1,6 @@
 -- Arms that begin to run, one after another.
-use Rattle.std.proofs.Common.{◌≡◌, ◌<◌, List, [], ◌∷◌, ◌++◌, Vec, length, map, ap, refl, sym, ◌∙◌, arith, append_assoc, length-append}
+use Rattle.std.proofs.Common.{◌≡◌, ◌<◌, List, [], ◌∷◌, ◌++◌, Vec, length, map, ap, refl, sym, ◌∙◌, arith}
+use Rattle.std.proofs.Common.{append_assoc, length-append}
 use Rattle.std.proofs.lemmas.List.{map-append}
 use Rattle.pb_names.specs.Program.{Block}
 use Rattle.pb_names.specs.Source as plain

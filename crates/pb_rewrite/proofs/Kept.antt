@@ -2,7 +2,7 @@
 use Rattle.std.proofs.Common.{◌≡◌, ℕ, List, ◌∷◌, Bool, true, false, cond, Vec, ap, refl, ◌∙◌}
 use Rattle.pb_base.specs.Steppers.{Bundle}
 use Rattle.pb_names.specs.Source as plain
-use Rattle.pb_names.specs.Source.{item_of, items_of}
+use Rattle.pb_names.specs.Source.{item_of}
 use Rattle.pb_names.specs.View.{expr_view, block_view, arms_view}
 use Rattle.pb_names.specs.declared.resolved.Expr.{Expr}
 use Rattle.pb_names.specs.declared.resolved.Stmt.{Stmt, Assign, Print, If, While, Hold, Parbegin}

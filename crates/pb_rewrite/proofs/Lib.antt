@@ -2,7 +2,6 @@ pub mod ArmHoldings
 pub mod ArmLooks
 pub mod ArmNumbers
 pub mod BegunArms
-pub mod Expressions
 pub mod Heads
 pub mod Items
 pub mod Kept

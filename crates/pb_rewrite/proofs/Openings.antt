@@ -1,5 +1,7 @@
 -- All processes before their first step.
-use Rattle.std.proofs.Common.{◌≡◌, ℕ, zero, suc, ◌+◌, ◌<◌, List, [], ◌∷◌, ◌++◌, pos, length, map, take, get_or, replicate, Option, Some, None, option_map, inl, inr, ap, ap₂, subst, refl, sym, ◌∙◌, arith, append-nil, ◌≤◌}
+use Rattle.std.proofs.Common.{◌≡◌, ℕ, zero, suc, ◌+◌, ◌<◌, List, [], ◌∷◌, ◌++◌, pos, length, map, take, get_or}
+use Rattle.std.proofs.Common.{replicate, Option, Some, None, option_map, inl, inr, ap, ap₂, subst, refl, sym, ◌∙◌}
+use Rattle.std.proofs.Common.{arith, append-nil, ◌≤◌}
 use Rattle.std.specs.Prelude.{slice_get, slice_index}
 use Rattle.std.proofs.lemmas.List.{length-map, map_more, map-append}
 use Rattle.std.proofs.lemmas.Bool.{cases_lt}
@@ -12,11 +14,11 @@ use Rattle.pb_names.specs.Source.{SourceProcess, Doing, items_of, source_process
 use Rattle.pb_names.specs.View.{resource_view, process_view as program_process}
 use Rattle.pb_names.specs.declared.resolved.Process.{Process as GivenProgram}
 use Rattle.pb_names.specs.declared.resolved.Resource.{Resource}
+use Rattle.pb_names.proofs.Holdings.{items_held}
 use Rattle.pb_rewrite.specs.Sound.{AreSound, IsSoundRun, BlockNames, Owns, IsOwned}
 use Rattle.pb_rewrite.specs.Sources.{FitsClaims, FitsCapital}
 use Rattle.pb_rewrite.specs.View.{process_view}
 use Rattle.pb_rewrite.specs.declared.process.SourceProcess.{SourceProcess as Given}
-use Rattle.pb_rewrite.proofs.ArmHoldings.{held_items}
 use Rattle.pb_rewrite.proofs.ArmNumbers.{owns_block}
 use Rattle.pb_rewrite.proofs.Processes.{process_of}
 use Rattle.pb_rewrite.proofs.Sources.{state_with}
@@ -95,7 +97,7 @@ starts_sound : (n : ℕ) (row : List ℕ) (process : Process) → BlockNames n p
     → ((r : ℕ) → slice_index row r ≡ 0) → IsSoundRun n row (source_process process).run
 starts_sound n row process names numbered none = (
   (1 + length (arms_in process.body), starts_owned n process.body names numbered),
-  λ r l. let nothing = none r in let holds = held_items r process.body in omega arith,
+  λ r l. let nothing = none r in let holds = items_held r process.body in omega arith,
 )
 
 module _ (program : Program) (claims : Table) (fits : FitsClaims program claims) where

@@ -8,8 +8,7 @@ use Rattle.pb_banker.specs.declared.answer.Answer.{Answer}
 use Rattle.pb_banker.specs.declared.answer.Answer.TheVariants.{Granted}
 use Rattle.pb_names.specs.Program.{Block}
 use Rattle.pb_names.specs.Source as plain
-use Rattle.pb_names.specs.Source.{Item, items_of, GiveBack, step_items, Goes, Running, all_ended, step_arm, Doing}
-use Rattle.pb_names.specs.Source.{Waiting}
+use Rattle.pb_names.specs.Source.{Item, items_of, GiveBack, step_items, Goes, step_arm, Doing}
 use Rattle.pb_rewrite.specs.Steps.{AreBelow, AsksBelow, IsArmStep, IsFreeStep, IsUnchanged, LeavesArm, StepsItems}
 use Rattle.pb_rewrite.specs.View.{arm_view}
 use Rattle.pb_rewrite.specs.declared.arm.Arm.{Arm}

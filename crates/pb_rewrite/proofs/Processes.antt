@@ -1,16 +1,18 @@
 -- A step of a process, from the step of its arm and what is left to do after it.
-use Rattle.std.proofs.Common.{◌≡◌, inl, inr, ℕ, zero, suc, ℤ, cond, nat_eq, List, ◌++◌, length, take, drop, Option, Some, None, option_map, option_and_then, ap, ap₂, subst, refl, sym, ◌∙◌, arith}
+use Rattle.std.proofs.Common.{◌≡◌, inl, inr, ℕ, zero, suc, ℤ, cond, nat_eq, List, take, Option}
+use Rattle.std.proofs.Common.{Some, None, option_map, option_and_then, ap, ap₂, subst, refl, sym, ◌∙◌, arith}
 use Rattle.std.proofs.lemmas.Bool.{ne_eqb}
-use Rattle.std.proofs.Math.Seq.{take-append_seam}
 use Rattle.pb_base.specs.Banker.{BankerState, without_loan, without_loans}
-use Rattle.pb_base.specs.Steppers.{Effect, Silent, Prints, Takes, Returns, Faults, Finishes, ending, IsGranted, event_of, loans_after}
+use Rattle.pb_base.specs.Steppers.{Effect, Silent, Prints, Takes, Returns, Faults, Finishes, ending, IsGranted}
+use Rattle.pb_base.specs.Steppers.{event_of, loans_after}
 use Rattle.pb_base.specs.declared.event.Event.{Event}
 use Rattle.pb_base.specs.declared.event.Event.TheVariants as event
 use Rattle.pb_base.specs.declared.operators.FaultKind.{FaultKind}
 use Rattle.pb_base.specs.declared.pick.Pick.{Pick}
 use Rattle.pb_base.specs.declared.step.Step.{Step}
 use Rattle.pb_base.specs.declared.step.Step.TheVariants as step
-use Rattle.pb_names.specs.Source.{Arm, Ended, ArmStep, Goes, Breaks, Ends, step_arm, find, put, SourceProcess, settle, source_step}
+use Rattle.pb_names.specs.Source.{Arm, Ended, ArmStep, Goes, Breaks, Ends, step_arm, find, put, SourceProcess, settle}
+use Rattle.pb_names.specs.Source.{source_step}
 use Rattle.pb_rewrite.specs.Sound.{IsSingle}
 use Rattle.pb_rewrite.specs.Steps.{CannotStep, IsArmStep, IsProcessStep, IsRunStep, IsSettled}
 use Rattle.pb_rewrite.specs.Steps as steps

@@ -1,5 +1,6 @@
 -- A program that was resolved from a tree fits its claims, where these fit its capital.
-use Rattle.std.proofs.Common.{◌≡◌, ℕ, zero, suc, ◌<◌, ◌≤◌, List, [], ◌∷◌, length, map, get_or, Some, None, subst, arith}
+use Rattle.std.proofs.Common.{◌≡◌, ℕ, zero, suc, ◌<◌, ◌≤◌, List, [], ◌∷◌, length, map, get_or, Some, None, subst}
+use Rattle.std.proofs.Common.{arith}
 use Rattle.std.specs.Prelude.{slice_get}
 use Rattle.std.specs.List.{AllZip}
 use Rattle.std.proofs.lemmas.List.{length-map}
@@ -8,8 +9,10 @@ use Rattle.pb_base.specs.Steppers.{Bundle, Table}
 use Rattle.pb_base.specs.declared.pair.Pair.{Pair}
 use Rattle.pb_names.specs.Meaning.{AreClaims}
 use Rattle.pb_names.specs.Program.{Name, Stmt, Block, Arms, Process, Program, Resource, IsWellNumbered}
-use Rattle.pb_names.specs.Resolves.{ResolvesDemand, ResolvesStmt, assign, print, if_else, while_do, hold, parbegin, ResolvesStmts}
-use Rattle.pb_names.specs.Resolves.{no_stmt, stmt_then, ResolvesArms, no_arm, arm_then, ResolvesProcess, ResolvesResource, Resolves, resource_names}
+use Rattle.pb_names.specs.Resolves.{ResolvesDemand, ResolvesStmt, assign, print, if_else, while_do, hold, parbegin}
+use Rattle.pb_names.specs.Resolves.{ResolvesStmts}
+use Rattle.pb_names.specs.Resolves.{no_stmt, stmt_then, ResolvesArms, no_arm, arm_then, ResolvesProcess}
+use Rattle.pb_names.specs.Resolves.{ResolvesResource, Resolves, resource_names}
 use Rattle.pb_tree.specs.Syntax as tree
 use Rattle.pb_rewrite.specs.Sound.{StmtNames, BlockNames, ArmsName}
 use Rattle.pb_rewrite.specs.Sources.{FitsClaims, FitsCapital}

@@ -1,5 +1,6 @@
 -- What a sound run needs of the banker.
-use Rattle.std.proofs.Common.{◌≡◌, inl, inr, ℕ, zero, suc, ◌≤◌, ◌<◌, ℤ, List, ◌∷◌, [], length, get_or, Some, subst, refl, sym, arith}
+use Rattle.std.proofs.Common.{◌≡◌, inl, inr, ℕ, zero, suc, ◌≤◌, ◌<◌, ℤ, List, ◌∷◌, [], length, get_or, Some, subst}
+use Rattle.std.proofs.Common.{refl, sym, arith}
 use Rattle.std.proofs.lemmas.List.Elements.{All-head, All-tail}
 use Rattle.std.proofs.lemmas.Bool.Decides.{eqb_tells}
 use Rattle.pb_base.specs.Banker.{BankerState, resources, row_of, loan}

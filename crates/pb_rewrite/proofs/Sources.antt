@@ -1,12 +1,16 @@
 -- One step of all processes, from one step of one of them.
-use Rattle.std.proofs.Common.{◌≡◌, ◌≢◌, inl, inr, ℕ, zero, suc, ◌+◌, ◌<◌, ◌≤◌, ℤ, List, [], ◌∷◌, length, map, set, get_or, Result, Ok, Err, Option, Some, None, option_map, option_and_then, ap, ap₂, subst, refl, sym, ◌∙◌, arith}
+use Rattle.std.proofs.Common.{◌≡◌, ◌≢◌, inl, inr, ℕ, zero, suc, ◌+◌, ◌<◌, ◌≤◌, ℤ, List, [], ◌∷◌, length, map, set}
+use Rattle.std.proofs.Common.{get_or, Result, Ok, Err, Option, Some, None, option_map, option_and_then, ap, ap₂}
+use Rattle.std.proofs.Common.{subst, refl, sym, ◌∙◌, arith}
 use Rattle.std.specs.Prelude.{slice_get, IfOk, OnErr}
 use Rattle.std.proofs.lemmas.Bool.Decides.{eqb_tells}
 use Rattle.std.proofs.lemmas.List.{length-set, get_or-set_same, get_or-set_other, set-get_or}
-use Rattle.std.proofs.lemmas.Option.{get_or_from_slice_get, slice_get_within, slice_get-get_or, slice_get-map, slice_get_past}
+use Rattle.std.proofs.lemmas.Option.{get_or_from_slice_get, slice_get_within, slice_get-map}
+use Rattle.std.proofs.lemmas.Option.{slice_get_past}
 use Rattle.pb_base.specs.Banker.{BankerState, row_of, processes, resources, IsWellFormed}
 use Rattle.pb_base.specs.Bundle.{lend, give_back}
-use Rattle.pb_base.specs.Steppers.{Table, Effect, Silent, Prints, Takes, Returns, Faults, Finishes, ending, loans_after, State, Move, IsGranted, move_of, moved}
+use Rattle.pb_base.specs.Steppers.{Table, Effect, Silent, Prints, Takes, Returns, Faults, Finishes, ending}
+use Rattle.pb_base.specs.Steppers.{loans_after, State, Move, IsGranted, move_of, moved}
 use Rattle.pb_base.specs.Steps.{IsStepOf, Moves, Stays}
 use Rattle.pb_base.specs.declared.event.Event.{Event}
 use Rattle.pb_base.specs.declared.pick.Pick.{Pick}
@@ -14,7 +18,8 @@ use Rattle.pb_base.specs.declared.step.Step.{Step}
 use Rattle.pb_base.specs.declared.step.Step.TheVariants as step
 use Rattle.pb_base.proofs.LoanRows.{get_or-lend, get_or-give_back}
 use Rattle.pb_names.specs.Claims.{held}
-use Rattle.pb_names.specs.Source.{Arm, Ended, ArmStep, Goes, Breaks, Ends, step_arm, find, put, SourceProcess, settle, step_run, source_step}
+use Rattle.pb_names.specs.Source.{Arm, Ended, ArmStep, Goes, Breaks, Ends, step_arm, find, put, SourceProcess, settle}
+use Rattle.pb_names.specs.Source.{step_run, source_step}
 use Rattle.pb_rewrite.specs.Sound.{AreSound, IsSoundRun}
 use Rattle.pb_rewrite.specs.Steps.{IsProcessStep}
 use Rattle.pb_rewrite.specs.Steps as steps

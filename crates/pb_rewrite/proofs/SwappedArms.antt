@@ -1,6 +1,9 @@
 -- An arm that is found among running arms, and what is put in its place.
-use Rattle.std.proofs.Common.{◌≡◌, ◌⊎◌, ℕ, zero, suc, ◌+◌, ◌<◌, ◌≤◌, Bool, true, false, cond, nat_eq, List, [], ◌∷◌, length, get_or, set, map, Option, Some, None, ap, subst, refl, sym, ◌∙◌, inl, inr, arith}
-use Rattle.pb_names.specs.Source.{Arm, Doing, Waiting, Ended, Running, Nothing, Beside, find, find_among, first_some, put, put_among}
+use Rattle.std.proofs.Common.{◌≡◌, ◌⊎◌, ℕ, zero, suc, ◌+◌, ◌<◌, ◌≤◌, Bool, true, false, cond, nat_eq, List, [], ◌∷◌}
+use Rattle.std.proofs.Common.{length, get_or, set, map, Option, Some, None, ap, subst, refl, sym, ◌∙◌, inl, inr}
+use Rattle.std.proofs.Common.{arith}
+use Rattle.pb_names.specs.Source.{Arm, Doing, Waiting, Ended, Running, Nothing, Beside, find, find_among, first_some}
+use Rattle.pb_names.specs.Source.{put, put_among}
 use Rattle.pb_rewrite.specs.Sound.{IsSingle, AreSingle}
 use Rattle.std.proofs.lemmas.List.{length-map, get_or-map, map-set}
 use Rattle.std.proofs.Math.Seq.{map-set_same}

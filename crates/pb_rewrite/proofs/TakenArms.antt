@@ -1,7 +1,9 @@
 -- An arm is taken out of a run and put back.
-use Rattle.std.proofs.Common.{◌≡◌, inl, inr, ℕ, ◌+◌, List, Bool, true, false, cond, nat_eq, Option, Some, None, ap, ap₂, subst, refl, sym, ◌∙◌}
+use Rattle.std.proofs.Common.{◌≡◌, inl, inr, ℕ, ◌+◌, List, Bool, true, false, cond, nat_eq, Option, Some, None, ap}
+use Rattle.std.proofs.Common.{ap₂, subst, refl, sym, ◌∙◌}
 use Rattle.std.specs.Prelude.{IsSome}
-use Rattle.pb_names.specs.Source.{Item, Arm, Doing, Waiting, Ended, Running, Nothing, Beside, find, find_among, first_some, put, put_among}
+use Rattle.pb_names.specs.Source.{Item, Arm, Doing, Waiting, Ended, Running, Nothing, Beside, find, find_among}
+use Rattle.pb_names.specs.Source.{first_some, put, put_among}
 use Rattle.pb_rewrite.specs.Sound.{IsSingle, AreSingle}
 use Rattle.pb_rewrite.specs.Steps.{IsSwap}
 use Rattle.pb_rewrite.proofs.SwappedArms.{first_cases, none_put, none_put_among, none_some}

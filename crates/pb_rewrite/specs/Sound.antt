@@ -6,7 +6,7 @@ use Rattle.pb_base.specs.Banker.{BankerState, processes, resources, row_of}
 use Rattle.pb_names.specs.Claims.{held}
 use Rattle.pb_names.specs.Program.{Stmt, Assign, Print, If, While, Hold, Parbegin, Block, Skip, Then, Arms}
 use Rattle.pb_names.specs.Program.{NoArm, AndArm, count, arms_in, arms_in_arms, IsNumbered, AreNumbered}
-use Rattle.pb_names.specs.Source.{Item, GiveBack, Arm, Doing}
+use Rattle.pb_names.specs.Source.{Item, GiveBack, Arm, Doing, running_arms}
 use Rattle.pb_names.specs.Source.{Waiting, Ended, Running, Nothing, Beside, SourceProcess, find, find_among}
 use Rattle.pb_rewrite.specs.Steps.{AreBelow}
 
@@ -49,16 +49,12 @@ abbrev pub Owns : ℕ → ℕ → ℕ → List Item → Type 0
 Owns n lo hi [] = lo ≤ hi
 Owns n lo hi (item ∷ items) = OwnsItem n lo hi item × Owns n lo hi items
 
-abbrev pub size : Running → ℕ
-size Nothing = 0
-size (Beside arm arms) = 1 + size arms
-
 -- each running arm has a range of numbers of its own for the arms inside it
 abbrev mutual
   pub IsOwned : ℕ → ℕ → ℕ → Arm → Type 0
   IsOwned n lo hi (Doing items) = Owns n lo hi items
   IsOwned n lo hi (Waiting line first arms rest) =
-      (lo ≤ first) × AreOwned n (first + size arms) hi arms × Owns n lo hi rest
+      (lo ≤ first) × AreOwned n (first + running_arms arms) hi arms × Owns n lo hi rest
   IsOwned n lo hi Ended = lo ≤ hi
 
   pub AreOwned : ℕ → ℕ → ℕ → Running → Type 0

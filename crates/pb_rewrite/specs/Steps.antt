@@ -1,5 +1,6 @@
 -- What the steps of expressions, arms and processes answer.
-use Rattle.std.specs.Prelude.{◌≡◌, ◌⊎◌, ℕ, ◌<◌, ◌≤◌, ℤ, List, Bool, true, false, cond, nat_eq, All, Option, Some, None, Result, ⊤}
+use Rattle.std.specs.Prelude.{◌≡◌, ◌⊎◌, ℕ, ◌<◌, ◌≤◌, ℤ, List, Bool, true, false, cond, nat_eq, All, Option, Some}
+use Rattle.std.specs.Prelude.{None, Result, ⊤}
 use Rattle.pb_base.specs.Banker.{BankerState, IsAllowed, loan, resources, with_loan, without_loan, without_loans}
 use Rattle.pb_base.specs.Steppers.{Bundle, Effect, IsGranted, event_of, loans_after}
 use Rattle.pb_base.specs.Steppers as effect
@@ -10,8 +11,10 @@ use Rattle.pb_base.specs.declared.pick.Pick.{Pick}
 use Rattle.pb_base.specs.declared.step.Step.{Step}
 use Rattle.pb_base.specs.declared.step.Step.TheVariants as step
 use Rattle.pb_names.specs.Program.{Expr, Number}
-use Rattle.pb_names.specs.Source.{from_result, step_expr, Becomes, Fails, ArmStep, Goes, Breaks, Ends, Arm, Ended, step_arm}
-use Rattle.pb_names.specs.Source.{Item, step_items, Running, find, find_among, put, put_among, SourceProcess, source_step}
+use Rattle.pb_names.specs.Source.{from_result, step_expr, Becomes, Fails, ArmStep, Goes, Breaks, Ends, Arm, Ended}
+use Rattle.pb_names.specs.Source.{step_arm}
+use Rattle.pb_names.specs.Source.{Item, step_items, Running, find, find_among, put, put_among, SourceProcess}
+use Rattle.pb_names.specs.Source.{source_step}
 use Rattle.pb_rewrite.specs.View.{arm_view, bank_view}
 use Rattle.pb_rewrite.specs.declared.stepping.Stepped.{Stepped}
 use Rattle.pb_rewrite.specs.declared.expression.Progress.{Progress}

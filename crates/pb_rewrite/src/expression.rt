@@ -22,7 +22,7 @@ pub(crate) enum Progress {
 
 /// Rewrites the next place of an expression: in the left operand if that is not a number, else in the right
 /// one, else the operator itself.
-#[tactic(auto, using(pb_names::proofs::Views::expr_views, crate::proofs::Expressions::expr_steps))]
+#[tactic(auto, using(pb_names::proofs::Views::expr_views, pb_names::proofs::ExpressionSteps::expr_steps))]
 pub(crate) fn rewrite<A: Allocator>(expr: &mut Expr<A>, vars: &[i64]) -> Progress
     ensures { IsExprStep vars.now (expr_view expr.old) result (expr_view expr.new) }
 {

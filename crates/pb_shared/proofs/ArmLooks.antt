@@ -1,13 +1,16 @@
 -- What an arm would come to, beside what its pick does.
-use Rattle.std.proofs.Common.{◌≡◌, ◌≢◌, ⊎_elim, ℕ, zero, suc, ◌<◌, ◌≤◌, List, [], ◌∷◌, length, Option, Some, None, option_map, option_and_then, refl, sym, ap, ◌∙◌, subst, arith}
+use Rattle.std.proofs.Common.{◌≡◌, ◌≢◌, ⊎_elim, ℕ, ◌<◌, ◌≤◌, length, Option, Some, None}
+use Rattle.std.proofs.Common.{option_map, option_and_then, refl, sym, ap, ◌∙◌, subst, arith}
 use Rattle.std.specs.Prelude.{slice_get}
 use Rattle.std.proofs.lemmas.Bool.{cases_lt}
 use Rattle.std.proofs.lemmas.List.{get_or_past}
 use Rattle.std.proofs.lemmas.Option.{slice_get_within}
 use Rattle.pb_base.specs.declared.pick.Pick.{Pick}
-use Rattle.pb_base.specs.Steppers.{State, Move, Effect, Silent, Prints, Takes, Returns, Faults, Finishes, IsGranted, event_of, move_of, moved}
+use Rattle.pb_base.specs.Steppers.{State, Move, Effect, Silent, Prints, Takes, Returns, Faults, Finishes, IsGranted}
+use Rattle.pb_base.specs.Steppers.{move_of, moved}
+use Rattle.pb_base.proofs.Lists.{get_some}
 use Rattle.pb_code.specs.Code.{ProcessCode, CodeProcess, Thread, Idle, code_step, step_process, step_thread}
-use Rattle.pb_code.specs.Reached.{CodeReaches, CodeMoves, CodeStays}
+use Rattle.pb_code.specs.Reached.{CodeReaches, CodeStays}
 use Rattle.pb_code.specs.Whole.{Code, bank_of}
 use Rattle.pb_machine.specs.Looks.{look_at, look_of, look_of_effect}
 use Rattle.pb_machine.specs.declared.look.Look.TheVariants as look
@@ -16,7 +19,6 @@ use Rattle.pb_verifier.proofs.States.{CodeMove, code_move}
 use Rattle.pb_verifier.specs.Requests.{IsDenied}
 use Rattle.pb_verifier.specs.Verified.{IsAnnotated}
 use Rattle.pb_verifier.specs.declared.fault.VerifyFault.TheVariants.{OutOfLimits}
-use Rattle.pb_machine.proofs.NeverStuck.{found}
 
 effect_steps : (e : Effect) → look_of_effect e ≡ look.Stays → ⊥
 effect_steps Silent h = cc
@@ -104,7 +106,7 @@ module _ (code : Code) (annotated : IsAnnotated code) (s : State CodeProcess) (r
       let good = (kept_reached code annotated s reached).good in
       let count = good.count in
       let lt = slice_get_within s.processes p process there in
-      let of = found code.processes p (omega (arith, count, lt)) in
+      let of = get_some code.processes p (omega (arith, count, lt)) in
       let fit = good.fit p of.0 process of.1 there in
       let threads = fit.threads in
       let few = ((annotated OutOfLimits).each p of.0 of.1).some_arms.1 in

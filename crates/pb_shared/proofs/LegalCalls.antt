@@ -1,5 +1,7 @@
 -- What each call of a book does keeps it legal.
-use Rattle.std.proofs.Common.{◌≡◌, ◌≢◌, ⊎_elim, ℕ, zero, suc, ◌+◌, ◌-◌, ◌<◌, ◌≤◌, ◌*◌, Bool, true, false, cond, List, [], ◌∷◌, ◌++◌, length, map, replicate, set, Option, Some, None, refl, sym, ap, ◌∙◌, subst, slice_get, slice_set, slice_index_or, length-set, length-append, arith}
+use Rattle.std.proofs.Common.{◌≡◌, ◌≢◌, ⊎_elim, ℕ, zero, suc, ◌+◌, ◌-◌, ◌<◌, ◌≤◌, ◌*◌, Bool, true, false, cond, List}
+use Rattle.std.proofs.Common.{[], ◌∷◌, ◌++◌, length, map, replicate, set, Option, Some, None, refl, sym, ap, ◌∙◌}
+use Rattle.std.proofs.Common.{subst, slice_get, slice_set, slice_index_or, length-set, length-append, arith}
 use Rattle.std.specs.Prelude.{All}
 use Rattle.std.specs.List.{sum_by}
 use Rattle.std.proofs.lemmas.Bool.{cases_eq}
@@ -12,12 +14,13 @@ use Rattle.pb_base.specs.Steppers.{State, Move, IsFinished}
 use Rattle.pb_code.specs.Code.{CodeProcess, code_over, code_process}
 use Rattle.pb_code.specs.Reached.{CodeReaches, CodeMoves}
 use Rattle.pb_code.specs.Whole.{Code, code_opening}
-use Rattle.pb_machine.specs.Steps.{ComesSilently, at_once, one_more, ComesFrom, MakesSilently, with_process}
+use Rattle.pb_machine.specs.Steps.{ComesSilently, ComesFrom, with_process}
 use Rattle.pb_machine.specs.Views.{proc_view, rooms_of, machine_view, row, HaveRoom, IsMachineOf}
 use Rattle.pb_machine.specs.declared.machine.Machine.{Machine}
 use Rattle.pb_machine.specs.declared.process.Proc.{Proc}
 use Rattle.pb_machine.proofs.NeverStuck.{goes_on}
 use Rattle.pb_machine.proofs.OneMorePick.{reaches_on}
+use Rattle.pb_machine.proofs.SilentRuns.{makes_comes}
 use Rattle.pb_history.specs.Entries.{Entry, silent_picks}
 use Rattle.pb_history.specs.Leads.{Leads}
 use Rattle.pb_history.proofs.TraceSteps.{leads_append, leads_more, leads_reaches, silent_lead}
@@ -25,7 +28,8 @@ use Rattle.pb_verifier.specs.Requests.{IsDenied, frees}
 use Rattle.pb_verifier.specs.Verified.{IsAnnotated, IsVerified, VerifiedCode}
 use Rattle.pb_verifier.proofs.States.{code_move}
 use Rattle.pb_verifier.proofs.Requests.{refused_stays, refused_stops, same_pick}
-use Rattle.pb_shared.specs.Ledgers.{Ledger, IsLegal, IsLentBy, Tries, after_pick, all_home, allowance_of, given_back, home, is_marked, mark_place, new_ledger}
+use Rattle.pb_shared.specs.Ledgers.{Ledger, IsLegal, IsLentBy, Tries, after_pick, all_home, allowance_of, given_back}
+use Rattle.pb_shared.specs.Ledgers.{home, is_marked, mark_place, new_ledger}
 use Rattle.pb_shared.specs.Lending.{Lent, IsSilentRun}
 use Rattle.pb_shared.specs.Taking.{NoneReady}
 use Rattle.pb_shared.specs.Trying.{TriesOn}
@@ -69,11 +73,6 @@ silent_frees n pick = λ k d lt. at n k d lt
     at zero k d lt = absurd (omega arith)
     at (suc n) zero d lt = refl
     at (suc n) (suc k) d lt = at n k d (omega arith)
-
--- silent picks of one arm are silent picks
-makes_comes : (code : Code) (p arm n : ℕ) (before after : CodeProcess) → MakesSilently code p arm n before after → ComesSilently code p before after
-makes_comes code p arm zero before after h = subst (ComesSilently code p before) (sym h) at_once
-makes_comes code p arm (suc n) before after h = one_more h.0 after arm (makes_comes code p arm n before h.0 h.1) h.2
 
 -- ---- a stretch comes home
 

@@ -1,5 +1,6 @@
 -- Marks that are taken away one after another.
-use Rattle.std.proofs.Common.{◌≡◌, ℕ, zero, suc, ◌+◌, ◌<◌, Bool, false, List, [], ◌∷◌, ◌++◌, length, map, set, take, drop, refl, ap, ◌∙◌, arith}
+use Rattle.std.proofs.Common.{◌≡◌, ℕ, zero, suc, ◌+◌, ◌<◌, Bool, false, List, [], ◌∷◌, ◌++◌, length, map, set, take}
+use Rattle.std.proofs.Common.{drop, refl, ap, ◌∙◌, arith}
 
 wiped : (xs : List Bool) (i : ℕ) → i < length xs → set (map (λ (b : Bool). false) (take i xs) ++ drop i xs) i false ≡
     map (λ (b : Bool). false) (take (suc i) xs) ++ drop (suc i) xs

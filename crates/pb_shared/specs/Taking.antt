@@ -1,5 +1,6 @@
 -- What a take returns.
-use Rattle.std.specs.Prelude.{◌≡◌, ◌≢◌, ◌⊎◌, ℕ, ◌-◌, ◌<◌, ◌≤◌, min, Some, None, Result, Ok, Err, true, slice_get, slice_set, ⊤}
+use Rattle.std.specs.Prelude.{◌≡◌, ◌≢◌, ◌⊎◌, ℕ, ◌-◌, ◌<◌, ◌≤◌, min, Some, None, Result, Ok, Err, true, slice_get}
+use Rattle.std.specs.Prelude.{slice_set, ⊤}
 use Rattle.pb_base.specs.declared.pick.Pick.{Pick}
 use Rattle.pb_code.specs.Whole.{Code}
 use Rattle.pb_verifier.specs.Verified.{VerifiedCode}

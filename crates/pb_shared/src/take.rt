@@ -110,7 +110,11 @@ impl<'v, C: CodeBrand> Book<'v, C> {
     fn lend(&mut self, pick: Pick, allowance: u32)
         requires at_home { slice_get self.old.slips pick.process ≡ Some None }
         requires within { allowance ≤ self.old.left }
-        ensures { self.new ≡ record self.old { left = self.old.left - allowance; slips = slice_set self.old.slips pick.process (Some (record { arm = pick.arm; allowance = allowance })) } }
+        ensures { self.new ≡ record self.old {
+          left = self.old.left - allowance;
+          slips = slice_set self.old.slips pick.process
+              (Some (record { arm = pick.arm; allowance = allowance }));
+        } }
     {
         let process = usize::from(pick.process);
         let next_process = next_of(pick.process, self.processes());

@@ -1,5 +1,6 @@
 -- The greatest amounts of each process are within its claims, or one of them is over its claim.
-use Rattle.std.proofs.Common.{◌≡◌, ◌⊎◌, inl, inr, ℕ, zero, suc, ◌<◌, ◌≤◌, List, length, Option, Some, None, refl, sym, ap, ◌∙◌, subst, arith}
+use Rattle.std.proofs.Common.{◌≡◌, ◌⊎◌, inl, inr, ℕ, zero, suc, ◌<◌, ◌≤◌, List, length, Option, Some, None, refl, sym}
+use Rattle.std.proofs.Common.{ap, ◌∙◌, subst, arith}
 use Rattle.std.specs.Prelude.{slice_get}
 use Rattle.std.proofs.lemmas.Bool.{cases_lt}
 use Rattle.std.proofs.lemmas.Option.{slice_get_within}
@@ -8,7 +9,8 @@ use Rattle.pb_base.specs.Steppers.{Bundle}
 use Rattle.pb_code.specs.Code.{ProcessCode}
 use Rattle.pb_code.specs.Whole.{Code}
 use Rattle.pb_verifier.specs.declared.fault.VerifyFault.{VerifyFault}
-use Rattle.pb_verifier.specs.declared.fault.VerifyFault.TheVariants.{NoHoldings, NoMemory, OutOfLimits, OverClaim, WrongArms, WrongForks}
+use Rattle.pb_verifier.specs.declared.fault.VerifyFault.TheVariants.{NoHoldings, NoMemory, OutOfLimits, OverClaim}
+use Rattle.pb_verifier.specs.declared.fault.VerifyFault.TheVariants.{WrongArms, WrongForks}
 use Rattle.pb_verifier.specs.Behaviour.{PeaksExist}
 use Rattle.pb_verifier.specs.Faults.{AreHoldings, ArePeaks, HasArms, HasForks, HasPeakOver, HasPeakWithin}
 use Rattle.pb_verifier.specs.Limits.{IsSmallProcess}

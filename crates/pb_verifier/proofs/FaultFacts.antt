@@ -1,19 +1,23 @@
 -- The facts that the verifier spreads are those that the definitions of the faults speak of.
-use Rattle.std.proofs.Common.{◌≡◌, ◌⊎◌, ◌↔◌, inl, inr, ℕ, ◌+◌, ◌<◌, ◌≤◌, Bool, true, false, cond, eqb, List, [], ◌∷◌, length, get_or, Option, Some, None, refl, sym, ap, ◌∙◌, subst, arith}
+use Rattle.std.proofs.Common.{◌≡◌, ◌⊎◌, ◌↔◌, inl, inr, ℕ, ◌+◌, ◌<◌, ◌≤◌, Bool, true, false, cond, eqb, List, [], ◌∷◌}
+use Rattle.std.proofs.Common.{length, get_or, Option, Some, None, refl, sym, ap, ◌∙◌, subst, arith}
 use Rattle.std.specs.Prelude.{Contains, slice_get, unwrap_or}
 use Rattle.std.proofs.lemmas.List.{get_or_default}
 use Rattle.std.proofs.lemmas.Option.{slice_get-get_or}
 use Rattle.std.proofs.lemmas.List.Elements.{Contains-get_or}
 use Rattle.std.proofs.lemmas.Bool.{eq-eqb}
 use Rattle.std.proofs.Common.{eqb-true}
-use Rattle.pb_code.specs.Code.{Instr, Push, Load, Store, Compute1, Compute2, Jump, JumpIfZero, PrintTop, Take, Give, Fork, Join, End, ProcessCode}
+use Rattle.pb_code.specs.Code.{Instr, Push, Load, Store, Compute1, Compute2, Jump, JumpIfZero, PrintTop, Take, Give}
+use Rattle.pb_code.specs.Code.{Fork, Join, End, ProcessCode}
 use Rattle.pb_verifier.specs.Places.{arms, entry, InstrAt, Reached, at_entry, from, Spreads, Follows}
 use Rattle.pb_verifier.specs.Flow.{IsReachedPlace, reached_entry, reached_next, followers, goes_on, StaysInside}
 use Rattle.pb_base.specs.Steppers.{Bundle}
 use Rattle.pb_verifier.specs.Faults.{pops, pushes, TurnsDepth, TurnsHoldings}
-use Rattle.pb_verifier.specs.Spread.{depth_rules, hold_rules, HoldFits, held_after, tail, Rules, IsAnnotation, IsLeast, CanBeAnnotated, IsTableOf}
+use Rattle.pb_verifier.specs.Spread.{depth_rules, hold_rules, HoldFits, held_after, tail, Rules, IsAnnotation}
+use Rattle.pb_verifier.specs.Spread.{IsLeast, CanBeAnnotated, IsTableOf}
 use Rattle.pb_verifier.proofs.Each.{same_read}
-use Rattle.pb_verifier.proofs.ReachSearch.{all_followers, target_follows, next_follows, reached_inside, contains_head, contains_tail, contains_cases}
+use Rattle.pb_verifier.proofs.ReachSearch.{all_followers, target_follows, next_follows, reached_inside, contains_head}
+use Rattle.pb_verifier.proofs.ReachSearch.{contains_tail, contains_cases}
 
 -- ---- what follows
 

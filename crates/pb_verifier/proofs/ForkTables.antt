@@ -1,15 +1,17 @@
 -- Forks and joins that fit.
-use Rattle.std.proofs.Common.{◌≡◌, ◌⊎◌, ◌↔◌, inl, inr, ℕ, zero, suc, ◌+◌, ◌-◌, ◌<◌, ◌≤◌, Bool, true, false, List, length, get_or, replicate, Some, refl, sym, ap, ◌∙◌, subst, arith}
+use Rattle.std.proofs.Common.{◌≡◌, ◌⊎◌, ◌↔◌, inl, inr, ℕ, zero, suc, ◌+◌, ◌-◌, ◌<◌, ◌≤◌, Bool, true, false, List}
+use Rattle.std.proofs.Common.{length, get_or, Some, refl, sym, ap, ◌∙◌, subst, arith}
 use Rattle.std.specs.Prelude.{slice_get}
-use Rattle.std.proofs.lemmas.List.{get_or_default, get_or_past, get_or-replicate, length-replicate}
+use Rattle.std.proofs.lemmas.List.{get_or_default, get_or_past}
 use Rattle.std.proofs.lemmas.Option.{slice_get_within}
 use Rattle.std.proofs.lemmas.Bool.{cases_lt}
 use Rattle.pb_base.specs.Steppers.{Bundle}
 use Rattle.pb_code.specs.declared.instr.Instr.{Instr as Given}
 use Rattle.pb_code.specs.declared.instr.Instr.TheVariants as given
 use Rattle.pb_code.specs.View.{instr_view}
-use Rattle.pb_code.specs.Code.{Instr, Jump, JumpIfZero, Fork, Join, ProcessCode}
-use Rattle.pb_verifier.specs.Arms.{EntriesRise, ForksLater, IsPaired, IsNamedBefore, IsOnceBefore, AreNamed}
+use Rattle.pb_code.specs.Code.{Instr, Push, Load, Store, Compute1, Compute2, Jump, JumpIfZero, PrintTop, Take, Give}
+use Rattle.pb_code.specs.Code.{Fork, Join, End, ProcessCode}
+use Rattle.pb_verifier.specs.Arms.{EntriesRise, ForksLater, IsPaired, IsMarked, IsNamedBefore, IsOnceBefore, AreNamed}
 use Rattle.pb_verifier.specs.Faults.{HasArms, HasForks}
 use Rattle.pb_verifier.specs.Places.{InstrAt, arms, entry, arm_end, IsInArm, JumpsTo, IsAmong}
 use Rattle.pb_verifier.proofs.ArmOrder.{rise_of}
@@ -115,16 +117,29 @@ module _ (code : ProcessCode) where
       no_jump place target first count i read (inl e) = paired place (Jump target) (read ∙ ap Some e) first count
       no_jump place target first count i read (inr e) = paired place (JumpIfZero target) (read ∙ ap Some e) first count
 
+  pub paired_of : HasForks code → (place : ℕ) (i : Instr) → InstrAt code place i → IsPaired code place i
+  paired_of h place (Fork first count) read = h.then_join place first count read
+  paired_of h place (Join first count) read = h.after_fork place first count read
+  paired_of h place (Jump target) read =
+      λ first count. h.no_jump place target first count (Jump target) read (inl refl)
+  paired_of h place (JumpIfZero target) read =
+      λ first count. h.no_jump place target first count (JumpIfZero target) read (inr refl)
+  paired_of h place (Push v) read = tt
+  paired_of h place (Load x) read = tt
+  paired_of h place (Store x) read = tt
+  paired_of h place (Compute1 op) read = tt
+  paired_of h place (Compute2 op) read = tt
+  paired_of h place PrintTop read = tt
+  paired_of h place (Take bundle) read = tt
+  paired_of h place (Give bundle) read = tt
+  paired_of h place End read = tt
+
   pub named_of : HasForks code → AreNamed code
   named_of h = record { named = h.named; once = h.once }
 
-  -- the arms that forks before a place name are marked, each once
-  pub record IsMarked (n : ℕ) (marks : List Bool) : Type 0 where
-    pub sized : length marks ≡ 64
-    pub marked : (b : ℕ) → b < 64 → ((get_or marks b false ≡ true) ↔ IsNamedBefore code n b)
-    pub once : IsOnceBefore code n
+  -- ---- marks
 
-  pub marked_none : (marks : List Bool) → length marks ≡ 64 → ((b : ℕ) → get_or marks b false ≡ false) → IsMarked 0 marks
+  pub marked_none : (marks : List Bool) → length marks ≡ 64 → ((b : ℕ) → get_or marks b false ≡ false) → IsMarked code 0 marks
   marked_none marks l none = record {
     sized = l;
     marked = λ b u. (λ e. let wrong : false ≡ true = sym (none b) ∙ e in cc, λ h. let v : h.0 < 0 = h.3 in absurd (omega arith));
@@ -132,7 +147,8 @@ module _ (code : ProcessCode) where
   }
 
   -- a place with no fork names none
-  pub marked_skip : (n : ℕ) (marks : List Bool) → IsMarked n marks → ((first count : ℕ) → InstrAt code n (Fork first count) → ⊥) → IsMarked (n + 1) marks
+  pub marked_skip : (n : ℕ) (marks : List Bool) → IsMarked code n marks
+      → ((first count : ℕ) → InstrAt code n (Fork first count) → ⊥) → IsMarked code (n + 1) marks
   marked_skip n marks h none = record {
     sized = h.sized;
     marked = λ b u. (λ e. more b ((h.marked b u).0 e), λ before. (h.marked b u).1 (less b before));
@@ -153,11 +169,11 @@ module _ (code : ProcessCode) where
       less b (p, f, m, u, read, among) = (p, f, m, below p f m u read, read, among)
 
   -- a fork whose arms were not marked
-  pub marked_more : (n first count : ℕ) (marks later : List Bool) → IsMarked n marks → InstrAt code n (Fork first
+  pub marked_more : (n first count : ℕ) (marks later : List Bool) → IsMarked code n marks → InstrAt code n (Fork first
       count) → first + count ≤ 64 → length later ≡ 64
       → ((b : ℕ) → first ≤ b → b < first + count → get_or marks b false ≡ false)
       → ((b : ℕ) → b < length marks → ((get_or later b false ≡ true) ↔ ((get_or marks b false ≡ true) ⊎ ((first ≤ b) × (b < first + count)))))
-      → IsMarked (n + 1) later
+      → IsMarked code (n + 1) later
   marked_more n first count marks later h read few sized free marked = record {
     sized = sized;
     marked = λ b u. (λ e. forth b u ((marked b (within b u)).0 e), λ before. (marked b (within b u)).1 (back b u before));
@@ -213,7 +229,7 @@ module _ (code : ProcessCode) where
           go (inr w) (inr x) = w.0 ∙ sym x.0
 
   -- in code whose arms are forked once no fork finds an arm marked
-  pub unmarked_of : AreNamed code → (n first count : ℕ) (marks : List Bool) → IsMarked n marks → InstrAt code n (Fork first count) → first + count ≤ 64
+  pub unmarked_of : AreNamed code → (n first count : ℕ) (marks : List Bool) → IsMarked code n marks → InstrAt code n (Fork first count) → first + count ≤ 64
       → (b : ℕ) → first ≤ b → b < first + count → get_or marks b false ≡ false
   unmarked_of h n first count marks m read few b u v = go (get_or marks b false) refl
     where
@@ -225,7 +241,7 @@ module _ (code : ProcessCode) where
           let w : before.0 < n = before.3 in
           absurd (omega arith)
 
-  pub named_from : (n : ℕ) (marks : List Bool) → IsMarked n marks → length code.instrs ≤ n → arms code ≤ 64 → ((b : ℕ)
+  pub named_from : (n : ℕ) (marks : List Bool) → IsMarked code n marks → length code.instrs ≤ n → arms code ≤ 64 → ((b : ℕ)
       → 1 ≤ b → b < arms code → get_or marks b false ≡ true) → AreNamed code
   named_from n marks m u few all = record {
     named = λ b v w. let before : IsNamedBefore code n b = (m.marked b (omega arith)).0 (all b v w) in (before.0, before.1, before.2, before.4, before.5);
@@ -235,7 +251,7 @@ module _ (code : ProcessCode) where
         m.once b p f k q g o (omega arith) (omega arith) at among at' among';
   }
 
-  pub marked_of : AreNamed code → (n : ℕ) (marks : List Bool) → IsMarked n marks → length code.instrs ≤ n → arms code
+  pub marked_of : AreNamed code → (n : ℕ) (marks : List Bool) → IsMarked code n marks → length code.instrs ≤ n → arms code
       ≤ 64 → (b : ℕ) → 1 ≤ b → b < arms code → get_or marks b false ≡ true
   marked_of h n marks m u few b v w =
       let by_fork : (place : ℕ) × (first : ℕ) × (count : ℕ) × InstrAt code place (Fork first count) × IsAmong first count b = h.named b v w in
@@ -261,10 +277,3 @@ forked_by bundles i f n P is = (λ h first count e. go h first count (sym (ap (i
   where
     go : P f n → (first count : ℕ) → Fork f n ≡ Fork first count → P first count
     go h first count e = let a : f ≡ first = cc in let b : n ≡ count = cc in subst (λ (x : ℕ). P x count) a (subst (λ (x : ℕ). P f x) b h)
-
-pub none_marked : (n b : ℕ) → get_or (replicate n false) b false ≡ false
-none_marked n b = go (cases_lt b n)
-  where
-    go : (b < n) ⊎ (n ≤ b) → get_or (replicate n false) b false ≡ false
-    go (inl u) = get_or-replicate n b false false u
-    go (inr u) = get_or_past (replicate n false) b false (let l : length (replicate n false) ≡ n = length-replicate n false in omega arith)

@@ -1,9 +1,11 @@
 -- Facts that spread along the code are the only ones, and the greatest amounts decide whether the peak fits.
 use Rattle.std.proofs.Common.{◌≡◌, ℕ, zero, suc, ◌+◌, ◌<◌, ◌≤◌, List, ◌∷◌, sym, ap, ◌∙◌, subst, arith}
 use Rattle.pb_base.specs.Steppers.{Bundle}
-use Rattle.pb_code.specs.Code.{Instr, Push, Load, Store, Compute1, Compute2, Jump, JumpIfZero, PrintTop, Take, Give, Fork, Join, End, ProcessCode}
+use Rattle.pb_code.specs.Code.{Instr, Push, Load, Store, Compute1, Compute2, Jump, JumpIfZero, PrintTop, Take, Give}
+use Rattle.pb_code.specs.Code.{Fork, Join, End, ProcessCode}
 use Rattle.pb_verifier.specs.Places.{InstrAt, arms, IsInArm, IsAmong, Reached, at_entry, from, Spreads}
-use Rattle.pb_verifier.specs.Faults.{HasArms, HasForks, TurnsDepth, TurnsHoldings, in_joined, sum_of_arms, StayUnder, IsAttained}
+use Rattle.pb_verifier.specs.Faults.{HasArms, HasForks, TurnsDepth, TurnsHoldings, in_joined, sum_of_arms, StayUnder}
+use Rattle.pb_verifier.specs.Faults.{IsAttained}
 use Rattle.pb_verifier.proofs.ArmPlaces.{fork_in_arm}
 
 -- what an instruction makes of a fact is one fact

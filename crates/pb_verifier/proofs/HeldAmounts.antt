@@ -1,11 +1,13 @@
 -- How much of a resource is held at each place.
-use Rattle.std.proofs.Common.{◌≡◌, ℕ, zero, suc, ◌+◌, ◌-◌, ◌*◌, ◌≤◌, cond, List, [], ◌∷◌, length, take, Option, Some, refl, sym, ap, ◌∙◌, subst, arith}
+use Rattle.std.proofs.Common.{◌≡◌, ℕ, zero, suc, ◌+◌, ◌-◌, ◌*◌, ◌≤◌, cond, List, [], ◌∷◌, length, take, Option, Some}
+use Rattle.std.proofs.Common.{refl, sym, ap, ◌∙◌, subst, arith}
 use Rattle.std.specs.Prelude.{◌==◌, slice_get, option_map, unwrap_or}
 use Rattle.pb_base.specs.declared.pair.Pair.{Pair}
 use Rattle.pb_base.specs.Bundle.{amount_in}
 use Rattle.pb_base.specs.Steppers.{Bundle}
 use Rattle.pb_base.proofs.LoanRows.{amount_in-cons, amount_in-le}
-use Rattle.pb_code.specs.Code.{Instr, Push, Load, Store, Compute1, Compute2, Jump, JumpIfZero, PrintTop, Take, Give, Fork, Join, End, ProcessCode}
+use Rattle.pb_code.specs.Code.{Instr, Push, Load, Store, Compute1, Compute2, Jump, JumpIfZero, PrintTop, Take, Give}
+use Rattle.pb_code.specs.Code.{Fork, Join, End, ProcessCode}
 use Rattle.pb_verifier.specs.declared.amounts.Amount.{Amount}
 use Rattle.pb_verifier.specs.Amounts.{AmountFits, amount_after, TurnsAmount, held_at}
 use Rattle.pb_verifier.specs.Faults.{TurnsHoldings, AreHoldings, in_holdings}

@@ -5,7 +5,7 @@ use Rattle.std.proofs.lemmas.List.{get_or_default}
 use Rattle.std.proofs.lemmas.Option.{slice_get_within}
 use Rattle.pb_code.specs.Code.{ProcessCode}
 use Rattle.pb_verifier.specs.Faults.{HasArms}
-use Rattle.pb_verifier.specs.Flow.{StaysInside, followers}
+use Rattle.pb_verifier.specs.Flow.{StaysInside}
 use Rattle.pb_verifier.specs.Flow as flow
 use Rattle.pb_verifier.specs.Places.{arms, entry, arm_end, IsInArm}
 use Rattle.pb_verifier.proofs.ArmOrder.{arm_lies, rise_of}

@@ -1,11 +1,14 @@
 -- In a process that is not over some live arm can step, if the banker allows it.
-use Rattle.std.proofs.Common.{◌≡◌, inl, inr, ℕ, zero, suc, ◌+◌, ◌<◌, ◌≤◌, ℤ, Bool, true, false, cond, ◌&&◌, List, Option, Some, None, option_and_then, refl, sym, ap, ◌∙◌, subst, arith}
+use Rattle.std.proofs.Common.{◌≡◌, inl, inr, ℕ, zero, suc, ◌+◌, ◌<◌, ◌≤◌, ℤ, Bool, true, false, cond, ◌&&◌, List}
+use Rattle.std.proofs.Common.{Option, Some, None, option_and_then, refl, sym, ap, ◌∙◌, subst, arith}
 use Rattle.pb_base.specs.Steppers.{Effect, Silent}
-use Rattle.pb_code.specs.Code.{Instr, Join, ProcessCode, Thread, Idle, Live, Ended, CodeProcess, thread, ThreadStep, act, is_over, all_over, dismiss, apply_step, step_thread, step_process}
+use Rattle.pb_code.specs.Code.{Instr, Join, ProcessCode, Thread, Idle, Live, Ended, CodeProcess, thread, ThreadStep}
+use Rattle.pb_code.specs.Code.{act, is_over, all_over, dismiss, apply_step, step_thread, step_process}
 use Rattle.pb_code.specs.Code.{code_over}
 use Rattle.pb_verifier.specs.Places.{InstrAt, arms, IsInArm, IsAmong}
 use Rattle.pb_verifier.proofs.ArmPlaces.{Checked, fork_in_arm, place_has}
 use Rattle.pb_verifier.proofs.Turns.{Acts, acts_run, acts_trap, acts_fork, acts_join, acts_stop, can_act, Fit}
+use Rattle.pb_verifier.specs.Behaviour.{SomeArmSteps}
 use Rattle.std.specs.Prelude.{set}
 
 -- one of a range isn't over
@@ -19,9 +22,6 @@ not_over_in threads first (suc n) h = go (is_over (thread threads first)) refl h
     go false e h' later = (first, (omega arith, omega arith), e)
     go true e h' later = let w = later h' in let x = w.1.0 in let y = w.1.1 in (w.0, (omega (arith, x), omega (arith, y)), w.2)
 
-abbrev pub CanStep : ProcessCode → CodeProcess → Type 0
-CanStep code process = (a : ℕ) × (after : CodeProcess) × (effect : Effect) × (step_process code process a ≡ Some (after, effect))
-
 module _ (code : ProcessCode) (ok : Checked code) (process : CodeProcess) (fit : Fit code ok process) where
   busy_lives : (c : ℕ) → (thread process.threads c ≡ Idle → ⊥) → is_over (thread process.threads c) ≡ false → (p : ℕ)
       × (s : List ℤ) × (thread process.threads c ≡ Live p s)
@@ -33,7 +33,7 @@ module _ (code : ProcessCode) (ok : Checked code) (process : CodeProcess) (fit :
       go Ended e n = cc
 
   -- from a live arm down to one that waits for no other
-  some_arm : (fuel a p : ℕ) (s : List ℤ) → arms code ≤ a + fuel → thread process.threads a ≡ Live p s → CanStep code process
+  some_arm : (fuel a p : ℕ) (s : List ℤ) → arms code ≤ a + fuel → thread process.threads a ≡ Live p s → SomeArmSteps code process
   some_arm zero a p s enough live = let u = (fit.order.stands a p s live).0.0 in elim (let w : ⊥ = omega (arith, u, enough) in w) [ ]
   some_arm (suc fuel) a p s enough live =
       let here = fit.order.stands a p s live in
@@ -46,7 +46,7 @@ module _ (code : ProcessCode) (ok : Checked code) (process : CodeProcess) (fit :
     where
       go : (i : Instr) (step : ThreadStep) → InstrAt code p i → IsInArm code a p → Acts code ok process.vars i p s
           step → step_process code process a ≡ apply_step code process a step
-          → ((b q : ℕ) (t : List ℤ) → a < b → thread process.threads b ≡ Live q t → CanStep code process) → CanStep code process
+          → ((b q : ℕ) (t : List ℤ) → a < b → thread process.threads b ≡ Live q t → SomeArmSteps code process) → SomeArmSteps code process
       go i step at here (acts_run vars q t e same len plain f depth balance sound takes) u later = (a, _, _, u ∙ ap (apply_step code process a) same)
       go i step at here (acts_trap kind same) u later = (a, _, _, u ∙ ap (apply_step code process a) same)
       go i step at here (acts_fork first count is same depth held) u later = (a, _, _, u ∙ ap (apply_step code process a) same)
@@ -63,7 +63,7 @@ module _ (code : ProcessCode) (ok : Checked code) (process : CodeProcess) (fit :
                   faulted = process.faulted;
                 },
                 Silent,
-              )) None → CanStep
+              )) None → SomeArmSteps
               code process
           over true e h = (a, _, _, h)
           over false e h =
@@ -77,14 +77,14 @@ module _ (code : ProcessCode) (ok : Checked code) (process : CodeProcess) (fit :
               let live' = busy_lives c.0 (fit.order.woken a p s first count c.0 live join c.1) c.2 in
               later c.0 live'.0 live'.1 (omega (arith, l, x)) live'.2
 
-  pub can_step : (code_over process → ⊥) → CanStep code process
+  pub can_step : (code_over process → ⊥) → SomeArmSteps code process
   can_step going = go process.faulted refl
     where
-      go : (z : Bool) → process.faulted ≡ z → CanStep code process
+      go : (z : Bool) → process.faulted ≡ z → SomeArmSteps code process
       go true e = elim (going (inl e)) [ ]
       go false e = main (thread process.threads 0) refl
         where
-          main : (t : Thread) → thread process.threads 0 ≡ t → CanStep code process
+          main : (t : Thread) → thread process.threads 0 ≡ t → SomeArmSteps code process
           main Idle h = elim (fit.begun e h) [ ]
           main (Live p s) h = some_arm (arms code) 0 p s (omega arith) h
           main Ended h = elim (going (inr h)) [ ]

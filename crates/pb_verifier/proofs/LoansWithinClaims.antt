@@ -1,6 +1,8 @@
 -- The loans of verified code stay within the claims and the capital, and safe; and some process can always go
 -- on.
-use Rattle.std.proofs.Common.{◌≡◌, ◌⊎◌, inl, inr, ⊎_elim, ℕ, zero, suc, ◌+◌, ◌<◌, ◌≤◌, Bool, true, false, cond, eqb, List, [], ◌∷◌, ◌++◌, length, get_or, map, replicate, Option, Some, None, option_map, option_and_then, refl, sym, ap, ◌∙◌, subst, arith, get_or-set_same, length-append}
+use Rattle.std.proofs.Common.{◌≡◌, ◌⊎◌, inl, inr, ⊎_elim, ℕ, zero, suc, ◌+◌, ◌<◌, ◌≤◌, Bool, true, false, cond, eqb}
+use Rattle.std.proofs.Common.{List, [], ◌∷◌, ◌++◌, length, get_or, map, replicate, Option, Some, None, option_map}
+use Rattle.std.proofs.Common.{option_and_then, refl, sym, ap, ◌∙◌, subst, arith, get_or-set_same, length-append}
 use Rattle.std.specs.Prelude.{slice_get, All}
 use Rattle.std.proofs.lemmas.List.{get_or_append_left, length-map}
 use Rattle.std.proofs.lemmas.List.FromFn.{get_or-range_with_len, length-range_with_len}
@@ -13,13 +15,19 @@ use Rattle.pb_base.specs.declared.pair.Pair.{Pair}
 use Rattle.pb_base.specs.declared.pick.Pick.{Pick}
 use Rattle.pb_base.specs.declared.event.Event.{Event}
 use Rattle.pb_base.specs.Bundle.{amount_in, lend, give_back}
-use Rattle.pb_base.specs.Banker.{BankerState, capital, loan, processes, everyone, held_by, cash, cell, row_of, Finishes, IsSafe, IsAllowed, IsWellFormed}
-use Rattle.pb_base.specs.Steppers.{Bundle, Table, Effect, Silent, Prints, Takes, Returns, Faults, Finishes as Ends, IsGranted, State, Move, Makes, moved, move_of, banker_state, loans_after, CanGoOn, IsFinished}
+use Rattle.pb_base.specs.Banker.{BankerState, capital, loan, processes, everyone, held_by, cash, cell, row_of}
+use Rattle.pb_base.specs.Banker.{Finishes, IsSafe, IsAllowed, IsWellFormed}
+use Rattle.pb_base.specs.Steppers.{Bundle, Table, Effect, Silent, Prints, Takes, Returns, Faults, Finishes as Ends}
+use Rattle.pb_base.specs.Steppers.{IsGranted, State, Move, Makes, moved, move_of, banker_state, loans_after, CanGoOn}
+use Rattle.pb_base.specs.Steppers.{IsFinished}
 use Rattle.pb_base.proofs.BankerLaws.{fewer_loans_stay_safe, first_borrower_may_ask, order_below}
 use Rattle.pb_base.proofs.Groups.{range_below, sum_by-zero_on}
-use Rattle.pb_base.proofs.LoanRows.{amount_in-le, amount_in-cons, get_or-give_back, get_or-lend, length-give_back, length-lend}
+use Rattle.pb_base.proofs.LoanRows.{amount_in-le, amount_in-cons, get_or-give_back, get_or-lend, length-give_back}
+use Rattle.pb_base.proofs.LoanRows.{length-lend}
 use Rattle.pb_base.proofs.Rows.{with_row, IsWellFormed-with_row, HasFewerLoans-with_row}
-use Rattle.pb_code.specs.Code.{ProcessCode, Thread, Idle, Live, Ended, CodeProcess, thread, step_process, code_step, code_process, code_over}
+use Rattle.pb_base.proofs.Lists.{get_some}
+use Rattle.pb_code.specs.Code.{ProcessCode, Thread, Idle, Live, Ended, CodeProcess, thread, step_process, code_step}
+use Rattle.pb_code.specs.Code.{code_process, code_over}
 use Rattle.pb_code.specs.Reached.{CodeReaches}
 use Rattle.pb_code.specs.Whole.{Code, bank_of, code_opening}
 use Rattle.pb_verifier.specs.declared.fault.VerifyFault.TheVariants.{OutOfLimits, OverCapital, OverClaim}
@@ -29,13 +37,9 @@ use Rattle.pb_verifier.specs.Verified.{IsAnnotated}
 use Rattle.pb_verifier.proofs.LiveSteps.{can_step, none_live}
 use Rattle.pb_verifier.proofs.ThreadHoldings.{holds_none, under_peak}
 use Rattle.pb_verifier.proofs.PeakTables.{replicate_read}
-use Rattle.pb_verifier.proofs.States.{CodeMove, code_move, checked, Good, asks_within, bundles_small, good_next, good_start}
+use Rattle.pb_verifier.proofs.States.{CodeMove, code_move, checked, Good, asks_within, bundles_small, good_next}
+use Rattle.pb_verifier.proofs.States.{good_start}
 use Rattle.pb_verifier.proofs.Turns.{turned}
-
-pub get_some : {X : Type 0} (xs : List X) (i : ℕ) → i < length xs → (x : X) × (slice_get xs i ≡ Some x)
-get_some [] i u = absurd (omega arith)
-get_some (x ∷ xs) zero u = (x, refl)
-get_some (x ∷ xs) (suc i) u = get_some xs i (omega arith)
 
 -- a pair is part of its bundle
 pub pair_in : (bundle : Bundle) (k : ℕ) (d : Pair) → k < length bundle → (get_or bundle k d).amount ≤ amount_in bundle (get_or bundle k d).resource

@@ -1,21 +1,20 @@
 -- Whatever the picks, the threads of checked code stay in order.
-use Rattle.std.proofs.Common.{◌≡◌, ◌≢◌, ◌⊎◌, inl, inr, ⊎_elim, ℕ, ◌+◌, ◌<◌, ◌≤◌, ℤ, pos, Bool, true, false, nat_eq, List, [], length, set, map, refl, sym, ap, ◌∙◌, subst, arith, length-set, get_or-set_same, get_or-set_other, eqb-true}
-use Rattle.std.proofs.lemmas.Bool.{cases_lt, eqb-false}
+use Rattle.std.proofs.Common.{◌≡◌, ◌≢◌, ◌⊎◌, inl, inr, ⊎_elim, ℕ, ◌+◌, ◌<◌, ◌≤◌, ℤ, pos, true, false}
+use Rattle.std.proofs.Common.{List, [], length, set, map, refl, sym, ap, ◌∙◌, subst, arith, length-set}
+use Rattle.std.proofs.Common.{get_or-set_same, get_or-set_other}
+use Rattle.std.proofs.lemmas.Bool.{cases_lt}
 use Rattle.std.proofs.lemmas.List.{length-map, length-replicate}
 use Rattle.std.proofs.Math.ListN.{get_or-map}
 use Rattle.pb_base.specs.declared.operators.FaultKind.{FaultKind}
 use Rattle.pb_base.specs.Steppers.{Effect, Silent, Faults}
-use Rattle.pb_code.specs.Code.{Instr, Fork, Join, End, ProcessCode, Thread, Idle, Live, Ended, CodeProcess, thread, code_process}
+use Rattle.pb_base.proofs.Cases.{same_or_not}
+use Rattle.pb_code.specs.Code.{Instr, Fork, Join, End, ProcessCode, Thread, Idle, Live, Ended, CodeProcess, thread}
+use Rattle.pb_code.specs.Code.{code_process}
 use Rattle.pb_verifier.specs.Places.{InstrAt, arms, entry, IsInArm, IsAmong, Reached, at_entry, from}
-use Rattle.pb_verifier.proofs.ArmPlaces.{Checked, same_instr, IsPlain, entry_in_arm, one_arm, next_in_arm, follows_in_arm, before_join, no_join, no_join_at_entry}
-use Rattle.pb_verifier.proofs.Turns.{Turn, runs, traps, forks, joins, stops, Awaited, InOrder, Fit, Turned, ending_no_fault}
-
-pub same_or_not : (a b : ℕ) → (a ≡ b) ⊎ (a ≢ b)
-same_or_not a b = go (nat_eq a b) refl
-  where
-    go : (z : Bool) → nat_eq a b ≡ z → (a ≡ b) ⊎ (a ≢ b)
-    go true e = inl (eqb-true a b e)
-    go false e = inr (eqb-false a b e)
+use Rattle.pb_verifier.proofs.ArmPlaces.{Checked, same_instr, IsPlain, entry_in_arm, one_arm, next_in_arm}
+use Rattle.pb_verifier.proofs.ArmPlaces.{follows_in_arm, before_join, no_join, no_join_at_entry}
+use Rattle.pb_verifier.proofs.Turns.{Turn, runs, traps, forks, joins, stops, Awaited, InOrder, Fit, Turned}
+use Rattle.pb_verifier.proofs.Turns.{ending_no_fault}
 
 pub among_or_not : (first count b : ℕ) → IsAmong first count b ⊎ ((b < first) ⊎ (first + count ≤ b))
 among_or_not first count b = ⊎_elim (λ l. inr (inl l)) (λ l. ⊎_elim (λ m. inl (l, m)) (λ m. inr (inr m)) (cases_lt b (first + count))) (cases_lt b first)
@@ -179,7 +178,8 @@ module _ (code : ProcessCode) (ok : Checked code) where
 
     joined : (a p : ℕ) (s : List ℤ) (first count : ℕ) → T a ≡ Live p s → InstrAt code p (Join first count) → T' a ≡ Live (p + 1) s
         → length s ≡ ok.depth (p + 1)
-        → ((b : ℕ) → IsAmong first count b → (T b ≡ Ended) × (T' b ≡ Idle)) → ((b : ℕ) → b ≢ a → (b < first) ⊎ (first + count ≤ b) → Same b) → InOrder code ok T'
+        → ((b : ℕ) → IsAmong first count b → (T b ≡ Ended) × (T' b ≡ Idle))
+        → ((b : ℕ) → b ≢ a → (b < first) ⊎ (first + count ≤ b) → Same b) → InOrder code ok T'
     joined a p s first count live join now len dismissed others =
         let here = order.stands a p s live in
         let stands : Stands a (Live (p + 1) s) = (

@@ -1,5 +1,6 @@
 -- The faults of one process, and of all.
-use Rattle.std.proofs.Common.{◌≡◌, ◌⊎◌, inl, inr, ℕ, ◌+◌, ◌<◌, ◌≤◌, List, [], ◌∷◌, ◌++◌, length, get_or, Option, Some, None, refl, sym, ap, ◌∙◌, subst, arith, length-append}
+use Rattle.std.proofs.Common.{◌≡◌, ◌⊎◌, inl, inr, ℕ, ◌+◌, ◌<◌, ◌≤◌, List, [], ◌∷◌, ◌++◌, length, get_or, Option, Some}
+use Rattle.std.proofs.Common.{None, refl, sym, ap, ◌∙◌, subst, arith, length-append}
 use Rattle.std.specs.Prelude.{slice_get}
 use Rattle.std.proofs.lemmas.List.{get_or_append_left}
 use Rattle.std.proofs.Math.Seq.{get_or-append_seam}
@@ -9,10 +10,13 @@ use Rattle.pb_base.specs.Tables.{width_of}
 use Rattle.pb_base.specs.Steppers.{Bundle}
 use Rattle.pb_code.specs.Code.{ProcessCode}
 use Rattle.pb_verifier.specs.declared.fault.VerifyFault.{VerifyFault}
-use Rattle.pb_verifier.specs.declared.fault.VerifyFault.TheVariants.{OutOfLimits, OverCapital, OutOfRange, WrongArms, WrongForks, NoDepths, NoHoldings, LeftAtEnd, OverClaim, NoMemory}
+use Rattle.pb_verifier.specs.declared.fault.VerifyFault.TheVariants.{OutOfLimits, OverCapital, OutOfRange, WrongArms}
+use Rattle.pb_verifier.specs.declared.fault.VerifyFault.TheVariants.{WrongForks, NoDepths, NoHoldings, LeftAtEnd}
+use Rattle.pb_verifier.specs.declared.fault.VerifyFault.TheVariants.{OverClaim, NoMemory}
 use Rattle.pb_code.specs.Whole.{Code}
 use Rattle.pb_verifier.specs.Limits.{KeepsLimits}
-use Rattle.pb_verifier.specs.Faults.{ClaimsFitCapital, IsInRange, HasArms, HasForks, AreDepths, AreHoldings, EndsClear, PeakFits}
+use Rattle.pb_verifier.specs.Faults.{ClaimsFitCapital, IsInRange, HasArms, HasForks, AreDepths, AreHoldings}
+use Rattle.pb_verifier.specs.Faults.{EndsClear, PeakFits}
 use Rattle.pb_verifier.specs.Process.{IsEarlier, IsFirstOfProcess, IsProcessFreeOf, IsSoundProcess}
 use Rattle.pb_verifier.specs.Verified.{AreArmDepths, IsAnnotated, IsFreeOf, IsRefusedFor, turn_of}
 use Rattle.pb_verifier.proofs.Each.{each_more}

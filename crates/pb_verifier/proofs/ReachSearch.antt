@@ -1,13 +1,18 @@
 -- What the search for reached places keeps.
-use Rattle.std.proofs.Common.{◌≡◌, ◌≢◌, ◌⊎◌, inl, inr, ℕ, zero, suc, ◌+◌, ◌<◌, ◌≤◌, Bool, true, false, cond, List, [], ◌∷◌, ◌++◌, length, get_or, set, Option, Some, None, refl, sym, ap, ◌∙◌, subst, arith, length-set, length-append, get_or-set_other, append_assoc}
+use Rattle.std.proofs.Common.{◌≡◌, ◌≢◌, ◌⊎◌, inl, inr, ℕ, zero, suc, ◌+◌, ◌<◌, ◌≤◌, Bool, true, false, cond, List, []}
+use Rattle.std.proofs.Common.{◌∷◌, ◌++◌, length, get_or, set, take, replicate, Option, Some, None, refl, sym, ap, ◌∙◌}
+use Rattle.std.proofs.Common.{subst, arith, length-set, length-append, get_or-set_other, append_assoc}
 use Rattle.std.specs.Prelude.{sum_by, Contains, slice_get, IfSome, option_to_list}
-use Rattle.std.proofs.lemmas.List.{get_or_append_left, get_or_default, set-get_or}
+use Rattle.std.proofs.lemmas.List.{get_or-replicate, get_or_append_left, get_or_default, get_or_past}
+use Rattle.std.proofs.lemmas.List.{length-replicate, set-get_or}
+use Rattle.std.proofs.lemmas.List.Folds.{sum_by-replicate}
 use Rattle.std.proofs.Math.Seq.{get_or-append_seam}
 use Rattle.std.proofs.lemmas.List.Sums.{sum_by-set}
 use Rattle.std.proofs.lemmas.List.Elements.{Contains-append_left, Contains-push, Contains-push_cases, Contains-get_or}
 use Rattle.std.proofs.lemmas.Bool.{cases_lt, cases_eq, both_ways}
 use Rattle.pb_code.specs.Code.{Instr}
-use Rattle.pb_verifier.specs.Flow.{FlowsTo, followers, IsReachedPlace, reached_entry, reached_next, StaysInside, IsGrown, LeadsBelow, target_of, goes_on, with_marks, with_place, with_places}
+use Rattle.pb_verifier.specs.Flow.{FlowsTo, followers, IsReachedPlace, reached_entry, reached_next, StaysInside}
+use Rattle.pb_verifier.specs.Flow.{IsGrown, LeadsBelow, target_of, goes_on, with_marks, with_place, with_places}
 
 -- how many places are not found yet
 abbrev pub unmarked : List Bool → ℕ
@@ -270,6 +275,26 @@ search_start entries instrs found l n none =
     marked : (p : ℕ) → p < length found → get_or found p true ≡ true → Contains [] p
     marked p u e = absurd (both_ways (get_or found p true) (get_or_default found p true false u ∙ none p) e)
 
+-- nothing is marked at the start
+pub none_marked : (n p : ℕ) → get_or (replicate n false) p false ≡ false
+none_marked n p = go (cases_lt p n)
+  where
+    go : (p < n) ⊎ (n ≤ p) → get_or (replicate n false) p false ≡ false
+    go (inl u) = get_or-replicate n p false false u
+    go (inr u) = get_or_past (replicate n false) p false (omega (arith, u, length-replicate n false))
+
+-- and then the entries are
+pub entries_visited : (entries : List ℕ) (instrs : List Instr) → StaysInside entries instrs
+    → VisitedAll entries instrs 0 [] entries (with_marks (replicate (length instrs) false) entries)
+    (with_places (replicate (length instrs) false) [] entries)
+entries_visited entries instrs inside =
+    let n : ℕ = length instrs in
+    let sized = length-replicate n false in
+    let each = sum_by-replicate (λ (b : Bool). cond {A = ℕ} b 0 1) n false in
+    let begun = search_start entries instrs (replicate n false) sized (omega (arith, each)) (none_marked n) in
+    visit_all entries instrs 0 (replicate n false) [] entries begun
+    (λ p c. let u = inside.starts p c in (omega (arith, u, sized), inl c))
+
 pub reached_inside : (entries : List ℕ) (instrs : List Instr) → StaysInside entries instrs → (p : ℕ) → IsReachedPlace entries instrs p → p < length instrs
 reached_inside entries instrs inside _ (reached_entry p c) = inside.starts p c
 reached_inside entries instrs inside _ (reached_next p q r f) = inside.next p q f
@@ -351,18 +376,21 @@ module _ (entries : List ℕ) (instrs : List Instr) (next : ℕ) (found : List B
           let e' : f.0 ≡ i = cc in
           (visit_all entries instrs next found order (followers i p) h.search hand_due).there q (subst (λ (x : Instr). Contains (followers x p) q) e' f.2)
 
-pub starts_all : (entries order : List ℕ) → ((k : ℕ) → k < length entries → Contains order (get_or entries k 0)) → (p
-    : ℕ) → Contains entries p → Contains order p
-starts_all entries order h p c = subst (λ (x : ℕ). Contains order x) (get_or_default entries c.0 0 p c.1 ∙ c.2) (h c.0 c.1)
+-- ---- places visited one after another
 
-pub starts_more : (entries order longer : List ℕ) (i : ℕ) → Extends order longer → ((k : ℕ) → k < i → Contains order
-    (get_or entries k 0)) → Contains longer (get_or entries i 0) → (k : ℕ) → k < i + 1 → Contains longer (get_or
-    entries k 0)
-starts_more entries order longer i e h here k u = go (cases_lt k i)
-  where
-    go : (k < i) ⊎ (i ≤ k) → Contains longer (get_or entries k 0)
-    go (inl w) = extends_contains order longer (get_or entries k 0) e (h k w)
-    go (inr w) = let same : i ≡ k = omega arith in subst (λ (x : ℕ). Contains longer (get_or entries x 0)) same here
+pub marks_more : (found : List Bool) (places : List ℕ) (k : ℕ) → k < length places
+    → with_marks found (take (suc k) places) ≡ set (with_marks found (take k places)) (get_or places k 0) true
+marks_more found [] k u = absurd (omega arith)
+marks_more found (p ∷ places) zero u = refl
+marks_more found (p ∷ places) (suc k) u = marks_more (set found p true) places k (omega arith)
+
+pub places_more : (found : List Bool) (order places : List ℕ) (k : ℕ) → k < length places
+    → with_places found order (take (suc k) places)
+    ≡ with_place (with_marks found (take k places)) (with_places found order (take k places)) (get_or places k 0)
+places_more found order [] k u = absurd (omega arith)
+places_more found order (p ∷ places) zero u = refl
+places_more found order (p ∷ places) (suc k) u =
+    places_more (set found p true) (with_place found order p) places k (omega arith)
 
 -- what follows an instruction is its target and the next place
 pub target_follows : (i : Instr) (p q : ℕ) → target_of i ≡ Some q → Contains (followers i p) q

@@ -1,9 +1,10 @@
 -- The reached places of a process can be listed, so that its arms have greatest amounts.
-use Rattle.std.proofs.Common.{◌≡◌, ◌⊎◌, ◌↔◌, inl, inr, ℕ, zero, suc, ◌+◌, ◌-◌, ◌<◌, ◌≤◌, Bool, true, false, cond, List, [], ◌∷◌, length, get_or, set, replicate, Option, Some, refl, sym, ◌∙◌, subst, arith, length-set, get_or-set_same, get_or-set_other}
+use Rattle.std.proofs.Common.{◌≡◌, ◌⊎◌, ◌↔◌, inl, inr, ℕ, zero, suc, ◌+◌, ◌-◌, ◌<◌, ◌≤◌, Bool, true, false}
+use Rattle.std.proofs.Common.{List, [], ◌∷◌, length, get_or, set, replicate, Option, Some, refl, sym, ◌∙◌, subst}
+use Rattle.std.proofs.Common.{arith, length-set, get_or-set_same, get_or-set_other}
 use Rattle.std.specs.Prelude.{Contains}
 use Rattle.std.proofs.lemmas.Bool.{cases_lt}
-use Rattle.std.proofs.lemmas.List.{get_or-replicate, get_or_default, get_or_past, length-replicate}
-use Rattle.std.proofs.lemmas.List.Folds.{sum_by-replicate}
+use Rattle.std.proofs.lemmas.List.{get_or_default}
 use Rattle.std.proofs.lemmas.Option.{slice_get-get_or, slice_get_within}
 use Rattle.pb_base.specs.Steppers.{Bundle}
 use Rattle.pb_code.specs.Code.{Instr, End, ProcessCode}
@@ -17,8 +18,10 @@ use Rattle.pb_verifier.proofs.ArmOrder.{arm_lies, rise_of}
 use Rattle.pb_verifier.proofs.FaultFacts.{is_listed, listed_from, listed_to, reached_from, reached_to}
 use Rattle.pb_verifier.proofs.Inside.{stays_inside}
 use Rattle.pb_verifier.proofs.ArmPlaces.{place_has}
-use Rattle.pb_verifier.proofs.PeakTables.{AreLast, IsBest, best_more, best_over, best_skip, best_start, last_more, last_none, replicate_read}
-use Rattle.pb_verifier.proofs.ReachSearch.{IsSearch, extends_contains, hand_done, hand_inside, search_over, search_start, unmarked, visit_all}
+use Rattle.pb_verifier.proofs.PeakTables.{AreLast, IsBest, best_more, best_over, best_skip, best_start, last_more}
+use Rattle.pb_verifier.proofs.PeakTables.{last_none, replicate_read}
+use Rattle.pb_verifier.proofs.ReachSearch.{IsSearch, entries_visited, extends_contains, hand_done, hand_inside}
+use Rattle.pb_verifier.proofs.ReachSearch.{search_over}
 
 -- ---- the reached places
 
@@ -26,13 +29,6 @@ module _ (entries : List ℕ) (instrs : List Instr) (inside : StaysInside entrie
   -- a list of the reached places
   abbrev ListsReached : List ℕ → Type 0
   ListsReached order = (p : ℕ) → Contains order p ↔ IsReachedPlace entries instrs p
-
-  unmarked_none : (n : ℕ) → unmarked (replicate n false) ≡ n
-  unmarked_none n = let each = sum_by-replicate (λ (b : Bool). cond {A = ℕ} b 0 1) n false in omega (arith, each)
-
-  none_marked : (n p : ℕ) → (p < n) ⊎ (n ≤ p) → get_or (replicate n false) p false ≡ false
-  none_marked n p (inl u) = get_or-replicate n p false false u
-  none_marked n p (inr u) = get_or_past (replicate n false) p false (let sized : length (replicate n false) ≡ n = length-replicate n false in omega arith)
 
   -- the search goes on until what follows each found place is found
   search_on : (fuel next : ℕ) (found : List Bool) (order : List ℕ) → length instrs ≤ next + fuel → IsSearch entries instrs next found order
@@ -67,9 +63,7 @@ module _ (entries : List ℕ) (instrs : List Instr) (inside : StaysInside entrie
   pub reached_list : (all : List ℕ) × ((p : ℕ) → Contains all p ↔ IsReachedPlace entries instrs p)
   reached_list =
       let none : List Bool = replicate (length instrs) false in
-      let sized : length none ≡ length instrs = length-replicate (length instrs) false in
-      let begun = search_start entries instrs none sized (unmarked_none (length instrs)) (λ p. none_marked (length instrs) p (cases_lt p (length instrs))) in
-      let first = visit_all entries instrs 0 none [] entries begun (λ p c. let u = inside.starts p c in (omega (arith, u, sized), inl c)) in
+      let first = entries_visited entries instrs inside in
       search_on (length instrs) 0 (with_marks none entries) (with_places none [] entries) (omega arith) first.search first.there
 
 -- ---- the greatest amounts

@@ -1,17 +1,23 @@
 -- A request that was refused stays refused, until loans come back.
-use Rattle.std.proofs.Common.{◌≡◌, ◌≢◌, inl, ⊎_elim, ℕ, zero, suc, ◌+◌, ◌-◌, ◌<◌, ◌≤◌, ℤ, true, false, List, [], ◌∷◌, length, get_or, set, Some, option_map, option_and_then, refl, sym, ap, ◌∙◌, subst, arith}
+use Rattle.std.proofs.Common.{◌≡◌, ◌≢◌, inl, ⊎_elim, ℕ, zero, suc, ◌+◌, ◌-◌, ◌<◌, ◌≤◌, ℤ, true, false, List, [], ◌∷◌}
+use Rattle.std.proofs.Common.{length, get_or, set, Some, option_map, option_and_then, refl, sym, ap, ◌∙◌, subst}
+use Rattle.std.proofs.Common.{arith}
 use Rattle.std.specs.Prelude.{slice_get, slice_set, All}
 use Rattle.std.proofs.lemmas.Option.{slice_get_within}
 use Rattle.pb_base.specs.declared.operators.FaultKind.{FaultKind}
 use Rattle.pb_base.specs.declared.pick.Pick.{Pick}
 use Rattle.pb_base.specs.Bundle.{amount_in, lend}
-use Rattle.pb_base.specs.Banker.{BankerState, capital, claim, loan, processes, resources, everyone, held_by, cash, row_of, with_loan, IsAllowed, IsWellFormed, HasFewerLoans}
-use Rattle.pb_base.specs.Steppers.{Bundle, Table, Effect, Silent, Prints, Takes, Returns, Faults, Finishes, IsGranted, State, Move, banker_state, ending, event_of, loans_after, moved, move_of}
+use Rattle.pb_base.specs.Banker.{BankerState, capital, claim, loan, processes, resources, everyone, held_by, cash}
+use Rattle.pb_base.specs.Banker.{row_of, with_loan, IsAllowed, IsWellFormed, HasFewerLoans}
+use Rattle.pb_base.specs.Steppers.{Bundle, Table, Effect, Silent, Prints, Takes, Returns, Faults, Finishes, IsGranted}
+use Rattle.pb_base.specs.Steppers.{State, Move, banker_state, ending, event_of, loans_after, moved, move_of}
 use Rattle.pb_base.proofs.BankerLaws.{fewer_loans_stay_safe, loan-with_loan, loan-with_loan_other}
 use Rattle.pb_base.proofs.Groups.{range_below, sum_by-le_on}
 use Rattle.pb_base.proofs.LoanRows.{amount_in-le, get_or-lend, length-lend}
 use Rattle.pb_base.proofs.Rows.{IsWellFormed-with_row}
-use Rattle.pb_code.specs.Code.{Instr, Take, ProcessCode, Thread, Idle, Live, Ended, CodeProcess, thread, step_thread, step_process, code_step, act, apply_step}
+use Rattle.pb_base.proofs.Cases.{same_or_not}
+use Rattle.pb_code.specs.Code.{Instr, Take, ProcessCode, Thread, Idle, Live, Ended, CodeProcess, thread, step_thread}
+use Rattle.pb_code.specs.Code.{step_process, code_step, act, apply_step}
 use Rattle.pb_code.specs.Whole.{Code, bank_of}
 use Rattle.pb_verifier.specs.Limits.{IsSmallBundle}
 use Rattle.pb_verifier.specs.Places.{InstrAt}
@@ -20,7 +26,7 @@ use Rattle.pb_verifier.specs.Verified.{IsAnnotated}
 use Rattle.pb_verifier.specs.declared.fault.VerifyFault.TheVariants.{OutOfLimits}
 use Rattle.pb_verifier.proofs.LoansWithinClaims.{Kept, kept_next, kept_reached, well_formed}
 use Rattle.pb_verifier.proofs.ArmPlaces.{Checked}
-use Rattle.pb_verifier.proofs.Order.{same_or_not, among_or_not, idle_before}
+use Rattle.pb_verifier.proofs.Order.{among_or_not, idle_before}
 use Rattle.pb_verifier.proofs.States.{code_move, checked, bundles_small, slice_set_other}
 use Rattle.pb_verifier.proofs.Turns.{Turn, runs, traps, forks, joins, stops, InOrder, turned}
 

@@ -5,7 +5,8 @@ use Rattle.pb_verifier.specs.declared.fault.VerifyFault.TheVariants.{OutOfLimits
 use Rattle.pb_verifier.specs.Behaviour.{IsWellBehaved, PeaksDecide}
 use Rattle.pb_verifier.specs.Faults.{HasArms, HasForks, TurnsDepth, TurnsHoldings, in_holdings}
 use Rattle.pb_verifier.specs.Verified.{IsAnnotated}
-use Rattle.pb_verifier.proofs.LoansWithinClaims.{asks_within_claims, ends_or_goes_on, kept_reached, not_deadlocked, well_formed}
+use Rattle.pb_verifier.proofs.LoansWithinClaims.{asks_within_claims, ends_or_goes_on, kept_reached, not_deadlocked}
+use Rattle.pb_verifier.proofs.LoansWithinClaims.{well_formed}
 use Rattle.pb_verifier.proofs.LiveSteps.{can_step}
 use Rattle.pb_verifier.proofs.Greatest.{least, one_depth, one_holdings, spread_once}
 use Rattle.pb_verifier.proofs.States.{checked, passes_tests}

@@ -1,5 +1,7 @@
 -- Whatever the picks, the processes of annotated code fit it, and their loans are what their arms hold.
-use Rattle.std.proofs.Common.{◌≡◌, ◌≢◌, ◌⊎◌, inl, inr, ⊎_elim, ℕ, zero, suc, ◌+◌, ◌<◌, ◌≤◌, List, [], ◌∷◌, length, get_or, set, map, replicate, Option, Some, None, option_map, option_and_then, refl, sym, ap, ◌∙◌, subst, arith, length-set, get_or-set_same, get_or-set_other}
+use Rattle.std.proofs.Common.{◌≡◌, ◌≢◌, ◌⊎◌, inl, inr, ⊎_elim, ℕ, zero, suc, ◌+◌, ◌<◌, ◌≤◌, List, [], ◌∷◌, length}
+use Rattle.std.proofs.Common.{get_or, set, map, replicate, Option, Some, None, option_map, option_and_then, refl, sym}
+use Rattle.std.proofs.Common.{ap, ◌∙◌, subst, arith, length-set, get_or-set_same, get_or-set_other}
 use Rattle.std.specs.Prelude.{slice_get, slice_set}
 use Rattle.std.proofs.lemmas.Bool.{cases_lt}
 use Rattle.std.proofs.lemmas.List.{get_or_past, length-map, length-replicate}
@@ -9,22 +11,28 @@ use Rattle.pb_base.specs.declared.operators.FaultKind.{FaultKind}
 use Rattle.pb_base.specs.Bundle.{amount_in, lend, give_back}
 use Rattle.pb_base.specs.Banker.{cell}
 use Rattle.pb_base.specs.Steppers.{Bundle, Table}
-use Rattle.pb_base.proofs.LoanRows.{AllBelow, get_or-lend, get_or-give_back, length-lend, length-give_back, amount_in-absent}
+use Rattle.pb_base.proofs.LoanRows.{AllBelow, get_or-lend, get_or-give_back, length-lend, length-give_back}
+use Rattle.pb_base.proofs.LoanRows.{amount_in-absent}
 use Rattle.pb_code.specs.Whole.{Code, code_opening}
 use Rattle.pb_base.specs.declared.pick.Pick.{Pick}
-use Rattle.pb_base.specs.Steppers.{Effect, Silent, Prints, Takes, Returns, Faults, Finishes, ending, loans_after, State, Move, moved, move_of}
-use Rattle.pb_code.specs.Code.{Instr, Push, Load, Store, Compute1, Compute2, Jump, JumpIfZero, PrintTop, Take, Give, Fork, Join, End, ProcessCode, Thread, Idle, Live, CodeProcess, thread, step_process, code_step, code_process}
+use Rattle.pb_base.specs.Steppers.{Effect, Silent, Prints, Takes, Returns, Faults, Finishes, ending, loans_after}
+use Rattle.pb_base.specs.Steppers.{State, Move, moved, move_of}
+use Rattle.pb_base.proofs.Cases.{same_or_not}
+use Rattle.pb_code.specs.Code.{Instr, Push, Load, Store, Compute1, Compute2, Jump, JumpIfZero, PrintTop, Take, Give}
+use Rattle.pb_code.specs.Code.{Fork, Join, End, ProcessCode, Thread, Idle, Live, CodeProcess, thread, step_process}
+use Rattle.pb_code.specs.Code.{code_step, code_process}
 use Rattle.pb_verifier.specs.Limits.{IsSmallBundle}
 use Rattle.pb_verifier.specs.Behaviour.{HasPlace, MeetsWhatItNeeds, PassesTests}
 use Rattle.pb_verifier.specs.Places.{InstrAt, IsInArm, Follows}
 use Rattle.pb_verifier.specs.Faults.{in_holdings}
 use Rattle.pb_verifier.specs.Verified.{IsAnnotated}
-use Rattle.pb_verifier.specs.declared.fault.VerifyFault.TheVariants.{OutOfLimits, OutOfRange, WrongArms, WrongForks, NoDepths, NoHoldings, LeftAtEnd, OverClaim}
+use Rattle.pb_verifier.specs.declared.fault.VerifyFault.TheVariants.{OutOfLimits, OutOfRange, WrongArms, WrongForks}
+use Rattle.pb_verifier.specs.declared.fault.VerifyFault.TheVariants.{NoDepths, NoHoldings, LeftAtEnd, OverClaim}
 use Rattle.pb_verifier.proofs.Threads.{taken, given}
 use Rattle.pb_verifier.proofs.ArmPlaces.{Checked, follows_in_arm, fork_in_arm, place_has, held_next}
 use Rattle.pb_verifier.proofs.Turns.{Turn, runs, traps, forks, joins, stops, Fit, turned, can_act}
 use Rattle.pb_verifier.proofs.PeakTables.{replicate_read}
-use Rattle.pb_verifier.proofs.Order.{same_or_not, idle_before, order_next, fails_or_lives, fit_next, fit_start}
+use Rattle.pb_verifier.proofs.Order.{idle_before, order_next, fails_or_lives, fit_next, fit_start}
 use Rattle.pb_verifier.proofs.ThreadHoldings.{holds, holds_next, holds_none, holds_start, part_of, under_peak}
 
 pub slice_set_same : {X : Type 0} (xs : List X) (i : ℕ) (x y : X) → slice_get (slice_set xs i x) i ≡ Some y → x ≡ y

@@ -1,14 +1,18 @@
 -- A step of the spread over a table.
-use Rattle.std.proofs.Common.{◌≡◌, ◌≢◌, ◌⊎◌, ◌↔◌, inl, inr, ℕ, ◌+◌, ◌<◌, ◌≤◌, List, length, get_or, set, Option, Some, None, refl, sym, ap, ◌∙◌, subst, arith, get_or-set_same, get_or-set_other}
+use Rattle.std.proofs.Common.{◌≡◌, ◌≢◌, ◌⊎◌, ◌↔◌, inl, inr, ℕ, ◌+◌, ◌<◌, ◌≤◌, true, false, List, length, get_or, set, Option, Some}
+use Rattle.std.proofs.Common.{None, refl, sym, ap, ◌∙◌, subst, arith, get_or-set_same, get_or-set_other}
 use Rattle.std.specs.Prelude.{Contains, slice_get, option_map}
 use Rattle.std.proofs.lemmas.List.{get_or_default}
 use Rattle.std.proofs.lemmas.List.Elements.{Contains-get_or}
 use Rattle.std.proofs.lemmas.Bool.{cases_eq, cases_lt}
 use Rattle.pb_code.specs.Code.{Instr}
-use Rattle.pb_verifier.specs.Flow.{followers, IsGrown, IsReachedPlace, reached_entry, reached_next, StaysInside, LeadsBelow}
-use Rattle.pb_verifier.specs.Spread.{Rules, IsAnnotation, CanBeAnnotated, fact_at, notes_of, AllReadable, AgreesAt, IsKept, with_notes}
+use Rattle.pb_verifier.specs.Flow.{followers, IsGrown, IsReachedPlace, reached_entry, reached_next, StaysInside}
+use Rattle.pb_verifier.specs.Flow.{LeadsBelow}
+use Rattle.pb_verifier.specs.Spread.{Rules, IsAnnotation, CanBeAnnotated, fact_at, notes_of, AllReadable, AgreesAt}
+use Rattle.pb_verifier.specs.Spread.{IsKept, IsOpening, with_notes}
 use Rattle.pb_verifier.proofs.ReachSearch.{reached_inside, leads_below}
-use Rattle.pb_verifier.proofs.FactSpread.{IsSpread, Extended, spread_noted, refuted_fit, next_agrees, spread_same, spread_step}
+use Rattle.pb_verifier.proofs.FactSpread.{IsSpread, Extended, spread_noted, refuted_fit, next_agrees, spread_same}
+use Rattle.pb_verifier.proofs.FactSpread.{spread_step}
 use Rattle.pb_verifier.proofs.EndTables.{fact_of}
 use Rattle.pb_verifier.proofs.FactTables.{kept_agrees}
 use Rattle.pb_verifier.proofs.FactNotes.{Noted, note_all}
@@ -27,6 +31,7 @@ module _ (entries : List ℕ) (instrs : List Instr) (order : List ℕ) (h : IsOr
       Contains (followers i (get_or order k 0)) q → Contains order q
   order_next k u i read q c = (h.reached q).1 (reached_next (get_or order k 0) q ((h.reached (get_or order k 0)).0 (Contains-get_or order k 0 u)) (i, read, c))
 
+-- what is known when the first places of the order, `done` of them, were followed
 module _ {F M : Type 0} (value : List (Option F) → F → M) (IsReadable : List (Option F) → F → Type 0) (rules : Rules
     M) (entries : List ℕ) (instrs : List Instr) (order : List ℕ) where
   pub record IsTable (done : ℕ) (table : List (Option F)) : Type 0 where
@@ -42,9 +47,21 @@ module _ {F M : Type 0} (value : List (Option F) → F → M) (IsReadable : List
     pub read : slice_get instrs (get_or order done 0) ≡ Some i
     pub here : fact_at table (get_or order done 0) ≡ Some f
 
-  pub table_noted : (done : ℕ) (table : List (Option F)) → IsOrder entries instrs order → IsTable done table → done <
-      length order → (f : F) × (fact_at table (get_or order done 0) ≡ Some f)
-  table_noted done table o t u =
+-- ---- the place at hand
+
+module _ {F M : Type 0} {value : List (Option F) → F → M} {IsReadable : List (Option F) → F → Type 0} {rules : Rules M}
+    {entries : List ℕ} {instrs : List Instr} {order : List ℕ} where
+  -- the next place of the order is one of the table
+  pub place_within : {done : ℕ} {table : List (Option F)} → IsOrder entries instrs order → IsTable value IsReadable rules entries instrs order done table
+      → done < length order → get_or order done 0 < length table
+  place_within {done = done} o t u =
+      let inside = order_inside entries instrs order o done u in
+      let sized = t.sized in
+      omega arith
+
+  pub table_noted : {done : ℕ} {table : List (Option F)} → IsOrder entries instrs order → IsTable value IsReadable rules entries instrs order done table
+      → done < length order → (f : F) × (fact_at table (get_or order done 0) ≡ Some f)
+  table_noted {done = done} {table = table} o t u =
       let n : (m : M) × (notes_of (value table) table (get_or order done 0) ≡ Some m) = spread_noted rules entries
       instrs order done (notes_of (value table) table) t.spread o.grown u in
       go (fact_at table (get_or order done 0)) refl n.1
@@ -54,9 +71,29 @@ module _ {F M : Type 0} (value : List (Option F) → F → M) (IsReadable : List
       go None e n = let e' = ap (option_map (value table)) (sym e) ∙ n in cc
       go (Some f) e n = (f, e)
 
-  table_kept : (done : ℕ) (table later : List (Option F)) → IsTable done table
+  -- a place of the order has a fact, so nothing else is read there
+  pub never_unknown : {done : ℕ} {table : List (Option F)} {read : Option F} → IsOrder entries instrs order
+      → IsTable value IsReadable rules entries instrs order done table → done < length order → read ≡ get_or table (get_or order done 0) read
+      → ((f : F) → read ≡ Some f → ⊥) → ⊥
+  never_unknown {done = done} {table = table} {read = read} o t u found not_some =
+      let f = table_noted o t u in
+      not_some f.0 (found ∙ get_or_default table (get_or order done 0) read None (place_within o t u) ∙ f.1)
+
+  pub is_here : {done : ℕ} {table : List (Option F)} {i : Instr} {f : F} {read : Option F}
+      → IsOrder entries instrs order → IsTable value IsReadable rules entries instrs order done table → done < length order
+      → slice_get instrs (get_or order done 0) ≡ Some i
+      → read ≡ get_or table (get_or order done 0) read → read ≡ Some f → IsHere value IsReadable rules entries instrs order done table i f
+  is_here {done = done} {table = table} {read = read} o t u at found is = record {
+    ordered = o;
+    kept = t;
+    within = u;
+    read = at;
+    here = get_or_default table (get_or order done 0) None read (place_within o t u) ∙ sym found ∙ is;
+  }
+
+  table_kept : (done : ℕ) (table later : List (Option F)) → IsTable value IsReadable rules entries instrs order done table
       → IsKept value IsReadable table later
-      → IsTable done later
+      → IsTable value IsReadable rules entries instrs order done later
   table_kept done table later t kept = record {
     sized = kept.sized ∙ t.sized;
     readable = kept.readable;
@@ -64,76 +101,112 @@ module _ {F M : Type 0} (value : List (Option F) → F → M) (IsReadable : List
         (notes_of (value later) later) kept.notes t.spread;
   }
 
-  module _ (done : ℕ) (table : List (Option F)) (i : Instr) (f : F) (h : IsHere done table i f) where
-    pub here_inside : get_or order done 0 < length instrs
+  module _ {done : ℕ} {table : List (Option F)} {i : Instr} {f : F} (h : IsHere value IsReadable rules entries instrs order done table i f) where
+    abbrev place : ℕ
+    place = get_or order done 0
+
+    here_inside : place < length instrs
     here_inside = order_inside entries instrs order h.ordered done h.within
 
-    pub here_read : slice_get instrs (get_or order done 0) ≡ Some i
-    here_read = h.read
+    pub here_leads : (n : ℕ) → n ≡ length table → LeadsBelow i place n
+    here_leads n l = leads_below entries instrs place n i h.ordered.inside here_inside h.read (l ∙ h.kept.sized)
 
-    pub here_leads : (n : ℕ) → n ≡ length table → LeadsBelow i (get_or order done 0) n
-    here_leads n l = leads_below entries instrs (get_or order done 0) n i h.ordered.inside here_inside here_read (l ∙ h.kept.sized)
-
-    pub here_readable : IsReadable table f
-    here_readable = h.kept.readable (get_or order done 0) f h.here
-
-    here_noted : notes_of (value table) table (get_or order done 0) ≡ Some (value table f)
+    here_noted : notes_of (value table) table place ≡ Some (value table f)
     here_noted = ap (option_map (value table)) h.here
-
-    pub here_misfit : ¬ rules.Fits i (value table f) → ¬ CanBeAnnotated rules entries instrs
-    here_misfit wrong = refuted_fit rules entries instrs order done (notes_of (value table) table) h.kept.spread
-        (get_or order done 0) (value table f) i here_noted here_read wrong
 
     -- a fact for the places that follow
     module _ (next : F) (means : value table next ≡ rules.after i (value table f)) where
-      pub here_agrees : CanBeAnnotated rules entries instrs → (q : ℕ) → Contains (followers i (get_or order done 0)) q → AgreesAt (value table) table next q
+      here_agrees : CanBeAnnotated rules entries instrs → (q : ℕ) → Contains (followers i place) q
+          → AgreesAt (value table) table next q
       here_agrees a q c found e =
-          next_agrees rules entries instrs order done (notes_of (value table) table) h.kept.spread (get_or order done
-          0) (value table f) i here_noted here_read a q (value table found) c
+          next_agrees rules entries instrs order done (notes_of (value table) table) h.kept.spread place
+          (value table f) i here_noted h.read a q (value table found) c
           (ap (option_map (value table)) e) ∙ sym means
 
-      pub here_done : ((table : List (Option F)) (p : ℕ) (new fact : F) → fact_at table p ≡ None → IsReadable table fact
+      here_done : ((table : List (Option F)) (p : ℕ) (new fact : F) → fact_at table p ≡ None → IsReadable table fact
           → IsReadable (set table p (Some new)) fact × (value (set table p (Some new)) fact ≡ value table fact))
-          → rules.Fits i (value table f) → IsReadable table next → ((q : ℕ) → Contains (followers i (get_or order done
-          0)) q → AgreesAt (value table) table next q)
-          → IsTable (done + 1) (with_notes table next (followers i (get_or order done 0)))
+          → rules.Fits i (value table f) → IsReadable table next
+          → ((q : ℕ) → Contains (followers i place) q → AgreesAt (value table) table next q)
+          → IsTable value IsReadable rules entries instrs order (done + 1) (with_notes table next (followers i place))
       here_done keeps fits readable agree =
-          let inside : (q : ℕ) → Contains (followers i (get_or order done 0)) q → q < length table = λ q c.
-          let u : q < length instrs = h.ordered.inside.next (get_or order done 0) q (i, here_read, c) in
+          let inside : (q : ℕ) → Contains (followers i place) q → q < length table = λ q c.
+          let u : q < length instrs = h.ordered.inside.next place q (i, h.read, c) in
           let l : length table ≡ length instrs = h.kept.sized in
           omega arith
           in
-          let n : Noted value IsReadable keeps table next (followers i (get_or order done 0)) (with_notes table next (followers i (get_or order done 0))) =
-          note_all value IsReadable keeps table next (followers i (get_or order done 0)) h.kept.readable readable (λ q c. (inside q c, agree q c))
+          let later : List (Option F) = with_notes table next (followers i place) in
+          let n : Noted value IsReadable keeps table next (followers i place) later =
+          note_all value IsReadable keeps table next (followers i place) h.kept.readable readable
+          (λ q c. (inside q c, agree q c))
           in
           record {
             sized = n.sized ∙ h.kept.sized;
             readable = n.readable;
-            spread = spread_step rules entries instrs order done (notes_of (value table) table) (notes_of (value
-                (with_notes table next (followers i (get_or order done 0)))) (with_notes table next (followers i
-                (get_or order done 0))))
-                h.kept.spread (value table f) i here_noted here_read fits
-                (subst (λ (v : M). Extended (notes_of (value table) table) (followers i (get_or order done 0)) v
-                (notes_of (value (with_notes table next (followers i (get_or order done 0)))) (with_notes table
-                next (followers i (get_or order done 0))))) means n.extended)
-                (order_next entries instrs order h.ordered done h.within i here_read);
+            spread = spread_step rules entries instrs order done (notes_of (value table) table)
+                (notes_of (value later) later) h.kept.spread (value table f) i here_noted h.read fits
+                (subst (λ (v : M). Extended (notes_of (value table) table) (followers i place) v
+                (notes_of (value later) later)) means n.extended)
+                (order_next entries instrs order h.ordered done h.within i h.read);
           }
 
-  -- the same in a later table in which whatever was known still means what it meant
-  pub shared_done : (done : ℕ) (table later : List (Option F)) (i : Instr) (f next : F)
-      → IsHere done table i f → IsKept value IsReadable table later
+    -- ---- what a body reads and finds, with the table borrowed as `facts`
+
+    module _ {facts : List (Option F)} (borrowed : facts ≡ table) where
+      pub here_there : fact_at facts place ≡ Some f
+      here_there = ap (λ (xs : List (Option F)). fact_at xs place) borrowed ∙ h.here
+
+      pub here_readable : IsReadable facts f
+      here_readable = subst (λ (xs : List (Option F)). IsReadable xs f) (sym borrowed) (h.kept.readable place f h.here)
+
+      pub all_readable : AllReadable (IsReadable facts) facts
+      all_readable = subst (λ (xs : List (Option F)). AllReadable (IsReadable xs) xs) (sym borrowed) h.kept.readable
+
+      -- if the fact does not serve the instruction, no annotation is there
+      pub here_misfit : ((false ≡ true) ↔ rules.Fits i (value facts f)) → ¬ CanBeAnnotated rules entries instrs
+      here_misfit test =
+          refuted_fit rules entries instrs order done (notes_of (value table) table) h.kept.spread
+          place (value table f) i here_noted h.read
+          (λ fits. let no : false ≡ true = test.1 (subst (λ (xs : List (Option F)). rules.Fits i (value xs f))
+          (sym borrowed) fits) in cc)
+
+      -- nor if the places that follow know something else
+      pub here_disagrees : (next : F) → value facts next ≡ rules.after i (value facts f)
+          → ((false ≡ true) ↔ ((q : ℕ) → Contains (followers i place) q → AgreesAt (value facts) facts next q))
+          → ¬ CanBeAnnotated rules entries instrs
+      here_disagrees next means test a =
+          let means' = subst (λ (xs : List (Option F)). value xs next ≡ rules.after i (value xs f)) borrowed means in
+          let no : false ≡ true = test.1 (subst
+          (λ (xs : List (Option F)). (q : ℕ) → Contains (followers i place) q → AgreesAt (value xs) xs next q)
+          (sym borrowed) (here_agrees next means' a)) in
+          cc
+
+      pub here_agreed : (next : F)
+          → ((true ≡ true) ↔ ((q : ℕ) → Contains (followers i place) q → AgreesAt (value facts) facts next q))
+          → (q : ℕ) → Contains (followers i place) q → AgreesAt (value table) table next q
+      here_agreed next test =
+          subst (λ (xs : List (Option F)). (q : ℕ) → Contains (followers i place) q → AgreesAt (value xs) xs next q)
+          borrowed (test.0 refl)
+
+  -- in a later table, in which whatever was known means what it meant, the places that follow get the fact
+  pub here_shared : {done : ℕ} {table facts : List (Option F)} {i : Instr} {f : F}
+      → IsHere value IsReadable rules entries instrs order done table i f → facts ≡ table
+      → (next : F) (later noted : List (Option F))
       → ((table : List (Option F)) (p : ℕ) (new fact : F) → fact_at table p ≡ None → IsReadable table fact
       → IsReadable (set table p (Some new)) fact × (value (set table p (Some new)) fact ≡ value table fact))
-      → value table next ≡ rules.after i (value table f) → rules.Fits i (value table f)
-      → IsReadable table next
-      → ((q : ℕ) → Contains (followers i (get_or order done 0)) q → AgreesAt (value table) table next q)
-      → IsTable (done + 1) (with_notes later next (followers i (get_or order done 0)))
-  shared_done done table later i f next h kept keeps means fits readable agree =
-      let noted : notes_of (value later) later (get_or order done 0) ≡ Some (value table f) =
-      kept.notes (get_or order done 0) ∙ ap (option_map (value table)) h.here
-      in
-      let now = fact_of (value later) later (get_or order done 0) (value table f) noted in
-      let here : IsHere done later i now.0 = record {
+      → ((true ≡ true) ↔ rules.Fits i (value facts f))
+      → value facts next ≡ rules.after i (value facts f) → IsReadable facts next
+      → ((true ≡ true) ↔ ((q : ℕ) → Contains (followers i (get_or order done 0)) q
+      → AgreesAt (value facts) facts next q))
+      → IsKept value IsReadable table later → noted ≡ with_notes later next (followers i (get_or order done 0))
+      → IsTable value IsReadable rules entries instrs order (done + 1) noted
+  here_shared {done = done} {table = table} {i = i} {f = f} h borrowed next later noted keeps fit means readable
+      agree kept is =
+      let means' = subst (λ (xs : List (Option F)). value xs next ≡ rules.after i (value xs f)) borrowed means in
+      let readable' = subst (λ (xs : List (Option F)). IsReadable xs next) borrowed readable in
+      let fits = subst (λ (xs : List (Option F)). rules.Fits i (value xs f)) borrowed (fit.0 refl) in
+      let place : ℕ = get_or order done 0 in
+      let now = fact_of (value later) later place (value table f) (kept.notes place ∙ here_noted h) in
+      let here : IsHere value IsReadable rules entries instrs order done later i now.0 = record {
         ordered = h.ordered;
         kept = table_kept done table later h.kept kept;
         within = h.within;
@@ -141,34 +214,36 @@ module _ {F M : Type 0} (value : List (Option F) → F → M) (IsReadable : List
         here = now.1;
       }
       in
-      here_done done later i now.0 here next
-      ((kept.facts next readable).1 ∙ means ∙ ap (rules.after i) (sym now.2))
-      keeps (subst (rules.Fits i) (sym now.2) fits) (kept.facts next readable).0
-      (λ q c. kept_agrees value IsReadable table later next q kept readable (agree q c))
+      let carried : value later next ≡ rules.after i (value later now.0) =
+      (kept.facts next readable').1 ∙ means' ∙ ap (rules.after i) (sym now.2) in
+      subst (IsTable value IsReadable rules entries instrs order (done + 1)) (sym is) (here_done here next carried keeps
+      (subst (rules.Fits i) (sym now.2) fits) (kept.facts next readable').0
+      (λ q c. kept_agrees value IsReadable table later next q kept readable' (here_agreed h borrowed next agree q c)))
 
   -- at the start only entries have a fact
-  pub table_start : (table : List (Option F)) (first : F) → IsOrder entries instrs order → length table ≡ length
-      instrs → ((k : ℕ) → k < length entries → fact_at table (get_or entries k 0) ≡ Some first)
-      → ((p : ℕ) (f : F) → fact_at table p ≡ Some f → Contains entries p × (f ≡ first)) → IsReadable table first →
-      value table first ≡ rules.start → IsTable 0 table
-  table_start table first o l started only readable means = record {
-    sized = l;
-    readable = λ p f e. subst (IsReadable table) (sym (only p f e).1) readable;
+  pub table_start : {table : List (Option F)} {first : F} → IsOrder entries instrs order
+      → IsOpening entries (length instrs) first table
+      → IsReadable table first × (value table first ≡ rules.start) → IsTable value IsReadable rules entries instrs order 0 table
+  table_start {table = table} {first = first} o opening (readable, means) = record {
+    sized = opening.sized;
+    readable = λ p f e. subst (IsReadable table) (sym (opening.only p f e).1) readable;
     spread = record {
       starts = λ p c. starts p c;
       flows = λ k u. absurd (omega arith);
-      within = λ p m e. within p m (noted_at' p m e);
-      least = λ other a p m e. least other a p m (noted_at' p m e);
+      within = λ p m e. within p m (noted_at p m e);
+      least = λ other a p m e. least other a p m (noted_at p m e);
     };
   }
     where
       starts : (p : ℕ) → Contains entries p → notes_of (value table) table p ≡ Some rules.start
       starts p c =
           let here : get_or entries c.0 0 ≡ p = get_or_default entries c.0 0 p c.1 ∙ c.2 in
-          subst (λ (x : ℕ). notes_of (value table) table x ≡ Some rules.start) here (ap (option_map (value table)) (started c.0 c.1) ∙ ap Some means)
+          subst (λ (x : ℕ). notes_of (value table) table x ≡ Some rules.start) here
+          (ap (option_map (value table)) (opening.started c.0 c.1) ∙ ap Some means)
 
-      noted_at' : (p : ℕ) (m : M) → notes_of (value table) table p ≡ Some m → (f : F) × (fact_at table p ≡ Some f) × (value table f ≡ m)
-      noted_at' p m e = go (fact_at table p) refl
+      noted_at : (p : ℕ) (m : M) → notes_of (value table) table p ≡ Some m
+          → (f : F) × (fact_at table p ≡ Some f) × (value table f ≡ m)
+      noted_at p m e = go (fact_at table p) refl
         where
           go : (x : Option F) → fact_at table p ≡ x → (f : F) × (fact_at table p ≡ Some f) × (value table f ≡ m)
           go None u = let e' : option_map (value table) None ≡ Some m = ap (option_map (value table)) (sym u) ∙ e in cc
@@ -178,11 +253,13 @@ module _ {F M : Type 0} (value : List (Option F) → F → M) (IsReadable : List
               (f, u, e'')
 
       within : (p : ℕ) (m : M) → (f : F) × (fact_at table p ≡ Some f) × (value table f ≡ m) → Contains order p
-      within p m (f, u, e) = (o.reached p).1 (reached_entry p (only p f u).0)
+      within p m (f, u, e) = (o.reached p).1 (reached_entry p (opening.only p f u).0)
 
-      least : (other : ℕ → Option M) → IsAnnotation rules entries instrs other → (p : ℕ) (m : M) → (f : F) × (fact_at
-          table p ≡ Some f) × (value table f ≡ m) → other p ≡ Some m
-      least other a p m (f, u, e) = a.starts p (only p f u).0 ∙ ap Some (sym means ∙ ap (value table) (sym (only p f u).1) ∙ e)
+      least : (other : ℕ → Option M) → IsAnnotation rules entries instrs other → (p : ℕ) (m : M)
+          → (f : F) × (fact_at table p ≡ Some f) × (value table f ≡ m) → other p ≡ Some m
+      least other a p m (f, u, e) =
+          a.starts p (opening.only p f u).0
+          ∙ ap Some (sym means ∙ ap (value table) (sym (opening.only p f u).1) ∙ e)
 
 -- ---- filling the table
 
@@ -210,7 +287,3 @@ only_more {F = F} table entries n first w v h p f e = go (cases_eq p (get_or ent
         let f' : f ≡ first = cc in
         (subst (λ (x : ℕ). Contains entries x) (sym same) (Contains-get_or entries n 0 v), f')
     go (inr other) = h p f (sym (get_or-set_other table (get_or entries n 0) p (Some first) None other) ∙ e)
-
-pub found_here : {F : Type 0} (table : List (Option F)) (p : ℕ) (r : Option F) (f : F) → p < length table → r ≡ get_or
-    table p r → r ≡ Some f → fact_at table p ≡ Some f
-found_here table p r f u e is = get_or_default table p None r u ∙ sym e ∙ is

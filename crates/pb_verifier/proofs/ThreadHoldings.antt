@@ -1,18 +1,22 @@
 -- What the threads of checked code hold, against peaks and loans.
-use Rattle.std.proofs.Common.{◌≡◌, ◌⊎◌, inr, ⊎_elim, ℕ, zero, suc, ◌+◌, ◌<◌, ◌≤◌, ℤ, List, [], length, map, Option, Some, None, refl, sym, ap, ◌∙◌, subst, arith, get_or-set_same, get_or-set_other}
+use Rattle.std.proofs.Common.{◌≡◌, ◌⊎◌, inr, ⊎_elim, ℕ, zero, suc, ◌+◌, ◌<◌, ◌≤◌, ℤ, List, [], length, map, Option}
+use Rattle.std.proofs.Common.{Some, None, refl, sym, ap, ◌∙◌, subst, arith, get_or-set_same, get_or-set_other}
 use Rattle.std.specs.Prelude.{slice_get}
 use Rattle.std.proofs.lemmas.List.{length-map}
 use Rattle.std.proofs.Math.ListN.{get_or-map}
 use Rattle.pb_base.specs.declared.operators.FaultKind.{FaultKind}
 use Rattle.pb_base.specs.Steppers.{Effect, Faults, ending}
-use Rattle.pb_code.specs.Code.{Instr, Push, Load, Store, Compute1, Compute2, Jump, JumpIfZero, PrintTop, Take, Give, Fork, Join, End, ProcessCode, Thread, Idle, Live, Ended, thread, code_process}
+use Rattle.pb_base.proofs.Cases.{same_or_not}
+use Rattle.pb_code.specs.Code.{Instr, Push, Load, Store, Compute1, Compute2, Jump, JumpIfZero, PrintTop, Take, Give}
+use Rattle.pb_code.specs.Code.{Fork, Join, End, ProcessCode, Thread, Idle, Live, Ended, thread, code_process}
 use Rattle.pb_verifier.specs.Places.{arms}
 use Rattle.pb_verifier.specs.Faults.{in_holdings, in_joined, StayUnder}
 use Rattle.pb_verifier.proofs.Threads.{taken, given}
 use Rattle.pb_verifier.proofs.ArmPlaces.{Checked, place_has}
 use Rattle.pb_verifier.proofs.Turns.{Turn, runs, traps, forks, joins, stops, InOrder}
-use Rattle.pb_verifier.proofs.Order.{same_or_not, among_or_not, idle_before}
-use Rattle.pb_verifier.proofs.Sums.{total, total_same, total_le, total_add, total_zero, total_swap, part_le, total_change, at_one, one_le, at_range, range_le, in_range}
+use Rattle.pb_verifier.proofs.Order.{among_or_not, idle_before}
+use Rattle.pb_verifier.proofs.Sums.{total, total_same, total_le, total_add, total_zero, total_swap, part_le}
+use Rattle.pb_verifier.proofs.Sums.{total_change, at_one, one_le, at_range, range_le, in_range}
 
 -- ---- what threads hold
 

@@ -1,5 +1,7 @@
 -- What one step of checked code does to the threads.
-use Rattle.std.proofs.Common.{◌≡◌, ◌≢◌, ◌⊎◌, inl, inr, ⊎_elim, ℕ, zero, suc, ◌+◌, ◌<◌, ◌≤◌, ℤ, Bool, true, false, cond, ◌&&◌, List, [], ◌∷◌, length, set, Option, Some, None, option_and_then, Result, Ok, Err, refl, sym, ap, ◌∙◌, subst, arith, length-set, get_or-set_same, get_or-set_other}
+use Rattle.std.proofs.Common.{◌≡◌, ◌≢◌, ◌⊎◌, inl, inr, ⊎_elim, ℕ, zero, suc, ◌+◌, ◌<◌, ◌≤◌, ℤ, Bool, true, false}
+use Rattle.std.proofs.Common.{cond, ◌&&◌, List, [], ◌∷◌, length, set, Option, Some, None, option_and_then, Result, Ok}
+use Rattle.std.proofs.Common.{Err, refl, sym, ap, ◌∙◌, subst, arith, length-set, get_or-set_same, get_or-set_other}
 use Rattle.std.proofs.lemmas.List.{length-map}
 use Rattle.std.proofs.lemmas.Bool.{cases_lt}
 use Rattle.std.proofs.Math.ListN.{get_or-map}
@@ -7,11 +9,15 @@ use Rattle.pb_base.specs.declared.operators.FaultKind.{FaultKind}
 use Rattle.pb_base.specs.Arithmetic.{apply, apply_unary, is_zero}
 use Rattle.pb_base.specs.Steppers.{Bundle}
 use Rattle.pb_base.specs.Steppers.{Effect, Silent, Prints, Takes, Returns, Faults, ending}
-use Rattle.pb_code.specs.Code.{Instr, Push, Load, Store, Compute1, Compute2, Jump, JumpIfZero, PrintTop, Take, Give, Fork, Join, End, ProcessCode, Thread, Idle, Live, Ended, CodeProcess, thread, ThreadStep, Runs, Traps, Forks, Joins, Stops, with_result, act, is_over, all_over, dismiss, apply_step, step_thread, step_process}
+use Rattle.pb_code.specs.Code.{Instr, Push, Load, Store, Compute1, Compute2, Jump, JumpIfZero, PrintTop, Take, Give}
+use Rattle.pb_code.specs.Code.{Fork, Join, End, ProcessCode, Thread, Idle, Live, Ended, CodeProcess, thread}
+use Rattle.pb_code.specs.Code.{ThreadStep, Runs, Traps, Forks, Joins, Stops, with_result, act, is_over, all_over}
+use Rattle.pb_code.specs.Code.{dismiss, apply_step, step_thread, step_process}
 use Rattle.pb_verifier.specs.Places.{InstrAt, arms, entry, IsInArm, IsAmong, Follows, Reached}
 use Rattle.pb_verifier.specs.Faults.{in_holdings}
 use Rattle.pb_verifier.proofs.Threads.{taken, given}
-use Rattle.pb_verifier.proofs.Threads.{thread_past, length-launch, launch_out, launch_in, length-dismiss, dismiss_out, dismiss_in}
+use Rattle.pb_verifier.proofs.Threads.{thread_past, length-launch, launch_out, launch_in, length-dismiss, dismiss_out}
+use Rattle.pb_verifier.proofs.Threads.{dismiss_in}
 use Rattle.pb_verifier.proofs.ArmPlaces.{Checked, IsPlain, fork_in_arm, place_has, depth_next, deep, held_next}
 
 -- what an instruction does on its own

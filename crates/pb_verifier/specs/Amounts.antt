@@ -1,11 +1,13 @@
 -- Amounts of one resource at places, and peaks cut off above any claim, for the verifier's own functions: no
 -- public contract cites this file.
-use Rattle.std.specs.Prelude.{◌≡◌, ◌≤◌, ◌<◌, ◌+◌, ◌-◌, ℕ, List, Option, length, min, option_map, unwrap_or, slice_index}
+use Rattle.std.specs.Prelude.{◌≡◌, ◌≤◌, ◌<◌, ◌+◌, ◌-◌, ℕ, List, Option, length, min, option_map, unwrap_or}
+use Rattle.std.specs.Prelude.{slice_index}
 use Rattle.std.proofs.Common.{ap, arith}
 use Rattle.pb_base.specs.declared.limits.TheConstants.{MAX_ARMS}
 use Rattle.pb_base.specs.Bundle.{amount_in}
 use Rattle.pb_base.specs.Steppers.{Bundle}
-use Rattle.pb_code.specs.Code.{Instr, Push, Load, Store, Compute1, Compute2, Jump, JumpIfZero, PrintTop, Take, Give, Fork, Join, End, ProcessCode}
+use Rattle.pb_code.specs.Code.{Instr, Push, Load, Store, Compute1, Compute2, Jump, JumpIfZero, PrintTop, Take, Give}
+use Rattle.pb_code.specs.Code.{Fork, Join, End, ProcessCode}
 use Rattle.pb_verifier.specs.declared.amounts.Amount.{Amount}
 use Rattle.pb_verifier.specs.Faults.{AreHoldings, in_joined}
 use Rattle.pb_verifier.specs.Places.{InstrAt, arms, IsInArm, Reached}

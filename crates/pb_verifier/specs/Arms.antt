@@ -1,5 +1,6 @@
 -- The parts of sound arms and forks, for the verifier's own functions: no public contract cites this file.
-use Rattle.std.specs.Prelude.{◌≡◌, ◌≤◌, ◌<◌, ◌⊎◌, ℕ, ◌+◌, length, ⊤}
+use Rattle.std.specs.Prelude.{◌≡◌, ◌↔◌, ◌≤◌, ◌<◌, ◌⊎◌, ℕ, ◌+◌, Bool, true, false, List, length, slice_index_or, ⊤}
+use Rattle.pb_base.specs.declared.limits.TheConstants.{MAX_ARMS}
 use Rattle.pb_code.specs.Code.{Instr, Jump, JumpIfZero, Fork, Join, End, ProcessCode}
 use Rattle.pb_verifier.specs.Places.{InstrAt, arms, entry, arm_end, IsInArm, JumpsTo, IsAmong}
 
@@ -52,6 +53,12 @@ abbrev pub IsOnceBefore : ProcessCode → ℕ → Type 0
 IsOnceBefore code n =
     (b p f m q g o : ℕ) → p < n → q < n → InstrAt code p (Fork f m) → IsAmong f m b
     → InstrAt code q (Fork g o) → IsAmong g o b → p ≡ q
+
+-- the arms that forks at places before n name are marked, and none is named twice there
+pub record IsMarked (code : ProcessCode) (n : ℕ) (marks : List Bool) : Type 0 where
+  pub sized : length marks ≡ MAX_ARMS
+  pub marked : (b : ℕ) → b < MAX_ARMS → ((slice_index_or marks b false ≡ true) ↔ IsNamedBefore code n b)
+  pub once : IsOnceBefore code n
 
 -- each arm but the first is named by a fork, and by one alone
 pub record AreNamed (code : ProcessCode) : Type 0 where

@@ -3,8 +3,11 @@ use Rattle.std.specs.Prelude.{◌≡◌, ◌↔◌, ◌⊎◌, ℕ, ◌+◌, ◌
 use Rattle.pb_base.specs.declared.pick.Pick.{Pick}
 use Rattle.pb_base.specs.Bundle.{amount_in}
 use Rattle.pb_base.specs.Banker.{IsSafe, IsWellFormed, IsWithinClaim, cell}
-use Rattle.pb_base.specs.Steppers.{Bundle, Table, Effect, Takes, State, Move, banker_state, move_of, CanGoOn, IsFinished}
-use Rattle.pb_code.specs.Code.{ProcessCode, Instr, Push, Load, Store, Compute1, Compute2, Jump, JumpIfZero, PrintTop, Take, Give, Fork, Join, End, Idle, Live, ThreadStep, CodeProcess, thread, act, step_process, code_step, code_over}
+use Rattle.pb_base.specs.Steppers.{Bundle, Table, Effect, Takes, State, Move, banker_state, move_of, CanGoOn}
+use Rattle.pb_base.specs.Steppers.{IsFinished}
+use Rattle.pb_code.specs.Code.{ProcessCode, Instr, Push, Load, Store, Compute1, Compute2, Jump, JumpIfZero, PrintTop}
+use Rattle.pb_code.specs.Code.{Take, Give, Fork, Join, End, Idle, Live, ThreadStep, CodeProcess, thread, act}
+use Rattle.pb_code.specs.Code.{step_process, code_step, code_over}
 use Rattle.pb_code.specs.Reached.{CodeReaches}
 use Rattle.pb_code.specs.Whole.{Code, bank_of}
 use Rattle.pb_verifier.specs.declared.fault.VerifyFault.{VerifyFault}

@@ -4,7 +4,8 @@ use Rattle.pb_base.specs.declared.limits.TheConstants.{MAX_DEPTH, MAX_HOLDS}
 use Rattle.pb_base.specs.Bundle.{amount_in}
 use Rattle.pb_base.specs.Banker.{cell}
 use Rattle.pb_base.specs.Steppers.{Bundle}
-use Rattle.pb_code.specs.Code.{Instr, Push, Load, Store, Compute1, Compute2, Jump, JumpIfZero, PrintTop, Take, Give, Fork, Join, End, ProcessCode}
+use Rattle.pb_code.specs.Code.{Instr, Push, Load, Store, Compute1, Compute2, Jump, JumpIfZero, PrintTop, Take, Give}
+use Rattle.pb_code.specs.Code.{Fork, Join, End, ProcessCode}
 use Rattle.pb_code.specs.Whole.{Code}
 use Rattle.pb_verifier.specs.Places.{InstrAt, arms, entry, arm_end, IsInArm, JumpsTo, IsAmong, Reached, Spreads}
 

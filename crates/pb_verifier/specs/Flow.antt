@@ -1,9 +1,12 @@
 -- The places and reached places of Places once more, as lists that the verifier can make, for its own
 -- functions: no public contract cites this file. proofs/FaultFacts.antt shows that both are the same.
-use Rattle.std.specs.Prelude.{◌≡◌, ℕ, ◌+◌, ◌<◌, ◌≤◌, ◌⊎◌, Bool, true, false, cond, List, [], ◌∷◌, ◌++◌, length, Contains, slice_get, slice_index, slice_index_or, slice_set, Option, Some, None, IfSome, option_to_list}
+use Rattle.std.specs.Prelude.{◌≡◌, ℕ, ◌+◌, ◌<◌, ◌≤◌, ◌⊎◌, Bool, true, false, cond, List, [], ◌∷◌, ◌++◌, length}
+use Rattle.std.specs.Prelude.{Contains, slice_get, slice_index, slice_index_or, slice_set, Option, Some, None, IfSome}
+use Rattle.std.specs.Prelude.{option_to_list}
 use Rattle.pb_base.specs.declared.limits.TheConstants.{MAX_PLACES}
 use Rattle.pb_code.specs.Code.{Instr}
-use Rattle.pb_code.specs.Code.{Push, Load, Store, Compute1, Compute2, Jump, JumpIfZero, PrintTop, Take, Give, Fork, Join, End}
+use Rattle.pb_code.specs.Code.{Push, Load, Store, Compute1, Compute2, Jump, JumpIfZero, PrintTop, Take, Give, Fork}
+use Rattle.pb_code.specs.Code.{Join, End}
 
 abbrev pub target_of : Instr → Option ℕ
 target_of (Push v) = None

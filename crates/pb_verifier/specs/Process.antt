@@ -4,7 +4,9 @@ use Rattle.std.specs.Prelude.{◌≡◌, ◌≤◌, ◌<◌, ◌⊎◌, ℕ, Lis
 use Rattle.pb_base.specs.Steppers.{Bundle}
 use Rattle.pb_code.specs.Code.{ProcessCode}
 use Rattle.pb_verifier.specs.declared.fault.VerifyFault.{VerifyFault}
-use Rattle.pb_verifier.specs.declared.fault.VerifyFault.TheVariants.{OutOfLimits, OverCapital, OutOfRange, WrongArms, WrongForks, NoDepths, NoHoldings, LeftAtEnd, OverClaim, NoMemory}
+use Rattle.pb_verifier.specs.declared.fault.VerifyFault.TheVariants.{OutOfLimits, OverCapital, OutOfRange, WrongArms}
+use Rattle.pb_verifier.specs.declared.fault.VerifyFault.TheVariants.{WrongForks, NoDepths, NoHoldings, LeftAtEnd}
+use Rattle.pb_verifier.specs.declared.fault.VerifyFault.TheVariants.{OverClaim, NoMemory}
 use Rattle.pb_verifier.specs.Places.{arms}
 use Rattle.pb_verifier.specs.Faults.{IsInRange, HasArms, HasForks, AreDepths, AreHoldings, EndsClear, PeakFits}
 use Rattle.pb_verifier.specs.Verified.{IsDepthOf, turn_of}

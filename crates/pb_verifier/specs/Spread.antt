@@ -1,11 +1,13 @@
 -- Facts that hold at places, spread from the entries along the code, for the verifier's own functions: no
 -- public contract cites this file. Depths and holdings are here as the verifier computes them, and in Faults
 -- as contracts speak of them; proofs/FaultFacts.antt shows that both are the same.
-use Rattle.std.specs.Prelude.{◌≡◌, ℕ, suc, ◌+◌, ◌-◌, ◌≤◌, List, [], ◌∷◌, length, Contains, slice_get, slice_index_or, slice_set, Option, Some, None, option_map, unwrap_or}
+use Rattle.std.specs.Prelude.{◌≡◌, ℕ, suc, ◌+◌, ◌-◌, ◌<◌, ◌≤◌, List, [], ◌∷◌, length, Contains, slice_get}
+use Rattle.std.specs.Prelude.{slice_index, slice_index_or, slice_set, Option, Some, None, option_map, unwrap_or}
 use Rattle.pb_base.specs.declared.limits.TheConstants.{MAX_DEPTH, MAX_HOLDS}
 use Rattle.pb_base.specs.Steppers.{Bundle}
 use Rattle.pb_code.specs.Code.{Instr, ProcessCode}
-use Rattle.pb_code.specs.Code.{Push, Load, Store, Compute1, Compute2, Jump, JumpIfZero, PrintTop, Take, Give, Fork, Join, End}
+use Rattle.pb_code.specs.Code.{Push, Load, Store, Compute1, Compute2, Jump, JumpIfZero, PrintTop, Take, Give, Fork}
+use Rattle.pb_code.specs.Code.{Join, End}
 use Rattle.pb_verifier.specs.Faults.{pops, pushes}
 use Rattle.pb_verifier.specs.Flow.{IsReachedPlace, followers}
 use Rattle.pb_verifier.specs.Places.{Spreads, Reached}
@@ -101,6 +103,12 @@ pub record IsTableOf {X : Type 0} (code : ProcessCode) (Turns : Instr → X → 
 
 abbrev pub fact_at : {F : Type 0} → List (Option F) → ℕ → Option F
 fact_at table p = slice_index_or table p None
+
+-- the entries have the first fact, and nothing is known elsewhere
+pub record IsOpening {F : Type 0} (entries : List ℕ) (n : ℕ) (first : F) (table : List (Option F)) : Type 0 where
+  pub sized : length table ≡ n
+  pub started : (k : ℕ) → k < length entries → fact_at table (slice_index entries k) ≡ Some first
+  pub only : (p : ℕ) (f : F) → fact_at table p ≡ Some f → Contains entries p × (f ≡ first)
 
 -- what a table says, where `value` is what a fact in it means
 abbrev pub notes_of : {F M : Type 0} → (F → M) → List (Option F) → ℕ → Option M

@@ -5,10 +5,13 @@ use Rattle.pb_base.specs.Steppers.{Bundle}
 use Rattle.pb_code.specs.Code.{ProcessCode}
 use Rattle.pb_code.specs.Whole.{Code}
 use Rattle.pb_verifier.specs.declared.fault.VerifyFault.{VerifyFault}
-use Rattle.pb_verifier.specs.declared.fault.VerifyFault.TheVariants.{OutOfLimits, OverCapital, OutOfRange, WrongArms, WrongForks, NoDepths, NoHoldings, LeftAtEnd, OverClaim, NoMemory}
+use Rattle.pb_verifier.specs.declared.fault.VerifyFault.TheVariants.{OutOfLimits, OverCapital, OutOfRange, WrongArms}
+use Rattle.pb_verifier.specs.declared.fault.VerifyFault.TheVariants.{WrongForks, NoDepths, NoHoldings, LeftAtEnd}
+use Rattle.pb_verifier.specs.declared.fault.VerifyFault.TheVariants.{OverClaim, NoMemory}
 use Rattle.pb_verifier.specs.Places.{Reached, IsInArm, arms}
 use Rattle.pb_verifier.specs.Limits.{EachProcess, KeepsLimits, PushesFit}
-use Rattle.pb_verifier.specs.Faults.{ClaimsFitCapital, IsInRange, HasArms, HasForks, AreDepths, AreHoldings, EndsClear, PeakFits, HasPeakWithin, HasPeakOver}
+use Rattle.pb_verifier.specs.Faults.{ClaimsFitCapital, IsInRange, HasArms, HasForks, AreDepths, AreHoldings}
+use Rattle.pb_verifier.specs.Faults.{EndsClear, PeakFits, HasPeakWithin, HasPeakOver}
 
 -- the code doesn't have this fault; being out of memory is not a fault of the code
 abbrev pub IsFreeOf : VerifyFault → Code → Type 0

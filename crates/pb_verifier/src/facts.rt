@@ -4,7 +4,8 @@ ghost use Rattle.std.specs.Prelude.{◌≡◌, ◌↔◌, ◌<◌, ◌+◌, ℕ,
 ghost use Rattle.pb_code.specs.Code.{Instr};
 ghost use Rattle.pb_verifier.specs.Flow.{followers, target_of, IsGrown, IsReachedPlace, LeadsBelow, StaysInside};
 ghost use Rattle.pb_verifier.specs.Given.{instrs_of, plain};
-ghost use Rattle.pb_verifier.specs.Spread.{AgreesAt, AllReadable, CanBeAnnotated, IsKept, IsLeast, fact_at, notes_of, rules_of, with_note, with_notes};
+ghost use Rattle.pb_verifier.specs.Spread.{AgreesAt, AllReadable, CanBeAnnotated, IsKept, IsLeast, IsOpening};
+ghost use Rattle.pb_verifier.specs.Spread.{fact_at, notes_of, rules_of, with_note, with_notes};
 
 use crate::places::{falls_through, instr_at, places, target};
 use pb_base::NoMemory;
@@ -62,7 +63,8 @@ pub trait Fact: Copy + Drop {
             table.old.items table.new.items };
 
     // what is known at entries needs no table
-    ghost firsts: { (first : Self) → IsFirst first → (instrs : List Instr) (table : List (Option Self)) → IsReadable instrs table first × (value instrs table first ≡ start first) };
+    ghost firsts: { (first : Self) → IsFirst first → (instrs : List Instr) (table : List (Option Self))
+        → IsReadable instrs table first × (value instrs table first ≡ start first) };
 
     // a fact at a place that had none changes none of the others
     ghost keeps: { (instrs : List Instr) (table : List (Option Self)) (p : ℕ) (new fact : Self) → fact_at table p ≡ None → IsReadable instrs table fact
@@ -203,6 +205,23 @@ fn share_all<F: Fact>(
     }
 }
 
+/// Returns a table in which the entries alone have a fact, the first one.
+fn opening_table<F: Fact>(
+    alloc: Global,
+    entries: &[u16],
+    code: &ProcessCode,
+    first: F,
+) -> Result<Vec<Option<F>>, NoMemory>
+    requires { (p : ℕ) → Contains entries.now p → p < length (instrs_of code.now) }
+    ensures { IfOk result (λ table. IsOpening entries.now (length (instrs_of code.now)) first table.items) }
+{
+    let mut table: Vec<Option<F>> = vec![in alloc; None; places(code)]?;
+    for entry in entries {
+        table[*entry as usize] = Some(first);
+    }
+    Ok(table)
+}
+
 /// Returns what is known at each reached place, or none if a place can't be given one fact that serves
 /// each way of reaching it.
 pub fn spread<F: Fact>(
@@ -226,10 +245,7 @@ pub fn spread<F: Fact>(
     ensures no { IfOk result (λ answer. IfNone answer
         (¬ CanBeAnnotated (rules_of (F.start first) F.Fits F.after) entries.now (instrs_of code.now))) }
 {
-    let mut table: Vec<Option<F>> = vec![in alloc; None; places(code)]?;
-    for entry in entries {
-        table[*entry as usize] = Some(first);
-    }
+    let mut table = opening_table(alloc, entries, code, first)?;
     for place in order {
         let instr = instr_at(code, *place as usize);
         let Some(fact) = table[*place as usize] else {

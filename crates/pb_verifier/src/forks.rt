@@ -1,12 +1,12 @@
 //! Whether forks and joins fit one another.
 
-ghost use Rattle.std.specs.Prelude.{◌≡◌, ◌↔◌, ◌⊎◌, ◌+◌, ◌<◌, ◌≤◌, ℕ, List, Some, length, slice_index_or, true, false};
+ghost use Rattle.std.specs.Prelude.{◌≡◌, ◌↔◌, ◌⊎◌, ◌+◌, ◌<◌, ◌≤◌, ℕ, List, Some, length, slice_index_or, true, false, IfNone, IfSome};
 ghost use Rattle.pb_base.specs.Steppers.{Bundle};
-ghost use Rattle.pb_code.specs.Code.{Fork, Join};
+ghost use Rattle.pb_code.specs.Code.{Fork, Instr as PlainInstr, Join};
 ghost use Rattle.pb_code.specs.View.{instr_view, process_view};
-ghost use Rattle.pb_verifier.specs.Arms.{AreNamed, ForksLater, IsPaired};
+ghost use Rattle.pb_verifier.specs.Arms.{AreNamed, ForksLater, IsMarked, IsPaired};
 ghost use Rattle.pb_verifier.specs.Faults.{HasArms, HasForks};
-ghost use Rattle.pb_verifier.specs.Given.{plain};
+ghost use Rattle.pb_verifier.specs.Given.{instrs_of, plain};
 ghost use Rattle.pb_verifier.specs.Places.{InstrAt, arms};
 
 use crate::arms::{arm_count, arm_entry, end_of_arm};
@@ -113,6 +113,27 @@ fn mark(marks: &mut [bool], first: usize, end: usize) -> bool
     true
 }
 
+/// Returns which arms forks name, or none if two forks name the same arm.
+fn named_arms(code: &ProcessCode) -> Option<[bool; MAX_ARMS]>
+    requires few { arms (process_view code.now) ≤ MAX_ARMS }
+    requires there { (place first count : ℕ)
+        → InstrAt (process_view code.now) place (Fork first count)
+        → first + count ≤ arms (process_view code.now) }
+    ensures named { IfSome result (λ marks. IsMarked (process_view code.now) (length (instrs_of code.now)) marks) }
+    ensures twice { IfNone result (¬ AreNamed (process_view code.now)) }
+{
+    let mut marks = [false; MAX_ARMS];
+    for place in 0..places(code) {
+        if let Instr::Fork { first, count } = instr_at(code, place) {
+            let first = first as usize;
+            if !mark(&mut marks, first, first + count as usize) {
+                return None;
+            }
+        }
+    }
+    Some(marks)
+}
+
 /// Returns whether each arm but the first is named by a fork, and by one alone.
 fn are_named(code: &ProcessCode) -> bool
     requires few { arms (process_view code.now) ≤ MAX_ARMS }
@@ -121,17 +142,39 @@ fn are_named(code: &ProcessCode) -> bool
         → first + count ≤ arms (process_view code.now) }
     ensures { (result ≡ true) ↔ AreNamed (process_view code.now) }
 {
-    let mut marks = [false; MAX_ARMS];
-    for place in 0..places(code) {
-        if let Instr::Fork { first, count } = instr_at(code, place) {
-            let first = first as usize;
-            if !mark(&mut marks, first, first + count as usize) {
-                return false;
-            }
-        }
-    }
+    let Some(marks) = named_arms(code) else {
+        return false;
+    };
     for arm in 1..arm_count(code) {
         if !marks[arm] {
+            return false;
+        }
+    }
+    true
+}
+
+/// Returns whether each arm forks only arms after it that are there.
+fn all_fork_later(code: &ProcessCode) -> bool
+    requires { HasArms (process_view code.now) }
+    ensures { (result ≡ true)
+        ↔ ((arm : ℕ) → arm < arms (process_view code.now) → ForksLater (process_view code.now) arm) }
+{
+    for arm in 0..arm_count(code) {
+        if !forks_later(code, arm) {
+            return false;
+        }
+    }
+    true
+}
+
+/// Returns whether forks and joins stand in pairs, and no jump leads to a join.
+fn are_paired(code: &ProcessCode) -> bool
+    requires { length (instrs_of code.now) ≤ MAX_PLACES }
+    ensures { (result ≡ true)
+        ↔ ((place : ℕ) (i : PlainInstr) → InstrAt (process_view code.now) place i → IsPaired (process_view code.now) place i) }
+{
+    for place in 0..places(code) {
+        if !is_paired(code, place, instr_at(code, place)) {
             return false;
         }
     }
@@ -146,15 +189,11 @@ pub fn has_forks(code: &ProcessCode) -> bool
     requires short { length (process_view code.now).instrs ≤ MAX_PLACES }
     ensures { (result ≡ true) ↔ HasForks (process_view code.now) }
 {
-    for arm in 0..arm_count(code) {
-        if !forks_later(code, arm) {
-            return false;
-        }
+    if !all_fork_later(code) {
+        return false;
     }
-    for place in 0..places(code) {
-        if !is_paired(code, place, instr_at(code, place)) {
-            return false;
-        }
+    if !are_paired(code) {
+        return false;
     }
     are_named(code)
 }

@@ -1,6 +1,7 @@
 //! What is held at each place.
 
-ghost use Rattle.std.specs.Prelude.{◌≡◌, ◌↔◌, ◌<◌, ◌≤◌, ℕ, List, [], Option, Some, None, Contains, IfOk, IfSome, IfNone, slice_get, slice_index_or, true, length, IsSome};
+ghost use Rattle.std.specs.Prelude.{◌≡◌, ◌↔◌, ◌<◌, ◌≤◌, ℕ, List, [], Option, Some, None, Contains, IfOk, IfSome};
+ghost use Rattle.std.specs.Prelude.{IfNone, slice_get, slice_index_or, true, length, IsSome};
 ghost use Rattle.pb_base.specs.Steppers.{Bundle};
 ghost use Rattle.pb_code.specs.Code.{Take};
 ghost use Rattle.pb_code.specs.View.{process_view};

@@ -1,10 +1,10 @@
 //! Whether counts, names and numbers are within their limits.
 
-ghost use Rattle.std.specs.Prelude.{◌≡◌, ◌≢◌, ◌↔◌, ◌-◌, ◌<◌, ◌≤◌, ℕ, ℤ, [], AllPairs, length, map, slice_index_or, true};
+ghost use Rattle.std.specs.Prelude.{◌≡◌, ◌≢◌, ◌↔◌, ◌-◌, ◌<◌, ◌≤◌, ℕ, ℤ, [], All, AllPairs, Some, length, map, slice_get, slice_index_or, true};
 ghost use Rattle.pb_base.specs.Lines.{names_view};
 ghost use Rattle.pb_base.specs.Banker.{cell};
-ghost use Rattle.pb_base.specs.Tables.{HasWidth};
-ghost use Rattle.pb_code.specs.Code.{Push};
+ghost use Rattle.pb_base.specs.Tables.{HasWidth, width_of};
+ghost use Rattle.pb_code.specs.Code.{Instr as PlainInstr, Push};
 ghost use Rattle.pb_code.specs.Limits.{IsSigned};
 ghost use Rattle.pb_code.specs.View.{code_view, process_view};
 ghost use Rattle.pb_code.specs.Bundles.{bundle_of};
@@ -94,6 +94,32 @@ fn has_small_numbers(code: &ProcessCode, instr: Instr) -> bool
     }
 }
 
+/// Returns whether each arm begins at a place below the limit.
+fn are_small_entries(entries: &[u16]) -> bool
+    ensures { (result ≡ true) ↔ All (λ place. place < MAX_PLACES) entries.now }
+{
+    for entry in entries {
+        if *entry as usize >= MAX_PLACES {
+            return false;
+        }
+    }
+    true
+}
+
+/// Returns whether the numbers of all instructions are within their limits.
+fn are_small_instrs(code: &ProcessCode) -> bool
+    ensures limits { (result ≡ true)
+        ↔ ((place : ℕ) (i : PlainInstr) → slice_get (instrs_of code.now) place ≡ Some i → HasSmallNumbers i) }
+    ensures pushes { result ≡ true → HasSmallPushes (process_view code.now) }
+{
+    for place in 0..places(code) {
+        if !has_small_numbers(code, instr_at(code, place)) {
+            return false;
+        }
+    }
+    true
+}
+
 /// Returns whether the counts and numbers of a process are within their limits.
 fn is_small_process(code: &ProcessCode) -> bool
     ensures limits { (result ≡ true) ↔ IsSmallProcess (process_view code.now) }
@@ -105,16 +131,22 @@ fn is_small_process(code: &ProcessCode) -> bool
     if code.entries.is_empty() || code.entries.len() > MAX_ARMS {
         return false;
     }
-    for arm in 0..code.entries.len() {
-        if code.entries[arm] as usize >= MAX_PLACES {
-            return false;
-        }
-    }
     if places(code) == 0 || places(code) > MAX_PLACES {
         return false;
     }
-    for place in 0..places(code) {
-        if !has_small_numbers(code, instr_at(code, place)) {
+    if !are_small_entries(&code.entries) {
+        return false;
+    }
+    are_small_instrs(code)
+}
+
+/// Returns whether the claims of a process are at most 1,000,000.
+fn are_small_claims_of(claims: &Claims, p: usize) -> bool
+    requires { p < length claims.now }
+    ensures { (result ≡ true) ↔ ((r : ℕ) → r < width_of claims.now → cell claims.now p r ≤ MAX_AMOUNT) }
+{
+    for r in 0..claims.resources() {
+        if claims.get(p, r) > u64::from(MAX_AMOUNT) {
             return false;
         }
     }
@@ -131,10 +163,8 @@ fn are_small_claims(claims: &Claims, processes: usize, resources: usize) -> bool
         return false;
     }
     for p in 0..processes {
-        for r in 0..resources {
-            if claims.get(p, r) > u64::from(MAX_AMOUNT) {
-                return false;
-            }
+        if !are_small_claims_of(claims, p) {
+            return false;
         }
     }
     true

@@ -1,6 +1,7 @@
 //! Whether claims are within the capital, and instructions name what is there.
 
-ghost use Rattle.std.specs.Prelude.{◌≡◌, ◌↔◌, ◌<◌, ◌≤◌, All, length, true};
+ghost use Rattle.std.specs.Prelude.{◌≡◌, ◌↔◌, ◌<◌, ◌≤◌, ℕ, All, length, slice_index, true};
+ghost use Rattle.pb_base.specs.Banker.{cell};
 ghost use Rattle.pb_code.specs.View.{code_view, process_view};
 ghost use Rattle.pb_verifier.specs.Faults.{ClaimsFitCapital, IsInRange, UsesWhatIsThere};
 ghost use Rattle.pb_code.specs.Bundles.{bundle_of};
@@ -11,16 +12,30 @@ use crate::places::{instr_at, places};
 use pb_code::bundles::{pair_at, pairs};
 use pb_code::{Code, Instr, ProcessCode};
 
+/// Returns whether no claim of a process is over its capital.
+fn fits_capital(code: &Code, p: usize) -> bool
+    requires limits { KeepsLimits (code_view code.now) }
+    requires process { p < length (code_view code.now).claims }
+    ensures { (result ≡ true)
+        ↔ ((r : ℕ) → r < length (code_view code.now).capital
+        → cell (code_view code.now).claims p r ≤ slice_index (code_view code.now).capital r) }
+{
+    for r in 0..code.capital.resources() {
+        if code.claims.get(p, r) > u64::from(code.capital.get(r)) {
+            return false;
+        }
+    }
+    true
+}
+
 /// Returns whether no claim is over its capital.
 pub fn fit_capital(code: &Code) -> bool
     requires { KeepsLimits (code_view code.now) }
     ensures { (result ≡ true) ↔ ClaimsFitCapital (code_view code.now) }
 {
     for p in 0..code.processes.len() {
-        for r in 0..code.capital.resources() {
-            if code.claims.get(p, r) > u64::from(code.capital.get(r)) {
-                return false;
-            }
+        if !fits_capital(code, p) {
+            return false;
         }
     }
     true

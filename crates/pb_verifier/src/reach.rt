@@ -27,6 +27,23 @@ fn visit(found: &mut Vec<bool>, order: &mut Vec<u16>, place: u16) -> Result<(), 
     Ok(())
 }
 
+/// Notes that the entries are reached.
+fn visit_entries(
+    found: &mut Vec<bool>,
+    order: &mut Vec<u16>,
+    entries: &[u16],
+) -> Result<(), NoMemory>
+    requires { (p : ℕ) → Contains entries.now p → p < length found.old.items }
+    ensures found { IfOk result (λ _. found.new.items ≡ with_marks found.old.items entries.now) }
+    ensures order { IfOk result (λ _. order.new.items
+        ≡ with_places found.old.items order.old.items entries.now) }
+{
+    for entry in entries {
+        visit(found, order, *entry)?;
+    }
+    Ok(())
+}
+
 /// Notes that what may follow an instruction is reached.
 fn visit_followers(
     found: &mut Vec<bool>,
@@ -62,9 +79,7 @@ fn reached(alloc: Global, entries: &[u16], code: &ProcessCode) -> Result<Vec<u16
 {
     let mut found = vec![in alloc; false; code.instrs.len()]?;
     let mut order = Vec::new(alloc);
-    for entry in entries {
-        visit(&mut found, &mut order, *entry)?;
-    }
+    visit_entries(&mut found, &mut order, entries)?;
     let mut next = 0;
     while next < order.len() {
         let place = order[next];

@@ -1,9 +1,8 @@
 -- Subcommands that are added one after the other.
 use Rattle.std.proofs.Common.{◌≡◌}
-use Rattle.std.specs.Prelude.{false, IfOk, Result, Ok, Err}
+use Rattle.std.specs.Prelude.{IfOk, Result, Ok, Err}
 use Rattle.clap.specs.Words.{App, app_of}
 use Rattle.clap.specs.declared.builder.command.Command.{Command}
-use Rattle.clap.specs.declared.builder.command.Command.TheViews.{out-Command}
 use Rattle.pb_words.specs.CommandLine.{with_command, IsCommand}
 
 module _ {E : Type 0} (a : App) where

@@ -1,16 +1,26 @@
 -- What clap's answers say of the rows that it matched, and of this command line.
-use Rattle.std.proofs.Common.{◌≡◌, ◌↔◌, ◌<◌, ◌≤◌, ◌^◌, ℕ, List, [], Option, Some, None, Result, Ok, Err, refl, sym, ap, subst, ◌∙◌, true, false, Bool, MatchBool, option_map, inl, inr, IfNone, IfSome, codes, get_or, unwrap_or, arith}
+use Rattle.std.proofs.Common.{◌≡◌, ◌↔◌, ◌<◌, ◌≤◌, ◌^◌, ℕ, List, [], Option, Some, None, Result, Ok, Err, refl, sym}
+use Rattle.std.proofs.Common.{ap, subst, ◌∙◌, true, false, Bool, MatchBool, option_map, inl, inr, IfNone, IfSome}
+use Rattle.std.proofs.Common.{codes, get_or, unwrap_or, arith}
 use Rattle.std.specs.Str.Parse.{IsNumeral, digits_value, false_text, true_text, without_leading_plus}
-use Rattle.clap.specs.Words.{HasKind, IsAmong, Kinds, ReadsOne, Row, Text, TriesOne, is_simple, is_simple_and_free, kind_of, one_of, one_text, rows_of}
+use Rattle.clap.specs.Words.{HasKind, IsAmong, Kinds, ReadsOne, Row, Text, TriesOne, is_simple, is_simple_and_free}
+use Rattle.clap.specs.Words.{kind_of, one_of, one_text, rows_of}
 use Rattle.clap.specs.declared.error.Error.{Error}
 use Rattle.clap.specs.declared.error.kind.ErrorKind.TheVariants.{OutOfMemory}
 use Rattle.clap.proofs.OnLiterals.{clap_on_literals}
-use Rattle.pb_words.specs.CommandLine.{command_line, with_text_commands, with_code_commands, with_object_commands, with_other_commands, with_pick_commands, check_command, claims_command, debug_command, draw_command, emit_command, exec_command, explain_command, migrate_command, outcomes_command, record_command, replay_command, run_command, with_run_rules}
+use Rattle.pb_words.specs.CommandLine.{command_line, with_text_commands, with_code_commands, with_object_commands}
+use Rattle.pb_words.specs.CommandLine.{with_other_commands, with_pick_commands, check_command, claims_command}
+use Rattle.pb_words.specs.CommandLine.{debug_command, draw_command, emit_command, exec_command, explain_command}
+use Rattle.pb_words.specs.CommandLine.{migrate_command, outcomes_command, record_command, replay_command, run_command}
+use Rattle.pb_words.specs.CommandLine.{with_run_rules}
 use Rattle.clap.specs.declared.parser.matches.Found.{Found}
 use Rattle.clap.proofs.WalkLemmas.{one_text-rows}
-use Rattle.pb_words.specs.Read.{BlamesWords, HasCheckNumbers, HasCode, HasEmitNumber, HasFlag, HasNumber, HasNumberIn, HasLend, HasOptionalNumber, HasSearchOptions, HasRecordNumbers, HasRunNumbers, IsReadFrom, IsReadFromMatches}
+use Rattle.pb_words.specs.Read.{BlamesWords, HasCheckNumbers, HasCode, HasEmitNumber, HasFlag, HasNumber, HasNumberIn}
+use Rattle.pb_words.specs.Read.{HasLend, HasOptionalNumber, HasSearchOptions, HasRecordNumbers, HasRunNumbers}
+use Rattle.pb_words.specs.Read.{IsReadFrom, IsReadFromMatches}
 use Rattle.pb_words.specs.declared.words.Options.{Options}
-use Rattle.pb_words.specs.declared.words.Options.TheVariants.{Check, Claims, Debug, Draw, Emit, Exec, Explain, Migrate, Outcomes, Record, Replay, Run}
+use Rattle.pb_words.specs.declared.words.Options.TheVariants.{Check, Claims, Debug, Draw, Emit, Exec, Explain}
+use Rattle.pb_words.specs.declared.words.Options.TheVariants.{Migrate, Outcomes, Record, Replay, Run}
 use Rattle.pb_options.specs.declared.options.CheckOptions.{CheckOptions}
 use Rattle.pb_options.specs.declared.options.EmitOptions.{EmitOptions}
 use Rattle.pb_options.specs.Lends.{IsLendOf, lend_word}

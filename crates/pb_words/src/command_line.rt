@@ -2,8 +2,14 @@
 ghost use Rattle.std.specs.Prelude.{◌≡◌, IfOk, codes, false};
 ghost use Rattle.clap.specs.Words.{App, app_of, rule_of, with_rule};
 ghost use Rattle.clap.specs.declared.builder.command.Command.TheViews.{out-Command};
-ghost use Rattle.pb_words.specs.CommandLine.{check_command, claims_command, debug_command, draw_command, emit_command, flag_rule, exec_command, explain_command, migrate_command, number_rule, number_rule_or, outcomes_command, record_command, replay_command, run_command, that_wants_command, word_rule_or, IsCommand};
-ghost use Rattle.pb_words.specs.CommandLine.{command_line as whole, with_code_commands, with_command, with_object_commands, with_other_commands, with_pick_commands, with_run_rules, with_text_commands};
+ghost use Rattle.pb_words.specs.CommandLine.{check_command, claims_command, debug_command, draw_command};
+ghost use Rattle.pb_words.specs.CommandLine.{emit_command, flag_rule, exec_command, explain_command, migrate_command};
+ghost use Rattle.pb_words.specs.CommandLine.{number_rule, number_rule_or, outcomes_command, record_command};
+ghost use Rattle.pb_words.specs.CommandLine.{replay_command, run_command, that_wants_command, word_rule_or};
+ghost use Rattle.pb_words.specs.CommandLine.{IsCommand};
+ghost use Rattle.pb_words.specs.CommandLine.{command_line as whole, with_code_commands, with_command};
+ghost use Rattle.pb_words.specs.CommandLine.{with_object_commands, with_other_commands, with_pick_commands};
+ghost use Rattle.pb_words.specs.CommandLine.{with_run_rules, with_text_commands};
 
 use clap::builder::ValueParser;
 use clap::{Arg, ArgAction, Command};

@@ -1,7 +1,8 @@
 use Rattle.std.proofs.Common.{◌∙◌, ap, arith, refl}
 use Rattle.std.proofs.lemmas.Option.{slice_get-get_or}
 use Rattle.pb_example_banker.proofs.Rounds.{one_granted, one_waits, one_hopeless}
-use Rattle.pb_example_banker.proofs.serve.Goals.{in-Granted+in_ok-push-in-Granted, in-NotNow+in_ok-push-in-NotNow, in-OverClaim+in_ok-push-in-OverClaim}
+use Rattle.pb_example_banker.proofs.serve.Goals.{in-Granted+in_ok-push-in-Granted, in-NotNow+in_ok-push-in-NotNow}
+use Rattle.pb_example_banker.proofs.serve.Goals.{in-OverClaim+in_ok-push-in-OverClaim}
 use Rattle.pb_example_banker.proofs.serve.Goals as goal
 use Rattle.pb_example_banker.specs.Serving.{none}
 use Rattle.pb_example_banker.specs.declared.Round.{Round}

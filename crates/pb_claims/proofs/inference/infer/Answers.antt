@@ -1,5 +1,6 @@
 use Rattle.std.proofs.Common.{arith, map}
-use Rattle.pb_claims.proofs.Rows.{stored_some, stored_resources, found_width, found_one_length, IfOk-capped, IfOk-exact}
+use Rattle.pb_claims.proofs.Rows.{stored_some, stored_resources, found_width, found_one_length, IfOk-capped}
+use Rattle.pb_claims.proofs.Rows.{IfOk-exact}
 use Rattle.pb_claims.proofs.inference.infer.Goals as goal
 
 pub claims_with-requires-clause-few_resources : goal.claims_with-requires-clause-few_resources

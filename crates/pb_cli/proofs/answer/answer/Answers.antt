@@ -1,5 +1,6 @@
 use Rattle.std.proofs.Common.{inl, subst}
-use Rattle.pb_words.specs.declared.words.Options.TheVariants.{Check, Debug, Emit, Exec, Explain, Outcomes, Record, Run}
+use Rattle.pb_words.specs.declared.words.Options.TheVariants.{Check, Debug, Emit, Exec, Explain, Outcomes, Record}
+use Rattle.pb_words.specs.declared.words.Options.TheVariants.{Run}
 use Rattle.pb_words.specs.Read.{WordsSay}
 use Rattle.pb_cli.proofs.AnswerLemmas.{CallTellsFaults-debug, CallWrites-refused}
 use Rattle.pb_cli.proofs.answer.answer.Goals as goal

@@ -1,4 +1,5 @@
-use Rattle.std.proofs.Common.{rules, ◌≡◌, ◌++◌, ◌<◌, ℕ, ℤ, List, Vec, w64, to_z, of_z, Global, length, map, sym, ap, ◌∙◌, arith}
+use Rattle.std.proofs.Common.{rules, ◌≡◌, ◌++◌, ◌<◌, ℕ, ℤ, List, Vec, w64, to_z, of_z, Global, length, map, sym, ap}
+use Rattle.std.proofs.Common.{◌∙◌, arith}
 use Rattle.std.specs.Prelude.{pos, slice_index_or}
 use Rattle.pb_base.specs.Lines.{name_of}
 use Rattle.pb_debug.specs.Texts.{var_text}

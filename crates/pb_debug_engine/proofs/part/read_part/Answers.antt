@@ -1,4 +1,5 @@
-use Rattle.std.proofs.Common.{◌≡◌, ◌++◌, ◌-◌, ℕ, List, [], ◌∷◌, length, take, get_or, false, true, rules, refl, sym, ap, ◌∙◌, subst, arith, append-nil, length-append}
+use Rattle.std.proofs.Common.{◌≡◌, ◌++◌, ◌-◌, ℕ, List, [], ◌∷◌, length, take, get_or, false, true, rules, refl, sym}
+use Rattle.std.proofs.Common.{ap, ◌∙◌, subst, arith, append-nil, length-append}
 use Rattle.pb_base.proofs.DeviceLemmas.{prepended}
 use Rattle.pb_debug_engine.specs.Live.{EndsInMark, IsUnmarked}
 use Rattle.pb_engines.specs.Parts.{AreTwoParts}

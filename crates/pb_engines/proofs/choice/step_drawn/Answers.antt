@@ -1,4 +1,5 @@
-use Rattle.std.proofs.Common.{◌≡◌, ℕ, ◌<◌, ◌%◌, Some, eqb, length, slice_get, refl, sym, ap, ◌∙◌, subst, true, vec_len, arith}
+use Rattle.std.proofs.Common.{◌≡◌, ℕ, ◌<◌, ◌%◌, Some, eqb, length, slice_get, refl, sym, ap, ◌∙◌, subst, true}
+use Rattle.std.proofs.Common.{vec_len, arith}
 use Rattle.std.proofs.lemmas.Bool.{eqb-true}
 use Rattle.std.proofs.lemmas.Option.{slice_get-get_or}
 use Rattle.pb_base.specs.Steppers.{State}

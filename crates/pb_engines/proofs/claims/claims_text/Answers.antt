@@ -7,7 +7,8 @@ use Rattle.pb_names.specs.View.{resolved_view}
 use Rattle.pb_names.specs.declared.resolved.Process.{Process}
 use Rattle.pb_names.specs.declared.resolved.Resource.{Resource}
 use Rattle.pb_engines.specs.ClaimLines.{lines_of_process}
-use Rattle.pb_engines.proofs.ClaimLemmas.{all_of_them, as_many, names_of_processes, names_of_resources, one_more, seen_at}
+use Rattle.pb_engines.proofs.ClaimLemmas.{all_of_them, as_many, names_of_processes, names_of_resources, one_more}
+use Rattle.pb_engines.proofs.ClaimLemmas.{seen_at}
 use Rattle.pb_engines.proofs.claims.claims_text.Goals as goal
 
 pub loop-p-preserved : goal.loop-p-preserved

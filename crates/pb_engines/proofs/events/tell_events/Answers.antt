@@ -1,7 +1,8 @@
 use Rattle.std.proofs.Common.{◌≤◌, ◌∙◌, length, refl, arith}
 use Rattle.pb_base.specs.Lines.{names_view}
 use Rattle.pb_history.specs.Entries.{events_of}
-use Rattle.pb_engines.proofs.EventLemmas.{told_all_events, told_no_events, told_one_event, told_until_broken, told_until_out}
+use Rattle.pb_engines.proofs.EventLemmas.{told_all_events, told_no_events, told_one_event, told_until_broken}
+use Rattle.pb_engines.proofs.EventLemmas.{told_until_out}
 use Rattle.pb_engines.proofs.PageLemmas.{device_since, faults_since}
 use Rattle.pb_engines.proofs.events.tell_events.Goals as goal
 

@@ -1,4 +1,5 @@
-use Rattle.pb_engines.proofs.InputLemmas.{IfSome-of, IfSome-weaker, fails, is_too_long, read_failed, unread_faults, wants_memory}
+use Rattle.pb_engines.proofs.InputLemmas.{IfSome-of, IfSome-weaker, fails, is_too_long, read_failed, unread_faults}
+use Rattle.pb_engines.proofs.InputLemmas.{wants_memory}
 use Rattle.pb_engines.proofs.input.read_input.Goals as goal
 
 pub returns-in-Err-Device-clause-told : goal.returns-in-Err-Device-clause-told

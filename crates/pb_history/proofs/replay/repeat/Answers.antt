@@ -4,7 +4,8 @@ use Rattle.pb_machine.specs.Views.{machine_view}
 use Rattle.pb_history.specs.Entries.{Entry, picks_of, run_of}
 use Rattle.pb_history.specs.Leads.{Leads}
 use Rattle.pb_history.specs.Replays.{StopsAt}
-use Rattle.pb_history.proofs.CountedPicks.{halted_run, length_on, length_run, picks_on, shown_run, silent_run, stopped_run, stops_here}
+use Rattle.pb_history.proofs.CountedPicks.{halted_run, length_on, length_run, picks_on, shown_run, silent_run}
+use Rattle.pb_history.proofs.CountedPicks.{stopped_run, stops_here}
 use Rattle.pb_history.proofs.replay.repeat.Goals as goal
 
 pub loop-left-preserved-in-Silent : goal.loop-left-preserved-in-Silent

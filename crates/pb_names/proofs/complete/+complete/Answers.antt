@@ -4,7 +4,8 @@ use Rattle.pb_tree.proofs.Smaller.{stmt_within, arm_within, arms_within}
 use Rattle.pb_tree.specs.View.{demand_view, stmt_view}
 use Rattle.pb_names.proofs.Forks.{width-view}
 use Rattle.pb_tree.proofs.Views.{view-If, view-While, view-Hold, view-Parbegin}
-use Rattle.pb_names.proofs.Completeness.{some_inside, none_inside, first_not, pairs_at, pairs_more, arm_pairs_at, arm_pairs_more}
+use Rattle.pb_names.proofs.Completeness.{some_inside, none_inside, first_not, pairs_at, pairs_more, arm_pairs_at}
+use Rattle.pb_names.proofs.Completeness.{arm_pairs_more}
 use Rattle.pb_names.proofs.complete.+complete.Goals as goal
 
 pub are_complete-returns-then-not-is_complete_stmt : goal.are_complete-returns-then-not-is_complete_stmt

@@ -1,11 +1,13 @@
-use Rattle.std.proofs.Common.{◌≡◌, ◌≤◌, ◌<◌, ◌+◌, ◌*◌, ◌∷◌, [], arith, ◌/◌, eqb, length, map, sym, ◌∙◌, false, true, Bool, List, ℕ, refl}
+use Rattle.std.proofs.Common.{◌≡◌, ◌≤◌, ◌<◌, ◌+◌, ◌*◌, ◌∷◌, [], arith, ◌/◌, eqb, length, map, sym, ◌∙◌, false, true}
+use Rattle.std.proofs.Common.{Bool, List, ℕ, refl}
 use Rattle.std.proofs.lemmas.List.{length-map, length-append}
 use Rattle.std.proofs.lemmas.Bool.{eqb-true}
 use Rattle.pb_base.specs.declared.pair.Pair.{Pair}
 use Rattle.pb_object.specs.declared.words.Verdict.{Verdict}
 use Rattle.pb_object.specs.declared.words.Verdict.TheVariants.{Beyond, Read}
 use Rattle.pb_object.specs.Rows.{bundle_so_far}
-use Rattle.pb_object.proofs.Pairs.{front_two, after_two, gathered, twice, next_pair, bad_pair, beyond_pair, more_pair, odd_end, even_end, full_end, apart_after, apart_new, apart_more}
+use Rattle.pb_object.proofs.Pairs.{front_two, after_two, gathered, twice, next_pair, bad_pair, beyond_pair, more_pair}
+use Rattle.pb_object.proofs.Pairs.{odd_end, even_end, full_end, apart_after, apart_new, apart_more}
 use Rattle.pb_object.proofs.place_reader.pairs.Goals as goal
 use Rattle.pb_object.proofs.place_reader.pairs.Goals.{in-Beyond, in-Read}
 

@@ -3,7 +3,8 @@ use Rattle.std.proofs.lemmas.Result.{err_from_is_err_and}
 use Rattle.pb_lexer.specs.Tokens.{tokens}
 use Rattle.pb_parser.specs.declared.fault.ParseFault.TheVariants as fault
 use Rattle.pb_parser.proofs.ProgramLaws.{program_sound}
-use Rattle.pb_parser.proofs.Wholes.{Judged, syntax_of, judged_refused, judged_high, judged_large, judged_made, not_nested, is_high, not_high, is_large, not_large}
+use Rattle.pb_parser.proofs.Wholes.{Judged, syntax_of, judged_refused, judged_high, judged_large, judged_made}
+use Rattle.pb_parser.proofs.Wholes.{not_nested, is_high, not_high, is_large, not_large}
 use Rattle.pb_parser.proofs.programs.parse.Goals as goal
 
 pub returns-in_err-measure : goal.returns-in_err-measure

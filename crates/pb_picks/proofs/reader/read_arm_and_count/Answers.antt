@@ -3,7 +3,8 @@ use Rattle.std.specs.Fmt.{decimal}
 use Rattle.pb_picks.specs.PickLines.{Lacks}
 use Rattle.pb_picks.proofs.PickParts.{never_lacks, parts_are, same_number}
 use Rattle.pb_picks.proofs.reader.read_arm_and_count.Goals as goal
-use Rattle.pb_picks.proofs.reader.read_arm_and_count.Goals.{then-arm-arms-via-then-arm-arms, then-arm-arms-via-else-arm-arms+then-count-eq0}
+use Rattle.pb_picks.proofs.reader.read_arm_and_count.Goals.{then-arm-arms-via-then-arm-arms}
+use Rattle.pb_picks.proofs.reader.read_arm_and_count.Goals.{then-arm-arms-via-else-arm-arms+then-count-eq0}
 
 pub returns-in_err-arm : goal.returns-in_err-arm
 returns-in_err-arm c = rw c.from_residual.ensures (λ arm count within some few e.

@@ -1,4 +1,5 @@
-use Rattle.std.proofs.Common.{◌≡◌, ◌+◌, ◌++◌, ◌∷◌, ℕ, List, [], length, take, get_or, append_assoc, refl, sym, subst, ap, ◌∙◌, slice_get, Some, rules}
+use Rattle.std.proofs.Common.{◌≡◌, ◌+◌, ◌++◌, ◌∷◌, ℕ, List, [], length, take, get_or, append_assoc, refl, sym, subst}
+use Rattle.std.proofs.Common.{ap, ◌∙◌, slice_get, Some, rules}
 use Rattle.std.proofs.lemmas.List.{take_more}
 use Rattle.std.proofs.lemmas.Option.{get_or_from_slice_get, slice_get-get_or, slice_get_within}
 use Rattle.pb_base.specs.Lines.{names_view}

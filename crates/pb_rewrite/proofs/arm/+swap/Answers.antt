@@ -4,7 +4,8 @@ use borrow.Author.Count.{below_more, falls}
 use Rattle.pb_names.specs.Source.{Arm, find, put}
 use Rattle.pb_rewrite.specs.Sound.{IsSingle}
 use Rattle.pb_rewrite.specs.View.{arm_view, running_of}
-use Rattle.pb_rewrite.proofs.SwappedArms.{size_at, single_at, found_at, all_none, before_within, now_within, seen_at, views_stay, views_change}
+use Rattle.pb_rewrite.proofs.SwappedArms.{size_at, single_at, found_at, all_none, before_within, now_within, seen_at}
+use Rattle.pb_rewrite.proofs.SwappedArms.{views_stay, views_change}
 use Rattle.pb_rewrite.proofs.arm.+swap.Goals as goal
 
 pub swap_among-swap-requires : goal.swap_among-swap-requires

@@ -3,7 +3,7 @@ use Rattle.pb_names.specs.Program as plain
 use Rattle.pb_names.specs.Source.{step_expr, Becomes}
 use Rattle.pb_names.specs.View.{expr_view}
 use Rattle.pb_names.proofs.Views.{view-Unary, view-Binary}
-use Rattle.pb_rewrite.proofs.Expressions.{unary_becomes, left_becomes, right_becomes}
+use Rattle.pb_names.proofs.ExpressionSteps.{unary_becomes, left_becomes, right_becomes}
 use Rattle.pb_rewrite.proofs.expression.+rewrite.Goals as goal
 
 pub returns-in-Becomes : goal.returns-in-Becomes

@@ -1,9 +1,11 @@
-use Rattle.std.proofs.Common.{◌≡◌, ◌+◌, ℕ, List, [], ◌∷◌, ◌++◌, Option, map, length, true, false, refl, sym, ap, ◌∙◌, subst, arith}
+use Rattle.std.proofs.Common.{◌≡◌, ◌+◌, ℕ, List, [], ◌∷◌, ◌++◌, Option, map, length, true, false, refl, sym, ap, ◌∙◌}
+use Rattle.std.proofs.Common.{subst, arith}
 use Rattle.std.proofs.lemmas.List.{length-map, map-append}
 use Rattle.pb_code.specs.View.{code_view, process_view}
 use Rattle.pb_verifier.specs.declared.fault.VerifyFault.{VerifyFault}
 use Rattle.pb_verifier.specs.declared.fault.VerifyFault.TheVariants.{NoMemory}
-use Rattle.pb_verifier.proofs.ProcessFaults.{IsFoundBefore, annotated_all, depths_all, found_fault, found_sound, refused_first}
+use Rattle.pb_verifier.proofs.ProcessFaults.{IsFoundBefore, annotated_all, depths_all, found_fault, found_sound}
+use Rattle.pb_verifier.proofs.ProcessFaults.{refused_first}
 use Rattle.pb_verifier.proofs.LimitTests.{read_mapped}
 use Rattle.pb_verifier.proofs.checking.check.Goals as goal
 use Rattle.pb_verifier.proofs.checking.check.Goals.{in-Ok+in-Ok-push, in-Err+else-is_memory}

@@ -4,9 +4,3 @@ use Rattle.pb_verifier.proofs.limits.are_small_claims.Given as goal
 
 abbrev pub invariant-loop-p : goal.invariant-loop-p
 invariant-loop-p l = (q r : ℕ) → q < l.p → r < l.resources → cell l.claims q r ≤ 1000000
-
-abbrev pub invariant-loop-r : goal.invariant-loop-r
-invariant-loop-r l = record {
-  before : (q r : ℕ) → q < l.p → r < l.resources → cell l.claims q r ≤ 1000000;
-  here : (r : ℕ) → r < l.r → cell l.claims l.p r ≤ 1000000;
-}

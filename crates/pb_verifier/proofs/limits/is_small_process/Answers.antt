@@ -1,30 +1,21 @@
-use Rattle.std.proofs.Common.{◌≡◌, vec_len, refl, arith, subst, ℕ, ℤ, ◌<◌}
-use Rattle.pb_code.specs.Code.{Push}
-use Rattle.pb_code.specs.Limits.{IsSigned}
-use Rattle.std.proofs.lemmas.List.{get_or_default}
-use Rattle.pb_verifier.specs.Given.{instrs_of}
-use Rattle.pb_verifier.specs.Limits.{HasSmallNumbers}
-use Rattle.pb_verifier.proofs.Each.{each_all}
+use Rattle.std.proofs.Common.{◌<◌, ℕ, List, vec_len, refl, arith, subst}
+use Rattle.std.specs.Prelude.{All}
 use Rattle.pb_verifier.proofs.LimitTests.{none_empty}
 use Rattle.pb_verifier.proofs.limits.is_small_process.Goals as goal
 
-pub returns : goal.returns
-returns c = record {
-  limits = (
-    λ _. record {
-      integers = omega arith;
-      some_arms = (
-        let some = none_empty (vec_len c.args.code.now.entries) c.is_empty.result c.is_empty.ensures
-            c.if-is_empty.false in omega arith,
-        let n = c.len.ensures in omega arith,
-      );
-      entries = λ k d u. subst (λ (x : ℕ). x < 40000) (get_or_default c.args.code.now.entries.items k 0 d u)
-          (c.loop-arm.invariant k (let n = c.len-arm-end.ensures in omega arith));
-      some_places = (omega arith, omega arith);
-      numbers = each_all (instrs_of c.args.code.now) c.loop-place.place (λ _ i. HasSmallNumbers i) (omega arith) c.loop-place.invariant.numbers;
-    },
-    λ _. refl,
-  );
-  pushes = λ _ place v at. each_all (instrs_of c.args.code.now) c.loop-place.place (λ _ i. (w : ℤ) → i ≡ Push w →
-      IsSigned w) (omega arith) c.loop-place.invariant.pushes place (Push v) at v refl;
-}
+pub returns-clause-limits : goal.returns-clause-limits
+returns-clause-limits c = (
+  λ t. record {
+    integers = omega arith;
+    some_arms = (
+      let some = none_empty (vec_len c.args.code.now.entries) c.is_empty.result c.is_empty.ensures
+          c.if-is_empty.false in omega arith,
+      let n = c.len.ensures in omega arith,
+    );
+    entries = subst (λ (xs : List ℕ). All (λ (place : ℕ). place < 40000) xs) c.deref.ensures.value
+        (c.if-not-are_small_entries.ensures.0 refl);
+    some_places = (omega arith, omega arith);
+    numbers = c.are_small_instrs.ensures.limits.0 t;
+  },
+  λ small. c.are_small_instrs.ensures.limits.1 small.numbers,
+)

@@ -4,9 +4,3 @@ use Rattle.pb_verifier.proofs.range.fit_capital.Given as goal
 
 abbrev pub invariant-loop-p : goal.invariant-loop-p
 invariant-loop-p l = (q r : ℕ) → q < l.p → r < length l.code.capital → cell l.code.claims q r ≤ get_or l.code.capital r 0
-
-abbrev pub invariant-loop-r : goal.invariant-loop-r
-invariant-loop-r l = record {
-  before : (q r : ℕ) → q < l.p → r < length l.code.capital → cell l.code.claims q r ≤ get_or l.code.capital r 0;
-  here : (r : ℕ) → r < l.r → cell l.code.claims l.p r ≤ get_or l.code.capital r 0;
-}

@@ -1,41 +1,29 @@
-use Rattle.std.proofs.Common.{◌≡◌, ℕ, ◌<◌, ◌+◌, List, true, Contains, length, get_or, arith, inl, ◌∙◌, set, sym, subst}
-use Rattle.std.proofs.lemmas.List.{get_or_default}
-use Rattle.std.proofs.lemmas.List.Elements.{Contains-get_or}
+use Rattle.std.proofs.Common.{◌≡◌, ℕ, ◌<◌, ◌+◌, List, Bool, false, replicate, ap, length, get_or, arith, ◌∙◌, sym}
+use Rattle.std.proofs.Common.{subst}
+use Rattle.std.proofs.lemmas.List.{get_or_default, length-map, length-replicate}
+use Rattle.pb_code.specs.View.{instr_view}
 use Rattle.pb_verifier.specs.Flow.{followers, with_place, with_marks, with_places}
 use Rattle.pb_verifier.specs.Given.{instrs_of, plain}
-use Rattle.pb_verifier.proofs.ReachSearch.{IsSearch, Visited, VisitedAll, visit_one, hand_inside, hand_small, hand_target, hand_next, hand_done, starts_all, starts_more, extends_contains, search_over}
+use Rattle.pb_verifier.proofs.ReachSearch.{IsSearch, VisitedAll, entries_visited, hand_inside, hand_small}
+use Rattle.pb_verifier.proofs.ReachSearch.{hand_target, hand_next, hand_done, extends_contains, search_over}
 use Rattle.pb_verifier.proofs.reach.reached.Goals as goal
 
-pub visit-requires : goal.visit-requires
-visit-requires c =
-    let u : get_or c.args.entries.now c.loop-entry.entry-index 0 < length (instrs_of c.args.code.now) =
-    c.requires.inside.starts _ (Contains-get_or _ _ 0 c.loop-entry-test.true) in
-    let l : length c.loop-entry.found.items ≡ length (instrs_of c.args.code.now) = c.loop-entry.invariant.search.sized in
-    omega arith
-
-pub loop-entry-preserved : goal.loop-entry-preserved
-loop-entry-preserved c =
-    let h = c.in_ok-visit.ensures in
-    let e : ℕ = get_or c.args.entries.now c.loop-entry.entry-index 0 in
-    let there : Contains c.args.entries.now e = Contains-get_or _ _ 0 c.loop-entry-test.true in
-    let u : e < length (instrs_of c.args.code.now) = c.requires.inside.starts _ there in
-    let l : length c.loop-entry.found.items ≡ length (instrs_of c.args.code.now) = c.loop-entry.invariant.search.sized in
-    let w : e < length c.loop-entry.found.items = omega arith in
-    let v : Visited c.args.entries.now (instrs_of c.args.code.now) 0 c.loop-entry.found.items c.loop-entry.order.items
-    e (set c.loop-entry.found.items e true) (with_place c.loop-entry.found.items c.loop-entry.order.items e) =
-    visit_one _ _ 0 _ _ e c.loop-entry.invariant.search w (inl there)
-    in
-    rw (h.found, h.order)
-    record {
-      search = v.search;
-      starts = starts_more c.args.entries.now c.loop-entry.order.items _ c.loop-entry.entry-index v.extends c.loop-entry.invariant.starts v.there;
-    }
+pub visit_entries-requires : goal.visit_entries-requires
+visit_entries-requires c = λ p there.
+    let inside = c.requires.inside.starts p there in
+    let none = ap (λ (xs : List Bool). length xs) (c.in_ok-found.ensures.items_if_clones_equal (λ y e. e)) in
+    let instrs = length-map c.args.code.now.instrs.items (instr_view c.args.code.now.bundles.items) in
+    omega (arith, inside, none, instrs, length-replicate c.len.result false, c.len.ensures)
 
 pub loop-next-init : goal.loop-next-init
-loop-next-init c = record {
-  search = c.loop-entry.invariant.search;
-  starts = starts_all c.args.entries.now c.loop-entry.order.items (λ k u. c.loop-entry.invariant.starts k (omega arith));
-}
+loop-next-init c =
+    let h = c.in_ok-visit_entries.ensures in
+    let all = entries_visited c.args.entries.now (instrs_of c.args.code.now) c.requires.inside in
+    let instrs = length-map c.args.code.now.instrs.items (instr_view c.args.code.now.bundles.items) in
+    let n : c.len.result ≡ length (instrs_of c.args.code.now) = omega (arith, instrs, c.len.ensures) in
+    let none : c.in_ok-found.found.items ≡ replicate (length (instrs_of c.args.code.now)) false =
+    c.in_ok-found.ensures.items_if_clones_equal (λ y e. e) ∙ ap (λ k. replicate k false) n in
+    rw (h.found, h.order, none, c.new-order.ensures.items) record { search = all.search; starts = all.there }
 
 pub instr_at-instr-requires : goal.instr_at-instr-requires
 instr_at-instr-requires c =

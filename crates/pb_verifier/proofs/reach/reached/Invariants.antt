@@ -1,14 +1,8 @@
-use Rattle.std.proofs.Common.{ℕ, ◌-◌, ◌<◌, length, get_or}
+use Rattle.std.proofs.Common.{ℕ, ◌-◌, length}
 use Rattle.std.specs.Prelude.{Contains}
 use Rattle.pb_verifier.specs.Given.{instrs_of}
 use Rattle.pb_verifier.proofs.ReachSearch.{IsSearch}
 use Rattle.pb_verifier.proofs.reach.reached.Given as goal
-
-abbrev pub invariant-loop-entry : goal.invariant-loop-entry
-invariant-loop-entry l = record {
-  search : IsSearch l.entries (instrs_of l.code) 0 l.found.items l.order.items;
-  starts : (k : ℕ) → k < l.entry-index → Contains l.order.items (get_or l.entries k 0);
-}
 
 abbrev pub invariant-loop-next : goal.invariant-loop-next
 invariant-loop-next l = record {

@@ -1,7 +1,8 @@
 use Rattle.std.proofs.Common.{◌≡◌, ap, ◌∙◌, subst}
 use Rattle.std.specs.Prelude.{IfOk}
 use Rattle.clap.specs.Words.{App, app_of}
-use Rattle.pb_words.specs.CommandLine.{debug_command, record_command, replay_command, with_command, with_pick_commands}
+use Rattle.pb_words.specs.CommandLine.{debug_command, record_command, replay_command, with_command}
+use Rattle.pb_words.specs.CommandLine.{with_pick_commands}
 use Rattle.pb_words.proofs.AddedCommands.{added, has_rules}
 use Rattle.pb_words.proofs.command_line.with_picks.Goals as goal
 

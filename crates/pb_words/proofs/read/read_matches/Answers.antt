@@ -1,6 +1,7 @@
 use Rattle.std.proofs.Common.{rules}
 use Rattle.clap.specs.Words.{found_of, rows_of, subcommand_rows_of}
-use Rattle.pb_words.proofs.ReadLemmas.{IfNone-of, no_check, no_emit, no_exec, no_explain, no_outcomes, no_record, no_run, nothing_read}
+use Rattle.pb_words.proofs.ReadLemmas.{IfNone-of, no_check, no_emit, no_exec, no_explain, no_outcomes, no_record}
+use Rattle.pb_words.proofs.ReadLemmas.{no_run, nothing_read}
 use Rattle.pb_words.proofs.read.read_matches.Goals as goal
 
 pub returns-in_err-check_options-in-check-clause-none : goal.returns-in_err-check_options-in-check-clause-none

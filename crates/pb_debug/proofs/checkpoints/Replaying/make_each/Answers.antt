@@ -1,12 +1,13 @@
-use Rattle.std.proofs.Common.{rules, ◌≡◌, ◌+◌, ◌++◌, List, length, get_or, take, drop, replicate, sym, ap, ◌∙◌, subst, arith}
+use Rattle.std.proofs.Common.{rules, ◌≡◌, ◌+◌, ◌++◌, List, length, get_or, take, drop, replicate, sym, ap, ◌∙◌, subst}
+use Rattle.std.proofs.Common.{arith}
 use Rattle.std.proofs.lemmas.List.{length-map, length-take-le}
 use Rattle.pb_base.specs.declared.pick.Pick.{Pick}
+use Rattle.pb_base.proofs.Lists.{take_next}
 use Rattle.pb_history.specs.Entries.{Entry, picks_of}
 use Rattle.pb_history.specs.Replays.{IsStopped}
 use Rattle.pb_history.proofs.SpanEvents.{take_drop}
 use Rattle.pb_history.proofs.CountedPicks.{stopped_more}
 use Rattle.pb_history.proofs.SpanEnds.{item_there}
-use Rattle.pb_machine.proofs.BuiltLists.{take_at}
 use Rattle.pb_debug.proofs.checkpoints.Replaying.make_each.Goals as goal
 
 pub make-requires-clause-fits : goal.make-requires-clause-fits
@@ -42,7 +43,7 @@ returns-in_err-make-clause-stopped c =
     let pick : Pick = get_or picks i (record { process = 0; arm = 0 }) in
     let there = item_there picks i (record { process = 0; arm = 0 }) (omega (arith, test)) in
     let before : picks_of c.loop-i.self.trace.entries ++ replicate 1 pick ≡ take (i + 1) picks =
-    ap (λ (ps : List Pick). ps ++ replicate 1 pick) c.loop-i.invariant.picks ∙ sym (take_at picks i pick there) in
+    ap (λ (ps : List Pick). ps ++ replicate 1 pick) c.loop-i.invariant.picks ∙ sym (take_next picks i pick there) in
     let stopped : IsStopped code picks c.in_err-make.field-0.0 =
     subst (λ (ps : List Pick). IsStopped code ps c.in_err-make.field-0.0) (take_drop (i + 1) picks)
     (stopped_more code (take (i + 1) picks) (drop (i + 1) picks) c.in_err-make.field-0.0
@@ -59,6 +60,6 @@ loop-i-preserved c =
     record {
       replays = c.in_ok-make.ensures.replays;
       picks = c.in_ok-make.ensures.picks
-          ∙ (ap (λ (ps : List Pick). ps ++ replicate 1 pick) c.loop-i.invariant.picks ∙ sym (take_at picks i pick there));
+          ∙ (ap (λ (ps : List Pick). ps ++ replicate 1 pick) c.loop-i.invariant.picks ∙ sym (take_next picks i pick there));
       interval = c.in_ok-make.ensures.interval ∙ c.loop-i.invariant.interval;
     }

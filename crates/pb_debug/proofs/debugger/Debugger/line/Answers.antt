@@ -1,5 +1,6 @@
 use Rattle.std.proofs.Common.{◌∙◌, List, ap, slice_get}
 use Rattle.pb_base.specs.Steppers.{State}
+use Rattle.pb_base.proofs.Lists.{get_some}
 use Rattle.pb_code.specs.Code.{CodeProcess}
 use Rattle.pb_code.specs.Whole.{ProcessLabels}
 use Rattle.pb_machine.specs.Views.{machine_view}
@@ -9,7 +10,6 @@ use Rattle.pb_debug.proofs.Positions.{in_labels}
 use Rattle.pb_debug.proofs.ResourceTexts.{state_here}
 use Rattle.pb_debug.proofs.Lines.{line_is}
 use Rattle.pb_debug.proofs.debugger.Debugger.line.Goals as goal
-use Rattle.pb_verifier.proofs.LoansWithinClaims.{get_some}
 
 pub returns-clause-line : goal.returns-clause-line
 returns-clause-line c =

@@ -1,4 +1,5 @@
-use Rattle.std.proofs.Common.{◌≡◌, ◌++◌, ℕ, List, length, map, Some, inl, refl, sym, ap, ◌∙◌, subst, arith, Vec, Global}
+use Rattle.std.proofs.Common.{◌≡◌, ◌++◌, ℕ, List, length, map, Some, inl, refl, sym, ap, ◌∙◌, subst, arith, Vec}
+use Rattle.std.proofs.Common.{Global}
 use Rattle.std.specs.Prelude.{slice_get}
 use Rattle.std.proofs.lemmas.Option.{slice_get_within}
 use Rattle.pb_base.specs.Banker.{processes, resources}

@@ -1,6 +1,8 @@
-use Rattle.std.proofs.Common.{◌≡◌, ◌<◌, ℕ, List, length, map, Option, Some, None, slice_get, inl, inr, refl, sym, ap, ◌∙◌, subst, arith, Vec, Global}
+use Rattle.std.proofs.Common.{◌≡◌, ◌<◌, ℕ, List, length, map, Option, Some, None, slice_get, inl, inr, refl, sym, ap}
+use Rattle.std.proofs.Common.{◌∙◌, subst, arith, Vec, Global}
 use Rattle.std.proofs.lemmas.List.{length-map}
 use Rattle.std.proofs.lemmas.Option.{slice_get_read}
+use Rattle.pb_base.proofs.Lists.{get_some}
 use Rattle.pb_code.specs.View.{process_labels_view}
 use Rattle.pb_debug.specs.Searches.{Does, IsLast}
 use Rattle.pb_debug.specs.Texts.{never_text, refusal_text}
@@ -11,7 +13,6 @@ use Rattle.pb_debug.proofs.Positions.{in_labels}
 use Rattle.pb_debug.proofs.Lines.{labels_here}
 use Rattle.pb_debug.proofs.NameTexts.{on_ok}
 use Rattle.pb_debug.proofs.debugger.Debugger.say_wrote.Goals as goal
-use Rattle.pb_verifier.proofs.LoansWithinClaims.{get_some}
 
 pub index-requires : goal.index-requires
 index-requires c =

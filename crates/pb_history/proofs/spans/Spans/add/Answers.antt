@@ -1,9 +1,11 @@
-use Rattle.std.proofs.Common.{◌≡◌, ◌+◌, ◌-◌, ◌≤◌, ◌∷◌, ◌++◌, [], ℕ, List, length, take, sym, ap, ◌∙◌, subst, vec_capacity, arith}
+use Rattle.std.proofs.Common.{◌≡◌, ◌+◌, ◌-◌, ◌≤◌, ◌∷◌, ◌++◌, [], ℕ, List, length, take, sym, ap, ◌∙◌, subst}
+use Rattle.std.proofs.Common.{vec_capacity, arith}
 use Rattle.pb_history.specs.Entries.{size}
 use Rattle.pb_history.specs.Ends.{Rise, goes_on, span_row, spans_from}
 use Rattle.pb_history.specs.declared.spans.SpanEnd.{SpanEnd}
 use Rattle.pb_history.specs.declared.spans.Spans.TheInside.{Inside}
-use Rattle.pb_history.proofs.SpanEnds.{appended, end_for, length_from, replaced, rise_more, size_from, spans_more, with_end}
+use Rattle.pb_history.proofs.SpanEnds.{appended, end_for, length_from, replaced, rise_more, size_from, spans_more}
+use Rattle.pb_history.proofs.SpanEnds.{with_end}
 use Rattle.pb_history.proofs.spans.Spans.add.Goals as goal
 use Rattle.pb_history.proofs.spans.Spans.add.Goals.{then-continues, else-continues}
 

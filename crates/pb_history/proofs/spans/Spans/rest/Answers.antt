@@ -1,8 +1,10 @@
-use Rattle.std.proofs.Common.{◌≡◌, ◌+◌, ◌-◌, ◌/◌, ◌<◌, ⊎_elim, Some, length, slice_get, take, refl, sym, ap, ◌∙◌, arith}
+use Rattle.std.proofs.Common.{◌≡◌, ◌+◌, ◌-◌, ◌/◌, ◌<◌, ⊎_elim, Some, length, slice_get, take, refl, sym, ap, ◌∙◌}
+use Rattle.std.proofs.Common.{arith}
 use Rattle.std.proofs.lemmas.Bool.{cases_lt}
 use Rattle.pb_history.specs.Entries.{all_picks, size}
 use Rattle.pb_history.specs.Ends.{span_row, spans_from}
-use Rattle.pb_history.proofs.SpanEnds.{all_before, begins_by, end_is, ends_rise, item_there, pick_at, size_from, span_at, span_to, starts_before}
+use Rattle.pb_history.proofs.SpanEnds.{all_before, begins_by, end_is, ends_rise, item_there, pick_at, size_from}
+use Rattle.pb_history.proofs.SpanEnds.{span_at, span_to, starts_before}
 use Rattle.pb_history.proofs.spans.Spans.rest.Goals as goal
 
 pub loop-low-preserved-then-span-i : goal.loop-low-preserved-then-span-i

@@ -1,10 +1,12 @@
-use Rattle.std.proofs.Common.{◌≡◌, ◌+◌, ◌-◌, ◌<◌, ◌≤◌, ◌∷◌, ◌++◌, [], ℕ, List, true, false, Some, length, refl, sym, ap, ◌∙◌, subst, append-nil, arith}
+use Rattle.std.proofs.Common.{◌≡◌, ◌+◌, ◌-◌, ◌<◌, ◌≤◌, ◌∷◌, ◌++◌, [], ℕ, List, true, false, Some, length, refl, sym}
+use Rattle.std.proofs.Common.{ap, ◌∙◌, subst, append-nil, arith}
 use Rattle.std.specs.Prelude.{Option, option_to_list}
 use Rattle.pb_base.specs.declared.event.Event.{Event}
 use Rattle.pb_history.specs.Entries.{Entry, added, entries_of, marks, run_of, shown, silent_picks, spans_of}
 use Rattle.pb_history.specs.Traces.{AreLaid, trail_of}
 use Rattle.pb_history.specs.declared.span.Span.{Span}
-use Rattle.pb_history.proofs.SpanEvents.{apart_added, entries_added, events_fit, laid_added, laid_size, length_added, marks_fit}
+use Rattle.pb_history.proofs.SpanEvents.{apart_added, entries_added, events_fit, laid_added, laid_size, length_added}
+use Rattle.pb_history.proofs.SpanEvents.{marks_fit}
 use Rattle.pb_history.proofs.trace.Trace.push_run.Goals as goal
 
 -- the picks that there are, and those that come

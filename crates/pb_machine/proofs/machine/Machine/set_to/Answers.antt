@@ -4,7 +4,8 @@ use Rattle.std.proofs.lemmas.List.{take_more_set}
 use Rattle.std.proofs.Math.Seq.{map-set_same}
 use Rattle.pb_machine.specs.Views.{proc_view, rooms_of}
 use Rattle.pb_machine.proofs.BuiltLists.{pushed_more}
-use Rattle.pb_machine.proofs.SetMachines.{all_set, as_many_processes, as_many_rows, machine_as, process_of, rest_on, same_rest}
+use Rattle.pb_machine.proofs.SetMachines.{all_set, as_many_processes, as_many_rows, machine_as, process_of, rest_on}
+use Rattle.pb_machine.proofs.SetMachines.{same_rest}
 use Rattle.pb_machine.proofs.SilentPicks.{copied_view}
 use Rattle.pb_machine.proofs.Spares.{fit_rooms, fit_vars}
 use Rattle.pb_machine.proofs.machine.Machine.set_to.Goals as goal

@@ -1,12 +1,15 @@
-use Rattle.std.proofs.Common.{length, suc, ◌-◌, ◌<◌, subst, ◌≡◌, refl, ap, sym, ◌∙◌, arith}
+use Rattle.std.proofs.Common.{length, suc, ◌-◌, ◌<◌, subst, ◌≡◌, ap, sym, ◌∙◌, arith}
 use Rattle.std.proofs.lemmas.Result.{err_from_is_err_and}
 use Rattle.pb_base.specs.declared.operators.UnaryOp.TheVariants as sign
 use Rattle.pb_lexer.specs.Tokens.{tokens}
-use Rattle.pb_parser.specs.ExpressionReader.{expression, joined, negation, factor, after_sum, after_conjunction, of_level}
+use Rattle.pb_parser.specs.ExpressionReader.{expression, joined, negation, factor, after_sum, after_conjunction}
+use Rattle.pb_parser.specs.ExpressionReader.{of_level}
 use Rattle.pb_parser.specs.Making.{IsMadeOf}
 use Rattle.pb_parser.proofs.Chains.{fails_through, made}
-use Rattle.pb_parser.proofs.Levels.{first_fails, then_makes, then_nothing, splits_at_factor, splits_at_negation, factor_ends, negation_ends}
-use Rattle.pb_parser.proofs.Levels.{factors_first, terms_first, negations_first, factor_alone, term_alone, sum_alone, negation_alone, conjunction_alone}
+use Rattle.pb_parser.proofs.Levels.{first_fails, then_makes, then_nothing, splits_at_factor, splits_at_negation}
+use Rattle.pb_parser.proofs.Levels.{factor_ends, negation_ends}
+use Rattle.pb_parser.proofs.Levels.{factors_first, terms_first, negations_first, factor_alone, term_alone, sum_alone}
+use Rattle.pb_parser.proofs.Levels.{negation_alone, conjunction_alone}
 use Rattle.pb_parser.proofs.Loops.{loop_begins, joined_shorter, operator_more, operator_fails, operator_leaves}
 use Rattle.pb_parser.proofs.Expressions.{level_shorter}
 use Rattle.pb_parser.proofs.Signs.{signs_refused, signed_makes}

@@ -7,8 +7,10 @@ use Rattle.pb_parser.specs.Lists.{append, append_arms, single_arm}
 use Rattle.pb_parser.specs.StatementReader.{statement, statement_by, an_arm}
 use Rattle.pb_parser.specs.Making.{Adds}
 use Rattle.pb_parser.proofs.Chains.{fails_through, fails_through_plain, made}
-use Rattle.pb_parser.proofs.Loops.{loop_more, loop_fails, loop_leaves, adds_more, stmts_assoc, append_empty, arm_refused, statement_shorter, statement_first, statement_none, statement_zero}
-use Rattle.pb_parser.proofs.Steps.{choice_steps, choice_open, looping_steps, holding_steps, forking_steps, no_else, list_enter, list_refused, arm_found, arms_enter, arms_refused}
+use Rattle.pb_parser.proofs.Loops.{loop_more, loop_fails, loop_leaves, adds_more, stmts_assoc, append_empty}
+use Rattle.pb_parser.proofs.Loops.{arm_refused, statement_shorter, statement_first, statement_none, statement_zero}
+use Rattle.pb_parser.proofs.Steps.{choice_steps, choice_open, looping_steps, holding_steps, forking_steps, no_else}
+use Rattle.pb_parser.proofs.Steps.{list_enter, list_refused, arm_found, arms_enter, arms_refused}
 use Rattle.pb_parser.proofs.parser.Parser.+statement.Goals as goal
 
 pub arms-returns-in_err-statement : goal.arms-returns-in_err-statement

@@ -1,4 +1,5 @@
-use Rattle.std.proofs.Common.{◌≡◌, ◌<◌, ◌+◌, ◌-◌, ◌++◌, ℕ, List, None, length, set, slice_set, refl, sym, ap, ◌∙◌, subst, arith}
+use Rattle.std.proofs.Common.{◌≡◌, ◌<◌, ◌+◌, ◌-◌, ◌++◌, ℕ, List, None, length, set, slice_set, refl, sym, ap, ◌∙◌}
+use Rattle.std.proofs.Common.{subst, arith}
 use Rattle.pb_history.specs.Entries.{Entry, silent_picks}
 use Rattle.pb_machine.specs.Steps.{ComesFrom}
 use Rattle.pb_machine.specs.Views.{machine_view, proc_view}
@@ -7,7 +8,8 @@ use Rattle.pb_shared.specs.Ledgers.{Ledger, IsLegal, IsLentBy, home}
 use Rattle.pb_shared.specs.Lending.{IsSilentRun}
 use Rattle.pb_shared.specs.Spares.{lent_as, IsSpareOf}
 use Rattle.pb_shared.specs.declared.spare.Spare.{Spare}
-use Rattle.pb_shared.proofs.LegalCalls.{back_fits, comes_home, home_legal, legal_as, process_within, set_view, slip_within, machine_there, tries_legal, tries_there}
+use Rattle.pb_shared.proofs.LegalCalls.{back_fits, comes_home, home_legal, legal_as, process_within, set_view}
+use Rattle.pb_shared.proofs.LegalCalls.{slip_within, machine_there, tries_legal, tries_there}
 use Rattle.pb_shared.proofs.SpareStretches.{spare_after, spare_at, spares_stay, spares_with}
 use Rattle.pb_shared.proofs.book.Book.commit.Goals as goal
 

@@ -1,4 +1,4 @@
--- Which place of an expression is the next.
+-- The next step of an expression is that of its first operand with a step to make.
 use Rattle.std.proofs.Common.{◌≡◌, ℤ, List, ap}
 use Rattle.pb_base.specs.declared.operators.FaultKind.{FaultKind}
 use Rattle.pb_base.specs.declared.operators.UnaryOp.{UnaryOp}
