@@ -1,10 +1,11 @@
 #!/usr/bin/env python3
-"""Shows that ./parbegin builds with the kit that is installed: in a fresh clone of what is committed, builds the two
-lowest crates side by side and one above them, as the first call builds all. Takes one to two minutes.
+"""Shows that ./parbegin works with the kit that is installed, in a fresh clone of what is committed: builds the two
+lowest crates side by side and one above them, as the first call builds all, and runs a text by --unproved. Takes some
+minutes.
 
     checks/build_script.py
 
-Its status is 0 if the crates were built, and 1 if not.
+Its status is 0 if the crates were built and the text ran, and 1 if not.
 """
 import importlib.machinery
 import importlib.util
@@ -26,6 +27,14 @@ def script(path):
     return made
 
 
+def is_tried(clone):
+    """Returns whether a trial run shows what the program writes, with one line of the script before it."""
+    with open(f"{clone}/examples/devices.pb", "rb") as text:
+        ran = subprocess.run([f"{clone}/parbegin", "--unproved", "run"], stdin=text, capture_output=True, check=False)
+    lines = ran.stderr.decode().splitlines()
+    return ran.returncode == 0 and ran.stdout.endswith(b"done\n") and len(lines) == 1 and "not the proved" in lines[0]
+
+
 def main():
     with tempfile.TemporaryDirectory() as folder:
         clone = f"{folder}/parbegin"
@@ -40,6 +49,9 @@ def main():
             tool.Build(CRATES).run()
         except tool.Failed as failure:
             print(failure)
+            return 1
+        if not is_tried(clone):
+            print("the trial run is not as wanted")
             return 1
     return 0
 
