@@ -4,7 +4,7 @@ use Rattle.std.specs.Prelude.{List, [], ◌∷◌, length, codes, ℤ, pos, negs
 use Rattle.std.specs.Str.{bytes_eq}
 use Rattle.std.specs.Fmt.{decimal, signed_decimal}
 use Rattle.pb_base.specs.declared.limits.TheConstants.{MAX_AMOUNT, MAX_ARMS, MAX_FORK, MAX_INTEGERS, MAX_LINE}
-use Rattle.pb_base.specs.declared.limits.TheConstants.{MAX_PAIRS, MAX_RESOURCES}
+use Rattle.pb_base.specs.declared.limits.TheConstants.{MAX_PAIRS, MAX_PLACES, MAX_RESOURCES}
 use Rattle.pb_base.specs.declared.pair.Pair.{Pair}
 use Rattle.pb_base.specs.declared.operators.UnaryOp.TheVariants as unary
 use Rattle.pb_base.specs.declared.operators.BinaryOp.TheVariants as binary
@@ -154,8 +154,8 @@ plain k ws =
     select k (codes "push") (push_of ws) (
     select k (codes "load") (mapped given.Load (alone (number 0 (MAX_INTEGERS - 1)) ws)) (
     select k (codes "store") (mapped given.Store (alone (number 0 (MAX_INTEGERS - 1)) ws)) (
-    select k (codes "jump") (mapped given.Jump (alone (number 0 39999) ws)) (
-    select k (codes "jzero") (mapped given.JumpIfZero (alone (number 0 39999) ws)) (
+    select k (codes "jump") (mapped given.Jump (alone (number 0 (MAX_PLACES - 1)) ws)) (
+    select k (codes "jzero") (mapped given.JumpIfZero (alone (number 0 (MAX_PLACES - 1)) ws)) (
     select k (codes "print") (bare given.Print ws) (
     select k (codes "fork") (mapped (λ a. given.Fork a.0 a.1) (two 1 (MAX_ARMS - 1) 1 MAX_FORK ws)) (
     select k (codes "join") (mapped (λ a. given.Join a.0 a.1) (two 1 (MAX_ARMS - 1) 1 MAX_FORK ws)) (

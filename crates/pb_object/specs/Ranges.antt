@@ -1,5 +1,5 @@
 -- The objects that have a spelling: ranges of numbers, and rules on names.
-use Rattle.std.specs.Prelude.{◌<◌, ◌≡◌, ◌≢◌, ℕ, zero, suc, ◌≤◌, true, List, [], ◌∷◌, ◌++◌, length, map, Option, None}
+use Rattle.std.specs.Prelude.{◌-◌, ◌<◌, ◌≡◌, ◌≢◌, ℕ, zero, suc, ◌≤◌, true, List, [], ◌∷◌, ◌++◌, length, map, Option, None}
 use Rattle.std.specs.Prelude.{⊤}
 use Rattle.std.specs.Fmt.{decimal}
 use Rattle.std.specs.List.{AllByRecursion}
@@ -42,8 +42,8 @@ IsInstr format (Load x) = x < MAX_INTEGERS
 IsInstr format (Store x) = x < MAX_INTEGERS
 IsInstr format (Compute1 op) = ⊤
 IsInstr format (Compute2 op) = ⊤
-IsInstr format (Jump t) = t ≤ 39999
-IsInstr format (JumpIfZero t) = t ≤ 39999
+IsInstr format (Jump t) = t ≤ MAX_PLACES - 1
+IsInstr format (JumpIfZero t) = t ≤ MAX_PLACES - 1
 IsInstr format PrintTop = ⊤
 IsInstr format (Take pairs) = IsBundle (most_pairs format) pairs
 IsInstr format (Give pairs) = IsBundle (most_pairs format) pairs
@@ -81,7 +81,7 @@ pub record IsResource (earlier : List ResourceRow) (r : ResourceRow) : Type 0 wh
   pub capital : r.capital ≤ MAX_AMOUNT
 
 abbrev pub IsEntry : List ℕ → ℕ → Type 0
-IsEntry earlier e = e ≤ 39999
+IsEntry earlier e = e ≤ MAX_PLACES - 1
 
 -- a claim for each of m resources
 abbrev pub AreClaimsInRange : ℕ → List ℕ → Type 0

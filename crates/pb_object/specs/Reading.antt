@@ -86,7 +86,7 @@ abbrev pub resource_at : List ResourceRow → List ℕ → Result (ResourceRow �
 resource_at earlier = line_by (resource earlier)
 
 abbrev pub entry_at : List ℕ → List ℕ → Result (ℕ × List ℕ) Fault
-entry_at earlier = line_by (counted (codes "arm") 0 39999)
+entry_at earlier = line_by (counted (codes "arm") 0 (MAX_PLACES - 1))
 
 abbrev pub place_at : Format → List (Option ℕ × Instr) → List ℕ → Result ((Option ℕ × Instr) × List ℕ) Fault
 place_at format earlier = line_by (place format)

@@ -5,7 +5,7 @@ ghost use Rattle.pb_object.specs.Instructions as spec;
 ghost use Rattle.pb_object.specs.Words.{number, IsBetween, AreWithin};
 
 use crate::words::{Verdict, is, number};
-use pb_base::limits::{MAX_ARMS, MAX_FORK, MAX_INTEGERS};
+use pb_base::limits::{MAX_ARMS, MAX_FORK, MAX_INTEGERS, MAX_PLACES};
 use pb_code::Instr;
 
 fn bare(instr: Instr, words: &[&[u8]]) -> Verdict<Instr>
@@ -176,13 +176,13 @@ pub(crate) fn plain(keyword: &[u8], words: &[&[u8]]) -> Verdict<Instr>
             Verdict::Read(x) => Verdict::Read(Instr::Store(x as u8)),
         }
     } else if is(keyword, "jump") {
-        match alone(0, 39_999, words) {
+        match alone(0, MAX_PLACES as u64 - 1, words) {
             Verdict::Malformed => Verdict::Malformed,
             Verdict::Beyond => Verdict::Beyond,
             Verdict::Read(t) => Verdict::Read(Instr::Jump(t as u16)),
         }
     } else if is(keyword, "jzero") {
-        match alone(0, 39_999, words) {
+        match alone(0, MAX_PLACES as u64 - 1, words) {
             Verdict::Malformed => Verdict::Malformed,
             Verdict::Beyond => Verdict::Beyond,
             Verdict::Read(t) => Verdict::Read(Instr::JumpIfZero(t as u16)),

@@ -43,7 +43,7 @@ fn entries_of(alloc: Global, count: u64, text: &[u8]) -> Result<(Vec<u16>, &[u8]
     let mut entries = Vec::new(alloc);
     let mut rest = text;
     for _ in 0..count {
-        let (entry, after) = counted_at(alloc, "arm", 0, 39_999, rest)?;
+        let (entry, after) = counted_at(alloc, "arm", 0, MAX_PLACES as u64 - 1, rest)?;
         entries.push(entry as u16)?;
         rest = after;
     }
