@@ -83,8 +83,8 @@ IsClaim process r amount =
     ((arm : Arm) → FreeRun (start_of process) arm → held r arm ≤ amount)
     × ((arm : Arm) × FreeRun (start_of process) arm × (held r arm ≡ amount))
 
--- ---- the same in one pass: the greatest over a list and over the sides of a test, the sum over arms, and what
--- a hold adds
+-- ---- the same in one pass: the greatest over a list and over the sides of a test, the sum over arms, and
+-- what a hold adds
 abbrev mutual
   pub stmt_peak : ℕ → Stmt → ℕ
   stmt_peak r (Assign line x e) = 0

@@ -40,7 +40,8 @@ pub record HasArms (code : ProcessCode) : Type 0 where
   pub closes : (a place : ℕ) → a < arms code → place + 1 ≡ arm_end code a
       → InstrAt code place End ⊎ ((target : ℕ) × InstrAt code place (Jump target))
 
--- ---- forks: of later arms, each followed by its own join and by no other way to one; each arm is forked in one place
+-- ---- forks: of later arms, each followed by its own join and by no other way to one; each arm is forked in
+-- one place
 
 pub record HasForks (code : ProcessCode) : Type 0 where
   pub later : (a place first count : ℕ) → IsInArm code a place → InstrAt code place (Fork first count)
