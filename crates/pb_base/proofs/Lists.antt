@@ -1,6 +1,6 @@
 -- Lists and optional values, as several crates need them.
-use Rattle.std.proofs.Common.{◌≡◌, ℕ, zero, suc, ◌+◌, ◌<◌, List, [], ◌∷◌, ◌++◌, length, get_or, map, take, drop}
-use Rattle.std.proofs.Common.{Some, refl, sym, ap, ◌∙◌, arith, add-one}
+use Rattle.std.proofs.Common.{◌≡◌, ℕ, zero, suc, ◌+◌, ◌<◌, ◌≤◌, List, [], ◌∷◌, ◌++◌, length, get_or, map, take, drop}
+use Rattle.std.proofs.Common.{Some, refl, sym, ap, ◌∙◌, arith, add-one, append_assoc}
 use Rattle.std.specs.Prelude.{slice_get}
 use Rattle.std.proofs.Math.Seq.{take-append_seam}
 use Rattle.std.proofs.lemmas.Option.{slice_get-get_or}
@@ -47,3 +47,25 @@ take_next xs i x h = rw add-one (next xs i x h)
     next [] i x h = cc
     next (y ∷ xs) zero x h = let e : y ≡ x = cc in cc
     next (y ∷ xs) (suc i) x h = ap (λ ys. y ∷ ys) (next xs i x h)
+
+-- an item measures at most what its list measures, as a loop reads it
+pub item_within : {X : Type 0} (size : X → ℕ) (total : List X → ℕ) (all xs : List X) (i : ℕ) (x : X)
+    → ((y : X) (ys : List X) → size y + total ys ≤ total (y ∷ ys))
+    → xs ≡ all → x ≡ get_or xs i x → i < length xs
+    → size x ≤ total all
+item_within {X} size total all xs i x grows list here h = omega (arith, within xs i h, ap size here, ap total list)
+  where
+    within : (xs : List X) (i : ℕ) → i < length xs → size (get_or xs i x) ≤ total xs
+    within [] i h = absurd (omega arith)
+    within (y ∷ ys) zero h = omega (arith, grows y ys)
+    within (y ∷ ys) (suc i) h = omega (arith, grows y ys, within ys i (omega arith))
+
+-- four lists that were put behind a list, one after another
+pub four_behind : {X : Type 0} (old a b c d one two three four : List X)
+    → one ≡ old ++ a → two ≡ one ++ b → three ≡ two ++ c → four ≡ three ++ d
+    → four ≡ old ++ (a ++ b ++ c ++ d)
+four_behind {X} old a b c d one two three four first second third fourth =
+    fourth
+    ∙ ap (λ (t : List X). t ++ d)
+    (third ∙ ap (λ (t : List X). t ++ c) (second ∙ ap (λ (t : List X). t ++ b) first))
+    ∙ simp append_assoc

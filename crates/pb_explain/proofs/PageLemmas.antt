@@ -1,6 +1,5 @@
 -- From the reply of `explain` to what is written, and the list so far with one code more.
-use Rattle.std.proofs.Common.{◌≡◌, ◌+◌, ◌++◌, ◌∙◌, ℕ, List, Option, Result, Ok, Err, IfOk, OnErr}
-use Rattle.std.proofs.Common.{ap, append_assoc}
+use Rattle.std.proofs.Common.{◌≡◌, ◌+◌, ◌++◌, ℕ, List, Option, Result, Ok, Err, IfOk, OnErr}
 use Rattle.pb_base.specs.declared.memory.NoMemory.{NoMemory}
 use Rattle.pb_engines.specs.Answers.{Says, Tells, memory_line}
 use Rattle.pb_engines.specs.declared.reply.Reply.{Reply}
@@ -15,12 +14,3 @@ pub told_explanation : (asked : Option Code) (reply : Result Reply NoMemory) (ol
     → OnErr reply (Says old new memory_line Memory answered) → Tells (SaysOfExplain asked) old new answered
 told_explanation asked (Ok r) old new answered says said memory = (r.text.items, r.status, says, said)
 told_explanation asked (Err e) old new answered says said memory = (memory_line, Memory, no_memory, memory)
-
--- four texts that were put behind a text, one after another
-pub four_texts : (old a b c d one two three four : List ℕ) → one ≡ old ++ a → two ≡ one ++ b → three ≡ two ++ c → four ≡ three ++ d
-    → four ≡ old ++ (((a ++ b) ++ c) ++ d)
-four_texts old a b c d one two three four first second third fourth =
-    fourth
-    ∙ ap (λ (t : List ℕ). t ++ d)
-    (third ∙ ap (λ (t : List ℕ). t ++ c) (second ∙ ap (λ (t : List ℕ). t ++ b) first))
-    ∙ simp append_assoc

@@ -1,9 +1,9 @@
 -- Arms that have just begun, and arms that have ended, hold nothing.
-use Rattle.std.proofs.Common.{◌≡◌, ℕ, ◌+◌, true, List, ◌++◌, refl, arith}
+use Rattle.std.proofs.Common.{◌≡◌, ℕ, true, List, ◌++◌, refl, arith}
 use Rattle.pb_names.specs.Claims.{held_in, held_in_list, held_among}
 use Rattle.pb_names.specs.Program.{Stmt, Assign, Print, If, While, Hold, Parbegin, Block, Skip, Then}
 use Rattle.pb_names.specs.Program.{Arms, NoArm, AndArm}
-use Rattle.pb_names.specs.Source.{Item, item_of, items_of, Arm, Doing, Waiting, Ended, Running, Nothing, Beside}
+use Rattle.pb_names.specs.Source.{Item, item_of, items_of, Doing, Waiting, Ended, Running, Nothing, Beside}
 use Rattle.pb_names.specs.Source.{begin, all_ended}
 
 pub stmt_held : (r : ℕ) (s : Stmt) → held_in r (item_of s) ≡ 0

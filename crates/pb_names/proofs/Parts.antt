@@ -1,5 +1,5 @@
 -- A tree that has a numbered program is complete.
-use Rattle.std.proofs.Common.{List, get_or, length, arith}
+use Rattle.std.proofs.Common.{List, get_or, arith}
 use Rattle.std.proofs.lemmas.Option.{slice_get-get_or}
 use Rattle.pb_tree.specs.Syntax as tree
 use Rattle.pb_names.specs.Program.{Name, Stmt, Block, Arms, Program}

@@ -1,9 +1,10 @@
 -- A part of a program is smaller than the whole, so a recursion down a program ends.
-use Rattle.std.proofs.Common.{◌≡◌, ℕ, zero, suc, ◌+◌, ◌<◌, ◌≤◌, ◌∙◌, List, [], ◌∷◌, Vec, length, get_or, arith, ap}
+use Rattle.std.proofs.Common.{◌≡◌, ℕ, ◌+◌, ◌<◌, ◌≤◌, ◌∙◌, List, Vec, length, get_or, arith, ap}
 use Rattle.pb_names.specs.Program as plain
 use Rattle.pb_names.specs.Program.{Assign, Print, If, While, Hold, Block, Skip, Then, Arms, NoArm, AndArm}
 use Rattle.pb_names.specs.View.{stmt_view, block_view, arm_view, arms_view}
 use Rattle.pb_names.specs.declared.resolved.Stmt.{Stmt, Parbegin}
+use Rattle.pb_base.proofs.Lists.{item_within}
 use Rattle.pb_names.proofs.Views.{view-Parbegin}
 
 -- how many statements a statement has, itself included
@@ -24,47 +25,24 @@ abbrev mutual
   arms_size NoArm = 0
   arms_size (AndArm arm arms) = block_size arm + arms_size arms
 
-stmt_at : {A : Type 0} (ss : List (Stmt A)) (i : ℕ) (d : Stmt A) → i < length ss
-    → stmt_size (stmt_view (get_or ss i d)) ≤ block_size (block_view ss)
-stmt_at [] i d h = absurd (omega arith)
-stmt_at (s ∷ ss) zero d h = omega arith
-stmt_at (s ∷ ss) (suc i) d h = omega (arith, stmt_at ss i d (omega arith))
-
-arm_at : {A : Type 0} (arms : List (Vec (Stmt A) A)) (i : ℕ) (d : Vec (Stmt A) A) → i < length arms
-    → block_size (block_view (get_or arms i d).items) ≤ arms_size (arms_view arms)
-unfolding arm_view
-arm_at [] i d h = absurd (omega arith)
-arm_at (a ∷ arms) zero d h = omega arith
-arm_at (a ∷ arms) (suc i) d h = omega (arith, arm_at arms i d (omega arith))
-
 -- a statement of a list, as a loop reads it
-pub stmt_within : {A : Type 0} (all ss : List (Stmt A)) (i : ℕ) (s : Stmt A)
+pub stmt_size_within : {A : Type 0} (all ss : List (Stmt A)) (i : ℕ) (s : Stmt A)
     → ss ≡ all → s ≡ get_or ss i s → i < length ss
     → stmt_size (stmt_view s) ≤ block_size (block_view all)
-stmt_within all ss i s list here h =
-    omega (
-      arith,
-      ap (λ y. stmt_size (stmt_view y)) here,
-      stmt_at ss i s h,
-      ap (λ ys. block_size (block_view ys)) list,
-    )
+stmt_size_within all ss i s =
+    item_within (λ y. stmt_size (stmt_view y)) (λ ys. block_size (block_view ys)) all ss i s (λ y ys. omega arith)
 
 -- an arm of a parbegin, as a loop reads it
-pub arm_within : {A : Type 0} (all arms : List (Vec (Stmt A) A)) (i : ℕ) (a : Vec (Stmt A) A)
+pub arm_size_within : {A : Type 0} (all arms : List (Vec (Stmt A) A)) (i : ℕ) (a : Vec (Stmt A) A)
     → arms ≡ all → a ≡ get_or arms i a → i < length arms
     → block_size (block_view a.items) ≤ arms_size (arms_view all)
 unfolding arm_view
-arm_within all arms i a list here h =
-    omega (
-      arith,
-      ap (λ y. block_size (block_view y.items)) here,
-      arm_at arms i a h,
-      ap (λ ys. arms_size (arms_view ys)) list,
-    )
+arm_size_within all arms i a =
+    item_within (λ y. block_size (block_view y.items)) (λ ys. arms_size (arms_view ys)) all arms i a (λ y ys. omega arith)
 
 -- all arms of a parbegin
-pub arms_within : {A : Type 0} (s : Stmt A) (line first : ℕ) (arms : Vec (Vec (Stmt A) A) A)
+pub arms_size_within : {A : Type 0} (s : Stmt A) (line first : ℕ) (arms : Vec (Vec (Stmt A) A) A)
     → s ≡ Parbegin line first arms
     → arms_size (arms_view arms.items) < stmt_size (stmt_view s)
 unfolding arm_view
-arms_within s line first arms is = omega (arith, ap stmt_size (ap stmt_view is ∙ view-Parbegin line first arms))
+arms_size_within s line first arms is = omega (arith, ap stmt_size (ap stmt_view is ∙ view-Parbegin line first arms))

@@ -4,10 +4,10 @@ use Rattle.std.proofs.Common.{Option, Some, None, ap, subst, refl, arith}
 use Rattle.pb_base.specs.Arithmetic.{is_zero}
 use Rattle.pb_base.specs.Bundle.{amount_in}
 use Rattle.pb_base.specs.Steppers.{Effect, Silent, Prints, Takes, Returns, Faults, Finishes}
-use Rattle.pb_names.specs.Claims.{held_in, held_in_list, held, held_among}
-use Rattle.pb_names.specs.Program.{Expr, Block, Assign, Print, If, While, Hold, Parbegin}
+use Rattle.pb_names.specs.Claims.{held_in_list, held, held_among}
+use Rattle.pb_names.specs.Program.{Expr, Block}
 use Rattle.pb_names.specs.Source.{ExprStep, Is, Becomes, Fails, step_expr, Item, GiveBack, items_of, Arm}
-use Rattle.pb_names.specs.Source.{Doing, Waiting, Ended, Running, Nothing, Beside, begin, all_ended}
+use Rattle.pb_names.specs.Source.{Doing, Waiting, Ended, Running, Nothing, Beside, all_ended}
 use Rattle.pb_names.specs.Source.{ArmStep, Goes, Breaks, Ends, evaluate, step_items, step_arm, find, find_among, put}
 use Rattle.pb_names.specs.Source.{put_among}
 use Rattle.pb_names.proofs.Holdings.{block_held, begin_held, ended_held}

@@ -1,5 +1,5 @@
 -- A step of a process, from the step of its arm and what is left to do after it.
-use Rattle.std.proofs.Common.{◌≡◌, inl, inr, ℕ, zero, suc, ℤ, cond, nat_eq, List, take, Option}
+use Rattle.std.proofs.Common.{◌≡◌, inl, inr, ℕ, zero, suc, ℤ, cond, nat_eq, List, Option}
 use Rattle.std.proofs.Common.{Some, None, option_map, option_and_then, ap, ap₂, subst, refl, sym, ◌∙◌, arith}
 use Rattle.std.proofs.lemmas.Bool.{ne_eqb}
 use Rattle.pb_base.specs.Banker.{BankerState, without_loan, without_loans}

@@ -21,41 +21,41 @@ expr_size (plain.Binary op a b) = 1 + (expr_size a + expr_size b)
 
 -- a list of an if, of a while and of a hold
 
-pub then_within : {A : Type 0} (s : Stmt A) (line : ℕ) (e : Expr A) (on_true on_false : Vec (Stmt A) A)
+pub then_size_within : {A : Type 0} (s : Stmt A) (line : ℕ) (e : Expr A) (on_true on_false : Vec (Stmt A) A)
     → s ≡ made.If line e on_true on_false
     → block_size (block_view on_true.items) < stmt_size (stmt_view s)
-then_within s line e on_true on_false is =
+then_size_within s line e on_true on_false is =
     omega (arith, ap stmt_size (ap stmt_view is ∙ view-If line e on_true on_false))
 
-pub else_within : {A : Type 0} (s : Stmt A) (line : ℕ) (e : Expr A) (on_true on_false : Vec (Stmt A) A)
+pub else_size_within : {A : Type 0} (s : Stmt A) (line : ℕ) (e : Expr A) (on_true on_false : Vec (Stmt A) A)
     → s ≡ made.If line e on_true on_false
     → block_size (block_view on_false.items) < stmt_size (stmt_view s)
-else_within s line e on_true on_false is =
+else_size_within s line e on_true on_false is =
     omega (arith, ap stmt_size (ap stmt_view is ∙ view-If line e on_true on_false))
 
-pub repeated_within : {A : Type 0} (s : Stmt A) (line : ℕ) (e : Expr A) (body : Vec (Stmt A) A)
+pub repeated_size_within : {A : Type 0} (s : Stmt A) (line : ℕ) (e : Expr A) (body : Vec (Stmt A) A)
     → s ≡ made.While line e body
     → block_size (block_view body.items) < stmt_size (stmt_view s)
-repeated_within s line e body is = omega (arith, ap stmt_size (ap stmt_view is ∙ view-While line e body))
+repeated_size_within s line e body is = omega (arith, ap stmt_size (ap stmt_view is ∙ view-While line e body))
 
-pub held_within : {A : Type 0} (s : Stmt A) (line : ℕ) (bundle : Bundle) (body : Vec (Stmt A) A)
+pub held_size_within : {A : Type 0} (s : Stmt A) (line : ℕ) (bundle : Bundle) (body : Vec (Stmt A) A)
     → s ≡ made.Hold line bundle body
     → block_size (block_view body.items) < stmt_size (stmt_view s)
-held_within s line bundle body is = omega (arith, ap stmt_size (ap stmt_view is ∙ view-Hold line bundle body))
+held_size_within s line bundle body is = omega (arith, ap stmt_size (ap stmt_view is ∙ view-Hold line bundle body))
 
 -- the operands of an expression
 
-pub operand_within : {A : Type 0} (s : Expr A) (op : UnaryOp) (e : Box (Expr A) A)
+pub operand_size_within : {A : Type 0} (s : Expr A) (op : UnaryOp) (e : Box (Expr A) A)
     → s ≡ Unary op e
     → expr_size (expr_view e.value) < expr_size (expr_view s)
-operand_within s op e is = omega (arith, ap expr_size (ap expr_view is ∙ view-Unary op e))
+operand_size_within s op e is = omega (arith, ap expr_size (ap expr_view is ∙ view-Unary op e))
 
-pub left_within : {A : Type 0} (s : Expr A) (op : BinaryOp) (a b : Box (Expr A) A)
+pub left_size_within : {A : Type 0} (s : Expr A) (op : BinaryOp) (a b : Box (Expr A) A)
     → s ≡ Binary op a b
     → expr_size (expr_view a.value) < expr_size (expr_view s)
-left_within s op a b is = omega (arith, ap expr_size (ap expr_view is ∙ view-Binary op a b))
+left_size_within s op a b is = omega (arith, ap expr_size (ap expr_view is ∙ view-Binary op a b))
 
-pub right_within : {A : Type 0} (s : Expr A) (op : BinaryOp) (a b : Box (Expr A) A)
+pub right_size_within : {A : Type 0} (s : Expr A) (op : BinaryOp) (a b : Box (Expr A) A)
     → s ≡ Binary op a b
     → expr_size (expr_view b.value) < expr_size (expr_view s)
-right_within s op a b is = omega (arith, ap expr_size (ap expr_view is ∙ view-Binary op a b))
+right_size_within s op a b is = omega (arith, ap expr_size (ap expr_view is ∙ view-Binary op a b))

@@ -2,7 +2,7 @@ use Rattle.std.proofs.Common.{arith, rules, ap, ◌∙◌}
 use Rattle.pb_names.specs.Claims.{stmt_peak}
 use Rattle.pb_names.specs.View.{stmt_view}
 use Rattle.pb_names.proofs.Views.{view-Parbegin}
-use Rattle.pb_names.proofs.Sizes.{stmt_within, arm_within, arms_within}
+use Rattle.pb_names.proofs.Sizes.{stmt_size_within, arm_size_within, arms_size_within}
 use Rattle.pb_claims.proofs.Walks.{peak_more, arms_peak_more}
 use Rattle.pb_claims.proofs.peaks.+peaks.Goals as goal
 
@@ -32,15 +32,15 @@ peak_of_arms-loop-arm-preserved g t c =
 
 pub peak_of_list-peak_of_stmt-requires : goal.peak_of_list-peak_of_stmt-requires
 peak_of_list-peak_of_stmt-requires g t c κs within =
-    let less = stmt_within _ _ _ _ c.deref-stmt-items.ensures.value c.stmt-item.is (omega arith) in
+    let less = stmt_size_within _ _ _ _ c.deref-stmt-items.ensures.value c.stmt-item.is (omega arith) in
     search rules
 
 pub peak_of_arms-peak_of_list-requires : goal.peak_of_arms-peak_of_list-requires
 peak_of_arms-peak_of_list-requires g t c κs within =
-    let less = arm_within _ _ _ _ c.deref-arm-items.ensures.value c.arm-item.is (omega arith) in
+    let less = arm_size_within _ _ _ _ c.deref-arm-items.ensures.value c.arm-item.is (omega arith) in
     search rules
 
 pub peak_of_stmt-peak_of_arms-requires : goal.peak_of_stmt-peak_of_arms-requires
 peak_of_stmt-peak_of_arms-requires g t c κs within =
-    let less = arms_within c.args.stmt.now _ _ _ c.in-Parbegin.is in
+    let less = arms_size_within c.args.stmt.now _ _ _ c.in-Parbegin.is in
     search rules

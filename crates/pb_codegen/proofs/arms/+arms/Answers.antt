@@ -1,6 +1,6 @@
 use Rattle.std.proofs.Common.{rules, refl, sym, append-nil, ap, map, ◌++◌, ◌∙◌}
 use Rattle.std.proofs.lemmas.List.{take_all}
-use Rattle.pb_names.proofs.Sizes.{arm_within, arms_within, stmt_within}
+use Rattle.pb_names.proofs.Sizes.{arm_size_within, arms_size_within, stmt_size_within}
 use Rattle.pb_names.specs.Program.{arms_in_stmt, arms_in, arms_in_arms}
 use Rattle.pb_names.specs.View.{stmt_view, block_view, arms_view}
 use Rattle.pb_names.proofs.Views.{view-If, view-While, view-Hold, view-Parbegin}
@@ -9,7 +9,7 @@ use Rattle.pb_codegen.proofs.arms.+arms.Goals as goal
 
 pub add_arms_in-add_arms_in_stmt-requires : goal.add_arms_in-add_arms_in_stmt-requires
 add_arms_in-add_arms_in_stmt-requires g t c κs within =
-    let less = stmt_within _ _ _ _ c.deref-stmt-items.ensures.value c.stmt-item.is c.loop-stmt-test.true in
+    let less = stmt_size_within _ _ _ _ c.deref-stmt-items.ensures.value c.stmt-item.is c.loop-stmt-test.true in
     search rules
 
 pub add_arms_in-loop-stmt-preserved : goal.add_arms_in-loop-stmt-preserved
@@ -19,7 +19,7 @@ add_arms_in-loop-stmt-preserved g t c =
 
 pub add_arms_in_each-add_arms_in-requires : goal.add_arms_in_each-add_arms_in-requires
 add_arms_in_each-add_arms_in-requires g t c κs within =
-    let less = arm_within _ _ _ _ c.deref-arm-items.ensures.value c.arm-item.is c.loop-arm-test.true in
+    let less = arm_size_within _ _ _ _ c.deref-arm-items.ensures.value c.arm-item.is c.loop-arm-test.true in
     search rules
 
 pub add_arms_in_each-loop-arm-preserved : goal.add_arms_in_each-loop-arm-preserved
@@ -29,7 +29,7 @@ add_arms_in_each-loop-arm-preserved g t c =
 
 pub add_arms_in_stmt-add_arms_in_each-requires : goal.add_arms_in_stmt-add_arms_in_each-requires
 add_arms_in_stmt-add_arms_in_each-requires g t c κs within =
-    let less = arms_within c.args.stmt.now _ _ _ c.in-Parbegin.is in
+    let less = arms_size_within c.args.stmt.now _ _ _ c.in-Parbegin.is in
     search rules
 
 pub add_arms_in_stmt-returns-in_ok-add_arms_in-in-If-2 : goal.add_arms_in_stmt-returns-in_ok-add_arms_in-in-If-2

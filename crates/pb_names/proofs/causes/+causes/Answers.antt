@@ -1,7 +1,7 @@
 use Rattle.std.proofs.Common.{arith, rules, ap, ◌∙◌}
 use Rattle.std.proofs.lemmas.List.{take_all}
 use Rattle.pb_tree.specs.View.{stmt_view}
-use Rattle.pb_tree.proofs.Smaller.{stmt_within, arm_within, arms_within}
+use Rattle.pb_tree.proofs.Smaller.{stmt_nodes_within, arm_nodes_within, arms_nodes_within}
 use Rattle.pb_tree.proofs.Views.{view-Assign, view-Print, view-If, view-While, view-Hold, view-Parbegin}
 use Rattle.pb_names.proofs.CausesMore.{stmts_more, arms_more}
 use Rattle.pb_names.proofs.First.{first_either, first_none}
@@ -21,17 +21,17 @@ first_in_arms-loop-arm-preserved g t c =
 
 pub first_in_list-first_in_stmt-requires : goal.first_in_list-first_in_stmt-requires
 first_in_list-first_in_stmt-requires g t c κs within =
-    let less = stmt_within _ _ _ _ c.deref-stmt-items.ensures.value c.stmt-item.is (omega arith) in
+    let less = stmt_nodes_within _ _ _ _ c.deref-stmt-items.ensures.value c.stmt-item.is (omega arith) in
     search rules
 
 pub first_in_arms-first_in_list-requires : goal.first_in_arms-first_in_list-requires
 first_in_arms-first_in_list-requires g t c κs within =
-    let less = arm_within _ _ _ _ c.deref-arm-items.ensures.value c.arm-item.is (omega arith) in
+    let less = arm_nodes_within _ _ _ _ c.deref-arm-items.ensures.value c.arm-item.is (omega arith) in
     search rules
 
 pub first_in_stmt-first_in_arms-requires : goal.first_in_stmt-first_in_arms-requires
 first_in_stmt-first_in_arms-requires g t c κs within =
-    let less = arms_within c.args.stmt.now _ _ c.in-Parbegin.is in
+    let less = arms_nodes_within c.args.stmt.now _ _ c.in-Parbegin.is in
     search rules
 
 pub first_in_stmt-returns-in-Assign : goal.first_in_stmt-returns-in-Assign

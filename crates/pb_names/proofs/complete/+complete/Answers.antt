@@ -1,6 +1,6 @@
 use Rattle.std.proofs.Common.{arith, rules, ap, sym, ◌∙◌, refl}
 use Rattle.std.proofs.lemmas.List.{take_all, length-map}
-use Rattle.pb_tree.proofs.Smaller.{stmt_within, arm_within, arms_within}
+use Rattle.pb_tree.proofs.Smaller.{stmt_nodes_within, arm_nodes_within, arms_nodes_within}
 use Rattle.pb_tree.specs.View.{demand_view, stmt_view}
 use Rattle.pb_names.proofs.Forks.{width-view}
 use Rattle.pb_tree.proofs.Views.{view-If, view-While, view-Hold, view-Parbegin}
@@ -36,17 +36,17 @@ are_complete_arms-loop-arm-preserved g t c =
 
 pub are_complete-is_complete_stmt-requires : goal.are_complete-is_complete_stmt-requires
 are_complete-is_complete_stmt-requires g t c κs within =
-    let less = stmt_within _ _ _ _ c.deref-stmt-items.ensures.value c.stmt-item.is (omega arith) in
+    let less = stmt_nodes_within _ _ _ _ c.deref-stmt-items.ensures.value c.stmt-item.is (omega arith) in
     search rules
 
 pub are_complete_arms-are_complete-requires : goal.are_complete_arms-are_complete-requires
 are_complete_arms-are_complete-requires g t c κs within =
-    let less = arm_within _ _ _ _ c.deref-arm-items.ensures.value c.arm-item.is (omega arith) in
+    let less = arm_nodes_within _ _ _ _ c.deref-arm-items.ensures.value c.arm-item.is (omega arith) in
     search rules
 
 pub is_complete_stmt-are_complete_arms-requires : goal.is_complete_stmt-are_complete_arms-requires
 is_complete_stmt-are_complete_arms-requires g t c κs within =
-    let less = arms_within c.args.stmt.now _ _ c.in-Parbegin.is in
+    let less = arms_nodes_within c.args.stmt.now _ _ c.in-Parbegin.is in
     search rules
 
 pub is_complete_stmt-returns-then-not-is_empty-2 : goal.is_complete_stmt-returns-then-not-is_empty-2

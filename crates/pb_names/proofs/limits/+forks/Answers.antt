@@ -1,7 +1,7 @@
 use Rattle.std.proofs.Common.{arith, rules, ap, ◌∙◌}
 use Rattle.std.proofs.lemmas.List.{take_all}
 use Rattle.pb_tree.specs.View.{stmt_view}
-use Rattle.pb_tree.proofs.Smaller.{stmt_within, arm_within, arms_within}
+use Rattle.pb_tree.proofs.Smaller.{stmt_nodes_within, arm_nodes_within, arms_nodes_within}
 use Rattle.pb_tree.proofs.Views.{view-If, view-While, view-Hold, view-Parbegin}
 use Rattle.pb_names.specs.Limits.{widest_in_stmt, inner_arms_of_stmt}
 use Rattle.pb_names.proofs.Forks.{width-view, widest_more, inner_more, arms_widest_more, arms_inner_more}
@@ -93,15 +93,15 @@ forks_of_arms-loop-arm-preserved g t c =
 
 pub forks_of_list-forks_of_stmt-requires : goal.forks_of_list-forks_of_stmt-requires
 forks_of_list-forks_of_stmt-requires g t c κs within =
-    let less = stmt_within _ _ _ _ c.deref-stmt-items.ensures.value c.stmt-item.is (omega arith) in
+    let less = stmt_nodes_within _ _ _ _ c.deref-stmt-items.ensures.value c.stmt-item.is (omega arith) in
     search rules
 
 pub forks_of_arms-forks_of_list-requires : goal.forks_of_arms-forks_of_list-requires
 forks_of_arms-forks_of_list-requires g t c κs within =
-    let less = arm_within _ _ _ _ c.deref-arm-items.ensures.value c.arm-item.is (omega arith) in
+    let less = arm_nodes_within _ _ _ _ c.deref-arm-items.ensures.value c.arm-item.is (omega arith) in
     search rules
 
 pub forks_of_stmt-forks_of_arms-requires : goal.forks_of_stmt-forks_of_arms-requires
 forks_of_stmt-forks_of_arms-requires g t c κs within =
-    let less = arms_within c.args.stmt.now _ _ c.in-Parbegin.is in
+    let less = arms_nodes_within c.args.stmt.now _ _ c.in-Parbegin.is in
     search rules

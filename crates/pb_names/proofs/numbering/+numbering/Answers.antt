@@ -2,7 +2,7 @@ use Rattle.std.proofs.Common.{arith, rules, ◌+◌, ap, ◌∙◌, map}
 use Rattle.std.proofs.lemmas.List.{take_all, length-map}
 use Rattle.std.proofs.lemmas.Result.{on_ok_weaker}
 use Rattle.pb_tree.specs.View.{expr_view, stmt_view, stmts_view, arms_view, demand_view}
-use Rattle.pb_tree.proofs.Smaller.{stmt_within, arm_within, arms_within}
+use Rattle.pb_tree.proofs.Smaller.{stmt_nodes_within, arm_nodes_within, arms_nodes_within}
 use Rattle.pb_tree.proofs.Views as tree
 use Rattle.pb_names.specs.Limits.{inner_arms_of_stmt}
 use Rattle.pb_names.specs.Resolves.{no_stmt, no_arm}
@@ -64,7 +64,7 @@ number_arms-loop-arm-preserved g t c =
 
 pub number_list-number_stmt-requires : goal.number_list-number_stmt-requires
 number_list-number_stmt-requires g t c κs within =
-    let less = stmt_within _ _ _ _ c.deref-stmt-items.ensures.value c.stmt-item.is (omega arith) in
+    let less = stmt_nodes_within _ _ _ _ c.deref-stmt-items.ensures.value c.stmt-item.is (omega arith) in
     let ready =
     ready_at _ _ _ _ _ c.deref-stmt-items.result.now c.loop-stmt.stmt-index c.stmt-item.result
     c.deref-stmt-items.ensures.value (omega arith) c.stmt-item.is c.loop-stmt.invariant.next c.requires.ready in
@@ -72,7 +72,7 @@ number_list-number_stmt-requires g t c κs within =
 
 pub number_arms-number_list-requires : goal.number_arms-number_list-requires
 number_arms-number_list-requires g t c κs within =
-    let less = arm_within _ _ _ _ c.deref-arm-items.ensures.value c.arm-item.is (omega arith) in
+    let less = arm_nodes_within _ _ _ _ c.deref-arm-items.ensures.value c.arm-item.is (omega arith) in
     let ready =
     arm_ready_at _ _ _ _ _ c.deref-arm-items.result.now c.loop-arm.arm-index c.arm-item.result
     c.deref-arm-items.ensures.value (omega arith) c.arm-item.is c.loop-arm.invariant.next c.requires.ready in
@@ -153,7 +153,7 @@ number_stmt-number_list-requires-in-Hold g t c κs within =
 pub number_stmt-number_arms-requires : goal.number_stmt-number_arms-requires
 number_stmt-number_arms-requires g t c κs within =
     let a = c.in-Parbegin in
-    let less = arms_within c.args.stmt.now _ _ a.is in
+    let less = arms_nodes_within c.args.stmt.now _ _ a.is in
     let ready =
     ready_arms (names_in c.args.integers.now) (names_in c.args.resources.now) c.args.next.now (c.args.next.now + c.len.result) a.line (arms_view a.arms.items)
     (omega (arith, width-view a.arms.items))

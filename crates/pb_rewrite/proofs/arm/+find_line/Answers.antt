@@ -1,6 +1,6 @@
 use borrow.Author.Count.{falls}
 use Rattle.std.proofs.Common.{◌<◌, length, ap, sym, ◌∙◌, arith}
-use Rattle.pb_names.specs.Source.{find, find_among}
+use Rattle.pb_names.specs.Source.{find_among}
 use Rattle.pb_rewrite.specs.Found.{found_line}
 use Rattle.pb_rewrite.specs.View.{arm_view, running_view}
 use Rattle.pb_rewrite.proofs.ArmLooks.{looked_further, found_here, found_inside}

@@ -4,8 +4,8 @@ use Rattle.pb_names.specs.Program as plain
 use Rattle.pb_names.specs.View.{expr_view, stmt_view, block_view, arm_view, arms_view, block_of, arms_from}
 use Rattle.pb_names.proofs.Views.{view-Assign, view-Print, view-If, view-While, view-Hold, view-Parbegin}
 use Rattle.pb_tree.proofs.Copies.{copied_more, copied_all}
-use Rattle.pb_names.proofs.Sizes.{stmt_within, arm_within, arms_within}
-use Rattle.pb_rewrite.proofs.Sizes.{then_within, else_within, repeated_within, held_within}
+use Rattle.pb_names.proofs.Sizes.{stmt_size_within, arm_size_within, arms_size_within}
+use Rattle.pb_rewrite.proofs.Sizes.{then_size_within, else_size_within, repeated_size_within, held_size_within}
 use Rattle.pb_rewrite.proofs.copies.+copy.Goals as goal
 
 pub copy_list-loop-stmt-preserved : goal.copy_list-loop-stmt-preserved
@@ -43,17 +43,17 @@ copy_arms-returns g t c =
 
 pub copy_list-copy_stmt-requires : goal.copy_list-copy_stmt-requires
 copy_list-copy_stmt-requires g t c κs within =
-    let less = stmt_within _ _ _ _ c.deref-stmt-items.ensures.value c.stmt-item.is c.loop-stmt-test.true in
+    let less = stmt_size_within _ _ _ _ c.deref-stmt-items.ensures.value c.stmt-item.is c.loop-stmt-test.true in
     search rules
 
 pub copy_arms-copy_list-requires : goal.copy_arms-copy_list-requires
 copy_arms-copy_list-requires g t c κs within =
-    let less = arm_within _ _ _ _ c.deref-arm-items.ensures.value c.arm-item.is c.loop-arm-test.true in
+    let less = arm_size_within _ _ _ _ c.deref-arm-items.ensures.value c.arm-item.is c.loop-arm-test.true in
     search rules
 
 pub copy_stmt-copy_arms-requires : goal.copy_stmt-copy_arms-requires
 copy_stmt-copy_arms-requires g t c κs within =
-    let less = arms_within c.args.stmt.now _ _ _ c.in-Parbegin.is in
+    let less = arms_size_within c.args.stmt.now _ _ _ c.in-Parbegin.is in
     search rules
 
 pub copy_stmt-returns-in_ok-value-in-Assign : goal.copy_stmt-returns-in_ok-value-in-Assign
@@ -101,20 +101,20 @@ copy_stmt-returns-in_ok-arms-in-Parbegin g t c =
 
 pub copy_stmt-copy_list-requires : goal.copy_stmt-copy_list-requires
 copy_stmt-copy_list-requires g t c κs within =
-    let less = then_within c.args.stmt.now _ _ _ _ c.in-If.is in
+    let less = then_size_within c.args.stmt.now _ _ _ _ c.in-If.is in
     search rules
 
 pub copy_stmt-copy_list-requires-in-If : goal.copy_stmt-copy_list-requires-in-If
 copy_stmt-copy_list-requires-in-If g t c κs within =
-    let less = else_within c.args.stmt.now _ _ _ _ c.in-If.is in
+    let less = else_size_within c.args.stmt.now _ _ _ _ c.in-If.is in
     search rules
 
 pub copy_stmt-copy_list-requires-in-While : goal.copy_stmt-copy_list-requires-in-While
 copy_stmt-copy_list-requires-in-While g t c κs within =
-    let less = repeated_within c.args.stmt.now _ _ _ c.in-While.is in
+    let less = repeated_size_within c.args.stmt.now _ _ _ c.in-While.is in
     search rules
 
 pub copy_stmt-copy_list-requires-in-Hold : goal.copy_stmt-copy_list-requires-in-Hold
 copy_stmt-copy_list-requires-in-Hold g t c κs within =
-    let less = held_within c.args.stmt.now _ _ _ c.in-Hold.is in
+    let less = held_size_within c.args.stmt.now _ _ _ c.in-Hold.is in
     search rules

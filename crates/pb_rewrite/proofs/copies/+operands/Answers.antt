@@ -2,22 +2,22 @@ use Rattle.std.proofs.Common.{rules, ap, ap₂, sym, ◌∙◌}
 use Rattle.pb_names.specs.Program as plain
 use Rattle.pb_names.specs.View.{expr_view}
 use Rattle.pb_names.proofs.Views.{view-Unary, view-Binary}
-use Rattle.pb_rewrite.proofs.Sizes.{operand_within, left_within, right_within}
+use Rattle.pb_rewrite.proofs.Sizes.{operand_size_within, left_size_within, right_size_within}
 use Rattle.pb_rewrite.proofs.copies.+operands.Goals as goal
 
 pub copy_expr-copy_operand-requires : goal.copy_expr-copy_operand-requires
 copy_expr-copy_operand-requires g t c κs within =
-    let less = operand_within c.args.expr.now _ _ c.in-Unary.is in
+    let less = operand_size_within c.args.expr.now _ _ c.in-Unary.is in
     search rules
 
 pub copy_expr-copy_operand-requires-in-Binary : goal.copy_expr-copy_operand-requires-in-Binary
 copy_expr-copy_operand-requires-in-Binary g t c κs within =
-    let less = left_within c.args.expr.now _ _ _ c.in-Binary.is in
+    let less = left_size_within c.args.expr.now _ _ _ c.in-Binary.is in
     search rules
 
 pub copy_expr-copy_operand-requires-in-Binary-2 : goal.copy_expr-copy_operand-requires-in-Binary-2
 copy_expr-copy_operand-requires-in-Binary-2 g t c κs within =
-    let less = right_within c.args.expr.now _ _ _ c.in-Binary.is in
+    let less = right_size_within c.args.expr.now _ _ _ c.in-Binary.is in
     search rules
 
 pub copy_expr-returns-in_ok-copy_operand-in-Unary : goal.copy_expr-returns-in_ok-copy_operand-in-Unary

@@ -1,6 +1,6 @@
 use Rattle.std.proofs.Common.{rules, arith, ◌≡◌, ◌≤◌, ◌+◌, length, Some, length-append, ap, drop, refl, ◌∙◌}
 use Rattle.std.proofs.lemmas.List.{take_all, drop_all}
-use Rattle.pb_names.proofs.Sizes.{stmt_within}
+use Rattle.pb_names.proofs.Sizes.{stmt_size_within}
 use Rattle.pb_names.specs.Program.{arms_in, arms_in_arms, arms_in_stmt, arms_list}
 use Rattle.pb_names.specs.View.{arms_view, block_view, expr_view, stmt_view}
 use Rattle.pb_names.proofs.Views.{view-Assign, view-Print, view-If, view-While, view-Hold, view-Parbegin}
@@ -24,7 +24,7 @@ put_block-put_stmt-requires g t c κs within =
     let i = c.loop-i.i in
     let stmt = c.stmt-item.result in
     let done = rw (← c.deref-stmt-items.ensures.value) at c.loop-i.invariant in
-    let less = stmt_within all stmts i stmt c.deref-stmt-items.ensures.value c.stmt-item.is c.loop-i-test.true in
+    let less = stmt_size_within all stmts i stmt c.deref-stmt-items.ensures.value c.stmt-item.is c.loop-i-test.true in
     let room : HasRoom c.loop-i.self (stmt_code (place c.loop-i.self) (stmt_view stmt)) =
     room_for_stmt all stmts i stmt c.deref-stmt-items.ensures.value c.stmt-item.is c.loop-i-test.true c.requires.room done in
     let few : length (arms_in_stmt (stmt_view stmt)) ≤ 64 =

@@ -1,23 +1,23 @@
 use Rattle.std.proofs.Common.{rules, ap, ap₂, sym, ◌∙◌}
 use Rattle.pb_tree.specs.Syntax.{unary, binary}
 use Rattle.pb_tree.specs.View.{expr_view}
-use Rattle.pb_tree.proofs.Smaller.{operand_within, left_within, right_within}
+use Rattle.pb_tree.proofs.Smaller.{operand_nodes_within, left_nodes_within, right_nodes_within}
 use Rattle.pb_tree.proofs.Views.{view-Unary, view-Binary}
 use Rattle.pb_tree.proofs.expr.Expr.+copy.Goals as goal
 
 pub copy_into-copy_operand-requires : goal.copy_into-copy_operand-requires
 copy_into-copy_operand-requires g t c κs within =
-    let less = operand_within c.args.self.now _ _ c.in-Unary.is in
+    let less = operand_nodes_within c.args.self.now _ _ c.in-Unary.is in
     search rules
 
 pub copy_into-copy_operand-requires-in-Binary : goal.copy_into-copy_operand-requires-in-Binary
 copy_into-copy_operand-requires-in-Binary g t c κs within =
-    let less = left_within c.args.self.now _ _ _ c.in-Binary.is in
+    let less = left_nodes_within c.args.self.now _ _ _ c.in-Binary.is in
     search rules
 
 pub copy_into-copy_operand-requires-in-Binary-2 : goal.copy_into-copy_operand-requires-in-Binary-2
 copy_into-copy_operand-requires-in-Binary-2 g t c κs within =
-    let less = right_within c.args.self.now _ _ _ c.in-Binary.is in
+    let less = right_nodes_within c.args.self.now _ _ _ c.in-Binary.is in
     search rules
 
 pub copy_into-returns-in_ok-copy_operand-in-Unary : goal.copy_into-returns-in_ok-copy_operand-in-Unary

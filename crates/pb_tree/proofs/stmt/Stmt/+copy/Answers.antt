@@ -2,8 +2,8 @@ use borrow.Author.Count.{falls}
 use Rattle.std.proofs.Common.{map, rules, ap, refl, ◌∙◌}
 use Rattle.pb_tree.specs.View.{stmt_view, stmts_view, arm_view, arms_view, stmts_of, joined_arms}
 use Rattle.pb_tree.proofs.Copies.{copied_more, copied_all}
-use Rattle.pb_tree.proofs.Smaller.{stmt_within, arm_within, arms_within, then_within, else_within}
-use Rattle.pb_tree.proofs.Smaller.{repeated_within, held_within}
+use Rattle.pb_tree.proofs.Smaller.{stmt_nodes_within, arm_nodes_within, arms_nodes_within, then_nodes_within, else_nodes_within}
+use Rattle.pb_tree.proofs.Smaller.{repeated_nodes_within, held_nodes_within}
 use Rattle.pb_tree.proofs.StmtShapes.{same_assign, same_print, same_if, same_while, same_hold, same_parbegin}
 use Rattle.pb_tree.proofs.Views.{view-Assign, view-Print, view-If, view-While, view-Hold, view-Parbegin}
 use Rattle.pb_tree.proofs.stmt.Stmt.+copy.Goals as goal
@@ -43,17 +43,17 @@ copy_arms-returns g t c =
 
 pub copy_list-copy_into-requires : goal.copy_list-copy_into-requires
 copy_list-copy_into-requires g t c κs within =
-    let less = stmt_within _ _ _ _ c.deref-stmt-items.ensures.value c.stmt-item.is c.loop-stmt-test.true in
+    let less = stmt_nodes_within _ _ _ _ c.deref-stmt-items.ensures.value c.stmt-item.is c.loop-stmt-test.true in
     search rules
 
 pub copy_arms-copy_list-requires : goal.copy_arms-copy_list-requires
 copy_arms-copy_list-requires g t c κs within =
-    let less = arm_within _ _ _ _ c.deref-arm-items.ensures.value c.arm-item.is c.loop-arm-test.true in
+    let less = arm_nodes_within _ _ _ _ c.deref-arm-items.ensures.value c.arm-item.is c.loop-arm-test.true in
     search rules
 
 pub copy_into-copy_arms-requires : goal.copy_into-copy_arms-requires
 copy_into-copy_arms-requires g t c κs within =
-    let less = arms_within c.args.self.now _ _ c.in-Parbegin.is in
+    let less = arms_nodes_within c.args.self.now _ _ c.in-Parbegin.is in
     search rules
 
 pub copy_into-returns-in_ok-value-in-Assign : goal.copy_into-returns-in_ok-value-in-Assign
@@ -100,20 +100,20 @@ copy_into-returns-in_ok-arms-in-Parbegin g t c =
 
 pub copy_into-copy_list-requires : goal.copy_into-copy_list-requires
 copy_into-copy_list-requires g t c κs within =
-    let less = then_within c.args.self.now _ _ _ _ c.in-If.is in
+    let less = then_nodes_within c.args.self.now _ _ _ _ c.in-If.is in
     search rules
 
 pub copy_into-copy_list-requires-in-If : goal.copy_into-copy_list-requires-in-If
 copy_into-copy_list-requires-in-If g t c κs within =
-    let less = else_within c.args.self.now _ _ _ _ c.in-If.is in
+    let less = else_nodes_within c.args.self.now _ _ _ _ c.in-If.is in
     search rules
 
 pub copy_into-copy_list-requires-in-While : goal.copy_into-copy_list-requires-in-While
 copy_into-copy_list-requires-in-While g t c κs within =
-    let less = repeated_within c.args.self.now _ _ _ c.in-While.is in
+    let less = repeated_nodes_within c.args.self.now _ _ _ c.in-While.is in
     search rules
 
 pub copy_into-copy_list-requires-in-Hold : goal.copy_into-copy_list-requires-in-Hold
 copy_into-copy_list-requires-in-Hold g t c κs within =
-    let less = held_within c.args.self.now _ _ _ c.in-Hold.is in
+    let less = held_nodes_within c.args.self.now _ _ _ c.in-Hold.is in
     search rules

@@ -3,8 +3,8 @@ use Rattle.std.proofs.Common.{arith, rules, ap, ◌∙◌}
 use Rattle.pb_tree.specs.Measure.{saturated, stmt_height, stmts_height, arms_height}
 use Rattle.pb_tree.specs.View.{stmt_view, stmts_view, arms_view}
 use Rattle.pb_tree.proofs.Copies.{read_all}
-use Rattle.pb_tree.proofs.Smaller.{stmt_within, arm_within, arms_within, then_within, else_within}
-use Rattle.pb_tree.proofs.Smaller.{repeated_within, held_within}
+use Rattle.pb_tree.proofs.Smaller.{stmt_nodes_within, arm_nodes_within, arms_nodes_within, then_nodes_within, else_nodes_within}
+use Rattle.pb_tree.proofs.Smaller.{repeated_nodes_within, held_nodes_within}
 use Rattle.pb_tree.proofs.Sums.{height_more, arms_height_more}
 use Rattle.pb_tree.proofs.Views.{view-Assign, view-Print, view-If, view-While, view-Hold, view-Parbegin}
 use Rattle.pb_tree.proofs.stmt.Stmt.+height.Goals as goal
@@ -34,17 +34,17 @@ arms_height-loop-arm-preserved g t c =
 
 pub list_height-height-requires : goal.list_height-height-requires
 list_height-height-requires g t c κs within =
-    let less = stmt_within _ _ _ _ c.deref-stmt-items.ensures.value c.stmt-item.is c.loop-stmt-test.true in
+    let less = stmt_nodes_within _ _ _ _ c.deref-stmt-items.ensures.value c.stmt-item.is c.loop-stmt-test.true in
     search rules
 
 pub arms_height-list_height-requires : goal.arms_height-list_height-requires
 arms_height-list_height-requires g t c κs within =
-    let less = arm_within _ _ _ _ c.deref-arm-items.ensures.value c.arm-item.is c.loop-arm-test.true in
+    let less = arm_nodes_within _ _ _ _ c.deref-arm-items.ensures.value c.arm-item.is c.loop-arm-test.true in
     search rules
 
 pub height-arms_height-requires : goal.height-arms_height-requires
 height-arms_height-requires g t c κs within =
-    let less = arms_within c.args.self.now _ _ c.in-Parbegin.is in
+    let less = arms_nodes_within c.args.self.now _ _ c.in-Parbegin.is in
     search rules
 
 pub height-returns-in-Assign : goal.height-returns-in-Assign
@@ -74,22 +74,22 @@ height-returns-in-Hold g t c =
 
 pub height-list_height-requires : goal.height-list_height-requires
 height-list_height-requires g t c κs within =
-    let less = then_within c.args.self.now _ _ _ _ c.in-If.is in
+    let less = then_nodes_within c.args.self.now _ _ _ _ c.in-If.is in
     search rules
 
 pub height-list_height-requires-in-If : goal.height-list_height-requires-in-If
 height-list_height-requires-in-If g t c κs within =
-    let less = else_within c.args.self.now _ _ _ _ c.in-If.is in
+    let less = else_nodes_within c.args.self.now _ _ _ _ c.in-If.is in
     search rules
 
 pub height-list_height-requires-in-While : goal.height-list_height-requires-in-While
 height-list_height-requires-in-While g t c κs within =
-    let less = repeated_within c.args.self.now _ _ _ c.in-While.is in
+    let less = repeated_nodes_within c.args.self.now _ _ _ c.in-While.is in
     search rules
 
 pub height-list_height-requires-in-Hold : goal.height-list_height-requires-in-Hold
 height-list_height-requires-in-Hold g t c κs within =
-    let less = held_within c.args.self.now _ _ _ c.in-Hold.is in
+    let less = held_nodes_within c.args.self.now _ _ _ c.in-Hold.is in
     search rules
 
 pub list_height-loop-stmt-smaller : goal.list_height-loop-stmt-smaller

@@ -3,8 +3,8 @@ use Rattle.std.proofs.Common.{arith, rules, ap, ◌∙◌}
 use Rattle.pb_tree.specs.Measure.{saturated, stmt_nodes, stmts_nodes, arms_nodes}
 use Rattle.pb_tree.specs.View.{stmt_view, stmts_view, arms_view}
 use Rattle.pb_tree.proofs.Copies.{read_all}
-use Rattle.pb_tree.proofs.Smaller.{stmt_within, arm_within, arms_within, then_within, else_within}
-use Rattle.pb_tree.proofs.Smaller.{repeated_within, held_within}
+use Rattle.pb_tree.proofs.Smaller.{stmt_nodes_within, arm_nodes_within, arms_nodes_within, then_nodes_within, else_nodes_within}
+use Rattle.pb_tree.proofs.Smaller.{repeated_nodes_within, held_nodes_within}
 use Rattle.pb_tree.proofs.Sums.{nodes_more, arms_nodes_more}
 use Rattle.pb_tree.proofs.Views.{view-Assign, view-Print, view-If, view-While, view-Hold, view-Parbegin}
 use Rattle.pb_tree.proofs.stmt.Stmt.+nodes.Goals as goal
@@ -34,17 +34,17 @@ arms_nodes-loop-arm-preserved g t c =
 
 pub list_nodes-nodes-requires : goal.list_nodes-nodes-requires
 list_nodes-nodes-requires g t c κs within =
-    let less = stmt_within _ _ _ _ c.deref-stmt-items.ensures.value c.stmt-item.is c.loop-stmt-test.true in
+    let less = stmt_nodes_within _ _ _ _ c.deref-stmt-items.ensures.value c.stmt-item.is c.loop-stmt-test.true in
     search rules
 
 pub arms_nodes-list_nodes-requires : goal.arms_nodes-list_nodes-requires
 arms_nodes-list_nodes-requires g t c κs within =
-    let less = arm_within _ _ _ _ c.deref-arm-items.ensures.value c.arm-item.is c.loop-arm-test.true in
+    let less = arm_nodes_within _ _ _ _ c.deref-arm-items.ensures.value c.arm-item.is c.loop-arm-test.true in
     search rules
 
 pub nodes-arms_nodes-requires : goal.nodes-arms_nodes-requires
 nodes-arms_nodes-requires g t c κs within =
-    let less = arms_within c.args.self.now _ _ c.in-Parbegin.is in
+    let less = arms_nodes_within c.args.self.now _ _ c.in-Parbegin.is in
     search rules
 
 pub nodes-returns-in-Assign : goal.nodes-returns-in-Assign
@@ -74,22 +74,22 @@ nodes-returns-in-Hold g t c =
 
 pub nodes-list_nodes-requires : goal.nodes-list_nodes-requires
 nodes-list_nodes-requires g t c κs within =
-    let less = then_within c.args.self.now _ _ _ _ c.in-If.is in
+    let less = then_nodes_within c.args.self.now _ _ _ _ c.in-If.is in
     search rules
 
 pub nodes-list_nodes-requires-in-If : goal.nodes-list_nodes-requires-in-If
 nodes-list_nodes-requires-in-If g t c κs within =
-    let less = else_within c.args.self.now _ _ _ _ c.in-If.is in
+    let less = else_nodes_within c.args.self.now _ _ _ _ c.in-If.is in
     search rules
 
 pub nodes-list_nodes-requires-in-While : goal.nodes-list_nodes-requires-in-While
 nodes-list_nodes-requires-in-While g t c κs within =
-    let less = repeated_within c.args.self.now _ _ _ c.in-While.is in
+    let less = repeated_nodes_within c.args.self.now _ _ _ c.in-While.is in
     search rules
 
 pub nodes-list_nodes-requires-in-Hold : goal.nodes-list_nodes-requires-in-Hold
 nodes-list_nodes-requires-in-Hold g t c κs within =
-    let less = held_within c.args.self.now _ _ _ c.in-Hold.is in
+    let less = held_nodes_within c.args.self.now _ _ _ c.in-Hold.is in
     search rules
 
 pub list_nodes-loop-stmt-smaller : goal.list_nodes-loop-stmt-smaller

@@ -3,8 +3,8 @@ use Rattle.std.proofs.Common.{arith, rules, ap, sym, refl, ◌∙◌}
 use Rattle.pb_tree.specs.Syntax.{stmt_line}
 use Rattle.pb_tree.specs.View.{stmt_view, stmts_of, arm_view, joined_arms}
 use Rattle.pb_tree.proofs.Equal.{not_both, same_stmts, same_arms, same_length, same_read, same_step, same_all}
-use Rattle.pb_tree.proofs.Smaller.{stmt_within, arm_within, arms_within, then_within, else_within}
-use Rattle.pb_tree.proofs.Smaller.{repeated_within, held_within}
+use Rattle.pb_tree.proofs.Smaller.{stmt_nodes_within, arm_nodes_within, arms_nodes_within, then_nodes_within, else_nodes_within}
+use Rattle.pb_tree.proofs.Smaller.{repeated_nodes_within, held_nodes_within}
 use Rattle.pb_tree.proofs.StmtShapes.{only_Assign, only_Print, only_If, only_While, only_Hold, only_Parbegin}
 use Rattle.pb_tree.proofs.StmtShapes.{same_lines, other_lines, same_assign, assign_targets, assign_values}
 use Rattle.pb_tree.proofs.StmtShapes.{same_print, print_values, same_if, if_tests, if_trues, if_falses}
@@ -15,17 +15,17 @@ use Rattle.pb_tree.proofs.stmt.Stmt.+same.Goals as goal
 
 pub same-same_arms-requires : goal.same-same_arms-requires
 same-same_arms-requires g t c κs within =
-    let less = arms_within c.args.self.now _ _ c.in-Parbegin-Parbegin.is-0 in
+    let less = arms_nodes_within c.args.self.now _ _ c.in-Parbegin-Parbegin.is-0 in
     search rules
 
 pub same_list-same-requires : goal.same_list-same-requires
 same_list-same-requires g t c κs within =
-    let less = stmt_within _ _ _ _ c.deref-stmt-items.ensures.value c.stmt-item.is c.loop-i-test.true in
+    let less = stmt_nodes_within _ _ _ _ c.deref-stmt-items.ensures.value c.stmt-item.is c.loop-i-test.true in
     search rules
 
 pub same_arms-same_list-requires : goal.same_arms-same_list-requires
 same_arms-same_list-requires g t c κs within =
-    let less = arm_within _ _ _ _ c.deref-arm-items.ensures.value c.arm-item.is c.loop-i-test.true in
+    let less = arm_nodes_within _ _ _ _ c.deref-arm-items.ensures.value c.arm-item.is c.loop-i-test.true in
     search rules
 
 pub same_list-returns-then-len : goal.same_list-returns-then-len
@@ -300,20 +300,20 @@ same-returns-in_default-6 g t c =
 
 pub same-same_list-requires : goal.same-same_list-requires
 same-same_list-requires g t c κs within =
-    let less = then_within c.args.self.now _ _ _ _ c.in-If-If.is-0 in
+    let less = then_nodes_within c.args.self.now _ _ _ _ c.in-If-If.is-0 in
     search rules
 
 pub same-same_list-requires-then-same_list : goal.same-same_list-requires-then-same_list
 same-same_list-requires-then-same_list g t c κs within =
-    let less = else_within c.args.self.now _ _ _ _ c.in-If-If.is-0 in
+    let less = else_nodes_within c.args.self.now _ _ _ _ c.in-If-If.is-0 in
     search rules
 
 pub same-same_list-requires-then-same-3 : goal.same-same_list-requires-then-same-3
 same-same_list-requires-then-same-3 g t c κs within =
-    let less = repeated_within c.args.self.now _ _ _ c.in-While-While.is-0 in
+    let less = repeated_nodes_within c.args.self.now _ _ _ c.in-While-While.is-0 in
     search rules
 
 pub same-same_list-requires-then-same_demands : goal.same-same_list-requires-then-same_demands
 same-same_list-requires-then-same_demands g t c κs within =
-    let less = held_within c.args.self.now _ _ _ c.in-Hold-Hold.is-0 in
+    let less = held_nodes_within c.args.self.now _ _ _ c.in-Hold-Hold.is-0 in
     search rules
