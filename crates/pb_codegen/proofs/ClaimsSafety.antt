@@ -1,6 +1,6 @@
 -- Under the banker the loans of processes that ask for no resource twice stay safe.
 use Rattle.std.proofs.Common.{◌≡◌, ℕ, zero, suc, ◌+◌, ◌-◌, ◌<◌, ◌≤◌, List, [], ◌∷◌, length, get_or, map}
-use Rattle.std.proofs.Common.{replicate, set, refl, sym, ◌∙◌, subst, arith}
+use Rattle.std.proofs.Common.{replicate, set, sym, ◌∙◌, subst, arith}
 use Rattle.std.specs.Prelude.{All}
 use Rattle.std.proofs.Math.ListN.{get_or-map}
 use Rattle.std.proofs.lemmas.List.{length-map, length-replicate}
