@@ -8,6 +8,8 @@ import tempfile
 
 TOP = pathlib.Path(__file__).resolve().parent.parent
 EXAMPLES = sorted((TOP / "examples").glob("*.pb"))
+# The endings of the files of examples/ that a command reads, with how the names of their constants end.
+KINDS = {".pb": "", ".pbo": "_OBJECT", ".run": "_RUN"}
 DONE, REFUSED, WORDS, LIMIT, FAULT, MEMORY, DEVICE, THREADS = range(8)
 # The longest input that a command reads, and the longest text.
 MOST_INPUT, MOST_TEXT = 4_194_304, 65_536
@@ -23,6 +25,13 @@ def program():
     if not os.access(given, os.X_OK):
         sys.exit(f"{given} is not there: ./parbegin builds it")
     return str(given)
+
+
+def constant(file):
+    """Returns the module of crates/pb_example_texts that has a file of examples/, and the name of its constant."""
+    path = pathlib.PurePath(file)
+    folder = path.parent.name.split("-")[-1]
+    return folder or "first", path.stem.upper() + KINDS[path.suffix]
 
 
 def call(words, given, environment=None, of=None):

@@ -20,7 +20,7 @@ FISH = TOP / "extras/completion/parbegin.fish"
 MANUAL = TOP / "docs/parbegin.1"
 # What Vim colours in comments.
 TASKS = {"TODO", "FIXME", "NOTE"}
-# What clap gives to every command, and what may stand before a command.
+# What clap gives to every command, and what may come before a command.
 COMMON = {"help", "version", "unproved", "quiet"}
 BEFORE = {BASH: ("--unproved", "--quiet"), FISH: ("-l unproved", "-l quiet"), MANUAL: (r"\-\-unproved", r"\-\-quiet")}
 

@@ -1,26 +1,31 @@
 #!/usr/bin/env python3
 """Writes the tests that run the examples in the gate, which reads no file beside its crates.
 
-    checks/example_tests.py            says whether crates/pb_example_tests has what examples/ has
-    checks/example_tests.py --write    writes it anew, after a change of an example or of examples/expected
+    checks/example_tests.py            says whether the two crates have what examples/ has
+    checks/example_tests.py --write    writes them anew, after a change of an example or of examples/expected
 
-Each section of examples/expected/calls.txt becomes a file of that crate, with the texts, the calls and what is expected
-of each. Its status is 0 if all is as wanted, and 1 if not.
+Each folder of examples/ becomes a file of crates/pb_example_texts, with its texts and objects, and each section of
+examples/expected/calls.txt a file of crates/pb_example_tests, with the calls and what is expected of each. The status
+is 0 if all is as wanted, and 1 if not.
 """
 import re
 import sys
+import textwrap
+from pathlib import PurePath
 
-from calls import TOP
+from calls import KINDS, TOP, constant
 
 FOLDER = TOP / "examples"
 EXPECTED = FOLDER / "expected"
-CRATE = TOP / "crates/pb_example_tests/src"
+TESTS = TOP / "crates/pb_example_tests/src"
+TEXTS = TOP / "crates/pb_example_texts/src"
 STATUSES = ("Done", "Refused", "Words", "Limit", "Fault", "Memory", "Device", "Threads")
-KINDS = {".pb": "", ".pbo": "_OBJECT", ".run": "_RUN"}
 # A longer input is left to checks/examples.py: pb_tests makes texts of that length itself.
 LONGEST = 6_000
 # A constant has at most 10,000 parts, of which each byte of a text is one.
 LARGEST = 9_000
+# The most columns that `rt fmt` gives a line of code.
+WIDTH = 100
 # What `run`, `exec` and `record` are told if no word says otherwise.
 QUANTUM, STEPS = 64, 1_000_000
 
@@ -48,9 +53,19 @@ def literal(data):
     return 'b"' + data.decode("ascii").replace("\\", "\\\\").replace('"', '\\"') + '"'
 
 
-def constant(file):
-    path = FOLDER / file
-    return path.stem.upper() + KINDS[path.suffix]
+def imports(files):
+    """Returns the lines that import the constants of these files."""
+    found = {}
+    for module, name in sorted(constant(file) for file in files):
+        found.setdefault(module, []).append(name)
+    lines = []
+    for module, names in found.items():
+        line = f"use pb_example_texts::{module}::{{{', '.join(names)}}};" if names[1:] else f"use pb_example_texts::{module}::{names[0]};"
+        if len(line) > WIDTH:
+            packed = textwrap.wrap(", ".join(names) + ",", WIDTH - 4)
+            line = "\n".join([f"use pb_example_texts::{module}::{{", *(f"    {it}" for it in packed), "};"])
+        lines.append(line)
+    return lines
 
 
 def number(given):
@@ -84,7 +99,7 @@ def parts(rows):
 def table(name, rows):
     lines = ["#[rattlefmt::skip]", f"const {name}: [Call; {len(rows)}] = ["]
     for name, status, file, words in rows:
-        lines += ["    Call {", f'        name: "{name}",', f"        command: {command(words)},", f"        input: {constant(file)},"]
+        lines += ["    Call {", f'        name: "{name}",', f"        command: {command(words)},", f"        input: {constant(file)[1]},"]
         output = literal((EXPECTED / f"{name}.out").read_bytes())
         lines += [f"        status: Status::{STATUSES[status]},", f"        output: {output},", "    },"]
     return [*lines, "];", ""]
@@ -92,10 +107,8 @@ def table(name, rows):
 
 def test_file(heading, rows):
     lines = [f"//! {heading}, by the calls of `examples/expected/calls.txt`. Written by checks/example_tests.py.", ""]
-    lines += ["use crate::calls::{Call, Command, first_wrong};", "use pb_engines::Status;", "use std::test::Fail;", ""]
-    for file in dict.fromkeys(row[2] for row in rows):
-        lines += [f"/// The file {file}.", "#[rattlefmt::skip]"]
-        lines += [f"const {constant(file)}: &[u8] = {literal((FOLDER / file).read_bytes())};", ""]
+    lines += ["use crate::calls::{Call, Command, first_wrong};", "use pb_engines::Status;"]
+    lines += [*imports(dict.fromkeys(row[2] for row in rows)), "use std::test::Fail;", ""]
     for at, part in enumerate(parts(rows), 1):
         lines += table(f"CALLS_{at}", part)
         lines += ["#[test]", f"fn are_as_expected_{at}(rt: HostRuntime) -> Result<(), Fail> {{"]
@@ -103,11 +116,31 @@ def test_file(heading, rows):
     return "\n".join(lines)
 
 
+def text_files():
+    """Returns the files of crates/pb_example_texts, each with its text."""
+    found = {}
+    for path in sorted(FOLDER.rglob("*")):
+        if path.suffix in KINDS and path.stat().st_size <= LONGEST:
+            file = path.relative_to(FOLDER).as_posix()
+            module, name = constant(file)
+            found.setdefault(module, []).append((file, name, path.read_bytes()))
+    for module, rows in found.items():
+        where = f"examples/{PurePath(rows[0][0]).parent}".removesuffix("/.")
+        lines = [f"//! The files of `{where}`. Written by checks/example_tests.py.", ""]
+        for file, name, data in rows:
+            lines += [f"/// The file {file}.", "#[rattlefmt::skip]", f"pub const {name}: &[u8] = {literal(data)};", ""]
+        yield TEXTS / f"{module}.rt", "\n".join(lines)
+
+
+def test_files():
+    """Returns the files of crates/pb_example_tests, each with its text."""
+    for heading, rows in sections():
+        yield TESTS / (re.sub(r"\W+", "_", heading).lower().removeprefix("the_") + ".rt"), test_file(heading, rows)
+
+
 def main():
     wrong = []
-    for heading, rows in sections():
-        file = CRATE / (re.sub(r"\W+", "_", heading).lower().removeprefix("the_") + ".rt")
-        text = test_file(heading, rows)
+    for file, text in [*text_files(), *test_files()]:
         if "--write" in sys.argv[1:]:
             file.write_text(text)
         elif not file.is_file() or file.read_text() != text:

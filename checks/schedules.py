@@ -10,13 +10,17 @@ is left out, as is one that cannot be recorded. The status is 0 if all is as wan
 import re
 import sys
 
-from calls import TOP, call
+from calls import TOP, call, constant
 
 PROGRAM = TOP / "crates/pb_cli/out/pb_cli"
 FILE = TOP / "crates/pb_debug_tests/src/examples.rt"
 MOST = 400
+# The most parts of a table, of which each byte of a text is one. A constant may have 10,000.
+LARGEST = 3_000
 HEAD = """\
 //! The examples that make at most 400 picks under `record --seed 7`, each with the picks of that record.
+
+use pb_example_texts::{MODULES};
 
 /// A text, and the picks that were recorded: a process, an arm and how often it is picked, three bytes for each.
 pub(crate) struct Example {
@@ -49,20 +53,30 @@ def in_bytes(picks):
             count -= 255
 
 
-def literal(text):
-    return 'b"' + text.decode("ascii").replace("\\", "\\\\").replace('"', '\\"').replace("\n", "\\n") + '"'
-
-
-def wanted():
+def cases():
+    """Returns the examples that are recorded, each with its module, its constant, its picks in bytes, and its parts."""
     examples = TOP / "examples"
-    cases = []
     for file in [*sorted(examples.glob("*.pb")), *sorted(examples.glob("[1-6]*/*.pb"))]:
         text = file.read_bytes()
         picks = picks_of(text)
         if picks is not None:
-            row = ", ".join(str(byte) for byte in in_bytes(picks))
-            cases.append(f"    Example {{\n        text: {literal(text)},\n        picks: &[{row}],\n    }},\n")
-    return f"{HEAD}pub(crate) const EXAMPLES: [Example; {len(cases)}] = [\n{''.join(cases)}];\n"
+            row = [str(byte) for byte in in_bytes(picks)]
+            yield *constant(file.relative_to(examples)), ", ".join(row), len(text) + len(row)
+
+
+def wanted():
+    tables, modules, left = [], set(), 0
+    for module, name, row, parts in cases():
+        if parts > left:
+            tables.append([])
+            left = LARGEST
+        tables[-1].append(f"    Example {{\n        text: {module}::{name},\n        picks: &[{row}],\n    }},\n")
+        modules.add(module)
+        left -= parts
+    lines = [HEAD.replace("{MODULES}", f"{{{', '.join(sorted(modules))}}}")]
+    for number, table in enumerate(tables, 1):
+        lines.append(f"pub(crate) const EXAMPLES_{number}: [Example; {len(table)}] = [\n{''.join(table)}];\n")
+    return "\n".join(lines).replace("}\n\n\n", "}\n\n")
 
 
 def bare(text):

@@ -18,7 +18,7 @@ complete -c parbegin -n "not __fish_seen_subcommand_from $commands" -a explain -
 complete -c parbegin -n "not __fish_seen_subcommand_from $commands" -a migrate -d "Print an object in format 2"
 complete -c parbegin -n "not __fish_seen_subcommand_from $commands" -a outcomes -d "Print every way in which a program can end"
 complete -c parbegin -n "not __fish_seen_subcommand_from $commands" -a record -d "Run a program and print its picks"
-complete -c parbegin -n "not __fish_seen_subcommand_from $commands" -a replay -d "Make recorded picks again"
+complete -c parbegin -n "not __fish_seen_subcommand_from $commands" -a replay -d "Replay recorded picks"
 complete -c parbegin -n "not __fish_seen_subcommand_from $commands" -a run -d "Run a program"
 complete -c parbegin -n "not __fish_seen_subcommand_from $commands" -a help -d "Print help of a command"
 

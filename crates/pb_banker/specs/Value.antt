@@ -2,8 +2,8 @@
 use Rattle.std.specs.Prelude.{ℕ, List, length, replicate}
 use Rattle.pb_base.specs.Banker.{BankerState}
 
--- the state; the order that the banker tries first, and how many processes its last `ask` compared, which
--- are no part of the state
+-- the state; the order that the banker tries first, and how many processes its last `ask` compared, which are
+-- not part of the state
 pub record BankerValue : Type 0 where
   pub state : BankerState
   pub kept_order : List ℕ

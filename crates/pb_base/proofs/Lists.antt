@@ -1,9 +1,9 @@
 -- Lists and optional values, as several crates need them.
 use Rattle.std.proofs.Common.{◌≡◌, ℕ, zero, suc, ◌+◌, ◌<◌, ◌≤◌, List, [], ◌∷◌, ◌++◌, length, get_or, map, take, drop}
-use Rattle.std.proofs.Common.{Some, refl, sym, ap, ◌∙◌, arith, add-one, append_assoc}
+use Rattle.std.proofs.Common.{Some, option_map, refl, sym, ap, ◌∙◌, arith, add-one, append_assoc}
 use Rattle.std.specs.Prelude.{slice_get}
 use Rattle.std.proofs.Math.Seq.{take-append_seam}
-use Rattle.std.proofs.lemmas.Option.{slice_get-get_or}
+use Rattle.std.proofs.lemmas.Option.{slice_get-get_or, slice_get-map}
 
 -- what an index finds
 pub item_at : {X : Type 0} (xs : List X) (i : ℕ) (x : X) → i < length xs → x ≡ get_or xs i x → slice_get xs i ≡ Some x
@@ -36,6 +36,13 @@ pub get_mapped : {X Y : Type 0} (f : X → Y) (xs : List X) (i : ℕ) (y : Y) �
 get_mapped f [] i y h = cc
 get_mapped f (x ∷ xs) zero y h = (x, refl, cc)
 get_mapped f (x ∷ xs) (suc i) y h = get_mapped f xs i y h
+
+-- an element that a loop has read has its view at its place
+pub view_read : {S T : Type 0} (view : S → T) (all xs : List S) (i : ℕ) (x : S)
+    → xs ≡ all → i < length xs → x ≡ get_or xs i x → slice_get (map view all) i ≡ Some (view x)
+view_read view all xs i x list below here =
+    ap (λ ys. slice_get (map view ys) i) (sym list)
+    ∙ slice_get-map view xs i ∙ ap (option_map view) (item_at xs i x below here)
 
 -- an element after those before it
 pub take_next : {X : Type 0} (xs : List X) (i : ℕ) (x : X) → slice_get xs i ≡ Some x

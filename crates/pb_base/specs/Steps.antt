@@ -17,7 +17,7 @@ abbrev pub Stays : {P : Type 0} → Bank → Stepper P → State P → Pick → 
 Stays {P = P} bank step s pick =
     (move : Move P) → move_of step s pick ≡ Some move → IsGranted bank s.loans pick.process move.effect → ⊥
 
--- what the answer says, and the state after the pick, is what this stepper does
+-- what the result says, and the state after the pick, is what this stepper does
 abbrev pub IsStepOf : {P : Type 0} → Bank → Stepper P → State P → Pick → Step → State P → Type 0
 IsStepOf bank step before pick Silent after = Moves bank step before pick None after
 IsStepOf bank step before pick (Did event) after = Moves bank step before pick (Some event) after

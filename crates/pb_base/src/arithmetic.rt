@@ -1,4 +1,4 @@
-//! What the operators answer.
+//! The results of the operators.
 
 ghost use Rattle.std.specs.Prelude.{◌≡◌};
 ghost use Rattle.pb_base.specs.Arithmetic.{apply as value_of, apply_unary as value_of_unary};

@@ -1,4 +1,4 @@
-//! The capital of each resource.
+//! The type of a capital.
 
 ghost use Rattle.std.specs.Prelude.{◌≡◌, ◌<◌, ◌≤◌, length, All, IfOk, slice_index};
 

@@ -26,8 +26,8 @@ pub trait Input {
     /// How many reads have failed.
     ghost failures: { Self → ℕ };
 
-    /// Reads the next bytes into the front of `buf`, and says how many. It is 0 only at the end or
-    /// for an empty `buf`.
+    /// Reads the next bytes into the front of `buf`, and returns how many. It is 0 only at the end or for an
+    /// empty `buf`.
     fn read(&mut self, buf: &mut [u8]) -> Result<usize, DeviceFault>
         ensures bound { IfOk result (λ n. n ≤ length buf.new) }
         ensures given { IfOk result (λ n. GivesNext (rest self.old) buf.new n) }
@@ -47,7 +47,7 @@ pub trait Output {
     /// How many writes have failed.
     ghost failures: { Self → ℕ };
 
-    /// Takes some first bytes, and says how many: at least 1 if there are any.
+    /// Takes some first bytes, and returns how many: at least 1 if there are any.
     fn write(&mut self, bytes: &[u8]) -> Result<usize, DeviceFault>
         ensures bound { IfOk result (λ n. n ≤ length bytes.now) }
         ensures some { IfOk result (λ n. 0 < length bytes.now → 0 < n) }

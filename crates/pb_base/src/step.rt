@@ -1,4 +1,4 @@
-//! What a pick did.
+//! The type of what a pick did.
 
 use crate::event::Event;
 

@@ -1,11 +1,9 @@
 -- How much of a resource is in a bundle.
-use Rattle.std.proofs.Common.{◌≡◌, ◌≢◌, ℕ, zero, suc, ◌+◌, ◌<◌, ◌≤◌, List, [], ◌∷◌, length, get_or, take, arith}
-use Rattle.std.proofs.Common.{ap, sym, refl, inl, inr}
-use Rattle.std.specs.Prelude.{All, slice_get, Some}
-use Rattle.std.proofs.lemmas.Option.{slice_get_within, get_or_from_slice_get}
+use Rattle.std.proofs.Common.{◌≡◌, ◌≢◌, ℕ, zero, suc, ◌<◌, ◌≤◌, List, [], ◌∷◌, length, get_or, arith}
+use Rattle.std.proofs.Common.{sym, refl, inl, inr}
+use Rattle.std.specs.Prelude.{All}
 use Rattle.std.specs.List.{AllZip}
 use Rattle.std.proofs.lemmas.Bool.Decides.{eqb_tells}
-use Rattle.std.proofs.lemmas.List.Sums.{sum_by_more}
 use Rattle.std.proofs.lemmas.List.Elements.{All-head, All-tail}
 use Rattle.pb_base.specs.declared.pair.Pair.{Pair}
 use Rattle.pb_base.specs.Bundle.{IsDistinct, amount_in}
@@ -13,14 +11,6 @@ use Rattle.pb_base.proofs.LoanRows.{amount_of_pair, amount_in-cons, IsDistinct-t
 use Rattle.pb_tree.specs.Syntax.{DemandSyntax}
 use Rattle.pb_names.specs.Program.{Name}
 use Rattle.pb_names.specs.Resolves.{ResolvesDemand, ResolvesDemands}
-
--- one more pair
-pub amount_in-more : (pairs : List Pair) (i r : ℕ) (pair : Pair) → slice_get pairs i ≡ Some pair
-    → amount_in (take (i + 1) pairs) r ≡ amount_in (take i pairs) r + amount_of_pair r pair
-amount_in-more pairs i r pair at =
-    let more = sum_by_more (amount_of_pair r) pairs i pair (slice_get_within pairs i pair at) in
-    let same = ap (amount_of_pair r) (get_or_from_slice_get pairs i pair pair at) in
-    omega (arith, more, same)
 
 pub amount_of_pair-same : (r : ℕ) (pair : Pair) → pair.resource ≡ r → amount_of_pair r pair ≡ pair.amount
 amount_of_pair-same r pair same =

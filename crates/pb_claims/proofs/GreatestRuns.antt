@@ -95,7 +95,7 @@ pub record Reaches (r : ℕ) (items : List Item) (amount : ℕ) : Type 0 where
   pub run : FreeRun (Doing items) arm
   pub holds : held r arm ≡ amount
 
--- where one step leads to a list from which as much is reached
+-- if one step leads to a list from which as much is reached
 step_reaches : (r : ℕ) (items next : List Item) (a b : ℕ) → FreeStep (Doing items) (Doing next) → a ≡ b
     → Reaches r next a → Reaches r items b
 step_reaches r items next a b step same g = record {

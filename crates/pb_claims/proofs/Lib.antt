@@ -1,7 +1,7 @@
 pub mod Amounts
 pub mod Bounds
+pub mod FreeRunPeaks
 pub mod GreatestRuns
-pub mod NoMore
 pub mod OnePass
 pub mod Rows
 pub mod Walks

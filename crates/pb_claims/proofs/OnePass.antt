@@ -3,7 +3,7 @@ use Rattle.std.proofs.Common.{◌≡◌, ℕ, [], ◌++◌, subst, ap, arith, ap
 use Rattle.pb_names.specs.Program.{Process}
 use Rattle.pb_names.specs.Source.{items_of, Doing}
 use Rattle.pb_names.specs.Claims.{FreeRun, start_of, IsClaim, peak}
-use Rattle.pb_claims.proofs.NoMore.{list_peak, held_le, run_falls, block_list_peak}
+use Rattle.pb_claims.proofs.FreeRunPeaks.{list_peak, held_le, run_falls, block_list_peak}
 use Rattle.pb_claims.proofs.GreatestRuns.{reach}
 
 pub is_claim : (process : Process) (r : ℕ) → IsClaim process r (peak r process.body)

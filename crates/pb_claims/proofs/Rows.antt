@@ -78,7 +78,7 @@ capped_claims program table same =
       );
     }
 
--- and all of them where each is a number of 64 bits
+-- and all of them if each is a number of 64 bits
 pub exact_claims : (program : Program) (table : Table) → HaveSmallClaims program → AreCappedClaims program table
     → AreClaims program table
 exact_claims program table small h = record {
@@ -99,7 +99,7 @@ row_more block r amount before after so_far next pushed =
     let more = map-range_with_len_more (λ k. saturated (peak k block)) 0 r r (omega arith) in
     pushed ∙ ap (λ row. row ++ amount ∷ []) so_far ∙ ap (λ x. capped_peaks r block ++ x ∷ []) next ∙ sym more
 
--- ---- what is answered for a program in memory
+-- ---- what is returned for a program in memory
 
 pub stored_resources : {A : Type 0} (program : Resolved A)
     → length (resolved_view program).resources ≡ length program.resources.items
@@ -113,7 +113,7 @@ pub stored_some : {A : Type 0} (program : Resolved A) → 1 ≤ length (resolved
     → 0 < length program.processes.items
 stored_some program some = let same = stored_processes program in omega (arith, some, same)
 
--- where rows were found for its processes, and a table has these rows
+-- if rows were found for its processes, and a table has these rows
 pub found_claims : {A : Type 0} (program : Resolved A) (n : ℕ) (rows table : Table)
     → n ≡ length program.resources.items
     → rows ≡ map (λ process. capped_peaks n (block_view process.body.items)) program.processes.items → table ≡ rows

@@ -12,7 +12,7 @@ use Rattle.pb_engines.specs.Faults.{Devices}
 use Rattle.pb_cli.specs.Calls.{CallTellsFaults, CallWrites, TellsDebugFaults, fault_status, words_fault_text}
 use Rattle.pb_words.specs.Read.{BlamesWords, WordsSay}
 
--- what is written where the words were not read
+-- what is written if the words were not read
 pub CallWrites-refused : (words : List (Bor (List ℕ))) (rest old new : Option (List ℕ)) (status : Status) (e : WordsFault)
     → (BlamesWords e → (o : Options) → WordsSay words o → ⊥) → Says old new (words_fault_text e) (fault_status e) status
     → CallWrites words rest old new status

@@ -1,4 +1,4 @@
-//! The code of a program.
+//! The types of code: that of a process and that of a program.
 
 use crate::instr::Instr;
 use pb_base::{Bundle, Capital, Claims, Names};
@@ -10,7 +10,7 @@ pub struct ProcessCode {
     pub integers: u8,
     /// The place at which each arm begins, by its number.
     pub entries: Vec<u16>,
-    /// What `take` and `give` ask for and hand back, which name a bundle by its place here.
+    /// What `take` and `give` ask for and hand back, which name a bundle by its number here.
     pub bundles: Vec<Bundle>,
     /// The instructions, by their place. Arms follow one another by number.
     pub instrs: Vec<Instr>,

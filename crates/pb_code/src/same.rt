@@ -213,8 +213,8 @@ fn same_claims(claims: &Claims, other: &Claims) -> bool
 }
 
 impl Code {
-    /// Returns whether this is the other code: names, capital, claims, and the code of each process, where
-    /// bundles are compared by their pairs and not by their numbers.
+    /// Returns whether this is the other code: names, capital, claims, and the code of each process, with
+    /// bundles compared by their pairs and not by their numbers.
     pub fn same(&self, other: &Code) -> bool
         ensures { (result ≡ true) ↔ (code_view self.now ≡ code_view other.now) }
     {
@@ -225,8 +225,8 @@ impl Code {
             && same_codes(&self.processes, &other.processes)
     }
 
-    /// Returns whether a process is the same in the other code: its name, its claims, and its code, where
-    /// bundles are compared by their pairs and not by their numbers.
+    /// Returns whether a process is the same in the other code: its name, its claims, and its code, with
+    /// bundles compared by their pairs and not by their numbers.
     pub fn same_process(&self, p: usize, other: &Code) -> bool
         requires here { p < length self.now.processes.items }
         requires there { p < length other.now.processes.items }

@@ -48,7 +48,7 @@ arm_frees vars (Waiting line first arms rest) st e = go (all_ended arms) refl e
     go false ended e' = cc
 arm_frees vars Ended st e = cc
 
--- a step that goes on is no fault
+-- a step that goes on is not a fault
 abbrev NotFaulting : ArmStep → Type 0
 NotFaulting (Goes vars new effect) = (kind : FaultKind) → effect ≡ Faults kind → ⊥
 NotFaulting (Breaks kind) = Unit {0}

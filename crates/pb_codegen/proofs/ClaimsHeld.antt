@@ -1,6 +1,6 @@
 -- The source of a program holds no more than a free run, so no request passes its claim.
-use Rattle.std.proofs.Common.{◌≡◌, ◌≢◌, ⊎_elim, ℕ, zero, suc, ◌+◌, ◌≤◌, Bool, true, false, nat_eq, List, []}
-use Rattle.std.proofs.Common.{◌∷◌, length, get_or, map, replicate, Option, Some, None, option_map}
+use Rattle.std.proofs.Common.{◌≡◌, ◌≢◌, ⊎_elim, ℕ, ◌+◌, ◌≤◌, Bool, true, false, nat_eq, List, []}
+use Rattle.std.proofs.Common.{◌∷◌, length, map, Option, Some, None, option_map}
 use Rattle.std.proofs.Common.{option_and_then, refl, sym, ap, ◌∙◌, subst, arith, eqb-true}
 use Rattle.std.specs.Prelude.{slice_get, slice_set}
 use Rattle.std.proofs.lemmas.Bool.{eqb-false}
@@ -15,6 +15,7 @@ use Rattle.pb_names.specs.Program.{Process, AllWellNumbered}
 use Rattle.pb_names.specs.Source.{Arm, SourceProcess, step_run, source_step, source_process}
 use Rattle.pb_names.specs.Claims.{IsClaim, FreeRun, at_start, and_then, held, start_of}
 use Rattle.pb_code.specs.Code.{CodeProcess, code_process}
+use Rattle.pb_verifier.proofs.LoansWithinClaims.{zero_loans}
 use Rattle.pb_verifier.proofs.States.{slice_set_same, slice_set_other, lent_there}
 use Rattle.pb_codegen.specs.Correct.{generated}
 use Rattle.pb_codegen.proofs.SimulationPlaces.{listing_of}
@@ -231,19 +232,6 @@ keeps_on bank program ss (pick ∷ picks) events end k m =
     })
     m.5
 
-abbrev zeros : ℕ → List ℕ
-zeros n = replicate n 0
-
-zero_row : (n r : ℕ) → get_or (zeros n) r 0 ≡ 0
-zero_row zero r = refl
-zero_row (suc n) zero = refl
-zero_row (suc n) (suc r) = zero_row n r
-
-zero_amount : {X : Type 0} (n : ℕ) (xs : List X) (p r : ℕ) → cell (map (λ (x : X). zeros n) xs) p r ≡ 0
-zero_amount n [] p r = refl
-zero_amount n (x ∷ xs) zero r = zero_row n r
-zero_amount n (x ∷ xs) (suc p) r = zero_amount n xs p r
-
 starts_kept : (bank : Bank) (program : List Process) → AllWellNumbered program
     → Kept program (opening bank (map source_process program))
 starts_kept bank program h = record {
@@ -259,7 +247,7 @@ starts_kept bank program h = record {
         start_of process,
         at_start,
         subst (λ x. SameArm x (start_of process)) run_is' (same_arm (start_of process)),
-        λ r. let z = zero_amount (length bank.capital) (map source_process program) p r in omega (arith, z),
+        λ r. let z = zero_loans (length bank.capital) (map source_process program) p r in omega (arith, z),
       );
   covers = λ p sp in_state. let g = get_mapped source_process program p sp in_state in (g.0, g.1);
 }

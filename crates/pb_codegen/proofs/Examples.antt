@@ -22,7 +22,7 @@ use Rattle.pb_names.proofs.Examples.{by_arm}
 abbrev amounts : ℕ → ℕ → Bundle
 amounts r k = record { resource = r; amount = k } ∷ []
 
--- the events of these picks, where each can be made (the banker is not asked)
+-- the events of these picks, if each can be made (the banker is not asked)
 abbrev mutual
   play : {P : Type 0} → Stepper P → List Pick → State P → Option (List Event)
   play step [] s = Some []

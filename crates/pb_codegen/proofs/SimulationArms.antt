@@ -104,7 +104,7 @@ pub data StandsAt (code : Listing) : List Item → (place : ℕ) → (stack : Li
       → ItemAt code item p s after (first_line rest) → Reaches code (first_line rest) n after q
       → StandsAt code rest q [] → StandsAt code (item ∷ rest) p s
 
--- the same, where jumps may come first
+-- the same, if jumps may come first
 pub record StandsFrom (code : Listing) (items : List Item) (place : ℕ) (stack : List ℤ) : Type 0 where
   pub jumps : ℕ
   pub first : ℕ

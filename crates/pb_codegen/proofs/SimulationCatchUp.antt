@@ -1,4 +1,4 @@
--- Where the source may take a pick, the code comes to do the same.
+-- If the source may take a pick, the code comes to do the same.
 use Rattle.std.proofs.Common.{◌≡◌, ℕ, zero, suc, true, false, List, Some, None, sym, ap, ◌∙◌, true≢false}
 use Rattle.pb_base.specs.declared.pick.Pick.{Pick}
 use Rattle.pb_base.specs.Steppers.{Effect, State, Move, move_of}

@@ -21,7 +21,7 @@ use Rattle.pb_names.proofs.Holds.{numbers_below}
 abbrev numbers : Bundle → List ℕ
 numbers bundle = map (λ pair. pair.resource) bundle
 
--- a resource that a pair names is one of the first n, where all are
+-- a resource that a pair names is one of the first n, if all are
 below_named : (n q : ℕ) (bundle : Bundle) → All (λ pair. pair.resource < n) bundle
     → list_any (eqb q) (numbers bundle) ≡ true → q < n
 below_named n q [] all h = cc

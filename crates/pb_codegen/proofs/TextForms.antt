@@ -10,8 +10,8 @@ use Rattle.pb_parser.specs.Grammar.{Reads, tight, chain, negation, comparison, m
 use Rattle.pb_names.specs.Limits.{width}
 use Rattle.pb_parser.specs.Grammar.{name_at}
 use Rattle.pb_parser.specs.Lists.{append, append_arms, single_arm}
-use Rattle.pb_parser.specs.Statements.{ReadsPair, pair, ReadsPairs, ReadsStmt, skip, assign, print, choice, choices}
-use Rattle.pb_parser.specs.Statements.{loop, hold, fork, inner, ReadsList, first, next, ReadsArms, first_arm}
+use Rattle.pb_parser.specs.Statements.{ReadsPair, pair, ReadsPairs, ReadsStmt, skip, assign, print, if_then, if_else}
+use Rattle.pb_parser.specs.Statements.{while_do, hold, parbegin, inner, ReadsList, first, next, ReadsArms, first_arm}
 use Rattle.pb_parser.specs.Statements.{next_arm}
 use Rattle.pb_parser.specs.Statements as pairs
 use Rattle.pb_parser.specs.Programs.{ReadsNames, ReadsResource, resource, ReadsResources, none, another}
@@ -73,21 +73,21 @@ mutual
   full_stmt (skip i) s = (tt, s.1)
   full_stmt (assign i j h) s = ((s.0.0, tt), behind_expr h s.1.1)
   full_stmt (print i h) s = ((s.0.0, tt), behind_expr h s.1)
-  full_stmt (choice i h j k o) s =
+  full_stmt (if_then i h j k o) s =
       let a = full_list k (behind_expr h s.1).1 in
       (((s.0.0, a.0, tt), tt), a.1.1)
-  full_stmt (choices i h j k o l q) s =
+  full_stmt (if_else i h j k o l q) s =
       let a = full_list k (behind_expr h s.1).1 in
       let b = full_list l a.1.1 in
       (((s.0.0, a.0, b.0), tt), b.1.1)
-  full_stmt (loop i h j k o) s =
+  full_stmt (while_do i h j k o) s =
       let a = full_list k (behind_expr h s.1).1 in
       (((s.0.0, a.0), tt), a.1.1)
   full_stmt (hold i h j k o) s =
       let p = behind_pairs h s.1 in
       let a = full_list k p.1.1 in
       (((s.0.0, p.0, a.0), tt), a.1.1)
-  full_stmt (fork i h j) s =
+  full_stmt (parbegin i h j) s =
       let a = full_arms h s.1 in
       (((s.0.0, a.0, a.1), tt), a.2.1)
   full_stmt (inner i h j) s = let a = full_list h s.1 in (a.0, a.1.1)

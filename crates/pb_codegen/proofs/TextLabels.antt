@@ -82,7 +82,7 @@ module _ (integers resources : List Name) where
   begins_on _ _ full (hold line demands bundle body body' h k) = full.0
   begins_on _ _ full (parbegin line first arms arms' few h) = full.0
 
-  -- where what follows a block has a line or none, so has what follows the statement before it
+  -- if what follows a block has a line or none, so has what follows the statement before it
   line_behind : (ss : tree.StmtsSyntax) (block : Block) (after : Option ℕ) → IsFull ss
       → ResolvesStmts integers resources ss block → IsLine after → IsLine (block_line block after)
   line_behind _ _ after full no_stmt is = is

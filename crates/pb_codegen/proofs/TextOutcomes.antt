@@ -1,4 +1,4 @@
--- From what each part answers to what a compiled, or a refused, text is.
+-- From what each part returns to what a compiled, or a refused, text is.
 use Rattle.std.proofs.Common.{◌≡◌, ◌⊎◌, ℕ, List, length, map, Result, Ok, Err, refl, sym, ap, ◌∙◌, arith}
 use Rattle.std.proofs.lemmas.List.{length-map}
 use Rattle.std.proofs.lemmas.List.Elements.{All-weaker}

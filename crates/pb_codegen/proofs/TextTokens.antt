@@ -22,7 +22,7 @@ each_token-append : (P : Token → Type 0) (a b : List Token) → EachToken P a 
 each_token-append P [] b h g = g
 each_token-append P (t ∷ a) b h g = (h.0, each_token-append P a b h.1 g)
 
--- the token begins on a line of a text, and what it says, where it says a name, is a name
+-- the token begins on a line of a text, and what it says, if it says a name, is a name
 abbrev pub IsProper : Token → Type 0
 IsProper t = IsSourceLine t.line × ((x : List ℕ) → t.lexeme ≡ Name x → IsName x)
 

@@ -1,4 +1,4 @@
--- What code of a resolved program takes and gives back is no resource twice, and each one that is there.
+-- Code of a resolved program takes and gives back no resource twice, and only resources that are there.
 use Rattle.std.proofs.Common.{◌≡◌, ℕ, zero, suc, ◌+◌, ◌<◌, ℤ, pos, Bool, true, false, cond, List, [], ◌∷◌}
 use Rattle.std.proofs.Common.{length, get_or, set, Option, Some, None, option_and_then, Result, Ok, Err, refl}
 use Rattle.std.proofs.Common.{ap, subst}

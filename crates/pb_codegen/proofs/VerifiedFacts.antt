@@ -9,7 +9,7 @@ use Rattle.pb_verifier.specs.Places.{InstrAt, Follows, Reached, at_entry, from}
 use Rattle.pb_verifier.specs.Faults.{pops, pushes, TurnsDepth, AreDepths, TurnsHoldings, AreHoldings}
 use Rattle.pb_verifier.specs.Faults.{EndsClear}
 use Rattle.pb_verifier.proofs.ArmPlaces.{same_instr}
-use Rattle.pb_verifier.proofs.Greatest.{one_depth, one_holdings, spread_once}
+use Rattle.pb_verifier.proofs.UniqueFacts.{one_depth, one_holdings, spread_once}
 
 abbrev pub depth_of : Option Shape → ℕ
 depth_of None = 0
@@ -92,7 +92,7 @@ module _ (code : ProcessCode) (notes : Notes) (noted_code : IsNoted code notes) 
       let t = turn_at before i w.0 w.1 at w.2 in
       (t.0, t.1, t.5 p follows)
 
-  -- a shape that an instruction leads to, or that of its own place where it leads nowhere
+  -- a shape that an instruction leads to, or that of its own place if it leads nowhere
   pub depths : AreDepths code depth
   depths = record {
     starts = λ a u. ap depth_of (noted_code.starts a u);

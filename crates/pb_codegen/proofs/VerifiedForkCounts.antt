@@ -9,11 +9,11 @@ use Rattle.pb_verifier.specs.Places.{IsAmong}
 
 -- ---- one number among others
 
--- 1 where the numbers are the same
+-- 1 if the numbers are the same
 abbrev same : ℕ → ℕ → ℕ
 same b first = cond (eqb b first) 1 0
 
--- 1 where b is one of n numbers from the first on
+-- 1 if b is one of n numbers from the first on
 abbrev pub among : (b first n : ℕ) → ℕ
 among b first zero = 0
 among b first (suc n) = same b first + among b (first + 1) n
@@ -104,7 +104,7 @@ named_once_at_least b (i ∷ is) zero first n at h =
 named_once_at_least b (i ∷ is) (suc place) first n at h =
     let rest = named_once_at_least b is place first n at h in omega (arith, rest)
 
--- an instruction that is no fork names none
+-- an instruction that is not a fork names none
 fork_or_none : (b : ℕ) (i : Instr) → ((first : ℕ) × (n : ℕ) × (i ≡ Fork first n)) ⊎ (times_named b i ≡ 0)
 fork_or_none b (Push v) = inr refl
 fork_or_none b (Load x) = inr refl
@@ -142,7 +142,7 @@ place_naming b (i ∷ is) h = go (fork_or_none b i) (place_naming b is)
     go (inl w) rest = here w.0 w.1 w.2 (among_or_none b w.0 w.1) rest
     go (inr z) rest = later (rest (omega (arith, h, z)))
 
--- where it is named once at most, two places that name it are one
+-- if it is named once at most, two places that name it are one
 pub one_place : (b : ℕ) (is : List Instr) (p f n q g m : ℕ) → times_in b is ≤ 1
     → slice_get is p ≡ Some (Fork f n) → IsAmong f n b → slice_get is q ≡ Some (Fork g m) → IsAmong g m b → p ≡ q
 one_place b [] p f n q g m few at h at' h' = cc

@@ -67,7 +67,7 @@ module _ (process : Process) (numbered : IsWellNumbered process) where
           omega (arith, x, y)
       go (inr z) = let y = times_in-body b process.body numbered in omega (arith, y, z)
 
-  -- where each parbegin has an arm
+  -- if each parbegin has an arm
   pub has_forks : ((place first n : ℕ) → InstrAt (process_code process) place (Fork first n) → 1 ≤ n)
       → HasForks (process_code process)
   has_forks some = record {

@@ -48,7 +48,7 @@ mutual
   block_forks n k (Then s block) l h =
       (stmt_forks n k s l h.0, block_forks (n + length (arms_in_stmt s)) k block (omega (arith, l)) h.1)
 
--- ---- each arm forks later ones, where the first has the number n
+-- ---- each arm forks later ones, if the first has the number n
 
 abbrev ForkLater : ℕ → List Block → Type 0
 ForkLater n [] = Unit {0}
@@ -60,7 +60,7 @@ later-append n (x ∷ a) b h g =
     let e : n + suc (length a) ≡ n + 1 + length a = omega arith in
     (h.0, later-append (n + 1) a b h.1 (subst (λ k. ForkLater k b) e g))
 
--- the arms of a parbegin, where those inside them are numbered from a later number on
+-- the arms of a parbegin, if those inside them are numbered from a later number on
 later_list : (n m : ℕ) (arms : Arms) → n + count arms ≤ m → AreNumbered m arms → ForkLater n (arms_list arms)
 later_list n m NoArm l h = tt
 later_list n m (AndArm arm arms) l h = (

@@ -190,7 +190,7 @@ wrong_fault : (c : Code) (fault : VerifyFault) → IsAnnotated c → IsRefusedFo
     → (fault ≡ NoMemory → ⊥) → ⊥
 wrong_fault c fault annotated refused other = (refused other).0 (annotated fault)
 
--- annotated code is refused only if memory runs out
+-- annotated code is refused only if out of memory
 pub memory_alone : (c : Code) (fault : VerifyFault) → IsAnnotated c → IsRefusedFor c fault → fault ≡ NoMemory
 memory_alone c OutOfLimits annotated refused =
     elim (wrong_fault c OutOfLimits annotated refused (λ e. cc)) [ ]

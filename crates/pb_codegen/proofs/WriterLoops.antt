@@ -17,7 +17,7 @@ more f h zs zs' z xs i x so_far within here pushed same =
     ∙ sym (map-append h (map f (take i xs)) (f (get_or xs i x) ∷ []))
     ∙ ap (map h) (sym (map_more f xs i x within))
 
--- the same where what is written is seen by its view
+-- the same if what is written is seen by its view
 pub more_seen : {X Y Z W : Type 0} (f : X → Y) (h : Y → Z) (g : W → Z) (ws ws' : List W) (w : W) (xs : List X)
     (i : ℕ) (x : X)
     → map g ws ≡ map h (map f (take i xs)) → i < length xs → x ≡ get_or xs i x → ws' ≡ ws ++ w ∷ [] → g w ≡ h (f x)
@@ -25,7 +25,7 @@ pub more_seen : {X Y Z W : Type 0} (f : X → Y) (h : Y → Z) (g : W → Z) (ws
 more_seen f h g ws ws' w xs i x so_far within here pushed same =
     more f h (map g ws) (map g ws') (g w) xs i x so_far within here (ap (map g) pushed ∙ map-append g ws (w ∷ [])) same
 
--- the same where one function says what is written for an element
+-- the same if one function says what is written for an element
 pub more_written : {X Z : Type 0} (f : X → Z) (zs zs' : List Z) (z : Z) (xs : List X) (i : ℕ) (x : X)
     → zs ≡ map f (take i xs) → i < length xs → x ≡ get_or xs i x → zs' ≡ zs ++ z ∷ [] → z ≡ f x
     → zs' ≡ map f (take (i + 1) xs)

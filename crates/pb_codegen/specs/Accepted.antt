@@ -26,8 +26,8 @@ pub record CanBeCompiled (tree : ProgramSyntax) (program : Program) (claims : Ta
   pub enough : FitCapital claims (capital_of program)
 
 -- what is then true of it and its code: the code can be generated, it has none of the faults that the
--- verifier looks for, and so a refusal comes only if memory runs out; it is well behaved; and the program
--- keeps its claims
+-- verifier looks for, and so a refusal comes only if out of memory; it is well behaved; and the program keeps
+-- its claims
 pub record HasSoundCode (program : Program) (claims : Table) : Type 0 where
   pub generatable : IsGeneratable program
   pub annotated : IsAnnotated (program_code program claims)

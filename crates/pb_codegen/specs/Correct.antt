@@ -35,8 +35,8 @@ MeansTheSame program code = Implements (SourceCan program) (CodeCan code) (longe
 
 -- ---- lines
 
--- the line of the place of each live arm is the line of the first item of that arm in the source, none where
--- its list is empty
+-- the line of the place of each live arm is the line of the first item of that arm in the source, none if its
+-- list is empty
 abbrev pub LinesAgree : List Process → State CodeProcess → State SourceProcess → Type 0
 LinesAgree program s t =
     (p a place : ℕ) (stack : List ℤ) (process : Process) (cp : CodeProcess) (sp : SourceProcess)

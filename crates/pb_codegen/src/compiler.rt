@@ -32,7 +32,7 @@ pub struct Analysis<A: Allocator> {
 /// program is in the memory of `trees`.
 ///
 /// A text is refused by the first of the parts that finds a fault in it, in the order of `CompileFault`. An
-/// error is `Memory` if memory is refused at any time, also before a later part has looked at the text.
+/// error is `Memory` if it is out of memory at any time, also before a later part has looked at the text.
 pub fn analyze<A: Allocator + Clone>(
     alloc: Global,
     trees: A,
@@ -105,7 +105,7 @@ fn name_claim<A: Allocator>(
     })
 }
 
-/// Verifies code in which there is no fault. The error comes only if memory is refused.
+/// Verifies code in which there is no fault. The error comes only if `alloc` is out of memory.
 fn verify_generated(alloc: Global, code: Code) -> Result<Verified, NoMemory>
     requires { (fault : VerifyFault) → IsRefusedFor (code_view code) fault → fault ≡ VerifyFault.NoMemory }
     ensures { IfOk result (λ verified. verified.code ≡ code_view code) }

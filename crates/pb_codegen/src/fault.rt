@@ -1,4 +1,4 @@
-//! Why a text is not compiled.
+//! The faults for which a text is not compiled.
 
 ghost use Rattle.std.specs.Prelude.{◌≡◌};
 ghost use Rattle.pb_codegen.specs.Compiled.{of_lex, of_parse, of_names};

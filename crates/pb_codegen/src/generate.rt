@@ -24,7 +24,7 @@ pub struct Generated {
 }
 
 /// Returns the code of a program whose processes have these claims, with its labels: one pass over each
-/// process, in which jumps forward are patched. The error comes only if memory is refused.
+/// process, in which jumps forward are patched. The error comes only if `alloc` is out of memory.
 pub fn generate<A: Allocator>(
     alloc: Global,
     program: &Resolved<A>,

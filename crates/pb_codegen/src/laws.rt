@@ -57,8 +57,8 @@ pub fn generated_code_is_verified()
 {}
 
 /// Once a text is cut, read within the limits and resolved, and the capital is enough for its claims, its
-/// code can be generated, is verified unless memory is refused, and is well behaved; and the program keeps
-/// its claims.
+/// code can be generated, is verified unless out of memory, and is well behaved; and the program keeps its
+/// claims.
 pub fn accepted_texts_have_sound_code()
     ensures { (text : List ℕ) (tokens : List Token) (tree : ProgramSyntax) (program : Program) (claims : Table)
         → AreTokensOf text tokens → ReadsProgram tokens tree → IsSmallTree tree → Resolves tree program

@@ -359,7 +359,7 @@ session_more bytes k le =
     let whole : k + (4194304 - k) ≡ 4194304 = omega arith in
     (take (4194304 - k) (drop k bytes), sym (take-add k (4194304 - k) bytes) ∙ ap (λ n. take n bytes) whole)
 
--- where nothing is left, all was read
+-- if nothing is left, all was read
 pub bytes_end : (bytes : List ℕ) (k : ℕ) → drop k bytes ≡ [] → k ≤ 4194304 → take k bytes ≡ session_bytes bytes
 bytes_end bytes k none le =
     let size = length-drop k bytes in

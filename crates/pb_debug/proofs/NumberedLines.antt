@@ -98,6 +98,6 @@ pub none_in_nothing : (bs : List ℕ) → length bs ≡ 0 → None ≡ line_numb
 none_in_nothing [] h = refl
 none_in_nothing (b ∷ bs) h = absurd (omega (arith, h))
 
--- what is behind a place of a text
+-- what is behind an offset of a text
 pub behind : (text : List ℕ) (n : ℕ) → take (length text - n) (drop n text) ≡ drop n text
 behind text n = let many = length-drop n text in take_all (length text - n) (drop n text) (omega (arith, many))

@@ -26,7 +26,7 @@ pub record SaysAll (d : Debugging) (bytes : List ℕ) (old new : Option (List �
   pub session : Session d (lines_of (session_bytes bytes)) text end
   pub written : new ≡ appended old text
 
--- how much of its text is written where a session ends early: all if out of memory, a first part if a device
+-- how much of its text is written if a session ends early: all if out of memory, a first part if a device
 -- failed
 abbrev pub WritesBeforeFault : DebugFault → Option (List ℕ) → Option (List ℕ) → List ℕ → Type 0
 WritesBeforeFault PastEnd old new text = ⊥

@@ -46,7 +46,8 @@ impl<'c> Debugger<'c> {
         find_name(&self.verified.names().processes, word)
     }
 
-    // Says a position, and goes there. The text is made first, so that the position stays if memory runs out.
+    // Puts the line of a position behind a text, and goes there. The text is made first, so that the position
+    // stays if out of memory.
     fn go(&mut self, text: &mut Vec<u8>, position: u32) -> Result<(), NoMemory>
         requires { position ≤ length self.old.picks }
         ensures moved { OnOk result (self.new ≡ moved_to self.old position) }
@@ -60,7 +61,8 @@ impl<'c> Debugger<'c> {
         }
     }
 
-    // Says the event of a pick and goes to just after it, or says that there is none.
+    // Puts the line of the event of a pick behind a text and goes to just after it, or puts the line that
+    // there is none.
     fn go_to_event(&mut self, text: &mut Vec<u8>, found: Option<u32>) -> Result<(), NoMemory>
         requires within { IfSome found (λ k. k < length self.old.picks) }
         requires shows { IfSome found (λ k. ShowsAny self.old k) }
@@ -112,7 +114,7 @@ impl<'c> Debugger<'c> {
         put_vars(text, &self.labels.processes[p].integers, vars)
     }
 
-    // Says the pick with a number, and the line of its arm before it.
+    // Puts the line of the pick with a number behind a text, with the line of its arm before it.
     fn say_write(&self, text: &mut Vec<u8>, k: u32) -> Result<(), NoMemory>
         requires { k < length self.now.picks }
         ensures { OnOk result ((said : List ℕ) × SaysWrite self.now (Some k) said
@@ -235,7 +237,7 @@ impl<'c> Debugger<'c> {
         self.say_reason(text, p, word.arm as usize)
     }
 
-    /// Says why an arm of a process does not go on.
+    /// Puts the line that says why an arm of a process does not go on behind a text.
     pub(crate) fn say_reason(
         &self,
         text: &mut Vec<u8>,

@@ -130,7 +130,7 @@ impl<'c> Debugger<'c> {
         Ok(step)
     }
 
-    // Says what a pick of an arm at the position came to.
+    // Puts the line of what a pick of an arm at the position came to behind a text.
     fn say_step(&self, text: &mut Vec<u8>, p: usize, arm: usize, step: Step) -> Result<(), NoMemory>
         requires process { p < length (state_of self.now).processes }
         requires names { (event : AnyEvent) → step ≡ Did event → HasNames (shown_names self.now) event }
@@ -145,7 +145,8 @@ impl<'c> Debugger<'c> {
         }
     }
 
-    /// Says what a pick of an arm after the last comes to, and appends it if it is enabled.
+    /// Puts the line of what a pick of an arm after the last comes to behind a text, and appends the pick if
+    /// it is enabled.
     pub(crate) fn say_tried(
         &mut self,
         text: &mut Vec<u8>,

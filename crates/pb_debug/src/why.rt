@@ -1,4 +1,4 @@
-//! Why an arm does not go on, or may.
+//! The reasons for which an arm does not go on, and how one is found.
 
 ghost use Rattle.std.specs.Prelude.{◌≡◌, ◌<◌, ◌≤◌, ℕ, length, All, IfOk, IfErr, IfSome, IfNone, slice_get, Some, OnOk};
 ghost use Rattle.pb_base.specs.Banker.{processes, resources, IsWithinCash, IsWithinClaim};

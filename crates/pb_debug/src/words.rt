@@ -77,7 +77,7 @@ pub(crate) fn name_word(word: &[u8]) -> Option<&[u8]>
     }
 }
 
-/// Returns the place of the first byte that is this one.
+/// Returns the offset of the first byte that is this one.
 pub(crate) fn find(text: &[u8], byte: u8) -> Option<usize>
     ensures place { result ≡ position (λ b. b == byte) text.now }
     ensures within { IfSome result (λ at. at < length text.now) }

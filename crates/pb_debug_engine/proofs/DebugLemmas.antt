@@ -25,7 +25,7 @@ use Rattle.pb_verifier.specs.Verified.{VerifiedCode}
 
 -- ---- the code of the first part
 
--- a reply to lines that say no picks, or for which there was no memory
+-- a reply to lines that say no picks, or out of memory for it
 pub no_picks_told : (verified : VerifiedCode) (labels : List ProcessLabels) (shown : Option (List ℕ)) (lines commands : List ℕ) (reply : Result Reply NoMemory)
     (old new : Option (List ℕ)) (given : Status) → IfOk reply (λ r. SaysOfNoPicks verified.code lines r.text.items r.status)
     → IfOk reply (λ r. Says old new r.text.items r.status given) → OnErr reply (Says old new memory_line Memory given)
@@ -72,7 +72,7 @@ text_answers source lines seen verified seen_labels labels none compiled same sa
       (subst (λ (l : List ProcessLabels). AnswersOfCode seen l (Some source) lines taken text) same_labels answers),
 )
 
--- a reply to an object that gives no code, or for which there was no memory
+-- a reply to an object that gives no code, or out of memory for it
 pub no_code_told : (source lines commands : List ℕ) (reply : Result Reply NoMemory) (old new : Option (List ℕ)) (given : Status)
     → IsObjectPart source → IfOk reply (λ r. SaysOfNoCode source r.text.items r.status)
     → IfOk reply (λ r. Says old new r.text.items r.status given) → OnErr reply (Says old new memory_line Memory given)
@@ -106,7 +106,7 @@ pub bytes_told : (bytes source rest lines commands : List ℕ) (old new : Option
 bytes_told bytes source rest lines commands old new given short first second (text, status, is, says) =
     (text, status, read short (source, lines, commands, (rest, first, second), is), says)
 
--- where no read can fail, a fault is one of a write
+-- if no read can fail, a fault is one of a write
 pub only_writes_fail : (old new : ℕ) (written written' : Option (List ℕ)) (status : Status)
     → TellsAnyFault (record { reads = 0; writes = old; written = written }) (record { reads = 0; writes = new; written = written' }) status
     → TellsWriteFaults old new status

@@ -1,5 +1,6 @@
 -- From what is read and said to what is said of a live session.
 use Rattle.std.proofs.Common.{◌≡◌, ◌≢◌, ℕ, List, [], Option, Some, None, IfSome, refl, sym, ap, ◌∙◌, subst, inl, inr}
+use Rattle.std.proofs.lemmas.Option.{IfSome_then}
 use Rattle.pb_base.specs.Device.{appended}
 use Rattle.pb_base.specs.declared.device.ReadFault.{ReadFault}
 use Rattle.pb_base.specs.declared.device.ReadFault.TheVariants as fault
@@ -9,7 +10,7 @@ use Rattle.pb_debug_engine.specs.Faults.{TellsAnyFault}
 use Rattle.pb_debug_engine.specs.Live.{AnswersOfParts, HasLongPart, IsEarly, SaysOfLive, SaysOfRead, early, late}
 use Rattle.pb_debug_engine.specs.Live.{no_memory, nothing, read, too_long, unread_status, unread_text}
 use Rattle.pb_debug_engine.proofs.PartLemmas.{first_of_three, nothing_behind}
-use Rattle.pb_engines.proofs.InputLemmas.{IfSome-of, IfSome-weaker}
+use Rattle.pb_engines.proofs.InputLemmas.{IfSome-of}
 use Rattle.pb_engines.specs.Answers.{Says, Tells}
 use Rattle.pb_engines.specs.Faults.{Devices}
 use Rattle.pb_engines.specs.declared.status.Status.{Status}
@@ -35,11 +36,11 @@ pub unread_told : (e : ReadFault) (o old new : Option (List ℕ)) (given : Statu
 unread_told fault.Device o old new given long says =
     IfSome-of o _ (λ bytes. (unread_text fault.Device, unread_status fault.Device, nothing, says))
 unread_told fault.TooLong o old new given long says =
-    IfSome-weaker o HasLongPart _ (λ bytes is. (unread_text fault.TooLong, unread_status fault.TooLong, too_long is, says)) (long refl)
+    IfSome_then o {P = HasLongPart} (long refl) (λ bytes is. (unread_text fault.TooLong, unread_status fault.TooLong, too_long is, says))
 unread_told fault.Memory o old new given long says =
     IfSome-of o _ (λ bytes. (unread_text fault.Memory, unread_status fault.Memory, no_memory, says))
 
--- ---- where a read fails
+-- ---- if a read fails
 
 -- the status tells it
 pub device_told : (old new : Devices) (status : Status) → TellsAnyFault old new status → new.reads ≢ old.reads → status ≡ Device
@@ -83,6 +84,6 @@ module _ (old new : Option (List ℕ)) (before after : ℕ) (given : Status) (gr
       → (e ≡ fault.Device → IfSome o (λ bytes. (taken : List ℕ) × IsReadTo bytes taken left × IsEarly taken))
       → Says old new (unread_text e) (unread_status e) given → IfSome o (λ bytes. SaysBefore SaysOfRead bytes left old new)
   unread_answered fault.Device o left same parts says =
-      IfSome-weaker o _ _ (λ bytes is. (is.0, [], is.1, early is.2, (nothing_said old new given says).0)) (parts refl)
+      IfSome_then o (parts refl) (λ bytes is. (is.0, [], is.1, early is.2, (nothing_said old new given says).0))
   unread_answered fault.TooLong o left same parts says = absurd (grew (same (λ e. let w : fault.TooLong ≡ fault.Device = e in cc)))
   unread_answered fault.Memory o left same parts says = absurd (grew (same (λ e. let w : fault.Memory ≡ fault.Device = e in cc)))

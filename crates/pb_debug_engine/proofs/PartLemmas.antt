@@ -26,7 +26,7 @@ pub nothing_behind : (xs ys : List ℕ) → xs ++ ys ≡ [] → (xs ≡ []) × (
 nothing_behind [] ys none = (refl, none)
 nothing_behind (x ∷ xs) ys none = let some : suc (length (xs ++ ys)) ≡ 0 = ap length none in absurd (omega (arith, some))
 
--- where nothing is dropped away, nothing is left
+-- if nothing is dropped away, nothing is left
 nothing_left : (xs : List ℕ) (n : ℕ) → length xs ≤ n → drop n xs ≡ []
 nothing_left [] zero short = refl
 nothing_left [] (suc n) short = refl
@@ -185,7 +185,7 @@ two_then_two (Some bytes) mid last source lines (rest, is, first) second =
     subst (λ (o : Option (List ℕ)). IfSome o (λ bytes. (after : List ℕ) × (last ≡ Some after) × AreTwoParts bytes lines after)) is second in
     (next.0, next.1, (rest, first, next.2))
 
--- ---- where a read fails
+-- ---- if a read fails
 
 -- what is said follows in another way too
 pub says_weaker : (P Q : List ℕ → List ℕ → Type 0) → ((read text : List ℕ) → P read text → Q read text) → (o left old new : Option (List ℕ))

@@ -52,7 +52,7 @@ pub record IsOpened (verified : VerifiedCode) (labels : List ProcessLabels) (sho
 
 -- ---- what is said
 
--- of commands: the answers to all of their lines; if memory runs out, the answers to the first lines and then
+-- of commands: the answers to all of their lines; if out of memory, the answers to the first lines and then
 -- `memory`; if a device fails, the answers to the first lines
 pub data SaysOfSession (d : Debugging) (commands : List ℕ) : List ℕ → Status → Type 0 where
   answered : (text : List ℕ) (end : Debugging) → Session d (lines_of (session_bytes commands)) text end

@@ -12,7 +12,7 @@ use pb_debug::{DebugFault, Debugger};
 use pb_engines::{Page, Status};
 use std::alloc::Global;
 
-/// Answers the commands of an input, and says `memory` if there is too little of it for an answer.
+/// Answers the commands of an input, and writes `memory` if out of memory for an answer.
 pub fn tell_session<I: Input, O: Output>(
     alloc: Global,
     debugger: &mut Debugger<'_>,

@@ -61,14 +61,8 @@ fn moves_cost_what_is_made_again(rt: HostRuntime) {
     assert!(rt; costs(rt.alloc(), &picks, 20_001, 0) == None);
 }
 
-/// Returns whether picks that are appended to these of a loop are kept, past the next checkpoint too.
-fn appends_past_a_checkpoint(alloc: Global) -> Option<bool> {
-    let picks = [CountedPick {
-        pick: A,
-        count: 4_095,
-    }];
-    let compiled = compile(alloc, alloc, LOOP).ok()?;
-    let mut debugger = Debugger::new_counted(alloc, &compiled, &picks).ok()?;
+/// Returns whether picks that are appended to 4,095 of a loop are kept, past the next checkpoint too.
+fn is_appended_to(debugger: &mut Debugger<'_>) -> Option<bool> {
     let early = matches!(debugger.append(A), Err(DebugFault::PastEnd));
     debugger.to(4_095).ok()?;
     let none = matches!(debugger.append(B), Ok(Step::NotEnabled)) && debugger.len() == 4_095;
@@ -78,6 +72,17 @@ fn appends_past_a_checkpoint(alloc: Global) -> Option<bool> {
     let last = debugger.position() == 4_098 && debugger.last_cost() == 2;
     debugger.back(2).ok()?;
     Some(early && none && last && debugger.last_cost() == 0 && debugger.len() == 4_098)
+}
+
+/// Returns whether that is so of a debugger with these picks, if it can be made.
+fn appends_past_a_checkpoint(alloc: Global) -> Option<bool> {
+    let picks = [CountedPick {
+        pick: A,
+        count: 4_095,
+    }];
+    let compiled = compile(alloc, alloc, LOOP).ok()?;
+    let mut debugger = Debugger::new_counted(alloc, &compiled, &picks).ok()?;
+    is_appended_to(&mut debugger)
 }
 
 #[test]
@@ -111,7 +116,7 @@ fn refused_moves_leave_the_position(rt: HostRuntime) {
     }
 }
 
-/// Why these picks of the two processes make no debugger.
+/// Returns why these picks of the two processes make no debugger.
 fn refused(alloc: Global, picks: &[Pick]) -> Option<ReplayFault>
     requires { length picks.now ≤ 10000000 }
 {

@@ -2,7 +2,9 @@
 
 ghost use Rattle.std.specs.Prelude.{◌≤◌, length};
 
-use crate::examples::{EXAMPLES, Example};
+use crate::examples::{
+    EXAMPLES_1, EXAMPLES_2, EXAMPLES_3, EXAMPLES_4, EXAMPLES_5, EXAMPLES_6, Example,
+};
 use pb_banker::Banker;
 use pb_base::Pick;
 use pb_codegen::{Compiled, compile};
@@ -129,8 +131,43 @@ fn is_replayed(alloc: Global, example: &Example) -> bool {
 }
 
 #[test]
-fn examples_forward_and_back(rt: HostRuntime) {
-    for example in &EXAMPLES {
+fn examples_forward_and_back_1(rt: HostRuntime) {
+    for example in &EXAMPLES_1 {
+        assert!(rt; is_replayed(rt.alloc(), example));
+    }
+}
+
+#[test]
+fn examples_forward_and_back_2(rt: HostRuntime) {
+    for example in &EXAMPLES_2 {
+        assert!(rt; is_replayed(rt.alloc(), example));
+    }
+}
+
+#[test]
+fn examples_forward_and_back_3(rt: HostRuntime) {
+    for example in &EXAMPLES_3 {
+        assert!(rt; is_replayed(rt.alloc(), example));
+    }
+}
+
+#[test]
+fn examples_forward_and_back_4(rt: HostRuntime) {
+    for example in &EXAMPLES_4 {
+        assert!(rt; is_replayed(rt.alloc(), example));
+    }
+}
+
+#[test]
+fn examples_forward_and_back_5(rt: HostRuntime) {
+    for example in &EXAMPLES_5 {
+        assert!(rt; is_replayed(rt.alloc(), example));
+    }
+}
+
+#[test]
+fn examples_forward_and_back_6(rt: HostRuntime) {
+    for example in &EXAMPLES_6 {
         assert!(rt; is_replayed(rt.alloc(), example));
     }
 }

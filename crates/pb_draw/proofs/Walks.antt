@@ -45,7 +45,7 @@ pub cash_here : (v : VerifiedCode) (picks : List Pick) (i r : ℕ) (m : Machine)
     → cash (banker_state (bank_of v.code) (machine_view m).loans) r ≡ cash_after v.code picks r i
 cash_here v picks i r m h = ap (λ (s : State CodeProcess). cash (banker_state (bank_of v.code) s.loans) r) h.state
 
--- so is how an arm stands
+-- so is the state of an arm
 pub standing_here : (v : VerifiedCode) (picks : List Pick) (i p arm : ℕ) (m : Machine) → IsAfter v picks i m
     → standing_in (slice_get v.code.processes p) (slice_get (machine_view m).processes p) arm ≡ standing_after v.code picks p arm i
 standing_here v picks i p arm m h =

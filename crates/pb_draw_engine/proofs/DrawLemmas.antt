@@ -19,14 +19,14 @@ use Rattle.pb_engines.specs.declared.status.Status.{Status}
 use Rattle.pb_engines.specs.declared.status.Status.TheVariants.{Memory}
 use Rattle.pb_history.specs.Entries.{Entry}
 
--- a reply to lines that say no picks, or for which there was no memory
+-- a reply to lines that say no picks, or out of memory for it
 pub no_picks_told : (code : Code) (lines : List ℕ) (reply : Result Reply NoMemory) (old new : Option (List ℕ)) (given : Status)
     → IfOk reply (λ r. SaysOfNoPicks code lines r.text.items r.status) → IfOk reply (λ r. Says old new r.text.items r.status given)
     → OnErr reply (Says old new memory_line Memory given) → Tells (SaysOfDrawnLines code lines) old new given
 no_picks_told code lines (Ok r) old new given is says memory = (r.text.items, r.status, not_made r.text.items r.status is, says)
 no_picks_told code lines (Err e) old new given is says memory = (memory_line, Memory, no_memory, memory)
 
--- a picture, or no memory for it
+-- a picture, or out of memory for it
 pub picture_told : (code : Code) (lines : List ℕ) (entries : List Entry) (end : State CodeProcess) (reply : Result Reply NoMemory)
     (old new : Option (List ℕ)) (given : Status) → AreReplayed code lines entries end
     → IfOk reply (λ r. IsPictured code entries r.text.items) → IfOk reply (λ r. IsStatusAt end r.status)

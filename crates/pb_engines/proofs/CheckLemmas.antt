@@ -76,7 +76,7 @@ told_all bytes rest part w refused is old new final status given are same no_mar
           (subst (λ (t : List ℕ). Says w final t status given) (append-nil (are.said ++ answer)) whole),
     )
 
--- there is no memory for the next text
+-- out of memory for the next text
 pub told_until_memory : (bytes rest : List ℕ) (w : Option (List ℕ)) (refused : Bool) (old new : Spoken) (final : Option (List ℕ)) (given : Status)
     → AreTold bytes rest w refused old → new ≡ old → Says new.written final (new.page ++ memory_line) Memory given
     → Tells (SaysOfChecks bytes) w final given

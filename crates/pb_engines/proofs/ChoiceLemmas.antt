@@ -264,7 +264,7 @@ module _ (code : Code) (s : State CodeProcess) (first : Lcg) where
       subst (DrawsPick code s first pick) (sym is)
       (are.start, are.candidates, are.on pick (pcg32 now).1 (hit now left pick (ap (slice_get left) (sym number) ∙ there)))
 
-  -- where none is left, none is enabled
+  -- if none is left, none is enabled
   none_enabled : (left : List Pick) (now : Lcg) → AreLeft code s first left now → length left ≡ 0 → (pick : Pick) → CodeStays code s pick
   none_enabled left now are none pick = go (look_at code s pick) refl
     where
@@ -309,7 +309,7 @@ draws_on v verified s now reached = elim (goes_on v verified s reached) [
       ]
 ]
 
--- where none is enabled, all is done
+-- if none is enabled, all is done
 pub all_struck : (v : VerifiedCode) → IsVerified v → (s now_state : State CodeProcess) (first : Lcg) (left : List Pick) (now : Lcg) → CodeReaches v.code s
     → AreLeft v.code s first left now → length left ≡ 0 → now_state ≡ s → IsDone s × (now_state ≡ s)
 all_struck v verified s now_state first left now reached are none same = (

@@ -35,9 +35,9 @@ all_of_them f xs ys i old new end is =
     is ∙ ap (λ l. old ++ flat_map f l) (take_all i (zip xs ys) all)
 
 -- what is seen of an element that was read
-pub seen_at : {A : Type 0} (f : A → List ℕ) (xs : List A) (i : ℕ) (x : A) → i < length xs → x ≡ get_or xs i x
+pub view_at : {A B : Type 0} (f : A → B) (xs : List A) (i : ℕ) (x : A) → i < length xs → x ≡ get_or xs i x
     → get_or (map f xs) i (f x) ≡ f x
-seen_at f xs i x within at = get_or-map f xs i x (f x) within ∙ ap f (sym at)
+view_at f xs i x within at = get_or-map f xs i x (f x) within ∙ ap f (sym at)
 
 -- the names of a program in memory are those of the program
 pub names_of_resources : {A : Type 0} (program : Resolved A)

@@ -32,7 +32,7 @@ percent_no_blank h = cc
 percent_no_start : starts 37 ≡ true → ⊥
 percent_no_start h = cc
 
--- no token or comment begins with a percent sign, and it is no blank
+-- no token or comment begins with a percent sign, and it is not a blank
 no_percent_first : {text : List ℕ} {at end : ℕ} {new : List Token} → Piece text at end new → get_or text at 0 ≡ 37 → ⊥
 no_percent_first (blank lt b e) is = percent_no_blank (rw is at b)
 no_percent_first (comment c) is = let slash = c.slash in omega (arith, slash, is)

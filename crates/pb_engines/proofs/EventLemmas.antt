@@ -61,7 +61,7 @@ told_until_broken names events i event text w a b page there is before part =
       inr (subst (AddsPrefix w b) (sym (lines_in_two names events (i + 1))) (AddsPrefix-longer w b first rest so_far), refl),
     )
 
--- there is no memory for the next line
+-- out of memory for the next line
 pub told_until_out : (names : NameTable) (events : List Event) (i : ℕ) (w a b : Option (List ℕ)) (page : List ℕ) (given : Status)
     → Leaves w a (event_lines names (take i events)) page → Says a b (page ++ memory_line) Memory given
     → Tells (StopsIn names events) w b given

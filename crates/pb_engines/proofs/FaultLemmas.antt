@@ -17,7 +17,7 @@ use Rattle.pb_history.specs.Leads.{Leads}
 use Rattle.pb_machine.proofs.OneMorePick.{reaches_on}
 use Rattle.pb_verifier.proofs.LoansWithinClaims.{kept_reached}
 use Rattle.pb_verifier.proofs.States.{checked, code_move, slice_set_other, slice_set_same}
-use Rattle.pb_verifier.proofs.Turns.{turned}
+use Rattle.pb_verifier.proofs.ThreadTurns.{turned}
 use Rattle.pb_verifier.specs.Verified.{VerifiedCode, IsVerified}
 use Rattle.pb_engines.specs.Outcomes.{ShowsFault}
 use Rattle.pb_engines.specs.Runs.{HasFault}

@@ -15,14 +15,10 @@ use Rattle.pb_engines.proofs.TextLemmas.{said_nothing}
 
 -- ---- what is known of an input
 
--- where a fact holds of each value, it holds of that which is known
+-- if a fact holds of each value, it holds of that which is known
 pub IfSome-of : {X : Type 0} (o : Option X) (P : X → Type 0) → ((x : X) → P x) → IfSome o P
 IfSome-of None P each = tt
 IfSome-of (Some x) P each = each x
-
-pub IfSome-weaker : {X : Type 0} (o : Option X) (P Q : X → Type 0) → ((x : X) → P x → Q x) → IfSome o P → IfSome o Q
-IfSome-weaker None P Q f h = tt
-IfSome-weaker (Some x) P Q f h = f x h
 
 -- ---- an input that is not read
 
@@ -82,7 +78,7 @@ read_faults old_reads new_reads old_writes between new_writes old new given same
     unread_faults old_reads new_reads old_writes new_writes old new given same
     (faults_since old_writes between new_writes given untouched faults)
 
--- a reply that was made, or for which there was no memory
+-- a reply that was made, or out of memory for it
 pub told_reply : (SaysOf : List ℕ → List ℕ → Status → Type 0) (bytes : List ℕ) (reply : Result Reply NoMemory) (old new : Option (List ℕ))
     (given : Status) → length bytes ≤ 4194304 → IfOk reply (λ r. SaysOf bytes r.text.items r.status)
     → IfOk reply (λ r. Says old new r.text.items r.status given) → OnErr reply (Says old new memory_line Memory given)

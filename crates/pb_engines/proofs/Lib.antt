@@ -1,9 +1,9 @@
 pub mod AcceptLemmas
 pub mod AcceptedTexts
-pub mod Apart
 pub mod CheckLemmas
 pub mod ChoiceLemmas
 pub mod ClaimLemmas
+pub mod CountedPicks
 pub mod CutRecords
 pub mod DrawLemmas
 pub mod EmissionLemmas

@@ -1,4 +1,4 @@
--- From what reading and verifying answer to what is said of an object.
+-- From what reading and verifying return to what is said of an object.
 use Rattle.std.proofs.Common.{◌≡◌, ℕ, List, Result, Ok, Err, IfOk, subst, sym}
 use Rattle.pb_base.specs.declared.memory.NoMemory.{NoMemory}
 use Rattle.pb_code.specs.Whole.{Code, ProcessLabels}

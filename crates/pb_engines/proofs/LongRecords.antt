@@ -25,6 +25,7 @@ use Rattle.pb_picks.specs.Laws.{CanBeSaid}
 use Rattle.pb_picks.specs.PickLines.{SpellsPick, pick_line, pick_lines}
 use Rattle.pb_verifier.specs.Verified.{VerifiedCode, IsVerified}
 use Rattle.pb_verifier.specs.declared.fault.VerifyFault.TheVariants.{OutOfLimits}
+use Rattle.pb_engines.specs.declared.picks.TheConstants.{MAX_LINES}
 use Rattle.pb_workers.specs.Reports.{IsReport}
 use Rattle.pb_workers.specs.declared.report.Report.{Report}
 use Rattle.pb_engines.specs.Draws.{DrawsRun, generator_of, one_more as draws_one_more}
@@ -170,7 +171,7 @@ lines_are_long code limits (c ∷ picks) said =
 
 pub too_many_picks : (v : VerifiedCode) → IsVerified v → (seed left steps : ℕ) (picks : List CountedPick) (state : State CodeProcess) (now : Lcg)
     → steps ≤ 10000000 → LeadTo v.code picks state → AreApart picks → length (spread picks) + left ≡ steps
-    → DrawsRun v.code (generator_of seed) (spread picks) state now → 838860 < length picks → IsTooLong v.code steps (Some seed)
+    → DrawsRun v.code (generator_of seed) (spread picks) state now → MAX_LINES < length picks → IsTooLong v.code steps (Some seed)
 too_many_picks v verified seed left steps picks state now most lead apart count drawn many =
     let (more, recorded, longer) = draws_to_its_end v verified seed left steps picks state now lead apart count drawn in
     let limits = verified.annotated OutOfLimits in
@@ -211,7 +212,7 @@ picks_behind (suc n) (s ∷ spans) =
 
 -- too many counts of the first spans are too many of all
 pub counts_too_many : (entries : List Entry) (n : ℕ) (picks : List CountedPick) → AreCounted picks entries n → AreApart picks
-    → 838860 < length picks → AreTooMany entries
+    → MAX_LINES < length picks → AreTooMany entries
 counts_too_many entries n picks counted apart many =
     let (rest, all) = picks_behind n (spans_of entries) in
     let (more, same, apart_too, longer) = counts_go_on picks rest apart in (

@@ -99,7 +99,7 @@ pub AddsPrefix-flushed : (old now new : Option (List ℕ)) (page kept text : Lis
 AddsPrefix-flushed old now new page kept text same wrote then =
     AddsPrefix-then old now new (page ++ text) text (all-left old now page text (wrote ∙ ap (appended old) same)) then
 
--- a fact that holds anyway holds where there is an error
+-- a fact that holds anyway holds if there is an error
 pub OnErr-of : {T E P : Type 0} (r : Result T E) → P → OnErr r P
 OnErr-of (Ok x) p = tt
 OnErr-of (Err e) p = p

@@ -40,7 +40,7 @@ use Rattle.pb_engines.specs.Runs.{IsDone, Run}
 use Rattle.pb_engines.specs.declared.reply.Reply.{Reply}
 use Rattle.pb_engines.specs.declared.status.Status.{Status}
 use Rattle.pb_engines.specs.declared.status.Status.TheVariants.{Done, Refused, Threads}
-use Rattle.pb_engines.proofs.Apart.{apart_rest, some_first}
+use Rattle.pb_engines.proofs.CountedPicks.{apart_rest, some_first}
 use Rattle.pb_engines.proofs.RunLemmas.{CodeMakes, makes_last}
 use Rattle.pb_engines.proofs.ScheduleLemmas.{no_such_arm}
 
@@ -97,7 +97,7 @@ more_picks picks more pick n same =
     let r = length-replicate n pick in
     omega (arith, l, a, r)
 
--- where one pick is left, a single one is within what is left
+-- if one pick is left, a single one is within what is left
 pub within_left : (left : ℕ) (next : Next) → 0 < left → MakesAtMost 1 next → MakesAtMost left next
 within_left left (Silent pick made) some within = omega (arith, some, within)
 within_left left (Did pick event) some within = tt
@@ -272,7 +272,7 @@ says_no_threads code steps seed bytes f (Err e) only is = tt
 
 -- ---- with a seed and without
 
--- what holds of the answer of workers, where there is no seed
+-- what holds of the report of workers, if there is no seed
 pub answered_without : {V : Type 0} (code : Code) (steps : ℕ) (seed : Option ℕ) (items : V → List CountedPick)
     (answer : Result (Option V) RunFault) → seed ≡ None
     → IfOk answer (λ o. MatchOption o (IsTooLong code steps None) (λ v. IsRecorded code steps None (items v)))
@@ -285,7 +285,7 @@ pub any_fault_without : {V : Type 0} (seed : Option ℕ) (answer : Result V RunF
 any_fault_without seed (Ok v) none = tt
 any_fault_without seed (Err f) none = subst (λ s. IfSome s (λ number. f ≡ OutOfMemory)) (sym none) tt
 
--- what holds of drawn picks, where there is this seed
+-- what holds of drawn picks, if there is this seed
 pub drawn_with : {V : Type 0} (code : Code) (steps number : ℕ) (seed : Option ℕ) (items : V → List CountedPick) (o : Option V)
     → seed ≡ Some number → MatchOption o (IsTooLong code steps (Some number)) (λ v. IsRecorded code steps (Some number) (items v))
     → MatchOption o (IsTooLong code steps seed) (λ v. IsRecorded code steps seed (items v))

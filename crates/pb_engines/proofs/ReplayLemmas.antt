@@ -91,7 +91,7 @@ events_are_told code names lines entries end old new answered are same tells =
     go : Tells (SaysOfEvents code.names (events_of entries) end) old new answered → Tells (SaysOfLines code lines) old new answered
     go (said, status, says, written) = (said, status, replayed entries end are said status says, written)
 
--- a reply to lines that was made, or for which there was no memory
+-- a reply to lines that was made, or out of memory for it
 pub lines_are_answered : (code : Code) (lines : List ℕ) (reply : Result Reply NoMemory) (old new : Option (List ℕ)) (given : Status)
     → IfOk reply (λ r. SaysOfNoPicks code lines r.text.items r.status) → IfOk reply (λ r. Says old new r.text.items r.status given)
     → OnErr reply (Says old new memory_line Memory given) → Tells (SaysOfLines code lines) old new given

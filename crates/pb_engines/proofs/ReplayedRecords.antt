@@ -108,7 +108,7 @@ ended_is_short text ended (inr (not_ended, same)) short (inl less) =
     let long = length-append text (10 ∷ []) in
     omega (arith, l, long, less)
 
--- what is said of picks that were made is no refusal
+-- what is said of picks that were made is not a refusal
 no_refusal_told : (names : NameTable) (events : List Event) (end : State CodeProcess) (said : List ℕ) (status : Status)
     → SaysOfEvents names events end said status → status ≢ Refused
 no_refusal_told names events end _ _ (all_told last its_last _ (some_fault fault)) same = absurd cc
@@ -163,7 +163,7 @@ module _ (steps : ℕ) (seed : Option ℕ) (bytes : List ℕ) (most : steps ≤ 
           said = subst (λ (t : List ℕ). SpellsPicks code t picks) (sym same.1) (said_lines code annotated steps most seed picks recorded);
         }
 
-    -- what `replay` says of it is no refusal
+    -- what `replay` says of it is not a refusal
     never_refused : (length bytes < 65536) ⊎ EndsLine bytes → (whole said : List ℕ) (status : Status) → whole ≡ with_picks ended code.names picks
         → SaysOfReplay whole said status → status ≢ Refused
     never_refused room whole _ _ e (no_text text lines cut refusal is_refused) refuses =

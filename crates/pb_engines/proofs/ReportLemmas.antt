@@ -178,7 +178,7 @@ told_report v names steps report w now new page answered verified is same told (
       behind (line (codes "limit " ++ decimal steps)) Limit says,
     )
 
--- there is no report, since there is no memory
+-- there is no report, since out of memory
 pub told_no_memory : (code : Code) (steps : ℕ) (w new : Option (List ℕ)) (page : List ℕ) (answered : Status) → page ≡ []
     → Says w new (page ++ memory_line) Memory answered → Tells (SaysOfCodeRun code steps) w new answered
 told_no_memory code steps w new page answered empty says =

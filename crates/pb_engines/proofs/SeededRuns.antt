@@ -27,7 +27,7 @@ use Rattle.pb_engines.specs.RecordLaws.{SeedsWriteOneRecord}
 use Rattle.pb_engines.specs.Records.{IsEnded, IsRecorded, with_picks}
 use Rattle.pb_engines.specs.Runs.{IsDone, Run}
 use Rattle.pb_engines.specs.declared.status.Status.TheVariants.{Done}
-use Rattle.pb_engines.proofs.Apart.{counted_once}
+use Rattle.pb_engines.proofs.CountedPicks.{counted_once}
 use Rattle.pb_engines.proofs.GrantLemmas.{IsEnabled}
 use Rattle.pb_engines.proofs.ReplayedRecords.{is_annotated, wrote}
 use Rattle.pb_engines.proofs.RunLemmas.{CodeMakes, makes_last}
@@ -217,7 +217,7 @@ makes_once code s (pick ∷ picks) e f a b makes others =
     makes_once code makes.0.next picks makes.3 others.3 a b makes.5
     (subst (λ (t : State CodeProcess). Makes (bank_of code) (code_step code.processes) t picks others.3 b) next others.5)
 
--- ---- where all is done, nothing is enabled
+-- ---- if all is done, nothing is enabled
 
 done_stays : (code : Code) → IsAnnotated code → (s : State CodeProcess) → CodeReaches code s → IsDone s
     → (pick : Pick) (event : Option Event) (after : State CodeProcess) → CodeMoves code s pick event after → ⊥

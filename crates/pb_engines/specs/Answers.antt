@@ -6,7 +6,7 @@ use Rattle.pb_engines.specs.declared.status.Status.{Status}
 use Rattle.pb_engines.specs.declared.status.Status.TheVariants.{Device}
 use Rattle.pb_base.specs.Lines.{line}
 
--- the line of a command that wants memory
+-- the line of a command that is out of memory
 abbrev pub memory_line : List ℕ
 memory_line = line (codes "memory")
 

@@ -34,7 +34,7 @@ abbrev pub check_status : Bool → Status
 check_status true = Refused
 check_status false = Done
 
--- what is said of an input: each of its parts is answered; or the first ones, until memory runs out or a
+-- what is said of an input: each of its parts is answered; or the first ones, until it is out of memory or a
 -- write fails
 pub data SaysOfChecks (bytes : List ℕ) : List ℕ → Status → Type 0 where
   answered : (parts : List (List ℕ)) (said : List ℕ) (refused : Bool) → AreParts bytes parts
@@ -47,7 +47,7 @@ pub data SaysOfChecks (bytes : List ℕ) : List ℕ → Status → Type 0 where
 
 -- ---- one text
 
--- what came of telling the answer to one text
+-- what came of writing the answer to one text
 abbrev pub TellsAnswer : List ℕ → Spoken → Spoken → Told → Type 0
 TellsAnswer text old new (told.Answered refused) =
     (answer : List ℕ) × AnswerTo text answer refused
@@ -59,7 +59,7 @@ TellsAnswer text old new told.Broken =
 
 -- ---- the texts so far
 
--- the parts looked at so far, and their answers, which were told
+-- the parts looked at so far, and their answers, which were written
 pub record AreTold (bytes rest : List ℕ) (before : Option (List ℕ)) (refused : Bool) (now : Spoken) : Type 0 where
   pub done : List (List ℕ)
   pub said : List ℕ

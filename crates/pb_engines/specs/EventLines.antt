@@ -7,8 +7,7 @@ use Rattle.pb_engines.specs.Runs.{event_lines}
 use Rattle.pb_engines.specs.declared.status.Status.{Status}
 use Rattle.pb_engines.specs.declared.status.Status.TheVariants.{Device, Memory}
 
--- there is no memory for a line: the lines before it and `memory`; or a write failed, in the lines of all
--- events
+-- out of memory for a line: the lines before it and `memory`; or a write failed, in the lines of all events
 pub data StopsIn (names : NameTable) (events : List Event) : List ℕ → Status → Type 0 where
   out_of_memory : (n : ℕ) → StopsIn names events (event_lines names (take n events) ++ memory_line) Memory
   cut_off : StopsIn names events (event_lines names events) Device

@@ -6,7 +6,7 @@ use Rattle.pb_engines.specs.Answers.{memory_line}
 use Rattle.pb_engines.specs.declared.status.Status.{Status}
 use Rattle.pb_engines.specs.declared.status.Status.TheVariants.{Refused, Memory, Device}
 
--- what is said before anything is known of an input: it is too long; or there is no memory; or a device fails
+-- what is said before anything is known of an input: it is too long; or out of memory; or a device fails
 pub data SaysOfReading (bytes : List ℕ) : List ℕ → Status → Type 0 where
   too_long : MAX_INPUT < length bytes → SaysOfReading bytes (line (codes "refused input")) Refused
   no_memory : SaysOfReading bytes memory_line Memory

@@ -8,6 +8,7 @@ use Rattle.pb_base.specs.Steppers.{State, Makes}
 use Rattle.pb_code.specs.Code.{CodeProcess, code_step}
 use Rattle.pb_code.specs.Whole.{Code, ProcessLabels, bank_of, code_opening}
 use Rattle.pb_codegen.specs.Compiled.{IsCompiled}
+use Rattle.pb_engines.specs.declared.picks.TheConstants.{MAX_LINES}
 use Rattle.pb_history.specs.Entries.{Entry, picks_of}
 use Rattle.pb_history.specs.Replays.{spread}
 use Rattle.pb_history.specs.declared.counted.CountedPick.{CountedPick}
@@ -49,7 +50,7 @@ pub record AreCounts (entries : List Entry) (picks : List CountedPick) : Type 0 
 
 -- there are more of them than an input can have pick lines
 abbrev pub AreTooMany : List Entry → Type 0
-AreTooMany entries = (picks : List CountedPick) × AreCounts entries picks × (838860 < length picks)
+AreTooMany entries = (picks : List CountedPick) × AreCounts entries picks × (MAX_LINES < length picks)
 
 -- the lines of a run of the code, the drawn one if there is a seed, are too long for an input, whatever its
 -- text

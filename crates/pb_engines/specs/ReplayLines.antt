@@ -60,7 +60,7 @@ pub data SaysOfNoPicks (code : Code) (lines : List ℕ) : List ℕ → Status �
   refused : (fault : LinesFault) → IsLinesFault code lines fault
       → (refusal : List ℕ) → lines_line fault ≡ Some refusal → SaysOfNoPicks code lines (line refusal) Refused
 
--- ---- answers
+-- ---- what is written
 
 -- the last line: `done` if every process has ended or faulted, else `open`
 pub data IsLastLine (end : State CodeProcess) : List ℕ → Type 0 where
@@ -73,7 +73,7 @@ pub data IsStatusAt (end : State CodeProcess) : Status → Type 0 where
   no_fault : ¬ HasFault end → IsStatusAt end Done
 
 -- what is said of picks that made these events and led to this state: the line of each event and the last
--- line; or, if memory runs out, the lines of the first of them, and then `memory`
+-- line; or, if out of memory, the lines of the first of them, and then `memory`
 pub data SaysOfEvents (names : NameTable) (events : List Event) (end : State CodeProcess) : List ℕ → Status → Type 0 where
   all_told : (last : List ℕ) → IsLastLine end last → (status : Status) → IsStatusAt end status
       → SaysOfEvents names events end (event_lines names events ++ line last) status

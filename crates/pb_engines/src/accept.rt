@@ -103,7 +103,7 @@ fn refusal_reply(refusal: Refusal) -> Result<Reply, NoMemory>
     }
 }
 
-/// Writes the line of a refusal, or `memory` if there is no memory for it.
+/// Writes the line of a refusal, or `memory` if out of memory for it.
 pub fn refuse<O: Output>(alloc: Global, refusal: Refusal, output: &mut O) -> Status
     ensures text { (text : List ℕ) → length text ≤ MAX_INPUT → IsRefusal text refusal
         → Tells (SaysOfInput SaysOfRefusedText text) (O.written output.old) (O.written output.new) result }

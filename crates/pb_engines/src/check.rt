@@ -18,12 +18,12 @@ use pb_base::device::{Input, Output};
 use pb_options::CheckOptions;
 use std::alloc::{Allocator, Global};
 
-// What came of telling the answer to one text.
+// What came of writing the answer to one text.
 #[derive(Clone, Copy)]
 enum Told {
-    // It was told, and the text was refused or not.
+    // It was written, and the text was refused or not.
     Answered(bool),
-    // There is no memory to look at the text, or for its line.
+    // Out of memory to look at the text, or for its line.
     OutOfMemory,
     // A write failed.
     Broken,
@@ -43,7 +43,7 @@ fn look<A: Allocator + Clone>(alloc: Global, trees: A, text: &[u8]) -> Result<()
     }
 }
 
-// Looks at one text, whose trees are in a new heap of this size, or else in the arena, which is given up
+// Looks at one text, whose trees are in a new heap of this size, or else in the arena, which is reset
 // afterwards.
 fn look_within(
     alloc: Global,
@@ -67,7 +67,7 @@ fn look_within(
     answer
 }
 
-// Says the line of a refusal.
+// Writes the line of a refusal.
 fn tell_refusal<O: Output>(refusal: Refusal, page: &mut Page, output: &mut O) -> Told
     ensures told { (text : List ℕ) → IsRefusal text refusal → TellsAnswer text
         (record { written = O.written output.old; page = page.old }) (record { written = O.written output.new; page = page.new }) result }
@@ -83,7 +83,7 @@ fn tell_refusal<O: Output>(refusal: Refusal, page: &mut Page, output: &mut O) ->
     }
 }
 
-// Says the answer to one text.
+// Writes the answer to one text.
 fn tell_answer<O: Output>(
     text: &[u8],
     answer: Result<(), Refusal>,
@@ -144,9 +144,8 @@ fn check_parts<O: Output>(alloc: Global, heap: Option<u64>, bytes: &[u8], output
 /// Checks the texts that the input holds, which lines `%%` part: writes `ok` for a text that is a program,
 /// and its refusal line for one that is not.
 ///
-/// The trees of a text are in an arena that is given up behind it, or in a new heap of the size that is
-/// given. After a read that failed nothing is written; after a write that failed, a first part of what was
-/// being said.
+/// The trees of a text are in an arena that is reset after it, or in a new heap of the size that is given.
+/// After a read that failed nothing is written; after a write that failed, a first part of the reply.
 pub fn check_engine<I: Input, O: Output>(
     alloc: Global,
     options: CheckOptions,

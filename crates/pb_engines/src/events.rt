@@ -14,8 +14,8 @@ use pb_base::{Names, event_line};
 use pb_history::Trace;
 use std::alloc::Global;
 
-/// Says the line of each event. Returns the page with what waits to be written; or, if the lines stop before
-/// the last, the status of the command, which has then written all that it says.
+/// Writes the line of each event. Returns the page with what waits to be written; or, if the lines stop
+/// before the last, the status of the command, which has then written all that it says.
 pub fn tell_events<O: Output>(
     alloc: Global,
     names: &Names,

@@ -1,4 +1,4 @@
-//! Text that was said, on its way to an output.
+//! Text on its way to an output.
 ghost use Rattle.std.specs.Prelude.{◌≡◌, ◌≢◌, ◌++◌, ℕ, List, [], OnOk, OnErr, MatchBool};
 ghost use Rattle.pb_base.specs.Device.{appended, one_more_failure, AddsPrefix};
 ghost use Rattle.pb_base.specs.Lines.{line};
@@ -13,8 +13,8 @@ use std::marker::Model;
 // From this length on a page is written.
 const FULL: usize = 4_096;
 
-/// Text that was said and waits to be written, so that an output is not called for each line. After a fault
-/// of the output nothing waits, and nothing more should be said.
+/// Text that waits to be written, so that an output is not called for each line. After a fault of the output
+/// nothing waits, and nothing more should be written.
 #[derive(Drop)]
 pub struct Page {
     text: Vec<u8>,
@@ -45,9 +45,9 @@ impl Page {
         self.text.len() < FULL && self.text.extend_from_slice(text).is_ok()
     }
 
-    /// Says a text: it is written, or waits on the page. Where the page cannot grow the text is written at
-    /// once, so being out of memory is not a fault here. After a fault some first part of what waited and of
-    /// the text is written, and nothing waits.
+    /// Writes a text, or has it wait on the page. If the page cannot grow the text is written at once, so
+    /// being out of memory is not a fault here. After a fault some first part of what waited and of the text
+    /// is written, and nothing waits.
     pub fn say<O: Output>(&mut self, output: &mut O, text: &[u8]) -> Result<(), DeviceFault>
         ensures ok { OnOk result (Leaves (O.written output.old) (O.written output.new) (self.old ++ text.now) self.new) }
         ensures counted { OnOk result (O.failures output.new ≡ O.failures output.old) }
@@ -62,7 +62,7 @@ impl Page {
         write_all(output, text)
     }
 
-    /// Says a line, which ends in a line feed, as `say` says a text.
+    /// Writes a line, which ends in a line feed, as `say` writes a text.
     pub fn say_line<O: Output>(&mut self, output: &mut O, text: &[u8]) -> Result<(), DeviceFault>
         ensures ok { OnOk result (Leaves (O.written output.old) (O.written output.new) (self.old ++ line text.now) self.new) }
         ensures counted { OnOk result (O.failures output.new ≡ O.failures output.old) }

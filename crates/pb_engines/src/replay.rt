@@ -76,7 +76,7 @@ fn replay_text<O: Output>(alloc: Global, bytes: &[u8], output: &mut O) -> Status
     }
 }
 
-// Makes the picks that lines say, and says what they show, or writes why they are not made.
+// Makes the picks that lines say, and writes what they show, or why they are not made.
 fn replay_lines<O: Output>(
     alloc: Global,
     verified: &Verified,
@@ -156,7 +156,7 @@ fn status_at(machine: &Machine) -> Status
     }
 }
 
-// Says the line of each event, and the last line of a replay that has come to here.
+// Writes the line of each event, and the last line of a replay that has come to here.
 fn tell_replay<O: Output>(
     alloc: Global,
     names: &Names,

@@ -19,7 +19,7 @@ pub struct Reply {
     pub ghost no_fault: { status ≢ Device },
 }
 
-/// Writes a reply, or that there is no memory for it.
+/// Writes a reply, or that it is out of memory.
 pub fn tell<O: Output>(alloc: Global, reply: Result<Reply, NoMemory>, output: &mut O) -> Status
     ensures said { IfOk reply (λ r. Says (O.written output.old) (O.written output.new) r.text.items r.status result) }
     ensures memory { OnErr reply (Says (O.written output.old) (O.written output.new) memory_line Status.Memory result) }

@@ -1,4 +1,4 @@
-//! A run by workers, told line by line.
+//! A run by workers, written line by line.
 ghost use Rattle.std.specs.Prelude.{◌≡◌, ◌++◌, codes};
 ghost use Rattle.std.specs.Fmt.{decimal};
 ghost use Rattle.pb_base.specs.Lines.{line};
@@ -52,7 +52,7 @@ pub fn tell_run<O: Output, R: Threads + Wait + Sync>(
     }
 }
 
-// Says the line of each event that workers report, and the last line.
+// Writes the line of each event that workers report, and the last line.
 fn tell_report<O: Output>(
     alloc: Global,
     verified: &Verified,
@@ -71,7 +71,7 @@ fn tell_report<O: Output>(
     }
 }
 
-// Says the last line of a run.
+// Writes the last line of a run.
 fn tell_outcome<O: Output>(page: Page, output: &mut O, report: &Report, steps: u32) -> Status
     ensures text { Tells (SaysOfOutcome (events_of report.now.trace.entries) steps page report.now.outcome)
         (O.written output.old) (O.written output.new) result }
@@ -88,7 +88,7 @@ fn tell_outcome<O: Output>(page: Page, output: &mut O, report: &Report, steps: u
     }
 }
 
-// Says that the steps were used up.
+// Writes that the steps were used up.
 fn tell_limit<O: Output>(mut page: Page, output: &mut O, steps: u32) -> Status
     ensures text { Says (O.written output.old) (O.written output.new) (page ++ line (codes "limit " ++ decimal steps)) Status.Limit result }
     ensures faults { TellsWriteFaults (O.failures output.old) (O.failures output.new) result }

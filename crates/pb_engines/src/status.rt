@@ -17,7 +17,7 @@ pub enum Status {
     Limit,
     /// A process faulted.
     Fault,
-    /// The command ran out of memory.
+    /// The command was out of memory.
     Memory,
     /// A read or a write failed.
     Device,

@@ -50,7 +50,7 @@ fn ask(banker: &mut Banker, request: Request) -> Answer
     banker.ask(request.job, &Bundle::one(request.device, request.amount))
 }
 
-/// Asks the banker for each request in turn. If memory runs out, some of them may have been granted.
+/// Asks the banker for each request in turn. If out of memory, some of them may have been granted.
 fn serve(alloc: Global, banker: &mut Banker, requests: &[Request]) -> Result<Round, NoMemory>
     ensures served { IfOk result (λ round. Serves banker.old.state requests.now
         round.granted.items round.waiting.items round.hopeless.items banker.new.state) }

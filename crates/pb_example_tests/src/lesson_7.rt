@@ -2,21 +2,8 @@
 
 use crate::calls::{Call, Command, first_wrong};
 use pb_engines::Status;
+use pb_example_texts::outcomes::SHARE;
 use std::test::Fail;
-
-/// The file 7-outcomes/share.pb.
-#[rattlefmt::skip]
-const SHARE: &[u8] = b"// One arm counts the guests, the other one divides a cake of 12 pieces among them. If it divides too early, there are no
-// guests yet, and the process faults.
-process host
-begin
-  integer guests, pieces;
-  parbegin
-    guests := 4;
-    pieces := 12 div guests
-  parend
-end
-";
 
 #[rattlefmt::skip]
 const CALLS_1: [Call; 1] = [

@@ -43,7 +43,7 @@ n2-entry = record {
   summary = codes "a name that is declared twice";
   meaning =
       codes "Two resources, two processes, or two integers of one process have the same name.\n"
-      ++ codes "The place is that of the second declaration.";
+      ++ codes "The offset is that of the second declaration.";
   example = Some (record {
     command = codes "check";
     input = Text n2-input;
@@ -65,7 +65,7 @@ abbrev pub n3-entry : Explanation
 n3-entry = record {
   summary = codes "a name that is not declared";
   meaning =
-      codes "The name at this place is used as an integer or as a resource, and its process has\n"
+      codes "The name at this offset is used as an integer or as a resource, and its process has\n"
       ++ codes "no such integer, or the program no such resource. Capital letters count, and the\n"
       ++ codes "integers of another process cannot be used.";
   example = Some (record {
@@ -92,7 +92,7 @@ n4-entry = record {
   summary = codes "an amount that is out of range";
   meaning =
       codes "There are 0 to 1,000,000 of a resource, and a hold has 1 to 1,000,000 of each of\n"
-      ++ codes "its resources. The place is that of the number.";
+      ++ codes "its resources. The offset is that of the number.";
   example = Some (record {
     command = codes "check";
     input = Text n4-input;
@@ -115,7 +115,7 @@ abbrev pub n6-entry : Explanation
 n6-entry = record {
   summary = codes "a resource that is named twice in a hold";
   meaning =
-      codes "A hold names each of its resources once, with the whole amount. The place is that\n"
+      codes "A hold names each of its resources once, with the whole amount. The offset is that\n"
       ++ codes "of the second name.";
   example = Some (record {
     command = codes "check";

@@ -11,7 +11,7 @@ abbrev pub o1-entry : Explanation
 o1-entry = record {
   summary = codes "a line of an object that is not of its form";
   meaning =
-      codes "The line that begins at this place is not the line that an object has there, is\n"
+      codes "The line that begins at this offset is not the line that an object has there, is\n"
       ++ codes "not ended by a line feed, is missing, or comes after the end. Each object has one\n"
       ++ codes "spelling: single spaces, and no zeros before a number.";
   example = Some (record {
@@ -34,7 +34,7 @@ abbrev pub o2-entry : Explanation
 o2-entry = record {
   summary = codes "a number of an object that is out of range";
   meaning =
-      codes "The line that begins at this place has its form, and a number in it is out of\n"
+      codes "The line that begins at this offset has its form, and a number in it is out of\n"
       ++ codes "range: an object has at most 16 resources and 64 processes, and a process at most\n"
       ++ codes "64 integers, 64 arms and 40,000 instructions. At 0 it also says that the object is\n"
       ++ codes "over 4,194,304 bytes.";

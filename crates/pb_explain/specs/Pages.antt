@@ -59,7 +59,7 @@ abbrev pub explanation_of : Option Code → List ℕ
 explanation_of (Some code) = page_of code
 explanation_of None = list_of_codes all_codes
 
--- what `explain` says: that, or there is no memory for it
+-- what `explain` says: that, or it is out of memory for it
 pub data SaysOfExplain (asked : Option Code) : List ℕ → Status → Type 0 where
   explained : SaysOfExplain asked (explanation_of asked) Done
   no_memory : SaysOfExplain asked memory_line Memory

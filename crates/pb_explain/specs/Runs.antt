@@ -14,7 +14,7 @@ k1-entry = record {
   meaning =
       codes "A pick line is `P.a COUNT`: the name of a process, a point, the number of one of its\n"
       ++ codes "arms, a space, and how often the pick is made, from 1 to 10,000,000. This one is not\n"
-      ++ codes "of this form, or names a process or an arm that is not there. The place is that of\n"
+      ++ codes "of this form, or names a process or an arm that is not there. The offset is that of\n"
       ++ codes "the line, counted from behind the line `%%`.";
   example = Some (record {
     command = codes "replay";

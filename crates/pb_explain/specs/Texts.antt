@@ -25,9 +25,9 @@ abbrev pub l2-entry : Explanation
 l2-entry = record {
   summary = codes "a byte that is not allowed";
   meaning =
-      codes "The byte at this place is none that a text may have (32 to 126, tab, line feed\n"
-      ++ codes "and carriage return), or one at which no token, blank or comment begins, such as\n"
-      ++ codes "`%`, `!`, a lone `:` or a lone `/`. Places are counted in bytes, from 0.";
+      codes "A text may not have the byte at this offset (it may have 32 to 126, tab, line feed\n"
+      ++ codes "and carriage return), or no token, blank or comment begins at it, as at `%`, `!`, a\n"
+      ++ codes "lone `:` or a lone `/`. Offsets are counted in bytes, from 0.";
   example = Some (record {
     command = codes "check";
     input = Text l2-input;
@@ -47,7 +47,7 @@ l3-entry = record {
   summary = codes "a number that is too large";
   meaning =
       codes "A number of a text is at most 9223372036854775807, the greatest integer of 64\n"
-      ++ codes "bits with a sign. The place is that of its first digit.";
+      ++ codes "bits with a sign. The offset is that of its first digit.";
   example = Some (record {
     command = codes "check";
     input = Text l3-input;
@@ -67,7 +67,7 @@ l4-input =
 abbrev pub l4-entry : Explanation
 l4-entry = record {
   summary = codes "a name that is too long";
-  meaning = codes "A name has at most 32 bytes. The place is that of its first byte.";
+  meaning = codes "A name has at most 32 bytes. The offset is that of its first byte.";
   example = Some (record {
     command = codes "check";
     input = Text l4-input;
@@ -83,7 +83,7 @@ abbrev pub p1-entry : Explanation
 p1-entry = record {
   summary = codes "the text is not a program";
   meaning =
-      codes "The tokens do not follow the grammar. The place is the start of the first token\n"
+      codes "The tokens do not follow the grammar. The offset is the start of the first token\n"
       ++ codes "that cannot be there after those before it; if the text only ends too early,\n"
       ++ codes "it is the end of the last token.";
   example = Some (record {
@@ -92,7 +92,7 @@ p1-entry = record {
     line = codes "refused P1 at 25";
   });
   mend =
-      codes "Look at this place, and just before it. A semicolon comes between statements, and\n"
+      codes "Look at this offset, and just before it. A semicolon comes between statements, and\n"
       ++ codes "not behind the last one, as in the example; `fi`, `od`, `parend` or `end` may be\n"
       ++ codes "missing, or `=` may be written for `:=`. Integers are declared right behind the\n"
       ++ codes "`begin` of their process, and resources before the first process. The grammar is\n"

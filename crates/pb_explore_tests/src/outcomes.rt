@@ -182,7 +182,7 @@ fn deadlock_of_philosophers(rt: HostRuntime) {
 /// alone.
 const ENDLESS: &[u8] = b"process p begin while 1 do skip od end process q begin print 1 end";
 
-/// Returns whether the search tells so.
+/// Returns whether the search returns so.
 fn never_ends(alloc: Global) -> Option<bool> {
     let compiled = compile(alloc, alloc, ENDLESS).ok()?;
     let told = explore(alloc, compiled.verified(), 100_000).ok()?;
@@ -194,7 +194,7 @@ fn one_that_never_ends(rt: HostRuntime) {
     assert!(rt; never_ends(rt.alloc()) == Some(true));
 }
 
-/// Returns how many picks lead to each outcome of the process that prints, or why there are none to tell.
+/// Returns how many picks lead to each outcome of the process that prints, or why there are none.
 fn picks_to(alloc: Global, states: u32) -> Option<Result<usize, ExploreFault>> {
     let compiled = compile(alloc, alloc, PRINT).ok()?;
     match explore(alloc, compiled.verified(), states) {

@@ -83,7 +83,7 @@ module _ (code : Code) (picks : List Pick) where
       let e = enabled_at (bank_of code) step (code_opening code) all.end picks all.events i pick all.makes at in
       stays e.move e.moves e.granted
 
-  -- where all are enabled, no pick is refused
+  -- if all are enabled, no pick is refused
   pub not_refused : AreEnabled code picks → (i : ℕ) (pick : Pick) (result : Step) (next : State CodeProcess)
       → slice_get picks i ≡ Some pick → IsStep code (state_after code picks i) pick result next
       → result ≡ answer.NotEnabled → ⊥

@@ -179,7 +179,7 @@ spans_more start len (d ∷ (f ∷ ends)) s h = ap (λ (ts : List Span). span_to
 taken : (n : ℕ) (x : SpanEnd) (xs : List SpanEnd) → take (suc (suc n) - 1) (x ∷ xs) ≡ x ∷ take (suc n - 1) xs
 taken n x xs = ap (λ (k : ℕ). take k (x ∷ xs)) (let e : suc (suc n) - 1 ≡ suc (suc n - 1) = omega arith in e)
 
--- where the pick goes on with the last span, that one is replaced
+-- if the pick goes on with the last span, that one is replaced
 pub replaced : (ends : List SpanEnd) (e : SpanEnd) → goes_on ends e.pick ≡ true → take (length ends - 1) ends ++ e ∷ [] ≡ with_end ends e
 replaced [] e h = cc
 replaced (d ∷ []) e h = ap (λ (b : Bool). cond b (e ∷ []) (d ∷ (e ∷ []))) (sym h)

@@ -1,4 +1,4 @@
-//! Why picks were not replayed.
+//! The faults of a replay.
 
 ghost use Rattle.std.specs.Prelude.{◌≡◌};
 

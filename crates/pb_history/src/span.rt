@@ -1,4 +1,4 @@
-//! Picks of one arm, one after another.
+//! The type of a span, and whether two picks are of one arm.
 
 ghost use Rattle.std.specs.Prelude.{◌≡◌};
 ghost use Rattle.pb_history.specs.Entries as spec;

@@ -100,7 +100,7 @@ impl Trace {
     }
 
     /// Makes room for `more` further calls of `push_run`, `push_silent` and `push_shown`. The entries stay
-    /// the same, even if memory is refused, and there is no less room than before.
+    /// the same, even if out of memory, and there is no less room than before.
     pub fn reserve(&mut self, more: usize) -> Result<(), NoMemory>
         ensures same { self.new.entries ≡ self.old.entries }
         ensures room { OnOk result (more ≤ self.new.room) }
@@ -110,7 +110,7 @@ impl Trace {
         self.events.reserve(more)
     }
 
-    /// Adds a pick, with its event or with none. If memory is refused the trace is unchanged.
+    /// Adds a pick, with its event or with none. If out of memory, the trace is unchanged.
     pub fn push(&mut self, pick: Pick, event: Option<Event>) -> Result<(), NoMemory>
         requires { length self.old.entries < MAX_PICKS }
         ensures ok { OnOk result
@@ -126,7 +126,7 @@ impl Trace {
         Ok(())
     }
 
-    /// Adds `count` picks of one arm that show nothing. If memory is refused the trace is unchanged.
+    /// Adds `count` picks of one arm that show nothing. If out of memory, the trace is unchanged.
     pub fn push_many(&mut self, pick: Pick, count: u32) -> Result<(), NoMemory>
         requires { length self.old.entries + count ≤ MAX_PICKS }
         ensures ok { OnOk result (self.new.entries ≡ self.old.entries ++ silent_picks pick count) }

@@ -62,7 +62,7 @@ token_no_blank : {text : List ℕ} {at e : ℕ} {t : Token} → IsToken text at 
     → is_blank (get_or text at 0) ≡ true → ⊥
 token_no_blank {text = text} {at = at} t b = starts_no_blank (get_or text at 0) (token_starts t) b
 
--- one piece is at a place
+-- one piece is at an offset
 pub same_piece : {text : List ℕ} {at e f : ℕ} {new other : List Token} → Piece text at e new
     → Piece text at f other → (e ≡ f) × (new ≡ other)
 same_piece (blank lt b e) (blank lt' b' f) = (e ∙ sym f, refl)
@@ -80,7 +80,7 @@ piece_goes_on (blank lt b e) = omega arith
 piece_goes_on (comment c) = omega (arith, c.long)
 piece_goes_on (token t) = t.before_end
 
--- ---- from one place of a cutting to a later one
+-- ---- from one offset of a cutting to a later one
 
 pub data Steps (text : List ℕ) : ℕ → List Token → ℕ → List Token → Type 0 where
   here : {at : ℕ} {ts : List Token} → Steps text at ts at ts

@@ -52,7 +52,7 @@ next_step : {text : List ℕ} {q p : ℕ} {us ts : List Token} → Steps text q 
 next_step here lt = absurd (omega arith)
 next_step (step {mid = mid} {new = new} r s) lt = (mid, new, r, s)
 
--- an earlier place of a cutting goes on with a piece
+-- an earlier offset of a cutting goes on with a piece
 goes_on : {text : List ℕ} {p q : ℕ} {ts us : List Token} → Cut text p ts → q < p → Cut text q us
     → (mid : ℕ) × (new : List Token) × (Piece text q mid new) × (Steps text mid (us ++ new) p ts)
 goes_on c lt d = elim (compare_cuts d c) [
@@ -118,7 +118,7 @@ token_allowed : {text : List ℕ} {at end : ℕ} {t : Token} → IsToken text at
     → is_allowed (get_or text at 0) ≡ true
 token_allowed {text = text} {at = at} t = starts_allowed (get_or text at 0) (token_starts t)
 
--- one cause is at a place
+-- one cause is at an offset
 one_cause : {text : List ℕ} {at : ℕ} {e f : LexFault} → Cause text at e → Cause text at f → e ≡ f
 one_cause (no_byte_of_a_text a b) (no_byte_of_a_text a' b') = refl
 one_cause (no_byte_of_a_text a b) (nothing_begins a' b' c') = refl

@@ -104,7 +104,7 @@ longest_digits text at end lt digit stops further l more within form =
     ≡ is_ascii_digit (get_or text end 0) = ap is_ascii_digit here in
     cc
 
--- a form at a place that begins with no letter and no digit
+-- a form at an offset that begins with no letter and no digit
 pub symbol_there : (text : List ℕ) (at further : ℕ) (l : Lexeme) → at < further → further ≤ length text
     → is_ascii_alphabetic (get_or text at 0) ≡ false → is_ascii_digit (get_or text at 0) ≡ false
     → Form (slice_range text at further) l

@@ -1,5 +1,5 @@
 -- Which tokens a text is cut into, and which fault it has. Both are conditions on whole cuttings, and nothing
--- here says how a text is read. Places are offsets into the text, from 0.
+-- here says how a text is read. Offsets count bytes of the text from 0.
 use Rattle.std.specs.Prelude.{◌≡◌, ◌<◌, ◌≤◌, ◌<ℤ◌, ◌≤ℤ◌, ◌⊎◌, ℕ, ◌+◌, ℤ, pos, true, false, ◌==◌}
 use Rattle.std.specs.Prelude.{List, [], ◌∷◌, ◌++◌, length, take, slice_index, slice_range, EachIndex}
 use Rattle.std.specs.Prelude.{Result, Ok, Err}
@@ -10,11 +10,11 @@ use Rattle.pb_lexer.specs.declared.error.LexFault.TheVariants as fault
 use Rattle.pb_lexer.specs.Tokens.{Lexeme, Name, Number, Fixed, Token}
 use Rattle.pb_lexer.specs.Forms.{is_allowed, is_blank, Form}
 
--- the line of a place: one more than the line feeds before it
+-- the line of an offset: one more than the line feeds before it
 abbrev pub line_at : List ℕ → ℕ → ℕ
 line_at text at = count_by (λ b. b == 10) (take at text) + 1
 
--- from one place to another the text is the token, and no longer slice has the form of a token
+-- from one offset to another the text is the token, and no longer slice has the form of a token
 pub record IsToken (text : List ℕ) (at end : ℕ) (t : Token) : Type 0 where
   pub before_end : at < end
   pub within : end ≤ length text
@@ -35,13 +35,13 @@ pub record IsComment (text : List ℕ) (at end : ℕ) : Type 0 where
   pub one_line : (k : ℕ) → at ≤ k → k < end → slice_index text k ≡ 10 → ⊥
   pub ends : (end ≡ length text) ⊎ (slice_index text end ≡ 10)
 
--- from one place to another is a blank, a comment or a token, which gives these tokens
+-- from one offset to another is a blank, a comment or a token, which gives these tokens
 pub data Piece (text : List ℕ) (at end : ℕ) : List Token → Type 0 where
   blank : at < length text → is_blank (slice_index text at) ≡ true → end ≡ at + 1 → Piece text at end []
   comment : IsComment text at end → Piece text at end []
   token : {t : Token} → IsToken text at end t → Piece text at end (t ∷ [])
 
--- up to a place the text is these tokens in order, with only blanks and comments round them
+-- up to an offset the text is these tokens in order, with only blanks and comments round them
 pub data Cut (text : List ℕ) : ℕ → List Token → Type 0 where
   nothing : Cut text 0 []
   more : {at end : ℕ} {ts new : List Token} → Cut text at ts → Piece text at end new
@@ -73,8 +73,8 @@ pub record AreTokensOf (text : List ℕ) (ts : List Token) : Type 0 where
 
 -- ---- faults
 
--- the cause of a fault is at this place: a byte that is not allowed, in a comment too; or, if the text
--- is cut up to there, that nothing begins there, or a number too large, or a name too long
+-- the cause of a fault is at this offset: a byte that is not allowed, in a comment too; or, if the text is
+-- cut up to there, that nothing begins there, or a number too large, or a name too long
 pub data Cause (text : List ℕ) (at : ℕ) : LexFault → Type 0 where
   no_byte_of_a_text : at < length text → is_allowed (slice_index text at) ≡ false
       → Cause text at (fault.BadByte at)
@@ -88,7 +88,7 @@ pub data Cause (text : List ℕ) (at : ℕ) : LexFault → Type 0 where
       → t.lexeme ≡ Name x → MAX_NAME < length x
       → Cause text at (fault.NameTooLong at)
 
--- the cause is at this place, and none is earlier
+-- the cause is at this offset, and none is earlier
 pub record First (text : List ℕ) (at : ℕ) (e : LexFault) : Type 0 where
   pub short : length text ≤ MAX_TEXT
   pub cause : Cause text at e
@@ -102,14 +102,14 @@ Refuses text (fault.NumberTooLarge at) = First text at (fault.NumberTooLarge at)
 Refuses text (fault.NameTooLong at) = First text at (fault.NameTooLong at)
 Refuses text fault.NoMemory = Unit {0}
 
--- ---- answers
+-- ---- results
 
--- the answer is these tokens, unless memory runs out
+-- the result is these tokens, unless out of memory
 abbrev pub ReturnsTokens : {X : Type 0} → (X → List Token) → Result X LexFault → List Token → Type 0
 ReturnsTokens view (Ok x) ts = view x ≡ ts
 ReturnsTokens view (Err e) ts = e ≡ fault.NoMemory
 
--- the answer is this fault, unless memory runs out
+-- the result is this fault, unless out of memory
 abbrev pub ReturnsFault : {X : Type 0} → Result X LexFault → LexFault → Type 0
 ReturnsFault (Ok x) e = ⊥
 ReturnsFault (Err f) e = (f ≡ fault.NoMemory) ⊎ (f ≡ e)

@@ -12,14 +12,14 @@ pub fn one_cutting()
     ensures { (text : List ℕ) (a b : List tokens.Token) → Cuts text a → Cuts text b → a ≡ b }
 {}
 
-/// A text that has tokens within the limits has no fault but that memory runs out.
+/// A text that has tokens within the limits has no fault but `NoMemory`.
 #[tactic(auto, using(crate::proofs::Faults::no_fault))]
 pub fn no_fault()
     ensures { (text : List ℕ) (ts : List tokens.Token) (e : LexFault)
         → AreTokensOf text ts → (e ≡ LexFault.NoMemory → ⊥) → Refuses text e → ⊥ }
 {}
 
-/// No text has two faults, other than that memory runs out.
+/// No text has two faults other than `NoMemory`.
 #[tactic(auto, using(crate::proofs::Faults::one_fault))]
 pub fn one_fault()
     ensures { (text : List ℕ) (e f : LexFault)

@@ -163,22 +163,22 @@ fn cut<'t, A: Allocator>(alloc: A, text: &'t [u8]) -> Result<Vec<Token<'t>, A>, 
 }
 
 /// Cuts a text into its tokens, in memory of `alloc`: names, numbers, symbols and reserved words, each the
-/// longest that begins at its place. Between them may be blanks (space, tab, line feed, carriage
-/// return) and comments, which go from `//` to the next line feed or the end, whatever bytes they have. Lines
-/// count from 1.
+/// longest that begins at its offset. Between them may be blanks (space, tab, line feed, carriage return) and
+/// comments, which go from `//` to the next line feed or the end, whatever bytes they have. Lines count from
+/// 1.
 ///
-/// A text over 65,536 bytes is `TooLong`. Else the fault with the least place is returned: `BadByte` at a
-/// byte that is not allowed (allowed are 32 to 126, tab, line feed and carriage return), in a comment too,
-/// or if nothing begins; `NumberTooLarge` at a number over 9223372036854775807; `NameTooLong` at a name
-/// over 32 bytes. `NoMemory` comes if `alloc` is out of memory, and never for a text that is too long.
+/// A text over 65,536 bytes is `TooLong`. Else the fault with the least offset is returned: `BadByte` at a
+/// byte that is not allowed (allowed are 32 to 126, tab, line feed and carriage return), in a comment too, or
+/// if nothing begins; `NumberTooLarge` at a number over 9223372036854775807; `NameTooLong` at a name over 32
+/// bytes. `NoMemory` comes if `alloc` is out of memory, and never for a text that is too long.
 pub fn lex<'t, A: Allocator>(alloc: A, text: &'t [u8]) -> Result<Vec<Token<'t>, A>, LexFault>
     ensures found { IfOk result (λ v. AreTokensOf text.now (tokens v.items)) }
-    // A text over the limit, or the fault with the least place.
+    // A text over the limit, or the fault with the least offset.
     ensures fault { IfErr result (λ e. Refuses text.now e) }
-    // If the text has tokens, these are returned, unless memory runs out.
+    // If the text has tokens, these are returned, unless out of memory.
     ensures only { (ts : List spec_tokens.Token) → AreTokensOf text.now ts
         → ReturnsTokens (λ v. tokens v.items) result ts }
-    // If it has a fault, that is returned, unless memory runs out.
+    // If it has a fault, that is returned, unless out of memory.
     ensures exact { (e : LexFault) → (e ≡ LexFault.NoMemory → ⊥) → Refuses text.now e
         → ReturnsFault result e }
     // A text over the limit takes no memory.

@@ -1,5 +1,5 @@
 //! From the bytes of a text to its tokens: names, numbers, symbols and reserved words, each the longest that
-//! begins at its place, with blanks and comments between them.
+//! begins at its offset, with blanks and comments between them.
 #![tactic(auto)]
 
 pub mod error;

@@ -70,7 +70,7 @@ pub(crate) fn line_end(text: &[u8], start: usize) -> usize
     end
 }
 
-/// Returns the place of the first byte from `start` up to `end` that no text may have.
+/// Returns the offset of the first byte from `start` up to `end` that no text may have.
 pub(crate) fn bad_byte(text: &[u8], start: usize, end: usize) -> Option<usize>
     requires { (start ≤ end) × (end ≤ length text.now) }
     ensures { MatchOption result

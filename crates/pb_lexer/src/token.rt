@@ -4,7 +4,8 @@ ghost use Rattle.std.specs.Prelude.{◌≡◌};
 ghost use Rattle.pb_lexer.specs.Tokens.{lexeme, token};
 
 /// A symbol or a reserved word. Its spelling is above it.
-// To add one: specs/Forms, words.rt, tests.rt, names.rt of pb_code, LANGUAGE.md, extras/; docs/CHANGING.md.
+// To add one: specs/Forms, words.rt, lexer.rt of pb_tests, names.rt of pb_code, LANGUAGE.md, extras/;
+// docs/CHANGING.md.
 #[derive(Clone, Copy, Debug, PartialEq, Eq)]
 pub enum Mark {
     /// `:=`
@@ -94,7 +95,7 @@ pub enum Kind {
     Mark(Mark),
 }
 
-/// A token of a text, with its place and its line. Only `lex` makes tokens.
+/// A token of a text, with its offset and its line. Only `lex` makes tokens.
 #[derive(Clone, Copy, Debug)]
 pub struct Token<'t> {
     pub(crate) kind: Kind,
@@ -119,14 +120,14 @@ impl<'t> Token<'t> {
         self.text
     }
 
-    /// Returns the place of its first byte: an offset into the text, from 0.
+    /// Returns the offset of its first byte in the text, from 0.
     pub fn start(&self) -> usize
         ensures { result ≡ (token self.now).start }
     {
         self.start
     }
 
-    /// Returns the place after its last byte, up to 65,536.
+    /// Returns the offset after its last byte, up to 65,536.
     pub fn end(&self) -> usize
         ensures { result ≡ (token self.now).end }
     {

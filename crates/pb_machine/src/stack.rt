@@ -1,4 +1,4 @@
-//! The operands of an arm.
+//! The stack of an arm, and its slots.
 
 ghost use Rattle.std.specs.Prelude.{◌≡◌, ◌↔◌, ◌+◌, ◌-◌, ◌<◌, ◌≤◌, [], ◌∷◌, length, reverse, slice_get, Some, IsTrue, IfOk};
 ghost use Rattle.pb_machine.specs.Operands.{held};

@@ -21,7 +21,7 @@ use Rattle.pb_messages.specs.Said.{all, stopped, unread}
 use Rattle.pb_messages.specs.declared.cause.Cause.{Cause}
 use Rattle.pb_messages.specs.declared.message.Reading.TheVariants.{Debugged}
 
--- the message of a cause with this code and this place
+-- the message of a cause with this code and this offset
 abbrev pub IsMessageAt : (label text code : List ℕ) → Option ℕ → List ℕ → Type 0
 IsMessageAt label text code at told =
     (summary : List ℕ) × (shown : List ℕ) × (details : List ℕ)

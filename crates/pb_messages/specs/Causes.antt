@@ -1,9 +1,9 @@
--- What a refusal line tells: a letter with a number, and a place if it has one.
+-- What a refusal line tells: a letter with a number, and an offset if it has one.
 use Rattle.std.specs.Prelude.{◌≡◌, ℕ, ◌+◌, List, ◌++◌, Option, None, Some, codes, length, take, ⊤}
 use Rattle.pb_engines.specs.Refusals.{RefusesWith, at_place}
 use Rattle.pb_messages.specs.declared.cause.Cause.{Cause}
 
--- the refusal line begins with this code, or is of this code and this place
+-- the refusal line begins with this code, or is of this code and this offset
 abbrev pub IsLineAt : (code : List ℕ) → Option ℕ → List ℕ → Type 0
 IsLineAt code None line = take (8 + length code) line ≡ codes "refused " ++ code
 IsLineAt code (Some at) line = line ≡ at_place (codes "refused " ++ code) at

@@ -2,7 +2,7 @@
 use Rattle.std.specs.Prelude.{◌≡◌, ℕ, ◌-◌, List, ◌++◌, Option, None, Some, length, min, take, ⊤}
 
 -- such an input: the bytes still to come, if they are known, the failures, the first bytes that were read, or
--- none of them if there was no memory to keep them, and how many more are kept
+-- none of them if out of memory to keep them, and how many more are kept
 pub record KeptSource : Type 0 where
   pub rest : Option (List ℕ)
   pub failures : ℕ

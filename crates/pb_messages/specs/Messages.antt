@@ -22,6 +22,6 @@ IsMessage label text cause told =
     (summary : List ℕ) × (shown : List ℕ) × (details : List ℕ)
     × IsShown label text cause.at shown × (told ≡ message cause.code.now summary shown details)
 
--- the message tells a refusal line that the text has: its code and its place
+-- the message tells a refusal line that the text has: its code and its offset
 abbrev pub TellsRefusal : (label text told : List ℕ) → Type 0
 TellsRefusal label text told = (cause : Cause) × TellsCause text cause × IsMessage label text cause told

@@ -1,4 +1,4 @@
-//! What a refusal line tells: the letter with a number of each fault, and its place.
+//! What a refusal line tells: the letter with a number of each fault, and its offset.
 
 ghost use Rattle.std.specs.Prelude.{◌≡◌, ℕ, List, IfSome, Some};
 ghost use Rattle.pb_codegen.specs.Compiled.{IsRefused};
@@ -213,8 +213,8 @@ pub fn picks_cause(fault: PickFault) -> Option<Cause>
     }
 }
 
-/// Returns the cause of a pick that is not enabled; none if it is out of memory. Its place is the number of
-/// the pick.
+/// Returns the cause of a pick that is not enabled; none if it is out of memory. Instead of an offset it has
+/// the number of the pick.
 pub fn stop_cause(fault: ReplayFault) -> Option<Cause>
     ensures { IsCauseOf (stop_line fault) result }
 {

@@ -13,7 +13,7 @@ use std::marker::Model;
 const MAX_KEPT: usize = MAX_INPUT + 1;
 
 /// An input that gives what another one gives, and keeps the first 4,194,305 bytes of it, so that a fault in
-/// them can be shown when the command has ended. If there is no memory for them it forgets them, and goes on.
+/// them can be shown when the command has ended. If out of memory for them it forgets them, and goes on.
 #[derive(Drop)]
 pub struct KeptInput<I: Input> {
     inner: I,
@@ -42,8 +42,7 @@ impl<I: Input> KeptInput<I> {
         }
     }
 
-    /// Returns the first bytes that were read, at most 4,194,305, or nothing if there was no memory to keep
-    /// them.
+    /// Returns the first bytes that were read, at most 4,194,305, or nothing if out of memory to keep them.
     pub fn kept(&self) -> Option<&[u8]>
         ensures { option_map (λ bytes. bytes.now) result ≡ self.now.kept }
     {
@@ -65,7 +64,7 @@ impl<I: Input> KeptInput<I> {
     }
 }
 
-// Puts bytes behind those that are kept, or keeps none if there is no memory for them.
+// Puts bytes behind those that are kept, or keeps none if out of memory for them.
 fn put(kept: &mut Option<Vec<u8>>, bytes: &[u8])
     ensures { IsAdded bytes.now (option_map (λ v. v.items) kept.old) (option_map (λ v. v.items) kept.new) }
 {

@@ -1,4 +1,4 @@
-//! Standard error.
+//! Standard error as an output.
 
 ghost use Rattle.std.specs.Prelude.{◌≡◌, ◌≤◌, ◌<◌, None, length, IfSome};
 

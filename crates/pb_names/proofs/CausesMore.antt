@@ -7,7 +7,7 @@ use Rattle.pb_names.specs.Causes.{InStmt, InStmts, InArms}
 use Rattle.pb_names.specs.Program.{Name}
 use Rattle.pb_names.specs.Search.{IsFirst, earlier_of}
 use Rattle.pb_names.specs.declared.causes.Cause.{Cause}
-use Rattle.pb_names.proofs.First.{first_either, first_same}
+use Rattle.pb_names.proofs.FirstCauses.{first_either, first_same}
 
 -- ---- lists of statements
 

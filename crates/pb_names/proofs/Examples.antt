@@ -15,7 +15,7 @@ use Rattle.pb_names.specs.Source.{SourceProcess, source_step, source_process}
 
 -- ---- runs by explicit picks
 
--- the events of these picks, where each can be made; the banker is not asked
+-- the events of these picks, if each can be made; the banker is not asked
 abbrev play : List Pick → State SourceProcess → Option (List Event)
 play [] s = Some []
 play (pick ∷ picks) s =

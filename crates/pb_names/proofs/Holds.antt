@@ -22,7 +22,7 @@ use Rattle.pb_names.specs.Program.{Name}
 use Rattle.pb_names.specs.Resolves.{texts, IsNumber, ResolvesDemand}
 use Rattle.pb_names.specs.Search.{IsFree}
 use Rattle.pb_names.specs.declared.causes.Wrong.TheVariants.{Repeated}
-use Rattle.pb_names.proofs.First.{free_left, free_right, free_at}
+use Rattle.pb_names.proofs.FirstCauses.{free_left, free_right, free_at}
 use Rattle.pb_names.proofs.NameNumbers.{name_read}
 use Rattle.pb_base.proofs.Lists.{some_same, take_next}
 

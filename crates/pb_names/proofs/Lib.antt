@@ -3,7 +3,7 @@ pub mod CausesMore
 pub mod Completeness
 pub mod Examples
 pub mod ExpressionSteps
-pub mod First
+pub mod FirstCauses
 pub mod Forks
 pub mod Holdings
 pub mod Holds
@@ -13,9 +13,9 @@ pub mod NoCause
 pub mod NumberedLists
 pub mod OneNumbering
 pub mod Parts
-pub mod Ready
+pub mod ReadyParts
+pub mod ResolvedLimits
 pub mod Sizes
 pub mod ToldFaults
 pub mod Views
 pub mod Wholes
-pub mod Within

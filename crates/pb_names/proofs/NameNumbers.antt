@@ -18,7 +18,7 @@ use Rattle.pb_names.specs.Program.{Name}
 use Rattle.pb_names.specs.Resolves.{texts}
 use Rattle.pb_names.specs.Search.{IsFirst}
 use Rattle.pb_names.specs.declared.causes.Wrong.{Wrong}
-use Rattle.pb_names.proofs.First.{first_none, first_one}
+use Rattle.pb_names.proofs.FirstCauses.{first_none, first_one}
 
 -- ---- the first elements of a list
 
@@ -75,7 +75,7 @@ texts_more of text made after x xs i s pushed same below here before =
 
 -- ---- names that are not declared, and names that are declared before
 
--- a name that is among the first n, at this place
+-- a name that is among the first n, with this number
 pub again_here : (wrong : Wrong) (names : List Name) (n k : ℕ) (x : NameSyntax) → k < n
     → slice_get names k ≡ Some x.text
     → IsFirst (IsAgain wrong (take n names) x) (Some (record { at = x.at; wrong = wrong }))

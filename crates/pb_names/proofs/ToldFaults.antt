@@ -26,7 +26,7 @@ told_first program at Unknown within first = first_cause program _ within first
 told_first program at Amount within first = first_cause program _ within first
 told_first program at Repeated within first = first_cause program _ within first
 
--- where none is found there is none
+-- if none is found there is none
 pub none_free : (P : Causes) → IsFirst P None → IsFree P
 none_free P first = record { free = first.none refl }
 

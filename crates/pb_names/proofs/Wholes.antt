@@ -14,7 +14,7 @@ use Rattle.pb_names.specs.Resolves.{texts, AreDistinct, ResolvesStmts, ResolvesP
 use Rattle.pb_names.specs.Search.{IsFree}
 use Rattle.pb_names.specs.declared.causes.Wrong.TheVariants.{Twice}
 use Rattle.pb_names.specs.declared.fault.Kind.TheVariants.{Processes, Resources, Integers, Fork, Arms}
-use Rattle.pb_names.proofs.First.{free_left, free_right, free_at}
+use Rattle.pb_names.proofs.FirstCauses.{free_left, free_right, free_at}
 use Rattle.pb_names.proofs.Holds.{zip_more}
 use Rattle.pb_names.proofs.NameNumbers.{read_take, taken_texts, taken_names}
 use Rattle.pb_names.proofs.NumberedLists.{inner_of}

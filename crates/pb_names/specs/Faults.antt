@@ -1,5 +1,5 @@
 -- Why a program has no numbered form, and which of several faults is told: what it has too many of comes
--- first, then the cause of least place.
+-- first, then the cause of least offset.
 use Rattle.std.specs.Prelude.{ℕ, ◌≤◌, ⊤}
 use Rattle.pb_tree.specs.Syntax.{ProgramSyntax}
 use Rattle.pb_names.specs.Causes.{InProgram}
@@ -11,7 +11,7 @@ use Rattle.pb_names.specs.declared.fault.NameFault.{NameFault}
 use Rattle.pb_names.specs.declared.fault.NameFault.TheVariants.{TooMany, Twice, Unknown, Amount, Repeated}
 use Rattle.pb_names.specs.declared.fault.NameFault.TheVariants.{NoMemory}
 
--- the cause is in a program within its limits, and none is at an earlier place
+-- the cause is in a program within its limits, and none is at an earlier offset
 pub record IsFirstCause (program : ProgramSyntax) (cause : Cause) : Type 0 where
   pub within : IsWithinLimits program
   pub stands : InProgram program cause
@@ -24,7 +24,7 @@ told wrong.Unknown at = Unknown at
 told wrong.Amount at = Amount at
 told wrong.Repeated at = Repeated at
 
--- the answer that memory ran out may come at any time
+-- the fault `NoMemory` may come at any time
 abbrev pub IsFault : ProgramSyntax → NameFault → Type 0
 IsFault program (TooMany kind) = IsTooMany program kind
 IsFault program (Twice at) = IsFirstCause program (record { at = at; wrong = wrong.Twice })

@@ -18,7 +18,7 @@ use pb_base::limits::MAX_AMOUNT;
 use pb_tree::{Demand, Expr, Name, Number, Process, Program, Resource, Stmt};
 use std::alloc::Allocator;
 
-/// What is wrong at a place.
+/// What is wrong at an offset.
 #[derive(Clone, Copy, Debug, PartialEq, Eq)]
 pub enum Wrong {
     /// A name that is declared before.
@@ -31,7 +31,7 @@ pub enum Wrong {
     Repeated,
 }
 
-/// A cause of a fault: a place, as an offset into the text from 0, and what is wrong there.
+/// A cause of a fault: an offset into the text, from 0, and what is wrong there.
 #[derive(Clone, Copy, Debug, PartialEq, Eq)]
 pub struct Cause {
     pub at: usize,
@@ -50,7 +50,7 @@ pub fn fault_of(cause: Cause) -> NameFault
     }
 }
 
-/// Returns the cause of the lesser place.
+/// Returns the cause of the lesser offset.
 fn earlier(a: Option<Cause>, b: Option<Cause>) -> Option<Cause>
     ensures { result ≡ earlier_of a b }
 {

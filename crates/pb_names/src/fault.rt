@@ -1,4 +1,4 @@
-//! Why a program has no numbered form.
+//! The faults of a program's names, amounts and counts.
 
 ghost use Rattle.std.specs.Prelude.{◌≡◌};
 ghost use Rattle.pb_names.specs.declared.fault.NameFault.TheVariants.{NoMemory as no_memory};
@@ -27,26 +27,26 @@ pub enum Kind {
     Arms,
 }
 
-/// Why a program has no numbered form. A place is an offset into the text, from 0.
+/// Why a program has no numbered form. Offsets count bytes of the text from 0.
 #[derive(Clone, Copy, Debug, PartialEq, Eq, thiserror::Error)]
 pub enum NameFault {
     /// The program has more of these than it may have.
     #[error("too many {0}")]
     TooMany(Kind),
-    /// At this place a resource, a process or an integer of a process is declared whose name is declared
+    /// At this offset a resource, a process or an integer of a process is declared whose name is declared
     /// before.
     #[error("name declared twice at {0}")]
     Twice(usize),
-    /// At this place a name is used that is not declared: no integer of its process, or no resource.
+    /// At this offset a name is used that is not declared: no integer of its process, or no resource.
     #[error("unknown name at {0}")]
     Unknown(usize),
-    /// At this place is a capital over 1,000,000, or an amount of a hold that is 0 or over 1,000,000.
+    /// At this offset is a capital over 1,000,000, or an amount of a hold that is 0 or over 1,000,000.
     #[error("amount out of range at {0}")]
     Amount(usize),
-    /// At this place a hold names a resource that it has named before.
+    /// At this offset a hold names a resource that it has named before.
     #[error("resource named again at {0}")]
     Repeated(usize),
-    /// The allocator is out of memory. It is returned only if it refused a growth.
+    /// The allocator is out of memory.
     #[error("out of memory")]
     NoMemory,
 }

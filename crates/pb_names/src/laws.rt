@@ -15,8 +15,8 @@ pub fn one_numbering()
     ensures { (written : ProgramSyntax) (a b : Program) → Resolves written a → Resolves written b → a ≡ b }
 {}
 
-/// A tree that has a numbered program has no fault but that memory runs out.
-#[tactic(auto, using(crate::proofs::Within::no_fault))]
+/// A tree that has a numbered program has no fault but `NoMemory`.
+#[tactic(auto, using(crate::proofs::ResolvedLimits::no_fault))]
 pub fn no_fault()
     ensures { (written : ProgramSyntax) (program : Program) (e : NameFault)
         → Resolves written program → (e ≡ NameFault.NoMemory → ⊥) → IsFault written e → ⊥ }

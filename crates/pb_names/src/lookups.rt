@@ -74,7 +74,7 @@ impl<'t, A: Allocator> Declared<'t, A> {
     }
 }
 
-/// Returns the byte at a place of a name.
+/// Returns the byte of a name with this number.
 fn byte_at(name: &[u8], i: usize) -> usize
     requires { i < length name.now }
     ensures value { result ≡ get_or name.now i 0 }

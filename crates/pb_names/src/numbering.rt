@@ -529,10 +529,10 @@ fn number_program<A: Allocator + Clone>(
 ///
 /// `TooMany` comes first, with the first kind of these that the program has too many of: processes,
 /// resources, integers of a process, arms of one parbegin, arms of a process. Then comes the fault of least
-/// place: `Twice` at a resource, a process or an integer of a process whose name is declared before,
-/// `Unknown` at a name that is not declared, `Amount` at a capital or an amount out of range, `Repeated` at
-/// a resource that its hold names before. `NoMemory` comes if `alloc` is out of memory, and never for a
-/// program that has too many of a kind.
+/// offset: `Twice` at a resource, a process or an integer of a process whose name is declared before,
+/// `Unknown` at a name that is not declared, `Amount` at a capital or an amount out of range, `Repeated` at a
+/// resource that its hold names before. `NoMemory` comes if `alloc` is out of memory, and never for a program
+/// that has too many of a kind.
 pub fn resolve<A: Allocator + Clone>(
     alloc: A,
     program: &pb_tree::Program<A>,

@@ -16,7 +16,7 @@ use Rattle.pb_object.specs.declared.rows.ResourceRow.{ResourceRow as GivenResour
 use Rattle.pb_object.specs.declared.rows.ProcessRow.{ProcessRow as GivenProcess}
 use Rattle.pb_object.specs.declared.format.Format.{Format}
 use Rattle.pb_object.specs.declared.format.Format.TheVariants.{One, Two}
-use Rattle.pb_object.proofs.Sides.{side_left, side_right}
+use Rattle.pb_object.proofs.PairedLists.{side_left, side_right}
 
 pub push_map : {A B C : Type 0} (f : A → C) (g : B → C) (xs : List A) (ys : List B) (x : A) (y : B) → map f xs ≡ map g
     ys → f x ≡ g y → map f (xs ++ x ∷ []) ≡ map g (ys ++ y ∷ [])

@@ -1,4 +1,4 @@
--- The place that a refusal names is where the text stops being the beginning of an object.
+-- The offset that a refusal names is where the text stops being the beginning of an object.
 use Rattle.std.proofs.Common.{◌≡◌, inl, inr, ℕ, ◌-◌, ◌≤◌, Bool, true, false, cond, eqb, ltb, List, [], ◌∷◌, ◌++◌}
 use Rattle.std.proofs.Common.{length, Result, Ok, Err, refl, sym, ap, subst, ◌∙◌, append_assoc, arith}
 use Rattle.std.proofs.lemmas.Bool.{ltb-true, ltb-false}
@@ -14,7 +14,7 @@ use Rattle.pb_object.specs.Ranges.{IsObject}
 use Rattle.pb_object.specs.Reading.{object_at, all_of, placed, answer_of}
 use Rattle.pb_object.proofs.LineLemmas.{ok_is}
 use Rattle.pb_object.proofs.ObjectLaws.{object_part}
-use Rattle.pb_object.proofs.Exact.{left_of, not_err, fault, err_same, bind_err}
+use Rattle.pb_object.proofs.ExactReaders.{left_of, not_err, fault, err_same, bind_err}
 use Rattle.pb_object.proofs.ObjectExact.{object_both}
 
 -- an object alone is read whole
@@ -95,7 +95,7 @@ all_place text f e =
           (gone_on text h.0.0 h.0.1 h.1 (not_nil h.0.1 g.0))
     ]
 
--- ---- answers
+-- ---- results
 
 abbrev answered : Object → Result Object ObjectFault
 answered o = Ok o
@@ -122,7 +122,7 @@ answer_at : (text : List ℕ) (long : Bool) → ltb 4194304 (length text) ≡ lo
 answer_at text true is a e = subst (IsPlaced text) (told_is (Limit 0) a e) (inl (ltb-true _ _ is, refl))
 answer_at text false is a e = placed_place text (all_of text) refl (ltb-false _ _ is) a e
 
--- where a text is no object, the place that is told is where it stops being the beginning of one
+-- if a text is not an object, the offset that is told is where it stops being the beginning of one
 pub answer_place : (text : List ℕ) (a : ObjectFault) → answer_of text ≡ Err a → IsPlaced text a
 answer_place text a e = answer_at text (ltb 4194304 (length text)) refl a e
 

@@ -10,8 +10,8 @@ use Rattle.pb_base.specs.declared.operators.UnaryOp.TheVariants as unary
 use Rattle.pb_base.specs.declared.operators.BinaryOp.TheVariants as binary
 use Rattle.pb_object.specs.Rows.{side_by_side}
 use Rattle.pb_code.specs.Names.{Word}
-use Rattle.pb_object.proofs.Sides.{side_push}
-use Rattle.pb_object.proofs.Turns.{up_to_here}
+use Rattle.pb_object.proofs.PairedLists.{side_push}
+use Rattle.pb_object.proofs.WordTurns.{up_to_here}
 use Rattle.pb_object.specs.Instructions.{pair_words}
 
 pub join_push : (k : Word) (ws : List Word) (w : Word) → join_with_byte 32 (k ∷ (ws ++ w ∷ [])) ≡ join_with_byte 32 (k ∷ ws) ++ 32 ∷ w

@@ -1,4 +1,4 @@
--- What each kind of line that is no place reads is what it spells.
+-- What each kind of line that is not a place reads is what it spells.
 use Rattle.std.proofs.Common.{◌≡◌, ℕ, zero, suc, ◌^◌, ◌<◌, ◌≤◌, Bool, true, false, cond, not, ◌&&◌, eqb, ltb, List}
 use Rattle.std.proofs.Common.{[], ◌∷◌, length, refl, sym, ap, subst, ◌∙◌, arith, map, codes}
 use Rattle.std.specs.List.{list_all, AllByRecursion}

@@ -18,7 +18,7 @@ abbrev pub onto : List ℕ → List Word → List Word
 onto part [] = []
 onto part (w ∷ ws) = (part ++ w) ∷ ws
 
--- the words of a line and what follows its end, where it has one
+-- the words of a line and what follows its end, if it has one
 abbrev pub Found : Type 0
 Found = Option (List Word × List ℕ)
 
@@ -135,14 +135,14 @@ joined_space words part (Some p) =
     ap (λ (l : List ℕ). Some (words ++ l ∷ onto [] p.0, p.1)) (append-nil part)
     ∙ ap (λ (ws : List Word). Some (ws, p.1)) (sym (append_assoc words (part ∷ []) (onto [] p.0)))
 
--- what is found from a place on, by the byte there
+-- what is found from an offset on, by the byte there
 scan_at : (text : List ℕ) (i d : ℕ) → i < length text
     → scan (drop i text) ≡ scan (get_or text i d ∷ drop (i + 1) text)
 scan_at text i d lt =
     let more : i + 1 ≡ suc i = omega arith in
     rw more (ap scan (drop-cons text i d lt))
 
--- the bytes from a place on up to another
+-- the bytes from an offset on up to another
 abbrev pub between : List ℕ → ℕ → ℕ → List ℕ
 between text start i = take (i - start) (drop start text)
 
@@ -157,7 +157,7 @@ part_more text start i d le lt =
     get_or-drop start text (i - start) d ∙ ap (λ k. get_or text k d) at in
     rw more (one ∙ ap (λ b. take (i - start) (drop start text) ++ b ∷ []) same)
 
--- what is found of a text, seen from a place in its first line
+-- what is found of a text, seen from an offset in its first line
 abbrev pub IsFound : List ℕ → List Word → ℕ → ℕ → Type 0
 IsFound text words start i = joined words (between text start i) (scan (drop i text)) ≡ scan text
 

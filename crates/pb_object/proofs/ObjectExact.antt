@@ -19,8 +19,8 @@ use Rattle.pb_object.proofs.LineForms.{resource_is, name_is}
 use Rattle.pb_object.proofs.InstrForms.{place_is}
 use Rattle.pb_object.proofs.ObjectLaws.{counted_part, claims_part, format_part, integers_part, small_processes}
 use Rattle.pb_object.proofs.FreshNames.{fresh_name}
-use Rattle.pb_object.proofs.Exact.{Reader, Says, IsExact, IsSayable, line_exact, then_read, then_exact, then_sayable}
-use Rattle.pb_object.proofs.Exact.{read_all, end_exact, end_sayable, many_exact}
+use Rattle.pb_object.proofs.ExactReaders.{Reader, Says, IsExact, IsSayable, line_exact, then_read, then_exact, then_sayable}
+use Rattle.pb_object.proofs.ExactReaders.{read_all, end_exact, end_sayable, many_exact}
 
 abbrev pub Both : {X : Type 0} → Reader X → Type 0
 Both part = IsExact part × IsSayable part

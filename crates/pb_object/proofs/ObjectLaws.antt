@@ -311,8 +311,7 @@ object_again o rest good =
 pub object_part : IsPart object_at object_spelling IsObject
 object_part = record { takes = object_takes; again = object_again }
 
--- an object's text followed by more is an object's text only where nothing follows, and then of the same
--- object
+-- an object's text followed by more is an object's text only if nothing follows, and then of the same object
 pub alike : (a b : Object) (more : List ℕ) → IsObject a → IsObject b → object_spelling a ++ more ≡ object_spelling b → (a ≡ b) × (more ≡ [])
 alike a b more ga gb e =
     let first = object_again a more ga in

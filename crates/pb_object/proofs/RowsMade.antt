@@ -15,7 +15,7 @@ use Rattle.pb_object.specs.Objects.{ResourceRow, ProcessRow, code_of_row, labels
 use Rattle.pb_object.specs.Ranges.{Each, IsEntry, IsPlace, IsResource, IsProcess, AreIntegers, AreClaimsInRange}
 use Rattle.pb_object.specs.Rows.{side_by_side}
 use Rattle.pb_object.proofs.NewNames.{new_parts}
-use Rattle.pb_object.proofs.Sides.{side_left, side_right}
+use Rattle.pb_object.proofs.PairedLists.{side_left, side_right}
 
 -- ---- resources
 

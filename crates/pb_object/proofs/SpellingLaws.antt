@@ -12,7 +12,7 @@ use Rattle.pb_object.specs.Ranges.{Each, IsPlace, IsProcess, plain_names}
 use Rattle.pb_object.specs.Reading.{answer_of}
 use Rattle.pb_object.specs.Answers.{IsObjectOf, SpellsCode, SpellsOne}
 use Rattle.pb_object.proofs.ObjectLaws.{alike}
-use Rattle.pb_object.proofs.Found.{answer_again}
+use Rattle.pb_object.proofs.FoundObjects.{answer_again}
 
 pub same_object : (f g : Format) (c d : Code) (l m : List ProcessLabels) (text more : List ℕ) → (s : SpellsCode f c l
     text) → (t : SpellsCode g d m (text ++ more)) → (s.0 ≡ t.0) × (more ≡ [])

@@ -40,22 +40,22 @@ HasText format code labels = (o : Object) × IsObjectOf format code labels o
 abbrev pub HasTextOne : Code → Type 0
 HasTextOne code = (labels : List ProcessLabels) × HasText One code labels
 
--- ---- answers
+-- ---- results
 
--- what reading rows returned is what the text says, unless memory ran out
+-- what reading rows returned is what the text says, unless out of memory
 abbrev pub AnswersRows : List ℕ → Result Rows ObjectFault → Type 0
 AnswersRows text (Ok rows) = answer_of text ≡ Ok (object_row rows)
 AnswersRows text (Err (NotObject at)) = answer_of text ≡ Err (NotObject at)
 AnswersRows text (Err (Limit at)) = answer_of text ≡ Err (Limit at)
 AnswersRows text (Err NoMemory) = ⊤
 
--- the fault is the first one of the text, or memory wanted
+-- the fault is the first one of the text, or out of memory
 abbrev pub IsFaultOf : List ℕ → ObjectFault → Type 0
 IsFaultOf text (NotObject at) = answer_of text ≡ Err (NotObject at)
 IsFaultOf text (Limit at) = answer_of text ≡ Err (Limit at)
 IsFaultOf text NoMemory = ⊤
 
--- the answer is this code with these labels, or memory wanted
+-- the result is this code with these labels, or out of memory
 abbrev pub IsAnswer : Code → List ProcessLabels → Result (GivenCode × Labels) ObjectFault → Type 0
 IsAnswer code labels (Ok x) = (code_view x.0 ≡ code) × (labels_view x.1 ≡ labels)
 IsAnswer code labels (Err (NotObject at)) = ⊥

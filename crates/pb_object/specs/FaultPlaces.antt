@@ -1,4 +1,4 @@
--- The place of the first faulty line of a text, by the grammar of objects alone.
+-- The offset of the first faulty line of a text, by the grammar of objects alone.
 use Rattle.std.specs.Prelude.{◌≡◌, ◌⊎◌, ◌<◌, ◌≤◌, ℕ, true, List, [], ◌∷◌, ◌++◌, length, ⊤}
 use Rattle.pb_base.specs.declared.limits.TheConstants.{MAX_INPUT}
 use Rattle.pb_object.specs.declared.fault.ObjectFault.{ObjectFault}
@@ -17,7 +17,7 @@ BeginsObject text = (o : Object) × (more : List ℕ) × IsObject o × (text ++ 
 abbrev pub AreLines : List ℕ → Type 0
 AreLines text = (text ≡ []) ⊎ ((before : List ℕ) × (text ≡ before ++ 10 ∷ []))
 
--- A text is some lines and a rest, which begins at this place. The lines begin some object; no object begins
+-- A text is some lines and a rest, which begins at this offset. The lines begin some object; no object begins
 -- with them and a line of the rest; and if the rest has no complete line, the text is not an object.
 pub record IsFaultPlace (text : List ℕ) (at : ℕ) : Type 0 where
   pub lines : List ℕ
@@ -29,7 +29,7 @@ pub record IsFaultPlace (text : List ℕ) (at : ℕ) : Type 0 where
   pub stuck : (line tail : List ℕ) → rest ≡ line ++ 10 ∷ tail → ¬ BeginsObject (lines ++ (line ++ 10 ∷ []))
   pub no_object : (o : Object) → IsObject o → text ≡ object_spelling o → ⊥
 
--- what a refusal says of a text: a fault of form has such a place; one of range too, unless the text is
+-- what a refusal says of a text: a fault of form has such an offset; one of range too, unless the text is
 -- longer than 4,194,304 bytes, of which it says 0
 abbrev pub IsPlaced : List ℕ → ObjectFault → Type 0
 IsPlaced text (NotObject at) = (length text ≤ MAX_INPUT) × IsFaultPlace text at

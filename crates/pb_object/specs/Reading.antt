@@ -121,9 +121,9 @@ all_of text = do
   o ← object_at text
   if length o.1 == 0 then Ok o.0 else Err (Malformed (length o.1))
 
--- ---- the answer
+-- ---- the result
 
--- the place of a line is the length of what is before it
+-- the offset of a line is the length of what is before it
 abbrev pub placed : ℕ → Result Object Fault → Result Object ObjectFault
 placed n (Ok o) = Ok o
 placed n (Err (Malformed left)) = Err (NotObject (n - left))

@@ -1,4 +1,4 @@
--- What contracts see of the lines that were read.
+-- What contracts see of the lines that were read. No public contract cites this file.
 use Rattle.std.specs.Prelude.{◌≡◌, ℕ, List, [], ◌∷◌, length, map, Option, Some, None, ⊤}
 use Rattle.pb_base.specs.declared.pair.Pair.{Pair}
 use Rattle.pb_object.specs.declared.words.Verdict.{Verdict}
@@ -29,7 +29,7 @@ bundle_so_far (Some pairs) = pairs
 
 -- ---- rows
 
--- each element with the one at the same place of the other list
+-- each element with the one that has the same number in the other list
 abbrev pub side_by_side : {A B : Type 0} → List A → List B → List (A × B)
 side_by_side [] ys = []
 side_by_side (x ∷ xs) [] = []

@@ -1,4 +1,4 @@
-//! Why a text is not an object.
+//! The faults of objects.
 
 ghost use Rattle.std.specs.Prelude.{◌≡◌};
 ghost use Rattle.pb_object.specs.declared.fault.ReadError.TheVariants.{Memory};
@@ -7,7 +7,7 @@ ghost use Rattle.pb_object.specs.declared.fault.ObjectFault.TheVariants.{NoMemor
 use pb_base::NoMemory;
 use std::alloc::{AllocError, AllocFailed};
 
-/// Why a text is not an object: its first faulty line, by the place in the text at which that line begins.
+/// Why a text is not an object: its first faulty line, by the offset in the text at which that line begins.
 #[derive(Clone, Copy, Debug, PartialEq, Eq, thiserror::Error)]
 pub enum ObjectFault {
     /// The line there is not of the form that it must have, is not ended, is missing, or comes after the end.
@@ -16,7 +16,7 @@ pub enum ObjectFault {
     /// The line there is of its form, with a number out of range. At 0 also: the text is too long.
     #[error("out of range at {0}")]
     Limit(usize),
-    /// A growth was refused.
+    /// Out of memory.
     #[error("out of memory")]
     NoMemory,
 }

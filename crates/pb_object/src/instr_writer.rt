@@ -94,7 +94,7 @@ fn put_bundle(out: &mut Vec<u8>, keyword: &str, bundle: &Bundle) -> Result<(), N
     Ok(())
 }
 
-/// Writes an instruction with the bundle at this place.
+/// Writes an instruction with the bundle that has this number.
 fn put_bundle_at(
     out: &mut Vec<u8>,
     keyword: &str,

@@ -52,8 +52,9 @@ pub fn first_format_fits()
     ensures only { (code : Code) → HasTextOne code → FitsFirst code }
 {}
 
-/// The place that a refusal names is known from the grammar alone: the lines before it begin some object, and
-/// none begins with them and the line there. At 0 of a text that is too long nothing is said of its lines.
+/// The offset that a refusal names is known from the grammar alone: the lines before it begin some object,
+/// and none begins with them and the line there. At 0 of a text that is too long nothing is said of its
+/// lines.
 pub fn fault_place()
     ensures { (text : List ℕ) (fault : ObjectFault) → answer_of text ≡ Err fault → IsPlaced text fault }
 {}

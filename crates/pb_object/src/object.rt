@@ -48,8 +48,8 @@ fn rows_of(alloc: Global, text: &[u8]) -> Result<Rows, ObjectFault>
 ///
 /// Else the first line that is not as it must be: `NotObject` if it is not of its form, is not ended by a
 /// line feed, is missing, or comes after the end; `Limit` if it is of its form and a number is out of range.
-/// The place is that of the start of the line, or the length of the text if a line is missing. A text of more
-/// than `MAX_INPUT` bytes is `Limit` at 0. `NoMemory` comes wherever a growth is refused.
+/// The offset is that of the start of the line, or the length of the text if a line is missing. A text of
+/// more than `MAX_INPUT` bytes is `Limit` at 0. `NoMemory` comes if `alloc` is out of memory.
 pub fn read_any(alloc: Global, text: &[u8]) -> Result<(Code, Labels), ObjectFault>
     // The text spells what is returned.
     ensures found { IfOk result (λ x. (format : Formats)
@@ -61,7 +61,7 @@ pub fn read_any(alloc: Global, text: &[u8]) -> Result<(Code, Labels), ObjectFaul
         → SpellsCode format code labels text.now → length text.now ≤ MAX_INPUT → IsAnswer code labels result }
     // A refusal names the first faulty line.
     ensures fault { IfErr result (IsFaultOf text.now) }
-    // By the grammar alone: the lines before the place begin an object, and none begins with the line there
+    // By the grammar alone: the lines before the offset begin an object, and none begins with the line there
     // too.
     ensures place { IfErr result (IsPlaced text.now) }
 {

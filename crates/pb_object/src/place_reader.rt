@@ -121,7 +121,7 @@ fn bundle(format: Format, words: &[&[u8]]) -> Verdict<Bundle>
     pairs(words)
 }
 
-/// Adds a bundle, and returns its place.
+/// Adds a bundle, and returns its number.
 fn added(bundles: &mut Vec<Bundle>, bundle: Bundle) -> Result<u16, AllocError>
     requires room { length bundles.old.items < 65536 }
     ensures place { IfOk result (λ place. place ≡ length bundles.old.items) }

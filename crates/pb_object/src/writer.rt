@@ -226,7 +226,7 @@ fn put_opening(out: &mut Vec<u8>, digit: &str, code: &Code) -> Result<(), NoMemo
     Ok(())
 }
 
-/// Returns the text of the code in the first format. The error comes only if memory is refused.
+/// Returns the text of the code in the first format. The error comes only if `alloc` is out of memory.
 pub fn write_object(alloc: Global, code: &Code) -> Result<Vec<u8>, NoMemory>
     requires { HasTextOne (code_view code.now) }
     ensures { IfOk result (λ text. SpellsOne (code_view code.now) text.items) }
@@ -239,8 +239,8 @@ pub fn write_object(alloc: Global, code: &Code) -> Result<Vec<u8>, NoMemory>
     Ok(out)
 }
 
-/// Returns the text of the code and its labels in the second format. The error comes only where memory is
-/// refused.
+/// Returns the text of the code and its labels in the second format. The error comes only if `alloc` is out
+/// of memory.
 pub fn write_object2(alloc: Global, code: &Code, labels: &Labels) -> Result<Vec<u8>, NoMemory>
     requires { HasText Two (code_view code.now) (labels_view labels.now) }
     ensures { IfOk result (λ text. SpellsCode Two (code_view code.now) (labels_view labels.now) text.items) }

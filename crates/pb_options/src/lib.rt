@@ -1,5 +1,5 @@
-//! What the commands of the program are told beside their input. The words of a call are read into these
-//! options by pb_words, and the engines take them, so that neither of the two depends on the other.
+//! The options of the commands of the program. The words of a call are read into these options by pb_words,
+//! and the engines take them, so that neither of the two depends on the other.
 #![tactic(auto)]
 
 pub mod options;

@@ -1,18 +1,24 @@
-//! What the engines are told beside their input.
+//! The options of the engines.
 ghost use Rattle.std.specs.Prelude.{◌≡◌, ◌≤◌, ℕ, Some};
-ghost use Rattle.pb_base.specs.declared.limits.TheConstants.{MAX_PICKS, MAX_QUANTUM, MAX_WORKERS};
+ghost use Rattle.pb_base.specs.declared.limits.TheConstants.{MAX_PICKS, MAX_QUANTUM, MAX_STATES, MAX_WORKERS};
+ghost use Rattle.pb_options.specs.declared.options.TheConstants.{MAX_HEAP, MIN_HEAP};
 ghost use Rattle.pb_options.specs.Lends.{IsLendOf};
 
 use pb_object::Format;
 use std::str::FromStr;
+
+/// The least size of a heap for the trees of a text, in bytes.
+pub const MIN_HEAP: u64 = 1_024;
+/// The greatest size of a heap for the trees of a text, in bytes.
+pub const MAX_HEAP: u64 = 16_777_216;
 
 /// The options of `check_engine`.
 #[derive(Clone, Copy, Debug, PartialEq, Eq)]
 pub struct CheckOptions {
     /// The size of the heap for the trees of each text, in bytes, if they are to be in one.
     pub heap: Option<u64>,
-    pub ghost heap_suffices: { (size : ℕ) → heap ≡ Some size → 1024 ≤ size },
-    pub ghost heap_fits: { (size : ℕ) → heap ≡ Some size → size ≤ 16777216 },
+    pub ghost heap_suffices: { (size : ℕ) → heap ≡ Some size → MIN_HEAP ≤ size },
+    pub ghost heap_fits: { (size : ℕ) → heap ≡ Some size → size ≤ MAX_HEAP },
 }
 
 /// The options of `emit_engine`.
@@ -90,5 +96,5 @@ pub struct OutcomesOptions {
     /// Who decides on a request.
     pub lend: Lend,
     pub ghost some_state: { 1 ≤ states },
-    pub ghost states_fit: { states ≤ 4000000 },
+    pub ghost states_fit: { states ≤ MAX_STATES },
 }

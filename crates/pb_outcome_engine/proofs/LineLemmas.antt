@@ -6,21 +6,16 @@ use Rattle.std.specs.List.{flat_map}
 use Rattle.std.proofs.lemmas.List.{flat_map_more, get_or-map, length-map, length-take-le, take_all, take_more}
 use Rattle.pb_base.specs.Lines.{NameTable, each_below}
 use Rattle.pb_code.specs.Whole.{ProcessLabels}
-use Rattle.pb_explore.specs.Endings.{found_view}
-use Rattle.pb_explore.specs.Outcomes.{Found}
+use Rattle.pb_explore.specs.Outcomes.{Found, found_view}
 use Rattle.pb_explore.specs.declared.found.Found.{Found as GivenFound}
 use Rattle.pb_history.specs.declared.counted.CountedPick.{CountedPick}
 use Rattle.pb_outcome_engine.specs.DeadlockLines.{AreDeadlockLines, deadlock_lines, none as no_stuck}
 use Rattle.pb_outcome_engine.specs.DeadlockLines.{one_more as one_more_stuck}
 use Rattle.pb_outcome_engine.specs.OutcomeLines.{AreCounted, AreOutcomeLines, none, one_more, outcome_lines}
+use Rattle.pb_engines.proofs.ClaimLemmas.{view_at}
 use Rattle.pb_explore.specs.Deadlocks.{FoundDeadlock}
 use Rattle.pb_explore.specs.Deadlocks.{deadlock_view}
 use Rattle.pb_explore.specs.declared.found.Deadlock.{Deadlock as GivenDeadlock}
-
--- what is seen of an element that was read
-pub view_at : {A B : Type 0} (f : A → B) (xs : List A) (i : ℕ) (x : A) → i < length xs → x ≡ get_or xs i x
-    → get_or (map f xs) i (f x) ≡ f x
-view_at f xs i x within at = get_or-map f xs i x (f x) within ∙ ap f (sym at)
 
 -- one more number
 pub each_more : (said : ℕ → List ℕ) (n : ℕ) (now old so_far new : List ℕ) → said n ≡ now → so_far ≡ old ++ each_below said n

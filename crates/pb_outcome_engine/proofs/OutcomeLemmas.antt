@@ -18,7 +18,7 @@ use Rattle.pb_verifier.specs.Verified.{IsAnnotated, IsVerified, VerifiedCode}
 use Rattle.pb_verifier.specs.declared.fault.VerifyFault.TheVariants.{OutOfLimits}
 use Rattle.pb_verifier.proofs.States.{code_move}
 use Rattle.pb_explore.specs.Configurations.{Comes}
-use Rattle.pb_explore.specs.Endings.{found_view}
+use Rattle.pb_explore.specs.Outcomes.{found_view}
 use Rattle.pb_explore.specs.declared.lending.Lending.{Lending}
 use Rattle.pb_explore.specs.Outcomes.{AreOutcomes, CodeLeads, Configuration, Ends, Found, IsExcess, IsWithin, Reaches}
 use Rattle.pb_explore.specs.Outcomes.{TellsEndless, outcome_of}

@@ -1,4 +1,4 @@
--- What can be shown: this serves the proofs, and no public contract cites it.
+-- What can be shown. No public contract cites this file.
 use Rattle.std.specs.Prelude.{List, All}
 use Rattle.pb_base.specs.declared.pick.Pick.{Pick}
 use Rattle.pb_base.specs.Lines.{HasProcess, NameTable}

@@ -4,7 +4,7 @@ ghost use Rattle.std.specs.Prelude.{◌≡◌, ◌++◌, ℕ, List, All, IfOk, O
 ghost use Rattle.std.specs.Fmt.{decimal};
 ghost use Rattle.pb_base.specs.Lines.{HasProcess, names_view, line};
 ghost use Rattle.pb_code.specs.View.{labels_view, process_labels_view};
-ghost use Rattle.pb_explore.specs.Endings.{found_view, process_outcome_view};
+ghost use Rattle.pb_explore.specs.Outcomes.{found_view, process_outcome_view};
 ghost use Rattle.pb_outcome_engine.specs.DeadlockLines.{AreDeadlockLines};
 ghost use Rattle.pb_outcome_engine.specs.OutcomeLines.{AreOutcomeLines, all_line, deadlocks_text, end_lines};
 ghost use Rattle.pb_outcome_engine.specs.OutcomeLines.{integer_line, integer_lines, outcome_lines, outcome_lines_of};

@@ -28,7 +28,7 @@ use std::alloc::Global;
 /// how each process ended, its integers, and picks that lead there; then every deadlock, where each process
 /// is, its integers, what it holds and asks for, and picks that lead there; and at the end how many outcomes
 /// and deadlocks there are, and whether some run never ends. If more configurations than `options.states` are
-/// needed, the answer is the line that says so, and the status `Limit`. A text that is refused is answered by
+/// needed, the line that says so is written, with the status `Limit`. A text that is refused is answered by
 /// its refusal line.
 ///
 /// After a read that failed nothing is written; after a write that failed, a first part of what was being

@@ -26,7 +26,7 @@ pub chain_begins : {X : Type 0} (join : Join X) (part : Part X) (a : X) (ts rest
 unfolding chain
 chain_begins join part a ts rest p = rw p refl
 
--- ---- what an answer was
+-- ---- what was read
 
 pub found_value : {X : Type 0} {a b : X} {ts us : List Token} → Found a ts ≡ Found b us → a ≡ b
 found_value e = cc
@@ -114,7 +114,7 @@ fails_through wants fault.TooDeep h f = h
 fails_through wants fault.TooLarge h f = h
 fails_through wants fault.NoMemory h f = h
 
--- the same, where the part takes no memory
+-- the same, if the part takes no memory
 pub fails_through_plain : {X Y : Type 0} {part : Answer X} {whole : Answer Y} (wants : Type 0) (e : ParseFault) → Fails ⊥ e part
     → (part ≡ Refused → whole ≡ Refused) → Fails wants e whole
 fails_through_plain wants (fault.Syntax at) h f = f h

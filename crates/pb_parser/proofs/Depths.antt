@@ -20,7 +20,7 @@ use Rattle.pb_parser.proofs.Expressions.{brackets, home, home_is, rank_pos}
 use Rattle.pb_parser.proofs.StatementLaws.{stmt_depth, list_depth, arms_depth}
 use Rattle.pb_parser.proofs.ProgramLaws.{process_depth, processes_depth, program_depth}
 
--- at most 256 are open behind each of the tokens, where n are open before them
+-- at most 256 are open behind each of the tokens, if n are open before them
 abbrev pub Shallow : ℕ → List Token → Type 0
 Shallow n [] = Unit {0}
 Shallow n (t ∷ ts) = (open_after n t.lexeme ≤ 256) × Shallow (open_after n t.lexeme) ts
@@ -106,18 +106,18 @@ mutual
   stmt_shallow (stmt.print {t = t} {ts = ts} is r) n low h =
       let y = expr_shallow r n low (past n t ts (Fixed mark.Print) h is refl) in
       (omega arith, y.1)
-  stmt_shallow (stmt.choice {t = t} {u = u} {v = v} {ts = ts} {us = us} {rest = rest} is r th a fi) n low h =
+  stmt_shallow (stmt.if_then {t = t} {u = u} {v = v} {ts = ts} {us = us} {rest = rest} is r th a fi) n low h =
       let o = opening n t ts (Fixed mark.If) h is refl in
       let x = expr_shallow r (n + 1) o.0 o.1 in
       let y = list_shallow a (n + 1) o.0 (past (n + 1) u us (Fixed mark.Then) x.1 th refl) in
       (omega arith, closing n v rest (Fixed mark.Fi) y.1 fi refl)
-  stmt_shallow (stmt.choices {t = t} {u = u} {v = v} {w = w} {ts = ts} {us = us} {vs = vs} {rest = rest} is r th a el b fi) n low h =
+  stmt_shallow (stmt.if_else {t = t} {u = u} {v = v} {w = w} {ts = ts} {us = us} {vs = vs} {rest = rest} is r th a el b fi) n low h =
       let o = opening n t ts (Fixed mark.If) h is refl in
       let x = expr_shallow r (n + 1) o.0 o.1 in
       let y = list_shallow a (n + 1) o.0 (past (n + 1) u us (Fixed mark.Then) x.1 th refl) in
       let z = list_shallow b (n + 1) o.0 (past (n + 1) v vs (Fixed mark.Else) y.1 el refl) in
       (omega arith, closing n w rest (Fixed mark.Fi) z.1 fi refl)
-  stmt_shallow (stmt.loop {t = t} {u = u} {v = v} {ts = ts} {us = us} {rest = rest} is r dw a od) n low h =
+  stmt_shallow (stmt.while_do {t = t} {u = u} {v = v} {ts = ts} {us = us} {rest = rest} is r dw a od) n low h =
       let o = opening n t ts (Fixed mark.While) h is refl in
       let x = expr_shallow r (n + 1) o.0 o.1 in
       let y = list_shallow a (n + 1) o.0 (past (n + 1) u us (Fixed mark.Do) x.1 dw refl) in
@@ -127,7 +127,7 @@ mutual
       let x = pairs_shallow ds (n + 1) o.1 in
       let y = list_shallow a (n + 1) o.0 (past (n + 1) u us (Fixed mark.Do) x dw refl) in
       (omega arith, closing n v rest (Fixed mark.Od) y.1 od refl)
-  stmt_shallow (stmt.fork {t = t} {u = u} {ts = ts} {rest = rest} is a end) n low h =
+  stmt_shallow (stmt.parbegin {t = t} {u = u} {ts = ts} {rest = rest} is a end) n low h =
       let o = opening n t ts (Fixed mark.Parbegin) h is refl in
       let y = arms_shallow a (n + 1) o.0 o.1 in
       (omega arith, closing n u rest (Fixed mark.Parend) y.1 end refl)

@@ -135,7 +135,7 @@ rank_pos level.Sum = omega arith
 rank_pos level.Term = omega arith
 rank_pos level.Factor = omega arith
 
--- a symbol or word that is no operator ends every expression
+-- a symbol or word that is not an operator ends every expression
 pub ends_mark : (l : Level) (t : Token) (k : Lexeme) (ts : List Token) → t.lexeme ≡ k → home k ≡ 0 → Ends l (t ∷ ts)
 ends_mark l t k ts is none = λ m below. rw is (elsewhere m k (λ same. let p = rank_pos m in omega arith))
 
@@ -296,7 +296,7 @@ settle : (l : Level) (d : ℕ) (ts rest : List Token) (e : ExprSyntax) → Comes
     → of_level (expression d) l ts ≡ Found e rest
 settle l d ts rest e x ends = x.2 ∙ finish l d x.0 e rest ends x.1
 
--- what was read is all, where a level gives nothing to come
+-- what was read is all, if a level gives nothing to come
 at_once : (l : Level) (d : ℕ) (ts rest : List Token) (e : ExprSyntax) → of_level (expression d) l ts ≡ after d l (length rest) e rest
     → Comes d l ts e rest
 at_once l d ts rest e p = (length rest, omega arith, p)

@@ -1,5 +1,5 @@
--- An expression is its first negation, or its first factor, and what follows that; where no operator comes
--- next, nothing does.
+-- An expression is its first negation, or its first factor, and what follows that; if no operator comes next,
+-- nothing does.
 use Rattle.std.proofs.Common.{◌≡◌, ◌⊎◌, inl, inr, ◌<◌, List, [], ◌∷◌, length, false, None, Some, Result}
 use Rattle.std.proofs.Common.{refl, ◌∙◌, ap, sym, arith}
 use Rattle.pb_base.specs.declared.operators.BinaryOp.{BinaryOp}
@@ -28,7 +28,7 @@ then_then : {X Y Z : Type 0} (r : Answer X) (f : X → Part Y) (g : Y → Part Z
 then_then Refused f g = refl
 then_then (Found x ts) f g = refl
 
--- ---- what is made of an answer and what follows it
+-- ---- what is made of what was read and what follows it
 
 pub first_fails : {X Y : Type 0} (wants : Type 0) (e : ParseFault) (r : Answer X) (f : X → Part Y)
     (whole : Answer Y) → whole ≡ and_then r f → Fails wants e r → Fails wants e whole
@@ -127,7 +127,7 @@ splits_at_negation inner level.Sum ts h = absurd (omega arith)
 splits_at_negation inner level.Term ts h = absurd (omega arith)
 splits_at_negation inner level.Factor ts h = absurd (omega arith)
 
--- ---- where no operator comes next
+-- ---- if no operator comes next
 
 no_operator : (l : Level) (k : Lexeme) → is_operator k ≡ false → operator l k ≡ None
 no_operator level.Disjunction (Fixed mark.Or) e = cc

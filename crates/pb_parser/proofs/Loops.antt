@@ -71,7 +71,7 @@ loop_leaves m join part ts after target l taken = record {
   same = l.same;
 }
 
--- the same for operators, where one more part is joined by a call
+-- the same for operators, if one more part is joined by a call
 
 pub joined_refused : (op : BinaryOp) (a : ExprSyntax) (answer : Answer ExprSyntax) → joined op a answer ≡ Refused → answer ≡ Refused
 joined_refused op a Refused none = refl

@@ -1,4 +1,4 @@
--- What nests too deep, seen from a place in the tokens.
+-- What nests too deep, seen from one of the tokens.
 use Rattle.std.proofs.Common.{◌≡◌, ℕ, ◌+◌, ◌<◌, ◌≤◌, ◌++◌, ◌⊎◌, inl, inr, List, [], ◌∷◌, Bool, true, false, MatchBool}
 use Rattle.std.proofs.Common.{fold, drop, get_or, drop-cons, add-one, length, refl, ap, sym, ◌∙◌, subst, arith}
 use Rattle.std.proofs.Math.ListN.{drop_of_length-le}
@@ -9,7 +9,7 @@ use Rattle.pb_parser.specs.Nesting.{open_after, OpensTooMany, is_sign, AreSigns,
 
 -- ---- brackets and statements
 
--- more than 256 are open somewhere in `ts`, where `n` are open before it
+-- more than 256 are open somewhere in `ts`, if `n` are open before it
 abbrev pub OpensFrom : ℕ → List Token → Type 0
 OpensFrom n ts = (before after : List Token) × (ts ≡ before ++ after) × (256 < fold (λ m t. open_after m t.lexeme) n before)
 
@@ -48,7 +48,7 @@ opens-turn-back count now t all ts us e step back x =
     let y : OpensFrom (open_after count t.lexeme) us = subst (λ n. OpensFrom n us) step x in
     back (rw e (opens-before count t us y))
 
--- what the loop over the tokens keeps, where `count` are open and `ts` are left
+-- what the loop over the tokens keeps, if `count` are open and `ts` are left
 pub record InOpens (all ts : List Token) (count : ℕ) : Type 0 where
   pub small : count ≤ 256
   pub later : OpensTooMany all → OpensFrom count ts
@@ -72,7 +72,7 @@ opens-none count all ts inside e x = let y : OpensFrom count [] = subst (OpensFr
 
 -- ---- signs
 
--- more than 256 signs are in a row somewhere in `ts`, where `n` are right before it
+-- more than 256 signs are in a row somewhere in `ts`, if `n` are right before it
 abbrev pub SignsFrom : ℕ → List Token → Type 0
 SignsFrom n ts = ((signs after : List Token) × (ts ≡ signs ++ after) × (AreSigns signs) × (256 < n + length signs)) ⊎ SignsTooMany ts
 
@@ -133,7 +133,7 @@ pub signs-whole : (ts : List Token) → SignsFrom 0 ts → SignsTooMany ts
 signs-whole ts (inl x) = ([], x.0, x.1, x.2, x.3, omega (arith, x.4))
 signs-whole ts (inr x) = x
 
--- what the loop over the tokens keeps, where `count` signs are right before `ts`, which are left
+-- what the loop over the tokens keeps, if `count` signs are right before `ts`, which are left
 pub record InSigns (all ts : List Token) (count : ℕ) : Type 0 where
   pub small : count ≤ 256
   pub later : SignsTooMany all → SignsFrom count ts
@@ -167,7 +167,7 @@ tokens-next given i d below = rw add-one (ap tokens (drop-cons given i d below))
 pub tokens-end : (given : List Given) (i : ℕ) → length given ≤ i → tokens (drop i given) ≡ []
 tokens-end given i over = ap tokens (drop_of_length-le given over)
 
--- ---- a turn at a place, where the token there is of the kind `k`
+-- ---- a turn at a token of the kind `k`
 
 -- what the code knows of the kind of the token at `i`
 abbrev pub IsKind : List Given → ℕ → Given → Kind → Type 0

@@ -77,11 +77,11 @@ mutual
   stmt_shorter (g.skip is) = omega arith
   stmt_shorter (g.assign is to e) = let x = shorter e in omega arith
   stmt_shorter (g.print is e) = let x = shorter e in omega arith
-  stmt_shorter (g.choice is e th a fi) = let x = shorter e in let y = list_shorter a in omega arith
-  stmt_shorter (g.choices is e th a el b fi) = let x = shorter e in let y = list_shorter a in let z = list_shorter b in omega arith
-  stmt_shorter (g.loop is e dw a od) = let x = shorter e in let y = list_shorter a in omega arith
+  stmt_shorter (g.if_then is e th a fi) = let x = shorter e in let y = list_shorter a in omega arith
+  stmt_shorter (g.if_else is e th a el b fi) = let x = shorter e in let y = list_shorter a in let z = list_shorter b in omega arith
+  stmt_shorter (g.while_do is e dw a od) = let x = shorter e in let y = list_shorter a in omega arith
   stmt_shorter (g.hold is ps dw a od) = let x = pairs_shorter ps in let y = list_shorter a in omega arith
-  stmt_shorter (g.fork is a end) = let y = arms_shorter a in omega arith
+  stmt_shorter (g.parbegin is a end) = let y = arms_shorter a in omega arith
   stmt_shorter (g.inner is a end) = let y = list_shorter a in omega arith
 
   pub list_shorter : {ts rest : List Token} {a : StmtsSyntax} → ReadsList ts a rest → length rest < length ts
@@ -101,11 +101,11 @@ abbrev mutual
   stmt_depth (g.skip is) = 1
   stmt_depth (g.assign is to e) = 2 + brackets e
   stmt_depth (g.print is e) = 2 + brackets e
-  stmt_depth (g.choice is e th a fi) = 1 + max (1 + brackets e) (list_depth a)
-  stmt_depth (g.choices is e th a el b fi) = 1 + max (1 + brackets e) (max (list_depth a) (list_depth b))
-  stmt_depth (g.loop is e dw a od) = 1 + max (1 + brackets e) (list_depth a)
+  stmt_depth (g.if_then is e th a fi) = 1 + max (1 + brackets e) (list_depth a)
+  stmt_depth (g.if_else is e th a el b fi) = 1 + max (1 + brackets e) (max (list_depth a) (list_depth b))
+  stmt_depth (g.while_do is e dw a od) = 1 + max (1 + brackets e) (list_depth a)
   stmt_depth (g.hold is ps dw a od) = 1 + list_depth a
-  stmt_depth (g.fork is a end) = 1 + arms_depth a
+  stmt_depth (g.parbegin is a end) = 1 + arms_depth a
   stmt_depth (g.inner is a end) = 1 + list_depth a
 
   pub list_depth : {ts rest : List Token} {a : StmtsSyntax} → ReadsList ts a rest → ℕ
@@ -120,11 +120,11 @@ some_depth : {ts rest : List Token} {a : StmtsSyntax} (r : ReadsStmt ts a rest) 
 some_depth (g.skip is) = omega arith
 some_depth (g.assign is to e) = omega arith
 some_depth (g.print is e) = omega arith
-some_depth (g.choice is e th a fi) = omega arith
-some_depth (g.choices is e th a el b fi) = omega arith
-some_depth (g.loop is e dw a od) = omega arith
+some_depth (g.if_then is e th a fi) = omega arith
+some_depth (g.if_else is e th a el b fi) = omega arith
+some_depth (g.while_do is e dw a od) = omega arith
 some_depth (g.hold is ps dw a od) = omega arith
-some_depth (g.fork is a end) = omega arith
+some_depth (g.parbegin is a end) = omega arith
 some_depth (g.inner is a end) = omega arith
 
 -- ---- one statement, from its parts
@@ -144,34 +144,34 @@ print_read : (d : ℕ) (t : Token) (ts rest : List Token) (e : ExprSyntax) → I
 unfolding statement
 print_read d t ts rest e is p = rw (is, p) refl
 
-choice_read : (d : ℕ) (t u v : Token) (ts us rest : List Token) (e : ExprSyntax) (a : StmtsSyntax) → Is t mark.If
+if_then_read : (d : ℕ) (t u v : Token) (ts us rest : List Token) (e : ExprSyntax) (a : StmtsSyntax) → Is t mark.If
     → expression d ts ≡ Found e (u ∷ us) → Is u mark.Then
     → list (statement d) us ≡ Found a (v ∷ rest) → Is v mark.Fi
     → statement (suc d) (t ∷ ts) ≡ Found (single (tree.if_else t.line e a tree.no_stmt)) rest
 unfolding statement otherwise is_mark
-choice_read d t u v ts us rest e a is p th q fi =
+if_then_read d t u v ts us rest e a is p th q fi =
     let m = marked mark.Then (expression d ts) e u us p th in
     let other : is_mark mark.Else v.lexeme ≡ false = rw fi refl in
     let n = expects mark.Fi v rest fi in
     rw (is, m, q, other, n) refl
 
-choices_read : (d : ℕ) (t u v w : Token) (ts us vs rest : List Token) (e : ExprSyntax) (a b : StmtsSyntax) → Is t mark.If
+if_else_read : (d : ℕ) (t u v w : Token) (ts us vs rest : List Token) (e : ExprSyntax) (a b : StmtsSyntax) → Is t mark.If
     → expression d ts ≡ Found e (u ∷ us) → Is u mark.Then
     → list (statement d) us ≡ Found a (v ∷ vs) → Is v mark.Else → list (statement d) vs ≡ Found b (w ∷ rest) → Is w mark.Fi
     → statement (suc d) (t ∷ ts) ≡ Found (single (tree.if_else t.line e a b)) rest
 unfolding statement otherwise
-choices_read d t u v w ts us vs rest e a b is p th q el r fi =
+if_else_read d t u v w ts us vs rest e a b is p th q el r fi =
     let m = marked mark.Then (expression d ts) e u us p th in
     let some = is_mark_same mark.Else v.lexeme el in
     let n = expects mark.Fi w rest fi in
     rw (is, m, q, some, r, n) refl
 
-loop_read : (d : ℕ) (t u v : Token) (ts us rest : List Token) (e : ExprSyntax) (a : StmtsSyntax) → Is t mark.While
+while_do_read : (d : ℕ) (t u v : Token) (ts us rest : List Token) (e : ExprSyntax) (a : StmtsSyntax) → Is t mark.While
     → expression d ts ≡ Found e (u ∷ us) → Is u mark.Do
     → list (statement d) us ≡ Found a (v ∷ rest) → Is v mark.Od
     → statement (suc d) (t ∷ ts) ≡ Found (single (tree.while_do t.line e a)) rest
 unfolding statement
-loop_read d t u v ts us rest e a is p th q od =
+while_do_read d t u v ts us rest e a is p th q od =
     let m = marked mark.Do (expression d ts) e u us p th in
     let n = marked mark.Od (list (statement d) us) a v rest q od in
     rw (is, m, n) refl
@@ -185,11 +185,11 @@ hold_read d t u v ts us rest ps a is p th q od =
     let n = marked mark.Od (list (statement d) us) a v rest q od in
     rw (is, m, n) refl
 
-fork_read : (d : ℕ) (t u : Token) (ts rest : List Token) (a : ArmsSyntax) → Is t mark.Parbegin
+parbegin_read : (d : ℕ) (t u : Token) (ts rest : List Token) (a : ArmsSyntax) → Is t mark.Parbegin
     → arms_part (statement d) ts ≡ Found a (u ∷ rest) → Is u mark.Parend
     → statement (suc d) (t ∷ ts) ≡ Found (single (tree.parbegin t.line a)) rest
 unfolding statement
-fork_read d t u ts rest a is p end = let m = marked mark.Parend (arms_part (statement d) ts) a u rest p end in rw (is, m) refl
+parbegin_read d t u ts rest a is p end = let m = marked mark.Parend (arms_part (statement d) ts) a u rest p end in rw (is, m) refl
 
 inner_read : (d : ℕ) (t u : Token) (ts rest : List Token) (a : StmtsSyntax) → Is t mark.Begin
     → list (statement d) ts ≡ Found a (u ∷ rest) → Is u mark.End
@@ -234,27 +234,27 @@ mutual
   stmt_read (suc d) (g.assign {t = t} {u = u} {ts = ts} {rest = rest} {x = x} {e = e} is to r) room ends =
       assign_read d t u ts rest x e is to (expression_complete r d (omega arith) ends)
   stmt_read (suc d) (g.print {t = t} {ts = ts} {rest = rest} {e = e} is r) room ends = print_read d t ts rest e is (expression_complete r d (omega arith) ends)
-  stmt_read (suc d) (g.choice {t = t} {u = u} {v = v} {ts = ts} {us = us} {rest = rest} {e = e} {a = a} is r th l fi) room ends =
+  stmt_read (suc d) (g.if_then {t = t} {u = u} {v = v} {ts = ts} {us = us} {rest = rest} {e = e} {a = a} is r th l fi) room ends =
       let p = expression_complete r d (omega arith) (ends_mark level.Disjunction u (Fixed mark.Then) us th refl) in
       let q = list_reach d l (omega arith) (ends_mark level.Disjunction v (Fixed mark.Fi) rest fi refl) in
-      choice_read d t u v ts us rest e a is p th (list_ends d mark.Fi v us rest a q fi refl) fi
-  stmt_read (suc d) (g.choices {t = t} {u = u} {v = v} {w = w} {ts = ts} {us = us} {vs = vs} {rest = rest} {e = e} {a
+      if_then_read d t u v ts us rest e a is p th (list_ends d mark.Fi v us rest a q fi refl) fi
+  stmt_read (suc d) (g.if_else {t = t} {u = u} {v = v} {w = w} {ts = ts} {us = us} {vs = vs} {rest = rest} {e = e} {a
       = a} {b = b} is r th l el m fi) room ends =
       let p = expression_complete r d (omega arith) (ends_mark level.Disjunction u (Fixed mark.Then) us th refl) in
       let q = list_reach d l (omega arith) (ends_mark level.Disjunction v (Fixed mark.Else) vs el refl) in
       let s = list_reach d m (omega arith) (ends_mark level.Disjunction w (Fixed mark.Fi) rest fi refl) in
-      choices_read d t u v w ts us vs rest e a b is p th (list_ends d mark.Else v us vs a q el refl) el (list_ends d mark.Fi w vs rest b s fi refl) fi
-  stmt_read (suc d) (g.loop {t = t} {u = u} {v = v} {ts = ts} {us = us} {rest = rest} {e = e} {a = a} is r th l od) room ends =
+      if_else_read d t u v w ts us vs rest e a b is p th (list_ends d mark.Else v us vs a q el refl) el (list_ends d mark.Fi w vs rest b s fi refl) fi
+  stmt_read (suc d) (g.while_do {t = t} {u = u} {v = v} {ts = ts} {us = us} {rest = rest} {e = e} {a = a} is r th l od) room ends =
       let p = expression_complete r d (omega arith) (ends_mark level.Disjunction u (Fixed mark.Do) us th refl) in
       let q = list_reach d l (omega arith) (ends_mark level.Disjunction v (Fixed mark.Od) rest od refl) in
-      loop_read d t u v ts us rest e a is p th (list_ends d mark.Od v us rest a q od refl) od
+      while_do_read d t u v ts us rest e a is p th (list_ends d mark.Od v us rest a q od refl) od
   stmt_read (suc d) (g.hold {t = t} {u = u} {v = v} {ts = ts} {us = us} {rest = rest} {ps = ps} {a = a} is r th l od) room ends =
       let p = pairs_read r (stops_at mark.Comma mark.Do concat u us th refl) in
       let q = list_reach d l (omega arith) (ends_mark level.Disjunction v (Fixed mark.Od) rest od refl) in
       hold_read d t u v ts us rest ps a is p th (list_ends d mark.Od v us rest a q od refl) od
-  stmt_read (suc d) (g.fork {t = t} {u = u} {ts = ts} {rest = rest} {a = a} is l end) room ends =
+  stmt_read (suc d) (g.parbegin {t = t} {u = u} {ts = ts} {rest = rest} {a = a} is l end) room ends =
       let q = arms_reach d l (omega arith) (ends_mark level.Disjunction u (Fixed mark.Parend) rest end refl) in
-      fork_read d t u ts rest a is (arms_end d mark.Parend u ts rest a q end refl) end
+      parbegin_read d t u ts rest a is (arms_end d mark.Parend u ts rest a q end refl) end
   stmt_read (suc d) (g.inner {t = t} {u = u} {ts = ts} {rest = rest} {a = a} is l end) room ends =
       let q = list_reach d l (omega arith) (ends_mark level.Disjunction u (Fixed mark.End) rest end refl) in
       inner_read d t u ts rest a is (list_ends d mark.End u ts rest a q end refl) end
@@ -378,25 +378,25 @@ becomes_stmt : {ts r rest : List Token} {a b : StmtsSyntax} → Found a r ≡ Fo
 becomes_stmt {ts = ts} {rest = rest} {a = a} p h = subst (λ x. ReadsStmt ts x rest) (found_value p) (subst (λ x. ReadsStmt ts a x) (found_rest p) h)
 
 -- what comes after the first list of an "if"
-choice_sound : (deeper : Part StmtsSyntax) → SoundS deeper
+if_else_sound : (deeper : Part StmtsSyntax) → SoundS deeper
     → (t u : Token) (ts us vs rest : List Token) (e : ExprSyntax) (a b : StmtsSyntax) → Is t mark.If → ReadsExpr ts e (u ∷ us)
     → Is u mark.Then
     → ReadsList us a vs → then_mark mark.Fi (otherwise deeper vs) ≡ Found b rest
     → ReadsStmt (t ∷ ts) (single (tree.if_else t.line e a b)) rest
 unfolding otherwise
-choice_sound deeper sound t u ts us [] rest e a b is r th l p =
+if_else_sound deeper sound t u ts us [] rest e a b is r th l p =
     let m = then_marked mark.Fi (Found tree.no_stmt []) b rest p in (let none = found_rest m.2 in cc)
-choice_sound deeper sound t u ts us (v ∷ vs) rest e a b is r th l p =
+if_else_sound deeper sound t u ts us (v ∷ vs) rest e a b is r th l p =
     let m = then_marked mark.Fi (otherwise deeper (v ∷ vs)) b rest p in
     go (is_mark mark.Else v.lexeme) refl m.0 m.1 m.2
   where
     go : (some : Bool) → is_mark mark.Else v.lexeme ≡ some → (w : Token) → Is w mark.Fi
         → otherwise_by some (list deeper vs) (v ∷ vs) ≡ Found b (w ∷ rest)
         → ReadsStmt (t ∷ ts) (single (tree.if_else t.line e a b)) rest
-    go true some w fi q = g.choices is r th l (mark_is mark.Else v.lexeme some) (list_sound deeper sound vs (w ∷ rest) b q) fi
+    go true some w fi q = g.if_else is r th l (mark_is mark.Else v.lexeme some) (list_sound deeper sound vs (w ∷ rest) b q) fi
     go false some w fi q =
         let after : ReadsList us a (w ∷ rest) = subst (ReadsList us a) (found_rest q) l in
-        subst (λ x. ReadsStmt (t ∷ ts) (single (tree.if_else t.line e a x)) rest) (found_value q) (g.choice is r th after fi)
+        subst (λ x. ReadsStmt (t ∷ ts) (single (tree.if_else t.line e a x)) rest) (found_value q) (g.if_then is r th after fi)
 
 statement_cases : (d : ℕ) (deeper : Part StmtsSyntax) → SoundS deeper
     → (t : Token) (ts rest : List Token) (a : StmtsSyntax) (k : Lexeme) → t.lexeme ≡ k
@@ -415,14 +415,14 @@ statement_cases d deeper sound t ts rest a (Fixed mark.If) is p =
     let m = then_marked mark.Then (expression d ts) x.0 x.1 x.2 in
     let y = goes_on (list deeper x.1) _ x.3 in
     let z = goes_on (then_mark mark.Fi (otherwise deeper y.1)) _ y.3 in
-    becomes_stmt z.3 (choice_sound deeper sound t m.0 ts x.1 y.1 z.1 x.0 y.0 z.0 is (expression_sound d ts (m.0 ∷ x.1)
+    becomes_stmt z.3 (if_else_sound deeper sound t m.0 ts x.1 y.1 z.1 x.0 y.0 z.0 is (expression_sound d ts (m.0 ∷ x.1)
     x.0 m.2) m.1 (list_sound deeper sound x.1 y.1 y.0 y.2) z.2)
 statement_cases d deeper sound t ts rest a (Fixed mark.While) is p =
     let x = goes_on (then_mark mark.Do (expression d ts)) _ p in
     let m = then_marked mark.Do (expression d ts) x.0 x.1 x.2 in
     let y = goes_on (then_mark mark.Od (list deeper x.1)) _ x.3 in
     let n = then_marked mark.Od (list deeper x.1) y.0 y.1 y.2 in
-    becomes_stmt y.3 (g.loop is (expression_sound d ts (m.0 ∷ x.1) x.0 m.2) m.1 (list_sound deeper sound x.1 (n.0 ∷ y.1) y.0 n.2) n.1)
+    becomes_stmt y.3 (g.while_do is (expression_sound d ts (m.0 ∷ x.1) x.0 m.2) m.1 (list_sound deeper sound x.1 (n.0 ∷ y.1) y.0 n.2) n.1)
 statement_cases d deeper sound t ts rest a (Fixed mark.Hold) is p =
     let x = goes_on (then_mark mark.Do (pairs ts)) _ p in
     let m = then_marked mark.Do (pairs ts) x.0 x.1 x.2 in
@@ -432,7 +432,7 @@ statement_cases d deeper sound t ts rest a (Fixed mark.Hold) is p =
 statement_cases d deeper sound t ts rest a (Fixed mark.Parbegin) is p =
     let x = goes_on (then_mark mark.Parend (arms_part deeper ts)) _ p in
     let m = then_marked mark.Parend (arms_part deeper ts) x.0 x.1 x.2 in
-    becomes_stmt x.3 (g.fork is (arms_sound deeper sound ts (m.0 ∷ x.1) x.0 m.2) m.1)
+    becomes_stmt x.3 (g.parbegin is (arms_sound deeper sound ts (m.0 ∷ x.1) x.0 m.2) m.1)
 statement_cases d deeper sound t ts rest a (Fixed mark.Begin) is p =
     let m = then_marked mark.End (list deeper ts) a rest p in
     g.inner is (list_sound deeper sound ts (m.0 ∷ rest) a m.2) m.1

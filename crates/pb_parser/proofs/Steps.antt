@@ -10,8 +10,8 @@ use Rattle.pb_parser.specs.Lists.{append, append_arms, single, single_arm}
 use Rattle.pb_parser.specs.Reader.{Refused, Found, Part, is_mark, expect, expect_by, ended}
 use Rattle.pb_parser.specs.ExpressionReader.{expression}
 use Rattle.pb_parser.specs.StatementReader.{between, concat, a_name, a_number, pairs, a_pair, list, arms_part}
-use Rattle.pb_parser.specs.StatementReader.{otherwise, otherwise_by, assignment, printing, choice, looping, holding}
-use Rattle.pb_parser.specs.StatementReader.{forking, statement, an_arm}
+use Rattle.pb_parser.specs.StatementReader.{otherwise, otherwise_by, assign, print, if_else, while_do, hold}
+use Rattle.pb_parser.specs.StatementReader.{parbegin, statement, an_arm}
 use Rattle.pb_parser.specs.Promises.{TakesMark}
 use Rattle.pb_parser.specs.ProgramReader.{one_name, names, a_resource, resources_part, integers, a_process}
 use Rattle.pb_parser.specs.ProgramReader.{processes_part, program}
@@ -21,39 +21,39 @@ use Rattle.pb_parser.proofs.Loops.{InLoop, loop_enters, loop_begins, arm_refused
 
 -- ---- statements
 
-pub choice_steps : (d : ℕ) (deeper : Part StmtsSyntax) (line : ℕ) (ts us vs ws xs rest : List Token) (e : ExprSyntax) (a b : StmtsSyntax)
+pub if_else_steps : (d : ℕ) (deeper : Part StmtsSyntax) (line : ℕ) (ts us vs ws xs rest : List Token) (e : ExprSyntax) (a b : StmtsSyntax)
     → expression d ts ≡ Found e us → expect mark.Then us ≡ Found tt vs → list deeper vs ≡ Found a ws → otherwise deeper ws ≡ Found b xs
-    → expect mark.Fi xs ≡ Found tt rest → choice d deeper line ts ≡ Found (single (tree.if_else line e a b)) rest
-choice_steps d deeper line ts us vs ws xs rest e a b p q r s f = rw (p, q, r, s, f) refl
+    → expect mark.Fi xs ≡ Found tt rest → if_else d deeper line ts ≡ Found (single (tree.if_else line e a b)) rest
+if_else_steps d deeper line ts us vs ws xs rest e a b p q r s f = rw (p, q, r, s, f) refl
 
-pub choice_open : (d : ℕ) (deeper : Part StmtsSyntax) (line : ℕ) (ts us vs ws xs : List Token) (e : ExprSyntax) (a b : StmtsSyntax)
+pub if_else_open : (d : ℕ) (deeper : Part StmtsSyntax) (line : ℕ) (ts us vs ws xs : List Token) (e : ExprSyntax) (a b : StmtsSyntax)
     → expression d ts ≡ Found e us → expect mark.Then us ≡ Found tt vs → list deeper vs ≡ Found a ws → otherwise deeper ws ≡ Found b xs
-    → expect mark.Fi xs ≡ Refused → choice d deeper line ts ≡ Refused
-choice_open d deeper line ts us vs ws xs e a b p q r s f = rw (p, q, r, s, f) refl
+    → expect mark.Fi xs ≡ Refused → if_else d deeper line ts ≡ Refused
+if_else_open d deeper line ts us vs ws xs e a b p q r s f = rw (p, q, r, s, f) refl
 
-pub looping_steps : (d : ℕ) (deeper : Part StmtsSyntax) (line : ℕ) (ts us vs ws rest : List Token) (e : ExprSyntax) (a : StmtsSyntax)
+pub while_do_steps : (d : ℕ) (deeper : Part StmtsSyntax) (line : ℕ) (ts us vs ws rest : List Token) (e : ExprSyntax) (a : StmtsSyntax)
     → expression d ts ≡ Found e us → expect mark.Do us ≡ Found tt vs → list deeper vs ≡ Found a ws → expect mark.Od ws ≡ Found tt rest
-    → looping d deeper line ts ≡ Found (single (tree.while_do line e a)) rest
-looping_steps d deeper line ts us vs ws rest e a p q r s = rw (p, q, r, s) refl
+    → while_do d deeper line ts ≡ Found (single (tree.while_do line e a)) rest
+while_do_steps d deeper line ts us vs ws rest e a p q r s = rw (p, q, r, s) refl
 
-pub holding_steps : (deeper : Part StmtsSyntax) (line : ℕ) (ts us vs ws rest : List Token) (ps : List DemandSyntax) (a : StmtsSyntax)
+pub hold_steps : (deeper : Part StmtsSyntax) (line : ℕ) (ts us vs ws rest : List Token) (ps : List DemandSyntax) (a : StmtsSyntax)
     → pairs ts ≡ Found ps us → expect mark.Do us ≡ Found tt vs → list deeper vs ≡ Found a ws → expect mark.Od ws ≡ Found tt rest
-    → holding deeper line ts ≡ Found (single (tree.hold line ps a)) rest
-holding_steps deeper line ts us vs ws rest ps a p q r s = rw (p, q, r, s) refl
+    → hold deeper line ts ≡ Found (single (tree.hold line ps a)) rest
+hold_steps deeper line ts us vs ws rest ps a p q r s = rw (p, q, r, s) refl
 
-pub assignment_steps : (d : ℕ) (t : Token) (x : List ℕ) (ts us rest : List Token) (e : ExprSyntax)
+pub assign_steps : (d : ℕ) (t : Token) (x : List ℕ) (ts us rest : List Token) (e : ExprSyntax)
     → expect mark.Assign ts ≡ Found tt us → expression d us ≡ Found e rest
-    → assignment d t x ts ≡ Found (single (tree.assign t.line (name_at t x) e)) rest
-assignment_steps d t x ts us rest e p q = rw (p, q) refl
+    → assign d t x ts ≡ Found (single (tree.assign t.line (name_at t x) e)) rest
+assign_steps d t x ts us rest e p q = rw (p, q) refl
 
-pub printing_steps : (d line : ℕ) (ts rest : List Token) (e : ExprSyntax) → expression d ts ≡ Found e rest
-    → printing d line ts ≡ Found (single (tree.print line e)) rest
-printing_steps d line ts rest e p = rw p refl
+pub print_steps : (d line : ℕ) (ts rest : List Token) (e : ExprSyntax) → expression d ts ≡ Found e rest
+    → print d line ts ≡ Found (single (tree.print line e)) rest
+print_steps d line ts rest e p = rw p refl
 
-pub forking_steps : (deeper : Part StmtsSyntax) (line : ℕ) (ts us rest : List Token) (a : ArmsSyntax)
+pub parbegin_steps : (deeper : Part StmtsSyntax) (line : ℕ) (ts us rest : List Token) (a : ArmsSyntax)
     → arms_part deeper ts ≡ Found a us → expect mark.Parend us ≡ Found tt rest
-    → forking deeper line ts ≡ Found (single (tree.parbegin line a)) rest
-forking_steps deeper line ts us rest a p q = rw (p, q) refl
+    → parbegin deeper line ts ≡ Found (single (tree.parbegin line a)) rest
+parbegin_steps deeper line ts us rest a p q = rw (p, q) refl
 
 pub pair_steps : (ts us vs rest : List Token) (n : NumberSyntax) (x : NameSyntax) → a_number ts ≡ Found n us
     → expect mark.Of us ≡ Found tt vs → a_name vs ≡ Found x rest → a_pair ts ≡ Found (record { amount = n; resource = x } ∷ []) rest

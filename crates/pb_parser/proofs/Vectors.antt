@@ -58,15 +58,15 @@ pub print_seen : {A : Type 0} (line : ℕ) (value : Expr A) (e : ExprSyntax) →
     → stmt_view (Print line value) ≡ tree.print line e
 print_seen line value e h = view-Print line value ∙ rw h refl
 
-pub if_seen : {A : Type 0} (line : ℕ) (test : Expr A) (on_true on_false : Vec (Stmt A) A) (e : ExprSyntax) (a b : StmtsSyntax)
+pub if_else_seen : {A : Type 0} (line : ℕ) (test : Expr A) (on_true on_false : Vec (Stmt A) A) (e : ExprSyntax) (a b : StmtsSyntax)
     → expr_view test ≡ e
     → stmts_view on_true.items ≡ a → stmts_view on_false.items ≡ b → stmt_view (If line test on_true on_false) ≡ tree.if_else line e a b
-if_seen line test on_true on_false e a b h i j = view-If line test on_true on_false ∙ rw (h, i, j) refl
+if_else_seen line test on_true on_false e a b h i j = view-If line test on_true on_false ∙ rw (h, i, j) refl
 
-pub while_seen : {A : Type 0} (line : ℕ) (test : Expr A) (body : Vec (Stmt A) A) (e : ExprSyntax) (a : StmtsSyntax)
+pub while_do_seen : {A : Type 0} (line : ℕ) (test : Expr A) (body : Vec (Stmt A) A) (e : ExprSyntax) (a : StmtsSyntax)
     → expr_view test ≡ e → stmts_view body.items ≡ a
     → stmt_view (While line test body) ≡ tree.while_do line e a
-while_seen line test body e a h i = view-While line test body ∙ rw (h, i) refl
+while_do_seen line test body e a h i = view-While line test body ∙ rw (h, i) refl
 
 pub hold_seen : {A : Type 0} (line : ℕ) (demands : Vec (Demand A) A) (body : Vec (Stmt A) A) (ds : List DemandSyntax) (a : StmtsSyntax)
     → map demand_view demands.items ≡ ds

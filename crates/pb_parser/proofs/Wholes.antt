@@ -1,4 +1,4 @@
--- What the parser of whole programs answers.
+-- What the parser of whole programs returns.
 use Rattle.std.proofs.Common.{◌≡◌, ◌↔◌, ℕ, ◌<◌, ◌≤◌, ◌⊎◌, inl, inr, List, [], ◌∷◌, Result, Ok, Err, false, IsTrue}
 use Rattle.std.proofs.Common.{refl, sym, ap, ◌∙◌, subst, arith}
 use Rattle.std.specs.Prelude.{IfOk, IfErr}
@@ -45,7 +45,7 @@ to_the_end is wants (Ok x) d ts rest f = record {
 }
 to_the_end is wants (Err e) d ts rest f = f
 
--- ---- what is to be shown of an answer
+-- ---- what is to be shown of what was read
 
 pub record Judged {A : Type 0} (ts : List Token) (r : Result (Program A) ParseFault) : Type 0 where
   pub found : IfOk r (λ p. ReadsProgram ts (program_view p))

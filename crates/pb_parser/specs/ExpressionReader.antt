@@ -1,5 +1,5 @@
--- Private helpers of the proof: the reading of expressions as a function, where `inner` reads those in
--- brackets.
+-- The reading of expressions as a function, with `inner` for those in brackets. No public contract cites this
+-- file.
 use Rattle.std.specs.Prelude.{ℕ, zero, suc, Bool, true, false, List, [], ◌∷◌, Option, Some, None}
 use Rattle.pb_base.specs.declared.operators.UnaryOp.{UnaryOp}
 use Rattle.pb_base.specs.declared.operators.UnaryOp.TheVariants as sign
@@ -158,7 +158,7 @@ unfoldable pub expression : ℕ → Part ExprSyntax
 expression zero ts = Refused
 expression (suc depth) ts = disjunction (expression depth) ts
 
--- the answer after n more prefix operators
+-- what was read after n more prefix operators
 abbrev pub signs : ℕ → UnaryOp → Answer ExprSyntax → Answer ExprSyntax
 signs zero op answer = answer
 signs (suc n) op answer = signs n op (and_then answer (λ e rest. Found (tree.unary op e) rest))

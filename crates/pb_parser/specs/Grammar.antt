@@ -16,11 +16,11 @@ use Rattle.pb_parser.specs.declared.level.Level.TheVariants as level
 abbrev pub Is : Token → Mark → Type 0
 Is t m = t.lexeme ≡ Fixed m
 
--- a token's name, with its place
+-- a token's name, with its offset
 abbrev pub name_at : Token → List ℕ → tree.NameSyntax
 name_at t x = record { text = x; at = t.start }
 
--- a token's number, with its place
+-- a token's number, with its offset
 abbrev pub number_at : Token → ℤ → tree.NumberSyntax
 number_at t n = record { value = n; at = t.start }
 

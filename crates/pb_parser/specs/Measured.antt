@@ -1,4 +1,4 @@
--- Private helpers of the proof: what a measure says.
+-- What a measure says. No public contract cites this file.
 use Rattle.std.specs.Prelude.{◌≡◌, ℕ}
 use Rattle.pb_tree.specs.Measure.{saturated}
 use Rattle.pb_parser.specs.declared.measure.Measure.{Measure}

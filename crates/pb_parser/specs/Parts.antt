@@ -1,4 +1,4 @@
--- Private helpers of the proof: the plain tree of an expression on its way into a tree.
+-- The plain tree of an expression on its way into a tree. No public contract cites this file.
 use Rattle.pb_tree.specs.Syntax.{ExprSyntax, number}
 use Rattle.pb_tree.specs.View.{number_view, expr_view}
 use Rattle.pb_parser.specs.declared.trees.Part.{Part}

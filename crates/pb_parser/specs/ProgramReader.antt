@@ -1,4 +1,4 @@
--- Private helpers of the proof: the reading of programs as a function.
+-- The reading of programs as a function. No public contract cites this file.
 use Rattle.std.specs.Prelude.{ℕ, Bool, true, false, List, [], ◌∷◌, length}
 use Rattle.pb_lexer.specs.declared.token.Mark.TheVariants as mark
 use Rattle.pb_lexer.specs.Tokens.{Token}

@@ -1,5 +1,5 @@
--- Private helpers of the proof: what a method of the parser ensures. Each gives the answer of a reading
--- function, unless memory runs out.
+-- What a method of the parser ensures: each gives the result of a reading function, unless out of memory. No
+-- public contract cites this file.
 use Rattle.std.specs.Prelude.{◌≡◌, ℕ, Bool, true, false, List, ◌∷◌}
 use Rattle.std.specs.Prelude.{Option, Some, None, Result, Ok, Err}
 use Rattle.pb_base.specs.declared.operators.UnaryOp.{UnaryOp}
@@ -21,7 +21,7 @@ use Rattle.pb_parser.specs.ExpressionReader.{joins, signs}
 abbrev pub Begins : List Token → Token → Type 0
 Begins ts t = (after : List Token) × (ts ≡ t ∷ after)
 
--- the result is the answer; this takes no memory
+-- the result is what was read; this takes no memory
 abbrev pub Gives : {X Y : Type 0} → (X → Y) → Result X ParseFault → Answer Y → List Token → Type 0
 Gives view (Ok x) answer rest = answer ≡ Found (view x) rest
 Gives view (Err e) answer rest = Fails ⊥ e answer
@@ -30,7 +30,7 @@ Gives view (Err e) answer rest = Fails ⊥ e answer
 abbrev pub name_said : Given → NameSyntax
 name_said t = name_at (token t) (token t).text
 
--- what was made of the operand behind n prefix operators, unless memory runs out
+-- what was made of the operand behind n prefix operators, unless out of memory
 abbrev pub Signs : {E : Type 0} → (wants : Type 0) → (E → ExprSyntax → Type 0) → Result E ParseFault → ℕ
     → UnaryOp → E → Type 0
 Signs wants is (Ok x) n op operand = (e : ExprSyntax) → is operand e

@@ -1,5 +1,5 @@
--- Private helpers of the proof: the reading of tokens as a function. Nothing outside this crate names it,
--- and no reader need believe it. Here are results, symbols and words, and chains.
+-- The reading of tokens as a function: results, symbols and words, and chains. No public contract cites this
+-- file.
 use Rattle.std.specs.Prelude.{◌≡◌, ℕ, zero, suc, Bool, true, false, List, [], ◌∷◌, length, Option, Some, None}
 use denote.Enum.Bare.{sameb}
 use Rattle.pb_lexer.specs.contracts.token.Mark.{the_type}

@@ -1,4 +1,5 @@
--- Private helpers of the proof: the reading of statements as a function, where `deeper` reads those inside.
+-- The reading of statements as a function, with `deeper` for those inside. No public contract cites this
+-- file.
 use Rattle.std.specs.Prelude.{ℕ, zero, suc, Bool, true, false, List, []}
 use Rattle.std.specs.Prelude.{◌∷◌, ◌++◌, Option, Some, None}
 use Rattle.pb_lexer.specs.declared.token.Mark.{Mark}
@@ -69,38 +70,38 @@ otherwise deeper [] = Found tree.no_stmt []
 otherwise deeper (t ∷ ts) = otherwise_by (is_mark mark.Else t.lexeme) (list deeper ts) (t ∷ ts)
 
 -- what is after the first token of a statement, by its kind
-abbrev pub assignment : ℕ → Token → List ℕ → Part StmtsSyntax
-assignment d t x ts = and_then (expect mark.Assign ts) (λ _ us. and_then (expression d us) (λ e rest.
+abbrev pub assign : ℕ → Token → List ℕ → Part StmtsSyntax
+assign d t x ts = and_then (expect mark.Assign ts) (λ _ us. and_then (expression d us) (λ e rest.
     Found (single (tree.assign t.line (name_at t x) e)) rest))
 
-abbrev pub printing : ℕ → ℕ → Part StmtsSyntax
-printing d line ts = and_then (expression d ts) (λ e rest. Found (single (tree.print line e)) rest)
+abbrev pub print : ℕ → ℕ → Part StmtsSyntax
+print d line ts = and_then (expression d ts) (λ e rest. Found (single (tree.print line e)) rest)
 
-abbrev pub choice : ℕ → Part StmtsSyntax → ℕ → Part StmtsSyntax
-choice d deeper line ts = and_then (then_mark mark.Then (expression d ts)) (λ e us.
+abbrev pub if_else : ℕ → Part StmtsSyntax → ℕ → Part StmtsSyntax
+if_else d deeper line ts = and_then (then_mark mark.Then (expression d ts)) (λ e us.
     and_then (list deeper us) (λ a vs. and_then (then_mark mark.Fi (otherwise deeper vs)) (λ b rest.
     Found (single (tree.if_else line e a b)) rest)))
 
-abbrev pub looping : ℕ → Part StmtsSyntax → ℕ → Part StmtsSyntax
-looping d deeper line ts = and_then (then_mark mark.Do (expression d ts)) (λ e us.
+abbrev pub while_do : ℕ → Part StmtsSyntax → ℕ → Part StmtsSyntax
+while_do d deeper line ts = and_then (then_mark mark.Do (expression d ts)) (λ e us.
     and_then (then_mark mark.Od (list deeper us)) (λ a rest. Found (single (tree.while_do line e a)) rest))
 
-abbrev pub holding : Part StmtsSyntax → ℕ → Part StmtsSyntax
-holding deeper line ts = and_then (then_mark mark.Do (pairs ts)) (λ ps us.
+abbrev pub hold : Part StmtsSyntax → ℕ → Part StmtsSyntax
+hold deeper line ts = and_then (then_mark mark.Do (pairs ts)) (λ ps us.
     and_then (then_mark mark.Od (list deeper us)) (λ a rest. Found (single (tree.hold line ps a)) rest))
 
-abbrev pub forking : Part StmtsSyntax → ℕ → Part StmtsSyntax
-forking deeper line ts = and_then (then_mark mark.Parend (arms_part deeper ts)) (λ a rest.
+abbrev pub parbegin : Part StmtsSyntax → ℕ → Part StmtsSyntax
+parbegin deeper line ts = and_then (then_mark mark.Parend (arms_part deeper ts)) (λ a rest.
     Found (single (tree.parbegin line a)) rest)
 
 abbrev pub statement_by : ℕ → Part StmtsSyntax → Token → Lexeme → Part StmtsSyntax
-statement_by d deeper t (Name x) ts = assignment d t x ts
+statement_by d deeper t (Name x) ts = assign d t x ts
 statement_by d deeper t (Fixed mark.Skip) ts = Found tree.no_stmt ts
-statement_by d deeper t (Fixed mark.Print) ts = printing d t.line ts
-statement_by d deeper t (Fixed mark.If) ts = choice d deeper t.line ts
-statement_by d deeper t (Fixed mark.While) ts = looping d deeper t.line ts
-statement_by d deeper t (Fixed mark.Hold) ts = holding deeper t.line ts
-statement_by d deeper t (Fixed mark.Parbegin) ts = forking deeper t.line ts
+statement_by d deeper t (Fixed mark.Print) ts = print d t.line ts
+statement_by d deeper t (Fixed mark.If) ts = if_else d deeper t.line ts
+statement_by d deeper t (Fixed mark.While) ts = while_do d deeper t.line ts
+statement_by d deeper t (Fixed mark.Hold) ts = hold deeper t.line ts
+statement_by d deeper t (Fixed mark.Parbegin) ts = parbegin deeper t.line ts
 statement_by d deeper t (Fixed mark.Begin) ts = then_mark mark.End (list deeper ts)
 statement_by d deeper t _ ts = Refused
 

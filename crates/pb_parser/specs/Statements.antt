@@ -40,16 +40,16 @@ mutual
     print : {t : Token} {ts rest : List Token} {e : ExprSyntax} → Is t mark.Print → ReadsExpr ts e rest
         → ReadsStmt (t ∷ ts) (single (tree.print t.line e)) rest
     -- "if" expr "then" list "fi"
-    choice : {t u v : Token} {ts us rest : List Token} {e : ExprSyntax} {a : StmtsSyntax} → Is t mark.If
+    if_then : {t u v : Token} {ts us rest : List Token} {e : ExprSyntax} {a : StmtsSyntax} → Is t mark.If
         → ReadsExpr ts e (u ∷ us) → Is u mark.Then → ReadsList us a (v ∷ rest) → Is v mark.Fi
         → ReadsStmt (t ∷ ts) (single (tree.if_else t.line e a tree.no_stmt)) rest
     -- "if" expr "then" list "else" list "fi"
-    choices : {t u v w : Token} {ts us vs rest : List Token} {e : ExprSyntax} {a b : StmtsSyntax}
+    if_else : {t u v w : Token} {ts us vs rest : List Token} {e : ExprSyntax} {a b : StmtsSyntax}
         → Is t mark.If → ReadsExpr ts e (u ∷ us) → Is u mark.Then → ReadsList us a (v ∷ vs)
         → Is v mark.Else → ReadsList vs b (w ∷ rest) → Is w mark.Fi
         → ReadsStmt (t ∷ ts) (single (tree.if_else t.line e a b)) rest
     -- "while" expr "do" list "od"
-    loop : {t u v : Token} {ts us rest : List Token} {e : ExprSyntax} {a : StmtsSyntax} → Is t mark.While
+    while_do : {t u v : Token} {ts us rest : List Token} {e : ExprSyntax} {a : StmtsSyntax} → Is t mark.While
         → ReadsExpr ts e (u ∷ us) → Is u mark.Do → ReadsList us a (v ∷ rest) → Is v mark.Od
         → ReadsStmt (t ∷ ts) (single (tree.while_do t.line e a)) rest
     -- "hold" pairs "do" list "od"
@@ -57,7 +57,7 @@ mutual
         → Is t mark.Hold → ReadsPairs ts ps (u ∷ us) → Is u mark.Do → ReadsList us a (v ∷ rest) → Is v mark.Od
         → ReadsStmt (t ∷ ts) (single (tree.hold t.line ps a)) rest
     -- "parbegin" arms "parend"
-    fork : {t u : Token} {ts rest : List Token} {a : ArmsSyntax} → Is t mark.Parbegin
+    parbegin : {t u : Token} {ts rest : List Token} {a : ArmsSyntax} → Is t mark.Parbegin
         → ReadsArms ts a (u ∷ rest) → Is u mark.Parend
         → ReadsStmt (t ∷ ts) (single (tree.parbegin t.line a)) rest
     -- "begin" list "end"

@@ -1,4 +1,4 @@
-//! What the parser makes of what it reads.
+//! The trait by which the parser makes something of what it reads.
 
 ghost use Rattle.std.specs.Prelude.{◌≡◌, List, [], ◌∷◌, Ok, Err, IfOk, IfErr};
 ghost use Rattle.pb_tree.specs.Syntax as tree;
@@ -17,7 +17,7 @@ use pb_tree::Number;
 /// What the parser makes of the parts of a program: the parser reads the grammar, and a builder says what
 /// an expression, a list of statements and so on are made into.
 ///
-/// Each `is_` says of which plain syntax something was made, and `wants` whether memory may run out.
+/// Each `is_` says of which plain syntax something was made, and `wants` whether it may be out of memory.
 pub(crate) trait Builder: Drop {
     type Expr: Drop;
 
@@ -103,8 +103,8 @@ pub(crate) trait Builder: Drop {
             → IfOk result (λ _. Adds is_stmts append out.old out.new (single (tree.print line e))) }
         ensures fault { IfErr result (λ _. wants) };
 
-    /// Adds a choice between two lists.
-    fn choice(
+    /// Adds a statement that runs one of two lists.
+    fn if_else(
         &self,
         out: &mut Self::Stmts,
         line: u32,
@@ -118,7 +118,7 @@ pub(crate) trait Builder: Drop {
         ensures fault { IfErr result (λ _. wants) };
 
     /// Adds a loop.
-    fn repeat(
+    fn while_do(
         &self,
         out: &mut Self::Stmts,
         line: u32,
@@ -142,7 +142,7 @@ pub(crate) trait Builder: Drop {
         ensures fault { IfErr result (λ _. wants) };
 
     /// Adds a statement whose arms run side by side.
-    fn fork(&self, out: &mut Self::Stmts, line: u32, arms: Self::Arms) -> Result<(), NoMemory>
+    fn parbegin(&self, out: &mut Self::Stmts, line: u32, arms: Self::Arms) -> Result<(), NoMemory>
         ensures made { (a : ArmsSyntax) → is_arms arms a
             → IfOk result (λ _. Adds is_stmts append out.old out.new (single (tree.parbegin line a))) }
         ensures fault { IfErr result (λ _. wants) };
@@ -228,7 +228,7 @@ pub(crate) trait Builder: Drop {
             → is_processes processes ps → is_program result (record { resources = rs; processes = ps }) };
 }
 
-/// Returns what was built, or that memory ran out.
+/// Returns what was built, or the fault `NoMemory`.
 pub(crate) fn built<T>(made: Result<T, NoMemory>) -> Result<T, ParseFault>
     ensures made { IfOk made (λ x. result ≡ Ok x) }
     ensures fault { IfErr made (λ _. result ≡ Err faults.NoMemory) }

@@ -5,10 +5,10 @@ ghost use Rattle.pb_parser.specs.declared.fault.ParseFault.TheVariants.{NoMemory
 
 use pb_base::NoMemory;
 
-/// Why no tree was made of some tokens. A place is an offset into the text, from 0.
+/// Why no tree was made of some tokens. Offsets count bytes of the text from 0.
 #[derive(Clone, Copy, Debug, PartialEq, Eq, thiserror::Error)]
 pub enum ParseFault {
-    /// The tokens are not a program. At this place begins the first token with which the tokens so far begin
+    /// The tokens are not a program. At this offset begins the first token with which the tokens so far begin
     /// none; if they only end too early, the last token ends there (0 if there is none).
     #[error("syntax error at {0}")]
     Syntax(usize),

@@ -1,4 +1,4 @@
-//! The levels of expressions.
+//! The type of the levels of expressions.
 
 /// The levels of expressions, from the loosest to the tightest.
 #[derive(Clone, Copy, Debug, PartialEq, Eq)]

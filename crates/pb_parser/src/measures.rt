@@ -87,7 +87,7 @@ impl Builder for Measures {
         Ok(())
     }
 
-    fn choice(
+    fn if_else(
         &self,
         out: &mut Measure,
         _line: u32,
@@ -99,7 +99,7 @@ impl Builder for Measures {
         Ok(())
     }
 
-    fn repeat(
+    fn while_do(
         &self,
         out: &mut Measure,
         _line: u32,
@@ -121,7 +121,7 @@ impl Builder for Measures {
         Ok(())
     }
 
-    fn fork(&self, out: &mut Measure, _line: u32, arms: Measure) -> Result<(), NoMemory> {
+    fn parbegin(&self, out: &mut Measure, _line: u32, arms: Measure) -> Result<(), NoMemory> {
         *out = out.beside(arms.under_node());
         Ok(())
     }

@@ -1,4 +1,4 @@
-//! Recursive descent with one token of look-ahead: the place in the tokens, and expressions.
+//! Recursive descent with one token of look-ahead: the tokens that are left, and expressions.
 
 ghost use Rattle.std.specs.Prelude.{◌≡◌, ℕ, List, [], ◌∷◌, MatchOption, ◌<◌};
 ghost use Rattle.pb_lexer.specs.Tokens.{token, tokens};
@@ -83,7 +83,7 @@ impl<'a, 't, B: Builder> Parser<'a, 't, B> {
         }
     }
 
-    /// No token is left.
+    /// Checks that no token is left.
     pub(crate) fn end(&self) -> Result<(), ParseFault>
         ensures { Gives (λ _. tt) result
             (reader.ended (tokens self.now.rest.now)) (tokens self.now.rest.now) }

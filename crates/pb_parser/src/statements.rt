@@ -118,27 +118,27 @@ impl<'a, 't, B: Builder> Parser<'a, 't, B> {
     {
         let line = first.line();
         match kind {
-            Kind::Name => self.assignment(depth, first, out),
+            Kind::Name => self.assign(depth, first, out),
             Kind::Mark(Mark::Skip) => Ok(()),
-            Kind::Mark(Mark::Print) => self.printing(depth, line, out),
-            Kind::Mark(Mark::If) => self.choice(depth, line, out),
-            Kind::Mark(Mark::While) => self.looping(depth, line, out),
-            Kind::Mark(Mark::Hold) => self.holding(depth, line, out),
-            Kind::Mark(Mark::Parbegin) => self.forking(depth, line, out),
+            Kind::Mark(Mark::Print) => self.print(depth, line, out),
+            Kind::Mark(Mark::If) => self.if_else(depth, line, out),
+            Kind::Mark(Mark::While) => self.while_do(depth, line, out),
+            Kind::Mark(Mark::Hold) => self.hold(depth, line, out),
+            Kind::Mark(Mark::Parbegin) => self.parbegin(depth, line, out),
             Kind::Mark(Mark::Begin) => self.inner(depth, out),
             _ => Err(ParseFault::Syntax(first.start())),
         }
     }
 
     #[inline(never)]
-    fn assignment(
+    fn assign(
         &mut self,
         depth: usize,
         first: Token<'t>,
         out: &mut B::Stmts,
     ) -> Result<(), ParseFault>
         ensures { IsMadeOf B.wants (λ _. Adds B.is_stmts append out.old out.new) result
-            (reads.assignment depth (spec_tokens.token first.entry)
+            (reads.assign depth (spec_tokens.token first.entry)
             (spec_tokens.token first.entry).text (tokens self.old.rest.now)) (tokens self.new.rest.now) }
     {
         self.expect(Mark::Assign)?;
@@ -148,9 +148,9 @@ impl<'a, 't, B: Builder> Parser<'a, 't, B> {
     }
 
     #[inline(never)]
-    fn printing(&mut self, depth: usize, line: u32, out: &mut B::Stmts) -> Result<(), ParseFault>
+    fn print(&mut self, depth: usize, line: u32, out: &mut B::Stmts) -> Result<(), ParseFault>
         ensures { IsMadeOf B.wants (λ _. Adds B.is_stmts append out.old out.new) result
-            (reads.printing depth line (tokens self.old.rest.now))
+            (reads.print depth line (tokens self.old.rest.now))
             (tokens self.new.rest.now) }
     {
         let value = self.expression(depth)?;
@@ -159,9 +159,9 @@ impl<'a, 't, B: Builder> Parser<'a, 't, B> {
 
     #[inline(never)]
     #[cycle(statement)]
-    fn choice(&mut self, depth: usize, line: u32, out: &mut B::Stmts) -> Result<(), ParseFault>
+    fn if_else(&mut self, depth: usize, line: u32, out: &mut B::Stmts) -> Result<(), ParseFault>
         ensures { IsMadeOf B.wants (λ _. Adds B.is_stmts append out.old out.new) result
-            (reads.choice depth (reads.statement depth) line (tokens self.old.rest.now))
+            (reads.if_else depth (reads.statement depth) line (tokens self.old.rest.now))
             (tokens self.new.rest.now) }
     {
         let test = self.expression(depth)?;
@@ -169,7 +169,7 @@ impl<'a, 't, B: Builder> Parser<'a, 't, B> {
         let on_true = self.body(depth)?;
         let on_false = self.otherwise(depth)?;
         self.expect(Mark::Fi)?;
-        built(self.build.choice(out, line, test, on_true, on_false))
+        built(self.build.if_else(out, line, test, on_true, on_false))
     }
 
     /// Returns what follows `else`, if that comes next.
@@ -188,23 +188,23 @@ impl<'a, 't, B: Builder> Parser<'a, 't, B> {
 
     #[inline(never)]
     #[cycle(statement)]
-    fn looping(&mut self, depth: usize, line: u32, out: &mut B::Stmts) -> Result<(), ParseFault>
+    fn while_do(&mut self, depth: usize, line: u32, out: &mut B::Stmts) -> Result<(), ParseFault>
         ensures { IsMadeOf B.wants (λ _. Adds B.is_stmts append out.old out.new) result
-            (reads.looping depth (reads.statement depth) line (tokens self.old.rest.now))
+            (reads.while_do depth (reads.statement depth) line (tokens self.old.rest.now))
             (tokens self.new.rest.now) }
     {
         let test = self.expression(depth)?;
         self.expect(Mark::Do)?;
         let body = self.body(depth)?;
         self.expect(Mark::Od)?;
-        built(self.build.repeat(out, line, test, body))
+        built(self.build.while_do(out, line, test, body))
     }
 
     #[inline(never)]
     #[cycle(statement)]
-    fn holding(&mut self, depth: usize, line: u32, out: &mut B::Stmts) -> Result<(), ParseFault>
+    fn hold(&mut self, depth: usize, line: u32, out: &mut B::Stmts) -> Result<(), ParseFault>
         ensures { IsMadeOf B.wants (λ _. Adds B.is_stmts append out.old out.new) result
-            (reads.holding (reads.statement depth) line (tokens self.old.rest.now))
+            (reads.hold (reads.statement depth) line (tokens self.old.rest.now))
             (tokens self.new.rest.now) }
     {
         let demands = self.pairs()?;
@@ -216,14 +216,14 @@ impl<'a, 't, B: Builder> Parser<'a, 't, B> {
 
     #[inline(never)]
     #[cycle(statement)]
-    fn forking(&mut self, depth: usize, line: u32, out: &mut B::Stmts) -> Result<(), ParseFault>
+    fn parbegin(&mut self, depth: usize, line: u32, out: &mut B::Stmts) -> Result<(), ParseFault>
         ensures { IsMadeOf B.wants (λ _. Adds B.is_stmts append out.old out.new) result
-            (reads.forking (reads.statement depth) line (tokens self.old.rest.now))
+            (reads.parbegin (reads.statement depth) line (tokens self.old.rest.now))
             (tokens self.new.rest.now) }
     {
         let arms = self.arms(depth)?;
         self.expect(Mark::Parend)?;
-        built(self.build.fork(out, line, arms))
+        built(self.build.parbegin(out, line, arms))
     }
 
     /// Reads the statements between `begin` and `end`, and adds them to `out`.

@@ -172,7 +172,7 @@ impl<A: Allocator + Clone> Builder for Trees<A> {
     }
 
     #[inline(never)]
-    fn choice(
+    fn if_else(
         &self,
         out: &mut Vec<Stmt<A>, A>,
         line: u32,
@@ -193,7 +193,7 @@ impl<A: Allocator + Clone> Builder for Trees<A> {
     }
 
     #[inline(never)]
-    fn repeat(
+    fn while_do(
         &self,
         out: &mut Vec<Stmt<A>, A>,
         line: u32,
@@ -223,7 +223,7 @@ impl<A: Allocator + Clone> Builder for Trees<A> {
     }
 
     #[inline(never)]
-    fn fork(
+    fn parbegin(
         &self,
         out: &mut Vec<Stmt<A>, A>,
         line: u32,

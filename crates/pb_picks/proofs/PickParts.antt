@@ -9,7 +9,7 @@ use Rattle.std.proofs.lemmas.List.{append_cancel_left, length-append, length-map
 use Rattle.std.proofs.lemmas.List.Elements.{All-cons, All-head, All-nil, All-tail}
 use Rattle.std.proofs.lemmas.Fmt.{decimal_injective, digits_decimal}
 use Rattle.std.proofs.lemmas.Option.{get_or_from_slice_get}
-use Rattle.pb_code.proofs.Each.{read_mapped, same_read}
+use Rattle.pb_code.proofs.ListElements.{read_mapped, same_read}
 use Rattle.pb_base.specs.declared.pick.Pick.{Pick}
 use Rattle.pb_base.proofs.Cases.{both_true}
 use Rattle.pb_code.specs.Code.{ProcessCode}

@@ -174,7 +174,7 @@ spells_at_most_one code text a b limits x y = same_lists code text a b limits x.
 
 -- ---- no line is faulty
 
--- where some lines of a text that says picks have been read, the next says the next pick
+-- if some lines of a text that says picks have been read, the next says the next pick
 pub record Goes (code : Code) (picks before : List CountedPick) (rest : List ℕ) : Type 0 where
   pub next : CountedPick
   pub more : List CountedPick

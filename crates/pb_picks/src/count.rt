@@ -9,7 +9,7 @@ use pb_base::{NoMemory, Pick};
 use pb_history::CountedPick;
 
 /// Counts further picks of one arm, at least one: adds them to the last entry if that is of the same arm, or
-/// as an entry of their own. All picks together are at most 10,000,000. If memory is refused, nothing has
+/// as an entry of their own. All picks together are at most 10,000,000. If out of memory, nothing has
 /// changed.
 pub fn count_pick(counted: &mut Vec<CountedPick>, pick: Pick, count: u32) -> Result<(), NoMemory>
     requires some { 0 < count }

@@ -1,4 +1,4 @@
-//! Why a text says no picks.
+//! The faults of pick lines.
 
 ghost use Rattle.std.specs.Prelude.{◌≡◌};
 

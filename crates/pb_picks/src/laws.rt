@@ -12,7 +12,7 @@ pub fn spells_at_most_one()
     ensures { SpellsAtMostOne }
 {}
 
-/// A text that says picks has no faulty line, so `read_picks` returns these picks, or runs out of memory.
+/// A text that says picks has no faulty line, so `read_picks` returns these picks, or is out of memory.
 pub fn spelled_is_not_faulty()
     ensures { SpelledIsNotFaulty }
 {}

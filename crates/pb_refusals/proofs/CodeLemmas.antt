@@ -1,4 +1,4 @@
--- Every code is listed, and what holds where none of a list has a name.
+-- Every code is listed, and what holds if none of a list has a name.
 use Rattle.std.proofs.Common.{◌≡◌, ◌<◌, ◌≤◌, ◌∙◌, ℕ, List, All, Contains, ap, arith, get_or, length, refl, subst, sym}
 use Rattle.std.proofs.lemmas.List.{get_or_default}
 use Rattle.std.proofs.lemmas.List.Elements.{All-contains}

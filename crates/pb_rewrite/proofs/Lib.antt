@@ -2,14 +2,14 @@ pub mod ArmHoldings
 pub mod ArmLooks
 pub mod ArmNumbers
 pub mod BegunArms
-pub mod Heads
+pub mod FirstLines
 pub mod Items
-pub mod Kept
-pub mod Moves
 pub mod Openings
 pub mod Outcomes
 pub mod Processes
+pub mod PushedItems
 pub mod ResolvedPrograms
+pub mod ReversedLists
 pub mod Sizes
 pub mod SoundRuns
 pub mod Sources

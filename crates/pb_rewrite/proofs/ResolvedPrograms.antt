@@ -1,4 +1,4 @@
--- A program that was resolved from a tree fits its claims, where these fit its capital.
+-- A program that was resolved from a tree fits its claims, if these fit its capital.
 use Rattle.std.proofs.Common.{◌≡◌, ℕ, zero, suc, ◌<◌, ◌≤◌, List, [], ◌∷◌, length, map, get_or, Some, None, subst}
 use Rattle.std.proofs.Common.{arith}
 use Rattle.std.specs.Prelude.{slice_get}

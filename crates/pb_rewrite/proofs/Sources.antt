@@ -245,7 +245,7 @@ nowhere s ps pick past move m granted =
     no_move move (sym (ap (option_and_then (λ x. option_map (moved (state_with ps s.loans) pick) (source_step
     pick.process x pick.arm))) (slice_get_past ps pick.process past)) ∙ m)
 
--- ---- the same of an answer that may be refused
+-- ---- the same of a result that may be refused
 
 module _ {E : Type 0} (s s' : BankerState) (ps : List SourceProcess) (pick : Pick) (process q : SourceProcess)
     (there : slice_get ps pick.process ≡ Some process) where

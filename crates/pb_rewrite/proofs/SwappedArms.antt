@@ -57,7 +57,7 @@ second_none : (one two : Option Arm) → first_some one two ≡ None → two ≡
 second_none None two h = h
 second_none (Some x) two h = absurd (cc)
 
--- nothing is put where nothing is found
+-- nothing is put if nothing is found
 mutual
   pub none_put : (a n : ℕ) (other arm : Arm) → find a n arm ≡ None → put a other n arm ≡ arm
   none_put a n other (Doing items) h = not_here (nat_eq a n) (Doing items) other (Doing items) (Doing items) None h (λ _. refl)

@@ -38,7 +38,7 @@ mutual
   put_over_among a n y Nothing = refl
   put_over_among a n y (Beside arm arms) = ap₂ Beside (put_over a n y arm) (put_over_among a (n + 1) y arms)
 
--- ---- where an arm was taken out, it is found ended
+-- ---- an arm that was taken out is found ended
 
 there_ended : (a n : ℕ) (x : Arm) (other : Arm) (inner : Option Arm) (t : Arm) (b : Bool) → nat_eq a n ≡ b
     → cond b (Some t) inner ≡ Some x → (inner ≡ Some x → (b ≡ false) → find a n other ≡ Some Ended)

@@ -1,4 +1,4 @@
--- What a step leaves, where its test has come to a number.
+-- What a step leaves, if its test has come to a number.
 use Rattle.std.proofs.Common.{◌≡◌, ◌++◌, ◌∷◌, ℕ, ℤ, Bool, List, Result, Ok, Err, Some, cond, ap, sym, ◌∙◌}
 use Rattle.std.specs.Prelude.{IfOk, IfErr}
 use Rattle.pb_base.specs.Arithmetic.{is_zero}

@@ -1,4 +1,5 @@
--- What the steps of expressions, arms and processes answer.
+-- What the steps of expressions, arms and processes return. Of this file public contracts reach AreBelow
+-- alone.
 use Rattle.std.specs.Prelude.{◌≡◌, ◌⊎◌, ℕ, ◌<◌, ◌≤◌, ℤ, List, Bool, true, false, cond, nat_eq, All, Option, Some}
 use Rattle.std.specs.Prelude.{None, Result, ⊤}
 use Rattle.pb_base.specs.Banker.{BankerState, IsAllowed, loan, resources, with_loan, without_loan, without_loans}
@@ -22,7 +23,7 @@ use Rattle.pb_rewrite.specs.declared.expression.Progress.TheVariants as progress
 use Rattle.pb_rewrite.specs.declared.stepping.Outcome.{Outcome}
 use Rattle.pb_rewrite.specs.declared.stepping.Outcome.TheVariants as outcome
 
--- the answer, and the expression that is left, are those of one step of the expression
+-- the result, and the expression that is left, are those of one step of the expression
 abbrev pub IsExprStep : List ℤ → Expr → Progress → Expr → Type 0
 IsExprStep vars e (progress.Is v) e' = (e ≡ Number v) × (e' ≡ e)
 IsExprStep vars e progress.Becomes e' = step_expr vars e ≡ Becomes e'
@@ -138,7 +139,7 @@ TakesStep s process pick shown process' s' =
     × IsGranted (bank_view s) s.loans pick.process effect × (event_of pick effect ≡ shown)
     × (s' ≡ record s { loans = loans_after s.loans pick.process effect })
 
--- what the answer says of a process and its state after the pick is what the source does
+-- what the result says of a process and its state after the pick is what the source does
 abbrev pub IsProcessStep : BankerState → SourceProcess → Pick → Step → SourceProcess → BankerState → Type 0
 IsProcessStep s process pick step.Silent process' s' = TakesStep s process pick None process' s'
 IsProcessStep s process pick (step.Did shown) process' s' = TakesStep s process pick (Some shown) process' s'

@@ -1,4 +1,4 @@
-//! Copies of numbered statements. The error comes only if memory is refused.
+//! Copies of numbered statements. The error comes only if `alloc` is out of memory.
 
 ghost use Rattle.std.specs.Prelude.{◌≡◌, IfOk};
 ghost use Rattle.pb_names.specs.View.{expr_view, stmt_view, block_view, arms_view};

@@ -10,7 +10,7 @@ use crate::item::Item;
 use pb_names::Stmt;
 use std::alloc::Allocator;
 
-#[tactic(auto, using(crate::proofs::Moves::pushes))]
+#[tactic(auto, using(crate::proofs::ReversedLists::pushes))]
 /// Returns the items with one in front, for which there is room.
 pub(crate) fn with_first<A: Allocator>(items: Vec<Item<A>, A>, first: Item<A>) -> Vec<Item<A>, A>
     requires { vec_len items < vec_capacity items }
@@ -23,7 +23,7 @@ pub(crate) fn with_first<A: Allocator>(items: Vec<Item<A>, A>, first: Item<A>) -
     items
 }
 
-#[tactic(auto, using(crate::proofs::Moves::pushes))]
+#[tactic(auto, using(crate::proofs::ReversedLists::pushes))]
 /// Returns the items with the statements of a body in front, for which there is room.
 pub(crate) fn with_body<A: Allocator>(
     items: Vec<Item<A>, A>,

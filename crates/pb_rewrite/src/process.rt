@@ -72,7 +72,7 @@ impl<A: Allocator> SourceProcess<A> {
 }
 
 impl<A: Allocator + Clone> SourceProcess<A> {
-    /// Steps the arm of the pick, if it can. If memory is refused, nothing changes.
+    /// Steps the arm of the pick, if it can. If out of memory, nothing changes.
     pub(crate) fn step(
         &mut self,
         banker: &mut Banker,

@@ -80,8 +80,8 @@ impl<A: Allocator> Source<A> {
 impl<A: Allocator + Clone> Source<A> {
     ghost use Rattle.pb_rewrite.specs.Sources.{source_view, source_bank, IsSource, FitsClaims};
 
-    /// Returns the program before its first step, its statements copied into `trees`. The error comes only
-    /// if memory is refused.
+    /// Returns the program before its first step, its statements copied into `trees`. The error comes only if
+    /// `alloc` or `trees` is out of memory.
     pub fn new(
         alloc: Global,
         trees: A,
@@ -103,7 +103,7 @@ impl<A: Allocator + Clone> Source<A> {
     }
 
     /// Makes a pick. One that is not enabled, or of a process or an arm that is not there, changes nothing;
-    /// neither does one for which memory is refused.
+    /// neither does any if out of memory.
     pub fn step(&mut self, alloc: A, pick: Pick) -> Result<Step, NoMemory>
         requires { IsSource self.old }
         ensures step { IfOk result (λ answer. IsStepOf (source_bank self.old) source_step (source_view self.old)

@@ -46,8 +46,8 @@ pub(crate) struct Stepped<A: Allocator> {
     pub(crate) outcome: Outcome,
 }
 
-/// Steps an arm of process `p`, whose integers these are. Where memory is refused, the arm comes back and
-/// nothing has changed.
+/// Steps an arm of process `p`, whose integers these are. If out of memory, the arm comes back and nothing
+/// has changed.
 pub(crate) fn step_arm<A: Allocator + Clone>(
     arm: Arm<A>,
     vars: &mut [i64],

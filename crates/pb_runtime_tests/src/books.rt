@@ -1,4 +1,4 @@
-//! What books answer, one turn after another.
+//! What books return, one turn after another.
 
 ghost use Rattle.std.specs.Prelude.{◌≡◌, ◌≤◌};
 
@@ -86,14 +86,11 @@ fn limits(rt: HostRuntime) {
     let done = (0, 0, Came::Done);
     let limit = (0, 0, Came::Limit);
     let three = three_turns::<Brand>(rt.alloc(), &code, 3);
-    assert_eq!(rt;
-        three,
-        Some(([(3, 1, Came::Did), (1, 0, Came::Did), done], 3))
-    );
+    assert!(rt; three == Some(([(3, 1, Came::Did), (1, 0, Came::Did), done], 3)));
     let two = three_turns::<Brand>(rt.alloc(), &code, 2);
-    assert_eq!(rt; two, Some(([(2, 1, Came::Did), limit, limit], 2)));
+    assert!(rt; two == Some(([(2, 1, Came::Did), limit, limit], 2)));
     let one = three_turns::<Brand>(rt.alloc(), &code, 1);
-    assert_eq!(rt; one, Some(([(1, 1, Came::Silent), limit, limit], 1)));
+    assert!(rt; one == Some(([(1, 1, Came::Silent), limit, limit], 1)));
 }
 
 /// Returns a stretch that is run and put back, and then a turn: the allowance that was lent, how many picks
@@ -133,7 +130,7 @@ fn put_back(rt: HostRuntime) {
         panic!(rt; "no code")
     };
     let back = put_back_once::<Brand>(rt.alloc(), &code);
-    assert_eq!(rt; back, Some((3, 0, (3, 1, Came::Did))));
+    assert!(rt; back == Some((3, 0, (3, 1, Came::Did))));
 }
 
 /// Returns what came of the turns of a book up to its end, of which there are at most 13, and how many events
@@ -164,5 +161,5 @@ fn refusals_are_marked(rt: HostRuntime) {
     wanted[4] = Came::Refused;
     wanted[12] = Came::Done;
     let all = all_turns::<Brand>(rt.alloc(), &code);
-    assert_eq!(rt; all, Some((wanted, 10)));
+    assert!(rt; all == Some((wanted, 10)));
 }

@@ -94,7 +94,7 @@ const SECOND: Pick = Pick { process: 0, arm: 2 };
 
 const THIRD: Pick = Pick { process: 1, arm: 2 };
 
-/// More than 5,000,000 picks of three arms.
+/// Returns a trace of more than 5,000,000 picks of three arms.
 fn long(alloc: Global) -> Result<Trace, NoMemory> {
     let mut trace = Trace::new(alloc);
     add_many(&mut trace, FIRST, 5_000_000)?;

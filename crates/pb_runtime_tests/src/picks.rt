@@ -26,7 +26,7 @@ fn said(alloc: Global, lines: &[u8], i: usize) -> Option<CountedPick> {
     Some(*counted)
 }
 
-/// Why lines say no picks.
+/// Returns the fault of lines that say no picks.
 fn fault(alloc: Global, lines: &[u8]) -> Option<PickFault> {
     match read(alloc, lines)? {
         Ok(_) => None,
@@ -45,11 +45,11 @@ fn lines_say_counted_picks(rt: HostRuntime) {
         pick: Pick { process: 1, arm: 0 },
         count: 9_999_997,
     };
-    assert_eq!(rt; said(rt.alloc(), lines, 0), Some(first));
-    assert_eq!(rt; said(rt.alloc(), lines, 1), Some(second));
-    assert_eq!(rt; said(rt.alloc(), lines, 2), None);
-    assert_eq!(rt; fault(rt.alloc(), lines), None);
-    assert_eq!(rt; fault(rt.alloc(), b""), None);
+    assert!(rt; said(rt.alloc(), lines, 0) == Some(first));
+    assert!(rt; said(rt.alloc(), lines, 1) == Some(second));
+    assert!(rt; said(rt.alloc(), lines, 2) == None);
+    assert!(rt; fault(rt.alloc(), lines) == None);
+    assert!(rt; fault(rt.alloc(), b"") == None);
 }
 
 #[test]
@@ -65,7 +65,7 @@ fn the_first_faulty_line_decides(rt: HostRuntime) {
         (b"a.0 1\nb.0 10000000\nc\n".as_slice(), PickFault::TooMany),
     ];
     for (lines, why) in table {
-        assert_eq!(rt; fault(rt.alloc(), lines), Some(why));
+        assert!(rt; fault(rt.alloc(), lines) == Some(why));
     }
 }
 

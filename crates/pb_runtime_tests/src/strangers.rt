@@ -77,5 +77,5 @@ fn strangers(rt: HostRuntime) {
     };
     let wanted = [Came::Stranger, Came::Did, Came::Stranger, Came::Did];
     let all = crossings::<Brand>(rt.alloc(), &code);
-    assert_eq!(rt; all, Some((wanted, [1, 0])));
+    assert!(rt; all == Some((wanted, [1, 0])));
 }

@@ -175,7 +175,7 @@ fn a_run_keeps_to_its_limit(rt: HostRuntime) {
             panic!(rt; "no report")
         };
         assert!(rt; report.outcome == Outcome::Limit);
-        assert_eq!(rt; report.trace.len(), 5000);
+        assert!(rt; report.trace.len() == 5000);
     }
 }
 
@@ -196,6 +196,6 @@ fn numbers_out_of_range(rt: HostRuntime) {
         let Err(fault) = report else {
             panic!(rt; "a report")
         };
-        assert_eq!(rt; fault, RunFault::Limits);
+        assert!(rt; fault == RunFault::Limits);
     }
 }

@@ -134,7 +134,7 @@ module _ (code : VerifiedCode) (s : Ledger) (lent : Lent) (legal : IsLegal code 
 
 -- ---- a visible pick
 
--- nothing is marked where all marks are taken away
+-- nothing is marked if all marks are taken away
 none_marked : (marks : List Bool) (i : ℕ) → slice_index_or (map (λ (b : Bool). false) marks) i false ≡ true → ⊥
 none_marked [] i h = cc
 none_marked (b ∷ marks) zero h = cc
@@ -239,7 +239,7 @@ lent_legal code s p slip legal at_home within = record {
   verified = legal.verified;
 }
 
--- nothing is out where all are at home
+-- nothing is out if all are at home
 none_out : (n : ℕ) → sum_by allowance_of (replicate n None) ≡ 0
 none_out zero = refl
 none_out (suc n) = none_out n
@@ -269,7 +269,7 @@ nothing_out (Some slip ∷ xs) all = cc
 pub at_limit : (code : VerifiedCode) (s : Ledger) → IsLegal code s → s.left ≡ 0 → all_home s.slips ≡ true → length s.entries ≡ s.limit
 at_limit code s legal none_left all = omega (arith, legal.counted, nothing_out s.slips all)
 
--- ---- some arm is ready where all are at home
+-- ---- some arm is ready if all are at home
 
 home_at : (slips : List (Option Slip)) (p : ℕ) → all_home slips ≡ true → p < length slips → slice_get slips p ≡ Some None
 home_at [] p all lt = absurd (omega arith)

@@ -45,7 +45,7 @@ Takes code s quantum Idle after =
     HasOutcome s None × ((s.left ≡ 0) ⊎ NoneReady code.code s) × (all_home s.slips ≢ true) × (after ≡ s)
 Takes code s quantum (Over outcome) after = HasOutcome s (Some outcome) × (after ≡ s)
 
--- the same of a take that may run out of memory, which leaves the book as it was
+-- the same of a take that may be out of memory, which leaves the book as it was
 abbrev pub TakesIfRoom : {C : Type 0} → VerifiedCode → Ledger → ℕ → Result (Taken C) NoMemory → Ledger → Type 0
 TakesIfRoom code s quantum (Ok taken) after = Takes code s quantum taken after
 TakesIfRoom code s quantum (Err fault) after = after ≡ s

@@ -1,4 +1,4 @@
--- Trying a visible pick, on the fields of a book.
+-- Trying a visible pick, on the fields of a book. No public contract cites this file.
 use Rattle.std.specs.Prelude.{◌≡◌, ◌≢◌, ℕ, ◌-◌, List, [], ◌∷◌, ◌++◌, map, Bool, true, false, slice_set, Some, cond}
 use Rattle.pb_base.specs.declared.event.Event.{Event}
 use Rattle.pb_base.specs.declared.pick.Pick.{Pick}

@@ -20,7 +20,7 @@ use std::alloc::Global;
 impl<'v, C: CodeBrand> Book<'v, C> {
     /// Takes a stretch home. Its silent picks are appended, and then, if some of its allowance is left and
     /// the arm is at a visible pick, that pick is tried. A stretch that this book did not lend is handed
-    /// back, and so is one for which there was no memory; then the book is as it was.
+    /// back, and so is any if out of memory; then the book is as it was.
     #[inline(always)]
     pub fn commit(
         &mut self,

@@ -1,4 +1,4 @@
-//! Why a stretch was not committed.
+//! The faults of a commit.
 
 /// Why a stretch was not committed.
 #[derive(Clone, Copy, Debug, PartialEq, Eq, thiserror::Error)]

@@ -1,4 +1,4 @@
-//! How a run ended.
+//! The ways in which a run ends.
 
 /// How a run ended.
 #[derive(Clone, Copy, Debug, PartialEq, Eq)]

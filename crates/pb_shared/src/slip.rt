@@ -1,4 +1,4 @@
-//! What a book keeps of a process that is out.
+//! The type of what a book keeps of a process.
 
 /// What a book keeps of a process that is out: its arm, and how many picks it may make.
 #[derive(Clone, Copy, Debug, PartialEq, Eq)]

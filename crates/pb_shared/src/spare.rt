@@ -1,4 +1,4 @@
-//! What is lent of a process.
+//! The part of a stretch that serves for the next one too.
 
 ghost use Rattle.std.specs.Prelude.{◌≡◌, ◌+◌, ◌<◌, ◌⊎◌, ℕ, IfOk, length, set};
 ghost use Rattle.pb_machine.specs.Steps.{ComesFrom, StepsAloud};

@@ -1,4 +1,4 @@
-//! A process lent to one worker, with one arm to step.
+//! Stretches, and how their picks are made.
 
 ghost use Rattle.std.specs.Prelude.{◌≡◌, ◌+◌, ◌-◌, ◌<◌, ◌≤◌, ◌⊎◌};
 ghost use Rattle.pb_machine.specs.Steps.{StepsAloud};

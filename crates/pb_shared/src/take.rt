@@ -40,7 +40,7 @@ impl<'v, C: CodeBrand> Book<'v, C> {
         Ok(Taken::Work(stretch))
     }
 
-    /// Returns the outcome if there is one, where no arm can be lent.
+    /// Returns the outcome if there is one, of a book that can lend no arm.
     fn over_or_idle(&self) -> Taken<'v, C>
         requires { (self.now.left ≡ 0) ⊎ NoneReady C.code.code self.now }
         ensures { (quantum : ℕ) → Takes C.code self.now quantum result self.now }
@@ -52,9 +52,9 @@ impl<'v, C: CodeBrand> Book<'v, C> {
         }
     }
 
-    /// Returns the outcome if there is one, where picks are left. As long as this process, which is to be
-    /// lent, is not over there is none, and then no other process is looked at: another processor may write
-    /// them.
+    /// Returns the outcome if there is one, of a book with picks left. As long as this process, which is to
+    /// be lent, is not over there is none, and then no other process is looked at: another processor may
+    /// write them.
     #[inline(always)]
     fn outcome_beside(&self, process: usize) -> Option<Outcome>
         requires process { process < length self.now.slips }

@@ -4,7 +4,7 @@ use pb_banker::{Answer, Banker, Loans, Till};
 use pb_base::{Bundle, Capital, Claims, Pair};
 use std::alloc::Global;
 
-/// Returns the answer to a request for one resource, and how many claims were looked at.
+/// Returns what the banker answers to a request for one resource, and how many claims were looked at.
 fn asked(banker: &mut Banker, p: usize, r: u8, amount: u32) -> Option<(Answer, u32)> {
     if p >= banker.processes() || usize::from(r) >= banker.resources() {
         return None;
@@ -29,7 +29,7 @@ fn has_order(alloc: Global, banker: &Banker, order: &[u8]) -> bool {
     }
 }
 
-/// Dijkstra's three customers, who claim 8, 6 and 4 of 10.
+/// Returns the banker of Dijkstra's three customers, who claim 8, 6 and 4 of 10.
 fn customers(alloc: Global) -> Option<Banker> {
     let capital = Capital::new(alloc, &[10]).ok()?;
     let claims = Claims::new(alloc, &[&[8], &[6], &[4]]).ok()?;
@@ -56,8 +56,8 @@ fn customers_are_granted_while_all_can_finish(rt: HostRuntime) {
     assert!(rt; has_order(rt.alloc(), &banker, &[2, 0, 1]));
 }
 
-/// Returns those that could not finish if a process had so much more of a resource; none if that is over its
-/// claim or the cash, or if memory is refused.
+/// Returns those that could not finish if a process had `amount` more of a resource; none if that is over its
+/// claim or the cash, or if out of memory.
 fn rest(alloc: Global, banker: &Banker, p: usize, r: u8, amount: u32) -> Option<Vec<u8>> {
     let resource = usize::from(r);
     if p >= banker.processes() || resource >= banker.resources() {
@@ -161,7 +161,7 @@ fn all_pairs_or_none(rt: HostRuntime) {
     assert!(rt; none_is_lent(&mut banker));
 }
 
-/// Gives back so much of a resource, if so much is lent.
+/// Gives back `amount` of a resource, if that is lent, and returns whether it was.
 fn is_given_back(banker: &mut Banker, p: usize, r: u8, amount: u32) -> bool {
     let resource = usize::from(r);
     if p >= banker.processes() || resource >= banker.resources() {
@@ -236,7 +236,7 @@ fn restored_by_till(alloc: Global, till: &mut Till, p: usize, r: usize) -> Optio
     Some(till.loan(p, r))
 }
 
-/// A till that has lent 2 of 3 to the first of two processes.
+/// Returns a till that has lent 2 of 3 to the first of two processes.
 fn till(alloc: Global) -> Option<Till> {
     let capital = Capital::new(alloc, &[3]).ok()?;
     let claims = Claims::new(alloc, &[&[2], &[1]]).ok()?;

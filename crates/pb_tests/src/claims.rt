@@ -53,7 +53,7 @@ fn arms_add_up_and_the_greatest_of_a_list_counts(rt: HostRuntime) {
     }
 }
 
-/// Whether the first claim over these capitals is this one.
+/// Returns whether the first claim over these capitals is this one.
 fn is_over(
     alloc: Global,
     claims: &Claims,

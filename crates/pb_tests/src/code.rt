@@ -249,7 +249,7 @@ fn is_same_process(alloc: Global, one: &[u8], other: &[u8], p: usize) -> Option<
     }
 }
 
-/// `JOINT` with another amount in the last line but one.
+/// Returns `JOINT` with another amount in the last line but one.
 fn changed_joint(alloc: Global) -> Option<Vec<u8>> {
     let mut changed = Vec::from_slice(alloc, JOINT).ok()?;
     let last = changed.len() - 8;

@@ -9,8 +9,8 @@ fn fault(alloc: Global, text: &[u8]) -> Option<LexFault> {
     lex(alloc, text).err()
 }
 
-/// Returns whether a text has these tokens, each with the place where it begins, the one behind its end, and
-/// its line.
+/// Returns whether a text has these tokens, each with the offset at which it begins, the one behind its end,
+/// and its line.
 fn has_tokens(alloc: Global, text: &[u8], wanted: &[(Kind, usize, usize, u32)]) -> bool {
     let Ok(tokens) = lex(alloc, text) else {
         return false;
@@ -102,7 +102,7 @@ const MARKS: [Mark; 37] = [
     Mark::While,
 ];
 
-/// Returns whether each token of a text is the mark at its place.
+/// Returns whether each token of a text is the mark with its number.
 fn has_marks(alloc: Global, text: &[u8], marks: &[Mark]) -> bool {
     let Ok(tokens) = lex(alloc, text) else {
         return false;

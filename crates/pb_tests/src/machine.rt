@@ -94,7 +94,7 @@ fn turns(alloc: Global, rounds: u8, processes: u8, arms: u8) -> Option<Vec<Pick>
     Some(picks)
 }
 
-/// Makes these picks if they are enabled, and says what was shown.
+/// Makes these picks if they are enabled, and returns what was shown.
 fn run(
     alloc: Global,
     verified: &Verified,
@@ -159,7 +159,7 @@ enum Act {
     Picks(&'static [Pick], &'static [Seen]),
     /// The picks of this many rounds, processes and arms show this, if they are enabled.
     Turns(u8, u8, u8, &'static [Seen]),
-    /// A process holds so much of a resource.
+    /// A process holds this amount of a resource.
     Holds(usize, usize, u32),
     /// An arm of a process takes steps or not, and is at this place.
     Stands(usize, usize, ThreadState, Option<u16>),

@@ -188,7 +188,7 @@ fn asks_for_an_arm_a_pair_and_a_process(rt: HostRuntime) {
     }
 }
 
-/// Texts, and whether they are accepted, or the fault of least place.
+/// Texts, and whether they are accepted, or the fault of least offset.
 const TEXTS: [(&[u8], Result<(), NameFault>); 14] = [
     // The second `x` is declared twice, and `z` is not declared.
     (
@@ -205,7 +205,7 @@ const TEXTS: [(&[u8], Result<(), NameFault>); 14] = [
         b"process p begin integer x, yy; skip end process q begin x := x + x end",
         Err(NameFault::Unknown(56)),
     ),
-    // A process is no resource.
+    // A process is not a resource.
     (
         b"resource t = 3; process p begin hold 1 of p do skip od end",
         Err(NameFault::Unknown(42)),
@@ -240,7 +240,7 @@ const TEXTS: [(&[u8], Result<(), NameFault>); 14] = [
         b"resource t = 3; process p begin hold 1 of t, 2 of t do skip od end",
         Err(NameFault::Repeated(50)),
     ),
-    // The resource that is named again was unknown at its first place.
+    // The resource that is named again was unknown at its first offset.
     (
         b"resource t = 3; process p begin hold 1 of v, 2 of v do skip od end",
         Err(NameFault::Unknown(42)),

@@ -129,7 +129,7 @@ fn fault(alloc: Global, text: &[u8]) -> Option<ParseFault> {
     }
 }
 
-/// Texts, and the places of their syntax errors.
+/// Texts, and the offsets of their syntax errors.
 const WRONG: [(&[u8], usize); 7] = [
     (b"", 0),
     (b"process p begin skip; end", 22),
@@ -171,7 +171,7 @@ fn twice(alloc: Global, token: &Token<'_>) -> Option<Vec<u8, Global>> {
     Some(text)
 }
 
-/// Returns whether a text has its fault at this place, or none.
+/// Returns whether a text has its fault at this offset, or none.
 fn has_fault(alloc: Global, text: Option<Vec<u8>>, place: usize) -> bool {
     let Some(text) = text else {
         return false;
@@ -183,7 +183,7 @@ fn has_fault(alloc: Global, text: Option<Vec<u8>>, place: usize) -> bool {
     }
 }
 
-/// Returns whether each token has the faults of its places, if there are as many.
+/// Returns whether each token has the faults of its offsets, if there are as many.
 fn have_faults(alloc: Global, tokens: &[Token<'_>]) -> bool {
     for (token, places) in tokens.iter().zip(places::PLACES.iter()) {
         let is_known = has_fault(alloc, left_out(alloc, token), places[0])
@@ -261,7 +261,7 @@ fn keeps_the_limits_of_the_tree(rt: HostRuntime) {
     }
 }
 
-/// Returns the fault of a text of a head, `count` pieces and a tail, if there is no memory for its tree.
+/// Returns the fault of a text of a head, `count` pieces and a tail, if out of memory for its tree.
 fn fault_without_room(
     alloc: Global,
     head: &[u8],

@@ -403,7 +403,7 @@ fn is_verified_as(alloc: Global, code: Code, other: &Code) -> Option<bool> {
 }
 
 /// Returns whether a text is an object whose code is verified. If it is an object, its code is read again
-/// from the text that is written of it; else there is no answer.
+/// from the text that is written of it; else nothing is returned.
 fn is_verified(alloc: Global, text: &[u8]) -> Option<bool> {
     let Ok((code, labels)) = read_any(alloc, text) else {
         return Some(false);

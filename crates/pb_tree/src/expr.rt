@@ -49,7 +49,7 @@ impl<A: Allocator> Name<A> {
         })
     }
 
-    /// Returns whether the other name has the same bytes and the same place.
+    /// Returns whether the other name has the same bytes and the same offset.
     pub fn same<B: Allocator>(&self, other: &Name<B>) -> bool
         ensures { IsTrue result ↔ (name_view self.now ≡ name_view other.now) }
     {
@@ -89,7 +89,7 @@ impl<A: Allocator> Expr<A> {
         Ok(Box::new(alloc.clone()?, copy)?)
     }
 
-    /// Returns whether the other expression is the same, places included, in whatever memory it is.
+    /// Returns whether the other expression is the same, offsets included, in whatever memory it is.
     pub fn same<B: Allocator>(&self, other: &Expr<B>) -> bool
         ensures { IsTrue result ↔ (expr_view self.now ≡ expr_view other.now) }
     {

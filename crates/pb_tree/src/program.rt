@@ -50,7 +50,7 @@ impl<A: Allocator> Resource<A> {
         })
     }
 
-    /// Returns whether the other resource is the same, places included.
+    /// Returns whether the other resource is the same, offsets included.
     pub fn same<B: Allocator>(&self, other: &Resource<B>) -> bool
         ensures { IsTrue result ↔ (resource_view self.now ≡ resource_view other.now) }
     {
@@ -73,7 +73,7 @@ impl<A: Allocator> Process<A> {
         })
     }
 
-    /// Returns whether the other process is the same, places and lines included, in whatever memory it is.
+    /// Returns whether the other process is the same, offsets and lines included, in whatever memory it is.
     pub fn same<B: Allocator>(&self, other: &Process<B>) -> bool
         ensures { IsTrue result ↔ (process_view self.now ≡ process_view other.now) }
     {
@@ -96,7 +96,7 @@ impl<A: Allocator> Program<A> {
         })
     }
 
-    /// Returns whether the other program is the same, places and lines included, in whatever memory it is.
+    /// Returns whether the other program is the same, offsets and lines included, in whatever memory it is.
     pub fn same<B: Allocator>(&self, other: &Program<B>) -> bool
         ensures { IsTrue result ↔ (program_view self.now ≡ program_view other.now) }
     {

@@ -180,8 +180,7 @@ impl<A: Allocator> Stmt<A> {
         Ok(copy)
     }
 
-    /// Returns whether the other statement is the same, places and lines included, in whatever memory it
-    /// is.
+    /// Returns whether the other statement is the same, offsets and lines included, in whatever memory it is.
     #[cycle(same)]
     #[tactic(auto, using(crate::proofs::Views::stmt_views))]
     pub fn same<B: Allocator>(&self, other: &Stmt<B>) -> bool
@@ -251,7 +250,7 @@ impl<A: Allocator> Stmt<A> {
         }
     }
 
-    /// Returns whether two lists are the same, places and lines included, in whatever memory they are.
+    /// Returns whether two lists are the same, offsets and lines included, in whatever memory they are.
     #[cycle(same)]
     #[tactic(auto, using(crate::proofs::Views::stmt_views))]
     pub fn same_list<B: Allocator>(stmts: &Vec<Stmt<A>, A>, others: &Vec<Stmt<B>, B>) -> bool
@@ -399,8 +398,8 @@ impl<A: Allocator> Stmt<A> {
 }
 
 impl<A: Allocator> Demand<A> {
-    /// Returns the same amount of the same resource in memory of `alloc`. The error comes only if that
-    /// memory is refused.
+    /// Returns the same amount of the same resource in memory of `alloc`. The error comes only if `alloc` is
+    /// out of memory.
     pub fn copy_into<B: Allocator + Clone>(&self, alloc: &B) -> Result<Demand<B>, NoMemory>
         ensures { IfOk result (λ demand. demand_view demand ≡ demand_view self.now) }
     {
@@ -410,7 +409,7 @@ impl<A: Allocator> Demand<A> {
         })
     }
 
-    /// Returns whether the other amount and resource are the same, places included.
+    /// Returns whether the other amount and resource are the same, offsets included.
     pub fn same<B: Allocator>(&self, other: &Demand<B>) -> bool
         ensures { IsTrue result ↔ (demand_view self.now ≡ demand_view other.now) }
     {

@@ -10,7 +10,7 @@ use Rattle.pb_verifier.specs.Arms.{Closes, EntriesRise, IsClosed, JumpsStay}
 use Rattle.pb_verifier.specs.Faults.{HasArms}
 use Rattle.pb_verifier.specs.Flow.{target_of}
 use Rattle.pb_verifier.specs.Places.{InstrAt, arms, entry, arm_end, JumpsTo}
-use Rattle.pb_verifier.proofs.Each.{same_read}
+use Rattle.pb_code.proofs.ListElements.{same_read}
 
 pub jumps_from : (i : Instr) (t : ℕ) → target_of i ≡ Some t → JumpsTo i t
 jumps_from (Push v) t e = cc

@@ -17,7 +17,7 @@ use Rattle.pb_verifier.specs.Limits.{IsSmallProcess}
 use Rattle.pb_verifier.specs.Verified.{HasPeaksWithin, IsAnnotated, IsFreeOf, IsRefusedFor, SomePeakIsOver, turn_of}
 use Rattle.pb_verifier.proofs.SoundBehaviour.{peaks_decide}
 use Rattle.pb_verifier.proofs.ReachedPlaces.{peaks_of}
-use Rattle.pb_verifier.proofs.Greatest.{least_of}
+use Rattle.pb_verifier.proofs.UniqueFacts.{least_of}
 
 pub peaks_exist : (code : Code) → PeaksExist code
 peaks_exist code free p r process held at holdings = (
@@ -121,7 +121,7 @@ module _ (code : Code) (free : (fault : VerifyFault) → turn_of fault < turn_of
       go (inr over) = inr over
       go (inl within) = inl (λ p r process at w. within p r process (slice_get_within code.processes p process at) at w)
 
-  -- where no peak fits some is over its claim
+  -- if no peak fits some is over its claim
   pub some_over : (IsFreeOf OverClaim code → ⊥) → SomePeakIsOver code
   some_over none = go all_peaks
     where
@@ -131,7 +131,7 @@ module _ (code : Code) (free : (fault : VerifyFault) → turn_of fault < turn_of
           let x = within p r process at w in
           (peaks_decide code free p r (cell code.claims p r) process x.0 x.1 at x.2 x.3).1 x.4))
 
-  -- where each peak fits each is within its claim
+  -- if each peak fits each is within its claim
   pub all_within : IsFreeOf OverClaim code → HasPeaksWithin code
   all_within fits = go all_peaks
     where

@@ -15,7 +15,7 @@ use Rattle.pb_base.specs.Steppers.{Bundle}
 use Rattle.pb_verifier.specs.Faults.{pops, pushes, TurnsDepth, TurnsHoldings}
 use Rattle.pb_verifier.specs.Spread.{depth_rules, hold_rules, HoldFits, held_after, tail, Rules, IsAnnotation}
 use Rattle.pb_verifier.specs.Spread.{IsLeast, CanBeAnnotated, IsTableOf}
-use Rattle.pb_verifier.proofs.Each.{same_read}
+use Rattle.pb_code.proofs.ListElements.{same_read}
 use Rattle.pb_verifier.proofs.ReachSearch.{all_followers, target_follows, next_follows, reached_inside, contains_head}
 use Rattle.pb_verifier.proofs.ReachSearch.{contains_tail, contains_cases}
 

@@ -15,7 +15,7 @@ use Rattle.pb_verifier.specs.Arms.{EntriesRise, ForksLater, IsPaired, IsMarked, 
 use Rattle.pb_verifier.specs.Faults.{HasArms, HasForks}
 use Rattle.pb_verifier.specs.Places.{InstrAt, arms, entry, arm_end, IsInArm, JumpsTo, IsAmong}
 use Rattle.pb_verifier.proofs.ArmOrder.{rise_of}
-use Rattle.pb_verifier.proofs.Each.{same_read}
+use Rattle.pb_code.proofs.ListElements.{same_read}
 
 -- an instruction that is seen as a fork is one
 pub fork_given : (bundles : List Bundle) (i : Given) (first count : ℕ) → instr_view bundles i ≡ Fork first count → i ≡ given.Fork first count

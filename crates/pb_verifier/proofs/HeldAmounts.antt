@@ -1,11 +1,10 @@
 -- How much of a resource is held at each place.
-use Rattle.std.proofs.Common.{◌≡◌, ℕ, zero, suc, ◌+◌, ◌-◌, ◌*◌, ◌≤◌, cond, List, [], ◌∷◌, length, take, Option, Some}
+use Rattle.std.proofs.Common.{◌≡◌, ℕ, ◌+◌, ◌-◌, ◌*◌, ◌≤◌, List, [], ◌∷◌, length, Option}
 use Rattle.std.proofs.Common.{refl, sym, ap, ◌∙◌, subst, arith}
-use Rattle.std.specs.Prelude.{◌==◌, slice_get, option_map, unwrap_or}
-use Rattle.pb_base.specs.declared.pair.Pair.{Pair}
+use Rattle.std.specs.Prelude.{option_map, unwrap_or}
 use Rattle.pb_base.specs.Bundle.{amount_in}
 use Rattle.pb_base.specs.Steppers.{Bundle}
-use Rattle.pb_base.proofs.LoanRows.{amount_in-cons, amount_in-le}
+use Rattle.pb_base.proofs.LoanRows.{amount_in-le}
 use Rattle.pb_code.specs.Code.{Instr, Push, Load, Store, Compute1, Compute2, Jump, JumpIfZero, PrintTop, Take, Give}
 use Rattle.pb_code.specs.Code.{Fork, Join, End, ProcessCode}
 use Rattle.pb_verifier.specs.declared.amounts.Amount.{Amount}
@@ -18,21 +17,6 @@ use Rattle.pb_verifier.proofs.FaultFacts.{IsBy}
 use Rattle.pb_verifier.proofs.EndTables.{fact_of}
 
 -- ---- one bundle
-
-pub amount_more : (xs : List Pair) (i r : ℕ) (x : Pair) → slice_get xs i ≡ Some x → amount_in (take (i + 1) xs) r ≡
-    amount_in (take i xs) r + cond (x.resource == r) x.amount 0
-amount_more [] i r x e = cc
-amount_more (y ∷ ys) zero r x e =
-    let s : Some y ≡ Some x = e in
-    let same : y ≡ x = cc in
-    subst (λ (z : Pair). amount_in (y ∷ []) r ≡ 0 + cond (z.resource == r) z.amount 0) same (let a = amount_in-cons y [] r in omega (arith, a))
-amount_more (y ∷ ys) (suc i) r x e =
-    let rest = amount_more ys i r x e in
-    let one = amount_in-cons y (take (i + 1) ys) r in
-    let two = amount_in-cons y (take i ys) r in
-    let s : suc i + 1 ≡ suc (i + 1) = omega arith in
-    subst (λ (n : ℕ). amount_in (take n (y ∷ ys)) r ≡ amount_in (take (suc i) (y ∷ ys)) r + cond (x.resource == r)
-    x.amount 0) (sym s) (omega (arith, rest, one, two))
 
 -- a small bundle has at most 1,000,000 of a resource
 small_amount : (bundle : Bundle) (r : ℕ) → IsSmallBundle bundle → amount_in bundle r ≤ 1000000

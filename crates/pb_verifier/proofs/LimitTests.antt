@@ -9,14 +9,10 @@ use Rattle.std.proofs.lemmas.Slice.Eq.{slice_eq-Decides}
 use Rattle.std.proofs.lemmas.Bool.{cases_lt}
 use Rattle.std.proofs.lemmas.Bool.Decides.{Decides-eqb}
 use Rattle.pb_verifier.specs.Limits.{AreNames, IsName}
-use Rattle.pb_verifier.proofs.Each.{EachBelow, each_all}
-pub use Rattle.pb_code.proofs.Each.{read_mapped}
+use Rattle.pb_code.proofs.ListElements.{EachBelow, each_all}
+pub use Rattle.pb_code.proofs.ListElements.{read_mapped}
 
--- the same, where the list was borrowed as a slice
-pub read_borrowed : {A B : Type 0} (f : A → B) (xs ys : List A) → ys ≡ xs → (k : ℕ) (x : A) → k < length ys → x ≡
-    get_or ys k x → slice_get (map f xs) k ≡ Some (f x)
-read_borrowed {A = A} f xs ys same k x u e = subst (λ (zs : List A). slice_get (map f zs) k ≡ Some (f x)) same (read_mapped f ys k x u e)
-
+-- what is seen of an element that was read
 pub at_mapped : {A B : Type 0} (f : A → B) (xs : List A) (k : ℕ) (x : A) (d : B) → k < length xs → x ≡ get_or xs k x → get_or (map f xs) k d ≡ f x
 at_mapped f xs k x d u e = get_or_from_slice_get (map f xs) k (f x) d (read_mapped f xs k x u e)
 

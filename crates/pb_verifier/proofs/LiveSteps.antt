@@ -7,7 +7,7 @@ use Rattle.pb_code.specs.Code.{act, is_over, all_over, dismiss, apply_step, step
 use Rattle.pb_code.specs.Code.{code_over}
 use Rattle.pb_verifier.specs.Places.{InstrAt, arms, IsInArm, IsAmong}
 use Rattle.pb_verifier.proofs.ArmPlaces.{Checked, fork_in_arm, place_has}
-use Rattle.pb_verifier.proofs.Turns.{Acts, acts_run, acts_trap, acts_fork, acts_join, acts_stop, can_act, Fit}
+use Rattle.pb_verifier.proofs.ThreadTurns.{Acts, acts_run, acts_trap, acts_fork, acts_join, acts_stop, can_act, Fit}
 use Rattle.pb_verifier.specs.Behaviour.{SomeArmSteps}
 use Rattle.std.specs.Prelude.{set}
 

@@ -39,7 +39,7 @@ use Rattle.pb_verifier.proofs.ThreadHoldings.{holds_none, under_peak}
 use Rattle.pb_verifier.proofs.PeakTables.{replicate_read}
 use Rattle.pb_verifier.proofs.States.{CodeMove, code_move, checked, Good, asks_within, bundles_small, good_next}
 use Rattle.pb_verifier.proofs.States.{good_start}
-use Rattle.pb_verifier.proofs.Turns.{turned}
+use Rattle.pb_verifier.proofs.ThreadTurns.{turned}
 
 -- a pair is part of its bundle
 pub pair_in : (bundle : Bundle) (k : ℕ) (d : Pair) → k < length bundle → (get_or bundle k d).amount ≤ amount_in bundle (get_or bundle k d).resource
@@ -116,7 +116,7 @@ module _ (whole : Code) (annotated : IsAnnotated whole) where
 
   -- ---- one move
 
-  -- what a row in the place of another keeps, where the banker has cash for it
+  -- what a row in the place of another keeps, if the banker has cash for it
   kept_row : (s : State CodeProcess) (p : ℕ) (row : List ℕ) → Kept s → p < length whole.processes → length row ≡ length whole.capital
       → ((r : ℕ) → r < length whole.capital → get_or row r 0 ≤ cell whole.claims p r) → ((r : ℕ) → r < length
       whole.capital → get_or row r 0 ≤ cell s.loans p r + cash (bank_at s.loans) r)

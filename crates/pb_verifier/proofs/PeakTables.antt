@@ -8,15 +8,16 @@ use Rattle.std.proofs.lemmas.Option.{slice_get_within}
 use Rattle.pb_code.specs.Code.{Instr, Push, Load, Store, Compute1, Compute2, Jump, JumpIfZero, PrintTop, Take, Give}
 use Rattle.pb_code.specs.Code.{Fork, Join, End, ProcessCode}
 use Rattle.pb_verifier.specs.declared.amounts.Amount.{Amount}
+use Rattle.pb_verifier.specs.declared.peaks.TheConstants.{OVER}
 use Rattle.pb_verifier.specs.Amounts.{TurnsAmount, HasHoldings, held_at, clamped, IsPeakOf, AreCutOff}
 use Rattle.pb_verifier.specs.Faults.{HasArms, HasForks, in_joined, sum_of_arms, IsAttained, PeakFits}
 use Rattle.pb_verifier.specs.Limits.{IsSmallProcess}
 use Rattle.pb_verifier.specs.Places.{InstrAt, arms, entry, arm_end, IsInArm, Reached, at_entry}
 use Rattle.pb_verifier.specs.Spread.{IsTableOf, notes_of}
 use Rattle.pb_verifier.proofs.HeldAmounts.{held_is}
-use Rattle.pb_verifier.proofs.Each.{same_read}
+use Rattle.pb_code.proofs.ListElements.{same_read}
 use Rattle.pb_verifier.proofs.ForkTables.{arm_of}
-use Rattle.pb_verifier.proofs.Greatest.{least}
+use Rattle.pb_verifier.proofs.UniqueFacts.{least}
 use Rattle.pb_verifier.proofs.ArmPlaces.{entry_in_arm, place_has, fork_in_arm}
 
 pub sum_more : (f : ℕ → ℕ) (first k : ℕ) → sum_of_arms f first (k + 1) ≡ sum_of_arms f first k + f (first + k)
@@ -202,7 +203,7 @@ module _ (code : ProcessCode) (lie : HasArms code) (fork : HasForks code) (some 
     -- the peaks of the last arms, that many
     pub record AreLast (done : ℕ) (peaks : List ℕ) : Type 0 where
       pub sized : length peaks ≡ 64
-      pub small : (b : ℕ) → get_or peaks b 0 ≤ 1000001
+      pub small : (b : ℕ) → get_or peaks b 0 ≤ OVER
       pub peak : ℕ → ℕ
       pub cut : (b : ℕ) → arms code ≤ b + done → b < arms code → get_or peaks b 0 ≡ clamped (peak b)
       pub are : (b : ℕ) → arms code ≤ b + done → b < arms code → IsPeakOf code table peak b (peak b)
@@ -219,7 +220,7 @@ module _ (code : ProcessCode) (lie : HasArms code) (fork : HasForks code) (some 
     pub last_cut : (done arm : ℕ) (peaks : List ℕ) (h : AreLast done peaks) → arm + 1 + done ≡ arms code → AreCutOff code (arm + 1) h.peak peaks
     last_cut done arm peaks h e = record { sized = h.sized; small = h.small; cut = λ b u v. h.cut b (omega arith) v }
 
-    pub last_more : (done arm new : ℕ) (peaks later : List ℕ) (h : AreLast done peaks) → arm + 1 + done ≡ arms code → new ≤ 1000001
+    pub last_more : (done arm new : ℕ) (peaks later : List ℕ) (h : AreLast done peaks) → arm + 1 + done ≡ arms code → new ≤ OVER
         → ((greatest : ℕ) × (new ≡ clamped greatest) × IsPeakOf code table h.peak arm greatest)
         → length later ≡ 64 → get_or later arm 0 ≡ new → ((b : ℕ) → b ≢ arm → get_or later b 0 ≡ get_or peaks b 0)
         → AreLast (done + 1) later
@@ -231,7 +232,7 @@ module _ (code : ProcessCode) (lie : HasArms code) (fork : HasForks code) (some 
       are = λ b u v. are b u v (cases_eq b arm);
     }
       where
-        small : (b : ℕ) → (b ≡ arm) ⊎ (b ≢ arm) → get_or later b 0 ≤ 1000001
+        small : (b : ℕ) → (b ≡ arm) ⊎ (b ≢ arm) → get_or later b 0 ≤ OVER
         small b (inl same) = let x : get_or later b 0 ≡ new = ap (λ (k : ℕ). get_or later k 0) same ∙ here in omega arith
         small b (inr other) = let x = others b other in let y = h.small b in omega (arith, x, y)
 

@@ -19,7 +19,7 @@ use Rattle.pb_verifier.specs.Faults.{ClaimsFitCapital, IsInRange, HasArms, HasFo
 use Rattle.pb_verifier.specs.Faults.{EndsClear, PeakFits}
 use Rattle.pb_verifier.specs.Process.{IsEarlier, IsFirstOfProcess, IsProcessFreeOf, IsSoundProcess}
 use Rattle.pb_verifier.specs.Verified.{AreArmDepths, IsAnnotated, IsFreeOf, IsRefusedFor, turn_of}
-use Rattle.pb_verifier.proofs.Each.{each_more}
+use Rattle.pb_code.proofs.ListElements.{each_more}
 
 -- a process free of each fault whose turn is before n
 pub free_below : (n resources : ℕ) (claim : ℕ → ℕ) (code : ProcessCode)

@@ -16,7 +16,7 @@ use Rattle.pb_verifier.specs.Limits.{IsSmallProcess}
 use Rattle.pb_verifier.specs.Places.{InstrAt, IsInArm, Reached, arm_end, arms, entry}
 use Rattle.pb_verifier.proofs.ArmOrder.{arm_lies, rise_of}
 use Rattle.pb_verifier.proofs.FaultFacts.{is_listed, listed_from, listed_to, reached_from, reached_to}
-use Rattle.pb_verifier.proofs.Inside.{stays_inside}
+use Rattle.pb_verifier.proofs.ContainedCode.{stays_inside}
 use Rattle.pb_verifier.proofs.ArmPlaces.{place_has}
 use Rattle.pb_verifier.proofs.PeakTables.{AreLast, IsBest, best_more, best_over, best_skip, best_start, last_more}
 use Rattle.pb_verifier.proofs.PeakTables.{last_none, replicate_read}

@@ -26,9 +26,9 @@ use Rattle.pb_verifier.specs.Verified.{IsAnnotated}
 use Rattle.pb_verifier.specs.declared.fault.VerifyFault.TheVariants.{OutOfLimits}
 use Rattle.pb_verifier.proofs.LoansWithinClaims.{Kept, kept_next, kept_reached, well_formed}
 use Rattle.pb_verifier.proofs.ArmPlaces.{Checked}
-use Rattle.pb_verifier.proofs.Order.{among_or_not, idle_before}
+use Rattle.pb_verifier.proofs.ThreadOrder.{among_or_not, idle_before}
 use Rattle.pb_verifier.proofs.States.{code_move, checked, bundles_small, slice_set_other}
-use Rattle.pb_verifier.proofs.Turns.{Turn, runs, traps, forks, joins, stops, InOrder, turned}
+use Rattle.pb_verifier.proofs.ThreadTurns.{Turn, runs, traps, forks, joins, stops, InOrder, turned}
 
 -- ---- what is allowed with more loans is with fewer
 
@@ -108,7 +108,7 @@ module _ (fewer s : BankerState) (good : IsWellFormed s) (well : IsWellFormed fe
             (same_or_not q p);
       }
 
--- ---- an arm that stands at a request goes on standing there while other arms step
+-- ---- an arm that is at a request stays there while other arms step
 
 module _ (code : ProcessCode) (ok : Checked code) (T T' : ℕ → Thread) where
   no_take : (a : ℕ) (bundle : Bundle) → ending a ≡ Takes bundle → ⊥
@@ -144,7 +144,7 @@ module _ (codes : List ProcessCode) (s : State CodeProcess) (pick : Pick) (code 
       ap (option_and_then (λ p. option_map (moved s pick) (code_step codes pick.process p pick.arm))) here
       ∙ (ap (λ c. option_map (moved s pick) (option_and_then (λ c. step_process c process pick.arm) c)) at ∙ ap (option_map (moved s pick)) steps)
 
-  -- the pick asks for a bundle where its arm is at the request
+  -- the pick asks for a bundle if its arm is at the request
   asks_at : (bundle : Bundle) (q : ℕ) (stack : List ℤ) → thread process.threads pick.arm ≡ Live q stack → InstrAt code q (Take bundle)
       → (move : Move CodeProcess) × (move_of (code_step codes) s pick ≡ Some move) × (move.effect ≡ Takes bundle)
   asks_at bundle q stack live instr =

@@ -8,7 +8,7 @@ use Rattle.pb_verifier.specs.Verified.{IsAnnotated}
 use Rattle.pb_verifier.proofs.LoansWithinClaims.{asks_within_claims, ends_or_goes_on, kept_reached, not_deadlocked}
 use Rattle.pb_verifier.proofs.LoansWithinClaims.{well_formed}
 use Rattle.pb_verifier.proofs.LiveSteps.{can_step}
-use Rattle.pb_verifier.proofs.Greatest.{least, one_depth, one_holdings, spread_once}
+use Rattle.pb_verifier.proofs.UniqueFacts.{least, one_depth, one_holdings, spread_once}
 use Rattle.pb_verifier.proofs.States.{checked, passes_tests}
 
 pub behaved : (code : Code) → IsAnnotated code → IsWellBehaved code

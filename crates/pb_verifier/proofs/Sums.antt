@@ -36,7 +36,7 @@ part_le (suc n) a f u = ⊎_elim
     (λ l. let e : a ≡ n = omega (arith, u, l) in let s : f a ≡ f n = ap f e in omega (arith, s))
     (cases_lt a n)
 
--- where all but one are the same
+-- if all but one are the same
 pub total_change : (n a : ℕ) (f g : ℕ → ℕ) → a < n → ((b : ℕ) → b ≢ a → g b ≡ f b) → total n g + f a ≡ total n f + g a
 total_change zero a f g u h = elim (let w : ⊥ = omega arith in w) [ ]
 total_change (suc n) a f g u h = ⊎_elim

@@ -13,8 +13,8 @@ use Rattle.pb_verifier.specs.Places.{arms}
 use Rattle.pb_verifier.specs.Faults.{in_holdings, in_joined, StayUnder}
 use Rattle.pb_verifier.proofs.Threads.{taken, given}
 use Rattle.pb_verifier.proofs.ArmPlaces.{Checked, place_has}
-use Rattle.pb_verifier.proofs.Turns.{Turn, runs, traps, forks, joins, stops, InOrder}
-use Rattle.pb_verifier.proofs.Order.{among_or_not, idle_before}
+use Rattle.pb_verifier.proofs.ThreadTurns.{Turn, runs, traps, forks, joins, stops, InOrder}
+use Rattle.pb_verifier.proofs.ThreadOrder.{among_or_not, idle_before}
 use Rattle.pb_verifier.proofs.Sums.{total, total_same, total_le, total_add, total_zero, total_swap, part_le}
 use Rattle.pb_verifier.proofs.Sums.{total_change, at_one, one_le, at_range, range_le, in_range}
 

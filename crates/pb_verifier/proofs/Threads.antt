@@ -1,5 +1,5 @@
 -- Several threads at once, and what an effect takes and gives.
-use Rattle.std.proofs.Common.{◌≡◌, ◌⊎◌, inl, inr, ⊎_elim, ℕ, zero, suc, ◌+◌, ◌<◌, ◌≤◌, List, [], ◌∷◌, length, get_or}
+use Rattle.std.proofs.Common.{◌≡◌, ◌⊎◌, inl, inr, ⊎_elim, ℕ, zero, suc, ◌+◌, ◌<◌, ◌≤◌, ℤ, List, [], ◌∷◌, length, get_or}
 use Rattle.std.proofs.Common.{set, refl, ◌∙◌, subst, arith, length-set, get_or-set_same, get_or-set_other}
 use Rattle.std.proofs.lemmas.Bool.{cases_lt}
 use Rattle.pb_base.specs.Bundle.{amount_in}
@@ -29,6 +29,14 @@ pub thread_past : (threads : List Thread) (a : ℕ) → length threads ≤ a →
 thread_past [] a h = refl
 thread_past (t ∷ threads) zero h = elim (let w : ⊥ = omega arith in w) [ ]
 thread_past (t ∷ threads) (suc a) h = thread_past threads a (omega arith)
+
+-- an arm that is live is one of the threads
+pub live_within : (threads : List Thread) (a place : ℕ) (stack : List ℤ) → thread threads a ≡ Live place stack → a < length threads
+live_within [] a place stack h = cc
+live_within (t ∷ threads) zero place stack h = omega arith
+live_within (t ∷ threads) (suc a) place stack h =
+    let lt : a < length threads = live_within threads a place stack h in
+    omega arith
 
 pub length-launch : (entries : List ℕ) (threads : List Thread) (first n : ℕ) → length (launch entries threads first n) ≡ length threads
 length-launch entries threads first zero = refl

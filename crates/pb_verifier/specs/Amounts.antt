@@ -1,5 +1,4 @@
--- Amounts of one resource at places, and peaks cut off above any claim, for the verifier's own functions: no
--- public contract cites this file.
+-- Amounts of one resource at places, and peaks cut off above any claim. No public contract cites this file.
 use Rattle.std.specs.Prelude.{◌≡◌, ◌≤◌, ◌<◌, ◌+◌, ◌-◌, ℕ, List, Option, length, min, option_map, unwrap_or}
 use Rattle.std.specs.Prelude.{slice_index}
 use Rattle.std.proofs.Common.{ap, arith}
@@ -9,6 +8,8 @@ use Rattle.pb_base.specs.Steppers.{Bundle}
 use Rattle.pb_code.specs.Code.{Instr, Push, Load, Store, Compute1, Compute2, Jump, JumpIfZero, PrintTop, Take, Give}
 use Rattle.pb_code.specs.Code.{Fork, Join, End, ProcessCode}
 use Rattle.pb_verifier.specs.declared.amounts.Amount.{Amount}
+use Rattle.pb_verifier.specs.declared.amounts.TheConstants.{MAX_HELD}
+use Rattle.pb_verifier.specs.declared.peaks.TheConstants.{OVER}
 use Rattle.pb_verifier.specs.Faults.{AreHoldings, in_joined}
 use Rattle.pb_verifier.specs.Places.{InstrAt, arms, IsInArm, Reached}
 use Rattle.pb_verifier.specs.Spread.{fact_at}
@@ -26,7 +27,7 @@ AmountFits (Compute2 op) x = Unit {0}
 AmountFits (Jump target) x = Unit {0}
 AmountFits (JumpIfZero target) x = Unit {0}
 AmountFits PrintTop x = Unit {0}
-AmountFits (Take bundle) x = amount_in bundle x.0 + x.1 ≤ 256000000
+AmountFits (Take bundle) x = amount_in bundle x.0 + x.1 ≤ MAX_HELD
 AmountFits (Give bundle) x = Unit {0}
 AmountFits (Fork first count) x = Unit {0}
 AmountFits (Join first count) x = Unit {0}
@@ -60,7 +61,7 @@ NeverTakes code r = (place : ℕ) (i : Instr) → InstrAt code place i → Takes
 
 -- nothing is held at entries
 pub first_amount : (first : Amount) → first.held ≡ 0 → (instrs : List Instr) (table : List (Option Amount))
-    → (first.held ≤ 256000000) × ((let x : ℕ × ℕ = (first.resource, first.held) in x) ≡ (first.resource, 0))
+    → (first.held ≤ MAX_HELD) × ((let x : ℕ × ℕ = (first.resource, first.held) in x) ≡ (first.resource, 0))
 first_amount first zero instrs table = (omega arith, ap (λ (n : ℕ). let x : ℕ × ℕ = (first.resource, n) in x) zero)
 
 -- how much a table says is held at a place
@@ -69,7 +70,7 @@ held_at table p = unwrap_or (option_map (λ a. a.held) (fact_at table p)) 0
 
 -- more than any claim
 abbrev pub clamped : ℕ → ℕ
-clamped n = min n 1000001
+clamped n = min n OVER
 
 -- the greatest amount that an arm and those that it awaits hold at a reached place of it
 pub record IsPeakOf (code : ProcessCode) (table : List (Option Amount)) (peak : ℕ → ℕ) (a greatest : ℕ)
@@ -82,5 +83,5 @@ pub record IsPeakOf (code : ProcessCode) (table : List (Option Amount)) (peak : 
 -- the peaks of the arms from one on, cut off
 pub record AreCutOff (code : ProcessCode) (from : ℕ) (peak : ℕ → ℕ) (peaks : List ℕ) : Type 0 where
   pub sized : length peaks ≡ MAX_ARMS
-  pub small : (b : ℕ) → slice_index peaks b ≤ 1000001
+  pub small : (b : ℕ) → slice_index peaks b ≤ OVER
   pub cut : (b : ℕ) → from ≤ b → b < arms code → slice_index peaks b ≡ clamped (peak b)

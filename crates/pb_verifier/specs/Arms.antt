@@ -1,4 +1,4 @@
--- The parts of sound arms and forks, for the verifier's own functions: no public contract cites this file.
+-- The parts of sound arms and forks. No public contract cites this file.
 use Rattle.std.specs.Prelude.{◌≡◌, ◌↔◌, ◌≤◌, ◌<◌, ◌⊎◌, ℕ, ◌+◌, Bool, true, false, List, length, slice_index_or, ⊤}
 use Rattle.pb_base.specs.declared.limits.TheConstants.{MAX_ARMS}
 use Rattle.pb_code.specs.Code.{Instr, Jump, JumpIfZero, Fork, Join, End, ProcessCode}

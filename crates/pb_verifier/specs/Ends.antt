@@ -1,4 +1,4 @@
--- Ends at which nothing is left, for the verifier's own functions: no public contract cites this file.
+-- Ends at which nothing is left. No public contract cites this file.
 use Rattle.std.specs.Prelude.{◌≡◌, Option, Some}
 use Rattle.pb_code.specs.Code.{Instr, End}
 use Rattle.pb_verifier.specs.declared.depths.Depth.{Depth}

@@ -1,5 +1,5 @@
--- The places and reached places of Places once more, as lists that the verifier can make, for its own
--- functions: no public contract cites this file. proofs/FaultFacts.antt shows that both are the same.
+-- The places and reached places of Places once more, as lists that the verifier can make. No public contract
+-- cites this file. proofs/FaultFacts.antt shows that both are the same.
 use Rattle.std.specs.Prelude.{◌≡◌, ℕ, ◌+◌, ◌<◌, ◌≤◌, ◌⊎◌, Bool, true, false, cond, List, [], ◌∷◌, ◌++◌, length}
 use Rattle.std.specs.Prelude.{Contains, slice_get, slice_index, slice_index_or, slice_set, Option, Some, None, IfSome}
 use Rattle.std.specs.Prelude.{option_to_list}

@@ -1,5 +1,4 @@
--- What one process adds to the faults of code, for the verifier's own functions: no public contract cites
--- this file.
+-- What one process adds to the faults of code. No public contract cites this file.
 use Rattle.std.specs.Prelude.{◌≡◌, ◌≤◌, ◌<◌, ◌⊎◌, ℕ, List, length, slice_index, Option, Some, ⊤}
 use Rattle.pb_base.specs.Steppers.{Bundle}
 use Rattle.pb_code.specs.Code.{ProcessCode}

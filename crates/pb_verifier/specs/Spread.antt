@@ -1,6 +1,6 @@
--- Facts that hold at places, spread from the entries along the code, for the verifier's own functions: no
--- public contract cites this file. Depths and holdings are here as the verifier computes them, and in Faults
--- as contracts speak of them; proofs/FaultFacts.antt shows that both are the same.
+-- Facts that hold at places, spread from the entries along the code. No public contract cites this file.
+-- Depths and holdings are here as the verifier computes them, and in Faults as contracts speak of them;
+-- proofs/FaultFacts.antt shows that both are the same.
 use Rattle.std.specs.Prelude.{◌≡◌, ℕ, suc, ◌+◌, ◌-◌, ◌<◌, ◌≤◌, List, [], ◌∷◌, length, Contains, slice_get}
 use Rattle.std.specs.Prelude.{slice_index, slice_index_or, slice_set, Option, Some, None, option_map, unwrap_or}
 use Rattle.pb_base.specs.declared.limits.TheConstants.{MAX_DEPTH, MAX_HOLDS}
@@ -110,7 +110,7 @@ pub record IsOpening {F : Type 0} (entries : List ℕ) (n : ℕ) (first : F) (ta
   pub started : (k : ℕ) → k < length entries → fact_at table (slice_index entries k) ≡ Some first
   pub only : (p : ℕ) (f : F) → fact_at table p ≡ Some f → Contains entries p × (f ≡ first)
 
--- what a table says, where `value` is what a fact in it means
+-- what a table says, if `value` is what a fact in it means
 abbrev pub notes_of : {F M : Type 0} → (F → M) → List (Option F) → ℕ → Option M
 notes_of value table p = option_map value (fact_at table p)
 

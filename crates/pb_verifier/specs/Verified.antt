@@ -51,8 +51,7 @@ IsFirstFault code fault =
     (IsFreeOf fault code → ⊥)
     × ((earlier : VerifyFault) → turn_of earlier < turn_of fault → IsFreeOf earlier code)
 
--- what a refusal says: the first fault, or that memory was refused, which may come before any of them is
--- found
+-- what a refusal says: the first fault, or out of memory, which may come before any of them is found
 abbrev pub IsRefusedFor : Code → VerifyFault → Type 0
 IsRefusedFor code fault = (fault ≡ NoMemory → ⊥) → IsFirstFault code fault
 

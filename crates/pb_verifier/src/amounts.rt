@@ -73,6 +73,7 @@ pub fn takes_any(code: &ProcessCode, resource: u8) -> bool
 
 impl Fact for Amount {
     ghost use Rattle.std.specs.Prelude.{refl};
+    ghost use Rattle.pb_verifier.specs.declared.amounts.TheConstants.{MAX_HELD};
     ghost use Rattle.pb_verifier.specs.Amounts.{first_amount};
 
     ghost Value = { ℕ × ℕ };
@@ -87,7 +88,7 @@ impl Fact for Amount {
 
     ghost value = { λ _ _ amount. (amount.resource, amount.held) };
 
-    ghost IsReadable = { λ _ _ amount. amount.held ≤ 256000000 };
+    ghost IsReadable = { λ _ _ amount. amount.held ≤ MAX_HELD };
 
     fn fits(self, code: &ProcessCode, _table: &[Option<Self>], instr: Instr) -> bool {
         match instr {
@@ -136,7 +137,7 @@ pub fn amounts(
         (notes_of (λ a. (a.resource, a.held)) table.items)) }
     ensures long { IfOk result (λ table. length table.items ≡ length (instrs_of code.now)) }
     ensures small { IfOk result (λ table. (p : ℕ) (a : Amount) → fact_at table.items p ≡ Some a
-        → a.held ≤ 256000000) }
+        → a.held ≤ MAX_HELD) }
 {
     let first = Amount { resource, held: 0 };
     match spread(alloc, &code.entries, code, order, first) {

@@ -32,7 +32,7 @@ fn earlier(found: Option<VerifyFault>, fault: VerifyFault) -> VerifyFault
     }
 }
 
-/// Returns whether this fault is that memory ran out.
+/// Returns whether this fault is `NoMemory`.
 fn is_memory(fault: VerifyFault) -> bool
     ensures { (result ≡ true) ↔ (fault ≡ VerifyFault.NoMemory) }
 {
@@ -78,8 +78,8 @@ fn check(alloc: Global, code: &Code) -> Result<Vec<Vec<u16>>, VerifyFault>
 
 /// Returns verified code, exactly if none of the faults is in it; else the code unchanged and its first
 /// fault, in the order of `VerifyFault`, each looked for over all processes before the next. `NoMemory` comes
-/// only if a growth was refused, and may come before a fault is found. (That time and memory are linear in
-/// the size of the code is by construction, and not proved.)
+/// only if `alloc` is out of memory, and may come before a fault is found. (That time and memory are linear
+/// in the size of the code is by construction, and not proved.)
 pub fn verify(alloc: Global, code: Code) -> Result<Verified, (Code, VerifyFault)>
     ensures code { IfOk result (λ verified. verified.code ≡ code_view code) }
     ensures annotated { IfOk result (λ verified. IsAnnotated verified.code) }

@@ -1,4 +1,4 @@
-//! Why code is refused.
+//! The faults of code.
 
 /// Why code is refused. The faults are looked for in this order, each over all processes before the next.
 // To add one: specs/Verified, checking.rt, Refusals and refusal.rt of pb_engines; docs/CHANGING.md.
@@ -33,7 +33,7 @@ pub enum VerifyFault {
     /// A process can hold more of a resource than it claims.
     #[error("a peak is over its claim")]
     OverClaim,
-    /// A growth was refused.
+    /// Out of memory.
     #[error("out of memory")]
     NoMemory,
 }

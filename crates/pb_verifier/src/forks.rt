@@ -167,7 +167,7 @@ fn all_fork_later(code: &ProcessCode) -> bool
     true
 }
 
-/// Returns whether forks and joins stand in pairs, and no jump leads to a join.
+/// Returns whether forks and joins come in pairs, and no jump leads to a join.
 fn are_paired(code: &ProcessCode) -> bool
     requires { length (instrs_of code.now) ≤ MAX_PLACES }
     ensures { (result ≡ true)

@@ -111,7 +111,7 @@ fn root_peak(code: &ProcessCode, table: &[Option<Amount>], resource: u8) -> u64
     requires amounts { IsTableOf (process_view code.now) TurnsAmount (resource, 0)
         (notes_of (λ a. (a.resource, a.held)) table.now) }
     requires long { length table.now ≡ length (instrs_of code.now) }
-    requires little { (p : ℕ) (a : Amount) → fact_at table.now p ≡ Some a → a.held ≤ 256000000 }
+    requires little { (p : ℕ) (a : Amount) → fact_at table.now p ≡ Some a → a.held ≤ MAX_HELD }
     ensures { (peak : ℕ → ℕ) × (result ≡ clamped (peak 0))
         × ((a : ℕ) → a < arms (process_view code.now) → IsPeakOf (process_view code.now) table.now peak a (peak a)) }
 {
@@ -138,7 +138,7 @@ fn arm_peak(
     requires amounts { IsTableOf (process_view code.now) TurnsAmount (resource, 0)
         (notes_of (λ a. (a.resource, a.held)) table.now) }
     requires long { length table.now ≡ length (instrs_of code.now) }
-    requires little { (p : ℕ) (a : Amount) → fact_at table.now p ≡ Some a → a.held ≤ 256000000 }
+    requires little { (p : ℕ) (a : Amount) → fact_at table.now p ≡ Some a → a.held ≤ MAX_HELD }
     requires sized { length peaks.now ≡ MAX_ARMS }
     requires cut { (b : ℕ) → slice_index peaks.now b ≤ OVER }
     ensures peak { (peak : ℕ → ℕ) → AreCutOff (process_view code.now) (arm + 1) peak peaks.now

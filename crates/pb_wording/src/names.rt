@@ -176,7 +176,7 @@ fn follow_brackets(
     Ok(())
 }
 
-// Counts one more arm of the statement that was opened last, and returns how many it has; 0 if it is no
+// Counts one more arm of the statement that was opened last, and returns how many it has; 0 if it is not a
 // parbegin.
 fn next_arm(open: &mut Vec<Option<usize>>) -> usize {
     match open.last_mut() {

@@ -83,7 +83,7 @@ fn arm_wording(
     Ok(wording)
 }
 
-// Returns the machine behind the picks of pick lines; none if there is too little memory.
+// Returns the machine behind the picks of pick lines; none if out of memory.
 fn machine_after(alloc: Global, verified: &Verified, lines: &[u8]) -> Option<Machine> {
     let Ok(picks) = read_picks(alloc, verified.code(), lines) else {
         return None;

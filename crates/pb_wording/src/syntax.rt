@@ -1,4 +1,4 @@
-//! The wording of a fault of the grammar: what may stand where the text goes wrong.
+//! The wording of a fault of the grammar: what may come where the text goes wrong.
 
 use crate::tokens::{is_at, process_before, text_at, token_at};
 use crate::wording::{Shown, Wording};
@@ -7,7 +7,7 @@ use pb_lexer::{Kind, LexFault, Mark, Token, lex};
 use pb_parser::{ParseFault, parse};
 use std::alloc::{AllocError, Global};
 
-// What may stand at a place, tried by one spelling of it.
+// What may come at a place of the text, tried by one spelling of it.
 struct Probe {
     spelling: &'static str,
     name: &'static str,
@@ -17,15 +17,15 @@ struct Probe {
 // The longer phrases of which a token may be the beginning.
 #[derive(Clone, Copy, PartialEq, Eq)]
 enum Part {
-    // It is told wherever it may stand.
+    // It is shown wherever it may come.
     Alone,
-    // It is not told where a statement may stand.
+    // It is not shown where a statement may come.
     Statement,
-    // It is not told where an expression may stand.
+    // It is not shown where an expression may come.
     Expression,
-    // It is not told where a statement or an expression may stand.
+    // It is not shown where a statement or an expression may come.
     Either,
-    // It is not told where an operator may stand.
+    // It is not shown where an operator may come.
     Operator,
 }
 
@@ -170,8 +170,8 @@ fn syntax_wording(alloc: Global, text: &[u8], at: usize) -> Result<Wording, NoMe
     }
 }
 
-// Returns the wording of the token with a number, or of the end, which cannot stand where it is, with the
-// line that tells what may.
+// Returns the wording of the token with a number, or of the end, which cannot come where it is, with the line
+// that says what may.
 fn unexpected(
     alloc: Global,
     tokens: &[Token],
@@ -199,7 +199,7 @@ fn unexpected_in_words(
     }
 }
 
-// Returns the line that tells what may stand behind the first part of a text; nothing if no token may.
+// Returns the line that says what may come behind the first part of a text; nothing if no token may.
 fn expected(alloc: Global, text: &[u8]) -> Result<Option<String>, NoMemory> {
     let phrases = phrases_behind(alloc, text)?;
     let mut line = String::from_str(alloc, "expected: ")?;
@@ -220,7 +220,7 @@ fn phrases_behind(alloc: Global, text: &[u8]) -> Result<Phrases, NoMemory> {
     })
 }
 
-// Puts what may stand behind the first part of a text behind the beginning of a line.
+// Puts what may come behind the first part of a text behind the beginning of a line.
 fn put_choices(
     alloc: Global,
     line: &mut String,
@@ -237,8 +237,8 @@ fn put_choices(
     Ok(())
 }
 
-// Puts what a probe tries behind a line that was `empty` bytes long, if it may stand behind the first part of
-// a text and is told beside these phrases.
+// Puts what a probe tries behind a line that was `empty` bytes long, if it may come behind the first part of
+// a text and is shown beside these phrases.
 fn put_probe(
     alloc: Global,
     line: &mut String,
@@ -263,7 +263,7 @@ fn put_choice(line: &mut String, empty: usize, is_one: bool, choice: &str) -> Re
     Ok(())
 }
 
-// Returns whether what is part of these phrases is told beside them.
+// Returns whether what is part of these phrases is shown beside them.
 fn is_told(part_of: Part, phrases: Phrases) -> bool {
     match part_of {
         Part::Alone => true,
@@ -274,7 +274,7 @@ fn is_told(part_of: Part, phrases: Phrases) -> bool {
     }
 }
 
-// Returns whether a token may stand behind the first part of a text: some program begins so.
+// Returns whether a token may come behind the first part of a text: some program begins so.
 fn may_follow(alloc: Global, text: &[u8], token: &str) -> Result<bool, NoMemory> {
     let mut longer = Vec::from_slice(alloc, text)?;
     longer.push(b' ')?;
@@ -297,7 +297,7 @@ fn begins_program(alloc: Global, text: &[u8]) -> Result<bool, NoMemory> {
     }
 }
 
-// Returns what is usually meant if the token with a number cannot stand.
+// Returns what is usually meant if the token with a number cannot come where it is.
 fn usual_mistake(tokens: &[Token], found: Option<usize>) -> Option<&'static str> {
     let number = found?;
     let before = number.checked_sub(1)?;

@@ -1,4 +1,4 @@
-//! The places of the tokens of a text.
+//! The tokens of a text, by number and by offset.
 
 use pb_lexer::{Kind, Mark, Token};
 

@@ -28,8 +28,8 @@ pub struct Spot {
     pub at: usize,
 }
 
-/// What a message says beside the code and the place of a fault. Parts are added without an answer; if there
-/// was too little memory for one of them it makes no message.
+/// What a message says beside the code and the place of a fault. Adding a part returns nothing; if out of
+/// memory for one of them it makes no message.
 #[derive(Drop)]
 pub struct Wording {
     /// The fault in words, without a line feed.

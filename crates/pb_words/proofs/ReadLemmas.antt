@@ -1,4 +1,4 @@
--- What clap's answers say of the rows that it matched, and of this command line.
+-- What clap's results say of the rows that it matched, and of this command line.
 use Rattle.std.proofs.Common.{◌≡◌, ◌↔◌, ◌<◌, ◌≤◌, ◌^◌, ℕ, List, [], Option, Some, None, Result, Ok, Err, refl, sym}
 use Rattle.std.proofs.Common.{ap, subst, ◌∙◌, true, false, Bool, MatchBool, option_map, inl, inr, IfNone, IfSome}
 use Rattle.std.proofs.Common.{codes, get_or, unwrap_or, arith}
@@ -43,7 +43,7 @@ number_read gives f id n reads none value = go (one_text f id) refl where
   go None is = absurd (cc (none is))
   go (Some t) is = let read = reads t (value t is) in (t, sym (one_text-rows f id) ∙ is, read.0, read.1)
 
--- where clap reads no number, the rows have none that fits
+-- if clap reads no number, the rows have none that fits
 pub no_number : {E : Type 0} (gives : Text → Result ℕ E → Type 0) (f : Found) (id : Text) (n : ℕ)
     → ((t : Text) (e : E) → gives t (Err e) → IsNumeral 10 (without_leading_plus t) × (digits_value 10 (without_leading_plus t) < 2 ^ 64) → ⊥)
     → ((t : Text) → one_text f id ≡ Some t → ReadsOne gives t None)
@@ -79,7 +79,7 @@ flag_read f id set none value = go (one_text f id) refl
         let says = text_is set t (value t is) in
         (λ yes. here ∙ says.0 yes, λ given. says.1 (sym here ∙ given))
 
--- where none is read, no flag is given
+-- if none is read, no flag is given
 pub flag_unread : {E : Type 0} (gives : Text → Result Bool E → Type 0) (f : Found) (id : Text)
     → ((t : Text) (e : E) → gives t (Err e) → t ≡ codes "true" → ⊥)
     → ((t : Text) → one_text f id ≡ Some t → ReadsOne gives t None) → HasFlag (rows_of f) id false
@@ -88,8 +88,8 @@ flag_unread gives f id refused value = (
   λ given. let read = value (codes "true") (one_text-rows f id ∙ given) in absurd (refused (codes "true") read.0 read.1 refl),
 )
 
--- where nothing is read from the name and the rows of the subcommand that was entered, nothing is read from
--- the matches
+-- if nothing is read from the name and the rows of the subcommand that was entered, nothing is read from the
+-- matches
 pub nothing_read : (m : Option (Text × List Row)) (name : Text) (rows : List Row) → Some name ≡ option_map (λ p. p.0) m
     → Some rows ≡ option_map (λ p. p.1) m → ((o : Options) → IsReadFrom name rows o → ⊥) → (o : Options) → IsReadFromMatches m o → ⊥
 nothing_read m name rows named is none o (other, found, entered, says) =
@@ -297,7 +297,7 @@ pub lend_unread : (E : Type 0) (f : Found)
 lend_unread E f value lend has =
     (value (lend_word lend) (one_text-rows f (codes "lend") ∙ has)).1 lend refl
 
--- where neither is read, nothing is
+-- if neither is read, nothing is
 pub no_check_numbers : (rows : List Row) → ((n : ℕ) → HasNumberIn rows (codes "heap") 1024 16777216 n → ⊥)
     → (one_of (codes "heap") rows ≡ None → ⊥) → (o : CheckOptions) → HasCheckNumbers rows o → ⊥
 no_check_numbers rows none given o says = go o.heap refl says
@@ -306,7 +306,7 @@ no_check_numbers rows none given o says = go o.heap refl says
     go None is h = given h
     go (Some n) is h = none n (h, o.heap_suffices n is, o.heap_fits n is)
 
--- where a seed is given and none is read, nothing is
+-- if a seed is given and none is read, nothing is
 pub no_record_seed : (rows : List Row) → ((n : ℕ) → HasNumberIn rows (codes "seed") 0 18446744073709551615 n → ⊥)
     → (one_of (codes "seed") rows ≡ None → ⊥) → (o : RecordOptions) → HasRecordNumbers rows o → ⊥
 no_record_seed rows none given o says = go o.seed says.1 says.2
@@ -315,7 +315,7 @@ no_record_seed rows none given o says = go o.seed says.1 says.2
     go None h fits = given h
     go (Some n) h fits = none n (h, omega arith, fits)
 
--- where nothing is read of an option, the rows have no text for it
+-- if nothing is read of an option, the rows have no text for it
 pub no_text : {E : Type 0} (gives : Text → Result ℕ E → Type 0) (f : Found) (id : Text) (read : Result (Option ℕ) E) → read ≡ Ok None
     → ((t : Text) → one_text f id ≡ Some t → TriesOne gives t read) → one_of id (rows_of f) ≡ None
 no_text gives f id read is value = sym (one_text-rows f id) ∙ go (one_text f id) refl
@@ -324,7 +324,7 @@ no_text gives f id read is value = sym (one_text-rows f id) ∙ go (one_text f i
     go None none = none
     go (Some t) some = elim (subst (TriesOne gives t) is (value t some)) [ ]
 
--- where something is read of it, they have
+-- if something is read of it, they have
 pub some_text : {E : Type 0} (f : Found) (id : Text) (read : Result (Option ℕ) E) → (one_text f id ≡ None → read ≡ Ok None)
     → (read ≡ Ok None → ⊥) → one_of id (rows_of f) ≡ None → ⊥
 some_text f id read none something absent = something (none (one_text-rows f id ∙ absent))
@@ -349,7 +349,7 @@ unfolding command_line with_text_commands with_code_commands with_object_command
     record_command replay_command run_command with_other_commands explain_command with_run_rules clap_on_literals
 is_free_command_line = refl
 
--- a fact that holds anyway holds where there is no value
+-- a fact that holds anyway holds if there is no value
 pub IfNone-of : {X P : Type 0} (o : Option X) → P → IfNone o P
 IfNone-of None p = p
 IfNone-of (Some x) p = tt

@@ -151,7 +151,7 @@ fn debug_picks<'a>(alloc: Global) -> Result<Command<'a>, AllocError>
 {
     let live = flag(alloc, "live").help("Answer each command as it comes");
     let debug = Command::new(alloc, "debug").about(
-        "Carry out the commands after a program, its picks and lines of %% on standard input",
+        "Debug a program on standard input along the picks and by the commands that follow, each after a line %%",
     );
     with_option(debug, live)
 }
@@ -161,7 +161,7 @@ fn draw_picks<'a>(alloc: Global) -> Result<Command<'a>, AllocError>
     ensures { IfOk result (IsCommand draw_command) }
 {
     Ok(Command::new(alloc, "draw").about(
-        "Draw the picks of the lines after a program and a line of %% on standard input",
+        "Draw the picks that follow a program and a line %% on standard input",
     ))
 }
 
@@ -236,7 +236,7 @@ fn replay_picks<'a>(alloc: Global) -> Result<Command<'a>, AllocError>
     ensures { IfOk result (IsCommand replay_command) }
 {
     Ok(Command::new(alloc, "replay").about(
-        "Make the picks of the lines after a program and a line of %% on standard input",
+        "Replay the picks that follow a program and a line %% on standard input",
     ))
 }
 

@@ -1,4 +1,4 @@
-//! Why workers report nothing.
+//! The faults of a run by workers.
 
 /// Why workers report nothing.
 #[derive(Clone, Copy, Debug, PartialEq, Eq, thiserror::Error)]

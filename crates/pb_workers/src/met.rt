@@ -13,7 +13,7 @@ pub const NOTHING: Met = Met {
     stranger: false,
 };
 
-/// A worker ran out of memory.
+/// A worker is out of memory.
 pub const NO_MEMORY: Met = Met {
     no_memory: true,
     stranger: false,

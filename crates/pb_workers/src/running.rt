@@ -19,7 +19,7 @@ use std::thread;
 use std::thread::Threads;
 
 /// Runs the code by `workers` threads, each of which takes stretches of at most `quantum` picks, until all is
-/// over or `limit` picks were made. A worker that runs out of memory gives its stretch back and ends, and the
+/// over or `limit` picks were made. A worker that is out of memory gives its stretch back and ends, and the
 /// others go on.
 pub fn run_workers<G: Gate, R: Threads + Wait + Sync>(
     rt: &R,

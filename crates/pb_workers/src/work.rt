@@ -60,8 +60,8 @@ fn work_of<'v, C: CodeBrand>(taken: Result<Taken<'v, C>, NoMemory>) -> Result<St
     }
 }
 
-/// Deals with a stretch that was not committed: it is given back if there was no memory, and given up if it
-/// is a stranger.
+/// Deals with a stretch that was not committed: it is given back if out of memory, and given up if it is a
+/// stranger.
 fn hand_back<'v, C: CodeBrand, R: Wait>(
     rt: &R,
     shared: &Shared<'v, C>,

@@ -30,7 +30,7 @@ impl<'t> MemoryInput<'t> {
         MemoryInput { rest: bytes }
     }
 
-    /// Moves the next bytes, as many as fit, into the front of `buf`, and says how many.
+    /// Moves the next bytes, as many as fit, into the front of `buf`, and returns how many.
     pub(crate) fn give(&mut self, buf: &mut [u8]) -> usize
         ensures count { result ≡ min (length buf.new) (length self.old) }
         ensures given { take result self.old ≡ take result buf.new }
@@ -74,7 +74,7 @@ impl Model for MemoryOutput {
 }
 
 impl MemoryOutput {
-    /// Returns an output that takes `room` bytes. They are set aside now, or the answer is `NoMemory`.
+    /// Returns an output that takes `room` bytes. They are set aside now, or the result is `NoMemory`.
     pub fn new(alloc: Global, room: usize) -> Result<MemoryOutput, NoMemory>
         ensures { IfOk result (λ r. r ≡ record { bytes = []; room = room; failures = 0 }) }
     {

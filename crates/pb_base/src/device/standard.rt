@@ -13,7 +13,7 @@ pub struct StandardInput {
 }
 
 impl StandardInput {
-    /// No failure is counted yet.
+    /// Returns the device of a stream, with no failure counted yet.
     pub fn new(stream: Stdin) -> StandardInput
         ensures { result.failures ≡ 0 }
     {
@@ -68,7 +68,7 @@ pub struct StandardOutput {
 }
 
 impl StandardOutput {
-    /// No failure is counted yet.
+    /// Returns the device of a stream, with no failure counted yet.
     pub fn new(stream: Stdout) -> StandardOutput
         ensures { result.failures ≡ 0 }
     {

@@ -29,7 +29,7 @@ several between `begin` and `end`, or use an integer again.",
 pub static N2: Entry = Entry {
     summary: "a name that is declared twice",
     meaning: "Two resources, two processes, or two integers of one process have the same name.
-The place is that of the second declaration.",
+The offset is that of the second declaration.",
     example: Some(Example {
         command: "check",
         input: ExampleInput::Text(
@@ -48,7 +48,7 @@ may an integer, a resource and a process.",
 
 pub static N3: Entry = Entry {
     summary: "a name that is not declared",
-    meaning: "The name at this place is used as an integer or as a resource, and its process has
+    meaning: "The name at this offset is used as an integer or as a resource, and its process has
 no such integer, or the program no such resource. Capital letters count, and the
 integers of another process cannot be used.",
     example: Some(Example {
@@ -70,7 +70,7 @@ end
 pub static N4: Entry = Entry {
     summary: "an amount that is out of range",
     meaning: "There are 0 to 1,000,000 of a resource, and a hold has 1 to 1,000,000 of each of
-its resources. The place is that of the number.",
+its resources. The offset is that of the number.",
     example: Some(Example {
         command: "check",
         input: ExampleInput::Text(
@@ -89,7 +89,7 @@ and `od`.",
 
 pub static N6: Entry = Entry {
     summary: "a resource that is named twice in a hold",
-    meaning: "A hold names each of its resources once, with the whole amount. The place is that
+    meaning: "A hold names each of its resources once, with the whole amount. The offset is that
 of the second name.",
     example: Some(Example {
         command: "check",

@@ -4,7 +4,7 @@ use super::{Entry, Example, ExampleInput};
 
 pub static O1: Entry = Entry {
     summary: "a line of an object that is not of its form",
-    meaning: "The line that begins at this place is not the line that an object has there, is
+    meaning: "The line that begins at this offset is not the line that an object has there, is
 not ended by a line feed, is missing, or comes after the end. Each object has one
 spelling: single spaces, and no zeros before a number.",
     example: Some(Example {
@@ -23,7 +23,7 @@ has the form of each.",
 
 pub static O2: Entry = Entry {
     summary: "a number of an object that is out of range",
-    meaning: "The line that begins at this place has its form, and a number in it is out of
+    meaning: "The line that begins at this offset has its form, and a number in it is out of
 range: an object has at most 16 resources and 64 processes, and a process at most
 64 integers, 64 arms and 40,000 instructions. At 0 it also says that the object is
 over 4,194,304 bytes.",

@@ -20,9 +20,9 @@ repeated, or split the program.",
 
 pub static L2: Entry = Entry {
     summary: "a byte that is not allowed",
-    meaning: "The byte at this place is none that a text may have (32 to 126, tab, line feed
-and carriage return), or one at which no token, blank or comment begins, such as
-`%`, `!`, a lone `:` or a lone `/`. Places are counted in bytes, from 0.",
+    meaning: "A text may not have the byte at this offset (it may have 32 to 126, tab, line feed
+and carriage return), or no token, blank or comment begins at it, as at `%`, `!`, a
+lone `:` or a lone `/`. Offsets are counted in bytes, from 0.",
     example: Some(Example {
         command: "check",
         input: ExampleInput::Text(
@@ -39,7 +39,7 @@ either.",
 pub static L3: Entry = Entry {
     summary: "a number that is too large",
     meaning: "A number of a text is at most 9223372036854775807, the greatest integer of 64
-bits with a sign. The place is that of its first digit.",
+bits with a sign. The offset is that of its first digit.",
     example: Some(Example {
         command: "check",
         input: ExampleInput::Text(
@@ -53,7 +53,7 @@ bits with a sign. The place is that of its first digit.",
 
 pub static L4: Entry = Entry {
     summary: "a name that is too long",
-    meaning: "A name has at most 32 bytes. The place is that of its first byte.",
+    meaning: "A name has at most 32 bytes. The offset is that of its first byte.",
     example: Some(Example {
         command: "check",
         input: ExampleInput::Text(
@@ -71,7 +71,7 @@ end
 
 pub static P1: Entry = Entry {
     summary: "the text is not a program",
-    meaning: "The tokens do not follow the grammar. The place is the start of the first token
+    meaning: "The tokens do not follow the grammar. The offset is the start of the first token
 that cannot be there after those before it; if the text only ends too early,
 it is the end of the last token.",
     example: Some(Example {
@@ -82,7 +82,7 @@ it is the end of the last token.",
         ),
         line: "refused P1 at 25",
     }),
-    mend: "Look at this place, and just before it. A semicolon comes between statements, and
+    mend: "Look at this offset, and just before it. A semicolon comes between statements, and
 not behind the last one, as in the example; `fi`, `od`, `parend` or `end` may be
 missing, or `=` may be written for `:=`. Integers are declared right behind the
 `begin` of their process, and resources before the first process. The grammar is

@@ -7,14 +7,15 @@ ghost use Rattle.pb_rewrite.specs.Sources.{FitsClaims, IsSource};
 use crate::agreement::runs::is_silent;
 use crate::agreement::sides::{Program, Seen, program_of, step_both};
 use crate::agreement::states::{first_difference, same_loans};
-use crate::texts::{DEVICES, FAULT, INCREMENTS, NESTED};
+use crate::texts::{FAULT, INCREMENTS, NESTED};
 use pb_base::{FaultKind, NoMemory, Pick};
 use pb_codegen::Compiled;
+use pb_example_texts::first::DEVICES;
 use pb_machine::Machine;
 use pb_rewrite::Source;
 use std::alloc::Global;
 
-/// So many picks of one arm of a process: the process, the arm, and how many.
+/// Picks of one arm of a process: the process, the arm, and their number.
 type Turn = (u8, u8, usize);
 
 /// Makes the picks of a turn on both sides, and adds what they show, if it is more than a silent step.

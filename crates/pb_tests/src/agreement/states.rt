@@ -12,7 +12,7 @@ use std::alloc::Global;
 /// In what the two sides differ.
 #[derive(Clone, Copy)]
 pub(super) enum Difference {
-    /// In the answer to a pick.
+    /// In the result of a pick.
     Answer,
     /// In the integers of a process.
     Integers,

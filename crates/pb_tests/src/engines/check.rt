@@ -2,12 +2,13 @@
 
 ghost use Rattle.std.specs.Prelude.{◌≡◌, ◌≤◌, ℕ, Some};
 
-use crate::texts::{HELLO, repeated};
+use crate::texts::repeated;
 use pb_base::device::{MemoryInput, MemoryOutput};
 use pb_engines::{CheckOptions, Status, check_engine};
+use pb_example_texts::first::HELLO;
 use std::alloc::Global;
 
-/// Returns whether this status and these lines are the answer to an input.
+/// Returns whether this status and these lines are what `check` writes of an input.
 fn answers(alloc: Global, heap: Option<u64>, text: &[u8], status: Status, said: &[u8]) -> bool
     requires suffices { (size : ℕ) → heap ≡ Some size → 1024 ≤ size }
     requires fits { (size : ℕ) → heap ≡ Some size → size ≤ 16777216 }

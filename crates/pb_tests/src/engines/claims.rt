@@ -1,11 +1,12 @@
 //! The claims of texts.
 
-use crate::texts::{DEVICES, EXAMPLES, PROGRAMS};
+use crate::texts::{EXAMPLES, PROGRAMS};
 use pb_base::device::{MemoryInput, MemoryOutput};
 use pb_engines::{Status, claims_engine};
+use pb_example_texts::first::DEVICES;
 use std::alloc::Global;
 
-/// Returns whether this status and these lines are the answer to a text.
+/// Returns whether this status and these lines are what `claims` writes of a text.
 fn answers(alloc: Global, text: &[u8], status: Status, said: &[u8]) -> bool {
     let mut input = MemoryInput::new(text);
     match MemoryOutput::new(alloc, 256) {

@@ -1,12 +1,12 @@
 //! Engines whose input or output fails.
 
 use crate::objects::FIRST;
-use crate::texts::HELLO;
 use pb_base::device::{FaultyInput, MemoryInput, MemoryOutput};
 use pb_engines::{
     CheckOptions, EmitOptions, RecordOptions, RunOptions, Status, check_engine, claims_engine,
     emit_engine, exec_engine, migrate_engine, record_engine, replay_engine, run_engine,
 };
+use pb_example_texts::first::HELLO;
 use pb_object::Format;
 use std::sync::Wait;
 use std::thread::Threads;
@@ -30,7 +30,7 @@ enum Engine {
     Run,
 }
 
-/// Returns the answer of an engine.
+/// Returns the status with which an engine ends.
 fn answer(
     rt: &(impl AllocGlobal + Threads + Wait + Sync),
     engine: Engine,

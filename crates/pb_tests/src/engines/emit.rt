@@ -7,7 +7,7 @@ use pb_engines::{EmitOptions, Status, emit_engine};
 use pb_object::Format;
 use std::alloc::Global;
 
-/// Returns whether this status and this text are the answer to a text.
+/// Returns whether this status and this text are what `emit` writes of a text.
 fn answers(alloc: Global, object: Format, text: &[u8], status: Status, said: &[u8]) -> bool {
     let mut input = MemoryInput::new(text);
     match MemoryOutput::new(alloc, 256) {

@@ -13,7 +13,7 @@ const SEVEN: RunOptions = RunOptions {
     steps: 7,
 };
 
-/// Returns whether this status and these lines are the answer to an object.
+/// Returns whether this status and these lines are what `exec` writes of an object.
 fn answers(
     rt: &(impl AllocGlobal + Threads + Wait + Sync),
     object: &[u8],

@@ -5,7 +5,7 @@ use pb_base::device::{MemoryInput, MemoryOutput};
 use pb_engines::{Status, migrate_engine};
 use std::alloc::Global;
 
-/// Returns whether this status and this text are the answer to an object.
+/// Returns whether this status and this text are what `migrate` writes of an object.
 fn answers(alloc: Global, object: &[u8], status: Status, said: &[u8]) -> bool {
     let mut input = MemoryInput::new(object);
     match MemoryOutput::new(alloc, 256) {

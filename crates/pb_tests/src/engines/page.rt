@@ -21,7 +21,7 @@ fn writes_when_finished(rt: HostRuntime) {
     assert!(rt; is_written_when_finished(rt.alloc()) == Some(true));
 }
 
-/// Says 600 lines of eight bytes.
+/// Writes 600 lines of eight bytes.
 fn say_lines(page: &mut Page, output: &mut MemoryOutput) -> Option<()> {
     for _ in 0..600 {
         page.say_line(output, b"1234567").ok()?;

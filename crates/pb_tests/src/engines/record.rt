@@ -2,9 +2,10 @@
 
 ghost use Rattle.std.specs.Prelude.{◌≡◌, ◌≤◌};
 
-use crate::texts::{DEVICES, FAULT, HELLO, INCREMENTS, LOST, LOST_RUN, NESTED};
+use crate::texts::{FAULT, INCREMENTS, NESTED};
 use pb_base::device::{MemoryInput, MemoryOutput};
 use pb_engines::{RecordOptions, RunOptions, Status, record_engine, replay_engine, run_engine};
+use pb_example_texts::first::{DEVICES, HELLO, LOST, LOST_RUN};
 use std::sync::Wait;
 use std::thread::Threads;
 
@@ -39,7 +40,7 @@ fn recorded(
     Some((status, output))
 }
 
-/// Returns whether this text, written with the status `Done`, is the answer to a text.
+/// Returns whether `record` writes this of a text, with the status `Done`.
 fn writes(
     rt: &(impl AllocGlobal + Threads + Wait + Sync),
     text: &[u8],

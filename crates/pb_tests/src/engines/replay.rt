@@ -1,15 +1,16 @@
 //! Picks behind texts, made again.
 
-use crate::texts::{DEVICES, LOST_RUN, repeated};
+use crate::texts::repeated;
 use pb_base::device::{MemoryInput, MemoryOutput};
 use pb_engines::{Status, replay_engine};
+use pb_example_texts::first::{DEVICES, LOST_RUN};
 use std::alloc::Global;
 
 /// Two arms add 1 to the same integer, which is printed then.
 const INCREMENTS: &[u8] =
     b"process p begin integer x; parbegin x := x + 1; x := x + 1 parend; print x end\n%%\n";
 
-/// Returns whether this status and these lines are the answer to a text and the lines behind it.
+/// Returns whether this status and these lines are what `replay` writes of a text and the lines behind it.
 fn answers(alloc: Global, text: &[u8], lines: &[u8], status: Status, said: &[u8]) -> bool {
     let Ok(whole) = repeated(alloc, text, lines, 1, b"") else {
         return false;

@@ -1,8 +1,9 @@
 //! Texts that are run, and what is written of them.
 
-use crate::texts::{EXAMPLES, FAULT, HELLO, INCREMENTS, PROGRAMS, repeated};
+use crate::texts::{EXAMPLES, FAULT, INCREMENTS, PROGRAMS, repeated};
 use pb_base::device::{MemoryInput, MemoryOutput};
 use pb_engines::{RunOptions, Status, run_engine};
+use pb_example_texts::first::HELLO;
 use std::sync::Wait;
 use std::thread::Threads;
 
@@ -146,7 +147,7 @@ done
     ),
 ];
 
-/// Returns whether this status and these lines are the answer to a text.
+/// Returns whether this status and these lines are what `run` writes of a text.
 fn answers(
     rt: &(impl AllocGlobal + Threads + Wait + Sync),
     options: RunOptions,

@@ -18,7 +18,7 @@ fn are_brackets(tokens: &[Token<'_>], brackets: usize) -> bool {
 }
 
 /// Returns whether a text of `brackets` brackets is cut in a heap of `size` bytes; if not, it is out of
-/// memory. There is no answer if it is cut otherwise, or for another fault.
+/// memory. Returns nothing if it is cut otherwise, or for another fault.
 fn fits(alloc: Global, size: usize, text: &[u8], brackets: usize) -> Option<bool> {
     let Ok(heap) = LocalHeap::new(alloc, size) else {
         return None;

@@ -13,8 +13,8 @@ while x < 3 do x := x + 1 od; if x = 3 then print x else y := 1 fi; hold 1 of ta
 parbegin print z; hold 1 of tape do skip od; parbegin print 1; print 2 parend parend od end \
 process q begin integer a, b, c, d, e, f, g, h, i; hold 2 of disk do print a + i od end";
 
-/// Returns whether the program is numbered in a heap; if not, it is out of memory. There is no answer if it
-/// is numbered otherwise, or for another fault.
+/// Returns whether the program is numbered in a heap; if not, it is out of memory. Returns nothing if it is
+/// numbered otherwise, or for another fault.
 fn fits_in<'a>(heap: &'a LocalHeap, tree: &Program<&'a LocalHeap>) -> Option<bool> {
     if !is_complete(tree) {
         return None;

@@ -91,8 +91,8 @@ fn makes_the_same_tree_in_each_memory(rt: HostRuntime) {
     assert!(rt; are_same_if_long(rt.alloc(), &heap));
 }
 
-/// Returns whether the tokens are parsed in a heap of `size` bytes; if not, they are out of memory. There is
-/// no answer if the tree is not the expected one, or for another fault.
+/// Returns whether the tokens are parsed in a heap of `size` bytes; if not, they are out of memory. Returns
+/// nothing if the tree is not the expected one, or for another fault.
 fn fits(
     alloc: Global,
     size: usize,

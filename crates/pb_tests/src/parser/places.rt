@@ -1,5 +1,5 @@
-//! A program that uses every production, and the place of the fault where one of its tokens is left out or
-//! is there twice.
+//! A program that uses every production, and the offset of the fault if one of its tokens is left out or is
+//! there twice.
 
 /// Resources and processes, both forms of each production, and an operator of each level.
 pub(super) const TEXT: &[u8] = b"resource r = 3;
@@ -17,10 +17,10 @@ process q begin if a > b then skip fi; print a <= b end
 /// No fault: the tokens are a program still.
 pub(super) const FINE: usize = 65_537;
 
-/// For each token: the place of the fault if it is left out, and if it is there twice.
+/// For each token: the offset of the fault if it is left out, and if it is there twice.
 ///
-/// The place is where the first token starts with which the tokens so far begin no program, found by a chart
-/// of all readings of the grammar.
+/// The offset is that at which the first token starts with which the tokens so far begin no program, found by
+/// a chart of all readings of the grammar.
 pub(super) const PLACES: [[usize; 2]; 107] = [
     // resource
     [9, 9],

@@ -1,5 +1,6 @@
 use Rattle.std.proofs.Common.{arith}
-use Rattle.pb_claims.proofs.Amounts.{amount_in-more, amount_of_pair-same, amount_of_pair-other}
+use Rattle.pb_base.proofs.LoanRows.{amount_in-more}
+use Rattle.pb_claims.proofs.Amounts.{amount_of_pair-same, amount_of_pair-other}
 use Rattle.pb_claims.proofs.peaks.amount_of.Goals as goal
 use Rattle.pb_claims.proofs.peaks.amount_of.Goals.{then-pair-resource, else-pair-resource}
 

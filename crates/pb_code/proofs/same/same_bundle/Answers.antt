@@ -1,6 +1,6 @@
 use Rattle.std.proofs.Common.{refl, arith}
 use Rattle.pb_code.specs.Bundles.{bundle_of}
-use Rattle.pb_code.proofs.Each.{alike_all}
+use Rattle.pb_code.proofs.ListElements.{alike_all}
 use Rattle.pb_code.proofs.same.same_bundle.Goals as goal
 
 pub returns : goal.returns

@@ -1,5 +1,5 @@
 use Rattle.pb_code.specs.Bundles.{bundle_of}
-use Rattle.pb_code.proofs.Each.{AlikeBelow}
+use Rattle.pb_code.proofs.ListElements.{AlikeBelow}
 use Rattle.pb_code.proofs.same.same_bundle.Given as goal
 
 abbrev pub invariant-loop-i : goal.invariant-loop-i

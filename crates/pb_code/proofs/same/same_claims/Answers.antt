@@ -1,5 +1,5 @@
 use Rattle.std.proofs.Common.{refl, arith}
-use Rattle.pb_code.proofs.Each.{alike_all}
+use Rattle.pb_code.proofs.ListElements.{alike_all}
 use Rattle.pb_code.proofs.same.same_claims.Goals as goal
 
 pub returns : goal.returns

@@ -1,4 +1,4 @@
-use Rattle.pb_code.proofs.Each.{AlikeBelow}
+use Rattle.pb_code.proofs.ListElements.{AlikeBelow}
 use Rattle.pb_code.proofs.same.same_claims.Given as goal
 
 abbrev pub invariant-loop-p : goal.invariant-loop-p

@@ -1,6 +1,6 @@
 use Rattle.std.proofs.Common.{map}
 use Rattle.pb_code.specs.View.{process_view}
-use Rattle.pb_code.proofs.Each.{AlikeBelow}
+use Rattle.pb_code.proofs.ListElements.{AlikeBelow}
 use Rattle.pb_code.proofs.same.same_codes.Given as goal
 
 abbrev pub invariant-loop-p : goal.invariant-loop-p

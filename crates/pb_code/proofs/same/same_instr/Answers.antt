@@ -1,4 +1,4 @@
-use Rattle.pb_code.proofs.Alike.{plain_from}
+use Rattle.pb_code.proofs.AlikeCodes.{plain_from}
 use Rattle.pb_code.proofs.same.same_instr.Goals as goal
 
 pub same_numbers-requires : goal.same_numbers-requires

@@ -2,7 +2,7 @@ use Rattle.std.proofs.Common.{◌≡◌, ◌<◌, length, true, false, refl, ap,
 use Rattle.std.specs.Prelude.{slice_get}
 use Rattle.std.proofs.lemmas.List.{length-map}
 use Rattle.pb_code.specs.View.{instr_view, process_view}
-use Rattle.pb_code.proofs.Each.{alike_all, alike_more, alike_read, read_alike, read_mapped}
+use Rattle.pb_code.proofs.ListElements.{alike_all, alike_more, alike_read, read_alike, read_mapped}
 use Rattle.pb_code.proofs.same.same_instrs.Goals as goal
 
 pub returns-then-not-same_instr : goal.returns-then-not-same_instr

@@ -1,6 +1,6 @@
 use Rattle.std.proofs.Common.{◌<◌, map, length, sym, ◌∙◌, arith}
-use Rattle.pb_code.proofs.Alike.{words_alike}
-use Rattle.pb_code.proofs.Each.{alike_read, read_alike, read_mapped}
+use Rattle.pb_code.proofs.AlikeCodes.{words_alike}
+use Rattle.pb_code.proofs.ListElements.{alike_read, read_alike, read_mapped}
 use Rattle.pb_code.proofs.same.same_name.Goals as goal
 
 pub returns : goal.returns

@@ -1,6 +1,6 @@
 use Rattle.std.proofs.Common.{map, refl, arith}
 use Rattle.std.proofs.lemmas.List.{length-map}
-use Rattle.pb_code.proofs.Each.{alike_all}
+use Rattle.pb_code.proofs.ListElements.{alike_all}
 use Rattle.pb_code.proofs.same.same_names.Goals as goal
 
 pub returns : goal.returns

@@ -1,5 +1,5 @@
 use Rattle.std.proofs.Common.{map}
-use Rattle.pb_code.proofs.Each.{AlikeBelow}
+use Rattle.pb_code.proofs.ListElements.{AlikeBelow}
 use Rattle.pb_code.proofs.same.same_names.Given as goal
 
 abbrev pub invariant-loop-i : goal.invariant-loop-i

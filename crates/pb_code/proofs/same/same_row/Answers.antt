@@ -1,5 +1,5 @@
 use Rattle.std.proofs.Common.{[], refl, arith}
-use Rattle.pb_code.proofs.Alike.{rows_alike}
+use Rattle.pb_code.proofs.AlikeCodes.{rows_alike}
 use Rattle.pb_code.proofs.same.same_row.Goals as goal
 
 pub returns : goal.returns

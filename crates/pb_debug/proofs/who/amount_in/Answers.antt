@@ -1,10 +1,10 @@
 use Rattle.std.proofs.Common.{arith}
-use Rattle.pb_verifier.proofs.HeldAmounts.{amount_more}
+use Rattle.pb_base.proofs.LoanRows.{amount_in-more}
 use Rattle.pb_debug.proofs.who.amount_in.Goals as goal
 
 pub loop-i-preserved : goal.loop-i-preserved
 loop-i-preserved c =
-    let more = amount_more c.args.bundle.now c.loop-i.i c.args.r c.get.result c.get.ensures in
+    let more = amount_in-more c.args.bundle.now c.loop-i.i c.args.r c.get.result c.get.ensures in
     let s = c.share.ensures in
     let f = c.from-amount.ensures in
     let v = c.loop-i.invariant.value in

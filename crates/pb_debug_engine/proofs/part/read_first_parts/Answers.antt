@@ -1,6 +1,6 @@
 use Rattle.std.proofs.Common.{inl}
 use Rattle.std.proofs.lemmas.Result.{err_from_is_err_and}
-use Rattle.pb_engines.proofs.InputLemmas.{IfSome-weaker}
+use Rattle.std.proofs.lemmas.Option.{IfSome_then}
 use Rattle.pb_debug_engine.proofs.PartLemmas.{early_in_second, two_then_two}
 use Rattle.pb_debug_engine.proofs.part.read_first_parts.Goals as goal
 
@@ -13,7 +13,7 @@ pub returns-in_err-source-clause-early : goal.returns-in_err-source-clause-early
 returns-in_err-source-clause-early g c =
     let p = err_from_is_err_and c.from_residual.result c.from_residual.ensures.1 in
     rw (p.1, p.2) (λ device.
-    IfSome-weaker (g.I.Input.rest c.args.input.now) _ _ (λ bytes is. (is.0, is.1, inl is.2)) (c.in_err-source.ensures.early device))
+    IfSome_then (g.I.Input.rest c.args.input.now) (c.in_err-source.ensures.early device) (λ bytes is. (is.0, is.1, inl is.2)))
 
 pub returns-in_err-lines-clause-early : goal.returns-in_err-lines-clause-early
 returns-in_err-lines-clause-early g c =

@@ -1,4 +1,5 @@
 use Rattle.std.proofs.Common.{List, option_map, subst, sym, ap, ◌∙◌}
+use Rattle.std.proofs.lemmas.Option.{IfSome_then}
 use Rattle.pb_code.specs.Limits.{KeepsLimits}
 use Rattle.pb_code.specs.View.{labels_view}
 use Rattle.pb_code.specs.Whole.{Code}
@@ -9,7 +10,7 @@ use Rattle.pb_history.specs.Replays.{IsStopped, spread}
 use Rattle.pb_history.specs.declared.counted.CountedPick.{CountedPick}
 use Rattle.pb_picks.specs.PickLines.{IsFaulty, SpellsPicks}
 use Rattle.pb_verifier.specs.declared.fault.VerifyFault.TheVariants.{OutOfLimits}
-use Rattle.pb_engines.proofs.InputLemmas.{IfSome-of, IfSome-weaker}
+use Rattle.pb_engines.proofs.InputLemmas.{IfSome-of}
 use Rattle.pb_debug_engine.proofs.DebugLemmas.{no_picks_told, session_told}
 use Rattle.pb_debug_engine.proofs.PartLemmas.{says_weaker}
 use Rattle.pb_debug_engine.proofs.parts.debug_code.Goals as goal
@@ -41,8 +42,8 @@ returns-in-Ok-from_object_counted g c =
       placed = c.with_source-debugger.ensures.placed;
     } in
     record {
-      text = IfSome-weaker (g.I.Input.rest c.args.commands.now) _ _
-          (λ bytes. session_told verified labels shown c.args.lines.now bytes d _ _ c.tell_session.result opened) c.tell_session.ensures.text;
+      text = IfSome_then (g.I.Input.rest c.args.commands.now) c.tell_session.ensures.text
+          (λ bytes. session_told verified labels shown c.args.lines.now bytes d _ _ c.tell_session.result opened);
       answered = λ grew.
           says_weaker (AnswersLines d) (AnswersOfCode verified labels shown c.args.lines.now) (λ read text says. (d, opened, says))
           (g.I.Input.rest c.args.commands.now) _ _ _ (c.tell_session.ensures.answered grew);

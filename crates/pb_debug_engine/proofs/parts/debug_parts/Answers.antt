@@ -1,8 +1,9 @@
 use Rattle.std.proofs.Common.{◌≡◌, None, Some, false, true, inl, refl}
+use Rattle.std.proofs.lemmas.Option.{IfSome_then}
 use Rattle.pb_code.specs.View.{labels_view}
 use Rattle.pb_debug_engine.specs.Live.{AnswersOfCode, AnswersOfParts}
-use Rattle.pb_object.proofs.Said.{text_keeps}
-use Rattle.pb_engines.proofs.InputLemmas.{IfSome-of, IfSome-weaker}
+use Rattle.pb_object.proofs.TextLimits.{text_keeps}
+use Rattle.pb_engines.proofs.InputLemmas.{IfSome-of}
 use Rattle.pb_debug_engine.proofs.DebugLemmas.{code_told, code_of_text_told, no_code_told, text_answers, text_refused}
 use Rattle.pb_debug_engine.proofs.PartLemmas.{says_weaker}
 use Rattle.pb_debug_engine.proofs.parts.debug_parts.Goals as goal
@@ -13,9 +14,9 @@ debug_code-requires g c = (text_keeps c.in-Ok.verified.code (labels_view c.in-Ok
 pub returns-in-Ok-clause-text : goal.returns-in-Ok-clause-text
 returns-in-Ok-clause-text g c =
     let object = c.if-is_object.ensures.0 refl in
-    IfSome-weaker (g.I.Input.rest c.args.commands.now) _ _
+    IfSome_then (g.I.Input.rest c.args.commands.now) c.debug_code.ensures.text
     (λ bytes. code_told c.args.source.now c.args.lines.now bytes c.in-Ok.verified (labels_view c.in-Ok.labels) None _ _ c.debug_code.result
-    (inl (object, c.in-Ok.ensures.loaded, refl))) c.debug_code.ensures.text
+    (inl (object, c.in-Ok.ensures.loaded, refl)))
 
 pub returns-in-Ok-clause-answered : goal.returns-in-Ok-clause-answered
 returns-in-Ok-clause-answered g c grew =
@@ -34,13 +35,12 @@ returns-in-Err-clause-text g c =
 
 pub returns-in-Ok-compile_text-clause-text : goal.returns-in-Ok-compile_text-clause-text
 returns-in-Ok-compile_text-clause-text g c =
-    IfSome-weaker (g.I.Input.rest c.args.commands.now) _ _
+    IfSome_then (g.I.Input.rest c.args.commands.now) c.debug_code-in-Ok-compile_text.ensures.text
     (λ bytes. code_of_text_told c.args.source.now c.args.lines.now bytes c.verified-in-Ok-compile_text.result.now
     c.in-Ok-compile_text.compiled.verified (labels_view c.labels.result.now) c.in-Ok-compile_text.compiled.labels _ _
     c.debug_code-in-Ok-compile_text.result
     (λ object. let w : false ≡ true = c.if-is_object.ensures.1 object in cc)
     c.in-Ok-compile_text.ensures.compiled c.verified-in-Ok-compile_text.ensures c.labels.ensures.labels)
-    c.debug_code-in-Ok-compile_text.ensures.text
 
 pub returns-in-Ok-compile_text-clause-answered : goal.returns-in-Ok-compile_text-clause-answered
 returns-in-Ok-compile_text-clause-answered g c grew =

@@ -1,16 +1,16 @@
 use Rattle.std.proofs.Common.{[], subst}
+use Rattle.std.proofs.lemmas.Option.{IfSome_then}
 use Rattle.pb_debug.specs.Lines.{cut}
 use Rattle.pb_debug.specs.Sessions.{CountsBoth, SaysSome, Session}
 use Rattle.pb_debug_engine.specs.Live.{AnswersLines}
-use Rattle.pb_engines.proofs.InputLemmas.{IfSome-weaker}
 use Rattle.pb_debug_engine.proofs.PartLemmas.{says_weaker}
 use Rattle.pb_debug_engine.proofs.SessionLemmas.{one_failed, told_all, told_some, told_until_broken}
 use Rattle.pb_debug_engine.proofs.session.tell_session.Goals as goal
 
 pub returns-in-Ok-clause-text : goal.returns-in-Ok-clause-text
 returns-in-Ok-clause-text g c =
-    IfSome-weaker (g.I.Input.rest c.args.commands.now) _ _
-    (λ bytes. told_all c.args.debugger.now c.session.new.self bytes _ _) c.in-Ok.ensures.all
+    IfSome_then (g.I.Input.rest c.args.commands.now) c.in-Ok.ensures.all
+    (λ bytes. told_all c.args.debugger.now c.session.new.self bytes _ _)
 
 pub returns-in-NoMemory-clause-text : goal.returns-in-NoMemory-clause-text
 returns-in-NoMemory-clause-text g c =
@@ -19,10 +19,9 @@ returns-in-NoMemory-clause-text g c =
     let new = g.O.Output.written c.finish_with.new.output in
     let d = c.args.debugger.now in
     let end = c.session.new.self in
-    IfSome-weaker (g.I.Input.rest c.args.commands.now) _ _
+    IfSome_then (g.I.Input.rest c.args.commands.now) c.in-Err.ensures.some
     (λ bytes some. told_some d end bytes old mid new c.new.result c.finish_with.result
     (subst (λ e. SaysSome e d bytes old mid end) c.in-NoMemory.is some) c.new.ensures c.finish_with.ensures.text)
-    c.in-Err.ensures.some
 
 pub returns-in-Ok-clause-answered : goal.returns-in-Ok-clause-answered
 returns-in-Ok-clause-answered g c grew = absurd (grew c.in-Ok.ensures.counted_reads)
@@ -35,8 +34,8 @@ returns-in-NoMemory-clause-answered g c grew =
 
 pub returns-in_default : goal.returns-in_default
 returns-in_default g c = record {
-  text = IfSome-weaker (g.I.Input.rest c.args.commands.now) _ _
-      (λ bytes. told_until_broken c.args.debugger.now c.session.new.self bytes _ c.in-Err.fault _ c.in_default.not-NoMemory) c.in-Err.ensures.some;
+  text = IfSome_then (g.I.Input.rest c.args.commands.now) c.in-Err.ensures.some
+      (λ bytes. told_until_broken c.args.debugger.now c.session.new.self bytes _ c.in-Err.fault _ c.in_default.not-NoMemory);
   answered = λ grew.
       says_weaker (λ read text. Session c.args.debugger.now (cut [] read).lines text c.session.new.self) (AnswersLines c.args.debugger.now)
       (λ read text says. (c.session.new.self, says)) (g.I.Input.rest c.args.commands.now) _ _ _ (c.session.ensures.answered grew);

@@ -8,7 +8,7 @@ use Rattle.pb_names.specs.declared.resolved.Process.{Process}
 use Rattle.pb_names.specs.declared.resolved.Resource.{Resource}
 use Rattle.pb_engines.specs.ClaimLines.{lines_of_process}
 use Rattle.pb_engines.proofs.ClaimLemmas.{all_of_them, as_many, names_of_processes, names_of_resources, one_more}
-use Rattle.pb_engines.proofs.ClaimLemmas.{seen_at}
+use Rattle.pb_engines.proofs.ClaimLemmas.{view_at}
 use Rattle.pb_engines.proofs.claims.claims_text.Goals as goal
 
 pub loop-p-preserved : goal.loop-p-preserved
@@ -35,7 +35,7 @@ loop-p-preserved g c =
     in
     let name : get_or names p process.name.items ≡ process.name.items =
     ap (λ (l : List Name). get_or l p process.name.items) (sym (names_of_processes given))
-    ∙ seen_at (λ (q : Process _). q.name.items) given.processes.items p process within c.index.ensures
+    ∙ view_at (λ (q : Process _). q.name.items) given.processes.items p process within c.index.ensures
     in
     let written =
     c.in_ok-put_claims.ensures

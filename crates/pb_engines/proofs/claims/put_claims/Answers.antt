@@ -3,7 +3,7 @@ use Rattle.std.proofs.lemmas.List.{get_or_default, length-map}
 use Rattle.pb_base.specs.Banker.{row_of}
 use Rattle.pb_names.specs.declared.resolved.Resource.{Resource}
 use Rattle.pb_engines.specs.ClaimLines.{claim_line}
-use Rattle.pb_engines.proofs.ClaimLemmas.{all_of_them, one_more, seen_at}
+use Rattle.pb_engines.proofs.ClaimLemmas.{all_of_them, one_more, view_at}
 use Rattle.pb_engines.proofs.claims.put_claims.Goals as goal
 
 pub loop-r-preserved : goal.loop-r-preserved
@@ -24,7 +24,7 @@ loop-r-preserved g c =
     one_more (λ claim. claim_line c.args.name.now claim.0 claim.1) row
     (map (λ (q : Resource _). q.name.items) c.args.resources.now) r
     c.get.result resource.name.items c.args.text.now.items c.loop-r.text.items _ in_row in_names amount
-    (seen_at (λ (q : Resource _). q.name.items) c.args.resources.now r resource within c.index-resources-r.is)
+    (view_at (λ (q : Resource _). q.name.items) c.args.resources.now r resource within c.index-resources-r.is)
     c.loop-r.invariant
     (rw c.deref.ensures.value at c.in_ok-put_claim.ensures
     ∙ ap (λ (q : Resource _). c.loop-r.text.items ++ claim_line c.args.name.now c.get.result q.name.items)

@@ -1,4 +1,5 @@
-use Rattle.pb_engines.proofs.InputLemmas.{IfSome-of, IfSome-weaker, fails, is_too_long, read_failed, unread_faults}
+use Rattle.std.proofs.lemmas.Option.{IfSome_then}
+use Rattle.pb_engines.proofs.InputLemmas.{IfSome-of, fails, is_too_long, read_failed, unread_faults}
 use Rattle.pb_engines.proofs.InputLemmas.{wants_memory}
 use Rattle.pb_engines.proofs.input.read_input.Goals as goal
 
@@ -7,9 +8,8 @@ returns-in-Err-Device-clause-told g c = IfSome-of _ _ (λ bytes. fails bytes _)
 
 pub returns-in-Err-TooLong-clause-told : goal.returns-in-Err-TooLong-clause-told
 returns-in-Err-TooLong-clause-told g c =
-    IfSome-weaker (g.I.Input.rest c.args.input.now) _ _
+    IfSome_then (g.I.Input.rest c.args.input.now) (c.in-Err-TooLong.ensures.long c.in-Err-TooLong.field-0-is)
     (λ bytes long. is_too_long bytes c.new.result _ _ c.finish_with.result long c.new.ensures c.finish_with.ensures.text)
-    (c.in-Err-TooLong.ensures.long c.in-Err-TooLong.field-0-is)
 
 pub returns-in-Err-Memory-clause-told : goal.returns-in-Err-Memory-clause-told
 returns-in-Err-Memory-clause-told g c =

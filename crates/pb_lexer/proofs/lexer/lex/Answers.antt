@@ -1,5 +1,5 @@
 use Rattle.pb_lexer.specs.Tokens.{tokens}
-use Rattle.pb_lexer.proofs.Exact.{only_tokens, only_fault}
+use Rattle.pb_lexer.proofs.OnlyResults.{only_tokens, only_fault}
 use Rattle.pb_lexer.proofs.lexer.lex.Goals as goal
 
 pub returns-clause-only : goal.returns-clause-only

@@ -3,7 +3,7 @@ use Rattle.std.specs.Int.{w64}
 use Rattle.std.proofs.lemmas.Int.{to_z_pos, ints}
 use Rattle.pb_lexer.specs.Cutting.{large_number}
 use Rattle.pb_lexer.proofs.Forms.{longest_digits}
-use Rattle.pb_lexer.proofs.Found.{built, digits_form, beyond}
+use Rattle.pb_lexer.proofs.LongestTokens.{built, digits_form, beyond}
 use Rattle.pb_lexer.proofs.lexer.number_at.Goals as goal
 
 pub returns-in-Some : goal.returns-in-Some

@@ -1,6 +1,6 @@
 use Rattle.std.proofs.Common.{◌∙◌, ◌+◌, sym, arith}
 use Rattle.pb_lexer.specs.Forms.{fixed}
-use Rattle.pb_lexer.proofs.Found.{built, slice_one, slice_two, longest_one, longest_two, NoTwo, nothing_there}
+use Rattle.pb_lexer.proofs.LongestTokens.{built, slice_one, slice_two, longest_one, longest_two, NoTwo, nothing_there}
 use Rattle.pb_lexer.proofs.lexer.symbol_at.Goals as goal
 use Rattle.pb_lexer.proofs.lexer.symbol_at.Goals.{then-at-text+in_default, else-at-text}
 

@@ -2,7 +2,7 @@ use Rattle.std.proofs.Common.{◌<◌, arith, refl}
 use Rattle.pb_lexer.specs.Forms.{name, fixed}
 use Rattle.pb_lexer.specs.Cutting.{long_name}
 use Rattle.pb_lexer.proofs.Forms.{longest_word}
-use Rattle.pb_lexer.proofs.Found.{built, word_slice}
+use Rattle.pb_lexer.proofs.LongestTokens.{built, word_slice}
 use Rattle.pb_lexer.proofs.lexer.word_at.Goals as goal
 
 pub returns-in-Some : goal.returns-in-Some

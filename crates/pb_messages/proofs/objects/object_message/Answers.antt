@@ -1,5 +1,5 @@
 use Rattle.pb_code.specs.View.{labels_view}
-use Rattle.pb_object.proofs.Said.{text_keeps}
+use Rattle.pb_object.proofs.TextLimits.{text_keeps}
 use Rattle.pb_messages.proofs.objects.object_message.Goals as goal
 
 pub returns-in-Ok-clause-fit : goal.returns-in-Ok-clause-fit

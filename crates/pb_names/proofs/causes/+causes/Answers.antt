@@ -4,7 +4,7 @@ use Rattle.pb_tree.specs.View.{stmt_view}
 use Rattle.pb_tree.proofs.Smaller.{stmt_nodes_within, arm_nodes_within, arms_nodes_within}
 use Rattle.pb_tree.proofs.Views.{view-Assign, view-Print, view-If, view-While, view-Hold, view-Parbegin}
 use Rattle.pb_names.proofs.CausesMore.{stmts_more, arms_more}
-use Rattle.pb_names.proofs.First.{first_either, first_none}
+use Rattle.pb_names.proofs.FirstCauses.{first_either, first_none}
 use Rattle.pb_names.proofs.causes.+causes.Goals as goal
 
 pub first_in_list-loop-stmt-preserved : goal.first_in_list-loop-stmt-preserved

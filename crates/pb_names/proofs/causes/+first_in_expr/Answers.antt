@@ -1,7 +1,7 @@
 use Rattle.std.proofs.Common.{ap, ◌∙◌}
 use Rattle.pb_tree.specs.View.{expr_view}
 use Rattle.pb_tree.proofs.Views.{view-Binary}
-use Rattle.pb_names.proofs.First.{first_either}
+use Rattle.pb_names.proofs.FirstCauses.{first_either}
 use Rattle.pb_names.proofs.causes.+first_in_expr.Goals as goal
 
 pub returns-in-Binary : goal.returns-in-Binary

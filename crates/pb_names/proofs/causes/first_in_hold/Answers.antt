@@ -3,7 +3,8 @@ use Rattle.std.proofs.lemmas.List.{length-map}
 use Rattle.pb_tree.specs.View.{demand_view}
 use Rattle.pb_names.specs.Causes.{InDemand}
 use Rattle.pb_names.specs.Search.{names_in}
-use Rattle.pb_names.proofs.First.{view_read, first_either, among_more, among_all}
+use Rattle.pb_base.proofs.Lists.{view_read}
+use Rattle.pb_names.proofs.FirstCauses.{first_either, among_more, among_all}
 use Rattle.pb_names.proofs.causes.first_in_hold.Goals as goal
 
 pub loop-i-preserved : goal.loop-i-preserved

@@ -3,7 +3,8 @@ use Rattle.std.specs.Prelude.{slice_get}
 use Rattle.std.proofs.lemmas.List.{length-map}
 use Rattle.pb_tree.specs.View.{name_view}
 use Rattle.pb_names.specs.Causes.{InInteger}
-use Rattle.pb_names.proofs.First.{view_read, among_more, among_all}
+use Rattle.pb_base.proofs.Lists.{view_read}
+use Rattle.pb_names.proofs.FirstCauses.{among_more, among_all}
 use Rattle.pb_names.proofs.NameNumbers.{text_read, taken_texts}
 use Rattle.pb_names.proofs.causes.first_in_integers.Goals as goal
 

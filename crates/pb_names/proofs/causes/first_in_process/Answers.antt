@@ -1,4 +1,4 @@
-use Rattle.pb_names.proofs.First.{first_either}
+use Rattle.pb_names.proofs.FirstCauses.{first_either}
 use Rattle.pb_names.proofs.causes.first_in_process.Goals as goal
 
 pub returns : goal.returns

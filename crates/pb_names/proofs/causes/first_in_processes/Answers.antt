@@ -5,7 +5,8 @@ use Rattle.pb_tree.specs.Syntax.{ProcessSyntax}
 use Rattle.pb_tree.specs.View.{process_view}
 use Rattle.pb_names.specs.Causes.{InProcess}
 use Rattle.pb_names.specs.Search.{names_in}
-use Rattle.pb_names.proofs.First.{view_read, first_either, among_more, among_all}
+use Rattle.pb_base.proofs.Lists.{view_read}
+use Rattle.pb_names.proofs.FirstCauses.{first_either, among_more, among_all}
 use Rattle.pb_names.proofs.NameNumbers.{name_read, taken_names}
 use Rattle.pb_names.proofs.causes.first_in_processes.Goals as goal
 

@@ -4,7 +4,8 @@ use Rattle.std.proofs.lemmas.List.{length-map}
 use Rattle.pb_tree.specs.Syntax.{ResourceSyntax}
 use Rattle.pb_tree.specs.View.{resource_view}
 use Rattle.pb_names.specs.Causes.{InResource}
-use Rattle.pb_names.proofs.First.{view_read, first_either, among_more, among_all}
+use Rattle.pb_base.proofs.Lists.{view_read}
+use Rattle.pb_names.proofs.FirstCauses.{first_either, among_more, among_all}
 use Rattle.pb_names.proofs.NameNumbers.{name_read, taken_names}
 use Rattle.pb_names.proofs.causes.first_in_resources.Goals as goal
 

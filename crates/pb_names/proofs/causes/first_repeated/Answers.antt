@@ -4,7 +4,7 @@ use Rattle.std.specs.Cmp.Lexicographic.{same_text, other_text}
 use borrow.Author.Count.{below_more}
 use Rattle.pb_tree.specs.View.{name_view}
 use Rattle.pb_names.specs.declared.causes.Wrong.TheVariants.{Repeated}
-use Rattle.pb_names.proofs.First.{view_read}
+use Rattle.pb_base.proofs.Lists.{view_read}
 use Rattle.pb_names.proofs.NameNumbers.{again_here, again_nowhere, demand_texts}
 use Rattle.pb_names.proofs.causes.first_repeated.Goals as goal
 use Rattle.pb_base.proofs.Lists.{some_same}

@@ -2,7 +2,7 @@ use Rattle.std.proofs.Common.{map, ap, ◌∙◌, arith, refl}
 use Rattle.std.proofs.lemmas.Grind.{common_steps}
 use Rattle.std.proofs.lemmas.List.{take_all, length-map}
 use Rattle.pb_tree.specs.View.{process_view}
-use Rattle.pb_names.proofs.First.{view_read}
+use Rattle.pb_base.proofs.Lists.{view_read}
 use Rattle.pb_names.proofs.Completeness.{all_read, all_more}
 use Rattle.pb_names.proofs.complete.is_complete.Goals as goal
 

@@ -1,7 +1,7 @@
 use Rattle.std.proofs.lemmas.List.{length-map, length-replicate}
 use Rattle.std.proofs.Common.{◌≡◌, suc, ◌-◌, map, get_or, length, arith, ap, sym, ◌∙◌, refl, subst}
 use Rattle.pb_names.specs.Index.{IsLinked}
-use Rattle.pb_names.proofs.First.{view_read}
+use Rattle.pb_base.proofs.Lists.{view_read}
 use Rattle.pb_names.proofs.NameIndexes.{linked_more, linked_none}
 use Rattle.pb_names.proofs.lookups.index.Goals as goal
 

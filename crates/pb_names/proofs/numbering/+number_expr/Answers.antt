@@ -8,7 +8,7 @@ use Rattle.pb_tree.proofs.Views as tree
 use Rattle.pb_names.specs.Causes.{InExpr}
 use Rattle.pb_names.specs.Resolves.{ResolvesExpr, number, variable, unary, binary}
 use Rattle.pb_names.specs.Search.{IsFree, names_in}
-use Rattle.pb_names.proofs.First.{free_left, free_right}
+use Rattle.pb_names.proofs.FirstCauses.{free_left, free_right}
 use Rattle.pb_names.proofs.Views.{view-Number, view-Variable}
 use Rattle.pb_names.proofs.numbering.+number_expr.Goals as goal
 

@@ -7,11 +7,11 @@ use Rattle.pb_tree.proofs.Views as tree
 use Rattle.pb_names.specs.Limits.{inner_arms_of_stmt}
 use Rattle.pb_names.specs.Resolves.{no_stmt, no_arm}
 use Rattle.pb_names.specs.Search.{names_in}
-use Rattle.pb_names.proofs.First.{free_left, free_right}
+use Rattle.pb_names.proofs.FirstCauses.{free_left, free_right}
 use Rattle.pb_names.proofs.Forks.{width-view, inner_more, arms_inner_more}
 use Rattle.pb_names.proofs.NumberedLists.{resolves_more, numbered_more, resolves_more_arm, numbered_more_arm}
-use Rattle.pb_names.proofs.Ready.{ready_true, ready_false, ready_while, ready_hold, ready_arms, ready_at}
-use Rattle.pb_names.proofs.Ready.{arm_ready_at, true_within, false_within, loop_within, hold_within}
+use Rattle.pb_names.proofs.ReadyParts.{ready_true, ready_false, ready_while, ready_hold, ready_arms, ready_at}
+use Rattle.pb_names.proofs.ReadyParts.{arm_ready_at, true_within, false_within, loop_within, hold_within}
 use Rattle.pb_names.proofs.numbering.+numbering.Goals as goal
 
 -- ---- lists and arms

@@ -1,7 +1,7 @@
 use Rattle.std.proofs.Common.{map, length, [], ◌∷◌, length-append, ap, arith, refl}
 use Rattle.pb_tree.specs.View.{demand_view}
 use Rattle.pb_names.specs.Search.{names_in}
-use Rattle.pb_names.proofs.First.{view_read}
+use Rattle.pb_base.proofs.Lists.{view_read}
 use Rattle.pb_names.proofs.Holds.{amount_free, resource_free, number_new, room_for_one, zip_more, distinct_more}
 use Rattle.pb_names.proofs.numbering.number_hold.Goals as goal
 

@@ -2,7 +2,7 @@ use Rattle.std.proofs.Common.{arith}
 use Rattle.std.proofs.lemmas.List.{length-map}
 use Rattle.pb_tree.specs.View.{name_view, process_view}
 use Rattle.pb_names.specs.Search.{names_in}
-use Rattle.pb_names.proofs.First.{free_right}
+use Rattle.pb_names.proofs.FirstCauses.{free_right}
 use Rattle.pb_names.proofs.Wholes.{whole_process}
 use Rattle.pb_names.proofs.numbering.number_process.Goals as goal
 

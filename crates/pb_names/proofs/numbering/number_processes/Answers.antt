@@ -5,7 +5,8 @@ use Rattle.pb_names.specs.Causes.{InProcess}
 use Rattle.pb_names.specs.Resolves.{ResolvesProcess}
 use Rattle.pb_names.specs.Search.{names_in}
 use Rattle.pb_names.specs.View.{process_view as process_of}
-use Rattle.pb_names.proofs.First.{view_read, free_at, free_right}
+use Rattle.pb_base.proofs.Lists.{view_read}
+use Rattle.pb_names.proofs.FirstCauses.{free_at, free_right}
 use Rattle.pb_names.proofs.Wholes.{zip_view_more, fitting_at}
 use Rattle.pb_names.proofs.numbering.number_processes.Goals as goal
 

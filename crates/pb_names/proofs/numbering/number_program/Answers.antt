@@ -3,7 +3,7 @@ use Rattle.std.proofs.lemmas.List.{length-map}
 use Rattle.pb_tree.specs.Syntax.{NameSyntax, ResourceSyntax}
 use Rattle.pb_tree.specs.View.{program_view, resource_view}
 use Rattle.pb_names.specs.declared.fault.Kind.TheVariants.{Resources}
-use Rattle.pb_names.proofs.First.{free_left, free_right}
+use Rattle.pb_names.proofs.FirstCauses.{free_left, free_right}
 use Rattle.pb_names.proofs.Wholes.{whole_program, each_fitting}
 use Rattle.pb_names.proofs.numbering.number_program.Goals as goal
 

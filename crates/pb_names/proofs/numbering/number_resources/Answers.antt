@@ -4,7 +4,8 @@ use Rattle.pb_tree.specs.View.{resource_view}
 use Rattle.pb_names.specs.Causes.{InResource}
 use Rattle.pb_names.specs.Resolves.{ResolvesResource}
 use Rattle.pb_names.specs.View.{resource_view as resource_of}
-use Rattle.pb_names.proofs.First.{view_read, free_at, free_right}
+use Rattle.pb_base.proofs.Lists.{view_read}
+use Rattle.pb_names.proofs.FirstCauses.{free_at, free_right}
 use Rattle.pb_names.proofs.Wholes.{zip_view_more}
 use Rattle.pb_names.proofs.numbering.number_resources.Goals as goal
 

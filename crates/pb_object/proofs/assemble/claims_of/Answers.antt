@@ -1,6 +1,6 @@
 use Rattle.std.proofs.Common.{◌++◌, ◌∷◌, ◌∙◌, [], ℕ, List, ap, map, sym, take}
 use Rattle.std.proofs.lemmas.List.{map_push}
-use Rattle.pb_object.proofs.Turns.{up_to_here}
+use Rattle.pb_object.proofs.WordTurns.{up_to_here}
 use Rattle.pb_object.proofs.assemble.claims_of.Goals as goal
 
 pub loop-row-preserved : goal.loop-row-preserved

@@ -2,7 +2,7 @@ use Rattle.std.proofs.Common.{◌≡◌, true, false, refl, arith}
 use Rattle.std.proofs.lemmas.List.{length-map}
 use Rattle.pb_object.specs.Formats.{IsSingle}
 use Rattle.pb_code.specs.View.{instr_view, process_view}
-use Rattle.pb_code.proofs.Each.{each_more, each_all, read_mapped}
+use Rattle.pb_code.proofs.ListElements.{each_more, each_all, read_mapped}
 use Rattle.pb_object.proofs.first.are_single.Goals as goal
 
 pub returns-then-not-is_single : goal.returns-then-not-is_single

@@ -4,7 +4,7 @@ use Rattle.std.proofs.lemmas.List.{length-map}
 use Rattle.pb_code.specs.Code.{Instr, ProcessCode}
 use Rattle.pb_object.specs.Formats.{IsSingle}
 use Rattle.pb_code.specs.View.{code_view, process_view}
-use Rattle.pb_code.proofs.Each.{each_more, each_all, read_mapped}
+use Rattle.pb_code.proofs.ListElements.{each_more, each_all, read_mapped}
 use Rattle.pb_object.proofs.first.fits_first.Goals as goal
 
 abbrev AreSingle : ℕ → ProcessCode → Type 0

@@ -3,7 +3,7 @@ use Rattle.std.specs.Prelude.{slice_get}
 use Rattle.pb_code.specs.Code.{Instr}
 use Rattle.pb_object.specs.Formats.{IsSingle}
 use Rattle.pb_code.specs.View.{process_view}
-use Rattle.pb_code.proofs.Each.{EachBelow}
+use Rattle.pb_code.proofs.ListElements.{EachBelow}
 use Rattle.pb_object.proofs.first.fits_first.Given as goal
 
 abbrev pub invariant-loop-p : goal.invariant-loop-p

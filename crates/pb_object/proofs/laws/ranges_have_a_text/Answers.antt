@@ -1,4 +1,4 @@
-use Rattle.pb_object.proofs.Said.{text_keeps}
+use Rattle.pb_object.proofs.TextLimits.{text_keeps}
 use Rattle.pb_object.proofs.SayableCode.{ranges_text}
 use Rattle.pb_object.proofs.laws.ranges_have_a_text.Goals as goal
 

@@ -1,5 +1,5 @@
 use Rattle.std.proofs.Common.{◌∙◌, sym}
-use Rattle.pb_object.proofs.Turns.{from_here, from_end, bad_number, beyond_number, more_number, no_numbers, all_read}
+use Rattle.pb_object.proofs.WordTurns.{from_here, from_end, bad_number, beyond_number, more_number, no_numbers, all_read}
 use Rattle.pb_object.proofs.line_reader.amounts.Goals as goal
 use Rattle.pb_object.proofs.line_reader.amounts.Goals.{in-Beyond, in-Read+in_ok-push-in-Read}
 

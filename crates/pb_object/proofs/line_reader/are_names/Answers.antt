@@ -1,6 +1,6 @@
 use Rattle.std.proofs.Common.{◌∙◌, sym}
 use Rattle.pb_code.specs.Names.{is_name}
-use Rattle.pb_object.proofs.Turns.{from_here, from_end, not_all, all_on, all_none}
+use Rattle.pb_object.proofs.WordTurns.{from_here, from_end, not_all, all_on, all_none}
 use Rattle.pb_object.proofs.line_reader.are_names.Goals as goal
 
 pub returns-then-not-is_name : goal.returns-then-not-is_name

@@ -1,7 +1,7 @@
 use Rattle.std.proofs.Common.{◌≡◌, ◌∙◌, ◌++◌, ◌∷◌, [], sym, ap, map, take, Bool, cond, List, Option, Some, None}
 use Rattle.std.proofs.lemmas.List.{map_push, take_all}
 use Rattle.pb_code.specs.Names.{Word}
-use Rattle.pb_object.proofs.Turns.{from_here, from_end, up_to_here, not_new, new_one, none_new}
+use Rattle.pb_object.proofs.WordTurns.{from_here, from_end, up_to_here, not_new, new_one, none_new}
 use Rattle.pb_object.proofs.line_reader.distinct.Goals as goal
 
 abbrev given : List Word → Bool → Option (List Word)

@@ -1,5 +1,5 @@
 use Rattle.std.proofs.Common.{◌∙◌, sym}
-use Rattle.pb_object.proofs.Turns.{from_here, from_end, among_here, among_on, among_none}
+use Rattle.pb_object.proofs.WordTurns.{from_here, from_end, among_here, among_on, among_none}
 use Rattle.pb_object.proofs.line_reader.has_name.Goals as goal
 
 pub returns-then-same : goal.returns-then-same

@@ -3,7 +3,7 @@ use Rattle.std.proofs.lemmas.Simd.{map-map}
 use Rattle.pb_code.specs.Names.{Word, is_among}
 use Rattle.pb_object.specs.Objects.{ResourceRow}
 use Rattle.pb_object.specs.Rows.{resource_row}
-use Rattle.pb_object.proofs.Turns.{from_here, from_end, among_here, among_on, among_none}
+use Rattle.pb_object.proofs.WordTurns.{from_here, from_end, among_here, among_on, among_none}
 use Rattle.pb_object.proofs.line_reader.has_resource.Goals as goal
 
 pub loop-other-init : goal.loop-other-init

@@ -1,7 +1,7 @@
 use Rattle.std.proofs.lemmas.Result.{err_from_is_err_and}
 use Rattle.pb_object.specs.Rows.{object_row}
 use Rattle.pb_code.specs.View.{code_view, labels_view}
-use Rattle.pb_object.proofs.Found.{answer_takes, rows_spelled, only_answer, err_only}
+use Rattle.pb_object.proofs.FoundObjects.{answer_takes, rows_spelled, only_answer, err_only}
 use Rattle.pb_object.proofs.FaultLaws.{rows_placed}
 use Rattle.pb_object.proofs.FirstToSecond.{has_text}
 use Rattle.pb_object.proofs.object.read_any.Goals as goal

@@ -9,7 +9,7 @@ use Rattle.pb_code.specs.Bundles.{NamesBelow}
 use Rattle.pb_code.specs.View.{instr_view}
 use Rattle.pb_code.proofs.BundleTables.{views_kept, names_kept}
 use Rattle.pb_object.proofs.Loops.{goes_on, ends, is_done}
-use Rattle.pb_object.proofs.Sides.{side_push}
+use Rattle.pb_object.proofs.PairedLists.{side_push}
 use Rattle.pb_object.proofs.reader.places_of.Goals as goal
 
 pub returns-in-Err-clause-read : goal.returns-in-Err-clause-read

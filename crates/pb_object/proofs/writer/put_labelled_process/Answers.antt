@@ -9,7 +9,7 @@ use Rattle.pb_object.specs.Objects.{code_of_row, labels_of_row}
 use Rattle.pb_object.specs.Rows.{side_by_side}
 use Rattle.std.specs.List.{flat_map}
 use Rattle.pb_code.specs.View.{process_view, process_labels_view, instr_view}
-use Rattle.pb_object.proofs.Written.{two_written, named_at, viewed_at, between, names_line}
+use Rattle.pb_object.proofs.WrittenRows.{two_written, named_at, viewed_at, between, names_line}
 use Rattle.pb_object.proofs.writer.put_labelled_process.Goals as goal
 
 pub put_lined_places-requires : goal.put_lined_places-requires

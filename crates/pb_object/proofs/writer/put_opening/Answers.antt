@@ -4,7 +4,7 @@ use Rattle.std.proofs.lemmas.List.{length-map}
 use Rattle.pb_object.specs.Lines.{line_text}
 use Rattle.pb_object.specs.Objects.{ResourceRow, resource_words, counted_words}
 use Rattle.pb_code.specs.Names.{Word}
-use Rattle.pb_object.proofs.Written.{in_four}
+use Rattle.pb_object.proofs.WrittenRows.{in_four}
 use Rattle.pb_object.proofs.writer.put_opening.Goals as goal
 
 pub returns : goal.returns

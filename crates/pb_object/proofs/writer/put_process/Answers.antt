@@ -2,7 +2,7 @@ use Rattle.std.proofs.Common.{◌++◌, ◌∙◌, ap, sym, map, ℕ, slice_inde
 use Rattle.std.proofs.lemmas.List.{length-map}
 use Rattle.pb_object.specs.Objects.{code_of_row}
 use Rattle.pb_code.specs.View.{process_view, instr_view}
-use Rattle.pb_object.proofs.Written.{one_written, named_at, viewed_at, between}
+use Rattle.pb_object.proofs.WrittenRows.{one_written, named_at, viewed_at, between}
 use Rattle.pb_object.proofs.writer.put_process.Goals as goal
 
 pub returns : goal.returns

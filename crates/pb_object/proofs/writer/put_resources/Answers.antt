@@ -4,7 +4,7 @@ use Rattle.std.proofs.lemmas.List.{length-map, take_all}
 use Rattle.pb_object.specs.Lines.{line_text}
 use Rattle.pb_object.specs.Objects.{ResourceRow, resource_words}
 use Rattle.pb_code.specs.Names.{Word}
-use Rattle.pb_object.proofs.Written.{next_text, resource_at}
+use Rattle.pb_object.proofs.WrittenRows.{next_text, resource_at}
 use Rattle.pb_object.proofs.writer.put_resources.Goals as goal
 
 pub loop-r-preserved : goal.loop-r-preserved

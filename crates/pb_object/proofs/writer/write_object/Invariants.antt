@@ -2,7 +2,7 @@ use Rattle.std.proofs.Common.{◌≡◌, ◌++◌, take}
 use Rattle.pb_object.specs.declared.format.Format.TheVariants.{One}
 use Rattle.pb_object.specs.Objects.{Object, code_of}
 use Rattle.pb_code.specs.View.{code_view}
-use Rattle.pb_object.proofs.Written.{opening, processes_text}
+use Rattle.pb_object.proofs.WrittenRows.{opening, processes_text}
 use Rattle.pb_object.proofs.writer.write_object.Given as goal
 
 abbrev pub invariant-loop-p : goal.invariant-loop-p

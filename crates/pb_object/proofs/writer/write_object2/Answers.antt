@@ -2,7 +2,7 @@ use Rattle.std.proofs.Common.{◌<◌, ◌≤◌, refl, length, get_or, arith}
 use Rattle.pb_object.specs.declared.format.Format.TheVariants.{Two}
 use Rattle.pb_object.specs.Objects.{process_text}
 use Rattle.pb_code.specs.View.{code_view, labels_view, process_view}
-use Rattle.pb_object.proofs.Written.{opening, empty, row_of, labels_at, width_at, next_text, finished, count_of}
+use Rattle.pb_object.proofs.WrittenRows.{opening, empty, row_of, labels_at, width_at, next_text, finished, count_of}
 use Rattle.pb_object.proofs.writer.write_object2.Goals as goal
 
 pub put_labelled_process-requires-clause-width : goal.put_labelled_process-requires-clause-width

@@ -3,7 +3,7 @@ use Rattle.std.specs.Prelude.{All}
 use Rattle.pb_base.specs.declared.pick.Pick.{Pick}
 use Rattle.pb_base.specs.Lines.{HasProcess, names_view}
 use Rattle.pb_code.specs.View.{labels_view}
-use Rattle.pb_explore.specs.Endings.{found_view}
+use Rattle.pb_explore.specs.Outcomes.{found_view}
 use Rattle.pb_history.specs.declared.counted.CountedPick.{CountedPick}
 use Rattle.pb_outcome_engine.specs.OutcomeLines.{AreCounted, outcome_lines}
 use Rattle.pb_outcome_engine.specs.Showing.{HaveProcesses}

@@ -1,7 +1,7 @@
 use Rattle.std.proofs.Common.{map, take}
 use Rattle.pb_base.specs.Lines.{names_view}
 use Rattle.pb_code.specs.View.{labels_view}
-use Rattle.pb_explore.specs.Endings.{found_view}
+use Rattle.pb_explore.specs.Outcomes.{found_view}
 use Rattle.pb_outcome_engine.specs.OutcomeLines.{AreOutcomeLines}
 use Rattle.pb_outcome_engine.proofs.lines.found_text.Given as goal
 

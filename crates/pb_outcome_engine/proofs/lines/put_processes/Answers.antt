@@ -1,7 +1,7 @@
 use Rattle.std.proofs.Common.{◌++◌, List, ℕ, [], ◌∙◌, ap, map, false}
 use Rattle.pb_base.specs.Lines.{name_of}
 use Rattle.pb_code.specs.View.{process_labels_view}
-use Rattle.pb_explore.specs.Endings.{process_outcome_view}
+use Rattle.pb_explore.specs.Outcomes.{process_outcome_view}
 use Rattle.pb_outcome_engine.specs.OutcomeLines.{integer_names, outcome_lines_of}
 use Rattle.pb_outcome_engine.proofs.LineLemmas.{view_more}
 use Rattle.pb_outcome_engine.proofs.lines.put_processes.Goals as goal

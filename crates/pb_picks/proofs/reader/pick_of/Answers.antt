@@ -4,7 +4,7 @@ use Rattle.std.proofs.lemmas.Bool.{cases_lt}
 use Rattle.std.proofs.lemmas.Option.{slice_get_within}
 use Rattle.pb_base.specs.Lines.{name_of}
 use Rattle.pb_code.specs.View.{code_view, process_view}
-use Rattle.pb_code.proofs.Each.{read_mapped}
+use Rattle.pb_code.proofs.ListElements.{read_mapped}
 use Rattle.pb_picks.specs.PickLines.{arm_and_count}
 use Rattle.pb_picks.proofs.PickParts.{as_many, mapped_at, same_arms}
 use Rattle.pb_picks.proofs.reader.pick_of.Goals as goal

@@ -2,7 +2,7 @@ use Rattle.std.proofs.Common.{◌≡◌, ◌-◌, Some, None, length, ap, sym, �
 use Rattle.std.specs.Prelude.{slice_get}
 use Rattle.pb_names.specs.HeadLines.{head_line as line_of_first}
 use Rattle.pb_rewrite.specs.View.{arm_view}
-use Rattle.pb_rewrite.proofs.Heads.{body_some, body_none, items_some, items_none}
+use Rattle.pb_rewrite.proofs.FirstLines.{body_some, body_none, items_some, items_none}
 use Rattle.pb_rewrite.proofs.Views.{view-Fresh, view-Doing}
 use Rattle.pb_rewrite.proofs.arm.head_line.Goals as goal
 

@@ -5,7 +5,7 @@ use Rattle.pb_base.specs.Steppers.{Silent}
 use Rattle.pb_names.specs.Source as plain
 use Rattle.pb_names.specs.View.{expr_view, block_view}
 use Rattle.pb_rewrite.specs.View.{items_view}
-use Rattle.pb_rewrite.proofs.Kept.{kept_if}
+use Rattle.pb_rewrite.proofs.PushedItems.{kept_if}
 use Rattle.pb_rewrite.proofs.Items.{choice_becomes}
 use Rattle.pb_rewrite.proofs.TestSteps.{choice_chosen, kept_err}
 use Rattle.pb_rewrite.proofs.choosing.choose.Goals as goal

@@ -3,7 +3,7 @@ use Rattle.pb_names.specs.Source.{items_of}
 use Rattle.pb_names.specs.declared.resolved.Stmt.{If}
 use Rattle.pb_rewrite.specs.View.{item_view, items_view}
 use Rattle.pb_rewrite.specs.declared.item.Item.TheVariants.{Left}
-use Rattle.pb_rewrite.proofs.Kept.{kept_if, entered, chosen_view}
+use Rattle.pb_rewrite.proofs.PushedItems.{kept_if, entered, chosen_view}
 use Rattle.pb_rewrite.proofs.choosing.enter_list.Goals as goal
 
 pub with_body-requires : goal.with_body-requires

@@ -1,6 +1,6 @@
 use Rattle.std.proofs.Common.{◌≡◌, [], ◌∷◌, ◌++◌, arith, refl, ◌∙◌}
 use Rattle.pb_rewrite.specs.declared.item.Item.TheVariants.{Left}
-use Rattle.pb_rewrite.proofs.Moves.{one_moved, fewer_left}
+use Rattle.pb_rewrite.proofs.ReversedLists.{one_moved, fewer_left}
 use Rattle.pb_rewrite.proofs.lists.with_body.Goals as goal
 
 pub loop-stmt-preserved : goal.loop-stmt-preserved

@@ -1,6 +1,6 @@
 use Rattle.std.proofs.Common.{arith, ap, ◌∙◌}
 use Rattle.pb_rewrite.specs.View.{items_view}
-use Rattle.pb_rewrite.proofs.Moves.{items_view-push}
+use Rattle.pb_rewrite.proofs.ReversedLists.{items_view-push}
 use Rattle.pb_rewrite.proofs.lists.with_first.Goals as goal
 
 pub returns : goal.returns

@@ -5,7 +5,7 @@ use Rattle.pb_names.specs.Source.{items_of}
 use Rattle.pb_names.specs.View.{expr_view, block_view}
 use Rattle.pb_rewrite.specs.Steps.{LeavesArm}
 use Rattle.pb_rewrite.specs.View.{items_view}
-use Rattle.pb_rewrite.proofs.Kept.{entered}
+use Rattle.pb_rewrite.proofs.PushedItems.{entered}
 use Rattle.pb_rewrite.proofs.looping.decide.Goals as goal
 
 pub returns-then-fails-clause-ok : goal.returns-then-fails-clause-ok

@@ -4,7 +4,7 @@ use Rattle.pb_names.specs.Source.{items_of}
 use Rattle.pb_names.specs.View.{expr_view, block_view}
 use Rattle.pb_names.proofs.Views.{view-While}
 use Rattle.pb_rewrite.specs.View.{items_view}
-use Rattle.pb_rewrite.proofs.Kept.{entered}
+use Rattle.pb_rewrite.proofs.PushedItems.{entered}
 use Rattle.pb_rewrite.proofs.looping.repeat.Goals as goal
 
 pub with_body-requires : goal.with_body-requires

@@ -4,7 +4,7 @@ use Rattle.pb_names.specs.Source as plain
 use Rattle.pb_names.specs.Source.{items_of}
 use Rattle.pb_names.specs.View.{block_view}
 use Rattle.pb_rewrite.specs.View.{items_view}
-use Rattle.pb_rewrite.proofs.Kept.{entered}
+use Rattle.pb_rewrite.proofs.PushedItems.{entered}
 use Rattle.pb_rewrite.proofs.Outcomes.{not_allowed}
 use Rattle.pb_rewrite.proofs.stepping.ask_for.Goals as goal
 

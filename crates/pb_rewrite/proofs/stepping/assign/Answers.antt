@@ -4,7 +4,7 @@ use Rattle.pb_base.specs.Steppers.{Silent}
 use Rattle.pb_names.specs.Source as plain
 use Rattle.pb_names.specs.View.{expr_view}
 use Rattle.pb_rewrite.specs.View.{items_view}
-use Rattle.pb_rewrite.proofs.Kept.{kept_assign}
+use Rattle.pb_rewrite.proofs.PushedItems.{kept_assign}
 use Rattle.pb_rewrite.proofs.Items.{assign_is, assign_becomes}
 use Rattle.pb_rewrite.proofs.Views.{view-Doing}
 use Rattle.pb_rewrite.proofs.stepping.assign.Goals as goal

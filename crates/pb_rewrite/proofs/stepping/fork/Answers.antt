@@ -1,7 +1,7 @@
 use Rattle.std.proofs.Common.{ap, refl, ◌∙◌}
 use Rattle.pb_names.specs.Source as plain
 use Rattle.pb_rewrite.specs.View.{items_view}
-use Rattle.pb_rewrite.proofs.Kept.{kept_fork}
+use Rattle.pb_rewrite.proofs.PushedItems.{kept_fork}
 use Rattle.pb_rewrite.proofs.Views.{view-Waiting}
 use Rattle.pb_rewrite.proofs.stepping.fork.Goals as goal
 

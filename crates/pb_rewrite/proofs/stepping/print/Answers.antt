@@ -4,7 +4,7 @@ use Rattle.pb_base.specs.Steppers.{Silent, Prints}
 use Rattle.pb_names.specs.Source as plain
 use Rattle.pb_names.specs.View.{expr_view}
 use Rattle.pb_rewrite.specs.View.{items_view}
-use Rattle.pb_rewrite.proofs.Kept.{kept_print}
+use Rattle.pb_rewrite.proofs.PushedItems.{kept_print}
 use Rattle.pb_rewrite.proofs.Items.{print_is, print_becomes}
 use Rattle.pb_rewrite.proofs.Views.{view-Doing}
 use Rattle.pb_rewrite.proofs.stepping.print.Goals as goal

@@ -2,7 +2,7 @@ use Rattle.std.proofs.Common.{◌∷◌, ap, refl, ◌∙◌, arith}
 use Rattle.pb_names.specs.Source as plain
 use Rattle.pb_names.specs.Source.{step_arm}
 use Rattle.pb_rewrite.specs.View.{item_view, items_view}
-use Rattle.pb_rewrite.proofs.Moves.{items_view-push, popped_none}
+use Rattle.pb_rewrite.proofs.ReversedLists.{items_view-push, popped_none}
 use Rattle.pb_rewrite.proofs.Outcomes.{asks_same, same_ok, same_err}
 use Rattle.pb_rewrite.proofs.Views.{view-Ended}
 use Rattle.pb_rewrite.proofs.stepping.step_items.Goals as goal

@@ -4,7 +4,7 @@ use Rattle.pb_names.specs.Source.{item_of, begin}
 use Rattle.pb_names.specs.View.{arms_view, block_view, expr_view, stmt_view}
 use Rattle.pb_names.proofs.Views.{view-Assign, view-Print, view-If, view-While, view-Hold, view-Parbegin}
 use Rattle.pb_rewrite.specs.View.{items_view}
-use Rattle.pb_rewrite.proofs.Kept.{kept_while}
+use Rattle.pb_rewrite.proofs.PushedItems.{kept_while}
 use Rattle.pb_rewrite.proofs.Outcomes.{free_step, free_ok, handed_back, left_ok, asked_ok, asked_err, hold_asks}
 use Rattle.pb_rewrite.proofs.stepping.step_stmt.Goals as goal
 

@@ -1,5 +1,5 @@
 use Rattle.pb_rewrite.specs.View.{items_view}
-use Rattle.pb_rewrite.proofs.Kept.{kept_hold}
+use Rattle.pb_rewrite.proofs.PushedItems.{kept_hold}
 use Rattle.pb_rewrite.proofs.stepping.unentered.Goals as goal
 
 pub returns : goal.returns

@@ -1,7 +1,7 @@
 use Rattle.std.proofs.Common.{arith}
 use Rattle.pb_verifier.specs.Amounts.{TakesNone}
 use Rattle.pb_verifier.specs.Given.{instrs_of}
-use Rattle.pb_verifier.proofs.Each.{each_all}
+use Rattle.pb_code.proofs.ListElements.{each_all}
 use Rattle.pb_verifier.proofs.amounts.takes_any.Goals as goal
 
 pub returns : goal.returns

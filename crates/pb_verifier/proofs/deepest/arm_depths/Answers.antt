@@ -1,7 +1,7 @@
 use Rattle.std.proofs.Common.{◌+◌, ℕ, ◌∙◌, [], ◌∷◌, length-append, ap, arith}
 use Rattle.pb_code.specs.View.{process_view}
 use Rattle.pb_verifier.specs.Verified.{IsDepthOf}
-use Rattle.pb_verifier.proofs.Each.{push_more}
+use Rattle.pb_code.proofs.ListElements.{push_more}
 use Rattle.pb_verifier.proofs.deepest.arm_depths.Goals as goal
 
 pub loop-arm-preserved : goal.loop-arm-preserved

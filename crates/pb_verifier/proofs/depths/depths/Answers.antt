@@ -6,7 +6,7 @@ use Rattle.pb_verifier.specs.Flow.{IsGrown}
 use Rattle.pb_verifier.specs.Given.{instrs_of}
 use Rattle.pb_verifier.specs.Spread.{CanBeAnnotated, IsLeast, depth_rules, notes_of}
 use Rattle.pb_verifier.proofs.FaultFacts.{depths_by_rules, no_facts, table_of}
-use Rattle.pb_verifier.proofs.Each.{none_weaker, some_weaker}
+use Rattle.pb_verifier.proofs.OptionalResults.{none_weaker, some_weaker}
 use Rattle.pb_verifier.proofs.depths.depths.Goals as goal
 
 pub spread-requires-clause-grown : goal.spread-requires-clause-grown

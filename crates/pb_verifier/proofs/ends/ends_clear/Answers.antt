@@ -3,7 +3,7 @@ use Rattle.pb_code.specs.View.{process_view}
 use Rattle.pb_verifier.specs.Ends.{IsClearAt}
 use Rattle.pb_verifier.specs.Given.{instrs_of, plain}
 use Rattle.pb_verifier.specs.Spread.{fact_at}
-use Rattle.pb_verifier.proofs.Each.{each_more, each_all}
+use Rattle.pb_code.proofs.ListElements.{each_more, each_all}
 use Rattle.pb_verifier.proofs.EndTables.{clear_from, clear_of, clear_read}
 use Rattle.pb_verifier.proofs.ends.ends_clear.Goals as goal
 

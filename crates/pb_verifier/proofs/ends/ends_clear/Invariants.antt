@@ -1,7 +1,7 @@
 use Rattle.pb_verifier.specs.Ends.{IsClearAt}
 use Rattle.pb_verifier.specs.Given.{instrs_of}
 use Rattle.pb_verifier.specs.Spread.{fact_at}
-use Rattle.pb_verifier.proofs.Each.{EachBelow}
+use Rattle.pb_code.proofs.ListElements.{EachBelow}
 use Rattle.pb_verifier.proofs.ends.ends_clear.Given as goal
 
 abbrev pub invariant-loop-place : goal.invariant-loop-place

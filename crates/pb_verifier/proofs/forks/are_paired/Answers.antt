@@ -2,7 +2,7 @@ use Rattle.std.proofs.Common.{refl, arith}
 use Rattle.pb_code.specs.View.{process_view}
 use Rattle.pb_verifier.specs.Arms.{IsPaired}
 use Rattle.pb_verifier.specs.Given.{instrs_of, plain}
-use Rattle.pb_verifier.proofs.Each.{each_more, each_all}
+use Rattle.pb_code.proofs.ListElements.{each_more, each_all}
 use Rattle.pb_verifier.proofs.forks.are_paired.Goals as goal
 
 pub loop-place-preserved : goal.loop-place-preserved

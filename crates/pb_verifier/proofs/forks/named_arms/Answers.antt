@@ -3,7 +3,7 @@ use Rattle.pb_code.specs.Code.{Fork}
 use Rattle.pb_code.specs.View.{process_view}
 use Rattle.pb_verifier.specs.Arms.{IsMarked}
 use Rattle.pb_verifier.specs.Given.{instrs_of, plain}
-use Rattle.pb_verifier.proofs.Each.{same_read}
+use Rattle.pb_code.proofs.ListElements.{same_read}
 use Rattle.pb_verifier.proofs.ForkTables.{fork_given, marked_none, marked_skip, marked_more, unmarked_of}
 use Rattle.pb_verifier.proofs.ReachSearch.{none_marked}
 use Rattle.pb_verifier.proofs.forks.named_arms.Goals as goal

@@ -6,7 +6,7 @@ use Rattle.pb_verifier.specs.Given.{instrs_of}
 use Rattle.pb_verifier.specs.Holdings.{held_bundles}
 use Rattle.pb_verifier.specs.Spread.{CanBeAnnotated, IsLeast, hold_rules, notes_of}
 use Rattle.pb_verifier.proofs.FaultFacts.{holdings_by_rules, no_facts, table_of}
-use Rattle.pb_verifier.proofs.Each.{none_weaker, some_weaker}
+use Rattle.pb_verifier.proofs.OptionalResults.{none_weaker, some_weaker}
 use Rattle.pb_verifier.proofs.holdings.holdings.Goals as goal
 
 pub spread-requires-clause-grown : goal.spread-requires-clause-grown

@@ -1,6 +1,6 @@
 use Rattle.std.proofs.Common.{◌≡◌, length, refl, arith}
 use Rattle.pb_code.specs.Bundles.{bundle_of}
-use Rattle.pb_code.proofs.Each.{same_by_get}
+use Rattle.pb_code.proofs.ListElements.{same_by_get}
 use Rattle.pb_verifier.proofs.holdings.same_bundle.Goals as goal
 
 pub returns : goal.returns

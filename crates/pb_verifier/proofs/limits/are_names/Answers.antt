@@ -1,7 +1,7 @@
 use Rattle.std.proofs.Common.{◌≡◌, ℕ, List, map, length, true, false, refl, sym, subst, arith}
 use Rattle.std.proofs.lemmas.List.{length-map}
 use Rattle.pb_verifier.specs.Limits.{IsName}
-use Rattle.pb_verifier.proofs.Each.{each_more}
+use Rattle.pb_code.proofs.ListElements.{each_more}
 use Rattle.pb_verifier.proofs.LimitTests.{all_at, apart_more, are_names_from, read_mapped}
 use Rattle.pb_verifier.proofs.limits.are_names.Goals as goal
 

@@ -1,6 +1,6 @@
 use Rattle.std.proofs.Common.{◌≢◌, ℕ, ◌<◌, [], get_or, map, length}
 use Rattle.pb_verifier.specs.Limits.{IsName}
-use Rattle.pb_verifier.proofs.Each.{EachBelow}
+use Rattle.pb_code.proofs.ListElements.{EachBelow}
 use Rattle.pb_verifier.proofs.limits.are_names.Given as goal
 
 abbrev pub invariant-loop-k : goal.invariant-loop-k

@@ -3,7 +3,7 @@ use Rattle.pb_code.specs.Code.{Push}
 use Rattle.pb_code.specs.Limits.{IsSigned}
 use Rattle.pb_verifier.specs.Given.{instrs_of}
 use Rattle.pb_verifier.specs.Limits.{HasSmallNumbers}
-use Rattle.pb_verifier.proofs.Each.{EachBelow}
+use Rattle.pb_code.proofs.ListElements.{EachBelow}
 use Rattle.pb_verifier.proofs.limits.are_small_instrs.Given as goal
 
 abbrev pub invariant-loop-place : goal.invariant-loop-place

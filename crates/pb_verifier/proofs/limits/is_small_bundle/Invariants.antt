@@ -1,7 +1,7 @@
 use Rattle.std.proofs.Common.{◌<◌}
 use Rattle.pb_code.specs.Bundles.{bundle_of}
 use Rattle.pb_verifier.specs.Limits.{IsUpTo}
-use Rattle.pb_verifier.proofs.Each.{EachBelow}
+use Rattle.pb_code.proofs.ListElements.{EachBelow}
 use Rattle.pb_verifier.proofs.limits.is_small_bundle.Given as goal
 
 abbrev pub invariant-loop-i : goal.invariant-loop-i

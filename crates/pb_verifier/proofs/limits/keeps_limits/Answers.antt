@@ -3,14 +3,14 @@ use Rattle.std.proofs.lemmas.List.{length-map}
 use Rattle.pb_base.specs.Tables.{HasWidth}
 use Rattle.pb_code.specs.View.{process_view}
 use Rattle.pb_verifier.specs.Limits.{AreNames, HasSmallPushes, IsSmallProcess}
-use Rattle.pb_verifier.proofs.Each.{each_more, each_all}
-use Rattle.pb_verifier.proofs.LimitTests.{read_borrowed}
+use Rattle.pb_code.proofs.ListElements.{each_more, each_all}
+use Rattle.pb_base.proofs.Lists.{view_read}
 use Rattle.pb_verifier.proofs.limits.keeps_limits.Goals as goal
 
 pub returns-then-not-is_small_process : goal.returns-then-not-is_small_process
 returns-then-not-is_small_process c =
-    let read = read_borrowed process_view c.args.code.now.processes.items c.deref-process-items.result.now
-    c.deref-process-items.ensures.value c.loop-process.process-index c.process-item.result
+    let read = view_read process_view c.args.code.now.processes.items c.deref-process-items.result.now
+    c.loop-process.process-index c.process-item.result c.deref-process-items.ensures.value
     c.loop-process-test.true c.process-item.is in
     record {
       limits = (
@@ -23,8 +23,8 @@ returns-then-not-is_small_process c =
 
 pub loop-process-preserved : goal.loop-process-preserved
 loop-process-preserved c =
-    let read = read_borrowed process_view c.args.code.now.processes.items c.deref-process-items.result.now
-    c.deref-process-items.ensures.value c.loop-process.process-index c.process-item.result
+    let read = view_read process_view c.args.code.now.processes.items c.deref-process-items.result.now
+    c.loop-process.process-index c.process-item.result c.deref-process-items.ensures.value
     c.loop-process-test.true c.process-item.is in
     let processes = map process_view c.args.code.now.processes.items in
     record {

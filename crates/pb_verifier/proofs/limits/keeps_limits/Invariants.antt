@@ -1,7 +1,7 @@
 use Rattle.std.proofs.Common.{map}
 use Rattle.pb_code.specs.View.{process_view}
 use Rattle.pb_verifier.specs.Limits.{IsSmallProcess, HasSmallPushes}
-use Rattle.pb_verifier.proofs.Each.{EachBelow}
+use Rattle.pb_code.proofs.ListElements.{EachBelow}
 use Rattle.pb_verifier.proofs.limits.keeps_limits.Given as goal
 
 abbrev pub invariant-loop-process : goal.invariant-loop-process

@@ -4,7 +4,7 @@ use Rattle.pb_code.specs.View.{process_view}
 use Rattle.pb_verifier.specs.declared.amounts.Amount.{Amount}
 use Rattle.pb_verifier.specs.Amounts.{TurnsAmount}
 use Rattle.pb_verifier.specs.Spread.{IsTableOf, notes_of}
-use Rattle.pb_verifier.proofs.Absent.{absent_fits}
+use Rattle.pb_verifier.proofs.UntakenResources.{absent_fits}
 use Rattle.pb_verifier.proofs.PeakTables.{peak_fits, peak_least}
 use Rattle.pb_verifier.proofs.peaks.peak_fits.Goals as goal
 

@@ -2,6 +2,7 @@ use Rattle.std.proofs.Common.{◌≡◌, ◌≢◌, ◌⊎◌, inl, inr, ◌+◌
 use Rattle.std.proofs.Common.{◌∙◌, arith, length-set, get_or-set_same, get_or-set_other}
 use Rattle.std.proofs.lemmas.Bool.{cases_eq}
 use Rattle.pb_code.specs.View.{process_view}
+use Rattle.pb_verifier.specs.declared.peaks.TheConstants.{OVER}
 use Rattle.pb_verifier.specs.Places.{arms}
 use Rattle.pb_verifier.proofs.PeakTables.{last_cut, last_more, last_none, replicate_read}
 use Rattle.pb_verifier.proofs.peaks.root_peak.Goals as goal
@@ -15,11 +16,11 @@ loop-done-init c = record {
 pub arm_peak-requires-clause-cut : goal.arm_peak-requires-clause-cut
 arm_peak-requires-clause-cut c = c.loop-done.invariant.small
 
-set_small : (peaks : List ℕ) (arm new : ℕ) → arm < length peaks → ((b : ℕ) → get_or peaks b 0 ≤ 1000001) → new ≤
-    1000001 → (b : ℕ) → get_or (set peaks arm new) b 0 ≤ 1000001
+set_small : (peaks : List ℕ) (arm new : ℕ) → arm < length peaks → ((b : ℕ) → get_or peaks b 0 ≤ OVER) → new ≤
+    OVER → (b : ℕ) → get_or (set peaks arm new) b 0 ≤ OVER
 set_small peaks arm new u small few b = go (cases_eq b arm)
   where
-    go : (b ≡ arm) ⊎ (b ≢ arm) → get_or (set peaks arm new) b 0 ≤ 1000001
+    go : (b ≡ arm) ⊎ (b ≢ arm) → get_or (set peaks arm new) b 0 ≤ OVER
     go (inl same) = let e : get_or (set peaks arm new) b 0 ≡ new = ap (λ (k : ℕ). get_or (set peaks arm new) k 0) same
         ∙ get_or-set_same peaks arm new 0 u in omega arith
     go (inr other) = let e : get_or (set peaks arm new) b 0 ≡ get_or peaks b 0 = get_or-set_other peaks arm b new 0 other in let v = small b in omega arith

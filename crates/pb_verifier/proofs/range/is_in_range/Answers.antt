@@ -1,7 +1,7 @@
 use Rattle.std.proofs.Common.{refl, arith}
 use Rattle.pb_verifier.specs.Faults.{UsesWhatIsThere}
 use Rattle.pb_verifier.specs.Given.{instrs_of}
-use Rattle.pb_verifier.proofs.Each.{each_all}
+use Rattle.pb_code.proofs.ListElements.{each_all}
 use Rattle.pb_verifier.proofs.range.is_in_range.Goals as goal
 
 pub returns : goal.returns

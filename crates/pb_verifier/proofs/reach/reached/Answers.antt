@@ -2,7 +2,7 @@ use Rattle.std.proofs.Common.{◌≡◌, ℕ, ◌<◌, ◌+◌, List, Bool, fals
 use Rattle.std.proofs.Common.{subst}
 use Rattle.std.proofs.lemmas.List.{get_or_default, length-map, length-replicate}
 use Rattle.pb_code.specs.View.{instr_view}
-use Rattle.pb_verifier.specs.Flow.{followers, with_place, with_marks, with_places}
+use Rattle.pb_verifier.specs.Flow.{followers, with_marks, with_places}
 use Rattle.pb_verifier.specs.Given.{instrs_of, plain}
 use Rattle.pb_verifier.proofs.ReachSearch.{IsSearch, VisitedAll, entries_visited, hand_inside, hand_small}
 use Rattle.pb_verifier.proofs.ReachSearch.{hand_target, hand_next, hand_done, extends_contains, search_over}

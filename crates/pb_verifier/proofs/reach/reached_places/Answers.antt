@@ -2,8 +2,8 @@ use Rattle.std.proofs.Common.{◌↔◌, ℕ, List, sym, subst, Contains}
 use Rattle.pb_code.specs.View.{process_view}
 use Rattle.pb_verifier.specs.Flow.{IsGrown, IsReachedPlace, StaysInside}
 use Rattle.pb_verifier.specs.Given.{instrs_of}
-use Rattle.pb_verifier.proofs.Each.{ok_both}
-use Rattle.pb_verifier.proofs.Inside.{stays_inside}
+use Rattle.pb_verifier.proofs.OptionalResults.{ok_both}
+use Rattle.pb_verifier.proofs.ContainedCode.{stays_inside}
 use Rattle.pb_verifier.proofs.reach.reached_places.Goals as goal
 
 pub reached-requires : goal.reached-requires

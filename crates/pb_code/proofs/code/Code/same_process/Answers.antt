@@ -1,7 +1,7 @@
 use Rattle.std.proofs.Common.{map, refl, sym, ap, ◌∙◌}
 use Rattle.std.specs.Prelude.{slice_get}
 use Rattle.pb_code.specs.View.{code_view, process_view}
-use Rattle.pb_code.proofs.Each.{alike_read, read_alike, read_mapped}
+use Rattle.pb_code.proofs.ListElements.{alike_read, read_alike, read_mapped}
 use Rattle.pb_code.proofs.code.Code.same_process.Goals as goal
 
 pub returns : goal.returns

@@ -1,9 +1,9 @@
-use Rattle.std.proofs.Common.{◌≡◌, ◌<◌, ℕ, List, length, map, Some, ap, ◌∙◌, arith, Vec, Global}
+use Rattle.std.proofs.Common.{◌≡◌, ℕ, List, length, map, Some, ap, ◌∙◌, arith, Vec, Global}
 use Rattle.std.specs.Prelude.{slice_get}
-use Rattle.std.proofs.lemmas.Option.{slice_get_within}
+use Rattle.std.proofs.lemmas.Option.{IfSome_then, slice_get_within}
 use Rattle.pb_base.specs.Lines.{NameTable}
-use Rattle.pb_debug.specs.Value.{Debugging, state_of}
-use Rattle.pb_debug.proofs.NameTexts.{if_some, names_many}
+use Rattle.pb_debug.specs.Value.{Debugging}
+use Rattle.pb_debug.proofs.NameTexts.{names_many}
 use Rattle.pb_debug.proofs.debugger.Debugger.process.Goals as goal
 
 pub returns-clause-within : goal.returns-clause-within
@@ -14,5 +14,5 @@ returns-clause-within c =
     ap (λ (ns : List (Vec ℕ Global)). length (map (λ name. name.items) ns)) c.deref.ensures.value
     ∙ ap (λ (n : NameTable). length n.processes) (c.names.ensures ∙ ap (λ (d : Debugging). d.verified.code.names) c.self.view_is) in
     let many = names_many d c.position.ensures.placed in
-    if_some c.find_name.result (λ p. slice_get given p ≡ Some c.args.word.now) (λ p. p < length (state_of d).processes) c.find_name.ensures.some
+    IfSome_then c.find_name.result {P = λ p. slice_get given p ≡ Some c.args.word.now} c.find_name.ensures.some
     (λ p e. let lt = slice_get_within given p c.args.word.now e in omega (arith, lt, same, many))

@@ -3,7 +3,7 @@ use Rattle.std.specs.Cmp.Lexicographic.{same_text, other_text}
 use Rattle.std.proofs.lemmas.List.{length-map}
 use Rattle.pb_names.specs.Index.{IsLinked}
 use Rattle.pb_names.specs.Search.{names_in}
-use Rattle.pb_names.proofs.First.{view_read}
+use Rattle.pb_base.proofs.Lists.{view_read}
 use Rattle.pb_names.proofs.NameIndexes.{reached_next, reached_end}
 use Rattle.pb_names.proofs.declared.Declared.number_of.Goals as goal
 

@@ -9,7 +9,7 @@ use Rattle.pb_parser.specs.Making.{Adds}
 use Rattle.pb_parser.proofs.Chains.{fails_through, fails_through_plain, made}
 use Rattle.pb_parser.proofs.Loops.{loop_more, loop_fails, loop_leaves, adds_more, stmts_assoc, append_empty}
 use Rattle.pb_parser.proofs.Loops.{arm_refused, statement_shorter, statement_first, statement_none, statement_zero}
-use Rattle.pb_parser.proofs.Steps.{choice_steps, choice_open, looping_steps, holding_steps, forking_steps, no_else}
+use Rattle.pb_parser.proofs.Steps.{if_else_steps, if_else_open, while_do_steps, hold_steps, parbegin_steps, no_else}
 use Rattle.pb_parser.proofs.Steps.{list_enter, list_refused, arm_found, arms_enter, arms_refused}
 use Rattle.pb_parser.proofs.parser.Parser.+statement.Goals as goal
 
@@ -53,43 +53,43 @@ body-returns g t c =
     let f = c.in_ok-list.ensures in
     record { syntax = f.syntax; found = f.found; same = f.same no_stmt c.in_ok-out.ensures.made }
 
-pub choice-returns-in_err-expect-2 : goal.choice-returns-in_err-expect-2
-choice-returns-in_err-expect-2 g t c =
+pub if_else-returns-in_err-expect-2 : goal.if_else-returns-in_err-expect-2
+if_else-returns-in_err-expect-2 g t c =
     let p = err_from_is_err_and c.from_residual-in_err-expect-2.result c.from_residual-in_err-expect-2.ensures.1 in
-    rw (p.1, p.2) (fails_through_plain g.B.Builder.wants _ c.in_err-expect-2.ensures (choice_open _ _ _ _ _ _ _ _ _ _ _
+    rw (p.1, p.2) (fails_through_plain g.B.Builder.wants _ c.in_err-expect-2.ensures (if_else_open _ _ _ _ _ _ _ _ _ _ _
     c.in_ok-test.ensures.found c.in_ok-expect.ensures c.in_ok-on_true.ensures.found c.in_ok-on_false.ensures.found))
 
-pub choice-returns : goal.choice-returns
-choice-returns g t c =
+pub if_else-returns : goal.if_else-returns
+if_else-returns g t c =
     let e = c.in_ok-test.ensures in
     let a = c.in_ok-on_true.ensures in
     let b = c.in_ok-on_false.ensures in
-    made (λ _. Adds g.B.Builder.is_stmts append c.args.out.now c.choice.new.out) g.B.Builder.wants _ _ _ _ _
-    (choice_steps _ _ _ _ _ _ _ _ _ e.syntax a.syntax b.syntax e.found c.in_ok-expect.ensures a.found b.found c.in_ok-expect-2.ensures)
-    (c.choice.ensures.made e.syntax a.syntax b.syntax e.same a.same b.same) c.choice.ensures.fault c.built.ensures.made c.built.ensures.fault
+    made (λ _. Adds g.B.Builder.is_stmts append c.args.out.now c.if_else.new.out) g.B.Builder.wants _ _ _ _ _
+    (if_else_steps _ _ _ _ _ _ _ _ _ e.syntax a.syntax b.syntax e.found c.in_ok-expect.ensures a.found b.found c.in_ok-expect-2.ensures)
+    (c.if_else.ensures.made e.syntax a.syntax b.syntax e.same a.same b.same) c.if_else.ensures.fault c.built.ensures.made c.built.ensures.fault
 
-pub looping-returns : goal.looping-returns
-looping-returns g t c =
+pub while_do-returns : goal.while_do-returns
+while_do-returns g t c =
     let e = c.in_ok-test.ensures in
     let a = c.in_ok-body.ensures in
-    made (λ _. Adds g.B.Builder.is_stmts append c.args.out.now c.repeat.new.out) g.B.Builder.wants _ _ _ _ _
-    (looping_steps _ _ _ _ _ _ _ _ e.syntax a.syntax e.found c.in_ok-expect.ensures a.found c.in_ok-expect-2.ensures)
-    (c.repeat.ensures.made e.syntax a.syntax e.same a.same) c.repeat.ensures.fault c.built.ensures.made c.built.ensures.fault
+    made (λ _. Adds g.B.Builder.is_stmts append c.args.out.now c.while_do.new.out) g.B.Builder.wants _ _ _ _ _
+    (while_do_steps _ _ _ _ _ _ _ _ e.syntax a.syntax e.found c.in_ok-expect.ensures a.found c.in_ok-expect-2.ensures)
+    (c.while_do.ensures.made e.syntax a.syntax e.same a.same) c.while_do.ensures.fault c.built.ensures.made c.built.ensures.fault
 
-pub holding-returns : goal.holding-returns
-holding-returns g t c =
+pub hold-returns : goal.hold-returns
+hold-returns g t c =
     let ds = c.in_ok-demands.ensures in
     let a = c.in_ok-body.ensures in
     made (λ _. Adds g.B.Builder.is_stmts append c.args.out.now c.hold.new.out) g.B.Builder.wants _ _ _ _ _
-    (holding_steps _ _ _ _ _ _ _ ds.syntax a.syntax ds.found c.in_ok-expect.ensures a.found c.in_ok-expect-2.ensures)
+    (hold_steps _ _ _ _ _ _ _ ds.syntax a.syntax ds.found c.in_ok-expect.ensures a.found c.in_ok-expect-2.ensures)
     (c.hold.ensures.made ds.syntax a.syntax ds.same a.same) c.hold.ensures.fault c.built.ensures.made c.built.ensures.fault
 
-pub forking-returns : goal.forking-returns
-forking-returns g t c =
+pub parbegin-returns : goal.parbegin-returns
+parbegin-returns g t c =
     let a = c.in_ok-arms.ensures in
-    made (λ _. Adds g.B.Builder.is_stmts append c.args.out.now c.fork.new.out) g.B.Builder.wants _ _ _ _ _
-    (forking_steps _ _ _ _ _ a.syntax a.found c.in_ok-expect.ensures)
-    (c.fork.ensures.made a.syntax a.same) c.fork.ensures.fault c.built.ensures.made c.built.ensures.fault
+    made (λ _. Adds g.B.Builder.is_stmts append c.args.out.now c.parbegin.new.out) g.B.Builder.wants _ _ _ _ _
+    (parbegin_steps _ _ _ _ _ a.syntax a.found c.in_ok-expect.ensures)
+    (c.parbegin.ensures.made a.syntax a.same) c.parbegin.ensures.fault c.built.ensures.made c.built.ensures.fault
 
 pub otherwise-returns-else-eat : goal.otherwise-returns-else-eat
 otherwise-returns-else-eat g t c =

@@ -23,17 +23,17 @@ decreases-arms g l = 8 * l.depth + 1
 abbrev pub decreases-otherwise : goal.decreases-otherwise
 decreases-otherwise g l = 8 * l.depth + 3
 
-abbrev pub decreases-choice : goal.decreases-choice
-decreases-choice g l = 8 * l.depth + 4
+abbrev pub decreases-if_else : goal.decreases-if_else
+decreases-if_else g l = 8 * l.depth + 4
 
-abbrev pub decreases-looping : goal.decreases-looping
-decreases-looping g l = 8 * l.depth + 4
+abbrev pub decreases-while_do : goal.decreases-while_do
+decreases-while_do g l = 8 * l.depth + 4
 
-abbrev pub decreases-holding : goal.decreases-holding
-decreases-holding g l = 8 * l.depth + 4
+abbrev pub decreases-hold : goal.decreases-hold
+decreases-hold g l = 8 * l.depth + 4
 
-abbrev pub decreases-forking : goal.decreases-forking
-decreases-forking g l = 8 * l.depth + 4
+abbrev pub decreases-parbegin : goal.decreases-parbegin
+decreases-parbegin g l = 8 * l.depth + 4
 
 abbrev pub decreases-inner : goal.decreases-inner
 decreases-inner g l = 8 * l.depth + 4

@@ -1,5 +1,0 @@
-use Rattle.pb_parser.proofs.MeasureSteps.{stmt_measured}
-use Rattle.pb_parser.proofs.measures.MeasuresBuilder.fork.Goals as goal
-
-pub returns-clause-made : goal.returns-clause-made
-returns-clause-made c = λ a h before k. stmt_measured _ before _ (c.beside.ensures _ _ _ _ k (c.under_node.ensures _ _ h))
