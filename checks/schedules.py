@@ -22,7 +22,8 @@ HEAD = """\
 
 use pb_example_texts::{MODULES};
 
-/// A text, and the picks that were recorded: a process, an arm and how often it is picked, three bytes for each.
+/// A text, and the picks that were recorded: a process, an arm and how often it is picked, three bytes for
+/// each.
 pub(crate) struct Example {
     pub text: &'static [u8],
     pub picks: &'static [u8],
