@@ -52,8 +52,8 @@ pub record IsOpened (verified : VerifiedCode) (labels : List ProcessLabels) (sho
 
 -- ---- what is said
 
--- of commands: the answers to all of their lines; if out of memory, the answers to the first lines and then
--- `memory`; if a device fails, the answers to the first lines
+-- what a session writes: the answer to each command line; if it is out of memory, the answers to the first
+-- lines and then `memory`; if a device fails, the answers to the first lines
 pub data SaysOfSession (d : Debugging) (commands : List ℕ) : List ℕ → Status → Type 0 where
   answered : (text : List ℕ) (end : Debugging) → Session d (lines_of (session_bytes commands)) text end
       → SaysOfSession d commands text Done

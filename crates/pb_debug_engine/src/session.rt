@@ -12,7 +12,8 @@ use pb_debug::{DebugFault, Debugger};
 use pb_engines::{Page, Status};
 use std::alloc::Global;
 
-/// Answers the commands of an input, and writes `memory` if out of memory for an answer.
+/// Writes the answers to the commands of an input, up to the first for which it is out of memory: there it
+/// writes `memory`, and returns.
 pub fn tell_session<I: Input, O: Output>(
     alloc: Global,
     debugger: &mut Debugger<'_>,

@@ -59,7 +59,7 @@ TellsAnswer text old new told.Broken =
 
 -- ---- the texts so far
 
--- the parts looked at so far, and their answers, which were written
+-- the parts that have been checked so far, with what was written for each
 pub record AreTold (bytes rest : List ℕ) (before : Option (List ℕ)) (refused : Bool) (now : Spoken) : Type 0 where
   pub done : List (List ℕ)
   pub said : List ℕ

@@ -4,7 +4,7 @@ use pb_banker::{Answer, Banker, Loans, Till};
 use pb_base::{Bundle, Capital, Claims, Pair};
 use std::alloc::Global;
 
-/// Returns what the banker answers to a request for one resource, and how many claims were looked at.
+/// Returns the answer of the banker to a request for one resource, and the number of claims that it read.
 fn asked(banker: &mut Banker, p: usize, r: u8, amount: u32) -> Option<(Answer, u32)> {
     if p >= banker.processes() || usize::from(r) >= banker.resources() {
         return None;
