@@ -3,9 +3,11 @@
 ghost use Rattle.std.specs.Prelude.{◌≡◌, ◌++◌, ◌∷◌, [], ◌≤◌, length};
 ghost use Rattle.pb_debug.specs.Buffers.{kept};
 
+use crate::command::MAX_COMMAND;
 use std::marker::Model;
 
-const ROOM: usize = 257;
+// The bytes of a line that are kept: one more than a command may have.
+const ROOM: usize = MAX_COMMAND + 1;
 
 /// The first bytes of a line: all of them, up to one more than a command may have. So a line of any length
 /// takes no memory.

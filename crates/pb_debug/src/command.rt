@@ -48,7 +48,7 @@ pub(crate) enum Command<'t> {
 }
 
 // The most bytes of a command.
-const MAX_COMMAND: usize = 256;
+pub(crate) const MAX_COMMAND: usize = 256;
 
 fn is(word: &[u8], text: &str) -> bool
     ensures { result ≡ bytes_eq word.now text.now }

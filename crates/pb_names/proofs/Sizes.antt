@@ -5,7 +5,7 @@ use Rattle.pb_names.specs.Program.{Assign, Print, If, While, Hold, Block, Skip, 
 use Rattle.pb_names.specs.View.{stmt_view, block_view, arm_view, arms_view}
 use Rattle.pb_names.specs.declared.resolved.Stmt.{Stmt, Parbegin}
 use Rattle.pb_base.proofs.Lists.{item_within}
-use Rattle.pb_names.proofs.Views.{view-Parbegin}
+use Rattle.pb_names.proofs.Views.{numbered-Parbegin}
 
 -- how many statements a statement has, itself included
 abbrev mutual
@@ -45,4 +45,4 @@ pub arms_size_within : {A : Type 0} (s : Stmt A) (line first : ℕ) (arms : Vec 
     → s ≡ Parbegin line first arms
     → arms_size (arms_view arms.items) < stmt_size (stmt_view s)
 unfolding arm_view
-arms_size_within s line first arms is = omega (arith, ap stmt_size (ap stmt_view is ∙ view-Parbegin line first arms))
+arms_size_within s line first arms is = omega (arith, ap stmt_size (ap stmt_view is ∙ numbered-Parbegin line first arms))

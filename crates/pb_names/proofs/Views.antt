@@ -14,51 +14,51 @@ use Rattle.pb_names.specs.declared.resolved.Stmt.{fold-roll-Stmt, the_lemmas}
 use Rattle.pb_names.specs.declared.resolved.Stmt.TheOpen.{Stmt-F}
 use Rattle.pb_names.specs.declared.resolved.Stmt.TheVariants.{rolls-Parbegin}
 
-pub view-Number : (A : Type 0) (value : ℤ) → expr_view {A = A} (Number value) ≡ plain.Number value
-view-Number A value = search (rules, expr_lemmas)
+pub numbered-Number : (A : Type 0) (value : ℤ) → expr_view {A = A} (Number value) ≡ plain.Number value
+numbered-Number A value = search (rules, expr_lemmas)
 
-pub view-Variable : (A : Type 0) (x : ℕ) → expr_view {A = A} (Variable x) ≡ plain.Variable x
-view-Variable A x = search (rules, expr_lemmas)
+pub numbered-Variable : (A : Type 0) (x : ℕ) → expr_view {A = A} (Variable x) ≡ plain.Variable x
+numbered-Variable A x = search (rules, expr_lemmas)
 
-pub view-Unary : {A : Type 0} (op : UnaryOp) (e : Box (Expr A) A)
+pub numbered-Unary : {A : Type 0} (op : UnaryOp) (e : Box (Expr A) A)
     → expr_view (Unary op e) ≡ plain.Unary op (expr_view e.value)
-view-Unary op e = search (rules, expr_lemmas)
+numbered-Unary op e = search (rules, expr_lemmas)
 
-pub view-Binary : {A : Type 0} (op : BinaryOp) (a b : Box (Expr A) A)
+pub numbered-Binary : {A : Type 0} (op : BinaryOp) (a b : Box (Expr A) A)
     → expr_view (Binary op a b) ≡ plain.Binary op (expr_view a.value) (expr_view b.value)
-view-Binary op a b = search (rules, expr_lemmas)
+numbered-Binary op a b = search (rules, expr_lemmas)
 
-pub view-Assign : {A : Type 0} (line x : ℕ) (e : Expr A) → stmt_view (Assign line x e) ≡ plain.Assign line x (expr_view e)
-view-Assign line x e = search (rules, the_lemmas)
+pub numbered-Assign : {A : Type 0} (line x : ℕ) (e : Expr A) → stmt_view (Assign line x e) ≡ plain.Assign line x (expr_view e)
+numbered-Assign line x e = search (rules, the_lemmas)
 
-pub view-Print : {A : Type 0} (line : ℕ) (e : Expr A) → stmt_view (Print line e) ≡ plain.Print line (expr_view e)
-view-Print line e = search (rules, the_lemmas)
+pub numbered-Print : {A : Type 0} (line : ℕ) (e : Expr A) → stmt_view (Print line e) ≡ plain.Print line (expr_view e)
+numbered-Print line e = search (rules, the_lemmas)
 
-pub view-If : {A : Type 0} (line : ℕ) (e : Expr A) (on_true on_false : Vec (Stmt A) A)
+pub numbered-If : {A : Type 0} (line : ℕ) (e : Expr A) (on_true on_false : Vec (Stmt A) A)
     → stmt_view (If line e on_true on_false)
     ≡ plain.If line (expr_view e) (block_view on_true.items) (block_view on_false.items)
-view-If line e on_true on_false = search (rules, the_lemmas)
+numbered-If line e on_true on_false = search (rules, the_lemmas)
 
-pub view-While : {A : Type 0} (line : ℕ) (e : Expr A) (body : Vec (Stmt A) A)
+pub numbered-While : {A : Type 0} (line : ℕ) (e : Expr A) (body : Vec (Stmt A) A)
     → stmt_view (While line e body) ≡ plain.While line (expr_view e) (block_view body.items)
-view-While line e body = search (rules, the_lemmas)
+numbered-While line e body = search (rules, the_lemmas)
 
-pub view-Hold : {A : Type 0} (line : ℕ) (bundle : Bundle) (body : Vec (Stmt A) A)
+pub numbered-Hold : {A : Type 0} (line : ℕ) (bundle : Bundle) (body : Vec (Stmt A) A)
     → stmt_view (Hold line bundle body) ≡ plain.Hold line bundle (block_view body.items)
-view-Hold line bundle body = search (rules, the_lemmas)
+numbered-Hold line bundle body = search (rules, the_lemmas)
 
-pub view-Parbegin : {A : Type 0} (line first : ℕ) (arms : Vec (Vec (Stmt A) A) A)
+pub numbered-Parbegin : {A : Type 0} (line first : ℕ) (arms : Vec (Vec (Stmt A) A) A)
     → stmt_view (Parbegin line first arms) ≡ plain.Parbegin line first (arms_view arms.items)
 unfolding arm_view
-view-Parbegin {A} line first arms =
+numbered-Parbegin {A} line first arms =
     ap stmt_view (sym (rolls-Parbegin line first arms))
     ∙ fold-roll-Stmt A plain.Stmt stmt_step (Stmt-F.Parbegin line first arms)
     ∙ ap (λ r. plain.Parbegin line first (arms_from r)) (map-map (λ arm. block_of arm.items) _ arms.items)
 
-pub view-arm : {A : Type 0} (arm : Vec (Stmt A) A) → arm_view arm ≡ block_view arm.items
+pub numbered-arm : {A : Type 0} (arm : Vec (Stmt A) A) → arm_view arm ≡ block_view arm.items
 unfolding arm_view
-view-arm arm = refl
+numbered-arm arm = refl
 
-pub ruleset expr_views = (view-Number, view-Variable, view-Unary, view-Binary)
+pub ruleset expr_views = (numbered-Number, numbered-Variable, numbered-Unary, numbered-Binary)
 
-pub ruleset stmt_views = (view-Assign, view-Print, view-If, view-While, view-Hold, view-Parbegin, view-arm)
+pub ruleset stmt_views = (numbered-Assign, numbered-Print, numbered-If, numbered-While, numbered-Hold, numbered-Parbegin, numbered-arm)

@@ -6,7 +6,7 @@ use Rattle.pb_names.specs.Source.{item_of}
 use Rattle.pb_names.specs.View.{expr_view, block_view, arms_view}
 use Rattle.pb_names.specs.declared.resolved.Expr.{Expr}
 use Rattle.pb_names.specs.declared.resolved.Stmt.{Stmt, Assign, Print, If, While, Hold, Parbegin}
-use Rattle.pb_names.proofs.Views.{view-Assign, view-Print, view-If, view-While, view-Hold, view-Parbegin}
+use Rattle.pb_names.proofs.Views.{numbered-Assign, numbered-Print, numbered-If, numbered-While, numbered-Hold, numbered-Parbegin}
 use Rattle.pb_rewrite.specs.View.{arm_view, item_view, items_view}
 use Rattle.pb_rewrite.specs.declared.item.Item.{Item}
 use Rattle.pb_rewrite.specs.declared.item.Item.TheVariants as item
@@ -21,27 +21,27 @@ module _ {A : Type 0} (v : Vec (Item A) A) (old : List plain.Item) where
 
   pub kept_assign : (line x : ℕ) (e : Expr A) → items_view v.items ≡ item_view (Left (Assign line x e)) ∷ old
       → arm_view (Doing v) ≡ plain.Doing (plain.Assign line x (expr_view e) ∷ old)
-  kept_assign line x e put = kept (Left (Assign line x e)) _ put (ap item_of (view-Assign line x e))
+  kept_assign line x e put = kept (Left (Assign line x e)) _ put (ap item_of (numbered-Assign line x e))
 
   pub kept_print : (line : ℕ) (e : Expr A) → items_view v.items ≡ item_view (Left (Print line e)) ∷ old
       → arm_view (Doing v) ≡ plain.Doing (plain.Print line (expr_view e) ∷ old)
-  kept_print line e put = kept (Left (Print line e)) _ put (ap item_of (view-Print line e))
+  kept_print line e put = kept (Left (Print line e)) _ put (ap item_of (numbered-Print line e))
 
   pub kept_if : (line : ℕ) (e : Expr A) (a b : Vec (Stmt A) A) → items_view v.items ≡ item_view (Left (If line e a b)) ∷ old
       → arm_view (Doing v) ≡ plain.Doing (plain.If line (expr_view e) (block_view a.items) (block_view b.items) ∷ old)
-  kept_if line e a b put = kept (Left (If line e a b)) _ put (ap item_of (view-If line e a b))
+  kept_if line e a b put = kept (Left (If line e a b)) _ put (ap item_of (numbered-If line e a b))
 
   pub kept_while : (line : ℕ) (e : Expr A) (body : Vec (Stmt A) A) → items_view v.items ≡ item_view (Left (While line e body)) ∷ old
       → arm_view (Doing v) ≡ plain.Doing (plain.While line (expr_view e) (expr_view e) (block_view body.items) ∷ old)
-  kept_while line e body put = kept (Left (While line e body)) _ put (ap item_of (view-While line e body))
+  kept_while line e body put = kept (Left (While line e body)) _ put (ap item_of (numbered-While line e body))
 
   pub kept_hold : (line : ℕ) (bundle : Bundle) (body : Vec (Stmt A) A) → items_view v.items ≡ item_view (Left (Hold line bundle body)) ∷ old
       → arm_view (Doing v) ≡ plain.Doing (plain.Hold line bundle (block_view body.items) ∷ old)
-  kept_hold line bundle body put = kept (Left (Hold line bundle body)) _ put (ap item_of (view-Hold line bundle body))
+  kept_hold line bundle body put = kept (Left (Hold line bundle body)) _ put (ap item_of (numbered-Hold line bundle body))
 
   pub kept_fork : (line first : ℕ) (arms : Vec (Vec (Stmt A) A) A) → items_view v.items ≡ item_view (Left (Parbegin line first arms)) ∷ old
       → arm_view (Doing v) ≡ plain.Doing (plain.Parbegin line first (arms_view arms.items) ∷ old)
-  kept_fork line first arms put = kept (Left (Parbegin line first arms)) _ put (ap item_of (view-Parbegin line first arms))
+  kept_fork line first arms put = kept (Left (Parbegin line first arms)) _ put (ap item_of (numbered-Parbegin line first arms))
 
   pub kept_loop : (line : ℕ) (test left : Expr A) (body : Vec (Stmt A) A) → items_view v.items ≡ item_view (item.While line test left body) ∷ old
       → arm_view (Doing v) ≡ plain.Doing (plain.While line (expr_view test) (expr_view left) (block_view body.items) ∷ old)

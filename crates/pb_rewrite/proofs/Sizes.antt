@@ -9,7 +9,7 @@ use Rattle.pb_names.specs.declared.resolved.Expr.{Expr, Unary, Binary}
 use Rattle.pb_base.specs.Steppers.{Bundle}
 use Rattle.pb_base.specs.declared.operators.UnaryOp.{UnaryOp}
 use Rattle.pb_base.specs.declared.operators.BinaryOp.{BinaryOp}
-use Rattle.pb_names.proofs.Views.{view-Unary, view-Binary, view-If, view-While, view-Hold}
+use Rattle.pb_names.proofs.Views.{numbered-Unary, numbered-Binary, numbered-If, numbered-While, numbered-Hold}
 use Rattle.pb_names.proofs.Sizes.{stmt_size, block_size}
 
 -- how many expressions an expression has, itself included
@@ -25,37 +25,37 @@ pub then_size_within : {A : Type 0} (s : Stmt A) (line : ℕ) (e : Expr A) (on_t
     → s ≡ made.If line e on_true on_false
     → block_size (block_view on_true.items) < stmt_size (stmt_view s)
 then_size_within s line e on_true on_false is =
-    omega (arith, ap stmt_size (ap stmt_view is ∙ view-If line e on_true on_false))
+    omega (arith, ap stmt_size (ap stmt_view is ∙ numbered-If line e on_true on_false))
 
 pub else_size_within : {A : Type 0} (s : Stmt A) (line : ℕ) (e : Expr A) (on_true on_false : Vec (Stmt A) A)
     → s ≡ made.If line e on_true on_false
     → block_size (block_view on_false.items) < stmt_size (stmt_view s)
 else_size_within s line e on_true on_false is =
-    omega (arith, ap stmt_size (ap stmt_view is ∙ view-If line e on_true on_false))
+    omega (arith, ap stmt_size (ap stmt_view is ∙ numbered-If line e on_true on_false))
 
 pub repeated_size_within : {A : Type 0} (s : Stmt A) (line : ℕ) (e : Expr A) (body : Vec (Stmt A) A)
     → s ≡ made.While line e body
     → block_size (block_view body.items) < stmt_size (stmt_view s)
-repeated_size_within s line e body is = omega (arith, ap stmt_size (ap stmt_view is ∙ view-While line e body))
+repeated_size_within s line e body is = omega (arith, ap stmt_size (ap stmt_view is ∙ numbered-While line e body))
 
 pub held_size_within : {A : Type 0} (s : Stmt A) (line : ℕ) (bundle : Bundle) (body : Vec (Stmt A) A)
     → s ≡ made.Hold line bundle body
     → block_size (block_view body.items) < stmt_size (stmt_view s)
-held_size_within s line bundle body is = omega (arith, ap stmt_size (ap stmt_view is ∙ view-Hold line bundle body))
+held_size_within s line bundle body is = omega (arith, ap stmt_size (ap stmt_view is ∙ numbered-Hold line bundle body))
 
 -- the operands of an expression
 
 pub operand_size_within : {A : Type 0} (s : Expr A) (op : UnaryOp) (e : Box (Expr A) A)
     → s ≡ Unary op e
     → expr_size (expr_view e.value) < expr_size (expr_view s)
-operand_size_within s op e is = omega (arith, ap expr_size (ap expr_view is ∙ view-Unary op e))
+operand_size_within s op e is = omega (arith, ap expr_size (ap expr_view is ∙ numbered-Unary op e))
 
 pub left_size_within : {A : Type 0} (s : Expr A) (op : BinaryOp) (a b : Box (Expr A) A)
     → s ≡ Binary op a b
     → expr_size (expr_view a.value) < expr_size (expr_view s)
-left_size_within s op a b is = omega (arith, ap expr_size (ap expr_view is ∙ view-Binary op a b))
+left_size_within s op a b is = omega (arith, ap expr_size (ap expr_view is ∙ numbered-Binary op a b))
 
 pub right_size_within : {A : Type 0} (s : Expr A) (op : BinaryOp) (a b : Box (Expr A) A)
     → s ≡ Binary op a b
     → expr_size (expr_view b.value) < expr_size (expr_view s)
-right_size_within s op a b is = omega (arith, ap expr_size (ap expr_view is ∙ view-Binary op a b))
+right_size_within s op a b is = omega (arith, ap expr_size (ap expr_view is ∙ numbered-Binary op a b))

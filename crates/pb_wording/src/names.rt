@@ -3,6 +3,7 @@
 use crate::tokens::{is_at, process_before, process_name, text_at, token_at};
 use crate::wording::{Shown, Wording};
 use pb_base::NoMemory;
+use pb_base::limits::{MAX_FORK, MAX_INTEGERS, MAX_PROCESSES, MAX_RESOURCES};
 use pb_lexer::{Mark, Token};
 use pb_names::{Kind as Limited, NameFault};
 use std::alloc::{AllocError, Global};
@@ -89,10 +90,10 @@ fn first_too_many(
     kind: Limited,
 ) -> Result<Option<usize>, NoMemory> {
     Ok(match kind {
-        Limited::Processes => nth_mark(tokens, Mark::Process, 65),
-        Limited::Resources => nth_mark(tokens, Mark::Resource, 17),
+        Limited::Processes => nth_mark(tokens, Mark::Process, MAX_PROCESSES + 1),
+        Limited::Resources => nth_mark(tokens, Mark::Resource, MAX_RESOURCES + 1),
         Limited::Integers => integer_past_limit(tokens),
-        Limited::Fork => arm_past_limit(alloc, tokens, 16)?,
+        Limited::Fork => arm_past_limit(alloc, tokens, MAX_FORK)?,
         Limited::Arms => None,
     })
 }
@@ -111,12 +112,12 @@ fn nth_mark(tokens: &[Token], mark: Mark, nth: usize) -> Option<usize> {
     None
 }
 
-// Returns the number of the first name with which a process declares over 64 integers.
+// Returns the number of the first name with which a process declares more than `MAX_INTEGERS`.
 fn integer_past_limit(tokens: &[Token]) -> Option<usize> {
     let mut declared = None;
     for number in 0..tokens.len() {
         declared = integers_behind(tokens, number, declared);
-        if declared == Some(65) {
+        if declared == Some(MAX_INTEGERS + 1) {
             return Some(number);
         }
     }

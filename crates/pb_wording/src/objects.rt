@@ -2,11 +2,15 @@
 
 use crate::wording::{Shown, Wording};
 use pb_base::NoMemory;
+use pb_base::limits::{MAX_PLACES, MAX_PROCESSES};
 use pb_code::{Code, Instr, ProcessCode};
 use pb_excerpts::place::line_end;
 use pb_object::{ObjectFault, read_any};
 use pb_verifier::{VerifyFault, verify};
 use std::alloc::Global;
+
+// The most halvings after which one place of `MAX_PLACES` and one more is left.
+const HALVINGS: usize = 17;
 
 /// Returns the wording of a fault of bytes that are not an object.
 pub fn unread_wording(alloc: Global, bytes: &[u8], fault: ObjectFault) -> Wording {
@@ -159,7 +163,7 @@ fn faulty_process(
     bytes: &[u8],
     fault: VerifyFault,
 ) -> Result<Option<usize>, NoMemory> {
-    for process in 0..64 {
+    for process in 0..MAX_PROCESSES {
         if fault_of_part(alloc, bytes, process, usize::MAX)? == Some(fault) {
             return Ok(Some(process));
         }
@@ -189,8 +193,8 @@ fn first_faulty_place(
     fault: VerifyFault,
 ) -> Result<Option<usize>, NoMemory> {
     let mut low = 0usize;
-    let mut high = 40_000usize;
-    for _ in 0..17 {
+    let mut high = MAX_PLACES;
+    for _ in 0..HALVINGS {
         let middle = low.saturating_add(high) / 2;
         if middle >= high {
             break;

@@ -1,7 +1,7 @@
 use Rattle.std.proofs.Common.{arith, rules, ap, ◌∙◌}
 use Rattle.pb_names.specs.Claims.{stmt_peak}
 use Rattle.pb_names.specs.View.{stmt_view}
-use Rattle.pb_names.proofs.Views.{view-Parbegin}
+use Rattle.pb_names.proofs.Views.{numbered-Parbegin}
 use Rattle.pb_names.proofs.Sizes.{stmt_size_within, arm_size_within, arms_size_within}
 use Rattle.pb_claims.proofs.Walks.{peak_more, arms_peak_more}
 use Rattle.pb_claims.proofs.peaks.+peaks.Goals as goal
@@ -11,7 +11,7 @@ peak_of_stmt-returns-in-Parbegin g t c =
     omega (
       arith,
       ap (stmt_peak c.args.resource) (ap stmt_view c.in-Parbegin.is
-          ∙ view-Parbegin c.in-Parbegin.line c.in-Parbegin.first c.in-Parbegin.arms),
+          ∙ numbered-Parbegin c.in-Parbegin.line c.in-Parbegin.first c.in-Parbegin.arms),
     )
 
 pub peak_of_list-loop-stmt-preserved : goal.peak_of_list-loop-stmt-preserved

@@ -3,7 +3,7 @@ use Rattle.std.proofs.lemmas.List.{take_all}
 use Rattle.pb_names.proofs.Sizes.{arm_size_within, arms_size_within, stmt_size_within}
 use Rattle.pb_names.specs.Program.{arms_in_stmt, arms_in, arms_in_arms}
 use Rattle.pb_names.specs.View.{stmt_view, block_view, arms_view}
-use Rattle.pb_names.proofs.Views.{view-If, view-While, view-Hold, view-Parbegin}
+use Rattle.pb_names.proofs.Views.{numbered-If, numbered-While, numbered-Hold, numbered-Parbegin}
 use Rattle.pb_codegen.proofs.WriterLists.{arms_in-more, arms_in_arms-more, collected}
 use Rattle.pb_codegen.proofs.arms.+arms.Goals as goal
 
@@ -34,13 +34,13 @@ add_arms_in_stmt-add_arms_in_each-requires g t c κs within =
 
 pub add_arms_in_stmt-returns-in_ok-add_arms_in-in-If-2 : goal.add_arms_in_stmt-returns-in_ok-add_arms_in-in-If-2
 add_arms_in_stmt-returns-in_ok-add_arms_in-in-If-2 g t c =
-    rw (c.in-If.is, view-If)
+    rw (c.in-If.is, numbered-If)
     (collected _ _ _ _ _ _ c.in_ok-add_arms_in-in-If.ensures c.in_ok-add_arms_in-in-If-2.ensures refl)
 
 pub add_arms_in_stmt-returns-in_ok-add_arms_in_each-in-Parbegin :
     goal.add_arms_in_stmt-returns-in_ok-add_arms_in_each-in-Parbegin
 add_arms_in_stmt-returns-in_ok-add_arms_in_each-in-Parbegin g t c =
-    rw (c.in-Parbegin.is, view-Parbegin)
+    rw (c.in-Parbegin.is, numbered-Parbegin)
     (collected _ _ _ _ _ _ c.in_ok-add_arms-in-Parbegin.ensures c.in_ok-add_arms_in_each-in-Parbegin.ensures refl)
 
 pub add_arms_in-loop-stmt-init : goal.add_arms_in-loop-stmt-init
@@ -62,7 +62,7 @@ add_arms_in_each-returns g t c =
     (take_all c.loop-arm.arm-index c.deref-arm-items.result.now c.loop-arm-test.false ∙ c.deref-arm-items.ensures.value)
 
 pub add_arms_in_stmt-returns-in_ok-add_arms_in-in-While : goal.add_arms_in_stmt-returns-in_ok-add_arms_in-in-While
-add_arms_in_stmt-returns-in_ok-add_arms_in-in-While g t c = rw (c.in-While.is, view-While) c.in_ok-add_arms_in-in-While.ensures
+add_arms_in_stmt-returns-in_ok-add_arms_in-in-While g t c = rw (c.in-While.is, numbered-While) c.in_ok-add_arms_in-in-While.ensures
 
 pub add_arms_in_stmt-returns-in_ok-add_arms_in-in-Hold : goal.add_arms_in_stmt-returns-in_ok-add_arms_in-in-Hold
-add_arms_in_stmt-returns-in_ok-add_arms_in-in-Hold g t c = rw (c.in-Hold.is, view-Hold) c.in_ok-add_arms_in-in-Hold.ensures
+add_arms_in_stmt-returns-in_ok-add_arms_in-in-Hold g t c = rw (c.in-Hold.is, numbered-Hold) c.in_ok-add_arms_in-in-Hold.ensures

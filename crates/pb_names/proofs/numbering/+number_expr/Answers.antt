@@ -9,7 +9,7 @@ use Rattle.pb_names.specs.Causes.{InExpr}
 use Rattle.pb_names.specs.Resolves.{ResolvesExpr, number, variable, unary, binary}
 use Rattle.pb_names.specs.Search.{IsFree, names_in}
 use Rattle.pb_names.proofs.FirstCauses.{free_left, free_right}
-use Rattle.pb_names.proofs.Views.{view-Number, view-Variable}
+use Rattle.pb_names.proofs.Views.{numbered-Number, numbered-Variable}
 use Rattle.pb_names.proofs.numbering.+number_expr.Goals as goal
 
 pub number_expr-requires-in-Binary : goal.number_expr-requires-in-Binary
@@ -31,12 +31,12 @@ number_expr-requires-in-Binary-2 g t c κs within =
     search (rules, expr_lemmas)
 
 pub returns-in-Number : goal.returns-in-Number
-returns-in-Number g t c = rw (ap expr_view c.in-Number.is ∙ tree.view-Number _ c.in-Number.number, view-Number)
+returns-in-Number g t c = rw (ap expr_view c.in-Number.is ∙ tree.view-Number _ c.in-Number.number, numbered-Number)
     (rw (to_z-of_z w64 c.in-Number.number.value (search rules)) (number _))
 
 pub returns-in-Variable : goal.returns-in-Variable
 returns-in-Variable g t c =
-    rw (ap expr_view c.in-Variable.is ∙ tree.view-Variable c.in-Variable.name, view-Variable)
+    rw (ap expr_view c.in-Variable.is ∙ tree.view-Variable c.in-Variable.name, numbered-Variable)
     (variable _ _ c.number_in.ensures)
 
 pub returns-in_ok-operand-in-Unary : goal.returns-in_ok-operand-in-Unary

@@ -2,7 +2,7 @@ use borrow.Author.Count.{falls}
 use Rattle.std.proofs.Common.{map, rules, ap, ap₂, sym, ◌∙◌}
 use Rattle.pb_names.specs.Program as plain
 use Rattle.pb_names.specs.View.{expr_view, stmt_view, block_view, arm_view, arms_view, block_of, arms_from}
-use Rattle.pb_names.proofs.Views.{view-Assign, view-Print, view-If, view-While, view-Hold, view-Parbegin}
+use Rattle.pb_names.proofs.Views.{numbered-Assign, numbered-Print, numbered-If, numbered-While, numbered-Hold, numbered-Parbegin}
 use Rattle.pb_tree.proofs.Copies.{copied_more, copied_all}
 use Rattle.pb_names.proofs.Sizes.{stmt_size_within, arm_size_within, arms_size_within}
 use Rattle.pb_rewrite.proofs.Sizes.{then_size_within, else_size_within, repeated_size_within, held_size_within}
@@ -59,45 +59,45 @@ copy_stmt-copy_arms-requires g t c κs within =
 pub copy_stmt-returns-in_ok-value-in-Assign : goal.copy_stmt-returns-in_ok-value-in-Assign
 copy_stmt-returns-in_ok-value-in-Assign g t c =
     let a = c.in-Assign in
-    view-Assign a.line a.target c.in_ok-value-in-Assign.value
+    numbered-Assign a.line a.target c.in_ok-value-in-Assign.value
     ∙ ap (plain.Assign a.line a.target) c.in_ok-value-in-Assign.ensures
-    ∙ sym (ap stmt_view a.is ∙ view-Assign a.line a.target a.value)
+    ∙ sym (ap stmt_view a.is ∙ numbered-Assign a.line a.target a.value)
 
 pub copy_stmt-returns-in_ok-value-in-Print : goal.copy_stmt-returns-in_ok-value-in-Print
 copy_stmt-returns-in_ok-value-in-Print g t c =
     let a = c.in-Print in
-    view-Print a.line c.in_ok-value-in-Print.value
+    numbered-Print a.line c.in_ok-value-in-Print.value
     ∙ ap (plain.Print a.line) c.in_ok-value-in-Print.ensures
-    ∙ sym (ap stmt_view a.is ∙ view-Print a.line a.value)
+    ∙ sym (ap stmt_view a.is ∙ numbered-Print a.line a.value)
 
 pub copy_stmt-returns-in_ok-on_false-in-If : goal.copy_stmt-returns-in_ok-on_false-in-If
 copy_stmt-returns-in_ok-on_false-in-If g t c =
     let a = c.in-If in
-    view-If a.line c.in_ok-test-in-If.test c.in_ok-on_true-in-If.on_true c.in_ok-on_false-in-If.on_false
+    numbered-If a.line c.in_ok-test-in-If.test c.in_ok-on_true-in-If.on_true c.in_ok-on_false-in-If.on_false
     ∙ ap₂ (λ e b. plain.If a.line e b (block_view c.in_ok-on_false-in-If.on_false.items)) c.in_ok-test-in-If.ensures c.in_ok-on_true-in-If.ensures
     ∙ ap (plain.If a.line (expr_view a.test) (block_view a.on_true.items)) c.in_ok-on_false-in-If.ensures
-    ∙ sym (ap stmt_view a.is ∙ view-If a.line a.test a.on_true a.on_false)
+    ∙ sym (ap stmt_view a.is ∙ numbered-If a.line a.test a.on_true a.on_false)
 
 pub copy_stmt-returns-in_ok-body-in-While : goal.copy_stmt-returns-in_ok-body-in-While
 copy_stmt-returns-in_ok-body-in-While g t c =
     let a = c.in-While in
-    view-While a.line c.in_ok-test-in-While.test c.in_ok-body-in-While.body
+    numbered-While a.line c.in_ok-test-in-While.test c.in_ok-body-in-While.body
     ∙ ap₂ (plain.While a.line) c.in_ok-test-in-While.ensures c.in_ok-body-in-While.ensures
-    ∙ sym (ap stmt_view a.is ∙ view-While a.line a.test a.body)
+    ∙ sym (ap stmt_view a.is ∙ numbered-While a.line a.test a.body)
 
 pub copy_stmt-returns-in_ok-body-in-Hold : goal.copy_stmt-returns-in_ok-body-in-Hold
 copy_stmt-returns-in_ok-body-in-Hold g t c =
     let a = c.in-Hold in
-    view-Hold a.line a.bundle c.in_ok-body-in-Hold.body
+    numbered-Hold a.line a.bundle c.in_ok-body-in-Hold.body
     ∙ ap (plain.Hold a.line a.bundle) c.in_ok-body-in-Hold.ensures
-    ∙ sym (ap stmt_view a.is ∙ view-Hold a.line a.bundle a.body)
+    ∙ sym (ap stmt_view a.is ∙ numbered-Hold a.line a.bundle a.body)
 
 pub copy_stmt-returns-in_ok-arms-in-Parbegin : goal.copy_stmt-returns-in_ok-arms-in-Parbegin
 copy_stmt-returns-in_ok-arms-in-Parbegin g t c =
     let a = c.in-Parbegin in
-    view-Parbegin a.line a.first c.in_ok-arms-in-Parbegin.arms
+    numbered-Parbegin a.line a.first c.in_ok-arms-in-Parbegin.arms
     ∙ ap (plain.Parbegin a.line a.first) c.in_ok-arms-in-Parbegin.ensures
-    ∙ sym (ap stmt_view a.is ∙ view-Parbegin a.line a.first a.arms)
+    ∙ sym (ap stmt_view a.is ∙ numbered-Parbegin a.line a.first a.arms)
 
 pub copy_stmt-copy_list-requires : goal.copy_stmt-copy_list-requires
 copy_stmt-copy_list-requires g t c κs within =

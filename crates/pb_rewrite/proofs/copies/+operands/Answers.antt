@@ -1,7 +1,7 @@
 use Rattle.std.proofs.Common.{rules, ap, ap₂, sym, ◌∙◌}
 use Rattle.pb_names.specs.Program as plain
 use Rattle.pb_names.specs.View.{expr_view}
-use Rattle.pb_names.proofs.Views.{view-Unary, view-Binary}
+use Rattle.pb_names.proofs.Views.{numbered-Unary, numbered-Binary}
 use Rattle.pb_rewrite.proofs.Sizes.{operand_size_within, left_size_within, right_size_within}
 use Rattle.pb_rewrite.proofs.copies.+operands.Goals as goal
 
@@ -23,13 +23,13 @@ copy_expr-copy_operand-requires-in-Binary-2 g t c κs within =
 pub copy_expr-returns-in_ok-copy_operand-in-Unary : goal.copy_expr-returns-in_ok-copy_operand-in-Unary
 copy_expr-returns-in_ok-copy_operand-in-Unary g t c =
     let a = c.in-Unary in
-    view-Unary a.op c.in_ok-copy_operand-in-Unary.field-0
+    numbered-Unary a.op c.in_ok-copy_operand-in-Unary.field-0
     ∙ ap (plain.Unary a.op) c.in_ok-copy_operand-in-Unary.ensures
-    ∙ sym (ap expr_view a.is ∙ view-Unary a.op a.operand)
+    ∙ sym (ap expr_view a.is ∙ numbered-Unary a.op a.operand)
 
 pub copy_expr-returns-in_ok-copy_operand-in-Binary : goal.copy_expr-returns-in_ok-copy_operand-in-Binary
 copy_expr-returns-in_ok-copy_operand-in-Binary g t c =
     let a = c.in-Binary in
-    view-Binary a.op c.in_ok-left-in-Binary.left c.in_ok-copy_operand-in-Binary.field-0
+    numbered-Binary a.op c.in_ok-left-in-Binary.left c.in_ok-copy_operand-in-Binary.field-0
     ∙ ap₂ (plain.Binary a.op) c.in_ok-left-in-Binary.ensures c.in_ok-copy_operand-in-Binary.ensures
-    ∙ sym (ap expr_view a.is ∙ view-Binary a.op a.left a.right)
+    ∙ sym (ap expr_view a.is ∙ numbered-Binary a.op a.left a.right)

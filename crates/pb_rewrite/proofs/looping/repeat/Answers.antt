@@ -2,7 +2,7 @@ use Rattle.std.proofs.Common.{◌++◌, ◌∷◌, ap, ap₂, refl, ◌∙◌, a
 use Rattle.pb_names.specs.Source as plain
 use Rattle.pb_names.specs.Source.{items_of}
 use Rattle.pb_names.specs.View.{expr_view, block_view}
-use Rattle.pb_names.proofs.Views.{view-While}
+use Rattle.pb_names.proofs.Views.{numbered-While}
 use Rattle.pb_rewrite.specs.View.{items_view}
 use Rattle.pb_rewrite.proofs.PushedItems.{entered}
 use Rattle.pb_rewrite.proofs.looping.repeat.Goals as goal
@@ -14,7 +14,7 @@ with_body-requires g c =
 pub returns-in-Ok-clause-ok : goal.returns-in-Ok-clause-ok
 returns-in-Ok-clause-ok g c =
     let whole = c.with_first-items.ensures.items
-    ∙ ap₂ (λ i old. i ∷ old) (ap plain.item_of (view-While c.args.line c.args.test c.args.body)) (ap items_view c.reserve.ensures.items) in (
+    ∙ ap₂ (λ i old. i ∷ old) (ap plain.item_of (numbered-While c.args.line c.args.test c.args.body)) (ap items_view c.reserve.ensures.items) in (
       refl,
       entered c.with_body.result
           (items_of (block_view c.args.body.items) ++ plain.While c.args.line (expr_view c.args.test) (expr_view

@@ -3,7 +3,7 @@ use Rattle.std.proofs.lemmas.List.{take_all, drop_all}
 use Rattle.pb_names.proofs.Sizes.{stmt_size_within}
 use Rattle.pb_names.specs.Program.{arms_in, arms_in_arms, arms_in_stmt, arms_list}
 use Rattle.pb_names.specs.View.{arms_view, block_view, expr_view, stmt_view}
-use Rattle.pb_names.proofs.Views.{view-Assign, view-Print, view-If, view-While, view-Hold, view-Parbegin}
+use Rattle.pb_names.proofs.Views.{numbered-Assign, numbered-Print, numbered-If, numbered-While, numbered-Hold, numbered-Parbegin}
 use Rattle.pb_codegen.specs.Emitted.{HasRoom, place}
 use Rattle.pb_codegen.specs.Generate.{stmt_code, block_code}
 use Rattle.pb_codegen.specs.Lines.{block_lines, block_line}
@@ -58,12 +58,12 @@ pub put_stmt-put_parbegin-requires-clause-few_arms :
     goal.put_stmt-put_parbegin-requires-clause-few_arms
 put_stmt-put_parbegin-requires-clause-few_arms g t c =
     let arms = arms_view c.in-Parbegin.arms.items in
-    let few = rw (c.in-Parbegin.is, view-Parbegin) at c.requires.few_arms in
+    let few = rw (c.in-Parbegin.is, numbered-Parbegin) at c.requires.few_arms in
     let all = length-arms_list arms in
     omega (arith, few, all, length-append (arms_list arms) (arms_in_arms arms))
 
 pub put_stmt-returns-in-Parbegin : goal.put_stmt-returns-in-Parbegin
-put_stmt-returns-in-Parbegin g t c = rw (c.in-Parbegin.is, view-Parbegin) c.put_parbegin.ensures
+put_stmt-returns-in-Parbegin g t c = rw (c.in-Parbegin.is, numbered-Parbegin) c.put_parbegin.ensures
 
 pub put_while-returns : goal.put_while-returns
 put_while-returns g t c =
@@ -186,23 +186,23 @@ put_hold-put_block-requires g t c κs within =
 
 pub put_stmt-returns-in-If : goal.put_stmt-returns-in-If
 put_stmt-returns-in-If g t c =
-    rw (c.in-If.is, view-If) c.put_if.ensures
+    rw (c.in-If.is, numbered-If) c.put_if.ensures
 
 pub put_stmt-returns-in-While : goal.put_stmt-returns-in-While
 put_stmt-returns-in-While g t c =
-    rw (c.in-While.is, view-While) c.put_while.ensures
+    rw (c.in-While.is, numbered-While) c.put_while.ensures
 
 pub put_stmt-returns-in-Hold : goal.put_stmt-returns-in-Hold
 put_stmt-returns-in-Hold g t c =
-    rw (c.in-Hold.is, view-Hold) c.put_hold.ensures
+    rw (c.in-Hold.is, numbered-Hold) c.put_hold.ensures
 
 pub put_stmt-returns-in-Assign : goal.put_stmt-returns-in-Assign
 put_stmt-returns-in-Assign g t c =
-    rw (c.in-Assign.is, view-Assign) c.put_last.ensures
+    rw (c.in-Assign.is, numbered-Assign) c.put_last.ensures
 
 pub put_stmt-returns-in-Print : goal.put_stmt-returns-in-Print
 put_stmt-returns-in-Print g t c =
-    rw (c.in-Print.is, view-Print) c.put_last-in-Print.ensures
+    rw (c.in-Print.is, numbered-Print) c.put_last-in-Print.ensures
 
 pub put_block-returns : goal.put_block-returns
 put_block-returns g t c =
