@@ -25,3 +25,6 @@ loop-i-preserved c =
     c.args.line.now.items
     in
     search (rules, more, c.loop-i.invariant, c.in_ok-put_pair.ensures)
+
+pub loop-i-init : goal.loop-i-init
+loop-i-init c = search rules

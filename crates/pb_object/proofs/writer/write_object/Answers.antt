@@ -1,4 +1,5 @@
-use Rattle.std.proofs.Common.{◌<◌, ◌≤◌, refl, length, get_or, arith}
+use Rattle.std.proofs.lemmas.Grind.{common_steps}
+use Rattle.std.proofs.Common.{◌<◌, ◌≤◌, refl, length, get_or, arith, rules}
 use Rattle.pb_object.specs.declared.format.Format.TheVariants.{One}
 use Rattle.pb_object.specs.Objects.{process_text}
 use Rattle.pb_code.specs.View.{code_view, process_view}
@@ -33,3 +34,12 @@ returns c =
     let end = c.len-p-end.ensures in
     let le : length o.processes ≤ c.loop-p.p = (let t = c.loop-p-test.false in omega (arith, count, end)) in
     (c.requires.0, (o, is, finished One o c.loop-p.out.items c.loop-p.p is.is_format le (c.loop-p.invariant o is.says_code)))
+
+pub put_opening-requires : goal.put_opening-requires
+put_opening-requires c = grind (arith, common_steps) steps 400000
+
+pub loop-p-init : goal.loop-p-init
+loop-p-init c = grind (arith, rules, common_steps)
+
+pub put_process-requires-clause-name : goal.put_process-requires-clause-name
+put_process-requires-clause-name c = grind (arith, common_steps)

@@ -1,4 +1,5 @@
-use Rattle.std.proofs.Common.{◌<◌, ◌≤◌, refl, length, get_or, arith}
+use Rattle.std.proofs.lemmas.Grind.{common_steps}
+use Rattle.std.proofs.Common.{◌<◌, ◌≤◌, refl, length, get_or, arith, rules}
 use Rattle.pb_object.specs.declared.format.Format.TheVariants.{Two}
 use Rattle.pb_object.specs.Objects.{process_text}
 use Rattle.pb_code.specs.View.{code_view, labels_view, process_view}
@@ -47,3 +48,18 @@ returns c =
     let end = c.len-p-end.ensures in
     let le : length o.processes ≤ c.loop-p.p = (let t = c.loop-p-test.false in omega (arith, count, end)) in
     (o, is, finished Two o c.loop-p.out.items c.loop-p.p is.is_format le (c.loop-p.invariant o is.says_code is.says_labels))
+
+pub put_opening-requires : goal.put_opening-requires
+put_opening-requires c = grind (arith, common_steps) steps 400000
+
+pub loop-p-init : goal.loop-p-init
+loop-p-init c = grind (arith, rules, common_steps)
+
+pub put_labelled_process-requires-clause-name : goal.put_labelled_process-requires-clause-name
+put_labelled_process-requires-clause-name c = grind (arith, common_steps)
+
+pub put_labelled_process-requires-clause-labels : goal.put_labelled_process-requires-clause-labels
+put_labelled_process-requires-clause-labels c = grind (arith, common_steps)
+
+pub put_labelled_process-requires-clause-claims : goal.put_labelled_process-requires-clause-claims
+put_labelled_process-requires-clause-claims c = grind (arith, common_steps)

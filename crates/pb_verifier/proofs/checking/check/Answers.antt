@@ -1,3 +1,4 @@
+use Rattle.std.proofs.lemmas.Grind.{common_steps}
 use Rattle.std.proofs.Common.{◌≡◌, ◌+◌, ℕ, List, [], ◌∷◌, ◌++◌, Option, map, length, true, false, refl, sym, ap, ◌∙◌}
 use Rattle.std.proofs.Common.{subst, arith}
 use Rattle.std.proofs.lemmas.List.{length-map, map-append}
@@ -74,3 +75,9 @@ returns-in-None-clause-depths c =
     depths_all (code_view c.args.code.now) (c.if-not-keeps_limits.ensures.limits.0 refl)
     (c.if-not-fit_capital.ensures.0 refl) c.loop-p.p (map (λ row. row.items) c.loop-p.depths.items) (omega arith)
     sound
+
+pub check_process-requires-clause-process : goal.check_process-requires-clause-process
+check_process-requires-clause-process c = grind (arith, common_steps)
+
+pub check_process-requires-clause-claims : goal.check_process-requires-clause-claims
+check_process-requires-clause-claims c = grind (arith, common_steps)

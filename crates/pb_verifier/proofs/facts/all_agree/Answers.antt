@@ -1,4 +1,5 @@
-use Rattle.std.proofs.Common.{◌+◌, ◌≡◌, true, false, refl, sym}
+use Rattle.std.proofs.lemmas.Grind.{common_steps}
+use Rattle.std.proofs.Common.{◌+◌, ◌≡◌, true, false, refl, sym, arith}
 use Rattle.pb_verifier.specs.Given.{instrs_of, plain}
 use Rattle.pb_verifier.specs.Spread.{AgreesAt}
 use Rattle.pb_verifier.proofs.ReachSearch.{all_followers, next_follows, target_follows}
@@ -20,3 +21,6 @@ returns g c =
           c.args.code.now) c.args.table.now) c.args.table.now c.args.fact) (at_target.0 refl) (λ _. h.0 e),
       λ all. h.1 (all (c.args.place + 1) (next_follows (plain c.args.code.now c.args.instr) c.args.place (sym (on c.args.code.now.bundles.items)))),
     )
+
+pub agrees-requires-clause-place : goal.agrees-requires-clause-place
+agrees-requires-clause-place g c = grind (arith, common_steps) steps 400000

@@ -1,3 +1,4 @@
+use Rattle.std.proofs.lemmas.Grind.{common_steps}
 use Rattle.std.proofs.Common.{◌<◌, ℕ, length, get_or, Some, arith, ◌∙◌, length-set}
 use Rattle.std.proofs.lemmas.List.Elements.{Contains-get_or}
 use Rattle.pb_verifier.specs.Given.{instrs_of}
@@ -23,3 +24,6 @@ loop-entry-preserved g c =
       only = only_more c.loop-entry.table.items c.args.entries.now c.loop-entry.entry-index c.args.first within
           c.loop-entry-test.true c.loop-entry.invariant.only;
     }
+
+pub loop-entry-init : goal.loop-entry-init
+loop-entry-init g c = grind (arith, common_steps)
