@@ -131,7 +131,7 @@ generate-requires c =
 """
 
 FILES = {"src/main.rt": MAIN, "proofs/generates/Answers.antt": ANSWERS}
-NEEDS = ["pb_base", "pb_claims", "pb_codegen", "pb_lexer", "pb_names", "pb_parser", "pb_tree", "anyhow"]
+NEEDS = ["pb_base", "pb_claims", "pb_codegen", "pb_grammar", "pb_lexer", "pb_names", "pb_parser", "pb_tree", "anyhow"]
 
 
 def filled(head, pieces, tail, size=SIZE):

@@ -5,19 +5,19 @@ use Rattle.std.proofs.lemmas.List.Elements.{All-nil, All-cons, All-push}
 use Rattle.pb_lexer.specs.Cutting.{AreTokensOf}
 use Rattle.pb_lexer.specs.Tokens.{Token}
 use Rattle.pb_tree.specs.Syntax as tree
-use Rattle.pb_parser.specs.declared.level.Level.{Level}
-use Rattle.pb_parser.specs.Grammar.{Reads, tight, chain, negation, comparison, minus, number, variable, group}
+use Rattle.pb_grammar.specs.declared.level.Level.{Level}
+use Rattle.pb_grammar.specs.Grammar.{Reads, tight, chain, negation, comparison, minus, number, variable, group}
 use Rattle.pb_names.specs.Limits.{width}
-use Rattle.pb_parser.specs.Grammar.{name_at}
-use Rattle.pb_parser.specs.Lists.{append, append_arms, single_arm}
-use Rattle.pb_parser.specs.Statements.{ReadsPair, pair, ReadsPairs, ReadsStmt, skip, assign, print, if_then, if_else}
-use Rattle.pb_parser.specs.Statements.{while_do, hold, parbegin, inner, ReadsList, first, next, ReadsArms, first_arm}
-use Rattle.pb_parser.specs.Statements.{next_arm}
-use Rattle.pb_parser.specs.Statements as pairs
-use Rattle.pb_parser.specs.Programs.{ReadsNames, ReadsResource, resource, ReadsResources, none, another}
-use Rattle.pb_parser.specs.Programs.{ReadsProcess, plain, integers, ReadsProcesses, one_process, more_processes}
-use Rattle.pb_parser.specs.Programs.{ReadsProgram, program}
-use Rattle.pb_parser.specs.Programs as names
+use Rattle.pb_grammar.specs.Grammar.{name_at}
+use Rattle.pb_grammar.specs.Lists.{append, append_arms, single_arm}
+use Rattle.pb_grammar.specs.Statements.{ReadsPair, pair, ReadsPairs, ReadsStmt, skip, assign, print, if_then, if_else}
+use Rattle.pb_grammar.specs.Statements.{while_do, hold, parbegin, inner, ReadsList, first, next, ReadsArms, first_arm}
+use Rattle.pb_grammar.specs.Statements.{next_arm}
+use Rattle.pb_grammar.specs.Statements as pairs
+use Rattle.pb_grammar.specs.Programs.{ReadsNames, ReadsResource, resource, ReadsResources, none, another}
+use Rattle.pb_grammar.specs.Programs.{ReadsProcess, plain, integers, ReadsProcesses, one_process, more_processes}
+use Rattle.pb_grammar.specs.Programs.{ReadsProgram, program}
+use Rattle.pb_grammar.specs.Programs as names
 use Rattle.pb_verifier.specs.Limits.{IsName}
 use Rattle.pb_codegen.specs.Form.{IsFull, AreFull, IsFormedProcess, IsFormed}
 use Rattle.pb_codegen.proofs.TextTokens.{EachToken, IsProper, proper_tokens}

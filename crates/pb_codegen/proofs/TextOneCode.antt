@@ -3,8 +3,8 @@ use Rattle.std.proofs.Common.{◌≡◌, ℕ, List, ap, subst, sym, ◌∙◌}
 use Rattle.pb_base.specs.Steppers.{Table}
 use Rattle.pb_lexer.proofs.Cuttings.{one_cutting}
 use Rattle.pb_lexer.specs.Tokens.{Token}
-use Rattle.pb_parser.proofs.ProgramLaws.{one_program}
-use Rattle.pb_parser.specs.Programs.{ReadsProgram}
+use Rattle.pb_grammar.proofs.ProgramLaws.{one_program}
+use Rattle.pb_grammar.specs.Programs.{ReadsProgram}
 use Rattle.pb_tree.specs.Syntax.{ProgramSyntax}
 use Rattle.pb_names.specs.Meaning.{AreClaims}
 use Rattle.pb_names.specs.Program.{Program}

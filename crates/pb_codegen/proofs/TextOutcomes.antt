@@ -8,11 +8,11 @@ use Rattle.pb_base.specs.Tables.{width_of}
 use Rattle.pb_lexer.specs.Cutting.{AreTokensOf}
 use Rattle.pb_lexer.specs.Tokens.{Token}
 use Rattle.pb_tree.specs.Syntax as tree
-use Rattle.pb_parser.specs.declared.fault.ParseFault.{ParseFault}
-use Rattle.pb_parser.specs.declared.fault.ParseFault.TheVariants as parse
+use Rattle.pb_grammar.specs.declared.fault.ParseFault.{ParseFault}
+use Rattle.pb_grammar.specs.declared.fault.ParseFault.TheVariants as parse
 use Rattle.pb_parser.specs.Limits.{IsTooHigh, IsTooLarge, IsNoProgram, IsSyntax, IsSmallTree}
 use Rattle.pb_parser.specs.Nesting.{NestsTooDeep}
-use Rattle.pb_parser.specs.Programs.{ReadsProgram}
+use Rattle.pb_grammar.specs.Programs.{ReadsProgram}
 use Rattle.pb_names.specs.declared.fault.NameFault.{NameFault}
 use Rattle.pb_names.specs.declared.fault.NameFault.TheVariants as names
 use Rattle.pb_names.specs.Faults.{IsFault}

@@ -14,7 +14,7 @@ use Rattle.pb_names.specs.Meaning.{AreClaims}
 use Rattle.pb_names.specs.Resolves.{Resolves, ResolvesProcess, ResolvesResource, process_names}
 use Rattle.pb_names.specs.Resolves.{resource_names}
 use Rattle.pb_parser.specs.Limits as parser
-use Rattle.pb_parser.specs.Programs.{ReadsProgram}
+use Rattle.pb_grammar.specs.Programs.{ReadsProgram}
 use Rattle.pb_lexer.specs.Cutting.{AreTokensOf}
 use Rattle.pb_lexer.specs.Tokens.{Token}
 use Rattle.pb_claims.specs.Fits as claimed

@@ -6,8 +6,8 @@ use Rattle.pb_lexer.specs.declared.error.LexFault.TheVariants as lex
 use Rattle.pb_lexer.specs.Cutting.{AreTokensOf, Refuses}
 use Rattle.pb_lexer.specs.Tokens.{Token}
 use Rattle.pb_tree.specs.Syntax.{ProgramSyntax}
-use Rattle.pb_parser.specs.declared.fault.ParseFault.{ParseFault}
-use Rattle.pb_parser.specs.declared.fault.ParseFault.TheVariants as parse
+use Rattle.pb_grammar.specs.declared.fault.ParseFault.{ParseFault}
+use Rattle.pb_grammar.specs.declared.fault.ParseFault.TheVariants as parse
 use Rattle.pb_parser.specs.Limits.{IsTooHigh, IsTooLarge, IsNoProgram}
 use Rattle.pb_parser.specs.Nesting.{NestsTooDeep}
 use Rattle.pb_names.specs.declared.fault.NameFault.{NameFault}

@@ -6,7 +6,7 @@ use Rattle.pb_lexer.specs.Tokens.{Token}
 use Rattle.pb_tree.specs.Syntax.{ProgramSyntax}
 use Rattle.pb_parser.specs.Limits.{IsSmallTree}
 use Rattle.pb_parser.specs.Nesting.{NestsTooDeep}
-use Rattle.pb_parser.specs.Programs.{ReadsProgram}
+use Rattle.pb_grammar.specs.Programs.{ReadsProgram}
 use Rattle.pb_names.specs.Meaning.{AreClaims}
 use Rattle.pb_names.specs.Program.{Program}
 use Rattle.pb_names.specs.Resolves.{Resolves}

@@ -19,7 +19,7 @@ ghost use Rattle.pb_names.specs.Program.{AllWellNumbered, Process, Program, capi
 ghost use Rattle.pb_names.specs.Resolves.{Resolves};
 ghost use Rattle.pb_names.specs.Source.{SourceProcess};
 ghost use Rattle.pb_parser.specs.Limits.{IsSmallTree};
-ghost use Rattle.pb_parser.specs.Programs.{ReadsProgram};
+ghost use Rattle.pb_grammar.specs.Programs.{ReadsProgram};
 ghost use Rattle.pb_tree.specs.Syntax.{ProgramSyntax};
 ghost use Rattle.pb_verifier.specs.Behaviour.{IsWellBehaved};
 ghost use Rattle.pb_verifier.specs.Verified.{IsAnnotated};

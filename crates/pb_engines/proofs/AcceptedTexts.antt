@@ -17,11 +17,11 @@ use Rattle.pb_names.specs.Faults.{IsFault}
 use Rattle.pb_names.specs.Program.{Program, capital_of}
 use Rattle.pb_names.specs.declared.fault.NameFault.{NameFault}
 use Rattle.pb_names.specs.declared.fault.NameFault.TheVariants as names
-use Rattle.pb_parser.proofs.ProgramLaws.{one_program}
+use Rattle.pb_grammar.proofs.ProgramLaws.{one_program}
 use Rattle.pb_parser.specs.Limits.{IsSmallTree}
-use Rattle.pb_parser.specs.Programs.{ReadsProgram}
-use Rattle.pb_parser.specs.declared.fault.ParseFault.{ParseFault}
-use Rattle.pb_parser.specs.declared.fault.ParseFault.TheVariants as parse
+use Rattle.pb_grammar.specs.Programs.{ReadsProgram}
+use Rattle.pb_grammar.specs.declared.fault.ParseFault.{ParseFault}
+use Rattle.pb_grammar.specs.declared.fault.ParseFault.TheVariants as parse
 use Rattle.pb_tree.specs.Syntax.{ProgramSyntax}
 use Rattle.pb_engines.specs.Refusals.{IsAcceptedText, RefusesEarly, RefusesWith, by_claims, by_grammar, by_names}
 use Rattle.pb_engines.specs.Refusals.{by_tokens, early}

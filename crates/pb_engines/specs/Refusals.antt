@@ -4,8 +4,8 @@ use Rattle.std.specs.Fmt.{decimal}
 use Rattle.pb_base.specs.Steppers.{Table}
 use Rattle.pb_lexer.specs.declared.error.LexFault.{LexFault}
 use Rattle.pb_lexer.specs.declared.error.LexFault.TheVariants as lex
-use Rattle.pb_parser.specs.declared.fault.ParseFault.{ParseFault}
-use Rattle.pb_parser.specs.declared.fault.ParseFault.TheVariants as parse
+use Rattle.pb_grammar.specs.declared.fault.ParseFault.{ParseFault}
+use Rattle.pb_grammar.specs.declared.fault.ParseFault.TheVariants as parse
 use Rattle.pb_names.specs.Program.{Program, capital_of}
 use Rattle.pb_names.specs.declared.fault.Kind.{Kind}
 use Rattle.pb_names.specs.declared.fault.Kind.TheVariants.{Processes, Resources, Integers, Fork, Arms}

@@ -7,7 +7,7 @@ use Rattle.pb_engines.specs.Refusals.{RefusesEarly, by_tokens, by_grammar, by_na
 use Rattle.pb_engines.specs.Refusals.{lex_line, names_line, parse_line}
 use Rattle.pb_lexer.specs.declared.error.LexFault.{LexFault}
 use Rattle.pb_names.specs.declared.fault.NameFault.{NameFault}
-use Rattle.pb_parser.specs.declared.fault.ParseFault.{ParseFault}
+use Rattle.pb_grammar.specs.declared.fault.ParseFault.{ParseFault}
 use Rattle.pb_messages.specs.Causes.{IsCauseOf, TellsCause}
 use Rattle.pb_messages.specs.declared.cause.Cause.{Cause}
 

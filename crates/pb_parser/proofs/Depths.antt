@@ -6,19 +6,19 @@ use Rattle.pb_lexer.specs.declared.token.Mark.TheVariants as mark
 use Rattle.pb_lexer.specs.Tokens.{Lexeme, Name, Number, Fixed, Token}
 use Rattle.pb_tree.specs.Syntax.{NameSyntax, ExprSyntax, DemandSyntax, StmtsSyntax, ArmsSyntax, ResourceSyntax}
 use Rattle.pb_tree.specs.Syntax.{ProcessSyntax, ProgramSyntax}
-use Rattle.pb_parser.specs.declared.level.Level.{Level}
-use Rattle.pb_parser.specs.declared.level.Level.TheVariants as level
-use Rattle.pb_parser.specs.Grammar as expr
-use Rattle.pb_parser.specs.Grammar.{Reads, operator}
-use Rattle.pb_parser.specs.Statements as stmt
-use Rattle.pb_parser.specs.Statements.{ReadsPair, ReadsPairs, ReadsStmt, ReadsList, ReadsArms}
-use Rattle.pb_parser.specs.Programs as prog
-use Rattle.pb_parser.specs.Programs.{ReadsNames, ReadsResource, ReadsResources, ReadsProcess, ReadsProcesses}
-use Rattle.pb_parser.specs.Programs.{ReadsProgram}
+use Rattle.pb_grammar.specs.declared.level.Level.{Level}
+use Rattle.pb_grammar.specs.declared.level.Level.TheVariants as level
+use Rattle.pb_grammar.specs.Grammar as expr
+use Rattle.pb_grammar.specs.Grammar.{Reads, operator}
+use Rattle.pb_grammar.specs.Statements as stmt
+use Rattle.pb_grammar.specs.Statements.{ReadsPair, ReadsPairs, ReadsStmt, ReadsList, ReadsArms}
+use Rattle.pb_grammar.specs.Programs as prog
+use Rattle.pb_grammar.specs.Programs.{ReadsNames, ReadsResource, ReadsResources, ReadsProcess, ReadsProcesses}
+use Rattle.pb_grammar.specs.Programs.{ReadsProgram}
 use Rattle.pb_parser.specs.Nesting.{open_after, open_behind, NestsTooDeep}
-use Rattle.pb_parser.proofs.Expressions.{brackets, home, home_is, rank_pos}
-use Rattle.pb_parser.proofs.StatementLaws.{stmt_depth, list_depth, arms_depth}
-use Rattle.pb_parser.proofs.ProgramLaws.{process_depth, processes_depth, program_depth}
+use Rattle.pb_grammar.proofs.Expressions.{brackets, home, home_is, rank_pos}
+use Rattle.pb_grammar.proofs.StatementLaws.{stmt_depth, list_depth, arms_depth}
+use Rattle.pb_grammar.proofs.ProgramLaws.{process_depth, processes_depth, program_depth}
 
 -- at most 256 are open behind each of the tokens, if n are open before them
 abbrev pub Shallow : ℕ → List Token → Type 0

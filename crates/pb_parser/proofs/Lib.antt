@@ -1,14 +1,5 @@
-pub mod Chains
 pub mod Depths
-pub mod Expressions
-pub mod Levels
-pub mod Loops
-pub mod Marks
 pub mod MeasureSteps
 pub mod NestingLaws
-pub mod ProgramLaws
-pub mod Signs
-pub mod StatementLaws
-pub mod Steps
 pub mod Vectors
 pub mod Wholes

@@ -5,9 +5,9 @@ use Rattle.pb_tree.specs.Syntax.{arm_then}
 use Rattle.pb_tree.specs.Measure.{stmt_height, stmts_height, arms_height, processes_height, stmt_nodes, stmts_nodes}
 use Rattle.pb_tree.specs.Measure.{arms_nodes, processes_nodes}
 use Rattle.pb_parser.specs.declared.measure.Measure.{Measure}
-use Rattle.pb_parser.specs.Lists.{append, append_arms, single, single_arm}
+use Rattle.pb_grammar.specs.Lists.{append, append_arms, single, single_arm}
 use Rattle.pb_parser.specs.Measured.{IsMeasure}
-use Rattle.pb_parser.specs.StatementReader.{concat}
+use Rattle.pb_grammar.specs.StatementReader.{concat}
 
 -- the same measure, of numbers that are equal
 as_measured : (m : Measure) (h n k l : ℕ) → h ≡ k → n ≡ l → IsMeasure m k l → IsMeasure m h n

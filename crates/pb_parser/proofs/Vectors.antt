@@ -10,8 +10,8 @@ use Rattle.pb_tree.specs.Syntax.{NameSyntax, ExprSyntax, DemandSyntax, StmtSynta
 use Rattle.pb_tree.specs.Syntax.{arm_then}
 use Rattle.pb_tree.specs.View.{name_view, expr_view, demand_view, stmt_view, stmts_view, arm_view, arms_view}
 use Rattle.pb_tree.proofs.Views.{view-Assign, view-Print, view-If, view-While, view-Hold, view-Parbegin}
-use Rattle.pb_parser.specs.Lists.{append, append_arms, single, single_arm}
-use Rattle.pb_parser.specs.StatementReader.{concat}
+use Rattle.pb_grammar.specs.Lists.{append, append_arms, single, single_arm}
+use Rattle.pb_grammar.specs.StatementReader.{concat}
 
 stmts-push : {A : Type 0} (xs : List (Stmt A)) (s : Stmt A) → stmts_view (xs ++ (s ∷ [])) ≡ append (stmts_view xs) (single (stmt_view s))
 stmts-push [] s = refl

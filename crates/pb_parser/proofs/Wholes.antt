@@ -7,43 +7,18 @@ use Rattle.pb_tree.specs.declared.program.Program.{Program}
 use Rattle.pb_tree.specs.Measure.{program_height, program_nodes}
 use Rattle.pb_tree.specs.Syntax.{ProgramSyntax}
 use Rattle.pb_tree.specs.View.{program_view}
-use Rattle.pb_parser.specs.declared.fault.ParseFault.{ParseFault}
-use Rattle.pb_parser.specs.declared.fault.ParseFault.TheVariants as fault
+use Rattle.pb_grammar.specs.declared.fault.ParseFault.{ParseFault}
+use Rattle.pb_grammar.specs.declared.fault.ParseFault.TheVariants as fault
 use Rattle.pb_parser.specs.Limits.{IsSmallTree, IsTooHigh, IsTooLarge, IsNoProgram, IsSmallProgram, IsSyntax}
 use Rattle.pb_parser.specs.Nesting.{NestsTooDeep}
-use Rattle.pb_parser.specs.Programs.{ReadsProgram}
-use Rattle.pb_parser.specs.Reader.{Refused, Found, ended}
-use Rattle.pb_parser.specs.ProgramReader.{resources_part, processes_part, program}
+use Rattle.pb_grammar.specs.Programs.{ReadsProgram}
+use Rattle.pb_grammar.specs.Reader.{Refused, Found}
+use Rattle.pb_grammar.specs.ProgramReader.{program}
 use Rattle.pb_parser.specs.declared.measure.Measure.{Measure}
 use Rattle.pb_parser.specs.Measured.{IsMeasure}
-use Rattle.pb_parser.specs.Making.{Fails, IsMadeOf}
-use Rattle.pb_parser.proofs.Chains.{goes_on, found_rest}
+use Rattle.pb_grammar.specs.Making.{Fails, IsMadeOf}
 use Rattle.pb_parser.proofs.Depths.{within_depth}
-use Rattle.pb_parser.proofs.ProgramLaws.{program_complete, program_sound, one_program}
-
--- ---- a program takes all tokens
-
-none_left : (ts rest : List Token) → ended ts ≡ Found tt rest → rest ≡ []
-none_left [] rest p = sym (found_rest p)
-none_left (t ∷ ts) rest p = cc
-
-program_ends : (d : ℕ) (ts rest : List Token) (p : ProgramSyntax) → program d ts ≡ Found p rest → rest ≡ []
-unfolding program
-program_ends d ts rest p q =
-    let x = goes_on (resources_part ts) _ q in
-    let y = goes_on (processes_part d x.1) _ x.3 in
-    let z = goes_on (ended y.1) _ y.3 in
-    sym (found_rest z.3) ∙ none_left y.1 z.1 z.2
-
-pub to_the_end : {X : Type 0} (is : X → ProgramSyntax → Type 0) (wants : Type 0) (r : Result X ParseFault) (d : ℕ) (ts rest : List Token)
-    → IsMadeOf wants is r (program d ts) rest → IsMadeOf wants is r (program d ts) []
-to_the_end is wants (Ok x) d ts rest f = record {
-  syntax = f.syntax;
-  found = f.found ∙ ap (Found f.syntax)
-      (program_ends d ts rest f.syntax f.found);
-  same = f.same;
-}
-to_the_end is wants (Err e) d ts rest f = f
+use Rattle.pb_grammar.proofs.ProgramLaws.{program_complete, program_sound, one_program}
 
 -- ---- what is to be shown of what was read
 

@@ -1,14 +1,4 @@
-pub mod Lists
-pub mod Grammar
-pub mod Statements
-pub mod Programs
 pub mod Nesting
 pub mod Limits
-pub mod Reader
-pub mod ExpressionReader
-pub mod StatementReader
-pub mod ProgramReader
 pub mod Measured
-pub mod Making
 pub mod Parts
-pub mod Promises

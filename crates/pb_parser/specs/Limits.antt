@@ -4,10 +4,10 @@ use Rattle.pb_base.specs.declared.limits.TheConstants.{MAX_HEIGHT, MAX_NODES}
 use Rattle.pb_lexer.specs.Tokens.{Token}
 use Rattle.pb_tree.specs.Syntax.{ProgramSyntax}
 use Rattle.pb_tree.specs.Measure.{program_height, program_nodes}
-use Rattle.pb_parser.specs.declared.fault.ParseFault.{ParseFault}
-use Rattle.pb_parser.specs.declared.fault.ParseFault.TheVariants as fault
+use Rattle.pb_grammar.specs.declared.fault.ParseFault.{ParseFault}
+use Rattle.pb_grammar.specs.declared.fault.ParseFault.TheVariants as fault
 use Rattle.pb_parser.specs.Nesting.{NestsTooDeep}
-use Rattle.pb_parser.specs.Programs.{ReadsProgram}
+use Rattle.pb_grammar.specs.Programs.{ReadsProgram}
 
 -- the tree is within the limits
 pub record IsSmallTree (p : ProgramSyntax) : Type 0 where

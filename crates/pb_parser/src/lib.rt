@@ -1,18 +1,11 @@
-//! The grammar: from the tokens of a text to the tree of its program.
+//! The parser: from the tokens of a text to the tree of its program, within the limits.
 #![tactic(auto)]
 
-mod builder;
-pub mod fault;
-pub mod laws;
-pub mod level;
 mod measure;
 mod measures;
 mod nesting;
-mod operators;
 mod parser;
-mod programs;
-mod statements;
 mod trees;
 
-pub use fault::ParseFault;
-pub use programs::parse;
+pub use parser::parse;
+pub use pb_grammar::ParseFault;

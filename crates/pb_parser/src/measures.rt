@@ -6,9 +6,9 @@ ghost use Rattle.pb_tree.specs.Measure.{arms_nodes};
 ghost use Rattle.pb_tree.specs.Measure.{processes_height, processes_nodes, program_height, program_nodes};
 ghost use Rattle.pb_parser.specs.Measured.{IsMeasure};
 
-use crate::builder::Builder;
 use crate::measure::Measure;
 use pb_base::{BinaryOp, NoMemory, UnaryOp};
+use pb_grammar::Builder;
 use pb_tree::Number;
 
 /// Makes nothing but measures, and so needs no memory.

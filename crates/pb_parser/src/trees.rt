@@ -5,8 +5,8 @@ ghost use Rattle.pb_tree.specs.View.{name_view, expr_view, demand_view, stmts_vi
 ghost use Rattle.pb_tree.specs.View.{resource_view, process_view, program_view};
 ghost use Rattle.pb_parser.specs.Parts.{part_view};
 
-use crate::builder::Builder;
 use pb_base::{BinaryOp, NoMemory, UnaryOp};
+use pb_grammar::Builder;
 use pb_tree::{Demand, Expr, Name, Number, Process, Program, Resource, Stmt};
 use std::alloc::Allocator;
 

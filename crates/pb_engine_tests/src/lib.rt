@@ -1,0 +1,16 @@
+//! Tests of the engines that have crates of their own, and of the messages for a person, by their public calls:
+//! in a crate of their own, so that none of those is proved again with its tests.
+#![tactic(auto)]
+
+#[cfg(test)]
+mod debug;
+#[cfg(test)]
+mod draw;
+#[cfg(test)]
+mod live;
+#[cfg(test)]
+mod messages;
+#[cfg(test)]
+mod outcomes;
+#[cfg(test)]
+mod places;

@@ -1,0 +1,10 @@
+pub mod Chains
+pub mod Ends
+pub mod Expressions
+pub mod Levels
+pub mod Loops
+pub mod Marks
+pub mod ProgramLaws
+pub mod Signs
+pub mod StatementLaws
+pub mod Steps

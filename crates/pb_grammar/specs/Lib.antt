@@ -1,0 +1,10 @@
+pub mod Lists
+pub mod Grammar
+pub mod Statements
+pub mod Programs
+pub mod Reader
+pub mod ExpressionReader
+pub mod StatementReader
+pub mod ProgramReader
+pub mod Making
+pub mod Promises

@@ -1,5 +1,0 @@
-use Rattle.pb_parser.proofs.Wholes.{to_the_end}
-use Rattle.pb_parser.proofs.programs.read.Goals as goal
-
-pub returns : goal.returns
-returns g c = to_the_end g.B.Builder.is_program g.B.Builder.wants c.program.result _ _ _ c.program.ensures
