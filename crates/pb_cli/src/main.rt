@@ -1,11 +1,10 @@
 //! The program `parbegin`.
 #![tactic(auto)]
 
-mod answer;
 mod explain_refusal;
 
-use crate::answer::answer;
 use crate::explain_refusal::explain_refusal;
+use pb_answer::answer;
 use pb_base::device::{StandardInput, StandardOutput};
 use pb_engines::{Page, Status};
 use pb_messages::{KeptInput, StandardError};

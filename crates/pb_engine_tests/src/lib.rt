@@ -1,7 +1,9 @@
-//! Tests of the engines that have crates of their own, and of the messages for a person, by their public calls:
-//! in a crate of their own, so that none of those is proved again with its tests.
+//! Tests of the engines that have crates of their own, of the whole program over any words, and of the messages
+//! for a person, by their public calls: in a crate of their own, so that none of those is proved again with them.
 #![tactic(auto)]
 
+#[cfg(test)]
+mod calls;
 #[cfg(test)]
 mod debug;
 #[cfg(test)]

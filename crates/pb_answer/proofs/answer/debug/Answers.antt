@@ -1,7 +1,7 @@
 use Rattle.std.proofs.Common.{Bool, IfSome, subst, sym}
 use Rattle.pb_engines.specs.Answers.{Tells}
-use Rattle.pb_cli.specs.Calls.{SaysOfCommands}
-use Rattle.pb_cli.proofs.answer.debug.Goals as goal
+use Rattle.pb_answer.specs.Calls.{SaysOfCommands}
+use Rattle.pb_answer.proofs.answer.debug.Goals as goal
 
 pub returns-then-flags-clause-text : goal.returns-then-flags-clause-text
 returns-then-flags-clause-text g c =

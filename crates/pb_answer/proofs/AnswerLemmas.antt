@@ -9,7 +9,7 @@ use Rattle.pb_words.specs.declared.words.Options.TheVariants.{Debug}
 use Rattle.pb_options.specs.declared.options.DebugOptions.{DebugOptions}
 use Rattle.pb_engines.specs.Answers.{Says}
 use Rattle.pb_engines.specs.Faults.{Devices}
-use Rattle.pb_cli.specs.Calls.{CallTellsFaults, CallWrites, TellsDebugFaults, fault_status, words_fault_text}
+use Rattle.pb_answer.specs.Calls.{CallTellsFaults, CallWrites, TellsDebugFaults, fault_status, words_fault_text}
 use Rattle.pb_words.specs.Read.{BlamesWords, WordsSay}
 
 -- what is written if the words were not read

@@ -2,8 +2,8 @@ use Rattle.std.proofs.Common.{inl, subst}
 use Rattle.pb_words.specs.declared.words.Options.TheVariants.{Check, Debug, Emit, Exec, Explain, Outcomes, Record}
 use Rattle.pb_words.specs.declared.words.Options.TheVariants.{Run}
 use Rattle.pb_words.specs.Read.{WordsSay}
-use Rattle.pb_cli.proofs.AnswerLemmas.{CallTellsFaults-debug, CallWrites-refused}
-use Rattle.pb_cli.proofs.answer.answer.Goals as goal
+use Rattle.pb_answer.proofs.AnswerLemmas.{CallTellsFaults-debug, CallWrites-refused}
+use Rattle.pb_answer.proofs.answer.answer.Goals as goal
 
 pub returns-in-Ok-Check-clause-text : goal.returns-in-Ok-Check-clause-text
 returns-in-Ok-Check-clause-text g c =

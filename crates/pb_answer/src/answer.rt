@@ -1,0 +1,87 @@
+//! The whole program, over any words, input and output.
+ghost use Rattle.std.specs.Prelude.{◌≡◌, IfSome};
+ghost use Rattle.pb_engines.specs.Answers.{Says, Tells};
+ghost use Rattle.pb_answer.specs.Calls.{fault_status, words_fault_text, CallTellsFaults, CallWrites, SaysOfCommands, TellsDebugFaults};
+ghost use Rattle.pb_engines.specs.Faults.{TellsWriteFaults};
+
+use pb_base::device::{Input, Output};
+use pb_debug_engine::{debug_engine, debug_live_engine};
+use pb_draw_engine::draw_engine;
+use pb_engines::{
+    Page, Status, check_engine, claims_engine, emit_engine, exec_engine, migrate_engine,
+    record_engine, replay_engine, run_engine,
+};
+use pb_explain::explain_engine;
+use pb_options::DebugOptions;
+use pb_outcome_engine::outcomes_engine;
+use pb_words::{Options, WordsFault, options};
+use std::alloc::Global;
+use std::sync::Wait;
+use std::thread::Threads;
+
+/// Reads the words of a call, of which the first is the program's own name, and does what they say.
+pub fn answer<I: Input, O: Output, R: Threads + Wait + Sync>(
+    rt: &R,
+    alloc: Global,
+    words: &[&str],
+    input: &mut I,
+    output: &mut O,
+) -> Status
+    ensures text { CallWrites words.now (I.rest input.old) (O.written output.old) (O.written output.new) result }
+    ensures faults { CallTellsFaults words.now
+        (record { reads = I.failures input.old; writes = O.failures output.old; written = O.written output.old })
+        (record { reads = I.failures input.new; writes = O.failures output.new; written = O.written output.new })
+        result }
+{
+    match options(alloc, words) {
+        Ok(Options::Check(numbers)) => check_engine(alloc, numbers, input, output),
+        Ok(Options::Claims) => claims_engine(alloc, input, output),
+        Ok(Options::Debug(flags)) => debug(alloc, flags, input, output),
+        Ok(Options::Draw) => draw_engine(alloc, input, output),
+        Ok(Options::Emit(numbers)) => emit_engine(alloc, numbers, input, output),
+        Ok(Options::Exec(numbers)) => exec_engine(rt, alloc, numbers, input, output),
+        Ok(Options::Explain(code)) => explain_engine(alloc, code, output),
+        Ok(Options::Migrate) => migrate_engine(alloc, input, output),
+        Ok(Options::Outcomes(numbers)) => outcomes_engine(alloc, numbers, input, output),
+        Ok(Options::Record(numbers)) => record_engine(rt, alloc, numbers, input, output),
+        Ok(Options::Replay) => replay_engine(alloc, input, output),
+        Ok(Options::Run(numbers)) => run_engine(rt, alloc, numbers, input, output),
+        Err(fault) => refuse(alloc, output, &fault),
+    }
+}
+
+// Debugs by the engine that reads the commands as they come, or by the one that reads its input whole.
+fn debug<I: Input, O: Output>(
+    alloc: Global,
+    flags: DebugOptions,
+    input: &mut I,
+    output: &mut O,
+) -> Status
+    ensures text { IfSome (I.rest input.old) (λ bytes.
+        Tells (SaysOfCommands flags.live bytes) (O.written output.old) (O.written output.new) result) }
+    ensures faults { TellsDebugFaults flags.live
+        (record { reads = I.failures input.old; writes = O.failures output.old; written = O.written output.old })
+        (record { reads = I.failures input.new; writes = O.failures output.new; written = O.written output.new })
+        result }
+{
+    if flags.live {
+        debug_live_engine(alloc, input, output)
+    } else {
+        debug_engine(alloc, input, output)
+    }
+}
+
+// Writes the text of a fault, and returns its status.
+fn refuse<O: Output>(alloc: Global, output: &mut O, fault: &WordsFault) -> Status
+    ensures text { Says (O.written output.old) (O.written output.new) (words_fault_text fault.now) (fault_status fault.now) result }
+    ensures faults { TellsWriteFaults (O.failures output.old) (O.failures output.new) result }
+{
+    let mut page = Page::new(alloc);
+    let WordsFault::Words(text) = fault else {
+        return page.finish_with(output, b"memory", Status::Memory);
+    };
+    match page.say(output, text.as_bytes()) {
+        Ok(()) => page.finish(output, Status::Words),
+        Err(_) => Status::Device,
+    }
+}

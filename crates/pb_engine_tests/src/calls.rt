@@ -1,0 +1,187 @@
+//! Calls of the whole program, each with its words and its input, and what it writes, with its status.
+
+use pb_answer::answer;
+use pb_base::device::{FaultyInput, MemoryInput, MemoryOutput};
+use pb_engines::Status;
+use pb_explain::{Example, ExampleInput, entry_for};
+use pb_refusals::Code;
+use std::alloc::{AllocError, Global};
+use std::sync::Wait;
+use std::thread::Threads;
+
+/// The words of a call behind the program's name, its input, what its output begins and ends with, how many bytes
+/// it has if that is all of it, and its status.
+struct Call {
+    words: &'static str,
+    input: &'static [u8],
+    first: &'static [u8],
+    last: &'static [u8],
+    length: Option<usize>,
+    status: Status,
+}
+
+/// A program with two outcomes.
+const TWO_OUTCOMES: &[u8] = b"process p begin integer x; parbegin x := 1; x := 2 parend end";
+
+/// A program, the picks of its run, and commands of a debugger, the second of which it refuses.
+const SESSION: &[u8] = b"process p begin print 1 end\n%%\np.0 2\n%%\nto 2\nstep 1\n";
+
+/// One call at least of each crate with an engine, and one of words that say no command.
+const CALLS: [Call; 7] = [
+    Call {
+        words: "run --steps 1",
+        input: b"process p begin print 1 end",
+        first: b"limit 1\n",
+        last: b"",
+        length: Some(8),
+        status: Status::Limit,
+    },
+    Call {
+        words: "debug",
+        input: SESSION,
+        first: b"at 2\nrefused G1\n",
+        last: b"",
+        length: Some(16),
+        status: Status::Done,
+    },
+    Call {
+        words: "debug --live",
+        input: SESSION,
+        first: b"at 2\nrefused G1\n",
+        last: b"",
+        length: Some(16),
+        status: Status::Done,
+    },
+    Call {
+        words: "draw",
+        input: b"process p begin print 1 div 0 end\n%%\np.0 3\n",
+        first: b"<svg xmlns=",
+        last: b"</svg>\n",
+        length: None,
+        status: Status::Fault,
+    },
+    Call {
+        words: "outcomes --states=1000",
+        input: TWO_OUTCOMES,
+        first: b"",
+        last: b"all 2 outcomes\n",
+        length: None,
+        status: Status::Done,
+    },
+    Call {
+        words: "outcomes --states=2",
+        input: TWO_OUTCOMES,
+        first: b"",
+        last: b"more than 2 configurations\n",
+        length: None,
+        status: Status::Limit,
+    },
+    Call {
+        words: "fly",
+        input: b"",
+        first: b"error: ",
+        last: b"\n",
+        length: None,
+        status: Status::Words,
+    },
+];
+
+// Returns the words of a call: the program's name, and those of the text, which spaces separate.
+fn words_of<'a>(alloc: Global, text: &'a str) -> Option<Vec<&'a str>> {
+    let mut words = Vec::new(alloc);
+    words.push("parbegin").ok()?;
+    for word in text.split(' ') {
+        words.push(word).ok()?;
+    }
+    Some(words)
+}
+
+// Returns whether the output is that of the call.
+fn is_of(output: &[u8], call: &Call) -> bool {
+    output.starts_with(call.first)
+        && output.ends_with(call.last)
+        && call.length.is_none_or(|length| output.len() == length)
+}
+
+// Returns whether a call writes what it should, with its status.
+fn is_answered<R: AllocGlobal + Threads + Wait + Sync>(rt: &R, call: &Call) -> Option<bool> {
+    let alloc = rt.alloc();
+    let words = words_of(alloc, call.words)?;
+    let mut output = MemoryOutput::new(alloc, 4_096).ok()?;
+    let mut input = MemoryInput::new(call.input);
+    let status = answer(rt, alloc, words.as_slice(), &mut input, &mut output);
+    Some(status == call.status && is_of(output.as_slice(), call))
+}
+
+#[test]
+fn does_what_the_words_say(rt: HostRuntime) {
+    for call in &CALLS {
+        assert!(rt; is_answered(&rt, call) == Some(true), "{}", call.words);
+    }
+}
+
+// Returns whether this page is written, of an input that no read succeeds on.
+fn is_explained<R: AllocGlobal + Threads + Wait + Sync>(
+    rt: &R,
+    words: &str,
+    first: &[u8],
+) -> Option<bool> {
+    let alloc = rt.alloc();
+    let words = words_of(alloc, words)?;
+    let mut output = MemoryOutput::new(alloc, 4_096).ok()?;
+    let mut input = FaultyInput::new(b"", 0, 1);
+    let status = answer(rt, alloc, words.as_slice(), &mut input, &mut output);
+    Some(status == Status::Done && output.as_slice().starts_with(first))
+}
+
+#[test]
+fn explains(rt: HostRuntime) {
+    let page = b"N3: a name that is not declared\n\n";
+    assert!(rt; is_explained(&rt, "explain N3", page) == Some(true));
+    let list = b"L1: the text is too long\nL2: a byte";
+    assert!(rt; is_explained(&rt, "explain", list) == Some(true));
+}
+
+// Returns the bytes that the call of an example reads.
+fn bytes_of(alloc: Global, input: ExampleInput) -> Result<Vec<u8>, AllocError> {
+    let mut bytes = Vec::new(alloc);
+    match input {
+        ExampleInput::Text(text) => bytes.extend_from_slice(text.as_bytes())?,
+        ExampleInput::Repeated { line, times } => {
+            bytes.extend_from_slice(b"process p begin\n")?;
+            for _ in 0..times {
+                bytes.extend_from_slice(line.as_bytes())?;
+                bytes.push(b'\n')?;
+            }
+            bytes.extend_from_slice(b"print 1 end\n")?;
+        }
+    }
+    Ok(bytes)
+}
+
+// Returns whether the call of an example writes its refusal line alone, and this line has the code.
+fn is_refused<R: AllocGlobal + Threads + Wait + Sync>(
+    rt: &R,
+    code: Code,
+    example: &Example,
+) -> Option<bool> {
+    let alloc = rt.alloc();
+    let words = words_of(alloc, example.command)?;
+    let bytes = bytes_of(alloc, example.input).ok()?;
+    let mut input = MemoryInput::new(bytes.as_slice());
+    let mut output = MemoryOutput::new(alloc, 64).ok()?;
+    answer(rt, alloc, words.as_slice(), &mut input, &mut output);
+    let line = output.as_slice().strip_suffix(b"\n")?;
+    let cause = example.line.strip_prefix("refused ")?;
+    let named = cause.split(' ').next()?;
+    Some(line == example.line.as_bytes() && named == code.name())
+}
+
+#[test]
+fn examples_are_refused(rt: HostRuntime) {
+    for code in Code::ALL {
+        if let Some(example) = entry_for(code).example {
+            assert!(rt; is_refused(&rt, code, &example) == Some(true), "{code}");
+        }
+    }
+}
