@@ -107,7 +107,7 @@ def table(name, rows):
 
 def test_file(heading, rows):
     lines = [f"//! {heading}, by the calls of `examples/expected/calls.txt`. Written by checks/example_tests.py.", ""]
-    lines += ["use crate::calls::{Call, Command, first_wrong};", "use pb_engines::Status;"]
+    lines += ["use crate::calls::{Call, Command, first_wrong};", "use pb_command_io::Status;"]
     lines += [*imports(dict.fromkeys(row[2] for row in rows)), "use std::test::Fail;", ""]
     for at, part in enumerate(parts(rows), 1):
         lines += table(f"CALLS_{at}", part)

@@ -4,11 +4,11 @@ use Rattle.std.specs.Borrow.{Bor}
 use Rattle.pb_words.specs.declared.words.Options.{Options}
 use Rattle.pb_words.specs.declared.words.WordsFault.{WordsFault}
 use Rattle.pb_words.specs.declared.words.WordsFault.TheVariants as fault
-use Rattle.pb_engines.specs.declared.status.Status.{Status}
+use Rattle.pb_command_io.specs.declared.status.Status.{Status}
 use Rattle.pb_words.specs.declared.words.Options.TheVariants.{Debug}
 use Rattle.pb_options.specs.declared.options.DebugOptions.{DebugOptions}
-use Rattle.pb_engines.specs.Answers.{Says}
-use Rattle.pb_engines.specs.Faults.{Devices}
+use Rattle.pb_command_io.specs.Answers.{Says}
+use Rattle.pb_command_io.specs.Faults.{Devices}
 use Rattle.pb_answer.specs.Calls.{CallTellsFaults, CallWrites, TellsDebugFaults, fault_status, words_fault_text}
 use Rattle.pb_words.specs.Read.{BlamesWords, WordsSay}
 

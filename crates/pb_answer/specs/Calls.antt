@@ -10,15 +10,15 @@ use Rattle.pb_debug_engine.specs.Debugs.{SaysOfDebug}
 use Rattle.pb_debug_engine.specs.Faults.{TellsAnyFault}
 use Rattle.pb_debug_engine.specs.Live.{SaysOfLive}
 use Rattle.pb_draw_engine.specs.Draws.{SaysOfDraw}
-use Rattle.pb_engines.specs.declared.status.Status.{Status}
-use Rattle.pb_engines.specs.declared.status.Status.TheVariants.{Words, Memory}
-use Rattle.pb_engines.specs.Answers.{Says, Tells, memory_line}
+use Rattle.pb_command_io.specs.declared.status.Status.{Status}
+use Rattle.pb_command_io.specs.declared.status.Status.TheVariants.{Words, Memory}
+use Rattle.pb_command_io.specs.Answers.{Says, Tells, memory_line}
 use Rattle.pb_engines.specs.Checks.{SaysOfChecks}
 use Rattle.pb_engines.specs.ClaimLines.{SaysOfClaims}
 use Rattle.pb_engines.specs.Emissions.{SaysOfEmission}
 use Rattle.pb_engines.specs.Executions.{SaysOfExecution}
-use Rattle.pb_engines.specs.Faults.{Devices, TellsFaults}
-use Rattle.pb_engines.specs.Inputs.{SaysOfInput}
+use Rattle.pb_command_io.specs.Faults.{Devices, TellsFaults}
+use Rattle.pb_command_io.specs.Inputs.{SaysOfInput}
 use Rattle.pb_engines.specs.Migrations.{SaysOfMigration}
 use Rattle.pb_engines.specs.Records.{SaysOfRecord}
 use Rattle.pb_engines.specs.ReplayLines.{SaysOfReplay}

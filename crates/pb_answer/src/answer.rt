@@ -1,15 +1,16 @@
 //! The whole program, over any words, input and output.
 ghost use Rattle.std.specs.Prelude.{◌≡◌, IfSome};
-ghost use Rattle.pb_engines.specs.Answers.{Says, Tells};
+ghost use Rattle.pb_command_io.specs.Answers.{Says, Tells};
 ghost use Rattle.pb_answer.specs.Calls.{fault_status, words_fault_text, CallTellsFaults, CallWrites, SaysOfCommands, TellsDebugFaults};
-ghost use Rattle.pb_engines.specs.Faults.{TellsWriteFaults};
+ghost use Rattle.pb_command_io.specs.Faults.{TellsWriteFaults};
 
 use pb_base::device::{Input, Output};
+use pb_command_io::{Page, Status};
 use pb_debug_engine::{debug_engine, debug_live_engine};
 use pb_draw_engine::draw_engine;
 use pb_engines::{
-    Page, Status, check_engine, claims_engine, emit_engine, exec_engine, migrate_engine,
-    record_engine, replay_engine, run_engine,
+    check_engine, claims_engine, emit_engine, exec_engine, migrate_engine, record_engine,
+    replay_engine, run_engine,
 };
 use pb_explain::explain_engine;
 use pb_options::DebugOptions;

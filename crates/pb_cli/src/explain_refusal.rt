@@ -1,7 +1,7 @@
 //! What is said to a person when an input was refused.
 
 use pb_base::device::Output;
-use pb_engines::{Page, Status};
+use pb_command_io::{Page, Status};
 use pb_messages::{Reading, message_of};
 use pb_object::Format;
 use pb_words::{Options, options};

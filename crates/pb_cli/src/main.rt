@@ -6,7 +6,7 @@ mod explain_refusal;
 use crate::explain_refusal::explain_refusal;
 use pb_answer::answer;
 use pb_base::device::{StandardInput, StandardOutput};
-use pb_engines::{Page, Status};
+use pb_command_io::{Page, Status};
 use pb_messages::{KeptInput, StandardError};
 use std::alloc::{AllocError, Global};
 use std::env;

@@ -9,18 +9,18 @@ use Rattle.pb_debug_engine.specs.Debugs.{GivesCode, IsObjectPart, IsOpened, Says
 use Rattle.pb_debug_engine.specs.Debugs.{SaysOfSession, debugged, no_memory, no_picks, no_room, no_source, with_code}
 use Rattle.pb_debug_engine.specs.Faults.{TellsAnyFault}
 use Rattle.pb_debug_engine.specs.Live.{AnswersOfCode, AnswersOfParts}
-use Rattle.pb_engines.proofs.PageLemmas.{AddsPrefix-longer}
-use Rattle.pb_engines.specs.Answers.{Says, Tells, memory_line}
-use Rattle.pb_engines.specs.Faults.{TellsWriteFaults}
-use Rattle.pb_engines.specs.Inputs.{SaysOfInput, too_long, nothing, not_read, read}
-use Rattle.pb_engines.specs.Inputs as input
+use Rattle.pb_command_io.proofs.PageLemmas.{AddsPrefix-longer}
+use Rattle.pb_command_io.specs.Answers.{Says, Tells, memory_line}
+use Rattle.pb_command_io.specs.Faults.{TellsWriteFaults}
+use Rattle.pb_command_io.specs.Inputs.{SaysOfInput, too_long, nothing, not_read, read}
+use Rattle.pb_command_io.specs.Inputs as input
 use Rattle.pb_engines.specs.Loading.{SaysOfNoCode}
-use Rattle.pb_engines.specs.Parts.{AreTwoParts}
+use Rattle.pb_command_io.specs.Parts.{AreTwoParts}
 use Rattle.pb_engines.specs.Refusals.{SaysOfRefusedText}
 use Rattle.pb_engines.specs.ReplayLines.{SaysOfNoPicks}
-use Rattle.pb_engines.specs.declared.reply.Reply.{Reply}
-use Rattle.pb_engines.specs.declared.status.Status.{Status}
-use Rattle.pb_engines.specs.declared.status.Status.TheVariants.{Device, Memory}
+use Rattle.pb_command_io.specs.declared.reply.Reply.{Reply}
+use Rattle.pb_command_io.specs.declared.status.Status.{Status}
+use Rattle.pb_command_io.specs.declared.status.Status.TheVariants.{Device, Memory}
 use Rattle.pb_verifier.specs.Verified.{VerifiedCode}
 
 -- ---- the code of the first part

@@ -10,12 +10,12 @@ use Rattle.pb_debug_engine.specs.Faults.{TellsAnyFault}
 use Rattle.pb_debug_engine.specs.Live.{AnswersOfParts, HasLongPart, IsEarly, SaysOfLive, SaysOfRead, early, late}
 use Rattle.pb_debug_engine.specs.Live.{no_memory, nothing, read, too_long, unread_status, unread_text}
 use Rattle.pb_debug_engine.proofs.PartLemmas.{first_of_three, nothing_behind}
-use Rattle.pb_engines.proofs.InputLemmas.{IfSome-of}
-use Rattle.pb_engines.specs.Answers.{Says, Tells}
-use Rattle.pb_engines.specs.Faults.{Devices}
-use Rattle.pb_engines.specs.declared.status.Status.{Status}
-use Rattle.pb_engines.specs.declared.status.Status.TheVariants.{Done, Refused, Words, Limit, Fault, Memory, Device}
-use Rattle.pb_engines.specs.declared.status.Status.TheVariants.{Threads}
+use Rattle.pb_command_io.proofs.InputLemmas.{IfSome-of}
+use Rattle.pb_command_io.specs.Answers.{Says, Tells}
+use Rattle.pb_command_io.specs.Faults.{Devices}
+use Rattle.pb_command_io.specs.declared.status.Status.{Status}
+use Rattle.pb_command_io.specs.declared.status.Status.TheVariants.{Done, Refused, Words, Limit, Fault, Memory, Device}
+use Rattle.pb_command_io.specs.declared.status.Status.TheVariants.{Threads}
 
 -- the first two parts are read, and the third is answered
 pub live_told : (o mid old new : Option (List ℕ)) (source lines seen shown : List ℕ) (given : Status)

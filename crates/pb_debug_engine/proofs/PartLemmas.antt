@@ -11,7 +11,7 @@ use Rattle.pb_base.proofs.DeviceLemmas.{next-bytes, prepended}
 use Rattle.pb_debug.specs.Sessions.{IsReadTo, SaysBefore}
 use Rattle.pb_debug_engine.specs.Debugs.{AreThreeParts}
 use Rattle.pb_debug_engine.specs.Live.{EndsInMark, IsEarly, IsLong, IsUnmarked}
-use Rattle.pb_engines.specs.Parts.{AreTwoParts, IsMark, IsMarkAt}
+use Rattle.pb_command_io.specs.Parts.{AreTwoParts, IsMark, IsMarkAt}
 
 -- ---- lists
 

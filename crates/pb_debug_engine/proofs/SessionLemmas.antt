@@ -6,11 +6,11 @@ use Rattle.pb_debug.specs.declared.fault.DebugFault.{DebugFault}
 use Rattle.pb_debug.specs.declared.fault.DebugFault.TheVariants as fault
 use Rattle.pb_debug_engine.specs.Debugs.{SaysOfSession, answered, out_of_memory, broken_off}
 use Rattle.pb_debug_engine.specs.Faults.{TellsAnyFault}
-use Rattle.pb_engines.specs.Answers.{Says, Tells, memory_line}
-use Rattle.pb_engines.specs.Faults.{Devices}
-use Rattle.pb_engines.specs.declared.status.Status.{Status}
-use Rattle.pb_engines.specs.declared.status.Status.TheVariants.{Done, Memory, Device}
-use Rattle.pb_engines.proofs.PageLemmas.{Says-first, Says-then}
+use Rattle.pb_command_io.specs.Answers.{Says, Tells, memory_line}
+use Rattle.pb_command_io.specs.Faults.{Devices}
+use Rattle.pb_command_io.specs.declared.status.Status.{Status}
+use Rattle.pb_command_io.specs.declared.status.Status.TheVariants.{Done, Memory, Device}
+use Rattle.pb_command_io.proofs.PageLemmas.{Says-first, Says-then}
 
 module _ (d end : Debugging) (bytes : List ℕ) (old : Option (List ℕ)) where
   -- all commands are answered

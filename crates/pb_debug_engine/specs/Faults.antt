@@ -1,9 +1,9 @@
 -- What the status of a call tells of its input and its output, if it writes before it has read all.
 use Rattle.std.specs.Prelude.{◌≡◌, ◌≢◌, ◌⊎◌}
 use Rattle.pb_base.specs.Device.{one_more_failure}
-use Rattle.pb_engines.specs.Faults.{Devices, NoneFailed, WriteFailed}
-use Rattle.pb_engines.specs.declared.status.Status.{Status}
-use Rattle.pb_engines.specs.declared.status.Status.TheVariants.{Device}
+use Rattle.pb_command_io.specs.Faults.{Devices, NoneFailed, WriteFailed}
+use Rattle.pb_command_io.specs.declared.status.Status.{Status}
+use Rattle.pb_command_io.specs.declared.status.Status.TheVariants.{Device}
 
 -- a read failed, and no write; something may be written
 abbrev pub OneReadFailed : Devices → Devices → Type 0

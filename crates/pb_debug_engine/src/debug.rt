@@ -2,16 +2,16 @@
 
 ghost use Rattle.std.specs.Prelude.{◌≤◌, IfSome, length};
 ghost use Rattle.pb_debug_engine.specs.Debugs.{SaysOfDebug};
-ghost use Rattle.pb_engines.specs.Answers.{Tells};
-ghost use Rattle.pb_engines.specs.Faults.{TellsFaults, TellsWriteFaults};
-ghost use Rattle.pb_engines.specs.Inputs.{SaysOfInput};
+ghost use Rattle.pb_command_io.specs.Answers.{Tells};
+ghost use Rattle.pb_command_io.specs.Faults.{TellsFaults, TellsWriteFaults};
+ghost use Rattle.pb_command_io.specs.Inputs.{SaysOfInput};
 
 use crate::parts::debug_parts;
 use pb_base::device::{Input, MemoryInput, Output};
 use pb_base::limits::MAX_INPUT;
-use pb_engines::Status;
-use pb_engines::input::read_input;
-use pb_engines::parts::two_parts;
+use pb_command_io::Status;
+use pb_command_io::input::read_input;
+use pb_command_io::parts::two_parts;
 use std::alloc::Global;
 
 /// Debugs the text or the object that the input begins with: makes the picks of the pick lines behind the

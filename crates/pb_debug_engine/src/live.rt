@@ -4,13 +4,13 @@ ghost use Rattle.std.specs.Prelude.{◌≡◌, ◌≢◌, IfSome};
 ghost use Rattle.pb_debug.specs.Sessions.{SaysBefore};
 ghost use Rattle.pb_debug_engine.specs.Faults.{TellsAnyFault};
 ghost use Rattle.pb_debug_engine.specs.Live.{SaysOfLive, SaysOfRead, unread_status, unread_text};
-ghost use Rattle.pb_engines.specs.Answers.{Says, Tells};
-ghost use Rattle.pb_engines.specs.Faults.{TellsWriteFaults};
+ghost use Rattle.pb_command_io.specs.Answers.{Says, Tells};
+ghost use Rattle.pb_command_io.specs.Faults.{TellsWriteFaults};
 
 use crate::part::read_first_parts;
 use crate::parts::debug_parts;
 use pb_base::device::{Input, Output, ReadFault};
-use pb_engines::{Page, Status};
+use pb_command_io::{Page, Status};
 use std::alloc::Global;
 
 /// Debugs as `debug_engine` does, but reads the commands as they come: the answer to each is written before

@@ -5,11 +5,11 @@ ghost use Rattle.pb_debug.specs.Sessions.{SaysBefore};
 ghost use Rattle.pb_debug_engine.specs.Debugs.{SaysOfSession};
 ghost use Rattle.pb_debug_engine.specs.Faults.{TellsAnyFault};
 ghost use Rattle.pb_debug_engine.specs.Live.{AnswersLines};
-ghost use Rattle.pb_engines.specs.Answers.{Tells};
+ghost use Rattle.pb_command_io.specs.Answers.{Tells};
 
 use pb_base::device::{Input, Output};
+use pb_command_io::{Page, Status};
 use pb_debug::{DebugFault, Debugger};
-use pb_engines::{Page, Status};
 use std::alloc::Global;
 
 /// Writes the answers to the commands of an input, up to the first for which it is out of memory: there it

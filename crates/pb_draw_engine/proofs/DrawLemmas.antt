@@ -8,15 +8,15 @@ use Rattle.pb_code.specs.Whole.{Code, ProcessLabels}
 use Rattle.pb_codegen.specs.Compiled.{IsCompiled}
 use Rattle.pb_draw_engine.specs.Draws.{IsPictured, SaysOfDraw, SaysOfDrawnLines, not_made, no_memory, drawn, no_text}
 use Rattle.pb_draw_engine.specs.Draws.{with_code}
-use Rattle.pb_engines.specs.Answers.{Says, Tells, memory_line}
-use Rattle.pb_engines.specs.Inputs.{SaysOfInput, too_long, nothing, not_read, read}
-use Rattle.pb_engines.specs.Inputs as input
-use Rattle.pb_engines.specs.Parts.{AreTwoParts}
+use Rattle.pb_command_io.specs.Answers.{Says, Tells, memory_line}
+use Rattle.pb_command_io.specs.Inputs.{SaysOfInput, too_long, nothing, not_read, read}
+use Rattle.pb_command_io.specs.Inputs as input
+use Rattle.pb_command_io.specs.Parts.{AreTwoParts}
 use Rattle.pb_engines.specs.Refusals.{SaysOfRefusedText, refused as by_line}
 use Rattle.pb_engines.specs.ReplayLines.{AreReplayed, IsStatusAt, SaysOfNoPicks}
-use Rattle.pb_engines.specs.declared.reply.Reply.{Reply}
-use Rattle.pb_engines.specs.declared.status.Status.{Status}
-use Rattle.pb_engines.specs.declared.status.Status.TheVariants.{Memory}
+use Rattle.pb_command_io.specs.declared.reply.Reply.{Reply}
+use Rattle.pb_command_io.specs.declared.status.Status.{Status}
+use Rattle.pb_command_io.specs.declared.status.Status.TheVariants.{Memory}
 use Rattle.pb_history.specs.Entries.{Entry}
 
 -- a reply to lines that say no picks, or out of memory for it

@@ -3,7 +3,7 @@ use Rattle.pb_base.specs.Steppers.{State}
 use Rattle.pb_code.specs.Code.{CodeProcess}
 use Rattle.pb_engines.specs.ReplayLines.{IsStatusAt, some_fault, no_fault}
 use Rattle.pb_engines.specs.Runs.{HasFault}
-use Rattle.pb_engines.specs.declared.status.Status.TheVariants.{Done, Fault}
+use Rattle.pb_command_io.specs.declared.status.Status.TheVariants.{Done, Fault}
 
 pub faulted : (end : State CodeProcess) → HasFault end → IsStatusAt end Fault
 faulted end h = some_fault h

@@ -10,12 +10,12 @@ use Rattle.pb_draw.specs.Svg.{svg}
 use Rattle.pb_draw.specs.declared.drawing.Drawing.{Drawing}
 use Rattle.pb_draw.specs.declared.picture.Picture.{Picture}
 use Rattle.pb_base.specs.Lines.{line}
-use Rattle.pb_engines.specs.Answers.{memory_line}
-use Rattle.pb_engines.specs.Parts.{AreTwoParts}
+use Rattle.pb_command_io.specs.Answers.{memory_line}
+use Rattle.pb_command_io.specs.Parts.{AreTwoParts}
 use Rattle.pb_engines.specs.Refusals.{RefusesWith}
 use Rattle.pb_engines.specs.ReplayLines.{AreReplayed, IsStatusAt, SaysOfNoPicks}
-use Rattle.pb_engines.specs.declared.status.Status.{Status}
-use Rattle.pb_engines.specs.declared.status.Status.TheVariants.{Memory, Refused}
+use Rattle.pb_command_io.specs.declared.status.Status.{Status}
+use Rattle.pb_command_io.specs.declared.status.Status.TheVariants.{Memory, Refused}
 use Rattle.pb_history.specs.Entries.{Entry, picks_of}
 
 -- a text is the picture of these entries as SVG, in which each event has its mark

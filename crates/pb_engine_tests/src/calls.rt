@@ -2,7 +2,7 @@
 
 use pb_answer::answer;
 use pb_base::device::{FaultyInput, MemoryInput, MemoryOutput};
-use pb_engines::Status;
+use pb_command_io::Status;
 use pb_explain::{Example, ExampleInput, entry_for};
 use pb_refusals::Code;
 use std::alloc::{AllocError, Global};

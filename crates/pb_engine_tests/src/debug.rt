@@ -1,8 +1,8 @@
 //! Whole inputs, and what is said of them.
 
 use pb_base::device::{MemoryInput, MemoryOutput};
+use pb_command_io::Status;
 use pb_debug_engine::{debug_engine, debug_live_engine};
-use pb_engines::Status;
 use std::alloc::Global;
 
 /// An input, what is said of it, and the status.

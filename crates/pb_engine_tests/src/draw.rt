@@ -1,8 +1,9 @@
 //! Whole inputs, and the pictures or the refusals that are written of them.
 
 use pb_base::device::{FaultyInput, MemoryInput, MemoryOutput};
+use pb_command_io::Status;
 use pb_draw_engine::draw_engine;
-use pb_engines::{Status, replay_engine};
+use pb_engines::replay_engine;
 use std::alloc::Global;
 
 /// An input, the size that its picture begins with, the shapes behind [`LOOKS`], and the status.

@@ -1,8 +1,8 @@
 //! Live sessions of which a read or a write fails, and inputs that are too long.
 
 use pb_base::device::{FaultyInput, FaultyOutput, MemoryInput, MemoryOutput};
+use pb_command_io::Status;
 use pb_debug_engine::{debug_engine, debug_live_engine};
-use pb_engines::Status;
 use std::alloc::Global;
 
 /// A text and a pick, 40 bytes with their lines `%%`, and commands of five bytes each.

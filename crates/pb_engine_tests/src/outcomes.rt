@@ -1,7 +1,8 @@
 //! Whole inputs, and what is said of them.
 
 use pb_base::device::{FaultyInput, MemoryInput, MemoryOutput};
-use pb_engines::{Status, replay_engine};
+use pb_command_io::Status;
+use pb_engines::replay_engine;
 use pb_options::{Lend, OutcomesOptions};
 use pb_outcome_engine::outcomes_engine;
 use std::alloc::Global;

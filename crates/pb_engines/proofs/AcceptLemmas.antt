@@ -7,9 +7,9 @@ use Rattle.pb_claims.specs.Fits.{FitCapital}
 use Rattle.pb_base.specs.Lines.{line}
 use Rattle.pb_engines.specs.Refusals.{IsAcceptedText, RefusesEarly, RefusesWith, SaysOfRefusedText, early}
 use Rattle.pb_engines.specs.Refusals.{refused as by_line}
-use Rattle.pb_engines.specs.declared.reply.Reply.{Reply}
-use Rattle.pb_engines.specs.declared.status.Status.{Status}
-use Rattle.pb_engines.specs.declared.status.Status.TheVariants.{Refused}
+use Rattle.pb_command_io.specs.declared.reply.Reply.{Reply}
+use Rattle.pb_command_io.specs.declared.status.Status.{Status}
+use Rattle.pb_command_io.specs.declared.status.Status.TheVariants.{Refused}
 
 -- a line that is written is that of the refusal
 pub refuses_by : {V : Type 0} (seen : V → List ℕ) (r : Result V NoMemory) (text : List ℕ) (given : Option (List ℕ))

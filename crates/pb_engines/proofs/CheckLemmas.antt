@@ -3,15 +3,15 @@ use Rattle.std.proofs.Common.{◌≡◌, ℕ, ◌+◌, Bool, true, false, List, 
 use Rattle.std.proofs.Common.{IfNone, refl, sym, subst, inl, inr, append_assoc, append-nil, ◌||◌}
 use Rattle.pb_base.specs.Device.{AddsPrefix}
 use Rattle.pb_base.specs.Lines.{line}
-use Rattle.pb_engines.specs.Answers.{memory_line, Leaves, Says, Tells, Spoken}
+use Rattle.pb_command_io.specs.Answers.{memory_line, Leaves, Says, Tells, Spoken}
 use Rattle.pb_engines.specs.Checks.{ill, AnswersTo, none, then, IsLeft, AreFirstParts, check_status, SaysOfChecks}
 use Rattle.pb_engines.specs.Checks.{answered, out_of_memory, cut_off, TellsAnswer, AreTold}
-use Rattle.pb_engines.specs.Parts.{IsMarkAt, IsCutAt, AreParts, last, more}
+use Rattle.pb_command_io.specs.Parts.{IsMarkAt, IsCutAt, AreParts, last, more}
 use Rattle.pb_engines.specs.Refusals.{RefusesWith}
 use Rattle.pb_engines.specs.declared.check.Told.TheVariants as told
-use Rattle.pb_engines.specs.declared.status.Status.{Status}
-use Rattle.pb_engines.specs.declared.status.Status.TheVariants.{Memory, Device}
-use Rattle.pb_engines.proofs.PageLemmas.{Leaves-more, AddsPrefix-more, Says-more, leaves_all}
+use Rattle.pb_command_io.specs.declared.status.Status.{Status}
+use Rattle.pb_command_io.specs.declared.status.Status.TheVariants.{Memory, Device}
+use Rattle.pb_command_io.proofs.PageLemmas.{Leaves-more, AddsPrefix-more, Says-more, leaves_all}
 
 -- ---- one text
 

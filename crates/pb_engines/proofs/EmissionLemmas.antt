@@ -10,7 +10,7 @@ use Rattle.pb_verifier.specs.declared.fault.VerifyFault.TheVariants.{OutOfLimits
 use Rattle.pb_object.proofs.SayableCode.{first_text, ranges_text}
 use Rattle.pb_base.specs.Lines.{line}
 use Rattle.pb_engines.specs.Emissions.{SaysOfObject, beyond_first, written}
-use Rattle.pb_engines.specs.declared.status.Status.TheVariants.{Done, Refused}
+use Rattle.pb_command_io.specs.declared.status.Status.TheVariants.{Done, Refused}
 
 pub has_first_text : (verified : VerifiedCode) (code : Code) → code ≡ verified.code → IsVerified verified
     → FitsFirst code → HasTextOne code

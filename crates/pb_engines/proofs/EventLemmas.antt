@@ -9,12 +9,12 @@ use Rattle.pb_base.specs.Device.{AddsPrefix}
 use Rattle.pb_base.specs.Lines.{NameTable, line_of, line}
 use Rattle.pb_base.proofs.Lists.{take_next}
 use Rattle.pb_history.proofs.SpanEvents.{take_drop}
-use Rattle.pb_engines.specs.Answers.{memory_line, Leaves, Says, Tells}
+use Rattle.pb_command_io.specs.Answers.{memory_line, Leaves, Says, Tells}
 use Rattle.pb_engines.specs.EventLines.{StopsIn, out_of_memory, cut_off}
 use Rattle.pb_engines.specs.Runs.{event_lines}
-use Rattle.pb_engines.specs.declared.status.Status.{Status}
-use Rattle.pb_engines.specs.declared.status.Status.TheVariants.{Device, Memory}
-use Rattle.pb_engines.proofs.PageLemmas.{AddsPrefix-longer, AddsPrefix-more, Leaves-more, Says-more, leaves_all}
+use Rattle.pb_command_io.specs.declared.status.Status.{Status}
+use Rattle.pb_command_io.specs.declared.status.Status.TheVariants.{Device, Memory}
+use Rattle.pb_command_io.proofs.PageLemmas.{AddsPrefix-longer, AddsPrefix-more, Leaves-more, Says-more, leaves_all}
 
 -- the lines of the first events and of one more
 one_more_event : (names : NameTable) (events : List Event) (i : ℕ) (event : Event) → slice_get events i ≡ Some event

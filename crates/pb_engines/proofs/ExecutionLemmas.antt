@@ -1,12 +1,12 @@
 -- From what is said of code to what `exec` says.
 use Rattle.std.proofs.Common.{ℕ, ◌≤◌, List, length, Option}
 use Rattle.pb_code.specs.Whole.{Code, ProcessLabels}
-use Rattle.pb_engines.specs.Answers.{Tells}
+use Rattle.pb_command_io.specs.Answers.{Tells}
 use Rattle.pb_engines.specs.Executions.{SaysOfExecution, executed}
-use Rattle.pb_engines.specs.Inputs.{SaysOfInput, read}
+use Rattle.pb_command_io.specs.Inputs.{SaysOfInput, read}
 use Rattle.pb_engines.specs.Loading.{IsLoaded}
 use Rattle.pb_engines.specs.Runs.{SaysOfCodeRun}
-use Rattle.pb_engines.specs.declared.status.Status.{Status}
+use Rattle.pb_command_io.specs.declared.status.Status.{Status}
 
 -- a run of the code that the bytes give
 pub code_is_run : (steps : ℕ) (bytes : List ℕ) (code : Code) (labels : List ProcessLabels) (old new : Option (List ℕ)) (given : Status)

@@ -12,10 +12,8 @@ pub mod EventLemmas
 pub mod ExecutionLemmas
 pub mod FaultLemmas
 pub mod GrantLemmas
-pub mod InputLemmas
 pub mod LoadLemmas
 pub mod LongRecords
-pub mod PageLemmas
 pub mod RecordLemmas
 pub mod ReplayLemmas
 pub mod ReplayedRecords

@@ -7,9 +7,9 @@ use Rattle.pb_object.specs.declared.format.Format.TheVariants.{Two}
 use Rattle.pb_base.specs.Lines.{line}
 use Rattle.pb_engines.specs.Loading.{IsLoaded}
 use Rattle.pb_engines.specs.Migrations.{SaysOfMigration, migrated}
-use Rattle.pb_engines.specs.declared.reply.Reply.{Reply}
-use Rattle.pb_engines.specs.declared.status.Status.{Status}
-use Rattle.pb_engines.specs.declared.status.Status.TheVariants.{Done, Refused}
+use Rattle.pb_command_io.specs.declared.reply.Reply.{Reply}
+use Rattle.pb_command_io.specs.declared.status.Status.{Status}
+use Rattle.pb_command_io.specs.declared.status.Status.TheVariants.{Done, Refused}
 
 -- a fact of a line and of the status of a refusal holds of the reply with this line
 pub of_refusal : (reply : Result Reply NoMemory) (text : List ℕ) (Says : List ℕ → Status → Type 0) → Says (line text) Refused

@@ -31,9 +31,9 @@ use Rattle.pb_workers.specs.declared.report.Report.{Report}
 use Rattle.pb_engines.specs.Draws.{DrawsRun, generator_of, one_more as draws_one_more}
 use Rattle.pb_engines.specs.Records.{AreCounts, AreTooMany, IsEnded, IsRecorded, IsTooLong, SaysOfRecording, too_long}
 use Rattle.pb_engines.specs.Runs.{Run}
-use Rattle.pb_engines.specs.declared.reply.Reply.{Reply}
-use Rattle.pb_engines.specs.declared.status.Status.{Status}
-use Rattle.pb_engines.specs.declared.status.Status.TheVariants.{Refused}
+use Rattle.pb_command_io.specs.declared.reply.Reply.{Reply}
+use Rattle.pb_command_io.specs.declared.status.Status.{Status}
+use Rattle.pb_command_io.specs.declared.status.Status.TheVariants.{Refused}
 use Rattle.pb_engines.proofs.ChoiceLemmas.{draws_on}
 use Rattle.pb_engines.proofs.RecordLemmas.{LeadTo, is_recorded, recorded_can_be_said}
 use Rattle.pb_engines.proofs.ReportLemmas.{report_is_recorded}

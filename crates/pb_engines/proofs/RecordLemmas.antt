@@ -37,9 +37,9 @@ use Rattle.pb_engines.specs.declared.schedule.Next.TheVariants.{Silent, Did, Not
 use Rattle.pb_engines.specs.Records.{IsEnded, IsRecorded, IsTooLong, SaysOfRecording, no_threads, too_long}
 use Rattle.pb_engines.specs.Records.{with_picks, written}
 use Rattle.pb_engines.specs.Runs.{IsDone, Run}
-use Rattle.pb_engines.specs.declared.reply.Reply.{Reply}
-use Rattle.pb_engines.specs.declared.status.Status.{Status}
-use Rattle.pb_engines.specs.declared.status.Status.TheVariants.{Done, Refused, Threads}
+use Rattle.pb_command_io.specs.declared.reply.Reply.{Reply}
+use Rattle.pb_command_io.specs.declared.status.Status.{Status}
+use Rattle.pb_command_io.specs.declared.status.Status.TheVariants.{Done, Refused, Threads}
 use Rattle.pb_engines.proofs.CountedPicks.{apart_rest, some_first}
 use Rattle.pb_engines.proofs.RunLemmas.{CodeMakes, makes_last}
 use Rattle.pb_engines.proofs.ScheduleLemmas.{no_such_arm}

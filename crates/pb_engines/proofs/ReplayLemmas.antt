@@ -16,21 +16,21 @@ use Rattle.pb_history.proofs.TraceSteps.{traces_make}
 use Rattle.pb_machine.proofs.NeverStuck.{events_have_names}
 use Rattle.pb_machine.proofs.OneMorePick.{reaches_on}
 use Rattle.pb_verifier.specs.Verified.{VerifiedCode, IsVerified}
-use Rattle.pb_engines.specs.Answers.{memory_line, Leaves, Says, Tells}
+use Rattle.pb_command_io.specs.Answers.{memory_line, Leaves, Says, Tells}
 use Rattle.pb_engines.specs.EventLines.{StopsIn}
 use Rattle.pb_engines.specs.EventLines as stop
-use Rattle.pb_engines.specs.Parts.{AreTwoParts}
-use Rattle.pb_engines.specs.Inputs.{SaysOfInput, too_long, nothing, not_read, read}
-use Rattle.pb_engines.specs.Inputs as input
+use Rattle.pb_command_io.specs.Parts.{AreTwoParts}
+use Rattle.pb_command_io.specs.Inputs.{SaysOfInput, too_long, nothing, not_read, read}
+use Rattle.pb_command_io.specs.Inputs as input
 use Rattle.pb_engines.specs.Refusals.{SaysOfRefusedText, refused as by_line}
 use Rattle.pb_engines.specs.ReplayLines.{AreReplayed, IsLastLine, IsStatusAt, SaysOfEvents, SaysOfLines}
 use Rattle.pb_engines.specs.ReplayLines.{SaysOfNoPicks, SaysOfReplay, all_told, out_of_memory, not_made, no_memory}
 use Rattle.pb_engines.specs.ReplayLines.{replayed, no_text, no_picks, made_again}
 use Rattle.pb_engines.specs.Runs.{event_lines}
-use Rattle.pb_engines.specs.declared.reply.Reply.{Reply}
-use Rattle.pb_engines.specs.declared.status.Status.{Status}
-use Rattle.pb_engines.specs.declared.status.Status.TheVariants.{Device, Memory}
-use Rattle.pb_engines.proofs.PageLemmas.{AddsPrefix-longer, Says-more}
+use Rattle.pb_command_io.specs.declared.reply.Reply.{Reply}
+use Rattle.pb_command_io.specs.declared.status.Status.{Status}
+use Rattle.pb_command_io.specs.declared.status.Status.TheVariants.{Device, Memory}
+use Rattle.pb_command_io.proofs.PageLemmas.{AddsPrefix-longer, Says-more}
 
 -- ---- the parts of an input
 

@@ -26,7 +26,7 @@ use Rattle.pb_picks.specs.PickLines.{SpellsPicks, pick_lines}
 use Rattle.pb_verifier.specs.Verified.{IsAnnotated}
 use Rattle.pb_verifier.specs.declared.fault.VerifyFault.TheVariants.{OutOfLimits}
 use Rattle.pb_engines.specs.RecordLaws.{HoldsRun, RecordsCanBeReplayed}
-use Rattle.pb_engines.specs.Parts.{AreTwoParts}
+use Rattle.pb_command_io.specs.Parts.{AreTwoParts}
 use Rattle.pb_engines.specs.Records.{EndsLine, IsEnded, IsRecorded, SaysOfRecord, SaysOfRecording, accepted}
 use Rattle.pb_engines.specs.Records.{no_threads, refused, too_long, with_picks, written}
 use Rattle.pb_engines.specs.Refusals.{RefusesWith, refused as by_line}
@@ -35,8 +35,8 @@ use Rattle.pb_engines.specs.ReplayLines.{no_fault, no_picks, no_text, out_of_mem
 use Rattle.pb_engines.specs.ReplayLines.{some_fault, stop_line}
 use Rattle.pb_engines.specs.declared.replay.LinesFault.{LinesFault}
 use Rattle.pb_engines.specs.declared.replay.LinesFault.TheVariants.{NotMade, NotRead}
-use Rattle.pb_engines.specs.declared.status.Status.{Status}
-use Rattle.pb_engines.specs.declared.status.Status.TheVariants.{Done, Refused}
+use Rattle.pb_command_io.specs.declared.status.Status.{Status}
+use Rattle.pb_command_io.specs.declared.status.Status.TheVariants.{Done, Refused}
 use Rattle.pb_engines.proofs.AcceptLemmas.{compiled_is_accepted}
 use Rattle.pb_engines.proofs.AcceptedTexts.{accepted_is_not_refused}
 use Rattle.pb_engines.proofs.CutRecords.{cut_as_written}

@@ -26,7 +26,7 @@ use Rattle.pb_engines.specs.Draws.{struck}
 use Rattle.pb_engines.specs.RecordLaws.{SeedsWriteOneRecord}
 use Rattle.pb_engines.specs.Records.{IsEnded, IsRecorded, with_picks}
 use Rattle.pb_engines.specs.Runs.{IsDone, Run}
-use Rattle.pb_engines.specs.declared.status.Status.TheVariants.{Done}
+use Rattle.pb_command_io.specs.declared.status.Status.TheVariants.{Done}
 use Rattle.pb_engines.proofs.CountedPicks.{counted_once}
 use Rattle.pb_engines.proofs.GrantLemmas.{IsEnabled}
 use Rattle.pb_engines.proofs.ReplayedRecords.{is_annotated, wrote}

@@ -1,16 +1,14 @@
 -- From what is said of code, or of a fault, to what is said of a text.
-use Rattle.std.proofs.Common.{◌≡◌, ℕ, ◌≤◌, List, [], length, Option, Some, None, refl, sym, ap, subst, inl, arith}
-use Rattle.std.proofs.Common.{append-nil}
+use Rattle.std.proofs.Common.{◌≡◌, ℕ, ◌≤◌, List, [], length, Option, refl, subst, arith}
 use Rattle.pb_base.specs.declared.event.Event.{Event}
 use Rattle.pb_code.specs.Whole.{Code, ProcessLabels, CodeCan, code_opening}
 use Rattle.pb_codegen.specs.Compiled.{IsCompiled}
-use Rattle.pb_engines.specs.Answers.{Says, Tells}
+use Rattle.pb_command_io.specs.Answers.{Tells}
 use Rattle.pb_engines.specs.Refusals.{SaysOfRefusedText, refused as by_line}
 use Rattle.pb_engines.specs.Runs.{SaysOfRun, done, faulted, at_limit, out_of_memory, cut_off, no_threads}
 use Rattle.pb_engines.specs.Runs.{SaysOfCodeRun, SaysOfTextRun, refused, accepted}
-use Rattle.pb_engines.specs.Inputs.{SaysOfInput, read}
-use Rattle.pb_engines.specs.declared.status.Status.{Status}
-use Rattle.pb_engines.specs.declared.status.Status.TheVariants.{Device}
+use Rattle.pb_command_io.specs.Inputs.{SaysOfInput, read}
+use Rattle.pb_command_io.specs.declared.status.Status.{Status}
 
 -- the code can make the events of a run that is told
 can_make : (code : Code) (steps : ℕ) (events : List Event) (n : ℕ) (text : List ℕ) (status : Status)
@@ -41,9 +39,3 @@ text_is_run steps bytes code given labels old new answered short compiled same t
 -- a refused text
 pub says_refused : (steps : ℕ) (bytes text : List ℕ) (status : Status) → SaysOfRefusedText bytes text status → SaysOfTextRun steps bytes text status
 says_refused steps bytes _ _ (by_line refusal is) = refused refusal is
-
--- ---- nothing is said
-
-pub said_nothing : (w : Option (List ℕ)) → Says w w [] Device Device
-said_nothing None = inl (refl, refl)
-said_nothing (Some held) = inl (ap Some (sym (append-nil held)), refl)

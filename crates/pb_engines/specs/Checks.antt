@@ -1,14 +1,14 @@
 -- What `check` says of an input, and with which status.
 use Rattle.std.specs.Prelude.{◌≡◌, ◌++◌, ◌||◌, ◌⊎◌, ℕ, Bool, true, false, List, [], ◌∷◌, Option, codes}
 use Rattle.pb_base.specs.Lines.{line}
-use Rattle.pb_engines.specs.Answers.{memory_line, Leaves, Spoken}
+use Rattle.pb_command_io.specs.Answers.{memory_line, Leaves, Spoken}
 use Rattle.pb_base.specs.Device.{AddsPrefix}
-use Rattle.pb_engines.specs.Parts.{AreParts}
+use Rattle.pb_command_io.specs.Parts.{AreParts}
 use Rattle.pb_engines.specs.Refusals.{IsAcceptedText, RefusesWith}
 use Rattle.pb_engines.specs.declared.check.Told.{Told}
 use Rattle.pb_engines.specs.declared.check.Told.TheVariants as told
-use Rattle.pb_engines.specs.declared.status.Status.{Status}
-use Rattle.pb_engines.specs.declared.status.Status.TheVariants.{Done, Refused, Memory, Device}
+use Rattle.pb_command_io.specs.declared.status.Status.{Status}
+use Rattle.pb_command_io.specs.declared.status.Status.TheVariants.{Done, Refused, Memory, Device}
 
 -- the answer to one text, and whether it is a refusal
 pub data AnswerTo (text : List ℕ) : List ℕ → Bool → Type 0 where

@@ -8,8 +8,8 @@ use Rattle.pb_names.specs.Program.{Name, Program}
 use Rattle.pb_names.specs.Resolves.{process_names, resource_names}
 use Rattle.pb_base.specs.Lines.{line}
 use Rattle.pb_engines.specs.Refusals.{RefusesEarly}
-use Rattle.pb_engines.specs.declared.status.Status.{Status}
-use Rattle.pb_engines.specs.declared.status.Status.TheVariants.{Done, Refused}
+use Rattle.pb_command_io.specs.declared.status.Status.{Status}
+use Rattle.pb_command_io.specs.declared.status.Status.TheVariants.{Done, Refused}
 
 -- the line of one claim: the process, the word `claim`, the amount, the resource
 abbrev pub claim_line : Name → ℕ → Name → List ℕ

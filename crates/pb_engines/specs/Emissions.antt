@@ -8,8 +8,8 @@ use Rattle.pb_object.specs.declared.format.Format.TheVariants.{One, Two}
 use Rattle.pb_codegen.specs.Compiled.{IsCompiled}
 use Rattle.pb_base.specs.Lines.{line}
 use Rattle.pb_engines.specs.Refusals.{SaysOfRefusedText}
-use Rattle.pb_engines.specs.declared.status.Status.{Status}
-use Rattle.pb_engines.specs.declared.status.Status.TheVariants.{Done, Refused}
+use Rattle.pb_command_io.specs.declared.status.Status.{Status}
+use Rattle.pb_command_io.specs.declared.status.Status.TheVariants.{Done, Refused}
 
 -- the text is the code's in this format, with its labels; the first format has none
 abbrev pub IsWrittenIn : Format → Code → List ProcessLabels → List ℕ → Type 0

@@ -2,10 +2,10 @@
 use Rattle.std.specs.Prelude.{ℕ, List, ◌++◌, take}
 use Rattle.pb_base.specs.declared.event.Event.{Event}
 use Rattle.pb_base.specs.Lines.{NameTable}
-use Rattle.pb_engines.specs.Answers.{memory_line}
+use Rattle.pb_command_io.specs.Answers.{memory_line}
 use Rattle.pb_engines.specs.Runs.{event_lines}
-use Rattle.pb_engines.specs.declared.status.Status.{Status}
-use Rattle.pb_engines.specs.declared.status.Status.TheVariants.{Device, Memory}
+use Rattle.pb_command_io.specs.declared.status.Status.{Status}
+use Rattle.pb_command_io.specs.declared.status.Status.TheVariants.{Device, Memory}
 
 -- out of memory for a line: the lines before it and `memory`; or a write failed, in the lines of all events
 pub data StopsIn (names : NameTable) (events : List Event) : List ℕ → Status → Type 0 where

@@ -4,7 +4,7 @@ use Rattle.pb_base.specs.declared.event.Event.{Event}
 use Rattle.pb_code.specs.Whole.{Code, ProcessLabels}
 use Rattle.pb_engines.specs.Loading.{IsLoaded, SaysOfNoCode}
 use Rattle.pb_engines.specs.Runs.{SaysOfRun}
-use Rattle.pb_engines.specs.declared.status.Status.{Status}
+use Rattle.pb_command_io.specs.declared.status.Status.{Status}
 
 -- the bytes give no safe code; or they give some, of which some run is told
 pub data SaysOfExecution (steps : ℕ) (bytes : List ℕ) : List ℕ → Status → Type 0 where

@@ -1,4 +1,3 @@
-pub mod Answers
 pub mod Checks
 pub mod Choices
 pub mod ClaimLines
@@ -6,12 +5,9 @@ pub mod Draws
 pub mod Emissions
 pub mod EventLines
 pub mod Executions
-pub mod Faults
-pub mod Inputs
 pub mod Loading
 pub mod Migrations
 pub mod Outcomes
-pub mod Parts
 pub mod RecordLaws
 pub mod Records
 pub mod Refusals
@@ -19,4 +15,3 @@ pub mod ReplayLines
 pub mod RunLaws
 pub mod Runs
 pub mod Schedule
-pub mod Statuses

@@ -8,8 +8,8 @@ use Rattle.pb_base.specs.Lines.{line}
 use Rattle.pb_engines.specs.Refusals.{object_line, verify_line}
 use Rattle.pb_engines.specs.declared.load.LoadFault.{LoadFault}
 use Rattle.pb_engines.specs.declared.load.LoadFault.TheVariants.{Object, Unsafe}
-use Rattle.pb_engines.specs.declared.status.Status.{Status}
-use Rattle.pb_engines.specs.declared.status.Status.TheVariants.{Refused}
+use Rattle.pb_command_io.specs.declared.status.Status.{Status}
+use Rattle.pb_command_io.specs.declared.status.Status.TheVariants.{Refused}
 
 -- the bytes spell this code and these labels, and the code is safe to run
 pub record IsLoaded (bytes : List ℕ) (code : Code) (labels : List ProcessLabels) : Type 0 where

@@ -4,8 +4,8 @@ use Rattle.pb_object.specs.Answers.{SpellsCode}
 use Rattle.pb_code.specs.Whole.{Code, ProcessLabels}
 use Rattle.pb_object.specs.declared.format.Format.TheVariants.{Two}
 use Rattle.pb_engines.specs.Loading.{IsLoaded, SaysOfNoCode}
-use Rattle.pb_engines.specs.declared.status.Status.{Status}
-use Rattle.pb_engines.specs.declared.status.Status.TheVariants.{Done}
+use Rattle.pb_command_io.specs.declared.status.Status.{Status}
+use Rattle.pb_command_io.specs.declared.status.Status.TheVariants.{Done}
 
 -- the bytes give no safe code; or they give some, whose text in the second format, with the same labels, is
 -- said

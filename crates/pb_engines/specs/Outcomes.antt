@@ -6,8 +6,8 @@ use Rattle.pb_base.specs.declared.event.Event.TheVariants.{Faulted}
 use Rattle.pb_base.specs.declared.operators.FaultKind.{FaultKind}
 use Rattle.pb_base.specs.declared.pick.Pick.{Pick}
 use Rattle.pb_base.specs.Lines.{line}
-use Rattle.pb_engines.specs.declared.status.Status.{Status}
-use Rattle.pb_engines.specs.declared.status.Status.TheVariants.{Done, Fault, Limit}
+use Rattle.pb_command_io.specs.declared.status.Status.{Status}
+use Rattle.pb_command_io.specs.declared.status.Status.TheVariants.{Done, Fault, Limit}
 use Rattle.pb_shared.specs.declared.outcome.Outcome.{Outcome}
 use Rattle.pb_shared.specs.declared.outcome.Outcome.TheVariants as outcome
 

@@ -17,8 +17,8 @@ use Rattle.pb_picks.specs.PickLines.{pick_lines}
 use Rattle.pb_engines.specs.Draws.{IsDrawnRun}
 use Rattle.pb_engines.specs.Refusals.{SaysOfRefusedText}
 use Rattle.pb_engines.specs.Runs.{IsDone}
-use Rattle.pb_engines.specs.declared.status.Status.{Status}
-use Rattle.pb_engines.specs.declared.status.Status.TheVariants.{Done, Refused, Threads}
+use Rattle.pb_command_io.specs.declared.status.Status.{Status}
+use Rattle.pb_command_io.specs.declared.status.Status.TheVariants.{Done, Refused, Threads}
 
 -- the last byte of the text is a line feed
 abbrev pub EndsLine : List ℕ → Type 0

@@ -23,8 +23,8 @@ use Rattle.pb_verifier.specs.declared.fault.VerifyFault.TheVariants as verify
 use Rattle.pb_base.specs.Lines.{line}
 use Rattle.pb_engines.specs.declared.accept.Refusal.{Refusal}
 use Rattle.pb_engines.specs.declared.accept.Refusal.TheVariants.{Line, NoMemory}
-use Rattle.pb_engines.specs.declared.status.Status.{Status}
-use Rattle.pb_engines.specs.declared.status.Status.TheVariants.{Refused}
+use Rattle.pb_command_io.specs.declared.status.Status.{Status}
+use Rattle.pb_command_io.specs.declared.status.Status.TheVariants.{Refused}
 
 -- the letter and number of a cause, and its place
 abbrev pub at_place : List ℕ → ℕ → List ℕ

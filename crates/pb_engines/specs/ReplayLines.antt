@@ -15,14 +15,14 @@ use Rattle.pb_names.specs.Meaning.{SourceCan}
 use Rattle.pb_picks.specs.PickLines.{IsFaulty, SpellsPicks}
 use Rattle.pb_picks.specs.declared.fault.PickFault.{PickFault}
 use Rattle.pb_picks.specs.declared.fault.PickFault.TheVariants as picks
-use Rattle.pb_engines.specs.Answers.{memory_line}
-use Rattle.pb_engines.specs.Parts.{AreTwoParts}
+use Rattle.pb_command_io.specs.Answers.{memory_line}
+use Rattle.pb_command_io.specs.Parts.{AreTwoParts}
 use Rattle.pb_engines.specs.Refusals.{RefusesWith, at_place}
 use Rattle.pb_engines.specs.Runs.{HasFault, IsDone, event_lines}
 use Rattle.pb_engines.specs.declared.replay.LinesFault.{LinesFault}
 use Rattle.pb_engines.specs.declared.replay.LinesFault.TheVariants.{NotRead, NotMade}
-use Rattle.pb_engines.specs.declared.status.Status.{Status}
-use Rattle.pb_engines.specs.declared.status.Status.TheVariants.{Done, Fault, Memory, Refused}
+use Rattle.pb_command_io.specs.declared.status.Status.{Status}
+use Rattle.pb_command_io.specs.declared.status.Status.TheVariants.{Done, Fault, Memory, Refused}
 
 -- the lines say picks, and these, each enabled in turn from the start, make these entries and lead to this
 -- state

@@ -10,10 +10,10 @@ use Rattle.pb_code.specs.Code.{CodeProcess, code_step, code_over}
 use Rattle.pb_code.specs.Whole.{Code, ProcessLabels, bank_of, code_opening}
 use Rattle.pb_codegen.specs.Compiled.{IsCompiled}
 use Rattle.pb_names.specs.Meaning.{SourceCan}
-use Rattle.pb_engines.specs.Answers.{memory_line}
+use Rattle.pb_command_io.specs.Answers.{memory_line}
 use Rattle.pb_engines.specs.Refusals.{RefusesWith}
-use Rattle.pb_engines.specs.declared.status.Status.{Status}
-use Rattle.pb_engines.specs.declared.status.Status.TheVariants.{Done, Refused, Limit, Fault, Memory, Device, Threads}
+use Rattle.pb_command_io.specs.declared.status.Status.{Status}
+use Rattle.pb_command_io.specs.declared.status.Status.TheVariants.{Done, Refused, Limit, Fault, Memory, Device, Threads}
 
 -- the lines of events, in their order
 abbrev pub event_lines : NameTable → List Event → List ℕ

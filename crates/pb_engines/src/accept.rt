@@ -1,21 +1,21 @@
 //! Texts, as far as every command over texts looks at them.
 ghost use Rattle.std.specs.Prelude.{◌≡◌, ◌≤◌, ℕ, IfErr, IfOk, List, length};
-ghost use Rattle.pb_engines.specs.Answers.{Tells};
-ghost use Rattle.pb_engines.specs.Inputs.{SaysOfInput};
+ghost use Rattle.pb_command_io.specs.Answers.{Tells};
+ghost use Rattle.pb_command_io.specs.Inputs.{SaysOfInput};
 ghost use Rattle.pb_engines.specs.Refusals.{IsEarlyRefusal, IsRefusal, RefusesEarly, RefusesWith, SaysOfRefusedText};
 ghost use Rattle.pb_codegen.specs.Compiled.{IsBeforeClaims, IsCompiled, IsRefused};
 ghost use Rattle.pb_codegen.specs.Numbered.{IsReadAs};
 ghost use Rattle.pb_names.specs.View.{resolved_view};
-ghost use Rattle.pb_engines.specs.Faults.{TellsWriteFaults};
+ghost use Rattle.pb_command_io.specs.Faults.{TellsWriteFaults};
 
 use crate::refusal::{claims_text, lex_text, names_text, parse_text};
-use crate::reply::{Reply, refused, tell};
-use crate::status::Status;
 use bumpalo::Bump;
 use pb_base::NoMemory;
 use pb_base::device::Output;
 use pb_base::limits::MAX_INPUT;
 use pb_codegen::{Analysis, CompileFault, Compiled, analyze, compile};
+use pb_command_io::Status;
+use pb_command_io::reply::{Reply, refused, tell};
 use std::alloc::{Allocator, Global};
 
 /// Why a text is not accepted.

@@ -1,20 +1,19 @@
 //! The command `check`, over any input and output.
 ghost use Rattle.std.specs.Prelude.{◌≡◌, ◌≢◌, ◌≤◌, ◌⊎◌, ℕ, List, IfErr, IfSome, OnOk, Some};
 ghost use Rattle.pb_base.specs.Device.{one_more_failure};
-ghost use Rattle.pb_engines.specs.Answers.{Tells};
+ghost use Rattle.pb_command_io.specs.Answers.{Tells};
 ghost use Rattle.pb_engines.specs.Checks.{SaysOfChecks, TellsAnswer, check_status};
-ghost use Rattle.pb_engines.specs.Inputs.{SaysOfInput};
+ghost use Rattle.pb_command_io.specs.Inputs.{SaysOfInput};
 ghost use Rattle.pb_engines.specs.Refusals.{IsAcceptedText, IsRefusal};
-ghost use Rattle.pb_engines.specs.Faults.{TellsFaults, TellsWriteFaults};
+ghost use Rattle.pb_command_io.specs.Faults.{TellsFaults, TellsWriteFaults};
 
 use crate::accept::{Refusal, compile_within};
-use crate::input::read_input;
-use crate::page::Page;
-use crate::parts::first_part;
-use crate::status::Status;
 use bumpalo::Bump;
 use linked_list_allocator::LocalHeap;
 use pb_base::device::{Input, Output};
+use pb_command_io::input::read_input;
+use pb_command_io::parts::first_part;
+use pb_command_io::{Page, Status};
 use pb_options::CheckOptions;
 use std::alloc::{Allocator, Global};
 

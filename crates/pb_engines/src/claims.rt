@@ -1,22 +1,22 @@
 //! The command `claims`, over any input and output.
 ghost use Rattle.std.specs.Prelude.{◌≡◌, ◌<◌, ◌≤◌, ◌++◌, ◌⊎◌, ℕ, IfOk, IfSome, OnOk, length, map};
 ghost use Rattle.pb_base.specs.Banker.{row_of};
-ghost use Rattle.pb_engines.specs.Answers.{Tells};
+ghost use Rattle.pb_command_io.specs.Answers.{Tells};
 ghost use Rattle.pb_engines.specs.ClaimLines.{claim_line, claim_lines, lines_of_process, SaysOfClaims};
-ghost use Rattle.pb_engines.specs.Inputs.{SaysOfInput};
+ghost use Rattle.pb_command_io.specs.Inputs.{SaysOfInput};
 ghost use Rattle.pb_names.specs.Meaning.{AreClaims};
 ghost use Rattle.pb_names.specs.View.{resolved_view};
-ghost use Rattle.pb_engines.specs.Faults.{TellsFaults, TellsWriteFaults};
+ghost use Rattle.pb_command_io.specs.Faults.{TellsFaults, TellsWriteFaults};
 
 use crate::accept::{Refusal, analyze_text};
-use crate::input::read_input;
 use crate::refusal::put_number;
-use crate::reply::{Reply, refused, tell};
-use crate::status::Status;
 use bumpalo::Bump;
 use pb_base::device::{Input, Output};
 use pb_base::limits::MAX_INPUT;
 use pb_base::{Claims, NoMemory};
+use pb_command_io::Status;
+use pb_command_io::input::read_input;
+use pb_command_io::reply::{Reply, refused, tell};
 use pb_names::{Resolved, Resource};
 use std::alloc::{Allocator, Global};
 

@@ -3,19 +3,19 @@ ghost use Rattle.std.specs.Prelude.{◌≡◌, ◌≤◌, ◌⊎◌, IfOk, IfSom
 ghost use Rattle.pb_code.specs.Limits.{AreLabels};
 ghost use Rattle.pb_code.specs.Whole.{ProcessLabels};
 ghost use Rattle.pb_object.specs.declared.format.Format.TheVariants.{One, Two};
-ghost use Rattle.pb_engines.specs.Answers.{Tells};
+ghost use Rattle.pb_command_io.specs.Answers.{Tells};
 ghost use Rattle.pb_engines.specs.Emissions.{SaysOfEmission, SaysOfObject};
-ghost use Rattle.pb_engines.specs.Inputs.{SaysOfInput};
-ghost use Rattle.pb_engines.specs.Faults.{TellsFaults, TellsWriteFaults};
+ghost use Rattle.pb_command_io.specs.Inputs.{SaysOfInput};
+ghost use Rattle.pb_command_io.specs.Faults.{TellsFaults, TellsWriteFaults};
 
 use crate::accept::{compile_text, refuse};
-use crate::input::read_input;
-use crate::reply::{Reply, refused, tell};
-use crate::status::Status;
 use pb_base::NoMemory;
 use pb_base::device::{Input, Output};
 use pb_base::limits::MAX_INPUT;
 use pb_codegen::Compiled;
+use pb_command_io::Status;
+use pb_command_io::input::read_input;
+use pb_command_io::reply::{Reply, refused, tell};
 use pb_object::{Format, fits_first_format, write_object, write_object2};
 use pb_options::EmitOptions;
 use pb_verifier::Verified;

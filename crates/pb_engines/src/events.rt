@@ -1,16 +1,15 @@
 //! The lines of the events of a trace.
 ghost use Rattle.std.specs.Prelude.{◌≡◌, All, IfErr, IfOk, OnOk};
 ghost use Rattle.pb_base.specs.Lines.{HasNames, names_view};
-ghost use Rattle.pb_engines.specs.Answers.{Leaves, Tells};
+ghost use Rattle.pb_command_io.specs.Answers.{Leaves, Tells};
 ghost use Rattle.pb_engines.specs.EventLines.{StopsIn};
-ghost use Rattle.pb_engines.specs.Faults.{TellsWriteFaults};
+ghost use Rattle.pb_command_io.specs.Faults.{TellsWriteFaults};
 ghost use Rattle.pb_engines.specs.Runs.{event_lines};
 ghost use Rattle.pb_history.specs.Entries.{events_of};
 
-use crate::page::Page;
-use crate::status::Status;
 use pb_base::device::Output;
 use pb_base::{Names, event_line};
+use pb_command_io::{Page, Status};
 use pb_history::Trace;
 use std::alloc::Global;
 

@@ -1,17 +1,17 @@
 //! The command `exec`, over any input and output.
 ghost use Rattle.std.specs.Prelude.{◌≡◌, ◌≤◌, ◌⊎◌, IfSome, length};
-ghost use Rattle.pb_engines.specs.Answers.{Tells};
+ghost use Rattle.pb_command_io.specs.Answers.{Tells};
 ghost use Rattle.pb_engines.specs.Executions.{SaysOfExecution};
-ghost use Rattle.pb_engines.specs.Inputs.{SaysOfInput};
-ghost use Rattle.pb_engines.specs.Faults.{TellsFaults, TellsWriteFaults};
+ghost use Rattle.pb_command_io.specs.Inputs.{SaysOfInput};
+ghost use Rattle.pb_command_io.specs.Faults.{TellsFaults, TellsWriteFaults};
 
-use crate::input::read_input;
 use crate::load::{load, load_refusal};
-use crate::reply::tell;
 use crate::report::tell_run;
-use crate::status::Status;
 use pb_base::device::{Input, Output};
 use pb_base::limits::MAX_INPUT;
+use pb_command_io::Status;
+use pb_command_io::input::read_input;
+use pb_command_io::reply::tell;
 use pb_options::RunOptions;
 use std::alloc::Global;
 use std::sync::Wait;

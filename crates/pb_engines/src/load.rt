@@ -6,9 +6,9 @@ ghost use Rattle.pb_object.specs.declared.format.Format.TheVariants.{Two};
 ghost use Rattle.pb_engines.specs.Loading.{IsLoaded, IsLoadFault, SaysOfNoCode, load_line};
 
 use crate::refusal::{object_text, verify_text};
-use crate::reply::{Reply, refused};
 use pb_base::NoMemory;
 use pb_code::Labels;
+use pb_command_io::reply::{Reply, refused};
 use pb_object::{ObjectFault, read_any};
 use pb_verifier::{Verified, VerifyFault, verify};
 use std::alloc::Global;

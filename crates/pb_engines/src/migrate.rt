@@ -1,21 +1,21 @@
 //! The command `migrate`, over any input and output.
 ghost use Rattle.std.specs.Prelude.{◌≡◌, ◌≤◌, ◌⊎◌, IfOk, IfSome, length};
-ghost use Rattle.pb_engines.specs.Answers.{Tells};
-ghost use Rattle.pb_engines.specs.Inputs.{SaysOfInput};
+ghost use Rattle.pb_command_io.specs.Answers.{Tells};
+ghost use Rattle.pb_command_io.specs.Inputs.{SaysOfInput};
 ghost use Rattle.pb_engines.specs.Migrations.{SaysOfMigration};
-ghost use Rattle.pb_engines.specs.Faults.{TellsFaults, TellsWriteFaults};
+ghost use Rattle.pb_command_io.specs.Faults.{TellsFaults, TellsWriteFaults};
 ghost use Rattle.pb_code.specs.View.{code_view, labels_view};
 ghost use Rattle.pb_object.specs.Answers.{HasText, SpellsCode};
 ghost use Rattle.pb_object.specs.declared.format.Format.TheVariants.{Two};
 
-use crate::input::read_input;
 use crate::load::{load, load_refusal};
-use crate::reply::{Reply, tell};
-use crate::status::Status;
 use pb_base::NoMemory;
 use pb_base::device::{Input, Output};
 use pb_base::limits::MAX_INPUT;
 use pb_code::{Code, Labels};
+use pb_command_io::Status;
+use pb_command_io::input::read_input;
+use pb_command_io::reply::{Reply, tell};
 use pb_object::write_object2;
 use std::alloc::Global;
 

@@ -1,21 +1,21 @@
 //! The command `record`, over any input and output.
 ghost use Rattle.std.specs.Prelude.{◌≡◌, ◌≢◌, ◌↔◌, ◌≤◌, IfErr, IfOk, IfSome, IsTrue, MatchOption, codes, length};
 ghost use Rattle.pb_base.specs.Lines.{line};
-ghost use Rattle.pb_engines.specs.Answers.{Tells};
-ghost use Rattle.pb_engines.specs.Faults.{TellsFaults, TellsWriteFaults};
-ghost use Rattle.pb_engines.specs.Inputs.{SaysOfInput};
+ghost use Rattle.pb_command_io.specs.Answers.{Tells};
+ghost use Rattle.pb_command_io.specs.Faults.{TellsFaults, TellsWriteFaults};
+ghost use Rattle.pb_command_io.specs.Inputs.{SaysOfInput};
 ghost use Rattle.pb_engines.specs.Records.{EndsLine, IsEnded, IsRecorded, IsTooLong, SaysOfRecord, SaysOfRecording};
-ghost use Rattle.pb_engines.specs.declared.status.Status.TheVariants.{Refused};
+ghost use Rattle.pb_command_io.specs.declared.status.Status.TheVariants.{Refused};
 ghost use Rattle.pb_verifier.specs.Verified.{IsVerified};
 
 use crate::accept::{compile_text, refuse};
-use crate::input::read_input;
 use crate::picks::{draw_picks, report_picks};
-use crate::reply::{Reply, refused, tell};
-use crate::status::Status;
 use pb_base::NoMemory;
 use pb_base::device::{Input, Output};
 use pb_base::limits::MAX_INPUT;
+use pb_command_io::Status;
+use pb_command_io::input::read_input;
+use pb_command_io::reply::{Reply, refused, tell};
 use pb_history::CountedPick;
 use pb_options::RecordOptions;
 use pb_picks::write_picks;

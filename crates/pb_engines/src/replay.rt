@@ -1,27 +1,27 @@
 //! The command `replay`, over any input and output.
 ghost use Rattle.std.specs.Prelude.{◌≡◌, ◌≢◌, ◌≤◌, ℕ, List, All, IfErr, IfOk, IfSome, Some, length};
 ghost use Rattle.pb_base.specs.Lines.{HasNames, names_view};
-ghost use Rattle.pb_engines.specs.Answers.{Tells};
-ghost use Rattle.pb_engines.specs.Faults.{TellsFaults, TellsWriteFaults};
-ghost use Rattle.pb_engines.specs.Inputs.{SaysOfInput};
+ghost use Rattle.pb_command_io.specs.Answers.{Tells};
+ghost use Rattle.pb_command_io.specs.Faults.{TellsFaults, TellsWriteFaults};
+ghost use Rattle.pb_command_io.specs.Inputs.{SaysOfInput};
 ghost use Rattle.pb_engines.specs.ReplayLines.{AreReplayed, IsLastLine, IsLinesFault, IsStatusAt, SaysOfEvents};
 ghost use Rattle.pb_engines.specs.ReplayLines.{SaysOfLines, SaysOfNoPicks, SaysOfReplay, lines_line};
 ghost use Rattle.pb_history.specs.Entries.{events_of};
 ghost use Rattle.pb_code.specs.Whole.{Code};
 ghost use Rattle.pb_machine.specs.Views.{machine_view};
-ghost use Rattle.pb_engines.specs.declared.status.Status.TheVariants.{Device};
+ghost use Rattle.pb_command_io.specs.declared.status.Status.TheVariants.{Device};
 
 use crate::accept::{compile_text, refuse};
 use crate::events::tell_events;
 use crate::faults::has_fault;
-use crate::input::read_input;
-use crate::parts::two_parts;
 use crate::refusal::{picks_text, stop_text};
-use crate::reply::{Reply, refused, tell};
-use crate::status::Status;
 use pb_base::device::{Input, Output};
 use pb_base::limits::MAX_INPUT;
 use pb_base::{Names, NoMemory};
+use pb_command_io::Status;
+use pb_command_io::input::read_input;
+use pb_command_io::parts::two_parts;
+use pb_command_io::reply::{Reply, refused, tell};
 use pb_history::replay::replay_counted;
 use pb_history::{ReplayFault, Trace};
 use pb_machine::Machine;

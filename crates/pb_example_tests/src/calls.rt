@@ -3,9 +3,10 @@
 ghost use Rattle.std.specs.Prelude.{◌≡◌, ◌≤◌};
 
 use pb_base::device::{MemoryInput, MemoryOutput};
+use pb_command_io::Status;
 use pb_engines::{
-    CheckOptions, EmitOptions, RecordOptions, RunOptions, Status, check_engine, claims_engine,
-    emit_engine, exec_engine, migrate_engine, record_engine, replay_engine, run_engine,
+    CheckOptions, EmitOptions, RecordOptions, RunOptions, check_engine, claims_engine, emit_engine,
+    exec_engine, migrate_engine, record_engine, replay_engine, run_engine,
 };
 use pb_object::Format;
 use std::sync::Wait;

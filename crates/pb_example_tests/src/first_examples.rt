@@ -1,7 +1,7 @@
 //! The first examples, by the calls of `examples/expected/calls.txt`. Written by checks/example_tests.py.
 
 use crate::calls::{Call, Command, first_wrong};
-use pb_engines::Status;
+use pb_command_io::Status;
 use pb_example_texts::first::{
     CLOCK, CUSTOMERS, DEVICES, EDGES, HELLO, LOST, LOST_RUN, PHILOSOPHERS, ROUNDS, TOGETHER,
 };

@@ -1,7 +1,7 @@
 //! Forged objects, by the calls of `examples/expected/calls.txt`. Written by checks/example_tests.py.
 
 use crate::calls::{Call, Command, first_wrong};
-use pb_engines::Status;
+use pb_command_io::Status;
 use pb_example_texts::solutions::{
     FORGED_CAPITAL_OBJECT, FORGED_GIVE_OBJECT, FORGED_INTEGER_OBJECT, FORGED_JUMP_OBJECT,
     FORGED_KEPT_OBJECT, FORGED_STACK_OBJECT, FORGED_WORD_OBJECT,

@@ -1,7 +1,7 @@
 //! Lesson 4, by the calls of `examples/expected/calls.txt`. Written by checks/example_tests.py.
 
 use crate::calls::{Call, Command, first_wrong};
-use pb_engines::Status;
+use pb_command_io::Status;
 use pb_example_texts::claims::{ARMS_ADD, BRANCHES, NIGHT, TOO_MUCH};
 use std::test::Fail;
 

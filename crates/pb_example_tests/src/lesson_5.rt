@@ -1,7 +1,7 @@
 //! Lesson 5, by the calls of `examples/expected/calls.txt`. Written by checks/example_tests.py.
 
 use crate::calls::{Call, Command, first_wrong};
-use pb_engines::Status;
+use pb_command_io::Status;
 use pb_example_texts::deadlock::{CAUTIOUS, IN_TURN, ORDERED, STEPS, TWO_PHASE};
 use std::test::Fail;
 

@@ -1,7 +1,7 @@
 //! Lesson 6, by the calls of `examples/expected/calls.txt`. Written by checks/example_tests.py.
 
 use crate::calls::{Call, Command, first_wrong};
-use pb_engines::Status;
+use pb_command_io::Status;
 use pb_example_texts::objects::{
     CAREFUL, CAREFUL_OBJECT, FORGED_CLAIM_OBJECT, NO_TEXT_OBJECT, SUM, SUM_OBJECT,
 };

@@ -1,7 +1,7 @@
 //! Replayed solutions, by the calls of `examples/expected/calls.txt`. Written by checks/example_tests.py.
 
 use crate::calls::{Call, Command, first_wrong};
-use pb_engines::Status;
+use pb_command_io::Status;
 use pb_example_texts::solutions::{
     CAUTIOUS_RUN, CUSTOMERS_B_RUN, CUSTOMERS_C_RUN, FIFTH_RUN, LOST_BY_HAND_RUN, NO_TURN_RUN,
     ORDERS_RUN, READERS_FOR_EVER_RUN,

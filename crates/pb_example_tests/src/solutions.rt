@@ -1,7 +1,7 @@
 //! Solutions, by the calls of `examples/expected/calls.txt`. Written by checks/example_tests.py.
 
 use crate::calls::{Call, Command, first_wrong};
-use pb_engines::Status;
+use pb_command_io::Status;
 use pb_example_texts::solutions::{
     BY_HAND, CAUTIOUS_ORDERED, DOOR, IN_TURN_SPLIT, MENDED, NO_TURN, PHILOSOPHERS_ORDERED,
     READERS_FOR_EVER, ROUNDS_ALONE, SHARE_AFTER, SORT_FITS, THREE_ORDERS, THREE_OUTCOMES,

@@ -1,10 +1,10 @@
 -- From the reply of `explain` to what is written, and the list so far with one code more.
 use Rattle.std.proofs.Common.{◌≡◌, ◌+◌, ◌++◌, ℕ, List, Option, Result, Ok, Err, IfOk, OnErr}
 use Rattle.pb_base.specs.declared.memory.NoMemory.{NoMemory}
-use Rattle.pb_engines.specs.Answers.{Says, Tells, memory_line}
-use Rattle.pb_engines.specs.declared.reply.Reply.{Reply}
-use Rattle.pb_engines.specs.declared.status.Status.{Status}
-use Rattle.pb_engines.specs.declared.status.Status.TheVariants.{Memory}
+use Rattle.pb_command_io.specs.Answers.{Says, Tells, memory_line}
+use Rattle.pb_command_io.specs.declared.reply.Reply.{Reply}
+use Rattle.pb_command_io.specs.declared.status.Status.{Status}
+use Rattle.pb_command_io.specs.declared.status.Status.TheVariants.{Memory}
 use Rattle.pb_refusals.specs.declared.code.Code.{Code}
 use Rattle.pb_explain.specs.Pages.{SaysOfExplain, no_memory}
 

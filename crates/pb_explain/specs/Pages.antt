@@ -3,9 +3,9 @@ use Rattle.std.specs.Prelude.{◌++◌, ℕ, List, [], Option, Some, None, codes
 use Rattle.std.specs.Fmt.{decimal}
 use Rattle.std.specs.List.{flat_map}
 use Rattle.pb_base.specs.Lines.{line}
-use Rattle.pb_engines.specs.Answers.{memory_line}
-use Rattle.pb_engines.specs.declared.status.Status.{Status}
-use Rattle.pb_engines.specs.declared.status.Status.TheVariants.{Done, Memory}
+use Rattle.pb_command_io.specs.Answers.{memory_line}
+use Rattle.pb_command_io.specs.declared.status.Status.{Status}
+use Rattle.pb_command_io.specs.declared.status.Status.TheVariants.{Done, Memory}
 use Rattle.pb_refusals.specs.Codes.{all_codes, code_name}
 use Rattle.pb_refusals.specs.declared.code.Code.{Code}
 use Rattle.pb_explain.specs.Entries.{entry_of}

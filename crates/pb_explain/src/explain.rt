@@ -1,8 +1,8 @@
 //! The command `explain`, over any output.
 ghost use Rattle.std.specs.Prelude.{◌≡◌, ◌++◌, IfOk, OnOk, option_map};
 ghost use Rattle.pb_base.specs.Lines.{line as line_of};
-ghost use Rattle.pb_engines.specs.Answers.{Tells};
-ghost use Rattle.pb_engines.specs.Faults.{TellsWriteFaults};
+ghost use Rattle.pb_command_io.specs.Answers.{Tells};
+ghost use Rattle.pb_command_io.specs.Faults.{TellsWriteFaults};
 ghost use Rattle.pb_explain.specs.Explanation.{plain_entry, plain_example, plain_input, Text, Repeated};
 ghost use Rattle.pb_explain.specs.Pages.{example_text, examples_text, explanation_of, title_line, list_of_codes};
 ghost use Rattle.pb_explain.specs.Pages.{meaning_text, page_of, page_of_entry, repetition_text, shell_text};
@@ -11,8 +11,8 @@ ghost use Rattle.pb_explain.specs.Pages.{SaysOfExplain};
 use crate::entries::{Entry, Example, ExampleInput, entry_for};
 use pb_base::NoMemory;
 use pb_base::device::Output;
-use pb_engines::Status;
-use pb_engines::reply::{Reply, tell};
+use pb_command_io::Status;
+use pb_command_io::reply::{Reply, tell};
 use pb_refusals::Code;
 use std::alloc::Global;
 

@@ -4,7 +4,7 @@ use Rattle.std.proofs.Common.{subst, sym, inl, inr}
 use Rattle.pb_code.specs.Whole.{Code, ProcessLabels}
 use Rattle.pb_codegen.specs.Compiled.{IsCompiled}
 use Rattle.pb_engines.specs.Loading.{IsLoadFault, load_line}
-use Rattle.pb_engines.specs.Parts.{AreTwoParts}
+use Rattle.pb_command_io.specs.Parts.{AreTwoParts}
 use Rattle.pb_engines.specs.ReplayLines.{picks_line}
 use Rattle.pb_engines.specs.declared.load.LoadFault.{LoadFault}
 use Rattle.pb_engines.proofs.AcceptLemmas.{compiled_is_accepted}

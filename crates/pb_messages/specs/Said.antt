@@ -7,7 +7,7 @@ use Rattle.pb_code.specs.Whole.{Code, ProcessLabels}
 use Rattle.pb_codegen.specs.Compiled.{IsCompiled}
 use Rattle.pb_codegen.specs.Numbered.{IsReadAs}
 use Rattle.pb_engines.specs.Loading.{IsLoadFault, IsLoaded, load_line}
-use Rattle.pb_engines.specs.Parts.{AreTwoParts, IsCutAt, IsMarkAt}
+use Rattle.pb_command_io.specs.Parts.{AreTwoParts, IsCutAt, IsMarkAt}
 use Rattle.pb_engines.specs.Refusals.{IsAcceptedText}
 use Rattle.pb_engines.specs.ReplayLines.{picks_line}
 use Rattle.pb_engines.specs.declared.load.LoadFault.{LoadFault}

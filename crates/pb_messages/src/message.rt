@@ -13,7 +13,7 @@ use crate::picks::lines_message;
 use crate::texts::{early_message, text_message};
 use pb_base::NoMemory;
 use pb_base::limits::MAX_INPUT;
-use pb_engines::parts::{first_part, two_parts};
+use pb_command_io::parts::{first_part, two_parts};
 use pb_excerpts::place_of;
 use pb_wording::lines::Lines;
 use std::alloc::{AllocError, Global};

@@ -11,9 +11,9 @@ use Rattle.pb_base.specs.declared.memory.NoMemory.{NoMemory}
 use Rattle.pb_base.specs.Steppers.{Move}
 use Rattle.pb_code.specs.Code.{CodeProcess, code_process}
 use Rattle.pb_code.specs.Whole.{Code, ProcessLabels, code_opening}
-use Rattle.pb_engines.specs.declared.reply.Reply.{Reply}
-use Rattle.pb_engines.specs.declared.status.Status.{Status}
-use Rattle.pb_engines.specs.declared.status.Status.TheVariants.{Done, Limit}
+use Rattle.pb_command_io.specs.declared.reply.Reply.{Reply}
+use Rattle.pb_command_io.specs.declared.status.Status.{Status}
+use Rattle.pb_command_io.specs.declared.status.Status.TheVariants.{Done, Limit}
 use Rattle.pb_verifier.specs.Verified.{IsAnnotated, IsVerified, VerifiedCode}
 use Rattle.pb_verifier.specs.declared.fault.VerifyFault.TheVariants.{OutOfLimits}
 use Rattle.pb_verifier.proofs.States.{code_move}

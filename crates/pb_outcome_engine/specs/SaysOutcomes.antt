@@ -3,8 +3,8 @@ use Rattle.std.specs.Prelude.{ℕ, Bool, List, ◌++◌, length}
 use Rattle.pb_code.specs.Whole.{Code, ProcessLabels}
 use Rattle.pb_codegen.specs.Compiled.{IsCompiled}
 use Rattle.pb_engines.specs.Refusals.{SaysOfRefusedText}
-use Rattle.pb_engines.specs.declared.status.Status.{Status}
-use Rattle.pb_engines.specs.declared.status.Status.TheVariants.{Done, Limit}
+use Rattle.pb_command_io.specs.declared.status.Status.{Status}
+use Rattle.pb_command_io.specs.declared.status.Status.TheVariants.{Done, Limit}
 use Rattle.pb_explore.specs.Deadlocks.{AreDeadlocks, FoundDeadlock}
 use Rattle.pb_explore.specs.Outcomes.{AreOutcomes, Found, IsExcess, IsWithin, TellsEndless}
 use Rattle.pb_explore.specs.declared.lending.Lending.{Lending}

@@ -2,10 +2,10 @@
 
 ghost use Rattle.std.specs.Prelude.{◌≡◌, ◌≤◌, IfOk, IfSome, length};
 ghost use Rattle.pb_code.specs.Limits.{AreLabels};
-ghost use Rattle.pb_engines.specs.Answers.{Tells};
-ghost use Rattle.pb_engines.specs.Faults.{TellsFaults, TellsWriteFaults};
-ghost use Rattle.pb_engines.specs.Inputs.{SaysOfInput};
-ghost use Rattle.pb_engines.specs.declared.status.Status.TheVariants.{Limit};
+ghost use Rattle.pb_command_io.specs.Answers.{Tells};
+ghost use Rattle.pb_command_io.specs.Faults.{TellsFaults, TellsWriteFaults};
+ghost use Rattle.pb_command_io.specs.Inputs.{SaysOfInput};
+ghost use Rattle.pb_command_io.specs.declared.status.Status.TheVariants.{Limit};
 ghost use Rattle.pb_outcome_engine.specs.OutcomeLines.{excess_line};
 ghost use Rattle.pb_outcome_engine.specs.SaysOutcomes.{SaysOfSearch, SaysOfOutcomes, lending_for};
 
@@ -15,10 +15,10 @@ use pb_base::NoMemory;
 use pb_base::device::{Input, Output};
 use pb_base::limits::MAX_INPUT;
 use pb_codegen::Compiled;
-use pb_engines::Status;
+use pb_command_io::Status;
+use pb_command_io::input::read_input;
+use pb_command_io::reply::{Reply, tell};
 use pb_engines::accept::{compile_text, refuse};
-use pb_engines::input::read_input;
-use pb_engines::reply::{Reply, tell};
 use pb_explore::explore::explore_by;
 use pb_explore::{ExploreFault, Lending};
 use pb_options::{Lend, OutcomesOptions};

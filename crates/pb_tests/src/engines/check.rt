@@ -4,7 +4,8 @@ ghost use Rattle.std.specs.Prelude.{◌≡◌, ◌≤◌, ℕ, Some};
 
 use crate::texts::repeated;
 use pb_base::device::{MemoryInput, MemoryOutput};
-use pb_engines::{CheckOptions, Status, check_engine};
+use pb_command_io::Status;
+use pb_engines::{CheckOptions, check_engine};
 use pb_example_texts::first::HELLO;
 use std::alloc::Global;
 

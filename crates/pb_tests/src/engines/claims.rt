@@ -2,7 +2,8 @@
 
 use crate::texts::{EXAMPLES, PROGRAMS};
 use pb_base::device::{MemoryInput, MemoryOutput};
-use pb_engines::{Status, claims_engine};
+use pb_command_io::Status;
+use pb_engines::claims_engine;
 use pb_example_texts::first::DEVICES;
 use std::alloc::Global;
 

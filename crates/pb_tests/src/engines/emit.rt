@@ -3,7 +3,8 @@
 use crate::objects::{FIRST, SECOND};
 use crate::texts::{EXAMPLES, SUM};
 use pb_base::device::{MemoryInput, MemoryOutput};
-use pb_engines::{EmitOptions, Status, emit_engine};
+use pb_command_io::Status;
+use pb_engines::{EmitOptions, emit_engine};
 use pb_object::Format;
 use std::alloc::Global;
 

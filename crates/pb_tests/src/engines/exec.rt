@@ -2,7 +2,8 @@
 
 use crate::objects::FIRST;
 use pb_base::device::{MemoryInput, MemoryOutput};
-use pb_engines::{RunOptions, Status, exec_engine};
+use pb_command_io::Status;
+use pb_engines::{RunOptions, exec_engine};
 use std::sync::Wait;
 use std::thread::Threads;
 

@@ -2,7 +2,8 @@
 
 use crate::objects::{FIRST, MOVED, SECOND};
 use pb_base::device::{MemoryInput, MemoryOutput};
-use pb_engines::{Status, migrate_engine};
+use pb_command_io::Status;
+use pb_engines::migrate_engine;
 use std::alloc::Global;
 
 /// Returns whether this status and this text are what `migrate` writes of an object.

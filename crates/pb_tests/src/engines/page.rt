@@ -1,7 +1,7 @@
 //! Text that is said, and when it is written.
 
 use pb_base::device::MemoryOutput;
-use pb_engines::{Page, Status};
+use pb_command_io::{Page, Status};
 use std::alloc::Global;
 
 /// Returns whether lines are written when a page is finished, and not before.

@@ -4,7 +4,8 @@ ghost use Rattle.std.specs.Prelude.{◌≡◌, ◌≤◌};
 
 use crate::texts::{FAULT, INCREMENTS, NESTED};
 use pb_base::device::{MemoryInput, MemoryOutput};
-use pb_engines::{RecordOptions, RunOptions, Status, record_engine, replay_engine, run_engine};
+use pb_command_io::Status;
+use pb_engines::{RecordOptions, RunOptions, record_engine, replay_engine, run_engine};
 use pb_example_texts::first::{DEVICES, HELLO, LOST, LOST_RUN};
 use std::sync::Wait;
 use std::thread::Threads;

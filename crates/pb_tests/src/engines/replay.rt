@@ -2,7 +2,8 @@
 
 use crate::texts::repeated;
 use pb_base::device::{MemoryInput, MemoryOutput};
-use pb_engines::{Status, replay_engine};
+use pb_command_io::Status;
+use pb_engines::replay_engine;
 use pb_example_texts::first::{DEVICES, LOST_RUN};
 use std::alloc::Global;
 

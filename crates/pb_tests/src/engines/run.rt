@@ -2,7 +2,8 @@
 
 use crate::texts::{EXAMPLES, FAULT, INCREMENTS, PROGRAMS, repeated};
 use pb_base::device::{MemoryInput, MemoryOutput};
-use pb_engines::{RunOptions, Status, run_engine};
+use pb_command_io::Status;
+use pb_engines::{RunOptions, run_engine};
 use pb_example_texts::first::HELLO;
 use std::sync::Wait;
 use std::thread::Threads;

@@ -1,6 +1,6 @@
 //! The numbers of statuses.
 
-use pb_engines::Status;
+use pb_command_io::Status;
 
 const NUMBERS: [(Status, u8); 8] = [
     (Status::Done, 0),

@@ -1,5 +1,5 @@
 use Rattle.std.proofs.Common.{Bool, IfSome, subst, sym}
-use Rattle.pb_engines.specs.Answers.{Tells}
+use Rattle.pb_command_io.specs.Answers.{Tells}
 use Rattle.pb_answer.specs.Calls.{SaysOfCommands}
 use Rattle.pb_answer.proofs.answer.debug.Goals as goal
 

@@ -1,8 +1,8 @@
 use Rattle.std.proofs.Common.{List, ℕ, subst, sym}
-use Rattle.pb_engines.specs.declared.status.Status.TheVariants.{Words}
-use Rattle.pb_engines.specs.Answers.{Says}
+use Rattle.pb_command_io.specs.declared.status.Status.TheVariants.{Words}
+use Rattle.pb_command_io.specs.Answers.{Says}
 use Rattle.pb_answer.specs.Calls.{fault_status, words_fault_text}
-use Rattle.pb_engines.proofs.PageLemmas.{Says-first, Says-then}
+use Rattle.pb_command_io.proofs.PageLemmas.{Says-first, Says-then}
 use Rattle.pb_answer.proofs.answer.refuse.Goals as goal
 
 pub returns-in-Ok-clause-text : goal.returns-in-Ok-clause-text

@@ -2,7 +2,7 @@ use Rattle.std.proofs.Common.{◌≡◌, ◌++◌, ◌-◌, ℕ, List, [], ◌�
 use Rattle.std.proofs.Common.{ap, ◌∙◌, subst, arith, append-nil, length-append}
 use Rattle.pb_base.proofs.DeviceLemmas.{prepended}
 use Rattle.pb_debug_engine.specs.Live.{EndsInMark, IsUnmarked}
-use Rattle.pb_engines.specs.Parts.{AreTwoParts}
+use Rattle.pb_command_io.specs.Parts.{AreTwoParts}
 use Rattle.pb_debug_engine.proofs.PartLemmas.{at_end, ended, ended_by_mark, is_long, known, read_one, unmarked_more}
 use Rattle.pb_debug_engine.proofs.part.read_part.Goals as goal
 

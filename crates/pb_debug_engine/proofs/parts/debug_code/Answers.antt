@@ -10,7 +10,7 @@ use Rattle.pb_history.specs.Replays.{IsStopped, spread}
 use Rattle.pb_history.specs.declared.counted.CountedPick.{CountedPick}
 use Rattle.pb_picks.specs.PickLines.{IsFaulty, SpellsPicks}
 use Rattle.pb_verifier.specs.declared.fault.VerifyFault.TheVariants.{OutOfLimits}
-use Rattle.pb_engines.proofs.InputLemmas.{IfSome-of}
+use Rattle.pb_command_io.proofs.InputLemmas.{IfSome-of}
 use Rattle.pb_debug_engine.proofs.DebugLemmas.{no_picks_told, session_told}
 use Rattle.pb_debug_engine.proofs.PartLemmas.{says_weaker}
 use Rattle.pb_debug_engine.proofs.parts.debug_code.Goals as goal

@@ -3,7 +3,7 @@ use Rattle.std.proofs.lemmas.Option.{IfSome_then}
 use Rattle.pb_code.specs.View.{labels_view}
 use Rattle.pb_debug_engine.specs.Live.{AnswersOfCode, AnswersOfParts}
 use Rattle.pb_object.proofs.TextLimits.{text_keeps}
-use Rattle.pb_engines.proofs.InputLemmas.{IfSome-of}
+use Rattle.pb_command_io.proofs.InputLemmas.{IfSome-of}
 use Rattle.pb_debug_engine.proofs.DebugLemmas.{code_told, code_of_text_told, no_code_told, text_answers, text_refused}
 use Rattle.pb_debug_engine.proofs.PartLemmas.{says_weaker}
 use Rattle.pb_debug_engine.proofs.parts.debug_parts.Goals as goal

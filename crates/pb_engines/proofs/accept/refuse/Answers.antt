@@ -1,5 +1,5 @@
 use Rattle.pb_engines.specs.Refusals.{SaysOfRefusedText}
-use Rattle.pb_engines.proofs.InputLemmas.{told_reply}
+use Rattle.pb_command_io.proofs.InputLemmas.{told_reply}
 use Rattle.pb_engines.proofs.accept.refuse.Goals as goal
 
 pub returns-clause-text : goal.returns-clause-text

@@ -1,6 +1,6 @@
 use Rattle.std.proofs.Common.{◌∙◌, refl}
 use Rattle.pb_engines.proofs.CheckLemmas.{told_none, told_one_more, told_all, told_until_memory, told_broken}
-use Rattle.pb_engines.proofs.PageLemmas.{device_since, faults_since}
+use Rattle.pb_command_io.proofs.PageLemmas.{device_since, faults_since}
 use Rattle.pb_engines.proofs.check.check_parts.Goals as goal
 
 pub loop-is_refusal-init : goal.loop-is_refusal-init

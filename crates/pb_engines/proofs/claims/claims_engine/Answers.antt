@@ -1,6 +1,6 @@
 use Rattle.std.proofs.Common.{ap}
 use Rattle.pb_engines.specs.ClaimLines.{SaysOfClaims}
-use Rattle.pb_engines.proofs.InputLemmas.{read_faults, says_read, says_unread}
+use Rattle.pb_command_io.proofs.InputLemmas.{read_faults, says_read, says_unread}
 use Rattle.pb_engines.proofs.claims.claims_engine.Goals as goal
 
 pub returns-in-Ok-clause-text : goal.returns-in-Ok-clause-text

@@ -2,7 +2,7 @@ use Rattle.std.proofs.Common.{ℕ, List, subst, sym}
 use Rattle.pb_names.specs.View.{resolved_view}
 use Rattle.pb_engines.specs.ClaimLines.{SaysOfClaims, claimed, refused}
 use Rattle.pb_engines.specs.Refusals.{IsEarlyRefusal}
-use Rattle.pb_engines.specs.declared.status.Status.TheVariants.{Done}
+use Rattle.pb_command_io.specs.declared.status.Status.TheVariants.{Done}
 use Rattle.pb_engines.proofs.LoadLemmas.{of_refusal}
 use Rattle.pb_engines.proofs.claims.claims_reply.Goals as goal
 

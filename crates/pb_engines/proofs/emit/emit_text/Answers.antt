@@ -1,6 +1,6 @@
 use Rattle.pb_engines.specs.Emissions.{SaysOfEmission, SaysOfObject, emitted, refused}
 use Rattle.pb_engines.specs.Refusals.{SaysOfRefusedText}
-use Rattle.pb_engines.proofs.InputLemmas.{replied_too, said_too, told_reply}
+use Rattle.pb_command_io.proofs.InputLemmas.{replied_too, said_too, told_reply}
 use Rattle.pb_engines.proofs.emit.emit_text.Goals as goal
 
 pub object-reply-requires : goal.object-reply-requires

@@ -3,7 +3,7 @@ use Rattle.pb_base.specs.Lines.{names_view}
 use Rattle.pb_history.specs.Entries.{events_of}
 use Rattle.pb_engines.proofs.EventLemmas.{told_all_events, told_no_events, told_one_event, told_until_broken}
 use Rattle.pb_engines.proofs.EventLemmas.{told_until_out}
-use Rattle.pb_engines.proofs.PageLemmas.{device_since, faults_since}
+use Rattle.pb_command_io.proofs.PageLemmas.{device_since, faults_since}
 use Rattle.pb_engines.proofs.events.tell_events.Goals as goal
 
 pub returns-in_default-clause-stopped : goal.returns-in_default-clause-stopped

@@ -1,7 +1,7 @@
 use Rattle.std.proofs.Common.{◌≡◌, take}
 use Rattle.pb_base.specs.Lines.{names_view}
 use Rattle.pb_history.specs.Entries.{events_of}
-use Rattle.pb_engines.specs.Answers.{Leaves}
+use Rattle.pb_command_io.specs.Answers.{Leaves}
 use Rattle.pb_engines.specs.Runs.{event_lines}
 use Rattle.pb_engines.proofs.events.tell_events.Given as goal
 

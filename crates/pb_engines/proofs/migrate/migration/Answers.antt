@@ -5,7 +5,7 @@ use Rattle.pb_code.specs.View.{labels_view}
 use Rattle.pb_object.specs.declared.format.Format.TheVariants.{Two}
 use Rattle.pb_engines.specs.Migrations.{SaysOfMigration, no_code}
 use Rattle.pb_engines.specs.Loading.{SaysOfNoCode}
-use Rattle.pb_engines.proofs.InputLemmas.{replied_too}
+use Rattle.pb_command_io.proofs.InputLemmas.{replied_too}
 use Rattle.pb_engines.proofs.LoadLemmas.{is_migrated}
 use Rattle.pb_engines.proofs.migrate.migration.Goals as goal
 

@@ -1,6 +1,6 @@
 use Rattle.std.proofs.Common.{ap}
 use Rattle.pb_engines.specs.Records.{SaysOfRecord}
-use Rattle.pb_engines.proofs.InputLemmas.{read_faults, says_read, says_unread}
+use Rattle.pb_command_io.proofs.InputLemmas.{read_faults, says_read, says_unread}
 use Rattle.pb_engines.proofs.record.record_engine.Goals as goal
 
 pub returns-in-Ok-clause-text : goal.returns-in-Ok-clause-text

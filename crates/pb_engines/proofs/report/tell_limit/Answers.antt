@@ -1,9 +1,9 @@
 use Rattle.std.proofs.Common.{◌++◌, List, ℕ, ◌∙◌, refl, subst, inr, codes}
 use Rattle.std.specs.Fmt.{decimal}
-use Rattle.pb_engines.specs.declared.status.Status.TheVariants.{Limit}
+use Rattle.pb_command_io.specs.declared.status.Status.TheVariants.{Limit}
 use Rattle.pb_base.specs.Lines.{line}
-use Rattle.pb_engines.specs.Answers.{Says}
-use Rattle.pb_engines.proofs.PageLemmas.{AddsPrefix-shorter, Says-more}
+use Rattle.pb_command_io.specs.Answers.{Says}
+use Rattle.pb_command_io.proofs.PageLemmas.{AddsPrefix-shorter, Says-more}
 use Rattle.pb_engines.proofs.report.tell_limit.Goals as goal
 
 pub returns-in-Ok-clause-text : goal.returns-in-Ok-clause-text

@@ -1,7 +1,7 @@
 use Rattle.std.proofs.Common.{ap}
 use Rattle.pb_engines.specs.Refusals.{SaysOfRefusedText}
 use Rattle.pb_engines.specs.Runs.{SaysOfTextRun}
-use Rattle.pb_engines.proofs.InputLemmas.{said_too}
+use Rattle.pb_command_io.proofs.InputLemmas.{said_too}
 use Rattle.pb_engines.proofs.TextLemmas.{says_refused, text_is_run}
 use Rattle.pb_engines.proofs.run.run_text.Goals as goal
 

@@ -1,5 +1,5 @@
 use Rattle.std.proofs.Common.{◌++◌, ◌∙◌, ℕ, List, ap, subst, sym}
-use Rattle.pb_engines.specs.declared.status.Status.TheVariants.{Done}
+use Rattle.pb_command_io.specs.declared.status.Status.TheVariants.{Done}
 use Rattle.pb_explain.specs.Pages.{SaysOfExplain, explained, explanation_of}
 use Rattle.pb_explain.proofs.explain.explanation.Goals as goal
 

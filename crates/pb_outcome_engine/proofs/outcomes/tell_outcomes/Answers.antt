@@ -1,5 +1,5 @@
 use Rattle.pb_engines.specs.Refusals.{SaysOfRefusedText}
-use Rattle.pb_engines.proofs.InputLemmas.{replied_too, said_too, told_reply}
+use Rattle.pb_command_io.proofs.InputLemmas.{replied_too, said_too, told_reply}
 use Rattle.pb_outcome_engine.specs.SaysOutcomes.{SaysOfSearch, SaysOfOutcomes, accepted, refused}
 use Rattle.pb_outcome_engine.specs.SaysOutcomes.{lending_for}
 use Rattle.pb_outcome_engine.proofs.outcomes.tell_outcomes.Goals as goal

@@ -1,5 +1,0 @@
-use Rattle.pb_engines.specs.Parts.{HasNoMarkBelow}
-use Rattle.pb_engines.proofs.parts.first_mark.Given as goal
-
-abbrev pub invariant-loop-at : goal.invariant-loop-at
-invariant-loop-at l = HasNoMarkBelow l.text l.at
