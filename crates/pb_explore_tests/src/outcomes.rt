@@ -2,9 +2,8 @@
 
 use pb_codegen::compile;
 use pb_explore::explore::{explore, explore_by};
-use pb_explore::{
-    Deadlock, ExploreFault, Found, Lending, ProcessOutcome, StuckProcess, StuckState,
-};
+use pb_explore::{Deadlock, ExploreFault, Found, ProcessOutcome, StuckProcess, StuckState};
+use pb_stages::Lending;
 use std::alloc::Global;
 
 /// A text of one process, all its outcomes, each by the only integer of the process and whether it faulted,

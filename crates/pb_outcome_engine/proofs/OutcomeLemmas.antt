@@ -17,11 +17,13 @@ use Rattle.pb_command_io.specs.declared.status.Status.TheVariants.{Done, Limit}
 use Rattle.pb_verifier.specs.Verified.{IsAnnotated, IsVerified, VerifiedCode}
 use Rattle.pb_verifier.specs.declared.fault.VerifyFault.TheVariants.{OutOfLimits}
 use Rattle.pb_verifier.proofs.States.{code_move}
-use Rattle.pb_explore.specs.Configurations.{Comes}
+use Rattle.pb_stages.specs.Configurations.{Comes}
 use Rattle.pb_explore.specs.Outcomes.{found_view}
-use Rattle.pb_explore.specs.declared.lending.Lending.{Lending}
-use Rattle.pb_explore.specs.Outcomes.{AreOutcomes, CodeLeads, Configuration, Ends, Found, IsExcess, IsWithin, Reaches}
-use Rattle.pb_explore.specs.Outcomes.{TellsEndless, outcome_of}
+use Rattle.pb_stages.specs.declared.lending.Lending.{Lending}
+use Rattle.pb_stages.specs.Reaching.{CodeLeads, Configuration, Ends, Reaches}
+use Rattle.pb_explore.specs.Outcomes.{AreOutcomes, Found, IsExcess, IsWithin}
+use Rattle.pb_stages.specs.Reaching.{outcome_of}
+use Rattle.pb_explore.specs.Outcomes.{TellsEndless}
 use Rattle.pb_explore.specs.declared.found.Found.{Found as GivenFound}
 use Rattle.pb_outcome_engine.specs.DeadlockLines.{AreDeadlockLines}
 use Rattle.pb_outcome_engine.specs.OutcomeLines.{AreOutcomeLines, all_line, excess_line}

@@ -19,11 +19,12 @@ use Rattle.pb_codegen.proofs.SimulationRuns.{AllAlike, AtProcess, StatesAlike, a
 use Rattle.pb_codegen.proofs.SimulationRuns.{present, shadowed}
 use Rattle.pb_codegen.proofs.VerifiedProcesses.{well_numbered}
 use Rattle.pb_codegen.proofs.WriterLines.{Listing}
-use Rattle.pb_explore.specs.Outcomes.{AreOutcomes, Found, ProcessOutcome, process_outcome}
-use Rattle.pb_explore.specs.declared.lending.Lending.TheVariants.{ByBanker}
+use Rattle.pb_stages.specs.Reaching.{ProcessOutcome, process_outcome}
+use Rattle.pb_explore.specs.Outcomes.{AreOutcomes, Found}
+use Rattle.pb_stages.specs.declared.lending.Lending.TheVariants.{ByBanker}
 use Rattle.pb_outcome_engine.specs.SourceOutcomes.{IsOutcomeOfCode, IsOutcomeOfProgram, OutcomesAreThoseOfTheProgram}
 use Rattle.pb_outcome_engine.specs.SourceOutcomes.{source_outcome}
-use Rattle.pb_explore.proofs.ReachedByBanker.{come, make}
+use Rattle.pb_stages.proofs.ReachedByBanker.{come, make}
 
 -- ---- states that are alike: the same outcome, and both are endings or neither is
 

@@ -5,7 +5,8 @@ use Rattle.std.specs.Fmt.{decimal, signed_decimal}
 use Rattle.pb_base.specs.declared.pick.Pick.{Pick}
 use Rattle.pb_base.specs.Lines.{NameTable, name_of, each_below, line}
 use Rattle.pb_code.specs.Whole.{ProcessLabels}
-use Rattle.pb_explore.specs.Outcomes.{Found, ProcessOutcome}
+use Rattle.pb_stages.specs.Reaching.{ProcessOutcome}
+use Rattle.pb_explore.specs.Outcomes.{Found}
 use Rattle.pb_history.specs.Replays.{spread}
 use Rattle.pb_history.specs.declared.counted.CountedPick.{CountedPick}
 use Rattle.pb_picks.specs.Counted.{AreApart}

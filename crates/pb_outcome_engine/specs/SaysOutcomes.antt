@@ -7,8 +7,8 @@ use Rattle.pb_command_io.specs.declared.status.Status.{Status}
 use Rattle.pb_command_io.specs.declared.status.Status.TheVariants.{Done, Limit}
 use Rattle.pb_explore.specs.Deadlocks.{AreDeadlocks, FoundDeadlock}
 use Rattle.pb_explore.specs.Outcomes.{AreOutcomes, Found, IsExcess, IsWithin, TellsEndless}
-use Rattle.pb_explore.specs.declared.lending.Lending.{Lending}
-use Rattle.pb_explore.specs.declared.lending.Lending.TheVariants.{ByBanker, ByCash}
+use Rattle.pb_stages.specs.declared.lending.Lending.{Lending}
+use Rattle.pb_stages.specs.declared.lending.Lending.TheVariants.{ByBanker, ByCash}
 use Rattle.pb_options.specs.declared.options.Lend.{Lend}
 use Rattle.pb_options.specs.declared.options.Lend.TheVariants.{Banker, Cash}
 use Rattle.pb_outcome_engine.specs.DeadlockLines.{AreDeadlockLines}

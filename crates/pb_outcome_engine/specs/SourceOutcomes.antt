@@ -6,10 +6,11 @@ use Rattle.pb_code.specs.Whole.{Code, ProcessLabels}
 use Rattle.pb_codegen.specs.Compiled.{IsCompiled}
 use Rattle.pb_codegen.specs.Numbered.{IsReadAs}
 use Rattle.pb_codegen.specs.SourceBehaviour.{bank_with}
-use Rattle.pb_explore.specs.Configurations.{Comes}
-use Rattle.pb_explore.specs.Outcomes.{AreOutcomes, Configuration, Ends, Found, ProcessOutcome, outcome_of}
-use Rattle.pb_explore.specs.Reduction.{LeadsTo}
-use Rattle.pb_explore.specs.declared.lending.Lending.TheVariants.{ByBanker}
+use Rattle.pb_stages.specs.Configurations.{Comes}
+use Rattle.pb_stages.specs.Reaching.{Configuration, Ends, ProcessOutcome, outcome_of}
+use Rattle.pb_explore.specs.Outcomes.{AreOutcomes, Found}
+use Rattle.pb_stages.specs.Reduction.{LeadsTo}
+use Rattle.pb_stages.specs.declared.lending.Lending.TheVariants.{ByBanker}
 use Rattle.pb_names.specs.Program.{Program}
 use Rattle.pb_names.specs.Source.{SourceProcess, source_over, source_process, source_step}
 

@@ -1,7 +1,7 @@
 use Rattle.pb_code.specs.View.{code_view, labels_view}
 use Rattle.std.proofs.Common.{IfOk, subst}
 use Rattle.pb_command_io.specs.declared.status.Status.TheVariants.{Done}
-use Rattle.pb_explore.specs.declared.lending.Lending.{Lending}
+use Rattle.pb_stages.specs.declared.lending.Lending.{Lending}
 use Rattle.pb_outcome_engine.specs.SaysOutcomes.{SaysOfSearch}
 use Rattle.pb_outcome_engine.proofs.OutcomeLemmas.{deadlocks_here, found_here, says_all, says_excess}
 use Rattle.pb_outcome_engine.proofs.outcomes.reply.Goals as goal
