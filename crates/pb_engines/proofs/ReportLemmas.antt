@@ -4,17 +4,13 @@ use Rattle.std.proofs.Common.{option_to_list, refl, sym, ap, ◌∙◌, subst, a
 use Rattle.std.specs.Fmt.{decimal}
 use Rattle.std.proofs.lemmas.List.{length-map}
 use Rattle.pb_base.specs.declared.event.Event.{Event}
-use Rattle.pb_base.specs.declared.pick.Pick.{Pick}
 use Rattle.pb_base.specs.Lines.{NameTable, HasNames, line}
 use Rattle.pb_base.specs.Steppers.{State}
 use Rattle.pb_code.specs.Code.{CodeProcess}
 use Rattle.pb_code.specs.Whole.{Code, code_opening}
 use Rattle.pb_history.specs.Entries.{Entry, events_of, picks_of}
 use Rattle.pb_history.specs.Leads.{Leads}
-use Rattle.pb_history.specs.Replays.{spread}
-use Rattle.pb_history.specs.declared.counted.CountedPick.{CountedPick}
 use Rattle.pb_history.proofs.TraceSteps.{traces_make}
-use Rattle.pb_picks.specs.Counted.{AreApart}
 use Rattle.pb_shared.specs.declared.outcome.Outcome.{Outcome}
 use Rattle.pb_shared.specs.declared.outcome.Outcome.TheVariants as outcome
 use Rattle.pb_verifier.specs.Verified.{VerifiedCode, IsVerified}
@@ -25,15 +21,14 @@ use Rattle.pb_engines.specs.EventLines.{StopsIn}
 use Rattle.pb_engines.specs.EventLines as stop
 use Rattle.pb_engines.specs.Outcomes.{SaysOfOutcome, ShowsFault, all_done, some_fault, used_up}
 use Rattle.pb_engines.specs.RunLaws.{ReportsFollowTheSource}
-use Rattle.pb_engines.specs.Records.{IsRecorded}
-use Rattle.pb_engines.specs.Runs.{IsDone, Run, SaysOfCodeRun, event_lines, at_limit, cut_off, done, faulted}
+use Rattle.pb_engines.specs.Runs.{SaysOfCodeRun, event_lines, at_limit, cut_off, done, faulted}
+use Rattle.pb_schedule.specs.CodeRuns.{Run}
 use Rattle.pb_engines.specs.Runs.{no_threads, out_of_memory}
 use Rattle.pb_command_io.specs.declared.status.Status.{Status}
 use Rattle.pb_command_io.specs.declared.status.Status.TheVariants.{Done, Fault, Limit, Memory, Threads}
 use Rattle.pb_engines.proofs.FaultLemmas.{faults_are_shown, shown_faults_are}
 use Rattle.pb_command_io.proofs.PageLemmas.{Says-first, Says-more}
 use Rattle.pb_engines.proofs.ReplayLemmas.{all_have_names}
-use Rattle.pb_engines.proofs.RunLemmas.{CodeMakes}
 
 -- ---- the run that is reported
 
@@ -194,28 +189,6 @@ pub told_no_threads : (code : Code) (steps : ℕ) (w new : Option (List ℕ)) (p
     → Says w new (page ++ line (codes "threads")) Threads answered → Tells (SaysOfCodeRun code steps) w new answered
 told_no_threads code steps w new page answered empty says =
     (line (codes "threads"), Threads, ([], 0, no_threads refl), Says-first w new page (line (codes "threads")) Threads answered empty says)
-
--- ---- what is recorded of it
-
-pub report_is_recorded : (code : Code) (steps : ℕ) (report : Report) (picks : List CountedPick) → IsReport code steps report
-    → spread picks ≡ picks_of report.trace.entries → AreApart picks → IsRecorded code steps None picks
-report_is_recorded code steps report picks is same apart =
-    let entries = report.trace.entries in
-    let many : length (spread picks) ≡ length entries = ap (λ (ps : List Pick). length ps) same ∙ length-map entries (λ (e : Entry). e.pick) in
-    let few = is.few in record {
-      events = events_of entries;
-      end = is.end;
-      makes = subst (λ (ps : List Pick). CodeMakes code ps (events_of entries) is.end) (sym same)
-          (traces_make code (code_opening code) is.end entries is.leads);
-      few = omega (arith, many, few);
-      all = λ not_done. many ∙ all_made report.outcome is.ends not_done;
-      drawn = tt;
-      apart = apart;
-    }
-  where
-    all_made : (o : Outcome) → EndsAs o steps report.trace.entries is.end → ¬ IsDone is.end → length report.trace.entries ≡ steps
-    all_made outcome.Done over not_done = absurd (not_done over)
-    all_made outcome.Limit (not_over, all) not_done = all
 
 -- ---- the last line
 

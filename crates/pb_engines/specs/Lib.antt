@@ -1,7 +1,5 @@
 pub mod Checks
-pub mod Choices
 pub mod ClaimLines
-pub mod Draws
 pub mod Emissions
 pub mod EventLines
 pub mod Executions
@@ -14,4 +12,3 @@ pub mod Refusals
 pub mod ReplayLines
 pub mod RunLaws
 pub mod Runs
-pub mod Schedule

@@ -6,7 +6,8 @@ use Rattle.pb_codegen.specs.Compiled.{IsCompiled}
 use Rattle.pb_history.specs.declared.counted.CountedPick.{CountedPick}
 use Rattle.pb_picks.specs.PickLines.{SpellsPicks}
 use Rattle.pb_command_io.specs.Parts.{AreTwoParts}
-use Rattle.pb_engines.specs.Records.{EndsLine, IsEnded, IsRecorded, SaysOfRecord}
+use Rattle.pb_engines.specs.Records.{EndsLine, IsEnded, SaysOfRecord}
+use Rattle.pb_schedule.specs.Recorded.{IsRecorded}
 use Rattle.pb_engines.specs.ReplayLines.{SaysOfReplay}
 use Rattle.pb_command_io.specs.declared.status.Status.{Status}
 use Rattle.pb_command_io.specs.declared.status.Status.TheVariants.{Done, Refused}

@@ -18,7 +18,8 @@ use Rattle.pb_picks.specs.declared.fault.PickFault.TheVariants as picks
 use Rattle.pb_command_io.specs.Answers.{memory_line}
 use Rattle.pb_command_io.specs.Parts.{AreTwoParts}
 use Rattle.pb_engines.specs.Refusals.{RefusesWith, at_place}
-use Rattle.pb_engines.specs.Runs.{HasFault, IsDone, event_lines}
+use Rattle.pb_engines.specs.Runs.{HasFault, event_lines}
+use Rattle.pb_schedule.specs.CodeRuns.{IsDone}
 use Rattle.pb_engines.specs.declared.replay.LinesFault.{LinesFault}
 use Rattle.pb_engines.specs.declared.replay.LinesFault.TheVariants.{NotRead, NotMade}
 use Rattle.pb_command_io.specs.declared.status.Status.{Status}

@@ -3,29 +3,21 @@ use Rattle.std.specs.Prelude.{◌≡◌, ◌≤◌, ◌++◌, ℕ, List, [], cod
 use Rattle.std.specs.Fmt.{decimal}
 use Rattle.std.specs.List.{flat_map}
 use Rattle.pb_base.specs.declared.event.Event.{Event}
-use Rattle.pb_base.specs.declared.pick.Pick.{Pick}
 use Rattle.pb_base.specs.Lines.{NameTable, line_of, line}
-use Rattle.pb_base.specs.Steppers.{State, Makes, IsFinished}
-use Rattle.pb_code.specs.Code.{CodeProcess, code_step, code_over}
-use Rattle.pb_code.specs.Whole.{Code, ProcessLabels, bank_of, code_opening}
+use Rattle.pb_base.specs.Steppers.{State}
+use Rattle.pb_code.specs.Code.{CodeProcess}
+use Rattle.pb_code.specs.Whole.{Code, ProcessLabels}
 use Rattle.pb_codegen.specs.Compiled.{IsCompiled}
 use Rattle.pb_names.specs.Meaning.{SourceCan}
 use Rattle.pb_command_io.specs.Answers.{memory_line}
 use Rattle.pb_engines.specs.Refusals.{RefusesWith}
+use Rattle.pb_schedule.specs.CodeRuns.{IsDone, Run}
 use Rattle.pb_command_io.specs.declared.status.Status.{Status}
 use Rattle.pb_command_io.specs.declared.status.Status.TheVariants.{Done, Refused, Limit, Fault, Memory, Device, Threads}
 
 -- the lines of events, in their order
 abbrev pub event_lines : NameTable → List Event → List ℕ
 event_lines names events = flat_map (λ event. line (line_of names event)) events
-
--- some picks of the code, each enabled in turn from the start, that make these events and lead to this state
-pub record Run (code : Code) (events : List Event) (end : State CodeProcess) : Type 0 where
-  pub picks : List Pick
-  pub makes : Makes (bank_of code) (code_step code.processes) (code_opening code) picks events end
-
-abbrev pub IsDone : State CodeProcess → Type 0
-IsDone end = IsFinished code_over end
 
 -- some process has faulted
 abbrev pub HasFault : State CodeProcess → Type 0

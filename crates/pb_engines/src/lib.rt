@@ -3,7 +3,6 @@
 
 pub mod accept;
 pub mod check;
-mod choice;
 pub mod claims;
 pub mod emit;
 mod events;
@@ -11,8 +10,6 @@ pub mod exec;
 mod faults;
 pub mod load;
 pub mod migrate;
-mod open;
-mod picks;
 pub mod record;
 pub mod record_laws;
 mod refusal;
@@ -20,7 +17,6 @@ pub mod replay;
 mod report;
 pub mod run;
 pub mod run_laws;
-mod schedule;
 
 pub use check::check_engine;
 pub use claims::claims_engine;

@@ -11,10 +11,10 @@ ghost use Rattle.pb_workers.specs.Reports.{IsReport};
 
 use crate::events::tell_events;
 use crate::faults::shows_fault;
-use crate::open::Open;
 use pb_base::device::Output;
 use pb_command_io::{Page, Status};
 use pb_options::RunOptions;
+use pb_schedule::Open;
 use pb_shared::Outcome;
 use pb_verifier::Verified;
 use pb_workers::{Report, RunFault, run_workers};

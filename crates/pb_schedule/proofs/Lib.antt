@@ -1,0 +1,9 @@
+pub mod ChoiceLemmas
+pub mod CountedPicks
+pub mod DrawLemmas
+pub mod GrantLemmas
+pub mod LongRecords
+pub mod RecordedPicks
+pub mod RunLemmas
+pub mod ScheduleLemmas
+pub mod SpanLemmas

@@ -1,0 +1,10 @@
+//! The picks of a run that is recorded: drawn with a seed, or as workers make them; and counted.
+#![tactic(auto)]
+
+mod choice;
+pub mod open;
+pub mod picks;
+mod schedule;
+
+pub use open::Open;
+pub use picks::{draw_picks, report_picks};
