@@ -1,13 +1,9 @@
-pub mod EachNumber
 pub mod FurtherPicks
 pub mod LineParts
 pub mod Lines
 pub mod NameTexts
-pub mod NumberedLines
+pub mod NamedPicks
 pub mod Positions
 pub mod Requests
 pub mod ResourceTexts
-pub mod Searches
 pub mod SourceLines
-pub mod Spellings
-pub mod Walks

@@ -8,84 +8,23 @@ use Rattle.std.proofs.lemmas.List.{take_all, take-append-le, length-take-le, tak
 use Rattle.std.proofs.Math.Seq.{drop-cons, take-add}
 use Rattle.pb_base.specs.Device.{appended, AddsPrefix, GivesNext}
 use Rattle.pb_debug.specs.Answers.{AnswersLine, AnswersRead}
-use Rattle.pb_debug.specs.Buffers.{kept}
-use Rattle.pb_debug.specs.Commands.{Command, command_of}
-use Rattle.pb_debug.specs.Lines.{SplitLines, one_line_more, cut, last_line, lines_of}
+use Rattle.pb_commands.specs.Buffers.{kept}
+use Rattle.pb_commands.specs.Commands.{Command}
+use Rattle.pb_commands.specs.Lines.{SplitLines, one_line_more, cut, last_line, lines_of}
 use Rattle.pb_debug.specs.Sessions.{Session, nothing, one_more, session_bytes, SaysAll, SaysSome, IsTold}
 use Rattle.pb_debug.specs.Sessions.{SessionStopsAt, WritesBeforeFault, Fed, FedSome}
 use Rattle.pb_debug.specs.Value.{Debugging}
 use Rattle.pb_debug.specs.declared.fault.DebugFault.{DebugFault}
 use Rattle.pb_debug.specs.declared.fault.DebugFault.TheVariants.{PastEnd, NoProcess, NoArm, BadCommand, NoMemory}
 use Rattle.pb_debug.specs.declared.fault.DebugFault.TheVariants.{Device}
+use Rattle.pb_commands.proofs.Cutting.{cut-append, first_lines, cut_end, cut_byte}
+use Rattle.pb_commands.proofs.Kept.{kept_again, kept_says, kept_nothing}
 use Rattle.pb_base.proofs.DeviceLemmas.{appended-appended}
 
--- ---- cutting
-
--- what is cut of bytes behind those that were cut
-abbrev joined : SplitLines → List ℕ → SplitLines
-joined c bytes = record { lines = c.lines ++ (cut c.rest bytes).lines; rest = (cut c.rest bytes).rest }
-
-cut_step : (part xs ys : List ℕ) (x : ℕ) (b : Bool)
-    → cut [] (xs ++ ys) ≡ joined (cut [] xs) ys
-    → cut (part ++ x ∷ []) (xs ++ ys) ≡ joined (cut (part ++ x ∷ []) xs) ys
-    → cond b (one_line_more part (cut [] (xs ++ ys))) (cut (part ++ x ∷ []) (xs ++ ys))
-    ≡ joined (cond b (one_line_more part (cut [] xs)) (cut (part ++ x ∷ []) xs)) ys
-cut_step part xs ys x true ends goes_on = ap (one_line_more part) ends
-cut_step part xs ys x false ends goes_on = goes_on
-
-pub cut-append : (part xs ys : List ℕ) → cut part (xs ++ ys) ≡ joined (cut part xs) ys
-cut-append part [] ys = refl
-cut-append part (x ∷ xs) ys =
-    cut_step part xs ys x (eqb x 10) (cut-append [] xs ys) (cut-append (part ++ x ∷ []) xs ys)
-
-pub first_lines : (part xs ys : List ℕ) → (cut part (xs ++ ys)).lines ≡ (cut part xs).lines ++ (cut (cut part xs).rest ys).lines
-first_lines part xs ys = ap (λ (c : SplitLines). c.lines) (cut-append part xs ys)
-
--- a line feed, and any other byte
-pub cut_end : (part xs : List ℕ) → cut part (xs ++ 10 ∷ []) ≡ record { lines = (cut part xs).lines ++ (cut part xs).rest ∷ []; rest = [] }
-cut_end part xs = cut-append part xs (10 ∷ [])
-
-pub cut_byte : (part xs : List ℕ) (b : ℕ) → eqb b 10 ≡ false
-    → cut part (xs ++ b ∷ []) ≡ record { lines = (cut part xs).lines; rest = (cut part xs).rest ++ b ∷ [] }
-cut_byte part xs b other =
-    let c = cut part xs in
-    let one : cut c.rest (b ∷ []) ≡ record { lines = []; rest = c.rest ++ b ∷ [] } =
-    ap (λ (t : Bool). cond t (one_line_more c.rest (cut [] [])) (cut (c.rest ++ b ∷ []) [])) other in
-    let with : List (List ℕ) → SplitLines = λ ls. record { lines = ls; rest = c.rest ++ b ∷ [] } in
-    let put : SplitLines → SplitLines = λ k. record { lines = c.lines ++ k.lines; rest = k.rest } in
-    cut-append part xs (b ∷ []) ∙ (ap put one ∙ ap with (append-nil c.lines))
-
--- ---- what is kept of a line
-
-pub kept_again : (r : List ℕ) (b : ℕ) → kept (kept r ++ b ∷ []) ≡ kept (r ++ b ∷ [])
-kept_again r b = elim (cases_lt (length r) 257) [
-  | inl lt ↦ ap (λ (xs : List ℕ). kept (xs ++ b ∷ [])) (take_all 257 r (omega (arith, lt)))
-  | inr le ↦
-      let size : length (kept r) ≡ 257 = length-take-le 257 r le in
-      take-append-le 257 (kept r) (b ∷ []) (omega (arith, size))
-      ∙ (take_all 257 (kept r) (omega (arith, size)) ∙ sym (take-append-le 257 r (b ∷ []) le))
-]
-
-too_long : (line : List ℕ) → 256 < length line → command_of line ≡ None
-unfolding command_of
-too_long line long = rw (lt-ltb 256 (length line) long) refl
-
--- what is kept says the same
-pub kept_says : (line : List ℕ) → command_of (kept line) ≡ command_of line
-kept_says line = elim (cases_lt (length line) 257) [
-  | inl lt ↦ ap command_of (take_all 257 line (omega (arith, lt)))
-  | inr le ↦
-      let size : length (kept line) ≡ 257 = length-take-le 257 line le in
-      too_long (kept line) (omega (arith, size)) ∙ sym (too_long line (omega (arith, le)))
-]
+-- ---- answers
 
 pub kept_answers : (d : Debugging) (line said : List ℕ) (next : Debugging) → AnswersLine d (kept line) said next → AnswersLine d line said next
 kept_answers d line said next h = subst (λ (c : Option Command). AnswersRead d c said next) (kept_says line) h
-
--- nothing is kept only of an empty line
-pub kept_nothing : (r : List ℕ) → length (kept r) ≡ 0 → r ≡ []
-kept_nothing [] e = refl
-kept_nothing (b ∷ bs) e = absurd (omega arith)
 
 -- ---- outputs
 

@@ -1,32 +1,14 @@
--- What is said of a resource, from what is said of its parts.
-use Rattle.std.proofs.Common.{◌≡◌, ℕ, suc, ◌+◌, ◌++◌, List, Option, Some, sym, ap, ◌∙◌, subst, append_assoc, arith}
-use Rattle.std.specs.Prelude.{slice_get}
+-- What is held of a position is the state there, and what is said of a resource.
+use Rattle.std.proofs.Common.{◌≡◌, ℕ, ap, ◌∙◌, subst}
 use Rattle.pb_base.specs.Banker.{BankerState}
 use Rattle.pb_base.specs.Steppers.{State, banker_state}
-use Rattle.pb_code.specs.Code.{CodeProcess, ProcessCode}
+use Rattle.pb_code.specs.Code.{CodeProcess}
 use Rattle.pb_code.specs.Whole.{Code, bank_of}
 use Rattle.pb_machine.specs.Views.{machine_view}
 use Rattle.pb_debug.specs.Checkpoints.{IsSound, view_of}
-use Rattle.pb_debug.specs.Resources.{askers_at, askers_in, askers_of, who_text}
-use Rattle.pb_base.specs.Lines.{each_below}
+use Rattle.pb_debug_texts.specs.Resources.{who_text}
 use Rattle.pb_debug.specs.Value.{Debugging, IsPosition, bank_state, state_of}
 use Rattle.pb_debug.specs.declared.debugger.Debugger.TheInside.{Inside}
-
--- one process more
-pub askers_next : (code : Code) (s : State CodeProcess) (r p : ℕ) (of : ProcessCode) (process : CodeProcess) (old mid new : List ℕ)
-    → slice_get code.processes p ≡ Some of → slice_get s.processes p ≡ Some process
-    → mid ≡ old ++ each_below (askers_at code s r) p → new ≡ mid ++ askers_in code.names r p of process
-    → new ≡ old ++ each_below (askers_at code s r) (p + 1)
-askers_next code s r p of process old mid new code_there there before more =
-    let here : askers_at code s r p ≡ askers_in code.names r p of process =
-    ap (λ (o : Option ProcessCode). askers_of code.names r p o (slice_get s.processes p)) code_there
-    ∙ ap (λ (o : Option CodeProcess). askers_of code.names r p (Some of) o) there in
-    let n : suc p ≡ p + 1 = omega arith in
-    more
-    ∙ (ap (λ (t : List ℕ). t ++ askers_in code.names r p of process) before
-    ∙ (append_assoc old (each_below (askers_at code s r) p) (askers_in code.names r p of process)
-    ∙ (ap (λ (t : List ℕ). old ++ (each_below (askers_at code s r) p ++ t)) (sym here)
-    ∙ ap (λ k. old ++ each_below (askers_at code s r) k) n)))
 
 -- a debugger is at a position
 pub sound_position : (i : Inside) → IsSound i → IsPosition (view_of i)

@@ -1,5 +1,6 @@
 -- When a debugger refuses.
-use Rattle.std.specs.Prelude.{◌≡◌, ◌⊎◌, ℕ, ◌<◌, ◌≤◌, length, Some, slice_get, ⊤}
+use Rattle.std.specs.Prelude.{◌≡◌, ◌⊎◌, ℕ, ◌<◌, ◌≤◌, List, [], length, codes, Some, slice_get, ⊤}
+use Rattle.pb_base.specs.Lines.{line}
 use Rattle.pb_code.specs.Code.{CodeProcess}
 use Rattle.pb_debug.specs.Value.{Debugging, state_of}
 use Rattle.pb_debug.specs.declared.fault.DebugFault.{DebugFault}
@@ -41,3 +42,21 @@ IsMissing d p a Device = ⊥
 -- out of memory, or there is no such process or arm
 abbrev pub IsArmFault : Debugging → ℕ → ℕ → DebugFault → Type 0
 IsArmFault d p a fault = (fault ≡ NoMemory) ⊎ IsMissing d p a fault
+
+-- the refusals of a command
+abbrev pub refusal_text : DebugFault → List ℕ
+refusal_text PastEnd = line (codes "refused G1")
+refusal_text NoProcess = line (codes "refused G2")
+refusal_text NoArm = line (codes "refused G3")
+refusal_text BadCommand = line (codes "refused G4")
+refusal_text NoMemory = []
+refusal_text Device = []
+
+-- a command is refused so, and the session goes on
+abbrev pub IsCommandRefusal : DebugFault → Type 0
+IsCommandRefusal PastEnd = ⊤
+IsCommandRefusal NoProcess = ⊤
+IsCommandRefusal NoArm = ⊤
+IsCommandRefusal BadCommand = ⊤
+IsCommandRefusal NoMemory = ⊥
+IsCommandRefusal Device = ⊥

@@ -11,17 +11,17 @@ ghost use Rattle.pb_debug.specs.Refusals.{HasArm, IsMoveFault};
 ghost use Rattle.pb_debug.specs.Value.{IsPosition, state_of};
 ghost use Rattle.pb_machine.specs.Views.{IsMachineOf, machine_view};
 
-use crate::checkpoints::keep;
 use crate::debugger::Debugger;
 use crate::fault::DebugFault;
-use crate::text::{put_at, put_event, put_refusal};
-use crate::walker::Walker;
+use crate::refusal::put_refusal;
 use pb_base::limits::MAX_PICKS;
 use pb_base::{Event, NoMemory, Pick, Step};
+use pb_debug_texts::text::{put_at, put_event};
 use pb_history::Trace;
 use pb_machine::Machine;
+use pb_positions::Walker;
+use pb_positions::checkpoints::keep;
 
-// The most picks of a debugger.
 /// A machine that has tried a pick, and what that came to.
 #[derive(Drop)]
 pub(crate) struct Tried {

@@ -1,16 +1,16 @@
 //! Sessions: the commands of an input, answered one after another.
 
 ghost use Rattle.std.specs.Prelude.{◌≡◌, ◌≢◌, [], ℕ, List, IfErr, IfSome, OnOk};
-ghost use Rattle.pb_debug.specs.Buffers.{kept};
-ghost use Rattle.pb_debug.specs.Lines.{cut};
+ghost use Rattle.pb_commands.specs.Buffers.{kept};
+ghost use Rattle.pb_commands.specs.Lines.{cut};
 ghost use Rattle.pb_debug.specs.Sessions.{SaysAll, SaysBefore, SaysSome, IsTold, SessionStopsAt, Fed, FedSome, session_bytes};
 ghost use Rattle.pb_debug.specs.Sessions.{CountsWrites, CountsBoth, Session};
 
-use crate::buffer::LineBuffer;
 use crate::debugger::Debugger;
 use crate::fault::DebugFault;
 use pb_base::device::{Input, Output, write_all};
 use pb_base::limits::MAX_INPUT;
+use pb_commands::LineBuffer;
 
 const BLOCK: usize = 4_096;
 

@@ -5,7 +5,8 @@ ghost use Rattle.pb_history.specs.Replays.{spread};
 
 use pb_base::{Pick, Step};
 use pb_codegen::compile;
-use pb_debug::{DebugFault, Debugger, Why};
+use pb_debug::{DebugFault, Debugger};
+use pb_debug_texts::Why;
 use pb_history::{CountedPick, ReplayFault};
 use std::alloc::Global;
 

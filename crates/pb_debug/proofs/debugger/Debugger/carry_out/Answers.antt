@@ -1,8 +1,8 @@
 use Rattle.std.proofs.Common.{refl, sym, subst, ap}
 use Rattle.pb_debug.specs.Answers.{AnswersCommand}
-use Rattle.pb_debug.specs.Commands.{Command}
-use Rattle.pb_debug.specs.View.{command_view}
-use Rattle.pb_debug.proofs.NameTexts.{on_ok}
+use Rattle.pb_commands.specs.Commands.{Command}
+use Rattle.pb_commands.specs.View.{command_view}
+use Rattle.pb_debug_texts.proofs.Results.{on_ok}
 use Rattle.pb_debug.proofs.debugger.Debugger.carry_out.Goals as goal
 
 pub returns-in-Vars-clause-answer : goal.returns-in-Vars-clause-answer

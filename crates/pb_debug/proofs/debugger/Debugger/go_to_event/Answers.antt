@@ -1,8 +1,8 @@
 use Rattle.std.proofs.Common.{sym, subst}
 use Rattle.pb_base.specs.Lines.{NameTable, HasNames}
 use Rattle.pb_history.specs.Entries.{picks_of}
-use Rattle.pb_debug.specs.Searches.{Shows}
-use Rattle.pb_debug.proofs.Searches.{shown_named}
+use Rattle.pb_positions.specs.Searches.{Shows}
+use Rattle.pb_debug.proofs.NamedPicks.{shown_named}
 use Rattle.pb_debug.proofs.debugger.Debugger.go_to_event.Goals as goal
 
 pub put_event-requires : goal.put_event-requires

@@ -1,8 +1,10 @@
 use Rattle.std.proofs.Common.{ℕ, List, Option, option_map, inl, inr, refl, ap}
-use Rattle.pb_debug.specs.Texts.{refusal_text, source_text}
+use Rattle.pb_debug.specs.Refusals.{refusal_text}
+use Rattle.pb_debug_texts.specs.Texts.{source_text}
 use Rattle.pb_debug.specs.Value.{Debugging}
 use Rattle.pb_debug.specs.declared.fault.DebugFault.TheVariants.{NoArm}
-use Rattle.pb_debug.proofs.NameTexts.{on_ok, missing_arm}
+use Rattle.pb_debug_texts.proofs.Results.{on_ok}
+use Rattle.pb_debug.proofs.NameTexts.{missing_arm}
 use Rattle.pb_debug.proofs.debugger.Debugger.say_text.Goals as goal
 
 pub returns-in-Ok : goal.returns-in-Ok

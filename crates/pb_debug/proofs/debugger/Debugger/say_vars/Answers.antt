@@ -2,11 +2,11 @@ use Rattle.std.proofs.Common.{◌<◌, ℕ, List, length, map, inl, refl, sym, a
 use Rattle.std.proofs.lemmas.List.{length-map}
 use Rattle.std.proofs.lemmas.Option.{slice_get_read}
 use Rattle.pb_code.specs.View.{process_labels_view}
-use Rattle.pb_debug.specs.Texts.{vars_text}
+use Rattle.pb_debug_texts.specs.Texts.{vars_text}
 use Rattle.pb_debug.specs.Value.{Debugging}
 use Rattle.pb_debug.proofs.Positions.{in_labels, named_vars}
 use Rattle.pb_debug.proofs.Lines.{labels_here}
-use Rattle.pb_debug.proofs.NameTexts.{on_ok}
+use Rattle.pb_debug_texts.proofs.Results.{on_ok}
 use Rattle.pb_debug.proofs.debugger.Debugger.say_vars.Goals as goal
 
 pub index-requires : goal.index-requires

@@ -9,12 +9,12 @@ use Rattle.pb_code.specs.Limits.{KeepsLimits}
 use Rattle.pb_code.specs.View.{code_view, process_view}
 use Rattle.pb_code.specs.Whole.{Code}
 use Rattle.pb_verifier.specs.declared.fault.VerifyFault.TheVariants.{OutOfLimits}
-use Rattle.pb_debug.specs.Resources.{who_text}
+use Rattle.pb_debug_texts.specs.Resources.{who_text}
 use Rattle.pb_debug.specs.Value.{Debugging, bank_state, state_of}
 use Rattle.pb_debug.proofs.Requests.{names_bundles}
 use Rattle.pb_debug.proofs.Positions.{as_many}
 use Rattle.pb_debug.proofs.ResourceTexts.{bank_here, placed, state_here, who_here}
-use Rattle.pb_debug.proofs.NameTexts.{on_ok}
+use Rattle.pb_debug_texts.proofs.Results.{on_ok}
 use Rattle.pb_debug.proofs.debugger.Debugger.say_who.Goals as goal
 
 pub put_who-requires-clause-bundles : goal.put_who-requires-clause-bundles

@@ -1,7 +1,7 @@
 use Rattle.std.proofs.Common.{◌<◌, length, sym, subst}
 use Rattle.pb_base.specs.Lines.{NameTable}
 use Rattle.pb_history.specs.Entries.{picks_of}
-use Rattle.pb_debug.proofs.Searches.{pick_named}
+use Rattle.pb_debug.proofs.NamedPicks.{pick_named}
 use Rattle.pb_debug.proofs.debugger.Debugger.say_write.Goals as goal
 
 pub put_wrote-requires : goal.put_wrote-requires

@@ -6,7 +6,7 @@ use Rattle.pb_machine.specs.Views.{thread_view}
 use Rattle.pb_machine.proofs.GivenCode.{codes_number, code_at}
 use Rattle.pb_verifier.specs.declared.fault.VerifyFault.TheVariants.{OutOfLimits}
 use Rattle.pb_debug.specs.Value.{Debugging, state_of, bank_state}
-use Rattle.pb_debug.specs.Whys.{IsReason}
+use Rattle.pb_debug_texts.specs.Reasons.{IsReason}
 use Rattle.pb_debug.proofs.Requests.{names_bundles, below, within_claim, asks, asks_in, asked_so, why_is}
 use Rattle.pb_debug.proofs.Positions.{in_code, reached}
 use Rattle.pb_debug.proofs.debugger.Debugger.why.Goals as goal

@@ -1,0 +1,4 @@
+pub mod Cutting
+pub mod Kept
+pub mod NumberedLines
+pub mod Spellings

@@ -1,0 +1,5 @@
+pub mod Buffers
+pub mod Commands
+pub mod Lines
+pub mod Spellings
+pub mod View

@@ -1,0 +1,13 @@
+//! The commands of a debugging session: their words, the lines of bytes, and the buffer of the line being read.
+#![tactic(auto)]
+
+pub mod buffer;
+pub mod command;
+pub mod laws;
+pub mod lines;
+pub mod words;
+
+pub use buffer::LineBuffer;
+pub use command::{Command, read_command};
+pub use lines::line_numbered;
+pub use words::{ArmWord, IntegerWord, StopWord};

@@ -1,9 +1,0 @@
-use Rattle.pb_base.specs.Lines.{names_view}
-use Rattle.pb_debug.specs.Texts.{loan_text}
-use Rattle.pb_debug.proofs.EachNumber.{each_next}
-use Rattle.pb_debug.proofs.text.put_loans_of.Goals as goal
-
-pub loop-r-preserved : goal.loop-r-preserved
-loop-r-preserved c =
-    each_next (loan_text (names_view c.args.names.now) c.args.banker.now.state c.args.p) c.loop-r.r c.args.text.now.items
-    c.loop-r.text.items c.put_loan.new.text.items c.loop-r.invariant c.in_ok-put_loan.ensures

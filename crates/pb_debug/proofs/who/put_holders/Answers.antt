@@ -1,9 +1,0 @@
-use Rattle.pb_base.specs.Lines.{names_view}
-use Rattle.pb_debug.specs.Resources.{holder_text}
-use Rattle.pb_debug.proofs.EachNumber.{each_next}
-use Rattle.pb_debug.proofs.who.put_holders.Goals as goal
-
-pub loop-p-preserved : goal.loop-p-preserved
-loop-p-preserved c =
-    each_next (holder_text (names_view c.args.names.now) c.args.banker.now.state c.args.r) c.loop-p.p c.args.text.now.items
-    c.loop-p.text.items c.put_holder.new.text.items c.loop-p.invariant c.in_ok-put_holder.ensures

@@ -1,8 +1,0 @@
-use Rattle.std.proofs.Common.{◌≡◌, ◌++◌}
-use Rattle.pb_base.specs.Lines.{names_view, each_below}
-use Rattle.pb_debug.specs.Resources.{holder_text}
-use Rattle.pb_debug.proofs.who.put_holders.Given as goal
-
-abbrev pub invariant-loop-p : goal.invariant-loop-p
-invariant-loop-p l =
-    l.text.items ≡ l.initial.text.items ++ each_below (holder_text (names_view l.names) l.banker.state l.r) l.p

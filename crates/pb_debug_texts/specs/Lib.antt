@@ -1,0 +1,4 @@
+pub mod Asking
+pub mod Reasons
+pub mod Resources
+pub mod Texts

@@ -1,0 +1,309 @@
+//! The lines that a session answers.
+
+ghost use Rattle.std.specs.Prelude.{◌≡◌, ◌<◌, ◌≤◌, ◌++◌, ℕ, length, map, codes, OnOk, All};
+ghost use Rattle.pb_base.specs.Banker.{processes, resources, claim, loan, cash};
+ghost use Rattle.pb_base.specs.Lines.{HasNames, each_below, names_view, name_of, pick_text};
+ghost use Rattle.pb_debug_texts.specs.Texts as said;
+ghost use Rattle.pb_debug_texts.specs.Texts.{HasNamesOf};
+ghost use Rattle.pb_machine.specs.Views.{proc_view, thread_view};
+
+use crate::why::Why;
+use itoa::{Buffer, Integer};
+use pb_banker::Banker;
+use pb_base::{Event, Names, NoMemory, Pick, event_line};
+use pb_machine::{Proc, Thread, ThreadState};
+use std::alloc::Global;
+
+/// Puts words and a number behind a text.
+pub fn put_number<I: Integer>(text: &mut Vec<u8>, words: &[u8], number: I) -> Result<(), NoMemory>
+    ensures { OnOk result (text.new.items ≡ text.old.items ++ (words.now ++ I.text number)) }
+{
+    let mut digits = Buffer::new();
+    text.extend_from_slice(words)?;
+    text.extend_from_slice(digits.format(number).as_bytes())?;
+    Ok(())
+}
+
+/// Puts words behind a text.
+pub fn put(text: &mut Vec<u8>, words: &[u8]) -> Result<(), NoMemory>
+    ensures { OnOk result (text.new.items ≡ text.old.items ++ words.now) }
+{
+    text.extend_from_slice(words)?;
+    Ok(())
+}
+
+// Puts words behind a text, and ends its line.
+fn end_words(text: &mut Vec<u8>, words: &[u8]) -> Result<(), NoMemory>
+    ensures { OnOk result (text.new.items ≡ text.old.items ++ said.line words.now) }
+{
+    put(text, words)?;
+    put(text, b"\n")
+}
+
+// Puts words and a number behind a text, and ends its line.
+fn end_number<I: Integer>(text: &mut Vec<u8>, words: &[u8], number: I) -> Result<(), NoMemory>
+    ensures { OnOk result (text.new.items ≡ text.old.items ++ said.line (words.now ++ I.text number)) }
+{
+    put_number(text, words, number)?;
+    put(text, b"\n")
+}
+
+/// Puts words and a name behind a text.
+pub fn put_name(text: &mut Vec<u8>, words: &[u8], name: &[u8]) -> Result<(), NoMemory>
+    ensures { OnOk result (text.new.items ≡ text.old.items ++ (words.now ++ name.now)) }
+{
+    put(text, words)?;
+    put(text, name)
+}
+
+/// Puts words and a name behind a text, and ends its line.
+pub fn end_name(text: &mut Vec<u8>, words: &[u8], name: &[u8]) -> Result<(), NoMemory>
+    ensures { OnOk result (text.new.items ≡ text.old.items ++ said.line (words.now ++ name.now)) }
+{
+    put_name(text, words, name)?;
+    put(text, b"\n")
+}
+
+/// Puts the line of a position behind a text.
+pub fn put_at(text: &mut Vec<u8>, position: u32) -> Result<(), NoMemory>
+    ensures { OnOk result (text.new.items ≡ text.old.items ++ said.at_text position) }
+{
+    end_number(text, b"at ", position)
+}
+
+/// Puts the line of a position and of the event that led to it behind a text.
+pub fn put_event(
+    text: &mut Vec<u8>,
+    alloc: Global,
+    names: &Names,
+    position: u32,
+    event: &Event,
+) -> Result<(), NoMemory>
+    requires { HasNames (names_view names.now) event.now }
+    ensures { OnOk result (text.new.items
+        ≡ text.old.items ++ said.event_text (names_view names.now) position event.now) }
+{
+    let said = event_line(alloc, names, event)?;
+    put_number(text, b"at ", position)?;
+    end_name(text, b" ", &said)
+}
+
+/// Puts the line that says that there is no event behind a text.
+pub fn put_no_event(text: &mut Vec<u8>) -> Result<(), NoMemory>
+    ensures { OnOk result (text.new.items ≡ text.old.items ++ said.no_event_text) }
+{
+    put(text, b"no event\n")
+}
+
+// Puts the name of an arm behind a text.
+fn put_pick(text: &mut Vec<u8>, names: &Names, pick: Pick) -> Result<(), NoMemory>
+    requires { pick.process < length (names_view names.now).processes }
+    ensures { OnOk result (text.new.items ≡ text.old.items ++ pick_text (names_view names.now) pick) }
+{
+    put(text, &names.processes[usize::from(pick.process)])?;
+    put_number(text, b".", pick.arm)
+}
+
+/// Puts the line of a pick, the position just after it, and the line of its arm before it behind a text.
+pub fn put_wrote(
+    text: &mut Vec<u8>,
+    names: &Names,
+    position: u32,
+    pick: Pick,
+    line: Option<u32>,
+) -> Result<(), NoMemory>
+    requires { pick.process < length (names_view names.now).processes }
+    ensures { OnOk result (text.new.items
+        ≡ text.old.items ++ said.wrote_text (names_view names.now) position pick line) }
+{
+    put_number(text, b"at ", position)?;
+    put(text, b" ")?;
+    put_pick(text, names, pick)?;
+    match line {
+        Some(line) => end_number(text, b" line ", line),
+        None => end_words(text, b" line none"),
+    }
+}
+
+/// Puts the line that says that nothing was written behind a text.
+pub fn put_never(text: &mut Vec<u8>) -> Result<(), NoMemory>
+    ensures { OnOk result (text.new.items ≡ text.old.items ++ said.never_text) }
+{
+    put(text, b"never\n")
+}
+
+/// Puts the line that says that a line is not reached behind a text.
+pub fn put_not_reached(text: &mut Vec<u8>) -> Result<(), NoMemory>
+    ensures { OnOk result (text.new.items ≡ text.old.items ++ said.not_reached_text) }
+{
+    put(text, b"not reached\n")
+}
+
+/// Puts the lines of all commands behind a text.
+pub fn put_help(text: &mut Vec<u8>) -> Result<(), NoMemory>
+    ensures { OnOk result (text.new.items ≡ text.old.items ++ said.help_text) }
+{
+    put(
+        text,
+        b"to I\nstep N\nback N\nnext\nprev\nvars P\nwrote P X\nuntil P.a N\nthreads P\nloans\nwho R\nline P.a\ntext P.a\nwhy P.a\npick P.a\nhelp\n",
+    )
+}
+
+// Puts the line of one integer behind a text.
+fn put_var(text: &mut Vec<u8>, name: &[u8], value: i64) -> Result<(), NoMemory>
+    ensures { OnOk result (text.new.items ≡ text.old.items ++ said.var_text name.now value) }
+{
+    put(text, name)?;
+    end_number(text, b" ", value)
+}
+
+/// Puts the lines of integers with these names behind a text.
+pub fn put_vars(text: &mut Vec<u8>, names: &[Vec<u8>], vars: &[i64]) -> Result<(), NoMemory>
+    requires { length names.now ≡ length vars.now }
+    ensures { OnOk result (text.new.items
+        ≡ text.old.items ++ said.vars_text (map (λ name. name.items) names.now) vars.now) }
+{
+    for i in 0..vars.len() {
+        put_var(text, &names[i], vars[i])?;
+    }
+    Ok(())
+}
+
+// Puts the line of an arm behind a text.
+fn put_thread(text: &mut Vec<u8>, arm: usize, thread: &Thread) -> Result<(), NoMemory>
+    ensures { OnOk result (text.new.items ≡ text.old.items ++ said.thread_text arm (thread_view thread.now)) }
+{
+    put_number(text, b"", arm)?;
+    match thread.place() {
+        Some(place) => end_number(text, b" at ", place),
+        None => match thread.state() {
+            ThreadState::Ended => end_words(text, b" ended"),
+            ThreadState::Idle | ThreadState::Live => end_words(text, b" idle"),
+        },
+    }
+}
+
+/// Puts the lines of the arms of a process behind a text.
+pub fn put_threads(text: &mut Vec<u8>, process: &Proc) -> Result<(), NoMemory>
+    ensures { OnOk result (text.new.items ≡ text.old.items ++ said.threads_text (proc_view process.now)) }
+{
+    if process.faulted() {
+        return put(text, b"faulted\n");
+    }
+    for arm in 0..process.arms() {
+        put_thread(text, arm, process.thread(arm))?;
+    }
+    Ok(())
+}
+
+/// Puts the line of a loan behind a text.
+pub fn put_loan(
+    text: &mut Vec<u8>,
+    names: &Names,
+    banker: &Banker,
+    p: usize,
+    r: usize,
+) -> Result<(), NoMemory>
+    requires process { p < processes banker.now.state }
+    requires resource { r < resources banker.now.state }
+    requires process_name { p < length (names_view names.now).processes }
+    requires resource_name { r < length (names_view names.now).resources }
+    ensures { OnOk result (text.new.items ≡ text.old.items ++ said.loan_text (names_view names.now) banker.now.state p r) }
+{
+    put(text, &names.processes[p])?;
+    put_number(text, b" holds ", banker.loan(p, r))?;
+    put_name(text, b" ", &names.resources[r])?;
+    end_number(text, b" claim ", banker.claim(p, r))
+}
+
+// Puts the lines of the loans of a process behind a text.
+fn put_loans_of(
+    text: &mut Vec<u8>,
+    names: &Names,
+    banker: &Banker,
+    p: usize,
+) -> Result<(), NoMemory>
+    requires process { p < processes banker.now.state }
+    requires process_names { length (names_view names.now).processes ≡ processes banker.now.state }
+    requires resource_names { length (names_view names.now).resources ≡ resources banker.now.state }
+    ensures { OnOk result (text.new.items ≡ text.old.items ++ said.loans_of (names_view names.now) banker.now.state p) }
+{
+    for r in 0..banker.resources() {
+        put_loan(text, names, banker, p, r)?;
+    }
+    Ok(())
+}
+
+/// Puts the line of an amount of cash behind a text.
+pub fn put_cash(text: &mut Vec<u8>, names: &Names, amount: u32, r: usize) -> Result<(), NoMemory>
+    requires { r < length (names_view names.now).resources }
+    ensures { OnOk result (text.new.items ≡ text.old.items ++ said.cash_text (names_view names.now) amount r) }
+{
+    put_number(text, b"cash ", amount)?;
+    end_name(text, b" ", &names.resources[r])
+}
+
+// Puts the lines of all cash behind a text.
+fn put_all_cash(text: &mut Vec<u8>, names: &Names, banker: &Banker) -> Result<(), NoMemory>
+    requires { length (names_view names.now).resources ≡ resources banker.now.state }
+    ensures { OnOk result (text.new.items ≡ text.old.items
+        ++ each_below (λ r. said.cash_text (names_view names.now) (cash banker.now.state r) r) (resources banker.now.state)) }
+{
+    for r in 0..banker.resources() {
+        put_cash(text, names, banker.cash(r), r)?;
+    }
+    Ok(())
+}
+
+/// Puts the lines of all loans and of the cash behind a text.
+pub fn put_loans(text: &mut Vec<u8>, names: &Names, banker: &Banker) -> Result<(), NoMemory>
+    requires process_names { length (names_view names.now).processes ≡ processes banker.now.state }
+    requires resource_names { length (names_view names.now).resources ≡ resources banker.now.state }
+    ensures { OnOk result (text.new.items ≡ text.old.items ++ said.loans_text (names_view names.now) banker.now.state) }
+{
+    for p in 0..banker.processes() {
+        put_loans_of(text, names, banker, p)?;
+    }
+    put_all_cash(text, names, banker)
+}
+
+/// Puts the line of a source line behind a text.
+pub fn put_line(text: &mut Vec<u8>, line: Option<u32>) -> Result<(), NoMemory>
+    ensures { OnOk result (text.new.items ≡ text.old.items ++ said.line_text line) }
+{
+    match line {
+        Some(line) => end_number(text, b"line ", line),
+        None => end_words(text, b"line none"),
+    }
+}
+
+// Puts a word and the names of processes behind a text.
+fn put_names(
+    text: &mut Vec<u8>,
+    words: &[u8],
+    names: &Names,
+    processes: &[u8],
+) -> Result<(), NoMemory>
+    requires { All (λ p. p < length (names_view names.now).processes) processes.now }
+    ensures { OnOk result (text.new.items
+        ≡ text.old.items ++ said.line (words.now ++ said.names_text (names_view names.now) processes.now)) }
+{
+    put(text, words)?;
+    for k in 0..processes.len() {
+        put_name(text, b" ", &names.processes[usize::from(processes[k])])?;
+    }
+    put(text, b"\n")
+}
+
+/// Puts the line of a reason behind a text.
+pub fn put_why(text: &mut Vec<u8>, names: &Names, why: &Why) -> Result<(), NoMemory>
+    requires { HasNamesOf (names_view names.now) why.now }
+    ensures { OnOk result (text.new.items ≡ text.old.items ++ said.why_text (names_view names.now) why.now) }
+{
+    match why {
+        Why::NotAsking => put(text, b"not asking\n"),
+        Why::Cash { resource, cash } => put_cash(text, names, *cash, usize::from(*resource)),
+        Why::Order(order) => put_names(text, b"order", names, order),
+        Why::Rest(rest) => put_names(text, b"rest", names, rest),
+    }
+}

@@ -1,0 +1,167 @@
+//! Who holds a resource, and who asks for it.
+
+ghost use Rattle.std.specs.Prelude.{◌≡◌, ◌==◌, ◌<◌, ◌++◌, ℕ, cond, length, slice_get, Some, OnOk};
+ghost use Rattle.pb_base.specs.Banker.{processes, resources};
+ghost use Rattle.pb_base.specs.Bundle as bundles;
+ghost use Rattle.pb_base.specs.Lines.{names_view, each_below};
+ghost use Rattle.pb_code.specs.View.{code_view, process_view};
+ghost use Rattle.pb_code.specs.declared.code.ProcessCode.{ProcessCode as GivenProcess};
+ghost use Rattle.pb_debug_texts.specs.Asking.{NamesBundles};
+ghost use Rattle.pb_debug_texts.specs.Resources as said;
+ghost use Rattle.pb_machine.specs.Views.{machine_view, proc_view, thread_view};
+
+use crate::text::{end_name, put, put_cash, put_loan, put_number};
+use crate::why::asked;
+use pb_banker::Banker;
+use pb_base::{Bundle, Names, NoMemory, Pair};
+use pb_code::{Code, ProcessCode};
+use pb_machine::{Machine, Proc, Thread};
+
+// Returns the amount of a pair, if it is of this resource, else 0.
+fn share(pair: Pair, r: usize) -> u32
+    ensures { result ≡ cond (pair.resource == r) pair.amount 0 }
+{
+    if usize::from(pair.resource) == r {
+        pair.amount
+    } else {
+        0
+    }
+}
+
+// Returns the amount of a resource in a bundle.
+fn amount_in(bundle: &Bundle, r: usize) -> u64
+    ensures { result ≡ bundles.amount_in bundle.now r }
+{
+    let mut amount = 0;
+    for i in 0..bundle.len() {
+        amount += u64::from(share(bundle.get(i), r));
+    }
+    amount
+}
+
+// Returns the amount of a resource for which an arm asks: 0 if it is not at a request.
+fn amount_asked(code: &ProcessCode, thread: &Thread, r: usize) -> u64
+    requires { NamesBundles code.now }
+    ensures { result ≡ said.amount_asked (process_view code.now) (thread_view thread.now) r }
+{
+    match asked(code, thread) {
+        Some(bundle) => amount_in(bundle, r),
+        None => 0,
+    }
+}
+
+// Puts the line of an arm behind a text, if it asks for some of a resource.
+fn put_asker(
+    text: &mut Vec<u8>,
+    names: &Names,
+    r: usize,
+    p: usize,
+    arm: usize,
+    amount: u64,
+) -> Result<(), NoMemory>
+    requires process { p < length (names_view names.now).processes }
+    requires resource { r < length (names_view names.now).resources }
+    ensures { OnOk result (text.new.items
+        ≡ text.old.items ++ said.asker_text (names_view names.now) r (record { process = p; arm = arm }) amount) }
+{
+    if amount == 0 {
+        return Ok(());
+    }
+    put(text, &names.processes[p])?;
+    put_number(text, b".", arm)?;
+    put_number(text, b" asks ", amount)?;
+    end_name(text, b" ", &names.resources[r])
+}
+
+// Puts the lines of the arms of a process that ask for a resource behind a text.
+fn put_askers_in(
+    text: &mut Vec<u8>,
+    names: &Names,
+    r: usize,
+    p: usize,
+    code: &ProcessCode,
+    process: &Proc,
+) -> Result<(), NoMemory>
+    requires bundles { NamesBundles code.now }
+    requires process { p < length (names_view names.now).processes }
+    requires resource { r < length (names_view names.now).resources }
+    ensures { OnOk result (text.new.items
+        ≡ text.old.items ++ said.askers_in (names_view names.now) r p (process_view code.now) (proc_view process.now)) }
+{
+    for arm in 0..process.arms() {
+        let amount = amount_asked(code, process.thread(arm), r);
+        put_asker(text, names, r, p, arm, amount)?;
+    }
+    Ok(())
+}
+
+// Puts the lines of all arms that ask for a resource behind a text.
+fn put_askers(text: &mut Vec<u8>, code: &Code, machine: &Machine, r: usize) -> Result<(), NoMemory>
+    requires bundles { (p : ℕ) (process : GivenProcess)
+        → slice_get (code_view code.now).processes p ≡ Some (process_view process) → NamesBundles process }
+    requires processes { length (machine_view machine.now).processes ≡ length (code_view code.now).processes }
+    requires process_names { length (code_view code.now).names.processes ≡ length (code_view code.now).processes }
+    requires resource { r < length (code_view code.now).names.resources }
+    ensures { OnOk result (text.new.items ≡ text.old.items
+        ++ each_below (said.askers_at (code_view code.now) (machine_view machine.now) r)
+        (length (machine_view machine.now).processes)) }
+{
+    for p in 0..machine.processes() {
+        put_askers_in(text, &code.names, r, p, &code.processes[p], machine.proc(p))?;
+    }
+    Ok(())
+}
+
+// Puts the line of the loan of a process behind a text, if it holds some of a resource.
+fn put_holder(
+    text: &mut Vec<u8>,
+    names: &Names,
+    banker: &Banker,
+    r: usize,
+    p: usize,
+) -> Result<(), NoMemory>
+    requires process { p < processes banker.now.state }
+    requires resource { r < resources banker.now.state }
+    requires process_name { p < length (names_view names.now).processes }
+    requires resource_name { r < length (names_view names.now).resources }
+    ensures { OnOk result (text.new.items
+        ≡ text.old.items ++ said.holder_text (names_view names.now) banker.now.state r p) }
+{
+    if banker.loan(p, r) == 0 {
+        return Ok(());
+    }
+    put_loan(text, names, banker, p, r)
+}
+
+// Puts the lines of all processes that hold a resource behind a text.
+fn put_holders(text: &mut Vec<u8>, names: &Names, banker: &Banker, r: usize) -> Result<(), NoMemory>
+    requires resource { r < resources banker.now.state }
+    requires process_names { length (names_view names.now).processes ≡ processes banker.now.state }
+    requires resource_name { r < length (names_view names.now).resources }
+    ensures { OnOk result (text.new.items ≡ text.old.items
+        ++ each_below (said.holder_text (names_view names.now) banker.now.state r) (processes banker.now.state)) }
+{
+    for p in 0..banker.processes() {
+        put_holder(text, names, banker, r, p)?;
+    }
+    Ok(())
+}
+
+/// Puts the lines of a resource behind a text: of those who hold it, of those who ask for it, and of the cash
+/// of it.
+pub fn put_who(text: &mut Vec<u8>, code: &Code, machine: &Machine, r: usize) -> Result<(), NoMemory>
+    requires bundles { (p : ℕ) (process : GivenProcess)
+        → slice_get (code_view code.now).processes p ≡ Some (process_view process) → NamesBundles process }
+    requires processes { length (machine_view machine.now).processes ≡ length (code_view code.now).processes }
+    requires process_names { length (code_view code.now).names.processes ≡ length (code_view code.now).processes }
+    requires rows { processes machine.now.banker.state ≡ length (code_view code.now).processes }
+    requires resource { r < resources machine.now.banker.state }
+    requires resource_name { r < length (code_view code.now).names.resources }
+    ensures { OnOk result (text.new.items ≡ text.old.items
+        ++ said.who_text (code_view code.now) (machine_view machine.now) machine.now.banker.state r) }
+{
+    let banker = machine.banker();
+    put_holders(text, &code.names, banker, r)?;
+    put_askers(text, code, machine, r)?;
+    put_cash(text, &code.names, banker.cash(r), r)
+}

@@ -1,0 +1,3 @@
+pub mod Intervals
+pub mod Searches
+pub mod Walks
