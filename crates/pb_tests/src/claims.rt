@@ -1,25 +1,8 @@
 //! Claims of texts, and whether they fit the capital.
 
-use pb_base::{Capital, Claims};
-use pb_claims::{OverCapital, fits};
-use pb_codegen::analyze;
-use std::alloc::Global;
-
-/// Returns the claims of a text.
-fn claims_of(alloc: Global, text: &[u8]) -> Option<Claims> {
-    let analysis = analyze(alloc, alloc, text).ok()?;
-    Some(analysis.claims)
-}
-
-/// Returns the claim of a process of a text on a resource.
-fn claim(alloc: Global, text: &[u8], p: usize, r: usize) -> Option<u64> {
-    let claims = claims_of(alloc, text)?;
-    if p < claims.processes() && r < claims.resources() {
-        Some(claims.get(p, r))
-    } else {
-        None
-    }
-}
+use crate::calls::{CHECK, Call, Case, Given, first_wrong};
+use pb_claims::OverCapital;
+use pb_command_io::Status;
 
 const ARMS: &[u8] = b"resource t = 4;
 process p begin
@@ -36,50 +19,43 @@ const TWO: &[u8] = b"resource t = 9; resource u = 9;
 process p begin hold 2 of t, 1 of u do while 0 do hold 3 of u do skip od od od end
 process q begin skip end";
 
+/// Claims five, five and seven of each resource, but for one claim of six.
+const OVER: &[u8] = b"resource t = 5; resource u = 5;
+process p begin hold 5 of t, 5 of u do skip od end
+process q begin hold 5 of t, 6 of u do skip od end
+process r begin hold 7 of t, 7 of u do skip od end";
+
+const CLAIMS: [Case; 4] = [
+    (
+        Call::Claims,
+        Given::Text(ARMS),
+        Status::Done,
+        b"p claim 4 t\n",
+    ),
+    (
+        Call::Claims,
+        Given::Text(BRANCHES),
+        Status::Done,
+        b"p claim 3 t\n",
+    ),
+    (
+        Call::Claims,
+        Given::Text(TWO),
+        Status::Done,
+        b"p claim 2 t\np claim 4 u\nq claim 0 t\nq claim 0 u\n",
+    ),
+    // The first claim over its capital is named.
+    (
+        CHECK,
+        Given::Text(OVER),
+        Status::Refused,
+        b"refused C1 q u claim 6 capital 5\n",
+    ),
+];
+
 #[test]
 fn arms_add_up_and_the_greatest_of_a_list_counts(rt: HostRuntime) {
-    for (text, p, r, wanted) in &[
-        (ARMS, 0, 0, 4),
-        (BRANCHES, 0, 0, 3),
-        (TWO, 0, 0, 2),
-        (TWO, 0, 1, 4),
-        (TWO, 1, 0, 0),
-        (TWO, 1, 1, 0),
-    ] {
-        assert!(rt;
-            claim(rt.alloc(), *text, *p, *r) == Some(*wanted),
-            "process {p}, resource {r}"
-        );
-    }
-}
-
-/// Returns whether the first claim over these capitals is this one.
-fn is_over(
-    alloc: Global,
-    claims: &Claims,
-    capitals: &[u32; 2],
-    wanted: OverCapital,
-) -> Option<bool> {
-    if claims.resources() != 2 || capitals[0] > 1_000_000 || capitals[1] > 1_000_000 {
-        return None;
-    }
-    let capital = Capital::new(alloc, capitals).ok()?;
-    Some(fits(claims, &capital) == Err(wanted))
-}
-
-#[test]
-fn the_first_claim_over_its_capital_is_named(rt: HostRuntime) {
-    let claims = Claims::new(rt.alloc(), &[&[5, 5], &[5, 6], &[7, 7]]);
-    let over = OverCapital {
-        process: 1,
-        resource: 1,
-        claim: 6,
-        capital: 5,
-    };
-    let Ok(claims) = claims else {
-        panic!(rt; "out of memory");
-    };
-    assert!(rt; is_over(rt.alloc(), &claims, &[5, 5], over) == Some(true));
+    assert!(rt; first_wrong(&rt, &CLAIMS) == None);
 }
 
 #[test]

@@ -1,7 +1,10 @@
 //! Texts, and the code that they are compiled to.
 
+use crate::calls::{CHECK, Call, Case, Given, first_wrong};
 use pb_code::Instr;
-use pb_codegen::{ClaimsFault, CompileFault, Compiled, analyze, compile};
+use pb_codegen::{Compiled, compile};
+use pb_command_io::Status;
+use pb_object::Format;
 use std::alloc::Global;
 
 /// Returns whether the code of the first process begins its arms at these places and has these instructions.
@@ -74,18 +77,6 @@ const LOOP_CODE: [Instr; 20] = [
     Instr::End,
 ];
 
-#[test]
-fn a_loop_of_two_printing_arms(rt: HostRuntime) {
-    let lines = [
-        (3, Some(2)),
-        (5, Some(3)),
-        (10, Some(2)),
-        (11, None),
-        (18, Some(5)),
-    ];
-    assert!(rt; is_compiled_to(rt.alloc(), LOOP, &[0, 12, 15], &LOOP_CODE, &lines));
-}
-
 const HOLDS: &[u8] = b"resource t = 4;
 process p begin
   hold 1 of t do
@@ -110,12 +101,6 @@ const HOLDS_CODE: [Instr; 11] = [
     Instr::End,
 ];
 
-#[test]
-fn nested_holds(rt: HostRuntime) {
-    let lines = [(3, Some(3)), (4, None)];
-    assert!(rt; is_compiled_to(rt.alloc(), HOLDS, &[0, 5, 8], &HOLDS_CODE, &lines));
-}
-
 const BRANCH: &[u8] = b"resource r = 3; resource s = 9;
 process p begin integer x;
   if x then
@@ -137,55 +122,92 @@ const BRANCH_CODE: [Instr; 10] = [
     Instr::End,
 ];
 
-/// Returns the number of pairs of the first bundle of the first process of a text.
-fn pairs(alloc: Global, text: &[u8]) -> Option<usize> {
-    let compiled = compile(alloc, alloc, text).ok()?;
-    let process = compiled.verified().code().processes.get(0)?;
-    Some(process.bundles.get(0)?.len())
-}
+/// A text, the places at which the arms of its first process begin, its instructions, and the lines of some
+/// places.
+type Meaning = (
+    &'static [u8],
+    &'static [u16],
+    &'static [Instr],
+    &'static [(usize, Option<u32>)],
+);
+
+const MEANINGS: [Meaning; 3] = [
+    (
+        LOOP,
+        &[0, 12, 15],
+        &LOOP_CODE,
+        &[
+            (3, Some(2)),
+            (5, Some(3)),
+            (10, Some(2)),
+            (11, None),
+            (18, Some(5)),
+        ],
+    ),
+    (HOLDS, &[0, 5, 8], &HOLDS_CODE, &[(3, Some(3)), (4, None)]),
+    (BRANCH, &[0], &BRANCH_CODE, &[(6, Some(6))]),
+];
 
 #[test]
-fn a_joint_hold_in_an_if_without_else(rt: HostRuntime) {
-    let lines = [(6, Some(6))];
-    assert!(rt; is_compiled_to(rt.alloc(), BRANCH, &[0], &BRANCH_CODE, &lines));
-    assert!(rt; pairs(rt.alloc(), BRANCH) == Some(2));
+fn a_loop_of_arms_nested_holds_and_a_branch(rt: HostRuntime) {
+    for (text, entries, instrs, lines) in &MEANINGS {
+        assert!(rt; is_compiled_to(rt.alloc(), *text, *entries, *instrs, *lines));
+    }
 }
+
+/// The object of `BRANCH`, whose hold takes two pairs.
+const BRANCH_OBJECT: &[u8] = b"PBO 2
+resources 2
+resource r 3
+resource s 9
+processes 1
+process p
+vars 1 x
+arms 1
+claims 1 2
+arm 0
+code 10
+3 load 0
+3 jzero 7
+4 take 1 2 0 1
+4 push 1
+4 store 0
+4 give 1 2 0 1
+6 jump 7
+6 load 0
+6 print
+0 end
+";
 
 const OVER: &[u8] = b"resource t = 1; resource u = 3;
 process p begin hold 1 of t do skip od end
 process q begin hold 3 of u do parbegin hold 1 of t do skip od; hold 2 of u do skip od parend od end
 process r begin hold 9 of t do skip od end";
 
-/// Returns whether a fault is that process q claims 5 of the 3 of u.
-fn is_claim_of_q(fault: &ClaimsFault) -> bool {
-    fault.process.as_slice() == b"q".as_slice()
-        && fault.resource.as_slice() == b"u".as_slice()
-        && fault.claim == 5
-        && fault.capital == 3
-}
+const ANSWERS: [Case; 3] = [
+    (
+        Call::Emit(Format::Two),
+        Given::Text(BRANCH),
+        Status::Done,
+        BRANCH_OBJECT,
+    ),
+    // The first claim over its capital is that of q on u.
+    (
+        CHECK,
+        Given::Text(OVER),
+        Status::Refused,
+        b"refused C1 q u claim 5 capital 3\n",
+    ),
+    // The analysis has claims whatever the capital is.
+    (
+        Call::Claims,
+        Given::Text(OVER),
+        Status::Done,
+        b"p claim 1 t\np claim 0 u\nq claim 1 t\nq claim 5 u\nr claim 9 t\nr claim 0 u\n",
+    ),
+];
 
 #[test]
-fn the_first_claim_over_its_capital(rt: HostRuntime) {
-    match compile(rt.alloc(), rt.alloc(), OVER) {
-        Err(CompileFault::Claims(fault)) => assert!(rt; is_claim_of_q(&fault)),
-        _ => panic!(rt; "not refused for a claim"),
-    }
-}
-
-/// Returns whether a text has three processes and two resources, with these claims of the three on one each.
-fn has_claims(alloc: Global, text: &[u8], claims: [u64; 3]) -> bool {
-    let Ok(analysis) = analyze(alloc, alloc, text) else {
-        return false;
-    };
-    analysis.program.processes.len() == 3
-        && analysis.claims.processes() == 3
-        && analysis.claims.resources() == 2
-        && analysis.claims.get(0, 0) == claims[0]
-        && analysis.claims.get(1, 1) == claims[1]
-        && analysis.claims.get(2, 0) == claims[2]
-}
-
-#[test]
-fn an_analysis_whatever_the_capital(rt: HostRuntime) {
-    assert!(rt; has_claims(rt.alloc(), OVER, [1, 5, 9]));
+fn a_joint_hold_and_claims_over_the_capital(rt: HostRuntime) {
+    assert!(rt; first_wrong(&rt, &ANSWERS) == None);
 }

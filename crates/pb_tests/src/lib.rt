@@ -9,6 +9,8 @@ mod banker;
 #[cfg(test)]
 mod base;
 #[cfg(test)]
+mod calls;
+#[cfg(test)]
 mod claims;
 #[cfg(test)]
 mod code;

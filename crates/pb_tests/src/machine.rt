@@ -1,12 +1,12 @@
-//! Code built by hand, and what its machine shows.
+//! Code of objects, and what its machine shows.
 
 ghost use Rattle.std.specs.Prelude.{◌<◌, length, IfSome};
 ghost use Rattle.pb_machine.specs.Views.{machine_view, IsMachineOf, IsProcessOf};
 
-use pb_base::{Bundle, Capital, Claims, Event, FaultKind, Names, Pick, Step};
-use pb_code::{Code, Instr, ProcessCode};
+use pb_base::{Event, FaultKind, Pick, Step};
 use pb_groups::{Group, groups_of_code};
 use pb_machine::{Machine, Proc, ThreadState};
+use pb_object::read_object;
 use pb_verifier::{Verified, verify};
 use std::alloc::Global;
 use std::mem::size_of;
@@ -31,103 +31,53 @@ fn shown(event: Event) -> Seen {
     }
 }
 
-/// Returns the code of a process with one integer. Its bundles are one, then two, of the first resource, and
-/// one of the second.
-fn process(alloc: Global, entries: &[u16], instrs: &[Instr]) -> Option<ProcessCode> {
-    let bundles = [Bundle::one(0, 1), Bundle::one(0, 2), Bundle::one(1, 1)];
-    let bundles = Vec::from_slice(alloc, &bundles).ok()?;
-    let entries = Vec::from_slice(alloc, entries).ok()?;
-    let instrs = Vec::from_slice(alloc, instrs).ok()?;
-    Some(ProcessCode {
-        integers: 1,
-        entries,
-        bundles,
-        instrs,
-    })
-}
-
-/// Returns the names of these letters.
-fn letters(alloc: Global, letters: &[u8]) -> Option<Vec<Vec<u8>>> {
-    let mut names = Vec::new(alloc);
-    for letter in letters {
-        names.push(Vec::from_slice(alloc, &[*letter]).ok()?).ok()?;
-    }
-    Some(names)
-}
-
-/// Returns these names of processes, and those of the two resources.
-fn names(alloc: Global, processes: &[u8]) -> Option<Names> {
-    let processes = letters(alloc, processes)?;
-    let resources = letters(alloc, b"rs")?;
-    Some(Names {
-        processes,
-        resources,
-    })
-}
-
-/// Returns one process, over four of one resource and one of another, all of which it may have.
-fn alone(alloc: Global, entries: &[u16], instrs: &[Instr]) -> Option<Verified> {
-    let capital = Capital::new(alloc, &[4, 1]).ok()?;
-    let claims = Claims::new(alloc, &[&[4, 1]]).ok()?;
-    let names = names(alloc, b"p")?;
-    let mut processes = Vec::new(alloc);
-    processes.push(process(alloc, entries, instrs)?).ok()?;
-    let code = Code {
-        names,
-        capital,
-        claims,
-        processes,
-    };
+/// Returns the verified code of an object.
+fn code_of(alloc: Global, object: &[u8]) -> Option<Verified> {
+    let code = read_object(alloc, object).ok()?;
     verify(alloc, code).ok()
 }
 
-/// Returns the picks of each arm of each process in turn, repeated `rounds` times.
-fn turns(alloc: Global, rounds: u8, processes: u8, arms: u8) -> Option<Vec<Pick>> {
-    let mut picks = Vec::new(alloc);
-    for _ in 0..rounds {
-        for process in 0..processes {
-            for arm in 0..arms {
-                picks.push(Pick { process, arm }).ok()?;
-            }
-        }
-    }
-    Some(picks)
-}
-
-/// Makes these picks if they are enabled, and returns what was shown.
-fn run(
-    alloc: Global,
+/// Makes a pick if it is enabled. Returns whether it shows nothing, or what is wanted next, which it counts.
+fn goes_on(
     verified: &Verified,
     machine: &mut Machine,
-    picks: &[Pick],
-) -> Option<Vec<Seen>>
+    pick: Pick,
+    wanted: &[Seen],
+    count: &mut usize,
+) -> bool
     requires { IsMachineOf verified.now machine.old }
     ensures { IsMachineOf verified.now machine.new }
 {
-    let mut all = Vec::new(alloc);
-    for pick in picks {
-        if let Step::Did(event) = machine.step(verified, *pick) {
-            all.push(shown(event)).ok()?;
+    match machine.step(verified, pick) {
+        Step::Did(event) => {
+            let next = *count;
+            *count = next.saturating_add(1);
+            wanted.get(next) == Some(&shown(event))
         }
+        _ => true,
     }
-    Some(all)
 }
 
-/// Returns whether these picks show this, if they are enabled.
+/// Returns whether these picks show this if they are made again and again, each if it is enabled.
 fn shows(
-    alloc: Global,
     verified: &Verified,
     machine: &mut Machine,
+    times: u8,
     picks: &[Pick],
     wanted: &[Seen],
 ) -> bool
     requires { IsMachineOf verified.now machine.old }
     ensures { IsMachineOf verified.now machine.new }
 {
-    match run(alloc, verified, machine, picks) {
-        Some(all) => all.as_slice() == wanted,
-        None => false,
+    let mut count = 0;
+    for _round in 0..times {
+        for pick in picks {
+            if !goes_on(verified, machine, *pick, wanted, &mut count) {
+                return false;
+            }
+        }
     }
+    count == wanted.len()
 }
 
 /// Returns what a process holds of a resource, if both are there.
@@ -155,10 +105,8 @@ fn stands(machine: &Machine, p: usize, arm: usize) -> Option<(ThreadState, Optio
 /// What is done with a machine, or found in it.
 #[derive(Clone, Copy)]
 enum Act {
-    /// These picks, of a process and an arm each, show this, if they are enabled.
-    Picks(&'static [Pick], &'static [Seen]),
-    /// The picks of this many rounds, processes and arms show this, if they are enabled.
-    Turns(u8, u8, u8, &'static [Seen]),
+    /// These picks, made so many times, show this, each if it is enabled.
+    Picks(u8, &'static [Pick], &'static [Seen]),
     /// A process holds this amount of a resource.
     Holds(usize, usize, u32),
     /// An arm of a process takes steps or not, and is at this place.
@@ -168,16 +116,12 @@ enum Act {
 }
 
 /// Returns whether the machine does this, or whether this is found in it.
-fn does(alloc: Global, verified: &Verified, machine: &mut Machine, act: Act) -> bool
+fn does(verified: &Verified, machine: &mut Machine, act: Act) -> bool
     requires { IsMachineOf verified.now machine.old }
     ensures { IsMachineOf verified.now machine.new }
 {
     match act {
-        Act::Picks(picks, wanted) => shows(alloc, verified, machine, picks, wanted),
-        Act::Turns(rounds, processes, arms, wanted) => match turns(alloc, rounds, processes, arms) {
-            Some(picks) => shows(alloc, verified, machine, &picks, wanted),
-            None => false,
-        },
+        Act::Picks(times, picks, wanted) => shows(verified, machine, times, picks, wanted),
         Act::Holds(p, r, amount) => loan(machine, p, r) == Some(amount),
         Act::Stands(p, arm, state, place) => stands(machine, p, arm) == Some((state, place)),
         Act::Finished(wanted) => machine.finished() == wanted,
@@ -185,61 +129,76 @@ fn does(alloc: Global, verified: &Verified, machine: &mut Machine, act: Act) -> 
 }
 
 /// Returns whether the machine does all this, in turn.
-fn does_each(alloc: Global, verified: &Verified, machine: &mut Machine, acts: &[Act]) -> bool
+fn does_each(verified: &Verified, machine: &mut Machine, acts: &[Act]) -> bool
     requires { IsMachineOf verified.now machine.old }
     ensures { IsMachineOf verified.now machine.new }
 {
     for act in acts {
-        if !does(alloc, verified, machine, *act) {
+        if !does(verified, machine, *act) {
             return false;
         }
     }
     true
 }
 
-/// Returns whether the machine of one process does all this.
-fn plays(alloc: Global, entries: &[u16], instrs: &[Instr], acts: &[Act]) -> bool {
-    let Some(verified) = alone(alloc, entries, instrs) else {
-        return false;
-    };
-    match Machine::new(alloc, &verified) {
-        Ok(machine) => {
-            let mut machine = machine;
-            does_each(alloc, &verified, &mut machine, acts)
-        }
-        Err(_) => false,
-    }
-}
-
-const ROUNDS: [Instr; 20] = [
-    Instr::Load(0),
-    Instr::Push(3),
-    Instr::Lt,
-    Instr::JumpIfZero(11),
-    Instr::Fork { first: 1, count: 2 },
-    Instr::Join { first: 1, count: 2 },
-    Instr::Load(0),
-    Instr::Push(1),
-    Instr::Add,
-    Instr::Store(0),
-    Instr::Jump(0),
-    Instr::End,
-    Instr::Load(0),
-    Instr::Print,
-    Instr::End,
-    Instr::Load(0),
-    Instr::Push(10),
-    Instr::Add,
-    Instr::Print,
-    Instr::End,
+/// The picks of four arms of one process, and some of them.
+const ARMS: [Pick; 4] = [
+    Pick { process: 0, arm: 0 },
+    Pick { process: 0, arm: 1 },
+    Pick { process: 0, arm: 2 },
+    Pick { process: 0, arm: 3 },
 ];
+
+const THREE_ARMS: [Pick; 3] = [
+    Pick { process: 0, arm: 0 },
+    Pick { process: 0, arm: 1 },
+    Pick { process: 0, arm: 2 },
+];
+
+/// The picks of two processes.
+const PROCESSES: [Pick; 2] = [Pick { process: 0, arm: 0 }, Pick { process: 1, arm: 0 }];
+
+/// Three rounds of two arms, of which one prints the number of the round, and the other ten more.
+const ROUNDS: &[u8] = b"PBO 1
+resources 2
+resource r 4
+resource s 1
+processes 1
+process p
+vars 1
+arms 3
+claims 4 1
+arm 0
+arm 12
+arm 15
+code 20
+load 0
+push 3
+lt
+jzero 11
+fork 1 2
+join 1 2
+load 0
+push 1
+add
+store 0
+jump 0
+end
+load 0
+print
+end
+load 0
+push 10
+add
+print
+end
+";
 
 const ROUNDS_PLAYED: [Act; 5] = [
     Act::Finished(false),
-    Act::Turns(
+    Act::Picks(
         60,
-        1,
-        4,
+        &ARMS,
         &[
             Seen::Printed(0, 1, 0),
             Seen::Printed(0, 2, 10),
@@ -255,31 +214,37 @@ const ROUNDS_PLAYED: [Act; 5] = [
     Act::Stands(0, 2, ThreadState::Idle, None),
 ];
 
-/// Three rounds of two arms, of which one prints the number of the round, and the other ten more.
-#[test]
-fn rounds_of_two_arms(rt: HostRuntime) {
-    assert!(rt; plays(rt.alloc(), &[0, 12, 15], &ROUNDS, &ROUNDS_PLAYED));
-}
-
-const HOLDS: [Instr; 11] = [
-    Instr::Take(0),
-    Instr::Fork { first: 1, count: 2 },
-    Instr::Join { first: 1, count: 2 },
-    Instr::Give(0),
-    Instr::End,
-    Instr::Take(0),
-    Instr::Give(0),
-    Instr::End,
-    Instr::Take(1),
-    Instr::Give(1),
-    Instr::End,
-];
+/// Two arms hold in the hold of their process.
+const HOLDS: &[u8] = b"PBO 1
+resources 2
+resource r 4
+resource s 1
+processes 1
+process p
+vars 1
+arms 3
+claims 4 1
+arm 0
+arm 5
+arm 8
+code 11
+take 0 1
+fork 1 2
+join 1 2
+give 0 1
+end
+take 0 1
+give 0 1
+end
+take 0 2
+give 0 2
+end
+";
 
 const HOLDS_PLAYED: [Act; 4] = [
-    Act::Turns(
+    Act::Picks(
         3,
-        1,
-        3,
+        &THREE_ARMS,
         &[
             Seen::Granted(0, 0),
             Seen::Granted(0, 1),
@@ -289,32 +254,40 @@ const HOLDS_PLAYED: [Act; 4] = [
         ],
     ),
     Act::Holds(0, 0, 1),
-    Act::Turns(4, 1, 3, &[Seen::Returned(0, 0), Seen::Finished(0)]),
+    Act::Picks(4, &THREE_ARMS, &[Seen::Returned(0, 0), Seen::Finished(0)]),
     Act::Holds(0, 0, 0),
 ];
 
-/// Two arms hold in the hold of their process.
-#[test]
-fn nested_holds(rt: HostRuntime) {
-    assert!(rt; plays(rt.alloc(), &[0, 5, 8], &HOLDS, &HOLDS_PLAYED));
-}
-
-const FAULT: [Instr; 11] = [
-    Instr::Fork { first: 1, count: 2 },
-    Instr::Join { first: 1, count: 2 },
-    Instr::End,
-    Instr::Take(1),
-    Instr::Give(1),
-    Instr::End,
-    Instr::Push(1),
-    Instr::Push(0),
-    Instr::Div,
-    Instr::Print,
-    Instr::End,
-];
+/// One arm divides by zero while the other holds.
+const FAULT: &[u8] = b"PBO 1
+resources 2
+resource r 4
+resource s 1
+processes 1
+process p
+vars 1
+arms 3
+claims 4 1
+arm 0
+arm 3
+arm 6
+code 11
+fork 1 2
+join 1 2
+end
+take 0 2
+give 0 2
+end
+push 1
+push 0
+div
+print
+end
+";
 
 const FAULT_PLAYED: [Act; 7] = [
     Act::Picks(
+        1,
         &[
             Pick { process: 0, arm: 0 },
             Pick { process: 0, arm: 1 },
@@ -325,6 +298,7 @@ const FAULT_PLAYED: [Act; 7] = [
     ),
     Act::Holds(0, 0, 2),
     Act::Picks(
+        1,
         &[
             Pick { process: 0, arm: 2 },
             Pick { process: 0, arm: 1 },
@@ -338,57 +312,47 @@ const FAULT_PLAYED: [Act; 7] = [
     Act::Finished(true),
 ];
 
-/// One arm divides by zero while the other holds.
-#[test]
-fn a_fault_beside_a_hold(rt: HostRuntime) {
-    assert!(rt; plays(rt.alloc(), &[0, 3, 6], &FAULT, &FAULT_PLAYED));
-}
-
-const ONE_WAY: [Instr; 5] = [
-    Instr::Take(0),
-    Instr::Take(2),
-    Instr::Give(2),
-    Instr::Give(0),
-    Instr::End,
-];
-
-const OTHER_WAY: [Instr; 5] = [
-    Instr::Take(2),
-    Instr::Take(0),
-    Instr::Give(0),
-    Instr::Give(2),
-    Instr::End,
-];
-
-/// Returns the code of two processes that take the two resources in turn, one the first and then the second,
-/// the other the other way round.
-fn crossed(alloc: Global) -> Option<Verified> {
-    let capital = Capital::new(alloc, &[1, 1]).ok()?;
-    let claims = Claims::new(alloc, &[&[1, 1], &[1, 1]]).ok()?;
-    let names = names(alloc, b"pq")?;
-    let mut processes = Vec::new(alloc);
-    processes.push(process(alloc, &[0], &ONE_WAY)?).ok()?;
-    processes.push(process(alloc, &[0], &OTHER_WAY)?).ok()?;
-    let code = Code {
-        names,
-        capital,
-        claims,
-        processes,
-    };
-    verify(alloc, code).ok()
-}
+/// Two processes that take the two resources in turn, one the first and then the second, the other the other
+/// way round.
+const CROSSED: &[u8] = b"PBO 1
+resources 2
+resource r 1
+resource s 1
+processes 2
+process p
+vars 1
+arms 1
+claims 1 1
+arm 0
+code 5
+take 0 1
+take 1 1
+give 1 1
+give 0 1
+end
+process q
+vars 1
+arms 1
+claims 1 1
+arm 0
+code 5
+take 1 1
+take 0 1
+give 0 1
+give 1 1
+end
+";
 
 const CROSSED_AT_FIRST: [Act; 3] = [
-    Act::Turns(1, 2, 1, &[Seen::Granted(0, 0)]),
+    Act::Picks(1, &PROCESSES, &[Seen::Granted(0, 0)]),
     Act::Stands(1, 0, ThreadState::Live, Some(0)),
     Act::Holds(1, 1, 0),
 ];
 
 const CROSSED_THEN: [Act; 2] = [
-    Act::Turns(
+    Act::Picks(
         12,
-        2,
-        1,
+        &PROCESSES,
         &[
             Seen::Granted(0, 0),
             Seen::Returned(0, 0),
@@ -404,33 +368,19 @@ const CROSSED_THEN: [Act; 2] = [
     Act::Finished(true),
 ];
 
-/// Returns a copy of the machine, made between what is said of the crossed processes at first and then, if
-/// the machine does all this.
-fn copied_between(alloc: Global, verified: &Verified, machine: &mut Machine) -> Option<Machine>
+/// Returns whether the machine does what is said of the crossed processes at first and then, and a copy in
+/// between stays as it was.
+fn copy_stays(alloc: Global, verified: &Verified, machine: &mut Machine) -> Option<bool>
     requires { IsMachineOf verified.now machine.old }
 {
-    if !does_each(alloc, verified, machine, &CROSSED_AT_FIRST) {
+    if !does_each(verified, machine, &CROSSED_AT_FIRST) {
         return None;
     }
     let copy = machine.copy(alloc).ok()?;
-    if does_each(alloc, verified, machine, &CROSSED_THEN) {
-        Some(copy)
-    } else {
-        None
+    if !does_each(verified, machine, &CROSSED_THEN) {
+        return None;
     }
-}
-
-/// Returns whether the crossed processes do all this, and a copy in between stays as it was.
-fn crossed_plays(alloc: Global) -> Option<bool> {
-    let verified = crossed(alloc)?;
-    let mut machine = Machine::new(alloc, &verified).ok()?;
-    let copy = copied_between(alloc, &verified, &mut machine)?;
     Some(!copy.finished() && loan(&copy, 0, 0) == Some(1))
-}
-
-#[test]
-fn a_request_is_refused(rt: HostRuntime) {
-    assert!(rt; crossed_plays(rt.alloc()) == Some(true));
 }
 
 /// Returns the first process once more, apart from its machine.
@@ -443,13 +393,24 @@ fn apart(alloc: Global, verified: &Verified, machine: &Machine) -> Option<Proc>
     Some(process)
 }
 
-const DIVIDES: [Instr; 5] = [
-    Instr::Push(1),
-    Instr::Push(0),
-    Instr::Div,
-    Instr::Print,
-    Instr::End,
-];
+/// Divides by zero.
+const DIVIDES: &[u8] = b"PBO 1
+resources 2
+resource r 4
+resource s 1
+processes 1
+process p
+vars 1
+arms 1
+claims 4 1
+arm 0
+code 5
+push 1
+push 0
+div
+print
+end
+";
 
 const PICK: Pick = Pick { process: 0, arm: 0 };
 
@@ -499,36 +460,34 @@ fn moves_apart(alloc: Global, verified: &Verified, machine: &mut Machine) -> Opt
     Some(machine.processes() == 1 && before.same(machine.proc(0)))
 }
 
-/// Silent picks are made apart from the machine, and those that show something are left to it.
-#[test]
-fn silent_picks_apart(rt: HostRuntime) {
-    let Some(verified) = alone(rt.alloc(), &[0], &DIVIDES) else {
-        panic!(rt; "refused")
-    };
-    let Ok(mut machine) = Machine::new(rt.alloc(), &verified) else {
-        panic!(rt; "out of memory")
-    };
-    assert!(rt; moves_apart(rt.alloc(), &verified, &mut machine) == Some(true));
-}
-
 /// Counts to three by rounds of nine picks, tests once more by four, puts two operands, and adds them, which
 /// overflows.
-const COUNT_AND_OVERFLOW: [Instr; 14] = [
-    Instr::Load(0),
-    Instr::Push(3),
-    Instr::Lt,
-    Instr::JumpIfZero(9),
-    Instr::Load(0),
-    Instr::Push(1),
-    Instr::Add,
-    Instr::Store(0),
-    Instr::Jump(0),
-    Instr::Push(i64::MAX),
-    Instr::Load(0),
-    Instr::Add,
-    Instr::Print,
-    Instr::End,
-];
+const COUNT_AND_OVERFLOW: &[u8] = b"PBO 1
+resources 2
+resource r 4
+resource s 1
+processes 1
+process p
+vars 1
+arms 1
+claims 4 1
+arm 0
+code 14
+load 0
+push 3
+lt
+jzero 9
+load 0
+push 1
+add
+store 0
+jump 0
+push 9223372036854775807
+load 0
+add
+print
+end
+";
 
 /// Returns whether a run stops at its limit, also in the midst of a round, and before the fault, which it
 /// leaves to the machine; it leaves what as many picks leave that are made one by one.
@@ -568,18 +527,6 @@ fn stops_apart(alloc: Global, verified: &Verified, machine: &Machine) -> Option<
     Some(stops(verified, &mut run, &mut one_by_one))
 }
 
-/// A run stops at its limit, also in the midst of a round, and before the fault.
-#[test]
-fn silent_runs_apart(rt: HostRuntime) {
-    let Some(verified) = alone(rt.alloc(), &[0], &COUNT_AND_OVERFLOW) else {
-        panic!(rt; "refused")
-    };
-    let Ok(machine) = Machine::new(rt.alloc(), &verified) else {
-        panic!(rt; "out of memory")
-    };
-    assert!(rt; stops_apart(rt.alloc(), &verified, &machine) == Some(true));
-}
-
 /// Returns what the machine shows after silent runs of its process, if they are as long as they have to be.
 fn shown_after_runs(verified: &Verified, machine: &mut Machine) -> Option<Seen>
     requires { IsMachineOf verified.now machine.old }
@@ -600,19 +547,6 @@ fn shown_after_runs(verified: &Verified, machine: &mut Machine) -> Option<Seen>
         Step::Did(event) => Some(shown(event)),
         _ => None,
     }
-}
-
-/// The machine makes silent runs of its processes, and faults if a run stopped.
-#[test]
-fn silent_runs_of_the_machine(rt: HostRuntime) {
-    let Some(verified) = alone(rt.alloc(), &[0], &COUNT_AND_OVERFLOW) else {
-        panic!(rt; "refused")
-    };
-    let Ok(mut machine) = Machine::new(rt.alloc(), &verified) else {
-        panic!(rt; "out of memory")
-    };
-    let seen = shown_after_runs(&verified, &mut machine);
-    assert!(rt; seen == Some(Seen::Faulted(0, 0, FaultKind::Overflow)));
 }
 
 /// How many picks the group at each place of that code makes: behind the first test a round is one group,
@@ -647,10 +581,66 @@ fn have_groups(alloc: Global, verified: &Verified) -> Option<bool> {
 /// A group takes 24 bytes at most.
 const _: () = prove!(size_of::<Group>() <= 24);
 
-#[test]
-fn groups_of_a_process(rt: HostRuntime) {
-    let Some(verified) = alone(rt.alloc(), &[0], &COUNT_AND_OVERFLOW) else {
-        panic!(rt; "refused")
+/// What is tried of a machine and its code.
+#[derive(Clone, Copy)]
+enum Trial {
+    Plays(&'static [Act]),
+    CopyStays,
+    MovesApart,
+    StopsApart,
+    FaultsAfterRuns,
+    HasGroups,
+}
+
+/// Returns whether a trial comes out as it should.
+fn comes_out(alloc: Global, verified: &Verified, machine: &mut Machine, trial: Trial) -> bool
+    requires { IsMachineOf verified.now machine.old }
+{
+    match trial {
+        Trial::Plays(acts) => does_each(verified, machine, acts),
+        Trial::CopyStays => copy_stays(alloc, verified, machine) == Some(true),
+        Trial::MovesApart => moves_apart(alloc, verified, machine) == Some(true),
+        Trial::StopsApart => stops_apart(alloc, verified, machine) == Some(true),
+        Trial::FaultsAfterRuns => {
+            shown_after_runs(verified, machine) == Some(Seen::Faulted(0, 0, FaultKind::Overflow))
+        }
+        Trial::HasGroups => have_groups(alloc, verified) == Some(true),
+    }
+}
+
+/// Returns whether a trial of the machine of an object comes out as it should.
+fn is_so(alloc: Global, object: &[u8], trial: Trial) -> bool {
+    let Some(verified) = code_of(alloc, object) else {
+        return false;
     };
-    assert!(rt; have_groups(rt.alloc(), &verified) == Some(true));
+    match Machine::new(alloc, &verified) {
+        Ok(machine) => {
+            let mut machine = machine;
+            comes_out(alloc, &verified, &mut machine, trial)
+        }
+        Err(_) => false,
+    }
+}
+
+/// Objects, and what is tried of the machine of each.
+const TRIALS: [(&[u8], Trial, &str); 8] = [
+    (ROUNDS, Trial::Plays(&ROUNDS_PLAYED), "rounds of two arms"),
+    (HOLDS, Trial::Plays(&HOLDS_PLAYED), "nested holds"),
+    (FAULT, Trial::Plays(&FAULT_PLAYED), "a fault beside a hold"),
+    (CROSSED, Trial::CopyStays, "a request is refused"),
+    (DIVIDES, Trial::MovesApart, "silent picks apart"),
+    (COUNT_AND_OVERFLOW, Trial::StopsApart, "silent runs apart"),
+    (
+        COUNT_AND_OVERFLOW,
+        Trial::FaultsAfterRuns,
+        "silent runs of the machine",
+    ),
+    (COUNT_AND_OVERFLOW, Trial::HasGroups, "groups of a process"),
+];
+
+#[test]
+fn machines_do_what_their_code_says(rt: HostRuntime) {
+    for (object, trial, name) in &TRIALS {
+        assert!(rt; is_so(rt.alloc(), *object, *trial), "{name}");
+    }
 }

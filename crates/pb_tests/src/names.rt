@@ -1,48 +1,16 @@
-//! Programs, and their numbered forms or the faults of their names.
+//! Programs, and the objects of their numbered forms or the faults of their names.
 
 mod memories;
 
-use crate::texts::{arms, idle, repeated};
+use crate::calls::{CHECK, Call, Case, Given, THOUSAND, answers, first_wrong};
+use crate::texts::{SIXTEEN_ARMS, idle};
 use crate::trees::read;
-use pb_base::{BinaryOp, NoMemory};
-use pb_names::{Expr, Kind, NameFault, Resolved, Stmt, is_complete, resolve};
+use pb_command_io::Status;
+use pb_names::{Kind, NameFault, is_complete};
+use pb_object::Format;
 use std::alloc::Global;
-
-/// Returns the numbered program of a text, or its fault. There is none if the text has no tree.
-fn numbered(alloc: Global, text: &[u8]) -> Option<Result<Resolved<Global>, NameFault>> {
-    let tree = read(alloc, text)?;
-    if is_complete(&tree) {
-        Some(resolve(alloc, &tree))
-    } else {
-        None
-    }
-}
-
-/// Returns the numbered program of a text that is accepted.
-fn resolved(alloc: Global, text: &[u8]) -> Option<Resolved<Global>> {
-    numbered(alloc, text)?.ok()
-}
-
-/// Returns whether a text with a tree is accepted, or its fault.
-fn verdict(alloc: Global, text: &[u8]) -> Option<Result<(), NameFault>> {
-    match numbered(alloc, text)? {
-        Ok(_) => Some(Ok(())),
-        Err(fault) => Some(Err(fault)),
-    }
-}
-
-/// Returns the body of the first process.
-fn body(resolved: &Resolved<Global>) -> Option<&Vec<Stmt<Global>>> {
-    Some(&resolved.processes.first()?.body)
-}
-
-/// Returns the number of the first arm of a parbegin at the head of a list.
-fn first_arm(list: &Vec<Stmt<Global>>) -> Option<u8> {
-    match list.first()? {
-        Stmt::Parbegin { first, .. } => Some(*first),
-        _ => None,
-    }
-}
+use std::sync::Wait;
+use std::thread::Threads;
 
 /// A program of one assignment.
 const SUM: &[u8] = b"process p begin
@@ -50,117 +18,152 @@ const SUM: &[u8] = b"process p begin
   yy := yy + x
 end";
 
-/// Returns whether a program has the one process `p` with two integers, of which the second is `yy`.
-fn has_one_process(resolved: &Resolved<Global>) -> bool {
-    if resolved.resources.len() != 0 || resolved.processes.len() != 1 {
-        return false;
-    }
-    let process = &resolved.processes[0];
-    process.name.as_slice() == b"p".as_slice()
-        && process.integers.len() == 2
-        && process.integers[1].as_slice() == b"yy".as_slice()
-}
-
-/// Returns whether a value is the sum of integer 1 and integer 0.
-fn is_sum(value: &Expr<Global>) -> bool {
-    match value {
-        Expr::Binary(BinaryOp::Add, left, right) => {
-            matches!(**left, Expr::Variable(1)) && matches!(**right, Expr::Variable(0))
-        }
-        _ => false,
-    }
-}
-
-/// Returns whether a program assigns that sum to integer 1 at line 3.
-fn has_the_sum(resolved: &Resolved<Global>) -> bool {
-    let Some(list) = body(resolved) else {
-        return false;
-    };
-    match list.first() {
-        Some(
-            Stmt::Assign {
-                line: 3,
-                target: 1,
-                value,
-            },
-        ) => is_sum(value),
-        _ => false,
-    }
-}
-
-#[test]
-fn numbers_names_in_order_of_declaration(rt: HostRuntime) {
-    let Some(resolved) = resolved(rt.alloc(), SUM) else {
-        panic!(rt; "refused")
-    };
-    assert!(rt; has_one_process(&resolved));
-    assert!(rt; has_the_sum(&resolved));
-}
+/// Integer 1 becomes the sum of integer 1 and integer 0, in line 3.
+const SUM_NUMBERED: &[u8] = b"PBO 2
+resources 0
+processes 1
+process p
+vars 2 x yy
+arms 1
+claims
+arm 0
+code 5
+3 load 1
+3 load 0
+3 add
+3 store 1
+0 end
+";
 
 /// A hold of both resources in the other order.
 const HOLD: &[u8] = b"resource t = 3; resource u = 4; process p begin
   hold 2 of u, 1 of t do skip od
 end";
 
-/// Returns whether a statement is that hold.
-fn is_hold(stmt: &Stmt<Global>) -> bool {
-    match stmt {
-        Stmt::Hold {
-            line: 2,
-            bundle,
-            body: inside,
-        } => {
-            inside.len() == 0
-                && bundle.len() == 2
-                && (bundle.get(0).resource, bundle.get(0).amount) == (1, 2)
-                && (bundle.get(1).resource, bundle.get(1).amount) == (0, 1)
-        }
-        _ => false,
-    }
-}
-
-/// Returns whether a program has two resources, of which there are 4 of the second, and that hold.
-fn has_the_hold(resolved: &Resolved<Global>) -> bool {
-    let Some(list) = body(resolved) else {
-        return false;
-    };
-    match list.first() {
-        Some(stmt) => {
-            is_hold(stmt) && resolved.resources.len() == 2 && resolved.resources[1].capital == 4
-        }
-        None => false,
-    }
-}
-
-#[test]
-fn numbers_resources_of_holds(rt: HostRuntime) {
-    let Some(resolved) = resolved(rt.alloc(), HOLD) else {
-        panic!(rt; "refused")
-    };
-    assert!(rt; has_the_hold(&resolved));
-}
+/// Takes two of resource 1 and one of resource 0, in line 2.
+const HOLD_NUMBERED: &[u8] = b"PBO 2
+resources 2
+resource t 3
+resource u 4
+processes 1
+process p
+vars 0
+arms 1
+claims 1 2
+arm 0
+code 3
+2 take 1 2 0 1
+2 give 1 2 0 1
+0 end
+";
 
 /// A parbegin in each of the two arms of another.
 const FORKS: &[u8] =
     b"process p begin parbegin parbegin skip; skip parend; parbegin skip parend parend end";
 
-/// Returns the numbers of the first arms of the outer parbegin and of the two inside.
-fn first_arms(resolved: &Resolved<Global>) -> Option<(u8, u8, u8)> {
-    let Stmt::Parbegin { first, arms, .. } = body(resolved)?.first()? else {
-        return None;
-    };
-    if arms.len() != 2 {
-        return None;
-    }
-    Some((*first, first_arm(&arms[0])?, first_arm(&arms[1])?))
-}
+/// The outer parbegin has the arms 1 and 2, those inside 3 and 4, and 5.
+const FORKS_NUMBERED: &[u8] = b"PBO 2
+resources 0
+processes 1
+process p
+vars 0
+arms 6
+claims
+arm 0
+arm 3
+arm 6
+arm 9
+arm 10
+arm 11
+code 12
+1 fork 1 2
+1 join 1 2
+0 end
+1 fork 3 2
+1 join 3 2
+0 end
+1 fork 5 1
+1 join 5 1
+0 end
+0 end
+0 end
+0 end
+";
+
+/// A parbegin of two arms in a loop in a choice, and one of three beside the loop.
+const CHOICE: &[u8] = b"process p begin
+  integer x,
+    yy;
+  if yy then
+    while x do parbegin skip; skip parend od
+  else parbegin skip; skip; skip parend fi
+end";
+
+/// The parbegin in the loop has the arms from 1 on, that beside it those from 3 on.
+const CHOICE_NUMBERED: &[u8] = b"PBO 2
+resources 0
+processes 1
+process p
+vars 2 x yy
+arms 6
+claims
+arm 0
+arm 11
+arm 12
+arm 13
+arm 14
+arm 15
+code 16
+4 load 1
+4 jzero 8
+5 load 0
+5 jzero 7
+5 fork 1 2
+5 join 1 2
+5 jump 2
+0 jump 10
+6 fork 3 3
+6 join 3 3
+0 end
+0 end
+0 end
+0 end
+0 end
+0 end
+";
+
+/// Integers and resources are numbered as they are declared, the arms of a parbegin before those inside, also
+/// in loops and choices.
+const NUMBERED: [Case; 4] = [
+    (
+        Call::Emit(Format::Two),
+        Given::Text(SUM),
+        Status::Done,
+        SUM_NUMBERED,
+    ),
+    (
+        Call::Emit(Format::Two),
+        Given::Text(HOLD),
+        Status::Done,
+        HOLD_NUMBERED,
+    ),
+    (
+        Call::Emit(Format::Two),
+        Given::Text(FORKS),
+        Status::Done,
+        FORKS_NUMBERED,
+    ),
+    (
+        Call::Emit(Format::Two),
+        Given::Text(CHOICE),
+        Status::Done,
+        CHOICE_NUMBERED,
+    ),
+];
 
 #[test]
-fn numbers_the_arms_of_a_parbegin_before_those_inside(rt: HostRuntime) {
-    let Some(resolved) = resolved(rt.alloc(), FORKS) else {
-        panic!(rt; "refused")
-    };
-    assert!(rt; first_arms(&resolved) == Some((1, 3, 5)));
+fn numbers_names_in_order_of_declaration_and_arms_from_outside(rt: HostRuntime) {
+    assert!(rt; first_wrong(&rt, &NUMBERED) == None);
 }
 
 /// Returns whether the tree of a text is complete without the arms of its second statement, if that is a
@@ -175,127 +178,201 @@ fn is_complete_without(alloc: Global, text: &[u8]) -> Option<bool> {
     Some(is_complete(&tree))
 }
 
+/// Texts that are complete, and not without an arm, a pair or a process.
+const COMPLETE: [&[u8]; 3] = [
+    b"process p begin parbegin skip parend; parbegin skip; skip parend end",
+    b"resource t = 1; process p begin print 1; hold 1 of t do skip od end",
+    b"process p begin skip end",
+];
+
 #[test]
 fn asks_for_an_arm_a_pair_and_a_process(rt: HostRuntime) {
-    let texts: [&[u8]; 3] = [
-        b"process p begin parbegin skip parend; parbegin skip; skip parend end",
-        b"resource t = 1; process p begin print 1; hold 1 of t do skip od end",
-        b"process p begin skip end",
-    ];
-    for text in &texts {
-        assert!(rt; verdict(rt.alloc(), *text) == Some(Ok(())));
-        assert!(rt; is_complete_without(rt.alloc(), *text) == Some(false));
+    for text in &COMPLETE {
+        let is_accepted = answers(&rt, CHECK, *text, Status::Done, b"ok\n");
+        assert!(rt; is_accepted && is_complete_without(rt.alloc(), *text) == Some(false));
     }
 }
 
 /// Texts, and whether they are accepted, or the fault of least offset.
-const TEXTS: [(&[u8], Result<(), NameFault>); 14] = [
+const TEXTS: [Case; 14] = [
     // The second `x` is declared twice, and `z` is not declared.
     (
-        b"process p begin integer x, yy, x; x := x + z end",
-        Err(NameFault::Twice(31)),
+        CHECK,
+        Given::Text(b"process p begin integer x, yy, x; x := x + z end"),
+        Status::Refused,
+        b"refused N2 at 31\n",
     ),
     // None of the three is declared.
     (
-        b"process p begin x := x + x end",
-        Err(NameFault::Unknown(16)),
+        CHECK,
+        Given::Text(b"process p begin x := x + x end"),
+        Status::Refused,
+        b"refused N3 at 16\n",
     ),
     // The integers of another process are not declared in this one.
     (
-        b"process p begin integer x, yy; skip end process q begin x := x + x end",
-        Err(NameFault::Unknown(56)),
+        CHECK,
+        Given::Text(b"process p begin integer x, yy; skip end process q begin x := x + x end"),
+        Status::Refused,
+        b"refused N3 at 56\n",
     ),
     // A process is not a resource.
     (
-        b"resource t = 3; process p begin hold 1 of p do skip od end",
-        Err(NameFault::Unknown(42)),
+        CHECK,
+        Given::Text(b"resource t = 3; process p begin hold 1 of p do skip od end"),
+        Status::Refused,
+        b"refused N3 at 42\n",
     ),
     (
-        b"process p begin skip end process p begin skip end",
-        Err(NameFault::Twice(33)),
+        CHECK,
+        Given::Text(b"process p begin skip end process p begin skip end"),
+        Status::Refused,
+        b"refused N2 at 33\n",
     ),
     (
-        b"resource t = 3; process p begin hold 0 of t do skip od end",
-        Err(NameFault::Amount(37)),
+        CHECK,
+        Given::Text(b"resource t = 3; process p begin hold 0 of t do skip od end"),
+        Status::Refused,
+        b"refused N4 at 37\n",
     ),
     (
-        b"resource t = 3; process p begin hold 1 of t do skip od end",
-        Ok(()),
+        CHECK,
+        Given::Text(b"resource t = 3; process p begin hold 1 of t do skip od end"),
+        Status::Done,
+        b"ok\n",
+    ),
+    // The amount is accepted, and then the claim refused.
+    (
+        CHECK,
+        Given::Text(b"resource t = 3; process p begin hold 1000000 of t do skip od end"),
+        Status::Refused,
+        b"refused C1 p t claim 1000000 capital 3\n",
     ),
     (
-        b"resource t = 3; process p begin hold 1000000 of t do skip od end",
-        Ok(()),
+        CHECK,
+        Given::Text(b"resource t = 3; process p begin hold 1000001 of t do skip od end"),
+        Status::Refused,
+        b"refused N4 at 37\n",
     ),
     (
-        b"resource t = 3; process p begin hold 1000001 of t do skip od end",
-        Err(NameFault::Amount(37)),
-    ),
-    (b"resource t = 0; process p begin skip end", Ok(())),
-    (b"resource t = 1000000; process p begin skip end", Ok(())),
-    (
-        b"resource t = 1000001; process p begin skip end",
-        Err(NameFault::Amount(13)),
+        CHECK,
+        Given::Text(b"resource t = 0; process p begin skip end"),
+        Status::Done,
+        b"ok\n",
     ),
     (
-        b"resource t = 3; process p begin hold 1 of t, 2 of t do skip od end",
-        Err(NameFault::Repeated(50)),
+        CHECK,
+        Given::Text(b"resource t = 1000000; process p begin skip end"),
+        Status::Done,
+        b"ok\n",
+    ),
+    (
+        CHECK,
+        Given::Text(b"resource t = 1000001; process p begin skip end"),
+        Status::Refused,
+        b"refused N4 at 13\n",
+    ),
+    (
+        CHECK,
+        Given::Text(b"resource t = 3; process p begin hold 1 of t, 2 of t do skip od end"),
+        Status::Refused,
+        b"refused N6 at 50\n",
     ),
     // The resource that is named again was unknown at its first offset.
     (
-        b"resource t = 3; process p begin hold 1 of v, 2 of v do skip od end",
-        Err(NameFault::Unknown(42)),
+        CHECK,
+        Given::Text(b"resource t = 3; process p begin hold 1 of v, 2 of v do skip od end"),
+        Status::Refused,
+        b"refused N3 at 42\n",
     ),
 ];
 
 #[test]
 fn tells_the_fault_of_least_place(rt: HostRuntime) {
-    for (text, told) in &TEXTS {
-        assert!(rt; verdict(rt.alloc(), *text) == Some(*told));
-    }
+    assert!(rt; first_wrong(&rt, &TEXTS) == None);
 }
 
-/// Returns the fault of a text of which there is too much.
-fn too_many(alloc: Global, text: Result<Vec<u8>, NoMemory>) -> Option<Kind> {
-    match verdict(alloc, text.ok()?.as_slice())? {
-        Err(NameFault::TooMany(kind)) => Some(kind),
-        _ => None,
-    }
-}
+/// What is written when 64 processes have ended.
+const ENDS: &[u8] =
+    b"p0 end\np1 end\np2 end\np3 end\np4 end\np5 end\np6 end\np7 end\np8 end\np9 end\np10 end\np11 end\np12 end\np13 end\np14 end\np15 end\np16 end\np17 end\np18 end\np19 end\np20 end\np21 end\np22 end\np23 end\np24 end\np25 end\np26 end\np27 end\np28 end\np29 end\np30 end\np31 end\np32 end\np33 end\np34 end\np35 end\np36 end\np37 end\np38 end\np39 end\np40 end\np41 end\np42 end\np43 end\np44 end\np45 end\np46 end\np47 end\np48 end\np49 end\np50 end\np51 end\np52 end\np53 end\np54 end\np55 end\np56 end\np57 end\np58 end\np59 end\np60 end\np61 end\np62 end\np63 end\ndone\n";
 
-/// Returns how many processes the numbered program of a text with `count` processes has.
-fn processes(alloc: Global, count: usize) -> Option<usize> {
-    let text = idle(alloc, count).ok()?;
-    Some(resolved(alloc, text.as_slice())?.processes.len())
-}
-
-#[test]
-fn refuses_too_many_processes(rt: HostRuntime) {
-    assert!(rt; processes(rt.alloc(), 64) == Some(64));
-    assert!(rt; too_many(rt.alloc(), idle(rt.alloc(), 65)) == Some(Kind::Processes));
-}
-
-/// Returns a process with 65 integers, under `resources` resources.
-fn integers(alloc: Global, resources: usize) -> Result<Vec<u8>, NoMemory> {
-    let process = repeated(
-        alloc,
-        b"process p begin integer x",
-        b", x",
-        64,
-        b"; skip end",
-    )?;
-    repeated(
-        alloc,
-        b"",
-        b"resource t = 1; ",
-        resources,
-        process.as_slice(),
+/// Returns whether 64 processes are accepted, and 65 refused.
+fn has_limit_of_processes(rt: &(impl AllocGlobal + Threads + Wait + Sync)) -> Option<bool> {
+    let most = idle(rt.alloc(), 64).ok()?;
+    let more = idle(rt.alloc(), 65).ok()?;
+    Some(
+        answers(rt, Call::Run(THOUSAND), &most, Status::Done, ENDS)
+            && answers(rt, CHECK, &more, Status::Refused, b"refused N1 processes\n"),
     )
 }
 
 #[test]
-fn refuses_too_many_resources_and_integers(rt: HostRuntime) {
-    assert!(rt; too_many(rt.alloc(), integers(rt.alloc(), 0)) == Some(Kind::Integers));
-    assert!(rt; too_many(rt.alloc(), integers(rt.alloc(), 17)) == Some(Kind::Resources));
+fn refuses_too_many_processes(rt: HostRuntime) {
+    assert!(rt; has_limit_of_processes(&rt) == Some(true));
+}
+
+/// Texts of 65 integers, also under 17 resources, of 64 and 65 arms in all, and of 17 arms in one parbegin.
+const TOO_MANY: [Case; 5] = [
+    (
+        CHECK,
+        Given::Pieces(&[
+            (b"process p begin integer x", 1),
+            (b", x", 64),
+            (b"; skip end", 1),
+        ]),
+        Status::Refused,
+        b"refused N1 integers\n",
+    ),
+    (
+        CHECK,
+        Given::Pieces(&[
+            (b"resource t = 1; ", 17),
+            (b"process p begin integer x", 1),
+            (b", x", 64),
+            (b"; skip end", 1),
+        ]),
+        Status::Refused,
+        b"refused N1 resources\n",
+    ),
+    (
+        CHECK,
+        Given::Pieces(&[
+            (b"process p begin ", 1),
+            (SIXTEEN_ARMS, 3),
+            (b"parbegin ", 1),
+            (b"skip;", 14),
+            (b"skip parend end", 1),
+        ]),
+        Status::Done,
+        b"ok\n",
+    ),
+    (
+        CHECK,
+        Given::Pieces(&[
+            (b"process p begin ", 1),
+            (SIXTEEN_ARMS, 3),
+            (b"parbegin ", 1),
+            (b"skip;", 15),
+            (b"skip parend end", 1),
+        ]),
+        Status::Refused,
+        b"refused N1 arms\n",
+    ),
+    (
+        CHECK,
+        Given::Pieces(&[
+            (b"process p begin parbegin ", 1),
+            (b"skip;", 16),
+            (b"skip parend end", 1),
+        ]),
+        Status::Refused,
+        b"refused N1 fork\n",
+    ),
+];
+
+#[test]
+fn refuses_too_many_resources_integers_and_arms(rt: HostRuntime) {
+    assert!(rt; first_wrong(&rt, &TOO_MANY) == None);
 }
 
 #[test]
@@ -304,61 +381,4 @@ fn tells_what_there_is_too_much_of(rt: HostRuntime) {
         panic!(rt; "out of memory")
     };
     assert!(rt; told.as_str() == "too many integers");
-}
-
-#[test]
-fn refuses_too_many_arms(rt: HostRuntime) {
-    let alloc = rt.alloc();
-    let Ok(text) = arms(alloc, 14) else {
-        panic!(rt; "out of memory")
-    };
-    assert!(rt; verdict(alloc, text.as_slice()) == Some(Ok(())));
-    assert!(rt; too_many(alloc, arms(alloc, 15)) == Some(Kind::Arms));
-    let wide = repeated(
-        alloc,
-        b"process p begin parbegin ",
-        b"skip;",
-        16,
-        b"skip parend end",
-    );
-    assert!(rt; too_many(alloc, wide) == Some(Kind::Fork));
-}
-
-/// A parbegin of two arms in a loop in a choice, and one of three beside the loop.
-const CHOICE: &[u8] = b"process p begin
-  integer x,
-    yy;
-  if yy then
-    while x do parbegin skip; skip parend od
-  else parbegin skip; skip; skip parend fi
-end";
-
-/// Returns the numbers of the first arms of those parbegins.
-fn arms_inside(resolved: &Resolved<Global>) -> Option<(u8, u8)> {
-    let Stmt::If {
-        line: 4,
-        test: Expr::Variable(1),
-        on_true,
-        on_false,
-    } = body(resolved)?.first()?
-    else {
-        return None;
-    };
-    let Stmt::While {
-        line: 5,
-        test: Expr::Variable(0),
-        body: inside,
-    } = on_true.first()?
-    else {
-        return None;
-    };
-    Some((first_arm(inside)?, first_arm(on_false)?))
-}
-
-#[test]
-fn goes_into_loops_and_choices(rt: HostRuntime) {
-    let Some(resolved) = resolved(rt.alloc(), CHOICE) else {
-        panic!(rt; "refused")
-    };
-    assert!(rt; arms_inside(&resolved) == Some((1, 3)));
 }

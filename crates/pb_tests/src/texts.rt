@@ -20,6 +20,30 @@ pub const FAULT: &[u8] = b"resource t = 2; process p begin parbegin hold 1 of t 
 #[rattlefmt::skip]
 pub const NESTED: &[u8] = b"process p begin parbegin parbegin print 1; print 2 parend; print 3 parend; print 4 end";
 
+/// Two arms hold in the hold of their process.
+#[rattlefmt::skip]
+pub const HOLDS_IN_ARMS: &[u8] = b"resource t = 4; process p begin hold 1 of t do parbegin hold 1 of t do skip od; hold 2 of t do skip od parend od end";
+
+/// A hold, and one in each branch of a choice.
+#[rattlefmt::skip]
+pub const HOLDS_IN_BRANCHES: &[u8] = b"resource t = 9; process p begin integer x; hold 1 of t do skip od; if x then hold 2 of t do skip od else hold 3 of t do skip od fi end";
+
+/// Divides by zero in a hold.
+#[rattlefmt::skip]
+pub const FAULT_IN_A_HOLD: &[u8] = b"resource t = 1; process p begin hold 1 of t do print 1 div 0 od end";
+
+/// Holds in a branch that is never taken.
+#[rattlefmt::skip]
+pub const HOLD_NEVER_MADE: &[u8] = b"resource t = 5; process p begin if 0 then hold 3 of t do skip od fi end";
+
+/// Two arms hold of two resources.
+#[rattlefmt::skip]
+pub const TWO_RESOURCES: &[u8] = b"resource t = 5; resource u = 5; process p begin parbegin hold 2 of t do hold 1 of u do skip od od; hold 3 of u do skip od parend end";
+
+/// Takes each branch of a choice.
+#[rattlefmt::skip]
+pub const BRANCHES: &[u8] = b"process p begin integer i; while i < 2 do if i then print 8 else print 9 fi; i := i + 1 od end";
+
 /// The programs of `examples/`.
 pub const EXAMPLES: [&[u8]; 9] = [
     first::CLOCK,
@@ -37,8 +61,8 @@ pub const EXAMPLES: [&[u8]; 9] = [
 #[rattlefmt::skip]
 pub const PROGRAMS: [&[u8]; 28] = [
     SUM,
-    b"resource t = 4; process p begin hold 1 of t do parbegin hold 1 of t do skip od; hold 2 of t do skip od parend od end",
-    b"resource t = 9; process p begin integer x; hold 1 of t do skip od; if x then hold 2 of t do skip od else hold 3 of t do skip od fi end",
+    HOLDS_IN_ARMS,
+    HOLDS_IN_BRANCHES,
     b"resource tape = 1; resource disk = 1;
 process a begin hold 1 of tape do hold 1 of disk do skip od od end
 process b begin hold 1 of disk do hold 1 of tape do skip od od end",
@@ -46,7 +70,7 @@ process b begin hold 1 of disk do hold 1 of tape do skip od od end",
 process a begin hold 4 of t do hold 4 of t do skip od od end
 process b begin hold 2 of t do hold 1 of t do hold 3 of t do skip od od od end
 process c begin hold 1 of t do hold 3 of t do skip od od end",
-    b"resource t = 1; process p begin hold 1 of t do print 1 div 0 od end",
+    FAULT_IN_A_HOLD,
     b"process p begin print (-9223372036854775807 - 1) div -1 end",
     b"process p begin print (-9223372036854775807 - 1) mod -1 end",
     b"process p begin print -9223372036854775807 - 1 end",
@@ -58,9 +82,9 @@ process c begin hold 1 of t do hold 3 of t do skip od od end",
     b"process p begin integer i; while i < 3 do parbegin print i; print i + 10 parend; i := i + 1 od end",
     FAULT,
     b"process p begin integer x; x := 7; print x mod -2 end",
-    b"resource t = 5; process p begin if 0 then hold 3 of t do skip od fi end",
-    b"resource t = 5; resource u = 5; process p begin parbegin hold 2 of t do hold 1 of u do skip od od; hold 3 of u do skip od parend end",
-    b"process p begin integer i; while i < 2 do if i then print 8 else print 9 fi; i := i + 1 od end",
+    HOLD_NEVER_MADE,
+    TWO_RESOURCES,
+    BRANCHES,
     NESTED,
     b"resource tape = 1; resource disk = 1; process a begin hold 1 of tape, 1 of disk do skip od end process b begin hold 1 of disk, 1 of tape do skip od end",
     b"resource tape = 1; resource disk = 1;
@@ -147,7 +171,7 @@ pub fn idle(alloc: Global, count: usize) -> Result<Vec<u8>, NoMemory> {
 
 /// A parbegin of 16 arms, and a semicolon.
 #[rattlefmt::skip]
-const SIXTEEN_ARMS: &[u8] = b"parbegin skip;skip;skip;skip;skip;skip;skip;skip;skip;skip;skip;skip;skip;skip;skip;skip parend; ";
+pub const SIXTEEN_ARMS: &[u8] = b"parbegin skip;skip;skip;skip;skip;skip;skip;skip;skip;skip;skip;skip;skip;skip;skip;skip parend; ";
 
 /// Returns four parbegins: three of 16 arms, and the last of `last + 1` arms.
 pub fn arms(alloc: Global, last: usize) -> Result<Vec<u8>, NoMemory> {

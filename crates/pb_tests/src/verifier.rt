@@ -1,131 +1,287 @@
-//! Code built by hand and read from objects, and its verdict.
+//! Code of objects, and its verdict.
 
-ghost use Rattle.std.specs.Prelude.{◌≤◌};
-
-use pb_base::{Bundle, Capital, Claims, Names, NoMemory};
-use pb_code::{Code, Instr, ProcessCode};
-use pb_object::{read_any, write_object2};
+use crate::calls::{Call, Case, Given, first_wrong};
+use pb_base::Claims;
+use pb_code::{Code, Instr};
+use pb_command_io::Status;
+use pb_object::{read_any, read_object, write_object2};
 use pb_verifier::{Verified, VerifyFault, verify};
 use std::alloc::Global;
 
-/// Returns one name of two letters.
-fn one_name(alloc: Global, name: &[u8]) -> Option<Vec<Vec<u8>>> {
-    let name = Vec::from_slice(alloc, name).ok()?;
-    vec![in alloc; name].ok()
-}
-
-/// Returns the names of one process and one resource.
-fn names(alloc: Global) -> Option<Names> {
-    let processes = one_name(alloc, b"pa")?;
-    let resources = one_name(alloc, b"ra")?;
-    Some(Names {
-        processes,
-        resources,
-    })
-}
-
-/// Returns the code of a process that may name by bundle 0 one of a resource, and by bundle 1 two of it.
-fn process(alloc: Global, integers: u8, entries: &[u16], instrs: &[Instr]) -> Option<ProcessCode> {
-    let bundles = [Bundle::one(0, 1), Bundle::one(0, 2)];
-    let bundles = Vec::from_slice(alloc, &bundles).ok()?;
-    let entries = Vec::from_slice(alloc, entries).ok()?;
-    let instrs = Vec::from_slice(alloc, instrs).ok()?;
-    Some(ProcessCode {
-        integers,
-        entries,
-        bundles,
-        instrs,
-    })
-}
-
-/// Returns the code of one such process over one resource.
-fn one_process(
-    alloc: Global,
-    integers: u8,
-    entries: &[u16],
-    instrs: &[Instr],
-    capital: u32,
-    claim: u64,
-) -> Option<Code>
-    requires { capital ≤ 1000000 }
-{
-    let capital = Capital::new(alloc, &[capital]).ok()?;
-    let claims = Claims::new(alloc, &[&[claim]]).ok()?;
-    let names = names(alloc)?;
-    let process = process(alloc, integers, entries, instrs)?;
-    let processes = vec![in alloc; process].ok()?;
-    Some(Code {
-        names,
-        capital,
-        claims,
-        processes,
-    })
-}
-
-/// Returns the fault of such code, if it has one, and whether there is such code.
-fn fault_of(
-    alloc: Global,
-    integers: u8,
-    entries: &[u16],
-    instrs: &[Instr],
-    capital: u32,
-    claim: u64,
-) -> Option<Option<VerifyFault>>
-    requires { capital ≤ 1000000 }
-{
-    let code = one_process(alloc, integers, entries, instrs, capital, claim)?;
-    match verify(alloc, code) {
-        Ok(_) => Some(None),
-        Err((_, fault)) => Some(Some(fault)),
-    }
-}
-
-/// Takes one of the resource.
-const ONE: Instr = Instr::Take(0);
-
 /// An arm that holds, and two that hold in its hold.
-const FORKED: [Instr; 11] = [
-    Instr::Take(0),
-    Instr::Fork { first: 1, count: 2 },
-    Instr::Join { first: 1, count: 2 },
-    Instr::Give(0),
-    Instr::End,
-    Instr::Take(0),
-    Instr::Give(0),
-    Instr::End,
-    Instr::Take(1),
-    Instr::Give(1),
-    Instr::End,
-];
+const FORKED: &[u8] =
+    b"PBO 2\nresources 1\nresource ra 4\nprocesses 1\nprocess pa\nvars 0\narms 3\nclaims 4\narm 0\narm 5\narm 8\ncode 11\n0 take 0 1\n0 fork 1 2\n0 join 1 2\n0 give 0 1\n0 end\n0 take 0 1\n0 give 0 1\n0 end\n0 take 0 2\n0 give 0 2\n0 end\n";
 
 /// Counts to three.
-const COUNTING: [Instr; 10] = [
-    Instr::Load(0),
-    Instr::Push(3),
-    Instr::Lt,
-    Instr::JumpIfZero(9),
-    Instr::Load(0),
-    Instr::Push(1),
-    Instr::Add,
-    Instr::Store(0),
-    Instr::Jump(0),
-    Instr::End,
+const COUNTING: &[u8] =
+    b"PBO 2\nresources 1\nresource ra 4\nprocesses 1\nprocess pa\nvars 1 x\narms 1\nclaims 0\narm 0\ncode 10\n0 load 0\n0 push 3\n0 lt\n0 jzero 9\n0 load 0\n0 push 1\n0 add\n0 store 0\n0 jump 0\n0 end\n";
+
+/// Takes one and then two, and gives them back in the other order.
+const NESTED: &[u8] =
+    b"PBO 2\nresources 1\nresource ra 4\nprocesses 1\nprocess pa\nvars 0\narms 1\nclaims 3\narm 0\ncode 5\n0 take 0 1\n0 take 0 2\n0 give 0 2\n0 give 0 1\n0 end\n";
+
+const ACCEPTED: [Case; 3] = [
+    (Call::Migrate, Given::Text(FORKED), Status::Done, FORKED),
+    (Call::Migrate, Given::Text(COUNTING), Status::Done, COUNTING),
+    (Call::Migrate, Given::Text(NESTED), Status::Done, NESTED),
 ];
 
 #[test]
 fn code_that_is_accepted(rt: HostRuntime) {
-    assert!(rt; fault_of(rt.alloc(), 0, &[0, 5, 8], &FORKED, 4, 4) == Some(None));
-    assert!(rt; fault_of(rt.alloc(), 1, &[0], &COUNTING, 4, 0) == Some(None));
+    assert!(rt; first_wrong(&rt, &ACCEPTED) == None);
 }
 
-/// Prints a sum.
-const SUM: [Instr; 5] = [
-    Instr::Push(7),
-    Instr::Push(8),
-    Instr::Add,
-    Instr::Print,
-    Instr::End,
+/// The lines of an object of one resource before its capital.
+const RESOURCE: &[u8] = b"PBO 1\nresources 1\nresource r ";
+
+/// The lines between that capital and the arms of a process of one integer.
+const PROCESS: &[u8] = b"\nprocesses 1\nprocess p\nvars 1\n";
+
+/// Objects of one process: the capital, the lines that follow, and the fault.
+const REFUSED: [Case; 19] = [
+    (
+        Call::Migrate,
+        Given::Pieces(&[
+            (RESOURCE, 1),
+            (b"9", 1),
+            (PROCESS, 1),
+            (b"arms 1\nclaims 10\narm 0\ncode 1\nend\n", 1),
+        ]),
+        Status::Refused,
+        b"refused V8\n",
+    ),
+    (
+        Call::Migrate,
+        Given::Pieces(&[
+            (RESOURCE, 1),
+            (b"9", 1),
+            (PROCESS, 1),
+            (
+                b"arms 1\nclaims 9\narm 0\ncode 3\npush 1\nstore 1\nend\n",
+                1,
+            ),
+        ]),
+        Status::Refused,
+        b"refused V3\n",
+    ),
+    (
+        Call::Migrate,
+        Given::Pieces(&[
+            (RESOURCE, 1),
+            (b"9", 1),
+            (PROCESS, 1),
+            (b"arms 1\nclaims 9\narm 0\ncode 2\njump 2\nend\n", 1),
+        ]),
+        Status::Refused,
+        b"refused V1\n",
+    ),
+    (
+        Call::Migrate,
+        Given::Pieces(&[
+            (RESOURCE, 1),
+            (b"9", 1),
+            (PROCESS, 1),
+            (b"arms 2\nclaims 9\narm 0\narm 1\ncode 2\nend\nend\n", 1),
+        ]),
+        Status::Refused,
+        b"refused V6\n",
+    ),
+    (
+        Call::Migrate,
+        Given::Pieces(&[
+            (RESOURCE, 1),
+            (b"9", 1),
+            (PROCESS, 1),
+            (b"arms 1\nclaims 9\narm 0\ncode 3\npush 1\njump 0\nend\n", 1),
+        ]),
+        Status::Refused,
+        b"refused V2\n",
+    ),
+    (
+        Call::Migrate,
+        Given::Pieces(&[
+            (RESOURCE, 1),
+            (b"9", 1),
+            (PROCESS, 1),
+            (
+                b"arms 1\nclaims 9\narm 0\ncode 3\ntake 0 1\njump 0\nend\n",
+                1,
+            ),
+        ]),
+        Status::Refused,
+        b"refused V4\n",
+    ),
+    (
+        Call::Migrate,
+        Given::Pieces(&[
+            (RESOURCE, 1),
+            (b"3", 1),
+            (PROCESS, 1),
+            (
+                b"arms 1\nclaims 3\narm 0\ncode 5\ntake 0 1\ntake 0 2\ngive 0 1\ngive 0 2\nend\n",
+                1,
+            ),
+        ]),
+        Status::Refused,
+        b"refused V4\n",
+    ),
+    (
+        Call::Migrate,
+        Given::Pieces(&[
+            (RESOURCE, 1),
+            (b"9", 1),
+            (PROCESS, 1),
+            (b"arms 1\nclaims 9\narm 0\ncode 2\ntake 0 1\nend\n", 1),
+        ]),
+        Status::Refused,
+        b"refused V5\n",
+    ),
+    (
+        Call::Migrate,
+        Given::Pieces(&[
+            (RESOURCE, 1),
+            (b"9", 1),
+            (PROCESS, 1),
+            (b"arms 1\nclaims 9\narm 0\ncode 2\npush 1\nend\n", 1),
+        ]),
+        Status::Refused,
+        b"refused V5\n",
+    ),
+    (
+        Call::Migrate,
+        Given::Pieces(&[
+            (RESOURCE, 1),
+            (b"3", 1),
+            (PROCESS, 1),
+            (
+                b"arms 1\nclaims 2\narm 0\ncode 5\ntake 0 1\ntake 0 2\ngive 0 2\ngive 0 1\nend\n",
+                1,
+            ),
+        ]),
+        Status::Refused,
+        b"refused V7\n",
+    ),
+    (
+        Call::Migrate,
+        Given::Pieces(&[
+            (RESOURCE, 1),
+            (b"4", 1),
+            (PROCESS, 1),
+            (b"arms 1\nclaims 5\narm 0\ncode 1\nend\n", 1),
+        ]),
+        Status::Refused,
+        b"refused V8\n",
+    ),
+    (
+        Call::Migrate,
+        Given::Pieces(&[
+            (RESOURCE, 1),
+            (b"4", 1),
+            (PROCESS, 1),
+            (
+                b"arms 1\nclaims 0\narm 0\ncode 3\npush 1\nstore 1\nend\n",
+                1,
+            ),
+        ]),
+        Status::Refused,
+        b"refused V3\n",
+    ),
+    (
+        Call::Migrate,
+        Given::Pieces(&[
+            (RESOURCE, 1),
+            (b"4", 1),
+            (PROCESS, 1),
+            (b"arms 1\nclaims 0\narm 0\ncode 2\njump 2\nend\n", 1),
+        ]),
+        Status::Refused,
+        b"refused V1\n",
+    ),
+    (
+        Call::Migrate,
+        Given::Pieces(&[
+            (RESOURCE, 1),
+            (b"4", 1),
+            (PROCESS, 1),
+            (b"arms 1\nclaims 0\narm 0\ncode 3\npush 1\njump 0\nend\n", 1),
+        ]),
+        Status::Refused,
+        b"refused V2\n",
+    ),
+    (
+        Call::Migrate,
+        Given::Pieces(&[
+            (RESOURCE, 1),
+            (b"4", 1),
+            (PROCESS, 1),
+            (
+                b"arms 1\nclaims 4\narm 0\ncode 3\ntake 0 1\njump 0\nend\n",
+                1,
+            ),
+        ]),
+        Status::Refused,
+        b"refused V4\n",
+    ),
+    (
+        Call::Migrate,
+        Given::Pieces(&[
+            (RESOURCE, 1),
+            (b"4", 1),
+            (PROCESS, 1),
+            (
+                b"arms 1\nclaims 3\narm 0\ncode 5\ntake 0 1\ntake 0 2\ngive 0 1\ngive 0 2\nend\n",
+                1,
+            ),
+        ]),
+        Status::Refused,
+        b"refused V4\n",
+    ),
+    (
+        Call::Migrate,
+        Given::Pieces(&[
+            (RESOURCE, 1),
+            (b"4", 1),
+            (PROCESS, 1),
+            (b"arms 1\nclaims 4\narm 0\ncode 2\ntake 0 1\nend\n", 1),
+        ]),
+        Status::Refused,
+        b"refused V5\n",
+    ),
+    (
+        Call::Migrate,
+        Given::Pieces(&[
+            (RESOURCE, 1),
+            (b"4", 1),
+            (PROCESS, 1),
+            (
+                b"arms 1\nclaims 2\narm 0\ncode 5\ntake 0 1\ntake 0 2\ngive 0 2\ngive 0 1\nend\n",
+                1,
+            ),
+        ]),
+        Status::Refused,
+        b"refused V7\n",
+    ),
+    (
+        Call::Migrate,
+        Given::Pieces(&[
+            (RESOURCE, 1),
+            (b"4", 1),
+            (PROCESS, 1),
+            (b"arms 2\nclaims 0\narm 0\narm 1\ncode 2\nend\nend\n", 1),
+        ]),
+        Status::Refused,
+        b"refused V6\n",
+    ),
 ];
+
+#[test]
+fn each_fault_of_an_object(rt: HostRuntime) {
+    assert!(rt; first_wrong(&rt, &REFUSED) == None);
+}
+
+/// An object of one process that prints a sum.
+const SUM: &[u8] =
+    b"PBO 1\nresources 1\nresource ra 4\nprocesses 1\nprocess pa\nvars 0\narms 1\nclaims 0\narm 0\ncode 5\npush 7\npush 8\nadd\nprint\nend\n";
 
 /// Returns whether verified code has one process with its name, and one arm that puts at most two operands.
 fn is_verified_sum(verified: &Verified) -> bool {
@@ -135,20 +291,26 @@ fn is_verified_sum(verified: &Verified) -> bool {
         && verified.depth(0, 0) == 2
 }
 
-#[test]
-fn the_verified_code_and_its_depths(rt: HostRuntime) {
-    let Some(code) = one_process(rt.alloc(), 0, &[0], &SUM, 4, 0) else {
-        panic!(rt; "out of memory")
-    };
-    match verify(rt.alloc(), code) {
-        Ok(verified) => assert!(rt; is_verified_sum(&verified)),
-        Err(_) => panic!(rt; "refused"),
+/// Returns whether the code of `SUM` is verified as that sum.
+fn sum_is_verified(alloc: Global) -> Option<bool> {
+    match verify(alloc, read_object(alloc, SUM).ok()?) {
+        Ok(verified) => Some(is_verified_sum(&verified)),
+        Err(_) => None,
     }
 }
 
-/// Returns the fault of code that is refused, and the number of processes in what is handed back.
-fn refusal(alloc: Global, code: Code) -> Option<(VerifyFault, usize)> {
-    match verify(alloc, code) {
+#[test]
+fn the_verified_code_and_its_depths(rt: HostRuntime) {
+    assert!(rt; sum_is_verified(rt.alloc()) == Some(true));
+}
+
+/// An object of one process that jumps out of its code.
+const JUMPS_OUT: &[u8] =
+    b"PBO 1\nresources 1\nresource ra 4\nprocesses 1\nprocess pa\nvars 0\narms 1\nclaims 0\narm 0\ncode 2\njump 2\nend\n";
+
+/// Returns the fault of the code of `JUMPS_OUT`, and the number of processes in what is handed back.
+fn refusal(alloc: Global) -> Option<(VerifyFault, usize)> {
+    match verify(alloc, read_object(alloc, JUMPS_OUT).ok()?) {
         Ok(_) => None,
         Err((code, fault)) => Some((fault, code.processes.len())),
     }
@@ -156,84 +318,60 @@ fn refusal(alloc: Global, code: Code) -> Option<(VerifyFault, usize)> {
 
 #[test]
 fn the_code_is_handed_back(rt: HostRuntime) {
-    let Some(code) = one_process(rt.alloc(), 0, &[0], &[Instr::Jump(2), Instr::End], 4, 0) else {
-        panic!(rt; "out of memory")
-    };
-    assert!(rt; refusal(rt.alloc(), code) == Some((VerifyFault::WrongArms, 1)));
+    assert!(rt; refusal(rt.alloc()) == Some((VerifyFault::WrongArms, 1)));
 }
 
-/// Takes one and then two, and gives them back in the other order.
-const NESTED: [Instr; 5] = [
-    ONE,
-    Instr::Take(1),
-    Instr::Give(1),
-    Instr::Give(0),
-    Instr::End,
-];
+/// An object of one process that takes one of 256, by its only bundle.
+const TAKING: &[u8] =
+    b"PBO 1\nresources 1\nresource ra 256\nprocesses 1\nprocess pa\nvars 0\narms 1\nclaims 0\narm 0\ncode 3\ntake 0 1\ngive 0 1\nend\n";
 
-/// Takes one and then two, and gives them back in the same order.
-const CROSSED: [Instr; 5] = [
-    ONE,
-    Instr::Take(1),
-    Instr::Give(0),
-    Instr::Give(1),
-    Instr::End,
-];
+/// Takes one of the resource.
+const ONE: Instr = Instr::Take(0);
 
-/// Processes of one arm: the number of integers, the instructions, the claim on the 4 that there are, and the
-/// fault.
-const CASES: [(u8, &[Instr], u64, Option<VerifyFault>); 12] = [
-    (65, &[Instr::End], 0, Some(VerifyFault::OutOfLimits)),
-    (0, &[Instr::End], 1_000_001, Some(VerifyFault::OutOfLimits)),
-    (
-        0,
-        &[Instr::Take(2), Instr::Give(2), Instr::End],
-        4,
-        Some(VerifyFault::OutOfLimits),
-    ),
-    (0, &[Instr::End], 5, Some(VerifyFault::OverCapital)),
-    (
-        1,
-        &[Instr::Push(1), Instr::Store(1), Instr::End],
-        0,
-        Some(VerifyFault::OutOfRange),
-    ),
-    (
-        0,
-        &[Instr::Jump(2), Instr::End],
-        0,
-        Some(VerifyFault::WrongArms),
-    ),
-    (
-        0,
-        &[Instr::Push(1), Instr::Jump(0), Instr::End],
-        0,
-        Some(VerifyFault::NoDepths),
-    ),
-    (
-        0,
-        &[ONE, Instr::Jump(0), Instr::End],
-        4,
-        Some(VerifyFault::NoHoldings),
-    ),
-    (0, &CROSSED, 3, Some(VerifyFault::NoHoldings)),
-    (0, &[ONE, Instr::End], 4, Some(VerifyFault::LeftAtEnd)),
-    (0, &NESTED, 3, None),
-    (0, &NESTED, 2, Some(VerifyFault::OverClaim)),
-];
+/// Gives the first process of a code this number of integers, these instructions and this claim.
+fn change(
+    alloc: Global,
+    code: &mut Code,
+    integers: u8,
+    instrs: &[Instr],
+    claim: u64,
+) -> Option<()> {
+    code.claims = Claims::new(alloc, &[&[claim]]).ok()?;
+    let process = code.processes.get_mut(0)?;
+    process.integers = integers;
+    process.instrs = Vec::from_slice(alloc, instrs).ok()?;
+    Some(())
+}
 
-#[test]
-fn each_fault(rt: HostRuntime) {
-    for (integers, instrs, claim, fault) in &CASES {
-        assert!(rt; fault_of(rt.alloc(), *integers, &[0], *instrs, 4, *claim) == Some(*fault));
+/// Returns the fault of the code of `TAKING` that is changed so, if it has one, and whether there is such
+/// code.
+fn fault_of(
+    alloc: Global,
+    integers: u8,
+    instrs: &[Instr],
+    claim: u64,
+) -> Option<Option<VerifyFault>> {
+    let mut code = read_object(alloc, TAKING).ok()?;
+    change(alloc, &mut code, integers, instrs, claim)?;
+    match verify(alloc, code) {
+        Ok(_) => Some(None),
+        Err((_, fault)) => Some(Some(fault)),
     }
 }
 
+/// Code that no object says, beyond the limits: the number of integers, the instructions and the claim.
+const BEYOND: [(u8, &[Instr], u64); 3] = [
+    (65, &[Instr::End], 0),
+    (0, &[Instr::End], 1_000_001),
+    (0, &[Instr::Take(2), Instr::Give(2), Instr::End], 4),
+];
+
 #[test]
-fn an_arm_that_no_fork_names(rt: HostRuntime) {
-    let unnamed = [Instr::End, Instr::End];
-    let fault = fault_of(rt.alloc(), 0, &[0, 1], &unnamed, 4, 0);
-    assert!(rt; fault == Some(Some(VerifyFault::WrongForks)));
+fn code_beyond_the_limits(rt: HostRuntime) {
+    for (integers, instrs, claim) in &BEYOND {
+        let fault = fault_of(rt.alloc(), *integers, *instrs, *claim);
+        assert!(rt; fault == Some(Some(VerifyFault::OutOfLimits)));
+    }
 }
 
 /// Adds instructions again and again.
@@ -289,97 +427,17 @@ fn comparing(alloc: Global) -> Option<Vec<Instr>> {
     Some(code)
 }
 
+/// Returns whether that code is accepted with a claim of 256, and refused with one of 255.
+fn needs_256(alloc: Global) -> Option<bool> {
+    let code = comparing(alloc)?;
+    let accepted = fault_of(alloc, 0, &code, 256)?;
+    let refused = fault_of(alloc, 0, &code, 255)?;
+    Some(accepted == None && refused == Some(VerifyFault::OverClaim))
+}
+
 #[test]
 fn many_comparisons(rt: HostRuntime) {
-    let Some(code) = comparing(rt.alloc()) else {
-        panic!(rt; "out of memory")
-    };
-    let accepted = fault_of(rt.alloc(), 0, &[0], &code, 256, 256);
-    assert!(rt; accepted == Some(None));
-    let refused = fault_of(rt.alloc(), 0, &[0], &code, 256, 255);
-    assert!(rt; refused == Some(Some(VerifyFault::OverClaim)));
-}
-
-// ---- texts of objects
-
-/// Returns the text of an object of one process, which has one integer, over one resource.
-fn object(alloc: Global, capital: &[u8], rest: &[u8]) -> Result<Vec<u8>, NoMemory> {
-    let mut text = Vec::from_slice(alloc, b"PBO 1\nresources 1\nresource r ")?;
-    text.extend_from_slice(capital)?;
-    text.extend_from_slice(b"\nprocesses 1\nprocess p\nvars 1\n")?;
-    text.extend_from_slice(rest)?;
-    Ok(text)
-}
-
-/// Returns the fault of the code of such an object, if it is read and refused.
-fn fault_in(alloc: Global, capital: &[u8], rest: &[u8]) -> Option<VerifyFault> {
-    let text = object(alloc, capital, rest).ok()?;
-    let (code, _) = read_any(alloc, &text).ok()?;
-    match verify(alloc, code) {
-        Ok(_) => None,
-        Err((_, fault)) => Some(fault),
-    }
-}
-
-/// The capital of such an object, the lines that follow, and its fault.
-const OBJECTS: [(&[u8], &[u8], VerifyFault); 10] = [
-    (
-        b"9",
-        b"arms 1\nclaims 10\narm 0\ncode 1\nend\n",
-        VerifyFault::OverCapital,
-    ),
-    (
-        b"9",
-        b"arms 1\nclaims 9\narm 0\ncode 3\npush 1\nstore 1\nend\n",
-        VerifyFault::OutOfRange,
-    ),
-    (
-        b"9",
-        b"arms 1\nclaims 9\narm 0\ncode 2\njump 2\nend\n",
-        VerifyFault::WrongArms,
-    ),
-    (
-        b"9",
-        b"arms 2\nclaims 9\narm 0\narm 1\ncode 2\nend\nend\n",
-        VerifyFault::WrongForks,
-    ),
-    (
-        b"9",
-        b"arms 1\nclaims 9\narm 0\ncode 3\npush 1\njump 0\nend\n",
-        VerifyFault::NoDepths,
-    ),
-    (
-        b"9",
-        b"arms 1\nclaims 9\narm 0\ncode 3\ntake 0 1\njump 0\nend\n",
-        VerifyFault::NoHoldings,
-    ),
-    (
-        b"3",
-        b"arms 1\nclaims 3\narm 0\ncode 5\ntake 0 1\ntake 0 2\ngive 0 1\ngive 0 2\nend\n",
-        VerifyFault::NoHoldings,
-    ),
-    (
-        b"9",
-        b"arms 1\nclaims 9\narm 0\ncode 2\ntake 0 1\nend\n",
-        VerifyFault::LeftAtEnd,
-    ),
-    (
-        b"9",
-        b"arms 1\nclaims 9\narm 0\ncode 2\npush 1\nend\n",
-        VerifyFault::LeftAtEnd,
-    ),
-    (
-        b"3",
-        b"arms 1\nclaims 2\narm 0\ncode 5\ntake 0 1\ntake 0 2\ngive 0 2\ngive 0 1\nend\n",
-        VerifyFault::OverClaim,
-    ),
-];
-
-#[test]
-fn each_fault_of_a_text(rt: HostRuntime) {
-    for (capital, rest, fault) in &OBJECTS {
-        assert!(rt; fault_in(rt.alloc(), *capital, *rest) == Some(*fault));
-    }
+    assert!(rt; needs_256(rt.alloc()) == Some(true));
 }
 
 /// A loop with a hold and a test.

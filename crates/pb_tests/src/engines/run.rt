@@ -1,16 +1,16 @@
 //! Texts that are run, and what is written of them.
 
-use crate::texts::{EXAMPLES, FAULT, INCREMENTS, PROGRAMS, repeated};
-use pb_base::device::{MemoryInput, MemoryOutput};
+use crate::calls::{Call, Case, Given, MILLION, THOUSAND, first_wrong};
+use crate::texts::{BRANCHES, FAULT, FAULT_IN_A_HOLD, INCREMENTS};
 use pb_command_io::Status;
-use pb_engines::{RunOptions, run_engine};
-use pb_example_texts::first::HELLO;
-use std::sync::Wait;
-use std::thread::Threads;
+use pb_engines::RunOptions;
+use pb_example_texts::first;
 
-/// What is written of each of the programs of `examples/`, in their order.
-const EVENTS: [(Status, &[u8]); 9] = [
+/// The programs of `examples/`, in their order.
+const EXAMPLES: [Case; 9] = [
     (
+        Call::Run(MILLION),
+        Given::Text(first::CLOCK),
         Status::Done,
         b"clock.0 print 27
 clock.0 print 26
@@ -20,6 +20,8 @@ done
 ",
     ),
     (
+        Call::Run(MILLION),
+        Given::Text(first::CUSTOMERS),
         Status::Done,
         b"a.0 grant 4 florin
 b.0 grant 2 florin
@@ -42,6 +44,8 @@ done
 ",
     ),
     (
+        Call::Run(MILLION),
+        Given::Text(first::DEVICES),
         Status::Done,
         b"a.0 grant 1 tape
 a.0 grant 1 disk
@@ -59,6 +63,8 @@ done
 ",
     ),
     (
+        Call::Run(MILLION),
+        Given::Text(first::EDGES),
         Status::Fault,
         b"edges.0 print -9223372036854775808
 edges.0 print 0
@@ -70,6 +76,8 @@ done
 ",
     ),
     (
+        Call::Run(MILLION),
+        Given::Text(first::HELLO),
         Status::Done,
         b"p.0 print 1
 p end
@@ -77,6 +85,8 @@ done
 ",
     ),
     (
+        Call::Run(MILLION),
+        Given::Text(first::LOST),
         Status::Done,
         b"p.0 print 2
 p end
@@ -84,6 +94,8 @@ done
 ",
     ),
     (
+        Call::Run(MILLION),
+        Given::Text(first::PHILOSOPHERS),
         Status::Done,
         b"hypatia.0 grant 1 north
 plato.0 grant 1 east
@@ -122,6 +134,8 @@ done
 ",
     ),
     (
+        Call::Run(MILLION),
+        Given::Text(first::ROUNDS),
         Status::Done,
         b"p.1 print 0
 p.2 print 10
@@ -134,6 +148,8 @@ done
 ",
     ),
     (
+        Call::Run(MILLION),
+        Given::Text(first::TOGETHER),
         Status::Done,
         b"a.0 grant 1 tape 1 disk
 a.0 print 1
@@ -148,37 +164,9 @@ done
     ),
 ];
 
-/// Returns whether this status and these lines are what `run` writes of a text.
-fn answers(
-    rt: &(impl AllocGlobal + Threads + Wait + Sync),
-    options: RunOptions,
-    text: &[u8],
-    status: Status,
-    said: &[u8],
-) -> bool {
-    let mut input = MemoryInput::new(text);
-    match MemoryOutput::new(rt.alloc(), 2_048) {
-        Ok(output) => {
-            let mut output = output;
-            let answered = run_engine(rt, rt.alloc(), options, &mut input, &mut output);
-            answered == status && output.as_slice() == said
-        }
-        Err(_) => false,
-    }
-}
-
-/// One worker and at most a million picks.
-const MILLION: RunOptions = RunOptions {
-    workers: 1,
-    quantum: 64,
-    steps: 1_000_000,
-};
-
 #[test]
 fn runs_the_examples(rt: HostRuntime) {
-    for (text, (status, said)) in EXAMPLES.iter().zip(EVENTS.iter()) {
-        assert!(rt; answers(&rt, MILLION, text, *status, said));
-    }
+    assert!(rt; first_wrong(&rt, &EXAMPLES) == None);
 }
 
 const THREE: RunOptions = RunOptions {
@@ -199,19 +187,31 @@ const NONE: RunOptions = RunOptions {
     steps: 0,
 };
 
+const STEPS: [Case; 3] = [
+    (
+        Call::Run(THREE),
+        Given::Text(first::HELLO),
+        Status::Done,
+        b"p.0 print 1\np end\ndone\n",
+    ),
+    (
+        Call::Run(TWO),
+        Given::Text(first::HELLO),
+        Status::Limit,
+        b"p.0 print 1\nlimit 2\n",
+    ),
+    (
+        Call::Run(NONE),
+        Given::Text(first::HELLO),
+        Status::Limit,
+        b"limit 0\n",
+    ),
+];
+
 #[test]
 fn stops_after_its_steps(rt: HostRuntime) {
-    let done = b"p.0 print 1\np end\ndone\n";
-    assert!(rt; answers(&rt, THREE, HELLO, Status::Done, done));
-    assert!(rt; answers(&rt, TWO, HELLO, Status::Limit, b"p.0 print 1\nlimit 2\n"));
-    assert!(rt; answers(&rt, NONE, HELLO, Status::Limit, b"limit 0\n"));
+    assert!(rt; first_wrong(&rt, &STEPS) == None);
 }
-
-const THOUSAND: RunOptions = RunOptions {
-    workers: 1,
-    quantum: 64,
-    steps: 1_000,
-};
 
 const ONE_BY_ONE: RunOptions = RunOptions {
     workers: 1,
@@ -219,53 +219,98 @@ const ONE_BY_ONE: RunOptions = RunOptions {
     steps: 1_000,
 };
 
-#[test]
-fn a_quantum_of_one_loses_an_update(rt: HostRuntime) {
-    let kept = b"p.0 print 2\np end\ndone\n";
-    assert!(rt; answers(&rt, THOUSAND, INCREMENTS, Status::Done, kept));
-    let lost = b"p.0 print 1\np end\ndone\n";
-    assert!(rt; answers(&rt, ONE_BY_ONE, INCREMENTS, Status::Done, lost));
-}
-
-#[test]
-fn tells_branches_and_faults(rt: HostRuntime) {
-    let branches = b"p.0 print 9\np.0 print 8\np end\ndone\n";
-    assert!(rt; answers(&rt, THOUSAND, PROGRAMS[19], Status::Done, branches));
-    let divided = b"p.0 grant 1 t\np.0 fault divide\ndone\n";
-    assert!(rt; answers(&rt, THOUSAND, PROGRAMS[5], Status::Fault, divided));
-    let in_an_arm = b"p.1 grant 1 t\np.2 fault divide\ndone\n";
-    assert!(rt; answers(&rt, THOUSAND, FAULT, Status::Fault, in_an_arm));
-}
-
-/// Texts that are refused, and what is said of them.
-const REFUSED: [(&[u8], &[u8]); 5] = [
-    (b"", b"refused P1 at 0\n"),
-    (b"// only a comment", b"refused P1 at 0\n"),
-    (b"process p begin print 1 % 2 end", b"refused L2 at 24\n"),
-    (b"process p begin x := 1 end", b"refused N3 at 16\n"),
+/// A quantum of one loses an update, and one of 64 keeps it; branches are taken and faults told.
+const EVENTS: [Case; 5] = [
     (
-        b"resource t = 3; process p begin hold 4 of t do skip od end",
-        b"refused C1 p t claim 4 capital 3\n",
+        Call::Run(THOUSAND),
+        Given::Text(INCREMENTS),
+        Status::Done,
+        b"p.0 print 2\np end\ndone\n",
+    ),
+    (
+        Call::Run(ONE_BY_ONE),
+        Given::Text(INCREMENTS),
+        Status::Done,
+        b"p.0 print 1\np end\ndone\n",
+    ),
+    (
+        Call::Run(THOUSAND),
+        Given::Text(BRANCHES),
+        Status::Done,
+        b"p.0 print 9\np.0 print 8\np end\ndone\n",
+    ),
+    (
+        Call::Run(THOUSAND),
+        Given::Text(FAULT_IN_A_HOLD),
+        Status::Fault,
+        b"p.0 grant 1 t\np.0 fault divide\ndone\n",
+    ),
+    (
+        Call::Run(THOUSAND),
+        Given::Text(FAULT),
+        Status::Fault,
+        b"p.1 grant 1 t\np.2 fault divide\ndone\n",
     ),
 ];
 
-const SEVENTEEN: RunOptions = RunOptions {
+#[test]
+fn a_quantum_loses_an_update_and_faults_are_told(rt: HostRuntime) {
+    assert!(rt; first_wrong(&rt, &EVENTS) == None);
+}
+
+const SEVENTEEN: Call = Call::Run(RunOptions {
     workers: 1,
     quantum: 64,
     steps: 17,
-};
+});
+
+const REFUSED: [Case; 6] = [
+    (
+        SEVENTEEN,
+        Given::Text(b""),
+        Status::Refused,
+        b"refused P1 at 0\n",
+    ),
+    (
+        SEVENTEEN,
+        Given::Text(b"// only a comment"),
+        Status::Refused,
+        b"refused P1 at 0\n",
+    ),
+    (
+        SEVENTEEN,
+        Given::Text(b"process p begin print 1 % 2 end"),
+        Status::Refused,
+        b"refused L2 at 24\n",
+    ),
+    (
+        SEVENTEEN,
+        Given::Text(b"process p begin x := 1 end"),
+        Status::Refused,
+        b"refused N3 at 16\n",
+    ),
+    (
+        SEVENTEEN,
+        Given::Text(b"resource t = 3; process p begin hold 4 of t do skip od end"),
+        Status::Refused,
+        b"refused C1 p t claim 4 capital 3\n",
+    ),
+    // One byte more than an input may have.
+    (
+        SEVENTEEN,
+        Given::Pieces(&[
+            (
+                b"                                                                ",
+                65_536,
+            ),
+            (b" ", 1),
+        ]),
+        Status::Refused,
+        b"refused input\n",
+    ),
+];
 
 #[test]
-fn refuses_texts(rt: HostRuntime) {
-    for (text, line) in &REFUSED {
-        assert!(rt; answers(&rt, SEVENTEEN, *text, Status::Refused, *line));
-    }
-}
-
-#[test]
-fn refuses_a_long_input(rt: HostRuntime) {
-    let Ok(text) = repeated(rt.alloc(), b"", b" ", 4_194_305, b"") else {
-        panic!(rt; "out of memory")
-    };
-    assert!(rt; answers(&rt, SEVENTEEN, &text, Status::Refused, b"refused input\n"));
+fn refuses_texts_and_a_long_input(rt: HostRuntime) {
+    assert!(rt; first_wrong(&rt, &REFUSED) == None);
 }

@@ -1,0 +1,135 @@
+//! Calls of the engines, and what each writes.
+
+use pb_base::device::{Input, MemoryInput, MemoryOutput, Output};
+use pb_command_io::Status;
+use pb_engines::{CheckOptions, EmitOptions, RecordOptions, RunOptions, check_engine, claims_engine, emit_engine, exec_engine, migrate_engine, record_engine, replay_engine, run_engine};
+use pb_object::Format;
+use std::alloc::Global;
+use std::sync::Wait;
+use std::thread::Threads;
+
+/// A command with its options.
+#[derive(Clone, Copy)]
+pub enum Call {
+    Check(CheckOptions),
+    Claims,
+    Emit(Format),
+    Exec(RunOptions),
+    Migrate,
+    /// With a seed, if the picks are drawn.
+    Record(RunOptions, Option<u64>),
+    Replay,
+    Run(RunOptions),
+}
+
+/// `check` with trees in the memory of the machine.
+pub const CHECK: Call = Call::Check(CheckOptions { heap: None });
+
+/// By one worker, at most a million picks.
+pub const MILLION: RunOptions = RunOptions {
+    workers: 1,
+    quantum: 64,
+    steps: 1_000_000,
+};
+
+/// By one worker, at most a thousand picks.
+pub const THOUSAND: RunOptions = RunOptions {
+    workers: 1,
+    quantum: 64,
+    steps: 1_000,
+};
+
+/// A text that is put together from pieces, each with the number of times that it is there.
+pub type Pieces = &'static [(&'static [u8], usize)];
+
+/// What a call is given.
+#[derive(Clone, Copy)]
+pub enum Given {
+    Text(&'static [u8]),
+    Pieces(Pieces),
+}
+
+/// A call, what it is given, and its status and what it writes then.
+pub type Case = (Call, Given, Status, &'static [u8]);
+
+/// Makes a call, and returns its status.
+pub fn make<I: Input, O: Output>(
+    rt: &(impl AllocGlobal + Threads + Wait + Sync),
+    call: Call,
+    input: &mut I,
+    output: &mut O,
+) -> Status {
+    let alloc = rt.alloc();
+    match call {
+        Call::Check(options) => check_engine(alloc, options, input, output),
+        Call::Claims => claims_engine(alloc, input, output),
+        Call::Emit(object) => emit_engine(alloc, EmitOptions { object }, input, output),
+        Call::Exec(options) => exec_engine(rt, alloc, options, input, output),
+        Call::Migrate => migrate_engine(alloc, input, output),
+        Call::Record(run, seed) => {
+            record_engine(rt, alloc, RecordOptions { run, seed }, input, output)
+        }
+        Call::Replay => replay_engine(alloc, input, output),
+        Call::Run(options) => run_engine(rt, alloc, options, input, output),
+    }
+}
+
+/// Returns whether a call with this text ends with this status and has written this.
+pub fn answers(
+    rt: &(impl AllocGlobal + Threads + Wait + Sync),
+    call: Call,
+    text: &[u8],
+    status: Status,
+    said: &[u8],
+) -> bool {
+    let mut input = MemoryInput::new(text);
+    match MemoryOutput::new(rt.alloc(), 4_096) {
+        Ok(output) => {
+            let mut output = output;
+            make(rt, call, &mut input, &mut output) == status && output.as_slice() == said
+        }
+        Err(_) => false,
+    }
+}
+
+/// Adds a piece again and again.
+fn add(text: &mut Vec<u8>, piece: &[u8], times: usize) -> Option<()> {
+    for _ in 0..times {
+        text.extend_from_slice(piece).ok()?;
+    }
+    Some(())
+}
+
+/// Returns the text of these pieces.
+pub fn put_together(alloc: Global, pieces: Pieces) -> Option<Vec<u8>> {
+    let mut text = Vec::new(alloc);
+    for (piece, times) in pieces {
+        add(&mut text, *piece, *times)?;
+    }
+    Some(text)
+}
+
+/// Returns whether a case is as it says.
+fn is_so(rt: &(impl AllocGlobal + Threads + Wait + Sync), case: &Case) -> bool {
+    let (call, given, status, said) = *case;
+    match given {
+        Given::Text(text) => answers(rt, call, text, status, said),
+        Given::Pieces(pieces) => match put_together(rt.alloc(), pieces) {
+            Some(text) => answers(rt, call, text.as_slice(), status, said),
+            None => false,
+        },
+    }
+}
+
+/// Returns the number of the first case that is not as it says, from 0, if there is one.
+pub fn first_wrong(
+    rt: &(impl AllocGlobal + Threads + Wait + Sync),
+    cases: &[Case],
+) -> Option<usize> {
+    for (number, case) in cases.iter().enumerate() {
+        if !is_so(rt, case) {
+            return Some(number);
+        }
+    }
+    None
+}
