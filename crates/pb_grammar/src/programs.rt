@@ -135,4 +135,3 @@ pub fn read<B: Builder>(build: B, tokens: &[Token<'_>]) -> Result<B::Program, Pa
     };
     parser.program(DEPTH)
 }
-

@@ -2,7 +2,10 @@
 
 use pb_base::device::{Input, MemoryInput, MemoryOutput, Output};
 use pb_command_io::Status;
-use pb_engines::{CheckOptions, EmitOptions, RecordOptions, RunOptions, check_engine, claims_engine, emit_engine, exec_engine, migrate_engine, record_engine, replay_engine, run_engine};
+use pb_engines::{
+    CheckOptions, EmitOptions, RecordOptions, RunOptions, check_engine, claims_engine, emit_engine,
+    exec_engine, migrate_engine, record_engine, replay_engine, run_engine,
+};
 use pb_object::Format;
 use std::alloc::Global;
 use std::sync::Wait;
