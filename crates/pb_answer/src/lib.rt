@@ -2,6 +2,4 @@
 //! their command.
 #![tactic(auto)]
 
-mod answer;
-
-pub use answer::answer;
+pub mod answer;

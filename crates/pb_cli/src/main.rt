@@ -4,7 +4,7 @@
 mod explain_refusal;
 
 use crate::explain_refusal::explain_refusal;
-use pb_answer::answer;
+use pb_answer::answer::answer;
 use pb_base::device::{StandardInput, StandardOutput};
 use pb_command_io::{Page, Status};
 use pb_messages::{KeptInput, StandardError};
