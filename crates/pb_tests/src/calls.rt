@@ -78,7 +78,7 @@ pub fn make<I: Input, O: Output>(
 }
 
 /// Returns whether a call with this text ends with this status and has written this.
-pub fn answers(
+pub fn writes(
     rt: &(impl AllocGlobal + Threads + Wait + Sync),
     call: Call,
     text: &[u8],
@@ -116,9 +116,9 @@ pub fn put_together(alloc: Global, pieces: Pieces) -> Option<Vec<u8>> {
 fn is_so(rt: &(impl AllocGlobal + Threads + Wait + Sync), case: &Case) -> bool {
     let (call, given, status, said) = *case;
     match given {
-        Given::Text(text) => answers(rt, call, text, status, said),
+        Given::Text(text) => writes(rt, call, text, status, said),
         Given::Pieces(pieces) => match put_together(rt.alloc(), pieces) {
-            Some(text) => answers(rt, call, text.as_slice(), status, said),
+            Some(text) => writes(rt, call, text.as_slice(), status, said),
             None => false,
         },
     }

@@ -58,7 +58,8 @@ fn goes_on(
     }
 }
 
-/// Returns whether these picks show this if they are made again and again, each if it is enabled.
+/// Returns whether a list of picks, made this many times from its start, has these events. A pick that is not
+/// enabled is passed over.
 fn shows(
     verified: &Verified,
     machine: &mut Machine,
@@ -89,8 +90,8 @@ fn loan(machine: &Machine, p: usize, r: usize) -> Option<u32> {
     Some(banker.loan(p, r))
 }
 
-/// Returns whether an arm takes steps, and at which place, if it is there.
-fn stands(machine: &Machine, p: usize, arm: usize) -> Option<(ThreadState, Option<u16>)> {
+/// Returns the state of an arm and its place, if there is such an arm.
+fn arm_state(machine: &Machine, p: usize, arm: usize) -> Option<(ThreadState, Option<u16>)> {
     if p >= machine.processes() {
         return None;
     }
@@ -105,12 +106,13 @@ fn stands(machine: &Machine, p: usize, arm: usize) -> Option<(ThreadState, Optio
 /// What is done with a machine, or found in it.
 #[derive(Clone, Copy)]
 enum Act {
-    /// These picks, made so many times, show this, each if it is enabled.
+    /// The picks of a list, made one after the other and the list this many times, have these events; one that
+    /// is not enabled is passed over.
     Picks(u8, &'static [Pick], &'static [Seen]),
     /// A process holds this amount of a resource.
     Holds(usize, usize, u32),
-    /// An arm of a process takes steps or not, and is at this place.
-    Stands(usize, usize, ThreadState, Option<u16>),
+    /// An arm of a process has this state, and is at this place.
+    Arm(usize, usize, ThreadState, Option<u16>),
     /// All processes are over, or not.
     Finished(bool),
 }
@@ -123,7 +125,7 @@ fn does(verified: &Verified, machine: &mut Machine, act: Act) -> bool
     match act {
         Act::Picks(times, picks, wanted) => shows(verified, machine, times, picks, wanted),
         Act::Holds(p, r, amount) => loan(machine, p, r) == Some(amount),
-        Act::Stands(p, arm, state, place) => stands(machine, p, arm) == Some((state, place)),
+        Act::Arm(p, arm, state, place) => arm_state(machine, p, arm) == Some((state, place)),
         Act::Finished(wanted) => machine.finished() == wanted,
     }
 }
@@ -210,8 +212,8 @@ const ROUNDS_PLAYED: [Act; 5] = [
         ],
     ),
     Act::Finished(true),
-    Act::Stands(0, 0, ThreadState::Ended, None),
-    Act::Stands(0, 2, ThreadState::Idle, None),
+    Act::Arm(0, 0, ThreadState::Ended, None),
+    Act::Arm(0, 2, ThreadState::Idle, None),
 ];
 
 /// Two arms hold in the hold of their process.
@@ -307,8 +309,8 @@ const FAULT_PLAYED: [Act; 7] = [
         &[Seen::Faulted(0, 2, FaultKind::Divide)],
     ),
     Act::Holds(0, 0, 0),
-    Act::Stands(0, 0, ThreadState::Idle, None),
-    Act::Stands(0, 1, ThreadState::Idle, None),
+    Act::Arm(0, 0, ThreadState::Idle, None),
+    Act::Arm(0, 1, ThreadState::Idle, None),
     Act::Finished(true),
 ];
 
@@ -345,7 +347,7 @@ end
 
 const CROSSED_AT_FIRST: [Act; 3] = [
     Act::Picks(1, &PROCESSES, &[Seen::Granted(0, 0)]),
-    Act::Stands(1, 0, ThreadState::Live, Some(0)),
+    Act::Arm(1, 0, ThreadState::Live, Some(0)),
     Act::Holds(1, 1, 0),
 ];
 

@@ -2,7 +2,7 @@
 
 mod memories;
 
-use crate::calls::{CHECK, Call, Case, Given, THOUSAND, answers, first_wrong};
+use crate::calls::{CHECK, Call, Case, Given, THOUSAND, first_wrong, writes};
 use crate::texts::{SIXTEEN_ARMS, idle};
 use crate::trees::read;
 use pb_command_io::Status;
@@ -188,7 +188,7 @@ const COMPLETE: [&[u8]; 3] = [
 #[test]
 fn asks_for_an_arm_a_pair_and_a_process(rt: HostRuntime) {
     for text in &COMPLETE {
-        let is_accepted = answers(&rt, CHECK, *text, Status::Done, b"ok\n");
+        let is_accepted = writes(&rt, CHECK, *text, Status::Done, b"ok\n");
         assert!(rt; is_accepted && is_complete_without(rt.alloc(), *text) == Some(false));
     }
 }
@@ -301,8 +301,8 @@ fn has_limit_of_processes(rt: &(impl AllocGlobal + Threads + Wait + Sync)) -> Op
     let most = idle(rt.alloc(), 64).ok()?;
     let more = idle(rt.alloc(), 65).ok()?;
     Some(
-        answers(rt, Call::Run(THOUSAND), &most, Status::Done, ENDS)
-            && answers(rt, CHECK, &more, Status::Refused, b"refused N1 processes\n"),
+        writes(rt, Call::Run(THOUSAND), &most, Status::Done, ENDS)
+            && writes(rt, CHECK, &more, Status::Refused, b"refused N1 processes\n"),
     )
 }
 

@@ -1,6 +1,6 @@
 //! Texts whose runs are recorded, and replayed.
 
-use crate::calls::{Call, Case, Given, THOUSAND, answers, first_wrong, make};
+use crate::calls::{Call, Case, Given, THOUSAND, first_wrong, make, writes};
 use crate::texts::{FAULT, INCREMENTS, NESTED};
 use pb_base::device::{MemoryInput, MemoryOutput};
 use pb_command_io::Status;
@@ -161,7 +161,7 @@ fn replays_its_run(rt: &(impl AllocGlobal + Threads + Wait + Sync), text: &[u8])
     made(rt, Call::Record(THOUSAND, None), text, &mut record);
     let mut said = MemoryOutput::new(rt.alloc(), 1_024).ok()?;
     let status = made(rt, Call::Run(THOUSAND), text, &mut said);
-    Some(answers(rt, Call::Replay, record.as_slice(), status, said.as_slice()))
+    Some(writes(rt, Call::Replay, record.as_slice(), status, said.as_slice()))
 }
 
 #[test]
