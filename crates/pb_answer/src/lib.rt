@@ -1,4 +1,4 @@
-//! The whole program, over any words, input and output: the words of a call, read, and done by the engine of
+//! The whole program, over any words, input and output: it reads the words of a call, and calls the engine of
 //! their command.
 #![tactic(auto)]
 

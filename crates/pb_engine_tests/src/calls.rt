@@ -26,7 +26,7 @@ const TWO_OUTCOMES: &[u8] = b"process p begin integer x; parbegin x := 1; x := 2
 /// A program, the picks of its run, and commands of a debugger, the second of which it refuses.
 const SESSION: &[u8] = b"process p begin print 1 end\n%%\np.0 2\n%%\nto 2\nstep 1\n";
 
-/// One call at least of each crate with an engine, and one of words that say no command.
+/// At least one call of each crate with an engine but pb_explain, and one of words that say no command.
 const CALLS: [Call; 7] = [
     Call {
         words: "run --steps 1",
@@ -97,26 +97,26 @@ fn words_of<'a>(alloc: Global, text: &'a str) -> Option<Vec<&'a str>> {
 }
 
 // Returns whether the output is that of the call.
-fn is_of(output: &[u8], call: &Call) -> bool {
+fn is_output_of(output: &[u8], call: &Call) -> bool {
     output.starts_with(call.first)
         && output.ends_with(call.last)
         && call.length.is_none_or(|length| output.len() == length)
 }
 
 // Returns whether a call writes what it should, with its status.
-fn is_answered<R: AllocGlobal + Threads + Wait + Sync>(rt: &R, call: &Call) -> Option<bool> {
+fn writes<R: AllocGlobal + Threads + Wait + Sync>(rt: &R, call: &Call) -> Option<bool> {
     let alloc = rt.alloc();
     let words = words_of(alloc, call.words)?;
     let mut output = MemoryOutput::new(alloc, 4_096).ok()?;
     let mut input = MemoryInput::new(call.input);
     let status = answer(rt, alloc, words.as_slice(), &mut input, &mut output);
-    Some(status == call.status && is_of(output.as_slice(), call))
+    Some(status == call.status && is_output_of(output.as_slice(), call))
 }
 
 #[test]
 fn does_what_the_words_say(rt: HostRuntime) {
     for call in &CALLS {
-        assert!(rt; is_answered(&rt, call) == Some(true), "{}", call.words);
+        assert!(rt; writes(&rt, call) == Some(true), "{}", call.words);
     }
 }
 
