@@ -46,7 +46,7 @@ fn value(digits: &[u8]) -> u32
 }
 
 /// Returns the number that a word of one to eight digits writes.
-pub fn number(word: &[u8]) -> Option<u32>
+pub(crate) fn number(word: &[u8]) -> Option<u32>
     ensures { result ≡ spec.number_of word.now }
 {
     if is_numeral(word) && word.len() < 9 {
@@ -57,7 +57,7 @@ pub fn number(word: &[u8]) -> Option<u32>
 }
 
 /// Returns whether a word looks like a name: a letter, then letters, digits or `_`.
-pub fn looks_like_name(word: &[u8]) -> bool
+pub(crate) fn looks_like_name(word: &[u8]) -> bool
     ensures { result ≡ spec.looks_like_name word.now }
 {
     match word {
@@ -67,7 +67,7 @@ pub fn looks_like_name(word: &[u8]) -> bool
 }
 
 /// Returns the word, if it looks like a name.
-pub fn name_word(word: &[u8]) -> Option<&[u8]>
+pub(crate) fn name_word(word: &[u8]) -> Option<&[u8]>
     ensures { option_map (λ w. w.now) result ≡ spec.word_of word.now }
 {
     if looks_like_name(word) {
@@ -78,7 +78,7 @@ pub fn name_word(word: &[u8]) -> Option<&[u8]>
 }
 
 /// Returns the offset of the first byte that is this one.
-pub fn find(text: &[u8], byte: u8) -> Option<usize>
+pub(crate) fn find(text: &[u8], byte: u8) -> Option<usize>
     ensures place { result ≡ position (λ b. b == byte) text.now }
     ensures within { IfSome result (λ at. at < length text.now) }
 {
@@ -86,7 +86,7 @@ pub fn find(text: &[u8], byte: u8) -> Option<usize>
 }
 
 /// Returns the process and the arm of a word `P.a`.
-pub fn arm_word(word: &[u8]) -> Option<ArmWord>
+pub(crate) fn arm_word(word: &[u8]) -> Option<ArmWord>
     ensures { option_map arm_view result ≡ spec.arm_of word.now }
 {
     let dot = find(word, b'.')?;
@@ -99,7 +99,7 @@ pub fn arm_word(word: &[u8]) -> Option<ArmWord>
 }
 
 /// Returns the process and the integer of a word `P X`.
-pub fn integer_word(word: &[u8]) -> Option<IntegerWord>
+pub(crate) fn integer_word(word: &[u8]) -> Option<IntegerWord>
     ensures { option_map integer_view result ≡ spec.integer_of word.now }
 {
     let space = find(word, b' ')?;

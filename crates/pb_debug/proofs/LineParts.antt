@@ -21,7 +21,7 @@ use Rattle.pb_commands.proofs.Cutting.{cut-append, first_lines, cut_end, cut_byt
 use Rattle.pb_commands.proofs.Kept.{kept_again, kept_says, kept_nothing}
 use Rattle.pb_base.proofs.DeviceLemmas.{appended-appended}
 
--- ---- answers
+-- ---- commands
 
 pub kept_answers : (d : Debugging) (line said : List ℕ) (next : Debugging) → AnswersLine d (kept line) said next → AnswersLine d line said next
 kept_answers d line said next h = subst (λ (c : Option Command). AnswersRead d c said next) (kept_says line) h

@@ -15,7 +15,11 @@ use pb_machine::{Proc, Thread, ThreadState};
 use std::alloc::Global;
 
 /// Puts words and a number behind a text.
-pub fn put_number<I: Integer>(text: &mut Vec<u8>, words: &[u8], number: I) -> Result<(), NoMemory>
+pub(crate) fn put_number<I: Integer>(
+    text: &mut Vec<u8>,
+    words: &[u8],
+    number: I,
+) -> Result<(), NoMemory>
     ensures { OnOk result (text.new.items ≡ text.old.items ++ (words.now ++ I.text number)) }
 {
     let mut digits = Buffer::new();
@@ -49,7 +53,7 @@ fn end_number<I: Integer>(text: &mut Vec<u8>, words: &[u8], number: I) -> Result
 }
 
 /// Puts words and a name behind a text.
-pub fn put_name(text: &mut Vec<u8>, words: &[u8], name: &[u8]) -> Result<(), NoMemory>
+pub(crate) fn put_name(text: &mut Vec<u8>, words: &[u8], name: &[u8]) -> Result<(), NoMemory>
     ensures { OnOk result (text.new.items ≡ text.old.items ++ (words.now ++ name.now)) }
 {
     put(text, words)?;
@@ -57,7 +61,7 @@ pub fn put_name(text: &mut Vec<u8>, words: &[u8], name: &[u8]) -> Result<(), NoM
 }
 
 /// Puts words and a name behind a text, and ends its line.
-pub fn end_name(text: &mut Vec<u8>, words: &[u8], name: &[u8]) -> Result<(), NoMemory>
+pub(crate) fn end_name(text: &mut Vec<u8>, words: &[u8], name: &[u8]) -> Result<(), NoMemory>
     ensures { OnOk result (text.new.items ≡ text.old.items ++ said.line (words.now ++ name.now)) }
 {
     put_name(text, words, name)?;
@@ -197,7 +201,7 @@ pub fn put_threads(text: &mut Vec<u8>, process: &Proc) -> Result<(), NoMemory>
 }
 
 /// Puts the line of a loan behind a text.
-pub fn put_loan(
+pub(crate) fn put_loan(
     text: &mut Vec<u8>,
     names: &Names,
     banker: &Banker,
@@ -235,7 +239,12 @@ fn put_loans_of(
 }
 
 /// Puts the line of an amount of cash behind a text.
-pub fn put_cash(text: &mut Vec<u8>, names: &Names, amount: u32, r: usize) -> Result<(), NoMemory>
+pub(crate) fn put_cash(
+    text: &mut Vec<u8>,
+    names: &Names,
+    amount: u32,
+    r: usize,
+) -> Result<(), NoMemory>
     requires { r < length (names_view names.now).resources }
     ensures { OnOk result (text.new.items ≡ text.old.items ++ said.cash_text (names_view names.now) amount r) }
 {

@@ -9,7 +9,7 @@ use pb_object::{ObjectFault, read_any};
 use pb_verifier::{VerifyFault, verify};
 use std::alloc::Global;
 
-// The most halvings after which one place of `MAX_PLACES` and one more is left.
+// The halvings that leave one place of `MAX_PLACES` and the end behind them.
 const HALVINGS: usize = 17;
 
 /// Returns the wording of a fault of bytes that are not an object.
