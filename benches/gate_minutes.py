@@ -5,9 +5,13 @@
 
 Each second it reads the processor time of every rattle that the command has running, and takes crate and phase from
 the command line and folder of the process. What a process uses in its last second is missed; the total is exact.
+
+A minute of a processor does more or less work as others use its host. So each 20 seconds it times a loop of its own,
+which is always the same, and prints the least, middle and most of these times: runs are compared by their middles.
 """
 import collections
 import os
+import statistics
 import subprocess
 import sys
 import time
@@ -52,11 +56,22 @@ def edits_of(crate):
     return sum(name.endswith(".edit") for name in os.listdir(folder)) if os.path.isdir(folder) else 0
 
 
+def loop():
+    """Returns the milliseconds of a processor that the loop takes now."""
+    began, table, number = time.process_time(), {}, 0
+    for it in range(200_000):
+        number = (number * 1_103_515_245 + 12_345) & 0x7FFFFFFF
+        table[number & 0xFFFF] = it
+    return 1000 * (time.process_time() - began)
+
+
 def main(words):
-    began, seen = time.monotonic(), {}
+    began, seen, loops = time.monotonic(), {}, []
     ran = subprocess.Popen(words or [f"{TOP}/.ci/run"], cwd=None if words else TOP)
     while ran.poll() is None:
         seen.update(below(ran.pid))
+        if time.monotonic() - began >= 20 * len(loops):
+            loops.append(loop())
         time.sleep(1)
     spent = collections.Counter()
     for crate, phase, seconds in seen.values():
@@ -69,6 +84,8 @@ def main(words):
     used = os.times()
     total, clock = (used.children_user + used.children_system) / 60, (time.monotonic() - began) / 60
     print(f"\n{sums}; in all {total:.1f} minutes of processors, {clock:.1f} by the clock")
+    least, middle, most = min(loops), statistics.median(loops), max(loops)
+    print(f"the loop took {least:.0f} to {most:.0f} milliseconds, in the middle {middle:.0f}")
     return ran.returncode
 
 
