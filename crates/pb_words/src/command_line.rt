@@ -1,6 +1,6 @@
 //! The command line as clap reads it.
 ghost use Rattle.std.specs.Prelude.{◌≡◌, IfOk, codes, false};
-ghost use Rattle.clap.specs.Words.{App, app_of, rule_of, with_rule};
+ghost use Rattle.clap.specs.Words.{App, app_of, new_app, rule_of, with_rule};
 ghost use Rattle.clap.specs.declared.builder.command.Command.TheViews.{out-Command};
 ghost use Rattle.pb_words.specs.CommandLine.{check_command, claims_command, debug_command, draw_command};
 ghost use Rattle.pb_words.specs.CommandLine.{emit_command, flag_rule, exec_command, explain_command, migrate_command};
@@ -257,62 +257,84 @@ fn wanting_command<'a>(command: Command<'a>) -> Command<'a>
         .version(VERSION)
 }
 
-// Adds a subcommand, if there was memory for it. The command is dropped here alone if there was none.
+// Returns the command line without its subcommands.
+fn named<'a>(alloc: Global) -> Result<Command<'a>, AllocError>
+    ensures { IfOk result (λ c. app_of c ≡ that_wants_command (new_app (codes "parbegin"))) }
+{
+    let command = Command::new(alloc, "parbegin").bin_name("parbegin")?;
+    Ok(wanting_command(command))
+}
+
+// Adds a subcommand, if there was memory for both. What was made is dropped here alone if there was not.
 fn with_made<'a>(
-    command: Command<'a>,
+    command: Result<Command<'a>, AllocError>,
     made: Result<Command<'a>, AllocError>,
 ) -> Result<Command<'a>, AllocError>
     requires { IfOk made (λ s. (out-Command s).has_globals ≡ false) }
-    ensures { IfOk result (λ c. (sub : App) → IfOk made.entry (λ s. app_of s ≡ sub)
-        → app_of c ≡ with_command (app_of command.entry) sub) }
+    ensures { (app sub : App) → IfOk command.entry (λ c. app_of c ≡ app) → IfOk made.entry (λ s. app_of s ≡ sub)
+        → IfOk result (λ c. app_of c ≡ with_command app sub) }
 {
-    with_subcommand(command, made?)
+    with_subcommand(command?, made?)
 }
 
-fn with_texts<'a>(alloc: Global, command: Command<'a>) -> Result<Command<'a>, AllocError>
-    ensures { IfOk result (λ c. app_of c ≡ with_text_commands (app_of command.entry)) }
+fn with_texts<'a>(
+    alloc: Global,
+    command: Result<Command<'a>, AllocError>,
+) -> Result<Command<'a>, AllocError>
+    ensures { (app : App) → IfOk command.entry (λ c. app_of c ≡ app) → IfOk result (λ c. app_of c ≡ with_text_commands app) }
 {
-    let command = with_made(command, check_texts(alloc))?;
+    let command = with_made(command, check_texts(alloc));
     with_made(command, claims_of_text(alloc))
 }
 
-fn with_codes<'a>(alloc: Global, command: Command<'a>) -> Result<Command<'a>, AllocError>
-    ensures { IfOk result (λ c. app_of c ≡ with_code_commands (app_of command.entry)) }
+fn with_codes<'a>(
+    alloc: Global,
+    command: Result<Command<'a>, AllocError>,
+) -> Result<Command<'a>, AllocError>
+    ensures { (app : App) → IfOk command.entry (λ c. app_of c ≡ app) → IfOk result (λ c. app_of c ≡ with_code_commands app) }
 {
-    let command = with_made(command, emit_object(alloc))?;
+    let command = with_made(command, emit_object(alloc));
     with_made(command, run_texts(alloc))
 }
 
-fn with_objects<'a>(alloc: Global, command: Command<'a>) -> Result<Command<'a>, AllocError>
-    ensures { IfOk result (λ c. app_of c ≡ with_object_commands (app_of command.entry)) }
+fn with_objects<'a>(
+    alloc: Global,
+    command: Result<Command<'a>, AllocError>,
+) -> Result<Command<'a>, AllocError>
+    ensures { (app : App) → IfOk command.entry (λ c. app_of c ≡ app) → IfOk result (λ c. app_of c ≡ with_object_commands app) }
 {
-    let command = with_made(command, exec_object(alloc))?;
+    let command = with_made(command, exec_object(alloc));
     with_made(command, migrate_object(alloc))
 }
 
-fn with_picks<'a>(alloc: Global, command: Command<'a>) -> Result<Command<'a>, AllocError>
-    ensures { IfOk result (λ c. app_of c ≡ with_pick_commands (app_of command.entry)) }
+fn with_picks<'a>(
+    alloc: Global,
+    command: Result<Command<'a>, AllocError>,
+) -> Result<Command<'a>, AllocError>
+    ensures { (app : App) → IfOk command.entry (λ c. app_of c ≡ app) → IfOk result (λ c. app_of c ≡ with_pick_commands app) }
 {
-    let command = with_made(command, record_text(alloc))?;
-    let command = with_made(command, replay_picks(alloc))?;
+    let command = with_made(command, record_text(alloc));
+    let command = with_made(command, replay_picks(alloc));
     with_made(command, debug_picks(alloc))
 }
 
-fn with_others<'a>(alloc: Global, command: Command<'a>) -> Result<Command<'a>, AllocError>
-    ensures { IfOk result (λ c. app_of c ≡ with_other_commands (app_of command.entry)) }
+fn with_others<'a>(
+    alloc: Global,
+    command: Result<Command<'a>, AllocError>,
+) -> Result<Command<'a>, AllocError>
+    ensures { (app : App) → IfOk command.entry (λ c. app_of c ≡ app) → IfOk result (λ c. app_of c ≡ with_other_commands app) }
 {
-    let command = with_made(command, draw_picks(alloc))?;
-    let command = with_made(command, outcomes_of_text(alloc))?;
+    let command = with_made(command, draw_picks(alloc));
+    let command = with_made(command, outcomes_of_text(alloc));
     with_made(command, explain_code(alloc))
 }
 
-// Returns the whole command line.
+/// Returns the whole command line.
 #[tactic(auto, unfolding(crate::specs::CommandLine::command_line))]
 pub fn command_line<'a>(alloc: Global) -> Result<Command<'a>, AllocError>
     ensures { IfOk result (λ c. app_of c ≡ whole) }
 {
-    let command = wanting_command(Command::new(alloc, "parbegin").bin_name("parbegin")?);
-    let command = with_codes(alloc, with_texts(alloc, command)?)?;
-    let command = with_picks(alloc, with_objects(alloc, command)?)?;
+    let command = with_codes(alloc, with_texts(alloc, named(alloc)));
+    let command = with_picks(alloc, with_objects(alloc, command));
     with_others(alloc, command)
 }

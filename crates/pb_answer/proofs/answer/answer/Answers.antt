@@ -1,4 +1,4 @@
-use Rattle.std.proofs.Common.{inl, subst}
+use Rattle.std.proofs.Common.{inl, subst, rules}
 use Rattle.pb_words.specs.declared.words.Options.TheVariants.{Check, Debug, Emit, Exec, Explain, Outcomes, Record}
 use Rattle.pb_words.specs.declared.words.Options.TheVariants.{Run}
 use Rattle.pb_words.specs.Read.{WordsSay}
@@ -54,3 +54,9 @@ pub returns-in-Err-clause-text : goal.returns-in-Err-clause-text
 returns-in-Err-clause-text g c =
     CallWrites-refused c.args.words.now (g.I.Input.rest c.args.input.now) _ _ c.refuse.result c.in-Err.fault
     c.in-Err.ensures.refused c.refuse.ensures.text
+
+pub returns-in-Ok-Draw-clause-text : goal.returns-in-Ok-Draw-clause-text
+returns-in-Ok-Draw-clause-text g c = search rules fits 100
+
+pub returns-in-Ok-Run-clause-faults : goal.returns-in-Ok-Run-clause-faults
+returns-in-Ok-Run-clause-faults g c = search rules fits 100

@@ -1,4 +1,4 @@
-use Rattle.std.proofs.Common.{refl, arith}
+use Rattle.std.proofs.Common.{refl, arith, rules}
 use Rattle.pb_code.specs.Bundles.{bundle_of}
 use Rattle.pb_code.proofs.ListElements.{alike_all}
 use Rattle.pb_code.proofs.same.same_bundle.Goals as goal
@@ -9,3 +9,6 @@ returns c = (
       arith) (omega arith) c.loop-i.invariant,
   λ e. refl,
 )
+
+pub loop-i-preserved : goal.loop-i-preserved
+loop-i-preserved c = search rules fits 100

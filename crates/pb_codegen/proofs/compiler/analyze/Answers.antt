@@ -1,4 +1,5 @@
-use Rattle.std.proofs.Common.{Err, ap}
+use Rattle.std.proofs.Common.{Err, ap, arith, rules}
+use Rattle.std.proofs.lemmas.Grind.{common_steps}
 use Rattle.std.proofs.lemmas.Result.{err_from_is_err_and}
 use Rattle.pb_tree.specs.View.{program_view}
 use Rattle.pb_names.specs.View.{resolved_view}
@@ -39,3 +40,15 @@ returns-clause-analyzed g c =
     let spelled = spells c.args.text.now _ (program_view c.in_ok-tree.tree) c.in_ok-tree.tree c.parse.result cut
     e.found e.limits c.in_ok-tree.was c.parse.ensures.nested in
     numbered _ _ (resolved_view c.in_ok-program.program) _ spelled c.in_ok-program.ensures.resolves c.in_ok-claims.ensures.exact
+
+pub returns-in_err-tokens-clause-refused : goal.returns-in_err-tokens-clause-refused
+returns-in_err-tokens-clause-refused g c = grind (arith, common_steps)
+
+pub drop-tree-requires : goal.drop-tree-requires
+drop-tree-requires g c κs = search rules
+
+pub drop-tree-requires-in_err-claims : goal.drop-tree-requires-in_err-claims
+drop-tree-requires-in_err-claims g c κs = search rules
+
+pub drop-tree-requires-2 : goal.drop-tree-requires-2
+drop-tree-requires-2 g c κs = search rules

@@ -1,4 +1,5 @@
-use Rattle.std.proofs.Common.{◌≤◌, ℕ, List, subst}
+use Rattle.std.proofs.Common.{◌≤◌, ℕ, List, subst, arith}
+use Rattle.std.proofs.lemmas.Grind.{common_steps}
 use Rattle.pb_claims.specs.Fits.{FitCapital, IsFirstOver}
 use Rattle.pb_names.specs.View.{resolved_view, resource_view}
 use Rattle.pb_codegen.proofs.VerifiedProcesses.{generatable}
@@ -31,3 +32,12 @@ returns-clause-over g c =
       first = subst (λ (amounts : List ℕ). IsFirstOver c.args.claims.now amounts c.in-Err.over) same c.in-Err.ensures.over;
       named = c.in_ok-name_claim-in-Err.ensures;
     }
+
+pub capital_of-requires-clause-few : goal.capital_of-requires-clause-few
+capital_of-requires-clause-few g c = grind (arith, common_steps) steps 400000
+
+pub name_claim-requires-clause-process : goal.name_claim-requires-clause-process
+name_claim-requires-clause-process g c = grind (arith, common_steps) steps 400000
+
+pub name_claim-requires-clause-resource : goal.name_claim-requires-clause-resource
+name_claim-requires-clause-resource g c = grind (arith, common_steps) steps 400000

@@ -1,4 +1,5 @@
 use Rattle.std.proofs.Common.{arith}
+use Rattle.std.proofs.lemmas.Grind.{common_steps}
 use Rattle.pb_code.specs.View.{process_view, process_labels_view}
 use Rattle.pb_codegen.specs.Sizes.{IsGeneratableProcess}
 use Rattle.pb_codegen.specs.Generate.{process_code}
@@ -26,3 +27,9 @@ loop-process-preserved g c =
           more_seen plain_process process_labels process_labels_view _ _ written.written.labels all i process
           c.loop-process.invariant.labels (omega arith) c.process-item.is c.in_ok-push-2.ensures.items written.ensures.labels;
     }
+
+pub returns-clause-code : goal.returns-clause-code
+returns-clause-code g c = grind (arith, common_steps) steps 400000
+
+pub returns-clause-labels : goal.returns-clause-labels
+returns-clause-labels g c = grind (arith, common_steps) steps 400000

@@ -1,4 +1,5 @@
-use Rattle.std.proofs.Common.{◌+◌, ap, sym, Some, ◌∙◌}
+use Rattle.std.proofs.Common.{◌+◌, ap, sym, Some, ◌∙◌, arith}
+use Rattle.std.proofs.lemmas.Grind.{common_steps}
 use Rattle.pb_codegen.proofs.WriterLists.{line_next}
 use Rattle.pb_codegen.proofs.statement.line_after.Goals as goal
 
@@ -7,3 +8,6 @@ returns-in-Some g c =
     let found = c.in-Some.ensures.lookup in
     rw (← c.deref.ensures.value)
     (ap Some c.line_of.ensures ∙ sym (line_next c.deref.result.now (c.args.i + 1) c.in-Some.next.now c.args.after found.1 found.3.0))
+
+pub returns-in-None : goal.returns-in-None
+returns-in-None g c = grind (arith, common_steps)

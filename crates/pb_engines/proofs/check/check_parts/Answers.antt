@@ -1,4 +1,5 @@
-use Rattle.std.proofs.Common.{◌∙◌, refl}
+use Rattle.std.proofs.Common.{◌∙◌, refl, arith}
+use Rattle.std.proofs.lemmas.Grind.{common_steps}
 use Rattle.pb_engines.proofs.CheckLemmas.{told_none, told_one_more, told_all, told_until_memory, told_broken}
 use Rattle.pb_command_io.proofs.PageLemmas.{device_since, faults_since}
 use Rattle.pb_engines.proofs.check.check_parts.Goals as goal
@@ -40,3 +41,6 @@ returns-in-Broken-clause-faults g c = device_since _ _ _ c.loop-is_refusal.invar
 pub returns-in_default-clause-faults : goal.returns-in_default-clause-faults
 returns-in_default-clause-faults g c =
     faults_since _ _ _ c.finish.result (c.in-Answered.ensures.counted (λ e. cc) ∙ c.loop-is_refusal.invariant.1) c.finish.ensures.faults
+
+pub loop-is_refusal-smaller : goal.loop-is_refusal-smaller
+loop-is_refusal-smaller g c = grind (arith, common_steps) steps 400000

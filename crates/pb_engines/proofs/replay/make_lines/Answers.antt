@@ -1,4 +1,4 @@
-use Rattle.std.proofs.Common.{subst, sym}
+use Rattle.std.proofs.Common.{subst, sym, rules}
 use Rattle.pb_code.specs.Limits.{KeepsLimits}
 use Rattle.pb_code.specs.Whole.{Code}
 use Rattle.pb_picks.specs.PickLines.{IsFaulty}
@@ -11,3 +11,6 @@ read_picks-requires c = subst KeepsLimits (sym c.code.ensures.code) (c.code.ensu
 pub returns-in-Err-clause-fault : goal.returns-in-Err-clause-fault
 returns-in-Err-clause-fault c =
     subst (λ (code : Code). IsFaulty code c.args.lines.now c.in-Err.fault) c.code.ensures.code c.in-Err.ensures.refused
+
+pub returns-in-Ok-replay_counted-clause-made : goal.returns-in-Ok-replay_counted-clause-made
+returns-in-Ok-replay_counted-clause-made c = search rules fits 100

@@ -45,3 +45,6 @@ loop-at-preserved g c =
     let found = c.in_ok-token.ensures in
     rw (c.in_ok-push.ensures.items, tokens_more)
     (token_over _ _ _ _ _ _ c.loop-at.invariant found.0 found.1)
+
+pub returns-then-text-gt-MAX_TEXT-clause-long : goal.returns-then-text-gt-MAX_TEXT-clause-long
+returns-then-text-gt-MAX_TEXT-clause-long g c = search depth 0

@@ -1,4 +1,4 @@
-use Rattle.std.proofs.Common.{◌≢◌, Some, map, arith, ap, sym, ◌∙◌, refl}
+use Rattle.std.proofs.Common.{◌≢◌, Some, map, arith, ap, sym, ◌∙◌, refl, rules}
 use Rattle.std.specs.Prelude.{slice_get}
 use Rattle.std.specs.Cmp.Lexicographic.{same_text, other_text}
 use borrow.Author.Count.{below_more}
@@ -30,3 +30,6 @@ loop-i-preserved g c =
 pub returns : goal.returns
 returns g c =
     rw demand_texts (again_nowhere Repeated _ _ (name_view c.args.name.now) (λ k below. c.loop-i.invariant k (omega arith)))
+
+pub loop-i-init : goal.loop-i-init
+loop-i-init g c = search rules fits 100

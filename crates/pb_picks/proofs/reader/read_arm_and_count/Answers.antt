@@ -1,10 +1,10 @@
-use Rattle.std.proofs.Common.{◌≡◌, ◌≤◌, ℕ, List, arith, subst}
+use Rattle.std.proofs.Common.{◌≡◌, ◌≤◌, ℕ, List, arith, subst, rules}
 use Rattle.std.specs.Fmt.{decimal}
 use Rattle.pb_picks.specs.PickLines.{Lacks}
 use Rattle.pb_picks.proofs.PickParts.{never_lacks, parts_are, same_number}
-use Rattle.pb_picks.proofs.reader.read_arm_and_count.Goals as goal
 use Rattle.pb_picks.proofs.reader.read_arm_and_count.Goals.{then-arm-arms-via-then-arm-arms}
 use Rattle.pb_picks.proofs.reader.read_arm_and_count.Goals.{then-arm-arms-via-else-arm-arms+then-count-eq0}
+use Rattle.pb_picks.proofs.reader.read_arm_and_count.Goals as goal
 
 pub returns-in_err-arm : goal.returns-in_err-arm
 returns-in_err-arm c = rw c.from_residual.ensures (λ arm count within some few e.
@@ -32,3 +32,6 @@ returns-then-arm-arms c = λ arm count within some few e.
       | then-arm-arms-via-then-arm-arms w ↦ omega (arith, i, w.if-arm-arms.true)
       | then-arm-arms-via-else-arm-arms+then-count-eq0 w ↦ omega (arith, j, w.if-count-eq0.true)
     ]
+
+pub returns : goal.returns
+returns c = search rules fits 100

@@ -1,4 +1,5 @@
 use Rattle.std.proofs.Common.{◌≡◌, ◌<◌, [], ◌∷◌, ◌++◌, length, ap, arith, length-append}
+use Rattle.std.proofs.lemmas.Grind.{common_steps}
 use Rattle.std.specs.Vec.Iter.{into_iter_items}
 use Rattle.pb_rewrite.specs.declared.arm.Arm.{Fresh}
 use Rattle.pb_rewrite.proofs.BegunArms.{one_more, next_seen, room_for_next}
@@ -35,3 +36,9 @@ push_reserved-requires g c =
     let rest' = into_iter_items c.next.new.self in
     let less : length seen < length all = room_for_next all seen rest rest' c.in-Some.body c.loop-body.invariant.seen c.in-Some.ensures.steps.0 in
     omega (arith, c.loop-body.invariant.count, c.loop-body.invariant.room, c.args.bodies.ok.0)
+
+pub loop-body-init : goal.loop-body-init
+loop-body-init g c = grind (arith, common_steps)
+
+pub returns : goal.returns
+returns g c = grind (arith, common_steps)

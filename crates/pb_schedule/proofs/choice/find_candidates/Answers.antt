@@ -1,8 +1,8 @@
-use Rattle.std.proofs.Common.{arith}
+use Rattle.std.proofs.Common.{arith, rules}
 use Rattle.pb_machine.specs.Views.{machine_view}
 use Rattle.pb_schedule.proofs.ChoiceLemmas.{all_found}
-use Rattle.pb_schedule.proofs.choice.find_candidates.Goals as goal
 use Rattle.pb_machine.proofs.Counts.{few_processes}
+use Rattle.pb_schedule.proofs.choice.find_candidates.Goals as goal
 
 pub overflow_cast-process : goal.overflow_cast-process
 overflow_cast-process c =
@@ -15,3 +15,6 @@ returns c =
     let count = c.processes-process-end.ensures in
     all_found c.args.verified.now.code (machine_view c.args.machine.now) c.loop-process.process c.loop-process.picks.items
     c.loop-process.invariant (omega (arith, test, count))
+
+pub loop-process-init : goal.loop-process-init
+loop-process-init c = search rules fits 100

@@ -1,4 +1,4 @@
-use Rattle.std.proofs.Common.{arith}
+use Rattle.std.proofs.Common.{arith, rules}
 use Rattle.pb_schedule.proofs.LongRecords.{counts_too_many}
 use Rattle.pb_schedule.proofs.SpanLemmas.{counted_all, counted_one, next_fits, some_picks}
 use Rattle.pb_schedule.proofs.picks.count_picks.Goals as goal
@@ -28,3 +28,6 @@ returns c =
       same = counted_all c.loop-i.picks.items c.args.trace.now.entries c.loop-i.i c.loop-i.invariant.0 (omega (arith, len, test));
       apart = c.loop-i.invariant.1;
     }
+
+pub loop-i-init : goal.loop-i-init
+loop-i-init c = search rules fits 100

@@ -1,4 +1,4 @@
-use Rattle.std.proofs.Common.{List, length, sym, ap, subst, arith}
+use Rattle.std.proofs.Common.{List, length, sym, ap, subst, arith, rules}
 use Rattle.pb_history.specs.Replays.{spread}
 use Rattle.pb_history.specs.declared.counted.CountedPick.{CountedPick}
 use Rattle.pb_machine.specs.Views.{machine_view}
@@ -61,3 +61,6 @@ loop-left-init c =
       machine = c.in_ok-machine.ensures.machine;
       drawn = drawn_first code (generator_of c.args.seed) _ items (machine_view c.in_ok-machine.machine) none opens c.new-chooser.ensures;
     }
+
+pub returns-in-NotEnabled : goal.returns-in-NotEnabled
+returns-in-NotEnabled c = search rules fits 100

@@ -1,4 +1,4 @@
-use Rattle.std.proofs.Common.{refl, sym}
+use Rattle.std.proofs.Common.{refl, sym, rules}
 use Rattle.pb_machine.specs.Views.{machine_view}
 use Rattle.pb_shared.proofs.ArmLooks.{blocked_refused}
 use Rattle.pb_shared.proofs.visible.try_visible.Goals as goal
@@ -11,3 +11,9 @@ returns-in-NotEnabled-clause-tries c = (
   refl,
   c.mark.ensures,
 )
+
+pub returns-in-Silent-clause-tries : goal.returns-in-Silent-clause-tries
+returns-in-Silent-clause-tries c = search rules fits 100
+
+pub returns-after-frees-clause-tries : goal.returns-after-frees-clause-tries
+returns-after-frees-clause-tries c = search rules fits 100

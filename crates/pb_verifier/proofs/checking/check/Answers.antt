@@ -1,6 +1,6 @@
-use Rattle.std.proofs.lemmas.Grind.{common_steps}
-use Rattle.std.proofs.Common.{◌≡◌, ◌+◌, ℕ, List, [], ◌∷◌, ◌++◌, Option, map, length, true, false, refl, sym, ap, ◌∙◌}
+use Rattle.std.proofs.Common.{◌≡◌, ◌+◌, ℕ, List, [], ◌∷◌, ◌++◌, Option, map, length, true, false, refl, sym, ap, ◌∙◌, rules}
 use Rattle.std.proofs.Common.{subst, arith}
+use Rattle.std.proofs.lemmas.Grind.{common_steps}
 use Rattle.std.proofs.lemmas.List.{length-map, map-append}
 use Rattle.pb_code.specs.View.{code_view, process_view}
 use Rattle.pb_verifier.specs.declared.fault.VerifyFault.{VerifyFault}
@@ -8,8 +8,8 @@ use Rattle.pb_verifier.specs.declared.fault.VerifyFault.TheVariants.{NoMemory}
 use Rattle.pb_verifier.proofs.ProcessFaults.{IsFoundBefore, annotated_all, depths_all, found_fault, found_sound}
 use Rattle.pb_verifier.proofs.ProcessFaults.{refused_first}
 use Rattle.pb_verifier.proofs.LimitTests.{read_mapped}
-use Rattle.pb_verifier.proofs.checking.check.Goals as goal
 use Rattle.pb_verifier.proofs.checking.check.Goals.{in-Ok+in-Ok-push, in-Err+else-is_memory}
+use Rattle.pb_verifier.proofs.checking.check.Goals as goal
 
 pub check_process-requires-clause-small : goal.check_process-requires-clause-small
 check_process-requires-clause-small c =
@@ -81,3 +81,9 @@ check_process-requires-clause-process c = grind (arith, common_steps)
 
 pub check_process-requires-clause-claims : goal.check_process-requires-clause-claims
 check_process-requires-clause-claims c = grind (arith, common_steps)
+
+pub returns-then-not-fit_capital-clause-refused : goal.returns-then-not-fit_capital-clause-refused
+returns-then-not-fit_capital-clause-refused c = grind (arith, common_steps)
+
+pub loop-p-smaller : goal.loop-p-smaller
+loop-p-smaller c = search rules

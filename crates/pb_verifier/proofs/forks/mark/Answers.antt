@@ -1,4 +1,4 @@
-use Rattle.std.proofs.Common.{◌≡◌, ◌⊎◌, ◌↔◌, ◌≤◌, ◌<◌, ℕ, true, false, get_or, length, subst, arith}
+use Rattle.std.proofs.Common.{◌≡◌, ◌⊎◌, ◌↔◌, ◌≤◌, ◌<◌, ℕ, true, false, get_or, length, subst, arith, rules}
 use Rattle.pb_verifier.proofs.forks.mark.Goals as goal
 
 pub returns-clause-marked : goal.returns-clause-marked
@@ -10,3 +10,6 @@ returns-clause-marked c =
     (λ (n : ℕ). (b : ℕ) → b < length c.args.marks.now → ((get_or c.loop-arm.marks b false ≡ true) ↔ ((get_or
     c.args.marks.now b false ≡ true) ⊎ ((c.args.first ≤ b) × (b < n)))))
     over c.loop-arm.invariant.marked
+
+pub loop-arm-preserved : goal.loop-arm-preserved
+loop-arm-preserved c = search rules fits 100

@@ -1,4 +1,4 @@
-use Rattle.std.proofs.Common.{◌≡◌, ℕ, true, false, refl, sym, ◌∙◌, subst, arith}
+use Rattle.std.proofs.Common.{◌≡◌, ℕ, true, false, refl, sym, ◌∙◌, subst, arith, rules}
 use Rattle.pb_base.specs.Banker.{cell}
 use Rattle.pb_base.specs.Tables.{width_of}
 use Rattle.pb_code.specs.View.{process_view}
@@ -87,3 +87,9 @@ returns-in-Ok-arm_depths-clause-sound c =
       all = c.in-Ok-arm_depths.ensures.all;
       greatest = c.in-Ok-arm_depths.ensures.greatest;
     }
+
+pub returns-then-not-is_in_range-clause-refused : goal.returns-then-not-is_in_range-clause-refused
+returns-then-not-is_in_range-clause-refused c = search rules
+
+pub returns-in-Ok-None-clause-refused : goal.returns-in-Ok-None-clause-refused
+returns-in-Ok-None-clause-refused c = search rules

@@ -45,3 +45,6 @@ returns-in_err-outcomes_options-in-outcomes-clause-none c =
     IfNone-of c.from_residual-in_err-outcomes_options-in-outcomes.result
     (nothing_read (subcommand_rows_of c.args.matches.now) _ (rows_of (found_of c.in_ok-name.inner.now)) (search rules) c.in_ok-name.ensures.rows
     (no_outcomes (rows_of (found_of c.in_ok-name.inner.now)) c.in_err-outcomes_options-in-outcomes.ensures.none))
+
+pub returns-in_ok-run_options-in-run-clause-some : goal.returns-in_ok-run_options-in-run-clause-some
+returns-in_ok-run_options-in-run-clause-some c = search rules

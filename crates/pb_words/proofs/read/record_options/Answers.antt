@@ -1,4 +1,4 @@
-use Rattle.std.proofs.Common.{◌≡◌, false, true}
+use Rattle.std.proofs.Common.{◌≡◌, false, true, rules}
 use Rattle.clap.specs.Words.{found_of, rows_of}
 use Rattle.pb_words.proofs.ReadLemmas.{IfNone-of, no_record_seed}
 use Rattle.pb_words.proofs.read.record_options.Goals as goal
@@ -11,3 +11,6 @@ returns-in_err-seed-clause-none c =
     IfNone-of c.from_residual-in_err-seed.result
     (no_record_seed (rows_of (found_of c.args.matches.now)) c.in_err-seed.ensures.none
     (λ absent. let w : false ≡ true = c.if-is_absent.ensures.1 absent in cc))
+
+pub returns-clause-some : goal.returns-clause-some
+returns-clause-some c = search rules fits 100

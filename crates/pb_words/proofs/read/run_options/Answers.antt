@@ -1,4 +1,4 @@
-use Rattle.std.proofs.Common.{arith}
+use Rattle.std.proofs.Common.{arith, rules}
 use Rattle.pb_words.proofs.ReadLemmas.{IfNone-of}
 use Rattle.pb_words.proofs.read.run_options.Goals as goal
 
@@ -13,3 +13,6 @@ returns-in_err-quantum-clause-none c =
 pub returns-in_err-steps-clause-none : goal.returns-in_err-steps-clause-none
 returns-in_err-steps-clause-none c =
     IfNone-of c.from_residual-in_err-steps.result (λ o h. c.in_err-steps.ensures.none o.steps (h.2, omega arith, o.steps_fit))
+
+pub returns-clause-some : goal.returns-clause-some
+returns-clause-some c = search rules fits 100

@@ -1,4 +1,4 @@
-use Rattle.std.proofs.Common.{refl, sym, subst, ap}
+use Rattle.std.proofs.Common.{refl, sym, subst, ap, rules}
 use Rattle.pb_debug.specs.Answers.{AnswersCommand}
 use Rattle.pb_commands.specs.Commands.{Command}
 use Rattle.pb_commands.specs.View.{command_view}
@@ -70,3 +70,6 @@ returns-in-Pick-clause-answer c =
     let d = c.args.self.now in
     on_ok c.say_pick.result _ _ c.say_pick.ensures.said
     (λ s. (s.0, subst (λ (k : Command). AnswersCommand d k s.0 c.say_pick.new.self) (sym (ap command_view c.in-Pick.is)) s.1, s.2))
+
+pub returns-in-To-2-clause-answer : goal.returns-in-To-2-clause-answer
+returns-in-To-2-clause-answer c = search rules fits 100

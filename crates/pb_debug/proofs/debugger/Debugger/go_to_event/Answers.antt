@@ -1,4 +1,4 @@
-use Rattle.std.proofs.Common.{sym, subst}
+use Rattle.std.proofs.Common.{sym, subst, rules}
 use Rattle.pb_base.specs.Lines.{NameTable, HasNames}
 use Rattle.pb_history.specs.Entries.{picks_of}
 use Rattle.pb_positions.specs.Searches.{Shows}
@@ -15,3 +15,6 @@ put_event-requires c =
     let shows : Shows v.code picks k event = rw (← c.self.view_is) at c.in_ok-event.ensures in
     subst (λ (n : NameTable). HasNames n event) (sym c.names.ensures)
     (shown_named v picks k event c.self.invariant.verified c.self.invariant.enabled shows)
+
+pub returns-in-Ok-clause-said : goal.returns-in-Ok-clause-said
+returns-in-Ok-clause-said c = search rules fits 100

@@ -17,3 +17,6 @@ walk_to-requires-clause-walks c =
     let there = slice_get_read i.checkpoints.items (length i.checkpoints.items) k c.index.result.now refl within c.index.ensures in
     let at = (c.self.invariant.checkpoints k c.index.result.now there).stands in
     record { machine = c.in_ok-machine.ensures.machine i.verified.now at.machine; state = c.in_ok-machine.ensures.state ∙ at.state }
+
+pub returns-clause-at : goal.returns-clause-at
+returns-clause-at c = search depth 0

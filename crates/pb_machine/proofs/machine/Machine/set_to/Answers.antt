@@ -1,4 +1,4 @@
-use Rattle.std.proofs.Common.{◌≡◌, ◌<◌, length, map, take, Some, ap, ◌∙◌, arith}
+use Rattle.std.proofs.Common.{◌≡◌, ◌<◌, length, map, take, Some, ap, ◌∙◌, arith, rules}
 use Rattle.std.specs.Prelude.{slice_get}
 use Rattle.std.proofs.lemmas.List.{take_more_set}
 use Rattle.std.proofs.Math.Seq.{map-set_same}
@@ -8,8 +8,8 @@ use Rattle.pb_machine.proofs.SetMachines.{all_set, as_many_processes, as_many_ro
 use Rattle.pb_machine.proofs.SetMachines.{same_rest}
 use Rattle.pb_machine.proofs.SilentPicks.{copied_view}
 use Rattle.pb_machine.proofs.Spares.{fit_rooms, fit_vars}
-use Rattle.pb_machine.proofs.machine.Machine.set_to.Goals as goal
 use Rattle.pb_base.proofs.Lists.{item_at}
+use Rattle.pb_machine.proofs.machine.Machine.set_to.Goals as goal
 
 pub index-requires : goal.index-requires
 index-requires c =
@@ -73,3 +73,6 @@ returns-clause-machine c v of of_other =
     (all_set c.requires.0 c.requires.1 c.args.self.now c.args.other.now c.loop-p.self.processes.items c.loop-p.p c.requires.2 c.requires.3
     c.loop-p.invariant.rooms c.loop-p.invariant.states (omega (arith, c.args.self.now.processes.ok.0)))
     c.loop-p.invariant.rooms c.set_to-2.ensures of of_other
+
+pub loop-p-init : goal.loop-p-init
+loop-p-init c = search rules fits 100

@@ -1,4 +1,4 @@
-use Rattle.std.proofs.Common.{arith}
+use Rattle.std.proofs.Common.{arith, rules}
 use Rattle.pb_machine.specs.Views.{proc_view}
 use Rattle.pb_machine.proofs.SilentRuns.{makes-append}
 use Rattle.pb_shared.proofs.spare.Spare.run.Goals as goal
@@ -12,3 +12,6 @@ returns-clause-run c =
       runs = makes-append c.args.code.now.code s.pick.process s.pick.arm s.made c.run_silent-count.result (proc_view s.base)
           (proc_view s.state) (proc_view c.run_silent-count.new.self) c.requires.run.runs c.run_silent-count.ensures.made;
     }
+
+pub returns-clause-stops : goal.returns-clause-stops
+returns-clause-stops c = search rules fits 100
