@@ -1,4 +1,5 @@
 use Rattle.std.proofs.Common.{◌+◌, get_or, take, sym, subst, List, arith}
+use Rattle.std.proofs.lemmas.Grind.{common_steps}
 use Rattle.pb_base.specs.declared.pick.Pick.{Pick}
 use Rattle.pb_code.specs.Reached.{CodeMoves}
 use Rattle.pb_machine.specs.Views.{machine_view}
@@ -6,8 +7,8 @@ use Rattle.pb_history.specs.Replays.{IsReplay}
 use Rattle.pb_history.specs.Entries.{Entry}
 use Rattle.pb_history.proofs.TraceSteps.{replay_more, shown_step, silent_step}
 use Rattle.pb_history.proofs.SpanEnds.{item_there}
-use Rattle.pb_history.proofs.replay.replay.Goals as goal
 use Rattle.pb_history.proofs.replay.replay.Goals.{in-Silent, in-Did}
+use Rattle.pb_history.proofs.replay.replay.Goals as goal
 
 pub loop-i-preserved : goal.loop-i-preserved
 loop-i-preserved c =
@@ -26,3 +27,9 @@ loop-i-preserved c =
           (replay_more code c.args.picks.now i c.loop-i.trace.entries a b pick c.match-step.event c.loop-i.invariant.replay there moves);
       machine = c.step.ensures.machine;
     }
+
+pub push-requires : goal.push-requires
+push-requires c = grind (arith, common_steps)
+
+pub returns-clause-replay : goal.returns-clause-replay
+returns-clause-replay c = grind (arith, common_steps) steps 400000

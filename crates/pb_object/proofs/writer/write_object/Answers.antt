@@ -1,5 +1,5 @@
-use Rattle.std.proofs.lemmas.Grind.{common_steps}
 use Rattle.std.proofs.Common.{◌<◌, ◌≤◌, refl, length, get_or, arith, rules}
+use Rattle.std.proofs.lemmas.Grind.{common_steps}
 use Rattle.pb_object.specs.declared.format.Format.TheVariants.{One}
 use Rattle.pb_object.specs.Objects.{process_text}
 use Rattle.pb_code.specs.View.{code_view, process_view}
@@ -43,3 +43,12 @@ loop-p-init c = grind (arith, rules, common_steps)
 
 pub put_process-requires-clause-name : goal.put_process-requires-clause-name
 put_process-requires-clause-name c = grind (arith, common_steps)
+
+pub put_process-requires-clause-claims : goal.put_process-requires-clause-claims
+put_process-requires-clause-claims c = grind (arith, rules, common_steps)
+
+pub drop-out-requires-in_err-put_process : goal.drop-out-requires-in_err-put_process
+drop-out-requires-in_err-put_process c κs = search rules
+
+pub returns-in_err-put_process : goal.returns-in_err-put_process
+returns-in_err-put_process c = grind (arith, common_steps) steps 400000

@@ -1,5 +1,6 @@
-use Rattle.std.proofs.Common.{◌≡◌, ◌<◌, ◌+◌, ◌-◌, ◌++◌, ℕ, List, None, length, set, slice_set, refl, sym, ap, ◌∙◌}
+use Rattle.std.proofs.Common.{◌≡◌, ◌<◌, ◌+◌, ◌-◌, ◌++◌, ℕ, List, None, length, set, slice_set, refl, sym, ap, ◌∙◌, rules}
 use Rattle.std.proofs.Common.{subst, arith}
+use Rattle.std.proofs.lemmas.Grind.{common_steps}
 use Rattle.pb_history.specs.Entries.{Entry, silent_picks}
 use Rattle.pb_machine.specs.Steps.{ComesFrom}
 use Rattle.pb_machine.specs.Views.{machine_view, proc_view}
@@ -165,3 +166,9 @@ invariant_of-self-2 g c =
       machine = machine_there c.self.inside.code.now code _ c.self.invariant.refers c.try_visible.ensures.machine;
       spares = spares_with code _ _ (spares_stay code _ _ c.self.invariant.spares _ None) _ _ (spare_at code c.from-process.result _ spare);
     }
+
+pub returns-then-made-allowance-clause-ok : goal.returns-then-made-allowance-clause-ok
+returns-then-made-allowance-clause-ok g c = grind (arith, common_steps)
+
+pub returns-clause-ok : goal.returns-clause-ok
+returns-clause-ok g c = search rules

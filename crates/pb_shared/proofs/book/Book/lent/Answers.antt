@@ -1,4 +1,5 @@
 use Rattle.std.proofs.Common.{◌≡◌, Some, sym, ap, ◌∙◌, slice_get, arith}
+use Rattle.std.proofs.lemmas.Grind.{common_steps}
 use Rattle.pb_code.specs.Code.{CodeProcess}
 use Rattle.pb_shared.specs.Books.{ledger_of}
 use Rattle.pb_shared.specs.Ledgers.{IsLentBy}
@@ -27,3 +28,6 @@ returns g c =
           let there : Some _ ≡ Some _ = sym c.proc.ensures.state ∙ (ap (slice_get s.machine.processes) from ∙ here.base) in
           c.same.ensures.1 (cc),
     )
+
+pub proc-requires : goal.proc-requires
+proc-requires g c = grind (arith, common_steps) steps 400000

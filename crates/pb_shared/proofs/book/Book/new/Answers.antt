@@ -1,4 +1,5 @@
-use Rattle.std.proofs.Common.{◌≡◌, ℕ, ◌*◌, None, false, length, replicate, refl, sym, ap, ◌∙◌, subst}
+use Rattle.std.proofs.Common.{◌≡◌, ℕ, ◌*◌, None, false, length, replicate, refl, sym, ap, ◌∙◌, subst, rules, arith}
+use Rattle.std.proofs.lemmas.Grind.{common_steps}
 use Rattle.std.proofs.lemmas.List.{length-map}
 use Rattle.pb_base.specs.Steppers.{State}
 use Rattle.pb_code.specs.Code.{CodeProcess, code_process}
@@ -26,3 +27,27 @@ invariant_of-result g c =
       machine = subst (λ (v : VerifiedCode). IsMachineOf v c.in_ok-machine.machine) c.requires.brand c.in_ok-machine.ensures.machine;
       spares = spares_new code c.processes-count.result _ _ c.in_ok-slips.ensures c.in_ok-spares.ensures;
     }
+
+pub from_residual-requires : goal.from_residual-requires
+from_residual-requires g c κs = search rules
+
+pub from_residual-requires-in_err-slips : goal.from_residual-requires-in_err-slips
+from_residual-requires-in_err-slips g c κs = search rules
+
+pub from_residual-requires-in_err-spares : goal.from_residual-requires-in_err-spares
+from_residual-requires-in_err-spares g c κs = search rules
+
+pub no_marks-requires : goal.no_marks-requires
+no_marks-requires g c = grind (arith, common_steps)
+
+pub from_residual-requires-in_err-refused : goal.from_residual-requires-in_err-refused
+from_residual-requires-in_err-refused g c κs = search rules
+
+pub from_residual-requires-in_err-next_arms : goal.from_residual-requires-in_err-next_arms
+from_residual-requires-in_err-next_arms g c κs = search rules
+
+pub returns-in_err-next_arms : goal.returns-in_err-next_arms
+returns-in_err-next_arms g c = grind (arith, common_steps)
+
+pub returns : goal.returns
+returns g c = grind (arith, common_steps) steps 400000
