@@ -2,7 +2,7 @@ use Rattle.std.proofs.Common.{length, suc, ◌-◌, ◌<◌, subst, ◌≡◌, a
 use Rattle.std.proofs.lemmas.Result.{err_from_is_err_and}
 use Rattle.pb_base.specs.declared.operators.UnaryOp.TheVariants as sign
 use Rattle.pb_lexer.specs.Tokens.{tokens}
-use Rattle.pb_grammar.specs.ExpressionReader.{expression, joined, negation, factor, after_sum, after_conjunction, primary}
+use Rattle.pb_grammar.specs.ExpressionReader.{expression, joined, negation, factor, after_sum, after_conjunction}
 use Rattle.pb_grammar.specs.ExpressionReader.{of_level}
 use Rattle.pb_grammar.specs.Making.{IsMadeOf}
 use Rattle.pb_grammar.proofs.Chains.{fails_through, made}
@@ -186,7 +186,3 @@ joined-returns g t c = λ a h.
     let right = c.in_ok-right.ensures in
     made g.B.Builder.is_expr g.B.Builder.wants _ _ _ _ _ (ap (joined c.args.op a) right.found)
     (c.binary.ensures.made a right.syntax h right.same) c.binary.ensures.fault c.built.ensures.made c.built.ensures.fault
-
-pub primary-returns-in_err-expect-in-Mark-Open : goal.primary-returns-in_err-expect-in-Mark-Open
-unfolding primary
-primary-returns-in_err-expect-in-Mark-Open g t c = search depth 0
