@@ -7,7 +7,7 @@ Each second it reads the processor time of every rattle that the command has run
 the command line and folder of the process. What a process uses in its last second is missed; the total is exact.
 
 A minute of a processor does more or less work as others use its host. So each 20 seconds it times a loop of its own,
-which is always the same, and prints the least, middle and most of these times: runs are compared by their middles.
+which is always the same, and prints the least, the median and the most of these times: compare runs by their medians.
 """
 import collections
 import os
@@ -66,7 +66,7 @@ def loop():
 
 
 def main(words):
-    began, seen, loops = time.monotonic(), {}, []
+    began, seen, loops = time.monotonic(), {}, [loop()]
     ran = subprocess.Popen(words or [f"{TOP}/.ci/run"], cwd=None if words else TOP)
     while ran.poll() is None:
         seen.update(below(ran.pid))
@@ -84,8 +84,8 @@ def main(words):
     used = os.times()
     total, clock = (used.children_user + used.children_system) / 60, (time.monotonic() - began) / 60
     print(f"\n{sums}; in all {total:.1f} minutes of processors, {clock:.1f} by the clock")
-    least, middle, most = min(loops), statistics.median(loops), max(loops)
-    print(f"the loop took {least:.0f} to {most:.0f} milliseconds, in the middle {middle:.0f}")
+    least, median, most = min(loops), statistics.median(loops), max(loops)
+    print(f"the loop took {least:.0f} to {most:.0f} milliseconds, with a median of {median:.0f}")
     return ran.returncode
 
 

@@ -19,7 +19,7 @@ const TWO: &[u8] = b"resource t = 9; resource u = 9;
 process p begin hold 2 of t, 1 of u do while 0 do hold 3 of u do skip od od od end
 process q begin skip end";
 
-/// Three processes, which claim 5, 5 and 7 of each of two resources, but for one claim of 6.
+/// Three processes that claim 5, 5 and 7 of each of two resources, except that the second claims 6 of `u`.
 const OVER: &[u8] = b"resource t = 5; resource u = 5;
 process p begin hold 5 of t, 5 of u do skip od end
 process q begin hold 5 of t, 6 of u do skip od end

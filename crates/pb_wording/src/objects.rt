@@ -9,7 +9,7 @@ use pb_object::{ObjectFault, read_any};
 use pb_verifier::{VerifyFault, verify};
 use std::alloc::Global;
 
-// The halvings that leave one place of `MAX_PLACES` and the end behind them.
+// Enough halvings to narrow `MAX_PLACES` places down to one.
 const HALVINGS: usize = 17;
 
 /// Returns the wording of a fault of bytes that are not an object.

@@ -1,4 +1,4 @@
--- Subcommands that were made.
+-- The rules of a subcommand that is added, if there was memory to make it.
 use Rattle.std.proofs.Common.{◌≡◌}
 use Rattle.std.specs.Prelude.{IfOk, Result, Ok, Err}
 use Rattle.clap.specs.Words.{App, app_of}

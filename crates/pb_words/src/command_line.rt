@@ -258,14 +258,14 @@ fn wanting_command<'a>(command: Command<'a>) -> Command<'a>
 }
 
 // Returns the command line without its subcommands.
-fn named<'a>(alloc: Global) -> Result<Command<'a>, AllocError>
+fn bare_command_line<'a>(alloc: Global) -> Result<Command<'a>, AllocError>
     ensures { IfOk result (λ c. app_of c ≡ that_wants_command (new_app (codes "parbegin"))) }
 {
     let command = Command::new(alloc, "parbegin").bin_name("parbegin")?;
     Ok(wanting_command(command))
 }
 
-// Adds a subcommand, if there was memory for both. What was made is dropped here alone if there was not.
+// Adds a subcommand if both commands were made. If one was not, the other is dropped here and nowhere else.
 fn with_made<'a>(
     command: Result<Command<'a>, AllocError>,
     made: Result<Command<'a>, AllocError>,
@@ -334,7 +334,7 @@ fn with_others<'a>(
 pub fn command_line<'a>(alloc: Global) -> Result<Command<'a>, AllocError>
     ensures { IfOk result (λ c. app_of c ≡ whole) }
 {
-    let command = with_codes(alloc, with_texts(alloc, named(alloc)));
+    let command = with_codes(alloc, with_texts(alloc, bare_command_line(alloc)));
     let command = with_picks(alloc, with_objects(alloc, command));
     with_others(alloc, command)
 }

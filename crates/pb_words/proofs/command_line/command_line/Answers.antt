@@ -5,4 +5,4 @@ pub returns : goal.returns
 unfolding command_line
 returns c =
     c.with_others.ensures _ (c.with_picks-command.ensures _ (c.with_objects.ensures _ (c.with_codes-command.ensures _
-    (c.with_texts.ensures _ c.named.ensures))))
+    (c.with_texts.ensures _ c.bare_command_line.ensures))))
