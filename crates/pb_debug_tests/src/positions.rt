@@ -31,8 +31,18 @@ const B: Pick = Pick { process: 1, arm: 0 };
 
 const SECOND: Pick = Pick { process: 0, arm: 2 };
 
-/// Returns what moves over these picks of a loop cost: none, to the first position, back by one, and to the
-/// second.
+/// Returns what these moves cost: none, to the first position, back by one, and to the second.
+fn costs_of_moves(debugger: &mut Debugger<'_>, first: u32, second: u32) -> Option<[u32; 4]> {
+    let none = debugger.last_cost();
+    debugger.to(first).ok()?;
+    let far = debugger.last_cost();
+    debugger.back(1).ok()?;
+    let before = debugger.last_cost();
+    debugger.to(second).ok()?;
+    Some([none, far, before, debugger.last_cost()])
+}
+
+/// Returns what such moves over these picks of a loop cost.
 fn costs(alloc: Global, picks: &[CountedPick], first: u32, second: u32) -> Option<[u32; 4]>
     requires { length (spread picks.now) ≤ 10000000 }
 {
@@ -42,13 +52,7 @@ fn costs(alloc: Global, picks: &[CountedPick], first: u32, second: u32) -> Optio
     let Ok(mut debugger) = Debugger::new_counted(alloc, &compiled, picks) else {
         return None;
     };
-    let none = debugger.last_cost();
-    debugger.to(first).ok()?;
-    let far = debugger.last_cost();
-    debugger.back(1).ok()?;
-    let before = debugger.last_cost();
-    debugger.to(second).ok()?;
-    Some([none, far, before, debugger.last_cost()])
+    costs_of_moves(&mut debugger, first, second)
 }
 
 #[test]
@@ -160,9 +164,7 @@ fn is_cash(why: Result<Why, DebugFault>, wanted: u8, amount: u32) -> bool {
 }
 
 /// Returns whether one process holds the tape, and each of both waits or may go on as the banker says.
-fn waits_are_right(alloc: Global) -> Option<bool> {
-    let compiled = compile(alloc, alloc, DEVICES).ok()?;
-    let mut debugger = Debugger::new(alloc, &compiled, &[A, A]).ok()?;
+fn tells_waits(debugger: &mut Debugger<'_>) -> Option<bool> {
     let free = is_order(debugger.why(1, 0), &[1, 0]);
     debugger.to(1).ok()?;
     let tape = debugger.loans().processes() == 2 && is_rest(debugger.why(1, 0), &[0, 1]);
@@ -173,12 +175,31 @@ fn waits_are_right(alloc: Global) -> Option<bool> {
     Some(free && tape && line && next && disk)
 }
 
+/// Returns whether that is so where the first process takes both devices.
+fn waits_are_right(alloc: Global) -> Option<bool> {
+    let compiled = compile(alloc, alloc, DEVICES).ok()?;
+    let mut debugger = Debugger::new(alloc, &compiled, &[A, A]).ok()?;
+    tells_waits(&mut debugger)
+}
+
 #[test]
 fn reasons_of_requests(rt: HostRuntime) {
     assert!(rt; waits_are_right(rt.alloc()) == Some(true));
 }
 
 /// Returns whether integers, lines and arms are those of the source, up to a fault.
+fn tells_arms(debugger: &mut Debugger<'_>) -> Option<bool> {
+    debugger.to(4).ok()?;
+    let vars = debugger.vars(0).ok()? == [-7, 0].as_slice();
+    let lines = debugger.line(0, 1) == Ok(Some(4)) && debugger.line(0, 2) == Ok(Some(4));
+    let none = matches!(debugger.why(0, 1), Ok(Why::NotAsking))
+        && debugger.vars(1) == Err(DebugFault::NoProcess);
+    debugger.to(debugger.len()).ok()?;
+    let faulted = debugger.threads(0).ok()?.faulted() && debugger.line(0, 2) == Ok(None);
+    Some(vars && lines && none && faulted)
+}
+
+/// Returns whether that is so of a run of two arms, made from the object.
 fn arms_are_right(alloc: Global) -> Option<bool> {
     let picks = [
         CountedPick { pick: A, count: 4 },
@@ -194,14 +215,7 @@ fn arms_are_right(alloc: Global) -> Option<bool> {
         compiled.labels(),
         &picks,
     ).ok()?;
-    debugger.to(4).ok()?;
-    let vars = debugger.vars(0).ok()? == [-7, 0].as_slice();
-    let lines = debugger.line(0, 1) == Ok(Some(4)) && debugger.line(0, 2) == Ok(Some(4));
-    let none = matches!(debugger.why(0, 1), Ok(Why::NotAsking))
-        && debugger.vars(1) == Err(DebugFault::NoProcess);
-    debugger.to(debugger.len()).ok()?;
-    let faulted = debugger.threads(0).ok()?.faulted() && debugger.line(0, 2) == Ok(None);
-    Some(vars && lines && none && faulted)
+    tells_arms(&mut debugger)
 }
 
 #[test]

@@ -241,6 +241,32 @@ impl Shapes {
         }
         Ok(())
     }
+
+    // Adds everything but the ticks.
+    fn add_all(
+        &mut self,
+        names: &Names,
+        capital: &Capital,
+        drawing: &Drawing,
+        lines: &[Vec<u8>],
+        rows: &Rows,
+        knots: &[Knot],
+    ) -> Result<(), NoMemory>
+        requires lines { length lines.now ≡ length drawing.now.marks.items }
+        requires depths { length rows.now.depths.items ≡ length drawing.now.marks.items }
+        requires rows { length rows.now.rows.items ≡ length drawing.now.lanes.items }
+        requires curves { length drawing.now.curves.items ≡ length capital.now }
+        requires resources { length (names_view names.now).resources ≡ length capital.now }
+    {
+        let bottom = bottom_of(drawing, rows);
+        self.add_gaps(knots, bottom)?;
+        self.add_numbers(drawing, knots)?;
+        self.add_lanes(names, &drawing.lanes, &rows.rows, knots)?;
+        self.add_bars(drawing, lines, rows, knots)?;
+        self.add_curves(names, capital, &drawing.curves, rows.end, knots)?;
+        self.add_note(bottom.saturating_add(24), NOTE)?;
+        self.add_note(bottom.saturating_add(38), OTHER_NOTE)
+    }
 }
 
 // What is said below a picture, and how wide it is at least, so that there is room for it.
@@ -276,6 +302,12 @@ fn left_of(names: &Names) -> u64 {
     characters.min(32) * CHARACTER + 100
 }
 
+/// Returns where the rows of the arms and of the resources end.
+fn bottom_of(drawing: &Drawing, rows: &Rows) -> u64 {
+    let curves = drawing.curves.len() as u64;
+    rows.end.saturating_add(curves.saturating_mul(CURVE_ROW))
+}
+
 /// Returns the picture of a drawing, with the names and the capital of its code.
 pub fn lay_out(
     alloc: Global,
@@ -296,19 +328,11 @@ pub fn lay_out(
         rects: Vec::new(alloc),
         labels: Vec::new(alloc),
     };
-    let curves = drawing.curves.len() as u64;
-    let bottom = rows.end.saturating_add(curves.saturating_mul(CURVE_ROW));
-    shapes.add_gaps(&knots, bottom)?;
-    shapes.add_numbers(drawing, &knots)?;
-    shapes.add_lanes(names, &drawing.lanes, &rows.rows, &knots)?;
-    shapes.add_bars(drawing, &lines, &rows, &knots)?;
-    shapes.add_curves(names, capital, &drawing.curves, rows.end, &knots)?;
-    shapes.add_note(bottom.saturating_add(24), NOTE)?;
-    shapes.add_note(bottom.saturating_add(38), OTHER_NOTE)?;
+    shapes.add_all(names, capital, drawing, &lines, &rows, &knots)?;
     let ticks = ticks_of(alloc, &drawing.marks, &lines, &knots, &rows.rows)?;
     Ok(Picture {
         width: right_of(&knots).saturating_add(20).max(MIN_WIDTH),
-        height: bottom.saturating_add(50),
+        height: bottom_of(drawing, &rows).saturating_add(50),
         rects: shapes.rects,
         labels: shapes.labels,
         ticks,

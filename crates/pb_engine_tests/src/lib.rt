@@ -1,13 +1,20 @@
-//! Tests of the engines that have crates of their own, of the whole program over any words, and of the messages
-//! for a person, by their public calls: in a crate of their own, so that none of those is proved again with them.
+//! Tests of the engines that have crates of their own, of the search for every outcome, of the words of a call, of
+//! the whole program over any words, and of the messages for a person, by their public calls: in a crate of their
+//! own, so that none of those is proved again with them.
 #![tactic(auto)]
 
 #[cfg(test)]
 mod calls;
 #[cfg(test)]
+mod codes;
+#[cfg(test)]
 mod debug;
 #[cfg(test)]
 mod draw;
+#[cfg(test)]
+mod explored;
+#[cfg(test)]
+mod graph;
 #[cfg(test)]
 mod live;
 #[cfg(test)]
@@ -16,3 +23,5 @@ mod messages;
 mod outcomes;
 #[cfg(test)]
 mod places;
+#[cfg(test)]
+mod words;

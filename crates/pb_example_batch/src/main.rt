@@ -8,7 +8,7 @@ ghost use Rattle.pb_example_batch.specs.Results.{AreResults, last_print, last_pr
 ghost use Rattle.pb_history.specs.Entries.{events_of};
 
 use anyhow::Result;
-use pb_base::device::{StandardInput, StandardOutput, read_whole, write_all};
+use pb_base::device::{Output, StandardInput, StandardOutput, read_whole, write_all};
 use pb_base::{Event, NoMemory};
 use pb_codegen::compile;
 use pb_history::Trace;
@@ -107,24 +107,44 @@ fn run_batch<G: Gate, R: Threads + Wait + Sync>(
     Ok(results(alloc, jobs, &report.trace)?)
 }
 
-fn main(rt: HostRuntime) -> Result<()> {
-    let alloc = rt.alloc();
-    let text = read_whole(alloc, &mut StandardInput::new(rt.stdin()), MAX_TEXT)?;
-    let compiled = compile(alloc, alloc, text.as_slice())?;
-    let code = compiled.verified();
-    let gate = Turns {
-        made: AtomicU64::new(0),
-    };
-    let results = run_batch(&rt, alloc, code, 4, &gate)?;
-    let mut output = StandardOutput::new(rt.stdout());
+/// Prints the name of each job with its result.
+fn tell<O: Output>(
+    rt: &impl Print,
+    output: &mut O,
+    code: &Verified,
+    results: &[Option<i64>],
+) -> Result<()> {
     for (name, result) in code.names().processes.iter().zip(results.iter()) {
-        write_all(&mut output, name.as_slice())?;
+        write_all(output, name.as_slice())?;
         match result {
             Some(value) => println!(rt; " {value}")?,
             None => println!(rt; " printed nothing")?,
         }
     }
+    Ok(())
+}
+
+/// Runs the jobs, prints what they came to, and whether the workers passed the gate.
+fn run_jobs<O: Output>(
+    rt: &(impl Print + Threads + Wait + Sync),
+    output: &mut O,
+    alloc: Global,
+    code: &Verified,
+) -> Result<()> {
+    let gate = Turns {
+        made: AtomicU64::new(0),
+    };
+    let results = run_batch(rt, alloc, code, 4, &gate)?;
+    tell(rt, output, code, results.as_slice())?;
     let turned = gate.made.load(Ordering::SeqCst) > 0;
     println!(rt; "the gate was passed: {turned}")?;
     Ok(())
+}
+
+fn main(rt: HostRuntime) -> Result<()> {
+    let alloc = rt.alloc();
+    let text = read_whole(alloc, &mut StandardInput::new(rt.stdin()), MAX_TEXT)?;
+    let compiled = compile(alloc, alloc, text.as_slice())?;
+    let mut output = StandardOutput::new(rt.stdout());
+    run_jobs(&rt, &mut output, alloc, compiled.verified())
 }

@@ -89,14 +89,27 @@ fn run<O: Output>(
     Ok(limit)
 }
 
+/// Reads the object of a plan and verifies it.
+fn read_plan(alloc: Global, object: &[u8]) -> Result<Verified>
+    ensures { IfOk result (λ verified. IsVerified verified) }
+{
+    let (code, _labels) = read_any(alloc, object)?;
+    Ok(verify(alloc, code).map_err(|(_, fault)| fault)?)
+}
+
+/// Makes a machine for the plan, runs it, and returns the number of picks.
+fn run_plan<O: Output>(alloc: Global, verified: &Verified, output: &mut O) -> Result<u32>
+    requires { IsVerified verified.now }
+{
+    let mut machine = Machine::new(alloc, verified)?;
+    run(alloc, verified, &mut machine, LIMIT, output)
+}
+
 fn main(rt: HostRuntime) -> Result<()> {
     let alloc = rt.alloc();
     let object = read_whole(alloc, &mut StandardInput::new(rt.stdin()), MAX_INPUT)?;
-    let (code, _labels) = read_any(alloc, object.as_slice())?;
-    let verified = verify(alloc, code).map_err(|(_, fault)| fault)?;
-    let mut machine = Machine::new(alloc, &verified)?;
-    let mut output = StandardOutput::new(rt.stdout());
-    let made = run(alloc, &verified, &mut machine, LIMIT, &mut output)?;
+    let verified = read_plan(alloc, object.as_slice())?;
+    let made = run_plan(alloc, &verified, &mut StandardOutput::new(rt.stdout()))?;
     println!(rt; "{made} picks")?;
     Ok(())
 }

@@ -93,6 +93,25 @@ fn limits(rt: HostRuntime) {
     assert!(rt; one == Some(([(1, 1, Came::Silent), limit, limit], 1)));
 }
 
+/// Takes a stretch, runs it and puts it back, and returns the allowance that was lent.
+fn allowance_of_put_back<'v, C: CodeBrand>(book: &mut Book<'v, C>, alloc: Global) -> Option<u32> {
+    let mut stretch = match book.take(alloc, 64) {
+        Ok(Taken::Work(stretch)) => stretch,
+        Ok(Taken::Idle) => return None,
+        Ok(Taken::Over(_)) => return None,
+        Err(_) => return None,
+    };
+    let allowance = stretch.allowance();
+    let _ = stretch.run(64);
+    match book.put_back(stretch) {
+        Ok(()) => Some(allowance),
+        Err(stretch) => {
+            stretch.forfeit();
+            None
+        }
+    }
+}
+
 /// Returns a stretch that is run and put back, and then a turn: the allowance that was lent, how many picks
 /// the book then has, and the turn.
 fn put_back_once<C: CodeBrand>(
@@ -105,21 +124,7 @@ fn put_back_once<C: CodeBrand>(
         Ok(book) => book,
         Err(_) => return None,
     };
-    let mut stretch = match book.take(alloc, 64) {
-        Ok(Taken::Work(stretch)) => stretch,
-        Ok(Taken::Idle) => return None,
-        Ok(Taken::Over(_)) => return None,
-        Err(_) => return None,
-    };
-    let allowance = stretch.allowance();
-    let _ = stretch.run(64);
-    match book.put_back(stretch) {
-        Ok(()) => {}
-        Err(stretch) => {
-            stretch.forfeit();
-            return None;
-        }
-    }
+    let allowance = allowance_of_put_back(&mut book, alloc)?;
     let made = book.trace().len();
     Some((allowance, made, turn(&mut book, alloc, 10)))
 }

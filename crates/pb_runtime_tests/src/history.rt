@@ -94,24 +94,29 @@ const SECOND: Pick = Pick { process: 0, arm: 2 };
 
 const THIRD: Pick = Pick { process: 1, arm: 2 };
 
-/// Returns a trace of more than 5,000,000 picks of three arms.
-fn long(alloc: Global) -> Result<Trace, NoMemory> {
-    let mut trace = Trace::new(alloc);
-    add_many(&mut trace, FIRST, 5_000_000)?;
-    add_many(&mut trace, FIRST, 0)?;
-    add(&mut trace, FIRST, None)?;
-    add_run(&mut trace, FIRST, 2, 7)?;
-    add(&mut trace, FIRST, None)?;
-    add(&mut trace, SECOND, None)?;
+/// Adds more than 5,000,000 picks of three arms.
+fn add_long(trace: &mut Trace) -> Result<(), NoMemory> {
+    add_many(trace, FIRST, 5_000_000)?;
+    add_many(trace, FIRST, 0)?;
+    add(trace, FIRST, None)?;
+    add_run(trace, FIRST, 2, 7)?;
+    add(trace, FIRST, None)?;
+    add(trace, SECOND, None)?;
     let bundle = Bundle::one(3, 40);
     add(
-        &mut trace,
+        trace,
         THIRD,
         Some(Event::Granted {
             pick: THIRD,
             bundle,
         }),
-    )?;
+    )
+}
+
+/// Returns a trace of these picks.
+fn long(alloc: Global) -> Result<Trace, NoMemory> {
+    let mut trace = Trace::new(alloc);
+    add_long(&mut trace)?;
     Ok(trace)
 }
 

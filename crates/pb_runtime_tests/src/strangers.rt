@@ -43,8 +43,28 @@ fn lose<'v, C: CodeBrand>(book: &mut Book<'v, C>, alloc: Global) {
     }
 }
 
-/// Returns what came of four crossings, how many picks the two books have after the second, and a turn of the
-/// third book.
+/// Returns what came of three crossings and of a turn of the third book, and how many picks the two first books
+/// have after the second crossing.
+fn cross_three<'v, C: CodeBrand>(
+    mine: &mut Book<'v, C>,
+    other: &mut Book<'v, C>,
+    third: &mut Book<'v, C>,
+    alloc: Global,
+) -> ([Came; 4], [u32; 2]) {
+    // the process is at home here
+    let first = cross(mine, other, alloc);
+    // the same arm, allowance and state: no stranger, whoever lent it
+    lose(mine, alloc);
+    let second = cross(mine, other, alloc);
+    let picks = [mine.trace().len(), other.trace().len()];
+    // the same arm, but of another state
+    lose(mine, alloc);
+    let stranger = cross(mine, third, alloc);
+    let last = turn(third, alloc, 64).2;
+    ([first, second, stranger, last], picks)
+}
+
+/// Returns that of three books over one code.
 fn crossings<C: CodeBrand>(alloc: Global, code: &Verified) -> Option<([Came; 4], [u32; 2])>
     requires { code.now ≡ C.code }
 {
@@ -57,17 +77,7 @@ fn crossings<C: CodeBrand>(alloc: Global, code: &Verified) -> Option<([Came; 4],
     let Ok(mut third): Result<Book<'_, C>, _> = Book::new(alloc, code, 1000) else {
         return None;
     };
-    // the process is at home here
-    let first = cross(&mut mine, &mut other, alloc);
-    // the same arm, allowance and state: no stranger, whoever lent it
-    lose(&mut mine, alloc);
-    let second = cross(&mut mine, &mut other, alloc);
-    let picks = [mine.trace().len(), other.trace().len()];
-    // the same arm, but of another state
-    lose(&mut mine, alloc);
-    let stranger = cross(&mut mine, &mut third, alloc);
-    let last = turn(&mut third, alloc, 64).2;
-    Some(([first, second, stranger, last], picks))
+    Some(cross_three(&mut mine, &mut other, &mut third, alloc))
 }
 
 #[test]
