@@ -1,7 +1,7 @@
 #!/usr/bin/env python3
 """Writes the schedules by which a test of the debugger walks through the examples, forward and back.
 
-    checks/schedules.py            says whether crates/pb_debug_tests has the examples as they are, each with its picks
+    checks/schedules.py            says whether crates/pb_runtime_tests has the examples as they are, each with its picks
     checks/schedules.py --write    writes them anew, after a change of an example (then rt fmt in the crate)
 
 The picks are those of `record --seed 7`, by the program that ./parbegin has built. An example with more than 400 picks
@@ -13,7 +13,7 @@ import sys
 from calls import TOP, call, constant
 
 PROGRAM = TOP / "crates/pb_cli/out/pb_cli"
-FILE = TOP / "crates/pb_debug_tests/src/examples.rt"
+FILE = TOP / "crates/pb_runtime_tests/src/recorded.rt"
 MOST = 400
 # The most parts of a table, of which each byte of a text is one. A constant may have 10,000.
 LARGEST = 3_000
@@ -90,7 +90,7 @@ def main():
     if "--write" in sys.argv[1:]:
         FILE.write_text(text)
     is_same = bare(FILE.read_text()) == bare(text)
-    print(f"schedules: {'the examples as they are' if is_same else 'crates/pb_debug_tests has other examples or picks'}")
+    print(f"schedules: {'the examples as they are' if is_same else 'crates/pb_runtime_tests has other examples or picks'}")
     return 0 if is_same else 1
 
 

@@ -1,5 +1,6 @@
-//! Tests of processes, traces, pick lines, books, stretches and workers, by their public calls, in a crate of
-//! their own, since they start threads.
+//! Tests of processes, traces, pick lines, books, stretches and workers, and of the debugger, by their public
+//! calls, in a crate of their own, since they start threads, and so that the debugger is not proved again with
+//! them.
 #![tactic(auto)]
 
 #[cfg(test)]
@@ -15,7 +16,15 @@ mod history;
 #[cfg(test)]
 mod picks;
 #[cfg(test)]
+mod positions;
+#[cfg(test)]
 mod processes;
+#[cfg(test)]
+mod recorded;
+#[cfg(test)]
+mod replays;
+#[cfg(test)]
+mod sessions;
 #[cfg(test)]
 mod strangers;
 #[cfg(test)]

@@ -2,7 +2,7 @@
 
 ghost use Rattle.std.specs.Prelude.{◌≤◌, length};
 
-use crate::examples::{
+use crate::recorded::{
     EXAMPLES_1, EXAMPLES_2, EXAMPLES_3, EXAMPLES_4, EXAMPLES_5, EXAMPLES_6, Example,
 };
 use pb_banker::Banker;
