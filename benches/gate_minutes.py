@@ -61,6 +61,7 @@ def edits_of(crate):
 
 
 def bare(text):
+    """Returns a text without white space, so that it does not matter where an edit breaks its lines."""
     return "".join(text.split())
 
 

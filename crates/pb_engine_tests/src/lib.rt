@@ -12,7 +12,7 @@ mod debug;
 #[cfg(test)]
 mod draw;
 #[cfg(test)]
-mod explored;
+mod explore;
 #[cfg(test)]
 mod graph;
 #[cfg(test)]

@@ -175,7 +175,7 @@ fn tells_waits(debugger: &mut Debugger<'_>) -> Option<bool> {
     Some(free && tape && line && next && disk)
 }
 
-/// Returns whether that is so where the first process takes both devices.
+/// Returns whether that is so if the first process takes both devices.
 fn waits_are_right(alloc: Global) -> Option<bool> {
     let compiled = compile(alloc, alloc, DEVICES).ok()?;
     let mut debugger = Debugger::new(alloc, &compiled, &[A, A]).ok()?;

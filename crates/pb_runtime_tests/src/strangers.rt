@@ -64,7 +64,7 @@ fn cross_three<'v, C: CodeBrand>(
     ([first, second, stranger, last], picks)
 }
 
-/// Returns that of three books over one code.
+/// Returns what `cross_three` returns for three books over one code.
 fn crossings<C: CodeBrand>(alloc: Global, code: &Verified) -> Option<([Came; 4], [u32; 2])>
     requires { code.now ≡ C.code }
 {

@@ -1,4 +1,4 @@
-//! The outcomes of small texts.
+//! The search for every outcome and deadlock of small texts.
 
 use pb_codegen::compile;
 use pb_explore::explore::{explore, explore_by};
