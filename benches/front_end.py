@@ -19,19 +19,18 @@ MAIN = """\
 //! Does one part of the compiler with the text that it is given, again and again, and says how long each round took.
 #![tactic(auto)]
 
-ghost use Rattle.pb_claims.specs.Fits.{FitCapital};
 ghost use Rattle.pb_codegen.specs.Numbered.{IsSpelled};
-ghost use Rattle.pb_names.specs.Program.{capital_of};
 ghost use Rattle.pb_names.specs.Ready.{IsComplete};
 ghost use Rattle.pb_names.specs.View.{resolved_view};
 ghost use Rattle.pb_tree.specs.View.{program_view};
 
 use pb_claims::infer;
-use pb_codegen::generate::generate;
-use pb_codegen::{Numbered, number};
+use pb_codegen::{Analysis, analyze};
+use pb_generator::generate;
 use pb_lexer::lex;
-use pb_names::{is_complete, resolve};
+use pb_names::is_complete;
 use pb_parser::parse;
+use pb_resolver::resolve;
 use pb_tree::Program;
 use std::alloc::Global;
 use std::io::Read;
@@ -68,11 +67,10 @@ fn resolves(alloc: Global, tree: &Program<Global>) -> bool
 }
 
 /// Whether there was memory for the code of the program.
-fn generates(alloc: Global, numbered: &Numbered<Global>) -> bool
-    requires spelled { IsSpelled (resolved_view numbered.now.program) numbered.now.claims }
-    requires enough { FitCapital numbered.now.claims (capital_of (resolved_view numbered.now.program)) }
+fn generates(alloc: Global, analysis: &Analysis<Global>) -> bool
+    requires { IsSpelled (resolved_view analysis.now.program) analysis.now.claims }
 {
-    generate(alloc, &numbered.program, &numbered.claims).is_ok()
+    generate(alloc, &analysis.program, &analysis.claims).is_ok()
 }
 
 fn main(rt: HostRuntime) -> anyhow::Result<ExitCode> {
@@ -91,10 +89,7 @@ fn main(rt: HostRuntime) -> anyhow::Result<ExitCode> {
     let Ok(tree) = parse(alloc, tokens.as_slice()) else {
         return Ok(ExitCode::FAILURE);
     };
-    let Ok(numbered) = number(alloc, alloc, text.as_slice()) else {
-        return Ok(ExitCode::FAILURE);
-    };
-    let Ok(()) = numbered.check_claims(alloc) else {
+    let Ok(analysis) = analyze(alloc, alloc, text.as_slice()) else {
         return Ok(ExitCode::FAILURE);
     };
     if !is_complete(&tree) {
@@ -105,7 +100,7 @@ fn main(rt: HostRuntime) -> anyhow::Result<ExitCode> {
         let done = match words[1].as_str() {
             "parse" => parses(alloc, text.as_slice()),
             "resolve" => resolves(alloc, &tree),
-            "generate" => generates(alloc, &numbered),
+            "generate" => generates(alloc, &analysis),
             _ => false,
         };
         let taken = start.elapsed(&rt)?;
@@ -120,18 +115,18 @@ fn main(rt: HostRuntime) -> anyhow::Result<ExitCode> {
 
 ANSWERS = """\
 use Rattle.pb_names.specs.View.{resolved_view}
-use Rattle.pb_codegen.proofs.Compiling.{sound}
+use Rattle.pb_codegen.proofs.VerifiedProcesses.{generatable}
 use Rattle.bench.proofs.generates.Goals as goal
 
 pub generate-requires : goal.generate-requires
 generate-requires c =
-    let spelled = c.requires.spelled in
-    (sound spelled.0 (resolved_view c.args.numbered.now.program) c.args.numbered.now.claims spelled.1
-    c.requires.enough).generatable
+    let is = c.requires.1 in
+    generatable is.tree (resolved_view c.args.analysis.now.program) is.spelled.limits is.numbered
 """
 
 FILES = {"src/main.rt": MAIN, "proofs/generates/Answers.antt": ANSWERS}
-NEEDS = ["pb_base", "pb_claims", "pb_codegen", "pb_grammar", "pb_lexer", "pb_names", "pb_parser", "pb_tree", "anyhow"]
+NEEDS = ["pb_base", "pb_claims", "pb_codegen", "pb_generator", "pb_grammar", "pb_lexer", "pb_names", "pb_parser", "pb_resolver"]
+NEEDS += ["pb_tree", "anyhow"]
 
 
 def filled(head, pieces, tail, size=SIZE):

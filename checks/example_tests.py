@@ -5,8 +5,8 @@
     checks/example_tests.py --write    writes them anew, after a change of an example or of examples/expected
 
 Each folder of examples/ becomes a file of crates/pb_example_texts, with its texts and objects, and each section of
-examples/expected/calls.txt a file of crates/pb_example_tests, with the calls and what is expected of each. The status
-is 0 if all is as wanted, and 1 if not.
+examples/expected/calls.txt a file of crates/pb_engine_tests/src/examples, with the calls and what is expected of each. The
+status is 0 if all is as wanted, and 1 if not.
 """
 import re
 import sys
@@ -17,7 +17,7 @@ from calls import KINDS, TOP, constant
 
 FOLDER = TOP / "examples"
 EXPECTED = FOLDER / "expected"
-TESTS = TOP / "crates/pb_example_tests/src"
+TESTS = TOP / "crates/pb_engine_tests/src/examples"
 TEXTS = TOP / "crates/pb_example_texts/src"
 STATUSES = ("Done", "Refused", "Words", "Limit", "Fault", "Memory", "Device", "Threads")
 # A longer input is left to checks/examples.py: pb_tests makes texts of that length itself.
@@ -107,7 +107,7 @@ def table(name, rows):
 
 def test_file(heading, rows):
     lines = [f"//! {heading}, by the calls of `examples/expected/calls.txt`. Written by checks/example_tests.py.", ""]
-    lines += ["use crate::calls::{Call, Command, first_wrong};", "use pb_command_io::Status;"]
+    lines += ["use crate::examples::calls::{Call, Command, first_wrong};", "use pb_command_io::Status;"]
     lines += [*imports(dict.fromkeys(row[2] for row in rows)), "use std::test::Fail;", ""]
     for at, part in enumerate(parts(rows), 1):
         lines += table(f"CALLS_{at}", part)
@@ -133,7 +133,7 @@ def text_files():
 
 
 def test_files():
-    """Returns the files of crates/pb_example_tests, each with its text."""
+    """Returns the files of crates/pb_engine_tests/src/examples, each with its text."""
     for heading, rows in sections():
         yield TESTS / (re.sub(r"\W+", "_", heading).lower().removeprefix("the_") + ".rt"), test_file(heading, rows)
 

@@ -3,7 +3,7 @@
 
     checks/examples.py [PROGRAM]     PROGRAM is the one that ./parbegin has built if none is given
 
-examples/expected/calls.txt lists the calls. The gate makes those of up to 6,000 bytes too, in crates/pb_example_tests,
+examples/expected/calls.txt lists the calls. The gate makes those of up to 6,000 bytes too, in crates/pb_engine_tests,
 which example_tests.py writes. Each expected output is compared also with what reference.py, a second
 reading of the documents, makes of the same call, where it knows the command. Every file of examples/ must be in a call,
 with a comment at its head. Its status is 0 if all is as wanted, and 1 if not.

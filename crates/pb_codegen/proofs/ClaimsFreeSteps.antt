@@ -15,7 +15,7 @@ use Rattle.pb_names.specs.Claims.{join}
 use Rattle.pb_names.proofs.Holdings.{ended_held}
 use Rattle.pb_names.proofs.ArmNumbers.{Mine}
 use Rattle.pb_code.specs.Code.{CodeProcess}
-use Rattle.pb_codegen.proofs.WriterLines.{Listing}
+use Rattle.pb_codegen.proofs.SimulationListings.{Listing}
 use Rattle.pb_codegen.proofs.SimulationShapes.{IsFree, Frees, step_frees}
 use Rattle.pb_codegen.proofs.SimulationTrees.{outside, Located, locate}
 use Rattle.pb_codegen.proofs.SimulationProcesses.{RunAlike}

@@ -19,7 +19,7 @@ use Rattle.pb_claims.specs.Fits.{FitCapital}
 use Rattle.pb_code.specs.Code.{CodeProcess, ProcessCode, code_process}
 use Rattle.pb_verifier.proofs.States.{code_move}
 use Rattle.pb_codegen.specs.Correct.{generated}
-use Rattle.pb_codegen.specs.Generate.{process_code}
+use Rattle.pb_generator.specs.Generate.{process_code}
 use Rattle.pb_codegen.specs.SourceBehaviour.{bank_with, SourceReaches, SourceAsksWithin, SourceIsSafe}
 use Rattle.pb_codegen.specs.SourceBehaviour.{SourceIsWellFormed}
 use Rattle.pb_codegen.proofs.VerifiedProcesses.{well_numbered, small_capital}

@@ -14,8 +14,8 @@ use Rattle.pb_names.specs.Program.{Then, NoArm, AndArm, Process, IsWellNumbered}
 use Rattle.pb_names.specs.Source.{source_step, source_process}
 use Rattle.pb_code.specs.Code.{Push, Load, Store, Compute2, Jump, JumpIfZero, PrintTop, Take, Give, Fork}
 use Rattle.pb_code.specs.Code.{Join, End, code_step, code_process}
-use Rattle.pb_codegen.specs.Generate.{process_code}
-use Rattle.pb_codegen.specs.Lines.{process_lines}
+use Rattle.pb_generator.specs.Generate.{process_code}
+use Rattle.pb_generator.specs.Lines.{process_lines}
 use Rattle.pb_names.proofs.Examples.{by_arm}
 
 -- an amount of one resource

@@ -10,6 +10,7 @@ pub mod SimulationBack
 pub mod SimulationCatchUp
 pub mod SimulationExpressions
 pub mod SimulationLines
+pub mod SimulationListings
 pub mod SimulationMeaning
 pub mod SimulationNumbers
 pub mod SimulationPauses
@@ -25,12 +26,10 @@ pub mod TextNames
 pub mod TextOneCode
 pub mod TextOutcomes
 pub mod TextTokens
-pub mod VerifiedArmOrder
 pub mod VerifiedArmRanges
 pub mod VerifiedBounds
 pub mod VerifiedBundles
 pub mod VerifiedDepths
-pub mod VerifiedEnds
 pub mod VerifiedFacts
 pub mod VerifiedForkCounts
 pub mod VerifiedForkOnce
@@ -48,9 +47,3 @@ pub mod VerifiedNumbers
 pub mod VerifiedPeaks
 pub mod VerifiedProcesses
 pub mod VerifiedPrograms
-pub mod WriterLines
-pub mod WriterLists
-pub mod WriterLoops
-pub mod WriterParts
-pub mod WriterPrograms
-pub mod WriterStatements

@@ -14,11 +14,11 @@ use Rattle.pb_names.specs.Source.{item_of, items_of, Doing, Waiting, begin, ArmS
 use Rattle.pb_names.specs.Source.{evaluate, step_items}
 use Rattle.pb_code.specs.Code.{Instr, Push, Store, Jump, JumpIfZero, PrintTop, Take, Give, Fork, Join, End}
 use Rattle.pb_code.specs.Code.{Live, Runs, Traps, Forks, Stops, act, is_skip}
-use Rattle.pb_codegen.specs.Generate.{expr_code, stmt_code, block_code, arm_code}
+use Rattle.pb_generator.specs.Generate.{expr_code, stmt_code, block_code, arm_code}
 use Rattle.pb_names.specs.HeadLines.{item_line, first_line}
-use Rattle.pb_codegen.specs.Lines.{stmt_source_line, block_line, stmt_lines, block_lines}
-use Rattle.pb_codegen.proofs.WriterLines.{Listing, line_at, LinesAt, lines_front, lines_back, length-stmt_lines}
-use Rattle.pb_codegen.proofs.WriterLines.{length-block_lines, length-same_lines}
+use Rattle.pb_generator.specs.Lines.{stmt_source_line, block_line, stmt_lines, block_lines}
+use Rattle.pb_codegen.proofs.SimulationListings.{Listing, line_at, LinesAt, lines_front, lines_back, length-stmt_lines}
+use Rattle.pb_codegen.proofs.SimulationListings.{length-block_lines, length-same_lines}
 use Rattle.pb_code.proofs.Chains.{after_skip}
 use Rattle.pb_codegen.proofs.SimulationExpressions.{HasAt, has_front, has_back, Left, whole, Progress, finished}
 use Rattle.pb_codegen.proofs.SimulationExpressions.{pushes}

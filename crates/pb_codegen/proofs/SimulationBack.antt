@@ -11,7 +11,7 @@ use Rattle.pb_names.specs.Program.{AllWellNumbered, Process}
 use Rattle.pb_names.specs.Source.{SourceProcess, source_step, SourceCanUnder}
 use Rattle.pb_code.specs.Code.{ProcessCode, CodeProcess, code_step, is_skipped, CodeCanUnder, longest}
 use Rattle.pb_codegen.specs.Correct.{generated, ImplementsUnder}
-use Rattle.pb_codegen.specs.Generate.{process_code}
+use Rattle.pb_generator.specs.Generate.{process_code}
 use Rattle.pb_codegen.proofs.SimulationPlaces.{listing_of}
 use Rattle.pb_code.proofs.Chains.{chain_skips, chain_stops, chain_short}
 use Rattle.pb_codegen.proofs.SimulationPauses.{chain}

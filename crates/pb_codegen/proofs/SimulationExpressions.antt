@@ -13,7 +13,7 @@ use Rattle.pb_names.proofs.ExpressionSteps.{unary_becomes, unary_fails, left_bec
 use Rattle.pb_names.proofs.ExpressionSteps.{right_fails}
 use Rattle.pb_code.specs.Code.{Instr, Push, Load, Compute1, Compute2, Live, Runs, Traps, with_result, act}
 use Rattle.pb_code.specs.Code.{is_skip}
-use Rattle.pb_codegen.specs.Generate.{expr_code}
+use Rattle.pb_generator.specs.Generate.{expr_code}
 
 -- the instructions are in the code at this place
 abbrev pub HasAt : List Instr → ℕ → List Instr → Type 0

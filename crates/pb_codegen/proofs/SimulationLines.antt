@@ -8,13 +8,13 @@ use Rattle.pb_names.specs.Program.{AllWellNumbered, Process}
 use Rattle.pb_names.specs.Source.{Arm, Doing, Waiting, Ended, find, SourceProcess}
 use Rattle.pb_code.specs.Code.{Thread, CodeProcess, Idle, Live, thread}
 use Rattle.pb_names.specs.HeadLines.{first_line, head_line}
-use Rattle.pb_codegen.specs.Lines.{process_lines}
+use Rattle.pb_generator.specs.Lines.{process_lines}
 use Rattle.pb_codegen.specs.Correct.{generated, LinesAgree, IsFollowed}
 use Rattle.pb_base.specs.Steppers.{IsFinished}
 use Rattle.pb_names.specs.Source.{source_over}
 use Rattle.pb_names.proofs.ArmNumbers.{Mine}
 use Rattle.pb_code.specs.Code.{code_over}
-use Rattle.pb_codegen.proofs.WriterLines.{Listing, line_at}
+use Rattle.pb_codegen.proofs.SimulationListings.{Listing, line_at}
 use Rattle.pb_codegen.proofs.SimulationArms.{from_line}
 use Rattle.pb_codegen.proofs.SimulationTrees.{Shows, locate}
 use Rattle.pb_verifier.proofs.Threads.{thread_past}

@@ -8,7 +8,7 @@ use Rattle.pb_names.specs.Program.{Program, AllWellNumbered, capital_of}
 use Rattle.pb_names.specs.Source.{SourceCanUnder}
 use Rattle.pb_names.specs.Meaning.{AreClaims}
 use Rattle.pb_claims.proofs.Bounds.{claim-unique}
-use Rattle.pb_codegen.specs.Generate.{program_code}
+use Rattle.pb_generator.specs.Generate.{program_code}
 use Rattle.pb_codegen.specs.Correct.{MeansTheSame}
 use Rattle.pb_codegen.proofs.SimulationBack.{implements}
 

@@ -10,11 +10,11 @@ use Rattle.pb_names.specs.Source.{Item, Arm, Doing, Waiting, Ended, find, step_a
 use Rattle.pb_names.specs.Source.{SourceProcess}
 use Rattle.pb_code.specs.Code.{Instr, Push, Store, Jump, JumpIfZero, PrintTop, Take, Give, End, Live}
 use Rattle.pb_code.specs.Code.{CodeProcess, thread}
-use Rattle.pb_codegen.specs.Generate.{expr_code}
+use Rattle.pb_generator.specs.Generate.{expr_code}
 use Rattle.pb_codegen.proofs.SimulationExpressions.{Left, unpushed, pushed, unloaded, under, on_left, on_right}
 use Rattle.pb_names.specs.HeadLines.{first_line}
 use Rattle.pb_names.proofs.ArmNumbers.{Mine}
-use Rattle.pb_codegen.proofs.WriterLines.{Listing}
+use Rattle.pb_codegen.proofs.SimulationListings.{Listing}
 use Rattle.pb_code.proofs.Chains.{after_skip, Stops, Skips, Chain}
 use Rattle.pb_codegen.proofs.SimulationArms.{Has, Reaches, ItemAt, assign, print, choice, loop, hold, give}
 use Rattle.pb_codegen.proofs.SimulationArms.{parallel, StandsAt, at_end, at_item}

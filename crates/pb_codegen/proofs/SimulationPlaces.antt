@@ -11,9 +11,10 @@ use Rattle.pb_names.specs.Program.{NoArm, AndArm, count, arms_list, arms_in, arm
 use Rattle.pb_names.specs.Program.{IsNumbered, IsNumberedStmt, AreNumbered, Process, arms_of, IsWellNumbered}
 use Rattle.pb_names.specs.Source.{items_of, source_process}
 use Rattle.pb_code.specs.Code.{Instr, End, Idle, Live, thread, code_process}
-use Rattle.pb_codegen.specs.Generate.{block_code, arm_code, arms_code, arms_entries, process_code}
-use Rattle.pb_codegen.specs.Lines.{block_lines, arms_lines, process_lines}
-use Rattle.pb_codegen.proofs.WriterLines.{Listing, LinesAt, lines_front, lines_back, length-block_lines}
+use Rattle.pb_generator.specs.Generate.{block_code, arm_code, arms_code, arms_entries, process_code}
+use Rattle.pb_generator.specs.Lines.{block_lines, arms_lines, process_lines}
+use Rattle.pb_generator.proofs.Parts.{get_back}
+use Rattle.pb_codegen.proofs.SimulationListings.{Listing, LinesAt, lines_front, lines_back, length-block_lines}
 use Rattle.pb_codegen.proofs.SimulationExpressions.{HasAt, has_front, has_back}
 use Rattle.pb_codegen.proofs.SimulationArms.{entry, Has, Lines, PlacedStmt, Placed, ArmsPlaced}
 use Rattle.pb_codegen.proofs.SimulationTrees.{Owns}
@@ -22,12 +23,6 @@ use Rattle.pb_codegen.proofs.SimulationNumbers.{owns_block}
 use Rattle.pb_codegen.proofs.SimulationProcesses.{Alike, arm_stands}
 
 -- ---- lists
-
-pub get_back : {X : Type 0} (xs ys : List X) (i : ℕ) → slice_get (xs ++ ys) (length xs + i) ≡ slice_get ys i
-get_back [] ys i = ap (slice_get ys) (omega arith)
-get_back (y ∷ xs) ys i =
-    let e : length (y ∷ xs) + i ≡ suc (length xs + i) = omega arith in
-    ap (slice_get (y ∷ xs ++ ys)) e ∙ get_back xs ys i
 
 has_all : (pre is : List Instr) → HasAt (pre ++ is) (length pre) is
 has_all pre [] = tt

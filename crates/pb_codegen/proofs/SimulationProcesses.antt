@@ -17,9 +17,9 @@ use Rattle.pb_code.specs.Code.{act, is_over, all_over, launch, dismiss, apply_st
 use Rattle.pb_code.specs.Code.{is_skip, instr_skips, skips_at, is_at_skip}
 use Rattle.pb_verifier.proofs.Threads.{thread_past, length-launch, launch_out, launch_in, length-dismiss, dismiss_out}
 use Rattle.pb_verifier.proofs.Threads.{dismiss_in}
-use Rattle.pb_codegen.specs.Generate.{block_code, arm_code}
-use Rattle.pb_codegen.specs.Lines.{block_lines}
-use Rattle.pb_codegen.proofs.WriterLines.{Listing, line_at, lines_front, lines_back, length-block_lines}
+use Rattle.pb_generator.specs.Generate.{block_code, arm_code}
+use Rattle.pb_generator.specs.Lines.{block_lines}
+use Rattle.pb_codegen.proofs.SimulationListings.{Listing, line_at, lines_front, lines_back, length-block_lines}
 use Rattle.pb_code.proofs.Chains.{after_skip, Chain, chain_on}
 use Rattle.pb_codegen.proofs.SimulationExpressions.{has_front, has_back}
 use Rattle.pb_codegen.proofs.SimulationArms.{entry, Has, Lines, Placed, ArmsPlaced, StandsFrom, at_end}

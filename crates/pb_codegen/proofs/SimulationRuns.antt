@@ -13,7 +13,7 @@ use Rattle.pb_names.specs.Source.{SourceProcess, source_step, source_process, So
 use Rattle.pb_code.specs.Code.{ProcessCode, CodeProcess, step_process, code_step, code_process, is_at_skip}
 use Rattle.pb_code.specs.Code.{is_skipped, shadow, CodeCanUnder}
 use Rattle.pb_verifier.proofs.Requests.{slice_set_here}
-use Rattle.pb_codegen.specs.Generate.{process_code}
+use Rattle.pb_generator.specs.Generate.{process_code}
 use Rattle.pb_codegen.specs.Correct.{generated}
 use Rattle.pb_code.proofs.Chains.{Chain}
 use Rattle.pb_codegen.proofs.SimulationProcesses.{Alike, StepsAlike, neither, skip, both, steps_alike}

@@ -13,7 +13,7 @@ use Rattle.pb_names.specs.Claims.{FreeStep, in_arms, FreeStepAmong, in_first, in
 use Rattle.pb_names.proofs.ArmNumbers.{Mine, AllMine}
 use Rattle.pb_codegen.proofs.SimulationShapes.{SameArm, same_waiting, SameRunning, same_beside, same_items, same_arm}
 use Rattle.pb_codegen.proofs.SimulationShapes.{same_running}
-use Rattle.pb_codegen.proofs.WriterLines.{Listing, line_at}
+use Rattle.pb_codegen.proofs.SimulationListings.{Listing, line_at}
 use Rattle.pb_codegen.proofs.SimulationArms.{StandsFrom}
 
 abbrev pub AreIdle : List Thread → ℕ → ℕ → Type 0

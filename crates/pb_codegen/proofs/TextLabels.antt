@@ -18,10 +18,10 @@ use Rattle.pb_code.specs.Limits.{IsLine}
 use Rattle.pb_code.specs.Whole.{ProcessLabels}
 use Rattle.pb_verifier.proofs.LimitTests.{all_at}
 use Rattle.pb_codegen.specs.Form.{IsSourceLine, IsFullStmt, IsFull, AreFull, IsFormedProcess, IsFormed}
-use Rattle.pb_codegen.specs.Generate.{expr_code, block_code, arm_code, arms_code, process_code, program_code}
-use Rattle.pb_codegen.specs.Lines.{stmt_source_line, block_line, stmt_lines, block_lines, arms_lines}
-use Rattle.pb_codegen.specs.Lines.{process_labels, program_labels}
-use Rattle.pb_codegen.proofs.WriterLines.{length-block_lines}
+use Rattle.pb_generator.specs.Generate.{expr_code, block_code, arm_code, arms_code, process_code, program_code}
+use Rattle.pb_generator.specs.Lines.{stmt_source_line, block_line, stmt_lines, block_lines, arms_lines}
+use Rattle.pb_generator.specs.Lines.{process_labels, program_labels}
+use Rattle.pb_codegen.proofs.SimulationListings.{length-block_lines}
 use Rattle.pb_names.proofs.Holds.{zip_at}
 
 -- ---- a line or none for each place

@@ -12,8 +12,8 @@ use Rattle.pb_names.specs.Resolves.{Resolves}
 use Rattle.pb_names.proofs.OneNumbering.{resolves_once}
 use Rattle.pb_code.specs.Whole.{Code, ProcessLabels}
 use Rattle.pb_codegen.specs.Compiled.{IsCompiled}
-use Rattle.pb_codegen.specs.Generate.{program_code}
-use Rattle.pb_codegen.specs.Lines.{program_labels}
+use Rattle.pb_generator.specs.Generate.{program_code}
+use Rattle.pb_generator.specs.Lines.{program_labels}
 use Rattle.pb_codegen.specs.Numbered.{IsReadAs}
 use Rattle.pb_codegen.proofs.SimulationMeaning.{one_table}
 

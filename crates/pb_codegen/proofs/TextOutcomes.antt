@@ -32,8 +32,8 @@ use Rattle.pb_codegen.specs.declared.fault.CompileFault.TheVariants.{Lex, Parse,
 use Rattle.pb_codegen.specs.Compiled.{IsBeforeClaims, IsCapitalFault, IsCompiled, IsRefused, of_parse, of_names}
 use Rattle.pb_codegen.specs.Numbered.{IsReadAs, Spells}
 use Rattle.pb_codegen.specs.Form.{IsFormedProcess, IsFullStmt, IsFull, AreFull}
-use Rattle.pb_codegen.specs.Generate.{program_code}
-use Rattle.pb_codegen.specs.Lines.{program_labels}
+use Rattle.pb_generator.specs.Generate.{program_code}
+use Rattle.pb_generator.specs.Lines.{program_labels}
 use Rattle.pb_codegen.proofs.VerifiedProcesses.{well_numbered}
 use Rattle.pb_codegen.proofs.SimulationLines.{is_followed}
 use Rattle.pb_codegen.proofs.TextLabels.{fitting_labels}

@@ -8,7 +8,7 @@ use Rattle.pb_code.specs.Code.{Instr, Join, End}
 use Rattle.pb_verifier.specs.Places.{InstrAt, JumpsTo, arm_end, arms, IsInArm}
 use Rattle.pb_verifier.specs.Faults.{HasArms}
 use Rattle.pb_verifier.proofs.ArmPlaces.{any_default}
-use Rattle.pb_codegen.specs.Generate.{block_code, arm_code, arms_code, arms_entries, process_code}
+use Rattle.pb_generator.specs.Generate.{block_code, arm_code, arms_code, arms_entries, process_code}
 use Rattle.pb_codegen.proofs.VerifiedNotes.{In, in_front, in_back, in_all}
 use Rattle.pb_codegen.proofs.VerifiedInstructions.{each_instr_at}
 use Rattle.pb_codegen.proofs.VerifiedJumps.{JumpsWell, arm_jumps}

@@ -6,7 +6,7 @@ use Rattle.pb_names.specs.Program.{Expr, Number, Variable, Unary, Binary, Stmt, 
 use Rattle.pb_names.specs.Program.{Parbegin, Block, Skip, Then, count}
 use Rattle.pb_names.specs.Claims.{stmt_peak, peak, arms_peak}
 use Rattle.pb_code.specs.Code.{Instr, Store, Compute1, Compute2, Jump, JumpIfZero, PrintTop, Give, End}
-use Rattle.pb_codegen.specs.Generate.{expr_code, stmt_code, block_code, arm_code}
+use Rattle.pb_generator.specs.Generate.{expr_code, stmt_code, block_code, arm_code}
 use Rattle.pb_codegen.proofs.VerifiedHeights.{expr_height, stmt_height, height}
 use Rattle.pb_codegen.proofs.VerifiedNotedCode.{Shape}
 use Rattle.pb_verifier.specs.Faults.{in_holdings, in_joined, sum_of_arms}

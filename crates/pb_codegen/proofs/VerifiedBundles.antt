@@ -19,7 +19,7 @@ use Rattle.pb_code.specs.Code.{thread}
 use Rattle.pb_code.specs.Code.{ThreadStep, Runs, Traps, Forks, Joins, Stops, with_result, act, all_over}
 use Rattle.pb_code.specs.Code.{apply_step}
 use Rattle.pb_code.specs.Code.{step_thread, step_process}
-use Rattle.pb_codegen.specs.Generate.{process_code}
+use Rattle.pb_generator.specs.Generate.{process_code}
 use Rattle.pb_codegen.proofs.VerifiedInstructions.{IsElsewhere, NamesExpr, NamesStmt, Names, AllName, all_name-append}
 use Rattle.pb_codegen.proofs.VerifiedInstructions.{EachInstr, each_instr_at, each_of_arms}
 use Rattle.pb_names.proofs.Holds.{numbers_below}

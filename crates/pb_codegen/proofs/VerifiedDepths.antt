@@ -9,7 +9,7 @@ use Rattle.pb_code.specs.Code.{Instr, End, ProcessCode}
 use Rattle.pb_verifier.specs.Places.{InstrAt, IsInArm}
 use Rattle.pb_verifier.specs.Faults.{AreDepths, AreHoldings, EndsClear, PeakFits, TurnsHoldings, in_holdings}
 use Rattle.pb_verifier.proofs.UniqueFacts.{one_holdings, spread_once}
-use Rattle.pb_codegen.specs.Generate.{block_code, arm_code, arms_entries, process_code}
+use Rattle.pb_generator.specs.Generate.{block_code, arm_code, arms_entries, process_code}
 use Rattle.pb_codegen.proofs.VerifiedNotes.{shape, block_shapes, arms_shapes, length-block_shapes, In, in_front}
 use Rattle.pb_codegen.proofs.VerifiedNotes.{in_back, in_all, process_notes, notes_fit}
 use Rattle.pb_codegen.proofs.VerifiedBounds.{Under, each_at, arm_each}

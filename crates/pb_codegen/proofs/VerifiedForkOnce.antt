@@ -5,7 +5,7 @@ use Rattle.pb_names.specs.Program.{Parbegin, Block, Skip, Then, Arms, NoArm, And
 use Rattle.pb_names.specs.Program.{arms_in}
 use Rattle.pb_names.specs.Program.{arms_in_stmt, arms_in_arms, IsNumbered, IsNumberedStmt, AreNumbered}
 use Rattle.pb_code.specs.Code.{Store, Compute1, Compute2, Jump, JumpIfZero, PrintTop, Give, End}
-use Rattle.pb_codegen.specs.Generate.{expr_code, stmt_code, block_code, arm_code, arms_code}
+use Rattle.pb_generator.specs.Generate.{expr_code, stmt_code, block_code, arm_code, arms_code}
 use Rattle.pb_codegen.proofs.VerifiedForkCounts.{among, among-add, times_in, times_in-append}
 use Rattle.pb_names.proofs.NumberedLists.{length-arms_list}
 

@@ -6,7 +6,7 @@ use Rattle.pb_code.specs.Code.{Instr, Fork, Join, ProcessCode}
 use Rattle.pb_verifier.specs.Places.{InstrAt, arms, IsInArm, IsAmong}
 use Rattle.pb_verifier.specs.Faults.{HasForks}
 use Rattle.pb_verifier.proofs.ForkTables.{arm_of}
-use Rattle.pb_codegen.specs.Generate.{arm_code, process_code}
+use Rattle.pb_generator.specs.Generate.{arm_code, process_code}
 use Rattle.pb_codegen.proofs.VerifiedForkCounts.{among, one_among, among_or_none, times_in}
 use Rattle.pb_codegen.proofs.VerifiedForkCounts.{named_once_at_least, place_naming, one_place}
 use Rattle.pb_codegen.proofs.VerifiedInstructions.{EachInstr, each_instr_at, each_of_arm}

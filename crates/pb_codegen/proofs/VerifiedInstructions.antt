@@ -8,7 +8,7 @@ use Rattle.pb_names.specs.Program.{Expr, Number, Variable, Unary, Binary, Stmt, 
 use Rattle.pb_names.specs.Program.{Parbegin, Block, Skip, Then, count}
 use Rattle.pb_code.specs.Code.{Instr, Push, Load, Store, Compute1, Compute2, Jump, JumpIfZero, PrintTop, Take}
 use Rattle.pb_code.specs.Code.{Give, Fork, Join, End}
-use Rattle.pb_codegen.specs.Generate.{expr_code, stmt_code, block_code, arm_code, arms_code}
+use Rattle.pb_generator.specs.Generate.{expr_code, stmt_code, block_code, arm_code, arms_code}
 
 -- a property of each instruction
 abbrev pub EachInstr : (Instr → Type 0) → List Instr → Type 0

@@ -7,7 +7,7 @@ use Rattle.pb_names.specs.Program.{Parbegin, Block, Skip, Then, count}
 use Rattle.pb_code.specs.Code.{Instr, Push, Load, Store, Compute1, Compute2, Jump, JumpIfZero, PrintTop, Take}
 use Rattle.pb_code.specs.Code.{Give, Fork, Join, End}
 use Rattle.pb_verifier.specs.Places.{JumpsTo}
-use Rattle.pb_codegen.specs.Generate.{expr_code, stmt_code, block_code, arm_code}
+use Rattle.pb_generator.specs.Generate.{expr_code, stmt_code, block_code, arm_code}
 use Rattle.pb_codegen.proofs.VerifiedNotes.{In, in_front, in_back}
 use Rattle.pb_codegen.proofs.VerifiedInstructions.{EachInstr, each_instr-append}
 

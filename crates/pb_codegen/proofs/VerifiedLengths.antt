@@ -10,7 +10,7 @@ use Rattle.pb_names.specs.Resolves.{print}
 use Rattle.pb_names.specs.Resolves.{if_else, while_do, hold, parbegin, ResolvesStmts, no_stmt, stmt_then}
 use Rattle.pb_names.specs.Resolves.{ResolvesArms, no_arm, arm_then}
 use Rattle.pb_code.specs.Code.{Store, Compute1, Compute2, Jump, JumpIfZero, PrintTop, Give}
-use Rattle.pb_codegen.specs.Generate.{expr_code, stmt_code, block_code, process_code}
+use Rattle.pb_generator.specs.Generate.{expr_code, stmt_code, block_code, process_code}
 use Rattle.pb_codegen.proofs.VerifiedNotes.{shape, block_shapes, arms_shapes, length-block_shapes}
 use Rattle.pb_codegen.proofs.VerifiedNotes.{length-arms_shapes}
 

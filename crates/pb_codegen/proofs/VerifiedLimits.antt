@@ -8,8 +8,8 @@ use Rattle.pb_verifier.specs.Faults.{UsesWhatIsThere, IsInRange}
 use Rattle.pb_verifier.specs.Limits.{IsUpTo, HasSmallNumbers, IsSmallProcess}
 use Rattle.pb_verifier.specs.Places.{InstrAt, JumpsTo}
 use Rattle.pb_verifier.proofs.ArmOrder.{arm_lies, rise_of}
-use Rattle.pb_codegen.specs.Generate.{arms_entries, process_code}
-use Rattle.pb_codegen.specs.Sizes.{IsGeneratableProcess}
+use Rattle.pb_generator.specs.Generate.{arms_entries, process_code}
+use Rattle.pb_generator.specs.Sizes.{IsGeneratableProcess}
 use Rattle.pb_codegen.proofs.VerifiedProcesses.{IsFine, names_at, sound_forks}
 use Rattle.pb_codegen.proofs.VerifiedForks.{arm_with}
 use Rattle.pb_codegen.proofs.VerifiedArmRanges.{has_arms}

@@ -9,9 +9,9 @@ use Rattle.pb_names.specs.Program.{Parbegin, Block, Skip, Then, count, Process, 
 use Rattle.pb_code.specs.Code.{Instr, Push, Load, Store, Compute1, Compute2, Jump, JumpIfZero, PrintTop, Take}
 use Rattle.pb_code.specs.Code.{Give, Fork, Join, End}
 use Rattle.pb_code.proofs.Chains.{get_within}
-use Rattle.pb_codegen.specs.Generate.{expr_code, stmt_code, block_code, arm_code, arms_code, arms_entries}
-use Rattle.pb_codegen.specs.Generate.{process_code}
-use Rattle.pb_codegen.proofs.SimulationPlaces.{get_back}
+use Rattle.pb_generator.specs.Generate.{expr_code, stmt_code, block_code, arm_code, arms_code, arms_entries}
+use Rattle.pb_generator.specs.Generate.{process_code}
+use Rattle.pb_generator.proofs.Parts.{get_back}
 use Rattle.pb_codegen.proofs.VerifiedNotedCode.{Shape, Notes, Leads, Fits, IsNoted}
 
 abbrev pub shape : ℕ → List Bundle → Shape

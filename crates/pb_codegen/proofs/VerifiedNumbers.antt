@@ -10,7 +10,7 @@ use Rattle.pb_names.specs.Resolves.{if_else, while_do, hold, parbegin, ResolvesS
 use Rattle.pb_names.specs.Resolves.{ResolvesArms, no_arm, arm_then}
 use Rattle.pb_code.specs.Code.{Instr, Load, Store, Take, Give, Fork, Join}
 use Rattle.pb_verifier.specs.Limits.{IsUpTo, IsSmallBundle}
-use Rattle.pb_codegen.specs.Generate.{process_code}
+use Rattle.pb_generator.specs.Generate.{process_code}
 use Rattle.pb_codegen.proofs.TextBundles.{small_bundle}
 use Rattle.pb_codegen.proofs.VerifiedInstructions.{IsElsewhere, NamesExpr, NamesStmt, Names, AllName, all_name-append}
 use Rattle.pb_codegen.proofs.VerifiedInstructions.{EachInstr, each_of_arms}

@@ -13,8 +13,8 @@ use Rattle.pb_verifier.specs.Faults.{HasForks}
 use Rattle.pb_verifier.specs.Places.{InstrAt}
 use Rattle.pb_verifier.proofs.LimitTests.{all_from, all_at}
 use Rattle.pb_codegen.specs.Form.{IsFormed, IsFormedProcess}
-use Rattle.pb_codegen.specs.Generate.{process_code}
-use Rattle.pb_codegen.specs.Sizes.{IsGeneratableProcess, IsGeneratable}
+use Rattle.pb_generator.specs.Generate.{process_code}
+use Rattle.pb_generator.specs.Sizes.{IsGeneratableProcess, IsGeneratable}
 use Rattle.pb_codegen.proofs.VerifiedForks.{has_forks}
 use Rattle.pb_codegen.proofs.VerifiedHeights.{height, height-resolved}
 use Rattle.pb_codegen.proofs.VerifiedInstructions.{each_instr_at}

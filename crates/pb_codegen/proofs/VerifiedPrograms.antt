@@ -36,8 +36,8 @@ use Rattle.pb_verifier.proofs.SoundBehaviour.{behaved}
 use Rattle.pb_verifier.proofs.LimitTests.{all_from, all_at}
 use Rattle.pb_codegen.specs.Accepted.{CanBeCompiled, HasSoundCode}
 use Rattle.pb_codegen.specs.Form.{IsFormedProcess}
-use Rattle.pb_codegen.specs.Generate.{process_code, program_code}
-use Rattle.pb_codegen.specs.Sizes.{IsGeneratable, IsGeneratableProcess}
+use Rattle.pb_generator.specs.Generate.{process_code, program_code}
+use Rattle.pb_generator.specs.Sizes.{IsGeneratable, IsGeneratableProcess}
 use Rattle.pb_codegen.proofs.VerifiedProcesses.{IsFine, fine_process, generatable, low, sound_forks}
 use Rattle.pb_codegen.proofs.VerifiedDepths.{has_depths, has_holdings, ends_clear, peak_fits}
 use Rattle.pb_codegen.proofs.ClaimsKept.{source_asks, source_safe, source_well_formed}

@@ -12,8 +12,8 @@ use Rattle.pb_verifier.specs.declared.fault.VerifyFault.TheVariants.{NoMemory}
 use Rattle.pb_verifier.specs.Behaviour.{IsWellBehaved}
 use Rattle.pb_verifier.specs.Verified.{IsAnnotated, IsRefusedFor}
 use Rattle.pb_codegen.specs.Form.{IsFormed}
-use Rattle.pb_codegen.specs.Generate.{program_code}
-use Rattle.pb_codegen.specs.Sizes.{IsGeneratable}
+use Rattle.pb_generator.specs.Generate.{program_code}
+use Rattle.pb_generator.specs.Sizes.{IsGeneratable}
 use Rattle.pb_codegen.specs.SourceBehaviour.{KeepsClaims}
 
 -- the tree was read, and is within its limits; the program has numbers in place of its names; the capital is

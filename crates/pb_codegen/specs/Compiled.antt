@@ -22,8 +22,8 @@ use Rattle.pb_code.specs.Whole.{Code, ProcessLabels, bank_of}
 use Rattle.pb_verifier.specs.Behaviour.{IsWellBehaved}
 use Rattle.pb_verifier.specs.Verified.{VerifiedCode}
 use Rattle.pb_codegen.specs.Correct.{MeansTheSame, IsFollowed}
-use Rattle.pb_codegen.specs.Generate.{names_of, program_code}
-use Rattle.pb_codegen.specs.Lines.{program_labels}
+use Rattle.pb_generator.specs.Generate.{names_of, program_code}
+use Rattle.pb_generator.specs.Lines.{program_labels}
 use Rattle.pb_codegen.specs.Numbered.{IsReadAs, Spells}
 use Rattle.pb_codegen.specs.SourceBehaviour.{KeepsClaims}
 use Rattle.pb_codegen.specs.declared.fault.ClaimsFault.{ClaimsFault}

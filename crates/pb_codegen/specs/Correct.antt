@@ -11,8 +11,8 @@ use Rattle.pb_names.specs.Source.{source_step, source_process, source_over, Sour
 use Rattle.pb_code.specs.Code.{ProcessCode, Live, CodeProcess, thread, code_step, code_process, code_over}
 use Rattle.pb_code.specs.Code.{CodeCanUnder, longest, shadow}
 use Rattle.pb_code.specs.Whole.{Code, CodeCan}
-use Rattle.pb_codegen.specs.Generate.{process_code}
-use Rattle.pb_codegen.specs.Lines.{process_lines}
+use Rattle.pb_generator.specs.Generate.{process_code}
+use Rattle.pb_generator.specs.Lines.{process_lines}
 
 -- the code of each process
 abbrev pub generated : List Process → List ProcessCode

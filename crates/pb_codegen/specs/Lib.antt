@@ -1,10 +1,6 @@
 pub mod Accepted
 pub mod Compiled
 pub mod Correct
-pub mod Emitted
 pub mod Form
-pub mod Generate
-pub mod Lines
 pub mod Numbered
-pub mod Sizes
 pub mod SourceBehaviour

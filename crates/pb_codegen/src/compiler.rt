@@ -2,7 +2,7 @@
 
 ghost use Rattle.std.specs.Prelude.{◌≡◌, ◌<◌, IfOk, IfErr, OnOk, length};
 ghost use Rattle.pb_claims.specs.Fits.{FitCapital};
-ghost use Rattle.pb_code.specs.View.{code_view, labels_view};
+ghost use Rattle.pb_code.specs.View.{code_view};
 ghost use Rattle.pb_codegen.specs.Compiled.{IsBeforeClaims, IsCapitalFault, IsCompiled, IsRefused, NamesClaim};
 ghost use Rattle.pb_codegen.specs.Numbered.{IsReadAs, IsSpelled};
 ghost use Rattle.pb_names.specs.Program.{capital_of};
@@ -11,13 +11,14 @@ ghost use Rattle.pb_verifier.specs.Verified.{IsRefusedFor};
 
 use crate::compiled::Compiled;
 use crate::fault::{ClaimsFault, CompileFault};
-use crate::generate::{Generated, capital_of, generate};
 use pb_base::{Claims, NoMemory};
 use pb_claims::{OverCapital, fits, infer};
 use pb_code::Code;
+use pb_generator::{Generated, capital_of, generate};
 use pb_lexer::lex;
-use pb_names::{Resolved, resolve};
+use pb_names::Resolved;
 use pb_parser::parse;
+use pb_resolver::resolve;
 use pb_verifier::{Verified, VerifyFault, verify};
 use std::alloc::{Allocator, Global};
 

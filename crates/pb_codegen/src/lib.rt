@@ -2,18 +2,10 @@
 //! events.
 #![tactic(auto)]
 
-mod arms;
 pub mod compiled;
 pub mod compiler;
-mod expression;
 pub mod fault;
-pub mod generate;
 pub mod laws;
-mod names;
-mod operators;
-mod process;
-mod statement;
-mod writer;
 
 pub use compiled::Compiled;
 pub use compiler::{Analysis, analyze, compile};

@@ -10,7 +10,7 @@ use Rattle.pb_base.specs.Steppers.{Makes, State, event_of}
 use Rattle.pb_code.specs.Code.{CodeProcess, code_step}
 use Rattle.pb_code.specs.Reached.{CodeMoves}
 use Rattle.pb_code.specs.Whole.{bank_of, code_opening}
-use Rattle.pb_codegen.proofs.SimulationPlaces.{get_back}
+use Rattle.pb_generator.proofs.Parts.{get_back}
 use Rattle.pb_history.specs.Entries.{Entry, picks_of}
 use Rattle.pb_history.specs.Positions.{AreEnabled, after, state_after, IsAfter}
 use Rattle.pb_history.specs.Traces.{Trail}

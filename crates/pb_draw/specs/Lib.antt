@@ -4,7 +4,5 @@ pub mod Curves
 pub mod Drawings
 pub mod Lanes
 pub mod Marks
-pub mod Pictures
 pub mod Svg
-pub mod Texts
 pub mod Walks

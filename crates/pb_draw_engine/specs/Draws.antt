@@ -5,7 +5,7 @@ use Rattle.pb_code.specs.Code.{CodeProcess}
 use Rattle.pb_code.specs.Whole.{Code, ProcessLabels}
 use Rattle.pb_codegen.specs.Compiled.{IsCompiled}
 use Rattle.pb_draw.specs.Drawings.{IsDrawing}
-use Rattle.pb_draw.specs.Pictures.{ShowsEvents}
+use Rattle.pb_layout.specs.Pictures.{ShowsEvents}
 use Rattle.pb_draw.specs.Svg.{svg}
 use Rattle.pb_draw.specs.declared.drawing.Drawing.{Drawing}
 use Rattle.pb_draw.specs.declared.picture.Picture.{Picture}

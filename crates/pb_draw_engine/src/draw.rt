@@ -1,6 +1,6 @@
 //! The command `draw`, over any input and output.
 
-ghost use Rattle.std.specs.Prelude.{◌≡◌, ◌≢◌, ◌↔◌, ◌≤◌, IfErr, IfOk, IfSome, IsTrue, length};
+ghost use Rattle.std.specs.Prelude.{◌≢◌, ◌↔◌, ◌≤◌, IfErr, IfOk, IfSome, IsTrue, length};
 ghost use Rattle.pb_draw_engine.specs.Draws.{IsPictured, SaysOfDraw, SaysOfDrawnLines};
 ghost use Rattle.pb_command_io.specs.Answers.{Tells};
 ghost use Rattle.pb_command_io.specs.Faults.{TellsFaults, TellsWriteFaults};
@@ -19,11 +19,12 @@ use pb_command_io::Status;
 use pb_command_io::input::read_input;
 use pb_command_io::parts::two_parts;
 use pb_command_io::reply::{Reply, tell};
-use pb_draw::{draw, lay_out, write_svg};
+use pb_draw::{draw, write_svg};
 use pb_engines::accept::{compile_text, refuse};
 use pb_engines::replay::{LinesFault, lines_refusal};
 use pb_history::Trace;
 use pb_history::replay::replay_counted;
+use pb_layout::lay_out;
 use pb_machine::Machine;
 use pb_picks::read_picks;
 use pb_verifier::Verified;

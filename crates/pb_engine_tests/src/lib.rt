@@ -1,6 +1,6 @@
 //! Tests of the engines that have crates of their own, of the search for every outcome, of the words of a call, of
-//! the whole program over any words, and of the messages for a person, by their public calls: in a crate of their
-//! own, so that none of those is proved again with them.
+//! the whole program over any words, of the messages for a person, and of the programs of `examples/`, by their
+//! public calls: in a crate of their own, so that none of those is proved again with them.
 #![tactic(auto)]
 
 #[cfg(test)]
@@ -11,6 +11,8 @@ mod codes;
 mod debug;
 #[cfg(test)]
 mod draw;
+#[cfg(test)]
+mod examples;
 #[cfg(test)]
 mod explore;
 #[cfg(test)]

@@ -13,9 +13,7 @@ pub mod NoCause
 pub mod NumberedLists
 pub mod OneNumbering
 pub mod Parts
-pub mod ReadyParts
 pub mod ResolvedLimits
 pub mod Sizes
-pub mod ToldFaults
 pub mod Views
 pub mod Wholes

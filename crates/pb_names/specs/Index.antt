@@ -1,5 +1,5 @@
 -- What a search for a name returns: its first number. Names that may be the same have one slot, and the names
--- of one slot follow one another by number. No public contract cites this file.
+-- of one slot follow one another by number. No public contract of pb_resolver cites this file.
 use Rattle.std.specs.Prelude.{◌≡◌, ◌≢◌, ℕ, suc, ◌+◌, ◌-◌, ◌*◌, ◌<◌, ◌≤◌, List, length, get_or, slice_get}
 use Rattle.std.specs.Prelude.{Option, Some, None, bit_and}
 use Rattle.pb_names.specs.Program.{Name}

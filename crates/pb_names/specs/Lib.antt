@@ -1,4 +1,3 @@
-pub mod Adds
 pub mod Causes
 pub mod Claims
 pub mod Faults

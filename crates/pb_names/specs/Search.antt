@@ -1,4 +1,5 @@
--- What looking through a program returns: the cause of least offset. No public contract cites this file.
+-- What looking through a program returns: the cause of least offset. No public contract of pb_resolver cites this
+-- file.
 use Rattle.std.specs.Prelude.{◌≡◌, ◌≤◌, nat_le, cond, List, map, Option, Some, None}
 use Rattle.pb_names.specs.Causes.{Causes}
 use Rattle.pb_names.specs.Program as plain

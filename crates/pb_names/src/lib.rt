@@ -1,17 +1,15 @@
-//! Programs after names became numbers, what they do, and how a syntax tree becomes one.
+//! Programs after names became numbers, what they do, and what can be wrong with the names of a syntax tree.
 #![tactic(auto)]
 
-mod causes;
+pub mod causes;
 pub mod complete;
-mod declared;
+pub mod declared;
 pub mod fault;
 pub mod laws;
-mod limits;
+pub mod limits;
 mod lookups;
-pub mod numbering;
 pub mod resolved;
 
 pub use complete::is_complete;
 pub use fault::{Kind, NameFault};
-pub use numbering::resolve;
 pub use resolved::{Expr, Process, Resolved, Resource, Stmt};

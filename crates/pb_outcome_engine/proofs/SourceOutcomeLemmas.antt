@@ -10,7 +10,7 @@ use Rattle.pb_names.specs.Source.{Arm, Doing, Ended, SourceProcess, Waiting, sou
 use Rattle.pb_code.specs.Code.{Thread, CodeProcess, Live, code_over, code_process, code_step, thread}
 use Rattle.pb_code.specs.Whole.{Code}
 use Rattle.pb_codegen.specs.Correct.{generated}
-use Rattle.pb_codegen.specs.Generate.{program_code}
+use Rattle.pb_generator.specs.Generate.{program_code}
 use Rattle.pb_codegen.specs.SourceBehaviour.{bank_with}
 use Rattle.pb_codegen.proofs.SimulationBack.{followed}
 use Rattle.pb_codegen.proofs.SimulationPlaces.{listing_of}
@@ -18,7 +18,7 @@ use Rattle.pb_codegen.proofs.SimulationProcesses.{Alike, RunAlike}
 use Rattle.pb_codegen.proofs.SimulationRuns.{AllAlike, AtProcess, StatesAlike, absent, at_process, opening_alike}
 use Rattle.pb_codegen.proofs.SimulationRuns.{present, shadowed}
 use Rattle.pb_codegen.proofs.VerifiedProcesses.{well_numbered}
-use Rattle.pb_codegen.proofs.WriterLines.{Listing}
+use Rattle.pb_codegen.proofs.SimulationListings.{Listing}
 use Rattle.pb_stages.specs.Reaching.{ProcessOutcome, process_outcome}
 use Rattle.pb_explore.specs.Outcomes.{AreOutcomes, Found}
 use Rattle.pb_stages.specs.declared.lending.Lending.TheVariants.{ByBanker}

@@ -2,12 +2,10 @@
 ghost use Rattle.std.specs.Prelude.{◌≡◌, IfOk, codes, false};
 ghost use Rattle.clap.specs.Words.{App, app_of, new_app, rule_of, with_rule};
 ghost use Rattle.clap.specs.declared.builder.command.Command.TheViews.{out-Command};
-ghost use Rattle.pb_words.specs.CommandLine.{check_command, claims_command, debug_command, draw_command};
-ghost use Rattle.pb_words.specs.CommandLine.{emit_command, flag_rule, exec_command, explain_command, migrate_command};
-ghost use Rattle.pb_words.specs.CommandLine.{number_rule, number_rule_or, outcomes_command, record_command};
-ghost use Rattle.pb_words.specs.CommandLine.{replay_command, run_command, that_wants_command, word_rule_or};
-ghost use Rattle.pb_words.specs.CommandLine.{IsCommand};
-ghost use Rattle.pb_words.specs.CommandLine.{command_line as whole, with_code_commands, with_command};
+ghost use Rattle.pb_words.specs.CommandLine.{IsCommand, check_command, debug_command, emit_command, exec_command};
+ghost use Rattle.pb_words.specs.CommandLine.{explain_command, flag_rule, number_rule, number_rule_or};
+ghost use Rattle.pb_words.specs.CommandLine.{outcomes_command, record_command, run_command, that_wants_command};
+ghost use Rattle.pb_words.specs.CommandLine.{word_rule_or, command_line as whole, with_code_commands, with_command};
 ghost use Rattle.pb_words.specs.CommandLine.{with_object_commands, with_other_commands, with_pick_commands};
 ghost use Rattle.pb_words.specs.CommandLine.{with_run_rules, with_text_commands};
 
@@ -78,31 +76,41 @@ fn with_subcommand<'a>(
     command.subcommand(subcommand)
 }
 
-// Adds an option with a number and a default. Nothing but the command is there when the addition fails: an
+// Returns a command without options.
+fn plain<'a>(alloc: Global, name: &'a str, about: &'a str) -> Result<Command<'a>, AllocError>
+    ensures { IfOk result (IsCommand (new_app name.entry.now)) }
+{
+    Ok(Command::new(alloc, name).about(about))
+}
+
+// Adds an option with a number and a default, if the command was made. Nothing else is there when it was not: an
 // option that would have to be dropped then makes the proof much longer.
 fn with_number<'a>(
     alloc: Global,
-    command: Command<'a>,
+    command: Result<Command<'a>, AllocError>,
     name: &'a str,
     least: u64,
     most: u64,
     default: &'a str,
     help: &'a str,
 ) -> Result<Command<'a>, AllocError>
-    ensures app { IfOk result (λ c. app_of c
-        ≡ with_rule (app_of command.entry) (number_rule_or name.entry.now least most default.entry.now)) }
-    ensures own { IfOk result (λ c. (out-Command c).has_globals ≡ (out-Command command.entry).has_globals) }
+    ensures { (app : App) → IfOk command.entry (IsCommand app) → IfOk result
+        (IsCommand (with_rule app (number_rule_or name.entry.now least most default.entry.now))) }
 {
+    let command = command?;
     let option = number_option_or(alloc, name, least, most, default);
     with_option(command, option.help(help))
 }
 
-// Adds the option that says who decides on a request.
-fn with_lend<'a>(alloc: Global, command: Command<'a>) -> Result<Command<'a>, AllocError>
-    ensures app { IfOk result (λ c. app_of c
-        ≡ with_rule (app_of command.entry) (word_rule_or (codes "lend") (codes "banker"))) }
-    ensures own { IfOk result (λ c. (out-Command c).has_globals ≡ (out-Command command.entry).has_globals) }
+// Adds the option that says who decides on a request, if the command was made.
+fn with_lend<'a>(
+    alloc: Global,
+    command: Result<Command<'a>, AllocError>,
+) -> Result<Command<'a>, AllocError>
+    ensures { (app : App) → IfOk command.entry (IsCommand app) → IfOk result
+        (IsCommand (with_rule app (word_rule_or (codes "lend") (codes "banker")))) }
 {
+    let command = command?;
     let lend = word_option_or(alloc, "lend", "banker");
     with_option(
         command,
@@ -110,16 +118,17 @@ fn with_lend<'a>(alloc: Global, command: Command<'a>) -> Result<Command<'a>, All
     )
 }
 
-// Adds the options of a run by workers.
-#[tactic(auto, unfolding(crate::specs::CommandLine::with_run_rules))]
-fn with_run_options<'a>(alloc: Global, command: Command<'a>) -> Result<Command<'a>, AllocError>
-    ensures app { IfOk result (λ c. app_of c ≡ with_run_rules (app_of command.entry)) }
-    ensures own { IfOk result (λ c. (out-Command c).has_globals ≡ (out-Command command.entry).has_globals) }
+// Adds the options of a run by workers, if the command was made.
+fn with_run_options<'a>(
+    alloc: Global,
+    command: Result<Command<'a>, AllocError>,
+) -> Result<Command<'a>, AllocError>
+    ensures { (app : App) → IfOk command.entry (IsCommand app) → IfOk result (IsCommand (with_run_rules app)) }
 {
     let workers = "Run with this many worker threads, 1 to 16";
-    let command = with_number(alloc, command, "workers", 1, 16, "1", workers)?;
+    let command = with_number(alloc, command, "workers", 1, 16, "1", workers);
     let quantum = "The most steps a worker makes at once, 1 to 4096";
-    let command = with_number(alloc, command, "quantum", 1, 4_096, "64", quantum)?;
+    let command = with_number(alloc, command, "quantum", 1, 4_096, "64", quantum);
     let steps = "Stop the run after this many steps, 0 to 10000000";
     with_number(alloc, command, "steps", 0, 10_000_000, "1000000", steps)
 }
@@ -136,15 +145,6 @@ fn check_texts<'a>(alloc: Global) -> Result<Command<'a>, AllocError>
     with_option(check, heap)
 }
 
-#[tactic(auto, unfolding(crate::specs::CommandLine::claims_command))]
-fn claims_of_text<'a>(alloc: Global) -> Result<Command<'a>, AllocError>
-    ensures { IfOk result (IsCommand claims_command) }
-{
-    Ok(Command::new(alloc, "claims").about(
-        "Print the claims of the program read from standard input",
-    ))
-}
-
 #[tactic(auto, unfolding(crate::specs::CommandLine::debug_command))]
 fn debug_picks<'a>(alloc: Global) -> Result<Command<'a>, AllocError>
     ensures { IfOk result (IsCommand debug_command) }
@@ -154,15 +154,6 @@ fn debug_picks<'a>(alloc: Global) -> Result<Command<'a>, AllocError>
         "Debug a program on standard input along the picks and by the commands that follow, each after a line %%",
     );
     with_option(debug, live)
-}
-
-#[tactic(auto, unfolding(crate::specs::CommandLine::draw_command))]
-fn draw_picks<'a>(alloc: Global) -> Result<Command<'a>, AllocError>
-    ensures { IfOk result (IsCommand draw_command) }
-{
-    Ok(Command::new(alloc, "draw").about(
-        "Draw the picks that follow a program and a line %% on standard input",
-    ))
 }
 
 #[tactic(auto, unfolding(crate::specs::CommandLine::emit_command))]
@@ -177,11 +168,10 @@ fn emit_object<'a>(alloc: Global) -> Result<Command<'a>, AllocError>
     with_option(emit, object)
 }
 
-#[tactic(auto, unfolding(crate::specs::CommandLine::exec_command))]
 fn exec_object<'a>(alloc: Global) -> Result<Command<'a>, AllocError>
     ensures { IfOk result (IsCommand exec_command) }
 {
-    let exec = Command::new(alloc, "exec").about("Run the object read from standard input");
+    let exec = plain(alloc, "exec", "Run the object read from standard input");
     with_run_options(alloc, exec)
 }
 
@@ -197,25 +187,14 @@ fn explain_code<'a>(alloc: Global) -> Result<Command<'a>, AllocError>
     with_option(explain, code)
 }
 
-#[tactic(auto, unfolding(crate::specs::CommandLine::migrate_command))]
-fn migrate_object<'a>(alloc: Global) -> Result<Command<'a>, AllocError>
-    ensures { IfOk result (IsCommand migrate_command) }
-{
-    Ok(Command::new(alloc, "migrate").about(
-        "Print the object read from standard input in format 2",
-    ))
-}
-
-#[tactic(auto, unfolding(crate::specs::CommandLine::outcomes_command))]
 fn outcomes_of_text<'a>(alloc: Global) -> Result<Command<'a>, AllocError>
     ensures { IfOk result (IsCommand outcomes_command) }
 {
-    let states = number_option_or(alloc, "states", 1, 4_000_000, "1000000");
-    let states = states.help("Give up after this many configurations, 1 to 4000000");
-    let outcomes = Command::new(alloc, "outcomes").about(
-        "Print every way in which the program read from standard input can end, and whether some run never ends",
-    );
-    let outcomes = with_option(outcomes, states)?;
+    let about =
+        "Print every way in which the program read from standard input can end, and whether some run never ends";
+    let outcomes = plain(alloc, "outcomes", about);
+    let states = "Give up after this many configurations, 1 to 4000000";
+    let outcomes = with_number(alloc, outcomes, "states", 1, 4_000_000, "1000000", states);
     with_lend(alloc, outcomes)
 }
 
@@ -223,28 +202,17 @@ fn outcomes_of_text<'a>(alloc: Global) -> Result<Command<'a>, AllocError>
 fn record_text<'a>(alloc: Global) -> Result<Command<'a>, AllocError>
     ensures { IfOk result (IsCommand record_command) }
 {
+    let about = "Run the program read from standard input and print it with the picks of the run";
+    let record = with_run_options(alloc, plain(alloc, "record", about))?;
     let seed = number_option(alloc, "seed", 0, 18_446_744_073_709_551_615);
     let seed = seed.help("Draw each step by a generator with this seed, without worker threads");
-    let record = Command::new(alloc, "record").about(
-        "Run the program read from standard input and print it with the picks of the run",
-    );
-    with_option(with_run_options(alloc, record)?, seed)
+    with_option(record, seed)
 }
 
-#[tactic(auto, unfolding(crate::specs::CommandLine::replay_command))]
-fn replay_picks<'a>(alloc: Global) -> Result<Command<'a>, AllocError>
-    ensures { IfOk result (IsCommand replay_command) }
-{
-    Ok(Command::new(alloc, "replay").about(
-        "Replay the picks that follow a program and a line %% on standard input",
-    ))
-}
-
-#[tactic(auto, unfolding(crate::specs::CommandLine::run_command))]
 fn run_texts<'a>(alloc: Global) -> Result<Command<'a>, AllocError>
     ensures { IfOk result (IsCommand run_command) }
 {
-    let run = Command::new(alloc, "run").about("Run the program read from standard input");
+    let run = plain(alloc, "run", "Run the program read from standard input");
     with_run_options(alloc, run)
 }
 
@@ -284,7 +252,12 @@ fn with_texts<'a>(
     ensures { (app : App) → IfOk command.entry (λ c. app_of c ≡ app) → IfOk result (λ c. app_of c ≡ with_text_commands app) }
 {
     let command = with_made(command, check_texts(alloc));
-    with_made(command, claims_of_text(alloc))
+    let claims = plain(
+        alloc,
+        "claims",
+        "Print the claims of the program read from standard input",
+    );
+    with_made(command, claims)
 }
 
 fn with_codes<'a>(
@@ -304,7 +277,8 @@ fn with_objects<'a>(
     ensures { (app : App) → IfOk command.entry (λ c. app_of c ≡ app) → IfOk result (λ c. app_of c ≡ with_object_commands app) }
 {
     let command = with_made(command, exec_object(alloc));
-    with_made(command, migrate_object(alloc))
+    let about = "Print the object read from standard input in format 2";
+    with_made(command, plain(alloc, "migrate", about))
 }
 
 fn with_picks<'a>(
@@ -314,7 +288,8 @@ fn with_picks<'a>(
     ensures { (app : App) → IfOk command.entry (λ c. app_of c ≡ app) → IfOk result (λ c. app_of c ≡ with_pick_commands app) }
 {
     let command = with_made(command, record_text(alloc));
-    let command = with_made(command, replay_picks(alloc));
+    let about = "Replay the picks that follow a program and a line %% on standard input";
+    let command = with_made(command, plain(alloc, "replay", about));
     with_made(command, debug_picks(alloc))
 }
 
@@ -324,7 +299,8 @@ fn with_others<'a>(
 ) -> Result<Command<'a>, AllocError>
     ensures { (app : App) → IfOk command.entry (λ c. app_of c ≡ app) → IfOk result (λ c. app_of c ≡ with_other_commands app) }
 {
-    let command = with_made(command, draw_picks(alloc));
+    let about = "Draw the picks that follow a program and a line %% on standard input";
+    let command = with_made(command, plain(alloc, "draw", about));
     let command = with_made(command, outcomes_of_text(alloc));
     with_made(command, explain_code(alloc))
 }

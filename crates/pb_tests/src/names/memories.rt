@@ -2,7 +2,8 @@
 
 use crate::trees::read;
 use linked_list_allocator::LocalHeap;
-use pb_names::{NameFault, is_complete, resolve};
+use pb_names::{NameFault, is_complete};
+use pb_resolver::resolve;
 use pb_tree::Program;
 use std::alloc::Global;
 

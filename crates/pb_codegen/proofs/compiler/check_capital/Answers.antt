@@ -4,7 +4,7 @@ use Rattle.pb_claims.specs.Fits.{FitCapital, IsFirstOver}
 use Rattle.pb_names.specs.View.{resolved_view, resource_view}
 use Rattle.pb_codegen.proofs.VerifiedProcesses.{generatable}
 use Rattle.pb_codegen.proofs.TextOutcomes.{capital_seen, capital_width, claims_width}
-use Rattle.pb_codegen.proofs.WriterLoops.{all_seen}
+use Rattle.pb_generator.proofs.Loops.{all_seen}
 use Rattle.pb_codegen.proofs.compiler.check_capital.Goals as goal
 
 pub capital_of-requires-clause-small : goal.capital_of-requires-clause-small

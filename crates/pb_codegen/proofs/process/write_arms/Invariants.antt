@@ -1,8 +1,0 @@
-use Rattle.std.proofs.Common.{map, take}
-use Rattle.pb_names.specs.View.{block_view}
-use Rattle.pb_codegen.proofs.VerifiedArmOrder.{HasWritten}
-use Rattle.pb_codegen.proofs.process.write_arms.Given as goal
-
-abbrev pub invariant-loop-arm : goal.invariant-loop-arm
-invariant-loop-arm g l =
-    HasWritten l.writer l.entries.items (map (λ arm. block_view arm.now.items) (take l.arm-index l.arm-items))

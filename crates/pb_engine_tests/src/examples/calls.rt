@@ -1,0 +1,105 @@
+//! Calls of the program's commands on an example.
+
+use pb_base::device::{MemoryInput, MemoryOutput};
+use pb_command_io::Status;
+use pb_engines::{
+    CheckOptions, EmitOptions, RecordOptions, RunOptions, check_engine, claims_engine, emit_engine,
+    exec_engine, migrate_engine, record_engine, replay_engine, run_engine,
+};
+use pb_object::Format;
+use std::sync::Wait;
+use std::thread::Threads;
+
+/// The longest output that is expected, in bytes.
+const MAX_OUTPUT: usize = 4_096;
+
+/// A command with what it is told.
+pub enum Command {
+    Check,
+    Claims,
+    Emit,
+    Exec { quantum: u32, steps: u32 },
+    Migrate,
+    Record { seed: u64 },
+    Replay,
+    Run { quantum: u32, steps: u32 },
+}
+
+/// A command, what it reads, and what it writes.
+pub struct Call {
+    pub name: &'static str,
+    pub command: Command,
+    pub input: &'static [u8],
+    pub status: Status,
+    pub output: &'static [u8],
+}
+
+/// Returns the name of the first call whose status or output is not as expected.
+pub fn first_wrong(
+    rt: &(impl AllocGlobal + Threads + Wait + Sync),
+    calls: &[Call],
+) -> Option<&'static str> {
+    for call in calls {
+        if !is_as_expected(rt, call) {
+            return Some(call.name);
+        }
+    }
+    None
+}
+
+fn is_as_expected(rt: &(impl AllocGlobal + Threads + Wait + Sync), call: &Call) -> bool {
+    match MemoryOutput::new(rt.alloc(), MAX_OUTPUT) {
+        Ok(mut output) => {
+            let status = status_of(rt, call, &mut output);
+            status == Some(call.status) && output.as_slice() == call.output
+        }
+        Err(_) => false,
+    }
+}
+
+// Makes a call, and returns its status, or nothing if its numbers are out of range.
+fn status_of(
+    rt: &(impl AllocGlobal + Threads + Wait + Sync),
+    call: &Call,
+    output: &mut MemoryOutput,
+) -> Option<Status> {
+    let alloc = rt.alloc();
+    let mut input = MemoryInput::new(call.input);
+    Some(match call.command {
+        Command::Check => check_engine(alloc, CheckOptions { heap: None }, &mut input, output),
+        Command::Claims => claims_engine(alloc, &mut input, output),
+        Command::Emit => {
+            let options = EmitOptions {
+                object: Format::Two,
+            };
+            emit_engine(alloc, options, &mut input, output)
+        }
+        Command::Exec { quantum, steps } => {
+            exec_engine(rt, alloc, run_options(quantum, steps)?, &mut input, output)
+        }
+        Command::Migrate => migrate_engine(alloc, &mut input, output),
+        Command::Record { seed } => {
+            let options = RecordOptions {
+                run: run_options(64, 1_000_000)?,
+                seed: Some(seed),
+            };
+            record_engine(rt, alloc, options, &mut input, output)
+        }
+        Command::Replay => replay_engine(alloc, &mut input, output),
+        Command::Run { quantum, steps } => {
+            run_engine(rt, alloc, run_options(quantum, steps)?, &mut input, output)
+        }
+    })
+}
+
+// Returns the options of one worker, if the numbers are in range.
+fn run_options(quantum: u32, steps: u32) -> Option<RunOptions> {
+    if quantum < 1 || 4_096 < quantum || 10_000_000 < steps {
+        return None;
+    }
+    Some(RunOptions {
+        workers: 1,
+        quantum,
+        steps,
+    })
+}

@@ -1,0 +1,7 @@
+pub mod ArmOrder
+pub mod Ends
+pub mod Lists
+pub mod Loops
+pub mod Parts
+pub mod Programs
+pub mod Statements

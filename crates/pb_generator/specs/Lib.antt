@@ -1,0 +1,4 @@
+pub mod Emitted
+pub mod Generate
+pub mod Lines
+pub mod Sizes

@@ -1,0 +1,2 @@
+pub mod ReadyParts
+pub mod ToldFaults
