@@ -6,10 +6,10 @@ use Rattle.pb_commands.specs.Lines.{lines_of}
 use Rattle.pb_debug.specs.Sessions.{Session, session_bytes}
 use Rattle.pb_debug.specs.Value.{Debugging, IsPosition, at_start, showing}
 use Rattle.pb_command_io.specs.Answers.{memory_line}
-use Rattle.pb_engines.specs.Loading.{IsLoaded, SaysOfNoCode}
+use Rattle.pb_text_engines.specs.Loading.{IsLoaded, SaysOfNoCode}
 use Rattle.pb_command_io.specs.Parts.{AreTwoParts}
-use Rattle.pb_engines.specs.Refusals.{SaysOfRefusedText}
-use Rattle.pb_engines.specs.ReplayLines.{SaysOfNoPicks}
+use Rattle.pb_text_engines.specs.Refusals.{SaysOfRefusedText}
+use Rattle.pb_text_engines.specs.ReplayLines.{SaysOfNoPicks}
 use Rattle.pb_command_io.specs.declared.status.Status.{Status}
 use Rattle.pb_command_io.specs.declared.status.Status.TheVariants.{Done, Memory, Device}
 use Rattle.pb_history.specs.Replays.{spread}

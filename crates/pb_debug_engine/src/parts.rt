@@ -16,10 +16,10 @@ use pb_code::Labels;
 use pb_command_io::Status;
 use pb_command_io::reply::tell;
 use pb_debug::Debugger;
-use pb_engines::accept::{compile_text, refuse};
-use pb_engines::load::{load, load_refusal};
-use pb_engines::replay::{LinesFault, lines_refusal};
 use pb_picks::read_picks;
+use pb_text_engines::accept::{compile_text, refuse};
+use pb_text_engines::load::{load, load_refusal};
+use pb_text_engines::replay::{LinesFault, lines_refusal};
 use pb_verifier::Verified;
 use std::alloc::Global;
 

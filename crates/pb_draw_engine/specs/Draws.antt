@@ -12,8 +12,8 @@ use Rattle.pb_draw.specs.declared.picture.Picture.{Picture}
 use Rattle.pb_base.specs.Lines.{line}
 use Rattle.pb_command_io.specs.Answers.{memory_line}
 use Rattle.pb_command_io.specs.Parts.{AreTwoParts}
-use Rattle.pb_engines.specs.Refusals.{RefusesWith}
-use Rattle.pb_engines.specs.ReplayLines.{AreReplayed, IsStatusAt, SaysOfNoPicks}
+use Rattle.pb_text_engines.specs.Refusals.{RefusesWith}
+use Rattle.pb_text_engines.specs.ReplayLines.{AreReplayed, IsStatusAt, SaysOfNoPicks}
 use Rattle.pb_command_io.specs.declared.status.Status.{Status}
 use Rattle.pb_command_io.specs.declared.status.Status.TheVariants.{Memory, Refused}
 use Rattle.pb_history.specs.Entries.{Entry, picks_of}

@@ -5,8 +5,8 @@ ghost use Rattle.pb_draw_engine.specs.Draws.{IsPictured, SaysOfDraw, SaysOfDrawn
 ghost use Rattle.pb_command_io.specs.Answers.{Tells};
 ghost use Rattle.pb_command_io.specs.Faults.{TellsFaults, TellsWriteFaults};
 ghost use Rattle.pb_command_io.specs.Inputs.{SaysOfInput};
-ghost use Rattle.pb_engines.specs.ReplayLines.{AreReplayed, IsLinesFault, IsStatusAt};
-ghost use Rattle.pb_engines.specs.Runs.{HasFault};
+ghost use Rattle.pb_text_engines.specs.ReplayLines.{AreReplayed, IsLinesFault, IsStatusAt};
+ghost use Rattle.pb_text_engines.specs.ToldEvents.{HasFault};
 ghost use Rattle.pb_command_io.specs.declared.status.Status.TheVariants.{Device};
 ghost use Rattle.pb_history.specs.Entries.{picks_of};
 ghost use Rattle.pb_history.specs.Positions.{AreEnabled};
@@ -20,13 +20,13 @@ use pb_command_io::input::read_input;
 use pb_command_io::parts::two_parts;
 use pb_command_io::reply::{Reply, tell};
 use pb_draw::{draw, write_svg};
-use pb_engines::accept::{compile_text, refuse};
-use pb_engines::replay::{LinesFault, lines_refusal};
 use pb_history::Trace;
 use pb_history::replay::replay_counted;
 use pb_layout::lay_out;
 use pb_machine::Machine;
 use pb_picks::read_picks;
+use pb_text_engines::accept::{compile_text, refuse};
+use pb_text_engines::replay::{LinesFault, lines_refusal};
 use pb_verifier::Verified;
 use std::alloc::Global;
 

@@ -1,16 +1,9 @@
-pub mod AcceptLemmas
 pub mod AcceptedTexts
-pub mod CheckLemmas
-pub mod ClaimLemmas
 pub mod CutRecords
-pub mod EmissionLemmas
 pub mod EndedTexts
-pub mod EventLemmas
 pub mod ExecutionLemmas
 pub mod FaultLemmas
-pub mod LoadLemmas
 pub mod RecordLemmas
-pub mod ReplayLemmas
 pub mod ReplayedRecords
 pub mod ReportLemmas
 pub mod SeededRuns

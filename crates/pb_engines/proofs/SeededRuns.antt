@@ -28,7 +28,7 @@ use Rattle.pb_engines.specs.Records.{IsEnded, with_picks}
 use Rattle.pb_schedule.specs.Recorded.{IsRecorded}
 use Rattle.pb_schedule.specs.CodeRuns.{IsDone, Run}
 use Rattle.pb_command_io.specs.declared.status.Status.TheVariants.{Done}
-use Rattle.pb_schedule.proofs.CountedPicks.{counted_once}
+use Rattle.pb_picks.proofs.CountedOnce.{counted_once}
 use Rattle.pb_schedule.proofs.GrantLemmas.{IsEnabled}
 use Rattle.pb_engines.proofs.ReplayedRecords.{is_annotated, wrote}
 use Rattle.pb_schedule.proofs.RunLemmas.{CodeMakes, makes_last}

@@ -1,14 +1,6 @@
-pub mod Checks
-pub mod ClaimLines
-pub mod Emissions
-pub mod EventLines
 pub mod Executions
-pub mod Loading
-pub mod Migrations
 pub mod Outcomes
 pub mod RecordLaws
 pub mod Records
-pub mod Refusals
-pub mod ReplayLines
 pub mod RunLaws
 pub mod Runs

@@ -1,28 +1,19 @@
 -- What `run` says of an input, and with which status.
-use Rattle.std.specs.Prelude.{◌≡◌, ◌≤◌, ◌++◌, ℕ, List, [], codes, length, slice_get, Some, true}
+use Rattle.std.specs.Prelude.{◌≡◌, ◌≤◌, ◌++◌, ℕ, List, [], codes, length}
 use Rattle.std.specs.Fmt.{decimal}
-use Rattle.std.specs.List.{flat_map}
 use Rattle.pb_base.specs.declared.event.Event.{Event}
-use Rattle.pb_base.specs.Lines.{NameTable, line_of, line}
+use Rattle.pb_base.specs.Lines.{line}
 use Rattle.pb_base.specs.Steppers.{State}
 use Rattle.pb_code.specs.Code.{CodeProcess}
 use Rattle.pb_code.specs.Whole.{Code, ProcessLabels}
 use Rattle.pb_codegen.specs.Compiled.{IsCompiled}
 use Rattle.pb_names.specs.Meaning.{SourceCan}
 use Rattle.pb_command_io.specs.Answers.{memory_line}
-use Rattle.pb_engines.specs.Refusals.{RefusesWith}
+use Rattle.pb_text_engines.specs.Refusals.{RefusesWith}
+use Rattle.pb_text_engines.specs.ToldEvents.{HasFault, event_lines}
 use Rattle.pb_schedule.specs.CodeRuns.{IsDone, Run}
 use Rattle.pb_command_io.specs.declared.status.Status.{Status}
 use Rattle.pb_command_io.specs.declared.status.Status.TheVariants.{Done, Refused, Limit, Fault, Memory, Device, Threads}
-
--- the lines of events, in their order
-abbrev pub event_lines : NameTable → List Event → List ℕ
-event_lines names events = flat_map (λ event. line (line_of names event)) events
-
--- some process has faulted
-abbrev pub HasFault : State CodeProcess → Type 0
-HasFault end =
-    (p : ℕ) × (process : CodeProcess) × (slice_get end.processes p ≡ Some process) × (process.faulted ≡ true)
 
 -- what is said of a run of n picks with these events: at its end `done`, or `limit` if all steps were used
 -- up before; the lines so far, and then `memory`, if out of memory; the lines so far if a write failed;

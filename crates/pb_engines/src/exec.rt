@@ -1,11 +1,10 @@
 //! The command `exec`, over any input and output.
-ghost use Rattle.std.specs.Prelude.{◌≡◌, ◌≤◌, ◌⊎◌, IfSome, length};
+ghost use Rattle.std.specs.Prelude.{◌≤◌, IfSome, length};
 ghost use Rattle.pb_command_io.specs.Answers.{Tells};
 ghost use Rattle.pb_engines.specs.Executions.{SaysOfExecution};
 ghost use Rattle.pb_command_io.specs.Inputs.{SaysOfInput};
 ghost use Rattle.pb_command_io.specs.Faults.{TellsFaults, TellsWriteFaults};
 
-use crate::load::{load, load_refusal};
 use crate::report::tell_run;
 use pb_base::device::{Input, Output};
 use pb_base::limits::MAX_INPUT;
@@ -13,6 +12,7 @@ use pb_command_io::Status;
 use pb_command_io::input::read_input;
 use pb_command_io::reply::tell;
 use pb_options::RunOptions;
+use pb_text_engines::load::{load, load_refusal};
 use std::alloc::Global;
 use std::sync::Wait;
 use std::thread::Threads;

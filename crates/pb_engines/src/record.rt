@@ -9,7 +9,6 @@ ghost use Rattle.pb_schedule.specs.Recorded.{IsRecorded, IsTooLong};
 ghost use Rattle.pb_command_io.specs.declared.status.Status.TheVariants.{Refused};
 ghost use Rattle.pb_verifier.specs.Verified.{IsVerified};
 
-use crate::accept::{compile_text, refuse};
 use pb_base::NoMemory;
 use pb_base::device::{Input, Output};
 use pb_base::limits::MAX_INPUT;
@@ -20,6 +19,7 @@ use pb_history::CountedPick;
 use pb_options::RecordOptions;
 use pb_picks::write_picks;
 use pb_schedule::{draw_picks, report_picks};
+use pb_text_engines::accept::{compile_text, refuse};
 use pb_verifier::Verified;
 use pb_workers::RunFault;
 use std::alloc::Global;

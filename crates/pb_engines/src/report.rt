@@ -1,5 +1,5 @@
 //! A run by workers, written line by line.
-ghost use Rattle.std.specs.Prelude.{◌≡◌, ◌++◌, codes};
+ghost use Rattle.std.specs.Prelude.{◌++◌, codes};
 ghost use Rattle.std.specs.Fmt.{decimal};
 ghost use Rattle.pb_base.specs.Lines.{line};
 ghost use Rattle.pb_command_io.specs.Answers.{Says, Tells};
@@ -9,13 +9,13 @@ ghost use Rattle.pb_engines.specs.Runs.{SaysOfCodeRun};
 ghost use Rattle.pb_history.specs.Entries.{events_of};
 ghost use Rattle.pb_workers.specs.Reports.{IsReport};
 
-use crate::events::tell_events;
 use crate::faults::shows_fault;
 use pb_base::device::Output;
 use pb_command_io::{Page, Status};
 use pb_options::RunOptions;
 use pb_schedule::Open;
 use pb_shared::Outcome;
+use pb_text_engines::events::tell_events;
 use pb_verifier::Verified;
 use pb_workers::{Report, RunFault, run_workers};
 use std::alloc::Global;

@@ -1,17 +1,17 @@
 //! The command `run`, over any input and output.
-ghost use Rattle.std.specs.Prelude.{◌≡◌, ◌≤◌, ◌⊎◌, IfSome, length};
+ghost use Rattle.std.specs.Prelude.{◌≤◌, IfSome, length};
 ghost use Rattle.pb_command_io.specs.Answers.{Tells};
 ghost use Rattle.pb_command_io.specs.Inputs.{SaysOfInput};
 ghost use Rattle.pb_engines.specs.Runs.{SaysOfTextRun};
 ghost use Rattle.pb_command_io.specs.Faults.{TellsFaults, TellsWriteFaults};
 
-use crate::accept::{compile_text, refuse};
 use crate::report::tell_run;
 use pb_base::device::{Input, Output};
 use pb_base::limits::MAX_INPUT;
 use pb_command_io::Status;
 use pb_command_io::input::read_input;
 use pb_options::RunOptions;
+use pb_text_engines::accept::{compile_text, refuse};
 use std::alloc::Global;
 use std::sync::Wait;
 use std::thread::Threads;

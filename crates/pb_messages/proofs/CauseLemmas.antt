@@ -3,8 +3,8 @@ use Rattle.std.proofs.Common.{◌≡◌, ℕ, List, Option, None, Some, IfSome, 
 use Rattle.pb_codegen.specs.Compiled.{IsRefused}
 use Rattle.pb_codegen.specs.declared.fault.ClaimsFault.{ClaimsFault}
 use Rattle.pb_codegen.specs.declared.fault.CompileFault.TheVariants.{Lex, Parse, Names, Claims}
-use Rattle.pb_engines.specs.Refusals.{RefusesEarly, by_tokens, by_grammar, by_names, early, by_claims, claims_line}
-use Rattle.pb_engines.specs.Refusals.{lex_line, names_line, parse_line}
+use Rattle.pb_text_engines.specs.Refusals.{RefusesEarly, by_tokens, by_grammar, by_names, early, by_claims, claims_line}
+use Rattle.pb_text_engines.specs.Refusals.{lex_line, names_line, parse_line}
 use Rattle.pb_lexer.specs.declared.error.LexFault.{LexFault}
 use Rattle.pb_names.specs.declared.fault.NameFault.{NameFault}
 use Rattle.pb_grammar.specs.declared.fault.ParseFault.{ParseFault}

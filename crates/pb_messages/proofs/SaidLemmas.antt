@@ -3,11 +3,11 @@ use Rattle.std.proofs.Common.{◌≡◌, ◌≢◌, ◌⊎◌, take, ℕ, List, 
 use Rattle.std.proofs.Common.{subst, sym, inl, inr}
 use Rattle.pb_code.specs.Whole.{Code, ProcessLabels}
 use Rattle.pb_codegen.specs.Compiled.{IsCompiled}
-use Rattle.pb_engines.specs.Loading.{IsLoadFault, load_line}
+use Rattle.pb_text_engines.specs.Loading.{IsLoadFault, load_line}
 use Rattle.pb_command_io.specs.Parts.{AreTwoParts}
-use Rattle.pb_engines.specs.ReplayLines.{picks_line}
-use Rattle.pb_engines.specs.declared.load.LoadFault.{LoadFault}
-use Rattle.pb_engines.proofs.AcceptLemmas.{compiled_is_accepted}
+use Rattle.pb_text_engines.specs.ReplayLines.{picks_line}
+use Rattle.pb_text_engines.specs.declared.load.LoadFault.{LoadFault}
+use Rattle.pb_text_engines.proofs.AcceptLemmas.{compiled_is_accepted}
 use Rattle.pb_history.specs.Replays.{IsStopped, spread}
 use Rattle.pb_history.specs.declared.counted.CountedPick.{CountedPick}
 use Rattle.pb_history.specs.declared.fault.ReplayFault.TheVariants.{NotEnabled}

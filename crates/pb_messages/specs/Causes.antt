@@ -1,6 +1,6 @@
 -- What a refusal line tells: a letter with a number, and an offset if it has one.
 use Rattle.std.specs.Prelude.{◌≡◌, ℕ, ◌+◌, List, ◌++◌, Option, None, Some, codes, length, take, ⊤}
-use Rattle.pb_engines.specs.Refusals.{RefusesWith, at_place}
+use Rattle.pb_text_engines.specs.Refusals.{RefusesWith, at_place}
 use Rattle.pb_messages.specs.declared.cause.Cause.{Cause}
 
 -- the refusal line begins with this code, or is of this code and this offset

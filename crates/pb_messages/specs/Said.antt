@@ -6,11 +6,11 @@ use Rattle.pb_code.specs.Code.{CodeProcess}
 use Rattle.pb_code.specs.Whole.{Code, ProcessLabels}
 use Rattle.pb_codegen.specs.Compiled.{IsCompiled}
 use Rattle.pb_codegen.specs.Numbered.{IsReadAs}
-use Rattle.pb_engines.specs.Loading.{IsLoadFault, IsLoaded, load_line}
+use Rattle.pb_text_engines.specs.Loading.{IsLoadFault, IsLoaded, load_line}
 use Rattle.pb_command_io.specs.Parts.{AreTwoParts, IsCutAt, IsMarkAt}
-use Rattle.pb_engines.specs.Refusals.{IsAcceptedText}
-use Rattle.pb_engines.specs.ReplayLines.{picks_line}
-use Rattle.pb_engines.specs.declared.load.LoadFault.{LoadFault}
+use Rattle.pb_text_engines.specs.Refusals.{IsAcceptedText}
+use Rattle.pb_text_engines.specs.ReplayLines.{picks_line}
+use Rattle.pb_text_engines.specs.declared.load.LoadFault.{LoadFault}
 use Rattle.pb_history.specs.Entries.{Entry}
 use Rattle.pb_history.specs.Replays.{IsReplay, IsStopped, spread}
 use Rattle.pb_history.specs.declared.counted.CountedPick.{CountedPick}

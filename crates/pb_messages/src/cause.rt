@@ -1,9 +1,9 @@
 //! What a refusal line tells: the letter with a number of each fault, and its offset.
 
-ghost use Rattle.std.specs.Prelude.{◌≡◌, ℕ, List, IfSome, Some};
+ghost use Rattle.std.specs.Prelude.{ℕ, List, IfSome, Some};
 ghost use Rattle.pb_codegen.specs.Compiled.{IsRefused};
-ghost use Rattle.pb_engines.specs.Refusals.{claims_line, kind_line, lex_line, names_line, object_line, parse_line, verify_line};
-ghost use Rattle.pb_engines.specs.ReplayLines.{picks_line, stop_line};
+ghost use Rattle.pb_text_engines.specs.Refusals.{claims_line, kind_line, lex_line, names_line, object_line, parse_line, verify_line};
+ghost use Rattle.pb_text_engines.specs.ReplayLines.{picks_line, stop_line};
 ghost use Rattle.pb_messages.specs.Causes.{IsCauseOf, TellsCause};
 
 use pb_codegen::{ClaimsFault, CompileFault};

@@ -1,7 +1,7 @@
 //! The message of a refused input.
 
 ghost use Rattle.std.specs.Prelude.{◌≡◌, ◌↔◌, [], IfNone, IfOk, IfSome, IsTrue, OnOk, codes, take};
-ghost use Rattle.pb_engines.specs.Refusals.{IsAcceptedText};
+ghost use Rattle.pb_text_engines.specs.Refusals.{IsAcceptedText};
 ghost use Rattle.pb_messages.specs.Messages.{TellsRefusal};
 ghost use Rattle.pb_messages.specs.Said.{SaysByReading, SaysOfObjectText, SaysOfPickedObject, SaysOfPickedText, SaysOfProgram, SaysOfText, SaysOfTexts};
 ghost use Rattle.pb_messages.specs.Said.{SaysMore, SaysToPerson, behind, long_output};

@@ -8,7 +8,7 @@ use Rattle.pb_base.specs.declared.pick.Pick.{Pick}
 use Rattle.pb_history.specs.Replays.{spread}
 use Rattle.pb_history.specs.declared.counted.CountedPick.{CountedPick}
 use Rattle.pb_picks.specs.Counted.{AreApart}
-use Rattle.pb_schedule.proofs.CountedPicks.{apart_rest, some_first}
+use Rattle.pb_picks.proofs.CountedOnce.{apart_rest, some_first}
 use Rattle.pb_outcome_engine.specs.OutcomeLines.{AreCounted}
 
 -- how many they are

@@ -12,7 +12,7 @@ use Rattle.pb_history.specs.declared.counted.CountedPick.{CountedPick}
 use Rattle.pb_outcome_engine.specs.DeadlockLines.{AreDeadlockLines, deadlock_lines, none as no_stuck}
 use Rattle.pb_outcome_engine.specs.DeadlockLines.{one_more as one_more_stuck}
 use Rattle.pb_outcome_engine.specs.OutcomeLines.{AreCounted, AreOutcomeLines, none, one_more, outcome_lines}
-use Rattle.pb_engines.proofs.ClaimLemmas.{view_at}
+use Rattle.pb_text_engines.proofs.ClaimLemmas.{view_at}
 use Rattle.pb_explore.specs.Deadlocks.{FoundDeadlock}
 use Rattle.pb_explore.specs.Deadlocks.{deadlock_view}
 use Rattle.pb_explore.specs.declared.found.Deadlock.{Deadlock as GivenDeadlock}

@@ -2,7 +2,7 @@
 use Rattle.std.specs.Prelude.{ℕ, Bool, List, ◌++◌, length}
 use Rattle.pb_code.specs.Whole.{Code, ProcessLabels}
 use Rattle.pb_codegen.specs.Compiled.{IsCompiled}
-use Rattle.pb_engines.specs.Refusals.{SaysOfRefusedText}
+use Rattle.pb_text_engines.specs.Refusals.{SaysOfRefusedText}
 use Rattle.pb_command_io.specs.declared.status.Status.{Status}
 use Rattle.pb_command_io.specs.declared.status.Status.TheVariants.{Done, Limit}
 use Rattle.pb_explore.specs.Deadlocks.{AreDeadlocks, FoundDeadlock}

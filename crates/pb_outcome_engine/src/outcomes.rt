@@ -18,11 +18,11 @@ use pb_codegen::Compiled;
 use pb_command_io::Status;
 use pb_command_io::input::read_input;
 use pb_command_io::reply::{Reply, tell};
-use pb_engines::accept::{compile_text, refuse};
 use pb_explore::ExploreFault;
 use pb_explore::explore::explore_by;
 use pb_options::{Lend, OutcomesOptions};
 use pb_stages::Lending;
+use pb_text_engines::accept::{compile_text, refuse};
 use std::alloc::Global;
 
 /// Writes every outcome of the text that the input holds, under the banker or with loans by the cash alone:

@@ -1,3 +1,4 @@
+pub mod CountedOnce
 pub mod Counts
 pub mod Numbers
 pub mod PickParts

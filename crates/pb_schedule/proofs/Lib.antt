@@ -1,5 +1,4 @@
 pub mod ChoiceLemmas
-pub mod CountedPicks
 pub mod DrawLemmas
 pub mod GrantLemmas
 pub mod LongRecords

@@ -30,7 +30,7 @@ use Rattle.pb_schedule.specs.declared.schedule.Next.{Next}
 use Rattle.pb_schedule.specs.declared.schedule.Next.TheVariants.{Silent, Did, NotEnabled}
 use Rattle.pb_schedule.specs.Recorded.{IsRecorded}
 use Rattle.pb_schedule.specs.CodeRuns.{IsDone, Run}
-use Rattle.pb_schedule.proofs.CountedPicks.{apart_rest, some_first}
+use Rattle.pb_picks.proofs.CountedOnce.{apart_rest, some_first}
 use Rattle.pb_schedule.proofs.RunLemmas.{CodeMakes, makes_last}
 use Rattle.pb_schedule.proofs.ScheduleLemmas.{no_such_arm}
 

@@ -1,2 +1,1 @@
-pub mod AddedCommands
 pub mod ReadLemmas

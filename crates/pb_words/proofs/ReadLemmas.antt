@@ -8,11 +8,11 @@ use Rattle.clap.specs.Words.{kind_of, one_of, one_text, rows_of}
 use Rattle.clap.specs.declared.error.Error.{Error}
 use Rattle.clap.specs.declared.error.kind.ErrorKind.TheVariants.{OutOfMemory}
 use Rattle.clap.proofs.OnLiterals.{clap_on_literals}
-use Rattle.pb_words.specs.CommandLine.{command_line, with_text_commands, with_code_commands, with_object_commands}
-use Rattle.pb_words.specs.CommandLine.{with_other_commands, with_pick_commands, check_command, claims_command}
-use Rattle.pb_words.specs.CommandLine.{debug_command, draw_command, emit_command, exec_command, explain_command}
-use Rattle.pb_words.specs.CommandLine.{migrate_command, outcomes_command, record_command, replay_command, run_command}
-use Rattle.pb_words.specs.CommandLine.{with_run_rules}
+use Rattle.pb_command_line.specs.CommandLine.{command_line, with_text_commands, with_code_commands, with_object_commands}
+use Rattle.pb_command_line.specs.CommandLine.{with_other_commands, with_pick_commands, check_command, claims_command}
+use Rattle.pb_command_line.specs.CommandLine.{debug_command, draw_command, emit_command, exec_command, explain_command}
+use Rattle.pb_command_line.specs.CommandLine.{migrate_command, outcomes_command, record_command, replay_command, run_command}
+use Rattle.pb_command_line.specs.CommandLine.{with_run_rules}
 use Rattle.clap.specs.declared.parser.matches.Found.{Found}
 use Rattle.clap.proofs.WalkLemmas.{one_text-rows}
 use Rattle.pb_words.specs.Read.{BlamesWords, HasCheckNumbers, HasCode, HasEmitNumber, HasFlag, HasNumber, HasNumberIn}

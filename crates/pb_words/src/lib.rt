@@ -1,7 +1,6 @@
 //! Reads the words of a call of the program: the command and its options, as clap takes them.
 #![tactic(auto)]
 
-mod command_line;
 mod read;
 mod words;
 

@@ -13,10 +13,10 @@ ghost use Rattle.pb_options.specs.declared.options.OutcomesOptions.{OutcomesOpti
 ghost use Rattle.pb_options.specs.declared.options.RecordOptions.{RecordOptions as AnyRecordOptions};
 ghost use Rattle.pb_options.specs.declared.options.RunOptions.{RunOptions as AnyRunOptions};
 
-use crate::command_line::command_line;
 use crate::words::{Options, WordsFault};
 use clap::error::ErrorKind;
 use clap::{ArgMatches, Error};
+use pb_command_line::command_line::command_line;
 use pb_object::Format;
 use pb_options::{
     CheckOptions, DebugOptions, EmitOptions, Lend, OutcomesOptions, RecordOptions, RunOptions,

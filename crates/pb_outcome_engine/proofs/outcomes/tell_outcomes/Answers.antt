@@ -1,4 +1,4 @@
-use Rattle.pb_engines.specs.Refusals.{SaysOfRefusedText}
+use Rattle.pb_text_engines.specs.Refusals.{SaysOfRefusedText}
 use Rattle.pb_command_io.proofs.InputLemmas.{replied_too, said_too, told_reply}
 use Rattle.pb_outcome_engine.specs.SaysOutcomes.{SaysOfSearch, SaysOfOutcomes, accepted, refused}
 use Rattle.pb_outcome_engine.specs.SaysOutcomes.{lending_for}

@@ -1,0 +1,316 @@
+//! The command line as clap reads it.
+ghost use Rattle.std.specs.Prelude.{◌≡◌, IfOk, codes, false};
+ghost use Rattle.clap.specs.Words.{App, app_of, new_app, rule_of, with_rule};
+ghost use Rattle.clap.specs.declared.builder.command.Command.TheViews.{out-Command};
+ghost use Rattle.pb_command_line.specs.CommandLine.{IsCommand, check_command, debug_command, emit_command, exec_command};
+ghost use Rattle.pb_command_line.specs.CommandLine.{explain_command, flag_rule, number_rule, number_rule_or};
+ghost use Rattle.pb_command_line.specs.CommandLine.{outcomes_command, record_command, run_command, that_wants_command};
+ghost use Rattle.pb_command_line.specs.CommandLine.{word_rule_or, command_line as whole, with_code_commands, with_command};
+ghost use Rattle.pb_command_line.specs.CommandLine.{with_object_commands, with_other_commands, with_pick_commands};
+ghost use Rattle.pb_command_line.specs.CommandLine.{with_run_rules, with_text_commands};
+
+use clap::builder::ValueParser;
+use clap::{Arg, ArgAction, Command};
+use std::alloc::{AllocError, Global};
+
+// The version, and the line of `rt version` of the kit that it was proved with.
+const VERSION: &str = "0.1\nproved with rattle-kit-13f logic dac8208d650f15bf";
+
+// What is above the help. `--quiet` is taken off before these words are read.
+const ABOUT: &str =
+    "Programs with parbegin: checked, run, recorded, debugged and drawn.\nWith --quiet before the command no message explains a refused input";
+
+fn number_option<'a>(alloc: Global, name: &'a str, least: u64, most: u64) -> Arg<'a>
+    ensures rule { rule_of result ≡ number_rule name.entry.now least most }
+    ensures own { result.global ≡ false }
+{
+    Arg::new(alloc, name)
+        .long(name)
+        .value_parser(ValueParser::unsigned(least, most))
+}
+
+fn number_option_or<'a>(
+    alloc: Global,
+    name: &'a str,
+    least: u64,
+    most: u64,
+    default: &'a str,
+) -> Arg<'a>
+    ensures rule { rule_of result ≡ number_rule_or name.entry.now least most default.entry.now }
+    ensures own { result.global ≡ false }
+{
+    number_option(alloc, name, least, most).default_value(default)
+}
+
+fn word_option_or<'a>(alloc: Global, name: &'a str, default: &'a str) -> Arg<'a>
+    ensures rule { rule_of result ≡ word_rule_or name.entry.now default.entry.now }
+    ensures own { result.global ≡ false }
+{
+    Arg::new(alloc, name).long(name).default_value(default)
+}
+
+fn flag<'a>(alloc: Global, name: &'a str) -> Arg<'a>
+    ensures rule { rule_of result ≡ flag_rule name.entry.now }
+    ensures own { result.global ≡ false }
+{
+    Arg::new(alloc, name).long(name).action(ArgAction::SetTrue)
+}
+
+// Adds an argument, which no subcommand inherits.
+fn with_option<'a>(command: Command<'a>, option: Arg<'a>) -> Result<Command<'a>, AllocError>
+    requires { option.global ≡ false }
+    ensures app { IfOk result (λ c. app_of c ≡ with_rule (app_of command.entry) (rule_of option.entry)) }
+    ensures own { IfOk result (λ c. (out-Command c).has_globals ≡ (out-Command command.entry).has_globals) }
+{
+    command.arg(option)
+}
+
+// Adds a subcommand, none of whose arguments its own subcommands inherit.
+fn with_subcommand<'a>(
+    command: Command<'a>,
+    subcommand: Command<'a>,
+) -> Result<Command<'a>, AllocError>
+    requires { (out-Command subcommand).has_globals ≡ false }
+    ensures { IfOk result (λ c. app_of c ≡ with_command (app_of command.entry) (app_of subcommand.entry)) }
+{
+    command.subcommand(subcommand)
+}
+
+// Returns a command without options.
+fn plain<'a>(alloc: Global, name: &'a str, about: &'a str) -> Result<Command<'a>, AllocError>
+    ensures { IfOk result (IsCommand (new_app name.entry.now)) }
+{
+    Ok(Command::new(alloc, name).about(about))
+}
+
+// Adds an option with a number and a default, if the command was made. Nothing else is there when it was not: an
+// option that would have to be dropped then makes the proof much longer.
+fn with_number<'a>(
+    alloc: Global,
+    command: Result<Command<'a>, AllocError>,
+    name: &'a str,
+    least: u64,
+    most: u64,
+    default: &'a str,
+    help: &'a str,
+) -> Result<Command<'a>, AllocError>
+    ensures { (app : App) → IfOk command.entry (IsCommand app) → IfOk result
+        (IsCommand (with_rule app (number_rule_or name.entry.now least most default.entry.now))) }
+{
+    let command = command?;
+    let option = number_option_or(alloc, name, least, most, default);
+    with_option(command, option.help(help))
+}
+
+// Adds the option that says who decides on a request, if the command was made.
+fn with_lend<'a>(
+    alloc: Global,
+    command: Result<Command<'a>, AllocError>,
+) -> Result<Command<'a>, AllocError>
+    ensures { (app : App) → IfOk command.entry (IsCommand app) → IfOk result
+        (IsCommand (with_rule app (word_rule_or (codes "lend") (codes "banker")))) }
+{
+    let command = command?;
+    let lend = word_option_or(alloc, "lend", "banker");
+    with_option(
+        command,
+        lend.help("Who decides on a request: banker or cash"),
+    )
+}
+
+// Adds the options of a run by workers, if the command was made.
+fn with_run_options<'a>(
+    alloc: Global,
+    command: Result<Command<'a>, AllocError>,
+) -> Result<Command<'a>, AllocError>
+    ensures { (app : App) → IfOk command.entry (IsCommand app) → IfOk result (IsCommand (with_run_rules app)) }
+{
+    let workers = "Run with this many worker threads, 1 to 16";
+    let command = with_number(alloc, command, "workers", 1, 16, "1", workers);
+    let quantum = "The most steps a worker makes at once, 1 to 4096";
+    let command = with_number(alloc, command, "quantum", 1, 4_096, "64", quantum);
+    let steps = "Stop the run after this many steps, 0 to 10000000";
+    with_number(alloc, command, "steps", 0, 10_000_000, "1000000", steps)
+}
+
+#[tactic(auto, unfolding(crate::specs::CommandLine::check_command))]
+fn check_texts<'a>(alloc: Global) -> Result<Command<'a>, AllocError>
+    ensures { IfOk result (IsCommand check_command) }
+{
+    let heap = number_option(alloc, "heap", 1_024, 16_777_216);
+    let heap = heap.help("Keep the syntax trees of each text in a heap of this many bytes");
+    let check = Command::new(alloc, "check").about(
+        "Check the programs read from standard input, which lines of %% separate",
+    );
+    with_option(check, heap)
+}
+
+#[tactic(auto, unfolding(crate::specs::CommandLine::debug_command))]
+fn debug_picks<'a>(alloc: Global) -> Result<Command<'a>, AllocError>
+    ensures { IfOk result (IsCommand debug_command) }
+{
+    let live = flag(alloc, "live").help("Answer each command as it comes");
+    let debug = Command::new(alloc, "debug").about(
+        "Debug a program on standard input along the picks and by the commands that follow, each after a line %%",
+    );
+    with_option(debug, live)
+}
+
+#[tactic(auto, unfolding(crate::specs::CommandLine::emit_command))]
+fn emit_object<'a>(alloc: Global) -> Result<Command<'a>, AllocError>
+    ensures { IfOk result (IsCommand emit_command) }
+{
+    let object = number_option_or(alloc, "object", 1, 2, "2");
+    let object = object.help("The format of the object: 1 or 2");
+    let emit = Command::new(alloc, "emit").about(
+        "Compile the program read from standard input and print its object",
+    );
+    with_option(emit, object)
+}
+
+fn exec_object<'a>(alloc: Global) -> Result<Command<'a>, AllocError>
+    ensures { IfOk result (IsCommand exec_command) }
+{
+    let exec = plain(alloc, "exec", "Run the object read from standard input");
+    with_run_options(alloc, exec)
+}
+
+#[tactic(auto, unfolding(crate::specs::CommandLine::explain_command))]
+fn explain_code<'a>(alloc: Global) -> Result<Command<'a>, AllocError>
+    ensures { IfOk result (IsCommand explain_command) }
+{
+    let code = Arg::new(alloc, "CODE");
+    let code = code.help("The code of a refusal, such as N3; without it all codes are listed");
+    let explain = Command::new(alloc, "explain").about(
+        "Print what a refusal means, with an example and what to do",
+    );
+    with_option(explain, code)
+}
+
+fn outcomes_of_text<'a>(alloc: Global) -> Result<Command<'a>, AllocError>
+    ensures { IfOk result (IsCommand outcomes_command) }
+{
+    let about =
+        "Print every way in which the program read from standard input can end, and whether some run never ends";
+    let outcomes = plain(alloc, "outcomes", about);
+    let states = "Give up after this many configurations, 1 to 4000000";
+    let outcomes = with_number(alloc, outcomes, "states", 1, 4_000_000, "1000000", states);
+    with_lend(alloc, outcomes)
+}
+
+#[tactic(auto, unfolding(crate::specs::CommandLine::record_command))]
+fn record_text<'a>(alloc: Global) -> Result<Command<'a>, AllocError>
+    ensures { IfOk result (IsCommand record_command) }
+{
+    let about = "Run the program read from standard input and print it with the picks of the run";
+    let record = with_run_options(alloc, plain(alloc, "record", about))?;
+    let seed = number_option(alloc, "seed", 0, 18_446_744_073_709_551_615);
+    let seed = seed.help("Draw each step by a generator with this seed, without worker threads");
+    with_option(record, seed)
+}
+
+fn run_texts<'a>(alloc: Global) -> Result<Command<'a>, AllocError>
+    ensures { IfOk result (IsCommand run_command) }
+{
+    let run = plain(alloc, "run", "Run the program read from standard input");
+    with_run_options(alloc, run)
+}
+
+fn wanting_command<'a>(command: Command<'a>) -> Command<'a>
+    ensures { app_of result ≡ that_wants_command (app_of command.entry) }
+{
+    command
+        .about(ABOUT)
+        .subcommand_required(true)
+        .version(VERSION)
+}
+
+// Returns the command line without its subcommands.
+fn bare_command_line<'a>(alloc: Global) -> Result<Command<'a>, AllocError>
+    ensures { IfOk result (λ c. app_of c ≡ that_wants_command (new_app (codes "parbegin"))) }
+{
+    let command = Command::new(alloc, "parbegin").bin_name("parbegin")?;
+    Ok(wanting_command(command))
+}
+
+// Adds a subcommand if both commands were made. If one was not, the other is dropped here and nowhere else.
+fn with_made<'a>(
+    command: Result<Command<'a>, AllocError>,
+    made: Result<Command<'a>, AllocError>,
+) -> Result<Command<'a>, AllocError>
+    requires { IfOk made (λ s. (out-Command s).has_globals ≡ false) }
+    ensures { (app sub : App) → IfOk command.entry (λ c. app_of c ≡ app) → IfOk made.entry (λ s. app_of s ≡ sub)
+        → IfOk result (λ c. app_of c ≡ with_command app sub) }
+{
+    with_subcommand(command?, made?)
+}
+
+fn with_texts<'a>(
+    alloc: Global,
+    command: Result<Command<'a>, AllocError>,
+) -> Result<Command<'a>, AllocError>
+    ensures { (app : App) → IfOk command.entry (λ c. app_of c ≡ app) → IfOk result (λ c. app_of c ≡ with_text_commands app) }
+{
+    let command = with_made(command, check_texts(alloc));
+    let claims = plain(
+        alloc,
+        "claims",
+        "Print the claims of the program read from standard input",
+    );
+    with_made(command, claims)
+}
+
+fn with_codes<'a>(
+    alloc: Global,
+    command: Result<Command<'a>, AllocError>,
+) -> Result<Command<'a>, AllocError>
+    ensures { (app : App) → IfOk command.entry (λ c. app_of c ≡ app) → IfOk result (λ c. app_of c ≡ with_code_commands app) }
+{
+    let command = with_made(command, emit_object(alloc));
+    with_made(command, run_texts(alloc))
+}
+
+fn with_objects<'a>(
+    alloc: Global,
+    command: Result<Command<'a>, AllocError>,
+) -> Result<Command<'a>, AllocError>
+    ensures { (app : App) → IfOk command.entry (λ c. app_of c ≡ app) → IfOk result (λ c. app_of c ≡ with_object_commands app) }
+{
+    let command = with_made(command, exec_object(alloc));
+    let about = "Print the object read from standard input in format 2";
+    with_made(command, plain(alloc, "migrate", about))
+}
+
+fn with_picks<'a>(
+    alloc: Global,
+    command: Result<Command<'a>, AllocError>,
+) -> Result<Command<'a>, AllocError>
+    ensures { (app : App) → IfOk command.entry (λ c. app_of c ≡ app) → IfOk result (λ c. app_of c ≡ with_pick_commands app) }
+{
+    let command = with_made(command, record_text(alloc));
+    let about = "Replay the picks that follow a program and a line %% on standard input";
+    let command = with_made(command, plain(alloc, "replay", about));
+    with_made(command, debug_picks(alloc))
+}
+
+fn with_others<'a>(
+    alloc: Global,
+    command: Result<Command<'a>, AllocError>,
+) -> Result<Command<'a>, AllocError>
+    ensures { (app : App) → IfOk command.entry (λ c. app_of c ≡ app) → IfOk result (λ c. app_of c ≡ with_other_commands app) }
+{
+    let about = "Draw the picks that follow a program and a line %% on standard input";
+    let command = with_made(command, plain(alloc, "draw", about));
+    let command = with_made(command, outcomes_of_text(alloc));
+    with_made(command, explain_code(alloc))
+}
+
+/// Returns the whole command line.
+#[tactic(auto, unfolding(crate::specs::CommandLine::command_line))]
+pub fn command_line<'a>(alloc: Global) -> Result<Command<'a>, AllocError>
+    ensures { IfOk result (λ c. app_of c ≡ whole) }
+{
+    let command = with_codes(alloc, with_texts(alloc, bare_command_line(alloc)));
+    let command = with_picks(alloc, with_objects(alloc, command));
+    with_others(alloc, command)
+}

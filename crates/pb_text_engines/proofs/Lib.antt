@@ -1,0 +1,7 @@
+pub mod AcceptLemmas
+pub mod CheckLemmas
+pub mod ClaimLemmas
+pub mod EmissionLemmas
+pub mod EventLemmas
+pub mod LoadLemmas
+pub mod ReplayLemmas

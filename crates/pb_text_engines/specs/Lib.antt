@@ -1,0 +1,9 @@
+pub mod Checks
+pub mod ClaimLines
+pub mod Emissions
+pub mod EventLines
+pub mod Loading
+pub mod Migrations
+pub mod Refusals
+pub mod ReplayLines
+pub mod ToldEvents

@@ -1,6 +1,0 @@
-use Rattle.pb_words.specs.CommandLine.{outcomes_command}
-use Rattle.pb_words.proofs.command_line.outcomes_of_text.Goals as goal
-
-pub returns : goal.returns
-unfolding outcomes_command
-returns c = c.with_lend.ensures _ (c.with_number-outcomes.ensures _ c.plain-outcomes.ensures)
