@@ -22,7 +22,7 @@ pub enum UnaryOp {
 }
 
 /// An operator on two numbers.
-// To add one: specs/Arithmetic, arithmetic.rt, pb_lexer, pb_parser, an Instr, pb_codegen; docs/CHANGING.md.
+// To add one: specs/Arithmetic, arithmetic.rt, pb_lexer, pb_grammar, an Instr, pb_generator; docs/CHANGING.md.
 #[derive(Clone, Copy, Debug, PartialEq, Eq)]
 pub enum BinaryOp {
     /// `+`

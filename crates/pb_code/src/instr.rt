@@ -17,7 +17,7 @@
 /// | `fork f n` | | | arms f to f+n-1 begin at their entries |
 /// | `join f n` | | | waits until these arms have ended; they are idle again |
 /// | `end` | | | the arm has ended |
-// To add one: specs/, same.rt, pb_object, pb_groups, pb_verifier, pb_machine, pb_codegen; docs/CHANGING.md.
+// To add one: specs/, same.rt, pb_object, pb_groups, pb_verifier, pb_machine, pb_generator; docs/CHANGING.md.
 #[derive(Clone, Copy, Debug, PartialEq, Eq)]
 pub enum Instr {
     /// `push v`

@@ -18,7 +18,7 @@ pub fn put_number<I: Integer>(text: &mut Vec<u8>, words: &[u8], number: I) -> Re
     ensures { OnOk result (text.new.items ≡ text.old.items ++ (words.now ++ I.text number)) }
 {
     let mut digits = Buffer::new();
-    text.extend_from_slice(words)?;
+    put(text, words)?;
     text.extend_from_slice(digits.format(number).as_bytes())?;
     Ok(())
 }

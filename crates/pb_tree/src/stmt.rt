@@ -12,7 +12,7 @@ use std::alloc::Allocator;
 
 /// A statement, whose parts are in memory of `A`. Each has the line of its first token, from 1. `skip` makes
 /// no statement, and an inner `begin .. end` makes those that are in it.
-// To add one: a Mark, specs/, pb_parser, pb_names, pb_claims, pb_rewrite, pb_codegen; docs/CHANGING.md.
+// To add one: a Mark, specs/, pb_grammar, pb_names, pb_claims, pb_rewrite, pb_generator; docs/CHANGING.md.
 #[derive(Drop)]
 pub enum Stmt<A: Allocator> {
     /// Gives a variable a value.
