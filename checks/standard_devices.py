@@ -24,7 +24,7 @@ from typing import NamedTuple
 from calls import DEVICE, TOP, WATCHDOG, Tally, call, inputs, program
 
 # How many bytes of an answer the output takes that fails after some.
-ROOM = 5
+ROOM = 2
 TEXT = "devices.pb"
 
 
@@ -46,8 +46,8 @@ def calls() -> list[Call]:
 
 def ended(of: Call, before: Callable[[], None] | None = None, **how) -> int:
     """Makes a call with these devices, and returns its status."""
-    words = [program(), *of.words]
-    return subprocess.run(words, stderr=subprocess.DEVNULL, timeout=WATCHDOG, check=False, preexec_fn=before, **how).returncode
+    how = {"stderr": subprocess.DEVNULL, "timeout": WATCHDOG, "check": False, "preexec_fn": before, **how}
+    return subprocess.run([program(), *of.words], **how).returncode
 
 
 def told(of: Call, before: Callable[[], None] | None = None, **how) -> tuple[int, bytes]:

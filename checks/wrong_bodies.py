@@ -18,6 +18,7 @@ import importlib.machinery
 import importlib.util
 import re
 import shutil
+import signal
 import subprocess
 import sys
 import tempfile
@@ -77,16 +78,20 @@ def build_script() -> ModuleType:
 
 def told_of(crate: str, copy: Path) -> Iterator[tuple[str, str]]:
     """Tries the edits of a crate, and yields the name of each with what rt says of it."""
-    given = subprocess.PIPE
-    with subprocess.Popen(["rt", "must-fail", crate], cwd=copy, stdout=given, stderr=subprocess.STDOUT, text=True) as ran:
+    how = {"stdout": subprocess.PIPE, "stderr": subprocess.STDOUT, "text": True}
+    with subprocess.Popen(["rt", "must-fail", crate], cwd=copy, **how) as ran:
         assert ran.stdout is not None
         others = []
-        for line in ran.stdout:
-            told = TOLD.match(line)
-            if told:
-                yield told[2], told[3]
-            else:
-                others.append(line)
+        try:
+            for line in ran.stdout:
+                told = TOLD.match(line)
+                if told:
+                    yield told[2], told[3]
+                else:
+                    others.append(line)
+        except KeyboardInterrupt:
+            ran.terminate()
+            raise
     if ran.returncode and others:
         print("".join(others[-20:]), end="", file=sys.stderr)
 
@@ -98,7 +103,8 @@ def try_crate(crate: str, copy: Path) -> tuple[int, int]:
         is_refused = told.startswith(REFUSED) and not told.startswith(REFUSED + NAME_IS_GONE)
         refused += is_refused and name in left
         left.discard(name)
-        print(f"{crate}/{name}: {'refused' + told.removeprefix(REFUSED) if is_refused else 'NOT REFUSED: ' + told}", flush=True)
+        said = f"refused{told.removeprefix(REFUSED)}" if is_refused else f"NOT REFUSED: {told}"
+        print(f"{crate}/{name}: {said}", flush=True)
     for name in sorted(left):
         print(f"{crate}/{name}: NOT REFUSED: it was not tried", flush=True)
     return refused, len(edits_of(crate)) - refused
@@ -108,7 +114,7 @@ def main(words: list[str]) -> int:
     unknown = [word for word in words if word not in crates()]
     if unknown:
         sys.exit(f"{unknown[0]} is no crate of crates.txt")
-    wanted = words or [it for it in crates() if edits_of(it)]
+    wanted = list(dict.fromkeys(words)) or [it for it in crates() if edits_of(it)]
     refused = others = 0
     with tempfile.TemporaryDirectory(prefix="parbegin-wrong-bodies-") as folder:
         copy_crates(Path(folder))
@@ -121,4 +127,6 @@ def main(words: list[str]) -> int:
 
 
 if __name__ == "__main__":
+    # (so that an end from outside removes the copy)
+    signal.signal(signal.SIGTERM, signal.default_int_handler)
     sys.exit(main(sys.argv[1:]))
