@@ -105,6 +105,9 @@ pub fn read_whole<I: Input>(
     ensures no_fault { IfErr result (λ e. e ≢ ReadFault.Device →
         I.failures input.new ≡ I.failures input.old) }
     ensures left { OnErr result (LeavesRest (I.rest input.old) (I.rest input.new) (limit + 4096)) }
+    // Out of memory comes only for bytes within the limit.
+    ensures memory { IfErr result (λ e. e ≡ ReadFault.Memory →
+        LeavesRest (I.rest input.old) (I.rest input.new) limit) }
 {
     let mut bytes = Vec::new(alloc);
     let mut block = [0; 4096];
@@ -115,11 +118,11 @@ pub fn read_whole<I: Input>(
         if count == 0 {
             return Ok(bytes);
         }
+        if limit - bytes.len() < count {
+            return Err(ReadFault::TooLong);
+        }
         let Ok(()) = bytes.extend_from_slice(&block[..count]) else {
             return Err(ReadFault::Memory);
         };
-        if limit < bytes.len() {
-            return Err(ReadFault::TooLong);
-        }
     }
 }

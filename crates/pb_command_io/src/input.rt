@@ -1,5 +1,6 @@
 //! The input of a command.
 ghost use Rattle.std.specs.Prelude.{◌≡◌, ◌≤◌, ◌⊎◌, IfErr, IfOk, IfSome, OnOk, length};
+ghost use Rattle.pb_base.specs.Device.{LeavesRest};
 ghost use Rattle.pb_command_io.specs.Faults.{TellsFaults};
 ghost use Rattle.pb_command_io.specs.Answers.{Tells};
 ghost use Rattle.pb_command_io.specs.Inputs.{SaysOfReading};
@@ -22,6 +23,9 @@ pub fn read_input<I: Input, O: Output>(
     ensures untouched { OnOk result (output.new ≡ output.old) }
     ensures told { IfErr result (λ status. IfSome (I.rest input.old) (λ rest.
         Tells (SaysOfReading rest) (O.written output.old) (O.written output.new) status)) }
+    // The line of memory comes only for bytes within the limit.
+    ensures memory { IfErr result (λ status. status ≡ Status.Memory →
+        LeavesRest (I.rest input.old) (I.rest input.new) MAX_INPUT) }
     ensures counted { OnOk result (I.failures input.new ≡ I.failures input.old) }
     ensures faults { IfErr result (TellsFaults
         (record { reads = I.failures input.old; writes = O.failures output.old; written = O.written output.old })

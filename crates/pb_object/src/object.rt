@@ -1,7 +1,7 @@
 //! Objects: code as text. The first format has code alone, the second also the names of integers and the
 //! source line of each place.
 
-ghost use Rattle.std.specs.Prelude.{◌≡◌, ◌≤◌, All, IfOk, IfErr, List, length};
+ghost use Rattle.std.specs.Prelude.{◌≡◌, ◌<◌, ◌≤◌, All, IfOk, IfErr, List, length};
 ghost use Rattle.pb_object.specs.declared.format.Format.{Format as Formats};
 ghost use Rattle.pb_object.specs.declared.fault.ObjectFault.TheVariants.{NoMemory};
 ghost use Rattle.pb_object.specs.declared.format.Format.TheVariants.{Two};
@@ -27,6 +27,7 @@ use std::alloc::Global;
 fn rows_of(alloc: Global, text: &[u8]) -> Result<Rows, ObjectFault>
     ensures rows { AnswersRows text.now result }
     ensures fit { IfOk result (λ rows. All IsRow rows.processes.items) }
+    ensures long { MAX_INPUT < length text.now → result ≡ Err (ObjectFault.Limit 0) }
 {
     if text.len() > MAX_INPUT {
         return Err(ObjectFault::Limit(0));
@@ -49,7 +50,7 @@ fn rows_of(alloc: Global, text: &[u8]) -> Result<Rows, ObjectFault>
 /// Else the first line that is not as it must be: `NotObject` if it is not of its form, is not ended by a
 /// line feed, is missing, or comes after the end; `Limit` if it is of its form and a number is out of range.
 /// The offset is that of the start of the line, or the length of the text if a line is missing. A text of
-/// more than `MAX_INPUT` bytes is `Limit` at 0. `NoMemory` comes if `alloc` is out of memory.
+/// more than `MAX_INPUT` bytes is `Limit` at 0, and never `NoMemory`, which comes if `alloc` is out of memory.
 pub fn read_any(alloc: Global, text: &[u8]) -> Result<(Code, Labels), ObjectFault>
     // The text spells what is returned.
     ensures found { IfOk result (λ x. (format : Formats)
@@ -64,6 +65,8 @@ pub fn read_any(alloc: Global, text: &[u8]) -> Result<(Code, Labels), ObjectFaul
     // By the grammar alone: the lines before the offset begin an object, and none begins with the line there
     // too.
     ensures place { IfErr result (IsPlaced text.now) }
+    // A text over the limit takes no memory.
+    ensures long { MAX_INPUT < length text.now → result ≡ Err (ObjectFault.Limit 0) }
 {
     let rows = rows_of(alloc, text)?;
     let object = assemble(alloc, rows)?;
@@ -96,6 +99,8 @@ pub fn read_object(alloc: Global, text: &[u8]) -> Result<Code, ObjectFault>
     ensures fault { IfErr result (IsFaultOfOne text.now) }
     // By the grammar alone, as in `read_any`, unless the first line names the second format.
     ensures place { IfErr result (IsPlacedOne text.now) }
+    // A text over the limit takes no memory.
+    ensures long { MAX_INPUT < length text.now → result ≡ Err (ObjectFault.Limit 0) }
 {
     if text.len() > MAX_INPUT {
         return Err(ObjectFault::Limit(0));

@@ -2,7 +2,8 @@
 
 ghost use Rattle.std.specs.Prelude.{◌≡◌, ◌↔◌, ◌⊎◌, ◌<◌, ◌≤◌, IfErr, IfOk, map, true};
 ghost use Rattle.pb_code.specs.View.{code_view};
-ghost use Rattle.pb_verifier.specs.Limits.{PushesFit};
+ghost use Rattle.pb_verifier.specs.Limits.{KeepsLimits, PushesFit};
+ghost use Rattle.pb_verifier.specs.Faults.{ClaimsFitCapital};
 ghost use Rattle.pb_verifier.specs.Process.{IsEarlier};
 ghost use Rattle.pb_verifier.specs.Verified.{AreArmDepths, HasPeaksWithin, IsAnnotated, IsRefusedFor, SomePeakIsOver, turn_of};
 
@@ -46,6 +47,10 @@ fn check(alloc: Global, code: &Code) -> Result<Vec<Vec<u16>>, VerifyFault>
     ensures depths { IfOk result (λ depths.
         AreArmDepths (code_view code.now).processes (map (λ row. row.items) depths.items)) }
     ensures refused { IfErr result (IsRefusedFor (code_view code.now)) }
+    // Limits and capital are looked at in no memory.
+    ensures limits { ¬ KeepsLimits (code_view code.now) → result ≡ Err VerifyFault.OutOfLimits }
+    ensures capital { KeepsLimits (code_view code.now) → ¬ ClaimsFitCapital (code_view code.now)
+        → result ≡ Err VerifyFault.OverCapital }
 {
     if !keeps_limits(code) {
         return Err(VerifyFault::OutOfLimits);
@@ -78,8 +83,9 @@ fn check(alloc: Global, code: &Code) -> Result<Vec<Vec<u16>>, VerifyFault>
 
 /// Returns verified code, exactly if none of the faults is in it; else the code unchanged and its first
 /// fault, in the order of `VerifyFault`, each looked for over all processes before the next. `NoMemory` comes
-/// only if `alloc` is out of memory, and may come before a fault is found. (That time and memory are linear
-/// in the size of the code is by construction, and not proved.)
+/// only if `alloc` is out of memory, and may come before a fault is found, but never in place of
+/// `OutOfLimits` or `OverCapital`, which are looked for in no memory. (That time and memory are linear in the
+/// size of the code is by construction, and not proved.)
 pub fn verify(alloc: Global, code: Code) -> Result<Verified, (Code, VerifyFault)>
     ensures code { IfOk result (λ verified. verified.code ≡ code_view code) }
     ensures annotated { IfOk result (λ verified. IsAnnotated verified.code) }
@@ -87,6 +93,10 @@ pub fn verify(alloc: Global, code: Code) -> Result<Verified, (Code, VerifyFault)
     ensures depths { IfOk result (λ verified. AreArmDepths verified.code.processes verified.depths) }
     ensures handed_back { IfErr result (λ refusal. refusal.0 ≡ code) }
     ensures refused { IfErr result (λ refusal. IsRefusedFor (code_view code) refusal.1) }
+    // Limits and capital are looked at in no memory.
+    ensures limits { ¬ KeepsLimits (code_view code) → result ≡ Err (code, VerifyFault.OutOfLimits) }
+    ensures capital { KeepsLimits (code_view code) → ¬ ClaimsFitCapital (code_view code)
+        → result ≡ Err (code, VerifyFault.OverCapital) }
     // What is over its claim is the greatest amount itself.
     ensures over { IfErr result (λ refusal. refusal.1 ≡ VerifyFault.OverClaim → SomePeakIsOver (code_view code)) }
 {
