@@ -1,12 +1,12 @@
 -- A newcomer keeps the state safe: he can be last.
 use Rattle.std.proofs.Common.{◌≡◌, ◌≢◌, ℕ, zero, suc, ◌+◌, ◌-◌, ◌<◌, ◌≤◌, List, [], ◌∷◌, ◌++◌, length, get_or, take, drop}
-use Rattle.std.proofs.Common.{arith, sym, ap, subst, ◌∙◌, refl, inl, inr, eqb, replicate, add-one}
+use Rattle.std.proofs.Common.{arith, sym, ap, subst, ◌∙◌, refl, inl, inr, replicate}
 use Rattle.std.specs.Prelude.{Contains}
 use Rattle.std.specs.List.{range_with_len}
 use Rattle.std.specs.List.Sorted.{IsPermutation}
 use Rattle.std.proofs.lemmas.Bool.{cases_eq, cases_lt, eq-eqb}
 use Rattle.std.proofs.lemmas.Bool.Decides.{eqb_tells}
-use Rattle.std.proofs.lemmas.List.{take-append-drop, drop_more, length-replicate, get_or-replicate, get_or_past, length-append}
+use Rattle.std.proofs.lemmas.List.{take-append-drop, drop_more, length-replicate, get_or-replicate, get_or_past}
 use Rattle.std.proofs.lemmas.List.Sums.{sum_by-cons, sum_by-append, sum_by_push}
 use Rattle.std.proofs.lemmas.List.Sorted.{IsPermutation-middle, IsPermutation-trans, IsPermutation-append_left, IsPermutation-append_comm}
 use Rattle.std.proofs.lemmas.List.Sorted.{Contains-permutation, sum_by-IsPermutation}
@@ -68,16 +68,15 @@ once_in s before p after all =
 without_tails : (s : BankerState) (p : ℕ) (after before : List ℕ) → EachTail (FitsBefore s) (before ++ p ∷ after)
     → EachTail (FitsBefore s) (before ++ after)
 without_tails s p after [] h = h.1
-without_tails s p after (x ∷ xs) h =
-    (
-      λ r lr.
-          (let old : claim s x r + held_by s (xs ++ p ∷ after) r ≤ capital s r = h.0 r lr in
-          let a : held_by s (xs ++ p ∷ after) r ≡ held_by s xs r + held_by s (p ∷ after) r = sum_by-append (λ q. loan s q r) xs (p ∷ after) in
-          let b : held_by s (p ∷ after) r ≡ loan s p r + held_by s after r = sum_by-cons (λ q. loan s q r) p after in
-          let d : held_by s (xs ++ after) r ≡ held_by s xs r + held_by s after r = sum_by-append (λ q. loan s q r) xs after in
-          omega (arith, old, a, b, d)),
-      without_tails s p after xs h.1,
-    )
+without_tails s p after (x ∷ xs) h = (
+  λ r lr.
+      (let old : claim s x r + held_by s (xs ++ p ∷ after) r ≤ capital s r = h.0 r lr in
+      let a : held_by s (xs ++ p ∷ after) r ≡ held_by s xs r + held_by s (p ∷ after) r = sum_by-append (λ q. loan s q r) xs (p ∷ after) in
+      let b : held_by s (p ∷ after) r ≡ loan s p r + held_by s after r = sum_by-cons (λ q. loan s q r) p after in
+      let d : held_by s (xs ++ after) r ≡ held_by s xs r + held_by s after r = sum_by-append (λ q. loan s q r) xs after in
+      omega (arith, old, a, b, d)),
+  without_tails s p after xs h.1,
+)
 
 -- ---- the state with a newcomer
 
@@ -190,15 +189,14 @@ module _ (s : BankerState) (good : IsWellFormed s) (p : ℕ) (claims : List ℕ)
 
   -- an order without p, and p behind it
   last_tails : (xs : List ℕ) → times p xs ≡ 0 → EachTail (FitsBefore s) xs → EachTail (FitsBefore (joined s p claims)) (xs ++ p ∷ [])
-  last_tails [] none h =
-      (
-        λ r lr.
-            (let a = claim-joined r in
-            let b = may.fits r lr in
-            let c : held_by (joined s p claims) [] r ≡ 0 = refl in
-            omega (arith, a, b, c)),
-        tt,
-      )
+  last_tails [] none h = (
+    λ r lr.
+        (let a = claim-joined r in
+        let b = may.fits r lr in
+        let c : held_by (joined s p claims) [] r ≡ 0 = refl in
+        omega (arith, a, b, c)),
+    tt,
+  )
   last_tails (x ∷ xs) none h =
       let cons = sum_by-cons (mark p) x xs in
       let rest : times p xs ≡ 0 = omega (arith, cons, none) in
@@ -206,8 +204,7 @@ module _ (s : BankerState) (good : IsWellFormed s) (p : ℕ) (claims : List ℕ)
       elim (eqb_tells x p) [
         | inl e ↦ (let one : mark p x ≡ 1 = rw e.0 refl in absurd (omega (arith, cons, none, one)))
         | inr e ↦ e.1
-      ] in
-      (
+      ] in (
         λ r lr.
             (let old : claim s x r + held_by s xs r ≤ capital s r = h.0 r lr in
             let a = claim-joined_other x r ne in
@@ -250,8 +247,7 @@ module _ (s : BankerState) (good : IsWellFormed s) (p : ℕ) (claims : List ℕ)
             IsPermutation-trans (everyone s) (p ∷ (take at.0 order ++ drop (at.0 + 1) order)) ((take at.0 order ++ drop (at.0 + 1) order) ++ p ∷ [])
             (IsPermutation-trans (everyone s) (take at.0 order ++ p ∷ drop (at.0 + 1) order) (p ∷ (take at.0 order ++ drop (at.0 + 1) order))
             parts (IsPermutation-middle (take at.0 order) p (drop (at.0 + 1) order)))
-            (IsPermutation-append_comm (p ∷ []) (take at.0 order ++ drop (at.0 + 1) order)) in
-            (
+            (IsPermutation-append_comm (p ∷ []) (take at.0 order ++ drop (at.0 + 1) order)) in (
               (take at.0 order ++ drop (at.0 + 1) order) ++ p ∷ [],
               Finishes-from_tails (joined s p claims) ((take at.0 order ++ drop (at.0 + 1) order) ++ p ∷ []) IsWellFormed-joined.lent
                   (subst (λ (ys : List ℕ). IsPermutation ys ((take at.0 order ++ drop (at.0 + 1) order) ++ p ∷ [])) (sym same) moved)
@@ -265,8 +261,7 @@ module _ (s : BankerState) (good : IsWellFormed s) (p : ℕ) (claims : List ℕ)
             ap (λ (m : ℕ). range_with_len 0 m) e ∙ range-push 0 (processes s) ∙ ap (λ (m : ℕ). range_with_len 0 (processes s) ++ m ∷ []) z in
             let none : times p order ≡ 0 =
             times-none p order (λ k d i is. (let b = order_below s order h.everyone k d i in absurd (omega (arith, b, is, at)))) in
-            let all : IsPermutation (everyone s ++ p ∷ []) (order ++ p ∷ []) = IsPermutation-append_left (p ∷ []) (everyone s) order h.everyone in
-            (
+            let all : IsPermutation (everyone s ++ p ∷ []) (order ++ p ∷ []) = IsPermutation-append_left (p ∷ []) (everyone s) order h.everyone in (
               order ++ p ∷ [],
               Finishes-from_tails (joined s p claims) (order ++ p ∷ []) IsWellFormed-joined.lent
                   (subst (λ (ys : List ℕ). IsPermutation ys (order ++ p ∷ [])) (sym push) all)
