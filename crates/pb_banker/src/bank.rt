@@ -12,6 +12,7 @@ use crate::answer::Answer;
 use crate::banker::rising;
 use crate::decide::decide;
 use crate::jobs::{admit, no_rows, vacate};
+use crate::order::OrderSaid;
 use crate::reason::{Joined, Reason};
 use pb_base::limits::MAX_PROCESSES;
 use pb_base::{Bundle, Capital};
@@ -41,6 +42,7 @@ impl Model for Bank {
 }
 
 impl Bank {
+    ghost use Rattle.pb_banker.specs.Orders.{SaysOfOrder};
     ghost use Rattle.pb_banker.specs.Jobs.{HasJob, left, state_held, SaysOfJoining, SaysWhy};
 
     /// Returns the bank with this capital, and no jobs.
@@ -164,6 +166,14 @@ impl Bank {
         let mut looked = 0;
         let found = self.accounts.search(&mut looked);
         found.order
+    }
+
+    /// Returns whether all jobs finish in an order, which names their slots, and why not.
+    pub fn check_order(&self, order: &[u8]) -> OrderSaid
+        requires { All (λ p. p < MAX_PROCESSES) order.now }
+        ensures { SaysOfOrder self.now.state self.now.used order.now result }
+    {
+        self.accounts.check_order(&self.used, order)
     }
 
     /// Returns whether a job has the slot.
