@@ -1,0 +1,13 @@
+use Rattle.std.proofs.Common.{take, subst}
+use Rattle.pb_base.specs.Banker.{IsSafe}
+use Rattle.pb_banker.specs.Jobs.{BankValue, SaysWhy}
+use Rattle.pb_banker.proofs.bank.Bank.why.Goals as goal
+
+pub returns-clause-why : goal.returns-clause-why
+returns-clause-why c =
+    subst (λ (v : BankValue). SaysWhy v.state c.args.p c.args.bundle.now c.why.result) c.self.view_is c.why.ensures
+
+pub returns-clause-safe : goal.returns-clause-safe
+returns-clause-safe c =
+    subst (λ (v : BankValue). IsSafe v.state) c.self.view_is
+    (take c.self.inside.accounts.processes c.self.inside.order, c.self.invariant.finishes)

@@ -1,0 +1,27 @@
+//! What a bank says to jobs.
+
+use pb_base::limits::MAX_PROCESSES;
+
+/// The answer to a job that wants to join.
+#[derive(Clone, Copy)]
+pub enum Joined {
+    /// The job is in this slot.
+    In(usize),
+    /// Its claim on this resource is over the capital.
+    OverCapital(usize),
+    /// There are as many jobs as there can be.
+    Full,
+}
+
+/// Why a request is granted or not.
+#[derive(Clone, Copy)]
+pub enum Reason {
+    /// It is allowed.
+    Allowed,
+    /// It passes the claim on this resource.
+    OverClaim(usize),
+    /// There is too little cash of this resource.
+    OverCash(usize),
+    /// These slots could not finish after it.
+    Rest([bool; MAX_PROCESSES]),
+}
