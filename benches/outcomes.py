@@ -4,8 +4,8 @@
 A model was written by hand with a transition for each pick of its program. Both search the whole space of what is reached,
 one after the other in one run; processor time of a whole call, user and system, is taken, the least of all turns, and the
 greatest resident memory. SPIN is run twice: with no reduction (`spin -o3 -a`, `-DNOREDUCE`), and with its own (`spin -a`).
-parbegin follows a single pick only of a process with one live arm: so in programs of one process it reduces nothing while its
-arms are live.
+parbegin keeps a configuration only where a pick leads that another arm or process can tell: what lies between is made at once,
+and does not count.
 
 Then come programs of three processes of two integers each, made here, with the memory that parbegin takes for each
 configuration of them: the greatest resident memory of a call, all that the program needs included.
@@ -29,7 +29,7 @@ TURNS = int(sys.argv[1]) if len(sys.argv) > 1 else 5
 TOP = pathlib.Path(__file__).resolve().parent.parent
 PROGRAM = TOP / "crates/pb_cli/out/pb_cli"
 MODELS = TOP / "benches/outcomes"
-NAMES = ("counters", "adders", "peterson", "philosophers")
+NAMES = ("counters", "adders", "peterson", "philosophers", "buffer", "readers", "updates", "ten")
 MOST_STATES = 4_000_000
 LONGEST = 60
 

@@ -15,8 +15,9 @@ struct Case {
 }
 
 /// A lost update; a fault that one order of two arms has and another has not; a run that never ends; a loop
-/// that ends; a loop that waits for another arm.
-const CASES: [Case; 5] = [
+/// that ends; a loop that waits for another arm; an arm that never ends beside one that faults; a store of an
+/// integer that no other arm has, beside an arm that faults.
+const CASES: [Case; 7] = [
     Case {
         text: b"process p begin integer x; parbegin x := x + 1; x := x + 1 parend end",
         outcomes: &[(1, false), (2, false)],
@@ -41,6 +42,16 @@ const CASES: [Case; 5] = [
         text: b"process p begin integer x; parbegin while x = 0 do skip od; x := 1 parend end",
         outcomes: &[(1, false)],
         cycles: true,
+    },
+    Case {
+        text: b"process p begin integer x; parbegin while 1 do skip od; x := 1 div 0 parend end",
+        outcomes: &[(0, true)],
+        cycles: true,
+    },
+    Case {
+        text: b"process p begin integer x; parbegin x := 1; print 1 div 0 parend end",
+        outcomes: &[(0, true), (1, true)],
+        cycles: false,
     },
 ];
 
@@ -67,10 +78,10 @@ fn contains(found: &[Found], integer: i64, faulted: bool) -> bool {
     false
 }
 
-/// Returns whether these are the outcomes of a text.
-fn are_outcomes(alloc: Global, case: &Case) -> Option<bool> {
+/// Returns whether these are the outcomes of a text under this lending.
+fn are_outcomes(alloc: Global, case: &Case, lending: Lending) -> Option<bool> {
     let compiled = compile(alloc, alloc, case.text).ok()?;
-    let told = explore(alloc, compiled.verified(), 100_000).ok()?;
+    let told = explore_by(alloc, compiled.verified(), lending, 100_000).ok()?;
     if told.found.len() != case.outcomes.len() || told.cycles != case.cycles {
         return Some(false);
     }
@@ -85,7 +96,8 @@ fn are_outcomes(alloc: Global, case: &Case) -> Option<bool> {
 #[test]
 fn outcomes_of_one_process(rt: HostRuntime) {
     for case in &CASES {
-        assert!(rt; are_outcomes(rt.alloc(), case) == Some(true));
+        assert!(rt; are_outcomes(rt.alloc(), case, Lending::ByBanker) == Some(true));
+        assert!(rt; are_outcomes(rt.alloc(), case, Lending::ByCash) == Some(true));
     }
 }
 
@@ -177,8 +189,8 @@ fn deadlock_of_philosophers(rt: HostRuntime) {
     assert!(rt; deadlocks_of_philosophers(rt.alloc()) == Some((1, true)));
 }
 
-/// A process that never ends, beside one that does: no outcome, and the search follows the picks of the first
-/// alone.
+/// A process that never ends, beside one that does: no outcome, and picks of the first are made without any
+/// other, but only so many at once.
 const ENDLESS: &[u8] = b"process p begin while 1 do skip od end process q begin print 1 end";
 
 /// Returns whether the search returns so.
@@ -204,9 +216,9 @@ fn picks_to(alloc: Global, states: u32) -> Option<Result<usize, ExploreFault>> {
 }
 
 #[test]
-fn four_configurations(rt: HostRuntime) {
-    assert!(rt; picks_to(rt.alloc(), 4) == Some(Ok(3)));
-    for states in 0..4 {
+fn two_configurations(rt: HostRuntime) {
+    assert!(rt; picks_to(rt.alloc(), 2) == Some(Ok(3)));
+    for states in 0..2 {
         assert!(rt; picks_to(rt.alloc(), states) == Some(Err(ExploreFault::TooMany)));
     }
 }

@@ -25,7 +25,7 @@ const CASH: OutcomesOptions = OutcomesOptions {
     lend: Lend::Cash,
 };
 
-/// Two additions, of which one may be lost: 61 configurations.
+/// Two additions, of which one may be lost: 7 configurations are kept.
 const LOST: &[u8] =
     b"process p begin integer x; parbegin x := x + 1; x := x + 1 parend; print x end\n";
 
@@ -33,11 +33,11 @@ const LOST: &[u8] =
 const DEVICES: &[u8] =
     b"resource tape = 1; resource disk = 1;\nprocess a begin hold 1 of tape do hold 1 of disk do print 1 od od end\nprocess b begin hold 1 of disk do hold 1 of tape do print 2 od od end\n";
 
-const CASES: [Case; 11] = [
+const CASES: [Case; 13] = [
     Case {
         text: LOST,
         options: MANY,
-        said: b"outcome 1\np ended\np.x 2\nreached by\np.0 1\np.1 5\np.2 5\np.0 4\noutcome 2\np ended\np.x 1\nreached by\np.0 1\np.1 3\np.2 1\np.1 2\np.2 4\np.0 4\nall 2 outcomes\n",
+        said: b"outcome 1\np ended\np.x 2\nreached by\np.0 1\np.1 5\np.2 5\np.0 4\noutcome 2\np ended\np.x 1\nreached by\np.0 1\np.1 3\np.2 3\np.1 2\np.2 2\np.0 4\nall 2 outcomes\n",
         status: Status::Done,
     },
     Case {
@@ -49,7 +49,7 @@ const CASES: [Case; 11] = [
     Case {
         text: b"process p begin integer x; parbegin print 1 div x; x := 1 parend end\n",
         options: MANY,
-        said: b"outcome 1\np faulted\np.x 0\nreached by\np.0 1\np.1 3\noutcome 2\np faulted\np.x 1\nreached by\np.0 1\np.1 2\np.2 2\np.1 1\noutcome 3\np ended\np.x 1\nreached by\np.0 1\np.1 1\np.2 2\np.1 4\np.2 1\np.0 2\nall 3 outcomes\n",
+        said: b"outcome 1\np ended\np.x 1\nreached by\np.0 1\np.1 1\np.2 3\np.1 4\np.0 2\noutcome 2\np faulted\np.x 0\nreached by\np.0 1\np.1 1\np.2 1\np.1 2\noutcome 3\np faulted\np.x 1\nreached by\np.0 1\np.1 1\np.2 1\np.1 1\np.2 2\np.1 1\nall 3 outcomes\n",
         status: Status::Done,
     },
     Case {
@@ -61,7 +61,7 @@ const CASES: [Case; 11] = [
     Case {
         text: LOST,
         options: CASH,
-        said: b"outcome 1\np ended\np.x 2\nreached by\np.0 1\np.1 5\np.2 5\np.0 4\noutcome 2\np ended\np.x 1\nreached by\np.0 1\np.1 3\np.2 1\np.1 2\np.2 4\np.0 4\nall 2 outcomes\n",
+        said: b"outcome 1\np ended\np.x 2\nreached by\np.0 1\np.1 5\np.2 5\np.0 4\noutcome 2\np ended\np.x 1\nreached by\np.0 1\np.1 3\np.2 3\np.1 2\np.2 2\np.0 4\nall 2 outcomes\n",
         status: Status::Done,
     },
     Case {
@@ -77,21 +77,33 @@ const CASES: [Case; 11] = [
         status: Status::Done,
     },
     Case {
-        text: LOST,
-        options: OutcomesOptions {
-            states: 61,
-            lend: Lend::Banker,
-        },
-        said: b"outcome 1\np ended\np.x 2\nreached by\np.0 1\np.1 5\np.2 5\np.0 4\noutcome 2\np ended\np.x 1\nreached by\np.0 1\np.1 3\np.2 1\np.1 2\np.2 4\np.0 4\nall 2 outcomes\n",
+        text: b"process p begin integer x; parbegin while 1 do skip od; x := 1 div 0 parend end",
+        options: MANY,
+        said: b"outcome 1\np faulted\np.x 0\nreached by\np.0 1\np.1 1000\np.2 1\np.1 1000\np.2 1\np.1 1000\np.2 1\nall 1 outcomes, some runs do not end\n",
+        status: Status::Done,
+    },
+    Case {
+        text: b"process p begin integer x, y; parbegin x := 1; y := 1 div 0 parend end",
+        options: MANY,
+        said: b"outcome 1\np faulted\np.x 1\np.y 0\nreached by\np.0 1\np.1 1\np.2 2\np.1 2\np.2 1\noutcome 2\np faulted\np.x 0\np.y 0\nreached by\np.0 1\np.1 1\np.2 3\nall 2 outcomes\n",
         status: Status::Done,
     },
     Case {
         text: LOST,
         options: OutcomesOptions {
-            states: 60,
+            states: 7,
             lend: Lend::Banker,
         },
-        said: b"more than 60 configurations\n",
+        said: b"outcome 1\np ended\np.x 2\nreached by\np.0 1\np.1 5\np.2 5\np.0 4\noutcome 2\np ended\np.x 1\nreached by\np.0 1\np.1 3\np.2 3\np.1 2\np.2 2\np.0 4\nall 2 outcomes\n",
+        status: Status::Done,
+    },
+    Case {
+        text: LOST,
+        options: OutcomesOptions {
+            states: 6,
+            lend: Lend::Banker,
+        },
+        said: b"more than 6 configurations\n",
         status: Status::Limit,
     },
     Case {
@@ -143,7 +155,7 @@ const REPLAYS: [(&[u8], &[u8]); 2] = [
         b"p.0 print 2\np end\ndone\n",
     ),
     (
-        b"process p begin integer x; parbegin x := x + 1; x := x + 1 parend; print x end\n%%\np.0 1\np.1 3\np.2 1\np.1 2\np.2 4\np.0 4\n",
+        b"process p begin integer x; parbegin x := x + 1; x := x + 1 parend; print x end\n%%\np.0 1\np.1 3\np.2 3\np.1 2\np.2 2\np.0 4\n",
         b"p.0 print 1\np end\ndone\n",
     ),
 ];
