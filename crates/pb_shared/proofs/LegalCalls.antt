@@ -14,7 +14,7 @@ use Rattle.pb_base.specs.Steppers.{State, Move, IsFinished}
 use Rattle.pb_code.specs.Code.{CodeProcess, code_over, code_process}
 use Rattle.pb_code.specs.Reached.{CodeReaches, CodeMoves}
 use Rattle.pb_code.specs.Whole.{Code, code_opening}
-use Rattle.pb_machine.specs.Steps.{ComesSilently, ComesFrom, with_process}
+use Rattle.pb_machine.specs.Steps.{ComesSilently, ComesFrom, MovesSilently, with_process}
 use Rattle.pb_machine.specs.Views.{proc_view, rooms_of, machine_view, row, HaveRoom, IsMachineOf}
 use Rattle.pb_machine.specs.declared.machine.Machine.{Machine}
 use Rattle.pb_machine.specs.declared.process.Proc.{Proc}
@@ -23,7 +23,7 @@ use Rattle.pb_machine.proofs.OneMorePick.{reaches_on}
 use Rattle.pb_machine.proofs.SilentRuns.{makes_comes}
 use Rattle.pb_history.specs.Entries.{Entry, silent_picks}
 use Rattle.pb_history.specs.Leads.{Leads}
-use Rattle.pb_history.proofs.TraceSteps.{leads_append, leads_more, leads_reaches, silent_lead}
+use Rattle.pb_history.proofs.TraceSteps.{leads_append, leads_more, leads_reaches, replicate_more, silent_lead}
 use Rattle.pb_verifier.specs.Requests.{IsDenied, frees}
 use Rattle.pb_verifier.specs.Verified.{IsAnnotated, IsVerified, VerifiedCode}
 use Rattle.pb_verifier.proofs.States.{code_move}
@@ -33,6 +33,7 @@ use Rattle.pb_shared.specs.Ledgers.{home, is_marked, mark_place, new_ledger}
 use Rattle.pb_shared.specs.Lending.{Lent, IsSilentRun}
 use Rattle.pb_shared.specs.Taking.{NoneReady}
 use Rattle.pb_shared.specs.Trying.{TriesOn}
+use Rattle.pb_shared.specs.Turning.{went_on}
 use Rattle.pb_shared.specs.declared.answer.Answer.{Answer}
 use Rattle.pb_shared.specs.declared.answer.Answer.TheVariants as answer
 use Rattle.pb_shared.specs.declared.slip.Slip.{Slip}
@@ -224,6 +225,41 @@ tries_there v code h end pick a same t limit slips =
 
 pub machine_there : (v code : VerifiedCode) (m : Machine) → v ≡ code → IsMachineOf v m → IsMachineOf code m
 machine_there v code m same h = subst (λ (x : VerifiedCode). IsMachineOf x m) same h
+
+-- ---- an arm goes on in the book
+
+-- there are as many processes after picks as before
+leads_processes : (code : Code) (a b : State CodeProcess) (es : List Entry) → Leads code a es b → length b.processes ≡ length a.processes
+leads_processes code a b [] h = ap (λ (s : State CodeProcess). length s.processes) h
+leads_processes code a b (e ∷ es) h =
+    leads_processes code h.0 b es h.2 ∙ leads_length code a h.0 e.pick e.event h.1
+
+-- silent picks lead as their entries say
+leads_silently : (code : Code) (before later : State CodeProcess) (pick : Pick) (made : ℕ) → MovesSilently code pick made before later
+    → Leads code before (silent_picks pick made) later
+leads_silently code before later pick zero same = same
+leads_silently code before later pick (suc made) (between, moves, last) =
+    subst (λ (es : List Entry). Leads code before es later) (sym (replicate_more made (record { pick = pick; event = None })))
+    (leads_more code before between later (silent_picks pick made) pick None (leads_silently code before between pick made moves) last)
+
+-- silent picks of an arm keep a book legal
+pub went_on_legal : (code : VerifiedCode) (s : Ledger) (pick : Pick) (made : ℕ) (next : State CodeProcess) → IsLegal code s → made ≤ s.left
+    → MovesSilently code.code pick made s.machine next → IsLegal code (went_on s pick made next)
+went_on_legal code s pick made next legal within moves =
+    let leads = leads_silently code.code s.machine next pick made moves in
+    record {
+      leads = leads_append code.code (code_opening code.code) s.machine next s.entries (silent_picks pick made) legal.leads leads;
+      counted =
+          let many : length (s.entries ++ silent_picks pick made) ≡ length s.entries + made =
+          length-append s.entries (silent_picks pick made) ∙ ap (λ (n : ℕ). length s.entries + n) (length-replicate made _) in
+          let counted = legal.counted in
+          omega (arith, many, counted, within);
+      limited = legal.limited;
+      slots = legal.slots ∙ sym (leads_processes code.code s.machine next (silent_picks pick made) leads);
+      marks = λ mark lt marked. refused_lasts code.code (annotated_of code s legal) s.machine next (silent_picks pick made) mark
+          (legal_reached code s legal) leads (silent_frees made pick) (legal.marks mark lt marked);
+      verified = legal.verified;
+    }
 
 -- ---- lending
 

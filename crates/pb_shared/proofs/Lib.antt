@@ -2,3 +2,4 @@ pub mod ArmLooks
 pub mod LegalCalls
 pub mod SpareStretches
 pub mod TakenMarks
+pub mod Turns

@@ -7,3 +7,4 @@ pub mod Spares
 pub mod Stretches
 pub mod Taking
 pub mod Trying
+pub mod Turning

@@ -9,7 +9,6 @@ use Rattle.pb_shared.specs.Ledgers.{Ledger, Commits, IsReady, HasOutcome, all_ho
 use Rattle.pb_shared.specs.Lending.{Lent}
 use Rattle.pb_shared.specs.declared.answer.Answer.{Answer}
 use Rattle.pb_shared.specs.declared.taken.Taken.{Taken}
-use Rattle.pb_shared.specs.declared.answer.Answer.{Answer}
 use Rattle.pb_shared.specs.declared.taken.Taken.TheVariants.{Work, Idle, Over}
 
 -- the book after it lent this

@@ -1,10 +1,10 @@
 //! Which arms may be lent.
 
-ghost use Rattle.std.specs.Prelude.{◌≡◌, ◌≢◌, ◌↔◌, ◌<◌, ◌≤◌, Some, None, IsTrue, MatchOption, slice_get};
+ghost use Rattle.std.specs.Prelude.{◌≡◌, ◌≢◌, ◌↔◌, ◌⊎◌, ◌<◌, ◌≤◌, Some, None, IsTrue, MatchOption, slice_get};
 ghost use Rattle.pb_base.specs.declared.pick.Pick.{Pick};
 ghost use Rattle.pb_machine.specs.Looks.{look_at};
 ghost use Rattle.pb_machine.specs.declared.look.Look.TheVariants.{Stays};
-ghost use Rattle.pb_shared.specs.Ledgers.{IsReady};
+ghost use Rattle.pb_shared.specs.Ledgers.{HasOutcome, IsReady};
 ghost use Rattle.pb_shared.specs.Taking.{NoneReady};
 
 use crate::book::Book;
@@ -26,6 +26,16 @@ impl<'v, C: CodeBrand> Book<'v, C> {
             Some(pick) => Some(pick),
             None => self.ready_within(0, next),
         }
+    }
+
+    /// Returns whether `take` would find nothing to lend, and no outcome.
+    pub(crate) fn is_idle(&self) -> bool
+        ensures { IsTrue result → HasOutcome self.now None × ((self.now.left ≡ 0) ⊎ NoneReady C.code.code self.now) }
+    {
+        if self.outcome().is_some() {
+            return false;
+        }
+        self.left == 0 || self.find_ready().is_none()
     }
 
     /// Returns the first ready arm of the processes from one number on and below another.

@@ -1,6 +1,6 @@
 //! The part of a stretch that serves for the next one too.
 
-ghost use Rattle.std.specs.Prelude.{◌≡◌, ◌+◌, ◌<◌, ◌⊎◌, ℕ, IfOk, length, set};
+ghost use Rattle.std.specs.Prelude.{◌≡◌, ◌+◌, ◌<◌, ◌≤◌, ◌⊎◌, ℕ, IfOk, length, set};
 ghost use Rattle.pb_machine.specs.Steps.{ComesFrom, StepsAloud};
 ghost use Rattle.pb_machine.specs.Views.{machine_view, proc_view, IsMachineOf, IsProcessOf};
 ghost use Rattle.pb_shared.specs.Lending.{IsSilentRun};
@@ -77,6 +77,7 @@ impl Spare {
         ensures same { lent_as self.new
             ≡ record (lent_as self.old) { made = self.old.made + result; state = proc_view self.new.state } }
         ensures run { IsSilentRun code.now.code (lent_as self.new) }
+        ensures most { result ≤ max }
         ensures stops { (result ≡ max) ⊎ ((self.new.made ≡ self.new.allowance)
             ⊎ StepsAloud code.now.code self.new.pick.process (proc_view self.new.state) self.new.pick.arm) }
         ensures spare { IsSpareOf code.now self.new.pick.process self.new }

@@ -38,6 +38,7 @@ impl<'v, C: CodeBrand> Stretch<'v, C> {
     pub fn run(&mut self, max: u32) -> u32
         ensures same { self.new ≡ record self.old { made = self.old.made + result; state = self.new.state } }
         ensures run { IsSilentRun C.code.code self.new }
+        ensures most { result ≤ max }
         ensures stops { (result ≡ max) ⊎ ((self.new.made ≡ self.new.allowance)
             ⊎ StepsAloud C.code.code self.new.pick.process self.new.state self.new.pick.arm) }
     {

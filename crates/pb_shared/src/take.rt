@@ -56,7 +56,7 @@ impl<'v, C: CodeBrand> Book<'v, C> {
     /// be lent, is not over there is none, and then no other process is looked at: another processor may
     /// write them.
     #[inline(always)]
-    fn outcome_beside(&self, process: usize) -> Option<Outcome>
+    pub(crate) fn outcome_beside(&self, process: usize) -> Option<Outcome>
         requires process { process < length self.now.slips }
         requires left { 0 < self.now.left }
         ensures { HasOutcome self.now result }
@@ -130,13 +130,13 @@ impl<'v, C: CodeBrand> Book<'v, C> {
 }
 
 /// Returns the number after this one, or 0 if that is not below `count`.
-fn next_of(number: u8, count: u8) -> u8 {
+pub(crate) fn next_of(number: u8, count: u8) -> u8 {
     let next = number.saturating_add(1);
     if next < count { next } else { 0 }
 }
 
 /// Sets the arm of a process whose turn it is next.
-fn set_turn(turns: &mut Vec<u8>, process: usize, arm: u8) {
+pub(crate) fn set_turn(turns: &mut Vec<u8>, process: usize, arm: u8) {
     if let Some(turn) = turns.get_mut(process) {
         *turn = arm;
     }
