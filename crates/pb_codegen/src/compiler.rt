@@ -11,11 +11,12 @@ ghost use Rattle.pb_verifier.specs.Verified.{IsRefusedFor};
 
 use crate::compiled::Compiled;
 use crate::fault::{ClaimsFault, CompileFault};
+use pb_base::limits::MAX_TEXT;
 use pb_base::{Claims, NoMemory};
 use pb_claims::{OverCapital, fits, infer};
 use pb_code::Code;
 use pb_generator::{Generated, capital_of, generate};
-use pb_lexer::lex;
+use pb_lexer::{LexFault, lex};
 use pb_names::Resolved;
 use pb_parser::parse;
 use pb_resolver::resolve;
@@ -42,6 +43,8 @@ pub fn analyze<A: Allocator + Clone>(
     ensures analyzed { IfOk result (λ a. IsReadAs text.now (resolved_view a.program) a.claims) }
     ensures refused { IfErr result (λ fault. IsRefused text.now fault) }
     ensures early { IfErr result IsBeforeClaims }
+    // A text over the limit takes no memory.
+    ensures long { MAX_TEXT < length text.now → result ≡ Err (CompileFault.Lex LexFault.TooLong) }
 {
     let tokens = lex(alloc, text)?;
     let tree = parse(trees.clone()?, tokens.as_slice())?;
@@ -61,6 +64,8 @@ pub fn compile<A: Allocator + Clone>(
 ) -> Result<Compiled, CompileFault>
     ensures compiled { IfOk result (λ c. IsCompiled text.now c.verified.code c.labels) }
     ensures refused { IfErr result (λ fault. IsRefused text.now fault) }
+    // A text over the limit takes no memory.
+    ensures long { MAX_TEXT < length text.now → result ≡ Err (CompileFault.Lex LexFault.TooLong) }
 {
     let Analysis { program, claims } = analyze(alloc, trees, text)?;
     check_capital(alloc, &program, &claims)?;

@@ -1,7 +1,10 @@
 //! Three small bankers: who is granted what, and in which order all can finish.
 
+use crate::texts::idle;
 use pb_banker::{Answer, Banker, Loans, Till};
 use pb_base::{Bundle, Capital, Claims, Pair};
+use pb_codegen::compile;
+use pb_machine::Machine;
 use std::alloc::Global;
 
 /// Returns the answer of the banker to a request for one resource, and the number of claims that it read.
@@ -253,4 +256,30 @@ fn tills_restore_what_was_saved(rt: HostRuntime) {
         panic!(rt; "out of memory");
     };
     assert!(rt; restored_by_till(rt.alloc(), &mut till, 0, 0) == Some(2));
+}
+
+/// Returns the order in which all processes of a text can finish from the start.
+fn first_order(alloc: Global, text: &[u8]) -> Option<Vec<u8>> {
+    let compiled = compile(alloc, alloc, text).ok()?;
+    let machine = Machine::new(alloc, compiled.verified()).ok()?;
+    machine.banker().order(alloc).ok()
+}
+
+/// Returns whether a list has the numbers below `count` in rising order.
+fn are_all_below(count: usize, list: &[u8]) -> bool {
+    for (i, number) in list.iter().enumerate() {
+        if usize::from(*number) != i {
+            return false;
+        }
+    }
+    list.len() == count
+}
+
+#[test]
+fn sixty_four_processes_have_an_order(rt: HostRuntime) {
+    let Ok(text) = idle(rt.alloc(), 64) else {
+        panic!(rt; "out of memory");
+    };
+    let order = first_order(rt.alloc(), &text);
+    assert!(rt; order.is_some_and(|order| are_all_below(64, &order)));
 }

@@ -25,7 +25,23 @@ process p begin hold 5 of t, 5 of u do skip od end
 process q begin hold 5 of t, 6 of u do skip od end
 process r begin hold 7 of t, 7 of u do skip od end";
 
-const CLAIMS: [Case; 4] = [
+/// A process that claims one of each of sixteen resources.
+const SIXTEEN: &[u8] = b"resource ra = 2; resource rb = 2; resource rc = 2; resource rd = 2;
+resource re = 2; resource rf = 2; resource rg = 2; resource rh = 2;
+resource ri = 2; resource rj = 2; resource rk = 2; resource rl = 2;
+resource rm = 2; resource rn = 2; resource ro = 2; resource rp = 2;
+process p begin
+  hold
+    1 of ra, 1 of rb, 1 of rc, 1 of rd, 1 of re, 1 of rf, 1 of rg, 1 of rh,
+    1 of ri, 1 of rj, 1 of rk, 1 of rl, 1 of rm, 1 of rn, 1 of ro, 1 of rp
+  do skip od
+end";
+
+/// What is said of it.
+const SIXTEEN_CLAIMS: &[u8] =
+    b"p claim 1 ra\np claim 1 rb\np claim 1 rc\np claim 1 rd\np claim 1 re\np claim 1 rf\np claim 1 rg\np claim 1 rh\np claim 1 ri\np claim 1 rj\np claim 1 rk\np claim 1 rl\np claim 1 rm\np claim 1 rn\np claim 1 ro\np claim 1 rp\n";
+
+const CLAIMS: [Case; 5] = [
     (
         Call::Claims,
         Given::Text(ARMS),
@@ -43,6 +59,12 @@ const CLAIMS: [Case; 4] = [
         Given::Text(TWO),
         Status::Done,
         b"p claim 2 t\np claim 4 u\nq claim 0 t\nq claim 0 u\n",
+    ),
+    (
+        Call::Claims,
+        Given::Text(SIXTEEN),
+        Status::Done,
+        SIXTEEN_CLAIMS,
     ),
     // The first claim over its capital is named.
     (

@@ -311,6 +311,28 @@ fn refuses_too_many_processes(rt: HostRuntime) {
     assert!(rt; has_limit_of_processes(&rt) == Some(true));
 }
 
+/// A process of 64 integers, which prints the last.
+const SIXTY_FOUR_INTEGERS: &[u8] = b"process p begin integer
+  x0, x1, x2, x3, x4, x5, x6, x7, x8, x9, x10, x11, x12, x13, x14, x15,
+  x16, x17, x18, x19, x20, x21, x22, x23, x24, x25, x26, x27, x28, x29, x30, x31,
+  x32, x33, x34, x35, x36, x37, x38, x39, x40, x41, x42, x43, x44, x45, x46, x47,
+  x48, x49, x50, x51, x52, x53, x54, x55, x56, x57, x58, x59, x60, x61, x62, x63;
+  x63 := 7; print x63
+end";
+
+#[test]
+fn sixty_four_integers_are_accepted(rt: HostRuntime) {
+    assert!(rt;
+        writes(
+            &rt,
+            Call::Run(THOUSAND),
+            SIXTY_FOUR_INTEGERS,
+            Status::Done,
+            b"p.0 print 7\np end\ndone\n"
+        )
+    );
+}
+
 /// Texts of 65 integers, also under 17 resources, of 64 and 65 arms in all, and of 17 arms in one parbegin.
 const TOO_MANY: [Case; 5] = [
     (

@@ -1,5 +1,5 @@
 //! Objects, read and verified.
-ghost use Rattle.std.specs.Prelude.{◌≡◌, ℕ, IfErr, IfOk, List, Some};
+ghost use Rattle.std.specs.Prelude.{◌≡◌, ◌<◌, ℕ, IfErr, IfOk, List, Some, length};
 ghost use Rattle.pb_object.specs.Answers.{HasText};
 ghost use Rattle.pb_code.specs.View.{labels_view};
 ghost use Rattle.pb_object.specs.declared.format.Format.TheVariants.{Two};
@@ -7,6 +7,7 @@ ghost use Rattle.pb_text_engines.specs.Loading.{IsLoaded, IsLoadFault, SaysOfNoC
 
 use crate::refusal::{object_text, verify_text};
 use pb_base::NoMemory;
+use pb_base::limits::MAX_INPUT;
 use pb_code::Labels;
 use pb_command_io::reply::{Reply, refused};
 use pb_object::{ObjectFault, read_any};
@@ -27,6 +28,8 @@ pub fn load(alloc: Global, bytes: &[u8]) -> Result<(Verified, Labels), LoadFault
     ensures loaded { IfOk result (λ x. IsLoaded bytes.now x.0.code (labels_view x.1)) }
     ensures writable { IfOk result (λ x. HasText Two x.0.code (labels_view x.1)) }
     ensures fault { IfErr result (IsLoadFault bytes.now) }
+    // An object over the limit takes no memory.
+    ensures long { MAX_INPUT < length bytes.now → result ≡ Err (LoadFault.Object (ObjectFault.Limit 0)) }
 {
     let (code, labels) = match read_any(alloc, bytes) {
         Ok(object) => object,
