@@ -68,7 +68,7 @@ pub fn reason(alloc: Global, banker: &Banker, p: usize, bundle: &Bundle) -> Resu
             cash: shortage.cash,
         });
     }
-    let mut next = banker.copy(alloc)?;
+    let mut next = banker.copy();
     match next.ask(p, bundle) {
         Answer::Granted => Ok(Why::Order(next.order(alloc)?)),
         Answer::NotNow | Answer::OverClaim => Ok(Why::Rest(banker.rest_if(alloc, p, bundle)?)),

@@ -182,9 +182,9 @@ fn part_is_given_back(banker: &mut Banker) -> bool {
 }
 
 /// Returns whether a copy keeps what there was before a part of what was lent is given back.
-fn copy_keeps(alloc: Global, banker: &mut Banker) -> Option<bool> {
-    let fresh = banker.copy(alloc).ok()?;
-    Some(part_is_given_back(banker) && standing(&fresh, 0, 1) == Some((0, 2)))
+fn copy_keeps(banker: &mut Banker) -> bool {
+    let fresh = banker.copy();
+    part_is_given_back(banker) && standing(&fresh, 0, 1) == Some((0, 2))
 }
 
 #[test]
@@ -192,7 +192,7 @@ fn copies_keep_what_was_given_back(rt: HostRuntime) {
     let Some(mut banker) = pair_of_claims(rt.alloc(), [1, 2]) else {
         panic!(rt; "out of memory");
     };
-    assert!(rt; copy_keeps(rt.alloc(), &mut banker) == Some(true));
+    assert!(rt; copy_keeps(&mut banker));
 }
 
 /// Saves what is lent, takes back what a process holds, and returns what it holds and what is left of a
