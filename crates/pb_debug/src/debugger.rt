@@ -191,6 +191,18 @@ impl<'c> Debugger<'c> {
         self.last_cost
     }
 
+    // Returns one more machine at the position.
+    pub(crate) fn walker_here(&self) -> Result<Walker, NoMemory>
+        ensures walks { IfOk result (Walks self.now.verified self.now.picks) }
+        ensures at { IfOk result (λ w. w.at ≡ self.now.position) }
+    {
+        let machine = self.walker.machine.copy(self.alloc)?;
+        Ok(Walker {
+            machine,
+            at: self.walker.at,
+        })
+    }
+
     // Returns a machine at a position, from the last checkpoint that is not past it.
     pub(crate) fn walker_at(&self, position: u32) -> Result<Walker, NoMemory>
         requires { position ≤ length self.now.picks }

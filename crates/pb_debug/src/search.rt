@@ -13,7 +13,7 @@ impl<'c> Debugger<'c> {
         ensures { IfOk result (IsFirst (Does self.now.verified.code self.now.labels self.now.picks watch) self.now.position
             (length self.now.picks)) }
     {
-        let mut walker = self.walker_at(self.position())?;
+        let mut walker = self.walker_here()?;
         Ok(first_in(&mut walker, self.verified, self.labels, &self.trace, watch))
     }
 

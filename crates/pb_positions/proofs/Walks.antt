@@ -148,26 +148,19 @@ interval_some n interval h = let e = h.2 in omega (arith, e)
 pub interval_small : (n interval : ℕ) → n ≤ 10000000 → IsInterval n interval → interval ≤ 10000000
 interval_small n interval few h = let le = h.1 in let e = h.2 in omega (arith, few, le, e)
 
--- as many checkpoints as reach beyond the first position and no further are one
-pub one_interval : (n interval : ℕ) → 0 < n * interval → n * interval ≤ 0 + interval → interval ≡ n * interval
-one_interval zero interval some le = absurd (omega (arith, some))
-one_interval (suc zero) interval some le = omega arith
-one_interval (suc (suc n)) interval some le = absurd (omega (arith, some, le))
-
 -- a replay of no picks, with a checkpoint before the first
 pub replays_none : (v : VerifiedCode) (r : Replaying) → r.trace.entries ≡ [] → IsMachineOf v r.machine
     → machine_view r.machine ≡ code_opening v.code → AreCheckpoints v [] r.interval r.checkpoints.items
-    → r.next ≡ r.interval → 0 < r.interval → r.interval ≡ length r.checkpoints.items * r.interval → Replays v r
-replays_none v r none machine opening checkpoints next some one = record {
-  keeps = record {
-    machine = machine;
-    leads = subst (λ (es : List Entry). Leads v.code (code_opening v.code) es (machine_view r.machine)) (sym none) opening;
-    checkpoints = subst (λ (es : List Entry). AreCheckpoints v (picks_of es) r.interval r.checkpoints.items) (sym none) checkpoints;
-    next = next ∙ one;
-  };
-  before = let n = ap (λ (es : List Entry). length es) none in omega (arith, n, next, some);
-  after = omega (arith, next);
-}
+    → 0 < length r.checkpoints.items * r.interval → length r.checkpoints.items * r.interval ≤ 0 + r.interval → Replays v r
+replays_none v r none machine opening checkpoints some least =
+    let n = ap (λ (es : List Entry). length es) none in
+    record {
+      machine = machine;
+      leads = subst (λ (es : List Entry). Leads v.code (code_opening v.code) es (machine_view r.machine)) (sym none) opening;
+      checkpoints = subst (λ (es : List Entry). AreCheckpoints v (picks_of es) r.interval r.checkpoints.items) (sym none) checkpoints;
+      before = omega (arith, n, some);
+      after = omega (arith, n, least);
+    }
 
 pub no_checkpoints : (v : VerifiedCode) (interval : ℕ) → AreCheckpoints v [] interval []
 no_checkpoints v interval k m there = let lt = slice_get_within [] k m there in absurd (omega (arith, lt))

@@ -29,16 +29,11 @@ abbrev pub AreCheckpoints : VerifiedCode → List Pick → (interval : ℕ) → 
 AreCheckpoints v picks interval machines =
     (k : ℕ) (m : Machine) → slice_get machines k ≡ Some m → IsCheckpoint v picks (k * interval) m
 
--- the picks of a replay led its machine to its state, and it has checkpoints up to the last multiple of the
--- distance before the next
-pub record Keeps (v : VerifiedCode) (r : Replaying) : Type 0 where
+-- the picks of a replay led its machine to its state, and it has checkpoints at all multiples of the distance
+-- up to the last pick, and no further ones
+pub record Replays (v : VerifiedCode) (r : Replaying) : Type 0 where
   pub machine : IsMachineOf v r.machine
   pub leads : Leads v.code (code_opening v.code) r.trace.entries (machine_view r.machine)
   pub checkpoints : AreCheckpoints v (picks_of r.trace.entries) r.interval r.checkpoints.items
-  pub next : r.next ≡ length r.checkpoints.items * r.interval
-
--- and the next is the first after the picks that were made
-pub record Replays (v : VerifiedCode) (r : Replaying) : Type 0 where
-  pub keeps : Keeps v r
-  pub before : length r.trace.entries < r.next
-  pub after : r.next ≤ length r.trace.entries + r.interval
+  pub before : length r.trace.entries < length r.checkpoints.items * r.interval
+  pub after : length r.checkpoints.items * r.interval ≤ length r.trace.entries + r.interval

@@ -3,7 +3,7 @@
 ghost use Rattle.std.specs.Prelude.{◌≡◌, ◌+◌, ◌*◌, ◌<◌, ◌≤◌, ◌++◌, [], List, length, replicate, IfErr, IfOk, OnErr, OnOk};
 ghost use Rattle.pb_base.specs.declared.pick.Pick.{Pick as AnyPick};
 ghost use Rattle.pb_positions.specs.Intervals.{interval_of};
-ghost use Rattle.pb_positions.specs.Walks.{AreCheckpoints, IsCheckpoint, Keeps, Replays};
+ghost use Rattle.pb_positions.specs.Walks.{AreCheckpoints, IsCheckpoint, Replays};
 ghost use Rattle.pb_history.specs.Entries.{picks_of};
 ghost use Rattle.pb_history.specs.Replays.{IsStopped, spread};
 ghost use Rattle.pb_verifier.specs.Verified.{VerifiedCode};
@@ -60,15 +60,14 @@ pub fn keep(
     Ok(())
 }
 
-/// A replay that goes on: the machine after the picks made so far, their trace, copies of the machine at the
-/// multiples of a distance, and the next multiple.
+/// A replay that goes on: the machine after the picks made so far, their trace, and copies of the machine at
+/// the multiples of a distance.
 #[derive(Drop)]
 pub struct Replaying {
     pub machine: Machine,
     pub trace: Trace,
     pub interval: u32,
     pub checkpoints: Vec<Machine>,
-    pub next: u32,
 }
 
 impl Replaying {
@@ -88,28 +87,24 @@ impl Replaying {
             trace: Trace::new(alloc),
             interval,
             checkpoints,
-            next: interval,
         })
     }
 
-    // Keeps a copy of the machine, if it has come to the next multiple of the distance.
-    fn keep(&mut self, alloc: Global) -> Result<(), NoMemory>
-        requires few { length self.old.trace.entries ≤ MAX_PICKS }
-        requires small { self.old.interval ≤ MAX_PICKS }
-        requires some { 0 < self.old.interval }
-        requires before { length self.old.trace.entries ≤ self.old.next }
-        requires after { self.old.next ≤ length self.old.trace.entries + self.old.interval }
-        ensures replays { OnOk result ((v : VerifiedCode) → Keeps v self.old → Replays v self.new) }
-        ensures same { OnOk result (self.new.trace.entries ≡ self.old.trace.entries) }
-        ensures interval { OnOk result (self.new.interval ≡ self.old.interval) }
+    // Returns how many of `most` picks there are up to the next multiple of the distance.
+    fn up_to_next(&self, most: u32) -> u32
+        requires few { length self.now.trace.entries ≤ MAX_PICKS }
+        requires small { self.now.interval ≤ MAX_PICKS }
+        requires before { length self.now.trace.entries < length self.now.checkpoints.items * self.now.interval }
+        requires after { length self.now.checkpoints.items * self.now.interval
+            ≤ length self.now.trace.entries + self.now.interval }
+        ensures most { result ≤ most }
+        ensures some { 0 < most → 0 < result }
+        ensures next { length self.now.trace.entries + result
+            ≤ length self.now.checkpoints.items * self.now.interval }
     {
-        if self.trace.len() < self.next {
-            return Ok(());
-        }
-        let machine = self.machine.copy(alloc)?;
-        self.checkpoints.push(machine)?;
-        self.next += self.interval;
-        Ok(())
+        let next = self.checkpoints.len() * self.interval as usize;
+        let left = next - self.trace.len() as usize;
+        most.min(left as u32)
     }
 
     /// Makes a pick as often as its count says, as `repeat` does, and keeps the checkpoints on the way.
@@ -133,7 +128,7 @@ impl Replaying {
         let pick = counted.pick;
         let mut left = counted.count;
         while left > 0 {
-            let count = left.min(self.next - self.trace.len());
+            let count = self.up_to_next(left);
             repeat(
                 verified,
                 &mut self.machine,
@@ -141,7 +136,13 @@ impl Replaying {
                 CountedPick { pick, count },
             )?;
             left -= count;
-            self.keep(alloc)?;
+            keep(
+                alloc,
+                &mut self.checkpoints,
+                self.interval,
+                &self.machine,
+                self.trace.len(),
+            )?;
         }
         Ok(())
     }

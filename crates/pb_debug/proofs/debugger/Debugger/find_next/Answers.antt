@@ -1,4 +1,4 @@
-use Rattle.std.proofs.Common.{ℕ, length, subst, ◌∙◌}
+use Rattle.std.proofs.Common.{ℕ, length, subst}
 use Rattle.pb_code.specs.View.{labels_view}
 use Rattle.pb_history.specs.Entries.{picks_of}
 use Rattle.pb_positions.specs.Searches.{Does, IsFirst}
@@ -12,5 +12,5 @@ returns c =
     let picks = picks_of i.trace.entries in
     let found = c.first_in.result in
     let does : ℕ → Type 0 = Does i.verified.now.code (labels_view i.labels.now) picks c.args.watch in
-    let first = subst (λ (n : ℕ). IsFirst does n (length picks) found) (c.in_ok-walker.ensures.at ∙ c.position.ensures.position) c.first_in.ensures in
+    let first = subst (λ (n : ℕ). IsFirst does n (length picks) found) c.in_ok-walker.ensures.at c.first_in.ensures in
     subst (λ (x : Debugging). IsFirst (Does x.verified.code x.labels x.picks c.args.watch) d.position (length x.picks) found) c.self.view_is first

@@ -13,19 +13,18 @@ invariant_of-result c =
     let many = length-map entries (λ (e : Entry). e.pick) in
     let before = h.before in
     let after = h.after in
-    let next = h.keeps.next in
     record {
       verified = c.code.ensures.verified;
-      enabled = leads_enabled c.args.verified.now.code entries _ h.keeps.leads;
+      enabled = leads_enabled c.args.verified.now.code entries _ h.leads;
       few = c.requires.few;
       within = omega arith;
       cheap = interval_some (length (picks_of entries)) r.interval (length (picks_of entries), omega arith, c.requires.interval);
       fit = c.requires.fit;
       spaced = (length (picks_of entries), omega arith, c.requires.interval);
       walks = record { machine = c.in_ok-machine.ensures.machine; state = c.in_ok-machine.ensures.opening };
-      checkpoints = h.keeps.checkpoints;
-      enough = omega (arith, many, before, next);
-      fewest = omega (arith, many, after, next);
+      checkpoints = h.checkpoints;
+      enough = omega (arith, many, before);
+      fewest = omega (arith, many, after);
     }
 
 pub returns-clause-placed : goal.returns-clause-placed
@@ -34,7 +33,7 @@ returns-clause-placed c =
     let entries = r.trace.entries in
     record {
       verified = c.code.ensures.verified;
-      enabled = leads_enabled c.args.verified.now.code entries _ c.requires.replays.keeps.leads;
+      enabled = leads_enabled c.args.verified.now.code entries _ c.requires.replays.leads;
       few = c.requires.few;
       within = omega arith;
       cheap = interval_some (length (picks_of entries)) r.interval (length (picks_of entries), omega arith, c.requires.interval);
