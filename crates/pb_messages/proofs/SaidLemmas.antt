@@ -7,28 +7,19 @@ use Rattle.pb_text_engines.specs.Loading.{IsLoadFault, load_line}
 use Rattle.pb_command_io.specs.Parts.{AreTwoParts}
 use Rattle.pb_text_engines.specs.ReplayLines.{picks_line}
 use Rattle.pb_text_engines.specs.declared.load.LoadFault.{LoadFault}
-use Rattle.pb_text_engines.proofs.AcceptLemmas.{compiled_is_accepted}
 use Rattle.pb_history.specs.Replays.{IsStopped, spread}
 use Rattle.pb_history.specs.declared.counted.CountedPick.{CountedPick}
 use Rattle.pb_history.specs.declared.fault.ReplayFault.TheVariants.{NotEnabled}
 use Rattle.pb_picks.specs.PickLines.{IsFaulty, SpellsPicks}
 use Rattle.pb_picks.specs.declared.fault.PickFault.{PickFault}
+use Rattle.pb_wording.specs.Stops.{HoldsPick}
 use Rattle.pb_messages.specs.Causes.{IsCauseOf}
-use Rattle.pb_messages.specs.Messages.{IsMessage, IsShown, message}
-use Rattle.pb_messages.specs.Said.{AreSaid, HasCode, HasNoMark, SaysMore, SaysByReading, SaysOfFirstFormat}
+use Rattle.pb_messages.specs.Messages.{IsMessage, IsMessageAt}
+use Rattle.pb_messages.specs.Said.{AreSaid, HasNoMark, SaysMore, SaysByReading, SaysOfFirstFormat, SaysWhetherFirst}
 use Rattle.pb_messages.specs.Said.{SaysOfPickLines, SaysOfPickedObject, SaysOfPickedText, SaysOfTexts, TellsObject}
 use Rattle.pb_messages.specs.Said.{all, stopped, unread}
 use Rattle.pb_messages.specs.declared.cause.Cause.{Cause}
 use Rattle.pb_messages.specs.declared.message.Reading.TheVariants.{Debugged}
-
--- the message of a cause with this code and this offset
-abbrev pub IsMessageAt : (label text code : List ℕ) → Option ℕ → List ℕ → Type 0
-IsMessageAt label text code at told =
-    (summary : List ℕ) × (shown : List ℕ) × (details : List ℕ)
-    × IsShown label text at shown × (told ≡ message code summary shown details)
-
-coded : (label text code : List ℕ) (at : Option ℕ) (told : List ℕ) → IsMessageAt label text code at told → HasCode code told
-coded label text code at told (summary, shown, details, is_shown, is) = (summary, shown, details, is)
 
 module _ {W E : Type 0} (seen : W → List ℕ) where
   -- the message of a fault of an object
@@ -47,18 +38,19 @@ module _ {W E : Type 0} (seen : W → List ℕ) where
   lines_told code lines fault cause (Err e) is caused message = message
 
   -- the message of a pick that is not enabled
-  pub stop_told : (code : Code) (lines : List ℕ) (picks : List CountedPick) (number : ℕ) (at : Option ℕ) (made : Result W E)
-      → SpellsPicks code lines picks → IsStopped code (spread picks) (NotEnabled number)
-      → IfOk made (λ told. IsMessageAt (codes "pick ") lines (codes "H1") at (seen told)) → IfOk made (λ told. SaysOfPickLines code lines (seen told))
-  stop_told code lines picks number at (Ok told) spelled is message =
-      stopped picks number (seen told) spelled is (coded (codes "pick ") lines (codes "H1") at (seen told) message)
-  stop_told code lines picks number at (Err e) spelled is message = message
+  pub stop_told : (code : Code) (lines : List ℕ) (picks : List CountedPick) (number at : ℕ) (made : Result W E)
+      → SpellsPicks code lines picks → IsStopped code (spread picks) (NotEnabled number) → HoldsPick code lines picks number at
+      → IfOk made (λ told. IsMessageAt (codes "pick ") lines (codes "H1") (Some at) (seen told)) → IfOk made (λ told. SaysOfPickLines code lines (seen told))
+  stop_told code lines picks number at (Ok told) spelled is holds message = stopped picks number (seen told) spelled is at holds message
+  stop_told code lines picks number at (Err e) spelled is holds message = message
 
-  -- what is said of an accepted text, of which the first format can say all or not
-  pub format_told : (text : List ℕ) (code : Code) (labels : List ProcessLabels) (made : Result W E) → IsCompiled text code labels
-      → IfOk made (λ told. (seen told ≡ []) ⊎ HasCode (codes "E1") (seen told)) → IfOk made (λ told. SaysOfFirstFormat text (seen told))
-  format_told text code labels (Ok told) compiled says = inl (compiled_is_accepted text code labels compiled, says)
-  format_told text code labels (Err e) compiled says = says
+  -- what is said of an accepted text, of which the first format can say the code or not
+  pub format_told : (text : List ℕ) (code : Code) (labels : List ProcessLabels) (shown : Code) (made : Result W E)
+      → IsCompiled text code labels → shown ≡ code → IfOk made (λ told. SaysWhetherFirst text shown (seen told))
+      → IfOk made (λ told. SaysOfFirstFormat text (seen told))
+  format_told text code labels shown (Ok told) compiled same says =
+      inl (code, labels, compiled, subst (λ (c : Code). SaysWhetherFirst text c (seen told)) same says)
+  format_told text code labels shown (Err e) compiled same says = says
 
   -- what is said of an object, pick lines and commands
   pub object_debugged : (bytes source rest lines commands : List ℕ) (made : Result W E) → AreTwoParts bytes source rest

@@ -1,5 +1,5 @@
 -- What a message says of a refusal.
-use Rattle.std.specs.Prelude.{◌≡◌, ℕ, List, [], ◌++◌, Option, None, Some, codes, length, min}
+use Rattle.std.specs.Prelude.{◌≡◌, ◌≢◌, ◌<◌, ℕ, List, [], ◌++◌, Option, None, Some, codes, length, min, slice_index}
 use Rattle.pb_messages.specs.Causes.{TellsCause}
 use Rattle.pb_excerpts.specs.Places.{IsPlace, excerpt}
 use Rattle.pb_messages.specs.declared.cause.Cause.{Cause}
@@ -11,16 +11,25 @@ IsShown label text None shown = shown ≡ []
 IsShown label text (Some at) shown =
     (place : Place) × IsPlace text (min at (length text)) place × (shown ≡ excerpt label text place)
 
--- the message of a cause: its code, what is wrong in words, its place, and details
+-- a message: a code, what is wrong in words, a place, and details
 abbrev pub message : (code summary shown details : List ℕ) → List ℕ
 message code summary shown details =
     codes "error " ++ code ++ codes ": " ++ summary ++ codes "\n" ++ shown ++ details
 
--- the message of a cause, with its place in the text
-abbrev pub IsMessage : (label text : List ℕ) → Cause → List ℕ → Type 0
-IsMessage label text cause told =
+-- what is wrong in words: not empty, and in one line
+pub record IsSummary (summary : List ℕ) : Type 0 where
+  pub some : 0 < length summary
+  pub line : (k : ℕ) → k < length summary → slice_index summary k ≢ 10
+
+-- the message of this code, with this place in the text
+abbrev pub IsMessageAt : (label text code : List ℕ) → Option ℕ → List ℕ → Type 0
+IsMessageAt label text code at told =
     (summary : List ℕ) × (shown : List ℕ) × (details : List ℕ)
-    × IsShown label text cause.at shown × (told ≡ message cause.code.now summary shown details)
+    × IsSummary summary × IsShown label text at shown × (told ≡ message code summary shown details)
+
+-- the message of a cause
+abbrev pub IsMessage : (label text : List ℕ) → Cause → List ℕ → Type 0
+IsMessage label text cause told = IsMessageAt label text cause.code.now cause.at told
 
 -- the message tells a refusal line that the text has: its code and its offset
 abbrev pub TellsRefusal : (label text told : List ℕ) → Type 0

@@ -1,5 +1,5 @@
 -- What is said to a person of an input that was refused.
-use Rattle.std.specs.Prelude.{◌≡◌, ◌≢◌, ◌<◌, ◌≤◌, ◌⊎◌, ◌++◌, ◌∷◌, ℕ, List, [], Some, codes, length, take}
+use Rattle.std.specs.Prelude.{◌≡◌, ◌≢◌, ◌<◌, ◌≤◌, ◌⊎◌, ◌++◌, ◌∷◌, ℕ, List, [], None, Some, codes, length, take}
 use Rattle.pb_base.specs.declared.limits.TheConstants.{MAX_INPUT}
 use Rattle.pb_base.specs.Steppers.{State, Table}
 use Rattle.pb_code.specs.Code.{CodeProcess}
@@ -16,14 +16,16 @@ use Rattle.pb_history.specs.Replays.{IsReplay, IsStopped, spread}
 use Rattle.pb_history.specs.declared.counted.CountedPick.{CountedPick}
 use Rattle.pb_history.specs.declared.fault.ReplayFault.TheVariants.{NotEnabled}
 use Rattle.pb_messages.specs.Causes.{IsCauseOf}
-use Rattle.pb_messages.specs.Messages.{IsMessage, TellsRefusal, message}
+use Rattle.pb_messages.specs.Messages.{IsMessage, IsMessageAt, TellsRefusal}
 use Rattle.pb_messages.specs.declared.cause.Cause.{Cause}
 use Rattle.pb_messages.specs.declared.message.Reading.{Reading}
 use Rattle.pb_messages.specs.declared.message.Reading.TheVariants.{Text, Claims, Recorded, FirstFormat, Texts, Object}
 use Rattle.pb_messages.specs.declared.message.Reading.TheVariants.{Replayed, Debugged}
 use Rattle.pb_names.specs.Program.{Program}
+use Rattle.pb_object.specs.Formats.{FitsFirst}
 use Rattle.pb_picks.specs.PickLines.{IsFaulty, SpellsPicks}
 use Rattle.pb_picks.specs.declared.fault.PickFault.{PickFault}
+use Rattle.pb_wording.specs.Stops.{HoldsPick}
 
 -- of an input that is too long
 abbrev pub long_input : List ℕ
@@ -33,11 +35,6 @@ long_input = codes "error input: the input is longer than 4194304 bytes\n"
 abbrev pub long_output : List ℕ
 long_output =
     codes "error output: the text with its run is longer than 4194304 bytes\n  = hint: record fewer steps: --steps 100000\n"
-
--- some message with this code
-abbrev pub HasCode : (code told : List ℕ) → Type 0
-HasCode code told =
-    (summary : List ℕ) × (shown : List ℕ) × (details : List ℕ) × (told ≡ message code summary shown details)
 
 -- of a text: its refusal; or, if it is accepted, what is said then
 abbrev pub SaysOfText : (text said told : List ℕ) → Type 0
@@ -49,11 +46,17 @@ SaysOfProgram text told =
     ((program : Program) × (claims : Table) × IsReadAs text program claims × (told ≡ []))
     ⊎ TellsRefusal [] text told
 
--- of a text that is to become an object in the first format: its refusal; or nothing, or why the first format
--- cannot
+-- of a text with this code, which is to become an object in the first format: nothing if the first format can
+-- say the code, and else that it cannot
+abbrev pub SaysWhetherFirst : (text : List ℕ) → Code → (told : List ℕ) → Type 0
+SaysWhetherFirst text code told =
+    (FitsFirst code × (told ≡ [])) ⊎ ((¬ FitsFirst code) × IsMessageAt [] text (codes "E1") None told)
+
+-- of such a text: its refusal; or whether the first format can say its code
 abbrev pub SaysOfFirstFormat : (text told : List ℕ) → Type 0
 SaysOfFirstFormat text told =
-    (IsAcceptedText text × ((told ≡ []) ⊎ HasCode (codes "E1") told)) ⊎ TellsRefusal [] text told
+    ((code : Code) × (labels : List ProcessLabels) × IsCompiled text code labels × SaysWhetherFirst text code told)
+    ⊎ TellsRefusal [] text told
 
 -- no line `%%` begins in the text
 abbrev pub HasNoMark : List ℕ → Type 0
@@ -95,7 +98,7 @@ SaysOfObjectText bytes told =
     ((code : Code) × (labels : List ProcessLabels) × IsLoaded bytes code labels × (told ≡ [])) ⊎ TellsObject bytes told
 
 -- of pick lines over some code: nothing if all picks are made; else which line says no picks, or that a pick
--- is not enabled, at some line
+-- is not enabled, at the line that holds it
 pub data SaysOfPickLines (code : Code) (lines : List ℕ) : List ℕ → Type 0 where
   made : (picks : List CountedPick) (entries : List Entry) (end : State CodeProcess)
       → SpellsPicks code lines picks → IsReplay code (spread picks) entries end → SaysOfPickLines code lines []
@@ -104,7 +107,8 @@ pub data SaysOfPickLines (code : Code) (lines : List ℕ) : List ℕ → Type 0 
       → IsMessage (codes "pick ") lines cause told → SaysOfPickLines code lines told
   stopped : (picks : List CountedPick) (number : ℕ) (told : List ℕ)
       → SpellsPicks code lines picks → IsStopped code (spread picks) (NotEnabled number)
-      → HasCode (codes "H1") told → SaysOfPickLines code lines told
+      → (at : ℕ) → HoldsPick code lines picks number at
+      → IsMessageAt (codes "pick ") lines (codes "H1") (Some at) told → SaysOfPickLines code lines told
 
 -- of a text and pick lines
 abbrev pub SaysOfPickedText : (text lines told : List ℕ) → Type 0

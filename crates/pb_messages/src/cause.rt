@@ -1,8 +1,8 @@
 //! What a refusal line tells: the letter with a number of each fault, and its offset.
 
-ghost use Rattle.std.specs.Prelude.{ℕ, List, IfSome, Some};
+ghost use Rattle.std.specs.Prelude.{◌≡◌, ◌++◌, ℕ, List, IfSome, Some, codes, length};
 ghost use Rattle.pb_codegen.specs.Compiled.{IsRefused};
-ghost use Rattle.pb_text_engines.specs.Refusals.{claims_line, kind_line, lex_line, names_line, object_line, parse_line, verify_line};
+ghost use Rattle.pb_text_engines.specs.Refusals.{at_place, claims_line, kind_line, lex_line, names_line, object_line, parse_line, verify_line};
 ghost use Rattle.pb_text_engines.specs.ReplayLines.{picks_line, stop_line};
 ghost use Rattle.pb_messages.specs.Causes.{IsCauseOf, TellsCause};
 
@@ -24,6 +24,22 @@ pub struct Cause {
     pub at: Option<usize>,
 }
 
+// Returns the cause of a refusal line that ends with its code.
+fn plain(code: &'static [u8]) -> Option<Cause>
+    requires { length code.now ≡ 2 }
+    ensures { IsCauseOf (Some (codes "refused " ++ code.now)) result }
+{
+    Some(Cause { code, at: None })
+}
+
+// Returns the cause of a refusal line with this code and this offset.
+fn placed(code: &'static [u8], at: usize) -> Option<Cause>
+    requires { length code.now ≡ 2 }
+    ensures { IsCauseOf (Some (at_place (codes "refused " ++ code.now) at)) result }
+{
+    Some(Cause { code, at: Some(at) })
+}
+
 /// Returns the cause of a fault of a text; none if it is out of memory.
 pub fn text_cause(fault: &CompileFault) -> Option<Cause>
     ensures { (text : List ℕ) → IsRefused text fault.now → IfSome result (TellsCause text) }
@@ -42,22 +58,10 @@ pub fn lex_cause(fault: LexFault) -> Option<Cause>
     ensures { IsCauseOf (lex_line fault) result }
 {
     match fault {
-        LexFault::TooLong => Some(Cause {
-            code: b"L1",
-            at: None,
-        }),
-        LexFault::BadByte(place) => Some(Cause {
-            code: b"L2",
-            at: Some(place),
-        }),
-        LexFault::NumberTooLarge(place) => Some(Cause {
-            code: b"L3",
-            at: Some(place),
-        }),
-        LexFault::NameTooLong(place) => Some(Cause {
-            code: b"L4",
-            at: Some(place),
-        }),
+        LexFault::TooLong => plain(b"L1"),
+        LexFault::BadByte(place) => placed(b"L2", place),
+        LexFault::NumberTooLarge(place) => placed(b"L3", place),
+        LexFault::NameTooLong(place) => placed(b"L4", place),
         LexFault::NoMemory => None,
     }
 }
@@ -67,18 +71,9 @@ pub fn parse_cause(fault: ParseFault) -> Option<Cause>
     ensures { IsCauseOf (parse_line fault) result }
 {
     match fault {
-        ParseFault::Syntax(place) => Some(Cause {
-            code: b"P1",
-            at: Some(place),
-        }),
-        ParseFault::TooDeep => Some(Cause {
-            code: b"P2",
-            at: None,
-        }),
-        ParseFault::TooLarge => Some(Cause {
-            code: b"P3",
-            at: None,
-        }),
+        ParseFault::Syntax(place) => placed(b"P1", place),
+        ParseFault::TooDeep => plain(b"P2"),
+        ParseFault::TooLarge => plain(b"P3"),
         ParseFault::NoMemory => None,
     }
 }
@@ -89,22 +84,10 @@ pub fn names_cause(fault: NameFault) -> Option<Cause>
 {
     match fault {
         NameFault::TooMany(kind) => limit_cause(kind),
-        NameFault::Twice(place) => Some(Cause {
-            code: b"N2",
-            at: Some(place),
-        }),
-        NameFault::Unknown(place) => Some(Cause {
-            code: b"N3",
-            at: Some(place),
-        }),
-        NameFault::Amount(place) => Some(Cause {
-            code: b"N4",
-            at: Some(place),
-        }),
-        NameFault::Repeated(place) => Some(Cause {
-            code: b"N6",
-            at: Some(place),
-        }),
+        NameFault::Twice(place) => placed(b"N2", place),
+        NameFault::Unknown(place) => placed(b"N3", place),
+        NameFault::Amount(place) => placed(b"N4", place),
+        NameFault::Repeated(place) => placed(b"N6", place),
         NameFault::NoMemory => None,
     }
 }
@@ -113,14 +96,11 @@ pub fn names_cause(fault: NameFault) -> Option<Cause>
 fn limit_cause(kind: Kind) -> Option<Cause>
     ensures { IsCauseOf (Some (kind_line kind)) result }
 {
-    match kind {
-        Kind::Processes | Kind::Resources | Kind::Integers | Kind::Fork | Kind::Arms => {
-            Some(Cause {
-                code: b"N1",
-                at: None,
-            })
-        }
-    }
+    let _ = kind;
+    Some(Cause {
+        code: b"N1",
+        at: None,
+    })
 }
 
 /// Returns the cause of a claim that is over its capital.
@@ -139,14 +119,8 @@ pub fn object_cause(fault: ObjectFault) -> Option<Cause>
     ensures { IsCauseOf (object_line fault) result }
 {
     match fault {
-        ObjectFault::NotObject(place) => Some(Cause {
-            code: b"O1",
-            at: Some(place),
-        }),
-        ObjectFault::Limit(place) => Some(Cause {
-            code: b"O2",
-            at: Some(place),
-        }),
+        ObjectFault::NotObject(place) => placed(b"O1", place),
+        ObjectFault::Limit(place) => placed(b"O2", place),
         ObjectFault::NoMemory => None,
     }
 }
@@ -156,42 +130,15 @@ pub fn verify_cause(fault: VerifyFault) -> Option<Cause>
     ensures { IsCauseOf (verify_line fault) result }
 {
     match fault {
-        VerifyFault::OutOfLimits => Some(Cause {
-            code: b"V9",
-            at: None,
-        }),
-        VerifyFault::OverCapital => Some(Cause {
-            code: b"V8",
-            at: None,
-        }),
-        VerifyFault::OutOfRange => Some(Cause {
-            code: b"V3",
-            at: None,
-        }),
-        VerifyFault::WrongArms => Some(Cause {
-            code: b"V1",
-            at: None,
-        }),
-        VerifyFault::WrongForks => Some(Cause {
-            code: b"V6",
-            at: None,
-        }),
-        VerifyFault::NoDepths => Some(Cause {
-            code: b"V2",
-            at: None,
-        }),
-        VerifyFault::NoHoldings => Some(Cause {
-            code: b"V4",
-            at: None,
-        }),
-        VerifyFault::LeftAtEnd => Some(Cause {
-            code: b"V5",
-            at: None,
-        }),
-        VerifyFault::OverClaim => Some(Cause {
-            code: b"V7",
-            at: None,
-        }),
+        VerifyFault::OutOfLimits => plain(b"V9"),
+        VerifyFault::OverCapital => plain(b"V8"),
+        VerifyFault::OutOfRange => plain(b"V3"),
+        VerifyFault::WrongArms => plain(b"V1"),
+        VerifyFault::WrongForks => plain(b"V6"),
+        VerifyFault::NoDepths => plain(b"V2"),
+        VerifyFault::NoHoldings => plain(b"V4"),
+        VerifyFault::LeftAtEnd => plain(b"V5"),
+        VerifyFault::OverClaim => plain(b"V7"),
         VerifyFault::NoMemory => None,
     }
 }
@@ -201,14 +148,8 @@ pub fn picks_cause(fault: PickFault) -> Option<Cause>
     ensures { IsCauseOf (picks_line fault) result }
 {
     match fault {
-        PickFault::NotPicks(place) => Some(Cause {
-            code: b"K1",
-            at: Some(place),
-        }),
-        PickFault::TooMany => Some(Cause {
-            code: b"K2",
-            at: None,
-        }),
+        PickFault::NotPicks(place) => placed(b"K1", place),
+        PickFault::TooMany => plain(b"K2"),
         PickFault::NoMemory => None,
     }
 }
@@ -219,10 +160,7 @@ pub fn stop_cause(fault: ReplayFault) -> Option<Cause>
     ensures { IsCauseOf (stop_line fault) result }
 {
     match fault {
-        ReplayFault::NotEnabled(pick) => Some(Cause {
-            code: b"H1",
-            at: Some(pick as usize),
-        }),
+        ReplayFault::NotEnabled(pick) => placed(b"H1", pick as usize),
         ReplayFault::NoMemory => None,
     }
 }

@@ -1,7 +1,7 @@
 //! The message of a cause, put together.
 
-ghost use Rattle.std.specs.Prelude.{◌≡◌, ◌++◌, IfOk, OnOk};
-ghost use Rattle.pb_messages.specs.Messages.{IsMessage, IsShown, message};
+ghost use Rattle.std.specs.Prelude.{◌≡◌, ◌++◌, IfOk, IsTrue, OnOk};
+ghost use Rattle.pb_messages.specs.Messages.{IsMessage, IsShown, IsSummary, message};
 
 use crate::cause::Cause;
 use pb_base::NoMemory;
@@ -10,7 +10,7 @@ use pb_wording::{Spot, Wording};
 use std::alloc::Global;
 
 /// Returns the message of a cause: its code, what is wrong in words, its place in the text, and details. A
-/// label is put before the line of the place.
+/// label is put before the line of the place. A wording that is not whole has no message.
 pub fn worded(
     alloc: Global,
     label: &str,
@@ -20,12 +20,25 @@ pub fn worded(
 ) -> Result<Vec<u8>, NoMemory>
     ensures { IfOk result (λ message. IsMessage label.now text.now cause.now message.items) }
 {
-    if !wording.is_whole {
+    let summary = wording.summary.as_bytes();
+    if !wording.is_whole || !is_summary(summary) {
         return Err(NoMemory);
     }
     let shown = show_cause(alloc, label, text, cause)?;
     let details = details(alloc, label, text, cause, wording)?;
-    compose(alloc, cause, wording.summary.as_bytes(), &shown, &details)
+    compose(alloc, cause, summary, &shown, &details)
+}
+
+// Returns whether words are there, and in one line.
+fn is_summary(words: &[u8]) -> bool
+    ensures { IsTrue result → IsSummary words.now }
+{
+    for k in 0..words.len() {
+        if words[k] == b'\n' {
+            return false;
+        }
+    }
+    !words.is_empty()
 }
 
 // Returns the place of a cause, if it has one, as a message shows it.

@@ -7,22 +7,19 @@ use pb_base::limits::MAX_FIRST_PROCESSES;
 use pb_lexer::{Mark, Token, lex};
 use std::alloc::Global;
 
-/// Returns the wording of what the first format can't say of a text, if there is anything.
-pub fn unsaid_wording(alloc: Global, text: &[u8]) -> Result<Option<Wording>, NoMemory> {
+/// Returns the wording of what the first format can't say of a text: its first process that is too many, or
+/// else its first hold of several resources.
+pub fn unsaid_wording(alloc: Global, text: &[u8]) -> Result<Wording, NoMemory> {
     let Ok(tokens) = lex(alloc, text) else {
         return Err(NoMemory);
     };
     if let Some(number) = process_past(&tokens) {
         let summary = "the first format has at most 32 processes";
-        return Ok(Some(pointing(alloc, summary, tokens.get(number))));
+        return Ok(pointing(alloc, summary, tokens.get(number)));
     }
-    match joint_hold(&tokens) {
-        Some(number) => {
-            let summary = "the first format has no hold of several resources";
-            Ok(Some(pointing(alloc, summary, tokens.get(number))))
-        }
-        None => Ok(None),
-    }
+    let summary = "the first format has no hold of several resources";
+    let number = joint_hold(&tokens).unwrap_or(tokens.len());
+    Ok(pointing(alloc, summary, tokens.get(number)))
 }
 
 // Returns the wording that points at a token.

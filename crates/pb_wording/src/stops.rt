@@ -1,5 +1,10 @@
 //! Why a pick of pick lines is not enabled.
 
+ghost use Rattle.std.specs.Prelude.{IfSome};
+ghost use Rattle.pb_code.specs.Whole.{Code as AnyCode};
+ghost use Rattle.pb_picks.specs.PickLines.{IsFirstLine, SpellsPicks};
+ghost use Rattle.pb_wording.specs.Stops.{HoldsPick};
+
 use crate::wording::{Shown, Wording};
 use pb_banker::Banker;
 use pb_base::{Bundle, Names, NoMemory, Pair, Pick};
@@ -25,34 +30,39 @@ pub struct Stop {
 }
 
 /// Returns the pick with a number, with its line; none past the end.
-pub fn stop_of(lines: &[u8], picks: &[CountedPick], number: u32) -> Option<Stop> {
+pub fn stop_of(lines: &[u8], picks: &[CountedPick], number: u32) -> Option<Stop>
+    ensures { IfSome result (λ stop. (code : AnyCode) → SpellsPicks code lines.now picks.now
+        → HoldsPick code lines.now picks.now number stop.line) }
+{
+    let mut rest = lines;
     let mut before = number;
-    for (i, counted) in picks.iter().enumerate() {
+    for i in 0..picks.len() {
+        let counted = picks[i];
         if before < counted.count {
             return Some(Stop {
                 pick: counted.pick,
                 number,
-                line: line_start(lines, i),
+                line: lines.len() - rest.len(),
                 before,
             });
         }
-        before = before.saturating_sub(counted.count);
+        before -= counted.count;
+        let (_, after) = first_line(rest);
+        rest = after;
     }
     None
 }
 
-// Returns where the line with this number begins, counted from 0.
-fn line_start(text: &[u8], number: usize) -> usize {
-    let mut left = number;
-    for (at, byte) in text.iter().enumerate() {
-        if left == 0 {
-            return at;
-        }
-        if *byte == b'\n' {
-            left = left.saturating_sub(1);
+// Splits a text into its first line, without the line feed, and the rest.
+fn first_line(text: &[u8]) -> (&[u8], &[u8])
+    ensures { IsFirstLine text.now result.0.now result.1.now }
+{
+    for end in 0..text.len() {
+        if text[end] == b'\n' {
+            return (&text[..end], &text[end + 1..]);
         }
     }
-    text.len()
+    (text, &text[text.len()..])
 }
 
 /// Returns the wording of a pick that is not enabled, over code with these labels, after those before it.

@@ -1,8 +1,8 @@
-use Rattle.std.proofs.Common.{Some}
 use Rattle.pb_messages.proofs.SaidLemmas.{stop_told}
 use Rattle.pb_messages.proofs.picks.stop_message.Goals as goal
 
 pub returns : goal.returns
 returns c =
     stop_told (λ told. told.items) c.args.verified.now.code c.args.lines.text.now c.args.picks.now c.in-NotEnabled.number
-    (Some c.in-Some.stop.line) c.worded.result c.requires.spelled (rw c.in-NotEnabled.is at c.requires.stopped) c.worded.ensures
+    c.in-Some.stop.line c.worded.result c.requires.spelled (rw c.in-NotEnabled.is at c.requires.stopped)
+    (c.in-Some.ensures c.args.verified.now.code c.requires.spelled) c.worded.ensures
