@@ -9,7 +9,7 @@ use Rattle.pb_words.specs.declared.words.Options.TheVariants.{Debug}
 use Rattle.pb_options.specs.declared.options.DebugOptions.{DebugOptions}
 use Rattle.pb_command_io.specs.Answers.{Says}
 use Rattle.pb_command_io.specs.Faults.{Devices}
-use Rattle.pb_answer.specs.Calls.{CallTellsFaults, CallWrites, TellsDebugFaults, fault_status, words_fault_text}
+use Rattle.pb_answer.specs.Calls.{AnswersBeforeRead, CallTellsFaults, CallWrites, TellsDebugFaults, fault_status, words_fault_text}
 use Rattle.pb_words.specs.Read.{BlamesWords, WordsSay}
 
 -- what is written if the words were not read
@@ -20,10 +20,12 @@ CallWrites-refused words rest old new status (fault.Words text) none says = inr 
 CallWrites-refused words rest old new status fault.Memory none says = inr (inr says)
 
 -- what `debug` tells of its devices is what a call with its words may tell
-pub CallTellsFaults-debug : (words : List (Bor (List ℕ))) (flags : DebugOptions) (old new : Devices) (status : Status)
-    → WordsSay words (Debug flags) → TellsDebugFaults flags.live old new status → CallTellsFaults words old new status
-CallTellsFaults-debug words flags old new status says tells = go flags.live refl tells
+pub CallTellsFaults-debug : (words : List (Bor (List ℕ))) (flags : DebugOptions) (rest left : Option (List ℕ)) (old new : Devices) (status : Status)
+    → WordsSay words (Debug flags) → TellsDebugFaults flags.live old new status → AnswersBeforeRead flags.live rest left old new
+    → CallTellsFaults words rest left old new status
+CallTellsFaults-debug words flags rest left old new status says tells answers = go flags.live refl tells answers
   where
-    go : (live : Bool) → flags.live ≡ live → TellsDebugFaults live old new status → CallTellsFaults words old new status
-    go true is tells = inr (subst (λ (live : Bool). WordsSay words (Debug (record { live = live }))) is says, tells)
-    go false is tells = inl tells
+    go : (live : Bool) → flags.live ≡ live → TellsDebugFaults live old new status → AnswersBeforeRead live rest left old new
+        → CallTellsFaults words rest left old new status
+    go true is tells answers = inr (subst (λ (live : Bool). WordsSay words (Debug (record { live = live }))) is says, tells, answers)
+    go false is tells answers = inl tells

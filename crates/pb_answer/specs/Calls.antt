@@ -1,5 +1,5 @@
 -- What a call of the program writes, with its words and its input.
-use Rattle.std.specs.Prelude.{◌⊎◌, ℕ, IfSome, Bool, true, false, List, [], Option, Some}
+use Rattle.std.specs.Prelude.{◌⊎◌, ◌≢◌, ℕ, IfSome, Bool, true, false, List, [], Option, Some, ⊤}
 use Rattle.std.specs.Borrow.{Bor}
 use Rattle.clap.specs.Words.{Text}
 use Rattle.pb_words.specs.declared.words.Options.{Options}
@@ -8,7 +8,8 @@ use Rattle.pb_words.specs.declared.words.WordsFault.{WordsFault}
 use Rattle.pb_words.specs.declared.words.WordsFault.TheVariants as fault
 use Rattle.pb_debug_engine.specs.Debugs.{SaysOfDebug}
 use Rattle.pb_debug_engine.specs.Faults.{TellsAnyFault}
-use Rattle.pb_debug_engine.specs.Live.{SaysOfLive}
+use Rattle.pb_debug.specs.Sessions.{SaysBefore}
+use Rattle.pb_debug_engine.specs.Live.{SaysOfLive, SaysOfRead}
 use Rattle.pb_draw_engine.specs.Draws.{SaysOfDraw}
 use Rattle.pb_command_io.specs.declared.status.Status.{Status}
 use Rattle.pb_command_io.specs.declared.status.Status.TheVariants.{Words, Memory}
@@ -83,9 +84,15 @@ abbrev pub TellsDebugFaults : (live : Bool) → Devices → Devices → Status �
 TellsDebugFaults true = TellsAnyFault
 TellsDebugFaults false = TellsFaults
 
--- a device that fails is reported, and nothing is written if a read fails; `debug --live` alone may have
--- carried out the commands before that read
-abbrev pub CallTellsFaults : List (Bor Text) → Devices → Devices → Status → Type 0
-CallTellsFaults words old new status =
+-- what `debug --live` writes if a read fails: the answers to the commands before it, all of them and no more
+abbrev pub AnswersBeforeRead : (live : Bool) → (rest left : Option (List ℕ)) → Devices → Devices → Type 0
+AnswersBeforeRead true rest left old new =
+    new.reads ≢ old.reads → IfSome rest (λ bytes. SaysBefore SaysOfRead bytes left old.written new.written)
+AnswersBeforeRead false rest left old new = ⊤
+
+-- a device that fails is reported, and nothing is written if a read fails; `debug --live` alone has carried out
+-- the commands before that read then, and written their answers
+abbrev pub CallTellsFaults : List (Bor Text) → (rest left : Option (List ℕ)) → Devices → Devices → Status → Type 0
+CallTellsFaults words rest left old new status =
     TellsFaults old new status
-    ⊎ (WordsSay words (option.Debug (record { live = true })) × TellsAnyFault old new status)
+    ⊎ (WordsSay words (option.Debug (record { live = true })) × TellsAnyFault old new status × AnswersBeforeRead true rest left old new)

@@ -2,6 +2,7 @@
 ghost use Rattle.std.specs.Prelude.{◌≡◌, IfSome};
 ghost use Rattle.pb_command_io.specs.Answers.{Says, Tells};
 ghost use Rattle.pb_answer.specs.Calls.{fault_status, words_fault_text, CallTellsFaults, CallWrites, SaysOfCommands, TellsDebugFaults};
+ghost use Rattle.pb_answer.specs.Calls.{AnswersBeforeRead};
 ghost use Rattle.pb_command_io.specs.Faults.{TellsWriteFaults};
 
 use pb_base::device::{Input, Output};
@@ -29,7 +30,7 @@ pub fn answer<I: Input, O: Output, R: Threads + Wait + Sync>(
     output: &mut O,
 ) -> Status
     ensures text { CallWrites words.now (I.rest input.old) (O.written output.old) (O.written output.new) result }
-    ensures faults { CallTellsFaults words.now
+    ensures faults { CallTellsFaults words.now (I.rest input.old) (I.rest input.new)
         (record { reads = I.failures input.old; writes = O.failures output.old; written = O.written output.old })
         (record { reads = I.failures input.new; writes = O.failures output.new; written = O.written output.new })
         result }
@@ -64,6 +65,9 @@ fn debug<I: Input, O: Output>(
         (record { reads = I.failures input.old; writes = O.failures output.old; written = O.written output.old })
         (record { reads = I.failures input.new; writes = O.failures output.new; written = O.written output.new })
         result }
+    ensures answered { AnswersBeforeRead flags.live (I.rest input.old) (I.rest input.new)
+        (record { reads = I.failures input.old; writes = O.failures output.old; written = O.written output.old })
+        (record { reads = I.failures input.new; writes = O.failures output.new; written = O.written output.new }) }
 {
     if flags.live {
         debug_live_engine(alloc, input, output)

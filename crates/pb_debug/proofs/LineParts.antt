@@ -1,25 +1,25 @@
 -- Lines that come in parts.
 use Rattle.std.proofs.Common.{◌≡◌, inl, inr, ℕ, suc, ◌+◌, ◌-◌, ◌<◌, ◌≤◌, ◌++◌, eqb, Bool, true, false, cond, List, []}
 use Rattle.std.proofs.Common.{◌∷◌, length, take, drop, get_or, Option, Some, None, refl, sym, ap, ◌∙◌, subst, arith}
-use Rattle.std.proofs.Common.{append_assoc, append-nil}
-use Rattle.std.specs.Prelude.{IfSome}
+use Rattle.std.proofs.Common.{append_assoc, append-nil, length-append, ◌≢◌, Result, Ok, Err}
+use Rattle.std.specs.Prelude.{IfErr, IfSome, OnOk, ⊤}
 use Rattle.std.proofs.lemmas.Bool.{cases_lt, lt-ltb}
 use Rattle.std.proofs.lemmas.List.{take_all, take-append-le, length-take-le, take-append-drop, length-drop}
 use Rattle.std.proofs.Math.Seq.{drop-cons, take-add}
-use Rattle.pb_base.specs.Device.{appended, AddsPrefix, GivesNext}
+use Rattle.pb_base.specs.Device.{appended, dropped, AddsPrefix, GivesNext, LeavesRest}
 use Rattle.pb_debug.specs.Answers.{AnswersLine, AnswersRead}
 use Rattle.pb_commands.specs.Buffers.{kept}
 use Rattle.pb_commands.specs.Commands.{Command}
 use Rattle.pb_commands.specs.Lines.{SplitLines, one_line_more, cut, last_line, lines_of}
 use Rattle.pb_debug.specs.Sessions.{Session, nothing, one_more, session_bytes, SaysAll, SaysSome, IsTold}
-use Rattle.pb_debug.specs.Sessions.{SessionStopsAt, WritesBeforeFault, Fed, FedSome}
+use Rattle.pb_debug.specs.Sessions.{SessionStopsAt, WritesBeforeFault, Fed, FedSome, BreaksOff, IsToldInPart, CountsWrites}
 use Rattle.pb_debug.specs.Value.{Debugging}
 use Rattle.pb_debug.specs.declared.fault.DebugFault.{DebugFault}
 use Rattle.pb_debug.specs.declared.fault.DebugFault.TheVariants.{PastEnd, NoProcess, NoArm, BadCommand, NoMemory}
 use Rattle.pb_debug.specs.declared.fault.DebugFault.TheVariants.{Device}
 use Rattle.pb_commands.proofs.Cutting.{cut-append, first_lines, cut_end, cut_byte}
 use Rattle.pb_commands.proofs.Kept.{kept_again, kept_says, kept_nothing}
-use Rattle.pb_base.proofs.DeviceLemmas.{appended-appended}
+use Rattle.pb_base.proofs.DeviceLemmas.{appended-appended, next-bytes}
 
 -- ---- commands
 
@@ -137,6 +137,29 @@ module _ (d m next : Debugging) (part xs : List ℕ) (old mid new : Option (List
         written = prefix_more old mid new fed.text said fed.written written;
       }
 
+  -- a write failed at a line feed
+  pub fed_breaks : (ys : List ℕ) → IsToldInPart m line mid new next → BreaksOff d (cut part (xs ++ 10 ∷ ys)).lines old new next
+  fed_breaks ys (said, answers, written) =
+      let c = cut part xs in
+      let says = kept_answers m c.rest said next (subst (λ (l : List ℕ). AnswersLine m l said next) fed.last answers) in
+      let bytes : (xs ++ 10 ∷ []) ++ ys ≡ xs ++ 10 ∷ ys = append_assoc xs (10 ∷ []) ys in
+      let lines = first_lines part (xs ++ 10 ∷ []) ys in
+      let ends = cut_end part xs in
+      record {
+        earlier = c.lines;
+        failed = c.rest;
+        later = (cut [] ys).lines;
+        text = fed.text;
+        mid = m;
+        of =
+            ap (λ (bs : List ℕ). (cut part bs).lines) (sym bytes)
+            ∙ (lines
+            ∙ (ap (λ (k : SplitLines). k.lines ++ (cut k.rest ys).lines) ends
+            ∙ append_assoc c.lines (c.rest ∷ []) (cut [] ys).lines));
+        session = fed.session;
+        told = (said, says, subst (λ o. AddsPrefix o new said) fed.written written);
+      }
+
   -- more bytes
   pub fed_fed : (ys line' : List ℕ) → Fed m (cut part xs).rest ys mid new line' next → Fed d part (xs ++ ys) old new line' next
   fed_fed ys line' more = record {
@@ -160,6 +183,61 @@ module _ (d m next : Debugging) (part xs : List ℕ) (old mid new : Option (List
     session = sessions d m next _ _ fed.text more.text fed.session more.session;
     written = leaves_more fault old mid new fed.text more.text fed.written more.written;
   }
+
+  -- a write failed at a line of more bytes
+  pub fed_then_breaks : (ys : List ℕ) → BreaksOff m (cut (cut part xs).rest ys).lines mid new next → BreaksOff d (cut part (xs ++ ys)).lines old new next
+  fed_then_breaks ys more =
+      let first = (cut part xs).lines in
+      record {
+        earlier = first ++ more.earlier;
+        failed = more.failed;
+        later = more.later;
+        text = fed.text ++ more.text;
+        mid = more.mid;
+        of =
+            first_lines part xs ys
+            ∙ (ap (λ (ls : List (List ℕ)). first ++ ls) more.of
+            ∙ sym (append_assoc first more.earlier (more.failed ∷ more.later)));
+        session = sessions d m more.mid _ _ fed.text more.text fed.session more.session;
+        told = (
+          more.told.0,
+          more.told.1,
+          subst (λ o. AddsPrefix o new more.told.0)
+              (ap (λ o. appended o more.text) fed.written ∙ appended-appended old fed.text more.text) more.told.2,
+        );
+      }
+
+-- ---- a write fails
+
+-- if another count of failed writes is there, a write failed
+pub write_failed : (fault : DebugFault) (m next : Debugging) (line : List ℕ) (mid new : Option (List ℕ)) (before after : ℕ)
+    → SessionStopsAt fault m line mid new next → CountsWrites fault before after → after ≢ before → IsToldInPart m line mid new next
+write_failed PastEnd m next line mid new before after stop counts grew = elim stop [ ]
+write_failed NoProcess m next line mid new before after stop counts grew = elim stop [ ]
+write_failed NoArm m next line mid new before after stop counts grew = elim stop [ ]
+write_failed BadCommand m next line mid new before after stop counts grew = elim stop [ ]
+write_failed NoMemory m next line mid new before after stop counts grew = absurd (grew counts)
+write_failed Device m next line mid new before after stop counts grew = stop
+
+pub told_in_part : (r : Result ⊤ DebugFault) (m next : Debugging) (line : List ℕ) (mid new : Option (List ℕ)) (before after : ℕ)
+    → IfErr r (λ e. SessionStopsAt e m line mid new next) → OnOk r (after ≡ before) → IfErr r (λ e. CountsWrites e before after)
+    → after ≢ before → IsToldInPart m line mid new next
+told_in_part (Ok x) m next line mid new before after stop same counts grew = absurd (grew same)
+told_in_part (Err e) m next line mid new before after stop same counts grew = write_failed e m next line mid new before after stop counts grew
+
+-- more lines are behind the one that failed
+pub breaks_before : (d next : Debugging) (lines more whole : List (List ℕ)) (old new : Option (List ℕ)) → BreaksOff d lines old new next
+    → whole ≡ lines ++ more → BreaksOff d whole old new next
+breaks_before d next lines more whole old new breaks is = record {
+  earlier = breaks.earlier;
+  failed = breaks.failed;
+  later = breaks.later ++ more;
+  text = breaks.text;
+  mid = breaks.mid;
+  of = is ∙ (ap (λ (ls : List (List ℕ)). ls ++ more) breaks.of ∙ append_assoc breaks.earlier (breaks.failed ∷ breaks.later) more);
+  session = breaks.session;
+  told = breaks.told;
+}
 
 -- so it is of more bytes still
 pub some_of_more : (fault : DebugFault) (d next : Debugging) (part xs ys : List ℕ) (old new : Option (List ℕ)) → FedSome fault d part xs old new next
@@ -264,6 +342,22 @@ module _ (d m : Debugging) (bytes : List ℕ) (old mid : Option (List ℕ)) (lin
         written = prefix_more old mid new fed.text said fed.written written;
       }
 
+  -- a write failed there
+  pub says_breaks : (next : Debugging) (new : Option (List ℕ)) → 0 < length line → IsToldInPart m line mid new next
+      → BreaksOff d (lines_of (session_bytes bytes)) old new next
+  says_breaks next new some (said, answers, written) =
+      let says = kept_answers m whole.rest said next (subst (λ (l : List ℕ). AnswersLine m l said next) fed.last answers) in
+      record {
+        earlier = whole.lines;
+        failed = whole.rest;
+        later = [];
+        text = fed.text;
+        mid = m;
+        of = ap (λ (ls : List (List ℕ)). whole.lines ++ ls) (last_is whole.rest (some_left some));
+        session = fed.session;
+        told = (said, says, subst (λ o. AddsPrefix o new said) fed.written written);
+      }
+
 pub fed_as : (d : Debugging) (part : List ℕ) (old : Option (List ℕ)) (next next' : Debugging) (xs xs' : List ℕ) (new
     new' : Option (List ℕ)) (line line' : List ℕ)
     → Fed d part xs old new line next → xs ≡ xs' → new ≡ new' → line ≡ line' → next ≡ next' → Fed d part xs' old new' line' next'
@@ -305,3 +399,22 @@ bytes_end bytes k none le =
     let zero' : length (drop k bytes) ≡ 0 = ap (λ (xs : List ℕ). length xs) none in
     let short : length bytes ≤ k = omega (arith, size, zero') in
     take_all k bytes short ∙ sym (take_all 4194304 bytes (omega (arith, short, le)))
+
+-- ---- how many bytes are taken
+
+-- nothing was read
+pub takes_none : (o : Option (List ℕ)) (most : ℕ) → LeavesRest o o most
+takes_none None most = ([], omega arith, refl)
+takes_none (Some bytes) most = ([], omega arith, refl)
+
+-- one more read
+pub takes_more : (old now new : Option (List ℕ)) (buf : List ℕ) (n k most : ℕ) → LeavesRest old now k → GivesNext now buf n → new ≡ dropped now n
+    → n ≤ length buf → k + n ≤ most → LeavesRest old new most
+takes_more old now new buf n k most (read, few, is) given taken within enough =
+    let sum = length-append read (take n buf) in
+    let part = length-take-le n buf within in
+    (read ++ take n buf, omega (arith, few, sum, part, enough), next-bytes old now new read buf n is given taken)
+
+-- a larger number
+pub takes_fewer : (old new : Option (List ℕ)) (k most : ℕ) → LeavesRest old new k → k ≤ most → LeavesRest old new most
+takes_fewer old new k most (read, few, is) enough = (read, omega (arith, few, enough), is)

@@ -46,6 +46,23 @@ pub record SaysSome (fault : DebugFault) (d : Debugging) (bytes : List ℕ) (old
   pub session : Session d lines text end
   pub written : WritesBeforeFault fault old new text
 
+-- a line is carried out, and some first part of its answer is written
+abbrev pub IsToldInPart : Debugging → List ℕ → Option (List ℕ) → Option (List ℕ) → Debugging → Type 0
+IsToldInPart d line old new next = (said : List ℕ) × AnswersLine d line said next × AddsPrefix old new said
+
+-- a write failed at one of the lines: the lines before it are answered, and their answers are written whole;
+-- it is carried out, and some first part of its answer is written; nothing of later lines is carried out or
+-- written
+pub record BreaksOff (d : Debugging) (lines : List (List ℕ)) (old new : Option (List ℕ)) (end : Debugging) : Type 0 where
+  pub earlier : List (List ℕ)
+  pub failed : List ℕ
+  pub later : List (List ℕ)
+  pub text : List ℕ
+  pub mid : Debugging
+  pub of : lines ≡ earlier ++ failed ∷ later
+  pub session : Session d earlier text mid
+  pub told : IsToldInPart mid failed (appended old text) new end
+
 -- the first of the bytes are read, and the others are still to come
 abbrev pub IsReadTo : (bytes read : List ℕ) (left : Option (List ℕ)) → Type 0
 IsReadTo bytes read left = (rest : List ℕ) × (bytes ≡ read ++ rest) × (left ≡ Some rest)
@@ -65,7 +82,7 @@ SessionStopsAt NoProcess d line old new next = ⊥
 SessionStopsAt NoArm d line old new next = ⊥
 SessionStopsAt BadCommand d line old new next = ⊥
 SessionStopsAt NoMemory d line old new next = (next ≡ d) × (new ≡ old)
-SessionStopsAt Device d line old new next = (said : List ℕ) × AnswersLine d line said next × AddsPrefix old new said
+SessionStopsAt Device d line old new next = IsToldInPart d line old new next
 
 -- a line is answered and the answer is written
 abbrev pub IsTold : Debugging → List ℕ → Option (List ℕ) → Option (List ℕ) → Debugging → Type 0

@@ -1,10 +1,11 @@
 //! Sessions: the commands of an input, answered one after another.
 
 ghost use Rattle.std.specs.Prelude.{◌≡◌, ◌≢◌, [], ℕ, List, IfErr, IfSome, OnOk};
+ghost use Rattle.pb_base.specs.Device.{LeavesRest};
 ghost use Rattle.pb_commands.specs.Buffers.{kept};
-ghost use Rattle.pb_commands.specs.Lines.{cut};
+ghost use Rattle.pb_commands.specs.Lines.{cut, lines_of};
 ghost use Rattle.pb_debug.specs.Sessions.{SaysAll, SaysBefore, SaysSome, IsTold, SessionStopsAt, Fed, FedSome, session_bytes};
-ghost use Rattle.pb_debug.specs.Sessions.{CountsWrites, CountsBoth, Session};
+ghost use Rattle.pb_debug.specs.Sessions.{BreaksOff, CountsWrites, CountsBoth, Session};
 
 use crate::debugger::Debugger;
 use crate::fault::DebugFault;
@@ -41,6 +42,8 @@ impl<'c> Debugger<'c> {
             → Fed self.old part bytes.now (O.written output.old) (O.written output.new) line.new self.new) }
         ensures some { IfErr result (λ e. (part : List ℕ) → line.old ≡ kept part
             → FedSome e self.old part bytes.now (O.written output.old) (O.written output.new) self.new) }
+        ensures broken { O.failures output.new ≢ O.failures output.old → (part : List ℕ) → line.old ≡ kept part
+            → BreaksOff self.old (cut part bytes.now).lines (O.written output.old) (O.written output.new) self.new }
         ensures counted { OnOk result (O.failures output.new ≡ O.failures output.old) }
         ensures fault { IfErr result (λ e. CountsWrites e (O.failures output.old) (O.failures output.new)) }
     {
@@ -69,9 +72,12 @@ impl<'c> Debugger<'c> {
             Fed self.old [] (session_bytes bytes) (O.written output.old) (O.written output.new) line.new self.new)) }
         ensures some { IfErr result (λ e. IfSome (I.rest input.old) (λ bytes.
             FedSome e self.old [] (session_bytes bytes) (O.written output.old) (O.written output.new) self.new)) }
+        ensures broken { O.failures output.new ≢ O.failures output.old → IfSome (I.rest input.old) (λ bytes.
+            BreaksOff self.old (cut [] (session_bytes bytes)).lines (O.written output.old) (O.written output.new) self.new) }
         ensures answered { I.failures input.new ≢ I.failures input.old → IfSome (I.rest input.old) (λ bytes.
             SaysBefore (λ read text. Session self.old (cut [] read).lines text self.new) bytes (I.rest input.new)
             (O.written output.old) (O.written output.new)) }
+        ensures taken { LeavesRest (I.rest input.old) (I.rest input.new) MAX_INPUT }
         ensures counted_reads { OnOk result (I.failures input.new ≡ I.failures input.old) }
         ensures counted_writes { OnOk result (O.failures output.new ≡ O.failures output.old) }
         ensures fault { IfErr result (λ e. CountsBoth e (I.failures input.old) (I.failures input.new)
@@ -100,9 +106,10 @@ impl<'c> Debugger<'c> {
     /// nothing.
     ///
     /// `NoMemory`: the command that was read is not carried out. `Device`: a read or a write failed, and the
-    /// position is that of the last command that was carried out. If a write failed, its answer may be
-    /// written in part. If a read failed, each complete line that was read is answered, and an incomplete one
-    /// is not. No other fault comes.
+    /// position is that of the last command that was carried out. If a write failed, that is the command whose
+    /// answer failed, of which some first part is written; all answers before it are written whole. If a read
+    /// failed, each complete line that was read is answered, and an incomplete one is not. No other fault
+    /// comes. Whatever comes, at most 4,194,304 bytes are taken from the input.
     pub fn session<I: Input, O: Output>(
         &mut self,
         input: &mut I,
@@ -112,9 +119,12 @@ impl<'c> Debugger<'c> {
             SaysAll self.old bytes (O.written output.old) (O.written output.new) self.new)) }
         ensures some { IfErr result (λ e. IfSome (I.rest input.old) (λ bytes.
             SaysSome e self.old bytes (O.written output.old) (O.written output.new) self.new)) }
+        ensures broken { O.failures output.new ≢ O.failures output.old → IfSome (I.rest input.old) (λ bytes.
+            BreaksOff self.old (lines_of (session_bytes bytes)) (O.written output.old) (O.written output.new) self.new) }
         ensures answered { I.failures input.new ≢ I.failures input.old → IfSome (I.rest input.old) (λ bytes.
             SaysBefore (λ read text. Session self.old (cut [] read).lines text self.new) bytes (I.rest input.new)
             (O.written output.old) (O.written output.new)) }
+        ensures taken { LeavesRest (I.rest input.old) (I.rest input.new) MAX_INPUT }
         ensures counted_reads { OnOk result (I.failures input.new ≡ I.failures input.old) }
         ensures counted_writes { OnOk result (O.failures output.new ≡ O.failures output.old) }
         ensures fault { IfErr result (λ e. CountsBoth e (I.failures input.old) (I.failures input.new)

@@ -15,7 +15,7 @@ use std::alloc::Global;
 
 /// Debugs as `debug_engine` does, but reads the commands as they come: the answer to each is written before
 /// more is read. The two parts before the commands are read up to their lines `%%`, and neither may be over
-/// 4,194,304 bytes; of the commands at most 4,194,304 bytes are read.
+/// 4,194,304 bytes with that line; of the commands at most 4,194,304 bytes are read.
 ///
 /// If a read fails, the status is `Device`. Each complete command that was read before it is answered then;
 /// if it was a read of the two parts before the commands, nothing is written.

@@ -1,2 +1,3 @@
 pub mod CauseLemmas
+pub mod LiveLemmas
 pub mod SaidLemmas

@@ -1,4 +1,5 @@
 pub mod Causes
 pub mod Kept
+pub mod LiveInputs
 pub mod Messages
 pub mod Said

@@ -9,10 +9,11 @@ use pb_base::limits::MAX_INPUT;
 use std::alloc::Global;
 use std::marker::Model;
 
-// The most bytes that are kept: those of the longest input, and one more.
-const MAX_KEPT: usize = MAX_INPUT + 1;
+// The most bytes that are kept: those of the longest two parts before the commands of `debug --live`, and one
+// more. Of any other command an input is too long with fewer.
+const MAX_KEPT: usize = 2 * MAX_INPUT + 1;
 
-/// An input that gives what another one gives, and keeps the first 4,194,305 bytes of it, so that a fault in
+/// An input that gives what another one gives, and keeps the first 8,388,609 bytes of it, so that a fault in
 /// them can be shown when the command has ended. If out of memory for them it forgets them, and goes on.
 #[derive(Drop)]
 pub struct KeptInput<I: Input> {
@@ -33,7 +34,7 @@ impl<I: Input> Model for KeptInput<I> {
 impl<I: Input> KeptInput<I> {
     /// Returns an input that gives what this one gives, of which nothing was read yet.
     pub fn new(alloc: Global, inner: I) -> KeptInput<I>
-        ensures { result ≡ record { rest = I.rest inner; failures = I.failures inner; kept = Some []; room = 4194305 } }
+        ensures { result ≡ record { rest = I.rest inner; failures = I.failures inner; kept = Some []; room = 8388609 } }
     {
         KeptInput {
             inner,
@@ -42,7 +43,7 @@ impl<I: Input> KeptInput<I> {
         }
     }
 
-    /// Returns the first bytes that were read, at most 4,194,305, or nothing if out of memory to keep them.
+    /// Returns the first bytes that were read, at most 8,388,609, or nothing if out of memory to keep them.
     pub fn kept(&self) -> Option<&[u8]>
         ensures { option_map (λ bytes. bytes.now) result ≡ self.now.kept }
     {

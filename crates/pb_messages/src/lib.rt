@@ -4,6 +4,7 @@
 pub mod cause;
 mod first_format;
 pub mod kept;
+pub mod live;
 pub mod message;
 mod objects;
 mod picks;
@@ -13,6 +14,7 @@ mod worded;
 
 pub use cause::Cause;
 pub use kept::KeptInput;
+pub use live::live_message;
 pub use message::{Reading, message_of};
 pub use standard_error::StandardError;
 pub use texts::text_message;

@@ -195,7 +195,7 @@ fn replayed_message(alloc: Global, bytes: &[u8]) -> Result<Vec<u8>, NoMemory>
 }
 
 // Returns the message of a text or an object and the pick lines behind it.
-fn debugged_message(alloc: Global, bytes: &[u8]) -> Result<Vec<u8>, NoMemory>
+pub(crate) fn debugged_message(alloc: Global, bytes: &[u8]) -> Result<Vec<u8>, NoMemory>
     ensures { IfOk result (λ message. SaysByReading Debugged bytes.now message.items) }
 {
     let (source, rest) = two_parts(bytes);

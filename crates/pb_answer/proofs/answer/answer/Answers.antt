@@ -18,7 +18,8 @@ returns-in-Ok-Debug-clause-text g c =
 pub returns-in-Ok-Debug-clause-faults : goal.returns-in-Ok-Debug-clause-faults
 returns-in-Ok-Debug-clause-faults g c =
     let read = subst (WordsSay c.args.words.now) c.in-Ok-Debug.field-0-is c.in-Ok-Debug.ensures.read in
-    CallTellsFaults-debug c.args.words.now c.in-Ok-Debug.flags _ _ c.debug.result read c.debug.ensures.faults
+    CallTellsFaults-debug c.args.words.now c.in-Ok-Debug.flags (g.I.Input.rest c.args.input.now) (g.I.Input.rest c.debug.new.input) _ _ c.debug.result
+    read c.debug.ensures.faults c.debug.ensures.answered
 
 pub returns-in-Ok-Run-clause-text : goal.returns-in-Ok-Run-clause-text
 returns-in-Ok-Run-clause-text g c =

@@ -1,6 +1,6 @@
 use Rattle.std.proofs.Common.{Bool, IfSome, subst, sym}
 use Rattle.pb_command_io.specs.Answers.{Tells}
-use Rattle.pb_answer.specs.Calls.{SaysOfCommands}
+use Rattle.pb_answer.specs.Calls.{AnswersBeforeRead, SaysOfCommands}
 use Rattle.pb_answer.proofs.answer.debug.Goals as goal
 
 pub returns-then-flags-clause-text : goal.returns-then-flags-clause-text
@@ -16,3 +16,33 @@ returns-else-flags-clause-text g c =
     Tells (SaysOfCommands live bytes) (g.O.Output.written c.args.output.now)
     (g.O.Output.written c.debug_engine.new.output) c.debug_engine.result))
     (sym c.if-flags.false) c.debug_engine.ensures.text
+
+pub returns-then-flags-clause-answered : goal.returns-then-flags-clause-answered
+returns-then-flags-clause-answered g c =
+    subst (λ (live : Bool). AnswersBeforeRead live (g.I.Input.rest c.args.input.now) (g.I.Input.rest c.debug_live_engine.new.input)
+    (record {
+      reads = g.I.Input.failures c.args.input.now;
+      writes = g.O.Output.failures c.args.output.now;
+      written = g.O.Output.written c.args.output.now;
+    })
+    (record {
+      reads = g.I.Input.failures c.debug_live_engine.new.input;
+      writes = g.O.Output.failures c.debug_live_engine.new.output;
+      written = g.O.Output.written c.debug_live_engine.new.output;
+    }))
+    (sym c.if-flags.true) c.debug_live_engine.ensures.answered
+
+pub returns-else-flags-clause-answered : goal.returns-else-flags-clause-answered
+returns-else-flags-clause-answered g c =
+    subst (λ (live : Bool). AnswersBeforeRead live (g.I.Input.rest c.args.input.now) (g.I.Input.rest c.debug_engine.new.input)
+    (record {
+      reads = g.I.Input.failures c.args.input.now;
+      writes = g.O.Output.failures c.args.output.now;
+      written = g.O.Output.written c.args.output.now;
+    })
+    (record {
+      reads = g.I.Input.failures c.debug_engine.new.input;
+      writes = g.O.Output.failures c.debug_engine.new.output;
+      written = g.O.Output.written c.debug_engine.new.output;
+    }))
+    (sym c.if-flags.false) tt
