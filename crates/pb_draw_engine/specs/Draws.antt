@@ -5,7 +5,7 @@ use Rattle.pb_code.specs.Code.{CodeProcess}
 use Rattle.pb_code.specs.Whole.{Code, ProcessLabels}
 use Rattle.pb_codegen.specs.Compiled.{IsCompiled}
 use Rattle.pb_draw.specs.Drawings.{IsDrawing}
-use Rattle.pb_layout.specs.Pictures.{ShowsEvents}
+use Rattle.pb_layout.specs.Pictures.{IsLayout}
 use Rattle.pb_draw.specs.Svg.{svg}
 use Rattle.pb_draw.specs.declared.drawing.Drawing.{Drawing}
 use Rattle.pb_draw.specs.declared.picture.Picture.{Picture}
@@ -18,12 +18,12 @@ use Rattle.pb_command_io.specs.declared.status.Status.{Status}
 use Rattle.pb_command_io.specs.declared.status.Status.TheVariants.{Memory, Refused}
 use Rattle.pb_history.specs.Entries.{Entry, picks_of}
 
--- a text is the picture of these entries as SVG, in which each event has its mark
+-- a text is the picture of these entries as SVG: the layout of what their run shows
 pub record IsPictured (code : Code) (entries : List Entry) (text : List ℕ) : Type 0 where
   pub drawing : Drawing
   pub picture : Picture
   pub drawn : IsDrawing code (picks_of entries) drawing
-  pub shows : ShowsEvents code.names drawing.marks.items picture
+  pub laid_out : IsLayout code.names code.capital drawing picture
   pub written : text ≡ svg picture
 
 -- what is said of the lines behind an accepted text, by its code: their picks are refused; or all are made,

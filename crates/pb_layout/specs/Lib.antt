@@ -1,2 +1,10 @@
+pub mod Axis
+pub mod Curves
+pub mod Grounds
+pub mod Holds
+pub mod Lanes
+pub mod Marks
 pub mod Pictures
+pub mod Places
+pub mod Shapes
 pub mod Texts

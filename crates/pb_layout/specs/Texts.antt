@@ -1,8 +1,31 @@
--- The texts beside the marks of events.
-use Rattle.std.specs.Prelude.{ℕ, List, map}
-use Rattle.pb_base.specs.Lines.{NameTable, line_of}
-use Rattle.pb_draw.specs.declared.drawing.Mark.{Mark}
+-- The texts of a picture.
+use Rattle.std.specs.Prelude.{ℕ, List, [], ◌++◌, codes, drop}
+use Rattle.std.specs.Fmt.{decimal, signed_decimal}
+use Rattle.pb_base.specs.Lines.{NameTable, fault_text, name_of, pairs_text}
+use Rattle.pb_base.specs.declared.event.Event.{Event}
+use Rattle.pb_base.specs.declared.event.Event.TheVariants.{Granted, Returned, Printed, Faulted, Finished}
+use Rattle.pb_base.specs.declared.pair.Pair.{Pair}
 
--- the line of each event
-abbrev pub lines_of : NameTable → List Mark → List (List ℕ)
-lines_of names marks = map (λ m. line_of names m.event) marks
+-- the amounts of a bundle, each with its resource: `k R`, with a space between two
+abbrev pub bundle_text : NameTable → List Pair → List ℕ
+bundle_text names bundle = drop 1 (pairs_text names bundle)
+
+-- what an event is: a grant and a return are of a bundle
+abbrev pub caption : NameTable → Event → List ℕ
+caption names (Granted pick bundle) = bundle_text names bundle
+caption names (Returned pick bundle) = bundle_text names bundle
+caption names (Printed pick value) = codes "print " ++ signed_decimal value
+caption names (Faulted pick kind) = codes "fault " ++ fault_text kind
+caption names (Finished process) = codes "end"
+
+-- what is written beside its mark: a grant and a return have their hold
+abbrev pub label_of : NameTable → Event → List ℕ
+label_of names (Granted pick bundle) = []
+label_of names (Returned pick bundle) = []
+label_of names (Printed pick value) = caption names (Printed pick value)
+label_of names (Faulted pick kind) = caption names (Faulted pick kind)
+label_of names (Finished process) = caption names (Finished process)
+
+-- `R of k`: a resource, and its capital
+abbrev pub resource_text : NameTable → (r capital : ℕ) → List ℕ
+resource_text names r capital = name_of names.resources r ++ codes " of " ++ decimal capital

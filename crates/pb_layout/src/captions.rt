@@ -1,67 +1,130 @@
-//! The texts of a picture: names of arms, and the lines of events.
+//! The texts of a picture.
 
-ghost use Rattle.std.specs.Prelude.{◌≡◌, All, IfOk, length, map};
-ghost use Rattle.pb_base.specs.Lines.{HasNames, names_view};
+ghost use Rattle.std.specs.Prelude.{◌≡◌, ◌++◌, IfOk, OnOk, map};
+ghost use Rattle.std.specs.Fmt.{decimal};
+ghost use Rattle.pb_base.specs.Lines.{fault_text, name_of, names_view, pair_text, pairs_text, pick_text};
 ghost use Rattle.pb_layout.specs.Texts as spec;
 
-use pb_base::{Event, Names, NoMemory, Pick, event_line};
-use pb_draw::drawing::Mark;
+use pb_base::{Bundle, Event, FaultKind, Names, NoMemory, Pair, Pick};
 use pb_draw::texts::{put, put_number};
 use std::alloc::Global;
 
 /// Returns a number as text, with words behind it.
-pub(crate) fn number_text(alloc: Global, number: u32, words: &[u8]) -> Result<Vec<u8>, NoMemory> {
+pub(crate) fn number_text(alloc: Global, number: u64, words: &[u8]) -> Result<Vec<u8>, NoMemory>
+    ensures { IfOk result (λ text. text.items ≡ decimal number ++ words.now) }
+{
     let mut text = Vec::new(alloc);
     put_number(&mut text, b"", number)?;
     put(&mut text, words)?;
     Ok(text)
 }
 
-/// Returns `P.a`, the name of an arm.
-pub(crate) fn arm_text(alloc: Global, names: &Names, pick: Pick) -> Result<Vec<u8>, NoMemory> {
-    let mut text = Vec::new(alloc);
-    if let Some(name) = names.processes.get(usize::from(pick.process)) {
-        put(&mut text, name)?;
+// Puts the name with a number behind a text, if there is one.
+fn put_name(text: &mut Vec<u8>, names: &[Vec<u8>], i: usize) -> Result<(), NoMemory>
+    ensures { OnOk result (text.new.items ≡ text.old.items ++ name_of (map (λ name. name.items) names.now) i) }
+{
+    match names.get(i) {
+        Some(name) => put(text, name),
+        None => Ok(()),
     }
+}
+
+/// Returns `P.a`, the name of an arm.
+pub(crate) fn arm_text(alloc: Global, names: &Names, pick: Pick) -> Result<Vec<u8>, NoMemory>
+    ensures { IfOk result (λ text. text.items ≡ pick_text (names_view names.now) pick) }
+{
+    let mut text = Vec::new(alloc);
+    put_name(&mut text, &names.processes, usize::from(pick.process))?;
     put_number(&mut text, b".", pick.arm)?;
     Ok(text)
 }
 
-// Returns what a text has behind its first space.
-fn behind_space(text: &[u8]) -> &[u8] {
-    for (i, byte) in text.iter().enumerate() {
-        if *byte == b' ' {
-            return &text[i + 1..];
-        }
-    }
-    text
+// Puts an amount and the name of its resource behind a text.
+fn put_pair(text: &mut Vec<u8>, names: &Names, pair: Pair) -> Result<(), NoMemory>
+    ensures { OnOk result (text.new.items ≡ text.old.items ++ pair_text (names_view names.now) pair) }
+{
+    put_number(text, b" ", pair.amount)?;
+    put(text, b" ")?;
+    put_name(text, &names.resources, usize::from(pair.resource))
 }
 
-/// Returns what the line of an event says behind the arm: the bundle of a grant or a return, and the event
-/// itself of the others.
-pub(crate) fn caption<'t>(line: &'t [u8], mark: &Mark) -> &'t [u8] {
-    let said = behind_space(line);
-    match mark.event {
-        Event::Granted { .. } => behind_space(said),
-        Event::Returned { .. } => behind_space(said),
-        _ => said,
+// Returns ` k R` for each pair of a bundle.
+fn pairs_of(alloc: Global, names: &Names, bundle: &Bundle) -> Result<Vec<u8>, NoMemory>
+    ensures { IfOk result (λ text. text.items ≡ pairs_text (names_view names.now) bundle.now) }
+{
+    let mut text = Vec::new(alloc);
+    for i in 0..bundle.len() {
+        put_pair(&mut text, names, bundle.get(i))?;
     }
+    Ok(text)
 }
 
-/// Returns the line of each event.
-pub(crate) fn lines_of(
+/// Returns the amounts of a bundle, each with its resource.
+pub(crate) fn bundle_text(
     alloc: Global,
     names: &Names,
-    marks: &[Mark],
-) -> Result<Vec<Vec<u8>>, NoMemory>
-    requires { All (λ m. HasNames (names_view names.now) m.event) marks.now }
-    ensures texts { IfOk result (λ lines. map (λ line. line.items) lines.items ≡ spec.lines_of (names_view names.now) marks.now) }
-    ensures many { IfOk result (λ lines. length lines.items ≡ length marks.now) }
+    bundle: &Bundle,
+) -> Result<Vec<u8>, NoMemory>
+    ensures { IfOk result (λ text. text.items ≡ spec.bundle_text (names_view names.now) bundle.now) }
 {
-    let mut lines = Vec::new(alloc);
-    for i in 0..marks.len() {
-        let line = event_line(alloc, names, &marks[i].event)?;
-        lines.push(line)?;
+    let pairs = pairs_of(alloc, names, bundle)?;
+    let start = pairs.len().min(1);
+    let text = Vec::from_slice(alloc, &pairs[start..])?;
+    Ok(text)
+}
+
+// Returns the word for a fault.
+fn fault_word(kind: FaultKind) -> &'static [u8]
+    ensures { result.now ≡ fault_text kind }
+{
+    match kind {
+        FaultKind::Divide => b"divide",
+        FaultKind::Overflow => b"overflow",
     }
-    Ok(lines)
+}
+
+/// Returns what is written of an event: the bundle of a grant or a return, and the event itself of the others.
+pub(crate) fn caption(alloc: Global, names: &Names, event: &Event) -> Result<Vec<u8>, NoMemory>
+    ensures { IfOk result (λ text. text.items ≡ spec.caption (names_view names.now) event.now) }
+{
+    let mut text = Vec::new(alloc);
+    match event {
+        Event::Granted { bundle, .. } => return bundle_text(alloc, names, bundle),
+        Event::Returned { bundle, .. } => return bundle_text(alloc, names, bundle),
+        Event::Printed { value, .. } => put_number(&mut text, b"print ", *value)?,
+        Event::Faulted { kind, .. } => {
+            put(&mut text, b"fault ")?;
+            put(&mut text, fault_word(*kind))?;
+        }
+        Event::Finished { .. } => put(&mut text, b"end")?,
+    }
+    Ok(text)
+}
+
+/// Returns what is written beside the mark of an event. A grant and a return have their hold.
+pub(crate) fn label_of(alloc: Global, names: &Names, event: &Event) -> Result<Vec<u8>, NoMemory>
+    ensures { IfOk result (λ text. text.items ≡ spec.label_of (names_view names.now) event.now) }
+{
+    match event {
+        Event::Granted { .. } => Ok(Vec::new(alloc)),
+        Event::Returned { .. } => Ok(Vec::new(alloc)),
+        Event::Printed { .. } => caption(alloc, names, event),
+        Event::Faulted { .. } => caption(alloc, names, event),
+        Event::Finished { .. } => caption(alloc, names, event),
+    }
+}
+
+/// Returns `R of k`, a resource with its capital.
+pub(crate) fn resource_text(
+    alloc: Global,
+    names: &Names,
+    r: usize,
+    capital: u32,
+) -> Result<Vec<u8>, NoMemory>
+    ensures { IfOk result (λ text. text.items ≡ spec.resource_text (names_view names.now) r capital) }
+{
+    let mut text = Vec::new(alloc);
+    put_name(&mut text, &names.resources, r)?;
+    put_number(&mut text, b" of ", capital)?;
+    Ok(text)
 }

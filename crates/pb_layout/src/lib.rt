@@ -3,8 +3,16 @@
 
 mod axis;
 mod captions;
+mod curves;
+mod grid;
+mod grounds;
+mod holds;
+mod knot;
+mod lanes;
 pub mod layout;
+mod marks;
 mod rows;
-mod ticks;
+mod shapes;
+mod sizes;
 
 pub use layout::lay_out;

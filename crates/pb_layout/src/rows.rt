@@ -1,22 +1,13 @@
 //! The rows of a picture: one for each arm that is ever live.
 
-ghost use Rattle.std.specs.Prelude.{◌≡◌, ◌<◌, IfOk, IfSome, length};
+ghost use Rattle.std.specs.Prelude.{◌≡◌, ◌<◌, ◌≤◌, ◌^◌, IfOk, IfSome, length};
+ghost use Rattle.pb_layout.specs.Places as spec;
+ghost use Rattle.pb_layout.specs.Lanes as lanes;
 
+use crate::sizes::{ABOVE, BELOW, BETWEEN, HOLD, LOWEST, TOP, TRACK};
 use pb_base::{Event, NoMemory, Pick};
-use pb_draw::drawing::{Drawing, Lane, Mark, Standing};
+use pb_draw::drawing::{Drawing, Lane, LaneStep, Mark, Standing};
 use std::alloc::Global;
-
-/// Where the first row begins, below the numbers of the picks.
-const TOP: u64 = 40;
-
-/// The heights of a row: above the line of its arm, of each hold below it, and at its end.
-pub(crate) const ABOVE: u64 = 18;
-
-pub(crate) const TRACK: u64 = 8;
-
-pub(crate) const HOLD: u64 = 18;
-
-const BELOW: u64 = 10;
 
 /// The row of an arm.
 #[derive(Clone, Copy)]
@@ -31,43 +22,72 @@ pub(crate) struct Row {
 }
 
 impl Row {
-    /// Returns where the line of the arm is.
-    pub(crate) fn track(&self) -> u64 {
-        self.y.saturating_add(ABOVE)
-    }
-
-    /// Returns where the hold of this depth is.
-    pub(crate) fn hold(&self, depth: u32) -> u64 {
-        self.track()
-            .saturating_add(TRACK + 2 + u64::from(depth) * HOLD)
+    // Returns where the line of the arm is.
+    fn track(&self) -> u64
+        ensures { result ≡ spec.track_in self.now }
+    {
+        self.y.min(LOWEST) + ABOVE
     }
 
     // Returns where the row ends.
     fn end(&self) -> u64 {
         if self.shown {
-            self.hold(self.deepest).saturating_add(BELOW)
+            self.track() + TRACK + BETWEEN + u64::from(self.deepest) * HOLD + BELOW
         } else {
             self.y
         }
     }
 }
 
-/// Returns the number of the row of an arm.
-pub(crate) fn row_of(rows: &[Row], pick: Pick) -> Option<usize>
+// Returns whether both are of one arm of one process.
+fn is_arm(a: Pick, b: Pick) -> bool
+    ensures { result ≡ spec.is_arm a b }
+{
+    a.process == b.process && a.arm == b.arm
+}
+
+// Returns the number of the row of an arm.
+fn row_of(rows: &[Row], pick: Pick) -> Option<usize>
     ensures { IfSome result (λ i. i < length rows.now) }
 {
     for (i, row) in rows.iter().enumerate() {
-        if row.pick.process == pick.process && row.pick.arm == pick.arm {
+        if is_arm(row.pick, pick) {
             return Some(i);
         }
     }
     None
 }
 
-// Returns whether an arm is ever live.
-fn is_shown(lane: &Lane) -> bool {
+/// Returns where the line of an arm is.
+pub(crate) fn track_of(rows: &[Row], pick: Pick) -> u64
+    ensures y { result ≡ spec.track_of rows.now pick }
+    ensures high { result ≤ 2 ^ 63 }
+{
+    for row in rows {
+        if is_arm(row.pick, pick) {
+            return row.track();
+        }
+    }
+    0
+}
+
+// Returns whether an arm is live from a step on.
+fn is_live(step: LaneStep) -> bool
+    ensures { result ≡ lanes.is_live step.standing }
+{
+    match step.standing {
+        Standing::Away => false,
+        Standing::Going => true,
+        Standing::Waiting => true,
+    }
+}
+
+/// Returns whether an arm is ever live.
+pub(crate) fn is_ever_live(lane: &Lane) -> bool
+    ensures { result ≡ lanes.is_ever_live lane.now }
+{
     for step in &lane.steps {
-        if step.standing != Standing::Away {
+        if is_live(*step) {
             return true;
         }
     }
@@ -75,15 +95,13 @@ fn is_shown(lane: &Lane) -> bool {
 }
 
 // Returns a row for each arm, none with a place yet.
-fn bare_rows(alloc: Global, lanes: &[Lane]) -> Result<Vec<Row>, NoMemory>
-    ensures { IfOk result (λ rows. length rows.items ≡ length lanes.now) }
-{
+fn bare_rows(alloc: Global, lanes: &[Lane]) -> Result<Vec<Row>, NoMemory> {
     let mut rows = Vec::new(alloc);
     for lane in lanes {
         rows.push(Row {
             pick: lane.pick,
             y: 0,
-            shown: is_shown(lane),
+            shown: is_ever_live(lane),
             deepest: 0,
         })?;
     }
@@ -106,11 +124,8 @@ fn take_holds(rows: &[Row], held: &mut [u32], process: u8) {
     }
 }
 
-// Counts how many holds each arm has, and returns the depth of each grant, by the numbers of the marks: 0 for
-// other events.
-fn depths_of(alloc: Global, marks: &[Mark], rows: &mut [Row]) -> Result<Vec<u32>, NoMemory>
-    ensures { IfOk result (λ depths. length depths.items ≡ length marks.now) }
-{
+// Counts how many holds each arm has, and returns the depth of each grant.
+fn depths_of(alloc: Global, marks: &[Mark], rows: &mut [Row]) -> Result<Vec<u32>, NoMemory> {
     let mut held = no_holds(alloc, rows)?;
     let mut depths = Vec::new(alloc);
     for mark in marks {
@@ -124,7 +139,9 @@ fn depths_of(alloc: Global, marks: &[Mark], rows: &mut [Row]) -> Result<Vec<u32>
                 rows[i].deepest = rows[i].deepest.max(held[i]);
             }
         }
-        depths.push(depth)?;
+        if let Event::Granted { .. } = mark.event {
+            depths.push(depth)?;
+        }
     }
     Ok(depths)
 }
@@ -138,7 +155,7 @@ fn held_after(held: u32, event: &Event) -> u32 {
     }
 }
 
-/// The rows of the arms, the depth of each grant by the number of its mark, and where the rows end.
+/// The rows of the arms, the depth of each hold by its number, and where the rows end.
 #[derive(Drop)]
 pub(crate) struct Rows {
     pub rows: Vec<Row>,
@@ -147,10 +164,7 @@ pub(crate) struct Rows {
 }
 
 /// Returns the rows of a drawing.
-pub(crate) fn rows_of(alloc: Global, drawing: &Drawing) -> Result<Rows, NoMemory>
-    ensures rows { IfOk result (λ r. length r.rows.items ≡ length drawing.now.lanes.items) }
-    ensures depths { IfOk result (λ r. length r.depths.items ≡ length drawing.now.marks.items) }
-{
+pub(crate) fn rows_of(alloc: Global, drawing: &Drawing) -> Result<Rows, NoMemory> {
     let mut rows = bare_rows(alloc, &drawing.lanes)?;
     let depths = depths_of(alloc, &drawing.marks, &mut rows)?;
     let mut end = TOP;

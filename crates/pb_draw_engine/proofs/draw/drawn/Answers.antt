@@ -2,7 +2,7 @@ use Rattle.std.proofs.Common.{length, sym, ap, ◌∙◌, subst}
 use Rattle.std.specs.Prelude.{All}
 use Rattle.pb_base.specs.Lines.{NameTable, HasNames}
 use Rattle.pb_code.specs.Whole.{Code}
-use Rattle.pb_layout.specs.Pictures.{ShowsEvents}
+use Rattle.pb_layout.specs.Pictures.{IsLayout}
 use Rattle.pb_draw.specs.declared.drawing.Mark.{Mark}
 use Rattle.pb_verifier.specs.declared.fault.VerifyFault.TheVariants.{OutOfLimits}
 use Rattle.pb_draw_engine.proofs.draw.drawn.Goals as goal
@@ -27,7 +27,7 @@ returns-clause-text c = record {
   drawing = c.in_ok-drawing.drawing;
   picture = c.in_ok-picture.picture;
   drawn = c.in_ok-drawing.ensures.drawing;
-  shows = subst (λ (n : NameTable). ShowsEvents n c.in_ok-drawing.drawing.marks.items c.in_ok-picture.picture)
-      (ap (λ (x : Code). x.names) c.code-code.ensures.code) c.in_ok-picture.ensures;
+  laid_out = subst (λ (x : Code). IsLayout x.names x.capital c.in_ok-drawing.drawing c.in_ok-picture.picture)
+      c.code-code.ensures.code c.in_ok-picture.ensures;
   written = c.in_ok-text.ensures;
 }

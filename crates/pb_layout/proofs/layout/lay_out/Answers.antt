@@ -1,12 +1,20 @@
-use Rattle.std.proofs.Common.{arith}
+use Rattle.std.proofs.Common.{ap, ◌∙◌, arith}
 use Rattle.std.proofs.lemmas.Grind.{common_steps}
+use Rattle.pb_base.specs.Lines.{names_view}
+use Rattle.pb_layout.specs.Axis.{x_at}
+use Rattle.pb_layout.specs.Marks.{signs}
+use Rattle.pb_layout.specs.Places.{places_of}
 use Rattle.pb_layout.proofs.layout.lay_out.Goals as goal
 
-pub ticks_of-requires : goal.ticks_of-requires
-ticks_of-requires c = grind (arith, common_steps)
-
-pub returns-in_err-ticks : goal.returns-in_err-ticks
-returns-in_err-ticks c = grind (arith, common_steps) steps 400000
-
 pub returns : goal.returns
-returns c = grind (arith, common_steps)
+returns c = record {
+  places = places_of c.in_ok-grid.grid;
+  axis = c.in_ok-grid.ensures.axis;
+  right = ap (x_at c.in_ok-grid.grid.knots.items) c.in_ok-grid.ensures.end;
+  rects = c.in_ok-rects.ensures;
+  texts = c.in_ok-labels.ensures;
+  marks = c.in_ok-ticks.ensures
+      ∙ ap (signs (names_view c.args.names.now) (places_of c.in_ok-grid.grid)) c.deref.ensures.value;
+  wide = grind (arith, common_steps);
+  high = grind (arith, common_steps);
+}

@@ -1,0 +1,95 @@
+//! The sizes of a picture, in pixels: all of them stand here.
+
+/// How wide a silent pick is.
+pub const SILENT: u64 = 6;
+
+/// A longer silent stretch is as wide as this many silent picks.
+pub const MAX_SILENT: u64 = 15;
+
+/// How wide a character is.
+pub const CHARACTER: u64 = 7;
+
+/// The room beside the text of an event: each event is at least so wide.
+pub const SIDE: u64 = 16;
+
+/// The most characters of an event for which there is room.
+pub const MAX_CHARACTERS: u64 = 100;
+
+/// How wide the time before any pick is.
+pub const START: u64 = 48;
+
+/// The most characters of a name for which there is room, and the room beside them.
+pub const MAX_NAME: u64 = 32;
+
+pub const NAME_SIDE: u64 = 100;
+
+/// Where names and notes begin.
+pub const MARGIN: u64 = 8;
+
+/// Where the first row begins, below the numbers of the picks.
+pub const TOP: u64 = 40;
+
+/// The heights of a row: above the line of its arm, that line, the gap below it, each hold, and at its end.
+pub const ABOVE: u64 = 18;
+
+pub const TRACK: u64 = 8;
+
+pub const BETWEEN: u64 = 2;
+
+pub const HOLD: u64 = 18;
+
+pub const BELOW: u64 = 10;
+
+/// How high the bar of a hold is.
+pub const BAR: u64 = 15;
+
+/// Where the bundle of a hold is written, from the corner of its bar.
+pub const BUNDLE_RIGHT: u64 = 7;
+
+pub const BUNDLE_DOWN: u64 = 11;
+
+/// Where the middle of an event is, below the top of the line of its arm.
+pub const MIDDLE: u64 = 4;
+
+/// Where the text of an event is, from its middle.
+pub const LABEL_LEFT: u64 = 4;
+
+pub const LABEL_UP: u64 = 9;
+
+/// Where the numbers of picks are.
+pub const NUMBER_Y: u64 = 28;
+
+/// The height of the curve of a resource, and of its row.
+pub const CURVE: u64 = 48;
+
+pub const CURVE_ROW: u64 = 76;
+
+/// How high the step curve itself is, and how far above the area below it it begins.
+pub const LEVEL: u64 = 2;
+
+pub const LEVEL_UP: u64 = 1;
+
+/// Where an amount is written, from the upper left corner of its step.
+pub const AMOUNT_RIGHT: u64 = 2;
+
+pub const AMOUNT_UP: u64 = 4;
+
+/// Where the ground of a shortened stretch begins, and where its number is written.
+pub const GAP_TOP: u64 = 32;
+
+pub const GAP_TEXT: u64 = 14;
+
+/// Where what is said below a picture is, from where its rows end.
+pub const NOTE_DOWN: u64 = 24;
+
+pub const OTHER_NOTE_DOWN: u64 = 38;
+
+/// The least width of a picture, with the room to the right of its time, and the room below its rows.
+pub const MIN_WIDTH: u64 = 560;
+
+pub const RIGHT: u64 = 20;
+
+pub const BOTTOM: u64 = 50;
+
+/// No row is lower.
+pub const LOWEST: u64 = 4_611_686_018_427_387_904;
