@@ -1,14 +1,16 @@
 //! Worker threads over one book.
 
-ghost use Rattle.std.specs.Prelude.{◌≡◌, ◌↔◌, ◌<◌, ◌≤◌, IfOk, IfErr, MatchResult};
+ghost use Rattle.std.specs.Prelude.{◌≡◌, ◌↔◌, ◌<◌, ◌≤◌, IfOk, IfErr, IsTrue, MatchResult};
 ghost use Rattle.pb_workers.specs.declared.fault.RunFault.TheVariants.{Limits};
+ghost use Rattle.pb_workers.specs.Causes.{IsCause};
 ghost use Rattle.pb_workers.specs.Reports.{InRange, IsReport};
 
 use crate::fault::RunFault;
 use crate::gate::Gate;
-use crate::met::{Met, NOTHING};
+use crate::met::{Met, NO_MEMORY, NOTHING};
 use crate::report::Report;
 use crate::work::work;
+use pb_base::NoMemory;
 use pb_base::limits::{MAX_PICKS, MAX_QUANTUM, MAX_WORKERS};
 use pb_shared::{Book, CodeBrand, Shared};
 use pb_verifier::Verified;
@@ -20,7 +22,8 @@ use std::thread::Threads;
 
 /// Runs the code by `workers` threads, each of which takes stretches of at most `quantum` picks, until all is
 /// over or `limit` picks were made. A worker that is out of memory gives its stretch back and ends, and the
-/// others go on.
+/// others go on. One worker at an open gate makes the same picks in the thread that calls, and none is
+/// started.
 pub fn run_workers<G: Gate, R: Threads + Wait + Sync>(
     rt: &R,
     alloc: Global,
@@ -65,15 +68,39 @@ fn run_branded<C: CodeBrand, G: Gate, R: Threads + Wait + Sync>(
         Ok(book) => book,
         Err(_) => return Err(RunFault::NoMemory),
     };
-    let shared = Shared::new(book);
+    if workers == 1 && gate.is_open() {
+        return run_alone(rt, book, quantum, limit);
+    }
+    let shared = if gate.is_open() {
+        Shared::open(book)
+    } else {
+        Shared::new(book)
+    };
     let met = Mutex::new(NOTHING);
     let all_started = start_all(rt, alloc, &shared, &met, workers, quantum, gate);
-    let book = shared.into_book();
-    let met = met.into_inner();
-    if !all_started {
-        return Err(RunFault::NoThread);
+    report(shared.into_book(), limit, met.into_inner(), all_started)
+}
+
+/// Makes turns of the book until there is none.
+fn run_alone<'v, C: CodeBrand, R: Wait>(
+    rt: &R,
+    book: Book<'v, C>,
+    quantum: u32,
+    limit: u32,
+) -> Result<Report, RunFault>
+    requires { 0 < quantum }
+    ensures report { IfOk result (λ report. IsReport C.code.code limit report) }
+    ensures limits { IfErr result (λ fault. fault ≡ Limits → ⊥) }
+{
+    let mut book = book;
+    for _ in rt.forever() {
+        match book.turn(quantum) {
+            Ok(Some(_)) => {}
+            Ok(None) => return report(book, limit, NOTHING, true),
+            Err(NoMemory) => return report(book, limit, NO_MEMORY, true),
+        }
     }
-    report(book, limit, met)
+    unreachable!()
 }
 
 /// Starts the threads and joins those that were started. Returns whether all were.
@@ -115,11 +142,22 @@ fn start_all<'v, C: CodeBrand, G: Gate, R: Threads + Wait + Sync>(
 }
 
 /// Returns what the book says once all workers have ended. A lock does not tell which book of its brand it
-/// holds, so the limit is compared.
-fn report<'v, C: CodeBrand>(book: Book<'v, C>, limit: u32, met: Met) -> Result<Report, RunFault>
+/// holds, so the limit is compared. If the book has an outcome, all threads were started, no stretch was a
+/// stranger and the limit is that of the book, this is the outcome.
+fn report<'v, C: CodeBrand>(
+    book: Book<'v, C>,
+    limit: u32,
+    met: Met,
+    all_started: bool,
+) -> Result<Report, RunFault>
     ensures report { IfOk result (λ report. IsReport C.code.code limit report) }
     ensures limits { IfErr result (λ fault. fault ≡ Limits → ⊥) }
+    ensures fault { IfErr result (IsCause book.entry limit met.stranger all_started) }
+    ensures threads { IfOk result (λ _. IsTrue all_started) }
 {
+    if !all_started {
+        return Err(RunFault::NoThread);
+    }
     let outcome = book.outcome();
     if outcome.is_none() && met.no_memory {
         return Err(RunFault::NoMemory);
