@@ -10,7 +10,7 @@ use pb_picks::count_pick;
 use std::alloc::Global;
 
 /// Returns the picks, those of one arm that follow one another as one entry. More picks than lines may say
-/// are as good as out of memory: a search that keeps at most 4,000,000 configurations finds none so long.
+/// are reported as out of memory: a search that makes picks at once can find a run of so many.
 pub fn count_picks(alloc: Global, picks: &[Pick]) -> Result<Vec<CountedPick>, NoMemory>
     ensures { IfOk result (λ counted. AreCounted picks.now counted.items) }
 {
