@@ -1,8 +1,9 @@
 //! What is said to a person when an input was refused.
 
+use pb_base::NoMemory;
 use pb_base::device::Output;
 use pb_command_io::{Page, Status};
-use pb_messages::{Reading, message_of};
+use pb_messages::{Reading, live_message, message_of};
 use pb_object::Format;
 use pb_words::{Options, options};
 use std::alloc::Global;
@@ -13,15 +14,24 @@ pub fn explain_refusal<O: Output>(alloc: Global, words: &[&str], bytes: &[u8], e
     let Ok(options) = options(alloc, words) else {
         return;
     };
-    let Some(reading) = reading_of(&options) else {
-        return;
-    };
-    let Ok(message) = message_of(alloc, reading, bytes) else {
+    let Some(Ok(message)) = message_for(alloc, &options, bytes) else {
         return;
     };
     let mut page = Page::new(alloc);
     if page.say(error, &message).is_ok() {
         page.finish(error, Status::Refused);
+    }
+}
+
+// Returns the message of what a command refused, or nothing if it reads no input.
+fn message_for(
+    alloc: Global,
+    options: &Options,
+    bytes: &[u8],
+) -> Option<Result<Vec<u8>, NoMemory>> {
+    match options {
+        Options::Debug(flags) if flags.live => Some(live_message(alloc, bytes)),
+        _ => Some(message_of(alloc, reading_of(options)?, bytes)),
     }
 }
 

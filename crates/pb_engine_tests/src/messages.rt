@@ -1,6 +1,6 @@
 //! What is said of refused inputs, by how they are read.
 
-use pb_messages::{Reading, message_of};
+use pb_messages::{Reading, live_message, message_of};
 use std::alloc::Global;
 
 /// Returns whether this is said of an input.
@@ -121,4 +121,34 @@ process p begin hold 1 of r, 1 of s do skip od end
     let message = message_of(rt.alloc(), Reading::FirstFormat, text);
     let said = b"error E1: the first format has no hold of several resources\n";
     assert!(rt; message.is_ok_and(|message| message.as_slice().starts_with(said)));
+}
+
+/// Returns whether what is said of an input whose commands are read as they come begins so: of a text of 400
+/// bytes, and this many line feeds as pick lines.
+fn says_of_live(alloc: Global, feeds: usize, said: &[u8]) -> Option<bool> {
+    let mut bytes = Vec::from_slice(alloc, b"process p begin print 1 end\n").ok()?;
+    bytes.resize(400, b'\n').ok()?;
+    bytes.extend_from_slice(b"%%\n").ok()?;
+    let length = bytes.len() + feeds;
+    bytes.resize(length, b'\n').ok()?;
+    bytes.extend_from_slice(b"%%\n").ok()?;
+    Some(
+        live_message(alloc, &bytes)
+            .ok()?
+            .as_slice()
+            .starts_with(said),
+    )
+}
+
+#[test]
+fn each_live_part_has_a_length_of_its_own(rt: HostRuntime) {
+    // both parts are over 4,194,304 bytes together, and neither is by itself; then the second is
+    assert!(rt; says_of_live(rt.alloc(), 4_194_301, b"error K1: ") == Some(true));
+    assert!(rt;
+        says_of_live(
+            rt.alloc(),
+            4_194_302,
+            b"error input: the text or the pick lines"
+        ) == Some(true)
+    );
 }
