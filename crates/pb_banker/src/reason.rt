@@ -22,6 +22,6 @@ pub enum Reason {
     OverClaim(usize),
     /// There is too little cash of this resource.
     OverCash(usize),
-    /// These slots could not finish after it.
+    /// Of the slots that have a row, those marked here could not finish after it.
     Rest([bool; MAX_PROCESSES]),
 }
