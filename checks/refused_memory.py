@@ -5,8 +5,8 @@
 
 A call is repeated with its first, second and each next request refused, until it makes no request that was not refused
 already. Each answer must be out of memory (status 5, the lines of a first part of the whole answer, and `memory`), or,
-if the program can do with less, the whole answer with its status. If the C library is refused what it wants for a thread,
-the answer is `threads` with status 7. Of more than one worker the order of the lines may differ, and a run goes on with
+if the program can do with less, the whole answer with its status. If threads are wanted, by more than one worker, and the
+C library is refused what it wants for one, the answer is `threads` with status 7. Of more than one worker the order of the lines may differ, and a run goes on with
 the other workers if one is out of memory; so what `record` then writes must be replayed to its end.
 
 It is run by hand on Linux with a C compiler; its status is 0 if all is as wanted, and 1 if not.
@@ -97,10 +97,10 @@ def is_part(lines, whole):
 
 
 def is_out_of_memory(status, said, whole, is_one):
-    """Whether the answer is some lines of the whole one, the first if one worker makes them, and `memory`; or says that
-    a thread was not started, for which the C library wants memory too."""
+    """Whether the answer is some lines of the whole one, the first if one worker makes them, and `memory`; or, if threads
+    were asked for, says that one was not started, for which the C library wants memory too."""
     if (status, said) == (THREADS, b"threads\n"):
-        return True
+        return not is_one
     lines, wanted = said.splitlines(), whole.splitlines()
     if status != MEMORY or lines[-1:] != [b"memory"]:
         return False

@@ -6,5 +6,9 @@ use pb_workers::Gate;
 pub struct Open;
 
 impl Gate for Open {
+    fn is_open(&self) -> bool {
+        true
+    }
+
     fn between(&self, _worker: usize, _turn: u64) {}
 }
