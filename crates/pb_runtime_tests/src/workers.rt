@@ -1,8 +1,8 @@
 //! Workers, whatever their number and quantum.
 
-use crate::codes::{DEVICES, DIVIDES, FORKS, PRINT, PRINTS, TURNS, verified};
+use crate::codes::{DEVICES, DIVIDES, FORKS, INCREMENTS, PRINT, PRINTS, TURNS, verified};
 use crate::examples::EXAMPLES;
-use pb_base::{Event, FaultKind, NoMemory, Pick};
+use pb_base::{Bundle, Event, NoMemory, Pick};
 use pb_codegen::compile;
 use pb_history::Trace;
 use pb_history::replay::replay;
@@ -17,6 +17,17 @@ use std::thread::Threads;
 pub struct Open;
 
 impl Gate for Open {
+    fn is_open(&self) -> bool {
+        true
+    }
+
+    fn between(&self, _worker: usize, _turn: u64) {}
+}
+
+/// A gate that is called, and does nothing.
+struct Idle;
+
+impl Gate for Idle {
     fn between(&self, _worker: usize, _turn: u64) {}
 }
 
@@ -31,23 +42,48 @@ impl Gate for EverySecond {
     }
 }
 
-/// What an event says, except for the amounts of a bundle.
-#[derive(Clone, Copy, PartialEq, Eq, Debug)]
-enum Seen {
-    Granted(u8, u8),
-    Returned(u8, u8),
-    Printed(u8, u8, i64),
-    Faulted(u8, u8, FaultKind),
-    Finished(u8),
+/// Returns whether both bundles are the same amounts of the same resources, in the same order.
+fn same_bundles(one: Bundle, other: Bundle) -> bool {
+    if one.len() != other.len() {
+        return false;
+    }
+    for i in 0..one.len() {
+        if i < other.len() && one.get(i) != other.get(i) {
+            return false;
+        }
+    }
+    true
 }
 
-fn seen_in(event: Event) -> Seen {
-    match event {
-        Event::Granted { pick, .. } => Seen::Granted(pick.process, pick.arm),
-        Event::Returned { pick, .. } => Seen::Returned(pick.process, pick.arm),
-        Event::Printed { pick, value } => Seen::Printed(pick.process, pick.arm, value),
-        Event::Faulted { pick, kind } => Seen::Faulted(pick.process, pick.arm, kind),
-        Event::Finished { process } => Seen::Finished(process),
+/// Returns whether both events say the same.
+fn same_event(one: Event, other: Event) -> bool {
+    match (one, other) {
+        (
+            Event::Granted { pick, bundle },
+            Event::Granted {
+                pick: by,
+                bundle: of,
+            },
+        ) => { pick == by && same_bundles(bundle, of) }
+        (
+            Event::Returned { pick, bundle },
+            Event::Returned {
+                pick: by,
+                bundle: of,
+            },
+        ) => { pick == by && same_bundles(bundle, of) }
+        (
+            Event::Printed { pick, value },
+            Event::Printed {
+                pick: by,
+                value: of,
+            },
+        ) => { pick == by && value == of }
+        (Event::Faulted { pick, kind }, Event::Faulted { pick: by, kind: of }) => {
+            pick == by && kind == of
+        }
+        (Event::Finished { process }, Event::Finished { process: of }) => process == of,
+        _ => false,
     }
 }
 
@@ -57,7 +93,7 @@ fn same_events(one: &Trace, other: &Trace) -> bool {
         return false;
     }
     for i in 0..one.events_len() {
-        if i < other.events_len() && seen_in(one.event(i)) != seen_in(other.event(i)) {
+        if i < other.events_len() && !same_event(one.event(i), other.event(i)) {
             return false;
         }
     }
@@ -159,8 +195,40 @@ fn each_number_of_workers_and_quantum(rt: HostRuntime) {
         };
         let open = are_right(&rt, &code, &Open, events);
         assert!(rt; open);
+        let idle = are_right(&rt, &code, &Idle, events);
+        assert!(rt; idle);
         let second = are_right(&rt, &code, &EverySecond, events);
         assert!(rt; second);
+    }
+}
+
+/// Returns whether two runs made the same picks in the same order.
+fn same_picks(one: &Result<Report, RunFault>, other: &Result<Report, RunFault>) -> bool {
+    let (Ok(one), Ok(other)) = (one, other) else {
+        return false;
+    };
+    if one.outcome != other.outcome || one.trace.len() != other.trace.len() {
+        return false;
+    }
+    for i in 0..one.trace.len() {
+        if i < other.trace.len() && one.trace.pick(i) != other.trace.pick(i) {
+            return false;
+        }
+    }
+    true
+}
+
+#[test]
+fn one_worker_makes_the_same_picks_at_any_gate(rt: HostRuntime) {
+    for text in [PRINT, DEVICES, FORKS, PRINTS, DIVIDES, INCREMENTS] {
+        let Some(code) = verified(rt.alloc(), text) else {
+            panic!(rt; "no code")
+        };
+        for (quantum, limit) in [(1u32, 1000u32), (2, 1000), (3, 7), (64, 1000)] {
+            let open = run_workers(&rt, rt.alloc(), &code, 1, quantum, limit, &Open);
+            let idle = run_workers(&rt, rt.alloc(), &code, 1, quantum, limit, &Idle);
+            assert!(rt; same_picks(&open, &idle));
+        }
     }
 }
 

@@ -33,6 +33,12 @@ const NONE: RunOptions = RunOptions {
     steps: 0,
 };
 
+const ONE_BY_ONE: RunOptions = RunOptions {
+    workers: 1,
+    quantum: 1,
+    steps: 1000,
+};
+
 const OF_HELLO: [Case; 3] = [
     (
         Call::Record(NINE, None),
@@ -73,6 +79,37 @@ const THREE_PICKS: &[u8] = b"process p begin integer x; parbegin x := x + 1; x :
 #[rattlefmt::skip]
 const LOSES: &[u8] = b"process p begin integer x; parbegin x := x + 1; x := x + 1 parend; print x end
 %%\np.0 1\np.1 2\np.2 1\np.1 3\np.2 4\np.0 4\n";
+
+/// The increments, and the picks of a run of which each stretch makes one, and what it prints.
+#[rattlefmt::skip]
+const ALTERNATES: &[u8] = b"process p begin integer x; parbegin x := x + 1; x := x + 1 parend; print x end
+%%\np.0 1\np.1 1\np.2 1\np.1 1\np.2 1\np.1 1\np.2 1\np.1 1\np.2 1\np.1 1\np.2 1\np.0 4\n";
+
+const OF_QUANTUMS: [Case; 3] = [
+    (
+        Call::Record(ONE_BY_ONE, None),
+        Given::Text(INCREMENTS),
+        Status::Done,
+        ALTERNATES,
+    ),
+    (
+        Call::Run(ONE_BY_ONE),
+        Given::Text(INCREMENTS),
+        Status::Done,
+        b"p.0 print 1\np end\ndone\n",
+    ),
+    (
+        Call::Run(THOUSAND),
+        Given::Text(INCREMENTS),
+        Status::Done,
+        b"p.0 print 2\np end\ndone\n",
+    ),
+];
+
+#[test]
+fn keeps_to_the_quantum(rt: HostRuntime) {
+    assert!(rt; first_wrong(&rt, &OF_QUANTUMS) == None);
+}
 
 /// The increments, and picks that keep both.
 #[rattlefmt::skip]
