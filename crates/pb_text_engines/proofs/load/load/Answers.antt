@@ -5,7 +5,7 @@ pub returns-in-Ok-verify-clause-loaded : goal.returns-in-Ok-verify-clause-loaded
 returns-in-Ok-verify-clause-loaded c = search rules
 
 pub returns-in-Ok-verify-clause-writable : goal.returns-in-Ok-verify-clause-writable
-returns-in-Ok-verify-clause-writable c = search rules fits 100
+returns-in-Ok-verify-clause-writable c = search rules
 
 pub returns-in-Err-verify-clause-fault : goal.returns-in-Err-verify-clause-fault
 returns-in-Err-verify-clause-fault c = search rules
