@@ -129,7 +129,7 @@ fn says_of_live(alloc: Global, feeds: usize, said: &[u8]) -> Option<bool> {
     let mut bytes = Vec::from_slice(alloc, b"process p begin print 1 end\n").ok()?;
     bytes.resize(400, b'\n').ok()?;
     bytes.extend_from_slice(b"%%\n").ok()?;
-    let length = bytes.len() + feeds;
+    let length = bytes.len().checked_add(feeds)?;
     bytes.resize(length, b'\n').ok()?;
     bytes.extend_from_slice(b"%%\n").ok()?;
     Some(
