@@ -2,7 +2,7 @@
 
 use crate::codes::{DEVICES, DIVIDES, FORKS, INCREMENTS, PRINT, PRINTS, TURNS, verified};
 use crate::examples::EXAMPLES;
-use pb_base::{Bundle, Event, NoMemory, Pick};
+use pb_base::{Event, FaultKind, NoMemory, Pick};
 use pb_codegen::compile;
 use pb_history::Trace;
 use pb_history::replay::replay;
@@ -42,48 +42,23 @@ impl Gate for EverySecond {
     }
 }
 
-/// Returns whether both bundles are the same amounts of the same resources, in the same order.
-fn same_bundles(one: Bundle, other: Bundle) -> bool {
-    if one.len() != other.len() {
-        return false;
-    }
-    for i in 0..one.len() {
-        if i < other.len() && one.get(i) != other.get(i) {
-            return false;
-        }
-    }
-    true
+/// What an event says, except for the amounts of a bundle.
+#[derive(Clone, Copy, PartialEq, Eq, Debug)]
+enum Seen {
+    Granted(u8, u8),
+    Returned(u8, u8),
+    Printed(u8, u8, i64),
+    Faulted(u8, u8, FaultKind),
+    Finished(u8),
 }
 
-/// Returns whether both events say the same.
-fn same_event(one: Event, other: Event) -> bool {
-    match (one, other) {
-        (
-            Event::Granted { pick, bundle },
-            Event::Granted {
-                pick: by,
-                bundle: of,
-            },
-        ) => { pick == by && same_bundles(bundle, of) }
-        (
-            Event::Returned { pick, bundle },
-            Event::Returned {
-                pick: by,
-                bundle: of,
-            },
-        ) => { pick == by && same_bundles(bundle, of) }
-        (
-            Event::Printed { pick, value },
-            Event::Printed {
-                pick: by,
-                value: of,
-            },
-        ) => { pick == by && value == of }
-        (Event::Faulted { pick, kind }, Event::Faulted { pick: by, kind: of }) => {
-            pick == by && kind == of
-        }
-        (Event::Finished { process }, Event::Finished { process: of }) => process == of,
-        _ => false,
+fn seen_in(event: Event) -> Seen {
+    match event {
+        Event::Granted { pick, .. } => Seen::Granted(pick.process, pick.arm),
+        Event::Returned { pick, .. } => Seen::Returned(pick.process, pick.arm),
+        Event::Printed { pick, value } => Seen::Printed(pick.process, pick.arm, value),
+        Event::Faulted { pick, kind } => Seen::Faulted(pick.process, pick.arm, kind),
+        Event::Finished { process } => Seen::Finished(process),
     }
 }
 
@@ -93,7 +68,7 @@ fn same_events(one: &Trace, other: &Trace) -> bool {
         return false;
     }
     for i in 0..one.events_len() {
-        if i < other.events_len() && !same_event(one.event(i), other.event(i)) {
+        if i < other.events_len() && seen_in(one.event(i)) != seen_in(other.event(i)) {
             return false;
         }
     }
