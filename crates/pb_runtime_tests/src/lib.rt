@@ -14,6 +14,8 @@ mod gates;
 #[cfg(test)]
 mod history;
 #[cfg(test)]
+mod locks;
+#[cfg(test)]
 mod picks;
 #[cfg(test)]
 mod positions;
