@@ -28,7 +28,6 @@ QUICK = (
     f"checks/refusals.py {PROGRAM}",
     f"checks/editors.py {PROGRAM}",
     f"checks/pictures.py {PROGRAM}",
-    "checks/spec_names.py",
     "checks/example_tests.py",
     "checks/schedules.py",
 )
