@@ -114,7 +114,7 @@ def main():
             used = [f"{middle(rows, lambda row, at=at: row[at][1]) * 1e3:.1f}" for at in (0, 3)]
             one = f"{middle(rows, lambda row: row[0][0]) * 1e3:.1f}"
             print("|", " | ".join([name, f"{quantum:,}", one, *ratios, *used]), "|", flush=True)
-    rows = turns_of(program, computing(230_000), 4096, turns)
+    rows = turns_of(program, computing(140_000), 4096, turns)
     faster = [f"{middle(rows, lambda row, at=at: row[0][0] / row[at][0]):.2f}" for at in (1, 3)]
     print(f"four that compute for longer, quantum 4,096: two workers {faster[0]} times as fast as one, four {faster[1]}")
 
