@@ -16,7 +16,7 @@ import tempfile
 from calls import TOP
 
 # Two crates on nothing, and one that waits for the first of them.
-CRATES = {"pb_base": [], "pb_refusals": [], "pb_code": ["pb_base"]}
+CRATES = {"pb_base": [], "pb_options": [], "pb_code": ["pb_base"]}
 
 
 def script(path):

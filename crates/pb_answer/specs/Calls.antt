@@ -14,18 +14,18 @@ use Rattle.pb_draw_engine.specs.Draws.{SaysOfDraw}
 use Rattle.pb_command_io.specs.declared.status.Status.{Status}
 use Rattle.pb_command_io.specs.declared.status.Status.TheVariants.{Words, Memory}
 use Rattle.pb_command_io.specs.Answers.{Says, Tells, memory_line}
-use Rattle.pb_text_engines.specs.Checks.{SaysOfChecks}
-use Rattle.pb_text_engines.specs.ClaimLines.{SaysOfClaims}
-use Rattle.pb_text_engines.specs.Emissions.{SaysOfEmission}
+use Rattle.pb_accept.specs.Checks.{SaysOfChecks}
+use Rattle.pb_accept.specs.ClaimLines.{SaysOfClaims}
+use Rattle.pb_accept.specs.Emissions.{SaysOfEmission}
 use Rattle.pb_engines.specs.Executions.{SaysOfExecution}
 use Rattle.pb_command_io.specs.Faults.{Devices, TellsFaults}
 use Rattle.pb_command_io.specs.Inputs.{SaysOfInput}
-use Rattle.pb_text_engines.specs.Migrations.{SaysOfMigration}
+use Rattle.pb_accept.specs.Migrations.{SaysOfMigration}
 use Rattle.pb_engines.specs.Records.{SaysOfRecord}
-use Rattle.pb_text_engines.specs.ReplayLines.{SaysOfReplay}
+use Rattle.pb_accept.specs.ReplayLines.{SaysOfReplay}
 use Rattle.pb_engines.specs.Runs.{SaysOfTextRun}
 use Rattle.pb_explain.specs.Pages.{SaysOfExplain}
-use Rattle.pb_outcome_engine.specs.SaysOutcomes.{SaysOfOutcomes}
+use Rattle.pb_search_engine.specs.SaysOutcomes.{SaysOfOutcomes}
 use Rattle.pb_words.specs.Read.{WordsSay}
 
 -- what `debug` may say of an input, of which it reads the commands as they come, or all before it writes

@@ -15,7 +15,7 @@ use pb_engines::{
 };
 use pb_explain::explain_engine;
 use pb_options::DebugOptions;
-use pb_outcome_engine::outcomes_engine;
+use pb_search_engine::outcomes_engine;
 use pb_words::{Options, WordsFault, options};
 use std::alloc::Global;
 use std::sync::Wait;

@@ -22,9 +22,9 @@ use Rattle.pb_verifier.specs.Verified.{VerifiedCode}
 use Rattle.pb_debug.specs.Appends.{with_pick}
 use Rattle.pb_debug.specs.Checkpoints.{IsSound, view_of}
 use Rattle.pb_debug.specs.Value.{Debugging, state_of}
-use Rattle.pb_positions.specs.Walks.{AreCheckpoints, IsCheckpoint, Walks}
+use Rattle.pb_debug_positions.specs.Walks.{AreCheckpoints, IsCheckpoint, Walks}
 use Rattle.pb_debug.specs.declared.debugger.Debugger.TheInside.{Inside}
-use Rattle.pb_positions.proofs.Walks.{checkpoints_before, interval_some}
+use Rattle.pb_debug_positions.proofs.Walks.{checkpoints_before, interval_some}
 
 -- the picks of a trace with one entry more
 pub picks_more : (old new : List Entry) (pick : Pick) (event : Option Event) → new ≡ old ++ record { pick = pick; event = event } ∷ []

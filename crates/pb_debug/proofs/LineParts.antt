@@ -8,17 +8,17 @@ use Rattle.std.proofs.lemmas.List.{take_all, take-append-le, length-take-le, tak
 use Rattle.std.proofs.Math.Seq.{drop-cons, take-add}
 use Rattle.pb_base.specs.Device.{appended, dropped, AddsPrefix, GivesNext, LeavesRest}
 use Rattle.pb_debug.specs.Answers.{AnswersLine, AnswersRead}
-use Rattle.pb_commands.specs.Buffers.{kept}
-use Rattle.pb_commands.specs.Commands.{Command}
-use Rattle.pb_commands.specs.Lines.{SplitLines, one_line_more, cut, last_line, lines_of}
+use Rattle.pb_debug_commands.specs.Buffers.{kept}
+use Rattle.pb_debug_commands.specs.Commands.{Command}
+use Rattle.pb_debug_commands.specs.Lines.{SplitLines, one_line_more, cut, last_line, lines_of}
 use Rattle.pb_debug.specs.Sessions.{Session, nothing, one_more, session_bytes, SaysAll, SaysSome, IsTold}
 use Rattle.pb_debug.specs.Sessions.{SessionStopsAt, WritesBeforeFault, Fed, FedSome, BreaksOff, IsToldInPart, CountsWrites}
 use Rattle.pb_debug.specs.Value.{Debugging}
 use Rattle.pb_debug.specs.declared.fault.DebugFault.{DebugFault}
 use Rattle.pb_debug.specs.declared.fault.DebugFault.TheVariants.{PastEnd, NoProcess, NoArm, BadCommand, NoMemory}
 use Rattle.pb_debug.specs.declared.fault.DebugFault.TheVariants.{Device}
-use Rattle.pb_commands.proofs.Cutting.{cut-append, first_lines, cut_end, cut_byte}
-use Rattle.pb_commands.proofs.Kept.{kept_again, kept_says, kept_nothing}
+use Rattle.pb_debug_commands.proofs.Cutting.{cut-append, first_lines, cut_end, cut_byte}
+use Rattle.pb_debug_commands.proofs.Kept.{kept_again, kept_says, kept_nothing}
 use Rattle.pb_base.proofs.DeviceLemmas.{appended-appended, next-bytes}
 
 -- ---- commands

@@ -9,7 +9,7 @@ use Rattle.pb_code.specs.Whole.{bank_of, code_opening}
 use Rattle.pb_history.proofs.Positions.{enabled_at, position_reached}
 use Rattle.pb_history.specs.Positions.{AreEnabled, state_after}
 use Rattle.pb_machine.proofs.NeverStuck.{events_have_names}
-use Rattle.pb_positions.specs.Searches.{Shows}
+use Rattle.pb_debug_positions.specs.Searches.{Shows}
 use Rattle.pb_verifier.proofs.States.{code_move}
 use Rattle.pb_verifier.specs.Verified.{VerifiedCode, IsVerified}
 use Rattle.pb_verifier.specs.declared.fault.VerifyFault.TheVariants.{OutOfLimits}

@@ -6,9 +6,9 @@ use Rattle.pb_code.specs.View.{labels_view}
 use Rattle.pb_history.specs.Entries.{picks_of}
 use Rattle.pb_verifier.specs.Verified.{IsVerified}
 use Rattle.pb_history.specs.Positions.{AreEnabled}
-use Rattle.pb_positions.specs.Intervals.{IsInterval}
+use Rattle.pb_debug_positions.specs.Intervals.{IsInterval}
 use Rattle.pb_debug.specs.Value.{Debugging}
-use Rattle.pb_positions.specs.Walks.{AreCheckpoints, Walks}
+use Rattle.pb_debug_positions.specs.Walks.{AreCheckpoints, Walks}
 use Rattle.pb_debug.specs.declared.debugger.Debugger.TheInside.{Inside}
 
 abbrev pub view_of : Inside → Debugging

@@ -11,7 +11,7 @@ use Rattle.pb_names.specs.HeadLines.{head_line}
 use Rattle.pb_names.specs.Program.{Program}
 use Rattle.pb_names.specs.Source.{Arm, find, SourceProcess, source_process, source_step}
 use Rattle.pb_history.specs.Positions.{AreEnabled, state_after}
-use Rattle.pb_positions.specs.Searches.{thread_line}
+use Rattle.pb_debug_positions.specs.Searches.{thread_line}
 
 -- at position i
 pub record FollowsSource (program : Program) (code : Code) (labels : List ProcessLabels) (picks : List Pick) (i : ℕ) : Type 0 where

@@ -3,8 +3,8 @@ use Rattle.std.specs.Prelude.{◌≡◌, ◌⊎◌, ℕ, List, [], ◌∷◌, �
 use Rattle.pb_base.specs.declared.limits.TheConstants.{MAX_INPUT}
 use Rattle.pb_base.specs.Device.{appended, one_more_failure, AddsPrefix}
 use Rattle.pb_debug.specs.Answers.{AnswersLine}
-use Rattle.pb_commands.specs.Buffers.{kept}
-use Rattle.pb_commands.specs.Lines.{cut, lines_of}
+use Rattle.pb_debug_commands.specs.Buffers.{kept}
+use Rattle.pb_debug_commands.specs.Lines.{cut, lines_of}
 use Rattle.pb_debug.specs.Value.{Debugging}
 use Rattle.pb_debug.specs.declared.fault.DebugFault.{DebugFault}
 use Rattle.pb_debug.specs.declared.fault.DebugFault.TheVariants.{PastEnd, NoProcess, NoArm, BadCommand, NoMemory}

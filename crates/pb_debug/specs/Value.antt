@@ -9,7 +9,7 @@ use Rattle.pb_code.specs.Limits.{AreLabels}
 use Rattle.pb_code.specs.Whole.{ProcessLabels, bank_of}
 use Rattle.pb_verifier.specs.Verified.{VerifiedCode, IsVerified}
 use Rattle.pb_history.specs.Positions.{AreEnabled, state_after}
-use Rattle.pb_positions.specs.Intervals.{IsInterval, interval_of}
+use Rattle.pb_debug_positions.specs.Intervals.{IsInterval, interval_of}
 
 -- the code, its labels, the text whose lines are shown, if there is one, and the distance of checkpoints
 -- stay; picks are only added behind the last; the position moves, and with it the cost of the last move

@@ -6,19 +6,19 @@ ghost use Rattle.pb_debug.specs.Answers.{AnswersLine, AnswersCommand, AnswersNex
 ghost use Rattle.pb_debug.specs.Answers.{AnswersUntil, SaysEvent, SaysWrite, SaysWrote, ShowsAny};
 ghost use Rattle.pb_debug_texts.specs.Texts.{at_text, loans_text};
 ghost use Rattle.pb_debug.specs.Value.{IsPosition, bank_state, moved_to, state_of};
-ghost use Rattle.pb_commands.specs.View.{command_view};
+ghost use Rattle.pb_debug_commands.specs.View.{command_view};
 
 use crate::debugger::Debugger;
 use crate::fault::DebugFault;
 use crate::refusal::put_refusal;
 use pb_base::NoMemory;
-use pb_commands::{ArmWord, Command, IntegerWord, StopWord, read_command};
+use pb_debug_commands::{ArmWord, Command, IntegerWord, StopWord, read_command};
+use pb_debug_positions::search::{Watch, line_of_arm};
 use pb_debug_texts::text::{
     put_at, put_event, put_help, put_line, put_loans, put_never, put_no_event, put_not_reached,
     put_threads, put_vars, put_why, put_wrote,
 };
 use pb_debug_texts::{put_source, put_who};
-use pb_positions::search::{Watch, line_of_arm};
 
 // Returns the number of a name among others.
 fn find_name(names: &[Vec<u8>], word: &[u8]) -> Option<usize>

@@ -16,11 +16,11 @@ use crate::fault::DebugFault;
 use crate::refusal::put_refusal;
 use pb_base::limits::MAX_PICKS;
 use pb_base::{Event, NoMemory, Pick, Step};
+use pb_debug_positions::Walker;
+use pb_debug_positions::checkpoints::keep;
 use pb_debug_texts::text::{put_at, put_event};
 use pb_history::Trace;
 use pb_machine::Machine;
-use pb_positions::Walker;
-use pb_positions::checkpoints::keep;
 
 /// A machine that has tried a pick, and what that came to.
 #[derive(Drop)]

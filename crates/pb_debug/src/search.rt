@@ -1,11 +1,11 @@
 //! Searches along the picks.
 
 ghost use Rattle.std.specs.Prelude.{◌<◌, ◌≤◌, length, IfOk};
-ghost use Rattle.pb_positions.specs.Searches.{Does, IsFirst, IsLast, Shows};
+ghost use Rattle.pb_debug_positions.specs.Searches.{Does, IsFirst, IsLast, Shows};
 
 use crate::debugger::Debugger;
 use pb_base::{Event, NoMemory, Step};
-use pb_positions::search::{Watch, first_in, last_in};
+use pb_debug_positions::search::{Watch, first_in, last_in};
 
 impl<'c> Debugger<'c> {
     /// Returns the number of the first pick from the position on that does what is looked for.

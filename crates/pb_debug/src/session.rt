@@ -2,8 +2,8 @@
 
 ghost use Rattle.std.specs.Prelude.{◌≡◌, ◌≢◌, [], ℕ, List, IfErr, IfSome, OnOk};
 ghost use Rattle.pb_base.specs.Device.{LeavesRest};
-ghost use Rattle.pb_commands.specs.Buffers.{kept};
-ghost use Rattle.pb_commands.specs.Lines.{cut, lines_of};
+ghost use Rattle.pb_debug_commands.specs.Buffers.{kept};
+ghost use Rattle.pb_debug_commands.specs.Lines.{cut, lines_of};
 ghost use Rattle.pb_debug.specs.Sessions.{SaysAll, SaysBefore, SaysSome, IsTold, SessionStopsAt, Fed, FedSome, session_bytes};
 ghost use Rattle.pb_debug.specs.Sessions.{BreaksOff, CountsWrites, CountsBoth, Session};
 
@@ -11,7 +11,7 @@ use crate::debugger::Debugger;
 use crate::fault::DebugFault;
 use pb_base::device::{Input, Output, write_all};
 use pb_base::limits::MAX_INPUT;
-use pb_commands::LineBuffer;
+use pb_debug_commands::LineBuffer;
 
 const BLOCK: usize = 4_096;
 

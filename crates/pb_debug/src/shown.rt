@@ -10,8 +10,8 @@ ghost use Rattle.pb_machine.specs.Views.{proc_view};
 use crate::debugger::Debugger;
 use crate::fault::DebugFault;
 use pb_banker::Banker;
+use pb_debug_positions::search::line_of_arm;
 use pb_machine::Proc;
-use pb_positions::search::line_of_arm;
 
 impl<'c> Debugger<'c> {
     /// Returns a process at the position: its arms and its integers. `NoProcess` if there is none with this

@@ -14,10 +14,10 @@ use Rattle.pb_command_io.specs.Answers.{Says, Tells, memory_line}
 use Rattle.pb_command_io.specs.Faults.{TellsWriteFaults}
 use Rattle.pb_command_io.specs.Inputs.{SaysOfInput, too_long, nothing, not_read, read}
 use Rattle.pb_command_io.specs.Inputs as input
-use Rattle.pb_text_engines.specs.Loading.{SaysOfNoCode}
+use Rattle.pb_accept.specs.Loading.{SaysOfNoCode}
 use Rattle.pb_command_io.specs.Parts.{AreTwoParts}
-use Rattle.pb_text_engines.specs.Refusals.{SaysOfRefusedText}
-use Rattle.pb_text_engines.specs.ReplayLines.{SaysOfNoPicks}
+use Rattle.pb_accept.specs.Refusals.{SaysOfRefusedText}
+use Rattle.pb_accept.specs.ReplayLines.{SaysOfNoPicks}
 use Rattle.pb_command_io.specs.declared.reply.Reply.{Reply}
 use Rattle.pb_command_io.specs.declared.status.Status.{Status}
 use Rattle.pb_command_io.specs.declared.status.Status.TheVariants.{Device, Memory}

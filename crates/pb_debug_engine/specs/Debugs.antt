@@ -2,14 +2,14 @@
 use Rattle.std.specs.Prelude.{◌≡◌, ◌++◌, ◌⊎◌, ℕ, List, codes, take, Option, Some, None}
 use Rattle.pb_code.specs.Whole.{Code, ProcessLabels}
 use Rattle.pb_codegen.specs.Compiled.{IsCompiled}
-use Rattle.pb_commands.specs.Lines.{lines_of}
+use Rattle.pb_debug_commands.specs.Lines.{lines_of}
 use Rattle.pb_debug.specs.Sessions.{Session, session_bytes}
 use Rattle.pb_debug.specs.Value.{Debugging, IsPosition, at_start, showing}
 use Rattle.pb_command_io.specs.Answers.{memory_line}
-use Rattle.pb_text_engines.specs.Loading.{IsLoaded, SaysOfNoCode}
+use Rattle.pb_accept.specs.Loading.{IsLoaded, SaysOfNoCode}
 use Rattle.pb_command_io.specs.Parts.{AreTwoParts}
-use Rattle.pb_text_engines.specs.Refusals.{SaysOfRefusedText}
-use Rattle.pb_text_engines.specs.ReplayLines.{SaysOfNoPicks}
+use Rattle.pb_accept.specs.Refusals.{SaysOfRefusedText}
+use Rattle.pb_accept.specs.ReplayLines.{SaysOfNoPicks}
 use Rattle.pb_command_io.specs.declared.status.Status.{Status}
 use Rattle.pb_command_io.specs.declared.status.Status.TheVariants.{Done, Memory, Device}
 use Rattle.pb_history.specs.Replays.{spread}

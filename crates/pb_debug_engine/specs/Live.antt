@@ -4,7 +4,7 @@ use Rattle.pb_base.specs.declared.limits.TheConstants.{MAX_INPUT}
 use Rattle.pb_base.specs.declared.device.ReadFault.TheVariants as fault
 use Rattle.pb_base.specs.declared.device.ReadFault.{ReadFault}
 use Rattle.pb_code.specs.Whole.{ProcessLabels}
-use Rattle.pb_commands.specs.Lines.{cut}
+use Rattle.pb_debug_commands.specs.Lines.{cut}
 use Rattle.pb_debug.specs.Sessions.{Session}
 use Rattle.pb_debug.specs.Value.{Debugging}
 use Rattle.pb_debug_engine.specs.Debugs.{AreThreeParts, GivesCode, IsOpened, SaysOfDebug}

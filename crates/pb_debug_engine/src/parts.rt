@@ -10,6 +10,9 @@ ghost use Rattle.pb_debug_engine.specs.Live.{AnswersOfCode, AnswersOfParts};
 ghost use Rattle.pb_command_io.specs.Answers.{Tells};
 
 use crate::session::tell_session;
+use pb_accept::accept::{compile_text, refuse};
+use pb_accept::load::{load, load_refusal};
+use pb_accept::replay::{LinesFault, lines_refusal};
 use pb_base::device::{Input, Output};
 use pb_base::limits::MAX_INPUT;
 use pb_code::Labels;
@@ -17,9 +20,6 @@ use pb_command_io::Status;
 use pb_command_io::reply::tell;
 use pb_debug::Debugger;
 use pb_picks::read_picks;
-use pb_text_engines::accept::{compile_text, refuse};
-use pb_text_engines::load::{load, load_refusal};
-use pb_text_engines::replay::{LinesFault, lines_refusal};
 use pb_verifier::Verified;
 use std::alloc::Global;
 

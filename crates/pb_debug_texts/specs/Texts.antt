@@ -8,7 +8,7 @@ use Rattle.pb_base.specs.declared.pick.Pick.{Pick}
 use Rattle.pb_base.specs.Lines.{NameTable, name_of, pick_text, line_of as event_line}
 pub use Rattle.pb_base.specs.Lines.{line, each_below}
 use Rattle.pb_code.specs.Code.{CodeProcess, Thread, Idle, Live, Ended, thread}
-use Rattle.pb_commands.specs.Lines.{line_numbered}
+use Rattle.pb_debug_commands.specs.Lines.{line_numbered}
 use Rattle.pb_debug_texts.specs.declared.why.Why.{Why}
 use Rattle.pb_debug_texts.specs.declared.why.Why.TheVariants.{NotAsking, Cash, Order, Rest}
 

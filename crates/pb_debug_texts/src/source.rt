@@ -5,7 +5,7 @@ ghost use Rattle.pb_debug_texts.specs.Texts as said;
 
 use crate::text::{end_name, put, put_line, put_number};
 use pb_base::NoMemory;
-use pb_commands::line_numbered;
+use pb_debug_commands::line_numbered;
 
 // Puts the line that says that there is no text behind a text.
 fn put_no_text(text: &mut Vec<u8>) -> Result<(), NoMemory>

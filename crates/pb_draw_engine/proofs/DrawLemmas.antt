@@ -12,8 +12,8 @@ use Rattle.pb_command_io.specs.Answers.{Says, Tells, memory_line}
 use Rattle.pb_command_io.specs.Inputs.{SaysOfInput, too_long, nothing, not_read, read}
 use Rattle.pb_command_io.specs.Inputs as input
 use Rattle.pb_command_io.specs.Parts.{AreTwoParts}
-use Rattle.pb_text_engines.specs.Refusals.{SaysOfRefusedText, refused as by_line}
-use Rattle.pb_text_engines.specs.ReplayLines.{AreReplayed, IsStatusAt, SaysOfNoPicks}
+use Rattle.pb_accept.specs.Refusals.{SaysOfRefusedText, refused as by_line}
+use Rattle.pb_accept.specs.ReplayLines.{AreReplayed, IsStatusAt, SaysOfNoPicks}
 use Rattle.pb_command_io.specs.declared.reply.Reply.{Reply}
 use Rattle.pb_command_io.specs.declared.status.Status.{Status}
 use Rattle.pb_command_io.specs.declared.status.Status.TheVariants.{Memory}

@@ -5,15 +5,15 @@ use Rattle.pb_code.specs.Code.{CodeProcess}
 use Rattle.pb_code.specs.Whole.{Code, ProcessLabels}
 use Rattle.pb_codegen.specs.Compiled.{IsCompiled}
 use Rattle.pb_draw.specs.Drawings.{IsDrawing}
-use Rattle.pb_layout.specs.Pictures.{IsLayout}
+use Rattle.pb_draw_picture.specs.Pictures.{IsLayout}
 use Rattle.pb_draw.specs.Svg.{svg}
 use Rattle.pb_draw.specs.declared.drawing.Drawing.{Drawing}
 use Rattle.pb_draw.specs.declared.picture.Picture.{Picture}
 use Rattle.pb_base.specs.Lines.{line}
 use Rattle.pb_command_io.specs.Answers.{memory_line}
 use Rattle.pb_command_io.specs.Parts.{AreTwoParts}
-use Rattle.pb_text_engines.specs.Refusals.{RefusesWith}
-use Rattle.pb_text_engines.specs.ReplayLines.{AreReplayed, IsStatusAt, SaysOfNoPicks}
+use Rattle.pb_accept.specs.Refusals.{RefusesWith}
+use Rattle.pb_accept.specs.ReplayLines.{AreReplayed, IsStatusAt, SaysOfNoPicks}
 use Rattle.pb_command_io.specs.declared.status.Status.{Status}
 use Rattle.pb_command_io.specs.declared.status.Status.TheVariants.{Memory, Refused}
 use Rattle.pb_history.specs.Entries.{Entry, picks_of}

@@ -5,13 +5,15 @@ ghost use Rattle.pb_draw_engine.specs.Draws.{IsPictured, SaysOfDraw, SaysOfDrawn
 ghost use Rattle.pb_command_io.specs.Answers.{Tells};
 ghost use Rattle.pb_command_io.specs.Faults.{TellsFaults, TellsWriteFaults};
 ghost use Rattle.pb_command_io.specs.Inputs.{SaysOfInput};
-ghost use Rattle.pb_text_engines.specs.ReplayLines.{AreReplayed, IsLinesFault, IsStatusAt};
-ghost use Rattle.pb_text_engines.specs.ToldEvents.{HasFault};
+ghost use Rattle.pb_accept.specs.ReplayLines.{AreReplayed, IsLinesFault, IsStatusAt};
+ghost use Rattle.pb_accept.specs.ToldEvents.{HasFault};
 ghost use Rattle.pb_command_io.specs.declared.status.Status.TheVariants.{Device};
 ghost use Rattle.pb_history.specs.Entries.{picks_of};
 ghost use Rattle.pb_history.specs.Positions.{AreEnabled};
 ghost use Rattle.pb_machine.specs.Views.{machine_view};
 
+use pb_accept::accept::{compile_text, refuse};
+use pb_accept::replay::{LinesFault, lines_refusal};
 use pb_base::NoMemory;
 use pb_base::device::{Input, Output};
 use pb_base::limits::{MAX_INPUT, MAX_PICKS};
@@ -20,13 +22,11 @@ use pb_command_io::input::read_input;
 use pb_command_io::parts::two_parts;
 use pb_command_io::reply::{Reply, tell};
 use pb_draw::{draw, write_svg};
+use pb_draw_picture::lay_out;
 use pb_history::Trace;
 use pb_history::replay::replay_counted;
-use pb_layout::lay_out;
 use pb_machine::Machine;
 use pb_picks::read_picks;
-use pb_text_engines::accept::{compile_text, refuse};
-use pb_text_engines::replay::{LinesFault, lines_refusal};
 use pb_verifier::Verified;
 use std::alloc::Global;
 

@@ -4,7 +4,7 @@ use pb_answer::answer::answer;
 use pb_base::device::{FaultyInput, MemoryInput, MemoryOutput};
 use pb_command_io::Status;
 use pb_explain::{Example, ExampleInput, entry_for};
-use pb_refusals::Code;
+use pb_options::Code;
 use std::alloc::{AllocError, Global};
 use std::sync::Wait;
 use std::thread::Threads;

@@ -1,6 +1,6 @@
 //! Codes of refusals, written and read.
 
-use pb_refusals::{Code, UnknownCode};
+use pb_options::{Code, UnknownCode};
 use std::alloc::Global;
 
 /// Returns whether a code is read from the name that is written for it.

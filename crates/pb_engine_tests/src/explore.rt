@@ -1,9 +1,9 @@
 //! The search for every outcome and deadlock of small texts.
 
 use pb_codegen::compile;
-use pb_explore::explore::{explore, explore_by};
-use pb_explore::{Deadlock, ExploreFault, Found, ProcessOutcome, StuckProcess, StuckState};
-use pb_stages::Lending;
+use pb_search::explore::{explore, explore_by};
+use pb_search::{Deadlock, ExploreFault, Found, ProcessOutcome, StuckProcess, StuckState};
+use pb_search_stages::Lending;
 use std::alloc::Global;
 
 /// A text of one process, all its outcomes, each by the only integer of the process and whether it faulted,

@@ -1,6 +1,6 @@
 //! Whether small graphs have a cycle.
 
-use pb_graph::{Edge, has_cycle};
+use pb_search_graph::{Edge, has_cycle};
 use std::alloc::Global;
 
 /// Returns whether the numbers 0, 1 and 2 have a cycle by an edge from 0 to 1, one from 1 to 2 and one more.

@@ -4,7 +4,7 @@ use pb_base::device::{FaultyInput, MemoryInput, MemoryOutput};
 use pb_command_io::Status;
 use pb_engines::replay_engine;
 use pb_options::{Lend, OutcomesOptions};
-use pb_outcome_engine::outcomes_engine;
+use pb_search_engine::outcomes_engine;
 use std::alloc::Global;
 
 /// A text, how many configurations may be kept, what is said of it, and the status.

@@ -1,6 +1,6 @@
 //! Places of offsets, and bytes as they are shown.
 
-use pb_excerpts::{place_of, printable};
+use pb_message_excerpts::{place_of, printable};
 
 #[test]
 fn places(rt: HostRuntime) {

@@ -2,9 +2,8 @@
 
 use pb_object::Format;
 use pb_options::{
-    CheckOptions, DebugOptions, EmitOptions, Lend, OutcomesOptions, RecordOptions, RunOptions,
+    CheckOptions, Code, DebugOptions, EmitOptions, Lend, OutcomesOptions, RecordOptions, RunOptions,
 };
-use pb_refusals::Code;
 use pb_words::{Options, WordsFault, options};
 use std::alloc::Global;
 

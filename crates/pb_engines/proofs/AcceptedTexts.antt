@@ -23,8 +23,8 @@ use Rattle.pb_grammar.specs.Programs.{ReadsProgram}
 use Rattle.pb_grammar.specs.declared.fault.ParseFault.{ParseFault}
 use Rattle.pb_grammar.specs.declared.fault.ParseFault.TheVariants as parse
 use Rattle.pb_tree.specs.Syntax.{ProgramSyntax}
-use Rattle.pb_text_engines.specs.Refusals.{IsAcceptedText, RefusesEarly, RefusesWith, by_claims, by_grammar, by_names}
-use Rattle.pb_text_engines.specs.Refusals.{by_tokens, early}
+use Rattle.pb_accept.specs.Refusals.{IsAcceptedText, RefusesEarly, RefusesWith, by_claims, by_grammar, by_names}
+use Rattle.pb_accept.specs.Refusals.{by_tokens, early}
 
 module _ (text : List ℕ) (accepted : IsAcceptedText text) where
   spelled : Spells text accepted.numbered.tree

@@ -4,7 +4,7 @@ use Rattle.pb_code.specs.Whole.{Code, ProcessLabels}
 use Rattle.pb_command_io.specs.Answers.{Tells}
 use Rattle.pb_engines.specs.Executions.{SaysOfExecution, executed}
 use Rattle.pb_command_io.specs.Inputs.{SaysOfInput, read}
-use Rattle.pb_text_engines.specs.Loading.{IsLoaded}
+use Rattle.pb_accept.specs.Loading.{IsLoaded}
 use Rattle.pb_engines.specs.Runs.{SaysOfCodeRun}
 use Rattle.pb_command_io.specs.declared.status.Status.{Status}
 

@@ -20,7 +20,7 @@ use Rattle.pb_verifier.proofs.States.{checked, code_move, slice_set_other, slice
 use Rattle.pb_verifier.proofs.ThreadTurns.{turned}
 use Rattle.pb_verifier.specs.Verified.{VerifiedCode, IsVerified}
 use Rattle.pb_engines.specs.Outcomes.{ShowsFault}
-use Rattle.pb_text_engines.specs.ToldEvents.{HasFault}
+use Rattle.pb_accept.specs.ToldEvents.{HasFault}
 use Rattle.pb_verifier.proofs.Requests.{slice_set_here}
 
 -- ---- effects

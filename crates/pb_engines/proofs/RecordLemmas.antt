@@ -14,12 +14,12 @@ use Rattle.pb_verifier.specs.declared.fault.VerifyFault.TheVariants.{OutOfLimits
 use Rattle.pb_workers.specs.declared.fault.RunFault.{RunFault}
 use Rattle.pb_workers.specs.declared.fault.RunFault.TheVariants.{NoMemory as OutOfMemory}
 use Rattle.pb_engines.specs.Records.{IsEnded, SaysOfRecording, no_threads, too_long}
-use Rattle.pb_schedule.specs.Recorded.{IsRecorded, IsTooLong}
+use Rattle.pb_record.specs.Recorded.{IsRecorded, IsTooLong}
 use Rattle.pb_engines.specs.Records.{with_picks, written}
 use Rattle.pb_command_io.specs.declared.reply.Reply.{Reply}
 use Rattle.pb_command_io.specs.declared.status.Status.{Status}
 use Rattle.pb_command_io.specs.declared.status.Status.TheVariants.{Done, Refused, Threads}
-use Rattle.pb_schedule.proofs.RecordedPicks.{recorded_can_be_said}
+use Rattle.pb_record.proofs.RecordedPicks.{recorded_can_be_said}
 
 -- the process of each recorded pick has a name
 pub have_processes : (code : Code) (steps : ℕ) (seed : Option ℕ) (picks given : List CountedPick) (names : NameTable) → IsAnnotated code → steps ≤ 10000000

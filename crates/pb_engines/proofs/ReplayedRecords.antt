@@ -28,21 +28,21 @@ use Rattle.pb_verifier.specs.declared.fault.VerifyFault.TheVariants.{OutOfLimits
 use Rattle.pb_engines.specs.RecordLaws.{HoldsRun, RecordsCanBeReplayed}
 use Rattle.pb_command_io.specs.Parts.{AreTwoParts}
 use Rattle.pb_engines.specs.Records.{EndsLine, IsEnded, SaysOfRecord, SaysOfRecording, accepted}
-use Rattle.pb_schedule.specs.Recorded.{IsRecorded}
+use Rattle.pb_record.specs.Recorded.{IsRecorded}
 use Rattle.pb_engines.specs.Records.{no_threads, refused, too_long, with_picks, written}
-use Rattle.pb_text_engines.specs.Refusals.{RefusesWith, refused as by_line}
-use Rattle.pb_text_engines.specs.ReplayLines.{IsLinesFault, SaysOfEvents, SaysOfReplay, all_told, lines_line, made_again}
-use Rattle.pb_text_engines.specs.ReplayLines.{no_fault, no_picks, no_text, out_of_memory, picks_line, refused as not_made}
-use Rattle.pb_text_engines.specs.ReplayLines.{some_fault, stop_line}
-use Rattle.pb_text_engines.specs.declared.replay.LinesFault.{LinesFault}
-use Rattle.pb_text_engines.specs.declared.replay.LinesFault.TheVariants.{NotMade, NotRead}
+use Rattle.pb_accept.specs.Refusals.{RefusesWith, refused as by_line}
+use Rattle.pb_accept.specs.ReplayLines.{IsLinesFault, SaysOfEvents, SaysOfReplay, all_told, lines_line, made_again}
+use Rattle.pb_accept.specs.ReplayLines.{no_fault, no_picks, no_text, out_of_memory, picks_line, refused as not_made}
+use Rattle.pb_accept.specs.ReplayLines.{some_fault, stop_line}
+use Rattle.pb_accept.specs.declared.replay.LinesFault.{LinesFault}
+use Rattle.pb_accept.specs.declared.replay.LinesFault.TheVariants.{NotMade, NotRead}
 use Rattle.pb_command_io.specs.declared.status.Status.{Status}
 use Rattle.pb_command_io.specs.declared.status.Status.TheVariants.{Done, Refused}
-use Rattle.pb_text_engines.proofs.AcceptLemmas.{compiled_is_accepted}
+use Rattle.pb_accept.proofs.AcceptLemmas.{compiled_is_accepted}
 use Rattle.pb_engines.proofs.AcceptedTexts.{accepted_is_not_refused}
 use Rattle.pb_engines.proofs.CutRecords.{cut_as_written}
 use Rattle.pb_engines.proofs.EndedTexts.{ended_is_compiled}
-use Rattle.pb_schedule.proofs.RecordedPicks.{recorded_can_be_said}
+use Rattle.pb_record.proofs.RecordedPicks.{recorded_can_be_said}
 
 -- picks that are enabled in turn never stop
 never_stops : (code : Code) (s end : State CodeProcess) (picks : List Pick) (events : List Event)

@@ -17,19 +17,19 @@ use Rattle.pb_verifier.specs.Verified.{VerifiedCode, IsVerified}
 use Rattle.pb_workers.specs.Reports.{EndsAs, IsReport}
 use Rattle.pb_workers.specs.declared.report.Report.{Report}
 use Rattle.pb_command_io.specs.Answers.{memory_line, Leaves, Says, Tells}
-use Rattle.pb_text_engines.specs.EventLines.{StopsIn}
-use Rattle.pb_text_engines.specs.EventLines as stop
+use Rattle.pb_accept.specs.EventLines.{StopsIn}
+use Rattle.pb_accept.specs.EventLines as stop
 use Rattle.pb_engines.specs.Outcomes.{SaysOfOutcome, ShowsFault, all_done, some_fault, used_up}
 use Rattle.pb_engines.specs.RunLaws.{ReportsFollowTheSource}
-use Rattle.pb_text_engines.specs.ToldEvents.{event_lines}
+use Rattle.pb_accept.specs.ToldEvents.{event_lines}
 use Rattle.pb_engines.specs.Runs.{SaysOfCodeRun, at_limit, cut_off, done, faulted}
-use Rattle.pb_schedule.specs.CodeRuns.{Run}
+use Rattle.pb_record.specs.CodeRuns.{Run}
 use Rattle.pb_engines.specs.Runs.{no_threads, out_of_memory}
 use Rattle.pb_command_io.specs.declared.status.Status.{Status}
 use Rattle.pb_command_io.specs.declared.status.Status.TheVariants.{Done, Fault, Limit, Memory, Threads}
 use Rattle.pb_engines.proofs.FaultLemmas.{faults_are_shown, shown_faults_are}
 use Rattle.pb_command_io.proofs.PageLemmas.{Says-first, Says-more}
-use Rattle.pb_text_engines.proofs.ReplayLemmas.{all_have_names}
+use Rattle.pb_accept.proofs.ReplayLemmas.{all_have_names}
 
 -- ---- the run that is reported
 

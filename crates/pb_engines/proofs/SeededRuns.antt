@@ -20,18 +20,18 @@ use Rattle.pb_verifier.specs.Verified.{IsAnnotated}
 use Rattle.rand_pcg.specs.Lcg.{Lcg}
 use Rattle.rand_pcg.specs.Pcg.{pcg32}
 use Rattle.pb_machine.specs.Looks.{CanStep}
-use Rattle.pb_schedule.specs.Choices.{AreCandidates, AreInOrder, IsBefore}
-use Rattle.pb_schedule.specs.Draws.{Draws, DrawsPick, DrawsRun, drawn_number, generator_of, hit, one_more, opening}
-use Rattle.pb_schedule.specs.Draws.{struck}
+use Rattle.pb_record.specs.Choices.{AreCandidates, AreInOrder, IsBefore}
+use Rattle.pb_record.specs.Draws.{Draws, DrawsPick, DrawsRun, drawn_number, generator_of, hit, one_more, opening}
+use Rattle.pb_record.specs.Draws.{struck}
 use Rattle.pb_engines.specs.RecordLaws.{SeedsWriteOneRecord}
 use Rattle.pb_engines.specs.Records.{IsEnded, with_picks}
-use Rattle.pb_schedule.specs.Recorded.{IsRecorded}
-use Rattle.pb_schedule.specs.CodeRuns.{IsDone, Run}
+use Rattle.pb_record.specs.Recorded.{IsRecorded}
+use Rattle.pb_record.specs.CodeRuns.{IsDone, Run}
 use Rattle.pb_command_io.specs.declared.status.Status.TheVariants.{Done}
 use Rattle.pb_picks.proofs.CountedOnce.{counted_once}
-use Rattle.pb_schedule.proofs.GrantLemmas.{IsEnabled}
+use Rattle.pb_record.proofs.GrantLemmas.{IsEnabled}
 use Rattle.pb_engines.proofs.ReplayedRecords.{is_annotated, wrote}
-use Rattle.pb_schedule.proofs.RunLemmas.{CodeMakes, makes_last}
+use Rattle.pb_record.proofs.RunLemmas.{CodeMakes, makes_last}
 
 -- ---- the candidates of a state are one list
 

@@ -4,7 +4,7 @@ use Rattle.pb_base.specs.declared.event.Event.{Event}
 use Rattle.pb_code.specs.Whole.{Code, ProcessLabels, CodeCan, code_opening}
 use Rattle.pb_codegen.specs.Compiled.{IsCompiled}
 use Rattle.pb_command_io.specs.Answers.{Tells}
-use Rattle.pb_text_engines.specs.Refusals.{SaysOfRefusedText, refused as by_line}
+use Rattle.pb_accept.specs.Refusals.{SaysOfRefusedText, refused as by_line}
 use Rattle.pb_engines.specs.Runs.{SaysOfRun, done, faulted, at_limit, out_of_memory, cut_off, no_threads}
 use Rattle.pb_engines.specs.Runs.{SaysOfCodeRun, SaysOfTextRun, refused, accepted}
 use Rattle.pb_command_io.specs.Inputs.{SaysOfInput, read}

@@ -2,7 +2,7 @@
 use Rattle.std.specs.Prelude.{ℕ, List}
 use Rattle.pb_base.specs.declared.event.Event.{Event}
 use Rattle.pb_code.specs.Whole.{Code, ProcessLabels}
-use Rattle.pb_text_engines.specs.Loading.{IsLoaded, SaysOfNoCode}
+use Rattle.pb_accept.specs.Loading.{IsLoaded, SaysOfNoCode}
 use Rattle.pb_engines.specs.Runs.{SaysOfRun}
 use Rattle.pb_command_io.specs.declared.status.Status.{Status}
 

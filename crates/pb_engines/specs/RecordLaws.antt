@@ -7,8 +7,8 @@ use Rattle.pb_history.specs.declared.counted.CountedPick.{CountedPick}
 use Rattle.pb_picks.specs.PickLines.{SpellsPicks}
 use Rattle.pb_command_io.specs.Parts.{AreTwoParts}
 use Rattle.pb_engines.specs.Records.{EndsLine, IsEnded, SaysOfRecord}
-use Rattle.pb_schedule.specs.Recorded.{IsRecorded}
-use Rattle.pb_text_engines.specs.ReplayLines.{SaysOfReplay}
+use Rattle.pb_record.specs.Recorded.{IsRecorded}
+use Rattle.pb_accept.specs.ReplayLines.{SaysOfReplay}
 use Rattle.pb_command_io.specs.declared.status.Status.{Status}
 use Rattle.pb_command_io.specs.declared.status.Status.TheVariants.{Done, Refused}
 

@@ -7,8 +7,8 @@ use Rattle.pb_code.specs.Whole.{Code, ProcessLabels}
 use Rattle.pb_codegen.specs.Compiled.{IsCompiled}
 use Rattle.pb_history.specs.declared.counted.CountedPick.{CountedPick}
 use Rattle.pb_picks.specs.PickLines.{pick_lines}
-use Rattle.pb_schedule.specs.Recorded.{IsRecorded}
-use Rattle.pb_text_engines.specs.Refusals.{SaysOfRefusedText}
+use Rattle.pb_record.specs.Recorded.{IsRecorded}
+use Rattle.pb_accept.specs.Refusals.{SaysOfRefusedText}
 use Rattle.pb_command_io.specs.declared.status.Status.{Status}
 use Rattle.pb_command_io.specs.declared.status.Status.TheVariants.{Done, Refused, Threads}
 

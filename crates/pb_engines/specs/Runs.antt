@@ -9,9 +9,9 @@ use Rattle.pb_code.specs.Whole.{Code, ProcessLabels}
 use Rattle.pb_codegen.specs.Compiled.{IsCompiled}
 use Rattle.pb_names.specs.Meaning.{SourceCan}
 use Rattle.pb_command_io.specs.Answers.{memory_line}
-use Rattle.pb_text_engines.specs.Refusals.{RefusesWith}
-use Rattle.pb_text_engines.specs.ToldEvents.{HasFault, event_lines}
-use Rattle.pb_schedule.specs.CodeRuns.{IsDone, Run}
+use Rattle.pb_accept.specs.Refusals.{RefusesWith}
+use Rattle.pb_accept.specs.ToldEvents.{HasFault, event_lines}
+use Rattle.pb_record.specs.CodeRuns.{IsDone, Run}
 use Rattle.pb_command_io.specs.declared.status.Status.{Status}
 use Rattle.pb_command_io.specs.declared.status.Status.TheVariants.{Done, Refused, Limit, Fault, Memory, Device, Threads}
 

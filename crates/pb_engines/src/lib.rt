@@ -1,4 +1,4 @@
-//! The engines: what each command does over any input and output. Those that run no workers are of pb_text_engines.
+//! The engines: what each command does over any input and output. Those that run no workers are of pb_accept.
 #![tactic(auto)]
 
 pub mod exec;
@@ -10,9 +10,7 @@ pub mod run;
 pub mod run_laws;
 
 pub use exec::exec_engine;
+pub use pb_accept::{check_engine, claims_engine, emit_engine, migrate_engine, replay_engine};
 pub use pb_options::{CheckOptions, EmitOptions, RecordOptions, RunOptions};
-pub use pb_text_engines::{
-    check_engine, claims_engine, emit_engine, migrate_engine, replay_engine,
-};
 pub use record::record_engine;
 pub use run::run_engine;

@@ -10,12 +10,12 @@ ghost use Rattle.pb_history.specs.Entries.{events_of};
 ghost use Rattle.pb_workers.specs.Reports.{IsReport};
 
 use crate::faults::shows_fault;
+use pb_accept::events::tell_events;
 use pb_base::device::Output;
 use pb_command_io::{Page, Status};
 use pb_options::RunOptions;
-use pb_schedule::Open;
+use pb_record::Open;
 use pb_shared::Outcome;
-use pb_text_engines::events::tell_events;
 use pb_verifier::Verified;
 use pb_workers::{Report, RunFault, run_workers};
 use std::alloc::Global;

@@ -6,12 +6,12 @@ ghost use Rattle.pb_engines.specs.Runs.{SaysOfTextRun};
 ghost use Rattle.pb_command_io.specs.Faults.{TellsFaults, TellsWriteFaults};
 
 use crate::report::tell_run;
+use pb_accept::accept::{compile_text, refuse};
 use pb_base::device::{Input, Output};
 use pb_base::limits::MAX_INPUT;
 use pb_command_io::Status;
 use pb_command_io::input::read_input;
 use pb_options::RunOptions;
-use pb_text_engines::accept::{compile_text, refuse};
 use std::alloc::Global;
 use std::sync::Wait;
 use std::thread::Threads;

@@ -5,7 +5,7 @@ use Rattle.pb_command_io.specs.Answers.{Says, Tells, memory_line}
 use Rattle.pb_command_io.specs.declared.reply.Reply.{Reply}
 use Rattle.pb_command_io.specs.declared.status.Status.{Status}
 use Rattle.pb_command_io.specs.declared.status.Status.TheVariants.{Memory}
-use Rattle.pb_refusals.specs.declared.code.Code.{Code}
+use Rattle.pb_options.specs.declared.code.Code.{Code}
 use Rattle.pb_explain.specs.Pages.{SaysOfExplain, no_memory}
 
 pub told_explanation : (asked : Option Code) (reply : Result Reply NoMemory) (old new : Option (List ℕ)) (answered : Status)

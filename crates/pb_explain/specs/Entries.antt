@@ -1,6 +1,6 @@
 -- What there is to say of each code.
-use Rattle.pb_refusals.specs.declared.code.Code.{Code}
-use Rattle.pb_refusals.specs.declared.code.Code.TheVariants as code
+use Rattle.pb_options.specs.declared.code.Code.{Code}
+use Rattle.pb_options.specs.declared.code.Code.TheVariants as code
 use Rattle.pb_explain.specs.Explanation.{Explanation}
 use Rattle.pb_explain.specs.Texts.{l1-entry, l2-entry, l3-entry, l4-entry, p1-entry, p2-entry, p3-entry, input-entry}
 use Rattle.pb_explain.specs.Texts.{output-entry}

@@ -6,8 +6,8 @@ use Rattle.pb_base.specs.Lines.{line}
 use Rattle.pb_command_io.specs.Answers.{memory_line}
 use Rattle.pb_command_io.specs.declared.status.Status.{Status}
 use Rattle.pb_command_io.specs.declared.status.Status.TheVariants.{Done, Memory}
-use Rattle.pb_refusals.specs.Codes.{all_codes, code_name}
-use Rattle.pb_refusals.specs.declared.code.Code.{Code}
+use Rattle.pb_options.specs.Codes.{all_codes, code_name}
+use Rattle.pb_options.specs.declared.code.Code.{Code}
 use Rattle.pb_explain.specs.Entries.{entry_of}
 use Rattle.pb_explain.specs.Explanation.{Explanation, PlainExample, PlainInput, Text, Repeated}
 

@@ -8,7 +8,7 @@ mod objects;
 mod runs;
 mod texts;
 
-use pb_refusals::Code;
+use pb_options::Code;
 
 /// What there is to say of the refusals with one code. Its texts are lines of at most 84 bytes, with no line
 /// feed behind the last one.

@@ -13,7 +13,7 @@ use pb_base::NoMemory;
 use pb_base::device::Output;
 use pb_command_io::Status;
 use pb_command_io::reply::{Reply, tell};
-use pb_refusals::Code;
+use pb_options::Code;
 use std::alloc::Global;
 
 // Puts a line behind a text.

@@ -4,8 +4,8 @@ use Rattle.std.specs.Prelude.{codes}
 use Rattle.pb_codegen.specs.Compiled.{IsRefused}
 use Rattle.pb_codegen.specs.declared.fault.ClaimsFault.{ClaimsFault}
 use Rattle.pb_codegen.specs.declared.fault.CompileFault.TheVariants.{Lex, Parse, Names, Claims}
-use Rattle.pb_text_engines.specs.Refusals.{RefusesEarly, by_tokens, by_grammar, by_names, early, by_claims, claims_line}
-use Rattle.pb_text_engines.specs.Refusals.{at_place, kind_line, lex_line, names_line, parse_line}
+use Rattle.pb_accept.specs.Refusals.{RefusesEarly, by_tokens, by_grammar, by_names, early, by_claims, claims_line}
+use Rattle.pb_accept.specs.Refusals.{at_place, kind_line, lex_line, names_line, parse_line}
 use Rattle.pb_lexer.specs.declared.error.LexFault.{LexFault}
 use Rattle.pb_names.specs.declared.fault.Kind.{Kind}
 use Rattle.pb_names.specs.declared.fault.Kind.TheVariants.{Processes, Resources, Integers, Fork, Arms}

@@ -3,16 +3,16 @@ use Rattle.std.proofs.Common.{◌≡◌, ◌≢◌, ◌⊎◌, take, ℕ, List, 
 use Rattle.std.proofs.Common.{subst, sym, inl, inr}
 use Rattle.pb_code.specs.Whole.{Code, ProcessLabels}
 use Rattle.pb_codegen.specs.Compiled.{IsCompiled}
-use Rattle.pb_text_engines.specs.Loading.{IsLoadFault, load_line}
+use Rattle.pb_accept.specs.Loading.{IsLoadFault, load_line}
 use Rattle.pb_command_io.specs.Parts.{AreTwoParts}
-use Rattle.pb_text_engines.specs.ReplayLines.{picks_line}
-use Rattle.pb_text_engines.specs.declared.load.LoadFault.{LoadFault}
+use Rattle.pb_accept.specs.ReplayLines.{picks_line}
+use Rattle.pb_accept.specs.declared.load.LoadFault.{LoadFault}
 use Rattle.pb_history.specs.Replays.{IsStopped, spread}
 use Rattle.pb_history.specs.declared.counted.CountedPick.{CountedPick}
 use Rattle.pb_history.specs.declared.fault.ReplayFault.TheVariants.{NotEnabled}
 use Rattle.pb_picks.specs.PickLines.{IsFaulty, SpellsPicks}
 use Rattle.pb_picks.specs.declared.fault.PickFault.{PickFault}
-use Rattle.pb_wording.specs.Stops.{HoldsPick}
+use Rattle.pb_message_wording.specs.Stops.{HoldsPick}
 use Rattle.pb_messages.specs.Causes.{IsCauseOf}
 use Rattle.pb_messages.specs.Messages.{IsMessage, IsMessageAt}
 use Rattle.pb_messages.specs.Said.{AreSaid, HasNoMark, SaysMore, SaysByReading, SaysOfFirstFormat, SaysWhetherFirst}

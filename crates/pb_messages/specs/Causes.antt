@@ -2,7 +2,7 @@
 use Rattle.std.specs.Prelude.{◌≡◌, ◌⊎◌, ℕ, List, ◌++◌, Option, None, Some, codes, length, slice_range, ⊤}
 use Rattle.pb_codegen.specs.declared.fault.ClaimsFault.{ClaimsFault}
 use Rattle.pb_names.specs.declared.fault.Kind.{Kind}
-use Rattle.pb_text_engines.specs.Refusals.{RefusesWith, at_place, claims_line, kind_line}
+use Rattle.pb_accept.specs.Refusals.{RefusesWith, at_place, claims_line, kind_line}
 use Rattle.pb_messages.specs.declared.cause.Cause.{Cause}
 
 -- the code of a refusal line: the letter and the number behind `refused `

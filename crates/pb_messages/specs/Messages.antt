@@ -1,9 +1,9 @@
 -- What a message says of a refusal.
 use Rattle.std.specs.Prelude.{◌≡◌, ◌≢◌, ◌<◌, ℕ, List, [], ◌++◌, Option, None, Some, codes, length, min, slice_index}
 use Rattle.pb_messages.specs.Causes.{TellsCause}
-use Rattle.pb_excerpts.specs.Places.{IsPlace, excerpt}
+use Rattle.pb_message_excerpts.specs.Places.{IsPlace, excerpt}
 use Rattle.pb_messages.specs.declared.cause.Cause.{Cause}
-use Rattle.pb_excerpts.specs.declared.place.Place.{Place}
+use Rattle.pb_message_excerpts.specs.declared.place.Place.{Place}
 
 -- the place of a fault as it is shown: nothing if it has none; one behind the text is that of its end
 abbrev pub IsShown : (label text : List ℕ) → Option ℕ → List ℕ → Type 0

@@ -6,11 +6,11 @@ use Rattle.pb_code.specs.Code.{CodeProcess}
 use Rattle.pb_code.specs.Whole.{Code, ProcessLabels}
 use Rattle.pb_codegen.specs.Compiled.{IsCompiled}
 use Rattle.pb_codegen.specs.Numbered.{IsReadAs}
-use Rattle.pb_text_engines.specs.Loading.{IsLoadFault, IsLoaded, load_line}
+use Rattle.pb_accept.specs.Loading.{IsLoadFault, IsLoaded, load_line}
 use Rattle.pb_command_io.specs.Parts.{AreTwoParts, IsCutAt, IsMarkAt}
-use Rattle.pb_text_engines.specs.Refusals.{IsAcceptedText}
-use Rattle.pb_text_engines.specs.ReplayLines.{picks_line}
-use Rattle.pb_text_engines.specs.declared.load.LoadFault.{LoadFault}
+use Rattle.pb_accept.specs.Refusals.{IsAcceptedText}
+use Rattle.pb_accept.specs.ReplayLines.{picks_line}
+use Rattle.pb_accept.specs.declared.load.LoadFault.{LoadFault}
 use Rattle.pb_history.specs.Entries.{Entry}
 use Rattle.pb_history.specs.Replays.{IsReplay, IsStopped, spread}
 use Rattle.pb_history.specs.declared.counted.CountedPick.{CountedPick}
@@ -25,7 +25,7 @@ use Rattle.pb_names.specs.Program.{Program}
 use Rattle.pb_object.specs.Formats.{FitsFirst}
 use Rattle.pb_picks.specs.PickLines.{IsFaulty, SpellsPicks}
 use Rattle.pb_picks.specs.declared.fault.PickFault.{PickFault}
-use Rattle.pb_wording.specs.Stops.{HoldsPick}
+use Rattle.pb_message_wording.specs.Stops.{HoldsPick}
 
 -- of an input that is too long
 abbrev pub long_input : List ℕ

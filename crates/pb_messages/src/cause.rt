@@ -2,8 +2,8 @@
 
 ghost use Rattle.std.specs.Prelude.{◌≡◌, ◌++◌, ℕ, List, IfSome, Some, codes, length};
 ghost use Rattle.pb_codegen.specs.Compiled.{IsRefused};
-ghost use Rattle.pb_text_engines.specs.Refusals.{at_place, claims_line, kind_line, lex_line, names_line, object_line, parse_line, verify_line};
-ghost use Rattle.pb_text_engines.specs.ReplayLines.{picks_line, stop_line};
+ghost use Rattle.pb_accept.specs.Refusals.{at_place, claims_line, kind_line, lex_line, names_line, object_line, parse_line, verify_line};
+ghost use Rattle.pb_accept.specs.ReplayLines.{picks_line, stop_line};
 ghost use Rattle.pb_messages.specs.Causes.{IsCauseOf, TellsCause};
 
 use pb_codegen::{ClaimsFault, CompileFault};

@@ -10,8 +10,8 @@ use crate::texts::text_message;
 use crate::worded::worded;
 use pb_base::NoMemory;
 use pb_code::Code;
+use pb_message_wording::unsaid_wording;
 use pb_object::fits_first_format;
-use pb_wording::unsaid_wording;
 use std::alloc::Global;
 
 /// Returns the message of a text, or that the first format can't say its code; nothing if it can.

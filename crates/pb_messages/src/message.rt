@@ -1,7 +1,7 @@
 //! The message of a refused input.
 
 ghost use Rattle.std.specs.Prelude.{◌≡◌, ◌↔◌, [], IfNone, IfOk, IfSome, IsTrue, OnOk, codes, take};
-ghost use Rattle.pb_text_engines.specs.Refusals.{IsAcceptedText};
+ghost use Rattle.pb_accept.specs.Refusals.{IsAcceptedText};
 ghost use Rattle.pb_messages.specs.Messages.{TellsRefusal};
 ghost use Rattle.pb_messages.specs.Said.{SaysByReading, SaysOfObjectText, SaysOfPickedObject, SaysOfPickedText, SaysOfProgram, SaysOfText, SaysOfTexts};
 ghost use Rattle.pb_messages.specs.Said.{SaysMore, SaysToPerson, behind, long_output};
@@ -14,8 +14,8 @@ use crate::texts::{early_message, text_message};
 use pb_base::NoMemory;
 use pb_base::limits::MAX_INPUT;
 use pb_command_io::parts::{first_part, two_parts};
-use pb_excerpts::place_of;
-use pb_wording::lines::Lines;
+use pb_message_excerpts::place_of;
+use pb_message_wording::lines::Lines;
 use std::alloc::{AllocError, Global};
 
 // What is said of an input that is too long.

@@ -3,17 +3,17 @@
 ghost use Rattle.std.specs.Prelude.{IfErr, IfOk};
 ghost use Rattle.pb_code.specs.Limits.{AreLabels};
 ghost use Rattle.pb_code.specs.View.{labels_view};
-ghost use Rattle.pb_text_engines.specs.Loading.{IsLoaded, IsLoadFault};
+ghost use Rattle.pb_accept.specs.Loading.{IsLoaded, IsLoadFault};
 ghost use Rattle.pb_messages.specs.Said.{TellsObject};
 
 use crate::cause::{object_cause, verify_cause};
 use crate::worded::worded;
+use pb_accept::load::{LoadFault, load};
 use pb_base::NoMemory;
 use pb_code::Labels;
+use pb_message_wording::{unread_wording, unsafe_wording};
 use pb_object::ObjectFault;
-use pb_text_engines::load::{LoadFault, load};
 use pb_verifier::{Verified, VerifyFault};
-use pb_wording::{unread_wording, unsafe_wording};
 use std::alloc::Global;
 
 /// Safe code with its labels, or the message of what is wrong with an object.

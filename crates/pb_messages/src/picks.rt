@@ -13,10 +13,10 @@ use pb_base::NoMemory;
 use pb_code::Code;
 use pb_history::replay::replay_counted;
 use pb_history::{CountedPick, ReplayFault};
+use pb_message_wording::lines::{Lines, bad_line, note_line, too_many};
+use pb_message_wording::stops::{stop_of, stop_wording};
 use pb_picks::{PickFault, read_picks};
 use pb_verifier::Verified;
-use pb_wording::lines::{Lines, bad_line, note_line, too_many};
-use pb_wording::stops::{stop_of, stop_wording};
 use std::alloc::Global;
 
 // What is before the line of a place.

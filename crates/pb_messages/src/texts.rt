@@ -10,7 +10,7 @@ use crate::worded::worded;
 use bumpalo::Bump;
 use pb_base::NoMemory;
 use pb_codegen::{CompileFault, Compiled, analyze, compile};
-use pb_wording::text_wording;
+use pb_message_wording::text_wording;
 use std::alloc::Global;
 
 /// Returns the message of the first fault of a text, or its code if there is none. A label is put before the

@@ -1,7 +1,7 @@
 //! The faults of code.
 
 /// Why code is refused. The faults are looked for in this order, each over all processes before the next.
-// To add one: specs/Verified, checking.rt, Refusals and refusal.rt of pb_text_engines; docs/CHANGING.md.
+// To add one: specs/Verified, checking.rt, Refusals and refusal.rt of pb_accept; docs/CHANGING.md.
 #[derive(Clone, Copy, Debug, PartialEq, Eq, thiserror::Error)]
 pub enum VerifyFault {
     /// A count, a number or a name is outside its limits.

@@ -28,8 +28,8 @@ use Rattle.pb_options.specs.declared.options.Lend.{Lend}
 use Rattle.pb_options.specs.declared.options.OutcomesOptions.{OutcomesOptions}
 use Rattle.pb_options.specs.declared.options.RecordOptions.{RecordOptions}
 use Rattle.pb_options.specs.declared.options.RunOptions.{RunOptions}
-use Rattle.pb_refusals.specs.Codes.{IsCodeOf, code_name}
-use Rattle.pb_refusals.specs.declared.code.Code.{Code}
+use Rattle.pb_options.specs.Codes.{IsCodeOf, code_name}
+use Rattle.pb_options.specs.declared.code.Code.{Code}
 use Rattle.pb_words.specs.declared.words.WordsFault.{WordsFault}
 use Rattle.pb_words.specs.declared.words.WordsFault.TheVariants.{Words, Memory}
 

@@ -7,7 +7,7 @@ ghost use Rattle.pb_words.specs.Read.{IsReadFromMatches, WordsSay};
 ghost use Rattle.pb_words.specs.declared.words.Options.{Options as AnyOptions};
 ghost use Rattle.pb_options.specs.declared.options.CheckOptions.{CheckOptions as AnyCheckOptions};
 ghost use Rattle.pb_options.specs.declared.options.EmitOptions.{EmitOptions as AnyEmitOptions};
-ghost use Rattle.pb_refusals.specs.declared.code.Code.{Code as AnyCode};
+ghost use Rattle.pb_options.specs.declared.code.Code.{Code as AnyCode};
 ghost use Rattle.pb_options.specs.declared.options.Lend.{Lend as AnyLend};
 ghost use Rattle.pb_options.specs.declared.options.OutcomesOptions.{OutcomesOptions as AnyOutcomesOptions};
 ghost use Rattle.pb_options.specs.declared.options.RecordOptions.{RecordOptions as AnyRecordOptions};
@@ -19,9 +19,8 @@ use clap::{ArgMatches, Error};
 use pb_command_line::command_line::command_line;
 use pb_object::Format;
 use pb_options::{
-    CheckOptions, DebugOptions, EmitOptions, Lend, OutcomesOptions, RecordOptions, RunOptions,
+    CheckOptions, Code, DebugOptions, EmitOptions, Lend, OutcomesOptions, RecordOptions, RunOptions,
 };
-use pb_refusals::Code;
 use std::alloc::{AllocError, Global};
 
 // The text of a word that names nobody who decides on a request.

@@ -1,9 +1,8 @@
 //! The words of a call, read.
 
 use pb_options::{
-    CheckOptions, DebugOptions, EmitOptions, OutcomesOptions, RecordOptions, RunOptions,
+    CheckOptions, Code, DebugOptions, EmitOptions, OutcomesOptions, RecordOptions, RunOptions,
 };
-use pb_refusals::Code;
 
 /// A command with its options.
 // To add one: pb_engines, pb_options, pb_command_line, read.rt, pb_answer, pb_cli, pb_tests, docs/; docs/CHANGING.md.

@@ -1,5 +1,5 @@
 use Rattle.std.proofs.Common.{List, ℕ, subst}
-use Rattle.pb_text_engines.proofs.ReplayLemmas.{text_is_short}
+use Rattle.pb_accept.proofs.ReplayLemmas.{text_is_short}
 use Rattle.pb_command_io.specs.Answers.{Tells}
 use Rattle.pb_debug_engine.specs.Debugs.{SaysOfParts}
 use Rattle.pb_debug_engine.proofs.DebugLemmas.{bytes_told, only_writes_fail}

@@ -1,6 +1,6 @@
 use Rattle.std.proofs.Common.{[], subst}
 use Rattle.std.proofs.lemmas.Option.{IfSome_then}
-use Rattle.pb_commands.specs.Lines.{cut}
+use Rattle.pb_debug_commands.specs.Lines.{cut}
 use Rattle.pb_debug.specs.Sessions.{CountsBoth, SaysSome, Session}
 use Rattle.pb_debug_engine.specs.Live.{AnswersLines}
 use Rattle.pb_debug_engine.proofs.PartLemmas.{says_weaker}

@@ -1,5 +1,5 @@
 use Rattle.std.proofs.Common.{ap}
-use Rattle.pb_text_engines.proofs.ReplayLemmas.{text_is_short}
+use Rattle.pb_accept.proofs.ReplayLemmas.{text_is_short}
 use Rattle.pb_draw_engine.proofs.DrawLemmas.{lines_told, refusal_told}
 use Rattle.pb_draw_engine.proofs.draw.draw_bytes.Goals as goal
 

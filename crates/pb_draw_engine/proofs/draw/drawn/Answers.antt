@@ -2,7 +2,7 @@ use Rattle.std.proofs.Common.{length, sym, ap, ◌∙◌, subst}
 use Rattle.std.specs.Prelude.{All}
 use Rattle.pb_base.specs.Lines.{NameTable, HasNames}
 use Rattle.pb_code.specs.Whole.{Code}
-use Rattle.pb_layout.specs.Pictures.{IsLayout}
+use Rattle.pb_draw_picture.specs.Pictures.{IsLayout}
 use Rattle.pb_draw.specs.declared.drawing.Mark.{Mark}
 use Rattle.pb_verifier.specs.declared.fault.VerifyFault.TheVariants.{OutOfLimits}
 use Rattle.pb_draw_engine.proofs.draw.drawn.Goals as goal

@@ -1,6 +1,6 @@
 use Rattle.pb_code.specs.View.{labels_view}
 use Rattle.pb_engines.specs.Executions.{SaysOfExecution, no_code}
-use Rattle.pb_text_engines.specs.Loading.{SaysOfNoCode}
+use Rattle.pb_accept.specs.Loading.{SaysOfNoCode}
 use Rattle.pb_engines.proofs.ExecutionLemmas.{code_is_run}
 use Rattle.pb_command_io.proofs.InputLemmas.{replied_too, told_reply}
 use Rattle.pb_engines.proofs.exec.run_object.Goals as goal

@@ -2,7 +2,7 @@ use Rattle.std.proofs.Common.{subst}
 use Rattle.std.specs.Prelude.{IfOk}
 use Rattle.pb_verifier.specs.Verified.{VerifiedCode}
 use Rattle.pb_engines.specs.Records.{SaysOfRecord, SaysOfRecording, accepted, refused}
-use Rattle.pb_text_engines.specs.Refusals.{SaysOfRefusedText}
+use Rattle.pb_accept.specs.Refusals.{SaysOfRefusedText}
 use Rattle.pb_command_io.proofs.InputLemmas.{replied_too, said_too, told_reply}
 use Rattle.pb_engines.proofs.record.record_text.Goals as goal
 

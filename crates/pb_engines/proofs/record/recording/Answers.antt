@@ -1,6 +1,6 @@
 use Rattle.std.proofs.Common.{MatchOption, ap, subst, arith}
 use Rattle.pb_engines.specs.Records.{SaysOfRecording}
-use Rattle.pb_schedule.specs.Recorded.{IsRecorded, IsTooLong}
+use Rattle.pb_record.specs.Recorded.{IsRecorded, IsTooLong}
 use Rattle.pb_engines.proofs.RecordLemmas.{lines_are_too_long, reply_is_too_long}
 use Rattle.pb_engines.proofs.RecordLemmas.{have_processes, lines_behind, says_no_threads, says_too_long, says_written}
 use Rattle.pb_engines.proofs.record.recording.Goals as goal

@@ -1,5 +1,5 @@
 use Rattle.std.proofs.Common.{ap}
-use Rattle.pb_text_engines.specs.Refusals.{SaysOfRefusedText}
+use Rattle.pb_accept.specs.Refusals.{SaysOfRefusedText}
 use Rattle.pb_engines.specs.Runs.{SaysOfTextRun}
 use Rattle.pb_command_io.proofs.InputLemmas.{said_too}
 use Rattle.pb_engines.proofs.TextLemmas.{says_refused, text_is_run}

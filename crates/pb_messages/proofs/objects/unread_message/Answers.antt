@@ -1,5 +1,5 @@
 use Rattle.std.proofs.Common.{refl}
-use Rattle.pb_text_engines.specs.declared.load.LoadFault.TheVariants.{Object}
+use Rattle.pb_accept.specs.declared.load.LoadFault.TheVariants.{Object}
 use Rattle.pb_messages.proofs.SaidLemmas.{object_told}
 use Rattle.pb_messages.proofs.objects.unread_message.Goals as goal
 

@@ -7,7 +7,7 @@ use Rattle.pb_debug.specs.Appends.{CanAppend, with_pick}
 use Rattle.pb_debug.specs.Checkpoints.{view_of}
 use Rattle.pb_debug.specs.Value.{Debugging, state_of}
 use Rattle.pb_debug.proofs.FurtherPicks.{added_is, added_sound, added_state, still_sound}
-use Rattle.pb_positions.proofs.Walks.{interval_small, interval_some}
+use Rattle.pb_debug_positions.proofs.Walks.{interval_small, interval_some}
 use Rattle.pb_debug.proofs.debugger.Debugger.add.Goals as goal
 
 pub invariant_of-self : goal.invariant_of-self

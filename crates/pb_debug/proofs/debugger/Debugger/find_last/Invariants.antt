@@ -1,5 +1,5 @@
 use Rattle.std.proofs.Common.{◌<◌, ◌≤◌, ℕ}
-use Rattle.pb_positions.specs.Searches.{Does}
+use Rattle.pb_debug_positions.specs.Searches.{Does}
 use Rattle.pb_debug.proofs.debugger.Debugger.find_last.Given as goal
 
 abbrev pub invariant-loop-end : goal.invariant-loop-end

@@ -1,7 +1,7 @@
 use Rattle.std.proofs.Common.{ℕ, length, subst}
 use Rattle.pb_code.specs.View.{labels_view}
 use Rattle.pb_history.specs.Entries.{picks_of}
-use Rattle.pb_positions.specs.Searches.{Does, IsFirst}
+use Rattle.pb_debug_positions.specs.Searches.{Does, IsFirst}
 use Rattle.pb_debug.specs.Value.{Debugging}
 use Rattle.pb_debug.proofs.debugger.Debugger.find_next.Goals as goal
 

@@ -1,6 +1,6 @@
 use Rattle.std.proofs.Common.{◌≤◌, List, length, sym, ap, ◌∙◌, subst}
 use Rattle.pb_base.specs.declared.pick.Pick.{Pick}
-use Rattle.pb_positions.specs.Intervals.{interval_of}
+use Rattle.pb_debug_positions.specs.Intervals.{interval_of}
 use Rattle.pb_debug.proofs.debugger.Debugger.from_object.Goals as goal
 
 pub of_replaying-requires-clause-few : goal.of_replaying-requires-clause-few

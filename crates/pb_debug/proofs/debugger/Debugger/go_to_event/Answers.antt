@@ -1,7 +1,7 @@
 use Rattle.std.proofs.Common.{sym, subst, rules}
 use Rattle.pb_base.specs.Lines.{NameTable, HasNames}
 use Rattle.pb_history.specs.Entries.{picks_of}
-use Rattle.pb_positions.specs.Searches.{Shows}
+use Rattle.pb_debug_positions.specs.Searches.{Shows}
 use Rattle.pb_debug.proofs.NamedPicks.{shown_named}
 use Rattle.pb_debug.proofs.debugger.Debugger.go_to_event.Goals as goal
 

@@ -4,7 +4,7 @@ use Rattle.pb_base.proofs.Lists.{get_some}
 use Rattle.pb_code.specs.Code.{CodeProcess}
 use Rattle.pb_code.specs.Whole.{ProcessLabels}
 use Rattle.pb_machine.specs.Views.{machine_view}
-use Rattle.pb_positions.specs.Searches.{line_in}
+use Rattle.pb_debug_positions.specs.Searches.{line_in}
 use Rattle.pb_debug.specs.Value.{Debugging}
 use Rattle.pb_debug.proofs.Positions.{in_labels}
 use Rattle.pb_debug.proofs.ResourceTexts.{state_here}

@@ -2,7 +2,7 @@ use Rattle.std.proofs.Common.{length, arith}
 use Rattle.std.proofs.lemmas.List.{length-map}
 use Rattle.pb_history.specs.Entries.{Entry, picks_of}
 use Rattle.pb_history.proofs.Positions.{leads_enabled}
-use Rattle.pb_positions.proofs.Walks.{interval_some}
+use Rattle.pb_debug_positions.proofs.Walks.{interval_some}
 use Rattle.pb_debug.proofs.debugger.Debugger.of_replaying.Goals as goal
 
 pub invariant_of-result : goal.invariant_of-result

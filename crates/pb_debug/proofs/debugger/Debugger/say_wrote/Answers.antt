@@ -4,12 +4,12 @@ use Rattle.std.proofs.lemmas.List.{length-map}
 use Rattle.std.proofs.lemmas.Option.{slice_get_read}
 use Rattle.pb_base.proofs.Lists.{get_some}
 use Rattle.pb_code.specs.View.{process_labels_view}
-use Rattle.pb_positions.specs.Searches.{Does, IsLast}
+use Rattle.pb_debug_positions.specs.Searches.{Does, IsLast}
 use Rattle.pb_debug.specs.Refusals.{refusal_text}
 use Rattle.pb_debug_texts.specs.Texts.{never_text}
 use Rattle.pb_debug.specs.Value.{Debugging, state_of}
 use Rattle.pb_debug.specs.declared.fault.DebugFault.TheVariants.{BadCommand}
-use Rattle.pb_positions.specs.declared.search.Watch.TheVariants as watch
+use Rattle.pb_debug_positions.specs.declared.search.Watch.TheVariants as watch
 use Rattle.pb_debug.proofs.Positions.{in_labels}
 use Rattle.pb_debug.proofs.Lines.{labels_here}
 use Rattle.pb_debug_texts.proofs.Results.{on_ok}

@@ -3,8 +3,8 @@ use Rattle.std.proofs.lemmas.Nat.{mod_below}
 use Rattle.std.proofs.lemmas.List.{length-map}
 use Rattle.pb_history.specs.Entries.{Entry, picks_of}
 use Rattle.pb_debug.specs.Value.{Debugging}
-use Rattle.pb_positions.specs.Walks.{Walks}
-use Rattle.pb_positions.proofs.Walks.{interval_some}
+use Rattle.pb_debug_positions.specs.Walks.{Walks}
+use Rattle.pb_debug_positions.proofs.Walks.{interval_some}
 use Rattle.pb_debug.proofs.debugger.Debugger.to.Goals as goal
 
 pub invariant_of-self : goal.invariant_of-self

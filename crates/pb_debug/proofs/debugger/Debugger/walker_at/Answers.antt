@@ -2,7 +2,7 @@ use Rattle.std.proofs.Common.{◌*◌, ◌/◌, ◌<◌, ◌≤◌, length, arit
 use Rattle.std.proofs.lemmas.Option.{slice_get_read}
 use Rattle.std.proofs.Math.Nat.{div-lt_iff_lt-mul}
 use Rattle.pb_history.specs.Entries.{picks_of}
-use Rattle.pb_positions.proofs.Walks.{interval_some}
+use Rattle.pb_debug_positions.proofs.Walks.{interval_some}
 use Rattle.pb_debug.proofs.debugger.Debugger.walker_at.Goals as goal
 
 pub walk_to-requires-clause-walks : goal.walk_to-requires-clause-walks

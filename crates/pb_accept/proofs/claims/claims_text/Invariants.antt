@@ -1,0 +1,12 @@
+use Rattle.std.proofs.Common.{◌≡◌, take}
+use Rattle.std.specs.List.{flat_map, zip}
+use Rattle.pb_accept.specs.ClaimLines.{lines_of_process}
+use Rattle.pb_names.specs.Resolves.{process_names, resource_names}
+use Rattle.pb_names.specs.View.{resolved_view}
+use Rattle.pb_accept.proofs.claims.claims_text.Given as goal
+
+abbrev pub invariant-loop-p : goal.invariant-loop-p
+invariant-loop-p g l =
+    let program = resolved_view l.program in
+    l.text.items ≡ flat_map (λ process. lines_of_process (resource_names program) process.0 process.1)
+    (take l.p (zip (process_names program) l.claims))

@@ -1,0 +1,113 @@
+//! Texts, as far as every command over texts looks at them.
+ghost use Rattle.std.specs.Prelude.{◌≤◌, ℕ, IfErr, IfOk, List, length};
+ghost use Rattle.pb_command_io.specs.Answers.{Tells};
+ghost use Rattle.pb_command_io.specs.Inputs.{SaysOfInput};
+ghost use Rattle.pb_accept.specs.Refusals.{IsEarlyRefusal, IsRefusal, RefusesEarly, RefusesWith, SaysOfRefusedText};
+ghost use Rattle.pb_codegen.specs.Compiled.{IsBeforeClaims, IsCompiled, IsRefused};
+ghost use Rattle.pb_codegen.specs.Numbered.{IsReadAs};
+ghost use Rattle.pb_names.specs.View.{resolved_view};
+ghost use Rattle.pb_command_io.specs.Faults.{TellsWriteFaults};
+
+use crate::refusal::{claims_text, lex_text, names_text, parse_text};
+use bumpalo::Bump;
+use pb_base::NoMemory;
+use pb_base::device::Output;
+use pb_base::limits::MAX_INPUT;
+use pb_codegen::{Analysis, CompileFault, Compiled, analyze, compile};
+use pb_command_io::Status;
+use pb_command_io::reply::{Reply, refused, tell};
+use std::alloc::{Allocator, Global};
+
+/// Why a text is not accepted.
+#[derive(Drop)]
+pub enum Refusal {
+    /// The line of its first fault, without a line feed.
+    Line(Vec<u8>),
+    /// Out of memory.
+    NoMemory,
+}
+
+// Returns the line of a fault.
+fn fault_line(alloc: Global, fault: CompileFault) -> Result<Vec<u8>, NoMemory>
+    ensures any { (text : List ℕ) → IsRefused text fault → IfOk result (λ line. RefusesWith text line.items) }
+    ensures early { (text : List ℕ) → IsRefused text fault → IsBeforeClaims fault
+        → IfOk result (λ line. RefusesEarly text line.items) }
+{
+    match fault {
+        CompileFault::Lex(fault) => lex_text(alloc, fault),
+        CompileFault::Parse(fault) => parse_text(alloc, fault),
+        CompileFault::Names(fault) => names_text(alloc, fault),
+        CompileFault::Claims(fault) => claims_text(alloc, &fault),
+        CompileFault::Memory => Err(NoMemory),
+    }
+}
+
+// Returns the refusal for a fault: by its line, if there is memory for it.
+fn refusal_of(alloc: Global, fault: CompileFault) -> Refusal
+    ensures any { (text : List ℕ) → IsRefused text fault → IsRefusal text result }
+    ensures early { (text : List ℕ) → IsRefused text fault → IsBeforeClaims fault → IsEarlyRefusal text result }
+{
+    match fault_line(alloc, fault) {
+        Ok(line) => Refusal::Line(line),
+        Err(_) => Refusal::NoMemory,
+    }
+}
+
+/// Returns the numbered program of a text, with its claims, whether or not the capital is enough for them.
+pub fn analyze_text<A: Allocator + Clone>(
+    alloc: Global,
+    trees: A,
+    text: &[u8],
+) -> Result<Analysis<A>, Refusal>
+    ensures analyzed { IfOk result (λ a. IsReadAs text.now (resolved_view a.program) a.claims) }
+    ensures refused { IfErr result (IsEarlyRefusal text.now) }
+{
+    match analyze(alloc, trees, text) {
+        Ok(analysis) => Ok(analysis),
+        Err(fault) => Err(refusal_of(alloc, fault)),
+    }
+}
+
+/// Returns the code of a text, whose trees are in the memory of `trees` while it is compiled.
+pub fn compile_within<A: Allocator + Clone>(
+    alloc: Global,
+    trees: A,
+    text: &[u8],
+) -> Result<Compiled, Refusal>
+    ensures compiled { IfOk result (λ c. IsCompiled text.now c.verified.code c.labels) }
+    ensures refused { IfErr result (IsRefusal text.now) }
+{
+    match compile(alloc, trees, text) {
+        Ok(compiled) => Ok(compiled),
+        Err(fault) => Err(refusal_of(alloc, fault)),
+    }
+}
+
+/// Returns the code of a text, whose trees are in an arena while it is compiled.
+pub fn compile_text(alloc: Global, text: &[u8]) -> Result<Compiled, Refusal>
+    ensures compiled { IfOk result (λ c. IsCompiled text.now c.verified.code c.labels) }
+    ensures refused { IfErr result (IsRefusal text.now) }
+{
+    let arena = Bump::new(alloc);
+    compile_within(alloc, &arena, text)
+}
+
+// Returns the reply of a refusal, if there was memory for its line.
+fn refusal_reply(refusal: Refusal) -> Result<Reply, NoMemory>
+    ensures { (text : List ℕ) → IsRefusal text refusal
+        → IfOk result (λ r. SaysOfRefusedText text r.text.items r.status) }
+{
+    match refusal {
+        Refusal::Line(line) => refused(line),
+        Refusal::NoMemory => Err(NoMemory),
+    }
+}
+
+/// Writes the line of a refusal, or `memory` if out of memory for it.
+pub fn refuse<O: Output>(alloc: Global, refusal: Refusal, output: &mut O) -> Status
+    ensures text { (text : List ℕ) → length text ≤ MAX_INPUT → IsRefusal text refusal
+        → Tells (SaysOfInput SaysOfRefusedText text) (O.written output.old) (O.written output.new) result }
+    ensures faults { TellsWriteFaults (O.failures output.old) (O.failures output.new) result }
+{
+    tell(alloc, refusal_reply(refusal), output)
+}

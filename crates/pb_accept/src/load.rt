@@ -1,0 +1,62 @@
+//! Objects, read and verified.
+ghost use Rattle.std.specs.Prelude.{◌≡◌, ◌<◌, ℕ, IfErr, IfOk, List, Some, length};
+ghost use Rattle.pb_object.specs.Answers.{HasText};
+ghost use Rattle.pb_code.specs.View.{labels_view};
+ghost use Rattle.pb_object.specs.declared.format.Format.TheVariants.{Two};
+ghost use Rattle.pb_accept.specs.Loading.{IsLoaded, IsLoadFault, SaysOfNoCode, load_line};
+
+use crate::refusal::{object_text, verify_text};
+use pb_base::NoMemory;
+use pb_base::limits::MAX_INPUT;
+use pb_code::Labels;
+use pb_command_io::reply::{Reply, refused};
+use pb_object::{ObjectFault, read_any};
+use pb_verifier::{Verified, VerifyFault, verify};
+use std::alloc::Global;
+
+/// Why bytes do not give code that is safe to run.
+#[derive(Clone, Copy, Debug, PartialEq, Eq)]
+pub enum LoadFault {
+    /// They are not an object.
+    Object(ObjectFault),
+    /// Their code has this fault.
+    Unsafe(VerifyFault),
+}
+
+/// Returns the safe code that the bytes of an object spell, in either format, with its labels.
+pub fn load(alloc: Global, bytes: &[u8]) -> Result<(Verified, Labels), LoadFault>
+    ensures loaded { IfOk result (λ x. IsLoaded bytes.now x.0.code (labels_view x.1)) }
+    ensures writable { IfOk result (λ x. HasText Two x.0.code (labels_view x.1)) }
+    ensures fault { IfErr result (IsLoadFault bytes.now) }
+    // An object over the limit takes no memory.
+    ensures long { MAX_INPUT < length bytes.now → result ≡ Err (LoadFault.Object (ObjectFault.Limit 0)) }
+{
+    let (code, labels) = match read_any(alloc, bytes) {
+        Ok(object) => object,
+        Err(fault) => return Err(LoadFault::Object(fault)),
+    };
+    match verify(alloc, code) {
+        Ok(verified) => Ok((verified, labels)),
+        Err((_, fault)) => Err(LoadFault::Unsafe(fault)),
+    }
+}
+
+// Returns the line of a refusal, without a line feed. A fault that is out of memory has none.
+fn load_text(alloc: Global, fault: LoadFault) -> Result<Vec<u8>, NoMemory>
+    ensures { IfOk result (λ text. load_line fault ≡ Some text.items) }
+{
+    match fault {
+        LoadFault::Object(fault) => object_text(alloc, fault),
+        LoadFault::Unsafe(fault) => verify_text(alloc, fault),
+    }
+}
+
+/// Returns the reply to bytes that have this fault, or out of memory if that is the fault or there is too
+/// little for its line.
+pub fn load_refusal(alloc: Global, fault: LoadFault) -> Result<Reply, NoMemory>
+    ensures { (bytes : List ℕ) → IsLoadFault bytes fault
+        → IfOk result (λ r. SaysOfNoCode bytes r.text.items r.status) }
+{
+    let text = load_text(alloc, fault)?;
+    refused(text)
+}

@@ -1,0 +1,178 @@
+//! The command `replay`, over any input and output.
+ghost use Rattle.std.specs.Prelude.{◌≡◌, ◌≢◌, ◌≤◌, ℕ, List, All, IfErr, IfOk, IfSome, Some, length};
+ghost use Rattle.pb_base.specs.Lines.{HasNames, names_view};
+ghost use Rattle.pb_command_io.specs.Answers.{Tells};
+ghost use Rattle.pb_command_io.specs.Faults.{TellsFaults, TellsWriteFaults};
+ghost use Rattle.pb_command_io.specs.Inputs.{SaysOfInput};
+ghost use Rattle.pb_accept.specs.ReplayLines.{AreReplayed, IsLastLine, IsLinesFault, IsStatusAt, SaysOfEvents};
+ghost use Rattle.pb_accept.specs.ReplayLines.{SaysOfLines, SaysOfNoPicks, SaysOfReplay, lines_line};
+ghost use Rattle.pb_history.specs.Entries.{events_of};
+ghost use Rattle.pb_code.specs.Whole.{Code};
+ghost use Rattle.pb_machine.specs.Views.{machine_view};
+ghost use Rattle.pb_command_io.specs.declared.status.Status.TheVariants.{Device};
+
+use crate::accept::{compile_text, refuse};
+use crate::events::tell_events;
+use crate::faults::has_fault;
+use crate::refusal::{picks_text, stop_text};
+use pb_base::device::{Input, Output};
+use pb_base::limits::MAX_INPUT;
+use pb_base::{Names, NoMemory};
+use pb_command_io::Status;
+use pb_command_io::input::read_input;
+use pb_command_io::parts::two_parts;
+use pb_command_io::reply::{Reply, refused, tell};
+use pb_history::replay::replay_counted;
+use pb_history::{ReplayFault, Trace};
+use pb_machine::Machine;
+use pb_picks::{PickFault, read_picks};
+use pb_verifier::Verified;
+use std::alloc::Global;
+
+/// Why pick lines are not replayed.
+#[derive(Clone, Copy, Debug, PartialEq, Eq)]
+pub enum LinesFault {
+    /// They say no picks.
+    NotRead(PickFault),
+    /// Their picks can't all be made.
+    NotMade(ReplayFault),
+}
+
+/// Makes the picks that the pick lines behind the text of the input say, from the start of the text: writes
+/// the line of each event, and then `done` if every process has ended or faulted, else `open`. A line `%%` is
+/// between the text and the pick lines. For a text, lines or picks that are refused it writes their refusal
+/// line alone.
+///
+/// The status is `Fault` if a process faulted. After a read that failed nothing is written; after a write
+/// that failed, a first part of what was being said.
+pub fn replay_engine<I: Input, O: Output>(alloc: Global, input: &mut I, output: &mut O) -> Status
+    ensures text { IfSome (I.rest input.old) (λ bytes.
+        Tells (SaysOfInput SaysOfReplay bytes) (O.written output.old) (O.written output.new) result) }
+    ensures faults { TellsFaults
+        (record { reads = I.failures input.old; writes = O.failures output.old; written = O.written output.old })
+        (record { reads = I.failures input.new; writes = O.failures output.new; written = O.written output.new })
+        result }
+{
+    match read_input(alloc, input, output) {
+        Ok(bytes) => replay_text(alloc, bytes.as_slice(), output),
+        Err(status) => status,
+    }
+}
+
+// Makes the picks that the lines behind a text say.
+fn replay_text<O: Output>(alloc: Global, bytes: &[u8], output: &mut O) -> Status
+    requires { length bytes.now ≤ MAX_INPUT }
+    ensures text { Tells (SaysOfInput SaysOfReplay bytes.now) (O.written output.old) (O.written output.new) result }
+    ensures faults { TellsWriteFaults (O.failures output.old) (O.failures output.new) result }
+{
+    let (text, lines) = two_parts(bytes);
+    match compile_text(alloc, text) {
+        Ok(compiled) => {
+            let status = replay_lines(alloc, compiled.verified(), lines, output);
+            drop(compiled);
+            status
+        }
+        Err(refusal) => refuse(alloc, refusal, output),
+    }
+}
+
+// Makes the picks that lines say, and writes what they show, or why they are not made.
+fn replay_lines<O: Output>(
+    alloc: Global,
+    verified: &Verified,
+    lines: &[u8],
+    output: &mut O,
+) -> Status
+    ensures text { Tells (SaysOfLines verified.now.code lines.now) (O.written output.old) (O.written output.new) result }
+    ensures faults { TellsWriteFaults (O.failures output.old) (O.failures output.new) result }
+{
+    match make_lines(alloc, verified, lines) {
+        Ok((machine, trace)) => {
+            let names = &verified.code().names;
+            tell_replay(alloc, names, &trace, &machine, output)
+        }
+        Err(fault) => tell(alloc, lines_refusal(alloc, fault), output),
+    }
+}
+
+// Returns the machine behind the picks that lines say, and their trace.
+fn make_lines(
+    alloc: Global,
+    verified: &Verified,
+    lines: &[u8],
+) -> Result<(Machine, Trace), LinesFault>
+    ensures made { IfOk result (λ made.
+        AreReplayed verified.now.code lines.now made.1.entries (machine_view made.0)) }
+    ensures fault { IfErr result (IsLinesFault verified.now.code lines.now) }
+{
+    let picks = match read_picks(alloc, verified.code(), lines) {
+        Ok(picks) => picks,
+        Err(fault) => return Err(LinesFault::NotRead(fault)),
+    };
+    match replay_counted(alloc, verified, picks.as_slice()) {
+        Ok(made) => Ok(made),
+        Err(fault) => Err(LinesFault::NotMade(fault)),
+    }
+}
+
+// Returns the line of a refusal, without a line feed. A fault that is out of memory has none.
+fn lines_text(alloc: Global, fault: LinesFault) -> Result<Vec<u8>, NoMemory>
+    ensures { IfOk result (λ text. lines_line fault ≡ Some text.items) }
+{
+    match fault {
+        LinesFault::NotRead(fault) => picks_text(alloc, fault),
+        LinesFault::NotMade(fault) => stop_text(alloc, fault),
+    }
+}
+
+/// Returns the reply to pick lines that have this fault, or out of memory if that is the fault or there is
+/// too little for its line.
+pub fn lines_refusal(alloc: Global, fault: LinesFault) -> Result<Reply, NoMemory>
+    ensures { (code : Code) (lines : List ℕ) → IsLinesFault code lines fault
+        → IfOk result (λ r. SaysOfNoPicks code lines r.text.items r.status) }
+{
+    let text = lines_text(alloc, fault)?;
+    refused(text)
+}
+
+// Returns the last line, without a line feed.
+#[tactic(auto, using(crate::specs::ReplayLines::all_over, crate::specs::ReplayLines::not_over))]
+fn last_line(machine: &Machine) -> &'static [u8]
+    ensures { IsLastLine (machine_view machine.now) result.now }
+{
+    if machine.finished() { b"done" } else { b"open" }
+}
+
+// Returns the status of a replay that has come to here.
+#[tactic(auto, using(crate::specs::ReplayLines::some_fault, crate::specs::ReplayLines::no_fault))]
+fn status_at(machine: &Machine) -> Status
+    ensures status { IsStatusAt (machine_view machine.now) result }
+    ensures no_device { result ≢ Device }
+{
+    if has_fault(machine) {
+        Status::Fault
+    } else {
+        Status::Done
+    }
+}
+
+// Writes the line of each event, and the last line of a replay that has come to here.
+fn tell_replay<O: Output>(
+    alloc: Global,
+    names: &Names,
+    trace: &Trace,
+    machine: &Machine,
+    output: &mut O,
+) -> Status
+    requires { All (HasNames (names_view names.now)) (events_of trace.now.entries) }
+    ensures text { Tells (SaysOfEvents (names_view names.now) (events_of trace.now.entries) (machine_view machine.now))
+        (O.written output.old) (O.written output.new) result }
+    ensures faults { TellsWriteFaults (O.failures output.old) (O.failures output.new) result }
+{
+    let last = last_line(machine);
+    let status = status_at(machine);
+    match tell_events(alloc, names, trace, output) {
+        Ok(page) => page.finish_with(output, last, status),
+        Err(status) => status,
+    }
+}

@@ -1,0 +1,68 @@
+use Rattle.std.proofs.Common.{rules, ◌≡◌, ◌+◌, ◌++◌, List, length, get_or, take, drop, replicate, sym, ap, ◌∙◌, subst}
+use Rattle.std.proofs.Common.{arith}
+use Rattle.std.proofs.lemmas.List.{length-map}
+use Rattle.pb_base.specs.declared.pick.Pick.{Pick}
+use Rattle.pb_history.specs.Entries.{Entry, picks_of}
+use Rattle.pb_history.specs.Replays.{IsStopped, spread}
+use Rattle.pb_history.specs.declared.counted.CountedPick.{CountedPick}
+use Rattle.pb_history.proofs.CountedPicks.{spread_take, spread_whole, stopped_more}
+use Rattle.pb_history.proofs.SpanEnds.{item_there}
+use Rattle.pb_debug_positions.proofs.Walks.{count_more, count_within}
+use Rattle.pb_debug_positions.proofs.checkpoints.Replaying.make_all.Goals as goal
+
+pub make-requires-clause-fits : goal.make-requires-clause-fits
+make-requires-clause-fits c =
+    let picks = c.args.picks.now in
+    let i = c.loop-i.i in
+    let test = c.loop-i-test.true in
+    let x : CountedPick = get_or picks i (record { pick = record { process = 0; arm = 0 }; count = 0 }) in
+    let there = item_there picks i (record { pick = record { process = 0; arm = 0 }; count = 0 }) (omega (arith, test)) in
+    let entries = c.loop-i.self.trace.entries in
+    let a = ap (λ (ps : List Pick). length ps) c.loop-i.invariant.picks in
+    let b = length-map entries (λ (e : Entry). e.pick) in
+    let more = count_more picks i x there in
+    let within = count_within picks (i + 1) in
+    let few = c.requires.few in
+    omega (arith, a, b, more, within, few)
+
+pub make-requires-clause-some : goal.make-requires-clause-some
+make-requires-clause-some c =
+    let same = c.loop-i.invariant.interval in
+    let some = c.requires.some in
+    omega (arith, same, some)
+
+pub make-requires-clause-small : goal.make-requires-clause-small
+make-requires-clause-small c =
+    let same = c.loop-i.invariant.interval in
+    let small = c.requires.small in
+    omega (arith, same, small)
+
+pub returns-in_err-make-clause-stopped : goal.returns-in_err-make-clause-stopped
+returns-in_err-make-clause-stopped c =
+    let code = c.args.verified.now.code in
+    let picks = c.args.picks.now in
+    let i = c.loop-i.i in
+    let test = c.loop-i-test.true in
+    let x : CountedPick = get_or picks i (record { pick = record { process = 0; arm = 0 }; count = 0 }) in
+    let there = item_there picks i (record { pick = record { process = 0; arm = 0 }; count = 0 }) (omega (arith, test)) in
+    let before : picks_of c.loop-i.self.trace.entries ++ replicate x.count x.pick ≡ spread (take (i + 1) picks) =
+    ap (λ (ps : List Pick). ps ++ replicate x.count x.pick) c.loop-i.invariant.picks ∙ sym (spread_take picks i x there) in
+    let stopped : IsStopped code (spread picks) c.in_err-make.field-0.0 =
+    subst (λ (ps : List Pick). IsStopped code ps c.in_err-make.field-0.0) (sym (spread_whole picks (i + 1)))
+    (stopped_more code (spread (take (i + 1) picks)) (spread (drop (i + 1) picks)) c.in_err-make.field-0.0
+    (subst (λ (ps : List Pick). IsStopped code ps c.in_err-make.field-0.0) before c.in_err-make.ensures.stopped)) in
+    search rules
+
+pub loop-i-preserved : goal.loop-i-preserved
+loop-i-preserved c =
+    let picks = c.args.picks.now in
+    let i = c.loop-i.i in
+    let test = c.loop-i-test.true in
+    let x : CountedPick = get_or picks i (record { pick = record { process = 0; arm = 0 }; count = 0 }) in
+    let there = item_there picks i (record { pick = record { process = 0; arm = 0 }; count = 0 }) (omega (arith, test)) in
+    record {
+      replays = c.in_ok-make.ensures.replays;
+      picks = c.in_ok-make.ensures.picks
+          ∙ (ap (λ (ps : List Pick). ps ++ replicate x.count x.pick) c.loop-i.invariant.picks ∙ sym (spread_take picks i x there));
+      interval = c.in_ok-make.ensures.interval ∙ c.loop-i.invariant.interval;
+    }

@@ -1,0 +1,20 @@
+use Rattle.std.proofs.Common.{◌+◌, ◌∙◌, subst}
+use Rattle.pb_history.specs.Entries.{picks_of}
+use Rattle.pb_debug_positions.specs.Searches.{value_at}
+use Rattle.pb_history.specs.Positions.{IsAfter}
+use Rattle.pb_debug_positions.proofs.Searches.{differ_here, value_here}
+use Rattle.pb_debug_positions.proofs.search.changes.Goals as goal
+
+pub returns-clause-changes : goal.returns-clause-changes
+returns-clause-changes c =
+    let v = c.args.verified.now in
+    let picks = picks_of c.args.trace.now.entries in
+    let at = c.args.walker.now.at in
+    let p = c.args.p in
+    let x = c.args.x in
+    let next = c.advance.new.self in
+    let there : IsAfter v picks (at + 1) next.machine = subst (λ n. IsAfter v picks n next.machine) c.advance.ensures.at c.advance.ensures.walks in
+    differ_here c.differ.result c.value_of-before.result c.value_of-after.result (value_at v.code picks at p x) (value_at v.code picks (at + 1) p x)
+    (c.value_of-before.ensures ∙ value_here v picks at p x c.args.walker.now.machine c.requires.walks)
+    (c.value_of-after.ensures ∙ value_here v picks (at + 1) p x next.machine there)
+    c.differ.ensures

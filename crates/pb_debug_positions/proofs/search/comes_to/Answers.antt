@@ -1,0 +1,23 @@
+use Rattle.std.proofs.Common.{◌+◌, ◌∙◌, subst}
+use Rattle.pb_code.specs.View.{labels_view}
+use Rattle.pb_history.specs.Entries.{picks_of}
+use Rattle.pb_debug_positions.specs.Searches.{arm_line_at}
+use Rattle.pb_history.specs.Positions.{IsAfter}
+use Rattle.pb_debug_positions.proofs.Searches.{begins_here, line_here}
+use Rattle.pb_debug_positions.proofs.search.comes_to.Goals as goal
+
+pub returns-clause-comes : goal.returns-clause-comes
+returns-clause-comes c =
+    let v = c.args.verified.now in
+    let labels = labels_view c.args.labels.now in
+    let picks = picks_of c.args.trace.now.entries in
+    let at = c.args.walker.now.at in
+    let p = c.args.p in
+    let a = c.args.arm in
+    let next = c.advance.new.self in
+    let there : IsAfter v picks (at + 1) next.machine = subst (λ n. IsAfter v picks n next.machine) c.advance.ensures.at c.advance.ensures.walks in
+    begins_here c.begins.result c.is_line.result c.is_line-2.result c.line_of_arm-before.result c.line_of_arm-after.result
+    (arm_line_at v.code labels picks at p a) (arm_line_at v.code labels picks (at + 1) p a) c.args.line
+    (c.line_of_arm-before.ensures ∙ line_here v labels picks at p a c.args.walker.now.machine c.requires.walks)
+    (c.line_of_arm-after.ensures ∙ line_here v labels picks (at + 1) p a next.machine there)
+    c.is_line.ensures c.is_line-2.ensures c.begins.ensures

@@ -1,0 +1,52 @@
+-- The lines of the arms, and their names: of each arm that is ever live one.
+use Rattle.std.specs.Prelude.{ℕ, ◌+◌, Bool, true, false, List, [], ◌∷◌, ◌++◌, Some, None, Option, filter, map}
+use Rattle.std.specs.List.{flat_map, list_any}
+use Rattle.pb_base.specs.Lines.{NameTable, pick_text}
+use Rattle.pb_draw.specs.declared.drawing.Lane.{Lane}
+use Rattle.pb_draw.specs.declared.drawing.LaneStep.{LaneStep}
+use Rattle.pb_draw.specs.declared.drawing.Standing.{Standing}
+use Rattle.pb_draw.specs.declared.drawing.Standing.TheVariants.{Away, Going, Waiting}
+use Rattle.pb_draw.specs.declared.picture.LabelKind.TheVariants.{Name}
+use Rattle.pb_draw.specs.declared.picture.Rect.{Rect}
+use Rattle.pb_draw.specs.declared.picture.RectKind.TheVariants as line
+use Rattle.pb_draw_picture.specs.Places.{Places, end_of}
+use Rattle.pb_draw_picture.specs.Shapes.{Text, if_wide, rect_to}
+use Rattle.pb_draw_picture.specs.declared.sizes.TheConstants.{MARGIN, TRACK}
+
+abbrev pub is_live : Standing → Bool
+is_live Away = false
+is_live Going = true
+is_live Waiting = true
+
+-- an arm is ever live
+abbrev pub is_ever_live : Lane → Bool
+is_ever_live lane = list_any (λ s. is_live s.standing) lane.steps.items
+
+-- the line of an arm in a state: none unless it is live
+abbrev pub line_in : Standing → (x to y : ℕ) → List Rect
+line_in Away x to y = []
+line_in Going x to y = if_wide (rect_to line.Going x to y TRACK)
+line_in Waiting x to y = if_wide (rect_to line.Waiting x to y TRACK)
+
+-- where the first of some steps is, if there is one
+abbrev pub next_of : List LaneStep → Option ℕ
+next_of [] = None
+next_of (s ∷ steps) = Some s.at
+
+-- the line of an arm, in each state up to the next
+abbrev pub lines_in : Places → (y : ℕ) → List LaneStep → List Rect
+lines_in places y [] = []
+lines_in places y (s ∷ steps) =
+    line_in s.standing (places.x s.at) (end_of places (next_of steps)) y ++ lines_in places y steps
+
+-- each arm has its line in its own row
+abbrev pub lines : Places → List Lane → List Rect
+lines places lanes = flat_map (λ lane. lines_in places (places.line lane.pick) lane.steps.items) lanes
+
+-- and, if it is ever live, its name before it
+abbrev pub name_of_lane : NameTable → Places → Lane → Text
+name_of_lane names places lane =
+    record { kind = Name; x = MARGIN; y = places.line lane.pick + TRACK; text = pick_text names lane.pick }
+
+abbrev pub lane_names : NameTable → Places → List Lane → List Text
+lane_names names places lanes = map (name_of_lane names places) (filter is_ever_live lanes)

@@ -1,0 +1,43 @@
+-- The marks of a picture, and the numbers of their picks above them: of each event one.
+use Rattle.std.specs.Prelude.{ℕ, ◌+◌, ◌-◌, List, map}
+use Rattle.std.specs.Fmt.{decimal}
+use Rattle.pb_base.specs.Lines.{NameTable, line_of}
+use Rattle.pb_base.specs.declared.event.Event.{Event}
+use Rattle.pb_base.specs.declared.event.Event.TheVariants.{Granted, Returned, Printed, Faulted, Finished}
+use Rattle.pb_draw.specs.declared.drawing.Mark.{Mark}
+use Rattle.pb_draw.specs.declared.picture.LabelKind.TheVariants.{Number}
+use Rattle.pb_draw.specs.declared.picture.TickKind.{TickKind}
+use Rattle.pb_draw.specs.declared.picture.TickKind.TheVariants.{Grant, Return, Print, Fault, End}
+use Rattle.pb_draw_picture.specs.Places.{Places}
+use Rattle.pb_draw_picture.specs.Shapes.{Sign, Text}
+use Rattle.pb_draw_picture.specs.Texts.{label_of}
+use Rattle.pb_draw_picture.specs.declared.sizes.TheConstants.{LABEL_LEFT, LABEL_UP, MIDDLE, NUMBER_Y}
+
+-- what an event is
+abbrev pub kind_of : Event → TickKind
+kind_of (Granted pick bundle) = Grant
+kind_of (Returned pick bundle) = Return
+kind_of (Printed pick value) = Print
+kind_of (Faulted pick kind) = Fault
+kind_of (Finished process) = End
+
+-- an event at a place: its kind, its line as the title, and its text
+abbrev pub sign_at : NameTable → (x y : ℕ) → Event → Sign
+sign_at names x y event = record {
+  kind = kind_of event;
+  x = x;
+  y = y;
+  title = line_of names event;
+  label = label_of names event;
+  label_x = x - LABEL_LEFT;
+  label_y = y - LABEL_UP;
+}
+
+-- each event at the position behind its pick, on the line of its arm
+abbrev pub signs : NameTable → Places → List Mark → List Sign
+signs names places marks = map (λ m. sign_at names (places.x (m.at + 1)) (places.line m.pick + MIDDLE) m.event) marks
+
+-- and above it the number of the pick
+abbrev pub numbers : Places → List Mark → List Text
+numbers places marks =
+    map (λ m. record { kind = Number; x = places.x (m.at + 1); y = NUMBER_Y; text = decimal m.at }) marks

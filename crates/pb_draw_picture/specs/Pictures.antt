@@ -1,0 +1,49 @@
+-- What a picture shows of a run.
+use Rattle.std.specs.Prelude.{◌≡◌, ℕ, ◌+◌, ◌*◌, max, List, ◌++◌, length, map}
+use Rattle.pb_base.specs.Lines.{NameTable}
+use Rattle.pb_draw.specs.declared.drawing.Drawing.{Drawing}
+use Rattle.pb_draw.specs.declared.picture.Picture.{Picture}
+use Rattle.pb_draw.specs.declared.picture.Rect.{Rect}
+use Rattle.pb_draw_picture.specs.Axis.{IsAxis}
+use Rattle.pb_draw_picture.specs.Curves.{curve_texts_from, curves_from}
+use Rattle.pb_draw_picture.specs.Grounds.{AreGaps, AreSilents, notes}
+use Rattle.pb_draw_picture.specs.Holds.{bundles_from, holds_from}
+use Rattle.pb_draw_picture.specs.Lanes.{lane_names, lines}
+use Rattle.pb_draw_picture.specs.Marks.{numbers, signs}
+use Rattle.pb_draw_picture.specs.Places.{Places}
+use Rattle.pb_draw_picture.specs.Shapes.{Text, sign_of, text_of}
+use Rattle.pb_draw_picture.specs.declared.sizes.TheConstants.{BOTTOM, CURVE_ROW, MIN_WIDTH, RIGHT}
+
+-- where the rows of a picture end: those of the arms, and below them those of the resources
+abbrev pub foot_of_all : Places → Drawing → ℕ
+foot_of_all places d = places.bottom + length d.curves.items * CURVE_ROW
+
+-- the rectangles of a picture: the grounds of shortened stretches, and then for each arm its line, for each hold
+-- its bar, and for each resource its curve
+pub record AreRects (capital : List ℕ) (d : Drawing) (places : Places) (rects : List Rect) : Type 0 where
+  pub gaps : List Rect
+  pub are_gaps : AreGaps gaps
+  pub all : rects ≡
+      ((gaps ++ lines places d.lanes.items) ++ holds_from places 0 d.bars.items) ++ curves_from places capital 0 d.curves.items
+
+-- its texts: how many picks a shortened stretch has, and then for each event the number of its pick, for each arm
+-- that is ever live its name, for each hold its bundle, for each resource its name and amounts, and two notes
+pub record AreTexts (names : NameTable) (capital : List ℕ) (d : Drawing) (places : Places) (texts : List Text) : Type 0 where
+  pub silents : List Text
+  pub are_silents : AreSilents silents
+  pub all : texts ≡
+      ((((silents ++ numbers places d.marks.items) ++ lane_names names places d.lanes.items)
+      ++ bundles_from names places 0 d.bars.items) ++ curve_texts_from names places capital 0 d.curves.items)
+      ++ notes (foot_of_all places d)
+
+-- a picture shows a drawing at some places, which go from left to right with the picks: a mark for each event, and
+-- all that stands above; there are no other shapes
+pub record IsLayout (names : NameTable) (capital : List ℕ) (d : Drawing) (p : Picture) : Type 0 where
+  pub places : Places
+  pub axis : IsAxis d.marks.items places.x
+  pub right : places.right ≡ places.x (d.picks + 1)
+  pub rects : AreRects capital d places p.rects.items
+  pub texts : AreTexts names capital d places (map text_of p.labels.items)
+  pub marks : map sign_of p.ticks.items ≡ signs names places d.marks.items
+  pub wide : p.width ≡ max (places.right + RIGHT) MIN_WIDTH
+  pub high : p.height ≡ foot_of_all places d + BOTTOM

@@ -1,0 +1,130 @@
+//! The texts of a picture.
+
+ghost use Rattle.std.specs.Prelude.{◌≡◌, ◌++◌, IfOk, OnOk, map};
+ghost use Rattle.std.specs.Fmt.{decimal};
+ghost use Rattle.pb_base.specs.Lines.{fault_text, name_of, names_view, pair_text, pairs_text, pick_text};
+ghost use Rattle.pb_draw_picture.specs.Texts as spec;
+
+use pb_base::{Bundle, Event, FaultKind, Names, NoMemory, Pair, Pick};
+use pb_draw::texts::{put, put_number};
+use std::alloc::Global;
+
+/// Returns a number as text, with words behind it.
+pub(crate) fn number_text(alloc: Global, number: u64, words: &[u8]) -> Result<Vec<u8>, NoMemory>
+    ensures { IfOk result (λ text. text.items ≡ decimal number ++ words.now) }
+{
+    let mut text = Vec::new(alloc);
+    put_number(&mut text, b"", number)?;
+    put(&mut text, words)?;
+    Ok(text)
+}
+
+// Puts the name with a number behind a text, if there is one.
+fn put_name(text: &mut Vec<u8>, names: &[Vec<u8>], i: usize) -> Result<(), NoMemory>
+    ensures { OnOk result (text.new.items ≡ text.old.items ++ name_of (map (λ name. name.items) names.now) i) }
+{
+    match names.get(i) {
+        Some(name) => put(text, name),
+        None => Ok(()),
+    }
+}
+
+/// Returns `P.a`, the name of an arm.
+pub(crate) fn arm_text(alloc: Global, names: &Names, pick: Pick) -> Result<Vec<u8>, NoMemory>
+    ensures { IfOk result (λ text. text.items ≡ pick_text (names_view names.now) pick) }
+{
+    let mut text = Vec::new(alloc);
+    put_name(&mut text, &names.processes, usize::from(pick.process))?;
+    put_number(&mut text, b".", pick.arm)?;
+    Ok(text)
+}
+
+// Puts an amount and the name of its resource behind a text.
+fn put_pair(text: &mut Vec<u8>, names: &Names, pair: Pair) -> Result<(), NoMemory>
+    ensures { OnOk result (text.new.items ≡ text.old.items ++ pair_text (names_view names.now) pair) }
+{
+    put_number(text, b" ", pair.amount)?;
+    put(text, b" ")?;
+    put_name(text, &names.resources, usize::from(pair.resource))
+}
+
+// Returns ` k R` for each pair of a bundle.
+fn pairs_of(alloc: Global, names: &Names, bundle: &Bundle) -> Result<Vec<u8>, NoMemory>
+    ensures { IfOk result (λ text. text.items ≡ pairs_text (names_view names.now) bundle.now) }
+{
+    let mut text = Vec::new(alloc);
+    for i in 0..bundle.len() {
+        put_pair(&mut text, names, bundle.get(i))?;
+    }
+    Ok(text)
+}
+
+/// Returns the amounts of a bundle, each with its resource.
+pub(crate) fn bundle_text(
+    alloc: Global,
+    names: &Names,
+    bundle: &Bundle,
+) -> Result<Vec<u8>, NoMemory>
+    ensures { IfOk result (λ text. text.items ≡ spec.bundle_text (names_view names.now) bundle.now) }
+{
+    let pairs = pairs_of(alloc, names, bundle)?;
+    let start = pairs.len().min(1);
+    let text = Vec::from_slice(alloc, &pairs[start..])?;
+    Ok(text)
+}
+
+// Returns the word for a fault.
+fn fault_word(kind: FaultKind) -> &'static [u8]
+    ensures { result.now ≡ fault_text kind }
+{
+    match kind {
+        FaultKind::Divide => b"divide",
+        FaultKind::Overflow => b"overflow",
+    }
+}
+
+/// Returns what is written of an event: the bundle of a grant or a return, and the event itself of the others.
+pub(crate) fn caption(alloc: Global, names: &Names, event: &Event) -> Result<Vec<u8>, NoMemory>
+    ensures { IfOk result (λ text. text.items ≡ spec.caption (names_view names.now) event.now) }
+{
+    let mut text = Vec::new(alloc);
+    match event {
+        Event::Granted { bundle, .. } => return bundle_text(alloc, names, bundle),
+        Event::Returned { bundle, .. } => return bundle_text(alloc, names, bundle),
+        Event::Printed { value, .. } => put_number(&mut text, b"print ", *value)?,
+        Event::Faulted { kind, .. } => {
+            put(&mut text, b"fault ")?;
+            put(&mut text, fault_word(*kind))?;
+        }
+        Event::Finished { .. } => put(&mut text, b"end")?,
+    }
+    Ok(text)
+}
+
+/// Returns what is written beside the mark of an event. A grant and a return have their hold.
+pub(crate) fn label_of(alloc: Global, names: &Names, event: &Event) -> Result<Vec<u8>, NoMemory>
+    ensures { IfOk result (λ text. text.items ≡ spec.label_of (names_view names.now) event.now) }
+{
+    match event {
+        Event::Granted { .. } => Ok(Vec::new(alloc)),
+        Event::Returned { .. } => Ok(Vec::new(alloc)),
+        Event::Printed { .. } => caption(alloc, names, event),
+        Event::Faulted { .. } => caption(alloc, names, event),
+        Event::Finished { .. } => caption(alloc, names, event),
+    }
+}
+
+/// Returns `R of k`, a resource with its capital.
+pub(crate) fn resource_text(
+    alloc: Global,
+    names: &Names,
+    r: usize,
+    capital: u32,
+) -> Result<Vec<u8>, NoMemory>
+    ensures { IfOk result (λ text. text.items ≡ spec.resource_text (names_view names.now) r capital) }
+{
+    let mut text = Vec::new(alloc);
+    put_name(&mut text, &names.resources, r)?;
+    put_number(&mut text, b" of ", capital)?;
+    Ok(text)
+}

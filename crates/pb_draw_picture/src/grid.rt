@@ -1,0 +1,116 @@
+//! Where things are in a picture.
+
+ghost use Rattle.std.specs.Prelude.{◌≡◌, ◌≤◌, ◌+◌, ◌^◌, IfOk, length};
+ghost use Rattle.pb_draw_picture.specs.Axis.{IsAxis, IsChain};
+ghost use Rattle.pb_draw_picture.specs.Places as spec;
+
+use crate::axis::{axis_of, x_of};
+use crate::knot::Knot;
+use crate::rows::{Row, rows_of, track_of};
+use crate::sizes::{BETWEEN, CHARACTER, HOLD, LOWEST, MAX_NAME, NAME_SIDE, TRACK};
+use pb_base::{Names, NoMemory, Pick};
+use pb_draw::drawing::Drawing;
+use std::alloc::Global;
+
+/// The axis, the position at which it ends, the rows of the arms, the depth of each hold by its number, and
+/// where the rows end.
+#[derive(Drop)]
+pub(crate) struct Grid {
+    pub knots: Vec<Knot>,
+    pub end: u64,
+    pub rows: Vec<Row>,
+    pub depths: Vec<u32>,
+    pub bottom: u64,
+}
+
+impl Grid {
+    /// Returns where a position begins.
+    pub(crate) fn x(&self, position: u64) -> u64
+        requires { IsChain self.now.knots.items }
+        ensures x { result ≡ (spec.places_of self.now).x position }
+        ensures near { result ≤ 2 ^ 44 }
+    {
+        x_of(&self.knots, position)
+    }
+
+    /// Returns where the time of the run ends.
+    pub(crate) fn right(&self) -> u64
+        requires { IsChain self.now.knots.items }
+        ensures x { result ≡ (spec.places_of self.now).right }
+        ensures near { result ≤ 2 ^ 44 }
+    {
+        x_of(&self.knots, self.end)
+    }
+
+    /// Returns where a position begins, or where the time ends.
+    pub(crate) fn x_or_end(&self, position: Option<u64>) -> u64
+        requires { IsChain self.now.knots.items }
+        ensures x { result ≡ spec.end_of (spec.places_of self.now) position }
+    {
+        match position {
+            None => self.right(),
+            Some(position) => self.x(position),
+        }
+    }
+
+    /// Returns the top of the line of an arm.
+    pub(crate) fn line(&self, pick: Pick) -> u64
+        ensures y { result ≡ (spec.places_of self.now).line pick }
+        ensures high { result ≤ 2 ^ 63 }
+    {
+        track_of(&self.rows, pick)
+    }
+
+    // Returns below how many others a hold is.
+    fn depth(&self, k: usize) -> u32
+        ensures { result ≡ (spec.places_of self.now).depth k }
+    {
+        match self.depths.get(k) {
+            Some(depth) => *depth,
+            None => 0,
+        }
+    }
+
+    /// Returns where the bar of a hold is.
+    pub(crate) fn hold_y(&self, pick: Pick, k: usize) -> u64
+        ensures y { result ≡ spec.hold_y (spec.places_of self.now) pick k }
+        ensures high { result ≤ 2 ^ 63 + 2 ^ 40 }
+    {
+        self.line(pick) + TRACK + BETWEEN + u64::from(self.depth(k)) * HOLD
+    }
+}
+
+// Returns how many characters the longest of some names has.
+fn longest(names: &[Vec<u8>]) -> u64 {
+    let mut most: u64 = 0;
+    for name in names {
+        most = most.max(name.len() as u64);
+    }
+    most
+}
+
+// Returns where time begins, to the right of all names.
+fn left_of(names: &Names) -> u64
+    ensures { result ≤ 1000 }
+{
+    let characters = longest(&names.processes).max(longest(&names.resources));
+    characters.min(MAX_NAME) * CHARACTER + NAME_SIDE
+}
+
+/// Returns where things are in the picture of a drawing.
+pub(crate) fn grid_of(alloc: Global, names: &Names, drawing: &Drawing) -> Result<Grid, NoMemory>
+    ensures chain { IfOk result (λ grid. IsChain grid.knots.items) }
+    ensures axis { IfOk result (λ grid. IsAxis drawing.now.marks.items (spec.places_of grid).x) }
+    ensures end { IfOk result (λ grid. grid.end ≡ drawing.now.picks + 1) }
+    ensures bottom { IfOk result (λ grid. grid.bottom ≤ LOWEST) }
+{
+    let knots = axis_of(alloc, names, &drawing.marks, drawing.picks, left_of(names))?;
+    let rows = rows_of(alloc, drawing)?;
+    Ok(Grid {
+        knots,
+        end: u64::from(drawing.picks) + 1,
+        rows: rows.rows,
+        depths: rows.depths,
+        bottom: rows.end.min(LOWEST),
+    })
+}

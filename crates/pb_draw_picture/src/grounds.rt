@@ -1,0 +1,85 @@
+//! The grounds of the stretches that are shortened, and what is said below a picture.
+
+ghost use Rattle.std.specs.Prelude.{◌≡◌, ◌≤◌, ◌++◌, ◌^◌, IfOk, OnOk, map};
+ghost use Rattle.pb_draw_picture.specs.Grounds as spec;
+ghost use Rattle.pb_draw_picture.specs.Shapes.{text_of};
+
+use crate::captions::number_text;
+use crate::knot::Knot;
+use crate::shapes::rect_to;
+use crate::sizes::{GAP_TEXT, GAP_TOP, MARGIN, MAX_SILENT, NOTE_DOWN, OTHER_NOTE_DOWN};
+use pb_base::NoMemory;
+use pb_draw::picture::{Label, LabelKind, Rect, RectKind};
+use std::alloc::Global;
+
+/// What is said below a picture.
+pub(crate) const NOTE: &[u8] =
+    b"pick after pick, from left to right; a pick with an event has its number above it";
+
+pub(crate) const OTHER_NOTE: &[u8] =
+    b"hatched: the arm is at a request; grey ground: more than 15 silent picks, shortened";
+
+/// Returns the grounds of the stretches that are shortened.
+pub(crate) fn gaps_of(alloc: Global, knots: &[Knot], bottom: u64) -> Result<Vec<Rect>, NoMemory>
+    ensures { IfOk result (λ rects. spec.AreGaps rects.items) }
+{
+    let mut rects = Vec::new(alloc);
+    let height = bottom.saturating_sub(GAP_TOP);
+    for knot in knots {
+        if knot.silent > MAX_SILENT {
+            rects.push(rect_to(RectKind::Gap, knot.silent_x(), knot.end(), GAP_TOP, height))?;
+        }
+    }
+    Ok(rects)
+}
+
+// Returns how many silent picks a stretch has.
+fn silent_at(alloc: Global, knot: &Knot) -> Result<Label, NoMemory>
+    ensures { IfOk result (λ l. l.kind ≡ LabelKind.Silent) }
+{
+    let text = number_text(alloc, knot.silent, b" silent")?;
+    Ok(Label {
+        kind: LabelKind::Silent,
+        x: knot.silent_x(),
+        y: GAP_TEXT,
+        text,
+    })
+}
+
+/// Returns how many silent picks each of these stretches has.
+pub(crate) fn silents_of(alloc: Global, knots: &[Knot]) -> Result<Vec<Label>, NoMemory>
+    ensures { IfOk result (λ labels. spec.AreSilents (map text_of labels.items)) }
+{
+    let mut labels = Vec::new(alloc);
+    for knot in knots {
+        if knot.silent > MAX_SILENT {
+            let silent = silent_at(alloc, knot)?;
+            labels.push(silent)?;
+        }
+    }
+    Ok(labels)
+}
+
+// Returns a text that is known.
+fn note_at(alloc: Global, y: u64, text: &[u8]) -> Result<Label, NoMemory>
+    ensures { IfOk result (λ l. text_of l ≡ record { kind = LabelKind.Note; x = MARGIN; y = y; text = text.now }) }
+{
+    Ok(Label {
+        kind: LabelKind::Note,
+        x: MARGIN,
+        y,
+        text: Vec::from_slice(alloc, text)?,
+    })
+}
+
+/// Adds what is said below a picture whose rows end at a height.
+pub(crate) fn add_notes(alloc: Global, foot: u64, labels: &mut Vec<Label>) -> Result<(), NoMemory>
+    requires { foot ≤ 2 ^ 63 }
+    ensures { OnOk result (map text_of labels.new.items ≡ map text_of labels.old.items ++ spec.notes foot) }
+{
+    let note = note_at(alloc, foot + NOTE_DOWN, NOTE)?;
+    labels.push(note)?;
+    let other = note_at(alloc, foot + OTHER_NOTE_DOWN, OTHER_NOTE)?;
+    labels.push(other)?;
+    Ok(())
+}

@@ -1,0 +1,110 @@
+//! The lines of the arms, and their names.
+
+ghost use Rattle.std.specs.Prelude.{◌≡◌, ◌≤◌, ◌++◌, ◌^◌, IfOk, OnOk, map};
+ghost use Rattle.pb_base.specs.Lines.{names_view};
+ghost use Rattle.pb_draw_picture.specs.Axis.{IsChain};
+ghost use Rattle.pb_draw_picture.specs.Lanes as spec;
+ghost use Rattle.pb_draw_picture.specs.Places.{places_of};
+ghost use Rattle.pb_draw_picture.specs.Shapes.{if_wide, rect_to, text_of};
+
+use crate::captions::arm_text;
+use crate::grid::Grid;
+use crate::rows::is_ever_live;
+use crate::shapes::{add_if_wide, rect_to};
+use crate::sizes::{MARGIN, TRACK};
+use pb_base::{Names, NoMemory};
+use pb_draw::drawing::{Lane, LaneStep, Standing};
+use pb_draw::picture::{Label, LabelKind, Rect, RectKind};
+use std::alloc::Global;
+
+// Adds the line of an arm in a state; it has none unless it is live.
+fn add_line_in(
+    rects: &mut Vec<Rect>,
+    standing: Standing,
+    x: u64,
+    to: u64,
+    y: u64,
+) -> Result<(), NoMemory>
+    ensures { OnOk result (rects.new.items ≡ rects.old.items ++ spec.line_in standing x to y) }
+{
+    match standing {
+        Standing::Away => Ok(()),
+        Standing::Going => add_if_wide(rects, rect_to(RectKind::Going, x, to, y, TRACK)),
+        Standing::Waiting => add_if_wide(rects, rect_to(RectKind::Waiting, x, to, y, TRACK)),
+    }
+}
+
+// Returns where the first of some steps is, if there is one.
+fn next_of(steps: &[LaneStep]) -> Option<u64>
+    ensures { result ≡ spec.next_of steps.now }
+{
+    match steps.first() {
+        Some(step) => Some(u64::from(step.at)),
+        None => None,
+    }
+}
+
+// Adds the line of an arm at a height.
+fn add_lines_in(
+    rects: &mut Vec<Rect>,
+    grid: &Grid,
+    y: u64,
+    steps: &[LaneStep],
+) -> Result<(), NoMemory>
+    requires { IsChain grid.now.knots.items }
+    ensures { OnOk result (rects.new.items ≡ rects.old.items ++ spec.lines_in (places_of grid.now) y steps.now) }
+{
+    for i in 0..steps.len() {
+        let step = steps[i];
+        let x = grid.x(u64::from(step.at));
+        let to = grid.x_or_end(next_of(&steps[i + 1..]));
+        add_line_in(rects, step.standing, x, to, y)?;
+    }
+    Ok(())
+}
+
+/// Adds the lines of arms.
+pub(crate) fn add_lines(rects: &mut Vec<Rect>, grid: &Grid, lanes: &[Lane]) -> Result<(), NoMemory>
+    requires { IsChain grid.now.knots.items }
+    ensures { OnOk result (rects.new.items ≡ rects.old.items ++ spec.lines (places_of grid.now) lanes.now) }
+{
+    for i in 0..lanes.len() {
+        let lane = &lanes[i];
+        add_lines_in(rects, grid, grid.line(lane.pick), &lane.steps)?;
+    }
+    Ok(())
+}
+
+// Returns the name of an arm, before its line.
+fn name_of(alloc: Global, names: &Names, grid: &Grid, lane: &Lane) -> Result<Label, NoMemory>
+    ensures { IfOk result (λ l. text_of l ≡ spec.name_of_lane (names_view names.now) (places_of grid.now) lane.now) }
+{
+    let text = arm_text(alloc, names, lane.pick)?;
+    Ok(Label {
+        kind: LabelKind::Name,
+        x: MARGIN,
+        y: grid.line(lane.pick) + TRACK,
+        text,
+    })
+}
+
+/// Adds the names of the arms that are ever live.
+pub(crate) fn add_names(
+    alloc: Global,
+    names: &Names,
+    grid: &Grid,
+    lanes: &[Lane],
+    labels: &mut Vec<Label>,
+) -> Result<(), NoMemory>
+    ensures { OnOk result (map text_of labels.new.items ≡
+        map text_of labels.old.items ++ spec.lane_names (names_view names.now) (places_of grid.now) lanes.now) }
+{
+    for i in 0..lanes.len() {
+        let lane = &lanes[i];
+        if is_ever_live(lane) {
+            let name = name_of(alloc, names, grid, lane)?;
+            labels.push(name)?;
+        }
+    }
+    Ok(())
+}

@@ -1,0 +1,99 @@
+//! Where each shape of a picture is.
+
+ghost use Rattle.std.specs.Prelude.{◌≡◌, ◌≤◌, ◌+◌, All, IfOk, length, map};
+ghost use Rattle.pb_base.specs.Lines.{HasNames, names_view};
+ghost use Rattle.pb_draw_picture.specs.Axis.{IsChain};
+ghost use Rattle.pb_draw_picture.specs.Pictures as spec;
+ghost use Rattle.pb_draw_picture.specs.Places.{places_of};
+ghost use Rattle.pb_draw_picture.specs.Shapes.{text_of};
+
+use crate::curves::{add_curve_texts, add_curves};
+use crate::grid::{Grid, grid_of};
+use crate::grounds::{add_notes, gaps_of, silents_of};
+use crate::holds::{add_bundles, add_holds};
+use crate::lanes::{add_lines, add_names};
+use crate::marks::{add_numbers, marks_of};
+use crate::sizes::{BOTTOM, CURVE_ROW, LOWEST, MIN_WIDTH, RIGHT};
+use pb_base::{Capital, Names, NoMemory};
+use pb_draw::drawing::Drawing;
+use pb_draw::picture::{Label, Picture, Rect};
+use std::alloc::Global;
+
+// Returns where the rows of the arms and of the resources end.
+fn foot_of_all(grid: &Grid, capital: &Capital, drawing: &Drawing) -> u64
+    requires bottom { grid.now.bottom ≤ LOWEST }
+    requires curves { length drawing.now.curves.items ≡ length capital.now }
+    ensures foot { result ≡ spec.foot_of_all (places_of grid.now) drawing.now }
+    ensures high { result ≤ LOWEST + 100000 }
+{
+    let _few = capital.resources();
+    grid.bottom + drawing.curves.len() as u64 * CURVE_ROW
+}
+
+// Returns the rectangles of a drawing.
+fn rects_of(
+    alloc: Global,
+    capital: &Capital,
+    grid: &Grid,
+    drawing: &Drawing,
+) -> Result<Vec<Rect>, NoMemory>
+    requires chain { IsChain grid.now.knots.items }
+    requires bottom { grid.now.bottom ≤ LOWEST }
+    requires curves { length drawing.now.curves.items ≡ length capital.now }
+    ensures { IfOk result (λ rects. spec.AreRects capital.now drawing.now (places_of grid.now) rects.items) }
+{
+    let foot = foot_of_all(grid, capital, drawing);
+    let mut rects = gaps_of(alloc, &grid.knots, foot)?;
+    add_lines(&mut rects, grid, &drawing.lanes)?;
+    add_holds(&mut rects, grid, &drawing.bars)?;
+    add_curves(&mut rects, grid, capital, &drawing.curves)?;
+    Ok(rects)
+}
+
+// Returns the texts of a drawing.
+fn labels_of(
+    alloc: Global,
+    names: &Names,
+    capital: &Capital,
+    grid: &Grid,
+    drawing: &Drawing,
+) -> Result<Vec<Label>, NoMemory>
+    requires chain { IsChain grid.now.knots.items }
+    requires bottom { grid.now.bottom ≤ LOWEST }
+    requires curves { length drawing.now.curves.items ≡ length capital.now }
+    ensures { IfOk result (λ labels.
+        spec.AreTexts (names_view names.now) capital.now drawing.now (places_of grid.now) (map text_of labels.items)) }
+{
+    let mut labels = silents_of(alloc, &grid.knots)?;
+    add_numbers(alloc, grid, &drawing.marks, &mut labels)?;
+    add_names(alloc, names, grid, &drawing.lanes, &mut labels)?;
+    add_bundles(alloc, names, grid, &drawing.bars, &mut labels)?;
+    add_curve_texts(alloc, names, grid, capital, &drawing.curves, &mut labels)?;
+    add_notes(alloc, foot_of_all(grid, capital, drawing), &mut labels)?;
+    Ok(labels)
+}
+
+/// Returns the picture of a drawing, with the names and the capital of its code.
+pub fn lay_out(
+    alloc: Global,
+    names: &Names,
+    capital: &Capital,
+    drawing: &Drawing,
+) -> Result<Picture, NoMemory>
+    requires named { All (λ m. HasNames (names_view names.now) m.event) drawing.now.marks.items }
+    requires curves { length drawing.now.curves.items ≡ length capital.now }
+    requires resources { length (names_view names.now).resources ≡ length capital.now }
+    ensures { IfOk result (spec.IsLayout (names_view names.now) capital.now drawing.now) }
+{
+    let grid = grid_of(alloc, names, drawing)?;
+    let rects = rects_of(alloc, capital, &grid, drawing)?;
+    let labels = labels_of(alloc, names, capital, &grid, drawing)?;
+    let ticks = marks_of(alloc, names, &grid, &drawing.marks)?;
+    Ok(Picture {
+        width: (grid.right() + RIGHT).max(MIN_WIDTH),
+        height: foot_of_all(&grid, capital, drawing) + BOTTOM,
+        rects,
+        labels,
+        ticks,
+    })
+}

@@ -1,0 +1,109 @@
+//! The marks of events, and the numbers of their picks.
+
+ghost use Rattle.std.specs.Prelude.{◌≡◌, ◌≤◌, ◌++◌, ◌+◌, ◌^◌, [], All, IfOk, OnOk, length, map};
+ghost use Rattle.pb_base.specs.Lines.{HasNames, names_view};
+ghost use Rattle.pb_draw_picture.specs.Axis.{IsChain};
+ghost use Rattle.pb_draw_picture.specs.Marks as spec;
+ghost use Rattle.pb_draw_picture.specs.Places.{places_of};
+ghost use Rattle.pb_draw_picture.specs.Shapes.{sign_of, text_of};
+ghost use Rattle.std.specs.Fmt.{decimal};
+
+use crate::captions::{label_of, number_text};
+use crate::grid::Grid;
+use crate::sizes::{LABEL_LEFT, LABEL_UP, MIDDLE, NUMBER_Y};
+use pb_base::{Event, Names, NoMemory, event_line};
+use pb_draw::drawing::Mark;
+use pb_draw::picture::{Label, LabelKind, Tick, TickKind};
+use std::alloc::Global;
+
+// Returns what an event is.
+fn kind_of(event: &Event) -> TickKind
+    ensures { result ≡ spec.kind_of event.now }
+{
+    match event {
+        Event::Granted { .. } => TickKind::Grant,
+        Event::Returned { .. } => TickKind::Return,
+        Event::Printed { .. } => TickKind::Print,
+        Event::Faulted { .. } => TickKind::Fault,
+        Event::Finished { .. } => TickKind::End,
+    }
+}
+
+// Returns the mark of an event at a place.
+fn mark_at(alloc: Global, names: &Names, x: u64, y: u64, event: &Event) -> Result<Tick, NoMemory>
+    requires { HasNames (names_view names.now) event.now }
+    ensures { IfOk result (λ t. sign_of t ≡ spec.sign_at (names_view names.now) x y event.now) }
+{
+    let title = event_line(alloc, names, event)?;
+    let label = label_of(alloc, names, event)?;
+    Ok(Tick {
+        kind: kind_of(event),
+        x,
+        y,
+        title,
+        label,
+        label_x: x.saturating_sub(LABEL_LEFT),
+        label_y: y.saturating_sub(LABEL_UP),
+    })
+}
+
+// Returns the position behind the pick of a mark.
+fn behind(mark: &Mark) -> u64
+    ensures { result ≡ mark.now.at + 1 }
+{
+    u64::from(mark.at) + 1
+}
+
+/// Returns the marks of events.
+pub(crate) fn marks_of(
+    alloc: Global,
+    names: &Names,
+    grid: &Grid,
+    marks: &[Mark],
+) -> Result<Vec<Tick>, NoMemory>
+    requires chain { IsChain grid.now.knots.items }
+    requires named { All (λ m. HasNames (names_view names.now) m.event) marks.now }
+    ensures { IfOk result (λ ticks. map sign_of ticks.items ≡ spec.signs (names_view names.now) (places_of grid.now) marks.now) }
+{
+    let mut ticks = Vec::new(alloc);
+    for i in 0..marks.len() {
+        let mark = &marks[i];
+        let x = grid.x(behind(mark));
+        let y = grid.line(mark.pick) + MIDDLE;
+        let tick = mark_at(alloc, names, x, y, &mark.event)?;
+        ticks.push(tick)?;
+    }
+    Ok(ticks)
+}
+
+// Returns the number of a pick at a place.
+fn number_at(alloc: Global, x: u64, number: u32) -> Result<Label, NoMemory>
+    ensures { IfOk result (λ l. text_of l ≡ record { kind = LabelKind.Number; x = x; y = NUMBER_Y; text = decimal number }) }
+{
+    let text = number_text(alloc, u64::from(number), b"")?;
+    Ok(Label {
+        kind: LabelKind::Number,
+        x,
+        y: NUMBER_Y,
+        text,
+    })
+}
+
+/// Adds the numbers of the picks that show events.
+pub(crate) fn add_numbers(
+    alloc: Global,
+    grid: &Grid,
+    marks: &[Mark],
+    labels: &mut Vec<Label>,
+) -> Result<(), NoMemory>
+    requires { IsChain grid.now.knots.items }
+    ensures { OnOk result (map text_of labels.new.items ≡
+        map text_of labels.old.items ++ spec.numbers (places_of grid.now) marks.now) }
+{
+    for i in 0..marks.len() {
+        let mark = &marks[i];
+        let number = number_at(alloc, grid.x(behind(mark)), mark.at)?;
+        labels.push(number)?;
+    }
+    Ok(())
+}

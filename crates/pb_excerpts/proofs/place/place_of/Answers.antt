@@ -1,4 +1,0 @@
-use Rattle.pb_excerpts.proofs.place.place_of.Goals as goal
-
-pub returns : goal.returns
-returns c = search

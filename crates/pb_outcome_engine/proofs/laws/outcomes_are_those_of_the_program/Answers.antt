@@ -1,5 +1,0 @@
-use Rattle.pb_outcome_engine.proofs.SourceOutcomeLemmas.{outcomes_are_those_of_the_program}
-use Rattle.pb_outcome_engine.proofs.laws.outcomes_are_those_of_the_program.Goals as goal
-
-pub returns : goal.returns
-returns c = outcomes_are_those_of_the_program

@@ -1,4 +1,0 @@
-use Rattle.pb_schedule.proofs.choice.Chooser.new.Goals as goal
-
-pub returns : goal.returns
-returns c = search depth 0

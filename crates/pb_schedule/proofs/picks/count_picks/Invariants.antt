@@ -1,6 +1,0 @@
-use Rattle.pb_picks.specs.Counted.{AreApart}
-use Rattle.pb_schedule.proofs.SpanLemmas.{AreCounted}
-use Rattle.pb_schedule.proofs.picks.count_picks.Given as goal
-
-abbrev pub invariant-loop-i : goal.invariant-loop-i
-invariant-loop-i l = AreCounted l.picks.items l.trace.entries l.i × AreApart l.picks.items

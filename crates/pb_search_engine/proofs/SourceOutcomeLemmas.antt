@@ -1,0 +1,164 @@
+-- The outcomes of code are those of its program.
+use Rattle.std.proofs.Common.{◌≡◌, ◌↔◌, ◌⊎◌, inl, inr, ℤ, Bool, true, false, List, [], ◌∷◌, map, Option, Some}
+use Rattle.std.proofs.Common.{None, refl, sym, ap, ◌∙◌, subst}
+use Rattle.std.specs.Prelude.{Contains, is_none, slice_index_or}
+use Rattle.std.proofs.lemmas.List.Elements.{All-contains, All-map}
+use Rattle.pb_base.specs.Steppers.{Bank, State, Table, IsFinished, opening}
+use Rattle.pb_names.specs.Program.{AllWellNumbered, Process, Program}
+use Rattle.pb_names.specs.Resolves.{resource_names}
+use Rattle.pb_names.specs.Source.{Arm, Doing, Ended, SourceProcess, Waiting, source_over, source_process, source_step}
+use Rattle.pb_code.specs.Code.{Thread, CodeProcess, Live, code_over, code_process, code_step, thread}
+use Rattle.pb_code.specs.Whole.{Code}
+use Rattle.pb_codegen.specs.Correct.{generated}
+use Rattle.pb_generator.specs.Generate.{program_code}
+use Rattle.pb_codegen.specs.SourceBehaviour.{bank_with}
+use Rattle.pb_codegen.proofs.SimulationBack.{followed}
+use Rattle.pb_codegen.proofs.SimulationPlaces.{listing_of}
+use Rattle.pb_codegen.proofs.SimulationProcesses.{Alike, RunAlike}
+use Rattle.pb_codegen.proofs.SimulationRuns.{AllAlike, AtProcess, StatesAlike, absent, at_process, opening_alike}
+use Rattle.pb_codegen.proofs.SimulationRuns.{present, shadowed}
+use Rattle.pb_codegen.proofs.VerifiedProcesses.{well_numbered}
+use Rattle.pb_codegen.proofs.SimulationListings.{Listing}
+use Rattle.pb_search_stages.specs.Reaching.{ProcessOutcome, process_outcome}
+use Rattle.pb_search.specs.Outcomes.{AreOutcomes, Found}
+use Rattle.pb_search_stages.specs.declared.lending.Lending.TheVariants.{ByBanker}
+use Rattle.pb_search_engine.specs.SourceOutcomes.{IsOutcomeOfCode, IsOutcomeOfProgram, OutcomesAreThoseOfTheProgram}
+use Rattle.pb_search_engine.specs.SourceOutcomes.{source_outcome}
+use Rattle.pb_search_stages.proofs.ReachedByBanker.{come, make}
+
+-- ---- states that are alike: the same outcome, and both are endings or neither is
+
+module _ (listing : Listing) (cp : CodeProcess) (sp : SourceProcess) where
+  run_faulted : (run : Option Arm) → RunAlike listing cp.threads cp.faulted run → cp.faulted ≡ is_none run
+  run_faulted None h = h.0
+  run_faulted (Some arm) h = h.0
+
+  same_process : Alike listing cp sp → process_outcome cp ≡ source_outcome sp
+  same_process h =
+      let integers = h.vars in
+      let faulted = run_faulted sp.run h.run in
+      ap (λ (v : List ℤ). record { integers = v; faulted = cp.faulted }) integers
+      ∙ ap (λ (f : Bool). record { integers = sp.vars; faulted = f }) faulted
+
+  over_as : (run : Option Arm) → RunAlike listing cp.threads cp.faulted run
+      → (cp.faulted ≡ true) ⊎ (thread cp.threads 0 ≡ Thread.Ended) ↔ (run ≡ None) ⊎ (run ≡ Some Ended)
+  over_as None h = (λ o. inl refl, λ o. inl h.0)
+  over_as (Some (Doing items)) h = (
+    elim [
+      | inl f ↦ (let w : false ≡ true = sym h.0 ∙ f in cc)
+      | inr t ↦ (let w : Thread.Ended ≡ Live h.2.0 h.2.1 = sym t ∙ h.2.2 in cc)
+    ],
+    elim [ inl n ↦ cc | inr n ↦ cc ],
+  )
+  over_as (Some (Waiting line first arms rest)) h = (
+    elim [
+      | inl f ↦ (let w : false ≡ true = sym h.0 ∙ f in cc)
+      | inr t ↦ (let w : Thread.Ended ≡ Live h.2.0 [] = sym t ∙ h.2.1 in cc)
+    ],
+    elim [ inl n ↦ cc | inr n ↦ cc ],
+  )
+  over_as (Some Ended) h = (λ o. inr refl, λ o. inr h.2.0)
+
+same_outcomes : (program : List Process) (cps : List CodeProcess) (sps : List SourceProcess)
+    → AllAlike program cps sps → map process_outcome cps ≡ map source_outcome sps
+same_outcomes [] [] [] h = refl
+same_outcomes (process ∷ program) (cp ∷ cps) (sp ∷ sps) h =
+    ap (λ (o : ProcessOutcome). o ∷ map process_outcome cps) (same_process (listing_of process) cp sp h.0)
+    ∙ ap (λ (os : List ProcessOutcome). source_outcome sp ∷ os) (same_outcomes program cps sps h.1)
+same_outcomes [] [] (sp ∷ sps) h = elim h [ ]
+same_outcomes [] (cp ∷ cps) [] h = elim h [ ]
+same_outcomes [] (cp ∷ cps) (sp ∷ sps) h = elim h [ ]
+same_outcomes (process ∷ program) [] [] h = elim h [ ]
+same_outcomes (process ∷ program) [] (sp ∷ sps) h = elim h [ ]
+same_outcomes (process ∷ program) (cp ∷ cps) [] h = elim h [ ]
+
+module _ (program : List Process) (cs : State CodeProcess) (ss : State SourceProcess) (h : StatesAlike program cs ss) where
+  source_finished : IsFinished code_over cs → IsFinished source_over ss
+  source_finished f p sp in_source = go (at_process program cs.processes ss.processes h.processes p)
+    where
+      go : AtProcess program cs.processes ss.processes p → source_over sp
+      go (absent c s) = let w : None ≡ Some sp = sym s ∙ in_source in cc
+      go (present process cp sp' in_program at c s alike change keep) =
+          let e : Some sp' ≡ Some sp = sym s ∙ in_source in
+          let e' : sp' ≡ sp = cc in
+          subst source_over e' ((over_as (listing_of process) cp sp' sp'.run alike.run).0 (f p cp c))
+
+  code_finished : IsFinished source_over ss → IsFinished code_over cs
+  code_finished f p cp in_code = go (at_process program cs.processes ss.processes h.processes p)
+    where
+      go : AtProcess program cs.processes ss.processes p → code_over cp
+      go (absent c s) = let w : None ≡ Some cp = sym c ∙ in_code in cc
+      go (present process cp' sp in_program at c s alike change keep) =
+          let e : Some cp' ≡ Some cp = sym c ∙ in_code in
+          let e' : cp' ≡ cp = cc in
+          subst code_over e' ((over_as (listing_of process) cp' sp sp.run alike.run).1 (f p sp s))
+
+-- ---- the outcomes of a program's code
+
+module _ (program : Program) (claims : Table) (numbered : AllWellNumbered program.processes) (outcome : List ProcessOutcome) where
+  abbrev bank : Bank
+  bank = bank_with program claims
+
+  abbrev code_opens : State CodeProcess
+  code_opens = opening bank (map code_process (generated program.processes))
+
+  abbrev source_opens : State SourceProcess
+  source_opens = opening bank (map source_process program.processes)
+
+  to_program : IsOutcomeOfCode (program_code program claims) outcome → IsOutcomeOfProgram program claims outcome
+  to_program is =
+      let end = is.1 in
+      let made = make bank (code_step (generated program.processes)) code_opens end is.0 is.2.0 in
+      let s = shadowed bank program.processes code_opens source_opens is.0 made.0 end
+      (opening_alike bank program.processes numbered) made.1 in (
+        _,
+        s.last,
+        (come bank source_step source_opens s.last _ made.0 s.makes, source_finished program.processes end s.last s.alike is.2.1),
+        is.3 ∙ same_outcomes program.processes end.processes s.last.processes s.alike.processes,
+      )
+
+  to_code : IsOutcomeOfProgram program claims outcome → IsOutcomeOfCode (program_code program claims) outcome
+  to_code is =
+      let end = is.1 in
+      let made = make bank source_step source_opens end is.0 is.2.0 in
+      let f = followed bank program.processes code_opens source_opens is.0 made.0 end
+      (opening_alike bank program.processes numbered) made.1 in (
+        f.code_picks,
+        f.last,
+        (
+          come bank (code_step (generated program.processes)) code_opens f.last f.code_picks made.0 f.makes,
+          code_finished program.processes f.last end f.alike is.2.1,
+        ),
+        is.3 ∙ sym (same_outcomes program.processes f.last.processes end.processes f.alike.processes),
+      )
+
+  same_outcome : IsOutcomeOfCode (program_code program claims) outcome ↔ IsOutcomeOfProgram program claims outcome
+  same_outcome = (to_program, to_code)
+
+-- ---- a list of outcomes
+
+listed_is : (code : Code) (found : List Found) → AreOutcomes ByBanker code found → (outcome : List ProcessOutcome)
+    → Contains (map (λ f. f.outcome) found) outcome ↔ IsOutcomeOfCode code outcome
+listed_is code found are outcome = (
+  All-contains (IsOutcomeOfCode code) (map (λ f. f.outcome) found) outcome
+      (All-map (IsOutcomeOfCode code) (λ (f : Found). f.outcome) found
+      (λ k d within. let e = are.each k d within in ((slice_index_or found k d).picks, e.0, e.1, e.2))),
+  λ is. subst (Contains (map (λ f. f.outcome) found)) (sym is.3) (are.none_missing is.0 is.1 is.2),
+)
+
+pub outcomes_are_those_of_the_program : OutcomesAreThoseOfTheProgram
+outcomes_are_those_of_the_program text code labels is =
+    let program = is.program in
+    let arms = well_numbered (resource_names program) is.numbered.tree.processes program.processes is.numbered.numbered.processes in
+    let same : (outcome : List ProcessOutcome) → IsOutcomeOfCode code outcome ↔ IsOutcomeOfProgram program code.claims outcome =
+    λ outcome. subst (λ c. IsOutcomeOfCode c outcome ↔ IsOutcomeOfProgram program code.claims outcome) (sym is.generated)
+    (same_outcome program code.claims arms outcome) in (
+      program,
+      is.numbered,
+      record {
+        same = same;
+        listed = λ found are outcome.
+            let l = listed_is code found are outcome in
+            (λ has. (same outcome).0 (l.0 has), λ is. l.1 ((same outcome).1 is));
+      },
+    )

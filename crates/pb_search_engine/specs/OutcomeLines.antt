@@ -1,0 +1,82 @@
+-- The lines of outcomes.
+use Rattle.std.specs.Prelude.{◌≡◌, ℕ, zero, suc, ◌+◌, ℤ, pos, Bool, true, false, List, [], ◌∷◌, ◌++◌, length, codes}
+use Rattle.std.specs.Prelude.{slice_index_or}
+use Rattle.std.specs.Fmt.{decimal, signed_decimal}
+use Rattle.pb_base.specs.declared.pick.Pick.{Pick}
+use Rattle.pb_base.specs.Lines.{NameTable, name_of, each_below, line}
+use Rattle.pb_code.specs.Whole.{ProcessLabels}
+use Rattle.pb_search_stages.specs.Reaching.{ProcessOutcome}
+use Rattle.pb_search.specs.Outcomes.{Found}
+use Rattle.pb_history.specs.Replays.{spread}
+use Rattle.pb_history.specs.declared.counted.CountedPick.{CountedPick}
+use Rattle.pb_picks.specs.Counted.{AreApart}
+use Rattle.pb_picks.specs.PickLines.{pick_lines}
+
+-- the integers of a process have these names
+abbrev pub integer_names : List ProcessLabels → ℕ → List (List ℕ)
+integer_names labels p = (slice_index_or labels p (record { lines = []; integers = [] })).integers
+
+-- how a process ended
+abbrev pub outcome_at : List ProcessOutcome → ℕ → ProcessOutcome
+outcome_at outcome p = slice_index_or outcome p (record { integers = []; faulted = false })
+
+abbrev pub end_text : Bool → List ℕ
+end_text true = codes " faulted"
+end_text false = codes " ended"
+
+-- `P.x V`: an integer of a process
+abbrev pub integer_line : List ℕ → List ℕ → ℤ → List ℕ
+integer_line process name value = line (process ++ codes "." ++ name ++ codes " " ++ signed_decimal value)
+
+-- a line for each integer of a process, by their names
+abbrev pub integer_lines : List ℕ → List (List ℕ) → List ℤ → List ℕ
+integer_lines process names values =
+    each_below (λ x. integer_line process (name_of names x) (slice_index_or values x (pos 0))) (length values)
+
+-- how a process ended, and then its integers
+abbrev pub outcome_lines_of : List ℕ → List (List ℕ) → ProcessOutcome → List ℕ
+outcome_lines_of name integers outcome =
+    line (name ++ end_text outcome.faulted) ++ integer_lines name integers outcome.integers
+
+-- so of each process, by their names and those of their integers
+abbrev pub end_lines : List (List ℕ) → List ProcessLabels → List ProcessOutcome → List ℕ
+end_lines names labels outcome =
+    each_below (λ p. outcome_lines_of (name_of names p) (integer_names labels p) (outcome_at outcome p)) (length outcome)
+
+-- an outcome with its number, and picks that lead to it
+abbrev pub outcome_lines : NameTable → List ProcessLabels → ℕ → List ProcessOutcome → List CountedPick → List ℕ
+outcome_lines names labels number outcome picks =
+    line (codes "outcome " ++ decimal number) ++ end_lines names.processes labels outcome
+    ++ line (codes "reached by") ++ pick_lines names.processes picks
+
+-- counted picks that say these picks, each count as great as can be
+pub record AreCounted (picks : List Pick) (counted : List CountedPick) : Type 0 where
+  pub same : spread counted ≡ picks
+  pub apart : AreApart counted
+
+-- the lines of outcomes, numbered from 1, each with the picks by which it was found
+pub data AreOutcomeLines (names : NameTable) (labels : List ProcessLabels) : List Found → List ℕ → Type 0 where
+  none : AreOutcomeLines names labels [] []
+  one_more : (found : List Found) (lines : List ℕ) (f : Found) (picks : List CountedPick)
+      → AreOutcomeLines names labels found lines → AreCounted f.picks picks
+      → AreOutcomeLines names labels (found ++ f ∷ [])
+      (lines ++ outcome_lines names labels (length found + 1) f.outcome picks)
+
+-- how many deadlocks there are, if there are some
+abbrev pub deadlocks_text : ℕ → List ℕ
+deadlocks_text zero = []
+deadlocks_text (suc n) = codes ", " ++ decimal (suc n) ++ codes " deadlocks"
+
+-- how the last line ends, by whether some run never ends
+abbrev pub runs_text : Bool → List ℕ
+runs_text true = codes ", some runs do not end"
+runs_text false = []
+
+-- the last line: how many outcomes and deadlocks there are, and whether some run never ends
+abbrev pub all_line : (outcomes deadlocks : ℕ) → Bool → List ℕ
+all_line outcomes deadlocks cycles =
+    line (codes "all " ++ decimal outcomes ++ codes " outcomes" ++ deadlocks_text deadlocks ++ runs_text cycles)
+
+-- the only line, if more configurations than these are reached
+abbrev pub excess_line : ℕ → List ℕ
+excess_line states = line (codes "more than " ++ decimal states ++ codes " configurations")

@@ -1,0 +1,186 @@
+//! The lines of deadlocks.
+
+ghost use Rattle.std.specs.Prelude.{◌≡◌, ◌++◌, All, IfOk, OnOk, map};
+ghost use Rattle.std.specs.List.{flat_map};
+ghost use Rattle.pb_base.specs.Lines.{HasProcess, names_view, pair_text, pairs_text, line};
+ghost use Rattle.pb_code.specs.View.{labels_view, process_labels_view};
+ghost use Rattle.pb_search_engine.specs.DeadlockLines.{AreDeadlockLines, all_stuck_lines, ask_line, deadlock_lines};
+ghost use Rattle.pb_search_engine.specs.DeadlockLines.{hold_line, hold_lines, state_text, stuck_lines};
+ghost use Rattle.pb_search_engine.specs.Showing.{HaveProcesses};
+ghost use Rattle.pb_search.specs.Deadlocks.{deadlock_view, stuck_view};
+
+use crate::counts::count_picks;
+use crate::lines::{put_head, put_integers, put_number};
+use crate::names::{integers_at, name_at};
+use pb_base::{Bundle, Names, NoMemory, Pair};
+use pb_code::{Labels, ProcessLabels};
+use pb_history::CountedPick;
+use pb_picks::write_picks;
+use pb_search::{Ask, Deadlock, StuckProcess, StuckState};
+use std::alloc::Global;
+
+/// Returns the lines of these deadlocks, each with its picks.
+pub fn deadlocks_text(
+    alloc: Global,
+    names: &Names,
+    labels: &Labels,
+    deadlocks: &[Deadlock],
+) -> Result<Vec<u8>, NoMemory>
+    requires { All (λ d. HaveProcesses (names_view names.now) d.picks.items) deadlocks.now }
+    ensures { IfOk result (λ text.
+        AreDeadlockLines (names_view names.now) (labels_view labels.now) (map deadlock_view deadlocks.now) text.items) }
+{
+    let mut text = Vec::new(alloc);
+    for i in 0..deadlocks.len() {
+        let one = &deadlocks[i];
+        let picks = count_picks(alloc, &one.picks)?;
+        put_deadlock(&mut text, names, labels, i + 1, one, &picks)?;
+    }
+    Ok(text)
+}
+
+// Puts the lines of a deadlock with this number behind a text, reached by these picks.
+fn put_deadlock(
+    text: &mut Vec<u8>,
+    names: &Names,
+    labels: &Labels,
+    number: usize,
+    deadlock: &Deadlock,
+    picks: &[CountedPick],
+) -> Result<(), NoMemory>
+    requires { All (λ c. HasProcess (names_view names.now) c.pick.process) picks.now }
+    ensures { OnOk result (text.new.items ≡ text.old.items
+        ++ deadlock_lines (names_view names.now) (labels_view labels.now) number (deadlock_view deadlock.now).processes picks.now) }
+{
+    put_head(text, b"deadlock ", number)?;
+    put_stuck(text, names, &labels.processes, &deadlock.processes)?;
+    text.extend_from_slice(b"reached by\n")?;
+    write_picks(text, names, picks)?;
+    Ok(())
+}
+
+// Puts where each process is in a deadlock behind a text.
+fn put_stuck(
+    text: &mut Vec<u8>,
+    names: &Names,
+    labels: &[ProcessLabels],
+    processes: &[StuckProcess],
+) -> Result<(), NoMemory>
+    ensures { OnOk result (text.new.items ≡ text.old.items
+        ++ all_stuck_lines (names_view names.now) (map process_labels_view labels.now) (map stuck_view processes.now)) }
+{
+    for p in 0..processes.len() {
+        let name = name_at(&names.processes, p);
+        put_process(text, names, name, integers_at(labels, p), &processes[p])?;
+    }
+    Ok(())
+}
+
+// Puts where a process is in a deadlock behind a text, its integers, what it holds and what its arms ask for.
+fn put_process(
+    text: &mut Vec<u8>,
+    names: &Names,
+    name: &[u8],
+    integers: &[Vec<u8>],
+    process: &StuckProcess,
+) -> Result<(), NoMemory>
+    ensures { OnOk result (text.new.items ≡ text.old.items
+        ++ stuck_lines (names_view names.now) name.now (map (λ name. name.items) integers.now) (stuck_view process.now)) }
+{
+    put_state(text, name, process.state)?;
+    put_integers(text, name, integers, &process.integers)?;
+    put_holds(text, names, name, &process.holds)?;
+    put_asks(text, names, name, &process.asks)
+}
+
+// Puts the line that says where a process is behind a text.
+fn put_state(text: &mut Vec<u8>, name: &[u8], state: StuckState) -> Result<(), NoMemory>
+    ensures { OnOk result (text.new.items ≡ text.old.items ++ line (name.now ++ state_text state)) }
+{
+    text.extend_from_slice(name)?;
+    match state {
+        StuckState::Ended => text.extend_from_slice(b" ended\n")?,
+        StuckState::Faulted => text.extend_from_slice(b" faulted\n")?,
+        StuckState::Waiting => text.extend_from_slice(b" waits\n")?,
+    }
+    Ok(())
+}
+
+// Puts the lines of what a process holds behind a text.
+fn put_holds(
+    text: &mut Vec<u8>,
+    names: &Names,
+    process: &[u8],
+    holds: &[u32],
+) -> Result<(), NoMemory>
+    ensures { OnOk result (text.new.items ≡ text.old.items ++ hold_lines (names_view names.now) process.now holds.now) }
+{
+    for r in 0..holds.len() {
+        put_hold(text, names, process, r, holds[r])?;
+    }
+    Ok(())
+}
+
+// Puts the line of what a process holds of a resource behind a text, if it holds some.
+fn put_hold(
+    text: &mut Vec<u8>,
+    names: &Names,
+    process: &[u8],
+    resource: usize,
+    amount: u32,
+) -> Result<(), NoMemory>
+    ensures { OnOk result (text.new.items ≡ text.old.items ++ hold_line (names_view names.now) process.now resource amount) }
+{
+    if amount > 0 {
+        text.extend_from_slice(process)?;
+        text.extend_from_slice(b" holds")?;
+        put_pair(text, names, resource, amount)?;
+        text.push(b'\n')?;
+    }
+    Ok(())
+}
+
+// Puts the lines of what the arms of a process ask for behind a text.
+fn put_asks(text: &mut Vec<u8>, names: &Names, process: &[u8], asks: &[Ask]) -> Result<(), NoMemory>
+    ensures { OnOk result (text.new.items
+        ≡ text.old.items ++ flat_map (ask_line (names_view names.now) process.now) asks.now) }
+{
+    for i in 0..asks.len() {
+        put_ask(text, names, process, &asks[i])?;
+    }
+    Ok(())
+}
+
+// Puts the line of what an arm asks for behind a text.
+fn put_ask(text: &mut Vec<u8>, names: &Names, process: &[u8], ask: &Ask) -> Result<(), NoMemory>
+    ensures { OnOk result (text.new.items ≡ text.old.items ++ ask_line (names_view names.now) process.now ask.now) }
+{
+    text.extend_from_slice(process)?;
+    put_number(text, b".", ask.arm)?;
+    text.extend_from_slice(b" asks")?;
+    put_pairs(text, names, &ask.bundle)?;
+    text.push(b'\n')?;
+    Ok(())
+}
+
+// Puts the pairs of a bundle behind a text.
+fn put_pairs(text: &mut Vec<u8>, names: &Names, bundle: &Bundle) -> Result<(), NoMemory>
+    ensures { OnOk result (text.new.items ≡ text.old.items ++ pairs_text (names_view names.now) bundle.now) }
+{
+    for i in 0..bundle.len() {
+        let pair = bundle.get(i);
+        put_pair(text, names, pair.resource as usize, pair.amount)?;
+    }
+    Ok(())
+}
+
+// Puts an amount and the name of its resource behind a text.
+fn put_pair(text: &mut Vec<u8>, names: &Names, resource: usize, amount: u32) -> Result<(), NoMemory>
+    ensures { OnOk result (text.new.items
+        ≡ text.old.items ++ pair_text (names_view names.now) (record { resource = resource; amount = amount })) }
+{
+    put_number(text, b" ", amount)?;
+    text.push(b' ')?;
+    text.extend_from_slice(name_at(&names.resources, resource))?;
+    Ok(())
+}

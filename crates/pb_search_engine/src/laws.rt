@@ -1,0 +1,9 @@
+//! The law of what outcomes say of a program, as the contract of a function that does nothing.
+
+ghost use Rattle.pb_search_engine.specs.SourceOutcomes.{OutcomesAreThoseOfTheProgram};
+
+/// The outcomes of the code of a text, with the integers and the faults of its processes, are those of the
+/// program of the text: a list of all that the code has is a list of all that the program has.
+pub fn outcomes_are_those_of_the_program()
+    ensures { OutcomesAreThoseOfTheProgram }
+{}

@@ -1,8 +1,0 @@
-use Rattle.std.proofs.Common.{subst}
-use Rattle.pb_text_engines.specs.Refusals.{IsRefusal}
-use Rattle.pb_text_engines.proofs.AcceptLemmas.{reply_refuses}
-use Rattle.pb_text_engines.proofs.accept.refusal_reply.Goals as goal
-
-pub returns-in-Line : goal.returns-in-Line
-returns-in-Line c text is =
-    reply_refuses c.refused.result text c.in-Line.line.items c.refused.ensures (subst (IsRefusal text) c.in-Line.is is)

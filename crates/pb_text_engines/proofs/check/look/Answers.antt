@@ -1,5 +1,0 @@
-use Rattle.pb_text_engines.proofs.AcceptLemmas.{compiled_is_accepted}
-use Rattle.pb_text_engines.proofs.check.look.Goals as goal
-
-pub returns-in-Ok-clause-accepted : goal.returns-in-Ok-clause-accepted
-returns-in-Ok-clause-accepted g c = compiled_is_accepted _ _ _ c.in-Ok.ensures.compiled

@@ -1,8 +1,0 @@
-use Rattle.pb_text_engines.specs.Loading.{SaysOfNoCode, refused}
-use Rattle.pb_text_engines.proofs.LoadLemmas.{of_refusal}
-use Rattle.pb_text_engines.proofs.load.load_refusal.Goals as goal
-
-pub returns : goal.returns
-returns c bytes is =
-    of_refusal c.refused.result c.in_ok-text.text.items (SaysOfNoCode bytes)
-    (refused c.args.fault is c.in_ok-text.text.items c.in_ok-text.ensures) c.refused.ensures

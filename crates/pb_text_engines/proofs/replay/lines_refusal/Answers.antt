@@ -1,8 +1,0 @@
-use Rattle.pb_text_engines.specs.ReplayLines.{SaysOfNoPicks, refused}
-use Rattle.pb_text_engines.proofs.LoadLemmas.{of_refusal}
-use Rattle.pb_text_engines.proofs.replay.lines_refusal.Goals as goal
-
-pub returns : goal.returns
-returns c code lines is =
-    of_refusal c.refused.result c.in_ok-text.text.items (SaysOfNoPicks code lines)
-    (refused c.args.fault is c.in_ok-text.text.items c.in_ok-text.ensures) c.refused.ensures
