@@ -17,6 +17,7 @@ pub mod operators;
 pub mod pair;
 pub mod pick;
 pub mod step;
+pub mod writing;
 
 pub use arithmetic::{apply, apply_unary};
 pub use bundle::Bundle;

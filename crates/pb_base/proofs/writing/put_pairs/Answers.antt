@@ -3,7 +3,7 @@ use Rattle.std.proofs.lemmas.List.{take_more, flat_map_more}
 use Rattle.std.proofs.lemmas.Option.{slice_get_within, get_or_from_slice_get}
 use Rattle.pb_base.specs.declared.pair.Pair.{Pair}
 use Rattle.pb_base.specs.Lines.{NameTable, names_view, pair_text, pairs_text}
-use Rattle.pb_base.proofs.lines.put_pairs.Goals as goal
+use Rattle.pb_base.proofs.writing.put_pairs.Goals as goal
 
 -- the text of the pairs up to one more
 pairs_text-more : (names : NameTable) (pairs : List Pair) (i : ℕ) (pair : Pair)
@@ -22,7 +22,7 @@ pub loop-i-preserved : goal.loop-i-preserved
 loop-i-preserved c =
     let more =
     pairs_text-more (names_view c.args.names.now) c.args.bundle.now c.loop-i.i c.get.result c.get.ensures
-    c.args.line.now.items
+    c.args.out.now.items
     in
     search (rules, more, c.loop-i.invariant, c.in_ok-put_pair.ensures)
 
