@@ -9,10 +9,10 @@ ghost use Rattle.pb_names.specs.View.{resolved_view};
 ghost use Rattle.pb_command_io.specs.Faults.{TellsFaults, TellsWriteFaults};
 
 use crate::accept::{Refusal, analyze_text};
-use crate::refusal::put_number;
 use bumpalo::Bump;
 use pb_base::device::{Input, Output};
 use pb_base::limits::MAX_INPUT;
+use pb_base::writing::put_number;
 use pb_base::{Claims, NoMemory};
 use pb_command_io::Status;
 use pb_command_io::input::read_input;

@@ -6,6 +6,7 @@ ghost use Rattle.pb_accept.specs.ReplayLines.{picks_line, stop_line};
 ghost use Rattle.pb_accept.specs.Refusals.{at_place, claims_line, kind_line, lex_line, names_line, object_line, parse_line, verify_line};
 
 use pb_base::NoMemory;
+use pb_base::writing::put_number;
 use pb_codegen::ClaimsFault;
 use pb_history::ReplayFault;
 use pb_lexer::LexFault;
@@ -77,16 +78,6 @@ pub fn names_text(alloc: Global, fault: NameFault) -> Result<Vec<u8>, NoMemory>
         NameFault::Repeated(at) => at_text(alloc, b"refused N6", at),
         NameFault::NoMemory => Err(NoMemory),
     }
-}
-
-/// Puts a text and a number behind a text.
-pub fn put_number(text: &mut Vec<u8>, before: &[u8], number: u64) -> Result<(), NoMemory>
-    ensures { OnOk result (text.new.items ≡ text.old.items ++ before.now ++ decimal number) }
-{
-    let mut digits = itoa::Buffer::new();
-    text.extend_from_slice(before)?;
-    text.extend_from_slice(digits.format(number).as_bytes())?;
-    Ok(())
 }
 
 /// Returns the line of a claim that is over its capital, without a line feed.

@@ -15,8 +15,8 @@ use pb_base::NoMemory;
 use pb_debug_commands::{ArmWord, Command, IntegerWord, StopWord, read_command};
 use pb_debug_positions::search::{Watch, line_of_arm};
 use pb_debug_texts::text::{
-    put_at, put_event, put_help, put_line, put_loans, put_never, put_no_event, put_not_reached,
-    put_threads, put_vars, put_why, put_wrote,
+    put_at, put_event, put_help, put_loans, put_never, put_no_event, put_not_reached,
+    put_source_line, put_threads, put_vars, put_why, put_wrote,
 };
 use pb_debug_texts::{put_source, put_who};
 
@@ -206,7 +206,7 @@ impl<'c> Debugger<'c> {
             return put_refusal(text, DebugFault::NoProcess);
         };
         match self.line(p, word.arm as usize) {
-            Ok(line) => put_line(text, line),
+            Ok(line) => put_source_line(text, line),
             Err(_) => put_refusal(text, DebugFault::NoArm),
         }
     }

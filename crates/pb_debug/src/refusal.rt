@@ -5,7 +5,7 @@ ghost use Rattle.pb_debug.specs.Refusals.{IsCommandRefusal, refusal_text};
 
 use crate::fault::DebugFault;
 use pb_base::NoMemory;
-use pb_debug_texts::text::put;
+use pb_base::writing::put;
 
 /// Puts the line of a refusal of a command behind a text.
 pub(crate) fn put_refusal(text: &mut Vec<u8>, fault: DebugFault) -> Result<(), NoMemory>

@@ -3,8 +3,9 @@
 ghost use Rattle.std.specs.Prelude.{◌≡◌, ◌++◌, OnOk, option_map};
 ghost use Rattle.pb_debug_texts.specs.Texts as said;
 
-use crate::text::{end_name, put, put_line, put_number};
+use crate::text::{end_name, put_source_line};
 use pb_base::NoMemory;
+use pb_base::writing::{put, put_number};
 use pb_debug_commands::line_numbered;
 
 // Puts the line that says that there is no text behind a text.
@@ -27,7 +28,7 @@ pub fn put_source(
         return put_no_text(text);
     };
     let Some(number) = line else {
-        return put_line(text, None);
+        return put_source_line(text, None);
     };
     let Some(shown) = line_numbered(source, number) else {
         return put_no_text(text);

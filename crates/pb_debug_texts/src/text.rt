@@ -2,47 +2,18 @@
 
 ghost use Rattle.std.specs.Prelude.{◌≡◌, ◌<◌, ◌≤◌, ◌++◌, ℕ, length, map, codes, OnOk, All};
 ghost use Rattle.pb_base.specs.Banker.{processes, resources, claim, loan, cash};
-ghost use Rattle.pb_base.specs.Lines.{HasNames, each_below, names_view, name_of, pick_text};
+ghost use Rattle.pb_base.specs.Lines.{HasNames, each_below, names_view, name_of};
 ghost use Rattle.pb_debug_texts.specs.Texts as said;
 ghost use Rattle.pb_debug_texts.specs.Texts.{HasNamesOf};
 ghost use Rattle.pb_machine.specs.Views.{proc_view, thread_view};
 
 use crate::why::Why;
-use itoa::{Buffer, Integer};
+use itoa::Integer;
 use pb_banker::Banker;
+use pb_base::writing::{put, put_line, put_name, put_number, put_pick};
 use pb_base::{Event, Names, NoMemory, Pick, event_line};
 use pb_machine::{Proc, Thread, ThreadState};
 use std::alloc::Global;
-
-/// Puts words and a number behind a text.
-pub(crate) fn put_number<I: Integer>(
-    text: &mut Vec<u8>,
-    words: &[u8],
-    number: I,
-) -> Result<(), NoMemory>
-    ensures { OnOk result (text.new.items ≡ text.old.items ++ (words.now ++ I.text number)) }
-{
-    let mut digits = Buffer::new();
-    text.extend_from_slice(words)?;
-    text.extend_from_slice(digits.format(number).as_bytes())?;
-    Ok(())
-}
-
-/// Puts words behind a text.
-pub fn put(text: &mut Vec<u8>, words: &[u8]) -> Result<(), NoMemory>
-    ensures { OnOk result (text.new.items ≡ text.old.items ++ words.now) }
-{
-    text.extend_from_slice(words)?;
-    Ok(())
-}
-
-// Puts words behind a text, and ends its line.
-fn end_words(text: &mut Vec<u8>, words: &[u8]) -> Result<(), NoMemory>
-    ensures { OnOk result (text.new.items ≡ text.old.items ++ said.line words.now) }
-{
-    put(text, words)?;
-    put(text, b"\n")
-}
 
 // Puts words and a number behind a text, and ends its line.
 fn end_number<I: Integer>(text: &mut Vec<u8>, words: &[u8], number: I) -> Result<(), NoMemory>
@@ -50,14 +21,6 @@ fn end_number<I: Integer>(text: &mut Vec<u8>, words: &[u8], number: I) -> Result
 {
     put_number(text, words, number)?;
     put(text, b"\n")
-}
-
-/// Puts words and a name behind a text.
-pub(crate) fn put_name(text: &mut Vec<u8>, words: &[u8], name: &[u8]) -> Result<(), NoMemory>
-    ensures { OnOk result (text.new.items ≡ text.old.items ++ (words.now ++ name.now)) }
-{
-    put(text, words)?;
-    put(text, name)
 }
 
 /// Puts words and a name behind a text, and ends its line.
@@ -99,15 +62,6 @@ pub fn put_no_event(text: &mut Vec<u8>) -> Result<(), NoMemory>
     put(text, b"no event\n")
 }
 
-// Puts the name of an arm behind a text.
-fn put_pick(text: &mut Vec<u8>, names: &Names, pick: Pick) -> Result<(), NoMemory>
-    requires { pick.process < length (names_view names.now).processes }
-    ensures { OnOk result (text.new.items ≡ text.old.items ++ pick_text (names_view names.now) pick) }
-{
-    put(text, &names.processes[usize::from(pick.process)])?;
-    put_number(text, b".", pick.arm)
-}
-
 /// Puts the line of a pick, the position just after it, and the line of its arm before it behind a text.
 pub fn put_wrote(
     text: &mut Vec<u8>,
@@ -125,7 +79,7 @@ pub fn put_wrote(
     put_pick(text, names, pick)?;
     match line {
         Some(line) => end_number(text, b" line ", line),
-        None => end_words(text, b" line none"),
+        None => put_line(text, b" line none"),
     }
 }
 
@@ -181,8 +135,8 @@ fn put_thread(text: &mut Vec<u8>, arm: usize, thread: &Thread) -> Result<(), NoM
     match thread.place() {
         Some(place) => end_number(text, b" at ", place),
         None => match thread.state() {
-            ThreadState::Ended => end_words(text, b" ended"),
-            ThreadState::Idle | ThreadState::Live => end_words(text, b" idle"),
+            ThreadState::Ended => put_line(text, b" ended"),
+            ThreadState::Idle | ThreadState::Live => put_line(text, b" idle"),
         },
     }
 }
@@ -276,13 +230,13 @@ pub fn put_loans(text: &mut Vec<u8>, names: &Names, banker: &Banker) -> Result<(
     put_all_cash(text, names, banker)
 }
 
-/// Puts the line of a source line behind a text.
-pub fn put_line(text: &mut Vec<u8>, line: Option<u32>) -> Result<(), NoMemory>
+/// Appends the line that tells a source line.
+pub fn put_source_line(text: &mut Vec<u8>, line: Option<u32>) -> Result<(), NoMemory>
     ensures { OnOk result (text.new.items ≡ text.old.items ++ said.line_text line) }
 {
     match line {
         Some(line) => end_number(text, b"line ", line),
-        None => end_words(text, b"line none"),
+        None => put_line(text, b"line none"),
     }
 }
 

@@ -10,9 +10,10 @@ ghost use Rattle.pb_debug_texts.specs.Asking.{NamesBundles};
 ghost use Rattle.pb_debug_texts.specs.Resources as said;
 ghost use Rattle.pb_machine.specs.Views.{machine_view, proc_view, thread_view};
 
-use crate::text::{end_name, put, put_cash, put_loan, put_number};
+use crate::text::{end_name, put_cash, put_loan};
 use crate::why::asked;
 use pb_banker::Banker;
+use pb_base::writing::{put, put_number};
 use pb_base::{Bundle, Names, NoMemory, Pair};
 use pb_code::{Code, ProcessCode};
 use pb_machine::{Machine, Proc, Thread};

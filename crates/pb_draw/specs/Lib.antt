@@ -4,5 +4,4 @@ pub mod Curves
 pub mod Drawings
 pub mod Lanes
 pub mod Marks
-pub mod Svg
 pub mod Walks

@@ -1,4 +1,4 @@
-//! What runs show over their picks, the shapes of pictures, and pictures written as SVG.
+//! What runs show over their picks: events, holds, the state of each arm, and the cash of each resource.
 #![tactic(auto)]
 
 mod bars;
@@ -6,11 +6,6 @@ mod cash;
 pub mod drawing;
 mod lanes;
 mod marks;
-pub mod picture;
-mod svg;
-pub mod texts;
 mod walk;
 
 pub use drawing::{Drawing, draw};
-pub use picture::Picture;
-pub use svg::write_svg;

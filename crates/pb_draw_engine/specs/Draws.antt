@@ -6,9 +6,9 @@ use Rattle.pb_code.specs.Whole.{Code, ProcessLabels}
 use Rattle.pb_codegen.specs.Compiled.{IsCompiled}
 use Rattle.pb_draw.specs.Drawings.{IsDrawing}
 use Rattle.pb_draw_picture.specs.Pictures.{IsLayout}
-use Rattle.pb_draw.specs.Svg.{svg}
+use Rattle.pb_draw_picture.specs.Svg.{svg}
 use Rattle.pb_draw.specs.declared.drawing.Drawing.{Drawing}
-use Rattle.pb_draw.specs.declared.picture.Picture.{Picture}
+use Rattle.pb_draw_picture.specs.declared.picture.Picture.{Picture}
 use Rattle.pb_base.specs.Lines.{line}
 use Rattle.pb_command_io.specs.Answers.{memory_line}
 use Rattle.pb_command_io.specs.Parts.{AreTwoParts}

@@ -4,9 +4,9 @@ use Rattle.std.specs.Fmt.{decimal}
 use Rattle.pb_base.specs.Lines.{NameTable}
 use Rattle.pb_draw.specs.declared.drawing.CashCurve.{CashCurve}
 use Rattle.pb_draw.specs.declared.drawing.CashStep.{CashStep}
-use Rattle.pb_draw.specs.declared.picture.LabelKind.TheVariants.{Amount, Name}
-use Rattle.pb_draw.specs.declared.picture.Rect.{Rect}
-use Rattle.pb_draw.specs.declared.picture.RectKind.TheVariants.{Cash, Level}
+use Rattle.pb_draw_picture.specs.declared.picture.LabelKind.TheVariants.{Amount, Name}
+use Rattle.pb_draw_picture.specs.declared.picture.Rect.{Rect}
+use Rattle.pb_draw_picture.specs.declared.picture.RectKind.TheVariants.{Cash, Level}
 use Rattle.pb_draw_picture.specs.Places.{Places, end_of}
 use Rattle.pb_draw_picture.specs.Shapes.{Text, rect_to}
 use Rattle.pb_draw_picture.specs.Texts.{resource_text}

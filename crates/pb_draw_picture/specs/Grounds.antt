@@ -1,8 +1,8 @@
 -- The grounds of the stretches that are shortened, and what is said below a picture.
 use Rattle.std.specs.Prelude.{◌≡◌, ℕ, ◌+◌, List, [], ◌∷◌, All}
-use Rattle.pb_draw.specs.declared.picture.LabelKind.TheVariants.{Note, Silent}
-use Rattle.pb_draw.specs.declared.picture.Rect.{Rect}
-use Rattle.pb_draw.specs.declared.picture.RectKind.TheVariants.{Gap}
+use Rattle.pb_draw_picture.specs.declared.picture.LabelKind.TheVariants.{Note, Silent}
+use Rattle.pb_draw_picture.specs.declared.picture.Rect.{Rect}
+use Rattle.pb_draw_picture.specs.declared.picture.RectKind.TheVariants.{Gap}
 use Rattle.pb_draw_picture.specs.Shapes.{Text}
 use Rattle.pb_draw_picture.specs.declared.grounds.TheConstants.{NOTE, OTHER_NOTE}
 use Rattle.pb_draw_picture.specs.declared.sizes.TheConstants.{MARGIN, NOTE_DOWN, OTHER_NOTE_DOWN}

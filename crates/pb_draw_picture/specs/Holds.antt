@@ -2,9 +2,9 @@
 use Rattle.std.specs.Prelude.{ℕ, ◌+◌, List, [], ◌∷◌, Option, Some, None}
 use Rattle.pb_base.specs.Lines.{NameTable}
 use Rattle.pb_draw.specs.declared.drawing.Bar.{Bar}
-use Rattle.pb_draw.specs.declared.picture.LabelKind.TheVariants.{Bundle}
-use Rattle.pb_draw.specs.declared.picture.Rect.{Rect}
-use Rattle.pb_draw.specs.declared.picture.RectKind.TheVariants.{Hold}
+use Rattle.pb_draw_picture.specs.declared.picture.LabelKind.TheVariants.{Bundle}
+use Rattle.pb_draw_picture.specs.declared.picture.Rect.{Rect}
+use Rattle.pb_draw_picture.specs.declared.picture.RectKind.TheVariants.{Hold}
 use Rattle.pb_draw_picture.specs.Places.{Places, end_of, hold_y}
 use Rattle.pb_draw_picture.specs.Shapes.{Text, rect_to}
 use Rattle.pb_draw_picture.specs.Texts.{bundle_text}

@@ -6,9 +6,9 @@ use Rattle.pb_draw.specs.declared.drawing.Lane.{Lane}
 use Rattle.pb_draw.specs.declared.drawing.LaneStep.{LaneStep}
 use Rattle.pb_draw.specs.declared.drawing.Standing.{Standing}
 use Rattle.pb_draw.specs.declared.drawing.Standing.TheVariants.{Away, Going, Waiting}
-use Rattle.pb_draw.specs.declared.picture.LabelKind.TheVariants.{Name}
-use Rattle.pb_draw.specs.declared.picture.Rect.{Rect}
-use Rattle.pb_draw.specs.declared.picture.RectKind.TheVariants as line
+use Rattle.pb_draw_picture.specs.declared.picture.LabelKind.TheVariants.{Name}
+use Rattle.pb_draw_picture.specs.declared.picture.Rect.{Rect}
+use Rattle.pb_draw_picture.specs.declared.picture.RectKind.TheVariants as line
 use Rattle.pb_draw_picture.specs.Places.{Places, end_of}
 use Rattle.pb_draw_picture.specs.Shapes.{Text, if_wide, rect_to}
 use Rattle.pb_draw_picture.specs.declared.sizes.TheConstants.{MARGIN, TRACK}

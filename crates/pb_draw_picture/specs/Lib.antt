@@ -7,4 +7,5 @@ pub mod Marks
 pub mod Pictures
 pub mod Places
 pub mod Shapes
+pub mod Svg
 pub mod Texts

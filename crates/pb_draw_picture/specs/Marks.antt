@@ -5,9 +5,9 @@ use Rattle.pb_base.specs.Lines.{NameTable, line_of}
 use Rattle.pb_base.specs.declared.event.Event.{Event}
 use Rattle.pb_base.specs.declared.event.Event.TheVariants.{Granted, Returned, Printed, Faulted, Finished}
 use Rattle.pb_draw.specs.declared.drawing.Mark.{Mark}
-use Rattle.pb_draw.specs.declared.picture.LabelKind.TheVariants.{Number}
-use Rattle.pb_draw.specs.declared.picture.TickKind.{TickKind}
-use Rattle.pb_draw.specs.declared.picture.TickKind.TheVariants.{Grant, Return, Print, Fault, End}
+use Rattle.pb_draw_picture.specs.declared.picture.LabelKind.TheVariants.{Number}
+use Rattle.pb_draw_picture.specs.declared.picture.TickKind.{TickKind}
+use Rattle.pb_draw_picture.specs.declared.picture.TickKind.TheVariants.{Grant, Return, Print, Fault, End}
 use Rattle.pb_draw_picture.specs.Places.{Places}
 use Rattle.pb_draw_picture.specs.Shapes.{Sign, Text}
 use Rattle.pb_draw_picture.specs.Texts.{label_of}

@@ -2,8 +2,8 @@
 use Rattle.std.specs.Prelude.{◌≡◌, ℕ, ◌+◌, ◌*◌, max, List, ◌++◌, length, map}
 use Rattle.pb_base.specs.Lines.{NameTable}
 use Rattle.pb_draw.specs.declared.drawing.Drawing.{Drawing}
-use Rattle.pb_draw.specs.declared.picture.Picture.{Picture}
-use Rattle.pb_draw.specs.declared.picture.Rect.{Rect}
+use Rattle.pb_draw_picture.specs.declared.picture.Picture.{Picture}
+use Rattle.pb_draw_picture.specs.declared.picture.Rect.{Rect}
 use Rattle.pb_draw_picture.specs.Axis.{IsAxis}
 use Rattle.pb_draw_picture.specs.Curves.{curve_texts_from, curves_from}
 use Rattle.pb_draw_picture.specs.Grounds.{AreGaps, AreSilents, notes}

@@ -1,11 +1,11 @@
 -- Shapes as they are seen: with their texts as bytes.
 use Rattle.std.specs.Prelude.{ℕ, ◌-◌, nat_lt, cond, List, [], ◌∷◌}
-use Rattle.pb_draw.specs.declared.picture.Label.{Label}
-use Rattle.pb_draw.specs.declared.picture.LabelKind.{LabelKind}
-use Rattle.pb_draw.specs.declared.picture.Rect.{Rect}
-use Rattle.pb_draw.specs.declared.picture.RectKind.{RectKind}
-use Rattle.pb_draw.specs.declared.picture.Tick.{Tick}
-use Rattle.pb_draw.specs.declared.picture.TickKind.{TickKind}
+use Rattle.pb_draw_picture.specs.declared.picture.Label.{Label}
+use Rattle.pb_draw_picture.specs.declared.picture.LabelKind.{LabelKind}
+use Rattle.pb_draw_picture.specs.declared.picture.Rect.{Rect}
+use Rattle.pb_draw_picture.specs.declared.picture.RectKind.{RectKind}
+use Rattle.pb_draw_picture.specs.declared.picture.Tick.{Tick}
+use Rattle.pb_draw_picture.specs.declared.picture.TickKind.{TickKind}
 
 -- a text at a place
 pub record Text : Type 0 where

@@ -5,8 +5,8 @@ ghost use Rattle.std.specs.Fmt.{decimal};
 ghost use Rattle.pb_base.specs.Lines.{fault_text, name_of, names_view, pair_text, pairs_text, pick_text};
 ghost use Rattle.pb_draw_picture.specs.Texts as spec;
 
+use pb_base::writing::{put, put_number};
 use pb_base::{Bundle, Event, FaultKind, Names, NoMemory, Pair, Pick};
-use pb_draw::texts::{put, put_number};
 use std::alloc::Global;
 
 /// Returns a number as text, with words behind it.

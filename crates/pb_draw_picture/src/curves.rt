@@ -9,11 +9,11 @@ ghost use Rattle.pb_draw_picture.specs.Shapes.{text_of};
 
 use crate::captions::{number_text, resource_text};
 use crate::grid::Grid;
+use crate::picture::{Label, LabelKind, Rect, RectKind};
 use crate::shapes::rect_to;
 use crate::sizes::{AMOUNT_RIGHT, AMOUNT_UP, CURVE, CURVE_ROW, LEVEL, LEVEL_UP, LOWEST, MARGIN};
 use pb_base::{Capital, Names, NoMemory};
 use pb_draw::drawing::{CashCurve, CashStep};
-use pb_draw::picture::{Label, LabelKind, Rect, RectKind};
 use std::alloc::Global;
 
 // Returns how high an amount is drawn.

@@ -6,10 +6,10 @@ ghost use Rattle.pb_draw_picture.specs.Shapes.{text_of};
 
 use crate::captions::number_text;
 use crate::knot::Knot;
+use crate::picture::{Label, LabelKind, Rect, RectKind};
 use crate::shapes::rect_to;
 use crate::sizes::{GAP_TEXT, GAP_TOP, MARGIN, MAX_SILENT, NOTE_DOWN, OTHER_NOTE_DOWN};
 use pb_base::NoMemory;
-use pb_draw::picture::{Label, LabelKind, Rect, RectKind};
 use std::alloc::Global;
 
 /// What is said below a picture.

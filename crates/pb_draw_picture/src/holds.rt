@@ -9,11 +9,11 @@ ghost use Rattle.pb_draw_picture.specs.Shapes.{text_of};
 
 use crate::captions::bundle_text;
 use crate::grid::Grid;
+use crate::picture::{Label, LabelKind, Rect, RectKind};
 use crate::shapes::rect_to;
 use crate::sizes::{BAR, BUNDLE_DOWN, BUNDLE_RIGHT};
 use pb_base::{Names, NoMemory};
 use pb_draw::drawing::Bar;
-use pb_draw::picture::{Label, LabelKind, Rect, RectKind};
 use std::alloc::Global;
 
 // Returns the position behind a pick, if there is one.

@@ -9,12 +9,12 @@ ghost use Rattle.pb_draw_picture.specs.Shapes.{if_wide, rect_to, text_of};
 
 use crate::captions::arm_text;
 use crate::grid::Grid;
+use crate::picture::{Label, LabelKind, Rect, RectKind};
 use crate::rows::is_ever_live;
 use crate::shapes::{add_if_wide, rect_to};
 use crate::sizes::{MARGIN, TRACK};
 use pb_base::{Names, NoMemory};
 use pb_draw::drawing::{Lane, LaneStep, Standing};
-use pb_draw::picture::{Label, LabelKind, Rect, RectKind};
 use std::alloc::Global;
 
 // Adds the line of an arm in a state; it has none unless it is live.

@@ -13,10 +13,10 @@ use crate::grounds::{add_notes, gaps_of, silents_of};
 use crate::holds::{add_bundles, add_holds};
 use crate::lanes::{add_lines, add_names};
 use crate::marks::{add_numbers, marks_of};
+use crate::picture::{Label, Picture, Rect};
 use crate::sizes::{BOTTOM, CURVE_ROW, LOWEST, MIN_WIDTH, RIGHT};
 use pb_base::{Capital, Names, NoMemory};
 use pb_draw::drawing::Drawing;
-use pb_draw::picture::{Label, Picture, Rect};
 use std::alloc::Global;
 
 // Returns where the rows of the arms and of the resources end.

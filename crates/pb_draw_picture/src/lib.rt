@@ -1,4 +1,4 @@
-//! The layout of pictures: where each shape of a drawing is.
+//! The picture of what a run shows: its shapes, where each of them is, and the picture written as SVG.
 #![tactic(auto)]
 
 mod axis;
@@ -11,8 +11,12 @@ mod knot;
 mod lanes;
 pub mod layout;
 mod marks;
+pub mod picture;
 mod rows;
 mod shapes;
 mod sizes;
+mod svg;
 
 pub use layout::lay_out;
+pub use picture::Picture;
+pub use svg::write_svg;

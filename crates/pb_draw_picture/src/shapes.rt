@@ -3,8 +3,8 @@
 ghost use Rattle.std.specs.Prelude.{◌≡◌, ◌++◌, OnOk};
 ghost use Rattle.pb_draw_picture.specs.Shapes as spec;
 
+use crate::picture::{Rect, RectKind};
 use pb_base::NoMemory;
-use pb_draw::picture::{Rect, RectKind};
 
 /// Returns the rectangle from one place to another.
 pub(crate) fn rect_to(kind: RectKind, x: u64, to: u64, y: u64, height: u64) -> Rect

@@ -6,6 +6,7 @@ ghost use Rattle.pb_message_excerpts.specs.Places.{IsPlace, arrow_line, bar_line
 
 use crate::place::{Place, place_of};
 use pb_base::NoMemory;
+use pb_base::writing::put_digits;
 use std::alloc::Global;
 
 // The most bytes that are shown of a line on each side of a place.
@@ -67,18 +68,10 @@ fn put_arrow(out: &mut Vec<u8>, label: &[u8], place: &Place) -> Result<(), NoMem
     out.extend_from_slice(b"--> ")?;
     out.extend_from_slice(label)?;
     out.extend_from_slice(b"line ")?;
-    put_number(out, place.line)?;
+    put_digits(out, place.line)?;
     out.extend_from_slice(b", column ")?;
-    put_number(out, place.column)?;
+    put_digits(out, place.column)?;
     out.push(b'\n')?;
-    Ok(())
-}
-
-fn put_number(out: &mut Vec<u8>, number: usize) -> Result<(), NoMemory>
-    ensures { OnOk result (out.new.items ≡ out.old.items ++ decimal number) }
-{
-    let mut digits = itoa::Buffer::new();
-    out.extend_from_slice(digits.format(number).as_bytes())?;
     Ok(())
 }
 
@@ -96,7 +89,7 @@ fn put_source(out: &mut Vec<u8>, text: &[u8], place: &Place) -> Result<(), NoMem
 {
     let from = place.at - WIDTH.min(place.at - place.begin);
     let to = place.at + WIDTH.min(place.end - place.at);
-    put_number(out, place.line)?;
+    put_digits(out, place.line)?;
     out.extend_from_slice(b" | ")?;
     put_printable(out, &text[from..to])?;
     out.push(b'\n')?;

@@ -8,32 +8,16 @@ ghost use Rattle.pb_object.specs.declared.format.Format.TheVariants.{One, Two};
 ghost use Rattle.pb_object.specs.Lines.{line_text};
 ghost use Rattle.pb_code.specs.View.{instr_view};
 
-use itoa::Buffer;
+use pb_base::writing::put_digits;
 use pb_base::{Bundle, NoMemory, Pair};
 use pb_code::Instr;
-
-pub(crate) fn put_number(out: &mut Vec<u8>, number: u64) -> Result<(), NoMemory>
-    ensures { OnOk result (out.new.items ≡ out.old.items ++ decimal number) }
-{
-    let mut digits = Buffer::new();
-    out.extend_from_slice(digits.format(number).as_bytes())?;
-    Ok(())
-}
-
-fn put_signed(out: &mut Vec<u8>, number: i64) -> Result<(), NoMemory>
-    ensures { OnOk result (out.new.items ≡ out.old.items ++ signed_decimal number) }
-{
-    let mut digits = Buffer::new();
-    out.extend_from_slice(digits.format(number).as_bytes())?;
-    Ok(())
-}
 
 /// Writes one more number of a line.
 pub(crate) fn put_next(out: &mut Vec<u8>, number: u64) -> Result<(), NoMemory>
     ensures { OnOk result (out.new.items ≡ out.old.items ++ 32 ∷ decimal number) }
 {
     out.push(b' ')?;
-    put_number(out, number)
+    put_digits(out, number)
 }
 
 /// Ends a line.
@@ -56,7 +40,7 @@ fn put_push(out: &mut Vec<u8>, value: i64) -> Result<(), NoMemory>
         ≡ out.old.items ++ join_with_byte 32 (codes "push" ∷ signed_decimal value ∷ [])) }
 {
     out.extend_from_slice(b"push ")?;
-    put_signed(out, value)
+    put_digits(out, value)
 }
 
 pub(crate) fn put_one(out: &mut Vec<u8>, keyword: &str, number: u64) -> Result<(), NoMemory>
@@ -191,7 +175,7 @@ pub(crate) fn put_lined_place(
     ensures { OnOk result (out.new.items
         ≡ out.old.items ++ line_text (decimal (line_number line) ∷ instr_words (instr_view bundles.now instr))) }
 {
-    put_number(out, number_of(line))?;
+    put_digits(out, number_of(line))?;
     out.push(b' ')?;
     put_place(out, bundles, instr)
 }

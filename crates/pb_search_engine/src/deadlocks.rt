@@ -10,8 +10,9 @@ ghost use Rattle.pb_search_engine.specs.Showing.{HaveProcesses};
 ghost use Rattle.pb_search.specs.Deadlocks.{deadlock_view, stuck_view};
 
 use crate::counts::count_picks;
-use crate::lines::{put_head, put_integers, put_number};
+use crate::lines::{put_head, put_integers};
 use crate::names::{integers_at, name_at};
+use pb_base::writing::put_number;
 use pb_base::{Bundle, Names, NoMemory, Pair};
 use pb_code::{Labels, ProcessLabels};
 use pb_history::CountedPick;

@@ -15,7 +15,7 @@ ghost use Rattle.pb_search.specs.Deadlocks.{deadlock_view};
 use crate::counts::count_picks;
 use crate::deadlocks::deadlocks_text;
 use crate::names::{integers_at, name_at};
-use itoa::{Buffer, Integer};
+use pb_base::writing::put_number;
 use pb_base::{Names, NoMemory};
 use pb_code::{Labels, ProcessLabels};
 use pb_history::CountedPick;
@@ -195,15 +195,5 @@ fn put_integer(text: &mut Vec<u8>, process: &[u8], name: &[u8], value: i64) -> R
     text.extend_from_slice(name)?;
     put_number(text, b" ", value)?;
     text.extend_from_slice(b"\n")?;
-    Ok(())
-}
-
-/// Puts words and a number behind a text.
-pub fn put_number<I: Integer>(text: &mut Vec<u8>, words: &[u8], number: I) -> Result<(), NoMemory>
-    ensures { OnOk result (text.new.items ≡ text.old.items ++ (words.now ++ I.text number)) }
-{
-    let mut digits = Buffer::new();
-    text.extend_from_slice(words)?;
-    text.extend_from_slice(digits.format(number).as_bytes())?;
     Ok(())
 }

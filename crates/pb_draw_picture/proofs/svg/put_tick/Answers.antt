@@ -1,6 +1,6 @@
 use Rattle.std.proofs.Common.{append_assoc}
-use Rattle.pb_draw.specs.Svg.{tick_text}
-use Rattle.pb_draw.proofs.svg.put_tick.Goals as goal
+use Rattle.pb_draw_picture.specs.Svg.{tick_text}
+use Rattle.pb_draw_picture.proofs.svg.put_tick.Goals as goal
 
 pub returns : goal.returns
 unfolding tick_text

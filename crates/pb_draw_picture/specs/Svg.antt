@@ -2,17 +2,17 @@
 use Rattle.std.specs.Prelude.{ℕ, List, ◌++◌, codes}
 use Rattle.std.specs.Fmt.{decimal}
 use Rattle.std.specs.List.{flat_map}
-use Rattle.pb_draw.specs.declared.svg.TheConstants.{STYLE}
-use Rattle.pb_draw.specs.declared.picture.LabelKind.{LabelKind}
-use Rattle.pb_draw.specs.declared.picture.LabelKind.TheVariants.{Name, Number, Silent, Bundle, Amount, Note}
-use Rattle.pb_draw.specs.declared.picture.RectKind.{RectKind}
-use Rattle.pb_draw.specs.declared.picture.RectKind.TheVariants.{Gap, Going, Waiting, Hold, Cash, Level}
-use Rattle.pb_draw.specs.declared.picture.TickKind.{TickKind}
-use Rattle.pb_draw.specs.declared.picture.TickKind.TheVariants.{Grant, Return, Print, Fault, End}
-use Rattle.pb_draw.specs.declared.picture.Label.{Label}
-use Rattle.pb_draw.specs.declared.picture.Picture.{Picture}
-use Rattle.pb_draw.specs.declared.picture.Rect.{Rect}
-use Rattle.pb_draw.specs.declared.picture.Tick.{Tick}
+use Rattle.pb_draw_picture.specs.declared.svg.TheConstants.{STYLE}
+use Rattle.pb_draw_picture.specs.declared.picture.LabelKind.{LabelKind}
+use Rattle.pb_draw_picture.specs.declared.picture.LabelKind.TheVariants.{Name, Number, Silent, Bundle, Amount, Note}
+use Rattle.pb_draw_picture.specs.declared.picture.RectKind.{RectKind}
+use Rattle.pb_draw_picture.specs.declared.picture.RectKind.TheVariants.{Gap, Going, Waiting, Hold, Cash, Level}
+use Rattle.pb_draw_picture.specs.declared.picture.TickKind.{TickKind}
+use Rattle.pb_draw_picture.specs.declared.picture.TickKind.TheVariants.{Grant, Return, Print, Fault, End}
+use Rattle.pb_draw_picture.specs.declared.picture.Label.{Label}
+use Rattle.pb_draw_picture.specs.declared.picture.Picture.{Picture}
+use Rattle.pb_draw_picture.specs.declared.picture.Rect.{Rect}
+use Rattle.pb_draw_picture.specs.declared.picture.Tick.{Tick}
 
 -- the word for what a rectangle stands for
 abbrev pub rect_word : RectKind → List ℕ

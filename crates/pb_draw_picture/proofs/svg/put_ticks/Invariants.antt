@@ -1,7 +1,7 @@
 use Rattle.std.proofs.Common.{◌≡◌, ◌++◌, take}
 use Rattle.std.specs.List.{flat_map}
-use Rattle.pb_draw.specs.Svg as spec
-use Rattle.pb_draw.proofs.svg.put_ticks.Given as goal
+use Rattle.pb_draw_picture.specs.Svg as spec
+use Rattle.pb_draw_picture.proofs.svg.put_ticks.Given as goal
 
 -- the shapes so far are in the text
 abbrev pub invariant-loop-i : goal.invariant-loop-i

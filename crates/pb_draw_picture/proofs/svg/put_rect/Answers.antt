@@ -1,15 +1,17 @@
 use Rattle.std.proofs.Common.{append_assoc}
-use Rattle.pb_draw.specs.Svg.{head_text}
-use Rattle.pb_draw.proofs.svg.put_head.Goals as goal
+use Rattle.pb_draw_picture.specs.Svg.{rect_text}
+use Rattle.pb_draw_picture.proofs.svg.put_rect.Goals as goal
 
 pub returns : goal.returns
-unfolding head_text
+unfolding rect_text
 returns c =
     rw (
-      c.in_ok-put.ensures,
-      c.style-looks.ensures,
+      c.in_ok-put-3.ensures,
       c.in_ok-put_number-4.ensures,
       c.in_ok-put_number-3.ensures,
       c.in_ok-put_number-2.ensures,
       c.in_ok-put_number.ensures,
+      c.in_ok-put-2.ensures,
+      c.rect_word-word.ensures,
+      c.in_ok-put.ensures,
     ) (simp append_assoc)

@@ -2,11 +2,11 @@
 
 ghost use Rattle.std.specs.Prelude.{◌≡◌, ◌++◌, IfOk, OnOk};
 ghost use Rattle.std.specs.List.{flat_map};
-ghost use Rattle.pb_draw.specs.Svg as spec;
+ghost use Rattle.pb_draw_picture.specs.Svg as spec;
 
 use crate::picture::{Label, LabelKind, Picture, Rect, RectKind, Tick, TickKind};
-use crate::texts::{put, put_number};
 use pb_base::NoMemory;
+use pb_base::writing::{put, put_number};
 use std::alloc::Global;
 
 // Returns the word for what a rectangle stands for.
