@@ -20,5 +20,5 @@ loop-k-preserved c =
     let within : c.from.result < length given = omega (arith, below, at, many) in
     let name : c.deref.result.now ≡ name_of names p =
     c.deref.ensures.value ∙ (sym (name_there given c.from.result c.index.result.now within c.index.ensures) ∙ ap (name_of names) at) in
-    each_next said k c.put.new.text.items here c.put_name.new.text.items c.loop-k.invariant
+    each_next said k c.put.new.out.items here c.put_name.new.out.items c.loop-k.invariant
     (c.in_ok-put_name.ensures ∙ ap (λ (n : List ℕ). here ++ (codes " " ++ n)) name)
