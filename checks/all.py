@@ -30,6 +30,7 @@ QUICK = (
     f"checks/pictures.py {PROGRAM}",
     "checks/example_tests.py",
     "checks/schedules.py",
+    "checks/rooms.py",
 )
 SETS = {"quick": QUICK}
 # A check of these that takes longer hangs; the first may have to build the program.

@@ -29,7 +29,7 @@ use Rattle.pb_object.proofs.Pairs.{pair_takes}
 pub decimal_same : (a b : ℕ) → a < 2 ^ 64 → b < 2 ^ 64 → decimal a ≡ decimal b → a ≡ b
 decimal_same a b sa sb e = sym (digits_value-decimal own a sa) ∙ ap (digits_value 10) e ∙ digits_value-decimal own b sb
 
-length_pair_words : (ps : List Pair) → length (pair_words ps) ≡ 2 * length ps
+pub length_pair_words : (ps : List Pair) → length (pair_words ps) ≡ 2 * length ps
 length_pair_words [] = refl
 length_pair_words (p ∷ ps) = (let e = length_pair_words ps in omega (arith, e))
 

@@ -3,7 +3,7 @@
 use Rattle.std.proofs.Common.{◌≡◌, ◌⊎◌, inl, inr, ℕ, zero, suc, ◌+◌, ◌<◌, ◌≤◌, Bool, true, false, not, eqb, ltb, List}
 use Rattle.std.proofs.Common.{[], ◌∷◌, ◌++◌, length, Some, None, Result, Ok, Err, refl, sym, ap, subst, ◌∙◌}
 use Rattle.std.proofs.Common.{append_assoc, arith}
-use Rattle.std.specs.List.{slice_split, position, position_or_len, prefix_len, list_all}
+use Rattle.std.specs.List.{slice_split, join_with_byte, position, position_or_len, prefix_len, list_all}
 use Rattle.std.proofs.lemmas.Bool.{eqb-true, le-ltb, lt-ltb}
 use Rattle.std.proofs.lemmas.List.{take_at, drop_at, append-nil, length-append, nil_from_length}
 use Rattle.pb_base.proofs.Cases.{both_true}
@@ -12,9 +12,12 @@ use Rattle.pb_object.specs.declared.fault.Fault.{Fault}
 use Rattle.pb_object.specs.declared.fault.Fault.TheVariants.{Malformed, Beyond}
 use Rattle.pb_object.specs.declared.words.Verdict.{Verdict}
 use Rattle.pb_object.specs.declared.words.Verdict.TheVariants as verdict
-use Rattle.pb_object.specs.FaultPlaces.{AreLines}
+use Rattle.pb_object.specs.FaultPlaces.{AreLines, is_one_line, words_of}
+use Rattle.pb_object.specs.Renumbered.{IsOfForm}
 use Rattle.pb_object.specs.Lines.{◌>>=◌, words_before, first_words, judged, line_by, many}
-use Rattle.pb_object.proofs.LineLemmas.{bind_ok, ok_is, prefix_whole}
+use Rattle.pb_object.proofs.LineKinds.{KeepsForm}
+use Rattle.pb_object.proofs.LineLemmas.{bind_ok, ok_is, prefix_whole, no_end, split_again}
+use Rattle.pb_object.proofs.Parts.{AreLine}
 
 abbrev pub left_of : Fault → ℕ
 left_of (Malformed n) = n
@@ -47,11 +50,35 @@ pub record Stopped {X : Type 0} (part : Reader X) (text : List ℕ) (f : Fault) 
   pub more : List ℕ
   pub goes_on : Says part x (done ++ more)
 
+-- A line beyond its range, with another one of its form that goes on.
+pub record Ranged {X : Type 0} (part : Reader X) (text : List ℕ) (left : ℕ) : Type 0 where
+  pub done : List ℕ
+  pub line : List ℕ
+  pub tail : List ℕ
+  pub whole : text ≡ done ++ (line ++ 10 ∷ tail)
+  pub size : left ≡ length (line ++ 10 ∷ tail)
+  pub one : is_one_line line ≡ true
+  pub other : List ℕ
+  pub one_other : is_one_line other ≡ true
+  pub of_form : IsOfForm (words_of other) (words_of line)
+  pub x : X
+  pub more : List ℕ
+  pub says : Says part x (done ++ (other ++ 10 ∷ more))
+
+-- no other line of the form of this one goes on here
+abbrev pub HasNoForm : {X : Type 0} → Reader X → List ℕ → List ℕ → Type 0
+HasNoForm {X} part done line =
+    (other more : List ℕ) (x : X) (rest : List ℕ) → is_one_line other ≡ true → IsOfForm (words_of other) (words_of line)
+    → part (done ++ (other ++ 10 ∷ more)) ≡ Ok (x, rest) → ⊥
+
 pub record IsExact {X : Type 0} (part : Reader X) : Type 0 where
   pub finds : (text : List ℕ) (x : X) (rest : List ℕ) → part text ≡ Ok (x, rest) → Found part text x rest
   pub stops : (text : List ℕ) (f : Fault) → part text ≡ Err f → Stopped part text f
   pub stays : (done line tail other : List ℕ) (f : Fault) → part (done ++ (line ++ 10 ∷ tail)) ≡ Err f
       → left_of f ≡ length (line ++ 10 ∷ tail) → (g : Fault) × (part (done ++ (line ++ 10 ∷ other)) ≡ Err g)
+  pub ranges : (text : List ℕ) (left : ℕ) → part text ≡ Err (Beyond left) → Ranged part text left
+  pub forms : (done line tail : List ℕ) (left : ℕ) → part (done ++ (line ++ 10 ∷ tail)) ≡ Err (Malformed left)
+      → left ≡ length (line ++ 10 ∷ tail) → is_one_line line ≡ true → HasNoForm part done line
 
 pub lines_join : (a b : List ℕ) → AreLines a → AreLines b → AreLines (a ++ b)
 lines_join a b (inl e) h = subst (λ (x : List ℕ). AreLines (x ++ b)) (sym e) h
@@ -200,8 +227,61 @@ line_stays {X} form text tail other f e =
           (g.0, ap (line_by form) two ∙ said_line form c.0 s c.3 ∙ g.1)
     ]
 
-pub line_exact : {X : Type 0} (form : List Word → Verdict X) → IsSayable (line_by form) → IsExact (line_by form)
-line_exact form sayable = record {
+judged_beyond : {X : Type 0} (n m : ℕ) (v : Verdict X) (r : List ℕ) → judged_with n v r ≡ Err (Beyond m) → (v ≡ verdict.Beyond) × (m ≡ n)
+judged_beyond {X} n m verdict.Malformed r e = absurd (let f = err_same {A = X × List ℕ} (Malformed n) (Beyond m) e in cc)
+judged_beyond {X} n m verdict.Beyond r e = (refl, err_left {A = X × List ℕ} (Beyond n) (Beyond m) e)
+judged_beyond {X} n m (verdict.Read y) r e = absurd cc
+
+judged_malformed : {X : Type 0} (n m : ℕ) (v : Verdict X) (r : List ℕ) → judged_with n v r ≡ Err (Malformed m) → v ≡ verdict.Malformed
+judged_malformed {X} n m verdict.Malformed r e = refl
+judged_malformed {X} n m verdict.Beyond r e = absurd (let f = err_same {A = X × List ℕ} (Beyond n) (Malformed m) e in cc)
+judged_malformed {X} n m (verdict.Read y) r e = absurd cc
+
+-- words that are a line are cut off again
+line_again : (ws : List Word) → AreLine ws → (is_one_line (join_with_byte 32 ws) ≡ true) × (words_of (join_with_byte 32 ws) ≡ ws)
+line_again [] h = absurd h
+line_again (w ∷ ws) h = (no_end w ws h, split_again w ws h)
+
+line_ranges : {X : Type 0} (form : List Word → Verdict X) → KeepsForm form → (text : List ℕ) (left : ℕ) → line_by form text ≡ Err (Beyond left)
+    → Ranged (line_by form) text left
+line_ranges {X} form keeps text left e =
+    elim (cut text) [
+      | inl clean ↦ absurd (let f = err_same {A = X × List ℕ} (Malformed (length text)) (Beyond left) (sym (lost_line form text clean) ∙ e) in cc)
+      | inr c ↦
+          let same : line_by form text ≡ judged_with (length (c.0 ++ 10 ∷ c.1)) (form (words_of c.0)) c.1 =
+          ap (line_by form) c.2 ∙ said_line form c.0 c.1 c.3 in
+          let j = judged_beyond (length (c.0 ++ 10 ∷ c.1)) left (form (words_of c.0)) c.1 (sym same ∙ e) in
+          let t = keeps.beyond (words_of c.0) j.0 in
+          let again = line_again t.1 t.3 in
+          let other = join_with_byte 32 t.1 in
+          record {
+            done = [];
+            line = c.0;
+            tail = c.1;
+            whole = c.2;
+            size = j.1;
+            one = c.3;
+            other = other;
+            one_other = again.0;
+            of_form = subst (λ (ws : List Word). IsOfForm ws (words_of c.0)) (sym again.1) t.4;
+            x = t.0;
+            more = [];
+            says = λ rest. ap (line_by form) (append_assoc other (10 ∷ []) rest) ∙ said_line form other rest again.0
+                ∙ rw (again.1, t.2) refl;
+          }
+    ]
+
+line_forms : {X : Type 0} (form : List Word → Verdict X) → KeepsForm form → (line tail : List ℕ) (left : ℕ)
+    → line_by form (line ++ 10 ∷ tail) ≡ Err (Malformed left) → is_one_line line ≡ true
+    → (other more : List ℕ) (x : X) (rest : List ℕ) → is_one_line other ≡ true → IsOfForm (words_of other) (words_of line)
+    → line_by form (other ++ 10 ∷ more) ≡ Ok (x, rest) → ⊥
+line_forms {X} form keeps line tail left e one other more x rest one_other of_form h =
+    let bad = judged_malformed (length (line ++ 10 ∷ tail)) left (form (words_of line)) tail (sym (said_line form line tail one) ∙ e) in
+    let good = judged_read (length (other ++ 10 ∷ more)) (form (words_of other)) more x rest (sym (said_line form other more one_other) ∙ h) in
+    keeps.formed (words_of other) (words_of line) x good.0 of_form bad
+
+pub line_exact : {X : Type 0} (form : List Word → Verdict X) → KeepsForm form → IsSayable (line_by form) → IsExact (line_by form)
+line_exact form keeps sayable = record {
   finds = line_finds form;
   stops = λ text f e. record {
     done = [];
@@ -218,6 +298,12 @@ line_exact form sayable = record {
       let nothing : done ≡ [] = nil_from_length done (omega (arith, all, left, length-append done (text ++ 10 ∷ tail))) in
       let g = line_stays form text tail other f (ap (λ (d : List ℕ). line_by form (d ++ (text ++ 10 ∷ tail))) (sym nothing) ∙ e) in
       (g.0, ap (λ (d : List ℕ). line_by form (d ++ (text ++ 10 ∷ other))) nothing ∙ g.1);
+  ranges = line_ranges form keeps;
+  forms = λ done line tail left e size one other more x rest one_other of_form h.
+      let all = line_left form (done ++ (line ++ 10 ∷ tail)) (Malformed left) e in
+      let nothing : done ≡ [] = nil_from_length done (omega (arith, all, size, length-append done (line ++ 10 ∷ tail))) in
+      line_forms form keeps line tail left (ap (λ (d : List ℕ). line_by form (d ++ (line ++ 10 ∷ tail))) (sym nothing) ∙ e) one
+      other more x rest one_other of_form (ap (λ (d : List ℕ). line_by form (d ++ (other ++ 10 ∷ more))) (sym nothing) ∙ h);
 }
 
 -- ---- one part after the other
@@ -280,7 +366,7 @@ stops_second first second is after text f x after_x h k =
     }
 
 -- the ends of a text that are as long are the same
-same_ends : (a b c d : List ℕ) → a ++ b ≡ c ++ d → length a ≡ length c → (a ≡ c) × (b ≡ d)
+pub same_ends : (a b c d : List ℕ) → a ++ b ≡ c ++ d → length a ≡ length c → (a ≡ c) × (b ≡ d)
 same_ends [] b [] d e h = (refl, e)
 same_ends [] b (x ∷ c) d e h = absurd (omega (arith, h))
 same_ends (y ∷ a) b [] d e h = absurd (omega (arith, h))
@@ -308,6 +394,72 @@ stays_second first second is after done text tail other f left x after_x h k =
     ap (λ (t : List ℕ). t ++ (text ++ 10 ∷ other)) ends.0 ∙ append_assoc a.said b.done (text ++ 10 ∷ other) in
     (g.0, ap (then_read first second) moved ∙ rw (a.says (b.done ++ (text ++ 10 ∷ other))) g.1)
 
+then_ranges : {X Y : Type 0} (first : Reader X) (second : X → Reader Y) → IsExact first → After first second
+    → (text : List ℕ) (left : ℕ) → (first text ≡ Err (Beyond left)) ⊎ ((x : X × List ℕ) × (first text ≡ Ok x) × (second x.0 x.1 ≡ Err (Beyond left)))
+    → Ranged (then_read first second) text left
+then_ranges first second is after text left (inl h) =
+    let a = is.ranges text left h in
+    let b = (after a.x (a.done ++ (a.other ++ 10 ∷ a.more)) a.says).1 in
+    let regrouped : (a.done ++ (a.other ++ 10 ∷ a.more)) ++ b.1 ≡ a.done ++ (a.other ++ 10 ∷ (a.more ++ b.1)) =
+    append_assoc a.done (a.other ++ 10 ∷ a.more) b.1 ∙ ap (λ (t : List ℕ). a.done ++ t) (append_assoc a.other (10 ∷ a.more) b.1) in
+    record {
+      done = a.done;
+      line = a.line;
+      tail = a.tail;
+      whole = a.whole;
+      size = a.size;
+      one = a.one;
+      other = a.other;
+      one_other = a.one_other;
+      of_form = a.of_form;
+      x = b.0;
+      more = a.more ++ b.1;
+      says = subst (λ (s : List ℕ). Says (then_read first second) b.0 s) regrouped
+          (both_say first second a.x b.0 (a.done ++ (a.other ++ 10 ∷ a.more)) b.1 a.says b.2);
+    }
+then_ranges first second is after text left (inr h) =
+    let a = is.finds text h.0.0 h.0.1 h.1 in
+    let b = (after h.0.0 a.said a.says).0.ranges h.0.1 left h.2 in
+    record {
+      done = a.said ++ b.done;
+      line = b.line;
+      tail = b.tail;
+      whole = a.whole ∙ ap (λ (t : List ℕ). a.said ++ t) b.whole ∙ sym (append_assoc a.said b.done (b.line ++ 10 ∷ b.tail));
+      size = b.size;
+      one = b.one;
+      other = b.other;
+      one_other = b.one_other;
+      of_form = b.of_form;
+      x = b.x;
+      more = b.more;
+      says = subst (λ (s : List ℕ). Says (then_read first second) b.x s) (sym (append_assoc a.said b.done (b.other ++ 10 ∷ b.more)))
+          (both_say first second h.0.0 b.x a.said (b.done ++ (b.other ++ 10 ∷ b.more)) a.says b.says);
+    }
+
+then_forms : {X Y : Type 0} (first : Reader X) (second : X → Reader Y) → IsExact first → After first second
+    → (done line tail : List ℕ) (left : ℕ)
+    → (first (done ++ (line ++ 10 ∷ tail)) ≡ Err (Malformed left)) ⊎ ((x : X × List ℕ) × (first (done ++ (line ++ 10 ∷ tail)) ≡ Ok x) × (second x.0 x.1 ≡ Err (Malformed left)))
+    → left ≡ length (line ++ 10 ∷ tail) → is_one_line line ≡ true → HasNoForm (then_read first second) done line
+then_forms first second is after done line tail left (inl h) size one other more y rest one_other of_form e =
+    let p = bind_ok (first (done ++ (other ++ 10 ∷ more))) (λ x. second x.0 x.1) (y, rest) e in
+    is.forms done line tail left h size one other more p.0.0 p.0.1 one_other of_form p.1
+then_forms first second is after done line tail left (inr h) size one other more y rest one_other of_form e =
+    let a = is.finds (done ++ (line ++ 10 ∷ tail)) h.0.0 h.0.1 h.1 in
+    let next = (after h.0.0 a.said a.says).0 in
+    let b = next.stops h.0.1 (Malformed left) h.2 in
+    let whole : done ++ (line ++ 10 ∷ tail) ≡ (a.said ++ b.done) ++ b.rest =
+    a.whole ∙ ap (λ (t : List ℕ). a.said ++ t) b.whole ∙ sym (append_assoc a.said b.done b.rest) in
+    let long : length (line ++ 10 ∷ tail) ≡ length b.rest = sym size ∙ b.left in
+    let even = ap (λ (t : List ℕ). length t) whole in
+    let ends = same_ends done (line ++ 10 ∷ tail) (a.said ++ b.done) b.rest whole
+    (omega (arith, long, even, length-append done (line ++ 10 ∷ tail), length-append (a.said ++ b.done) b.rest)) in
+    let here : h.0.1 ≡ b.done ++ (line ++ 10 ∷ tail) = b.whole ∙ ap (λ (t : List ℕ). b.done ++ t) (sym ends.1) in
+    let moved : done ++ (other ++ 10 ∷ more) ≡ a.said ++ (b.done ++ (other ++ 10 ∷ more)) =
+    ap (λ (t : List ℕ). t ++ (other ++ 10 ∷ more)) ends.0 ∙ append_assoc a.said b.done (other ++ 10 ∷ more) in
+    let read : second h.0.0 (b.done ++ (other ++ 10 ∷ more)) ≡ Ok (y, rest) =
+    sym (ap (λ (r : Result (_ × List ℕ) Fault). r >>= λ x. second x.0 x.1) (a.says (b.done ++ (other ++ 10 ∷ more)))) ∙ sym (ap (then_read first second) moved) ∙ e in
+    next.forms b.done line tail left (ap (second h.0.0) (sym here) ∙ h.2) size one other more y rest one_other of_form read
+
 pub then_exact : {X Y : Type 0} (first : Reader X) (second : X → Reader Y) → IsExact first
     → After first second → IsExact (then_read first second)
 then_exact {X} {Y} first second is after = record {
@@ -331,6 +483,9 @@ then_exact {X} {Y} first second is after = record {
         | inl h ↦ let g = is.stays done text tail other f h left in (g.0, rw g.1 refl)
         | inr h ↦ stays_second first second is after done text tail other f left h.0.0 h.0.1 h.1 h.2
       ];
+  ranges = λ text left e. then_ranges first second is after text left (bind_err (first text) (λ x. second x.0 x.1) (Beyond left) e);
+  forms = λ done line tail left e.
+      then_forms first second is after done line tail left (bind_err (first (done ++ (line ++ 10 ∷ tail))) (λ x. second x.0 x.1) (Malformed left) e);
 }
 
 -- ---- nothing more
@@ -355,6 +510,8 @@ end_exact {X} v = record {
   finds = λ text x rest e. end_found v text x rest e;
   stops = λ text f e. absurd (not_err {A = X × List ℕ} (v, text) f e);
   stays = λ done text tail other f e left. absurd (not_err {A = X × List ℕ} (v, done ++ (text ++ 10 ∷ tail)) f e);
+  ranges = λ text left e. absurd (not_err {A = X × List ℕ} (v, text) (Beyond left) e);
+  forms = λ done line tail left e. absurd (not_err {A = X × List ℕ} (v, done ++ (line ++ 10 ∷ tail)) (Malformed left) e);
 }
 
 pub end_sayable : {X : Type 0} (v : X) → IsSayable (read_all v)

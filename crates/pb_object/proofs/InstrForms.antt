@@ -150,7 +150,7 @@ plain_signed (b ∷ ds) all some =
     let no : eqb b 45 ≡ false = no_minus b d in
     rw no refl
 
-signed_again : (v : ℤ) → IsSigned v → signed (signed_decimal v) ≡ Read v
+pub signed_again : (v : ℤ) → IsSigned v → signed (signed_decimal v) ≡ Read v
 unfolding signed
 signed_again (pos n) good =
     let small : n < 2 ^ 64 = omega (arith, good) in

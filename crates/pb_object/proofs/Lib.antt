@@ -6,12 +6,15 @@ pub mod FirstToSecond
 pub mod FoundObjects
 pub mod FreshNames
 pub mod InstrForms
+pub mod InstrKinds
 pub mod JoinedWords
+pub mod LineKinds
 pub mod LineForms
 pub mod LineLemmas
 pub mod LineWords
 pub mod Loops
 pub mod NewNames
+pub mod NumberKinds
 pub mod Numbers
 pub mod ObjectExact
 pub mod ObjectLaws

@@ -166,7 +166,7 @@ pub names_clean : (ws : List Word) → AllByRecursion (λ w. is_name w ≡ true)
 names_clean [] h = tt
 names_clean (w ∷ ws) h = (name_clean w h.0, names_clean ws h.1)
 
-eqb_same : (n : ℕ) → eqb n n ≡ true
+pub eqb_same : (n : ℕ) → eqb n n ≡ true
 eqb_same n = grind (arith, nat_tests)
 
 says_takes : (w : Word) (n : ℕ) → n < 2 ^ 64 → says_number w n ≡ true → w ≡ decimal n
@@ -176,7 +176,7 @@ says_takes w n small h =
     let value : digits_value 10 w ≡ n = eqb-true _ _ s.1 in
     sym (decimal-digits_value own w f.0 f.1 f.2 (omega (arith, value))) ∙ ap decimal value
 
-says_again : (n : ℕ) → n < 2 ^ 64 → says_number (decimal n) n ≡ true
+pub says_again : (n : ℕ) → n < 2 ^ 64 → says_number (decimal n) n ≡ true
 says_again n small = rw (is_numeral_decimal n small, digits_value-decimal own n small, eqb_same n) refl
 
 few_takes : (many new : Bool) (names found : List Word) → cond many Beyond (cond new (Read names) Malformed) ≡ Read

@@ -71,7 +71,7 @@ all_by_index p xs each h = All-from_recursion (λ b. p b ≡ false) xs (all_rec 
 inner_space : (b : ℕ) → is_inner b ≡ true → eqb b 32 ≡ false
 inner_space b h = not_true (eqb b 32) (both_true _ _ h).0
 
-split_again : (w : Word) (ws : List Word) → AreWords (w ∷ ws) → slice_split (λ b. eqb b 32) (join_with_byte 32 (w ∷ ws)) ≡ w ∷ ws
+pub split_again : (w : Word) (ws : List Word) → AreWords (w ∷ ws) → slice_split (λ b. eqb b 32) (join_with_byte 32 (w ∷ ws)) ≡ w ∷ ws
 split_again w [] h = slice_split_none (λ b. eqb b 32) w (all_by_index (λ b. eqb b 32) w inner_space h.0)
 split_again w (v ∷ ws) h =
     slice_split_at (λ b. eqb b 32) w 32 (join_with_byte 32 (v ∷ ws)) (all_by_index (λ b. eqb b 32) w inner_space h.0) refl
@@ -81,7 +81,7 @@ pub all_then : (p : ℕ → Bool) (xs ys : List ℕ) → list_all p xs ≡ true 
 all_then p [] ys h k = k
 all_then p (x ∷ xs) ys h k = let s = both_true (p x) (list_all p xs) h in rw (s.0, all_then p xs ys s.1 k) refl
 
-no_end : (w : Word) (ws : List Word) → AreWords (w ∷ ws) → list_all (λ b. not (eqb b 10)) (join_with_byte 32 (w ∷ ws)) ≡ true
+pub no_end : (w : Word) (ws : List Word) → AreWords (w ∷ ws) → list_all (λ b. not (eqb b 10)) (join_with_byte 32 (w ∷ ws)) ≡ true
 no_end w [] h = all_mono is_inner (λ b. not (eqb b 10)) (λ b e. (both_true _ _ e).1) w h.0
 no_end w (v ∷ ws) h = all_then (λ b. not (eqb b 10)) w (32 ∷ join_with_byte 32 (v ∷ ws)) (all_mono is_inner (λ b. not
     (eqb b 10)) (λ b e. (both_true _ _ e).1) w h.0) (no_end v ws h.1)

@@ -1,6 +1,6 @@
 -- A number that is read is the number that was written, and what was written is read again.
 use Rattle.std.proofs.Common.{◌≡◌, ℕ, ◌^◌, ◌<◌, ◌≤◌, Bool, true, false, cond, ◌||◌, ltb}
-use Rattle.std.proofs.Common.{refl, sym, ap, ◌∙◌, arith, take}
+use Rattle.std.proofs.Common.{refl, sym, ap, ◌∙◌, arith}
 use Rattle.std.specs.Fmt.{decimal}
 use Rattle.std.specs.Str.Parse.{digits_value}
 use Rattle.std.proofs.lemmas.Fmt.{decimal-digits_value, digits_value-decimal}

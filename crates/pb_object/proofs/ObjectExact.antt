@@ -16,6 +16,8 @@ use Rattle.pb_object.specs.Reading.{place_at, process_at, process_after, object_
 use Rattle.pb_object.proofs.LineLemmas.{is_inner}
 use Rattle.pb_object.proofs.Parts.{IsPart, line_is}
 use Rattle.pb_object.proofs.LineForms.{resource_is, name_is}
+use Rattle.pb_object.proofs.LineKinds.{IsKey, counted_keeps, heading_keeps, resource_keeps, name_keeps, integers_keep, claims_keep}
+use Rattle.pb_object.proofs.InstrKinds.{place_keeps}
 use Rattle.pb_object.proofs.InstrForms.{place_is}
 use Rattle.pb_object.proofs.ObjectLaws.{counted_part, claims_part, format_part, integers_part, small_processes}
 use Rattle.pb_object.proofs.FreshNames.{fresh_name}
@@ -39,11 +41,12 @@ said_of part text Good is x good = (x, text x, λ rest. is.again x rest good)
 
 -- ---- lines
 
-counted_both : (key : Word) (high : ℕ) → 1 ≤ high → high < 2 ^ 64 → list_all is_inner key ≡ true → (low : ℕ) → low ≤ 1 → Both (line_by (counted key low high))
-counted_both key high some small clean low few =
+counted_both : (key : Word) (high : ℕ) → 1 ≤ high → high < 2 ^ 64 → list_all is_inner key ≡ true → IsKey key → (low : ℕ) → low ≤ 1
+    → Both (line_by (counted key low high))
+counted_both key high some small clean is low few =
     let s = said_of (line_by (counted key low high)) (λ n. line_text (counted_words key n)) (λ n. (low ≤ n) × (n ≤ high))
     (counted_part key low high small clean) 1 (few, some) in
-    (line_exact (counted key low high) s, s)
+    (line_exact (counted key low high) (counted_keeps key low high small few some clean is) s, s)
 
 -- a number that was read is in range
 counted_within : (key : Word) (low high n : ℕ) (s : List ℕ) → high < 2 ^ 64 → list_all is_inner key ≡ true
@@ -53,7 +56,7 @@ counted_within key low high n s small clean says = ((counted_part key low high s
 heading_both : Both (line_by heading)
 heading_both =
     let s = said_of (line_by heading) _ _ format_part Two tt in
-    (line_exact heading s, s)
+    (line_exact heading heading_keeps s, s)
 
 resource_both : (earlier : List ResourceRow) → length earlier < 64 → Both (resource_at earlier)
 resource_both earlier few =
@@ -62,14 +65,14 @@ resource_both earlier few =
     let good : IsResource earlier row = record { name = f.1; capital = omega arith } in
     let s = said_of (line_by (resource earlier)) (λ r. line_text (resource_words r)) (IsResource earlier) (line_is
     (resource earlier) resource_words (IsResource earlier) (resource_is earlier)) row good in
-    (line_exact (resource earlier) s, s)
+    (line_exact (resource earlier) (resource_keeps earlier) s, s)
 
 name_both : (names : List Word) → length names < 64 → Both (line_by (process_name names))
 name_both names few =
     let f = fresh_name names few in
     let s = said_of (line_by (process_name names)) (λ name. line_text (process_words name)) _ (line_is (process_name
     names) process_words _ (name_is names)) f.0 f.1 in
-    (line_exact (process_name names) s, s)
+    (line_exact (process_name names) (name_keeps names) s, s)
 
 no_integers : (format : Format) → AreIntegers format []
 unfolding plain_names
@@ -79,7 +82,7 @@ no_integers Two = (tt, refl, omega arith)
 integers_both : (format : Format) → Both (line_by (integers format))
 integers_both format =
     let s = said_of (line_by (integers format)) _ (AreIntegers format) (integers_part format) [] (no_integers format) in
-    (line_exact (integers format) s, s)
+    (line_exact (integers format) (integers_keep format) s, s)
 
 some_claims : (m : ℕ) → (cs : List ℕ) × AreClaimsInRange m cs
 some_claims zero = ([], (refl, tt))
@@ -89,7 +92,7 @@ claims_both : (m : ℕ) → Both (line_by (claims m))
 claims_both m =
     let c = some_claims m in
     let s = said_of (line_by (claims m)) _ (AreClaimsInRange m) (claims_part m) c.0 c.1 in
-    (line_exact (claims m) s, s)
+    (line_exact (claims m) (claims_keep m) s, s)
 
 an_end : (format : Format) → IsPlace format (None, End)
 an_end One = (refl, tt)
@@ -99,12 +102,12 @@ place_both : (format : Format) → Both (line_by (place format))
 place_both format =
     let s = said_of (line_by (place format)) (λ i. line_text (place_words format i)) (IsPlace format) (line_is (place
     format) (place_words format) (IsPlace format) (place_is format)) (None, End) (an_end format) in
-    (line_exact (place format) s, s)
+    (line_exact (place format) (place_keeps format) s, s)
 
 -- ---- parts in a row
 
 entries_both : (n : ℕ) → Both (many entry_at [] n)
-entries_both n = many_exact entry_at n (λ earlier few. counted_both (codes "arm") 39999 (omega arith) (omega arith) refl 0 (omega arith)) n [] (omega arith)
+entries_both n = many_exact entry_at n (λ earlier few. counted_both (codes "arm") 39999 (omega arith) (omega arith) refl (record { numeral = refl; below = refl; heading = refl }) 0 (omega arith)) n [] (omega arith)
 
 places_both : (format : Format) (n : ℕ) → Both (many (place_at format) [] n)
 places_both format n = many_exact (place_at format) n (λ earlier few. place_both format) n [] (omega arith)
@@ -148,7 +151,7 @@ count_both format name names claims entries count =
 entries_then : (format : Format) (name : Word) (names : List Word) (claims entries : List ℕ) → Both (after_entries format name names claims entries)
 entries_then format name names claims entries =
     both_then (line_by (counted (codes "code") 1 40000)) (after_count format name names claims entries)
-    (counted_both (codes "code") 40000 (omega arith) (omega arith) refl 1 (omega arith))
+    (counted_both (codes "code") 40000 (omega arith) (omega arith) refl (record { numeral = refl; below = refl; heading = refl }) 1 (omega arith))
     (λ count s says. count_both format name names claims entries count)
 
 claims_then : (format : Format) (name : Word) (names : List Word) (arms : ℕ) (claims : List ℕ) → Both (after_claims format name names arms claims)
@@ -164,7 +167,7 @@ arms_then format m name names arms =
 integers_then : (format : Format) (m : ℕ) (name : Word) (names : List Word) → Both (after_integers format m name names)
 integers_then format m name names =
     both_then (line_by (counted (codes "arms") 1 64)) (after_arms format m name names)
-    (counted_both (codes "arms") 64 (omega arith) (omega arith) refl 1 (omega arith))
+    (counted_both (codes "arms") 64 (omega arith) (omega arith) refl (record { numeral = refl; below = refl; heading = refl }) 1 (omega arith))
     (λ arms s says. arms_then format m name names arms)
 
 name_then : (format : Format) (m : ℕ) (name : Word) → Both (after_name format m name)
@@ -213,7 +216,7 @@ resources_then : (format : Format) (m : ℕ) (resources : List ResourceRow) → 
 resources_then format m resources =
     let few = few_of format in
     both_then (line_by (counted (codes "processes") 1 (most_processes format))) (after_process_count format m resources)
-    (counted_both (codes "processes") (most_processes format) few.0 (small_processes format) refl 1 (omega arith))
+    (counted_both (codes "processes") (most_processes format) few.0 (small_processes format) refl (record { numeral = refl; below = refl; heading = refl }) 1 (omega arith))
     (λ p s says. let below = counted_within (codes "processes") 1 (most_processes format) p s (small_processes format) refl says in
     process_count_then format m resources p (let most = few.1 in omega (arith, below, most)))
 
@@ -225,7 +228,7 @@ resource_count_then format m few =
 pub format_then : (format : Format) → Both (after_format format)
 format_then format =
     both_then (line_by (counted (codes "resources") 0 16)) (after_resource_count format)
-    (counted_both (codes "resources") 16 (omega arith) (omega arith) refl 0 (omega arith))
+    (counted_both (codes "resources") 16 (omega arith) (omega arith) refl (record { numeral = refl; below = refl; heading = refl }) 0 (omega arith))
     (λ m s says. let below = counted_within (codes "resources") 0 16 m s (omega arith) refl says in
     resource_count_then format m (omega (arith, below)))
 

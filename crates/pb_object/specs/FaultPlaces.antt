@@ -1,5 +1,7 @@
--- The offset of the first faulty line of a text, by the grammar of objects alone.
-use Rattle.std.specs.Prelude.{◌≡◌, ◌⊎◌, ◌<◌, ◌≤◌, ℕ, true, List, [], ◌∷◌, ◌++◌, length, ⊤}
+-- The offset of the first faulty line of a text, and whether its numbers are its fault, by the grammar of objects
+-- alone.
+use Rattle.std.specs.Prelude.{◌≡◌, ◌⊎◌, ◌<◌, ◌≤◌, ◌==◌, ℕ, Bool, true, not, List, [], ◌∷◌, ◌++◌, length, ⊤}
+use Rattle.std.specs.List.{list_all, slice_split}
 use Rattle.pb_base.specs.declared.limits.TheConstants.{MAX_INPUT}
 use Rattle.pb_object.specs.declared.fault.ObjectFault.{ObjectFault}
 use Rattle.pb_object.specs.declared.fault.ObjectFault.TheVariants.{NotObject, Limit, NoMemory}
@@ -8,6 +10,8 @@ use Rattle.pb_object.specs.Lines.{line_by}
 use Rattle.pb_object.specs.Objects.{Object, object_spelling}
 use Rattle.pb_object.specs.Ranges.{IsObject}
 use Rattle.pb_object.specs.Reading.{heading}
+use Rattle.pb_object.specs.Renumbered.{IsOfForm}
+use Rattle.pb_code.specs.Names.{Word}
 
 -- the spelling of some object, of whatever size, begins with this text
 abbrev pub BeginsObject : List ℕ → Type 0
@@ -29,12 +33,32 @@ pub record IsFaultPlace (text : List ℕ) (at : ℕ) : Type 0 where
   pub stuck : (line tail : List ℕ) → rest ≡ line ++ 10 ∷ tail → ¬ BeginsObject (lines ++ (line ++ 10 ∷ []))
   pub no_object : (o : Object) → IsObject o → text ≡ object_spelling o → ⊥
 
--- what a refusal says of a text: a fault of form has such an offset; one of range too, unless the text is
--- longer than 4,194,304 bytes, of which it says 0
+abbrev pub is_one_line : List ℕ → Bool
+is_one_line line = list_all (λ b. not (b == 10)) line
+
+abbrev pub words_of : List ℕ → List Word
+words_of line = slice_split (λ b. b == 32) line
+
+-- The line at this offset would go on an object if its numbers were others: the lines before it and another line
+-- of the same form begin one.
+pub record IsOutOfRange (text : List ℕ) (at : ℕ) : Type 0 where
+  pub lines : List ℕ
+  pub line : List ℕ
+  pub tail : List ℕ
+  pub parts : text ≡ lines ++ (line ++ 10 ∷ tail)
+  pub place : at ≡ length lines
+  pub one : is_one_line line ≡ true
+  pub other : List ℕ
+  pub one_other : is_one_line other ≡ true
+  pub of_form : IsOfForm (words_of other) (words_of line)
+  pub begun : BeginsObject (lines ++ (other ++ 10 ∷ []))
+
+-- What a refusal says of a text: a fault of form or of range is at such an offset, and it is of range exactly if the
+-- line there would go on an object with other numbers. Of a text of more than 4,194,304 bytes it says 0.
 abbrev pub IsPlaced : List ℕ → ObjectFault → Type 0
-IsPlaced text (NotObject at) = (length text ≤ MAX_INPUT) × IsFaultPlace text at
+IsPlaced text (NotObject at) = (length text ≤ MAX_INPUT) × IsFaultPlace text at × (IsOutOfRange text at → ⊥)
 IsPlaced text (Limit at) =
-    ((MAX_INPUT < length text) × (at ≡ 0)) ⊎ ((length text ≤ MAX_INPUT) × IsFaultPlace text at)
+    ((MAX_INPUT < length text) × (at ≡ 0)) ⊎ ((length text ≤ MAX_INPUT) × IsFaultPlace text at × IsOutOfRange text at)
 IsPlaced text NoMemory = ⊤
 
 -- and of a text that is to be of the first format: if its first line names the second, that line is the

@@ -6,6 +6,7 @@ pub mod Lines
 pub mod Objects
 pub mod Ranges
 pub mod Reading
+pub mod Renumbered
 pub mod Rows
 pub mod Words
 pub mod Writing

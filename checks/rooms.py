@@ -1,0 +1,168 @@
+#!/usr/bin/env python3
+"""Compares the rooms of crates.txt with docs/ARCHITECTURE.md.
+
+    checks/rooms.py
+
+A room is a section of crates.txt, which begins with a comment line `# NAME: SENTENCE`. The document has a section for
+each room, in the same order, with that sentence, and a table of the room's crates in the order of crates.txt, at most
+15 words each; its last column names crates that test the row's crate, so they use it, maybe by way of others. No crate
+stands before one that it uses, no folder of crates/ is without its line, and a line of the drawing leads from one room
+down to another exactly if the first uses the second and does not reach it by way of a third. The status is 0 if all
+that is so, and 1 if not.
+"""
+from __future__ import annotations
+
+import re
+import sys
+from collections import defaultdict
+from pathlib import Path
+
+TOP = Path(__file__).resolve().parent.parent
+WORDS = 15
+UP, DOWN, LEFT, RIGHT = (-1, 0), (1, 0), (0, -1), (0, 1)
+LINES = {
+    "│": {UP, DOWN},
+    "─": {LEFT, RIGHT},
+    "┌": {DOWN, RIGHT},
+    "┐": {DOWN, LEFT},
+    "└": {UP, RIGHT},
+    "┘": {UP, LEFT},
+    "├": {UP, DOWN, RIGHT},
+    "┤": {UP, DOWN, LEFT},
+    "┬": {LEFT, RIGHT, DOWN},
+    "┴": {LEFT, RIGHT, UP},
+}
+Rooms = dict[str, tuple[str, list[str]]]
+
+
+def read_crates(text: str) -> tuple[Rooms, dict[str, list[str]]]:
+    """Returns the rooms, each with its sentence and its crates, and which crates of the repository each crate uses."""
+    rooms: Rooms = {}
+    uses: dict[str, list[str]] = {}
+    for line in text.splitlines():
+        begins = re.fullmatch(r"# (\w+): (.+)", line)
+        if begins:
+            rooms[begins[1]] = (begins[2], [])
+        elif line and not line.startswith("#"):
+            crate, used = line.split(":")[0].split()[0], line.split(":")[1].split()
+            rooms[list(rooms)[-1]][1].append(crate)
+            uses[crate] = used
+    return rooms, {crate: [it for it in used if it in uses] for crate, used in uses.items()}
+
+
+def reached(arrows: dict[str, list[str]], start: str) -> set[str]:
+    """Returns what arrows lead to from `start`, one or several."""
+    found: set[str] = set()
+    waiting = [start]
+    while waiting:
+        for it in set(arrows.get(waiting.pop(), ())) - found:
+            found.add(it)
+            waiting.append(it)
+    return found
+
+
+def wanted_arrows(rooms: Rooms, uses: dict[str, list[str]]) -> set[tuple[str, str]]:
+    """Returns the pairs of rooms of which the first uses the second and does not reach it by way of a third."""
+    room_of = {crate: room for room, (_, crates) in rooms.items() for crate in crates}
+    arrows = {
+        room: sorted({room_of[used] for crate in crates for used in uses[crate]} - {room})
+        for room, (_, crates) in rooms.items()
+    }
+    return {
+        (room, lower)
+        for room, lowers in arrows.items()
+        for lower in lowers
+        if not any(lower in reached(arrows, other) for other in lowers if other != lower)
+    }
+
+
+def names_of(drawing: list[str]) -> dict[tuple[int, int], str]:
+    """Returns the name that each letter of the drawing belongs to, by the letter's row and column."""
+    return {
+        (row, column): name[0]
+        for row, line in enumerate(drawing)
+        for name in re.finditer(r"[a-z]+", line)
+        for column in range(*name.span())
+    }
+
+
+def led_down(drawing: list[str], names: dict[tuple[int, int], str], start: tuple[int, int]) -> set[str]:
+    """Returns the names that a line leads down to which is entered at `start` from above."""
+    lower, seen, waiting = set(), set(), [(start, DOWN)]
+    while waiting:
+        at, way = waiting.pop()
+        sign = drawing[at[0]][at[1] : at[1] + 1] if at[0] < len(drawing) else ""
+        if (at, way) in seen or sign in ("", " "):
+            continue
+        seen.add((at, way))
+        back = (-way[0], -way[1])
+        if at in names:
+            lower |= {names[at]} if way == DOWN else set()
+        elif sign == "┼" or back in LINES[sign]:
+            ways = {way} if sign == "┼" else LINES[sign] - {back}
+            waiting += [((at[0] + row, at[1] + column), (row, column)) for row, column in ways]
+    return lower
+
+
+def drawn_arrows(drawing: list[str]) -> set[tuple[str, str]]:
+    """Returns the pairs of rooms of which a line of the drawing leads from the first down to the second."""
+    names = names_of(drawing)
+    return {(name, it) for (row, column), name in names.items() for it in led_down(drawing, names, (row + 1, column))}
+
+
+def tables_of(document: str) -> Rooms:
+    """Returns the sections of the document that hold a table of crates: their sentences, and the rows."""
+    found: Rooms = {}
+    for section in document.split("\n### ")[1:]:
+        name, _, body = section.split("\n## ")[0].partition("\n")
+        rows = re.findall(r"^\| (pb_\w+ \| .*) \|$", body, re.M)
+        if "| Crate | What it holds | Tested in |" in body:
+            found[name] = (" ".join(body.split("\n|")[0].split()), rows)
+    return found
+
+
+def faults_of_tables(rooms: Rooms, uses: dict[str, list[str]], tables: Rooms) -> list[str]:
+    """Returns what the tables of the document have wrong."""
+    faults = []
+    if list(rooms) != list(tables):
+        faults.append(f"rooms: {list(rooms)} in crates.txt, {list(tables)} in the document")
+    for room in rooms.keys() & tables.keys():
+        rows = [row.split(" | ") for row in tables[room][1]]
+        if rooms[room][0] != tables[room][0]:
+            faults.append(f"{room}: the sentences differ")
+        if rooms[room][1] != [row[0] for row in rows]:
+            faults.append(f"{room}: {rooms[room][1]} in crates.txt, {[row[0] for row in rows]} in the document")
+        for crate, what, *tests in rows:
+            if len(what.split()) > WORDS:
+                faults.append(f"{crate}: more than {WORDS} words")
+            for test in re.findall(r"pb_\w+", " ".join(tests)):
+                if crate not in reached(uses, test):
+                    faults.append(f"{crate}: {test} does not use it")
+    return faults
+
+
+def faults_of_order(rooms: Rooms, uses: dict[str, list[str]]) -> list[str]:
+    """Returns which crates stand before one that they use, and which stand in crates.txt or in crates/ alone."""
+    order = [crate for _, crates in rooms.values() for crate in crates]
+    folders = {it.parent.parent.name for it in TOP.glob("crates/*/src/*.rt")}
+    faults = [f"{crate}: is only in crates.txt or only in crates/" for crate in sorted(folders ^ set(order))]
+    for number, crate in enumerate(order):
+        faults += [f"{crate}: stands before {used}, which it uses" for used in uses[crate] if used in order[number:]]
+    return faults
+
+
+def main() -> int:
+    rooms, uses = read_crates((TOP / "crates.txt").read_text(encoding="utf-8"))
+    document = (TOP / "docs/ARCHITECTURE.md").read_text(encoding="utf-8")
+    wanted, drawn = wanted_arrows(rooms, uses), drawn_arrows(document.split("```")[1].splitlines())
+    faults = faults_of_order(rooms, uses) + faults_of_tables(rooms, uses, tables_of(document))
+    faults += [f"the drawing lacks {above} -> {below}" for above, below in sorted(wanted - drawn)]
+    faults += [f"the drawing has {above} -> {below}" for above, below in sorted(drawn - wanted)]
+    for fault in faults:
+        print(fault)
+    print(f"{len(rooms)} rooms, {len(uses)} crates, {len(wanted)} arrows, {len(faults)} faults")
+    return 1 if faults else 0
+
+
+if __name__ == "__main__":
+    sys.exit(main())
