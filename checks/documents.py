@@ -57,6 +57,7 @@ def install(folder):
     shutil.copy(TOP / "parbegin", top)
     (folder / "libexec/parbegin").mkdir(parents=True)
     shutil.copy(program(), folder / "libexec/parbegin/pb_cli")
+    shutil.copytree(TOP / "script", folder / "libexec/parbegin/script", ignore=shutil.ignore_patterns("__pycache__"))
     return top
 
 

@@ -222,8 +222,9 @@ def check(start: list[str], words: list[str]) -> int:
     sorted_words = files.sort_words(start, "check", options.words or [])
     if helping.are_refused(start, ["check", *sorted_words.others]):
         return WORDS
-    named = [word for word in options.words or [] if word not in sorted_words.others]
-    source, sums = Source(named or [STANDARD_INPUT]), Sums()
+    source, sums = Source(sorted_words.named or [STANDARD_INPUT]), Sums()
+    # (a name of bytes that are no text is written as it is)
+    sys.stdout.reconfigure(errors="surrogateescape")
     checker = Checker(start, sorted_words.others)
     try:
         if options.format == "text":

@@ -21,11 +21,15 @@ MOST_READ = 4_194_304
 
 
 class Words(NamedTuple):
-    """The words of a call: those that are paths of files, those that should be and are not, and the others."""
+    """The words of a call: those that name files, in order, and the others."""
 
-    files: list[str]
-    missing: list[str]
+    named: list[str]
     others: list[str]
+
+    @property
+    def missing(self) -> list[str]:
+        """Returns the names for which there is no file."""
+        return [name for name in self.named if not os.path.exists(name)]
 
 
 def takes_value(start: list[str], command: str, option: str) -> bool:
@@ -36,15 +40,11 @@ def takes_value(start: list[str], command: str, option: str) -> bool:
 
 def sort_words(start: list[str], command: str, words: list[str]) -> Words:
     """Says of each word whether it names a file. What is behind an option that has a value is that value."""
-    sorted_words = Words([], [], [])
+    sorted_words = Words([], [])
     for before, word in zip(["", *words], words):
         follows = before.startswith("--") and "=" not in before
-        if word.startswith("-") or follows and (word.isdigit() or takes_value(start, command, before)):
-            sorted_words.others.append(word)
-        elif os.path.exists(word):
-            sorted_words.files.append(word)
-        else:
-            sorted_words.missing.append(word)
+        is_other = word.startswith("-") or follows and (word.isdigit() or takes_value(start, command, before))
+        (sorted_words.others if is_other else sorted_words.named).append(word)
     return sorted_words
 
 

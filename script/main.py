@@ -46,26 +46,26 @@ def run_command(start: list[str], command: str, words: list[str]) -> int:
 
 def run_on_file(start: list[str], command: str, words: files.Words) -> int:
     """Runs a command on its file, or on standard input if none is named."""
-    if (words.others or words.missing or len(words.files) > 1) and helping.are_refused(start, [command, *words.others]):
+    if (words.others or words.missing or len(words.named) > 1) and helping.are_refused(start, [command, *words.others]):
         return WORDS
     for name in words.missing:
         files.tell_missing(name)
     if words.missing:
         return DEVICE
-    if len(words.files) > 1:
-        say(f"{command} reads one file, and here are {len(words.files)}: {', '.join(words.files)}")
+    if len(words.named) > 1:
+        say(f"{command} reads one file, and here are {len(words.named)}: {', '.join(words.named)}")
         return WORDS
-    if not words.files:
+    if not words.named:
         if command not in ("bank", "lsp", "dap"):
             tell_what_it_awaits(command)
     elif command == "debug":
         from script.debugging import debug
 
-        return debug(start, words.others, words.files[0])
+        return debug(start, words.others, words.named[0])
     else:
         if "--quiet" not in start:
-            files.advise(command, words.files[0])
-        files.give_file(words.files[0])
+            files.advise(command, words.named[0])
+        files.give_file(words.named[0])
     start_program(start, [command, *words.others])
     return DEVICE
 

@@ -4,23 +4,19 @@ from __future__ import annotations
 import cmd
 import os
 import readline
-from collections.abc import Callable, Iterable
+from collections.abc import Iterable
 
 from script import shown
 from script.happenings import Teller
-from script.manual import COMMANDS, SHORT, help_of, list_of_commands
+from script.manual import help_of, list_of_commands
 from script.session import Denied, Session
+from script.typed import Completion, Mistake
 
 # A move tells of so many picks at most, and of more only the last.
 MOST_TOLD = 20
-MOVES = ("step", "back", "next", "prev", "to", "until")
 
 
-class Mistake(Exception):
-    """A command that can't be carried out, with the reason in words."""
-
-
-class Prompt(cmd.Cmd):
+class Prompt(Completion, cmd.Cmd):
     """A session for a person."""
 
     def __init__(self, session: Session, name: str, is_object: bool) -> None:
@@ -83,57 +79,9 @@ class Prompt(cmd.Cmd):
             self.say("interrupted; the position is as it was")
         return False
 
-    def full(self, line: str) -> str:
-        """Returns a line with its command written out."""
-        word, _, rest = line.strip().partition(" ")
-        if word in COMMANDS or word in ("", "EOF"):
-            return line.strip()
-        found = [SHORT[word]] if word in SHORT else [it for it in COMMANDS if it.startswith(word)]
-        if len(found) == 1:
-            return f"{found[0]} {rest}".strip()
-        if found:
-            raise Mistake(f"{word} may be {' or '.join(found)}")
-        raise Mistake(f"no command {word}; `help` lists the commands")
-
     def emptyline(self) -> bool:
         """Makes the last move once more."""
         return bool(super().onecmd(self.last_move)) if self.last_move else False
-
-    # words
-
-    def number(self, word: str, default: int | None = None) -> int:
-        """Returns a number that was typed."""
-        if not word and default is not None:
-            return default
-        if not word.isdigit() or len(word) > 8:
-            raise Mistake(f"{word or 'nothing'} is no number; `help` has examples")
-        return int(word)
-
-    def process(self, word: str) -> str:
-        """Returns the name of a process that was typed."""
-        names = list(self.session.code.processes)
-        if not word and len(names) == 1:
-            return names[0]
-        if word not in names:
-            raise Mistake(f"no process {word}; there {'is' if len(names) == 1 else 'are'} {', '.join(names)}".replace("  ", " "))
-        return word
-
-    def arm(self, word: str) -> str:
-        """Returns the name of an arm that was typed; a process without more is its body."""
-        name, point, number = word.partition(".")
-        process = self.session.code.processes[self.process(name)]
-        arm = f"{process.name}.{number if point else 0}"
-        if arm not in process.arms():
-            last = len(process.entries) - 1
-            raise Mistake(f"no arm {arm}; {process.name} has {f'the arms 0 to {last}' if last else 'only the arm 0'}")
-        return arm
-
-    def resource(self, word: str) -> str:
-        """Returns the name of a resource that was typed."""
-        names = self.session.code.resources
-        if word not in names:
-            raise Mistake(f"no resource {word}; there are {', '.join(names)}" if names else "there are no resources")
-        return word
 
     # moves
 
@@ -205,6 +153,7 @@ class Prompt(cmd.Cmd):
             raise Mistake(f"{arm} can't be picked: it {why}")
         self.session.move(f"pick {arm}")
         self.session.picks.add(arm)
+        self.last_move = f"pick {arm}"
         self.tell_from(total)
 
     # what is shown
@@ -244,9 +193,7 @@ class Prompt(cmd.Cmd):
 
     def do_wrote(self, words: str) -> None:
         name, _, integer = words.partition(" ")
-        process = self.session.code.processes[self.process(name)]
-        if integer not in process.integers:
-            raise Mistake(f"no integer {integer} in {name}; there are {', '.join(process.integers) or 'none'}")
+        self.integer(self.process(name), integer)
         answer = self.session.ask(f"wrote {name} {integer}")
         if answer == "never":
             self.say(f"  no pick up to here changed {integer}")
@@ -285,28 +232,3 @@ class Prompt(cmd.Cmd):
     def do_EOF(self, _: str) -> bool:
         self.say("")
         return True
-
-    def completenames(self, text: str, *_: object) -> list[str]:
-        """Completes a command."""
-        return [f"{it} " for it in COMMANDS if it.startswith(text)]
-
-    def completedefault(self, text: str, line: str, *_: object) -> list[str]:
-        """Completes what follows a command."""
-        try:
-            words = self.full(line).split()
-        except Mistake:
-            return []
-        before = len(words) - (1 if text else 0)
-        makers: dict[str, Callable[[], Iterable[str]]] = {
-            "P": lambda: self.session.code.processes,
-            "P.a": lambda: [it for process in self.session.code.processes.values() for it in process.arms()],
-            "X": lambda: self.session.code.processes[words[1]].integers if words[1] in self.session.code.processes else [],
-            "R": lambda: self.session.code.resources, "COMMAND": lambda: COMMANDS,
-            "FILE": lambda: [f"{it}/" if os.path.isdir(it) else it for it in os.listdir()],
-        }
-        form = COMMANDS[words[0]].form.replace("[", "").replace("]", "").split()
-        if before >= len(form) or form[before] not in makers:
-            return []
-        return [it for it in makers[form[before]]() if it.startswith(text)]
-
-    complete_help = completedefault
