@@ -2,6 +2,7 @@
 import os
 import pathlib
 import re
+import shutil
 import subprocess
 import sys
 import tempfile
@@ -25,6 +26,16 @@ def program():
     if not os.access(given, os.X_OK):
         sys.exit(f"{given} is not there: ./parbegin builds it")
     return str(given)
+
+
+def installed(folder):
+    """Puts the script and the program into a folder, as install.sh does, and returns the path of the script."""
+    folder = pathlib.Path(folder)
+    ignored = shutil.ignore_patterns("__pycache__")
+    shutil.copytree(TOP / "script", folder / "libexec/parbegin/script", ignore=ignored)
+    shutil.copy(program(), folder / "libexec/parbegin/pb_cli")
+    (folder / "bin").mkdir(parents=True)
+    return shutil.copy(TOP / "parbegin", folder / "bin/parbegin")
 
 
 def constant(file):

@@ -17,7 +17,7 @@ import shutil
 import subprocess
 import tempfile
 
-from calls import TOP, Tally, program
+from calls import TOP, Tally, installed
 
 DOCUMENTS = [TOP / "README.md", TOP / "examples/README.md", TOP / "extras/README.md", *sorted((TOP / "docs").glob("*.md"))]
 BLOCK = re.compile(r"^( *)```([^\n]*)\n(.*?)^\1```$", re.M | re.S)
@@ -54,9 +54,7 @@ def install(folder):
     """Puts the script, the program and the examples into a folder, and returns where commands run."""
     top = folder / "top"
     shutil.copytree(TOP / "examples", top / "examples")
-    shutil.copy(TOP / "parbegin", top)
-    (folder / "libexec/parbegin").mkdir(parents=True)
-    shutil.copy(program(), folder / "libexec/parbegin/pb_cli")
+    shutil.copy(installed(folder), top)
     return top
 
 

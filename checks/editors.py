@@ -4,13 +4,19 @@
     checks/editors.py [PROGRAM]     PROGRAM is the one that ./parbegin has built if none is given
 
 Every reserved word of the lexer must be coloured by Vim and by VS Code, and nothing else as one; every command of
-`--help`, with every option of its own help, must be in both completions and in docs/parbegin.1, and no other one. Its
+`--help`, with every option of its own help, must be in both completions and in docs/parbegin.1, and no other one; and so
+must what the script adds to `check`. bash must complete what follows. If vim is there, it must take a text and a recorded
+run for what they are, and find the place of a refusal in what `check --format gcc` writes; if not, that is said. Its
 status is 0 if all is as wanted, and 1 if not.
 """
 import json
+import pathlib
 import re
+import shutil
+import subprocess
+import tempfile
 
-from calls import TOP, WORDS, Tally, call
+from calls import TOP, WORDS, Tally, call, installed
 
 LEXER = TOP / "crates/pb_lexer/src/words.rt"
 VIM = TOP / "extras/vim/syntax/parbegin.vim"
@@ -22,6 +28,8 @@ MANUAL = TOP / "docs/parbegin.1"
 TASKS = {"TODO", "FIXME", "NOTE"}
 # What clap gives to every command, and what may come before a command.
 COMMON = {"help", "version", "unproved", "quiet"}
+# Options that the script takes, and the program does not know.
+OF_SCRIPT = {"check": {"format", "jobs"}}
 BEFORE = {BASH: ("--unproved", "--quiet"), FISH: ("-l unproved", "-l quiet"), MANUAL: (r"\-\-unproved", r"\-\-quiet")}
 
 
@@ -52,7 +60,7 @@ def commands():
     """Returns the commands of the program, each with its options."""
     listed = re.search(r"^Commands:\n((?:  .*\n)+)", help_of(), re.M)[1]
     names = re.findall(r"^  ([a-z]+)\b", listed, re.M)
-    return {name: options_of(name) for name in names}
+    return {name: options_of(name) | OF_SCRIPT.get(name, set()) for name in names}
 
 
 def options_of(command):
@@ -83,6 +91,72 @@ def manual_commands():
     return {it.split()[0]: set(re.findall(r"\\-\\-([a-z]+)", it)) for it in parts}
 
 
+# What is completed behind some words, and one completion of it.
+COMPLETED = (
+    (["outcomes", "--lend", ""], "cash"), (["help", "rep"], "replay"), (["check", "--format", ""], "sarif"),
+    (["run", "a"], "a.pb"), (["--quiet", "debug", "a"], "a.pb"), (["explain", "N"], "N3"),
+)
+BASH_COMPLETES = """source "$1"; shift; COMP_WORDS=(parbegin "$@"); COMP_CWORD=$#; _parbegin; printf '%s\\n' "${COMPREPLY[@]}" """
+WRONG_TEXT = "process p begin\n  x := 1\nend\n"
+VIM_TELLS = ["-c", "call writefile([&filetype], 'told')", "-c", "qa!"]
+VIM_MAKES = [
+    "-c", "silent make a.pb", "-c", "let places = filter(getqflist(), 'v:val.valid')",
+    "-c", "call writefile([bufname(places[0].bufnr) .. ' ' .. places[0].lnum .. ' ' .. places[0].col], 'told')", "-c", "qa!",
+]
+EMACS_READS = """(progn (require 'compile) (with-current-buffer (get-buffer-create "told")
+  (call-process "%s" nil t nil "check" "--format" "gcc" "a.pb")
+  (compilation-mode)
+  (let ((place (compilation--message->loc (compilation-next-error 0 nil (point-min)))))
+    (princ (format "%%s %%s %%s" (caar (compilation--loc->file-struct place))
+      (compilation--loc->line place) (compilation--loc->col place))))))"""
+
+
+def written(words, folder):
+    """Calls a program in a folder, and returns what it wrote."""
+    ran = subprocess.run(words, cwd=folder, stdin=subprocess.DEVNULL, capture_output=True, check=False)
+    return ran.stdout.decode()
+
+
+def try_completions(tally, folder):
+    for words, wanted in COMPLETED:
+        found = written(["bash", "-c", BASH_COMPLETES, "bash", str(BASH), *words], folder)
+        tally.expect(wanted in found.split(), "bash completes", words, found)
+        if shutil.which("fish"):
+            line = " ".join(["parbegin", *words])
+            found = written(["fish", "-c", f"source {FISH}; complete -C'{line}'"], folder)
+            tally.expect(wanted in re.findall(r"^[^\t\n]+", found, re.M), "fish completes", words, found)
+
+
+def try_vim(tally, folder, script):
+    vim = ["vim", "-Nu", "NONE", "-es", "--cmd", f"set rtp^={TOP}/extras/vim", "-c", "filetype on"]
+    for name in ("a.pb", "a.run"):
+        written([*vim, "-c", f"edit {name}", *VIM_TELLS], folder)
+        tally.expect((folder / "told").read_text() == "parbegin\n", "vim takes", name, "for another language")
+    (folder / "told").unlink()
+    written([*vim, "-c", f"set makeprg={script}\\ check\\ --format\\ gcc", *VIM_MAKES], folder)
+    told = folder / "told"
+    is_found = told.exists() and told.read_text() == "a.pb 2 3\n"
+    tally.expect(is_found, "vim does not find the place of a refusal")
+
+
+def try_editors(tally):
+    """Tries completion, and the editors that are there."""
+    with tempfile.TemporaryDirectory() as name:
+        folder = pathlib.Path(name)
+        script = installed(folder / "installed")
+        (folder / "a.pb").write_text(WRONG_TEXT)
+        (folder / "a.run").write_text(WRONG_TEXT)
+        try_completions(tally, folder)
+        if shutil.which("vim"):
+            try_vim(tally, folder, script)
+        if shutil.which("emacs"):
+            told = written(["emacs", "--batch", "-Q", "--eval", EMACS_READS % script], folder)
+            tally.expect(told == "a.pb 2 3", "emacs does not find the place of a refusal", told)
+        missing = [it for it in ("fish", "vim", "emacs") if not shutil.which(it)]
+        if missing:
+            print(f"not tried, since not installed: {', '.join(missing)}")
+
+
 def main():
     tally, words, wanted = Tally(), reserved_words(), commands()
     for name, found in (("Vim", vim_words()), ("VS Code", grammar_words())):
@@ -97,6 +171,7 @@ def main():
     for file, options in BEFORE.items():
         for option in options:
             tally.expect(option in file.read_text(), f"{file.name}: {option}")
+    try_editors(tally)
     print(f"{len(words)} reserved words, {len(wanted)} commands")
     tally.end("editors")
 

@@ -14,8 +14,6 @@ that a proof cites, or that cannot be tried, is not refused. The status is 0 if 
 """
 from __future__ import annotations
 
-import importlib.machinery
-import importlib.util
 import re
 import shutil
 import signal
@@ -24,9 +22,12 @@ import sys
 import tempfile
 from collections.abc import Iterator
 from pathlib import Path
-from types import ModuleType
 
 TOP = Path(__file__).resolve().parent.parent
+sys.path.insert(0, str(TOP))
+sys.dont_write_bytecode = True
+from script.kept import take_libraries  # noqa: E402
+
 MOVED = TOP / "checks" / "wrong_bodies"
 # What rt says of an edit, and how it says that the edit is refused.
 TOLD = re.compile(r"rt: must-fail (\w+)/([\w.-]+)\.edit: (.*)")
@@ -63,17 +64,6 @@ def copy_crates(to: Path) -> None:
         (folder / "must-fail").mkdir()
         for name, edit in edits_of(crate).items():
             shutil.copyfile(edit, folder / "must-fail" / f"{name}.edit")
-
-
-def build_script() -> ModuleType:
-    """Returns ./parbegin as a module."""
-    loader = importlib.machinery.SourceFileLoader("build_script", str(TOP / "parbegin"))
-    spec = importlib.util.spec_from_loader(loader.name, loader)
-    assert spec is not None
-    script = importlib.util.module_from_spec(spec)
-    sys.dont_write_bytecode = True
-    loader.exec_module(script)
-    return script
 
 
 def told_of(crate: str, copy: Path) -> Iterator[tuple[str, str]]:
@@ -118,7 +108,7 @@ def main(words: list[str]) -> int:
     refused = others = 0
     with tempfile.TemporaryDirectory(prefix="parbegin-wrong-bodies-") as folder:
         copy_crates(Path(folder))
-        build_script().take_libraries(folder, wanted)
+        take_libraries(folder, wanted)
         for crate in wanted:
             here, not_here = try_crate(crate, Path(folder))
             refused, others = refused + here, others + not_here

@@ -15,18 +15,26 @@ _parbegin() {
         mapfile -t COMPREPLY < <(compgen -W "$commands" -- "$word")
         return
     fi
-    # the value of an option is a number
+    # the value of an option is one of some words, or a number
     case $before in
     --object)
         mapfile -t COMPREPLY < <(compgen -W "1 2" -- "$word")
         return
         ;;
-    --heap | --workers | --quantum | --steps | --seed | --states)
+    --lend)
+        mapfile -t COMPREPLY < <(compgen -W "banker cash" -- "$word")
+        return
+        ;;
+    --format)
+        mapfile -t COMPREPLY < <(compgen -W "text gcc json sarif" -- "$word")
+        return
+        ;;
+    --jobs | --heap | --workers | --quantum | --steps | --seed | --states)
         return
         ;;
     esac
     case ${COMP_WORDS[at]} in
-    check) options="--heap" ;;
+    check) options="--heap --format --jobs" ;;
     claims) options="" ;;
     debug) options="--live" ;;
     draw) options="" ;;
@@ -44,6 +52,12 @@ _parbegin() {
     record) options="--workers --quantum --steps --seed" ;;
     replay) options="" ;;
     run) options="--workers --quantum --steps" ;;
+    help)
+        # its word is a command
+        local named="check claims debug draw emit exec explain migrate outcomes record replay run"
+        mapfile -t COMPREPLY < <(compgen -W "$named" -- "$word")
+        return
+        ;;
     *) return ;;
     esac
     if [[ $word == -* ]]; then

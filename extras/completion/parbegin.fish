@@ -23,12 +23,16 @@ complete -c parbegin -n "not __fish_seen_subcommand_from $commands" -a run -d "R
 complete -c parbegin -n "not __fish_seen_subcommand_from $commands" -a help -d "Print help of a command"
 
 complete -c parbegin -n "__fish_seen_subcommand_from check" -l heap -x -d "Bytes of the heap of each text"
+complete -c parbegin -n "__fish_seen_subcommand_from check" -l format -x -a "text gcc json sarif" -d "How refusals are told"
+complete -c parbegin -n "__fish_seen_subcommand_from check" -l jobs -x -d "Most calls side by side"
 complete -c parbegin -n "__fish_seen_subcommand_from debug" -l live -d "Answer each command as it comes"
 complete -c parbegin -n "__fish_seen_subcommand_from emit" -l object -x -a "1 2" -d "Format of the object"
 complete -c parbegin -n "__fish_seen_subcommand_from exec record run" -l workers -x -d "Worker threads, 1 to 16"
 complete -c parbegin -n "__fish_seen_subcommand_from exec record run" -l quantum -x -d "Most steps at once, 1 to 4096"
 complete -c parbegin -n "__fish_seen_subcommand_from exec record run" -l steps -x -d "Most steps of the run"
 complete -c parbegin -n "__fish_seen_subcommand_from explain" -f -a "$codes"
+complete -c parbegin -n "__fish_seen_subcommand_from help" -f -a "$commands"
+complete -c parbegin -n "__fish_seen_subcommand_from $commands; and not __fish_seen_subcommand_from explain help" -F
 complete -c parbegin -n "__fish_seen_subcommand_from outcomes" -l states -x -d "Most configurations, 1 to 4000000"
 complete -c parbegin -n "__fish_seen_subcommand_from outcomes" -l lend -x -a "banker cash" -d "Who decides on a request"
 complete -c parbegin -n "__fish_seen_subcommand_from record" -l seed -x -d "Draw the run by this seed"

@@ -1,1 +1,3 @@
-autocmd BufNewFile,BufRead *.pb setfiletype parbegin
+autocmd BufNewFile,BufRead *.pb set filetype=parbegin
+" A recorded run is a text with picks; other files with this ending are mostly programs of a shell.
+autocmd BufNewFile,BufRead *.run if getline(1) !~# '^#!' | set filetype=parbegin | endif

@@ -1,0 +1,142 @@
+#!/usr/bin/env python3
+"""Shows when ./parbegin builds: only if a file that the program is made from has other contents.
+
+    checks/rebuilds.py
+
+It works on a copy of the script with two crates, and with a command in place of the kit's rt that only writes down what
+it was called for.
+Its status is 0 if all is as wanted, and 1 if not.
+"""
+from __future__ import annotations
+
+import os
+import pathlib
+import shutil
+import subprocess
+import tempfile
+import time
+
+from calls import TOP, Tally
+
+# In place of rt: writes down its call, and as a build of the program makes one that says so.
+RT = """#!/bin/sh
+echo "$PWD $*" >>"$CALLS"
+case "$1" in
+run)
+    printf '#!/bin/sh\\necho a program\\n' >out/pb_cli.new
+    chmod +x out/pb_cli.new
+    mv out/pb_cli.new out/pb_cli
+    ;;
+esac
+"""
+CRATES = {"pb_base": "", "pb_cli": "pb_base"}
+SOURCE = "crates/pb_base/src/lib.rt"
+NO_PROGRAM = 8
+
+
+class Checkout:
+    """A copy of the checkout, and the calls of rt that its script makes."""
+
+    def __init__(self, top: pathlib.Path, folder: pathlib.Path) -> None:
+        self.top, self.calls = top, folder / "calls"
+        self.where = {**os.environ, "PATH": f"{folder}/bin:{os.environ['PATH']}", "CALLS": str(self.calls)}
+
+    def run(self, *words: str) -> tuple[int, bytes, int]:
+        """Calls the script, and returns its status, what it wrote, and how many crates it built."""
+        self.calls.write_text("")
+        words = words or ("run", "examples/hello.pb")
+        ran = subprocess.run(
+            [str(self.top / "parbegin"), *words], cwd=self.top, env=self.where, capture_output=True, check=False)
+        return ran.returncode, ran.stdout, len(self.calls.read_text().splitlines())
+
+    def builds(self) -> bool:
+        """Calls the script, and returns whether it built the program, all crates of it."""
+        status, told, built = self.run()
+        assert (status, told) == (0, b"a program\n"), (status, told)
+        assert built in (0, len(CRATES)), built
+        return built > 0
+
+
+def copied(folder: pathlib.Path) -> Checkout:
+    """Returns a copy of the sources, with the command in place of rt."""
+    first = folder / "first"
+    for part in ("script", *(f"crates/{crate}/src" for crate in CRATES)):
+        shutil.copytree(TOP / part, first / part, ignore=shutil.ignore_patterns("__pycache__"))
+    (first / "examples").mkdir()
+    for file in ("parbegin", "examples/hello.pb"):
+        shutil.copy(TOP / file, first / file)
+    (first / "crates.txt").write_text("".join(f"{crate}: {below}\n" for crate, below in CRATES.items()))
+    (folder / "bin").mkdir()
+    (folder / "bin/rt").write_text(RT)
+    (folder / "bin/rt").chmod(0o755)
+    return Checkout(first, folder)
+
+
+def try_changes(tally: Tally, it: Checkout) -> None:
+    """Tries changes of a source in place."""
+    source = it.top / SOURCE
+    contents = source.read_bytes()
+    tally.expect(it.builds(), "the first call builds nothing")
+    tally.expect(not it.builds(), "the second call builds")
+    os.utime(source)
+    tally.expect(not it.builds(), "a file that was touched is built")
+    new = source.with_suffix(".new")
+    new.write_bytes(contents)
+    os.replace(new, source)
+    tally.expect(not it.builds(), "a file that was written anew is built")
+    source.write_bytes(contents.replace(b"a", b"b", 1))
+    tally.expect(it.builds(), "other contents of the same length are not built")
+    source.write_bytes(contents)
+    tally.expect(it.builds(), "the contents from before are not built")
+    (source.parent / "more.rt").write_bytes(b"")
+    tally.expect(it.builds(), "a new file is not built")
+    (source.parent / "more.rt").unlink()
+    tally.expect(it.builds(), "a file that is gone is not seen")
+    program = it.top / "crates/pb_cli/out/pb_cli"
+    program.write_bytes(program.read_bytes() + b"# by hand\n")
+    tally.expect(it.builds(), "a program that was changed is taken")
+
+
+def try_copies(tally: Tally, it: Checkout, folder: pathlib.Path) -> None:
+    """Tries a copy of what is built, and one by hard links."""
+    shutil.copytree(it.top, folder / "copy", copy_function=shutil.copyfile)
+    for file in ("parbegin", "crates/pb_cli/out/pb_cli"):
+        (folder / "copy" / file).chmod(0o755)
+    tally.expect(not Checkout(folder / "copy", folder).builds(), "a copy is built")
+    shutil.copytree(it.top, folder / "links", copy_function=os.link)
+    tally.expect(not Checkout(folder / "links", folder).builds(), "a copy by hard links is built")
+    tally.expect(not it.builds(), "a checkout with hard links to it is built")
+
+
+def try_gate(tally: Tally, it: Checkout) -> None:
+    """Tries to take over the program that the gate has built."""
+    out = it.top / "crates/pb_cli/out"
+    record, option = out / "built_from.json", "--built-by-the-gate"
+    record.unlink()
+    began = str(time.time())
+    tally.expect(it.run(option, began)[0] == NO_PROGRAM, "a program from before the gate is taken")
+    os.utime(out / "pb_cli")
+    tally.expect(it.run(option, began) == (0, b"", 0), "the gate's program is not taken")
+    tally.expect(not it.builds(), "the gate's program is built once more")
+    record.unlink()
+    tally.expect(it.run(option)[0] == 0, "the gate's program is not taken without a time")
+    record.unlink()
+    os.utime(it.top / SOURCE)
+    tally.expect(it.run(option, began)[0] == NO_PROGRAM, "a source that changed during the gate is overlooked")
+    tally.expect(it.run(option)[0] == NO_PROGRAM, "a source newer than the program is overlooked")
+    tally.expect(not record.exists(), "something was recorded")
+    tally.expect(it.builds(), "what the gate has not proved is not built")
+
+
+def main() -> None:
+    tally = Tally()
+    with tempfile.TemporaryDirectory(prefix="parbegin-rebuilds-") as name:
+        folder = pathlib.Path(name)
+        it = copied(folder)
+        try_changes(tally, it)
+        try_copies(tally, it, folder)
+        try_gate(tally, it)
+    tally.end("rebuilds")
+
+
+main()

@@ -1,0 +1,239 @@
+"""`check` over files: many at once, and the answers as text, or as data for editors and code hosts."""
+from __future__ import annotations
+
+import concurrent.futures
+import os
+import re
+import subprocess
+import sys
+from collections.abc import Callable, Iterable, Iterator
+from dataclasses import dataclass
+
+from script import files, helping
+from script.findings import Finding, finding, texts_of
+from script.places import DEVICE, WORDS, say
+from script.reports import gcc_lines, json_lines, sarif_document
+
+FORMATS = ("text", "gcc", "json", "sarif")
+STANDARD_INPUT = "<stdin>"
+# So much is checked by one call at most: answers come while later files are read. A text of this length must not get a
+# line feed behind it, which would make it too long.
+MOST_TEXTS, MOST_BYTES, LONG_TEXT = 256, 1_000_000, 65_536
+
+
+@dataclass
+class Answer:
+    """What a call said of some texts that follow one another: its status, its lines, and its messages."""
+
+    status: int
+    lines: list[str]
+    messages: bytes
+
+
+@dataclass
+class Options:
+    """What the script's own options of `check` say, and the other words."""
+
+    format: str = "text"
+    jobs: int = 0
+    words: list[str] | None = None
+
+
+def read_options(words: list[str]) -> Options | str:
+    """Takes the script's own options from the words, or returns what is wrong with them."""
+    options, left = Options(jobs=len(os.sched_getaffinity(0)), words=[]), iter(words)
+    for word in left:
+        name, given, value = word.partition("=")
+        if name not in ("--format", "--jobs"):
+            options.words.append(word)
+            continue
+        value = value if given else next(left, "")
+        if name == "--format" and value in FORMATS:
+            options.format = value
+        elif name == "--jobs" and value.isdigit() and int(value) > 0:
+            options.jobs = int(value)
+        else:
+            wanted = "one of " + ", ".join(FORMATS) if name == "--format" else "a number from 1 on"
+            return f"{name} wants {wanted}"
+    return options
+
+
+class Checker:
+    """Calls of the program's `check`, with its options."""
+
+    def __init__(self, start: list[str], words: list[str]) -> None:
+        self.call = [*start, "check", *words]
+
+    def ask(self, given: bytes) -> Answer:
+        """Checks the texts of an input."""
+        ran = subprocess.run(self.call, input=given, capture_output=True, check=False)
+        return Answer(ran.returncode, ran.stdout.decode(errors="replace").splitlines(), ran.stderr)
+
+    def ask_together(self, inputs: list[bytes]) -> list[Answer | None]:
+        """Checks inputs by one call, and returns the answer to each that is accepted whole."""
+        given = b"%%\n".join(it if it.endswith(b"\n") or not it else it + b"\n" for it in inputs)
+        counts = [len(files.parts_of(it)) for it in inputs]
+        lines = self.ask(given).lines
+        if len(lines) != sum(counts):
+            return [None] * len(inputs)
+        answers: list[Answer | None] = []
+        for count in counts:
+            own, lines = lines[:count], lines[count:]
+            answers.append(Answer(0, own, b"") if own == ["ok"] * count else None)
+        return answers
+
+    def ask_all(self, inputs: list[bytes], jobs: int) -> list[Answer]:
+        """Checks inputs: those that are accepted by one call, and each other one by a call for its message."""
+        together = [at for at, it in enumerate(inputs) if it.endswith(b"\n") or len(it) < LONG_TEXT]
+        answers: list[Answer | None] = [None] * len(inputs)
+        if len(inputs) > 1:
+            for at, answer in zip(together, self.ask_together([inputs[at] for at in together])):
+                answers[at] = answer
+        with concurrent.futures.ThreadPoolExecutor(jobs) as pool:
+            left = pool.map(lambda it: it[1] or self.ask(it[0]), zip(inputs, answers))
+            return list(left)
+
+
+class Source:
+    """The files, of which those that can't be read are told of and counted."""
+
+    def __init__(self, names: list[str]) -> None:
+        self.names, self.not_read = names, 0
+
+    def read(self) -> Iterator[tuple[str, bytes]]:
+        """Yields each file that can be read, with its bytes."""
+        for name in self.names:
+            given = self.bytes_of(name)
+            if given is None:
+                self.not_read += 1
+            else:
+                yield name, given
+
+    def bytes_of(self, name: str) -> bytes | None:
+        """Returns the bytes of a file, or says why it can't be read."""
+        try:
+            if name == STANDARD_INPUT:
+                return sys.stdin.buffer.read()
+            file = files.opened(name)
+            if file is None:
+                return None
+            with file:
+                return file.read(files.MOST_READ + 1)
+        except OSError as fault:
+            say(f"{name}: {fault.strerror}")
+            return None
+
+
+def groups(read: Iterable[tuple[str, bytes]]) -> Iterator[list[tuple[str, bytes]]]:
+    """Yields files in groups that one call can check."""
+    group: list[tuple[str, bytes]] = []
+    size = 0
+    for name, given in read:
+        if group and (len(group) >= MOST_TEXTS or size + len(given) > MOST_BYTES):
+            yield group
+            group, size = [], 0
+        group.append((name, given))
+        size += len(given) + len(b"\n%%\n")
+    if group:
+        yield group
+
+
+def tell_text(name: str, answer: Answer) -> None:
+    """Writes the lines of an answer behind the name of its file, and its messages to standard error."""
+    out = sys.stdout
+    out.writelines(f"{name}: {line}\n" for line in answer.lines)
+    out.flush()
+    # (no other line of a message begins so)
+    messages = re.sub(rb"^(?=error )", lambda _: os.fsencode(f"{name}: "), answer.messages, flags=re.M)
+    try:
+        sys.stderr.buffer.write(messages)
+        sys.stderr.buffer.flush()
+    except (OSError, ValueError):
+        pass
+
+
+@dataclass
+class Sums:
+    """What came of all files."""
+
+    status: int = 0
+    accepted: int = 0
+    refused: int = 0
+
+    def add(self, answer: Answer) -> None:
+        """Counts the answer to a file."""
+        self.status = max(self.status, answer.status)
+        self.accepted += answer.status == 0
+        self.refused += answer.status != 0
+
+
+def check_as_text(checker: Checker, source: Source, jobs: int, sums: Sums) -> None:
+    """Checks each file, and tells of it as the program does, with its name."""
+    for group in groups(source.read()):
+        for (name, _), answer in zip(group, checker.ask_all([given for _, given in group], jobs)):
+            sums.add(answer)
+            tell_text(name, answer)
+
+
+def findings_of(group: list[tuple[str, bytes]], checker: Checker, jobs: int, sums: Sums) -> Iterator[Finding]:
+    """Yields what is said of each text of each of these files."""
+    by_file = [texts_of(name, given, files.parts_of(given)) for name, given in group]
+    texts = [text for texts in by_file for text in texts]
+    answers = iter(checker.ask_all([text.given for text in texts], jobs))
+    for of_file in by_file:
+        worst = Answer(0, [], b"")
+        for text in of_file:
+            answer = next(answers)
+            worst = max(worst, answer, key=lambda it: it.status)
+            line = answer.lines[-1] if answer.lines else ""
+            yield finding(text, line, answer.messages.decode(errors="replace"))
+        sums.add(worst)
+
+
+def check_as_data(checker: Checker, source: Source, options: Options, sums: Sums) -> None:
+    """Checks each file, and tells of each text in a format for programs."""
+    lines: dict[str, Callable[[Finding], Iterator[str]]] = {"gcc": gcc_lines, "json": json_lines}
+    kept: list[Finding] = []
+    for group in groups(source.read()):
+        for found in findings_of(group, checker, options.jobs, sums):
+            if options.format in lines:
+                sys.stdout.writelines(lines[options.format](found))
+            else:
+                kept.append(found)
+        sys.stdout.flush()
+    if options.format == "sarif":
+        sys.stdout.write(sarif_document(checker.call[:1], kept))
+        sys.stdout.flush()
+
+
+def tell_sums(sums: Sums, source: Source) -> None:
+    """Says how many files were accepted."""
+    count = len(source.names)
+    missing = f", {source.not_read} not read" if source.not_read else ""
+    say(f"{count} {'file' if count == 1 else 'files'}: {sums.accepted} accepted, {sums.refused} refused{missing}")
+
+
+def check(start: list[str], words: list[str]) -> int:
+    """Checks files, and returns the greatest status."""
+    options = read_options(words)
+    if isinstance(options, str):
+        say(options)
+        return WORDS
+    sorted_words = files.sort_words(start, "check", options.words or [])
+    if helping.are_refused(start, ["check", *sorted_words.others]):
+        return WORDS
+    source, sums = Source(sorted_words.named or [STANDARD_INPUT]), Sums()
+    # (a name of bytes that are no text is written as it is)
+    sys.stdout.reconfigure(errors="surrogateescape")
+    checker = Checker(start, sorted_words.others)
+    try:
+        if options.format == "text":
+            check_as_text(checker, source, options.jobs, sums)
+        else:
+            check_as_data(checker, source, options, sums)
+    except OSError:
+        os.dup2(os.open(os.devnull, os.O_WRONLY), 1)
+        return DEVICE
+    if "--quiet" not in start and (len(source.names) > 1 or options.format != "text"):
+        tell_sums(sums, source)
+    return max(sums.status, DEVICE if source.not_read else 0)

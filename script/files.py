@@ -1,0 +1,113 @@
+"""Which words of a call name files, and what the files hold."""
+from __future__ import annotations
+
+import os
+import re
+import subprocess
+import sys
+from typing import BinaryIO, NamedTuple
+
+from script.places import DEVICE, say
+
+# Commands whose words are never files.
+NO_FILES = ("explain", "help")
+# Commands that read one text, an object, and a text with picks.
+OF_TEXTS = ("run", "claims", "emit", "record", "outcomes")
+OF_OBJECTS = ("exec", "migrate")
+OF_PICKS = ("replay", "draw")
+PICK = re.compile(rb"[A-Za-z]\w*\.\d+ \d+$")
+# A file of which the kind is looked for is read up to here: the longest input of the program.
+MOST_READ = 4_194_304
+
+
+class Words(NamedTuple):
+    """The words of a call: those that name files, in order, and the others."""
+
+    named: list[str]
+    others: list[str]
+
+    @property
+    def missing(self) -> list[str]:
+        """Returns the names for which there is no file."""
+        return [name for name in self.named if not os.path.exists(name)]
+
+
+def takes_value(start: list[str], command: str, option: str) -> bool:
+    """Returns whether the option of a command has a value behind it, as the program's help says."""
+    ran = subprocess.run([*start, command, "--help"], stdin=subprocess.DEVNULL, capture_output=True, check=False)
+    return re.search(rf"{re.escape(option)}[ =]<", ran.stdout.decode(errors="replace")) is not None
+
+
+def sort_words(start: list[str], command: str, words: list[str]) -> Words:
+    """Says of each word whether it names a file. What is behind an option that has a value is that value."""
+    sorted_words = Words([], [])
+    for before, word in zip(["", *words], words):
+        follows = before.startswith("--") and "=" not in before
+        is_other = word.startswith("-") or follows and (word.isdigit() or takes_value(start, command, before))
+        (sorted_words.others if is_other else sorted_words.named).append(word)
+    return sorted_words
+
+
+def tell_missing(name: str) -> None:
+    """Says that there is no such file."""
+    say(f"no such file: {name}")
+
+
+def opened(name: str) -> BinaryIO | None:
+    """Opens a file to read, or says why it can't be."""
+    try:
+        return open(name, "rb")
+    except FileNotFoundError:
+        tell_missing(name)
+    except OSError as fault:
+        say(f"{name}: {fault.strerror}")
+    return None
+
+
+def give_file(name: str) -> None:
+    """Makes a file the standard input, or ends the script."""
+    file = opened(name)
+    if file is None:
+        sys.exit(DEVICE)
+    with file:
+        os.dup2(file.fileno(), 0)
+
+
+def parts_of(given: bytes) -> list[bytes]:
+    """Returns the parts of an input between its lines `%%`."""
+    return re.split(rb"^%%(?:\n|\Z)", given, flags=re.M)
+
+
+def is_object(given: bytes) -> bool:
+    """Returns whether this is no text but an object."""
+    return given.startswith(b"PBO ")
+
+
+def has_picks(parts: list[bytes]) -> bool:
+    """Returns whether the second part is pick lines."""
+    return all(PICK.match(line) for line in parts[1].splitlines())
+
+
+def advice(command: str, name: str, given: bytes) -> str | None:
+    """Returns which command reads this, if this one can't."""
+    parts = parts_of(given)
+    if is_object(given) and command in (*OF_TEXTS, *OF_PICKS, "check"):
+        return f"{name} is an object: exec runs it, and debug and migrate read it"
+    if command in OF_TEXTS and len(parts) > 1 and has_picks(parts):
+        return f"{name} has picks behind a line %%: replay makes them, and debug and draw read them"
+    if command in OF_TEXTS and len(parts) > 1:
+        return f"{name} has several texts, between lines %%: check reads these, and {command} one text"
+    if command in OF_OBJECTS and not is_object(given) and given.strip():
+        return f"{name} is no object, which begins with PBO: run runs a text, and emit writes its object"
+    return None
+
+
+def advise(command: str, name: str) -> None:
+    """Says which command reads a file, if this one can't."""
+    try:
+        with open(name, "rb") as file:
+            told = advice(command, name, file.read(MOST_READ + 1))
+    except OSError:
+        return
+    if told:
+        say(told)

@@ -1,0 +1,95 @@
+"""What `check` says of a text, taken from the program's line and from its message."""
+from __future__ import annotations
+
+import re
+from dataclasses import dataclass, field
+
+HEAD = re.compile(r"error (\w+): (.*)")
+PLACE = re.compile(r" *--> (?:(?P<what>.*): )?(?:text \d+, )?line (?P<line>\d+), column (?P<column>\d+)")
+NOTE = re.compile(r" *= (?:(expected|hint): )?(.*)")
+LINE = re.compile(r"refused (\w+)(?: at (\d+))?")
+
+
+@dataclass(frozen=True)
+class Place:
+    """A place of a file, in lines and bytes from 1, and what is there, if more is to be said than the message."""
+
+    line: int
+    column: int
+    what: str
+
+
+@dataclass(frozen=True)
+class Text:
+    """A text of a file: its number, from 1, its bytes, and how many bytes and lines of the file are before it."""
+
+    file: str
+    number: int
+    given: bytes
+    bytes_before: int = 0
+    lines_before: int = 0
+
+
+@dataclass(frozen=True)
+class Finding:
+    """What is said of a text: the line of the answer, and of a refusal its code, words and places."""
+
+    text: Text
+    line: str
+    code: str = ""
+    message: str = ""
+    offset: int | None = None
+    places: list[Place] = field(default_factory=list)
+    expected: list[str] = field(default_factory=list)
+    hints: list[str] = field(default_factory=list)
+    notes: list[str] = field(default_factory=list)
+
+    @property
+    def is_accepted(self) -> bool:
+        """Returns whether the text is a program."""
+        return self.line == "ok"
+
+
+def texts_of(file: str, given: bytes, parts: list[bytes]) -> list[Text]:
+    """Returns the texts of a file, which lines `%%` separate."""
+    texts, at, lines = [], 0, 0
+    for number, part in enumerate(parts, 1):
+        texts.append(Text(file, number, part, at, lines))
+        at += len(part) + len(b"%%\n")
+        lines += part.count(b"\n") + 1
+    assert at - len(b"%%\n") in (len(given), len(given) + 1)
+    return texts
+
+
+def place_at(text: Text, at: int) -> Place:
+    """Returns the place of a byte of a text in its file."""
+    before = text.given[:at]
+    return Place(text.lines_before + before.count(b"\n") + 1, at - before.rfind(b"\n"), "")
+
+
+def sort_notes(lines: list[str]) -> dict[str, list[str]]:
+    """Returns what the notes of a message expect, hint at, and say beside."""
+    kinds: dict[str, list[str]] = {"expected": [], "hint": [], "": []}
+    for line in lines:
+        note = NOTE.fullmatch(line)
+        if note:
+            kinds[note[1] or ""].append(note[2])
+    return kinds
+
+
+def finding(text: Text, line: str, message: str) -> Finding:
+    """Returns what is said of a text by its line and by the message of it alone."""
+    refusal = LINE.match(line)
+    if not refusal:
+        return Finding(text, line) if line == "ok" else Finding(text, line, line or "none", "it could not be checked")
+    lines = message.splitlines()
+    head = HEAD.match(lines[0]) if lines else None
+    found = [it for it in map(PLACE.fullmatch, lines) if it]
+    places = [Place(text.lines_before + int(it["line"]), int(it["column"]), it["what"] or "") for it in found]
+    at = int(refusal[2]) if refusal[2] else None
+    if at is not None and not places:
+        places = [place_at(text, at)]
+    notes = sort_notes(lines)
+    offset = None if at is None else text.bytes_before + at
+    said = head[2] if head else line
+    return Finding(text, line, refusal[1], said, offset, places, notes["expected"], notes["hint"], notes[""])

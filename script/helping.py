@@ -1,0 +1,107 @@
+"""Help, the version, and words that the program refuses."""
+from __future__ import annotations
+
+import os
+import re
+import subprocess
+import sys
+
+from script.places import DEVICE, WORDS
+
+FILES = """
+In place of standard input a FILE may be named: `parbegin run FILE`. So `parbegin COMMAND FILE` is
+`parbegin COMMAND < FILE`; of several, `parbegin check FILE ..` checks each. This text and that of the version
+end with status 0 here, and with 2 if the program is called by itself.
+"""
+CHECK = """
+Of files:
+      --format <FORMAT>  How each refusal is told: text, gcc (FILE:LINE:COLUMN: error: ..), json (an object a line) or
+                         sarif [default: text]
+      --jobs <COUNT>     The most calls of the program side by side [default: one for each processor]
+"""
+DEBUG = """
+At a terminal `parbegin debug FILE` is a session with a prompt, where `help` says what each command does.
+These are the program's commands:
+
+"""
+HELPFUL = ("--help", "-h")
+VERSION = ("--version", "-V")
+# A text on which a session of the program lists its commands.
+SESSION = b"process p begin skip end\n%%\n%%\nhelp\n"
+
+
+def ran_on(start: list[str], words: list[str], given: bytes = b"") -> tuple[int, bytes, bytes]:
+    """Runs the program, and returns its status, what it wrote, and what it wrote to standard error."""
+    ran = subprocess.run([*start, *words], input=given, capture_output=True, check=False)
+    return ran.returncode, ran.stdout, ran.stderr
+
+
+def commands(start: list[str]) -> list[str]:
+    """Returns the commands of the program."""
+    listed = re.search(r"^Commands:\n((?:  .*\n)+)", ran_on(start, ["--help"])[1].decode(), re.M)
+    return re.findall(r"^  ([a-z]+)\b", listed[1], re.M) if listed else []
+
+
+def asks_for_help(words: list[str]) -> bool:
+    """Returns whether help or the version is asked for, and nothing is to be done."""
+    return words[:1] == ["help"] or words[:1] != [] and words[0] in VERSION or any(word in HELPFUL for word in words)
+
+
+def command_of_help(words: list[str]) -> str | None:
+    """Returns the command whose help is asked for, or nothing if it is that of the program."""
+    named = [word for word in words if not word.startswith("-") and word != "help"]
+    return named[0] if named else None
+
+
+def show_help(start: list[str], words: list[str]) -> int:
+    """Writes help or the version, and returns the status: 0, unless the words are refused."""
+    command = command_of_help(words)
+    known = commands(start)
+    asked = [command, "--help"] if command in known else words
+    _, told, _ = ran_on(start, asked)
+    if command and command not in known:
+        return write_refusal(told, b"")
+    out = told.decode(errors="replace")
+    if words[0] not in VERSION:
+        out += more_help(start, command)
+    return write(out)
+
+
+def more_help(start: list[str], command: str | None) -> str:
+    """Returns what the script adds to the program's help."""
+    if command == "debug":
+        return DEBUG + ran_on(start, ["debug"], SESSION)[1].decode(errors="replace")
+    return {"check": CHECK, None: FILES}.get(command, "")
+
+
+def write(text: str) -> int:
+    """Writes a text to standard output, and returns the status."""
+    try:
+        sys.stdout.write(text)
+        sys.stdout.flush()
+    except OSError:
+        # (so that Python writes nothing more when it ends)
+        os.dup2(os.open(os.devnull, os.O_WRONLY), 1)
+        return DEVICE
+    return 0
+
+
+def write_refusal(told: bytes, messages: bytes) -> int:
+    """Writes to standard error why the words are refused, and returns the status."""
+    try:
+        sys.stderr.buffer.write(told + messages)
+        sys.stderr.flush()
+    except OSError:
+        pass
+    return WORDS
+
+
+def are_refused(start: list[str], words: list[str]) -> bool:
+    """Returns whether the program refuses the words; then standard error has the reasons.
+
+    They are tried on an empty input, which every command refuses at once or answers in no time.
+    """
+    status, told, messages = ran_on(start, words)
+    if status == WORDS:
+        write_refusal(told, messages)
+    return status == WORDS

@@ -1,0 +1,116 @@
+"""What a call of `parbegin` does with its words."""
+from __future__ import annotations
+
+import os
+import signal
+import sys
+
+from script import files, helping
+from script.places import DEVICE, WORDS, say
+from script.program import program, record_of_gate
+
+# What each command waits for at a terminal; any other waits for a text.
+AWAITED = {
+    "check": "texts, with lines %% between them", "exec": "an object", "migrate": "an object",
+    "replay": "a text, a line %% and pick lines", "draw": "a text, a line %% and pick lines",
+    "debug": "a text, a line %%, pick lines, a line %% and commands",
+}
+
+
+def start_program(start: list[str], words: list[str]) -> None:
+    """Becomes the program."""
+    # (Python ignores these, and the program would inherit that)
+    for it in (signal.SIGPIPE, signal.SIGXFSZ):
+        signal.signal(it, signal.SIG_DFL)
+    os.execv(start[0], [*start, *words])
+
+
+def tell_what_it_awaits(command: str) -> None:
+    """Says what is to be typed, if standard input is a terminal."""
+    if os.isatty(0):
+        say(f"waiting for {AWAITED.get(command, 'a text')} from the terminal; Ctrl-D at the start of a line ends it")
+
+
+def run_command(start: list[str], command: str, words: list[str]) -> int:
+    """Runs a command of which some words may name files, and returns its status if it did not become the program."""
+    if command in files.NO_FILES:
+        if helping.are_refused(start, [command, *words]):
+            return WORDS
+        start_program(start, [command, *words])
+    if command == "check" and any(not word.startswith("-") or word.startswith("--format") for word in words):
+        from script.checking import check
+
+        return check(start, words)
+    return run_on_file(start, command, files.sort_words(start, command, words))
+
+
+def run_on_file(start: list[str], command: str, words: files.Words) -> int:
+    """Runs a command on its file, or on standard input if none is named."""
+    if (words.others or words.missing or len(words.named) > 1) and helping.are_refused(start, [command, *words.others]):
+        return WORDS
+    for name in words.missing:
+        files.tell_missing(name)
+    if words.missing:
+        return DEVICE
+    if len(words.named) > 1:
+        say(f"{command} reads one file, and here are {len(words.named)}: {', '.join(words.named)}")
+        return WORDS
+    if not words.named:
+        if command not in ("bank", "lsp", "dap"):
+            tell_what_it_awaits(command)
+    elif command == "debug":
+        from script.debugging import debug
+
+        return debug(start, words.others, words.named[0])
+    else:
+        if "--quiet" not in start:
+            files.advise(command, words.named[0])
+        files.give_file(words.named[0])
+    start_program(start, [command, *words.others])
+    return DEVICE
+
+
+def run_words(start: list[str], words: list[str]) -> int:
+    """Runs the program with these words, of which some may name files."""
+    if words[:1] == ["--quiet"]:
+        start, words = [*start, *words[:1]], words[1:]
+    if helping.asks_for_help(words):
+        return helping.show_help(start, words)
+    if not words or words[0] not in COMMANDS and words[0] not in helping.commands(start):
+        if helping.are_refused(start, words):
+            return WORDS
+        start_program(start, words)
+    return run_command(start, words[0], words[1:])
+
+
+# Commands that need not be looked for in the program's help.
+COMMANDS = ("check", "claims", "debug", "draw", "emit", "exec", "explain", "migrate", "outcomes", "record", "replay", "run")
+
+
+def run_unproved(words: list[str]) -> int:
+    """Runs the sources once with no proof, on a file if one is named."""
+    from script.trial import run_unproved as run_trial
+
+    named = [word for word in words[1:] if not word.startswith("-") and os.path.isfile(word)]
+    if len(named) == 1 and words[0] not in files.NO_FILES:
+        files.give_file(named[0])
+        words = [word for word in words if word != named[0]]
+    return run_trial(words)
+
+
+def main(words: list[str]) -> int:
+    """Does what the words of a call say, and returns the exit status."""
+    for it in (signal.SIGTERM, signal.SIGHUP):
+        signal.signal(it, signal.default_int_handler)
+    try:
+        if words[:1] == ["--unproved"]:
+            return run_unproved(words[1:])
+        if words[:1] == ["--built-by-the-gate"]:
+            return record_of_gate(words[1:])
+        return run_words([program()], words)
+    except KeyboardInterrupt:
+        return 128 + signal.SIGINT
+
+
+if __name__ == "__main__":
+    sys.exit(main(sys.argv[1:]))

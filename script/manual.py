@@ -1,0 +1,59 @@
+"""What each command of a session at a terminal means, with an example."""
+from __future__ import annotations
+
+from collections.abc import Iterator
+from typing import NamedTuple
+
+
+class Command(NamedTuple):
+    """A command: its form, what it does, and an example."""
+
+    form: str
+    meaning: str
+    example: str
+
+
+COMMANDS = {
+    "step": Command("step [N]", "makes the next pick, or the next N, and says what each did", "step 3"),
+    "back": Command("back [N]", "goes back by one pick, or by N", "back 2"),
+    "next": Command("next", "goes on to just behind the next event", "next"),
+    "prev": Command("prev", "goes back to just behind the event before", "prev"),
+    "to": Command("to N", "goes to a position: 0 is the start", "to 7"),
+    "until": Command("until P.a N", "goes on until an arm comes to line N", "until p.1 8"),
+    "pick": Command("pick P.a", "behind the last pick: makes one more, of that arm", "pick p.1"),
+    "list": Command("list [N]", "shows the source with the arms at their lines, or the lines around N", "list 12"),
+    "arms": Command("arms", "shows each arm that could be picked now, with what it would do, and those that wait", "arms"),
+    "vars": Command("vars [P]", "shows the integers of a process, or of all", "vars p"),
+    "wrote": Command("wrote P X", "shows the last pick that changed an integer of a process", "wrote p x"),
+    "threads": Command("threads [P]", "shows where the arms of a process are, or of all", "threads p"),
+    "line": Command("line P.a", "shows what an arm does next", "line p.1"),
+    "text": Command("text P.a", "shows the source line of what an arm does next", "text p.1"),
+    "loans": Command("loans", "shows who holds what, and what is left", "loans"),
+    "who": Command("who R", "shows who holds some of a resource, and who asks for it", "who tape"),
+    "why": Command("why P.a", "says why an arm waits, or why its request can be granted", "why b.0"),
+    "save": Command("save FILE", "writes the text with all picks, also those that were tried, for replay and draw", "save my.run"),
+    "help": Command("help [COMMAND]", "lists the commands, or says more of one", "help until"),
+    "quit": Command("quit", "ends the session; so does Ctrl-D", "quit"),
+}
+SHORT = {
+    "s": "step", "b": "back", "n": "next", "p": "prev", "t": "to", "u": "until", "l": "list", "a": "arms", "v": "vars",
+    "w": "why", "h": "help", "?": "help", "q": "quit",
+}
+WORDS = "P is a process, P.a an arm of it (p.0 is the body of p), X an integer, R a resource, N a number."
+MORE = "An empty line makes the last move once more. A command may be cut short, as `st` or `s`. Ctrl-C ends a command."
+
+
+def list_of_commands() -> Iterator[str]:
+    """Yields the commands, a line each."""
+    for it in COMMANDS.values():
+        yield f"  {it.form:<14} {it.meaning}"
+    yield WORDS
+    yield MORE
+
+
+def help_of(name: str) -> Iterator[str]:
+    """Yields what a command means, with an example."""
+    it = COMMANDS[name]
+    short = [key for key, full in SHORT.items() if full == name and key != "?"]
+    yield f"  {it.form}: {it.meaning}"
+    yield f"  for example: {it.example}" + (f"; `{short[0]}` is short for {name}" if short else "")

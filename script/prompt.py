@@ -1,0 +1,234 @@
+"""The debugger at a terminal: a prompt with the position, history, completion, and answers in words."""
+from __future__ import annotations
+
+import cmd
+import os
+import readline
+from collections.abc import Iterable
+
+from script import shown
+from script.happenings import Teller
+from script.manual import help_of, list_of_commands
+from script.session import Denied, Session
+from script.typed import Completion, Mistake
+
+# A move tells of so many picks at most, and of more only the last.
+MOST_TOLD = 20
+
+
+class Prompt(Completion, cmd.Cmd):
+    """A session for a person."""
+
+    def __init__(self, session: Session, name: str, is_object: bool) -> None:
+        super().__init__()
+        self.session, self.name, self.is_object = session, name, is_object
+        self.teller = Teller(session)
+        self.text = [] if is_object else session.given.decode(errors="replace").splitlines()
+        self.last_move = ""
+
+    # the loop
+
+    def run(self, commands: list[str]) -> int:
+        """Carries out the commands of a file, and then those that are typed, and returns the status."""
+        readline.set_completer_delims(" \t\n")
+        self.say(self.introduction())
+        is_over = False
+        for command in commands:
+            if command and not is_over:
+                self.say(f"{self.prompt}{command}")
+                is_over = self.onecmd(command)
+        while not is_over:
+            try:
+                self.cmdloop()
+                is_over = True
+            except KeyboardInterrupt:
+                # (the line that was typed is dropped)
+                self.say("^C")
+        return self.session.close()
+
+    def introduction(self) -> str:
+        """Returns what was loaded, in a line."""
+        code = self.session.code
+        resources = ", ".join(f"{capital} {name}" for name, capital in code.resources.items())
+        parts = [f"processes {', '.join(code.processes)}", f"{self.session.picks.total} picks"]
+        parts.append(f"resources: {resources}" if resources else "no resources")
+        return f"{self.name}: {'; '.join(parts)}. `help` lists the commands."
+
+    @property
+    def prompt(self) -> str:  # type: ignore[override]
+        """Returns the position among the picks."""
+        return f"{self.session.position}/{self.session.picks.total}> "
+
+    def say(self, text: str | Iterable[str]) -> None:
+        """Writes a line, or several."""
+        for line in [text] if isinstance(text, str) else text:
+            print(line, file=self.stdout, flush=True)
+
+    def onecmd(self, line: str) -> bool:
+        """Carries out a command, and returns whether it was the last. An interrupt ends it, and not the session."""
+        before = self.session.position
+        try:
+            return bool(super().onecmd(self.full(line)))
+        except Mistake as mistake:
+            self.say(str(mistake))
+        except Denied as denied:
+            self.say(f"the program refuses this: {denied}")
+        except KeyboardInterrupt:
+            self.session.position = before
+            self.session.again()
+            self.say("interrupted; the position is as it was")
+        return False
+
+    def emptyline(self) -> bool:
+        """Makes the last move once more."""
+        return bool(super().onecmd(self.last_move)) if self.last_move else False
+
+    # moves
+
+    def moved(self, command: str, line: str) -> None:
+        """Remembers a move, which an empty line makes once more, and tells of its picks."""
+        before, self.last_move = self.session.position, line
+        if self.session.move(command) is None:
+            self.say({"next": "no event behind this position", "prev": "no event before this position"}.get(
+                command, "it does not come there in the picks that follow"))
+            return
+        self.tell_from(before)
+
+    def tell_from(self, before: int) -> None:
+        """Tells what the picks between a position and this one did, or that these are undone."""
+        here, total = self.session.position, self.session.picks.total
+        if here > before:
+            first = before if here - before <= MOST_TOLD else here - 1
+            for pick in range(first, here):
+                self.say(f"{pick + 1}/{total} {self.teller.of_pick(pick)}")
+        elif here < before:
+            self.say(f"{here}/{total} before {self.teller.of_pick(here)}")
+        else:
+            self.say(f"{here}/{total} is where it was")
+
+    def step_by(self, by: int, line: str) -> None:
+        """Goes on or back, at most to an end of the picks."""
+        here, total = self.session.position, self.session.picks.total
+        aim = min(max(here + by, 0), total)
+        self.last_move = line
+        if aim == here and by > 0:
+            raise Mistake("the picks end here; `arms` shows what could come next, and `pick` makes such a pick")
+        if aim == here:
+            raise Mistake("this is the start")
+        self.moved(f"to {aim}", line)
+
+    def do_step(self, words: str) -> None:
+        self.step_by(self.number(words, 1), f"step {words}".strip())
+
+    def do_back(self, words: str) -> None:
+        self.step_by(-self.number(words, 1), f"back {words}".strip())
+
+    def do_to(self, words: str) -> None:
+        aim, total = self.number(words), self.session.picks.total
+        if aim > total:
+            raise Mistake(f"the positions are 0 to {total}")
+        self.moved(f"to {aim}", f"to {aim}")
+
+    def do_next(self, _: str) -> None:
+        self.moved("next", "next")
+
+    def do_prev(self, _: str) -> None:
+        self.moved("prev", "prev")
+
+    def do_until(self, words: str) -> None:
+        arm, _, line = words.partition(" ")
+        arm = self.arm(arm)
+        self.moved(f"until {arm} {self.number(line)}", f"until {arm} {line}")
+
+    def do_pick(self, words: str) -> None:
+        total = self.session.picks.total
+        if self.session.position != total:
+            raise Mistake(f"a pick is tried behind the last one: `to {total}` goes there")
+        arm = self.arm(words)
+        place = self.session.places(arm.split(".")[0])[arm]
+        if isinstance(place, str):
+            raise Mistake(f"{arm} can't be picked: {place}")
+        why = shown.is_waiting(self.session, self.teller, arm, place)
+        if why:
+            raise Mistake(f"{arm} can't be picked: it {why}")
+        self.session.move(f"pick {arm}")
+        self.session.picks.add(arm)
+        self.last_move = f"pick {arm}"
+        self.tell_from(total)
+
+    # what is shown
+
+    def do_list(self, words: str) -> None:
+        if self.is_object:
+            raise Mistake("an object has no source; `arms` shows what each arm does next")
+        self.say(shown.listing(self.session, self.text, self.number(words) if words else None))
+
+    def do_arms(self, _: str) -> None:
+        lines = list(shown.arms(self.session, self.teller))
+        self.say(lines or "  all processes have ended")
+
+    def do_vars(self, words: str) -> None:
+        for name in [self.process(words)] if words else self.session.code.processes:
+            self.say(shown.integers(self.session, name))
+
+    def do_threads(self, words: str) -> None:
+        for name in [self.process(words)] if words else self.session.code.processes:
+            self.say(shown.threads(self.session, name))
+
+    def do_loans(self, _: str) -> None:
+        self.say(list(shown.loans(self.session)) or "  there are no resources")
+
+    def do_who(self, words: str) -> None:
+        resource = self.resource(words)
+        self.say(shown.loans(self.session, resource))
+        for arm in [it for process in self.session.code.processes.values() for it in process.arms()]:
+            place = self.session.places(arm.split(".")[0])[arm]
+            it = self.teller.process(arm).code[place] if isinstance(place, int) else None
+            if it and it.kind == "take" and resource in self.teller.bundle(it).split():
+                self.say(f"  {arm} asks for {self.teller.bundle(it)}")
+
+    def do_why(self, words: str) -> None:
+        arm = self.arm(words)
+        self.say(f"  {arm}: {shown.reason(self.session.ask(f'why {arm}'))}")
+
+    def do_wrote(self, words: str) -> None:
+        name, _, integer = words.partition(" ")
+        self.integer(self.process(name), integer)
+        answer = self.session.ask(f"wrote {name} {integer}")
+        if answer == "never":
+            self.say(f"  no pick up to here changed {integer}")
+        else:
+            position = int(answer.split()[1])
+            self.say(f"  {position}/{self.session.picks.total} {self.teller.of_pick(position - 1)}")
+
+    def do_line(self, words: str) -> None:
+        arm = self.arm(words)
+        self.say(f"  {self.teller.of_arm(arm, self.session.places(arm.split('.')[0])[arm])}")
+
+    def do_text(self, words: str) -> None:
+        self.say(f"  {self.session.ask(f'text {self.arm(words)}')}")
+
+    def do_save(self, words: str) -> None:
+        if not words:
+            raise Mistake("`save FILE` names the file")
+        if os.path.lexists(words):
+            raise Mistake(f"there is a file {words}: give another name")
+        lines = "".join(f"{line}\n" for line in self.session.picks.lines())
+        try:
+            with open(words, "xb") as file:
+                file.write(self.session.given + b"%%\n" + lines.encode())
+        except OSError as fault:
+            raise Mistake(f"{words}: {fault.strerror}") from None
+        self.say(f"  {words} has the run with its {self.session.picks.total} picks")
+
+    # help, the end, completion
+
+    def do_help(self, arg: str) -> None:
+        self.say(help_of(self.full(arg).split()[0]) if arg else list_of_commands())
+
+    def do_quit(self, _: str) -> bool:
+        return True
+
+    def do_EOF(self, _: str) -> bool:
+        self.say("")
+        return True

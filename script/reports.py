@@ -1,0 +1,100 @@
+"""The formats in which `check` tells its findings: as lines of a compiler, as JSON Lines, and as SARIF 2.1.0."""
+from __future__ import annotations
+
+import json
+import re
+from collections.abc import Iterable, Iterator
+from typing import Any
+from urllib.parse import quote
+
+from script.findings import Finding, Place
+from script.helping import ran_on
+
+SARIF = "https://json.schemastore.org/sarif-2.1.0.json"
+# A refusal that is of the whole text is told at its start, so that an editor goes to the file.
+START = Place(1, 1, "")
+
+
+def gcc_lines(finding: Finding) -> Iterator[str]:
+    """Yields the lines of a finding as compilers write them; none of a text that is accepted."""
+    if finding.is_accepted:
+        return
+    first, *others = finding.places or [Place(finding.text.lines_before + 1, 1, "")]
+
+    def line(place: Place, kind: str, text: str) -> str:
+        return f"{finding.text.file}:{place.line}:{place.column}: {kind}: {text}\n"
+
+    yield line(first, "error", f"{finding.code}: {finding.message}")
+    for place in ([first] if first.what else []) + others:
+        yield line(place, "note", place.what or "here too")
+    for note in finding.notes:
+        yield line(first, "note", note)
+    for it in finding.expected:
+        yield line(first, "note", f"expected: {it}")
+    for hint in finding.hints:
+        yield line(first, "note", f"hint: {hint}")
+
+
+def place_object(place: Place) -> dict[str, Any]:
+    """Returns a place for JSON."""
+    return {"line": place.line, "column": place.column, **({"what": place.what} if place.what else {})}
+
+
+def json_object(finding: Finding) -> dict[str, Any]:
+    """Returns a finding for JSON, as docs/schema/check.json describes it."""
+    given: dict[str, Any] = {"file": finding.text.file, "text": finding.text.number, "accepted": finding.is_accepted}
+    if finding.is_accepted:
+        return given
+    given |= {"code": finding.code, "refusal": finding.line, "message": finding.message}
+    if finding.offset is not None:
+        given["offset"] = finding.offset
+    if finding.places:
+        given |= {"line": finding.places[0].line, "column": finding.places[0].column}
+    lists = {"expected": finding.expected, "hints": finding.hints, "notes": finding.notes}
+    return {**given, "places": [place_object(it) for it in finding.places], **lists}
+
+
+def json_lines(finding: Finding) -> Iterator[str]:
+    """Yields the line of a finding."""
+    yield json.dumps(json_object(finding), ensure_ascii=True) + "\n"
+
+
+def location(finding: Finding, place: Place | None) -> dict[str, Any]:
+    """Returns a place for SARIF."""
+    physical: dict[str, Any] = {"artifactLocation": {"uri": quote(finding.text.file, safe="/")}}
+    if place:
+        physical["region"] = {"startLine": place.line, "startColumn": place.column}
+    told: dict[str, Any] = {"physicalLocation": physical}
+    return {**told, "message": {"text": place.what}} if place and place.what else told
+
+
+def sarif_result(finding: Finding) -> dict[str, Any]:
+    """Returns a finding for SARIF."""
+    notes = [*finding.notes, *(f"expected: {it}" for it in finding.expected), *(f"hint: {it}" for it in finding.hints)]
+    first, *others = finding.places or [None]
+    result: dict[str, Any] = {
+        "ruleId": finding.code, "level": "error", "message": {"text": "\n".join([finding.message, *notes])},
+        "locations": [location(finding, first)],
+    }
+    if others:
+        result["relatedLocations"] = [{"id": at, **location(finding, it)} for at, it in enumerate(others, 1)]
+    return result
+
+
+def rules(start: list[str], codes: Iterable[str]) -> list[dict[str, Any]]:
+    """Returns what SARIF says of these codes: the words of `explain`."""
+    _, told, _ = ran_on([*start[:1]], ["explain"])
+    words = dict(re.findall(r"^(\w+): (.*)$", told.decode(errors="replace"), re.M))
+    return [{"id": code, "shortDescription": {"text": words.get(code, code)}} for code in sorted(set(codes))]
+
+
+def sarif_document(start: list[str], findings: list[Finding]) -> str:
+    """Returns the findings as one SARIF document; texts that are accepted are not in it."""
+    refused = [it for it in findings if not it.is_accepted]
+    _, version, _ = ran_on(start[:1], ["--version"])
+    number = re.search(r"\d+\.\d+(?:\.\d+)?", version.decode(errors="replace"))
+    driver = {"name": "parbegin", "rules": rules(start, (it.code for it in refused))}
+    if number:
+        driver["version"] = number[0]
+    run = {"tool": {"driver": driver}, "columnKind": "utf16CodeUnits", "results": [sarif_result(it) for it in refused]}
+    return json.dumps({"$schema": SARIF, "version": "2.1.0", "runs": [run]}, indent=2) + "\n"

@@ -1,0 +1,126 @@
+"""A session of the program's `debug --live` over a text or an object, asked command by command."""
+from __future__ import annotations
+
+import re
+import subprocess
+from contextlib import suppress
+
+from script.code import Code
+from script.picks import Picks
+
+REFUSAL = re.compile(r"refused G\d$")
+
+
+class Refused(Exception):
+    """The program refused the text, the object or the picks; it has said why."""
+
+    def __init__(self, status: int, told: str) -> None:
+        super().__init__(told)
+        self.status, self.told = status, told
+
+
+class Denied(Exception):
+    """The program refused a command."""
+
+
+class Session:
+    """The program at a position of a run."""
+
+    def __init__(self, start: list[str], given: bytes, code: Code, picks: Picks) -> None:
+        self.words, self.given, self.code, self.picks = [*start, "debug", "--live"], given, code, picks
+        self.position = 0
+        self.open()
+
+    def open(self) -> None:
+        """Starts the program, at the position where the session is."""
+        # (in a group of its own, so that an interrupt at the terminal ends a command, and not the program)
+        self.process = subprocess.Popen(
+            self.words, stdin=subprocess.PIPE, stdout=subprocess.PIPE, start_new_session=True)
+        lines = "".join(f"{line}\n" for line in self.picks.lines()).encode()
+        with suppress(BrokenPipeError):
+            self.write(self.given + b"%%\n" + lines + b"%%\n")
+            self.write(f"to {self.position}\n".encode())
+        line = self.read()
+        while not line.startswith("at "):
+            if line.startswith(("refused ", "memory")) or not line:
+                raise Refused(self.close(), line)
+            line = self.read()
+
+    def write(self, given: bytes) -> None:
+        """Gives the program some bytes."""
+        assert self.process.stdin is not None
+        self.process.stdin.write(given)
+        self.process.stdin.flush()
+
+    def read(self) -> str:
+        """Returns the next line of the program, without its end; nothing at the end."""
+        assert self.process.stdout is not None
+        return self.process.stdout.readline().decode(errors="replace").rstrip("\n")
+
+    def close(self) -> int:
+        """Ends the program, and returns its status."""
+        with suppress(OSError):
+            self.process.communicate()
+        return self.process.wait()
+
+    def again(self) -> None:
+        """Ends a command that takes long: the program is started anew, at the position where the session is."""
+        self.process.kill()
+        self.process.communicate()
+        self.open()
+
+    def ask(self, command: str) -> str:
+        """Returns the first line of the answer to a command."""
+        try:
+            self.write(f"{command}\n".encode())
+        except BrokenPipeError:
+            raise Refused(self.close(), "the session has ended") from None
+        line = self.read()
+        if REFUSAL.match(line):
+            raise Denied(line)
+        if not line:
+            raise Refused(self.close(), "the session has ended")
+        return line
+
+    def lines(self, command: str, count: int) -> list[str]:
+        """Returns an answer of so many lines, at least one."""
+        first = self.ask(command)
+        return [first, *(self.read() for _ in range(count - 1))]
+
+    def move(self, command: str) -> str | None:
+        """Makes a move, and returns what is told behind the new position, or nothing if there is no such position."""
+        answer = self.ask(command)
+        at, _, told = answer.removeprefix("at ").partition(" ")
+        if not answer.startswith("at "):
+            return None
+        self.position = int(at)
+        return told
+
+    def go(self, position: int) -> None:
+        """Goes to a position."""
+        if position != self.position:
+            self.move(f"to {position}")
+
+    def integers(self, process: str) -> dict[str, int]:
+        """Returns the integers of a process."""
+        count = len(self.code.processes[process].integers)
+        lines = self.lines(f"vars {process}", count) if count else []
+        return {name: int(value) for name, value in (line.split(" ") for line in lines)}
+
+    def places(self, process: str) -> dict[str, int | str]:
+        """Returns the place of each arm of a process, or `idle`, `ended` or `faulted`."""
+        arms = self.code.processes[process].arms()
+        first = self.ask(f"threads {process}")
+        if first == "faulted":
+            return dict.fromkeys(arms, "faulted")
+        states = [line.split(" ", 1)[1] for line in [first, *(self.read() for _ in arms[1:])]]
+        return {arm: int(it[3:]) if it.startswith("at ") else it for arm, it in zip(arms, states)}
+
+    def loans(self) -> tuple[list[tuple[str, str, int, int]], dict[str, int]]:
+        """Returns process, resource, amount and claim of each loan, and the cash of each resource."""
+        resources, count = self.code.resources, len(self.code.resources)
+        lines = self.lines("loans", count * len(self.code.processes) + count) if count else []
+        cash = {line.split()[2]: int(line.split()[1]) for line in lines[len(lines) - count :]}
+        held = [line.split() for line in lines[: len(lines) - count]]
+        assert len(cash) == len(resources)
+        return [(it[0], it[3], int(it[2]), int(it[5])) for it in held], cash

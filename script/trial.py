@@ -1,0 +1,61 @@
+"""Runs the sources once with no proof, by the kit's trial run."""
+from __future__ import annotations
+
+import contextlib
+import re
+import shutil
+import subprocess
+import sys
+import tempfile
+
+from script.kit import rt_path
+from script.places import MAIN, TOP, is_installed, say, stop
+
+# How the lines begin that a trial run writes to standard error behind those of the program, before its last one.
+LINES_OF_A_TRIAL = ("checked: ", "races: ")
+UNPROVED = "this is not the proved program: its sources are compiled with no proof, which takes a minute or two, and run once"
+
+
+def tried(words: list[str]) -> str:
+    """Makes the trial run on all of standard input, and returns what it writes to standard error."""
+    with tempfile.TemporaryFile() as given, tempfile.TemporaryFile() as told:
+        # (rt takes what standard input has until it is silent for two seconds)
+        with contextlib.suppress(OSError), open(0, "rb", closefd=False) as standard_input:
+            shutil.copyfileobj(standard_input, given)
+        given.seek(0)
+        command = [rt_path(), "try", "--", *words]
+        with subprocess.Popen(command, cwd=f"{TOP}/crates/{MAIN}", stdin=given, stderr=told) as trial:
+            try:
+                trial.wait()
+            except KeyboardInterrupt:
+                trial.terminate()
+                raise
+        told.seek(0)
+        return told.read().decode(errors="replace")
+
+
+def messages_of(told: str) -> list[str]:
+    """Returns the lines that the program wrote, without those of the trial run behind them."""
+    lines = told.splitlines()[:-1]
+    while lines and lines[-1].startswith(LINES_OF_A_TRIAL):
+        lines.pop()
+    return lines
+
+
+def run_unproved(words: list[str]) -> int:
+    """Runs the sources by rt try, and returns the status that the program ended with."""
+    if is_installed():
+        stop("--unproved is for a checkout, with its sources")
+    rt_path()
+    say(UNPROVED)
+    told = tried(words)
+    ended = re.search(r"^run=ended status=(\d+) .*proved=no\n\Z", told, re.M)
+    if not ended:
+        stop("\n  ".join(["the trial run gave no answer:", *told.splitlines()]))
+    warned = [line for line in told.splitlines() if line.startswith("rt: ")]
+    for line in warned:
+        say(line)
+    for line in messages_of(told):
+        if line not in warned:
+            print(line, file=sys.stderr)
+    return int(ended[1])
