@@ -35,7 +35,7 @@ def installed(folder):
     shutil.copytree(TOP / "script", folder / "libexec/parbegin/script", ignore=ignored)
     shutil.copy(program(), folder / "libexec/parbegin/pb_cli")
     (folder / "bin").mkdir(parents=True)
-    return shutil.copy(TOP / "parbegin", folder / "bin/parbegin")
+    return str(shutil.copy(TOP / "parbegin", folder / "bin/parbegin"))
 
 
 def constant(file):

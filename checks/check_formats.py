@@ -35,7 +35,7 @@ FILES = {
 # The first place of each refusal: the file, the line, the column, the code.
 PLACES = [
     ("name.pb", 3, 3, "N3"), ("claim.pb", 4, 3, "C1"), ("several.pb", 3, 23, "N3"), ("early.pb", 1, 16, "P1"),
-    ("many.pb", None, None, "N1"), ("odd name %.pb", 1, 26, "P1"),
+    ("many.pb", 65, 1, "N1"), ("odd name %.pb", 1, 26, "P1"),
 ]
 NAMES = [*FILES, "nosuch.pb"]
 

@@ -107,6 +107,10 @@ def main(words: list[str]) -> int:
             return run_unproved(words[1:])
         if words[:1] == ["--built-by-the-gate"]:
             return record_of_gate(words[1:])
+        if words == ["package"]:
+            from script.package import package
+
+            return package([program()])
         return run_words([program()], words)
     except KeyboardInterrupt:
         return 128 + signal.SIGINT

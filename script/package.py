@@ -1,0 +1,96 @@
+"""`./parbegin package`: the program, the script and what belongs to them, as a Debian package and as a tar.gz."""
+from __future__ import annotations
+
+import os
+import pathlib
+import re
+import shutil
+import subprocess
+import tarfile
+import tempfile
+
+from script.helping import ran_on
+from script.places import TOP, is_installed, say, stop
+
+# What is packed beside what install.sh puts under a prefix: a pattern below the top, and the folder of the prefix.
+CONTENTS = (
+    ("README.md", "share/doc/parbegin"), ("LICENSE", "share/doc/parbegin"), ("docs", "share/doc/parbegin"),
+    ("examples", "share/doc/parbegin"), ("extras/vim/*", "share/vim/vimfiles"), ("extras/vscode", "share/parbegin"),
+    ("extras/README.md", "share/parbegin"),
+)
+CONTROL = """Package: parbegin
+Version: {version}
+Architecture: amd64
+Maintainer: {maintainer}
+Depends: python3 (>= 3.9), libc6
+Section: devel
+Priority: optional
+Installed-Size: {size}
+Description: programs of cooperating jobs that cannot deadlock
+ A compiler and runtime for a small language in Dijkstra's notation of
+ parbegin and parend, with a debugger, proved by the prover of Rattle.
+"""
+
+
+def version(start: list[str]) -> str:
+    """Returns the version of the program."""
+    found = re.search(rb"(\d+(?:\.\d+)+)", ran_on(start, ["--version"])[1])
+    return found[1].decode() if found else "0"
+
+
+def fill(prefix: str) -> None:
+    """Puts all that is packed under a prefix."""
+    subprocess.run([f"{TOP}/install.sh", prefix], stdout=subprocess.DEVNULL, check=True)
+    for pattern, folder in CONTENTS:
+        for path in sorted(pathlib.Path(TOP).glob(pattern)):
+            to = pathlib.Path(prefix, folder, path.name)
+            to.parent.mkdir(parents=True, exist_ok=True)
+            if path.is_dir():
+                shutil.copytree(path, to, ignore=shutil.ignore_patterns("out", "__pycache__"), dirs_exist_ok=True)
+            else:
+                shutil.copy(path, to)
+
+
+def write_control(root: str, number: str) -> None:
+    """Writes what dpkg has to know."""
+    files = [path for path in pathlib.Path(root).rglob("*") if path.is_file()]
+    size = sum(path.stat().st_size for path in files) // 1024 + 1
+    (pathlib.Path(root) / "DEBIAN").mkdir()
+    maintainer = "the authors of parbegin <parbegin@localhost>"
+    (pathlib.Path(root) / "DEBIAN/control").write_text(CONTROL.format(version=number, size=size, maintainer=maintainer))
+
+
+def write_package(root: str, file: str) -> None:
+    """Writes the Debian package."""
+    words = ["dpkg-deb", "--root-owner-group", "--build", root, file]
+    ran = subprocess.run(words, stdout=subprocess.PIPE, stderr=subprocess.STDOUT, text=True, check=False)
+    if ran.returncode:
+        stop(f"dpkg-deb wrote no package: {ran.stdout.strip()}")
+
+
+def owned_by_root(it: tarfile.TarInfo) -> tarfile.TarInfo | None:
+    """Returns an entry of the tar.gz with root as its owner; none of what only dpkg reads."""
+    it.uid = it.gid = 0
+    it.uname = it.gname = "root"
+    return None if "/DEBIAN" in it.name else it
+
+
+def package(start: list[str]) -> int:
+    """Writes dist/parbegin_VERSION_amd64.deb and dist/parbegin_VERSION_amd64.tar.gz, and returns the status."""
+    if is_installed():
+        stop("package is for a checkout")
+    if not shutil.which("dpkg-deb"):
+        stop("dpkg-deb is not on the path")
+    number = version(start)
+    name = f"{TOP}/dist/parbegin_{number}_amd64"
+    os.makedirs(f"{TOP}/dist", exist_ok=True)
+    with tempfile.TemporaryDirectory(prefix="parbegin-package-") as root:
+        os.chmod(root, 0o755)
+        fill(f"{root}/usr")
+        with tarfile.open(f"{name}.tar.gz", "w:gz") as packed:
+            packed.add(f"{root}/usr", arcname=f"parbegin-{number}", filter=owned_by_root)
+        write_control(root, number)
+        write_package(root, f"{name}.deb")
+    for kind in ("deb", "tar.gz"):
+        say(f"{name}.{kind}: {os.path.getsize(f'{name}.{kind}') / 1e6:.1f} MB")
+    return 0
