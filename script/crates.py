@@ -47,7 +47,8 @@ def files_of(crate: str) -> Iterator[str]:
     for part in SOURCES:
         for at, folders, names in os.walk(f"{TOP}/crates/{crate}/{part}"):
             folders.sort()
-            yield from (os.path.relpath(f"{at}/{name}", TOP) for name in sorted(names))
+            below = at[len(TOP) + 1 :]
+            yield from (f"{below}/{name}" for name in sorted(names))
 
 
 def sources(crates: Crates) -> list[str]:

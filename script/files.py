@@ -3,6 +3,7 @@ from __future__ import annotations
 
 import os
 import re
+import stat
 import subprocess
 import sys
 from typing import BinaryIO, NamedTuple
@@ -102,12 +103,18 @@ def advice(command: str, name: str, given: bytes) -> str | None:
     return None
 
 
-def advise(command: str, name: str) -> None:
-    """Says which command reads a file, if this one can't."""
+def advise(command: str, name: str | None) -> None:
+    """Says which command reads a file, or what standard input is, if this one can't. Nothing is taken from it."""
     try:
-        with open(name, "rb") as file:
-            told = advice(command, name, file.read(MOST_READ + 1))
+        if name is None and not stat.S_ISREG(os.fstat(0).st_mode):
+            return
+        # (a read at a place leaves a file where it is)
+        file = os.open(name, os.O_RDONLY | os.O_NONBLOCK) if name else 0
+        given = os.pread(file, MOST_READ + 1, 0)
+        if file:
+            os.close(file)
     except OSError:
         return
+    told = advice(command, name or "the input", given)
     if told:
         say(told)

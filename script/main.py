@@ -55,17 +55,17 @@ def run_on_file(start: list[str], command: str, words: files.Words) -> int:
     if len(words.named) > 1:
         say(f"{command} reads one file, and here are {len(words.named)}: {', '.join(words.named)}")
         return WORDS
-    if not words.named:
-        if command not in ("bank", "lsp", "dap"):
-            tell_what_it_awaits(command)
-    elif command == "debug":
+    name = words.named[0] if words.named else None
+    if name and command == "debug":
         from script.debugging import debug
 
-        return debug(start, words.others, words.named[0])
+        return debug(start, words.others, name)
+    if "--quiet" not in start:
+        files.advise(command, name)
+    if name:
+        files.give_file(name)
     else:
-        if "--quiet" not in start:
-            files.advise(command, words.named[0])
-        files.give_file(words.named[0])
+        tell_what_it_awaits(command)
     start_program(start, [command, *words.others])
     return DEVICE
 

@@ -83,7 +83,8 @@ def package(start: list[str]) -> int:
         stop("dpkg-deb is not on the path")
     number = version(start)
     name = f"{TOP}/dist/parbegin_{number}_amd64"
-    os.makedirs(f"{TOP}/dist", exist_ok=True)
+    shutil.rmtree(f"{TOP}/dist", ignore_errors=True)
+    os.makedirs(f"{TOP}/dist")
     with tempfile.TemporaryDirectory(prefix="parbegin-package-") as root:
         os.chmod(root, 0o755)
         fill(f"{root}/usr")

@@ -1,0 +1,75 @@
+#!/usr/bin/env python3
+"""Unpacks what `./parbegin package` writes, the Debian package and the tar.gz, each into an empty folder, and runs the
+program there, with no kit on the path.
+
+    checks/package.py
+
+Its status is 0 if all is as wanted, and 1 if not.
+"""
+from __future__ import annotations
+
+import os
+import pathlib
+import subprocess
+import sys
+import tarfile
+import tempfile
+
+from calls import DONE, REFUSED, TOP, Tally
+
+EMPTY = {"PATH": "/usr/bin:/bin", "HOME": "/", "LANG": "C.UTF-8"}
+# Where the parts are below /usr, or below the folder of the tar.gz.
+PARTS = (
+    "bin/parbegin", "libexec/parbegin/pb_cli", "libexec/parbegin/script/main.py", "share/man/man1/parbegin.1",
+    "share/bash-completion/completions/parbegin", "share/fish/vendor_completions.d/parbegin.fish",
+    "share/vim/vimfiles/syntax/parbegin.vim", "share/parbegin/vscode/package.json", "share/doc/parbegin/README.md",
+    "share/doc/parbegin/docs/LANGUAGE.md", "share/doc/parbegin/examples/devices.pb",
+)
+
+
+def unpacked(folder: pathlib.Path) -> dict[str, pathlib.Path]:
+    """Unpacks both files of dist/, and returns where each has its parts."""
+    (package,) = sorted((TOP / "dist").glob("*.deb"))
+    (archive,) = sorted((TOP / "dist").glob("*.tar.gz"))
+    subprocess.run(["dpkg-deb", "-x", package, folder / "deb"], check=True)
+    with tarfile.open(archive) as it:
+        it.extractall(folder / "tar")
+    (top,) = (folder / "tar").iterdir()
+    return {package.name: folder / "deb/usr", archive.name: top}
+
+
+def run(prefix: pathlib.Path, *words: str, given: bytes = b"") -> tuple[int, bytes, bytes]:
+    """Calls the script below a prefix, in the folder of the examples."""
+    ran = subprocess.run(
+        [prefix / "bin/parbegin", *words], cwd=prefix / "share/doc/parbegin/examples", env=EMPTY, input=given,
+        capture_output=True, check=False)
+    return ran.returncode, ran.stdout, ran.stderr
+
+
+def try_prefix(tally: Tally, name: str, prefix: pathlib.Path) -> None:
+    """Looks for the parts below a prefix, and runs what is there."""
+    for part in PARTS:
+        tally.expect((prefix / part).is_file(), name, "has no", part)
+    for it in prefix.rglob("*"):
+        tally.expect(os.access(it, os.R_OK) and it.name != "out" and it.suffix != ".pyc", name, "has", it)
+    hello = (TOP / "examples/expected/hello.out").read_bytes()
+    tally.expect(run(prefix, "run", "hello.pb") == (DONE, hello, b""), name, "run")
+    tally.expect(run(prefix, "debug", "lost.run", given=b"to 3\nvars p\n")[:2] == (DONE, b"at 3\nx 0\n"), name, "debug")
+    tally.expect(run(prefix, "draw", "lost.run")[1].startswith(b"<svg"), name, "draw")
+    status, told, _ = run(prefix, "check", "--format", "gcc", "4-claims/too_much.pb")
+    tally.expect(status == REFUSED and b": error: C1: " in told, name, "check")
+    tally.expect(run(prefix, "--version")[0] == DONE, name, "the version")
+
+
+def main() -> None:
+    tally = Tally()
+    ran = subprocess.run([TOP / "parbegin", "package"], stderr=subprocess.PIPE, text=True, check=False)
+    if ran.returncode:
+        sys.exit(ran.stderr)
+    with tempfile.TemporaryDirectory(prefix="parbegin-package-") as folder:
+        for name, prefix in unpacked(pathlib.Path(folder)).items():
+            try_prefix(tally, name, prefix)
+    tally.end("package")
+
+
+main()
