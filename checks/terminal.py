@@ -114,6 +114,14 @@ class Player:
         self.it.sendline(line)
         return self.shown().partition("\n")[2]
 
+    def interrupt(self) -> str:
+        """Types Ctrl-C, and returns what is shown up to the next prompt."""
+        self.it.sendintr()
+        # (Python may miss an interrupt that comes while it takes in a key)
+        while self.it.expect([PROMPT, pexpect.TIMEOUT], timeout=5):
+            self.it.sendintr()
+        return self.it.before
+
     def end(self) -> int:
         """Types the end of file, and returns the status."""
         self.it.sendeof()
@@ -134,8 +142,7 @@ def try_lost(tally: Tally, script: str, folder: str) -> None:
     tally.expect("p: x = 1" in it.type("va\t"), "va is not completed")
     tally.expect("x" in it.type("wrote \t \t"), "what follows wrote is not completed")
     it.it.send("step 1")
-    it.it.sendintr()
-    it.shown()
+    it.interrupt()
     tally.expect("p: x = 1" in it.type("vars p"), "an interrupt at the prompt ends the session")
     tally.expect(it.end() == DONE, "the status of a session")
 
@@ -167,8 +174,7 @@ def try_long(tally: Tally, script: str, folder: str) -> None:
     it.shown()
     it.type("step 3")
     it.it.sendline("until p.0 2")
-    it.it.sendintr()
-    shown = it.shown() + it.type("vars") + it.type("step")
+    shown = it.interrupt() + it.type("vars") + it.type("step")
     tally.expect("p: x = " in shown and "/9000000 p.0 line 1: " in shown, "an interrupt ends the session", shown)
     tally.expect(it.end() == DONE, "the status after an interrupt")
 

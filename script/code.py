@@ -2,6 +2,7 @@
 from __future__ import annotations
 
 from dataclasses import dataclass, field
+from functools import cached_property
 
 # What instructions take from the operands of an arm, and put there; others take and put nothing.
 BINARY = {
@@ -47,12 +48,17 @@ class Process:
         """Returns the names of all arms."""
         return [f"{self.name}.{number}" for number in range(len(self.entries))]
 
+    @cached_property
+    def targets(self) -> set[int]:
+        """Returns the places to which an arm may come from elsewhere than the place before."""
+        return {it.values[0] for it in self.code if it.kind in ("jump", "jzero")} | set(self.entries)
+
     def expression(self, place: int, count: int) -> int | None:
         """Returns the place from which straight code leads to this one and leaves so many operands, if there is one."""
         while count > 0:
-            place -= 1
-            if place < 0 or self.code[place].kind in TURNS or place + 1 in self.entries:
+            if place == 0 or place in self.targets or self.code[place - 1].kind in TURNS:
                 return None
+            place -= 1
             count += self.code[place].pops - self.code[place].pushes
         return place if count == 0 else None
 

@@ -109,7 +109,7 @@ class Teller:
         """Returns what is printed, or where an arm goes on."""
         operands = self.operands(arm, place, it.pops)
         if it.kind == "print":
-            return f"prints {operands[0]}" if operands else "prints"
+            return f"prints {operands[0] if operands else self.printed(arm)}".strip()
         if it.kind == "jzero" and not operands:
             return "tests a value"
         turns = it.kind == "jump" or operands == [0]
@@ -118,6 +118,14 @@ class Teller:
         if it.kind == "jump" or not operands:
             return goes
         return f"tests {operands[0]}, which is {'false' if turns else 'true'}, and {goes}"
+
+    def printed(self, arm: str) -> str:
+        """Returns what the next pick prints, by its event, if it is the pick of this arm."""
+        here = self.session.position
+        event = self.session.move("next") or ""
+        is_next = self.session.position == here + 1 and event.startswith(f"{arm} print ")
+        self.session.go(here)
+        return event.rpartition(" ")[2] if is_next else ""
 
     def bundle(self, it: Instruction) -> str:
         """Returns the amounts and resources of a request."""

@@ -22,7 +22,7 @@ COMMANDS = {
     "until": Command("until P.a N", "goes on until an arm comes to line N", "until p.1 8"),
     "pick": Command("pick P.a", "behind the last pick: makes one more, of that arm", "pick p.1"),
     "list": Command("list [N]", "shows the source with the arms at their lines, or the lines around N", "list 12"),
-    "arms": Command("arms", "shows each arm that could be picked now, with what it would do, and those that wait", "arms"),
+    "arms": Command("arms", "shows each arm that could be picked now, and what it would do; > is the next pick; then those that wait", "arms"),
     "vars": Command("vars [P]", "shows the integers of a process, or of all", "vars p"),
     "wrote": Command("wrote P X", "shows the last pick that changed an integer of a process", "wrote p x"),
     "threads": Command("threads [P]", "shows where the arms of a process are, or of all", "threads p"),

@@ -68,8 +68,9 @@ def reason(answer: str) -> str:
 
 
 def arms(session: Session, teller: Teller) -> Iterator[str]:
-    """Yields for each arm that is alive what it would do, those that wait last."""
-    waiting = []
+    """Yields for each arm that is alive what it would do, the one of the next pick with a mark, those that wait last."""
+    waiting, picks = [], session.picks
+    following = picks.arm_of(session.position) if session.position < picks.total else None
     for process in session.code.processes.values():
         places = session.places(process.name)
         if "faulted" in places.values():
@@ -82,7 +83,7 @@ def arms(session: Session, teller: Teller) -> Iterator[str]:
             if why:
                 waiting.append(f"  {arm}{f' line {line}' if line else ''}: {why}")
             else:
-                yield f"  {teller.of_arm(arm, place)}"
+                yield f"{'>' if arm == following else ' '} {teller.of_arm(arm, place)}"
     yield from waiting
 
 
