@@ -139,8 +139,8 @@ def try_many(tally: Tally, it: Script) -> None:
 
 def try_words(tally: Tally, it: Script) -> None:
     """Tries words that are refused."""
-    for words in (["--format", "xml", "fine.pb"], ["--jobs", "0", "fine.pb"], ["--heap", "1", "fine.pb"], ["--fly", "fine.pb"]):
-        status, told, said = it.run("check", *words)
+    for words in (["--format", "xml"], ["--jobs", "0"], ["--heap", "1"], ["--fly"]):
+        status, told, said = it.run("check", *words, "fine.pb")
         tally.expect(status == WORDS and not told and said, "words", words, status, told)
 
 

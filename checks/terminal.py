@@ -55,14 +55,17 @@ LOST_PICKS = """1/15 p.0 line 6: starts p.1 and p.2
 15/15 p.0: ends the process""".splitlines()
 # Commands at the end of that run, with a part of what each shows.
 ASKED = [
-    ("", "the picks end here"), ("vars", "p: x = 1"), ("vars q", "no process q; there is p"), ("why p.7", "p has the arms 0 to 2"),
+    ("", "the picks end here"), ("vars", "p: x = 1"), ("vars q", "no process q; there is p"),
+    ("why p.7", "p has the arms 0 to 2"),
     ("wrote p x", "7/15 p.1 line 7: assigns 1 to x (it was 0)"), ("wrote p y", "no integer y in p; there is x"),
     ("wrote p", "an integer is missing; there is x"), ("who tape", "no resource tape; there are none"),
-    ("frob", "no command frob"), ("t", "a number is missing"), ("to 16", "the positions are 0 to 15"), ("to x", "x is no number"),
-    ("pick p.1", "p.1 can't be picked: idle"), ("b", "14/15 before p.0: ends the process"), ("", "13/15 before p.0 line 10: prints 1"),
+    ("frob", "no command frob"), ("t", "a number is missing"), ("to 16", "the positions are 0 to 15"),
+    ("to x", "x is no number"), ("pick p.1", "p.1 can't be picked: idle"), ("b", "14/15 before p.0: ends the process"),
+    ("", "13/15 before p.0 line 10: prints 1"),
     ("pick p.0", "`to 15` goes there"), ("to 3", "3/15 before p.1 line 7: reads x (0)"), ("threads", "p.2: line 8"),
     ("list", ">  8     x := x + 1"), ("list 10", "print x"), ("arms", "p.0 line 6: waits for p.1 and p.2"),
-    ("n", "14/15 p.0 line 10: prints 1"), ("prev", "no event before this position"), ("until p.0 6", "it does not come there"),
+    ("n", "14/15 p.0 line 10: prints 1"), ("prev", "no event before this position"),
+    ("until p.0 6", "it does not come there"),
     ("help", "until P.a N"), ("help u", "for example: until p.1 8"), ("wh", "wh may be who or why"),
     ("line p.0", "p.0: ends the process"), ("loans", "there are no resources"), ("save", "names the file"),
 ]
@@ -101,7 +104,8 @@ class Player:
 
     def __init__(self, script: str, *words: str, folder: str | None = None) -> None:
         where = {**os.environ, "TERM": "dumb", "PYTHONDONTWRITEBYTECODE": "1"}
-        self.it = pexpect.spawn(script, list(words), encoding="utf-8", timeout=20, dimensions=(50, 240), env=where, cwd=folder)
+        how = {"encoding": "utf-8", "timeout": 20, "dimensions": (50, 240), "env": where, "cwd": folder}
+        self.it = pexpect.spawn(script, list(words), **how)
 
     def shown(self) -> str:
         """Returns what is shown up to the next prompt, or up to the end."""
@@ -154,7 +158,8 @@ def try_devices(tally: Tally, script: str, folder: str) -> None:
     for command, wanted in [
         ("pick a", "1/1 a.0 line 7: is granted 1 tape"), ("pick b.0", "b.0 can't be picked: it asks for 1 disk, and waits"),
         ("arms", "a.0 line 7: asks for 1 disk"), ("who disk", "b.0 asks for 1 disk"), ("loans", "cash: 0 of 1 tape"),
-        ("why b", "could be sure to finish: a b"), ("pick a", "2/2 a.0 line 7: is granted 1 disk"), ("", "3/3 a.0 line 7: takes the number 1"),
+        ("why b", "could be sure to finish: a b"), ("pick a", "2/2 a.0 line 7: is granted 1 disk"),
+        ("", "3/3 a.0 line 7: takes the number 1"),
         ("why a", "it is not asking for anything"), ("save mine.run", "mine.run has the run with its 3 picks"),
         ("save mine.run", "there is a file mine.run"),
     ]:

@@ -225,7 +225,8 @@ def check(start: list[str], words: list[str]) -> int:
     source, sums = Source(sorted_words.named or [STANDARD_INPUT]), Sums()
     # (a name of bytes that are no text is written as it is)
     sys.stdout.reconfigure(errors="surrogateescape")
-    checker = Checker(start, sorted_words.others)
+    # (places and words are taken from the messages, which are not shown)
+    checker = Checker(start if options.format == "text" else start[:1], sorted_words.others)
     try:
         if options.format == "text":
             check_as_text(checker, source, options.jobs, sums)

@@ -81,7 +81,8 @@ def finding(text: Text, line: str, message: str) -> Finding:
     """Returns what is said of a text by its line and by the message of it alone."""
     refusal = LINE.match(line)
     if not refusal:
-        return Finding(text, line) if line == "ok" else Finding(text, line, line or "none", "it could not be checked")
+        why = "out of memory" if line == "memory" else "it could not be checked"
+        return Finding(text, line) if line == "ok" else Finding(text, line, line or "none", why)
     lines = message.splitlines()
     head = HEAD.match(lines[0]) if lines else None
     found = [it for it in map(PLACE.fullmatch, lines) if it]

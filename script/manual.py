@@ -22,7 +22,7 @@ COMMANDS = {
     "until": Command("until P.a N", "goes on until an arm comes to line N", "until p.1 8"),
     "pick": Command("pick P.a", "behind the last pick: makes one more, of that arm", "pick p.1"),
     "list": Command("list [N]", "shows the source with the arms at their lines, or the lines around N", "list 12"),
-    "arms": Command("arms", "shows each arm that could be picked now, and what it would do; > is the next pick; then those that wait", "arms"),
+    "arms": Command("arms", "shows what each arm would do that could be picked, > the next pick, and which arms wait", "arms"),
     "vars": Command("vars [P]", "shows the integers of a process, or of all", "vars p"),
     "wrote": Command("wrote P X", "shows the last pick that changed an integer of a process", "wrote p x"),
     "threads": Command("threads [P]", "shows where the arms of a process are, or of all", "threads p"),
@@ -31,7 +31,7 @@ COMMANDS = {
     "loans": Command("loans", "shows who holds what, and what is left", "loans"),
     "who": Command("who R", "shows who holds some of a resource, and who asks for it", "who tape"),
     "why": Command("why P.a", "says why an arm waits, or why its request can be granted", "why b.0"),
-    "save": Command("save FILE", "writes the text with all picks, also those that were tried, for replay and draw", "save my.run"),
+    "save": Command("save FILE", "writes the text with all picks, those that were tried too, for replay", "save my.run"),
     "help": Command("help [COMMAND]", "lists the commands, or says more of one", "help until"),
     "quit": Command("quit", "ends the session; so does Ctrl-D", "quit"),
 }

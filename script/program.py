@@ -1,4 +1,4 @@
-"""The program that is to run: installed, or built of this checkout if its sources are others than those it was built from."""
+"""The program that is to run: installed, or built of this checkout if its sources are others than when it was built."""
 from __future__ import annotations
 
 import fcntl

@@ -118,29 +118,36 @@ class Prompt(Completion, cmd.Cmd):
         self.moved(f"to {aim}", line)
 
     def do_step(self, words: str) -> None:
+        """Carries out `step [N]`."""
         self.step_by(self.number(words, 1), f"step {words}".strip())
 
     def do_back(self, words: str) -> None:
+        """Carries out `back [N]`."""
         self.step_by(-self.number(words, 1), f"back {words}".strip())
 
     def do_to(self, words: str) -> None:
+        """Carries out `to N`."""
         aim, total = self.number(words), self.session.picks.total
         if aim > total:
             raise Mistake(f"the positions are 0 to {total}")
         self.moved(f"to {aim}", f"to {aim}")
 
     def do_next(self, _: str) -> None:
+        """Carries out `next`."""
         self.moved("next", "next")
 
     def do_prev(self, _: str) -> None:
+        """Carries out `prev`."""
         self.moved("prev", "prev")
 
     def do_until(self, words: str) -> None:
+        """Carries out `until P.a N`."""
         arm, _, line = words.partition(" ")
         arm = self.arm(arm)
         self.moved(f"until {arm} {self.number(line)}", f"until {arm} {line}")
 
     def do_pick(self, words: str) -> None:
+        """Carries out `pick P.a`."""
         total = self.session.picks.total
         if self.session.position != total:
             raise Mistake(f"a pick is tried behind the last one: `to {total}` goes there")
@@ -159,26 +166,32 @@ class Prompt(Completion, cmd.Cmd):
     # what is shown
 
     def do_list(self, words: str) -> None:
+        """Carries out `list [N]`."""
         if self.is_object:
             raise Mistake("an object has no source; `arms` shows what each arm does next")
         self.say(shown.listing(self.session, self.text, self.number(words) if words else None))
 
     def do_arms(self, _: str) -> None:
+        """Carries out `arms`."""
         lines = list(shown.arms(self.session, self.teller))
         self.say(lines or "  all processes have ended")
 
     def do_vars(self, words: str) -> None:
+        """Carries out `vars [P]`."""
         for name in [self.process(words)] if words else self.session.code.processes:
             self.say(shown.integers(self.session, name))
 
     def do_threads(self, words: str) -> None:
+        """Carries out `threads [P]`."""
         for name in [self.process(words)] if words else self.session.code.processes:
             self.say(shown.threads(self.session, name))
 
     def do_loans(self, _: str) -> None:
+        """Carries out `loans`."""
         self.say(list(shown.loans(self.session)) or "  there are no resources")
 
     def do_who(self, words: str) -> None:
+        """Carries out `who R`."""
         resource = self.resource(words)
         self.say(shown.loans(self.session, resource))
         for arm in [it for process in self.session.code.processes.values() for it in process.arms()]:
@@ -188,10 +201,12 @@ class Prompt(Completion, cmd.Cmd):
                 self.say(f"  {arm} asks for {self.teller.bundle(it)}")
 
     def do_why(self, words: str) -> None:
+        """Carries out `why P.a`."""
         arm = self.arm(words)
         self.say(f"  {arm}: {shown.reason(self.session.ask(f'why {arm}'))}")
 
     def do_wrote(self, words: str) -> None:
+        """Carries out `wrote P X`."""
         name, _, integer = words.partition(" ")
         self.integer(self.process(name), integer)
         answer = self.session.ask(f"wrote {name} {integer}")
@@ -202,13 +217,16 @@ class Prompt(Completion, cmd.Cmd):
             self.say(f"  {position}/{self.session.picks.total} {self.teller.of_pick(position - 1)}")
 
     def do_line(self, words: str) -> None:
+        """Carries out `line P.a`."""
         arm = self.arm(words)
         self.say(f"  {self.teller.of_arm(arm, self.session.places(arm.split('.')[0])[arm])}")
 
     def do_text(self, words: str) -> None:
+        """Carries out `text P.a`."""
         self.say(f"  {self.session.ask(f'text {self.arm(words)}')}")
 
     def do_save(self, words: str) -> None:
+        """Carries out `save FILE`."""
         if not words:
             raise Mistake("`save FILE` names the file")
         if os.path.lexists(words):
@@ -224,11 +242,14 @@ class Prompt(Completion, cmd.Cmd):
     # help, the end, completion
 
     def do_help(self, arg: str) -> None:
+        """Carries out `help [COMMAND]`."""
         self.say(help_of(self.full(arg).split()[0]) if arg else list_of_commands())
 
     def do_quit(self, _: str) -> bool:
+        """Carries out `quit`."""
         return True
 
     def do_EOF(self, _: str) -> bool:
+        """Ends the session at the end of file."""
         self.say("")
         return True

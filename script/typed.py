@@ -49,7 +49,7 @@ class Typed:
         if not word and len(names) == 1:
             return names[0]
         if word not in names:
-            raise Mistake(f"no process {word}; {there_are(names)}" if word else f"a process is missing; {there_are(names)}")
+            raise Mistake(f"{f'no process {word}' if word else 'a process is missing'}; {there_are(names)}")
         return word
 
     def arm(self, word: str) -> str:
@@ -66,14 +66,14 @@ class Typed:
         """Returns the name of a resource that was typed."""
         names = self.session.code.resources
         if word not in names:
-            raise Mistake(f"no resource {word}; {there_are(names)}" if word else f"a resource is missing; {there_are(names)}")
+            raise Mistake(f"{f'no resource {word}' if word else 'a resource is missing'}; {there_are(names)}")
         return word
 
     def integer(self, process: str, word: str) -> str:
         """Returns the name of an integer that was typed."""
         names = self.session.code.processes[process].integers
         if word not in names:
-            raise Mistake(f"no integer {word} in {process}; {there_are(names)}" if word else f"an integer is missing; {there_are(names)}")
+            raise Mistake(f"{f'no integer {word} in {process}' if word else 'an integer is missing'}; {there_are(names)}")
         return word
 
 
