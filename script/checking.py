@@ -170,9 +170,12 @@ class Sums:
 def check_as_text(checker: Checker, source: Source, jobs: int, sums: Sums) -> None:
     """Checks each file, and tells of it as the program does, with its name."""
     for group in groups(source.read()):
-        for (name, _), answer in zip(group, checker.ask_all([given for _, given in group], jobs)):
+        for (name, given), answer in zip(group, checker.ask_all([given for _, given in group], jobs)):
             sums.add(answer)
             tell_text(name, answer)
+            told = files.advice("check", name, given)
+            if told and "--quiet" not in checker.call:
+                say(told)
 
 
 def findings_of(group: list[tuple[str, bytes]], checker: Checker, jobs: int, sums: Sums) -> Iterator[Finding]:

@@ -1,0 +1,87 @@
+#!/usr/bin/env python3
+"""Calls the script as people do who make a mistake, or ask for help, and compares its status and what it writes.
+
+    checks/usage.py [PROGRAM]     PROGRAM is the one that ./parbegin has built if none is given
+
+Its status is 0 if all is as wanted, and 1 if not.
+"""
+from __future__ import annotations
+
+import pathlib
+import shutil
+import subprocess
+import tempfile
+
+from calls import DEVICE, DONE, REFUSED, TOP, WORDS, Tally, installed
+
+# The words of a call, its status, and what standard output and standard error must have: a part of it, or none.
+CALLS = [
+    (["run", "hello.pb"], DONE, "p.0 print 1\np end\ndone\n", None),
+    (["run", "hello.txt"], DONE, "p end\n", None),
+    (["run", "nosuch.pb"], DEVICE, None, "parbegin: no such file: nosuch.pb\n"),
+    (["explain", "N3"], DONE, "N3: ", None),
+    (["explain", "nosuch"], WORDS, None, "no refusal has this code"),
+    (["run", "folder"], DEVICE, None, "parbegin: folder: Is a directory\n"),
+    (["run", "hello.pb", "lost.pb"], WORDS, None, "run reads one file, and here are 2"),
+    (["run", "--steps", "x", "hello.pb"], WORDS, None, "invalid value 'x'"),
+    (["run", "--steps", "5", "hello.pb"], DONE, "p end\n", None),
+    (["run", "--steps=5", "hello.pb"], DONE, "p end\n", None),
+    (["fly"], WORDS, None, "unrecognized subcommand 'fly'"),
+    (["fly", "hello.pb"], WORDS, None, "unrecognized subcommand 'fly'"),
+    ([], WORDS, None, "Usage"),
+    (["--help"], DONE, "a FILE may be named", None),
+    (["help"], DONE, "a FILE may be named", None),
+    (["run", "--help"], DONE, "--workers", None),
+    (["help", "check"], DONE, "--format", None),
+    (["help", "debug"], DONE, "until P.a N", None),
+    (["debug", "--help"], DONE, "until P.a N", None),
+    (["help", "fly"], WORDS, None, "fly"),
+    (["--version"], DONE, "parbegin ", None),
+    (["outcomes", "--lend", "cash", "hello.pb"], DONE, "all 1 outcomes\n", None),
+    (["outcomes", "--lend", "banker", "hello.pb"], DONE, "all 1 outcomes\n", None),
+    (["run", "cash"], DONE, "p end\n", None),
+    (["run", "sum.pbo"], REFUSED, "refused ", "parbegin: sum.pbo is an object: exec runs it"),
+    (["check", "sum.pbo"], REFUSED, "sum.pbo: refused ", "parbegin: sum.pbo is an object: exec runs it"),
+    (["run", "lost.run"], REFUSED, "refused L2 at 335", "parbegin: lost.run has picks behind a line %%: replay makes them"),
+    (["claims", "two.pb"], REFUSED, "refused L2", "parbegin: two.pb has several texts, between lines %%: check reads these"),
+    (["exec", "hello.pb"], REFUSED, "refused O1 at 0", "parbegin: hello.pb is no object"),
+    (["--quiet", "exec", "hello.pb"], REFUSED, "refused O1 at 0", None),
+    (["draw", "lost.run"], DONE, "<svg", None),
+    (["debug", "nosuch.run"], DEVICE, None, "parbegin: no such file: nosuch.run\n"),
+]
+
+
+def fits(told: str, wanted: str | None) -> bool:
+    """Returns whether this has what is wanted, or nothing if nothing is."""
+    return wanted in told if wanted else not told
+
+
+def fill(folder: pathlib.Path) -> None:
+    """Puts files of the examples into a folder, and some with names that are also words."""
+    for name in ("hello.pb", "lost.pb", "lost.run", "6-objects/sum.pbo"):
+        shutil.copy(TOP / "examples" / name, folder)
+    hello = (folder / "hello.pb").read_bytes()
+    for name in ("hello.txt", "cash", "banker", "5"):
+        (folder / name).write_bytes(hello)
+    (folder / "two.pb").write_bytes(hello + b"%%\n" + hello)
+    (folder / "folder").mkdir()
+
+
+def main() -> None:
+    tally = Tally()
+    with tempfile.TemporaryDirectory(prefix="parbegin-usage-") as name:
+        folder = pathlib.Path(name)
+        script = installed(folder / "installed")
+        fill(folder)
+        for words, status, told, said in CALLS:
+            ran = subprocess.run([script, *words], cwd=folder, input=b"", capture_output=True, check=False)
+            is_right = ran.returncode == status and fits(ran.stdout.decode(), told) and fits(ran.stderr.decode(), said)
+            tally.expect(is_right, words, ran)
+        with open(folder / "lost.run", "rb") as given:
+            ran = subprocess.run([script, "run"], cwd=folder, stdin=given, capture_output=True, check=False)
+        is_told = b"parbegin: the input has picks" in ran.stderr and ran.stdout == b"refused L2 at 335\n"
+        tally.expect(is_told, "picks on standard input", ran)
+    tally.end("usage")
+
+
+main()
