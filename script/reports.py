@@ -2,6 +2,7 @@
 from __future__ import annotations
 
 import json
+import os
 import re
 from collections.abc import Iterable, Iterator
 from typing import Any
@@ -61,7 +62,7 @@ def json_lines(finding: Finding) -> Iterator[str]:
 
 def location(finding: Finding, place: Place | None) -> dict[str, Any]:
     """Returns a place for SARIF."""
-    physical: dict[str, Any] = {"artifactLocation": {"uri": quote(finding.text.file, safe="/")}}
+    physical: dict[str, Any] = {"artifactLocation": {"uri": quote(os.fsencode(finding.text.file), safe="/")}}
     if place:
         physical["region"] = {"startLine": place.line, "startColumn": place.column}
     told: dict[str, Any] = {"physicalLocation": physical}
