@@ -6,7 +6,7 @@ use Rattle.std.proofs.lemmas.List.{drop-append-le, take-append-le, take-append-d
 use Rattle.std.proofs.lemmas.List.{length-drop}
 use Rattle.std.proofs.lemmas.Bool.{cases_lt}
 use Rattle.std.specs.Prelude.{◌⊎◌, slice_get}
-use Rattle.pb_base.specs.Device.{GivesNext, dropped}
+use Rattle.pb_base.specs.Device.{GivesNext, LeavesRest, dropped}
 use Rattle.pb_base.proofs.DeviceLemmas.{next-bytes, prepended}
 use Rattle.pb_debug.specs.Sessions.{IsReadTo, SaysBefore}
 use Rattle.pb_debug_engine.specs.Debugs.{AreThreeParts}
@@ -261,3 +261,34 @@ early_in_second (Some bytes) mid last source (behind, is, first) second =
     subst (λ (o : Option (List ℕ)). IfSome o (λ bytes. (read : List ℕ) × IsReadTo bytes read last × IsUnmarked read)) is second in
     let all = first_of_two bytes source next.0 next.1.0 (subst (λ (t : List ℕ). AreTwoParts bytes source t) next.1.1 first) in
     (all.0, (next.1.0, all.1, next.1.2), inr (source, next.0, all.2, next.2))
+
+-- ---- how many bytes are taken
+
+-- nothing is read
+pub takes_none : (o : Option (List ℕ)) (most : ℕ) → LeavesRest o o most
+takes_none None most = ([], omega arith, refl)
+takes_none (Some bytes) most = ([], omega arith, refl)
+
+-- at most more
+pub takes_fewer : (old new : Option (List ℕ)) (k most : ℕ) → LeavesRest old new k → k ≤ most → LeavesRest old new most
+takes_fewer old new k most (read, few, is) enough = (read, omega (arith, few, enough), is)
+
+-- first some bytes, then others
+pub takes_then : (old mid new : Option (List ℕ)) (k n most : ℕ) → LeavesRest old mid k → LeavesRest mid new n → k + n ≤ most
+    → LeavesRest old new most
+takes_then old mid None k n most (first, few, is) (second, less, next) enough =
+    let size = length-append first second in
+    (first ++ second, omega (arith, size, few, less, enough), is ∙ ap (prepended first) next)
+takes_then old mid (Some left) k n most (first, few, is) (second, less, next) enough =
+    let size = length-append first second in
+    (first ++ second, omega (arith, size, few, less, enough), is ∙ (ap (prepended first) next ∙ ap (λ (t : List ℕ). Some t) (sym (append_assoc first second left))))
+
+-- a text was read, and nothing more
+pub takes_text : (old now new : Option (List ℕ)) (text : List ℕ) (most : ℕ) → old ≡ prepended text now → new ≡ now → length text ≤ most
+    → LeavesRest old new most
+takes_text old now new text most is same few = (text, few, is ∙ ap (prepended text) (sym same))
+
+-- a read of no bytes leaves all
+pub none_dropped : (now : Option (List ℕ)) (n : ℕ) → n ≡ 0 → dropped now n ≡ now
+none_dropped None n none = refl
+none_dropped (Some bytes) n none = ap (λ (k : ℕ). Some (drop k bytes)) none

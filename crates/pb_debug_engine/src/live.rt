@@ -1,6 +1,7 @@
 //! The command `debug --live`, over any input and output.
 
-ghost use Rattle.std.specs.Prelude.{◌≡◌, ◌≢◌, IfSome};
+ghost use Rattle.std.specs.Prelude.{◌≡◌, ◌≢◌, ◌*◌, IfSome};
+ghost use Rattle.pb_base.specs.Device.{LeavesRest};
 ghost use Rattle.pb_debug.specs.Sessions.{SaysBefore};
 ghost use Rattle.pb_debug_engine.specs.Faults.{TellsAnyFault};
 ghost use Rattle.pb_debug_engine.specs.Live.{SaysOfLive, SaysOfRead, unread_status, unread_text};
@@ -10,6 +11,7 @@ ghost use Rattle.pb_command_io.specs.Faults.{TellsWriteFaults};
 use crate::part::read_first_parts;
 use crate::parts::debug_parts;
 use pb_base::device::{Input, Output, ReadFault};
+use pb_base::limits::MAX_INPUT;
 use pb_command_io::{Page, Status};
 use std::alloc::Global;
 
@@ -18,7 +20,8 @@ use std::alloc::Global;
 /// 4,194,304 bytes with that line; of the commands at most 4,194,304 bytes are read.
 ///
 /// If a read fails, the status is `Device`. Each complete command that was read before it is answered then;
-/// if it was a read of the two parts before the commands, nothing is written.
+/// if it was a read of the two parts before the commands, nothing is written. Whatever comes, at most 12,582,912
+/// bytes are taken from the input.
 pub fn debug_live_engine<I: Input, O: Output>(
     alloc: Global,
     input: &mut I,
@@ -33,6 +36,7 @@ pub fn debug_live_engine<I: Input, O: Output>(
         (record { reads = I.failures input.old; writes = O.failures output.old; written = O.written output.old })
         (record { reads = I.failures input.new; writes = O.failures output.new; written = O.written output.new })
         result }
+    ensures taken { LeavesRest (I.rest input.old) (I.rest input.new) (3 * MAX_INPUT) }
 {
     match read_first_parts(alloc, input) {
         Ok(parts) => {

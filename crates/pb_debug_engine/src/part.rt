@@ -1,7 +1,7 @@
 //! The first parts of an input, which are read up to their lines `%%` and no further.
 
-ghost use Rattle.std.specs.Prelude.{◌≡◌, ◌≢◌, ◌≤◌, ◌↔◌, ℕ, Some, IfErr, IfOk, IfSome, IsTrue, List, OnOk, length};
-ghost use Rattle.pb_base.specs.Device.{one_more_failure};
+ghost use Rattle.std.specs.Prelude.{◌≡◌, ◌≢◌, ◌≤◌, ◌↔◌, ◌+◌, ◌*◌, ℕ, Some, IfErr, IfOk, IfSome, IsTrue, List, OnOk, length};
+ghost use Rattle.pb_base.specs.Device.{LeavesRest, one_more_failure};
 ghost use Rattle.pb_debug.specs.Sessions.{IsReadTo};
 ghost use Rattle.pb_debug_engine.specs.Debugs.{AreThreeParts};
 ghost use Rattle.pb_debug_engine.specs.Live.{EndsInMark, HasLongPart, IsEarly, IsLong, IsUnmarked};
@@ -32,6 +32,8 @@ fn read_part<I: Input>(alloc: Global, input: &mut I) -> Result<Vec<u8>, ReadFaul
     ensures fault { IfErr result (λ e. e ≡ ReadFault.Device →
         I.failures input.new ≡ one_more_failure (I.failures input.old)) }
     ensures no_fault { IfErr result (λ e. e ≢ ReadFault.Device → I.failures input.new ≡ I.failures input.old) }
+    ensures taken { LeavesRest (I.rest input.old) (I.rest input.new) (MAX_INPUT + 1) }
+    ensures within { OnOk result (LeavesRest (I.rest input.old) (I.rest input.new) MAX_INPUT) }
 {
     let mut part = Vec::new(alloc);
     let mut byte = [0];
@@ -80,6 +82,8 @@ pub fn read_first_parts<I: Input>(alloc: Global, input: &mut I) -> Result<FirstP
     ensures fault { IfErr result (λ e. e ≡ ReadFault.Device →
         I.failures input.new ≡ one_more_failure (I.failures input.old)) }
     ensures no_fault { IfErr result (λ e. e ≢ ReadFault.Device → I.failures input.new ≡ I.failures input.old) }
+    ensures taken { LeavesRest (I.rest input.old) (I.rest input.new) (2 * MAX_INPUT + 1) }
+    ensures within { OnOk result (LeavesRest (I.rest input.old) (I.rest input.new) (2 * MAX_INPUT)) }
 {
     let source = read_part(alloc, input)?;
     let lines = read_part(alloc, input)?;

@@ -1,6 +1,7 @@
 //! The three parts of what is debugged: a text or an object, pick lines, and commands.
 
 ghost use Rattle.std.specs.Prelude.{◌≢◌, ◌≤◌, ◌↔◌, IfSome, IsTrue, length, option_map};
+ghost use Rattle.pb_base.specs.Device.{LeavesRest};
 ghost use Rattle.pb_code.specs.Limits.{AreLabels};
 ghost use Rattle.pb_code.specs.View.{labels_view};
 ghost use Rattle.pb_debug.specs.Sessions.{SaysBefore};
@@ -31,6 +32,7 @@ fn is_object(source: &[u8]) -> bool
 }
 
 // Debugs the code that a first part gave, with the text whose lines are shown.
+#[tactic(auto, using(crate::proofs::PartLemmas::takes_none))]
 fn debug_code<I: Input, O: Output>(
     alloc: Global,
     verified: &Verified,
@@ -51,6 +53,7 @@ fn debug_code<I: Input, O: Output>(
         (record { reads = I.failures commands.old; writes = O.failures output.old; written = O.written output.old })
         (record { reads = I.failures commands.new; writes = O.failures output.new; written = O.written output.new })
         result }
+    ensures taken { LeavesRest (I.rest commands.old) (I.rest commands.new) MAX_INPUT }
 {
     let picks = match read_picks(alloc, verified.code(), lines) {
         Ok(picks) => picks,
@@ -77,6 +80,7 @@ fn debug_code<I: Input, O: Output>(
 
 /// Debugs a text or an object after the picks of the pick lines: writes the answers to the commands, or the
 /// line of the first refusal. The text or object is judged first, then the pick lines, then the picks.
+#[tactic(auto, using(crate::proofs::PartLemmas::takes_none))]
 pub fn debug_parts<I: Input, O: Output>(
     alloc: Global,
     source: &[u8],
@@ -93,6 +97,7 @@ pub fn debug_parts<I: Input, O: Output>(
         (record { reads = I.failures commands.old; writes = O.failures output.old; written = O.written output.old })
         (record { reads = I.failures commands.new; writes = O.failures output.new; written = O.written output.new })
         result }
+    ensures taken { LeavesRest (I.rest commands.old) (I.rest commands.new) MAX_INPUT }
 {
     if is_object(source) {
         return match load(alloc, source) {

@@ -1,6 +1,7 @@
 //! A session, with the status that it comes to.
 
 ghost use Rattle.std.specs.Prelude.{◌≢◌, IfSome};
+ghost use Rattle.pb_base.specs.Device.{LeavesRest};
 ghost use Rattle.pb_debug.specs.Sessions.{SaysBefore};
 ghost use Rattle.pb_debug_engine.specs.Debugs.{SaysOfSession};
 ghost use Rattle.pb_debug_engine.specs.Faults.{TellsAnyFault};
@@ -8,6 +9,7 @@ ghost use Rattle.pb_debug_engine.specs.Live.{AnswersLines};
 ghost use Rattle.pb_command_io.specs.Answers.{Tells};
 
 use pb_base::device::{Input, Output};
+use pb_base::limits::MAX_INPUT;
 use pb_command_io::{Page, Status};
 use pb_debug::{DebugFault, Debugger};
 use std::alloc::Global;
@@ -28,6 +30,7 @@ pub fn tell_session<I: Input, O: Output>(
         (record { reads = I.failures commands.old; writes = O.failures output.old; written = O.written output.old })
         (record { reads = I.failures commands.new; writes = O.failures output.new; written = O.written output.new })
         result }
+    ensures taken { LeavesRest (I.rest commands.old) (I.rest commands.new) MAX_INPUT }
 {
     match debugger.session(commands, output) {
         Ok(()) => Status::Done,

@@ -1,6 +1,7 @@
-use Rattle.std.proofs.Common.{◌∙◌}
+use Rattle.std.proofs.Common.{◌∙◌, arith}
 use Rattle.pb_debug_engine.proofs.LiveLemmas.{device_told, live_answered, live_told, unread_answered, unread_device}
 use Rattle.pb_debug_engine.proofs.LiveLemmas.{unread_told}
+use Rattle.pb_debug_engine.proofs.PartLemmas.{takes_fewer, takes_then}
 use Rattle.pb_debug_engine.proofs.live.debug_live_engine.Goals as goal
 
 pub returns-in-Ok-clause-text : goal.returns-in-Ok-clause-text
@@ -42,3 +43,12 @@ pub returns-in-Err-clause-answered : goal.returns-in-Err-clause-answered
 returns-in-Err-clause-answered g c grew =
     unread_answered _ _ _ _ c.tell_unread.result grew c.in-Err.fault (g.I.Input.rest c.args.input.now) _ c.in-Err.ensures.no_fault
     c.in-Err.ensures.early c.tell_unread.ensures.text
+
+pub returns-in-Ok-clause-taken : goal.returns-in-Ok-clause-taken
+returns-in-Ok-clause-taken g c =
+    takes_then (g.I.Input.rest c.args.input.now) (g.I.Input.rest c.read_first_parts.new.input) _ 8388608 4194304 _ c.in-Ok.ensures.within
+    c.debug_parts.ensures.taken (omega arith)
+
+pub returns-in-Err-clause-taken : goal.returns-in-Err-clause-taken
+returns-in-Err-clause-taken g c =
+    takes_fewer (g.I.Input.rest c.args.input.now) (g.I.Input.rest c.read_first_parts.new.input) 8388609 _ c.read_first_parts.ensures.taken (omega arith)

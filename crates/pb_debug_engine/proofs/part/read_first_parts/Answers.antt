@@ -1,7 +1,7 @@
-use Rattle.std.proofs.Common.{inl}
+use Rattle.std.proofs.Common.{inl, arith}
 use Rattle.std.proofs.lemmas.Result.{err_from_is_err_and}
 use Rattle.std.proofs.lemmas.Option.{IfSome_then}
-use Rattle.pb_debug_engine.proofs.PartLemmas.{early_in_second, two_then_two}
+use Rattle.pb_debug_engine.proofs.PartLemmas.{early_in_second, takes_fewer, takes_then, two_then_two}
 use Rattle.pb_debug_engine.proofs.part.read_first_parts.Goals as goal
 
 pub returns-clause-parts : goal.returns-clause-parts
@@ -21,3 +21,22 @@ returns-in_err-lines-clause-early g c =
     rw (p.1, p.2) (λ device.
     early_in_second (g.I.Input.rest c.args.input.now) (g.I.Input.rest c.read_part.new.input) _ c.in_ok-source.source.items
     c.in_ok-source.ensures.part (c.in_err-lines.ensures.early device))
+
+pub returns-clause-taken : goal.returns-clause-taken
+returns-clause-taken g c =
+    takes_then (g.I.Input.rest c.args.input.now) (g.I.Input.rest c.read_part.new.input) _ 4194304 4194304 _ c.in_ok-source.ensures.within
+    c.in_ok-lines.ensures.within (omega arith)
+
+pub returns-clause-within : goal.returns-clause-within
+returns-clause-within g c =
+    takes_then (g.I.Input.rest c.args.input.now) (g.I.Input.rest c.read_part.new.input) _ 4194304 4194304 _ c.in_ok-source.ensures.within
+    c.in_ok-lines.ensures.within (omega arith)
+
+pub returns-in_err-source-clause-taken : goal.returns-in_err-source-clause-taken
+returns-in_err-source-clause-taken g c =
+    takes_fewer (g.I.Input.rest c.args.input.now) (g.I.Input.rest c.read_part.new.input) 4194305 _ c.read_part.ensures.taken (omega arith)
+
+pub returns-in_err-lines-clause-taken : goal.returns-in_err-lines-clause-taken
+returns-in_err-lines-clause-taken g c =
+    takes_then (g.I.Input.rest c.args.input.now) (g.I.Input.rest c.read_part.new.input) _ 4194304 4194305 _ c.in_ok-source.ensures.within
+    c.read_part-2.ensures.taken (omega arith)

@@ -3,7 +3,7 @@ use Rattle.std.proofs.Common.{ap, ◌∙◌, subst, arith, append-nil, length-ap
 use Rattle.pb_base.proofs.DeviceLemmas.{prepended}
 use Rattle.pb_debug_engine.specs.Live.{EndsInMark, IsUnmarked}
 use Rattle.pb_command_io.specs.Parts.{AreTwoParts}
-use Rattle.pb_debug_engine.proofs.PartLemmas.{at_end, ended, ended_by_mark, is_long, known, read_one, unmarked_more}
+use Rattle.pb_debug_engine.proofs.PartLemmas.{at_end, ended, ended_by_mark, is_long, known, none_dropped, read_one, takes_text, unmarked_more}
 use Rattle.pb_debug_engine.proofs.part.read_part.Goals as goal
 
 pub returns-in_default-clause-early : goal.returns-in_default-clause-early
@@ -85,3 +85,74 @@ loop-count-preserved g c =
           (unmarked_more text b c.loop-count.invariant.unmarked
           (λ ends. let w : false ≡ true = c.if-ends_in_mark.ensures.1 (subst EndsInMark (sym (c.as_slice-in-loop-count.ensures.value ∙ pushed)) ends) in cc));
     }
+
+pub returns-in_default-clause-taken : goal.returns-in_default-clause-taken
+returns-in_default-clause-taken g c =
+    let few = c.loop-count.invariant.few in
+    takes_text (g.I.Input.rest c.args.input.now) (g.I.Input.rest c.loop-count.input) _ c.loop-count.part.items _
+    c.loop-count.invariant.read c.in_default.ensures.fault.0 (omega (arith, few))
+
+pub returns-then-count-eq0-clause-taken : goal.returns-then-count-eq0-clause-taken
+returns-then-count-eq0-clause-taken g c =
+    let few = c.loop-count.invariant.few in
+    takes_text (g.I.Input.rest c.args.input.now) (g.I.Input.rest c.loop-count.input) _ c.loop-count.part.items _ c.loop-count.invariant.read
+    (c.in-Ok.ensures.taken ∙ none_dropped (g.I.Input.rest c.loop-count.input) c.in-Ok.count c.if-count-eq0.true) (omega (arith, few))
+
+pub returns-then-count-eq0-clause-within : goal.returns-then-count-eq0-clause-within
+returns-then-count-eq0-clause-within g c =
+    let few = c.loop-count.invariant.few in
+    takes_text (g.I.Input.rest c.args.input.now) (g.I.Input.rest c.loop-count.input) _ c.loop-count.part.items _ c.loop-count.invariant.read
+    (c.in-Ok.ensures.taken ∙ none_dropped (g.I.Input.rest c.loop-count.input) c.in-Ok.count c.if-count-eq0.true) (omega (arith, few))
+
+pub returns-then-len-gt-MAX_INPUT-clause-taken : goal.returns-then-len-gt-MAX_INPUT-clause-taken
+returns-then-len-gt-MAX_INPUT-clause-taken g c =
+    let text = c.loop-count.part.items in
+    let b = get_or c.read.new.buf 0 0 in
+    let few = c.loop-count.invariant.few in
+    let room = c.loop-count.invariant.room in
+    let kept = c.read.auto.buf in
+    let size = length-append text (b ∷ []) in
+    let read = read_one (g.I.Input.rest c.args.input.now) (g.I.Input.rest c.loop-count.input) (g.I.Input.rest c.read.new.self) text c.read.new.buf
+    c.in-Ok.count c.loop-count.invariant.read c.in-Ok.ensures.given c.in-Ok.ensures.taken (omega (arith, room, kept)) c.in-Ok.ensures.bound
+    c.if-count-eq0.false in
+    (text ++ b ∷ [], omega (arith, few, size), read)
+
+pub returns-then-ends_in_mark-clause-taken : goal.returns-then-ends_in_mark-clause-taken
+returns-then-ends_in_mark-clause-taken g c =
+    let text = c.loop-count.part.items in
+    let b = get_or c.read.new.buf 0 0 in
+    let few = c.loop-count.invariant.few in
+    let room = c.loop-count.invariant.room in
+    let kept = c.read.auto.buf in
+    let size = length-append text (b ∷ []) in
+    let read = read_one (g.I.Input.rest c.args.input.now) (g.I.Input.rest c.loop-count.input) (g.I.Input.rest c.read.new.self) text c.read.new.buf
+    c.in-Ok.count c.loop-count.invariant.read c.in-Ok.ensures.given c.in-Ok.ensures.taken (omega (arith, room, kept)) c.in-Ok.ensures.bound
+    c.if-count-eq0.false in
+    (text ++ b ∷ [], omega (arith, few, size), read)
+
+pub returns-then-ends_in_mark-clause-within : goal.returns-then-ends_in_mark-clause-within
+returns-then-ends_in_mark-clause-within g c =
+    let text = c.loop-count.part.items in
+    let b = get_or c.read.new.buf 0 0 in
+    let room = c.loop-count.invariant.room in
+    let kept = c.read.auto.buf in
+    let more = ap (λ (t : List ℕ). length t) c.in-Ok-push.ensures.items in
+    let short = c.if-len-gt-MAX_INPUT.false in
+    let counted = c.len.ensures in
+    let read = read_one (g.I.Input.rest c.args.input.now) (g.I.Input.rest c.loop-count.input) (g.I.Input.rest c.read.new.self) text c.read.new.buf
+    c.in-Ok.count c.loop-count.invariant.read c.in-Ok.ensures.given c.in-Ok.ensures.taken (omega (arith, room, kept)) c.in-Ok.ensures.bound
+    c.if-count-eq0.false in
+    (text ++ b ∷ [], omega (arith, more, short, counted), read)
+
+pub returns-in_default-push-clause-taken : goal.returns-in_default-push-clause-taken
+returns-in_default-push-clause-taken g c =
+    let text = c.loop-count.part.items in
+    let b = get_or c.read.new.buf 0 0 in
+    let few = c.loop-count.invariant.few in
+    let room = c.loop-count.invariant.room in
+    let kept = c.read.auto.buf in
+    let size = length-append text (b ∷ []) in
+    let read = read_one (g.I.Input.rest c.args.input.now) (g.I.Input.rest c.loop-count.input) (g.I.Input.rest c.read.new.self) text c.read.new.buf
+    c.in-Ok.count c.loop-count.invariant.read c.in-Ok.ensures.given c.in-Ok.ensures.taken (omega (arith, room, kept)) c.in-Ok.ensures.bound
+    c.if-count-eq0.false in
+    (text ++ b ∷ [], omega (arith, few, size), read)

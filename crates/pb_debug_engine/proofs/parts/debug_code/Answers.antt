@@ -48,6 +48,7 @@ returns-in-Ok-from_object_counted g c =
           says_weaker (AnswersLines d) (AnswersOfCode verified labels shown c.args.lines.now) (λ read text says. (d, opened, says))
           (g.I.Input.rest c.args.commands.now) _ _ _ (c.tell_session.ensures.answered grew);
       faults = c.tell_session.ensures.faults;
+      taken = c.tell_session.ensures.taken;
     }
 
 pub returns-clause-text : goal.returns-clause-text

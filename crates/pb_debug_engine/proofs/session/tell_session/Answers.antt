@@ -39,6 +39,7 @@ returns-in_default g c = record {
   answered = λ grew.
       says_weaker (λ read text. Session c.args.debugger.now (cut [] read).lines text c.session.new.self) (AnswersLines c.args.debugger.now)
       (λ read text says. (c.session.new.self, says)) (g.I.Input.rest c.args.commands.now) _ _ _ (c.session.ensures.answered grew);
+  taken = c.session.ensures.taken;
   faults = one_failed c.in-Err.fault
       (record {
         reads = g.I.Input.failures c.args.commands.now;
