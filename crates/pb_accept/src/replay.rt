@@ -95,8 +95,9 @@ fn replay_lines<O: Output>(
     }
 }
 
-// Returns the machine behind the picks that lines say, and their trace.
-fn make_lines(
+/// Makes the picks that pick lines say, from the start of the code: returns the machine after them, and their
+/// trace. The error says why the lines are not picks, or why their picks are not made.
+pub fn make_lines(
     alloc: Global,
     verified: &Verified,
     lines: &[u8],
@@ -143,9 +144,9 @@ fn last_line(machine: &Machine) -> &'static [u8]
     if machine.finished() { b"done" } else { b"open" }
 }
 
-// Returns the status of a replay that has come to here.
+/// Returns the status of a replay that has come to here: `Fault` if a process has faulted, else `Done`.
 #[tactic(auto, using(crate::specs::ReplayLines::some_fault, crate::specs::ReplayLines::no_fault))]
-fn status_at(machine: &Machine) -> Status
+pub fn status_at(machine: &Machine) -> Status
     ensures status { IsStatusAt (machine_view machine.now) result }
     ensures no_device { result ≢ Device }
 {

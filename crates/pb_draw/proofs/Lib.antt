@@ -1,4 +1,7 @@
+pub mod ArmOrder
+pub mod ArmSteps
 pub mod Curves
 pub mod LaneSteps
+pub mod MarkOrder
 pub mod PickMarks
 pub mod Walks

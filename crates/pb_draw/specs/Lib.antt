@@ -1,3 +1,4 @@
+pub mod Arms
 pub mod Bars
 pub mod Cash
 pub mod Curves

@@ -1,5 +1,5 @@
 -- The marks of a run: each event at the pick that shows it.
-use Rattle.std.specs.Prelude.{ℕ, zero, suc, List, [], ◌∷◌, ◌++◌, Option, Some, None, slice_get}
+use Rattle.std.specs.Prelude.{◌≡◌, ◌<◌, ℕ, zero, suc, List, [], ◌∷◌, ◌++◌, Option, Some, None, slice_get}
 use Rattle.pb_base.specs.declared.event.Event.{Event}
 use Rattle.pb_base.specs.declared.pick.Pick.{Pick}
 use Rattle.pb_code.specs.Whole.{Code}
@@ -20,3 +20,7 @@ marks_at code picks i = mark_list (event_at code picks i) (slice_get picks i) i
 abbrev pub marks_before : Code → List Pick → (n : ℕ) → List Mark
 marks_before code picks zero = []
 marks_before code picks (suc n) = marks_before code picks n ++ marks_at code picks n
+
+-- of two marks the earlier is of an earlier pick
+abbrev pub AreInOrder : List Mark → Type 0
+AreInOrder marks = (i j : ℕ) (m n : Mark) → i < j → slice_get marks i ≡ Some m → slice_get marks j ≡ Some n → m.at < n.at

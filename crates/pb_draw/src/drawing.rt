@@ -1,8 +1,11 @@
 //! What a run shows over its picks.
 
-ghost use Rattle.std.specs.Prelude.{◌≡◌, ◌≤◌, All, IfOk, length};
+ghost use Rattle.std.specs.Prelude.{◌≡◌, ◌≤◌, ◌*◌, All, IfOk, length, map};
 ghost use Rattle.pb_base.specs.Lines.{HasNames};
+ghost use Rattle.pb_base.specs.declared.limits.TheConstants.{MAX_ARMS, MAX_PROCESSES};
+ghost use Rattle.pb_draw.specs.Arms.{AreDifferent};
 ghost use Rattle.pb_draw.specs.Drawings.{IsDrawing};
+ghost use Rattle.pb_draw.specs.Marks.{AreInOrder};
 ghost use Rattle.pb_history.specs.Entries.{picks_of};
 ghost use Rattle.pb_history.specs.Positions.{AreEnabled};
 
@@ -93,6 +96,9 @@ pub fn draw(alloc: Global, verified: &Verified, trace: &Trace) -> Result<Drawing
     requires few { length trace.now.entries ≤ MAX_PICKS }
     ensures drawing { IfOk result (IsDrawing verified.now.code (picks_of trace.now.entries)) }
     ensures named { IfOk result (λ d. All (λ m. HasNames verified.now.code.names m.event) d.marks.items) }
+    ensures ordered { IfOk result (λ d. AreInOrder d.marks.items) }
+    ensures different { IfOk result (λ d. AreDifferent (map (λ lane. lane.pick) d.lanes.items)) }
+    ensures rows { IfOk result (λ d. length d.lanes.items ≤ MAX_PROCESSES * MAX_ARMS) }
     ensures curves { IfOk result (λ d. length d.curves.items ≡ length verified.now.code.capital) }
 {
     let _ = verified.code();

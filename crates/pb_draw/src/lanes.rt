@@ -1,6 +1,8 @@
 //! The state of each arm over a run.
 
-ghost use Rattle.std.specs.Prelude.{◌≡◌, ◌↔◌, ◌-◌, ◌<◌, ℕ, List, IfOk, IsTrue, OnOk, length, slice_get};
+ghost use Rattle.std.specs.Prelude.{◌≡◌, ◌↔◌, ◌++◌, ◌-◌, ◌<◌, ℕ, List, IfOk, IsTrue, OnOk, Some, length, map, slice_get};
+ghost use Rattle.pb_code.specs.Code.{ProcessCode};
+ghost use Rattle.pb_draw.specs.Arms.{arms_before, arms_from};
 ghost use Rattle.pb_code.specs.View.{instr_view};
 ghost use Rattle.pb_draw.specs.Drawings.{AreLanes};
 ghost use Rattle.pb_draw.specs.Lanes.{IsLane, ShowsStandings, is_request, standing_in};
@@ -141,7 +143,10 @@ fn add_lanes(
     requires enabled { AreEnabled verified.now.code (picks_of trace.now.entries) }
     requires lanes { AreLanes verified.now.code (picks_of trace.now.entries) lanes.old.items }
     requires process { process < length verified.now.code.processes }
-    ensures { OnOk result (AreLanes verified.now.code (picks_of trace.now.entries) lanes.new.items) }
+    ensures lanes { OnOk result (AreLanes verified.now.code (picks_of trace.now.entries) lanes.new.items) }
+    ensures arms { OnOk result ((code : ProcessCode) → slice_get verified.now.code.processes process ≡ Some code
+        → map (λ lane. lane.pick) lanes.new.items
+        ≡ map (λ lane. lane.pick) lanes.old.items ++ arms_before process (length code.entries)) }
 {
     let arms = verified.code().processes[usize::from(process)]
         .entries
@@ -161,7 +166,8 @@ pub(crate) fn lanes_of(
     trace: &Trace,
 ) -> Result<Vec<Lane>, NoMemory>
     requires { AreEnabled verified.now.code (picks_of trace.now.entries) }
-    ensures { IfOk result (λ lanes. AreLanes verified.now.code (picks_of trace.now.entries) lanes.items) }
+    ensures lanes { IfOk result (λ lanes. AreLanes verified.now.code (picks_of trace.now.entries) lanes.items) }
+    ensures arms { IfOk result (λ lanes. map (λ lane. lane.pick) lanes.items ≡ arms_from 0 verified.now.code.processes) }
 {
     let mut lanes = Vec::new(alloc);
     let processes = verified.code().processes.len();

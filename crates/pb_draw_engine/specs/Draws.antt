@@ -1,14 +1,18 @@
 -- What `draw` says of an input, and with which status.
-use Rattle.std.specs.Prelude.{◌≡◌, ℕ, List}
+use Rattle.std.specs.Prelude.{◌≡◌, ℕ, List, map}
 use Rattle.pb_base.specs.Steppers.{State}
 use Rattle.pb_code.specs.Code.{CodeProcess}
 use Rattle.pb_code.specs.Whole.{Code, ProcessLabels}
 use Rattle.pb_codegen.specs.Compiled.{IsCompiled}
 use Rattle.pb_draw.specs.Drawings.{IsDrawing}
+use Rattle.pb_draw_picture.specs.Marks.{AreFromLeft}
 use Rattle.pb_draw_picture.specs.Pictures.{IsLayout}
+use Rattle.pb_draw_picture.specs.Rows.{AreStacked}
+use Rattle.pb_draw_picture.specs.Shapes.{sign_of}
 use Rattle.pb_draw_picture.specs.Svg.{svg}
 use Rattle.pb_draw.specs.declared.drawing.Drawing.{Drawing}
 use Rattle.pb_draw_picture.specs.declared.picture.Picture.{Picture}
+use Rattle.pb_draw_picture.specs.declared.sizes.TheConstants.{TOP}
 use Rattle.pb_base.specs.Lines.{line}
 use Rattle.pb_command_io.specs.Answers.{memory_line}
 use Rattle.pb_command_io.specs.Parts.{AreTwoParts}
@@ -18,12 +22,15 @@ use Rattle.pb_command_io.specs.declared.status.Status.{Status}
 use Rattle.pb_command_io.specs.declared.status.Status.TheVariants.{Memory, Refused}
 use Rattle.pb_history.specs.Entries.{Entry, picks_of}
 
--- a text is the picture of these entries as SVG: the layout of what their run shows
+-- a text is the picture of these entries as SVG: the layout of what their run shows. Its rows are one below the
+-- other, and of two marks the earlier is further left
 pub record IsPictured (code : Code) (entries : List Entry) (text : List ℕ) : Type 0 where
   pub drawing : Drawing
   pub picture : Picture
   pub drawn : IsDrawing code (picks_of entries) drawing
   pub laid_out : IsLayout code.names code.capital drawing picture
+  pub stacked : AreStacked laid_out.places TOP drawing.lanes.items laid_out.places.bottom
+  pub rising : AreFromLeft (map sign_of picture.ticks.items)
   pub written : text ≡ svg picture
 
 -- what is said of the lines behind an accepted text, by its code: their picks are refused; or all are made,

@@ -1,19 +1,17 @@
 //! The command `draw`, over any input and output.
 
-ghost use Rattle.std.specs.Prelude.{◌≢◌, ◌↔◌, ◌≤◌, IfErr, IfOk, IfSome, IsTrue, length};
+ghost use Rattle.std.specs.Prelude.{◌≤◌, IfOk, IfSome, length};
 ghost use Rattle.pb_draw_engine.specs.Draws.{IsPictured, SaysOfDraw, SaysOfDrawnLines};
 ghost use Rattle.pb_command_io.specs.Answers.{Tells};
 ghost use Rattle.pb_command_io.specs.Faults.{TellsFaults, TellsWriteFaults};
 ghost use Rattle.pb_command_io.specs.Inputs.{SaysOfInput};
-ghost use Rattle.pb_accept.specs.ReplayLines.{AreReplayed, IsLinesFault, IsStatusAt};
-ghost use Rattle.pb_accept.specs.ToldEvents.{HasFault};
-ghost use Rattle.pb_command_io.specs.declared.status.Status.TheVariants.{Device};
+ghost use Rattle.pb_accept.specs.ReplayLines.{IsStatusAt};
 ghost use Rattle.pb_history.specs.Entries.{picks_of};
 ghost use Rattle.pb_history.specs.Positions.{AreEnabled};
 ghost use Rattle.pb_machine.specs.Views.{machine_view};
 
 use pb_accept::accept::{compile_text, refuse};
-use pb_accept::replay::{LinesFault, lines_refusal};
+use pb_accept::replay::{lines_refusal, make_lines, status_at};
 use pb_base::NoMemory;
 use pb_base::device::{Input, Output};
 use pb_base::limits::{MAX_INPUT, MAX_PICKS};
@@ -24,9 +22,7 @@ use pb_command_io::reply::{Reply, tell};
 use pb_draw::draw;
 use pb_draw_picture::{lay_out, write_svg};
 use pb_history::Trace;
-use pb_history::replay::replay_counted;
 use pb_machine::Machine;
-use pb_picks::read_picks;
 use pb_verifier::Verified;
 use std::alloc::Global;
 
@@ -63,26 +59,6 @@ fn draw_bytes<O: Output>(alloc: Global, bytes: &[u8], output: &mut O) -> Status
     }
 }
 
-// Makes the picks that lines say: returns the machine behind them, and their trace.
-fn make_lines(
-    alloc: Global,
-    verified: &Verified,
-    lines: &[u8],
-) -> Result<(Machine, Trace), LinesFault>
-    ensures made { IfOk result (λ made.
-        AreReplayed verified.now.code lines.now made.1.entries (machine_view made.0)) }
-    ensures fault { IfErr result (IsLinesFault verified.now.code lines.now) }
-{
-    let picks = match read_picks(alloc, verified.code(), lines) {
-        Ok(picks) => picks,
-        Err(fault) => return Err(LinesFault::NotRead(fault)),
-    };
-    match replay_counted(alloc, verified, picks.as_slice()) {
-        Ok(made) => Ok(made),
-        Err(fault) => Err(LinesFault::NotMade(fault)),
-    }
-}
-
 // Draws the run that lines say, or writes why their picks are not made.
 fn draw_lines<O: Output>(alloc: Global, verified: &Verified, lines: &[u8], output: &mut O) -> Status
     ensures text { Tells (SaysOfDrawnLines verified.now.code lines.now) (O.written output.old) (O.written output.new) result }
@@ -94,31 +70,6 @@ fn draw_lines<O: Output>(alloc: Global, verified: &Verified, lines: &[u8], outpu
             tell(alloc, reply, output)
         }
         Err(fault) => tell(alloc, lines_refusal(alloc, fault), output),
-    }
-}
-
-// Returns whether some process has faulted.
-fn has_fault(machine: &Machine) -> bool
-    ensures { IsTrue result ↔ HasFault (machine_view machine.now) }
-{
-    for p in 0..machine.processes() {
-        if machine.proc(p).faulted() {
-            return true;
-        }
-    }
-    false
-}
-
-// Returns the status of a replay that has come to here.
-#[tactic(auto, using(crate::proofs::ReplayStatus::faulted, crate::proofs::ReplayStatus::whole))]
-fn status_at(machine: &Machine) -> Status
-    ensures status { IsStatusAt (machine_view machine.now) result }
-    ensures no_device { result ≢ Device }
-{
-    if has_fault(machine) {
-        Status::Fault
-    } else {
-        Status::Done
     }
 }
 

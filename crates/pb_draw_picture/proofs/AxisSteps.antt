@@ -1,10 +1,11 @@
 -- An axis that grows, event by event.
 use Rattle.std.proofs.Common.{◌≡◌, ◌⊎◌, ◌<◌, ◌≤◌, ℕ, zero, suc, ◌+◌, List, [], ◌∷◌, ◌++◌, length, refl, sym, ap, ◌∙◌, subst, inl, inr, arith, Some}
-use Rattle.std.specs.Prelude.{nat_lt, slice_get}
+use Rattle.std.specs.Prelude.{slice_get}
 use Rattle.std.proofs.lemmas.Grind.{common_steps}
 use Rattle.std.proofs.lemmas.Option.{slice_get_within}
+use Rattle.pb_draw.specs.Marks.{AreInOrder}
 use Rattle.pb_draw.specs.declared.drawing.Mark.{Mark}
-use Rattle.pb_draw_picture.specs.Axis.{AreInOrder, IsAxis, IsBehind, IsChain, IsChainFrom, squeezed, x_at}
+use Rattle.pb_draw_picture.specs.Axis.{IsAxis, IsBehind, IsChain, IsChainFrom, squeezed, x_at}
 use Rattle.pb_draw_picture.specs.declared.knot.Knot.{Knot}
 use Rattle.pb_draw_picture.proofs.AxisLemmas.{axis_forward, axis_wide}
 

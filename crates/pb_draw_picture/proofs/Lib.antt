@@ -1,2 +1,4 @@
 pub mod AxisLemmas
 pub mod AxisSteps
+pub mod MarkPlaces
+pub mod RowLemmas

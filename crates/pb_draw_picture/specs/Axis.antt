@@ -1,12 +1,9 @@
 -- Time, from left to right.
 use Rattle.std.specs.Prelude.{◌≡◌, ◌<◌, ◌≤◌, ℕ, ◌+◌, ◌-◌, ◌*◌, ◌/◌, min, cond, nat_le, List, [], ◌∷◌, Some, slice_get}
+use Rattle.pb_draw.specs.Marks.{AreInOrder}
 use Rattle.pb_draw.specs.declared.drawing.Mark.{Mark}
 use Rattle.pb_draw_picture.specs.declared.knot.Knot.{Knot}
 use Rattle.pb_draw_picture.specs.declared.sizes.TheConstants.{MAX_SILENT, SIDE, SILENT}
-
--- of two marks the earlier is of an earlier pick
-abbrev pub AreInOrder : List Mark → Type 0
-AreInOrder marks = (i j : ℕ) (m n : Mark) → i < j → slice_get marks i ≡ Some m → slice_get marks j ≡ Some n → m.at < n.at
 
 -- the places of positions: position i is after the first i picks, and begins at `x i`. A later position is
 -- not further left; and the event of a mark, which begins at the position behind its pick, is left of all that

@@ -6,6 +6,7 @@ pub mod Lanes
 pub mod Marks
 pub mod Pictures
 pub mod Places
+pub mod Rows
 pub mod Shapes
 pub mod Svg
 pub mod Texts

@@ -1,5 +1,5 @@
 -- The marks of a picture, and the numbers of their picks above them: of each event one.
-use Rattle.std.specs.Prelude.{ℕ, ◌+◌, ◌-◌, List, map}
+use Rattle.std.specs.Prelude.{◌≡◌, ◌<◌, ℕ, ◌+◌, ◌-◌, List, Some, map, slice_get}
 use Rattle.std.specs.Fmt.{decimal}
 use Rattle.pb_base.specs.Lines.{NameTable, line_of}
 use Rattle.pb_base.specs.declared.event.Event.{Event}
@@ -41,3 +41,7 @@ signs names places marks = map (λ m. sign_at names (places.x (m.at + 1)) (place
 abbrev pub numbers : Places → List Mark → List Text
 numbers places marks =
     map (λ m. record { kind = Number; x = places.x (m.at + 1); y = NUMBER_Y; text = decimal m.at }) marks
+
+-- of two marks the earlier is further left
+abbrev pub AreFromLeft : List Sign → Type 0
+AreFromLeft marks = (i j : ℕ) (m n : Sign) → i < j → slice_get marks i ≡ Some m → slice_get marks j ≡ Some n → m.x < n.x

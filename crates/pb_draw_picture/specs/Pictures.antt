@@ -1,6 +1,8 @@
 -- What a picture shows of a run.
-use Rattle.std.specs.Prelude.{◌≡◌, ℕ, ◌+◌, ◌*◌, max, List, ◌++◌, length, map}
+use Rattle.std.specs.Prelude.{◌≡◌, ◌≤◌, ℕ, ◌+◌, ◌*◌, max, List, ◌++◌, length, map}
 use Rattle.pb_base.specs.Lines.{NameTable}
+use Rattle.pb_draw.specs.Marks.{AreInOrder}
+use Rattle.pb_draw.specs.Arms.{AreDifferent}
 use Rattle.pb_draw.specs.declared.drawing.Drawing.{Drawing}
 use Rattle.pb_draw_picture.specs.declared.picture.Picture.{Picture}
 use Rattle.pb_draw_picture.specs.declared.picture.Rect.{Rect}
@@ -9,10 +11,11 @@ use Rattle.pb_draw_picture.specs.Curves.{curve_texts_from, curves_from}
 use Rattle.pb_draw_picture.specs.Grounds.{AreGaps, AreSilents, notes}
 use Rattle.pb_draw_picture.specs.Holds.{bundles_from, holds_from}
 use Rattle.pb_draw_picture.specs.Lanes.{lane_names, lines}
-use Rattle.pb_draw_picture.specs.Marks.{numbers, signs}
+use Rattle.pb_draw_picture.specs.Marks.{AreFromLeft, numbers, signs}
 use Rattle.pb_draw_picture.specs.Places.{Places}
+use Rattle.pb_draw_picture.specs.Rows.{AreStacked, AreWithin}
 use Rattle.pb_draw_picture.specs.Shapes.{Text, sign_of, text_of}
-use Rattle.pb_draw_picture.specs.declared.sizes.TheConstants.{BOTTOM, CURVE_ROW, MIN_WIDTH, RIGHT}
+use Rattle.pb_draw_picture.specs.declared.sizes.TheConstants.{BOTTOM, CURVE_ROW, MAX_ROWS, MIN_WIDTH, RIGHT, TOP}
 
 -- where the rows of a picture end: those of the arms, and below them those of the resources
 abbrev pub foot_of_all : Places → Drawing → ℕ
@@ -36,12 +39,16 @@ pub record AreTexts (names : NameTable) (capital : List ℕ) (d : Drawing) (plac
       ++ bundles_from names places 0 d.bars.items) ++ curve_texts_from names places capital 0 d.curves.items)
       ++ notes (foot_of_all places d)
 
--- a picture shows a drawing at some places, which go from left to right with the picks: a mark for each event, and
--- all that stands above; there are no other shapes
+-- a picture shows a drawing at some places, which go from left to right with the picks, in rows that are one below
+-- the other: a mark for each event, and all that stands above; there are no other shapes
 pub record IsLayout (names : NameTable) (capital : List ℕ) (d : Drawing) (p : Picture) : Type 0 where
   pub places : Places
   pub axis : IsAxis d.marks.items places.x
   pub right : places.right ≡ places.x (d.picks + 1)
+  pub rows : AreDifferent (map (λ lane. lane.pick) d.lanes.items) → length d.lanes.items ≤ MAX_ROWS
+      → AreStacked places TOP d.lanes.items places.bottom
+  pub within : AreWithin places d.lanes.items d.bars.items
+  pub rising : AreInOrder d.marks.items → AreFromLeft (map sign_of p.ticks.items)
   pub rects : AreRects capital d places p.rects.items
   pub texts : AreTexts names capital d places (map text_of p.labels.items)
   pub marks : map sign_of p.ticks.items ≡ signs names places d.marks.items

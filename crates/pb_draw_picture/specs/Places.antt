@@ -1,10 +1,10 @@
 -- Where things are in a picture: from left to right by time, from top to bottom by arm.
-use Rattle.std.specs.Prelude.{ℕ, ◌+◌, ◌*◌, min, Bool, true, false, cond, ◌==◌, ◌&&◌, List, [], ◌∷◌, Option, Some, None, slice_index_or}
+use Rattle.std.specs.Prelude.{ℕ, ◌+◌, ◌*◌, Bool, cond, ◌==◌, ◌&&◌, List, [], ◌∷◌, Option, Some, None, slice_index_or}
 use Rattle.pb_base.specs.declared.pick.Pick.{Pick}
 use Rattle.pb_draw_picture.specs.Axis.{x_at}
 use Rattle.pb_draw_picture.specs.declared.grid.Grid.{Grid}
-use Rattle.pb_draw_picture.specs.declared.rows.Row.{Row}
-use Rattle.pb_draw_picture.specs.declared.sizes.TheConstants.{ABOVE, BETWEEN, HOLD, LOWEST, TRACK}
+use Rattle.pb_draw_picture.specs.declared.row.Row.{Row}
+use Rattle.pb_draw_picture.specs.declared.sizes.TheConstants.{ABOVE, BETWEEN, HOLD, TRACK}
 
 -- the places of a picture
 pub record Places : Type 0 where
@@ -14,6 +14,8 @@ pub record Places : Type 0 where
   pub right : ℕ
   -- the top of the line of an arm
   pub line : Pick → ℕ
+  -- the holds for which the row of an arm has room
+  pub deepest : Pick → ℕ
   -- below how many others the hold with a number is
   pub depth : ℕ → ℕ
   -- where the rows of the arms end
@@ -32,12 +34,17 @@ abbrev pub is_arm : Pick → Pick → Bool
 is_arm a b = (a.process == b.process) && (a.arm == b.arm)
 
 abbrev pub track_in : Row → ℕ
-track_in row = min row.y LOWEST + ABOVE
+track_in row = row.y + ABOVE
 
 -- the line of an arm: that of the first row that is its
 abbrev pub track_of : List Row → Pick → ℕ
 track_of [] pick = 0
 track_of (row ∷ rows) pick = cond (is_arm row.pick pick) (track_in row) (track_of rows pick)
+
+-- the holds for which it has room
+abbrev pub deepest_of : List Row → Pick → ℕ
+deepest_of [] pick = 0
+deepest_of (row ∷ rows) pick = cond (is_arm row.pick pick) row.deepest (deepest_of rows pick)
 
 -- the places that a grid has
 abbrev pub places_of : Grid → Places
@@ -45,6 +52,7 @@ places_of grid = record {
   x = x_at grid.knots.items;
   right = x_at grid.knots.items grid.end;
   line = track_of grid.rows.items;
+  deepest = deepest_of grid.rows.items;
   depth = λ k. slice_index_or grid.depths.items k 0;
   bottom = grid.bottom;
 }

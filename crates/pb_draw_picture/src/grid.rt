@@ -1,13 +1,16 @@
 //! Where things are in a picture.
 
-ghost use Rattle.std.specs.Prelude.{◌≡◌, ◌≤◌, ◌+◌, ◌^◌, IfOk, length};
+ghost use Rattle.std.specs.Prelude.{◌≡◌, ◌≤◌, ◌+◌, ◌^◌, IfOk, length, map};
 ghost use Rattle.pb_draw_picture.specs.Axis.{IsAxis, IsChain};
 ghost use Rattle.pb_draw_picture.specs.Places as spec;
+ghost use Rattle.pb_draw.specs.Arms.{AreDifferent};
+ghost use Rattle.pb_draw_picture.specs.Rows.{AreStacked, AreWithin};
 
 use crate::axis::{axis_of, x_of};
 use crate::knot::Knot;
-use crate::rows::{Row, rows_of, track_of};
-use crate::sizes::{BETWEEN, CHARACTER, HOLD, LOWEST, MAX_NAME, NAME_SIDE, TRACK};
+use crate::row::Row;
+use crate::rows::{rows_of, track_of};
+use crate::sizes::{BETWEEN, CHARACTER, HOLD, LOWEST, MAX_NAME, MAX_ROWS, NAME_SIDE, TOP, TRACK};
 use pb_base::{Names, NoMemory, Pick};
 use pb_draw::drawing::Drawing;
 use std::alloc::Global;
@@ -103,6 +106,9 @@ pub(crate) fn grid_of(alloc: Global, names: &Names, drawing: &Drawing) -> Result
     ensures axis { IfOk result (λ grid. IsAxis drawing.now.marks.items (spec.places_of grid).x) }
     ensures end { IfOk result (λ grid. grid.end ≡ drawing.now.picks + 1) }
     ensures bottom { IfOk result (λ grid. grid.bottom ≤ LOWEST) }
+    ensures rows { IfOk result (λ grid. AreDifferent (map (λ lane. lane.pick) drawing.now.lanes.items)
+        → length drawing.now.lanes.items ≤ MAX_ROWS → AreStacked (spec.places_of grid) TOP drawing.now.lanes.items grid.bottom) }
+    ensures within { IfOk result (λ grid. AreWithin (spec.places_of grid) drawing.now.lanes.items drawing.now.bars.items) }
 {
     let knots = axis_of(alloc, names, &drawing.marks, drawing.picks, left_of(names))?;
     let rows = rows_of(alloc, drawing)?;
@@ -111,6 +117,6 @@ pub(crate) fn grid_of(alloc: Global, names: &Names, drawing: &Drawing) -> Result
         end: u64::from(drawing.picks) + 1,
         rows: rows.rows,
         depths: rows.depths,
-        bottom: rows.end.min(LOWEST),
+        bottom: rows.end,
     })
 }

@@ -12,6 +12,7 @@ mod lanes;
 pub mod layout;
 mod marks;
 pub mod picture;
+mod row;
 mod rows;
 mod shapes;
 mod sizes;

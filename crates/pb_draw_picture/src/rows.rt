@@ -1,66 +1,47 @@
 //! The rows of a picture: one for each arm that is ever live.
 
-ghost use Rattle.std.specs.Prelude.{◌≡◌, ◌<◌, ◌≤◌, ◌^◌, IfOk, IfSome, length};
-ghost use Rattle.pb_draw_picture.specs.Places as spec;
+ghost use Rattle.std.specs.Prelude.{◌≡◌, ◌<◌, ◌≤◌, ◌+◌, ◌*◌, ◌^◌, IfOk, length, slice_index_or};
+ghost use Rattle.pb_draw_picture.specs.Rows as spec;
 ghost use Rattle.pb_draw_picture.specs.Lanes as lanes;
+ghost use Rattle.pb_draw_picture.specs.Places as places;
 
-use crate::sizes::{ABOVE, BELOW, BETWEEN, HOLD, LOWEST, TOP, TRACK};
+use crate::row::Row;
+use crate::sizes::{ABOVE, BELOW, BETWEEN, HOLD, LOWEST, ROW_MOST, TOP, TRACK};
 use pb_base::{Event, NoMemory, Pick};
-use pb_draw::drawing::{Drawing, Lane, LaneStep, Mark, Standing};
+use pb_draw::drawing::{Bar, Drawing, Lane, LaneStep, Mark, Standing};
 use std::alloc::Global;
-
-/// The row of an arm.
-#[derive(Clone, Copy)]
-pub(crate) struct Row {
-    pub pick: Pick,
-    /// Where the row begins.
-    pub y: u64,
-    /// Whether the arm is ever live; else the row has no height.
-    pub shown: bool,
-    /// The most holds that the arm has at once.
-    pub deepest: u32,
-}
 
 impl Row {
     // Returns where the line of the arm is.
     fn track(&self) -> u64
-        ensures { result ≡ spec.track_in self.now }
+        ensures { result ≡ places.track_in self.now }
     {
-        self.y.min(LOWEST) + ABOVE
+        self.y + ABOVE
     }
 
-    // Returns where the row ends.
-    fn end(&self) -> u64 {
+    // Returns how high the row is.
+    fn height(&self) -> u64
+        ensures height { result ≡ spec.height_in self.now }
+        ensures low { result ≤ ROW_MOST }
+    {
         if self.shown {
-            self.track() + TRACK + BETWEEN + u64::from(self.deepest) * HOLD + BELOW
+            ABOVE + TRACK + BETWEEN + self.deepest * HOLD + BELOW
         } else {
-            self.y
+            0
         }
     }
 }
 
 // Returns whether both are of one arm of one process.
 fn is_arm(a: Pick, b: Pick) -> bool
-    ensures { result ≡ spec.is_arm a b }
+    ensures { result ≡ places.is_arm a b }
 {
     a.process == b.process && a.arm == b.arm
 }
 
-// Returns the number of the row of an arm.
-fn row_of(rows: &[Row], pick: Pick) -> Option<usize>
-    ensures { IfSome result (λ i. i < length rows.now) }
-{
-    for (i, row) in rows.iter().enumerate() {
-        if is_arm(row.pick, pick) {
-            return Some(i);
-        }
-    }
-    None
-}
-
 /// Returns where the line of an arm is.
 pub(crate) fn track_of(rows: &[Row], pick: Pick) -> u64
-    ensures y { result ≡ spec.track_of rows.now pick }
+    ensures y { result ≡ places.track_of rows.now pick }
     ensures high { result ≤ 2 ^ 63 }
 {
     for row in rows {
@@ -94,65 +75,94 @@ pub(crate) fn is_ever_live(lane: &Lane) -> bool
     false
 }
 
-// Returns a row for each arm, none with a place yet.
-fn bare_rows(alloc: Global, lanes: &[Lane]) -> Result<Vec<Row>, NoMemory> {
-    let mut rows = Vec::new(alloc);
-    for lane in lanes {
-        rows.push(Row {
-            pick: lane.pick,
-            y: 0,
-            shown: is_ever_live(lane),
-            deepest: 0,
-        })?;
-    }
-    Ok(rows)
+/// An arm, and how many holds it has.
+#[derive(Clone, Copy)]
+struct Held {
+    pick: Pick,
+    holds: u32,
 }
 
-// Returns no holds for each row.
-fn no_holds(alloc: Global, rows: &[Row]) -> Result<Vec<u32>, NoMemory> {
+// Returns each arm with no hold.
+fn no_holds(alloc: Global, lanes: &[Lane]) -> Result<Vec<Held>, NoMemory> {
     let mut held = Vec::new(alloc);
-    held.resize(rows.len(), 0)?;
+    for lane in lanes {
+        held.push(Held {
+            pick: lane.pick,
+            holds: 0,
+        })?;
+    }
     Ok(held)
 }
 
-// Takes the holds of a process away, which has faulted.
-fn take_holds(rows: &[Row], held: &mut [u32], process: u8) {
-    for (i, row) in rows.iter().enumerate() {
-        if row.pick.process == process && i < held.len() {
-            held[i] = 0;
+// Returns how many holds an arm has, and gives it one more.
+fn take_hold(held: &mut [Held], pick: Pick) -> u32 {
+    for arm in held.iter_mut() {
+        if is_arm(arm.pick, pick) {
+            let before = arm.holds;
+            arm.holds = before.saturating_add(1);
+            return before;
+        }
+    }
+    0
+}
+
+// Takes a hold from an arm.
+fn return_hold(held: &mut [Held], pick: Pick) {
+    for arm in held.iter_mut() {
+        if is_arm(arm.pick, pick) {
+            arm.holds = arm.holds.saturating_sub(1);
+            return;
         }
     }
 }
 
-// Counts how many holds each arm has, and returns the depth of each grant.
-fn depths_of(alloc: Global, marks: &[Mark], rows: &mut [Row]) -> Result<Vec<u32>, NoMemory> {
-    let mut held = no_holds(alloc, rows)?;
+// Takes all holds from a process, which has faulted.
+fn return_all(held: &mut [Held], process: u8) {
+    for arm in held.iter_mut() {
+        if arm.pick.process == process {
+            arm.holds = 0;
+        }
+    }
+}
+
+// Returns the depth of each grant: how many holds its arm has before it.
+fn depths_of(alloc: Global, lanes: &[Lane], marks: &[Mark]) -> Result<Vec<u32>, NoMemory> {
+    let mut held = no_holds(alloc, lanes)?;
     let mut depths = Vec::new(alloc);
     for mark in marks {
-        let mut depth = 0;
-        if let Event::Faulted { pick, .. } = mark.event {
-            take_holds(rows, &mut held, pick.process);
-        } else if let Some(i) = row_of(rows, mark.pick) {
-            if i < held.len() {
-                depth = held[i];
-                held[i] = held_after(depth, &mark.event);
-                rows[i].deepest = rows[i].deepest.max(held[i]);
-            }
-        }
-        if let Event::Granted { .. } = mark.event {
-            depths.push(depth)?;
+        match mark.event {
+            Event::Granted { pick, .. } => depths.push(take_hold(held.as_mut_slice(), pick))?,
+            Event::Returned { pick, .. } => return_hold(held.as_mut_slice(), pick),
+            Event::Faulted { pick, .. } => return_all(held.as_mut_slice(), pick.process),
+            _ => {}
         }
     }
     Ok(depths)
 }
 
-// Returns how many holds an arm has after an event of it.
-fn held_after(held: u32, event: &Event) -> u32 {
-    match event {
-        Event::Granted { .. } => held.saturating_add(1),
-        Event::Returned { .. } => held.saturating_sub(1),
-        _ => held,
+// Returns the depth of the hold with a number.
+fn depth_at(depths: &[u32], k: usize) -> u32
+    ensures depth { result ≡ slice_index_or depths.now k 0 }
+    ensures few { result < 2 ^ 32 }
+{
+    match depths.get(k) {
+        Some(depth) => *depth,
+        None => 0,
     }
+}
+
+// Returns for how many holds, one below the other, an arm needs room.
+fn room_for(pick: Pick, bars: &[Bar], depths: &[u32]) -> u64
+    ensures room { spec.HasRoom pick bars.now depths.now result }
+    ensures few { result ≤ 2 ^ 32 }
+{
+    let mut room: u64 = 0;
+    for k in 0..bars.len() {
+        if is_arm(pick, bars[k].pick) {
+            room = room.max(u64::from(depth_at(depths, k)) + 1);
+        }
+    }
+    room
 }
 
 /// The rows of the arms, the depth of each hold by its number, and where the rows end.
@@ -163,14 +173,51 @@ pub(crate) struct Rows {
     pub end: u64,
 }
 
-/// Returns the rows of a drawing.
-pub(crate) fn rows_of(alloc: Global, drawing: &Drawing) -> Result<Rows, NoMemory> {
-    let mut rows = bare_rows(alloc, &drawing.lanes)?;
-    let depths = depths_of(alloc, &drawing.marks, &mut rows)?;
-    let mut end = TOP;
-    for row in rows.iter_mut() {
-        row.y = end;
-        end = row.end();
+// Returns the row of an arm at a height.
+fn row_at(y: u64, lane: &Lane, bars: &[Bar], depths: &[u32]) -> Row
+    requires { y ≤ LOWEST }
+    ensures row { spec.IsRowOf lane.now bars.now depths.now result }
+    ensures y { result.y ≡ y }
+{
+    Row {
+        pick: lane.pick,
+        y,
+        shown: is_ever_live(lane),
+        deepest: room_for(lane.pick, bars, depths),
     }
+}
+
+// Returns the rows of arms, one below the other, and where they end.
+fn pile_of(
+    alloc: Global,
+    lanes: &[Lane],
+    bars: &[Bar],
+    depths: &[u32],
+) -> Result<(Vec<Row>, u64), NoMemory>
+    ensures rows { IfOk result (λ made. spec.AreRowsOf lanes.now bars.now depths.now made.0.items) }
+    ensures pile { IfOk result (λ made. spec.IsPile TOP made.0.items made.1) }
+    ensures low { IfOk result (λ made. made.1 ≤ TOP + length lanes.now * ROW_MOST) }
+    ensures lowest { IfOk result (λ made. made.1 ≤ LOWEST) }
+{
+    let mut rows = Vec::new(alloc);
+    let mut end = TOP;
+    for i in 0..lanes.len() {
+        let lane = &lanes[i];
+        let row = row_at(end, lane, bars, depths);
+        end = (end + row.height()).min(LOWEST);
+        rows.push(row)?;
+    }
+    Ok((rows, end))
+}
+
+/// Returns the rows of a drawing.
+pub(crate) fn rows_of(alloc: Global, drawing: &Drawing) -> Result<Rows, NoMemory>
+    ensures rows { IfOk result (λ r. spec.AreRowsOf drawing.now.lanes.items drawing.now.bars.items r.depths.items r.rows.items) }
+    ensures pile { IfOk result (λ r. spec.IsPile TOP r.rows.items r.end) }
+    ensures low { IfOk result (λ r. r.end ≤ TOP + length drawing.now.lanes.items * ROW_MOST) }
+    ensures lowest { IfOk result (λ r. r.end ≤ LOWEST) }
+{
+    let depths = depths_of(alloc, &drawing.lanes, &drawing.marks)?;
+    let (rows, end) = pile_of(alloc, &drawing.lanes, &drawing.bars, &depths)?;
     Ok(Rows { rows, depths, end })
 }

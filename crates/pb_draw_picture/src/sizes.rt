@@ -93,3 +93,8 @@ pub const BOTTOM: u64 = 50;
 
 /// No row is lower.
 pub const LOWEST: u64 = 4_611_686_018_427_387_904;
+
+/// No row is higher, and no picture has more rows.
+pub const ROW_MOST: u64 = 100_000_000_000;
+
+pub const MAX_ROWS: u64 = 65_536;

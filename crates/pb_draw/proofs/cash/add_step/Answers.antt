@@ -1,4 +1,4 @@
-use Rattle.std.proofs.Common.{◌≡◌, ◌-◌, List, refl, sym, ◌∙◌, subst, arith}
+use Rattle.std.proofs.Common.{◌≡◌, List, refl, sym, ◌∙◌, subst, arith}
 use Rattle.pb_draw.specs.Cash.{ShowsCash}
 use Rattle.pb_draw.specs.declared.drawing.CashStep.{CashStep}
 use Rattle.pb_draw.proofs.Curves.{curve_changes_at, curve_stays_at}

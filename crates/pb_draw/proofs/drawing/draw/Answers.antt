@@ -1,11 +1,17 @@
-use Rattle.std.proofs.Common.{◌≡◌, List, length, sym, ap, ◌∙◌, subst}
+use Rattle.std.proofs.Common.{◌≡◌, ◌≤◌, ◌*◌, List, length, sym, ap, ◌∙◌, subst, arith}
+use Rattle.pb_base.specs.declared.pick.Pick.{Pick}
+use Rattle.pb_verifier.specs.declared.fault.VerifyFault.TheVariants.{OutOfLimits}
+use Rattle.pb_draw.specs.Arms.{AreDifferent, arms_from}
+use Rattle.pb_draw.specs.declared.drawing.Lane.{Lane}
+use Rattle.pb_draw.proofs.ArmOrder.{arms_apart, arms_few}
 use Rattle.std.specs.Prelude.{All}
 use Rattle.std.proofs.lemmas.List.{length-map}
 use Rattle.pb_base.specs.Lines.{HasNames}
 use Rattle.pb_history.specs.Entries.{Entry, picks_of}
 use Rattle.pb_draw.specs.Bars.{bars_of}
-use Rattle.pb_draw.specs.Marks.{marks_before}
+use Rattle.pb_draw.specs.Marks.{AreInOrder, marks_before}
 use Rattle.pb_draw.specs.declared.drawing.Mark.{Mark}
+use Rattle.pb_draw.proofs.MarkOrder.{marks_in_order}
 use Rattle.pb_draw.proofs.PickMarks.{marks_named}
 use Rattle.pb_draw.proofs.drawing.draw.Goals as goal
 
@@ -18,7 +24,8 @@ returns-clause-drawing c =
       many = c.len-picks.ensures ∙ many;
       marks = c.in_ok-marks.ensures ∙ ap (marks_before c.args.verified.now.code picks) many;
       bars = c.in_ok-bars.ensures ∙ ap bars_of c.as_slice.ensures.value;
-      lanes = c.in_ok-lanes.ensures;
+      arms = c.in_ok-lanes.ensures.arms;
+      lanes = c.in_ok-lanes.ensures.lanes;
       curves = c.in_ok-curves.ensures;
     }
 
@@ -28,3 +35,23 @@ returns-clause-named c =
     let entries = c.args.trace.now.entries in
     subst (λ (ms : List Mark). All (λ (m : Mark). HasNames v.code.names m.event) ms) (sym c.in_ok-marks.ensures)
     (marks_named v (picks_of entries) c.code.ensures.verified c.requires.enabled (length entries))
+
+pub returns-clause-ordered : goal.returns-clause-ordered
+returns-clause-ordered c =
+    let entries = c.args.trace.now.entries in
+    subst AreInOrder (sym c.in_ok-marks.ensures) (marks_in_order c.args.verified.now.code (picks_of entries) (length entries))
+
+pub returns-clause-different : goal.returns-clause-different
+returns-clause-different c =
+    subst AreDifferent (sym c.in_ok-lanes.ensures.arms) (arms_apart 0 c.args.verified.now.code.processes)
+
+pub returns-clause-rows : goal.returns-clause-rows
+returns-clause-rows c =
+    let code = c.args.verified.now.code in
+    let limits = c.code.ensures.verified.annotated OutOfLimits in
+    let few : length (arms_from 0 code.processes) ≤ 64 * length code.processes =
+    arms_few 64 0 code.processes (λ k process there. (limits.each k process there).some_arms.1) in
+    let many = limits.some_processes.1 in
+    let same = ap (λ (arms : List Pick). length arms) c.in_ok-lanes.ensures.arms in
+    let mapped = length-map c.in_ok-lanes.lanes.items (λ (l : Lane). l.pick) in
+    omega (arith, few, many, same, mapped)

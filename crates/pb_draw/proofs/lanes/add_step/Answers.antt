@@ -1,4 +1,4 @@
-use Rattle.std.proofs.Common.{◌≡◌, ◌-◌, List, refl, sym, ◌∙◌, subst}
+use Rattle.std.proofs.Common.{◌≡◌, List, refl, sym, ◌∙◌, subst}
 use Rattle.pb_draw.specs.Lanes.{ShowsStandings}
 use Rattle.pb_draw.specs.declared.drawing.LaneStep.{LaneStep}
 use Rattle.pb_draw.specs.declared.drawing.Standing.TheVariants.{Away}

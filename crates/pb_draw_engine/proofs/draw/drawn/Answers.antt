@@ -1,4 +1,4 @@
-use Rattle.std.proofs.Common.{length, sym, ap, ◌∙◌, subst}
+use Rattle.std.proofs.Common.{arith, length, sym, ap, ◌∙◌, subst}
 use Rattle.std.specs.Prelude.{All}
 use Rattle.pb_base.specs.Lines.{NameTable, HasNames}
 use Rattle.pb_code.specs.Whole.{Code}
@@ -23,11 +23,18 @@ lay_out-requires-clause-resources c =
     ∙ (limits.resource_names.all ∙ sym (ap (λ (x : Code). length x.capital) c.code-code.ensures.code))
 
 pub returns-clause-text : goal.returns-clause-text
-returns-clause-text c = record {
-  drawing = c.in_ok-drawing.drawing;
-  picture = c.in_ok-picture.picture;
-  drawn = c.in_ok-drawing.ensures.drawing;
-  laid_out = subst (λ (x : Code). IsLayout x.names x.capital c.in_ok-drawing.drawing c.in_ok-picture.picture)
-      c.code-code.ensures.code c.in_ok-picture.ensures;
-  written = c.in_ok-text.ensures;
-}
+returns-clause-text c =
+    let drawing = c.in_ok-drawing.drawing in
+    let picture = c.in_ok-picture.picture in
+    let laid_out : IsLayout c.args.verified.now.code.names c.args.verified.now.code.capital drawing picture =
+    subst (λ (x : Code). IsLayout x.names x.capital drawing picture) c.code-code.ensures.code c.in_ok-picture.ensures in
+    let few = c.in_ok-drawing.ensures.rows in
+    record {
+      drawing = drawing;
+      picture = picture;
+      drawn = c.in_ok-drawing.ensures.drawing;
+      laid_out = laid_out;
+      stacked = laid_out.rows c.in_ok-drawing.ensures.different (omega (arith, few));
+      rising = laid_out.rising c.in_ok-drawing.ensures.ordered;
+      written = c.in_ok-text.ensures;
+    }
