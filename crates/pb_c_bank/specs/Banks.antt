@@ -1,5 +1,5 @@
 -- What a bank in a caller's memory holds, and what its calls say.
-use Rattle.std.specs.Prelude.{All, ◌≡◌, ◌≢◌, ◌<◌, ◌≤◌, ◌⊎◌, ℕ, zero, suc, Bool, true, false, List, [], ◌∷◌, length, map}
+use Rattle.std.specs.Prelude.{All, ◌≡◌, ◌≢◌, ◌<◌, ◌≤◌, ◌⊎◌, ℕ, suc, Bool, false, not, nat_eq, List, [], ◌∷◌, length, map}
 use Rattle.std.specs.Prelude.{replicate, slice_index, slice_set}
 use Rattle.pb_base.specs.declared.limits.TheConstants.{MAX_AMOUNT, MAX_PROCESSES, MAX_RESOURCES}
 use Rattle.pb_base.specs.declared.pair.Pair.{Pair}
@@ -22,8 +22,7 @@ use Rattle.pb_c_bank.specs.declared.bank.Why.{Why}
 -- ---- a bank
 
 abbrev pub is_set : ℕ → Bool
-is_set zero = false
-is_set (suc n) = true
+is_set n = not (nat_eq n 0)
 
 -- bytes as flags: any but 0 is set
 abbrev pub flags : List ℕ → List Bool

@@ -26,7 +26,7 @@ pub struct Bank {
 #[derive(Clone, Copy)]
 pub struct Why {
     /// The resource that it passes the claim or the cash of, else 0.
-    pub resource: u32,
+    pub resource: usize,
     /// 1 for each slot that could not finish after it, else 0.
     pub rest: [u8; MAX_PROCESSES],
 }
@@ -37,7 +37,10 @@ pub fn has_job(bank: &Bank, job: usize) -> bool
     ensures has { IsTrue result ↔ HasJob (value bank.now) job }
     ensures row { OnTrue result (job < bank.now.accounts.processes) }
 {
-    job < MAX_PROCESSES && bank.jobs[job] != 0
+    if job >= MAX_PROCESSES {
+        return false;
+    }
+    bank.jobs[job] != 0
 }
 
 /// Returns whether the job is there, and there is an amount for each resource, of which there are some.
@@ -48,7 +51,13 @@ pub fn is_request(bank: &Bank, job: usize, amounts: &[u32]) -> bool
     ensures each { OnTrue result (length amounts.now ≡ bank.now.accounts.resources) }
     ensures few { OnTrue result (length amounts.now ≤ MAX_RESOURCES) }
 {
-    has_job(bank, job) && amounts.len() == bank.accounts.resources && !amounts.is_empty()
+    if !has_job(bank, job) {
+        return false;
+    }
+    if amounts.len() != bank.accounts.resources {
+        return false;
+    }
+    !amounts.is_empty()
 }
 
 /// Returns a pair for each amount.

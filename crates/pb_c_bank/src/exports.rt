@@ -29,10 +29,12 @@ pub extern "C" fn pb_bank_new(bank: &mut Bank, capital: &[u32]) -> u32
         return NO_BANK;
     }
     let accounts = open(capital);
+    let order = [0; MAX_PROCESSES];
+    let jobs = [0; MAX_PROCESSES];
     *bank = Bank {
         accounts,
-        order: [0; MAX_PROCESSES],
-        jobs: [0; MAX_PROCESSES],
+        order,
+        jobs,
     };
     DONE
 }
@@ -188,11 +190,11 @@ pub extern "C" fn pb_bank_why(bank: &Bank, job: usize, amounts: &[u32], why: &mu
     match bank.accounts.why(job, &bundle) {
         Reason::Allowed => DONE,
         Reason::OverClaim(r) => {
-            why.resource = r as u32;
+            why.resource = r;
             OVER_CLAIM
         }
         Reason::OverCash(r) => {
-            why.resource = r as u32;
+            why.resource = r;
             OVER_CASH
         }
         Reason::Rest(slots) => {
