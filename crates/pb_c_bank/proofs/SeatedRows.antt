@@ -1,12 +1,11 @@
 -- Tables whose jobs have rows.
-use Rattle.std.proofs.Common.{◌≡◌, ◌<◌, ℕ, Bool, true, false, List, get_or, length, sym, ◌∙◌, arith, inl, inr}
+use Rattle.std.proofs.Common.{◌≡◌, ◌<◌, ℕ, Bool, false, List, length, sym, ◌∙◌, arith, inl, inr}
 use Rattle.std.proofs.lemmas.Bool.{cases_lt, false≢true}
 use Rattle.std.proofs.lemmas.List.{get_or_past}
-use Rattle.pb_base.specs.Banker.{claim, row_of}
+use Rattle.pb_base.specs.Banker.{row_of}
 use Rattle.pb_banker.specs.declared.accounts.Accounts.{Accounts}
-use Rattle.pb_banker.specs.Accounts.{state_of, IsSound}
+use Rattle.pb_banker.specs.Accounts.{IsSound}
 use Rattle.pb_banker.specs.Jobs.{IsUsed}
-use Rattle.pb_banker.proofs.TableCells.{processes_of}
 use Rattle.pb_banker.proofs.TableCorners.{cell-corner}
 use Rattle.pb_c_bank.specs.Tables.{AreSeated, IsEmptyRow}
 

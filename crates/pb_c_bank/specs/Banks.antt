@@ -1,5 +1,5 @@
 -- What a bank in a caller's memory holds, and what its calls say.
-use Rattle.std.specs.Prelude.{All, ◌≡◌, ◌≢◌, ◌<◌, ◌≤◌, ◌⊎◌, ℕ, suc, Bool, false, not, nat_eq, List, [], ◌∷◌, length, map}
+use Rattle.std.specs.Prelude.{All, ◌≡◌, ◌≢◌, ◌<◌, ◌≤◌, ℕ, suc, Bool, false, not, nat_eq, List, [], ◌∷◌, length, map}
 use Rattle.std.specs.Prelude.{replicate, slice_index, slice_set}
 use Rattle.pb_base.specs.declared.limits.TheConstants.{MAX_AMOUNT, MAX_PROCESSES, MAX_RESOURCES}
 use Rattle.pb_base.specs.declared.pair.Pair.{Pair}

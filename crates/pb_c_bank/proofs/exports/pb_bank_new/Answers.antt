@@ -4,10 +4,8 @@ use Rattle.std.proofs.lemmas.List.{length-replicate}
 use Rattle.std.proofs.lemmas.List.Sorted.{IsPermutation-refl}
 use Rattle.pb_base.specs.Banker.{BankerState, Finishes}
 use Rattle.pb_banker.specs.Value.{start_state}
-use Rattle.pb_banker.specs.Jobs.{BankValue, IsKept}
 use Rattle.pb_banker.proofs.KeptOrders.{Finishes-of}
 use Rattle.pb_banker.proofs.KeptSlots.{none_used}
-use Rattle.pb_c_bank.specs.Banks.{opened}
 use Rattle.pb_c_bank.proofs.exports.pb_bank_new.Goals as goal
 
 pub returns : goal.returns

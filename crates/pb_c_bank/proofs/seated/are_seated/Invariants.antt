@@ -1,4 +1,4 @@
-use Rattle.std.proofs.Common.{◌≡◌, ℕ, ◌<◌}
+use Rattle.std.proofs.Common.{ℕ, ◌<◌}
 use Rattle.pb_base.specs.Banker.{row_of}
 use Rattle.pb_banker.specs.Jobs.{IsUsed}
 use Rattle.pb_c_bank.specs.Tables.{IsEmptyRow}
