@@ -1,6 +1,6 @@
 -- What a bank in a caller's memory holds, and what its calls say.
 use Rattle.std.specs.Prelude.{All, ◌≡◌, ◌≢◌, ◌<◌, ◌≤◌, ℕ, suc, Bool, false, not, nat_eq, List, [], ◌∷◌, length, map}
-use Rattle.std.specs.Prelude.{replicate, slice_index, slice_set}
+use Rattle.std.specs.Prelude.{replicate, slice_index, slice_index_or, slice_set}
 use Rattle.pb_base.specs.declared.limits.TheConstants.{MAX_AMOUNT, MAX_PROCESSES, MAX_RESOURCES}
 use Rattle.pb_base.specs.declared.pair.Pair.{Pair}
 use Rattle.pb_base.specs.Banker.{BankerState, processes, resources, loan, without_loan}
@@ -146,8 +146,7 @@ pub record SaysOfDropping (b : BankValue) (p said : ℕ) (next : BankValue) : Ty
 abbrev pub SaysOfOrder : BankerState → ℕ → List ℕ → Type 0
 SaysOfOrder s said order = (said ≡ processes s) × IsLeastFirst s order
 
--- the number that is said of a reason, and what stands beside it: the resource, and the slots that could not
--- finish
+-- the number that is said of a reason, and the resource that stands beside it
 abbrev pub reason_number : Reason → ℕ
 reason_number reason.Allowed = 0
 reason_number (reason.OverClaim r) = 2
@@ -160,15 +159,19 @@ reason_resource (reason.OverClaim r) = r
 reason_resource (reason.OverCash r) = r
 reason_resource (reason.Rest slots) = 0
 
-abbrev pub reason_rest : Reason → List Bool
-reason_rest reason.Allowed = replicate MAX_PROCESSES false
-reason_rest (reason.OverClaim r) = replicate MAX_PROCESSES false
-reason_rest (reason.OverCash r) = replicate MAX_PROCESSES false
-reason_rest (reason.Rest slots) = slots
+-- those that are marked: each slot that has a row as it is in the list, and none behind the last row
+pub record AreMarked (n : ℕ) (slots marked : List Bool) : Type 0 where
+  pub rows : (p : ℕ) → p < n → slice_index_or marked p false ≡ slice_index_or slots p false
+  pub behind : (p : ℕ) → n ≤ p → slice_index_or marked p false ≡ false
+
+-- the slots that could not finish are marked, and none for another reason
+abbrev pub MarksRest : BankerState → Reason → List Bool → Type 0
+MarksRest s (reason.Rest slots) marked = AreMarked (processes s) slots marked
+MarksRest s _ marked = marked ≡ replicate MAX_PROCESSES false
 
 -- why a request is granted or not: the reason that the banker gives; or 3, if it is none
 pub record SaysOfReason (b : BankValue) (p : ℕ) (amounts : List ℕ) (said : ℕ) (why : Why) : Type 0 where
   pub answered : IsRequest b p amounts → (reason : Reason) × SaysWhy b.state p (pairs_from 0 amounts) reason
       × (said ≡ reason_number reason) × (why.resource ≡ reason_resource reason)
-      × (flags why.rest ≡ reason_rest reason)
+      × MarksRest b.state reason (flags why.rest)
   pub refused : ¬ IsRequest b p amounts → said ≡ 3

@@ -7,7 +7,7 @@ ghost use Rattle.pb_c_bank.specs.Banks.{SaysOfEntering, SaysOfLeaving, SaysOfOpe
 ghost use Rattle.pb_c_bank.specs.Banks.{state, value};
 
 use crate::bank::{Bank, Why, bundle_of, has_job, holds, is_request};
-use crate::flags::{bytes_of, flags_of};
+use crate::flags::{bytes_of, first_bytes_of, flags_of};
 use crate::open::{is_capital, open};
 use crate::said::{
     DONE, FULL, NO_BANK, NO_REQUEST, NOT_HELD, NOT_NOW, NOT_SAFE, OVER_CAPITAL, OVER_CASH,
@@ -198,7 +198,7 @@ pub extern "C" fn pb_bank_why(bank: &Bank, job: usize, amounts: &[u32], why: &mu
             OVER_CASH
         }
         Reason::Rest(slots) => {
-            why.rest = bytes_of(&slots);
+            why.rest = first_bytes_of(&slots, bank.accounts.processes);
             NOT_NOW
         }
     }

@@ -1,7 +1,7 @@
 //! Flags as bytes, of which each value may come from C.
 
-ghost use Rattle.std.specs.Prelude.{◌≡◌};
-ghost use Rattle.pb_c_bank.specs.Banks.{flags};
+ghost use Rattle.std.specs.Prelude.{◌≡◌, ◌≤◌};
+ghost use Rattle.pb_c_bank.specs.Banks.{AreMarked, flags};
 
 use pb_base::limits::MAX_PROCESSES;
 
@@ -22,6 +22,18 @@ pub fn bytes_of(set: &[bool; MAX_PROCESSES]) -> [u8; MAX_PROCESSES]
 {
     let mut bytes = [0; MAX_PROCESSES];
     for p in 0..MAX_PROCESSES {
+        bytes[p] = u8::from(set[p]);
+    }
+    bytes
+}
+
+/// Returns 1 for each flag that is set among the first ones, and 0 for each other.
+pub fn first_bytes_of(set: &[bool; MAX_PROCESSES], rows: usize) -> [u8; MAX_PROCESSES]
+    requires { rows ≤ MAX_PROCESSES }
+    ensures { AreMarked rows set.now (flags result) }
+{
+    let mut bytes = [0; MAX_PROCESSES];
+    for p in 0..rows {
         bytes[p] = u8::from(set[p]);
     }
     bytes
