@@ -66,7 +66,7 @@ class Reply(NamedTuple):
 
 
 class Outcome(NamedTuple):
-    """What `run` made: the lines of the events, and how the run ended ("done", or "limit N")."""
+    """What `run` made: the lines of the events, and how the run ended ("done", or "open" if its steps were used up)."""
 
     events: list[str]
     end: str
