@@ -86,7 +86,7 @@ fn rows_with(rows: usize, p: usize) -> usize
 }
 
 /// Returns a row that begins with these amounts.
-fn row_with(amounts: &[u32]) -> Row
+pub fn row_with(amounts: &[u32]) -> Row
     requires { length amounts.now ≤ MAX_RESOURCES }
     ensures { take (length amounts.now) result ≡ amounts.now }
 {

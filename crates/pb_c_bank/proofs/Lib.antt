@@ -1,0 +1,4 @@
+mod Amounts
+mod FlagBytes
+mod SeatedRows
+mod Soundness

@@ -1,0 +1,9 @@
+use Rattle.std.proofs.Common.{◌≡◌, ℕ, ◌<◌, length, get_or, false}
+use Rattle.pb_c_bank.specs.Banks.{is_set}
+use Rattle.pb_c_bank.proofs.flags.flags_of.Given as goal
+
+abbrev pub invariant-loop-p : goal.invariant-loop-p
+invariant-loop-p l = record {
+  same : (k : ℕ) → k < l.p → get_or l.set k false ≡ is_set (get_or l.bytes k 0);
+  length : length l.set ≡ 64;
+}

@@ -1,0 +1,96 @@
+"""The tests of the module, by `python3 -m unittest`. With PARBEGIN_TEST_PROGRAM the bank is asked through pipes."""
+from __future__ import annotations
+
+import os
+import unittest
+
+import parbegin
+from parbegin import Answer, Bank, Fault, Reason
+
+PROGRAM = os.environ.get("PARBEGIN_TEST_PROGRAM")
+PLAN = "resource tape = 1; process a begin hold 1 of tape do print 1 od end"
+
+
+class Banks(unittest.TestCase):
+    """The calls of the bank."""
+
+    def open(self, *capital: int) -> Bank:
+        bank = Bank(capital, PROGRAM)
+        self.addCleanup(bank.close)
+        return bank
+
+    def test_lends_what_is_safe(self) -> None:
+        bank = self.open(10)
+        self.assertEqual([bank.join([claim]) for claim in (8, 8, 4)], [0, 1, 2])
+        self.assertEqual(bank.ask(0, [4]), Answer.GRANTED)
+        self.assertEqual(bank.ask(1, [4]), Answer.NOT_NOW)
+        self.assertEqual(bank.why(1, [4]), Reason("rest", None, (0, 1, 2)))
+        self.assertEqual(bank.why(1, [7]), Reason("over cash", 0))
+        self.assertEqual(bank.why(1, [9]), Reason("over claim", 0))
+        self.assertEqual(bank.why(2, [1]), Reason("allowed"))
+        self.assertEqual(bank.ask(2, [5]), Answer.OVER_CLAIM)
+        self.assertEqual((bank.loans(0), bank.claims(0), bank.cash(), bank.capital()), ([4], [8], [6], [10]))
+        bank.give(0, [1])
+        self.assertEqual(bank.loans(0), [3])
+        bank.drop_all(0)
+        self.assertEqual((bank.loans(0), bank.order()), ([0], [0, 1, 2]))
+
+    def test_refuses_what_is_not_there(self) -> None:
+        bank = self.open(3, 3)
+        bank.join([2, 2])
+        for wrong in (
+            lambda: bank.ask(1, [1, 0]),
+            lambda: bank.ask(-1, [1, 0]),
+            lambda: bank.ask(0, [1]),
+            lambda: bank.ask(0, [1, -1]),
+            lambda: bank.give(0, [1, 0]),
+            lambda: bank.join([4, 0]),
+            lambda: bank.join([1]),
+            lambda: bank.leave(7),
+            lambda: bank.loans(7),
+            lambda: Bank([], PROGRAM),
+            lambda: Bank([1_000_001], PROGRAM),
+        ):
+            self.assertRaises(Fault, wrong)
+        self.assertEqual(bank.ask(0, [2**40, 0]), Answer.OVER_CLAIM)
+        self.assertEqual(bank.cash(), [3, 3])
+
+    def test_jobs_come_and_go(self) -> None:
+        bank = self.open(2)
+        self.assertEqual([bank.join([2]) for _ in range(64)], list(range(64)))
+        self.assertRaises(Fault, bank.join, [2])
+        bank.ask(9, [2])
+        bank.leave(9)
+        self.assertEqual((bank.cash(), len(bank.order()), bank.join([1])), ([2], 63, 9))
+
+    @unittest.skipIf(PROGRAM, "a bank in the program has no bytes")
+    def test_adopts_what_was_saved(self) -> None:
+        bank = self.open(3)
+        bank.join([2])
+        bank.ask(0, [1])
+        saved = bank.to_bytes()
+        self.assertEqual(Bank.from_bytes(saved).loans(0), [1])
+        self.assertRaises(Fault, Bank.from_bytes, saved[:-1])
+        self.assertRaises(Fault, Bank.from_bytes, b"\xff" * len(saved))
+
+
+class Commands(unittest.TestCase):
+    """The calls of the commands."""
+
+    def test_says_what_the_program_says(self) -> None:
+        self.assertEqual(parbegin.check(PLAN), (0, "ok\n"))
+        self.assertEqual(parbegin.check("process p begin print q end"), (1, "refused N3 at 22\n"))
+        self.assertEqual(parbegin.claims(PLAN).status, 0)
+        self.assertIn("tape", parbegin.claims(PLAN).text)
+        self.assertEqual(parbegin.outcomes(PLAN).status, 0)
+
+    def test_runs(self) -> None:
+        ran = parbegin.run(PLAN, seed=7)
+        self.assertEqual(ran.end, "done")
+        self.assertIn("a.0 print 1", ran.events)
+        self.assertEqual(parbegin.run(PLAN, seed=7), ran)
+        self.assertRaises(Fault, parbegin.run, "process p begin print q end")
+
+
+if __name__ == "__main__":
+    unittest.main()
