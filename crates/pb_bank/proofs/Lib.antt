@@ -1,0 +1,6 @@
+pub mod DeskLemmas
+pub mod EachNumber
+pub mod PairLemmas
+pub mod PlaceLemmas
+pub mod Results
+pub mod WordLemmas

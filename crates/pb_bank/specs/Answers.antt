@@ -1,0 +1,287 @@
+-- What a desk answers to a command.
+use Rattle.std.specs.Prelude.{◌≡◌, ◌⊎◌, ℕ, ◌<◌, ◌≤◌, Bool, true, false, cond, nat_lt}
+use Rattle.std.specs.Prelude.{List, [], ◌∷◌, ◌++◌, length, take, All, codes, slice_index_or, slice_set}
+use Rattle.std.specs.Prelude.{Option, Some, None, Result, Ok, Err, replicate, ⊤}
+use Rattle.std.specs.Fmt.{decimal}
+use Rattle.pb_base.specs.declared.limits.TheConstants.{MAX_PROCESSES, MAX_RESOURCES}
+use Rattle.pb_base.specs.declared.pair.Pair.{Pair}
+use Rattle.pb_base.specs.Banker.{BankerState, processes, resources, capital, claim, loan, cash, remaining_claim}
+use Rattle.pb_base.specs.Banker.{without_loan}
+use Rattle.pb_base.specs.Lines.{NameTable, line, each_below, name_of}
+use Rattle.pb_banker.specs.declared.reason.Joined.{Joined}
+use Rattle.pb_banker.specs.declared.reason.Joined.TheVariants as joining
+use Rattle.pb_banker.specs.declared.reason.Reason.{Reason}
+use Rattle.pb_banker.specs.declared.reason.Reason.TheVariants.{Allowed, OverClaim, OverCash, Rest}
+use Rattle.pb_banker.specs.Jobs.{BankValue, SaysWhy, SaysOfJoining, state_held, left}
+use Rattle.pb_banker.specs.Value.{start_state}
+use Rattle.pb_bank.specs.declared.kind.Kind.{Kind}
+use Rattle.pb_bank.specs.declared.kind.Kind.TheVariants as kind
+use Rattle.pb_bank.specs.declared.refusal.Refusal.{Refusal}
+use Rattle.pb_bank.specs.declared.refusal.Refusal.TheVariants as refused
+use Rattle.pb_bank.specs.declared.request.Request.{Request}
+use Rattle.pb_bank.specs.Desks.{DeskValue, place_of, job_of}
+use Rattle.pb_bank.specs.Requests.{pairs_of, request_of}
+use Rattle.pb_bank.specs.Words.{words_of, kind_of, amount_of, is_name}
+
+-- ---- refusals
+
+-- the line of a refusal
+abbrev pub refusal_text : Refusal → List ℕ
+refusal_text refused.Command = line (codes "refused B1 not a command")
+refusal_text refused.Amount = line (codes "refused B2 an amount is not in 0..=1000000")
+refusal_text refused.Name = line (codes "refused B3 not a name of 1 to 32 bytes")
+refusal_text refused.NoResource = line (codes "refused B4 no such resource")
+refusal_text refused.NoJob = line (codes "refused B5 no such job")
+refusal_text refused.Twice = line (codes "refused B6 a resource is named twice")
+refusal_text refused.Taken = line (codes "refused B7 the name is taken")
+refusal_text refused.Late = line (codes "refused B8 a job was there before the resource")
+refusal_text refused.Full = line (codes "refused B9 there are as many as there can be")
+refusal_text refused.OverCapital = line (codes "refused B10 a claim is over the capital")
+refusal_text refused.NotHeld = line (codes "refused B11 the job does not hold as much")
+
+-- what is said of a refused command, which changes nothing
+abbrev pub Refuses : Refusal → DeskValue → List ℕ → DeskValue → Type 0
+Refuses refusal d said next = (said ≡ refusal_text refusal) × (next ≡ d)
+
+-- ---- requests
+
+-- the desk with another state of the bank
+abbrev pub with_state : DeskValue → BankerState → DeskValue
+with_state d s = record d { bank = record d.bank { state = s } }
+
+-- the jobs of a set, each behind a space
+abbrev pub jobs_text : NameTable → List Bool → ℕ → List ℕ
+jobs_text names set n = each_below (λ p. cond (slice_index_or set p false) (codes " " ++ name_of names.processes p) []) n
+
+-- the line of a reason; that of a request that is allowed has this word
+abbrev pub reason_text : (allowed : List ℕ) → NameTable → BankerState → Reason → List ℕ
+reason_text allowed names s Allowed = line allowed
+reason_text allowed names s (OverClaim r) = line (codes "over claim " ++ name_of names.resources r)
+reason_text allowed names s (OverCash r) =
+    line (codes "wait cash " ++ name_of names.resources r ++ codes " " ++ decimal (cash s r))
+reason_text allowed names s (Rest slots) = line (codes "wait rest" ++ jobs_text names slots (processes s))
+
+-- a reason names a resource that is there
+abbrev pub IsReasonAmong : ℕ → Reason → Type 0
+IsReasonAmong n Allowed = ⊤
+IsReasonAmong n (OverClaim r) = r < n
+IsReasonAmong n (OverCash r) = r < n
+IsReasonAmong n (Rest slots) = ⊤
+
+abbrev pub IsReasonOf : BankerState → Reason → Type 0
+IsReasonOf s reason = IsReasonAmong (resources s) reason
+
+-- a request that is allowed is granted; of another it is said why not, and nothing changes
+abbrev pub Grants : (allowed : List ℕ) → DeskValue → Request → List ℕ → DeskValue → Type 0
+Grants allowed d w said next =
+    (reason : Reason) × SaysWhy d.bank.state w.job w.bundle reason
+    × (said ≡ reason_text allowed d.names d.bank.state reason)
+    × (next ≡ with_state d (state_held d.bank.state w.job w.bundle reason))
+
+-- what is said of a request, if the words say one
+abbrev pub OfRequest : (Request → List ℕ → DeskValue → Type 0) → Result Request Refusal → DeskValue → List ℕ → DeskValue → Type 0
+OfRequest Says (Err refusal) d said next = Refuses refusal d said next
+OfRequest Says (Ok w) d said next = Says w said next
+
+abbrev pub AnswersAsk : DeskValue → List (List ℕ) → List ℕ → DeskValue → Type 0
+AnswersAsk d words said next = OfRequest (Grants (codes "granted") d) (request_of d words) d said next
+
+abbrev pub AnswersHold : DeskValue → List (List ℕ) → List ℕ → DeskValue → Type 0
+AnswersHold d words said next = OfRequest (Grants (codes "held") d) (request_of d words) d said next
+
+-- why a request would be granted or not; nothing changes
+abbrev pub Explains : DeskValue → Request → List ℕ → DeskValue → Type 0
+Explains d w said next =
+    (reason : Reason) × SaysWhy d.bank.state w.job w.bundle reason
+    × (said ≡ reason_text (codes "allowed") d.names d.bank.state reason) × (next ≡ d)
+
+abbrev pub AnswersWhy : DeskValue → List (List ℕ) → List ℕ → DeskValue → Type 0
+AnswersWhy d words said next = OfRequest (Explains d) (request_of d words) d said next
+
+-- ---- coming back
+
+-- the job holds as much of each
+abbrev pub IsHeld : BankerState → Request → Type 0
+IsHeld s w = All (λ pair. pair.amount ≤ loan s w.job pair.resource) w.bundle
+
+-- what a job holds comes back; a job that does not hold as much is refused
+abbrev pub Gives : DeskValue → Request → List ℕ → DeskValue → Type 0
+Gives d w said next =
+    (IsHeld d.bank.state w × (said ≡ []) × (next ≡ with_state d (without_loan d.bank.state w.job w.bundle)))
+    ⊎ ((¬ IsHeld d.bank.state w) × Refuses refused.NotHeld d said next)
+
+abbrev pub AnswersGive : DeskValue → List (List ℕ) → List ℕ → DeskValue → Type 0
+AnswersGive d words said next = OfRequest (Gives d) (request_of d words) d said next
+
+-- the desk that a job has left: all comes back, and its name is gone
+abbrev pub desk_left : DeskValue → ℕ → DeskValue
+desk_left d p = record {
+  bank = record { state = left d.bank.state p; used = slice_set d.bank.used p false };
+  names = record d.names { processes = slice_set d.names.processes p [] };
+}
+
+abbrev pub AnswersLeaving : DeskValue → Option ℕ → List ℕ → DeskValue → Type 0
+AnswersLeaving d None said next = Refuses refused.NoJob d said next
+AnswersLeaving d (Some p) said next = (said ≡ []) × (next ≡ desk_left d p)
+
+abbrev pub AnswersLeave : DeskValue → List (List ℕ) → List ℕ → DeskValue → Type 0
+AnswersLeave d [] said next = Refuses refused.Command d said next
+AnswersLeave d (job ∷ []) said next = AnswersLeaving d (job_of d job) said next
+AnswersLeave d (job ∷ other ∷ words) said next = Refuses refused.Command d said next
+
+-- ---- resources and jobs
+
+-- there is one
+abbrev pub is_there : Option ℕ → Bool
+is_there None = false
+is_there (Some n) = true
+
+-- why a resource of this name and amount is refused, if it is
+abbrev pub resource_refusal : DeskValue → (name : List ℕ) → Option ℕ → Option Refusal
+resource_refusal d name None = Some refused.Amount
+resource_refusal d name (Some amount) =
+    cond (is_name name) (
+    cond (nat_lt 0 (processes d.bank.state)) (Some refused.Late) (
+    cond (is_there (place_of d.names.resources name)) (Some refused.Taken) (
+    cond (nat_lt (resources d.bank.state) MAX_RESOURCES) None (Some refused.Full))))
+    (Some refused.Name)
+
+-- the desk with one resource more, and no jobs
+abbrev pub with_resource : DeskValue → (name : List ℕ) → (amount : ℕ) → DeskValue
+with_resource d name amount = record {
+  bank = record { state = start_state (d.bank.state.capital ++ amount ∷ []) []; used = replicate MAX_PROCESSES false };
+  names = record d.names { resources = d.names.resources ++ name ∷ [] };
+}
+
+abbrev pub AddsResource : DeskValue → (name : List ℕ) → Option ℕ → Option Refusal → List ℕ → DeskValue → Type 0
+AddsResource d name amount (Some refusal) said next = Refuses refusal d said next
+AddsResource d name None None said next = ⊥
+AddsResource d name (Some amount) None said next = (said ≡ []) × (next ≡ with_resource d name amount)
+
+abbrev pub AnswersResource : DeskValue → List (List ℕ) → List ℕ → DeskValue → Type 0
+AnswersResource d [] said next = Refuses refused.Command d said next
+AnswersResource d (name ∷ []) said next = Refuses refused.Command d said next
+AnswersResource d (name ∷ amount ∷ []) said next =
+    AddsResource d name (amount_of amount) (resource_refusal d name (amount_of amount)) said next
+AnswersResource d (name ∷ amount ∷ other ∷ words) said next = Refuses refused.Command d said next
+
+-- a row with the amounts of pairs
+abbrev pub with_amounts : List ℕ → List Pair → List ℕ
+with_amounts row [] = row
+with_amounts row (pair ∷ pairs) = with_amounts (slice_set row pair.resource pair.amount) pairs
+
+-- the claims that pairs say, 0 of each resource that they do not name
+abbrev pub claims_of : DeskValue → List Pair → List ℕ
+claims_of d pairs = take (resources d.bank.state) (with_amounts (replicate MAX_RESOURCES 0) pairs)
+
+-- a job of this name joins the bank, or is refused
+abbrev pub Joins : DeskValue → (name : List ℕ) → Joined → BankValue → List ℕ → DeskValue → Type 0
+Joins d name (joining.In p) bank said next =
+    (said ≡ []) × (next ≡ record d { bank = bank; names = record d.names { processes = slice_set d.names.processes p name } })
+Joins d name (joining.OverCapital r) bank said next = Refuses refused.OverCapital d said next
+Joins d name joining.Full bank said next = Refuses refused.Full d said next
+
+-- a job with the claims that pairs say
+abbrev pub JoinsWith : DeskValue → (name : List ℕ) → List Pair → List ℕ → DeskValue → Type 0
+JoinsWith d name pairs said next =
+    (joined : Joined) × (bank : BankValue) × SaysOfJoining d.bank (claims_of d pairs) joined bank
+    × Joins d name joined bank said next
+
+abbrev pub AddsJob : DeskValue → (name : List ℕ) → Result (List Pair) Refusal → List ℕ → DeskValue → Type 0
+AddsJob d name (Err refusal) said next = Refuses refusal d said next
+AddsJob d name (Ok pairs) said next = JoinsWith d name pairs said next
+
+-- a job of a name that can be one and is not taken
+abbrev pub job_for : DeskValue → (name : List ℕ) → Result (List Pair) Refusal → Result (List Pair) Refusal
+job_for d name pairs =
+    cond (is_name name) (cond (is_there (place_of d.names.processes name)) (Err refused.Taken) pairs) (Err refused.Name)
+
+abbrev pub AnswersJob : DeskValue → List (List ℕ) → List ℕ → DeskValue → Type 0
+AnswersJob d [] said next = Refuses refused.Command d said next
+AnswersJob d (name ∷ words) said next = AddsJob d name (job_for d name (pairs_of d.names.resources words)) said next
+
+-- ---- the state
+
+-- `resource R capital K cash K`
+abbrev pub resource_text : NameTable → BankerState → ℕ → List ℕ
+resource_text names s r =
+    line (codes "resource " ++ name_of names.resources r ++ codes " capital " ++ decimal (capital s r)
+    ++ codes " cash " ++ decimal (cash s r))
+
+-- `job J R claim K holds K needs K`
+abbrev pub cell_text : NameTable → BankerState → ℕ → ℕ → List ℕ
+cell_text names s p r =
+    line (codes "job " ++ name_of names.processes p ++ codes " " ++ name_of names.resources r
+    ++ codes " claim " ++ decimal (claim s p r) ++ codes " holds " ++ decimal (loan s p r)
+    ++ codes " needs " ++ decimal (remaining_claim s p r))
+
+-- the lines of a job, one for each resource
+abbrev pub job_text : NameTable → BankValue → ℕ → List ℕ
+job_text names b p =
+    cond (slice_index_or b.used p false) (each_below (cell_text names b.state p) (resources b.state)) []
+
+-- a line for each resource, and then the lines of each job, in the order of the slots
+abbrev pub state_text : NameTable → BankValue → List ℕ
+state_text names b =
+    each_below (resource_text names b.state) (resources b.state) ++ each_below (job_text names b) (processes b.state)
+
+abbrev pub help_text : List ℕ
+help_text =
+    line (codes "resource R K") ++ line (codes "job J K R, ..") ++ line (codes "ask J K R, ..")
+    ++ line (codes "give J K R, ..") ++ line (codes "leave J")
+    ++ line (codes "why J K R, ..") ++ line (codes "hold J K R, ..")
+    ++ line (codes "state") ++ line (codes "help")
+
+-- a command of one word
+abbrev pub AnswersAlone : List ℕ → DeskValue → List (List ℕ) → List ℕ → DeskValue → Type 0
+AnswersAlone text d [] said next = (said ≡ text) × (next ≡ d)
+AnswersAlone text d (word ∷ words) said next = Refuses refused.Command d said next
+
+-- ---- lines
+
+-- what is said of a command of this kind with these words behind it
+abbrev pub AnswersKind : Kind → DeskValue → List (List ℕ) → List ℕ → DeskValue → Type 0
+AnswersKind kind.Skip d words said next = Refuses refused.Command d said next
+AnswersKind kind.Resource d words said next = AnswersResource d words said next
+AnswersKind kind.Job d words said next = AnswersJob d words said next
+AnswersKind kind.Ask d words said next = AnswersAsk d words said next
+AnswersKind kind.Want d words said next = Refuses refused.Command d said next
+AnswersKind kind.Give d words said next = AnswersGive d words said next
+AnswersKind kind.Leave d words said next = AnswersLeave d words said next
+AnswersKind kind.Hold d words said next = AnswersHold d words said next
+AnswersKind kind.Why d words said next = AnswersWhy d words said next
+AnswersKind kind.Order d words said next = Refuses refused.Command d said next
+AnswersKind kind.State d words said next = AnswersAlone (state_text d.names d.bank) d words said next
+AnswersKind kind.Help d words said next = AnswersAlone help_text d words said next
+AnswersKind kind.Other d words said next = Refuses refused.Command d said next
+
+-- each answer ends with this line
+abbrev pub ready_line : List ℕ
+ready_line = line (codes "ready")
+
+-- nothing is said of an empty line or a comment; any other line has an answer, and the line `ready` behind it
+abbrev pub AnswersWords : Kind → DeskValue → List (List ℕ) → List ℕ → DeskValue → Type 0
+AnswersWords kind.Skip d words said next = (said ≡ []) × (next ≡ d)
+AnswersWords k d words said next = (text : List ℕ) × AnswersKind k d words text next × (said ≡ text ++ ready_line)
+
+-- the first word of a text, which is empty if there is none, and the words behind it
+abbrev pub first_of : List (List ℕ) → List ℕ
+first_of [] = []
+first_of (word ∷ words) = word
+
+abbrev pub rest_of : List (List ℕ) → List (List ℕ)
+rest_of [] = []
+rest_of (word ∷ words) = words
+
+-- the most bytes of a command
+abbrev pub most : ℕ
+most = 4096
+
+-- what is answered to a line, without its line feed
+abbrev pub AnswersText : Bool → DeskValue → List ℕ → List ℕ → DeskValue → Type 0
+AnswersText true d line' said next = (said ≡ refusal_text refused.Command ++ ready_line) × (next ≡ d)
+AnswersText false d line' said next =
+    AnswersWords (kind_of (first_of (words_of line'))) d (rest_of (words_of line')) said next
+
+unfoldable pub AnswersLine : DeskValue → List ℕ → List ℕ → DeskValue → Type 0
+AnswersLine d line' said next = AnswersText (nat_lt most (length line')) d line' said next

@@ -1,0 +1,4 @@
+pub mod Answers
+pub mod Desks
+pub mod Requests
+pub mod Words

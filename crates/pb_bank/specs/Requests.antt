@@ -1,0 +1,61 @@
+-- What the words of a request say.
+use Rattle.std.specs.Prelude.{ℕ, Bool, true, false, cond, ◌&&◌, not, nat_lt, ◌==◌, List, [], ◌∷◌, ◌++◌, length}
+use Rattle.std.specs.Prelude.{Option, Some, None, Result, Ok, Err}
+use Rattle.pb_base.specs.declared.limits.TheConstants.{MAX_PAIRS}
+use Rattle.pb_base.specs.declared.pair.Pair.{Pair}
+use Rattle.pb_bank.specs.declared.refusal.Refusal.{Refusal}
+use Rattle.pb_bank.specs.declared.refusal.Refusal.TheVariants.{Command, Amount, NoResource, NoJob, Twice}
+use Rattle.pb_bank.specs.declared.request.Request.{Request}
+use Rattle.pb_bank.specs.Desks.{DeskValue, place_of, job_of}
+use Rattle.pb_bank.specs.Words.{amount_of, is_comma}
+
+-- an amount, and the name of a resource
+abbrev pub pair_from : Option ℕ → Option ℕ → Result Pair Refusal
+pair_from None place = Err Amount
+pair_from (Some amount) None = Err NoResource
+pair_from (Some amount) (Some r) = Ok (record { resource = r; amount = amount })
+
+abbrev pub pair_of : (names : List (List ℕ)) → (amount resource : List ℕ) → Result Pair Refusal
+pair_of names amount resource = pair_from (amount_of amount) (place_of names resource)
+
+-- one of the pairs is of this resource
+abbrev pub has_resource : List Pair → ℕ → Bool
+has_resource [] r = false
+has_resource (pair ∷ pairs) r = cond (pair.resource == r) true (has_resource pairs r)
+
+-- the resource of the pair is not named yet
+abbrev pub is_new : List Pair → Pair → Bool
+is_new pairs pair = not (has_resource pairs pair.resource) && nat_lt (length pairs) MAX_PAIRS
+
+abbrev pub on_pair : Result Pair Refusal → (Pair → Result (List Pair) Refusal) → Result (List Pair) Refusal
+on_pair (Err refusal) next = Err refusal
+on_pair (Ok pair) next = next pair
+
+-- further pairs behind some: a comma before each, and no resource twice
+abbrev pub pairs_after : (names : List (List ℕ)) → List Pair → List (List ℕ) → Result (List Pair) Refusal
+pairs_after names pairs [] = Ok pairs
+pairs_after names pairs (comma ∷ []) = Err Command
+pairs_after names pairs (comma ∷ amount ∷ []) = Err Command
+pairs_after names pairs (comma ∷ amount ∷ resource ∷ rest) =
+    cond (is_comma comma)
+    (on_pair (pair_of names amount resource)
+    (λ pair. cond (is_new pairs pair) (pairs_after names (pairs ++ pair ∷ []) rest) (Err Twice)))
+    (Err Command)
+
+-- the pairs that words say: `K R`, or several with commas between
+unfoldable pub pairs_of : (names : List (List ℕ)) → List (List ℕ) → Result (List Pair) Refusal
+pairs_of names [] = Err Command
+pairs_of names (amount ∷ []) = Err Command
+pairs_of names (amount ∷ resource ∷ rest) =
+    on_pair (pair_of names amount resource) (λ pair. pairs_after names (pair ∷ []) rest)
+
+-- a job, and what it asks for
+abbrev pub request_from : Option ℕ → Result (List Pair) Refusal → Result Request Refusal
+request_from None pairs = Err NoJob
+request_from (Some job) (Err refusal) = Err refusal
+request_from (Some job) (Ok pairs) = Ok (record { job = job; bundle = pairs })
+
+-- what words say: a job, and pairs
+unfoldable pub request_of : DeskValue → List (List ℕ) → Result Request Refusal
+request_of d [] = Err Command
+request_of d (job ∷ words) = request_from (job_of d job) (pairs_of d.names.resources words)

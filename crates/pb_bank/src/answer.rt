@@ -1,0 +1,87 @@
+//! What a desk answers to a line.
+
+ghost use Rattle.std.specs.Prelude.{◌≡◌, ◌++◌, ℕ, List, OnOk};
+ghost use Rattle.pb_bank.specs.Answers as answers;
+ghost use Rattle.pb_bank.specs.Answers.{AnswersLine};
+ghost use Rattle.pb_bank.specs.Words.{words_of};
+
+use crate::desk::Desk;
+use crate::kind::{Kind, kind_of};
+use crate::refusal::{Refusal, put_refusal};
+use crate::texts::{put_help, put_state};
+use crate::words::first_word;
+use pb_base::NoMemory;
+use pb_base::writing::put;
+
+/// The most bytes of a command.
+pub const MAX_COMMAND: usize = 4_096;
+
+impl Desk {
+    /// Appends the state to `out`, if no words are behind the command.
+    fn say_state(&self, out: &mut Vec<u8>, text: &[u8]) -> Result<(), NoMemory>
+        ensures { OnOk result ((said : List ℕ)
+            × answers.AnswersAlone (answers.state_text self.now.names self.now.bank) self.now (words_of text.now) said self.now
+            × (out.new.items ≡ out.old.items ++ said)) }
+    {
+        if first_word(text).word.is_empty() {
+            put_state(out, &self.names, &self.bank)
+        } else {
+            put_refusal(out, Refusal::Command)
+        }
+    }
+
+    /// Appends the commands to `out`, if no words are behind this one.
+    fn say_help(&self, out: &mut Vec<u8>, text: &[u8]) -> Result<(), NoMemory>
+        ensures { OnOk result ((said : List ℕ)
+            × answers.AnswersAlone answers.help_text self.now (words_of text.now) said self.now
+            × (out.new.items ≡ out.old.items ++ said)) }
+    {
+        if first_word(text).word.is_empty() {
+            put_help(out)
+        } else {
+            put_refusal(out, Refusal::Command)
+        }
+    }
+
+    /// Carries out a command of this kind, and appends the answer to `out`.
+    fn say_kind(&mut self, out: &mut Vec<u8>, kind: Kind, text: &[u8]) -> Result<(), NoMemory>
+        ensures { OnOk result ((said : List ℕ) × answers.AnswersKind kind self.old (words_of text.now) said self.new
+            × (out.new.items ≡ out.old.items ++ said)) }
+    {
+        match kind {
+            Kind::Ask => self.say_ask(out, b"granted", text),
+            Kind::Give => self.say_give(out, text),
+            Kind::Hold => self.say_ask(out, b"held", text),
+            Kind::Why => self.say_why(out, text),
+            Kind::Leave => self.say_leave(out, text),
+            Kind::Job => self.say_job(out, text),
+            Kind::Resource => self.say_resource(out, text),
+            Kind::State => self.say_state(out, text),
+            Kind::Help => self.say_help(out, text),
+            Kind::Skip | Kind::Want | Kind::Order | Kind::Other => {
+                put_refusal(out, Refusal::Command)
+            }
+        }
+    }
+
+    /// Carries out the command of a line, which is given without its line feed, and appends the answer to
+    /// `out`. Nothing is said of an empty line, and of one that begins with `#`. Any other answer ends with the
+    /// line `ready`. A command that is refused changes nothing.
+    #[tactic(auto, using(crate::proofs::WordLemmas::before_some, crate::proofs::WordLemmas::before_none), unfolding(crate::specs::Answers::AnswersLine))]
+    pub fn answer(&mut self, out: &mut Vec<u8>, line: &[u8]) -> Result<(), NoMemory>
+        ensures { OnOk result ((said : List ℕ) × AnswersLine self.old line.now said self.new
+            × (out.new.items ≡ out.old.items ++ said)) }
+    {
+        if MAX_COMMAND < line.len() {
+            put_refusal(out, Refusal::Command)?;
+            return put(out, b"ready\n");
+        }
+        let first = first_word(line);
+        let kind = kind_of(first.word);
+        if kind == Kind::Skip {
+            return Ok(());
+        }
+        self.say_kind(out, kind, first.rest)?;
+        put(out, b"ready\n")
+    }
+}

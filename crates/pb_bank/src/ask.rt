@@ -1,0 +1,145 @@
+//! Requests, and what comes back.
+
+ghost use Rattle.std.specs.Prelude.{◌≡◌, ◌++◌, ◌<◌, ◌≤◌, ◌↔◌, ℕ, List, codes, length, All, OnOk, IsTrue, take};
+ghost use Rattle.std.specs.Bool.{OnTrue, OnFalse};
+ghost use Rattle.pb_base.specs.Banker.{processes, resources, loan};
+ghost use Rattle.pb_banker.specs.Jobs.{SaysWhy, state_held};
+ghost use Rattle.pb_bank.specs.Answers as answers;
+ghost use Rattle.pb_bank.specs.Desks.{IsRequestOf, job_of};
+ghost use Rattle.pb_bank.specs.Requests.{request_of};
+ghost use Rattle.pb_bank.specs.Words.{words_of};
+
+use crate::desk::Desk;
+use crate::refusal::{Refusal, put_refusal};
+use crate::request::Request;
+use crate::texts::put_reason;
+use crate::words::first_word;
+use pb_banker::{Answer, Bank, Reason};
+use pb_base::NoMemory;
+
+/// Returns why a request would be granted or not.
+fn reason_of(bank: &Bank, request: &Request) -> Reason
+    requires { IsRequestOf bank.now request.now }
+    ensures why { SaysWhy bank.now.state request.now.job request.now.bundle result }
+    ensures among { answers.IsReasonOf bank.now.state result }
+{
+    let _ = request.bundle.len();
+    bank.why(request.job, &request.bundle)
+}
+
+/// Grants a request if it is allowed, and returns why it is granted or not.
+fn grant(bank: &mut Bank, request: &Request) -> Reason
+    requires { IsRequestOf bank.old request.now }
+    ensures why { SaysWhy bank.old.state request.now.job request.now.bundle result }
+    ensures state { bank.new.state ≡ state_held bank.old.state request.now.job request.now.bundle result }
+    ensures used { bank.new.used ≡ bank.old.used }
+    ensures among { answers.IsReasonOf bank.old.state result }
+{
+    let _ = request.bundle.len();
+    match bank.ask(request.job, &request.bundle) {
+        Answer::Granted => Reason::Allowed,
+        Answer::NotNow | Answer::OverClaim => reason_of(bank, request),
+    }
+}
+
+/// Returns whether a job holds as much.
+fn holds(bank: &Bank, request: &Request) -> bool
+    requires { IsRequestOf bank.now request.now }
+    ensures yes { OnTrue result (answers.IsHeld bank.now.state request.now) }
+    ensures no { OnFalse result (¬ answers.IsHeld bank.now.state request.now) }
+{
+    for i in 0..request.bundle.len() {
+        let pair = request.bundle.get(i);
+        if pair.amount > bank.loan(request.job, pair.resource as usize) {
+            return false;
+        }
+    }
+    true
+}
+
+impl Desk {
+    /// Grants a request if it is allowed, and appends the answer to `out`.
+    pub(crate) fn say_ask(
+        &mut self,
+        out: &mut Vec<u8>,
+        granted: &[u8],
+        text: &[u8],
+    ) -> Result<(), NoMemory>
+        ensures { OnOk result ((said : List ℕ)
+            × answers.OfRequest (answers.Grants granted.now self.old) (request_of self.old (words_of text.now)) self.old said self.new
+            × (out.new.items ≡ out.old.items ++ said)) }
+    {
+        match self.request_of(text) {
+            Ok(request) => {
+                let reason = grant(&mut self.bank, &request);
+                put_reason(out, granted, &self.names, &self.bank, &reason)
+            }
+            Err(refusal) => put_refusal(out, refusal),
+        }
+    }
+
+    /// Appends why a request would be granted or not to `out`.
+    pub(crate) fn say_why(&self, out: &mut Vec<u8>, text: &[u8]) -> Result<(), NoMemory>
+        ensures { OnOk result ((said : List ℕ) × answers.AnswersWhy self.now (words_of text.now) said self.now
+            × (out.new.items ≡ out.old.items ++ said)) }
+    {
+        match self.request_of(text) {
+            Ok(request) => {
+                let reason = reason_of(&self.bank, &request);
+                put_reason(out, b"allowed", &self.names, &self.bank, &reason)
+            }
+            Err(refusal) => put_refusal(out, refusal),
+        }
+    }
+
+    /// Takes back what a job gives, if it holds as much.
+    fn give(&mut self, out: &mut Vec<u8>, request: &Request) -> Result<(), NoMemory>
+        requires { IsRequestOf self.old.bank request.now }
+        ensures { OnOk result ((said : List ℕ) × answers.Gives self.old request.now said self.new
+            × (out.new.items ≡ out.old.items ++ said)) }
+    {
+        if holds(&self.bank, request) {
+            self.bank.give(request.job, &request.bundle);
+            Ok(())
+        } else {
+            put_refusal(out, Refusal::NotHeld)
+        }
+    }
+
+    /// Takes back what a job gives.
+    pub(crate) fn say_give(&mut self, out: &mut Vec<u8>, text: &[u8]) -> Result<(), NoMemory>
+        ensures { OnOk result ((said : List ℕ) × answers.AnswersGive self.old (words_of text.now) said self.new
+            × (out.new.items ≡ out.old.items ++ said)) }
+    {
+        match self.request_of(text) {
+            Ok(request) => self.give(out, &request),
+            Err(refusal) => put_refusal(out, refusal),
+        }
+    }
+
+    /// Takes back all that a job holds, and frees its slot and its name.
+    pub(crate) fn say_leave(&mut self, out: &mut Vec<u8>, text: &[u8]) -> Result<(), NoMemory>
+        ensures { OnOk result ((said : List ℕ) × answers.AnswersLeave self.old (words_of text.now) said self.new
+            × (out.new.items ≡ out.old.items ++ said)) }
+    {
+        let name = first_word(text);
+        if name.word.is_empty() || !first_word(name.rest).word.is_empty() {
+            return put_refusal(out, Refusal::Command);
+        }
+        let Some(p) = self.job_of(name.word) else {
+            return put_refusal(out, Refusal::NoJob);
+        };
+        self.leave(p);
+        Ok(())
+    }
+
+    /// Takes back all that a slot holds, and frees it and its name.
+    fn leave(&mut self, p: usize)
+        requires { p < processes self.old.bank.state }
+        ensures { self.new ≡ answers.desk_left self.old p }
+    {
+        let _ = self.bank.slots();
+        self.bank.leave(p);
+        self.names.processes[p] = Vec::new(self.alloc);
+    }
+}

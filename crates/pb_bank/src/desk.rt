@@ -1,0 +1,91 @@
+//! A desk: a bank whose jobs and resources have names.
+
+ghost use Rattle.std.specs.Prelude.{◌≡◌, ◌<◌, ◌≤◌, ◌==◌, ◌∷◌, [], ℕ, length, map, filter, not, replicate, false, All, IfOk, IfSome, OnOk};
+ghost use Rattle.pb_base.specs.Banker.{processes, resources, IsWellFormed, IsSafe};
+ghost use Rattle.pb_base.specs.Lines.{names_view};
+ghost use Rattle.pb_bank.specs.Requests.{request_of};
+ghost use Rattle.pb_bank.specs.Words.{words_of};
+
+use crate::refusal::Refusal;
+use crate::request::{Request, bundle_of};
+use crate::words::{first_word, place_of};
+use pb_banker::Bank;
+use pb_base::limits::MAX_PROCESSES;
+use pb_base::{Capital, Names, NoMemory};
+use std::alloc::Global;
+use std::marker::Model;
+
+/// A bank whose jobs and resources have names. After each command the state is safe.
+#[derive(Drop)]
+pub struct Desk {
+    pub(crate) alloc: Global,
+    pub(crate) bank: Bank,
+    pub(crate) names: Names,
+}
+
+impl Model for Desk {
+    ghost use Rattle.pb_bank.specs.Desks.{DeskValue, IsDesk};
+    ghost use Rattle.pb_base.specs.Lines.{names_view};
+
+    ghost Value = { DeskValue };
+
+    ghost view = { λ d. record { bank = d.bank; names = names_view d.names } };
+
+    ghost invariant = { λ d. IsDesk (record { bank = d.bank; names = names_view d.names }) };
+}
+
+/// Returns this many empty names.
+fn no_names(alloc: Global, count: usize) -> Result<Vec<Vec<u8>>, NoMemory>
+    ensures { IfOk result (λ names. map (λ name. name.items) names.items ≡ replicate count []) }
+{
+    let mut names = Vec::with_capacity(alloc, count)?;
+    for _ in 0..count {
+        names.push(Vec::new(alloc))?;
+    }
+    Ok(names)
+}
+
+impl Desk {
+    ghost use Rattle.pb_bank.specs.Desks.{job_of, IsFirstDesk, IsRequestOf};
+
+    /// Returns a desk with no resources and no jobs.
+    pub fn new(alloc: Global) -> Result<Desk, NoMemory>
+        ensures { IfOk result IsFirstDesk }
+    {
+        let capital = Capital::new(alloc, &[])?;
+        let bank = Bank::new(&capital);
+        let processes = no_names(alloc, MAX_PROCESSES)?;
+        let names = Names {
+            processes,
+            resources: Vec::new(alloc),
+        };
+        Ok(Desk { alloc, bank, names })
+    }
+
+    /// Returns the slot of the job of this name.
+    pub(crate) fn job_of(&self, word: &[u8]) -> Option<usize>
+        ensures job { result ≡ job_of self.now word.now }
+        ensures row { IfSome result (λ p. p < processes self.now.bank.state) }
+    {
+        let p = place_of(&self.names.processes, word)?;
+        if self.bank.has_job(p) { Some(p) } else { None }
+    }
+
+    /// Returns the request that words say.
+    #[tactic(auto, using(crate::proofs::WordLemmas::before_some, crate::proofs::WordLemmas::before_none), unfolding(crate::specs::Requests::request_of))]
+    pub(crate) fn request_of(&self, text: &[u8]) -> Result<Request, Refusal>
+        ensures said { result ≡ request_of self.now (words_of text.now) }
+        ensures of { IfOk result (IsRequestOf self.now.bank) }
+    {
+        let name = first_word(text);
+        if name.word.is_empty() {
+            return Err(Refusal::Command);
+        }
+        let _ = self.bank.resources();
+        let Some(job) = self.job_of(name.word) else {
+            return Err(Refusal::NoJob);
+        };
+        let bundle = bundle_of(&self.names.resources, name.rest)?;
+        Ok(Request { job, bundle })
+    }
+}

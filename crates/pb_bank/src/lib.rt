@@ -1,0 +1,17 @@
+//! A bank for any language: jobs and resources by name, and the commands about them.
+#![tactic(auto)]
+
+mod answer;
+mod ask;
+mod come;
+pub mod desk;
+pub mod kind;
+pub mod refusal;
+pub mod request;
+mod texts;
+mod words;
+
+pub use desk::Desk;
+pub use kind::Kind;
+pub use refusal::Refusal;
+pub use request::Request;
