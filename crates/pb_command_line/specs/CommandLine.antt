@@ -58,11 +58,22 @@ explain_command = with_rule (new_app (codes "explain")) (new_rule (codes "CODE")
 unfoldable pub migrate_command : App
 migrate_command = new_app (codes "migrate")
 
+-- what is told of the outcomes
+unfoldable pub with_search_rules : App → App
+with_search_rules a =
+    with_rule
+    (with_rule
+    (with_rule (with_rule (with_rule (with_rule a (flag_rule (codes "prints"))) (flag_rule (codes "expect"))) (flag_rule (codes "any-order")))
+    (flag_rule (codes "first-deadlock")))
+    (flag_rule (codes "graph")))
+    (number_rule (codes "run") 1 4000000)
+
 unfoldable pub outcomes_command : App
 outcomes_command =
-    with_rule
+    with_search_rules
+    (with_rule
     (with_rule (new_app (codes "outcomes")) (number_rule_or (codes "states") 1 4000000 (codes "1000000")))
-    (word_rule_or (codes "lend") (codes "banker"))
+    (word_rule_or (codes "lend") (codes "banker")))
 
 unfoldable pub record_command : App
 record_command =
@@ -73,6 +84,15 @@ replay_command = new_app (codes "replay")
 
 unfoldable pub run_command : App
 run_command = with_run_rules (new_app (codes "run"))
+
+unfoldable pub states_command : App
+states_command =
+    with_rule
+    (with_rule (new_app (codes "states")) (number_rule_or (codes "rows") 1 1000000 (codes "20000")))
+    (number_rule_or (codes "from") 0 10000000 (codes "0"))
+
+unfoldable pub bank_command : App
+bank_command = new_app (codes "bank")
 
 abbrev pub with_command : App → App → App
 with_command a sub = with_subcommand a sub.top
@@ -101,11 +121,15 @@ with_pick_commands a = with_command (with_command (with_command a record_command
 unfoldable pub with_other_commands : App → App
 with_other_commands a = with_command (with_command (with_command a draw_command) outcomes_command) explain_command
 
+-- the command that writes the states of a run, and the banker by itself
+unfoldable pub with_bank_commands : App → App
+with_bank_commands a = with_command (with_command a states_command) bank_command
+
 -- the whole command line
 unfoldable pub command_line : App
 command_line =
-    with_other_commands (with_pick_commands (with_object_commands (with_code_commands (with_text_commands
-    (that_wants_command (new_app (codes "parbegin")))))))
+    with_bank_commands (with_other_commands (with_pick_commands (with_object_commands (with_code_commands (with_text_commands
+    (that_wants_command (new_app (codes "parbegin"))))))))
 
 -- a command of this form, none of whose options a subcommand inherits
 abbrev pub IsCommand : App → Command → Type 0

@@ -4,17 +4,17 @@ ghost use Rattle.clap.specs.Words.{App, app_of, new_app, rule_of, with_rule};
 ghost use Rattle.clap.specs.declared.builder.command.Command.TheViews.{out-Command};
 ghost use Rattle.pb_command_line.specs.CommandLine.{IsCommand, check_command, debug_command, emit_command, exec_command};
 ghost use Rattle.pb_command_line.specs.CommandLine.{explain_command, flag_rule, number_rule, number_rule_or};
-ghost use Rattle.pb_command_line.specs.CommandLine.{outcomes_command, record_command, run_command, that_wants_command};
-ghost use Rattle.pb_command_line.specs.CommandLine.{word_rule_or, command_line as whole, with_code_commands, with_command};
+ghost use Rattle.pb_command_line.specs.CommandLine.{outcomes_command, record_command, run_command, states_command, that_wants_command};
+ghost use Rattle.pb_command_line.specs.CommandLine.{word_rule_or, command_line as whole, with_bank_commands, with_code_commands, with_command};
 ghost use Rattle.pb_command_line.specs.CommandLine.{with_object_commands, with_other_commands, with_pick_commands};
-ghost use Rattle.pb_command_line.specs.CommandLine.{with_run_rules, with_text_commands};
+ghost use Rattle.pb_command_line.specs.CommandLine.{with_run_rules, with_search_rules, with_text_commands};
 
 use clap::builder::ValueParser;
 use clap::{Arg, ArgAction, Command};
 use std::alloc::{AllocError, Global};
 
 // The version, and the line of `rt version` of the kit that it was proved with.
-const VERSION: &str = "0.1\nproved with rattle-kit-13f logic dac8208d650f15bf";
+const VERSION: &str = "0.1\nproved with rattle-kit-13b logic dac8208d650f15bf";
 
 // What is above the help. `--quiet` is taken off before these words are read.
 const ABOUT: &str =
@@ -99,6 +99,38 @@ fn with_number<'a>(
 {
     let command = command?;
     let option = number_option_or(alloc, name, least, most, default);
+    with_option(command, option.help(help))
+}
+
+// Adds a flag, if the command was made.
+fn with_flag<'a>(
+    alloc: Global,
+    command: Result<Command<'a>, AllocError>,
+    name: &'a str,
+    help: &'a str,
+) -> Result<Command<'a>, AllocError>
+    ensures { (app : App) → IfOk command.entry (IsCommand app) → IfOk result
+        (IsCommand (with_rule app (flag_rule name.entry.now))) }
+{
+    let command = command?;
+    let option = flag(alloc, name);
+    with_option(command, option.help(help))
+}
+
+// Adds an option with a number that need not be given, if the command was made.
+fn with_optional_number<'a>(
+    alloc: Global,
+    command: Result<Command<'a>, AllocError>,
+    name: &'a str,
+    least: u64,
+    most: u64,
+    help: &'a str,
+) -> Result<Command<'a>, AllocError>
+    ensures { (app : App) → IfOk command.entry (IsCommand app) → IfOk result
+        (IsCommand (with_rule app (number_rule name.entry.now least most))) }
+{
+    let command = command?;
+    let option = number_option(alloc, name, least, most);
     with_option(command, option.help(help))
 }
 
@@ -195,7 +227,39 @@ fn outcomes_of_text<'a>(alloc: Global) -> Result<Command<'a>, AllocError>
     let outcomes = plain(alloc, "outcomes", about);
     let states = "Give up after this many configurations, 1 to 4000000";
     let outcomes = with_number(alloc, outcomes, "states", 1, 4_000_000, "1000000", states);
-    with_lend(alloc, outcomes)
+    with_search_options(alloc, with_lend(alloc, outcomes))
+}
+
+// Adds the options that say what is told of the outcomes, if the command was made.
+fn with_search_options<'a>(
+    alloc: Global,
+    command: Result<Command<'a>, AllocError>,
+) -> Result<Command<'a>, AllocError>
+    ensures { (app : App) → IfOk command.entry (IsCommand app) → IfOk result (IsCommand (with_search_rules app)) }
+{
+    let prints = "Tell outcomes apart by what is printed, and in which order";
+    let command = with_flag(alloc, command, "prints", prints);
+    let expect = "Compare what every outcome prints with the lines after a line %%";
+    let command = with_flag(alloc, command, "expect", expect);
+    let any_order = "With --expect: compare the prints of each process in any order";
+    let command = with_flag(alloc, command, "any-order", any_order);
+    let first = "End at the first deadlock";
+    let command = with_flag(alloc, command, "first-deadlock", first);
+    let graph = "Print the graph of all schedules, for a page";
+    let command = with_flag(alloc, command, "graph", graph);
+    let run = "Print the program with the picks that lead to this outcome";
+    with_optional_number(alloc, command, "run", 1, 4_000_000, run)
+}
+
+fn states_of_run<'a>(alloc: Global) -> Result<Command<'a>, AllocError>
+    ensures { IfOk result (IsCommand states_command) }
+{
+    let about = "Print each state along the picks that follow a program and a line %%, for a page";
+    let states = plain(alloc, "states", about);
+    let rows = "Stop after this many rows, 1 to 1000000";
+    let states = with_number(alloc, states, "rows", 1, 1_000_000, "20000", rows);
+    let from = "Begin at this position, 0 to 10000000";
+    with_number(alloc, states, "from", 0, 10_000_000, "0", from)
 }
 
 #[tactic(auto, unfolding(crate::specs::CommandLine::record_command))]
@@ -305,6 +369,18 @@ fn with_others<'a>(
     with_made(command, explain_code(alloc))
 }
 
+fn with_bank<'a>(
+    alloc: Global,
+    command: Result<Command<'a>, AllocError>,
+) -> Result<Command<'a>, AllocError>
+    ensures { (app : App) → IfOk command.entry (λ c. app_of c ≡ app) → IfOk result (λ c. app_of c ≡ with_bank_commands app) }
+{
+    let command = with_made(command, states_of_run(alloc));
+    let about =
+        "Be the banker of jobs that come and go: answer each command on standard input as it comes";
+    with_made(command, plain(alloc, "bank", about))
+}
+
 /// Returns the whole command line.
 #[tactic(auto, unfolding(crate::specs::CommandLine::command_line))]
 pub fn command_line<'a>(alloc: Global) -> Result<Command<'a>, AllocError>
@@ -312,5 +388,5 @@ pub fn command_line<'a>(alloc: Global) -> Result<Command<'a>, AllocError>
 {
     let command = with_codes(alloc, with_texts(alloc, bare_command_line(alloc)));
     let command = with_picks(alloc, with_objects(alloc, command));
-    with_others(alloc, command)
+    with_bank(alloc, with_others(alloc, command))
 }

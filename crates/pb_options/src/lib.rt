@@ -9,5 +9,5 @@ pub mod options;
 pub use code::{Code, UnknownCode};
 pub use options::{
     CheckOptions, DebugOptions, EmitOptions, Lend, OutcomesOptions, RecordOptions, RunOptions,
-    UnknownLend,
+    StatesOptions, UnknownLend,
 };

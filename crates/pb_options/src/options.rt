@@ -1,7 +1,7 @@
 //! The options of the engines.
 ghost use Rattle.std.specs.Prelude.{◌≡◌, ◌≤◌, ℕ, Some};
 ghost use Rattle.pb_base.specs.declared.limits.TheConstants.{MAX_PICKS, MAX_QUANTUM, MAX_STATES, MAX_WORKERS};
-ghost use Rattle.pb_options.specs.declared.options.TheConstants.{MAX_HEAP, MIN_HEAP};
+ghost use Rattle.pb_options.specs.declared.options.TheConstants.{MAX_HEAP, MAX_ROWS, MIN_HEAP};
 ghost use Rattle.pb_options.specs.Lends.{IsLendOf};
 
 use pb_object::Format;
@@ -11,6 +11,8 @@ use std::str::FromStr;
 pub const MIN_HEAP: u64 = 1_024;
 /// The greatest size of a heap for the trees of a text, in bytes.
 pub const MAX_HEAP: u64 = 16_777_216;
+/// The most rows of the document of a run.
+pub const MAX_ROWS: u32 = 1_000_000;
 
 /// The options of `check_engine`.
 #[derive(Clone, Copy, Debug, PartialEq, Eq)]
@@ -88,13 +90,37 @@ impl FromStr for Lend {
     }
 }
 
-/// The options of `outcomes_engine`.
+/// The options of `outcomes`.
 #[derive(Clone, Copy, Debug, PartialEq, Eq)]
 pub struct OutcomesOptions {
     /// The most configurations that are kept, from 1 to 4,000,000.
     pub states: u32,
     /// Who decides on a request.
     pub lend: Lend,
+    /// Whether an outcome has the prints of its run too, in the order in which they are made.
+    pub prints: bool,
+    /// Whether the input has the prints that are expected of every outcome, after a line `%%`.
+    pub expect: bool,
+    /// Whether the prints of each process are compared with those expected in any order.
+    pub any_order: bool,
+    /// Whether the search ends at the first deadlock.
+    pub first_deadlock: bool,
+    /// Whether the graph of all schedules is written, for a page, in the place of the outcomes.
+    pub graph: bool,
+    /// The outcome that is written as a text with its picks, if only one is to be written.
+    pub run: Option<u64>,
     pub ghost some_state: { 1 ≤ states },
     pub ghost states_fit: { states ≤ MAX_STATES },
+}
+
+/// The options of `states`.
+#[derive(Clone, Copy, Debug, PartialEq, Eq)]
+pub struct StatesOptions {
+    /// The most rows that are written, from 1 to 1,000,000.
+    pub rows: u32,
+    /// The position at which the document begins, at most 10,000,000.
+    pub from: u32,
+    pub ghost some_row: { 1 ≤ rows },
+    pub ghost rows_fit: { rows ≤ MAX_ROWS },
+    pub ghost from_fits: { from ≤ MAX_PICKS },
 }

@@ -12,15 +12,16 @@ use Rattle.pb_command_line.specs.CommandLine.{command_line, with_text_commands, 
 use Rattle.pb_command_line.specs.CommandLine.{with_other_commands, with_pick_commands, check_command, claims_command}
 use Rattle.pb_command_line.specs.CommandLine.{debug_command, draw_command, emit_command, exec_command, explain_command}
 use Rattle.pb_command_line.specs.CommandLine.{migrate_command, outcomes_command, record_command, replay_command, run_command}
-use Rattle.pb_command_line.specs.CommandLine.{with_run_rules}
+use Rattle.pb_command_line.specs.CommandLine.{with_run_rules, with_search_rules, with_bank_commands, states_command, bank_command}
 use Rattle.clap.specs.declared.parser.matches.Found.{Found}
 use Rattle.clap.proofs.WalkLemmas.{one_text-rows}
 use Rattle.pb_words.specs.Read.{BlamesWords, HasCheckNumbers, HasCode, HasEmitNumber, HasFlag, HasNumber, HasNumberIn}
-use Rattle.pb_words.specs.Read.{HasLend, HasOptionalNumber, HasSearchOptions, HasRecordNumbers, HasRunNumbers}
+use Rattle.pb_words.specs.Read.{HasLend, HasOptionalNumber, HasOptionalNumberIn, HasSearchOptions, HasStatesNumbers}
+use Rattle.pb_words.specs.Read.{HasRecordNumbers, HasRunNumbers}
 use Rattle.pb_words.specs.Read.{IsReadFrom, IsReadFromMatches}
 use Rattle.pb_words.specs.declared.words.Options.{Options}
-use Rattle.pb_words.specs.declared.words.Options.TheVariants.{Check, Claims, Debug, Draw, Emit, Exec, Explain}
-use Rattle.pb_words.specs.declared.words.Options.TheVariants.{Migrate, Outcomes, Record, Replay, Run}
+use Rattle.pb_words.specs.declared.words.Options.TheVariants.{Bank, Check, Claims, Debug, Draw, Emit, Exec, Explain}
+use Rattle.pb_words.specs.declared.words.Options.TheVariants.{Migrate, Outcomes, Record, Replay, Run, States}
 use Rattle.pb_options.specs.declared.options.CheckOptions.{CheckOptions}
 use Rattle.pb_options.specs.declared.options.EmitOptions.{EmitOptions}
 use Rattle.pb_options.specs.Lends.{IsLendOf, lend_word}
@@ -28,6 +29,7 @@ use Rattle.pb_options.specs.declared.options.Lend.{Lend}
 use Rattle.pb_options.specs.declared.options.OutcomesOptions.{OutcomesOptions}
 use Rattle.pb_options.specs.declared.options.RecordOptions.{RecordOptions}
 use Rattle.pb_options.specs.declared.options.RunOptions.{RunOptions}
+use Rattle.pb_options.specs.declared.options.StatesOptions.{StatesOptions}
 use Rattle.pb_options.specs.Codes.{IsCodeOf, code_name}
 use Rattle.pb_options.specs.declared.code.Code.{Code}
 use Rattle.pb_words.specs.declared.words.WordsFault.{WordsFault}
@@ -97,27 +99,46 @@ nothing_read m name rows named is none o (other, found, entered, says) =
     let same : found ≡ rows = cc (is ∙ ap (option_map (λ p. p.1)) entered) in
     none o (subst (λ (n : Text). IsReadFrom n rows o) same_name (subst (λ (r : List Row). IsReadFrom other r o) same says))
 
-pub no_check : (rows : List Row) → ((o : CheckOptions) → HasCheckNumbers rows o → ⊥) → (o : Options) → IsReadFrom (codes "check") rows o → ⊥
+-- if its options cannot be read, the rows of `check` say nothing
+pub no_check : (rows : List Row) → ((o : CheckOptions) → HasCheckNumbers rows o → ⊥) → (o : Options)
+    → IsReadFrom (codes "check") rows o → ⊥
+no_check rows none Bank says =
+    let m : 99 ≡ 98 = ap (λ (l : Text). get_or l 0 0) says in omega (arith, m)
 no_check rows none (Check o) says = none o says.1
-no_check rows none (Debug o) says = let m : 99 ≡ 100 = ap (λ (l : Text). get_or l 0 0) says.0 in omega (arith, m)
+no_check rows none Claims says =
+    let m : 104 ≡ 108 = ap (λ (l : Text). get_or l 1 0) says in omega (arith, m)
+no_check rows none (Debug o) says =
+    let m : 99 ≡ 100 = ap (λ (l : Text). get_or l 0 0) says.0 in omega (arith, m)
 no_check rows none Draw says =
     let m : 99 ≡ 100 = ap (λ (l : Text). get_or l 0 0) says in omega (arith, m)
-no_check rows none (Exec o) says = let w : codes "check" ≡ codes "exec" = says.0 in cc
+no_check rows none (Emit o) says =
+    let m : 99 ≡ 101 = ap (λ (l : Text). get_or l 0 0) says.0 in omega (arith, m)
+no_check rows none (Exec o) says =
+    let m : 99 ≡ 101 = ap (λ (l : Text). get_or l 0 0) says.0 in omega (arith, m)
 no_check rows none (Explain o) says =
     let m : 99 ≡ 101 = ap (λ (l : Text). get_or l 0 0) says.0 in omega (arith, m)
-no_check rows none Claims says = let w : codes "check" ≡ codes "claims" = says in cc
-no_check rows none (Emit o) says = let w : codes "check" ≡ codes "emit" = says.0 in cc
-no_check rows none Migrate says = let w : codes "check" ≡ codes "migrate" = says in cc
+no_check rows none Migrate says =
+    let m : 99 ≡ 109 = ap (λ (l : Text). get_or l 0 0) says in omega (arith, m)
 no_check rows none (Outcomes o) says =
     let m : 99 ≡ 111 = ap (λ (l : Text). get_or l 0 0) says.0 in omega (arith, m)
-no_check rows none (Record o) says = let w : codes "check" ≡ codes "record" = says.0 in cc
-no_check rows none Replay says = let w : codes "check" ≡ codes "replay" = says in cc
-no_check rows none (Run o) says = let w : codes "check" ≡ codes "run" = says.0 in cc
+no_check rows none (Record o) says =
+    let m : 99 ≡ 114 = ap (λ (l : Text). get_or l 0 0) says.0 in omega (arith, m)
+no_check rows none Replay says =
+    let m : 99 ≡ 114 = ap (λ (l : Text). get_or l 0 0) says in omega (arith, m)
+no_check rows none (Run o) says =
+    let m : 99 ≡ 114 = ap (λ (l : Text). get_or l 0 0) says.0 in omega (arith, m)
+no_check rows none (States o) says =
+    let m : 99 ≡ 115 = ap (λ (l : Text). get_or l 0 0) says.0 in omega (arith, m)
 
+-- if its options cannot be read, the rows of `emit` say nothing
 pub no_emit : (rows : List Row) → ((o : EmitOptions) → HasEmitNumber rows o → ⊥) → (o : Options)
     → IsReadFrom (codes "emit") rows o → ⊥
-no_emit rows none (Check o) says = let w : codes "emit" ≡ codes "check" = says.0 in cc
-no_emit rows none Claims says = let w : codes "emit" ≡ codes "claims" = says in cc
+no_emit rows none Bank says =
+    let m : 101 ≡ 98 = ap (λ (l : Text). get_or l 0 0) says in omega (arith, m)
+no_emit rows none (Check o) says =
+    let m : 101 ≡ 99 = ap (λ (l : Text). get_or l 0 0) says.0 in omega (arith, m)
+no_emit rows none Claims says =
+    let m : 101 ≡ 99 = ap (λ (l : Text). get_or l 0 0) says in omega (arith, m)
 no_emit rows none (Debug o) says =
     let m : 101 ≡ 100 = ap (λ (l : Text). get_or l 0 0) says.0 in omega (arith, m)
 no_emit rows none Draw says =
@@ -127,45 +148,68 @@ no_emit rows none (Exec o) says =
     let m : 109 ≡ 120 = ap (λ (l : Text). get_or l 1 0) says.0 in omega (arith, m)
 no_emit rows none (Explain o) says =
     let m : 109 ≡ 120 = ap (λ (l : Text). get_or l 1 0) says.0 in omega (arith, m)
-no_emit rows none Migrate says = let w : codes "emit" ≡ codes "migrate" = says in cc
+no_emit rows none Migrate says =
+    let m : 101 ≡ 109 = ap (λ (l : Text). get_or l 0 0) says in omega (arith, m)
 no_emit rows none (Outcomes o) says =
     let m : 101 ≡ 111 = ap (λ (l : Text). get_or l 0 0) says.0 in omega (arith, m)
-no_emit rows none (Record o) says = let w : codes "emit" ≡ codes "record" = says.0 in cc
-no_emit rows none Replay says = let w : codes "emit" ≡ codes "replay" = says in cc
-no_emit rows none (Run o) says = let w : codes "emit" ≡ codes "run" = says.0 in cc
+no_emit rows none (Record o) says =
+    let m : 101 ≡ 114 = ap (λ (l : Text). get_or l 0 0) says.0 in omega (arith, m)
+no_emit rows none Replay says =
+    let m : 101 ≡ 114 = ap (λ (l : Text). get_or l 0 0) says in omega (arith, m)
+no_emit rows none (Run o) says =
+    let m : 101 ≡ 114 = ap (λ (l : Text). get_or l 0 0) says.0 in omega (arith, m)
+no_emit rows none (States o) says =
+    let m : 101 ≡ 115 = ap (λ (l : Text). get_or l 0 0) says.0 in omega (arith, m)
 
-pub no_run : (rows : List Row) → ((o : RunOptions) → HasRunNumbers rows o → ⊥) → (o : Options) → IsReadFrom (codes "run") rows o → ⊥
-no_run rows none (Check o) says = let w : codes "run" ≡ codes "check" = says.0 in cc
-no_run rows none (Debug o) says = let m : 114 ≡ 100 = ap (λ (l : Text). get_or l 0 0) says.0 in omega (arith, m)
+-- if its options cannot be read, the rows of `run` say nothing
+pub no_run : (rows : List Row) → ((o : RunOptions) → HasRunNumbers rows o → ⊥) → (o : Options)
+    → IsReadFrom (codes "run") rows o → ⊥
+no_run rows none Bank says =
+    let m : 114 ≡ 98 = ap (λ (l : Text). get_or l 0 0) says in omega (arith, m)
+no_run rows none (Check o) says =
+    let m : 114 ≡ 99 = ap (λ (l : Text). get_or l 0 0) says.0 in omega (arith, m)
+no_run rows none Claims says =
+    let m : 114 ≡ 99 = ap (λ (l : Text). get_or l 0 0) says in omega (arith, m)
+no_run rows none (Debug o) says =
+    let m : 114 ≡ 100 = ap (λ (l : Text). get_or l 0 0) says.0 in omega (arith, m)
 no_run rows none Draw says =
     let m : 114 ≡ 100 = ap (λ (l : Text). get_or l 0 0) says in omega (arith, m)
-no_run rows none (Exec o) says = let w : codes "run" ≡ codes "exec" = says.0 in cc
+no_run rows none (Emit o) says =
+    let m : 114 ≡ 101 = ap (λ (l : Text). get_or l 0 0) says.0 in omega (arith, m)
+no_run rows none (Exec o) says =
+    let m : 114 ≡ 101 = ap (λ (l : Text). get_or l 0 0) says.0 in omega (arith, m)
 no_run rows none (Explain o) says =
     let m : 114 ≡ 101 = ap (λ (l : Text). get_or l 0 0) says.0 in omega (arith, m)
-no_run rows none Claims says = let w : codes "run" ≡ codes "claims" = says in cc
-no_run rows none (Emit o) says = let w : codes "run" ≡ codes "emit" = says.0 in cc
-no_run rows none Migrate says = let w : codes "run" ≡ codes "migrate" = says in cc
+no_run rows none Migrate says =
+    let m : 114 ≡ 109 = ap (λ (l : Text). get_or l 0 0) says in omega (arith, m)
 no_run rows none (Outcomes o) says =
     let m : 114 ≡ 111 = ap (λ (l : Text). get_or l 0 0) says.0 in omega (arith, m)
-no_run rows none (Record o) says = let m : 117 ≡ 101 = ap (λ (l : Text). get_or l 1 0) says.0 in omega (arith, m)
-no_run rows none Replay says = let m : 117 ≡ 101 = ap (λ (l : Text). get_or l 1 0) says in omega (arith, m)
+no_run rows none (Record o) says =
+    let m : 117 ≡ 101 = ap (λ (l : Text). get_or l 1 0) says.0 in omega (arith, m)
+no_run rows none Replay says =
+    let m : 117 ≡ 101 = ap (λ (l : Text). get_or l 1 0) says in omega (arith, m)
 no_run rows none (Run o) says = none o says.1
+no_run rows none (States o) says =
+    let m : 114 ≡ 115 = ap (λ (l : Text). get_or l 0 0) says.0 in omega (arith, m)
 
+-- if its options cannot be read, the rows of `record` say nothing
 pub no_record : (rows : List Row) → ((o : RecordOptions) → HasRecordNumbers rows o → ⊥) → (o : Options)
     → IsReadFrom (codes "record") rows o → ⊥
+no_record rows none Bank says =
+    let m : 114 ≡ 98 = ap (λ (l : Text). get_or l 0 0) says in omega (arith, m)
 no_record rows none (Check o) says =
     let m : 114 ≡ 99 = ap (λ (l : Text). get_or l 0 0) says.0 in omega (arith, m)
+no_record rows none Claims says =
+    let m : 114 ≡ 99 = ap (λ (l : Text). get_or l 0 0) says in omega (arith, m)
 no_record rows none (Debug o) says =
     let m : 114 ≡ 100 = ap (λ (l : Text). get_or l 0 0) says.0 in omega (arith, m)
 no_record rows none Draw says =
     let m : 114 ≡ 100 = ap (λ (l : Text). get_or l 0 0) says in omega (arith, m)
+no_record rows none (Emit o) says =
+    let m : 114 ≡ 101 = ap (λ (l : Text). get_or l 0 0) says.0 in omega (arith, m)
 no_record rows none (Exec o) says =
     let m : 114 ≡ 101 = ap (λ (l : Text). get_or l 0 0) says.0 in omega (arith, m)
 no_record rows none (Explain o) says =
-    let m : 114 ≡ 101 = ap (λ (l : Text). get_or l 0 0) says.0 in omega (arith, m)
-no_record rows none Claims says =
-    let m : 114 ≡ 99 = ap (λ (l : Text). get_or l 0 0) says in omega (arith, m)
-no_record rows none (Emit o) says =
     let m : 114 ≡ 101 = ap (λ (l : Text). get_or l 0 0) says.0 in omega (arith, m)
 no_record rows none Migrate says =
     let m : 114 ≡ 109 = ap (λ (l : Text). get_or l 0 0) says in omega (arith, m)
@@ -176,28 +220,45 @@ no_record rows none Replay says =
     let m : 99 ≡ 112 = ap (λ (l : Text). get_or l 2 0) says in omega (arith, m)
 no_record rows none (Run o) says =
     let m : 101 ≡ 117 = ap (λ (l : Text). get_or l 1 0) says.0 in omega (arith, m)
+no_record rows none (States o) says =
+    let m : 114 ≡ 115 = ap (λ (l : Text). get_or l 0 0) says.0 in omega (arith, m)
 
-pub no_exec : (rows : List Row) → ((o : RunOptions) → HasRunNumbers rows o → ⊥) → (o : Options) → IsReadFrom (codes "exec") rows o → ⊥
-no_exec rows none (Check o) says = let w : codes "exec" ≡ codes "check" = says.0 in cc
+-- if its options cannot be read, the rows of `exec` say nothing
+pub no_exec : (rows : List Row) → ((o : RunOptions) → HasRunNumbers rows o → ⊥) → (o : Options)
+    → IsReadFrom (codes "exec") rows o → ⊥
+no_exec rows none Bank says =
+    let m : 101 ≡ 98 = ap (λ (l : Text). get_or l 0 0) says in omega (arith, m)
+no_exec rows none (Check o) says =
+    let m : 101 ≡ 99 = ap (λ (l : Text). get_or l 0 0) says.0 in omega (arith, m)
+no_exec rows none Claims says =
+    let m : 101 ≡ 99 = ap (λ (l : Text). get_or l 0 0) says in omega (arith, m)
 no_exec rows none (Debug o) says =
     let m : 101 ≡ 100 = ap (λ (l : Text). get_or l 0 0) says.0 in omega (arith, m)
 no_exec rows none Draw says =
     let m : 101 ≡ 100 = ap (λ (l : Text). get_or l 0 0) says in omega (arith, m)
+no_exec rows none (Emit o) says =
+    let m : 120 ≡ 109 = ap (λ (l : Text). get_or l 1 0) says.0 in omega (arith, m)
 no_exec rows none (Exec o) says = none o says.1
 no_exec rows none (Explain o) says =
     let m : 101 ≡ 112 = ap (λ (l : Text). get_or l 2 0) says.0 in omega (arith, m)
-no_exec rows none Claims says = let w : codes "exec" ≡ codes "claims" = says in cc
-no_exec rows none (Emit o) says =
-    let m : 120 ≡ 109 = ap (λ (l : Text). get_or l 1 0) says.0 in omega (arith, m)
-no_exec rows none Migrate says = let w : codes "exec" ≡ codes "migrate" = says in cc
+no_exec rows none Migrate says =
+    let m : 101 ≡ 109 = ap (λ (l : Text). get_or l 0 0) says in omega (arith, m)
 no_exec rows none (Outcomes o) says =
     let m : 101 ≡ 111 = ap (λ (l : Text). get_or l 0 0) says.0 in omega (arith, m)
-no_exec rows none (Record o) says = let w : codes "exec" ≡ codes "record" = says.0 in cc
-no_exec rows none Replay says = let w : codes "exec" ≡ codes "replay" = says in cc
-no_exec rows none (Run o) says = let w : codes "exec" ≡ codes "run" = says.0 in cc
+no_exec rows none (Record o) says =
+    let m : 101 ≡ 114 = ap (λ (l : Text). get_or l 0 0) says.0 in omega (arith, m)
+no_exec rows none Replay says =
+    let m : 101 ≡ 114 = ap (λ (l : Text). get_or l 0 0) says in omega (arith, m)
+no_exec rows none (Run o) says =
+    let m : 101 ≡ 114 = ap (λ (l : Text). get_or l 0 0) says.0 in omega (arith, m)
+no_exec rows none (States o) says =
+    let m : 101 ≡ 115 = ap (λ (l : Text). get_or l 0 0) says.0 in omega (arith, m)
 
+-- if its options cannot be read, the rows of `explain` say nothing
 pub no_explain : (rows : List Row) → ((c : Option Code) → HasCode rows c → ⊥) → (o : Options)
     → IsReadFrom (codes "explain") rows o → ⊥
+no_explain rows none Bank says =
+    let m : 101 ≡ 98 = ap (λ (l : Text). get_or l 0 0) says in omega (arith, m)
 no_explain rows none (Check o) says =
     let m : 101 ≡ 99 = ap (λ (l : Text). get_or l 0 0) says.0 in omega (arith, m)
 no_explain rows none Claims says =
@@ -221,9 +282,14 @@ no_explain rows none Replay says =
     let m : 101 ≡ 114 = ap (λ (l : Text). get_or l 0 0) says in omega (arith, m)
 no_explain rows none (Run o) says =
     let m : 101 ≡ 114 = ap (λ (l : Text). get_or l 0 0) says.0 in omega (arith, m)
+no_explain rows none (States o) says =
+    let m : 101 ≡ 115 = ap (λ (l : Text). get_or l 0 0) says.0 in omega (arith, m)
 
+-- if its options cannot be read, the rows of `outcomes` say nothing
 pub no_outcomes : (rows : List Row) → ((o : OutcomesOptions) → HasSearchOptions rows o → ⊥) → (o : Options)
     → IsReadFrom (codes "outcomes") rows o → ⊥
+no_outcomes rows none Bank says =
+    let m : 111 ≡ 98 = ap (λ (l : Text). get_or l 0 0) says in omega (arith, m)
 no_outcomes rows none (Check o) says =
     let m : 111 ≡ 99 = ap (λ (l : Text). get_or l 0 0) says.0 in omega (arith, m)
 no_outcomes rows none Claims says =
@@ -247,6 +313,39 @@ no_outcomes rows none Replay says =
     let m : 111 ≡ 114 = ap (λ (l : Text). get_or l 0 0) says in omega (arith, m)
 no_outcomes rows none (Run o) says =
     let m : 111 ≡ 114 = ap (λ (l : Text). get_or l 0 0) says.0 in omega (arith, m)
+no_outcomes rows none (States o) says =
+    let m : 111 ≡ 115 = ap (λ (l : Text). get_or l 0 0) says.0 in omega (arith, m)
+
+-- if its options cannot be read, the rows of `states` say nothing
+pub no_states : (rows : List Row) → ((o : StatesOptions) → HasStatesNumbers rows o → ⊥) → (o : Options)
+    → IsReadFrom (codes "states") rows o → ⊥
+no_states rows none Bank says =
+    let m : 115 ≡ 98 = ap (λ (l : Text). get_or l 0 0) says in omega (arith, m)
+no_states rows none (Check o) says =
+    let m : 115 ≡ 99 = ap (λ (l : Text). get_or l 0 0) says.0 in omega (arith, m)
+no_states rows none Claims says =
+    let m : 115 ≡ 99 = ap (λ (l : Text). get_or l 0 0) says in omega (arith, m)
+no_states rows none (Debug o) says =
+    let m : 115 ≡ 100 = ap (λ (l : Text). get_or l 0 0) says.0 in omega (arith, m)
+no_states rows none Draw says =
+    let m : 115 ≡ 100 = ap (λ (l : Text). get_or l 0 0) says in omega (arith, m)
+no_states rows none (Emit o) says =
+    let m : 115 ≡ 101 = ap (λ (l : Text). get_or l 0 0) says.0 in omega (arith, m)
+no_states rows none (Exec o) says =
+    let m : 115 ≡ 101 = ap (λ (l : Text). get_or l 0 0) says.0 in omega (arith, m)
+no_states rows none (Explain o) says =
+    let m : 115 ≡ 101 = ap (λ (l : Text). get_or l 0 0) says.0 in omega (arith, m)
+no_states rows none Migrate says =
+    let m : 115 ≡ 109 = ap (λ (l : Text). get_or l 0 0) says in omega (arith, m)
+no_states rows none (Outcomes o) says =
+    let m : 115 ≡ 111 = ap (λ (l : Text). get_or l 0 0) says.0 in omega (arith, m)
+no_states rows none (Record o) says =
+    let m : 115 ≡ 114 = ap (λ (l : Text). get_or l 0 0) says.0 in omega (arith, m)
+no_states rows none Replay says =
+    let m : 115 ≡ 114 = ap (λ (l : Text). get_or l 0 0) says in omega (arith, m)
+no_states rows none (Run o) says =
+    let m : 115 ≡ 114 = ap (λ (l : Text). get_or l 0 0) says.0 in omega (arith, m)
+no_states rows none (States o) says = none o says.1
 
 -- the rows have the name of the code that is read, or nothing if none is
 pub code_read : {E : Type 0} (f : Found) (id : Text) (code : Option Code)
@@ -306,6 +405,12 @@ no_check_numbers rows none given o says = go o.heap refl says
     go None is h = given h
     go (Some n) is h = none n (h, o.heap_suffices n is, o.heap_fits n is)
 
+-- if a number is given and none is read, nothing is
+pub no_optional_number : (rows : List Row) (id : Text) (least most : ℕ) → ((n : ℕ) → HasNumberIn rows id least most n → ⊥)
+    → (one_of id rows ≡ None → ⊥) → (n : Option ℕ) → HasOptionalNumberIn rows id least most n → ⊥
+no_optional_number rows id least most none given None h = given h
+no_optional_number rows id least most none given (Some n) h = none n h
+
 -- if a seed is given and none is read, nothing is
 pub no_record_seed : (rows : List Row) → ((n : ℕ) → HasNumberIn rows (codes "seed") 0 18446744073709551615 n → ⊥)
     → (one_of (codes "seed") rows ≡ None → ⊥) → (o : RecordOptions) → HasRecordNumbers rows o → ⊥
@@ -340,13 +445,15 @@ clap_refused kinds e Memory is memory blames none = blames
 pub is_simple_command_line : is_simple command_line ≡ true
 unfolding command_line with_text_commands with_code_commands with_object_commands with_pick_commands check_command
     claims_command debug_command draw_command emit_command exec_command migrate_command outcomes_command
-    record_command replay_command run_command with_other_commands explain_command with_run_rules clap_on_literals
+    record_command replay_command run_command with_other_commands explain_command with_run_rules with_search_rules
+    with_bank_commands states_command bank_command clap_on_literals
 is_simple_command_line = refl
 
 pub is_free_command_line : is_simple_and_free command_line ≡ true
 unfolding command_line with_text_commands with_code_commands with_object_commands with_pick_commands check_command
     claims_command debug_command draw_command emit_command exec_command migrate_command outcomes_command
-    record_command replay_command run_command with_other_commands explain_command with_run_rules clap_on_literals
+    record_command replay_command run_command with_other_commands explain_command with_run_rules with_search_rules
+    with_bank_commands states_command bank_command clap_on_literals
 is_free_command_line = refl
 
 -- a fact that holds anyway holds if there is no value

@@ -17,6 +17,7 @@ use Rattle.pb_options.specs.declared.options.Lend.{Lend}
 use Rattle.pb_options.specs.declared.options.OutcomesOptions.{OutcomesOptions}
 use Rattle.pb_options.specs.declared.options.RecordOptions.{RecordOptions}
 use Rattle.pb_options.specs.declared.options.RunOptions.{RunOptions}
+use Rattle.pb_options.specs.declared.options.StatesOptions.{StatesOptions}
 use Rattle.pb_options.specs.Codes.{code_name}
 use Rattle.pb_options.specs.declared.code.Code.{Code}
 use Rattle.pb_words.specs.declared.words.WordsFault.{WordsFault}
@@ -38,6 +39,11 @@ HasRunNumbers rows o = HasNumber rows (codes "workers") o.workers × HasNumber r
 abbrev pub HasOptionalNumber : List Row → Text → Option ℕ → Type 0
 HasOptionalNumber rows id (Some n) = HasNumber rows id n
 HasOptionalNumber rows id None = one_of id rows ≡ None
+
+-- the same, within its range
+abbrev pub HasOptionalNumberIn : List Row → Text → ℕ → ℕ → Option ℕ → Type 0
+HasOptionalNumberIn rows id least most (Some n) = HasNumberIn rows id least most n
+HasOptionalNumberIn rows id least most None = one_of id rows ≡ None
 
 abbrev pub HasCheckNumbers : List Row → CheckOptions → Type 0
 HasCheckNumbers rows o = HasOptionalNumber rows (codes "heap") o.heap
@@ -68,11 +74,22 @@ HasCode rows code = one_of (codes "CODE") rows ≡ option_map code_name code
 abbrev pub HasLend : List Row → Lend → Type 0
 HasLend rows lend = one_of (codes "lend") rows ≡ Some (lend_word lend)
 
+-- the flags of a search
+abbrev pub HasSearchFlags : List Row → OutcomesOptions → Type 0
+HasSearchFlags rows o = HasFlag rows (codes "prints") o.prints × HasFlag rows (codes "expect") o.expect
+    × HasFlag rows (codes "any-order") o.any_order × HasFlag rows (codes "first-deadlock") o.first_deadlock
+    × HasFlag rows (codes "graph") o.graph
+
 abbrev pub HasSearchOptions : List Row → OutcomesOptions → Type 0
-HasSearchOptions rows o = HasNumber rows (codes "states") o.states × HasLend rows o.lend
+HasSearchOptions rows o = HasNumber rows (codes "states") o.states × HasLend rows o.lend × HasSearchFlags rows o
+    × HasOptionalNumberIn rows (codes "run") 1 4000000 o.run
+
+abbrev pub HasStatesNumbers : List Row → StatesOptions → Type 0
+HasStatesNumbers rows o = HasNumber rows (codes "rows") o.rows × HasNumber rows (codes "from") o.from
 
 -- the options are those of this subcommand with these matches
 abbrev pub IsReadFrom : Text → List Row → Options → Type 0
+IsReadFrom name rows option.Bank = name ≡ codes "bank"
 IsReadFrom name rows (option.Check o) = (name ≡ codes "check") × HasCheckNumbers rows o
 IsReadFrom name rows option.Claims = name ≡ codes "claims"
 IsReadFrom name rows (option.Debug o) = (name ≡ codes "debug") × HasDebugFlag rows o
@@ -85,6 +102,7 @@ IsReadFrom name rows (option.Outcomes o) = (name ≡ codes "outcomes") × HasSea
 IsReadFrom name rows (option.Record o) = (name ≡ codes "record") × HasRecordNumbers rows o
 IsReadFrom name rows option.Replay = name ≡ codes "replay"
 IsReadFrom name rows (option.Run o) = (name ≡ codes "run") × HasRunNumbers rows o
+IsReadFrom name rows (option.States o) = (name ≡ codes "states") × HasStatesNumbers rows o
 
 -- the same, if the parse entered a subcommand
 abbrev pub IsReadFromMatches : Option (Text × List Row) → Options → Type 0

@@ -2,7 +2,7 @@
 ghost use Rattle.std.specs.Prelude.{◌≡◌, ◌↔◌, IfErr, IfNone, IfOk, IfSome, IsTrue, None, Option, ℕ};
 ghost use Rattle.clap.specs.Words.{found_of, kind_of, one_of, rows_of, subcommand_rows_of};
 ghost use Rattle.pb_words.specs.Read.{BlamesWords, HasCheckNumbers, HasCode, HasDebugFlag, HasEmitNumber, HasFlag};
-ghost use Rattle.pb_words.specs.Read.{HasNumberIn, HasRecordNumbers, HasRunNumbers, HasLend, HasSearchOptions};
+ghost use Rattle.pb_words.specs.Read.{HasNumberIn, HasOptionalNumberIn, HasRecordNumbers, HasRunNumbers, HasLend, HasSearchOptions, HasStatesNumbers};
 ghost use Rattle.pb_words.specs.Read.{IsReadFromMatches, WordsSay};
 ghost use Rattle.pb_words.specs.declared.words.Options.{Options as AnyOptions};
 ghost use Rattle.pb_options.specs.declared.options.CheckOptions.{CheckOptions as AnyCheckOptions};
@@ -12,6 +12,7 @@ ghost use Rattle.pb_options.specs.declared.options.Lend.{Lend as AnyLend};
 ghost use Rattle.pb_options.specs.declared.options.OutcomesOptions.{OutcomesOptions as AnyOutcomesOptions};
 ghost use Rattle.pb_options.specs.declared.options.RecordOptions.{RecordOptions as AnyRecordOptions};
 ghost use Rattle.pb_options.specs.declared.options.RunOptions.{RunOptions as AnyRunOptions};
+ghost use Rattle.pb_options.specs.declared.options.StatesOptions.{StatesOptions as AnyStatesOptions};
 
 use crate::words::{Options, WordsFault};
 use clap::error::ErrorKind;
@@ -19,7 +20,8 @@ use clap::{ArgMatches, Error};
 use pb_command_line::command_line::command_line;
 use pb_object::Format;
 use pb_options::{
-    CheckOptions, Code, DebugOptions, EmitOptions, Lend, OutcomesOptions, RecordOptions, RunOptions,
+    CheckOptions, Code, DebugOptions, EmitOptions, Lend, OutcomesOptions, RecordOptions,
+    RunOptions, StatesOptions,
 };
 use std::alloc::{AllocError, Global};
 
@@ -48,6 +50,19 @@ fn is_absent(matches: &ArgMatches<'_>, id: &str) -> bool
         Ok(Some(_)) => false,
         Err(_) => false,
     }
+}
+
+// Returns the number of an option that need not be given, or none if it was not; nothing is returned if it is
+// not from `least` to `most`.
+fn optional_number(matches: &ArgMatches<'_>, id: &str, least: u64, most: u64) -> Option<Option<u64>>
+    ensures some { IfSome result (HasOptionalNumberIn (rows_of (found_of matches.now)) id.now least most) }
+    ensures none { IfNone result ((n : Option ℕ) → HasOptionalNumberIn (rows_of (found_of matches.now)) id.now least most n → ⊥) }
+{
+    if is_absent(matches, id) {
+        return Some(None);
+    }
+    let given = number(matches, id, least, most)?;
+    Some(Some(given))
 }
 
 fn check_options(matches: &ArgMatches<'_>) -> Option<CheckOptions>
@@ -118,9 +133,28 @@ fn outcomes_options(matches: &ArgMatches<'_>) -> Option<OutcomesOptions>
 {
     let states = number(matches, "states", 1, 4_000_000)?;
     let lend = lend(matches)?;
+    let run = optional_number(matches, "run", 1, 4_000_000)?;
     Some(OutcomesOptions {
         states: states as u32,
         lend,
+        prints: flag(matches, "prints"),
+        expect: flag(matches, "expect"),
+        any_order: flag(matches, "any-order"),
+        first_deadlock: flag(matches, "first-deadlock"),
+        graph: flag(matches, "graph"),
+        run,
+    })
+}
+
+fn states_options(matches: &ArgMatches<'_>) -> Option<StatesOptions>
+    ensures some { IfSome result (HasStatesNumbers (rows_of (found_of matches.now))) }
+    ensures none { IfNone result ((o : AnyStatesOptions) → HasStatesNumbers (rows_of (found_of matches.now)) o → ⊥) }
+{
+    let rows = number(matches, "rows", 1, 1_000_000)?;
+    let from = number(matches, "from", 0, 10_000_000)?;
+    Some(StatesOptions {
+        rows: rows as u32,
+        from: from as u32,
     })
 }
 
@@ -160,6 +194,7 @@ fn read_matches(matches: &ArgMatches<'_>) -> Option<Options>
 {
     let (name, inner) = matches.subcommand()?;
     match name {
+        "bank" => Some(Options::Bank),
         "check" => Some(Options::Check(check_options(inner)?)),
         "claims" => Some(Options::Claims),
         "debug" => Some(Options::Debug(debug_options(inner))),
@@ -172,6 +207,7 @@ fn read_matches(matches: &ArgMatches<'_>) -> Option<Options>
         "record" => Some(Options::Record(record_options(inner)?)),
         "replay" => Some(Options::Replay),
         "run" => Some(Options::Run(run_options(inner)?)),
+        "states" => Some(Options::States(states_options(inner)?)),
         _ => None,
     }
 }

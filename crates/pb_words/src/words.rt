@@ -2,12 +2,14 @@
 
 use pb_options::{
     CheckOptions, Code, DebugOptions, EmitOptions, OutcomesOptions, RecordOptions, RunOptions,
+    StatesOptions,
 };
 
 /// A command with its options.
 // To add one: pb_engines, pb_options, pb_command_line, read.rt, pb_answer, pb_cli, pb_tests, docs/; docs/CHANGING.md.
 #[derive(Clone, Copy, Debug, PartialEq, Eq)]
 pub enum Options {
+    Bank,
     Check(CheckOptions),
     Claims,
     Debug(DebugOptions),
@@ -20,6 +22,7 @@ pub enum Options {
     Record(RecordOptions),
     Replay,
     Run(RunOptions),
+    States(StatesOptions),
 }
 
 /// Why words were refused.

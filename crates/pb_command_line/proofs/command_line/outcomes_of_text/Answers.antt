@@ -3,4 +3,5 @@ use Rattle.pb_command_line.proofs.command_line.outcomes_of_text.Goals as goal
 
 pub returns : goal.returns
 unfolding outcomes_command
-returns c = c.with_lend.ensures _ (c.with_number-outcomes.ensures _ c.plain-outcomes.ensures)
+returns c =
+    c.with_search_options.ensures _ (c.with_lend.ensures _ (c.with_number-outcomes.ensures _ c.plain-outcomes.ensures))

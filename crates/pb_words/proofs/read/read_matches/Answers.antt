@@ -1,7 +1,7 @@
 use Rattle.std.proofs.Common.{rules}
 use Rattle.clap.specs.Words.{found_of, rows_of, subcommand_rows_of}
 use Rattle.pb_words.proofs.ReadLemmas.{IfNone-of, no_check, no_emit, no_exec, no_explain, no_outcomes, no_record}
-use Rattle.pb_words.proofs.ReadLemmas.{no_run, nothing_read}
+use Rattle.pb_words.proofs.ReadLemmas.{no_run, no_states, nothing_read}
 use Rattle.pb_words.proofs.read.read_matches.Goals as goal
 
 pub returns-in_err-check_options-in-check-clause-none : goal.returns-in_err-check_options-in-check-clause-none
@@ -48,3 +48,9 @@ returns-in_err-outcomes_options-in-outcomes-clause-none c =
 
 pub returns-in_ok-run_options-in-run-clause-some : goal.returns-in_ok-run_options-in-run-clause-some
 returns-in_ok-run_options-in-run-clause-some c = search rules
+
+pub returns-in_err-states_options-in-states-clause-none : goal.returns-in_err-states_options-in-states-clause-none
+returns-in_err-states_options-in-states-clause-none c =
+    IfNone-of c.from_residual-in_err-states_options-in-states.result
+    (nothing_read (subcommand_rows_of c.args.matches.now) _ (rows_of (found_of c.in_ok-name.inner.now)) (search rules) c.in_ok-name.ensures.rows
+    (no_states (rows_of (found_of c.in_ok-name.inner.now)) c.in_err-states_options-in-states.ensures.none))
