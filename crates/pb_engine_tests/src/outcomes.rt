@@ -103,7 +103,7 @@ const CASES: [Case; 13] = [
             states: 6,
             lend: Lend::Banker,
         },
-        said: b"more than 6 configurations, there may be others\n",
+        said: b"outcome 1\np ended\np.x 2\nreached by\np.0 1\np.1 5\np.2 5\np.0 4\nmore than 6 configurations, there may be others\n",
         status: Status::Limit,
     },
     Case {
