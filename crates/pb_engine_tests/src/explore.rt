@@ -2,7 +2,9 @@
 
 use pb_codegen::compile;
 use pb_search::explore::{explore, explore_by};
-use pb_search::{Deadlock, ExploreFault, Found, ProcessOutcome, StuckProcess, StuckState};
+use pb_search::{
+    Deadlock, Extent, Found, Outcomes, ProcessOutcome, StuckProcess, StuckState, Until,
+};
 use pb_search_stages::Lending;
 use std::alloc::Global;
 
@@ -81,8 +83,18 @@ fn contains(found: &[Found], integer: i64, faulted: bool) -> bool {
 /// Returns whether these are the outcomes of a text under this lending.
 fn are_outcomes(alloc: Global, case: &Case, lending: Lending) -> Option<bool> {
     let compiled = compile(alloc, alloc, case.text).ok()?;
-    let told = explore_by(alloc, compiled.verified(), lending, 100_000).ok()?;
-    if told.found.len() != case.outcomes.len() || told.cycles != case.cycles {
+    let told = explore_by(
+        alloc,
+        compiled.verified(),
+        lending,
+        Until::AllIsFound,
+        100_000,
+    )
+    .ok()?;
+    let all = Extent::All {
+        cycles: case.cycles,
+    };
+    if told.found.len() != case.outcomes.len() || told.extent != all {
         return Some(false);
     }
     for (integer, faulted) in case.outcomes {
@@ -104,8 +116,16 @@ fn outcomes_of_one_process(rt: HostRuntime) {
 /// Returns whether both processes that want the devices end, and in no other way.
 fn both_end(alloc: Global, lending: Lending) -> Option<bool> {
     let compiled = compile(alloc, alloc, DEVICES).ok()?;
-    let told = explore_by(alloc, compiled.verified(), lending, 100_000).ok()?;
-    if told.cycles || told.found.len() != 1 || told.found[0].outcome.len() != 2 {
+    let told = explore_by(
+        alloc,
+        compiled.verified(),
+        lending,
+        Until::AllIsFound,
+        100_000,
+    )
+    .ok()?;
+    let ends = told.extent == Extent::All { cycles: false };
+    if !ends || told.found.len() != 1 || told.found[0].outcome.len() != 2 {
         return Some(false);
     }
     let outcome = &told.found[0].outcome;
@@ -150,7 +170,14 @@ fn is_crossed(deadlock: &Deadlock) -> bool {
 /// devices.
 fn deadlocks_of_devices(alloc: Global) -> Option<(usize, usize)> {
     let compiled = compile(alloc, alloc, DEVICES).ok()?;
-    let by_cash = explore_by(alloc, compiled.verified(), Lending::ByCash, 100_000).ok()?;
+    let by_cash = explore_by(
+        alloc,
+        compiled.verified(),
+        Lending::ByCash,
+        Until::AllIsFound,
+        100_000,
+    )
+    .ok()?;
     let by_banker = explore(alloc, compiled.verified(), 100_000).ok()?;
     if by_cash.deadlocks.is_empty() || !is_crossed(&by_cash.deadlocks[0]) {
         return None;
@@ -173,7 +200,14 @@ process r begin hold 1 of c do hold 1 of a do skip od od end";
 /// asks.
 fn deadlocks_of_philosophers(alloc: Global) -> Option<(usize, bool)> {
     let compiled = compile(alloc, alloc, PHILOSOPHERS).ok()?;
-    let told = explore_by(alloc, compiled.verified(), Lending::ByCash, 100_000).ok()?;
+    let told = explore_by(
+        alloc,
+        compiled.verified(),
+        Lending::ByCash,
+        Until::AllIsFound,
+        100_000,
+    )
+    .ok()?;
     if told.deadlocks.len() != 1 || told.deadlocks[0].processes.len() != 3 {
         return None;
     }
@@ -197,7 +231,7 @@ const ENDLESS: &[u8] = b"process p begin while 1 do skip od end process q begin 
 fn never_ends(alloc: Global) -> Option<bool> {
     let compiled = compile(alloc, alloc, ENDLESS).ok()?;
     let told = explore(alloc, compiled.verified(), 100_000).ok()?;
-    Some(told.cycles && told.found.is_empty())
+    Some(told.extent == Extent::All { cycles: true } && told.found.is_empty())
 }
 
 #[test]
@@ -205,20 +239,61 @@ fn one_that_never_ends(rt: HostRuntime) {
     assert!(rt; never_ends(rt.alloc()) == Some(true));
 }
 
-/// Returns how many picks lead to each outcome of the process that prints, or why there are none.
-fn picks_to(alloc: Global, states: u32) -> Option<Result<usize, ExploreFault>> {
+/// Returns how many picks lead to each outcome of the process that prints, and how much was found.
+fn picks_to(alloc: Global, states: u32) -> Option<(Vec<usize>, Extent)> {
     let compiled = compile(alloc, alloc, PRINT).ok()?;
-    match explore(alloc, compiled.verified(), states) {
-        Ok(told) if told.found.len() == 1 => Some(Ok(told.found[0].picks.len())),
-        Ok(_) => None,
-        Err(fault) => Some(Err(fault)),
+    let told = explore(alloc, compiled.verified(), states).ok()?;
+    let mut picks = Vec::new(alloc);
+    for one in &told.found {
+        picks.push(one.picks.len()).ok()?;
     }
+    Some((picks, told.extent))
+}
+
+/// Returns whether so many configurations tell this.
+fn tell(alloc: Global, states: u32, picks: &[usize], extent: Extent) -> bool {
+    picks_to(alloc, states).is_some_and(|told| told.0.as_slice() == picks && told.1 == extent)
 }
 
 #[test]
 fn two_configurations(rt: HostRuntime) {
-    assert!(rt; picks_to(rt.alloc(), 2) == Some(Ok(3)));
-    for states in 0..2 {
-        assert!(rt; picks_to(rt.alloc(), states) == Some(Err(ExploreFault::TooMany)));
+    let alloc = rt.alloc();
+    assert!(rt; tell(alloc, 2, &[3], Extent::All { cycles: false }));
+    assert!(rt; tell(alloc, 1, &[], Extent::TooMany));
+    assert!(rt; tell(alloc, 0, &[], Extent::TooMany));
+}
+
+/// Returns what is found of the two devices by the cash until the first deadlock, or until all is found, with
+/// this many configurations.
+fn devices(alloc: Global, until: Until, states: u32) -> Option<Outcomes> {
+    let compiled = compile(alloc, alloc, DEVICES).ok()?;
+    explore_by(alloc, compiled.verified(), Lending::ByCash, until, states).ok()
+}
+
+/// Returns how many outcomes and deadlocks are found so, and whether they are all.
+fn found(alloc: Global, until: Until, states: u32) -> Option<(usize, usize, Extent)> {
+    let told = devices(alloc, until, states)?;
+    Some((told.found.len(), told.deadlocks.len(), told.extent))
+}
+
+#[test]
+fn what_was_found_is_not_lost(rt: HostRuntime) {
+    let alloc = rt.alloc();
+    let mut found_in_part = false;
+    for states in 1..20 {
+        match found(alloc, Until::AllIsFound, states) {
+            Some((_, deadlocks, Extent::TooMany)) => {
+                found_in_part = found_in_part || deadlocks == 1;
+            }
+            all => assert!(rt; all == Some((1, 1, Extent::All { cycles: false }))),
+        }
     }
+    assert!(rt; found_in_part);
+}
+
+#[test]
+fn the_first_deadlock(rt: HostRuntime) {
+    let alloc = rt.alloc();
+    let first = found(alloc, Until::FirstDeadlock, 1_000);
+    assert!(rt; first.is_some_and(|told| told.1 == 1 && told.2 == Extent::AtDeadlock));
 }

@@ -142,7 +142,7 @@ listed_is : (code : Code) (found : List Found) → AreOutcomes ByBanker code fou
 listed_is code found are outcome = (
   All-contains (IsOutcomeOfCode code) (map (λ f. f.outcome) found) outcome
       (All-map (IsOutcomeOfCode code) (λ (f : Found). f.outcome) found
-      (λ k d within. let e = are.each k d within in ((slice_index_or found k d).picks, e.0, e.1, e.2))),
+      (λ k d within. let e = are.some.each k d within in ((slice_index_or found k d).picks, e.0, e.1, e.2))),
   λ is. subst (Contains (map (λ f. f.outcome) found)) (sym is.3) (are.none_missing is.0 is.1 is.2),
 )
 

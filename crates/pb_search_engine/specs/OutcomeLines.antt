@@ -6,7 +6,10 @@ use Rattle.pb_base.specs.declared.pick.Pick.{Pick}
 use Rattle.pb_base.specs.Lines.{NameTable, name_of, each_below, line}
 use Rattle.pb_code.specs.Whole.{ProcessLabels}
 use Rattle.pb_search_stages.specs.Reaching.{ProcessOutcome}
+use Rattle.pb_base.specs.declared.limits.TheConstants.{MAX_PICKS}
 use Rattle.pb_search.specs.Outcomes.{Found}
+use Rattle.pb_search.specs.declared.found.Extent.{Extent}
+use Rattle.pb_search.specs.declared.found.Extent.TheVariants as extent
 use Rattle.pb_history.specs.Replays.{spread}
 use Rattle.pb_history.specs.declared.counted.CountedPick.{CountedPick}
 use Rattle.pb_picks.specs.Counted.{AreApart}
@@ -62,21 +65,32 @@ pub data AreOutcomeLines (names : NameTable) (labels : List ProcessLabels) : Lis
       → AreOutcomeLines names labels (found ++ f ∷ [])
       (lines ++ outcome_lines names labels (length found + 1) f.outcome picks)
 
+-- the end of a word, if it is said of this number
+abbrev pub plural : ℕ → List ℕ
+plural zero = codes "s"
+plural (suc zero) = []
+plural (suc (suc n)) = codes "s"
+
 -- how many deadlocks there are, if there are some
 abbrev pub deadlocks_text : ℕ → List ℕ
 deadlocks_text zero = []
-deadlocks_text (suc n) = codes ", " ++ decimal (suc n) ++ codes " deadlocks"
+deadlocks_text (suc n) = codes ", " ++ decimal (suc n) ++ codes " deadlock" ++ plural (suc n)
 
 -- how the last line ends, by whether some run never ends
 abbrev pub runs_text : Bool → List ℕ
 runs_text true = codes ", some runs do not end"
 runs_text false = []
 
--- the last line: how many outcomes and deadlocks there are, and whether some run never ends
+-- the last line, if these are all: how many outcomes and deadlocks there are, and whether some run never ends
 abbrev pub all_line : (outcomes deadlocks : ℕ) → Bool → List ℕ
 all_line outcomes deadlocks cycles =
-    line (codes "all " ++ decimal outcomes ++ codes " outcomes" ++ deadlocks_text deadlocks ++ runs_text cycles)
+    line (decimal outcomes ++ codes " outcome" ++ plural outcomes ++ deadlocks_text deadlocks ++ runs_text cycles)
 
--- the only line, if more configurations than these are reached
-abbrev pub excess_line : ℕ → List ℕ
-excess_line states = line (codes "more than " ++ decimal states ++ codes " configurations")
+-- the last line, by how much was found with this number of configurations
+abbrev pub last_line : (states outcomes deadlocks : ℕ) → Extent → List ℕ
+last_line states outcomes deadlocks (extent.All cycles) = all_line outcomes deadlocks cycles
+last_line states outcomes deadlocks extent.TooMany =
+    line (codes "more than " ++ decimal states ++ codes " configurations, there may be others")
+last_line states outcomes deadlocks extent.TooLong =
+    line (codes "more than " ++ decimal MAX_PICKS ++ codes " picks, there may be others")
+last_line states outcomes deadlocks extent.AtDeadlock = line (codes "first deadlock, there may be others")

@@ -1,7 +1,8 @@
 //! The lines of deadlocks.
 
-ghost use Rattle.std.specs.Prelude.{◌≡◌, ◌++◌, All, IfOk, OnOk, map};
+ghost use Rattle.std.specs.Prelude.{◌≡◌, ◌≤◌, ◌++◌, All, IfOk, OnOk, length, map};
 ghost use Rattle.std.specs.List.{flat_map};
+ghost use Rattle.pb_base.specs.declared.limits.TheConstants.{MAX_PICKS};
 ghost use Rattle.pb_base.specs.Lines.{HasProcess, names_view, pair_text, pairs_text, line};
 ghost use Rattle.pb_code.specs.View.{labels_view, process_labels_view};
 ghost use Rattle.pb_search_engine.specs.DeadlockLines.{AreDeadlockLines, all_stuck_lines, ask_line, deadlock_lines};
@@ -27,7 +28,8 @@ pub fn deadlocks_text(
     labels: &Labels,
     deadlocks: &[Deadlock],
 ) -> Result<Vec<u8>, NoMemory>
-    requires { All (λ d. HaveProcesses (names_view names.now) d.picks.items) deadlocks.now }
+    requires named { All (λ d. HaveProcesses (names_view names.now) d.picks.items) deadlocks.now }
+    requires few { All (λ d. length d.picks.items ≤ MAX_PICKS) deadlocks.now }
     ensures { IfOk result (λ text.
         AreDeadlockLines (names_view names.now) (labels_view labels.now) (map deadlock_view deadlocks.now) text.items) }
 {

@@ -1,12 +1,13 @@
 //! The lines of outcomes.
 
-ghost use Rattle.std.specs.Prelude.{◌≡◌, ◌++◌, ℕ, List, All, IfOk, OnOk, length, map};
+ghost use Rattle.std.specs.Prelude.{◌≡◌, ◌≤◌, ◌++◌, ℕ, List, All, IfOk, OnOk, codes, length, map};
 ghost use Rattle.std.specs.Fmt.{decimal};
+ghost use Rattle.pb_base.specs.declared.limits.TheConstants.{MAX_PICKS};
 ghost use Rattle.pb_base.specs.Lines.{HasProcess, names_view, line};
 ghost use Rattle.pb_code.specs.View.{labels_view, process_labels_view};
 ghost use Rattle.pb_search.specs.Outcomes.{found_view, process_outcome_view};
 ghost use Rattle.pb_search_engine.specs.DeadlockLines.{AreDeadlockLines};
-ghost use Rattle.pb_search_engine.specs.OutcomeLines.{AreOutcomeLines, all_line, deadlocks_text, end_lines};
+ghost use Rattle.pb_search_engine.specs.OutcomeLines.{AreOutcomeLines, all_line, deadlocks_text, end_lines, last_line, plural};
 ghost use Rattle.pb_search_engine.specs.OutcomeLines.{integer_line, integer_lines, outcome_lines, outcome_lines_of};
 ghost use Rattle.pb_search_engine.specs.OutcomeLines.{runs_text};
 ghost use Rattle.pb_search_engine.specs.Showing.{HaveProcesses};
@@ -15,35 +16,44 @@ ghost use Rattle.pb_search.specs.Deadlocks.{deadlock_view};
 use crate::counts::count_picks;
 use crate::deadlocks::deadlocks_text;
 use crate::names::{integers_at, name_at};
+use pb_base::limits::MAX_PICKS;
 use pb_base::writing::put_number;
 use pb_base::{Names, NoMemory};
 use pb_code::{Labels, ProcessLabels};
 use pb_history::CountedPick;
 use pb_picks::write_picks;
-use pb_search::{Deadlock, Found, ProcessOutcome};
+use pb_search::{Extent, Found, Outcomes, ProcessOutcome};
 use std::alloc::Global;
 
-/// Returns the lines of these outcomes and of these deadlocks, each with its picks, and the line that says
-/// how many they are and whether some run never ends.
+/// Returns the lines of these outcomes and of these deadlocks, each with its picks, and the last line, which says
+/// whether these are all.
 pub fn outcomes_text(
     alloc: Global,
     names: &Names,
     labels: &Labels,
-    found: &[Found],
-    deadlocks: &[Deadlock],
-    cycles: bool,
+    told: &Outcomes,
+    states: u32,
 ) -> Result<Vec<u8>, NoMemory>
-    requires found { All (λ f. HaveProcesses (names_view names.now) f.picks.items) found.now }
-    requires deadlocks { All (λ d. HaveProcesses (names_view names.now) d.picks.items) deadlocks.now }
+    requires found { All (λ f. HaveProcesses (names_view names.now) f.picks.items) told.now.found.items }
+    requires found_few { All (λ f. length f.picks.items ≤ MAX_PICKS) told.now.found.items }
+    requires deadlocks { All (λ d. HaveProcesses (names_view names.now) d.picks.items) told.now.deadlocks.items }
+    requires deadlocks_few { All (λ d. length d.picks.items ≤ MAX_PICKS) told.now.deadlocks.items }
     ensures { IfOk result (λ text. (lines stuck : List ℕ)
-        × AreOutcomeLines (names_view names.now) (labels_view labels.now) (map found_view found.now) lines
-        × AreDeadlockLines (names_view names.now) (labels_view labels.now) (map deadlock_view deadlocks.now) stuck
-        × (text.items ≡ (lines ++ stuck) ++ all_line (length found.now) (length deadlocks.now) cycles)) }
+        × AreOutcomeLines (names_view names.now) (labels_view labels.now) (map found_view told.now.found.items) lines
+        × AreDeadlockLines (names_view names.now) (labels_view labels.now) (map deadlock_view told.now.deadlocks.items) stuck
+        × (text.items ≡ (lines ++ stuck)
+        ++ last_line states (length told.now.found.items) (length told.now.deadlocks.items) told.now.extent)) }
 {
-    let mut text = found_text(alloc, names, labels, found)?;
-    let stuck = deadlocks_text(alloc, names, labels, deadlocks)?;
+    let mut text = found_text(alloc, names, labels, &told.found)?;
+    let stuck = deadlocks_text(alloc, names, labels, &told.deadlocks)?;
     text.extend_from_slice(&stuck)?;
-    put_count(&mut text, found.len(), deadlocks.len(), cycles)?;
+    put_last(
+        &mut text,
+        told.found.len(),
+        told.deadlocks.len(),
+        told.extent,
+        states,
+    )?;
     Ok(text)
 }
 
@@ -54,7 +64,8 @@ fn found_text(
     labels: &Labels,
     found: &[Found],
 ) -> Result<Vec<u8>, NoMemory>
-    requires { All (λ f. HaveProcesses (names_view names.now) f.picks.items) found.now }
+    requires named { All (λ f. HaveProcesses (names_view names.now) f.picks.items) found.now }
+    requires few { All (λ f. length f.picks.items ≤ MAX_PICKS) found.now }
     ensures { IfOk result (λ text.
         AreOutcomeLines (names_view names.now) (labels_view labels.now) (map found_view found.now) text.items) }
 {
@@ -96,8 +107,37 @@ pub fn put_head(text: &mut Vec<u8>, word: &[u8], number: usize) -> Result<(), No
     Ok(())
 }
 
-// Puts the line that says how many outcomes and deadlocks there are and whether some run never ends behind a
-// text.
+// Appends the last line.
+fn put_last(
+    text: &mut Vec<u8>,
+    outcomes: usize,
+    deadlocks: usize,
+    extent: Extent,
+    states: u32,
+) -> Result<(), NoMemory>
+    ensures { OnOk result (text.new.items ≡ text.old.items ++ last_line states outcomes deadlocks extent) }
+{
+    match extent {
+        Extent::All { cycles } => put_count(text, outcomes, deadlocks, cycles),
+        Extent::TooMany => put_excess(text, states, b" configurations, there may be others\n"),
+        Extent::TooLong => put_excess(text, MAX_PICKS, b" picks, there may be others\n"),
+        Extent::AtDeadlock => {
+            text.extend_from_slice(b"first deadlock, there may be others\n")?;
+            Ok(())
+        }
+    }
+}
+
+// Appends that there are more than this number of something.
+fn put_excess(text: &mut Vec<u8>, number: u32, what: &[u8]) -> Result<(), NoMemory>
+    ensures { OnOk result (text.new.items ≡ text.old.items ++ (codes "more than " ++ decimal number ++ what.now)) }
+{
+    put_number(text, b"more than ", number)?;
+    text.extend_from_slice(what)?;
+    Ok(())
+}
+
+// Appends the line that says how many outcomes and deadlocks there are and whether some run never ends.
 fn put_count(
     text: &mut Vec<u8>,
     outcomes: usize,
@@ -106,11 +146,22 @@ fn put_count(
 ) -> Result<(), NoMemory>
     ensures { OnOk result (text.new.items ≡ text.old.items ++ all_line outcomes deadlocks cycles) }
 {
-    put_number(text, b"all ", outcomes)?;
-    text.extend_from_slice(b" outcomes")?;
+    put_number(text, b"", outcomes)?;
+    text.extend_from_slice(b" outcome")?;
+    put_plural(text, outcomes)?;
     put_deadlock_count(text, deadlocks)?;
     put_runs(text, cycles)?;
     text.push(b'\n')?;
+    Ok(())
+}
+
+// Appends the end of a word that is said of this number.
+fn put_plural(text: &mut Vec<u8>, number: usize) -> Result<(), NoMemory>
+    ensures { OnOk result (text.new.items ≡ text.old.items ++ plural number) }
+{
+    if number != 1 {
+        text.push(b's')?;
+    }
     Ok(())
 }
 
@@ -130,7 +181,8 @@ fn put_deadlock_count(text: &mut Vec<u8>, deadlocks: usize) -> Result<(), NoMemo
 {
     if deadlocks > 0 {
         put_number(text, b", ", deadlocks)?;
-        text.extend_from_slice(b" deadlocks")?;
+        text.extend_from_slice(b" deadlock")?;
+        put_plural(text, deadlocks)?;
     }
     Ok(())
 }

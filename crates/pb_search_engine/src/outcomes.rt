@@ -5,12 +5,9 @@ ghost use Rattle.pb_code.specs.Limits.{AreLabels};
 ghost use Rattle.pb_command_io.specs.Answers.{Tells};
 ghost use Rattle.pb_command_io.specs.Faults.{TellsFaults, TellsWriteFaults};
 ghost use Rattle.pb_command_io.specs.Inputs.{SaysOfInput};
-ghost use Rattle.pb_command_io.specs.declared.status.Status.TheVariants.{Limit};
-ghost use Rattle.pb_search_engine.specs.OutcomeLines.{excess_line};
-ghost use Rattle.pb_search_engine.specs.SaysOutcomes.{SaysOfSearch, SaysOfOutcomes, lending_for};
+ghost use Rattle.pb_search_engine.specs.SaysOutcomes.{SaysOfSearch, SaysOfOutcomes, lending_for, status_of};
 
 use crate::lines::outcomes_text;
-use itoa::Buffer;
 use pb_accept::accept::{compile_text, refuse};
 use pb_base::NoMemory;
 use pb_base::device::{Input, Output};
@@ -20,17 +17,18 @@ use pb_command_io::Status;
 use pb_command_io::input::read_input;
 use pb_command_io::reply::{Reply, tell};
 use pb_options::{Lend, OutcomesOptions};
-use pb_search::ExploreFault;
 use pb_search::explore::explore_by;
+use pb_search::{Extent, Until};
 use pb_search_stages::Lending;
 use std::alloc::Global;
 
 /// Writes every outcome of the text that the input holds, under the banker or with loans by the cash alone:
 /// how each process ended, its integers, and picks that lead there; then every deadlock, where each process
 /// is, its integers, what it holds and asks for, and picks that lead there; and at the end how many outcomes
-/// and deadlocks there are, and whether some run never ends. If more configurations than `options.states` are
-/// needed, the line that says so is written, with the status `Limit`. A text that is refused is answered by
-/// its refusal line.
+/// and deadlocks there are, and whether some run never ends. If more than `options.states` configurations are
+/// reached, or if more than 10,000,000 picks lead to an outcome, what was found by then is written, and the
+/// last line says that there may be others; the status is `Limit`. Of a text that is refused its refusal line
+/// is written.
 ///
 /// After a read that failed nothing is written; after a write that failed, a first part of what was being
 /// said.
@@ -74,8 +72,7 @@ fn tell_outcomes<O: Output>(
     }
 }
 
-// Returns the lines of all outcomes and deadlocks of a compiled text, or the line that more configurations
-// are reached.
+// Returns the lines of the outcomes and deadlocks of a compiled text.
 fn reply(alloc: Global, lend: Lend, states: u32, compiled: &Compiled) -> Result<Reply, NoMemory>
     requires { AreLabels compiled.now.verified.code compiled.now.labels }
     ensures { IfOk result (λ r.
@@ -83,20 +80,23 @@ fn reply(alloc: Global, lend: Lend, states: u32, compiled: &Compiled) -> Result<
 {
     let verified = compiled.verified();
     let code = verified.code();
-    match explore_by(alloc, verified, lending(lend), states) {
-        Ok(told) => Ok(Reply {
-            text: outcomes_text(
-                alloc,
-                &code.names,
-                compiled.labels(),
-                &told.found,
-                &told.deadlocks,
-                told.cycles,
-            )?,
-            status: Status::Done,
-        }),
-        Err(ExploreFault::TooMany) => too_many(alloc, states),
-        Err(ExploreFault::NoMemory) => Err(NoMemory),
+    let told = explore_by(alloc, verified, lending(lend), Until::AllIsFound, states)?;
+    let text = outcomes_text(alloc, &code.names, compiled.labels(), &told, states)?;
+    Ok(Reply {
+        text,
+        status: status(told.extent),
+    })
+}
+
+// Returns the status, by how much was found.
+fn status(extent: Extent) -> Status
+    ensures { result ≡ status_of extent }
+{
+    match extent {
+        Extent::All { .. } => Status::Done,
+        Extent::TooMany => Status::Limit,
+        Extent::TooLong => Status::Limit,
+        Extent::AtDeadlock => Status::Done,
     }
 }
 
@@ -108,19 +108,4 @@ fn lending(lend: Lend) -> Lending
         Lend::Banker => Lending::ByBanker,
         Lend::Cash => Lending::ByCash,
     }
-}
-
-// Returns the reply that more configurations than these are reached.
-fn too_many(alloc: Global, states: u32) -> Result<Reply, NoMemory>
-    ensures { IfOk result (λ r.
-        (r.text.items ≡ excess_line states) × (r.status ≡ Limit)) }
-{
-    let mut digits = Buffer::new();
-    let mut text = Vec::from_slice(alloc, b"more than ")?;
-    text.extend_from_slice(digits.format(states).as_bytes())?;
-    text.extend_from_slice(b" configurations\n")?;
-    Ok(Reply {
-        text,
-        status: Status::Limit,
-    })
 }

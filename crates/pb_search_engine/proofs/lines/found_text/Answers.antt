@@ -1,5 +1,7 @@
-use Rattle.std.proofs.Common.{◌+◌, ◌++◌, ◌∙◌, List, map, sym, ap, subst}
+use Rattle.std.proofs.Common.{◌+◌, ◌++◌, ◌≤◌, ◌∙◌, List, length, map, sym, ap, subst}
 use Rattle.std.specs.Prelude.{All}
+use Rattle.pb_base.specs.declared.limits.TheConstants.{MAX_PICKS}
+use Rattle.pb_search.specs.declared.found.Found.{Found}
 use Rattle.pb_base.specs.declared.pick.Pick.{Pick}
 use Rattle.pb_base.specs.Lines.{HasProcess, names_view}
 use Rattle.pb_code.specs.View.{labels_view}
@@ -18,10 +20,16 @@ pub put_outcome-requires : goal.put_outcome-requires
 put_outcome-requires c =
     let names = names_view c.args.names.now in
     let f = c.index-found-i.result in
-    let shown = subst (λ g. HaveProcesses names g.picks.items) (sym c.index-found-i.is) (c.requires c.loop-i.i f c.loop-i-test.true) in
+    let shown = subst (λ g. HaveProcesses names g.picks.items) (sym c.index-found-i.is) (c.requires.named c.loop-i.i f c.loop-i-test.true) in
     let counted = subst (λ (ps : List Pick). AreCounted ps c.in_ok-picks.picks.items) c.deref.ensures.value c.in_ok-picks.ensures in
     subst (λ (cs : List CountedPick). All (λ c. HasProcess names c.pick.process) cs) (sym c.deref-in-loop-i.ensures.value)
     (counted_too (λ pick. HasProcess names pick.process) f.picks.items c.in_ok-picks.picks.items counted shown)
+
+pub count_picks-requires : goal.count_picks-requires
+count_picks-requires c =
+    subst (λ (ps : List Pick). length ps ≤ MAX_PICKS) (sym c.deref.ensures.value)
+    (subst (λ (g : Found). length g.picks.items ≤ MAX_PICKS) (sym c.index-found-i.is)
+    (c.requires.few c.loop-i.i c.index-found-i.result c.loop-i-test.true))
 
 pub loop-i-preserved : goal.loop-i-preserved
 loop-i-preserved c =
