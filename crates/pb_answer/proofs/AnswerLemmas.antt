@@ -27,5 +27,5 @@ CallTellsFaults-debug words flags rest left old new status says tells answers = 
   where
     go : (live : Bool) → flags.live ≡ live → TellsDebugFaults live old new status → AnswersBeforeRead live rest left old new
         → CallTellsFaults words rest left old new status
-    go true is tells answers = inr (subst (λ (live : Bool). WordsSay words (Debug (record { live = live }))) is says, tells, answers)
+    go true is tells answers = inr (inl (subst (λ (live : Bool). WordsSay words (Debug (record { live = live }))) is says, tells, answers))
     go false is tells answers = inl tells

@@ -6,6 +6,8 @@ use Rattle.pb_words.specs.declared.words.Options.{Options}
 use Rattle.pb_words.specs.declared.words.Options.TheVariants as option
 use Rattle.pb_words.specs.declared.words.WordsFault.{WordsFault}
 use Rattle.pb_words.specs.declared.words.WordsFault.TheVariants as fault
+use Rattle.pb_bank_engine.specs.Sessions as bank
+use Rattle.pb_bank_engine.specs.Sessions.{SaysOfBank}
 use Rattle.pb_debug_engine.specs.Debugs.{SaysOfDebug}
 use Rattle.pb_debug_engine.specs.Faults.{TellsAnyFault}
 use Rattle.pb_debug.specs.Sessions.{SaysBefore}
@@ -25,6 +27,9 @@ use Rattle.pb_engines.specs.Records.{SaysOfRecord}
 use Rattle.pb_accept.specs.ReplayLines.{SaysOfReplay}
 use Rattle.pb_engines.specs.Runs.{SaysOfTextRun}
 use Rattle.pb_explain.specs.Pages.{SaysOfExplain}
+use Rattle.pb_options.specs.declared.options.StatesOptions.{StatesOptions}
+use Rattle.pb_page.specs.declared.run.Shown.{Shown}
+use Rattle.pb_page_engine.specs.States.{SaysOfStates}
 use Rattle.pb_search_engine.specs.SaysOutcomes.{SaysOfOutcomes}
 use Rattle.pb_words.specs.Read.{WordsSay}
 
@@ -33,8 +38,13 @@ abbrev pub SaysOfCommands : (live : Bool) → List ℕ → List ℕ → Status �
 SaysOfCommands true = SaysOfLive
 SaysOfCommands false = SaysOfInput SaysOfDebug
 
+-- the part of a run that the options of `states` name
+abbrev pub shown_by : StatesOptions → Shown
+shown_by numbers = record { from = numbers.from; rows = numbers.rows }
+
 -- what a command may say of an input
 abbrev pub CommandSays : Options → List ℕ → List ℕ → Status → Type 0
+CommandSays option.Bank = SaysOfBank
 CommandSays (option.Check numbers) = SaysOfInput SaysOfChecks
 CommandSays option.Claims = SaysOfInput SaysOfClaims
 CommandSays (option.Debug flags) = SaysOfCommands flags.live
@@ -47,6 +57,7 @@ CommandSays (option.Outcomes numbers) = SaysOfInput (SaysOfOutcomes numbers.lend
 CommandSays (option.Record numbers) = SaysOfInput (SaysOfRecord numbers.run.steps numbers.seed)
 CommandSays option.Replay = SaysOfInput SaysOfReplay
 CommandSays (option.Run numbers) = SaysOfInput (SaysOfTextRun numbers.steps)
+CommandSays (option.States numbers) = SaysOfInput (SaysOfStates (shown_by numbers))
 
 -- the text and the status if words were not read
 abbrev pub words_fault_text : WordsFault → List ℕ
@@ -90,9 +101,16 @@ AnswersBeforeRead true rest left old new =
     new.reads ≢ old.reads → IfSome rest (λ bytes. SaysBefore SaysOfRead bytes left old.written new.written)
 AnswersBeforeRead false rest left old new = ⊤
 
--- a device that fails is reported, and nothing is written if a read fails; `debug --live` alone has carried out
--- the commands before that read then, and written their answers
+-- what `bank` tells of its devices: the answers to the commands before a read that fails, all of them and no more
+abbrev pub TellsBankFaults : (rest left : Option (List ℕ)) → Devices → Devices → Status → Type 0
+TellsBankFaults rest left old new status =
+    bank.TellsAnyFault old new status
+    × (new.reads ≢ old.reads → IfSome rest (λ bytes. bank.SaysBefore bank.AnswersLines bytes left old.written new.written))
+
+-- a device that fails is reported, and nothing is written if a read fails; `debug --live` and `bank` alone have
+-- carried out the commands before that read then, and written their answers
 abbrev pub CallTellsFaults : List (Bor Text) → (rest left : Option (List ℕ)) → Devices → Devices → Status → Type 0
 CallTellsFaults words rest left old new status =
     TellsFaults old new status
-    ⊎ (WordsSay words (option.Debug (record { live = true })) × TellsAnyFault old new status × AnswersBeforeRead true rest left old new)
+    ⊎ ((WordsSay words (option.Debug (record { live = true })) × TellsAnyFault old new status × AnswersBeforeRead true rest left old new)
+    ⊎ (WordsSay words option.Bank × TellsBankFaults rest left old new status))

@@ -5,6 +5,7 @@ ghost use Rattle.pb_answer.specs.Calls.{fault_status, words_fault_text, CallTell
 ghost use Rattle.pb_answer.specs.Calls.{AnswersBeforeRead};
 ghost use Rattle.pb_command_io.specs.Faults.{TellsWriteFaults};
 
+use pb_bank_engine::bank_engine;
 use pb_base::device::{Input, Output};
 use pb_command_io::{Page, Status};
 use pb_debug_engine::{debug_engine, debug_live_engine};
@@ -14,7 +15,9 @@ use pb_engines::{
     replay_engine, run_engine,
 };
 use pb_explain::explain_engine;
-use pb_options::DebugOptions;
+use pb_options::{DebugOptions, StatesOptions};
+use pb_page::Shown;
+use pb_page_engine::states_engine;
 use pb_search_engine::outcomes_engine;
 use pb_words::{Options, WordsFault, options};
 use std::alloc::Global;
@@ -36,6 +39,7 @@ pub fn answer<I: Input, O: Output, R: Threads + Wait + Sync>(
         result }
 {
     match options(alloc, words) {
+        Ok(Options::Bank) => bank_engine(alloc, input, output),
         Ok(Options::Check(numbers)) => check_engine(alloc, numbers, input, output),
         Ok(Options::Claims) => claims_engine(alloc, input, output),
         Ok(Options::Debug(flags)) => debug(alloc, flags, input, output),
@@ -48,7 +52,18 @@ pub fn answer<I: Input, O: Output, R: Threads + Wait + Sync>(
         Ok(Options::Record(numbers)) => record_engine(rt, alloc, numbers, input, output),
         Ok(Options::Replay) => replay_engine(alloc, input, output),
         Ok(Options::Run(numbers)) => run_engine(rt, alloc, numbers, input, output),
+        Ok(Options::States(numbers)) => states_engine(alloc, shown(numbers), input, output),
         Err(fault) => refuse(alloc, output, &fault),
+    }
+}
+
+// Returns what the options of `states` say of the part of a run that is shown.
+fn shown(numbers: StatesOptions) -> Shown
+    ensures { (result.from ≡ numbers.from) × (result.rows ≡ numbers.rows) }
+{
+    Shown {
+        from: numbers.from,
+        rows: numbers.rows,
     }
 }
 

@@ -1,6 +1,6 @@
-use Rattle.std.proofs.Common.{inl, subst, rules}
-use Rattle.pb_words.specs.declared.words.Options.TheVariants.{Check, Debug, Emit, Exec, Explain, Outcomes, Record}
-use Rattle.pb_words.specs.declared.words.Options.TheVariants.{Run}
+use Rattle.std.proofs.Common.{inl, inr, subst, rules}
+use Rattle.pb_words.specs.declared.words.Options.TheVariants.{Bank, Check, Debug, Emit, Exec, Explain, Outcomes, Record}
+use Rattle.pb_words.specs.declared.words.Options.TheVariants.{Run, States}
 use Rattle.pb_words.specs.Read.{WordsSay}
 use Rattle.pb_answer.proofs.AnswerLemmas.{CallTellsFaults-debug, CallWrites-refused}
 use Rattle.pb_answer.proofs.answer.answer.Goals as goal
@@ -61,3 +61,18 @@ returns-in-Ok-Draw-clause-text g c = search rules fits 100
 
 pub returns-in-Ok-Run-clause-faults : goal.returns-in-Ok-Run-clause-faults
 returns-in-Ok-Run-clause-faults g c = search rules fits 100
+
+pub returns-in-Ok-Bank-clause-text : goal.returns-in-Ok-Bank-clause-text
+returns-in-Ok-Bank-clause-text g c =
+    let read = subst (WordsSay c.args.words.now) c.in-Ok-Bank.field-0-is c.in-Ok-Bank.ensures.read in
+    inl (Bank, read, c.bank_engine.ensures.text)
+
+pub returns-in-Ok-Bank-clause-faults : goal.returns-in-Ok-Bank-clause-faults
+returns-in-Ok-Bank-clause-faults g c =
+    let read = subst (WordsSay c.args.words.now) c.in-Ok-Bank.field-0-is c.in-Ok-Bank.ensures.read in
+    inr (inr (read, c.bank_engine.ensures.faults, c.bank_engine.ensures.answered))
+
+pub returns-in-Ok-States-clause-text : goal.returns-in-Ok-States-clause-text
+returns-in-Ok-States-clause-text g c =
+    let read = subst (WordsSay c.args.words.now) c.in-Ok-States.field-0-is c.in-Ok-States.ensures.read in
+    inl (States c.in-Ok-States.numbers, read, c.states_engine.ensures.text)
