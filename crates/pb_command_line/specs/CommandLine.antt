@@ -58,22 +58,13 @@ explain_command = with_rule (new_app (codes "explain")) (new_rule (codes "CODE")
 unfoldable pub migrate_command : App
 migrate_command = new_app (codes "migrate")
 
--- what is told of the outcomes
-unfoldable pub with_search_rules : App → App
-with_search_rules a =
-    with_rule
-    (with_rule
-    (with_rule (with_rule (with_rule (with_rule a (flag_rule (codes "prints"))) (flag_rule (codes "expect"))) (flag_rule (codes "any-order")))
-    (flag_rule (codes "first-deadlock")))
-    (flag_rule (codes "graph")))
-    (number_rule (codes "run") 1 4000000)
-
 unfoldable pub outcomes_command : App
 outcomes_command =
-    with_search_rules
+    with_rule
     (with_rule
     (with_rule (new_app (codes "outcomes")) (number_rule_or (codes "states") 1 4000000 (codes "1000000")))
     (word_rule_or (codes "lend") (codes "banker")))
+    (flag_rule (codes "first-deadlock"))
 
 unfoldable pub record_command : App
 record_command =

@@ -7,7 +7,7 @@ ghost use Rattle.pb_command_line.specs.CommandLine.{explain_command, flag_rule, 
 ghost use Rattle.pb_command_line.specs.CommandLine.{outcomes_command, record_command, run_command, states_command, that_wants_command};
 ghost use Rattle.pb_command_line.specs.CommandLine.{word_rule_or, command_line as whole, with_bank_commands, with_code_commands, with_command};
 ghost use Rattle.pb_command_line.specs.CommandLine.{with_object_commands, with_other_commands, with_pick_commands};
-ghost use Rattle.pb_command_line.specs.CommandLine.{with_run_rules, with_search_rules, with_text_commands};
+ghost use Rattle.pb_command_line.specs.CommandLine.{with_run_rules, with_text_commands};
 
 use clap::builder::ValueParser;
 use clap::{Arg, ArgAction, Command};
@@ -117,23 +117,6 @@ fn with_flag<'a>(
     with_option(command, option.help(help))
 }
 
-// Adds an option with a number that need not be given, if the command was made.
-fn with_optional_number<'a>(
-    alloc: Global,
-    command: Result<Command<'a>, AllocError>,
-    name: &'a str,
-    least: u64,
-    most: u64,
-    help: &'a str,
-) -> Result<Command<'a>, AllocError>
-    ensures { (app : App) → IfOk command.entry (IsCommand app) → IfOk result
-        (IsCommand (with_rule app (number_rule name.entry.now least most))) }
-{
-    let command = command?;
-    let option = number_option(alloc, name, least, most);
-    with_option(command, option.help(help))
-}
-
 // Adds the option that says who decides on a request, if the command was made.
 fn with_lend<'a>(
     alloc: Global,
@@ -227,28 +210,9 @@ fn outcomes_of_text<'a>(alloc: Global) -> Result<Command<'a>, AllocError>
     let outcomes = plain(alloc, "outcomes", about);
     let states = "Give up after this many configurations, 1 to 4000000";
     let outcomes = with_number(alloc, outcomes, "states", 1, 4_000_000, "1000000", states);
-    with_search_options(alloc, with_lend(alloc, outcomes))
-}
-
-// Adds the options that say what is told of the outcomes, if the command was made.
-fn with_search_options<'a>(
-    alloc: Global,
-    command: Result<Command<'a>, AllocError>,
-) -> Result<Command<'a>, AllocError>
-    ensures { (app : App) → IfOk command.entry (IsCommand app) → IfOk result (IsCommand (with_search_rules app)) }
-{
-    let prints = "Tell outcomes apart by what is printed, and in which order";
-    let command = with_flag(alloc, command, "prints", prints);
-    let expect = "Compare what every outcome prints with the lines after a line %%";
-    let command = with_flag(alloc, command, "expect", expect);
-    let any_order = "With --expect: compare the prints of each process in any order";
-    let command = with_flag(alloc, command, "any-order", any_order);
-    let first = "End at the first deadlock";
-    let command = with_flag(alloc, command, "first-deadlock", first);
-    let graph = "Print the graph of all schedules, for a page";
-    let command = with_flag(alloc, command, "graph", graph);
-    let run = "Print the program with the picks that lead to this outcome";
-    with_optional_number(alloc, command, "run", 1, 4_000_000, run)
+    let outcomes = with_lend(alloc, outcomes);
+    let first = "End at the first deadlock that is found";
+    with_flag(alloc, outcomes, "first-deadlock", first)
 }
 
 fn states_of_run<'a>(alloc: Global) -> Result<Command<'a>, AllocError>

@@ -97,18 +97,8 @@ pub struct OutcomesOptions {
     pub states: u32,
     /// Who decides on a request.
     pub lend: Lend,
-    /// Whether an outcome has the prints of its run too, in the order in which they are made.
-    pub prints: bool,
-    /// Whether the input has the prints that are expected of every outcome, after a line `%%`.
-    pub expect: bool,
-    /// Whether the prints of each process are compared with those expected in any order.
-    pub any_order: bool,
     /// Whether the search ends at the first deadlock.
     pub first_deadlock: bool,
-    /// Whether the graph of all schedules is written, for a page, in the place of the outcomes.
-    pub graph: bool,
-    /// The outcome that is written as a text with its picks, if only one is to be written.
-    pub run: Option<u64>,
     pub ghost some_state: { 1 ≤ states },
     pub ghost states_fit: { states ≤ MAX_STATES },
 }

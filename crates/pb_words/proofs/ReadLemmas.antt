@@ -12,11 +12,11 @@ use Rattle.pb_command_line.specs.CommandLine.{command_line, with_text_commands, 
 use Rattle.pb_command_line.specs.CommandLine.{with_other_commands, with_pick_commands, check_command, claims_command}
 use Rattle.pb_command_line.specs.CommandLine.{debug_command, draw_command, emit_command, exec_command, explain_command}
 use Rattle.pb_command_line.specs.CommandLine.{migrate_command, outcomes_command, record_command, replay_command, run_command}
-use Rattle.pb_command_line.specs.CommandLine.{with_run_rules, with_search_rules, with_bank_commands, states_command, bank_command}
+use Rattle.pb_command_line.specs.CommandLine.{with_run_rules,, with_bank_commands, states_command, bank_command}
 use Rattle.clap.specs.declared.parser.matches.Found.{Found}
 use Rattle.clap.proofs.WalkLemmas.{one_text-rows}
 use Rattle.pb_words.specs.Read.{BlamesWords, HasCheckNumbers, HasCode, HasEmitNumber, HasFlag, HasNumber, HasNumberIn}
-use Rattle.pb_words.specs.Read.{HasLend, HasOptionalNumber, HasOptionalNumberIn, HasSearchOptions, HasStatesNumbers}
+use Rattle.pb_words.specs.Read.{HasLend, HasOptionalNumber, HasSearchOptions, HasStatesNumbers}
 use Rattle.pb_words.specs.Read.{HasRecordNumbers, HasRunNumbers}
 use Rattle.pb_words.specs.Read.{IsReadFrom, IsReadFromMatches}
 use Rattle.pb_words.specs.declared.words.Options.{Options}
@@ -405,12 +405,6 @@ no_check_numbers rows none given o says = go o.heap refl says
     go None is h = given h
     go (Some n) is h = none n (h, o.heap_suffices n is, o.heap_fits n is)
 
--- if a number is given and none is read, nothing is
-pub no_optional_number : (rows : List Row) (id : Text) (least most : ℕ) → ((n : ℕ) → HasNumberIn rows id least most n → ⊥)
-    → (one_of id rows ≡ None → ⊥) → (n : Option ℕ) → HasOptionalNumberIn rows id least most n → ⊥
-no_optional_number rows id least most none given None h = given h
-no_optional_number rows id least most none given (Some n) h = none n h
-
 -- if a seed is given and none is read, nothing is
 pub no_record_seed : (rows : List Row) → ((n : ℕ) → HasNumberIn rows (codes "seed") 0 18446744073709551615 n → ⊥)
     → (one_of (codes "seed") rows ≡ None → ⊥) → (o : RecordOptions) → HasRecordNumbers rows o → ⊥
@@ -445,14 +439,14 @@ clap_refused kinds e Memory is memory blames none = blames
 pub is_simple_command_line : is_simple command_line ≡ true
 unfolding command_line with_text_commands with_code_commands with_object_commands with_pick_commands check_command
     claims_command debug_command draw_command emit_command exec_command migrate_command outcomes_command
-    record_command replay_command run_command with_other_commands explain_command with_run_rules with_search_rules
+    record_command replay_command run_command with_other_commands explain_command with_run_rules
     with_bank_commands states_command bank_command clap_on_literals
 is_simple_command_line = refl
 
 pub is_free_command_line : is_simple_and_free command_line ≡ true
 unfolding command_line with_text_commands with_code_commands with_object_commands with_pick_commands check_command
     claims_command debug_command draw_command emit_command exec_command migrate_command outcomes_command
-    record_command replay_command run_command with_other_commands explain_command with_run_rules with_search_rules
+    record_command replay_command run_command with_other_commands explain_command with_run_rules
     with_bank_commands states_command bank_command clap_on_literals
 is_free_command_line = refl
 

@@ -40,11 +40,6 @@ abbrev pub HasOptionalNumber : List Row → Text → Option ℕ → Type 0
 HasOptionalNumber rows id (Some n) = HasNumber rows id n
 HasOptionalNumber rows id None = one_of id rows ≡ None
 
--- the same, within its range
-abbrev pub HasOptionalNumberIn : List Row → Text → ℕ → ℕ → Option ℕ → Type 0
-HasOptionalNumberIn rows id least most (Some n) = HasNumberIn rows id least most n
-HasOptionalNumberIn rows id least most None = one_of id rows ≡ None
-
 abbrev pub HasCheckNumbers : List Row → CheckOptions → Type 0
 HasCheckNumbers rows o = HasOptionalNumber rows (codes "heap") o.heap
 
@@ -74,15 +69,9 @@ HasCode rows code = one_of (codes "CODE") rows ≡ option_map code_name code
 abbrev pub HasLend : List Row → Lend → Type 0
 HasLend rows lend = one_of (codes "lend") rows ≡ Some (lend_word lend)
 
--- the flags of a search
-abbrev pub HasSearchFlags : List Row → OutcomesOptions → Type 0
-HasSearchFlags rows o = HasFlag rows (codes "prints") o.prints × HasFlag rows (codes "expect") o.expect
-    × HasFlag rows (codes "any-order") o.any_order × HasFlag rows (codes "first-deadlock") o.first_deadlock
-    × HasFlag rows (codes "graph") o.graph
-
 abbrev pub HasSearchOptions : List Row → OutcomesOptions → Type 0
-HasSearchOptions rows o = HasNumber rows (codes "states") o.states × HasLend rows o.lend × HasSearchFlags rows o
-    × HasOptionalNumberIn rows (codes "run") 1 4000000 o.run
+HasSearchOptions rows o = HasNumber rows (codes "states") o.states × HasLend rows o.lend
+    × HasFlag rows (codes "first-deadlock") o.first_deadlock
 
 abbrev pub HasStatesNumbers : List Row → StatesOptions → Type 0
 HasStatesNumbers rows o = HasNumber rows (codes "rows") o.rows × HasNumber rows (codes "from") o.from

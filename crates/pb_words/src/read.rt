@@ -2,7 +2,7 @@
 ghost use Rattle.std.specs.Prelude.{◌≡◌, ◌↔◌, IfErr, IfNone, IfOk, IfSome, IsTrue, None, Option, ℕ};
 ghost use Rattle.clap.specs.Words.{found_of, kind_of, one_of, rows_of, subcommand_rows_of};
 ghost use Rattle.pb_words.specs.Read.{BlamesWords, HasCheckNumbers, HasCode, HasDebugFlag, HasEmitNumber, HasFlag};
-ghost use Rattle.pb_words.specs.Read.{HasNumberIn, HasOptionalNumberIn, HasRecordNumbers, HasRunNumbers, HasLend, HasSearchOptions, HasStatesNumbers};
+ghost use Rattle.pb_words.specs.Read.{HasNumberIn, HasRecordNumbers, HasRunNumbers, HasLend, HasSearchOptions, HasStatesNumbers};
 ghost use Rattle.pb_words.specs.Read.{IsReadFromMatches, WordsSay};
 ghost use Rattle.pb_words.specs.declared.words.Options.{Options as AnyOptions};
 ghost use Rattle.pb_options.specs.declared.options.CheckOptions.{CheckOptions as AnyCheckOptions};
@@ -50,19 +50,6 @@ fn is_absent(matches: &ArgMatches<'_>, id: &str) -> bool
         Ok(Some(_)) => false,
         Err(_) => false,
     }
-}
-
-// Returns the number of an option that need not be given, or none if it was not; nothing is returned if it is
-// not from `least` to `most`.
-fn optional_number(matches: &ArgMatches<'_>, id: &str, least: u64, most: u64) -> Option<Option<u64>>
-    ensures some { IfSome result (HasOptionalNumberIn (rows_of (found_of matches.now)) id.now least most) }
-    ensures none { IfNone result ((n : Option ℕ) → HasOptionalNumberIn (rows_of (found_of matches.now)) id.now least most n → ⊥) }
-{
-    if is_absent(matches, id) {
-        return Some(None);
-    }
-    let given = number(matches, id, least, most)?;
-    Some(Some(given))
 }
 
 fn check_options(matches: &ArgMatches<'_>) -> Option<CheckOptions>
@@ -133,16 +120,10 @@ fn outcomes_options(matches: &ArgMatches<'_>) -> Option<OutcomesOptions>
 {
     let states = number(matches, "states", 1, 4_000_000)?;
     let lend = lend(matches)?;
-    let run = optional_number(matches, "run", 1, 4_000_000)?;
     Some(OutcomesOptions {
         states: states as u32,
         lend,
-        prints: flag(matches, "prints"),
-        expect: flag(matches, "expect"),
-        any_order: flag(matches, "any-order"),
         first_deadlock: flag(matches, "first-deadlock"),
-        graph: flag(matches, "graph"),
-        run,
     })
 }
 

@@ -10,9 +10,5 @@ pub returns-in_err-lend-clause-none : goal.returns-in_err-lend-clause-none
 returns-in_err-lend-clause-none c =
     IfNone-of c.from_residual-in_err-lend.result (λ o h. c.in_err-lend.ensures.none o.lend h.1)
 
-pub returns-in_err-run-clause-none : goal.returns-in_err-run-clause-none
-returns-in_err-run-clause-none c =
-    IfNone-of c.from_residual-in_err-run.result (λ o h. c.in_err-run.ensures.none o.run h.3)
-
 pub returns-clause-some : goal.returns-clause-some
 returns-clause-some c = search rules fits 100
