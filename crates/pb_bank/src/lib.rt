@@ -11,6 +11,7 @@ pub mod request;
 mod texts;
 mod words;
 
+pub use answer::MAX_COMMAND;
 pub use desk::Desk;
 pub use kind::Kind;
 pub use refusal::Refusal;

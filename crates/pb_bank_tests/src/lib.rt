@@ -1,6 +1,8 @@
 //! The table of five processes that textbooks have, as a bank of jobs that come and go.
 #![tactic(auto)]
 
+mod sessions;
+
 ghost use Rattle.std.specs.Prelude.{◌<◌, All};
 
 use pb_banker::{Answer, Bank, Joined, Reason};

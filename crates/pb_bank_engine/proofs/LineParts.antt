@@ -1,0 +1,351 @@
+-- Lines that come in parts.
+use Rattle.std.proofs.Common.{◌≡◌, inl, inr, ℕ, suc, ◌+◌, ◌-◌, ◌<◌, ◌≤◌, ◌++◌, eqb, Bool, true, false, cond, List, []}
+use Rattle.std.proofs.Common.{◌∷◌, length, take, drop, get_or, Option, Some, None, refl, sym, ap, ◌∙◌, subst, arith}
+use Rattle.std.proofs.Common.{append_assoc, append-nil, length-append, ◌≢◌}
+use Rattle.std.proofs.Common.{Result, Ok, Err}
+use Rattle.std.specs.Prelude.{IfSome, IfErr, OnOk, OnErr}
+use Rattle.std.proofs.lemmas.Bool.{cases_lt, lt-ltb}
+use Rattle.std.proofs.lemmas.List.{take_all, take-append-le, length-take-le, take-append-drop, length-drop}
+use Rattle.std.proofs.Math.Seq.{drop-cons, take-add}
+use Rattle.pb_base.specs.Device.{appended, dropped, AddsPrefix, GivesNext}
+use Rattle.pb_bank.specs.Answers.{AnswersLine}
+use Rattle.pb_bank.specs.Desks.{DeskValue}
+use Rattle.pb_debug_commands.specs.Lines.{SplitLines, one_line_more, cut, last_line, lines_of}
+use Rattle.pb_bank_engine.specs.Sessions.{Session, nothing, one_more, session_bytes, SaysAll, SaysSome, IsTold, kept}
+use Rattle.pb_bank_engine.specs.Sessions.{StopsAt, WritesBefore, Fed, FedSome, IsToldInPart}
+use Rattle.pb_bank_engine.specs.declared.session.Stop.{Stop}
+use Rattle.pb_bank_engine.specs.declared.session.Stop.TheVariants.{Memory, Device}
+use Rattle.pb_debug_commands.proofs.Cutting.{cut-append, first_lines, cut_end, cut_byte}
+use Rattle.pb_bank_engine.proofs.Kept.{kept_again, kept_answers, kept_nothing}
+use Rattle.pb_base.proofs.DeviceLemmas.{appended-appended, next-bytes}
+
+-- ---- outputs
+
+pub appended_none : (old : Option (List ℕ)) → appended old [] ≡ old
+appended_none None = refl
+appended_none (Some held) = ap Some (append-nil held)
+
+pub prefix_more : (old mid new : Option (List ℕ)) (a b : List ℕ) → mid ≡ appended old a → AddsPrefix mid new b → AddsPrefix old new (a ++ b)
+prefix_more old mid new a b e (done, left, parts, written) = (
+  a ++ done,
+  left,
+  ap (λ (t : List ℕ). a ++ t) parts ∙ sym (append_assoc a done left),
+  written ∙ (ap (λ o. appended o done) e ∙ appended-appended old a done),
+)
+
+pub whole_prefix : (old new : Option (List ℕ)) (a : List ℕ) → new ≡ appended old a → AddsPrefix old new a
+whole_prefix old new a e = (a, [], sym (append-nil a), e)
+
+-- what is left of a text behind what is written
+pub leaves_more : (stop : Stop) (old mid new : Option (List ℕ)) (a b : List ℕ) → mid ≡ appended old a → WritesBefore
+    stop mid new b → WritesBefore stop old new (a ++ b)
+leaves_more Memory old mid new a b e h = h ∙ (ap (λ o. appended o b) e ∙ appended-appended old a b)
+leaves_more Device old mid new a b e h = prefix_more old mid new a b e h
+
+some_is : (page text : List ℕ) → Some page ≡ appended (Some []) text → page ≡ text
+some_is page text e = cc
+
+-- ---- sessions
+
+pub sessions : (d m n : DeskValue) (l1 l2 : List (List ℕ)) (t1 t2 : List ℕ) → Session d l1 t1 m → Session m l2 t2 n
+    → Session d (l1 ++ l2) (t1 ++ t2) n
+sessions d m n l1 l2 t1 t2 first nothing =
+    subst (λ (t : List ℕ). Session d (l1 ++ []) t m) (sym (append-nil t1))
+    (subst (λ (ls : List (List ℕ)). Session d ls t1 m) (sym (append-nil l1)) first)
+sessions d m n l1 l2 t1 t2 first (one_more lines text mid line said next before answers) =
+    subst (λ (t : List ℕ). Session d (l1 ++ (lines ++ line ∷ [])) t next) (append_assoc t1 text said)
+    (subst (λ (ls : List (List ℕ)). Session d ls ((t1 ++ text) ++ said) next) (append_assoc l1 lines (line ∷ []))
+    (one_more (l1 ++ lines) (t1 ++ text) mid line said next (sessions d m mid l1 lines t1 text first before) answers))
+
+pub fed_nothing : (d : DeskValue) (part line : List ℕ) (old : Option (List ℕ)) → line ≡ kept part → Fed d part [] old old line d
+fed_nothing d part line old e = record { text = []; session = nothing; written = sym (appended_none old); last = e }
+
+module _ (d m next : DeskValue) (part xs : List ℕ) (old mid new : Option (List ℕ)) (line : List ℕ) (fed : Fed d part xs old mid line m) where
+  -- a line feed: the line is answered
+  pub fed_line : IsTold m line mid new next → Fed d part (xs ++ 10 ∷ []) old new [] next
+  fed_line (said, answers, written) =
+      let c = cut part xs in
+      let says = kept_answers m c.rest said next (subst (λ (l : List ℕ). AnswersLine m l said next) fed.last answers) in
+      record {
+        text = fed.text ++ said;
+        session =
+            subst (λ (k : SplitLines). Session d k.lines (fed.text ++ said) next) (sym (cut_end part xs))
+            (one_more c.lines fed.text m c.rest said next fed.session says);
+        written = written ∙ (ap (λ o. appended o said) fed.written ∙ appended-appended old fed.text said);
+        last = ap (λ (k : SplitLines). kept k.rest) (sym (cut_end part xs));
+      }
+
+  -- any other byte is kept
+  pub fed_byte : (b : ℕ) (line' : List ℕ) → eqb b 10 ≡ false → line' ≡ kept (line ++ b ∷ []) → Fed d part (xs ++ b ∷ []) old mid line' m
+  fed_byte b line' other e =
+      let c = cut part xs in
+      record {
+        text = fed.text;
+        session = subst (λ (k : SplitLines). Session d k.lines fed.text m) (sym (cut_byte part xs b other)) fed.session;
+        written = fed.written;
+        last =
+            e ∙ (ap (λ (l : List ℕ). kept (l ++ b ∷ [])) fed.last
+            ∙ (kept_again c.rest b ∙ ap (λ (k : SplitLines). kept k.rest) (sym (cut_byte part xs b other))));
+      }
+
+  -- what was fed are some first lines of more
+  pub fed_some : (stop : Stop) (ys : List ℕ) → WritesBefore stop old mid fed.text → FedSome stop d part (xs ++ ys) old mid
+  fed_some stop ys leaves = record {
+    lines = (cut part xs).lines;
+    later = (cut (cut part xs).rest ys).lines;
+    text = fed.text;
+    end = m;
+    of = first_lines part xs ys;
+    session = fed.session;
+    written = leaves;
+  }
+
+  -- a read failed behind them
+  pub fed_broken : (ys : List ℕ) → FedSome Device d part (xs ++ ys) old mid
+  fed_broken ys = fed_some Device ys (whole_prefix old mid fed.text fed.written)
+
+  -- it is out of memory at a line feed
+  pub fed_stop : (ys : List ℕ) → new ≡ mid → FedSome Memory d part (xs ++ ys) old new
+  fed_stop ys same = subst (λ o. FedSome Memory d part (xs ++ ys) old o) (sym same) (fed_some Memory ys fed.written)
+
+  -- more bytes
+  pub fed_fed : (ys line' : List ℕ) → Fed m (cut part xs).rest ys mid new line' next → Fed d part (xs ++ ys) old new line' next
+  fed_fed ys line' more = record {
+    text = fed.text ++ more.text;
+    session =
+        subst (λ (ls : List (List ℕ)). Session d ls (fed.text ++ more.text) next) (sym (first_lines part xs ys))
+        (sessions d m next _ _ fed.text more.text fed.session more.session);
+    written = more.written ∙ (ap (λ o. appended o more.text) fed.written ∙ appended-appended old fed.text more.text);
+    last = more.last ∙ ap (λ (k : SplitLines). kept k.rest) (sym (cut-append part xs ys));
+  }
+
+  pub fed_then_some : (stop : Stop) (ys : List ℕ) → FedSome stop m (cut part xs).rest ys mid new → FedSome stop d part (xs ++ ys) old new
+  fed_then_some stop ys more = record {
+    lines = (cut part xs).lines ++ more.lines;
+    later = more.later;
+    text = fed.text ++ more.text;
+    end = more.end;
+    of =
+        first_lines part xs ys
+        ∙ (ap (λ (ls : List (List ℕ)). (cut part xs).lines ++ ls) more.of
+        ∙ sym (append_assoc (cut part xs).lines more.lines more.later));
+    session = sessions d m more.end _ _ fed.text more.text fed.session more.session;
+    written = leaves_more stop old mid new fed.text more.text fed.written more.written;
+  }
+
+-- some first lines of these bytes are some of more
+pub some_of_more : (stop : Stop) (d : DeskValue) (part xs ys : List ℕ) (old new : Option (List ℕ)) → FedSome stop d part xs old new
+    → FedSome stop d part (xs ++ ys) old new
+some_of_more stop d part xs ys old new some =
+    let more = (cut (cut part xs).rest ys).lines in
+    record {
+      lines = some.lines;
+      later = some.later ++ more;
+      text = some.text;
+      end = some.end;
+      of =
+          first_lines part xs ys
+          ∙ (ap (λ (ls : List (List ℕ)). ls ++ more) some.of ∙ append_assoc some.lines some.later more);
+      session = some.session;
+      written = some.written;
+    }
+
+-- ---- a page that is written
+
+-- what is on the page is written
+pub page_fed : (d : DeskValue) (part bytes page : List ℕ) (old new : Option (List ℕ)) (line : List ℕ) (next : DeskValue)
+    → Fed d part bytes (Some []) (Some page) line next → new ≡ appended old page → Fed d part bytes old new line next
+page_fed d part bytes page old new line next fed written = record {
+  text = fed.text;
+  session = fed.session;
+  written = written ∙ ap (λ (t : List ℕ). appended old t) (some_is page fed.text fed.written);
+  last = fed.last;
+}
+
+pub page_some : (d : DeskValue) (part bytes page : List ℕ) (old new : Option (List ℕ))
+    → FedSome Memory d part bytes (Some []) (Some page) → new ≡ appended old page → FedSome Memory d part bytes old new
+page_some d part bytes page old new some written = record {
+  lines = some.lines;
+  later = some.later;
+  text = some.text;
+  end = some.end;
+  of = some.of;
+  session = some.session;
+  written = written ∙ ap (λ (t : List ℕ). appended old t) (some_is page some.text some.written);
+}
+
+-- the page is not written whole
+pub page_broken : (d : DeskValue) (part bytes page : List ℕ) (old new : Option (List ℕ)) (line : List ℕ) (next : DeskValue)
+    → Fed d part bytes (Some []) (Some page) line next → AddsPrefix old new page → FedSome Device d part bytes old new
+page_broken d part bytes page old new line next fed written = record {
+  lines = (cut part bytes).lines;
+  later = [];
+  text = fed.text;
+  end = next;
+  of = sym (append-nil (cut part bytes).lines);
+  session = fed.session;
+  written = subst (λ (t : List ℕ). AddsPrefix old new t) (some_is page fed.text fed.written) written;
+}
+
+pub page_some_broken : (d : DeskValue) (part bytes page : List ℕ) (old new : Option (List ℕ))
+    → FedSome Memory d part bytes (Some []) (Some page) → AddsPrefix old new page → FedSome Device d part bytes old new
+page_some_broken d part bytes page old new some written = record {
+  lines = some.lines;
+  later = some.later;
+  text = some.text;
+  end = some.end;
+  of = some.of;
+  session = some.session;
+  written = subst (λ (t : List ℕ). AddsPrefix old new t) (some_is page some.text some.written) written;
+}
+
+-- the page was empty
+pub page_from : (d : DeskValue) (part bytes start : List ℕ) (new : Option (List ℕ)) (line : List ℕ) (next : DeskValue) → start ≡ []
+    → Fed d part bytes (Some start) new line next → Fed d part bytes (Some []) new line next
+page_from d part bytes start new line next empty fed = subst (λ (t : List ℕ). Fed d part bytes (Some t) new line next) empty fed
+
+pub page_some_from : (d : DeskValue) (part bytes start : List ℕ) (new : Option (List ℕ)) → start ≡ []
+    → FedSome Memory d part bytes (Some start) new → FedSome Memory d part bytes (Some []) new
+page_some_from d part bytes start new empty some = subst (λ (t : List ℕ). FedSome Memory d part bytes (Some t) new) empty some
+
+pub either : {A E : Type 0} (r : Result A E) (P Q X : Type 0) → OnOk r P → OnErr r Q → (P → X) → (Q → X) → X
+either (Ok x) P Q X p q f h = f p
+either (Err e) P Q X p q f h = h q
+
+-- ---- all lines of an input
+
+pub says_some : (stop : Stop) (d : DeskValue) (bytes : List ℕ) (old new : Option (List ℕ)) → FedSome stop d [] (session_bytes bytes) old new
+    → SaysSome stop d bytes old new
+says_some stop d bytes old new some =
+    let last = last_line (cut [] (session_bytes bytes)).rest in
+    record {
+      lines = some.lines;
+      later = some.later ++ last;
+      text = some.text;
+      end = some.end;
+      of = ap (λ (ls : List (List ℕ)). ls ++ last) some.of ∙ append_assoc some.lines some.later last;
+      session = some.session;
+      written = some.written;
+    }
+
+module _ (d m : DeskValue) (bytes : List ℕ) (old mid : Option (List ℕ)) (line : List ℕ) (fed : Fed d [] (session_bytes bytes) old mid line m) where
+  abbrev whole : SplitLines
+  whole = cut [] (session_bytes bytes)
+
+  -- nothing is left behind the last line feed
+  pub says_all : length line ≡ 0 → SaysAll d bytes old mid m
+  says_all empty =
+      let none : whole.rest ≡ [] = kept_nothing whole.rest (sym (ap length fed.last) ∙ empty) in
+      let lines : whole.lines ≡ lines_of (session_bytes bytes) =
+      sym (append-nil whole.lines) ∙ ap (λ (r : List ℕ). whole.lines ++ last_line r) (sym none) in
+      record {
+        text = fed.text;
+        session = subst (λ (ls : List (List ℕ)). Session d ls fed.text m) lines fed.session;
+        written = fed.written;
+      }
+
+  last_is : (r : List ℕ) → 0 < length r → last_line r ≡ r ∷ []
+  last_is [] some = absurd (omega arith)
+  last_is (b ∷ bs) some = refl
+
+  some_left : 0 < length line → 0 < length whole.rest
+  some_left some = elim (cases_lt 0 (length whole.rest)) [
+    | inl lt ↦ lt
+    | inr le ↦ (
+        let short : kept whole.rest ≡ whole.rest = take_all 4097 whole.rest (omega (arith, le)) in
+        let size : length line ≡ length whole.rest = ap length (fed.last ∙ short) in
+        omega (arith, size, some, le))
+  ]
+
+  -- the last line has no line feed
+  pub says_last : (next : DeskValue) (new : Option (List ℕ)) → 0 < length line → IsTold m line mid new next → SaysAll d bytes old new next
+  says_last next new some (said, answers, written) =
+      let says = kept_answers m whole.rest said next (subst (λ (l : List ℕ). AnswersLine m l said next) fed.last answers) in
+      let lines : whole.lines ++ whole.rest ∷ [] ≡ lines_of (session_bytes bytes) =
+      ap (λ (ls : List (List ℕ)). whole.lines ++ ls) (sym (last_is whole.rest (some_left some))) in
+      record {
+        text = fed.text ++ said;
+        session =
+            subst (λ (ls : List (List ℕ)). Session d ls (fed.text ++ said) next) lines
+            (one_more whole.lines fed.text m whole.rest said next fed.session says);
+        written = written ∙ (ap (λ o. appended o said) fed.written ∙ appended-appended old fed.text said);
+      }
+
+  -- it stops there
+  pub says_stop : (new : Option (List ℕ)) (stop : Stop) → 0 < length line → StopsAt stop m line mid new → SaysSome stop d bytes old new
+  says_stop new Memory some none =
+      let here : SaysSome Memory d bytes old mid = record {
+        lines = whole.lines;
+        later = last_line whole.rest;
+        text = fed.text;
+        end = m;
+        of = refl;
+        session = fed.session;
+        written = fed.written;
+      } in
+      subst (λ o. SaysSome Memory d bytes old o) (sym none) here
+  says_stop new Device some (next, (said, answers, written)) =
+      let says = kept_answers m whole.rest said next (subst (λ (l : List ℕ). AnswersLine m l said next) fed.last answers) in
+      let lines : lines_of (session_bytes bytes) ≡ (whole.lines ++ whole.rest ∷ []) ++ [] =
+      ap (λ (ls : List (List ℕ)). whole.lines ++ ls) (last_is whole.rest (some_left some)) ∙ sym (append-nil (whole.lines ++ whole.rest ∷ [])) in
+      record {
+        lines = whole.lines ++ whole.rest ∷ [];
+        later = [];
+        text = fed.text ++ said;
+        end = next;
+        of = lines;
+        session = one_more whole.lines fed.text m whole.rest said next fed.session says;
+        written = prefix_more old mid new fed.text said fed.written written;
+      }
+
+pub fed_as : (d : DeskValue) (part : List ℕ) (old : Option (List ℕ)) (next next' : DeskValue) (xs xs' : List ℕ) (new
+    new' : Option (List ℕ)) (line line' : List ℕ)
+    → Fed d part xs old new line next → xs ≡ xs' → new ≡ new' → line ≡ line' → next ≡ next' → Fed d part xs' old new' line' next'
+fed_as d part old next next' xs xs' new new' line line' fed a b c e =
+    subst (λ n. Fed d part xs' old new' line' n) e (subst (λ l. Fed d part xs' old new' l next) c
+    (subst (λ o. Fed d part xs' old o line next) b (subst (λ x. Fed d part x old new line next) a fed)))
+
+-- bytes, parted at one of them
+pub split_at : (bytes : List ℕ) (i b : ℕ) → i < length bytes → get_or bytes i 0 ≡ b → take i bytes ++ b ∷ drop (i + 1) bytes ≡ bytes
+split_at bytes i b lt e =
+    let n : i + 1 ≡ suc i = omega arith in
+    ap (λ c. take i bytes ++ c ∷ drop (i + 1) bytes) (sym e)
+    ∙ (ap (λ k. take i bytes ++ get_or bytes i 0 ∷ drop k bytes) n
+    ∙ (ap (λ (xs : List ℕ). take i bytes ++ xs) (sym (drop-cons bytes i 0 lt)) ∙ take-append-drop i bytes))
+
+-- ---- reading
+
+pub if_known : (o : Option (List ℕ)) (P : List ℕ → Type 0) → ((bytes : List ℕ) → o ≡ Some bytes → P bytes) → IfSome o P
+if_known None P h = tt
+if_known (Some bytes) P h = h bytes refl
+
+-- what was read follows on what was read before
+pub bytes_read : (bytes buf after : List ℕ) (k n : ℕ) (rest : Option (List ℕ)) → rest ≡ Some (drop k bytes) → GivesNext rest buf n → n ≤ length buf
+    → take k bytes ++ take n (buf ++ after) ≡ take (k + n) bytes
+bytes_read bytes buf after k n rest e given le =
+    let same : take n (drop k bytes) ≡ take n buf = subst (λ o. GivesNext o buf n) e given in
+    ap (λ (xs : List ℕ). take k bytes ++ xs) (take-append-le n buf after le ∙ sym same) ∙ sym (take-add k n bytes)
+
+-- the bytes of a session begin with those that were read
+pub session_more : (bytes : List ℕ) (k : ℕ) → k ≤ 18446744073709551615 → (ys : List ℕ) × (take k bytes ++ ys ≡ session_bytes bytes)
+session_more bytes k le =
+    let whole : k + (18446744073709551615 - k) ≡ 18446744073709551615 = omega arith in
+    (take (18446744073709551615 - k) (drop k bytes), sym (take-add k (18446744073709551615 - k) bytes) ∙ ap (λ n. take n bytes) whole)
+
+-- if nothing is left, all was read
+pub bytes_end : (bytes : List ℕ) (k : ℕ) → drop k bytes ≡ [] → k ≤ 18446744073709551615 → take k bytes ≡ session_bytes bytes
+bytes_end bytes k none le =
+    let size = length-drop k bytes in
+    let zero' : length (drop k bytes) ≡ 0 = ap (λ (xs : List ℕ). length xs) none in
+    let short : length bytes ≤ k = omega (arith, size, zero') in
+    take_all k bytes short ∙ sym (take_all 18446744073709551615 bytes (omega (arith, short, le)))
+
+-- ---- results
+
+pub on_ok : {A E : Type 0} (r : Result A E) (P Q : Type 0) → OnOk r P → (P → Q) → OnOk r Q
+on_ok (Ok x) P Q h f = f h
+on_ok (Err e) P Q h f = h
+
+pub if_err : {A E : Type 0} (r : Result A E) (P Q : E → Type 0) → IfErr r P → ((e : E) → P e → Q e) → IfErr r Q
+if_err (Ok x) P Q h f = tt
+if_err (Err e) P Q h f = f e h

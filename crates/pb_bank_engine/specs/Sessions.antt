@@ -1,0 +1,131 @@
+-- Sessions of the command `bank`: the lines of an input, and what is answered to them in turn.
+use Rattle.std.specs.Prelude.{◌≡◌, ◌≢◌, ◌⊎◌, ℕ, List, [], ◌∷◌, ◌++◌, take, Option, Some}
+use Rattle.pb_base.specs.Device.{appended, one_more_failure, AddsPrefix}
+use Rattle.pb_bank.specs.Answers.{AnswersLine}
+use Rattle.pb_bank.specs.Desks.{DeskValue, IsFirstDesk}
+use Rattle.pb_bank_engine.specs.declared.session.Stop.{Stop}
+use Rattle.pb_bank_engine.specs.declared.session.Stop.TheVariants.{Memory, Device}
+use Rattle.pb_command_io.specs.Answers.{memory_line}
+use Rattle.pb_command_io.specs.Faults.{Devices, NoneFailed, WriteFailed}
+use Rattle.pb_command_io.specs.declared.status.Status.{Status}
+use Rattle.pb_command_io.specs.declared.status.Status.TheVariants as status
+use Rattle.pb_debug_commands.specs.Lines.{cut, lines_of}
+
+-- as much of a line as is kept: one byte more than a command may have
+abbrev pub kept : List ℕ → List ℕ
+kept line = take 4097 line
+
+-- the lines are answered in turn by this text, and lead from one desk to another
+pub data Session (d : DeskValue) : List (List ℕ) → List ℕ → DeskValue → Type 0 where
+  nothing : Session d [] [] d
+  one_more : (lines : List (List ℕ)) (text : List ℕ) (mid : DeskValue) (line said : List ℕ) (next : DeskValue)
+      → Session d lines text mid → AnswersLine mid line said next → Session d (lines ++ line ∷ []) (text ++ said) next
+
+-- the bytes that a session takes from an input: all, or as many as there can be
+abbrev pub session_bytes : List ℕ → List ℕ
+session_bytes bytes = take 18446744073709551615 bytes
+
+-- ---- what is said
+
+-- what a session writes: the answer to each line; if it is out of memory, the answers to the first lines and
+-- then `memory`; if a device fails, the answers to the first lines
+pub data SaysOfBank (bytes : List ℕ) : List ℕ → Status → Type 0 where
+  answered : (start : DeskValue) → IsFirstDesk start → (text : List ℕ) (end : DeskValue)
+      → Session start (lines_of (session_bytes bytes)) text end → SaysOfBank bytes text status.Done
+  out_of_memory : (start : DeskValue) → IsFirstDesk start → (lines later : List (List ℕ)) → lines_of (session_bytes bytes) ≡ lines ++ later
+      → (text : List ℕ) (end : DeskValue) → Session start lines text end → SaysOfBank bytes (text ++ memory_line) status.Memory
+  no_memory : SaysOfBank bytes memory_line status.Memory
+  broken_off : (start : DeskValue) → IsFirstDesk start → (lines later : List (List ℕ)) → lines_of (session_bytes bytes) ≡ lines ++ later
+      → (text : List ℕ) (end : DeskValue) → Session start lines text end → SaysOfBank bytes text status.Device
+
+-- the text consists of the answers to the complete lines of these bytes, in order
+abbrev pub AnswersLines : (read text : List ℕ) → Type 0
+AnswersLines read text =
+    (start : DeskValue) × (end : DeskValue) × IsFirstDesk start × Session start (cut [] read).lines text end
+
+-- the first of the bytes are read, and the others are still to come
+abbrev pub IsReadTo : (bytes read : List ℕ) (left : Option (List ℕ)) → Type 0
+IsReadTo bytes read left = (rest : List ℕ) × (bytes ≡ read ++ rest) × (left ≡ Some rest)
+
+-- a read failed: what is written is the text that follows from the bytes read before it, all of it and no
+-- more
+abbrev pub SaysBefore : (Follows : List ℕ → List ℕ → Type 0) → (bytes : List ℕ) → (left old new : Option (List ℕ)) → Type 0
+SaysBefore Follows bytes left old new =
+    (read : List ℕ) × (text : List ℕ) × IsReadTo bytes read left × Follows read text × (new ≡ appended old text)
+
+-- ---- faults
+
+-- a read failed, and no write; something may be written
+abbrev pub OneReadFailed : Devices → Devices → Type 0
+OneReadFailed old new = (new.reads ≡ one_more_failure old.reads) × (new.writes ≡ old.writes)
+
+-- a device that fails is told: the status is Device exactly if one read or one write failed
+abbrev pub TellsAnyFault : Devices → Devices → Status → Type 0
+TellsAnyFault old new given =
+    (given ≢ status.Device → NoneFailed old new) × (given ≡ status.Device → OneReadFailed old new ⊎ WriteFailed old new)
+
+-- how many writes have failed, before and after a session ended early
+abbrev pub CountsWrites : Stop → ℕ → ℕ → Type 0
+CountsWrites Memory before after = after ≡ before
+CountsWrites Device before after = after ≡ one_more_failure before
+
+-- how many reads and writes have failed: one more of them, or none if out of memory
+abbrev pub CountsBoth : Stop → (reads reads' writes writes' : ℕ) → Type 0
+CountsBoth Memory reads reads' writes writes' = (reads' ≡ reads) × (writes' ≡ writes)
+CountsBoth Device reads reads' writes writes' =
+    ((reads' ≡ one_more_failure reads) × (writes' ≡ writes)) ⊎ ((reads' ≡ reads) × (writes' ≡ one_more_failure writes))
+
+-- ---- parts of a session
+
+-- how much of its text is written if a session ends early: all if out of memory, a first part if a device
+-- failed
+abbrev pub WritesBefore : Stop → Option (List ℕ) → Option (List ℕ) → List ℕ → Type 0
+WritesBefore Memory old new text = new ≡ appended old text
+WritesBefore Device old new text = AddsPrefix old new text
+
+-- all lines are answered and the answers are written
+pub record SaysAll (d : DeskValue) (bytes : List ℕ) (old new : Option (List ℕ)) (end : DeskValue) : Type 0 where
+  pub text : List ℕ
+  pub session : Session d (lines_of (session_bytes bytes)) text end
+  pub written : new ≡ appended old text
+
+-- the answers to the first lines are written, all or a first part of them
+pub record SaysSome (stop : Stop) (d : DeskValue) (bytes : List ℕ) (old new : Option (List ℕ)) : Type 0 where
+  pub lines : List (List ℕ)
+  pub later : List (List ℕ)
+  pub text : List ℕ
+  pub end : DeskValue
+  pub of : lines_of (session_bytes bytes) ≡ lines ++ later
+  pub session : Session d lines text end
+  pub written : WritesBefore stop old new text
+
+-- a line is answered and the answer is written
+abbrev pub IsTold : DeskValue → List ℕ → Option (List ℕ) → Option (List ℕ) → DeskValue → Type 0
+IsTold d line old new next = (said : List ℕ) × AnswersLine d line said next × (new ≡ appended old said)
+
+-- a line is answered, and some first part of the answer is written
+abbrev pub IsToldInPart : DeskValue → List ℕ → Option (List ℕ) → Option (List ℕ) → DeskValue → Type 0
+IsToldInPart d line old new next = (said : List ℕ) × AnswersLine d line said next × AddsPrefix old new said
+
+-- why the last answer was not written, or not whole
+abbrev pub StopsAt : Stop → DeskValue → List ℕ → Option (List ℕ) → Option (List ℕ) → Type 0
+StopsAt Memory d line old new = new ≡ old
+StopsAt Device d line old new = (next : DeskValue) × IsToldInPart d line old new next
+
+-- after the first part of a line come some bytes: the lines that end in them are answered, and the first
+-- bytes of the last one are kept
+pub record Fed (d : DeskValue) (part bytes : List ℕ) (old new : Option (List ℕ)) (line : List ℕ) (next : DeskValue) : Type 0 where
+  pub text : List ℕ
+  pub session : Session d (cut part bytes).lines text next
+  pub written : new ≡ appended old text
+  pub last : line ≡ kept (cut part bytes).rest
+
+-- the answers to the first lines that end in the bytes are written, all or a first part of them
+pub record FedSome (stop : Stop) (d : DeskValue) (part bytes : List ℕ) (old new : Option (List ℕ)) : Type 0 where
+  pub lines : List (List ℕ)
+  pub later : List (List ℕ)
+  pub text : List ℕ
+  pub end : DeskValue
+  pub of : (cut part bytes).lines ≡ lines ++ later
+  pub session : Session d lines text end
+  pub written : WritesBefore stop old new text

@@ -1,0 +1,8 @@
+//! The command `bank`, over any input and output.
+#![tactic(auto)]
+
+pub mod bank;
+mod line;
+mod session;
+
+pub use bank::bank_engine;

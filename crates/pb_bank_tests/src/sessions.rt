@@ -1,0 +1,63 @@
+//! Sessions of the command `bank`, and what is said in them.
+
+use pb_bank_engine::bank_engine;
+use pb_base::device::{MemoryInput, MemoryOutput};
+use pb_command_io::Status;
+use std::alloc::Global;
+
+/// Commands, and what is said of them.
+struct Case {
+    commands: &'static [u8],
+    said: &'static [u8],
+}
+
+const CASES: [Case; 4] = [
+    // The textbook's table, and its three requests.
+    Case {
+        commands: b"# five processes\nresource A 10\nresource B 5\nresource C 7\njob P0 7 A, 5 B, 3 C\njob P1 3 A,2 B , 2 C\njob P2 9 A, 0 B, 2 C\njob P3 2 A, 2 B, 2 C\njob P4 4 A, 3 B, 3 C\nhold P0 1 B\nhold P1 2 A\nhold P2 3 A, 2 C\nhold P3 2 A, 1 B, 1 C\nhold P4 2 C\n\nask P1 1 A, 0 B, 2 C\nask P4 3 A, 3 B, 0 C\nask P0 0 A, 2 B, 0 C\nwhy P0 2 B",
+        said: b"ready\nready\nready\nready\nready\nready\nready\nready\nheld\nready\nheld\nready\nheld\nready\nheld\nready\nheld\nready\ngranted\nready\nwait cash A 2\nready\nwait rest P0 P1 P2 P3 P4\nready\nwait rest P0 P1 P2 P3 P4\nready\n",
+    },
+    // What comes back can be lent again, and a name that is free can be taken again.
+    Case {
+        commands: b"resource tape 3\njob a 3 tape\njob b 2 tape\nask a 2 tape\nask b 2 tape\ngive a 1 tape\nask b 2 tape\ngive a 2 tape\nask a 4 tape\nleave a\nask b 2 tape\njob a 1 tape\nstate\n",
+        said: b"ready\nready\nready\ngranted\nready\nwait cash tape 1\nready\nready\ngranted\nready\nrefused B11 the job does not hold as much\nready\nover claim tape\nready\nready\nover claim tape\nready\nready\nresource tape capital 3 cash 1\njob a tape claim 1 holds 0 needs 1\njob b tape claim 2 holds 2 needs 0\nready\n",
+    },
+    // Refusals.
+    Case {
+        commands: b"lend\nresource r 1000001\nresource r/s 1\nresource r 2\nresource r 2\njob p 3 r\njob p 1 r, 1 r\njob p 1 s\njob p 2 r\njob p 2 r\nresource s 1\nask q 1 r\nask p one r\nask p 1\nask p 1 r 1 r\nleave p p\nstate now\nleave q\n",
+        said: b"refused B1 not a command\nready\nrefused B2 an amount is not in 0..=1000000\nready\nrefused B3 not a name of 1 to 32 bytes\nready\nready\nrefused B7 the name is taken\nready\nrefused B10 a claim is over the capital\nready\nrefused B6 a resource is named twice\nready\nrefused B4 no such resource\nready\nready\nrefused B7 the name is taken\nready\nrefused B8 a job was there before the resource\nready\nrefused B5 no such job\nready\nrefused B2 an amount is not in 0..=1000000\nready\nrefused B1 not a command\nready\nrefused B1 not a command\nready\nrefused B1 not a command\nready\nrefused B1 not a command\nready\nrefused B5 no such job\nready\n",
+    },
+    Case {
+        commands: b"help\n",
+        said: b"resource R K\njob J K R, ..\nask J K R, ..\ngive J K R, ..\nleave J\nwhy J K R, ..\nhold J K R, ..\nstate\nhelp\nready\n",
+    },
+];
+
+/// Returns what is said of commands, and the status.
+fn said_of(alloc: Global, commands: &[u8], room: usize) -> Option<(MemoryOutput, Status)> {
+    let mut output = MemoryOutput::new(alloc, room).ok()?;
+    let status = bank_engine(alloc, &mut MemoryInput::new(commands), &mut output);
+    Some((output, status))
+}
+
+#[test]
+fn sessions_are_answered(rt: HostRuntime) {
+    for case in &CASES {
+        let Some((output, status)) = said_of(rt.alloc(), case.commands, 4_096) else {
+            panic!(rt; "out of memory");
+        };
+        assert!(rt; status == Status::Done);
+        assert!(rt; output.as_slice() == case.said);
+    }
+}
+
+#[test]
+fn a_failed_write_leaves_a_first_part(rt: HostRuntime) {
+    for case in &CASES {
+        let Some((output, status)) = said_of(rt.alloc(), case.commands, 10) else {
+            panic!(rt; "out of memory");
+        };
+        assert!(rt; status == Status::Device || case.said.len() <= 10);
+        assert!(rt; case.said.starts_with(output.as_slice()));
+    }
+}
