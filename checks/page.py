@@ -1,0 +1,244 @@
+#!/usr/bin/env python3
+"""Makes pages of examples, and compares what Chromium shows of them with what the program says.
+
+    checks/page.py [PROGRAM]     PROGRAM is the one that ./parbegin has built if none is given
+
+It is run by hand, and needs Debian's package `chromium`. At each position of a run the places, the integers, the lines,
+the reasons, the loans and the cash that the page has must be those that `debug` says; further it looks at keys, clicks,
+the address, contrast, sizes from a telephone to a wide screen, a text that tries to be markup, and that nothing is
+loaded and no message comes. Then it plants faults in page.js, each of which must be found. Its status is 0 if all is as
+wanted, and 1 if not.
+"""
+from __future__ import annotations
+
+import os
+import re
+import shutil
+import sys
+import tempfile
+from pathlib import Path
+
+from browser import Browser
+from calls import TOP, Tally, call, program
+
+sys.path.insert(0, str(TOP / "extras/page"))
+import make_page  # noqa: E402
+
+EXAMPLES = ("devices", "lost", "customers", "philosophers")
+SIZES = ((360, 700), (800, 600), (1280, 720), (1920, 1080), (3840, 2160))
+HOSTILE = b"""// </script><script>window.bad = 1</script> <!-- &lt; &amp; \\ " ' \\u003c %%
+process p
+begin
+  integer x;
+  x := 9223372036854775807; x := x - 1; print x div 0
+end
+"""
+
+# What the page has of a position, in the form of the debugger's lines.
+SAYS = """(at) => {
+  const it = views[0], {program} = it, [s] = it.state(at), out = [];
+  for (const p of program.processes) {
+    p.integers.forEach((x, i) => out.push(`${x} ${s[program.integerAt(p, i)]}`));
+    const isFaulted = s[p.first] === FAULTED;
+    if (isFaulted) out.push("faulted");
+    for (const g of program.armsOf(p)) {
+      const a = g - p.first;
+      if (!isFaulted) out.push(s[g] === IDLE ? `${a} idle` : s[g] === ENDED ? `${a} ended` : `${a} at ${s[g]}`);
+    }
+    for (const g of program.armsOf(p)) {
+      const line = program.lineOf(s, g), why = s[program.reasons + g];
+      out.push(line ? `line ${line}` : "line none");
+      const cash = () => `cash ${program.cash(s, program.resources[why[1]])} ${program.resources[why[1]].name}`;
+      const rest = () => `rest ${why.slice(1).map((q) => program.processes[q].name).join(" ")}`;
+      out.push(why === 0 ? "not asking" : why === 1 ? "order" : why[0] === "cash" ? cash() : rest());
+    }
+  }
+  for (const p of program.processes) for (const r of program.resources)
+    out.push(`${p.name} holds ${s[program.loanAt(p.p, r.r)]} ${r.name} claim ${p.claims[r.r]}`);
+  for (const r of program.resources) out.push(`cash ${program.cash(s, r)} ${r.name}`);
+  return out;
+}"""
+
+# Texts whose contrast with what is behind them is less than 4.5.
+CONTRAST = """(() => {
+  const parse = (c) => {
+    const it = c.match(/[\\d.]+/g).map(Number), scale = c.startsWith("color(srgb") ? 255 : 1;
+    return [it[0] * scale, it[1] * scale, it[2] * scale, it[3] ?? 1];
+  };
+  const over = (a, b) => [0, 1, 2].map((i) => a[i] * a[3] + b[i] * (1 - a[3])).concat(1);
+  const part = (v) => (v /= 255) <= 0.04045 ? v / 12.92 : ((v + 0.055) / 1.055) ** 2.4;
+  const light = ([r, g, b]) => 0.2126 * part(r) + 0.7152 * part(g) + 0.0722 * part(b);
+  const behind = (it) => {
+    const all = [];
+    for (; it; it = it.parentElement) all.push(parse(getComputedStyle(it).backgroundColor));
+    return all.reverse().reduce((b, a) => over(a, b), [255, 255, 255, 1]);
+  };
+  const found = [], walk = document.createTreeWalker(document.body, NodeFilter.SHOW_TEXT);
+  while (walk.nextNode()) {
+    const it = walk.currentNode.parentElement;
+    if (!walk.currentNode.data.trim() || !it.checkVisibility() || it.closest("script, svg, dialog")) continue;
+    const back = behind(it), ink = over(parse(getComputedStyle(it).color), back);
+    const [a, b] = [light(ink), light(back)].sort((x, y) => y - x);
+    if ((a + 0.05) / (b + 0.05) < 4.5) found.push(`${it.tagName}.${it.className}: ${walk.currentNode.data.slice(0, 30)}`);
+  }
+  return [...new Set(found)];
+})()"""
+
+# The address is kept with some delay.
+LATER = "new Promise((done) => setTimeout(() => done(location.hash), 300))"
+
+# Faults of page.js: what stands there, and what is put in its place.
+PLANTED = (
+    ("changed.add(row[i]);", ""),
+    ("this.integers + process.firstInteger + i", "this.integers + i"),
+    ("p * this.resources.length + r", "p + r"),
+    ("this.reasons = 2 * this.hands;", "this.reasons = this.hands;"),
+    ("this.processes[p].first + a, 1", "this.processes[p].first, 1"),
+    ("Number(this.next(state, arm)[0])", "Number(this.next(state, arm)[0]) + 1"),
+    ("left - state[this.loanAt(p, r)], capital", "left + state[this.loanAt(p, r)], capital"),
+    ("claims: claims.map(Number)", "claims: entries"),
+    ("ArrowLeft: () => this.go(this.at - 1), ArrowRight", "ArrowLeft: () => this.go(this.at + 1), ArrowRight"),
+    ("End: () => this.go(this.rows.length),", "End: () => this.go(0),"),
+    ("remember(`step=${this.at}`)", "remember(`step=${this.rows.length}`)"),
+    ("if ((i + 1) % GAP === 0) this.kept.push([...state]);", "if ((i + 1) % GAP === 0) this.kept.push(state);"),
+)
+
+
+def write_page(folder: Path, name: str, given: bytes) -> tuple[Path, str]:
+    """Writes the page of a text, and returns its path, and the text."""
+    page = make_page.make_page([program()], name, given, make_page.Options(seed="3"))
+    path = folder / f"{name}.html"
+    path.write_text(page, encoding="utf-8")
+    return path, given.decode().partition("\n%%\n")[0].rstrip("\n")
+
+
+def debugger_says(text: str, picks: str, at: int, names: list) -> list[str]:
+    """Returns what `debug` says of a position. (Of a request that may be granted a page has no order.)"""
+    commands = [f"to {at}"]
+    for name, arms in names:
+        commands += [f"vars {name}", f"threads {name}"]
+        for arm in range(arms):
+            commands += [f"line {name}.{arm}", f"why {name}.{arm}"]
+    given = f"{text}\n%%\n{picks}%%\n" + "\n".join([*commands, "loans"]) + "\n"
+    _, said = call(["debug"], given.encode())
+    return [re.sub(r"^order .*", "order", line) for line in said.decode().splitlines()[1:]]
+
+
+def look_at_positions(tally: Tally, it: Browser, path: Path, text: str) -> None:
+    """Compares up to 25 positions with what `debug` says of them."""
+    it.open(path)
+    names = it.js("views[0].program.processes.map((it) => [it.name, it.arms.length])")
+    picks, rows = it.js("pickLines(views[0].program, views[0].rows)"), it.js("views[0].rows.length")
+    for at in sorted({*range(0, rows, max(1, rows // 24)), rows}):
+        same = it.js(f"({SAYS})({at})") == debugger_says(text, picks, at, names)
+        tally.expect(same, path.name, f"position {at} is not what `debug` says")
+    tally.expect(it.faults() == [], path.name, f"{it.faults()}")
+
+
+def look_at_keys(tally: Tally, it: Browser, path: Path) -> None:
+    """Goes along a run by keys, clicks and the address."""
+    it.open(path, "step=0")
+    rows, events = it.js("views[0].rows.length"), it.js("views[0].events.map((it) => it.at)")
+
+    def stands(what: str, at: int) -> None:
+        tally.expect(it.js("view.at") == at, path.name, f"{what}: at {it.js('view.at')}, not {at}")
+
+    for key, at in (("ArrowRight", 1), ("ArrowRight", 2), ("ArrowLeft", 1), ("End", rows), ("Home", 0), ("ArrowLeft", 0), ("PageDown", events[0])):
+        it.key(key)
+        stands(key, at)
+    last = len(events) - 1
+    it.click(".events button", last)
+    stands("a click on an event", events[last])
+    tally.expect(it.js(LATER) == f"#step={events[last]}", path.name, "the address has another position")
+    it.js("view.slider.value = 3; view.slider.oninput()")
+    stands("the slider", 3)
+    it.open(path, "step=4")
+    stands("the address", 4)
+    tally.expect(it.js("document.querySelectorAll('.changed').length") > 0, path.name, "nothing is marked as changed")
+    it.open(path, "step=99999999")
+    stands("a wild address", rows)
+    tally.expect(it.faults() == [], path.name, f"{it.faults()}")
+
+
+def look_at_looks(tally: Tally, it: Browser, path: Path) -> None:
+    """Looks at contrast in both schemes, and for what sticks out at the right."""
+    for scheme in ("light", "dark"):
+        it.media(scheme)
+        it.open(path, "step=5")
+        tally.expect(it.js(CONTRAST) == [], path.name, f"contrast, {scheme}: {it.js(CONTRAST)}")
+    it.media("light")
+    for size in SIZES:
+        it.size(*size)
+        it.open(path, "step=5")
+        tally.expect(it.js("document.documentElement.scrollWidth <= innerWidth"), path.name, f"scrolls sideways at {size}")
+    it.size(1280, 720)
+
+
+def look_at_hostile(tally: Tally, it: Browser, folder: Path) -> None:
+    """A text that tries to be markup is shown as it is."""
+    path, text = write_page(folder, 'a"<b>&', HOSTILE)
+    it.open(path)
+    shown = it.js("[...document.querySelectorAll('#lines code')].map((it) => it.textContent).join('\\n')")
+    tally.expect(shown == text, "hostile", "the text is not shown as it is")
+    tally.expect(it.js("window.bad === undefined && $('title').textContent") == 'a"<b>&', "hostile", "the text or the title was markup")
+    tally.expect(it.faults() == [], "hostile", f"{it.faults()}")
+    look_at_positions(tally, it, path, text)
+
+
+def look_at_all(tally: Tally, it: Browser, folder: Path) -> None:
+    """Makes pages, and looks at them."""
+    for name in EXAMPLES:
+        path, text = write_page(folder, name, (TOP / f"examples/{name}.pb").read_bytes())
+        look_at_positions(tally, it, path, text)
+        look_at_keys(tally, it, path)
+    look_at_looks(tally, it, folder / "devices.html")
+    look_at_hostile(tally, it, folder)
+
+
+class Quiet(Tally):
+    """Counts, and tells nothing."""
+
+    def expect(self, is_right: bool, *what: str) -> None:
+        self.tried += 1
+        self.wrong += not is_right
+
+
+def finds(it: Browser, folder: Path, mark: str, fault: str) -> bool:
+    """Returns whether the tests find a fault that is planted in page.js."""
+    template = folder / "template"
+    shutil.copytree(TOP / "extras/page", template, dirs_exist_ok=True)
+    script = (template / "page.js").read_text(encoding="utf-8")
+    if script.count(mark) != 1:
+        sys.exit(f"page.js has not once: {mark}")
+    (template / "page.js").write_text(script.replace(mark, fault), encoding="utf-8")
+    tally, kept = Quiet(), make_page.TEMPLATE
+    make_page.TEMPLATE = str(template)
+    try:
+        for name in ("lost", "customers", "philosophers"):
+            path, text = write_page(folder, name, (TOP / f"examples/{name}.pb").read_bytes())
+            look_at_positions(tally, it, path, text)
+            look_at_keys(tally, it, path)
+    except RuntimeError:
+        # (the page did not come up, or threw)
+        return True
+    finally:
+        make_page.TEMPLATE = kept
+    return tally.wrong > 0
+
+
+def main() -> None:
+    os.environ["PYTHONDONTWRITEBYTECODE"] = "1"
+    tally, it = Tally(), Browser()
+    with tempfile.TemporaryDirectory(prefix="parbegin-page-") as name:
+        folder = Path(name)
+        try:
+            look_at_all(tally, it, folder)
+            for mark, fault in PLANTED:
+                tally.expect(finds(it, folder, mark, fault), f"planted and not found: {fault or 'nothing'} for {mark}")
+        finally:
+            it.close()
+    tally.end("page")
+
+
+if __name__ == "__main__":
+    main()

@@ -1,0 +1,3 @@
+pub mod PartsMore
+pub mod Requests
+pub mod RunSteps

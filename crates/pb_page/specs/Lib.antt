@@ -1,0 +1,5 @@
+pub mod Parts
+pub mod Rows
+pub mod Runs
+pub mod States
+pub mod Texts

@@ -1,0 +1,110 @@
+-- The state at a position of a run, as entries: what a debugger says there of each arm, each integer, the loans
+-- and the order in which the banker can finish. An entry is a text of JSON.
+use Rattle.std.specs.Prelude.{◌≡◌, ℕ, Bool, true, false, List, [], ◌∷◌, ◌++◌, codes, length, map, reverse, slice_index}
+use Rattle.std.specs.Prelude.{slice_get, slice_index_or, Some}
+use Rattle.std.specs.Fmt.{decimal}
+use Rattle.pb_base.specs.Banker.{BankerState, IsLeastFirst, loan, processes, resources}
+use Rattle.pb_base.specs.Lines.{each_below}
+use Rattle.pb_base.specs.Steppers.{Bundle, State, banker_state}
+use Rattle.pb_code.specs.Code.{CodeProcess, ProcessCode, Thread, Idle, Live, Ended, thread}
+use Rattle.pb_code.specs.Whole.{Code, bank_of}
+use Rattle.pb_debug_texts.specs.Reasons.{IsReason}
+use Rattle.pb_debug_texts.specs.declared.why.Why.{Why}
+use Rattle.pb_debug_texts.specs.declared.why.Why.TheVariants.{NotAsking, Cash, Order, Rest}
+use Rattle.pb_json.specs.Values.{integer_text, integers_text, list_text}
+use Rattle.pb_machine.specs.Turns.{IsAtTake}
+use Rattle.pb_machine.specs.Views.{operands_of_thread}
+use Rattle.pb_page.specs.Parts.{parts_below, ArePartsBelow}
+
+-- a process that is not there
+abbrev pub no_process : CodeProcess
+no_process = record { vars = []; threads = []; faulted = false }
+
+-- the process with a number
+abbrev pub process_at : State CodeProcess → ℕ → CodeProcess
+process_at s p = slice_index_or s.processes p no_process
+
+-- an arm of a process
+abbrev pub thread_at : State CodeProcess → (p a : ℕ) → Thread
+thread_at s p a = thread (process_at s p).threads a
+
+-- what the banker knows in a state
+abbrev pub bank_at : Code → State CodeProcess → BankerState
+bank_at code s = banker_state (bank_of code) s.loans
+
+-- ---- each arm
+
+-- where an arm is: its place; -1 if it is idle, -2 if it has ended, -3 if its process has faulted
+abbrev pub place_text : Bool → Thread → List ℕ
+place_text true t = codes "-3"
+place_text false Idle = codes "-1"
+place_text false (Live place stack) = decimal place
+place_text false Ended = codes "-2"
+
+-- the operands of an arm, the last one on top
+abbrev pub operands_text : Thread → List ℕ
+operands_text t = integers_text (reverse (operands_of_thread t))
+
+-- processes, each behind a comma
+abbrev pub numbers_text : List ℕ → List ℕ
+numbers_text ps = each_below (λ k. codes "," ++ decimal (slice_index ps k)) (length ps)
+
+-- the resource of which there is too little cash
+abbrev pub cash_text : ℕ → List ℕ
+cash_text resource = codes "[\"cash\"," ++ (decimal resource ++ codes "]")
+
+-- why an arm does not go on, or may: 0 if it asks for nothing, 1 if it may have what it asks for; else
+-- the first resource of which the cash is too little, or the processes that could not finish
+abbrev pub why_text : Why → List ℕ
+why_text NotAsking = codes "0"
+why_text (Order order) = codes "1"
+why_text (Cash resource amount) = cash_text resource
+why_text (Rest rest) = codes "[\"rest\"" ++ (numbers_text rest.items ++ codes "]")
+
+-- why an arm of process p does not go on: it is at no request; or the reason of its request
+pub data IsWhyText (code : Code) (s : State CodeProcess) (p : ℕ) (t : Thread) (text : List ℕ) : Type 0 where
+  not_asking : ((of : ProcessCode) (bundle : Bundle) → slice_get code.processes p ≡ Some of → IsAtTake of t bundle → ⊥)
+      → text ≡ why_text NotAsking → IsWhyText code s p t text
+  asking : (of : ProcessCode) (bundle : Bundle) (why : Why) → slice_get code.processes p ≡ Some of
+      → IsAtTake of t bundle → IsReason (bank_at code s) p bundle why → text ≡ why_text why
+      → IsWhyText code s p t text
+
+-- ---- the entries
+
+abbrev pub places_of : CodeProcess → List (List ℕ)
+places_of process =
+    parts_below (λ a. place_text process.faulted (thread process.threads a) ∷ []) (length process.threads)
+
+abbrev pub operands_of : CodeProcess → List (List ℕ)
+operands_of process = parts_below (λ a. operands_text (thread process.threads a) ∷ []) (length process.threads)
+
+abbrev pub AreWhysOf : Code → State CodeProcess → (p : ℕ) → CodeProcess → List (List ℕ) → Type 0
+AreWhysOf code s p process =
+    ArePartsBelow (λ a part. (text : List ℕ) × IsWhyText code s p (thread process.threads a) text × (part ≡ text ∷ []))
+    (length process.threads)
+
+abbrev pub integers_of : CodeProcess → List (List ℕ)
+integers_of process = map integer_text process.vars
+
+abbrev pub loans_of : BankerState → ℕ → List (List ℕ)
+loans_of bank p = parts_below (λ r. decimal (loan bank p r) ∷ []) (resources bank)
+
+-- the processes in the order in which they can finish, as a list
+abbrev pub order_text : List ℕ → List ℕ
+order_text order = list_text (λ k. decimal (slice_index order k)) (length order)
+
+-- the entries of a state: of all arms, process by process, the places, then the operands, then the reasons;
+-- the integers of each process; what each process holds of each resource; the order in which the banker can
+-- finish, least number first
+pub record IsState (code : Code) (s : State CodeProcess) (entries : List (List ℕ)) : Type 0 where
+  pub whys : List (List ℕ)
+  pub order : List ℕ
+  pub are_whys : ArePartsBelow (λ p part. AreWhysOf code s p (process_at s p) part) (length s.processes) whys
+  pub least_first : IsLeastFirst (bank_at code s) order
+  pub are : entries ≡
+      ((((parts_below (λ p. places_of (process_at s p)) (length s.processes)
+      ++ parts_below (λ p. operands_of (process_at s p)) (length s.processes))
+      ++ whys)
+      ++ parts_below (λ p. integers_of (process_at s p)) (length s.processes))
+      ++ parts_below (loans_of (bank_at code s)) (processes (bank_at code s)))
+      ++ order_text order ∷ []

@@ -1,0 +1,185 @@
+//! The entries of arms: where each is, its operands, and why it does not go on.
+
+ghost use Rattle.std.specs.Prelude.{◌≡◌, ◌<◌, ◌++◌, ◌∷◌, [], ℕ, List, length, map, slice_get, Some, IfOk, OnOk};
+ghost use Rattle.pb_debug_texts.specs.declared.why.Why.{Why as GivenWhy};
+ghost use Rattle.pb_machine.specs.Views.{IsMachineOf, machine_view, proc_view, thread_view};
+ghost use Rattle.pb_page.specs.States as spec;
+ghost use Rattle.pb_page.specs.States.{AreWhysOf, IsWhyText};
+ghost use Rattle.pb_page.specs.Texts.{texts};
+
+use pb_base::NoMemory;
+use pb_base::writing::{put, put_digits, put_number};
+use pb_debug_texts::Why;
+use pb_debug_texts::why::{asked, reason};
+use pb_json::put_integers;
+use pb_machine::{Machine, Proc, Thread, ThreadState};
+use pb_verifier::Verified;
+use std::alloc::Global;
+
+/// Adds an entry.
+pub(crate) fn add(entries: &mut Vec<Vec<u8>>, entry: Vec<u8>) -> Result<(), NoMemory>
+    ensures { OnOk result (texts entries.new.items ≡ texts entries.old.items ++ entry.items ∷ []) }
+{
+    entries.push(entry)?;
+    Ok(())
+}
+
+// Appends where an arm is.
+fn put_place(out: &mut Vec<u8>, faulted: bool, thread: &Thread) -> Result<(), NoMemory>
+    ensures { OnOk result (out.new.items ≡ out.old.items ++ spec.place_text faulted (thread_view thread.now)) }
+{
+    if faulted {
+        return put(out, b"-3");
+    }
+    match thread.place() {
+        Some(place) => put_digits(out, place),
+        None => match thread.state() {
+            ThreadState::Ended => put(out, b"-2"),
+            ThreadState::Idle | ThreadState::Live => put(out, b"-1"),
+        },
+    }
+}
+
+// Returns where an arm is.
+fn place_of(alloc: Global, faulted: bool, thread: &Thread) -> Result<Vec<u8>, NoMemory>
+    ensures { IfOk result (λ text. text.items ≡ spec.place_text faulted (thread_view thread.now)) }
+{
+    let mut text = Vec::new(alloc);
+    put_place(&mut text, faulted, thread)?;
+    Ok(text)
+}
+
+/// Adds where each arm of a process is.
+pub(crate) fn add_places(
+    alloc: Global,
+    entries: &mut Vec<Vec<u8>>,
+    process: &Proc,
+) -> Result<(), NoMemory>
+    ensures { OnOk result (texts entries.new.items
+        ≡ texts entries.old.items ++ spec.places_of (proc_view process.now)) }
+{
+    for arm in 0..process.arms() {
+        let text = place_of(alloc, process.faulted(), process.thread(arm))?;
+        add(entries, text)?;
+    }
+    Ok(())
+}
+
+// Returns the operands of an arm.
+fn operands_of(alloc: Global, thread: &Thread) -> Result<Vec<u8>, NoMemory>
+    ensures { IfOk result (λ text. text.items ≡ spec.operands_text (thread_view thread.now)) }
+{
+    let mut text = Vec::new(alloc);
+    put_integers(&mut text, thread.operands())?;
+    Ok(text)
+}
+
+/// Adds the operands of each arm of a process.
+pub(crate) fn add_operands(
+    alloc: Global,
+    entries: &mut Vec<Vec<u8>>,
+    process: &Proc,
+) -> Result<(), NoMemory>
+    ensures { OnOk result (texts entries.new.items
+        ≡ texts entries.old.items ++ spec.operands_of (proc_view process.now)) }
+{
+    for arm in 0..process.arms() {
+        let text = operands_of(alloc, process.thread(arm))?;
+        add(entries, text)?;
+    }
+    Ok(())
+}
+
+// Appends processes, each behind a comma.
+fn put_numbers(out: &mut Vec<u8>, numbers: &[u8]) -> Result<(), NoMemory>
+    ensures { OnOk result (out.new.items ≡ out.old.items ++ spec.numbers_text numbers.now) }
+{
+    for k in 0..numbers.len() {
+        put_number(out, b",", numbers[k])?;
+    }
+    Ok(())
+}
+
+// Appends the resource of which there is too little cash.
+fn put_cash(out: &mut Vec<u8>, resource: u8) -> Result<(), NoMemory>
+    ensures { OnOk result (out.new.items ≡ out.old.items ++ spec.cash_text resource) }
+{
+    put_number(out, b"[\"cash\",", resource)?;
+    put(out, b"]")
+}
+
+// Appends the processes that could not finish.
+fn put_rest(out: &mut Vec<u8>, rest: &Vec<u8>) -> Result<(), NoMemory>
+    ensures { OnOk result (out.new.items ≡ out.old.items ++ spec.why_text (GivenWhy.Rest rest.now)) }
+{
+    put(out, b"[\"rest\"")?;
+    put_numbers(out, rest)?;
+    put(out, b"]")
+}
+
+// Appends why an arm does not go on, or may.
+fn put_why(out: &mut Vec<u8>, why: &Why) -> Result<(), NoMemory>
+    ensures { OnOk result (out.new.items ≡ out.old.items ++ spec.why_text why.now) }
+{
+    match why {
+        Why::NotAsking => put(out, b"0"),
+        Why::Order(_) => put(out, b"1"),
+        Why::Cash { resource, .. } => put_cash(out, *resource),
+        Why::Rest(rest) => put_rest(out, rest),
+    }
+}
+
+// Returns the text of a reason.
+fn why_text(alloc: Global, why: &Why) -> Result<Vec<u8>, NoMemory>
+    ensures { IfOk result (λ text. text.items ≡ spec.why_text why.now) }
+{
+    let mut text = Vec::new(alloc);
+    put_why(&mut text, why)?;
+    Ok(text)
+}
+
+// Returns why an arm of a process does not go on, or may.
+fn why_of(
+    alloc: Global,
+    verified: &Verified,
+    machine: &Machine,
+    p: usize,
+    arm: usize,
+) -> Result<Vec<u8>, NoMemory>
+    requires machine { IsMachineOf verified.now machine.now }
+    requires process { p < length (machine_view machine.now).processes }
+    requires arm { arm < length (spec.process_at (machine_view machine.now) p).threads }
+    ensures { IfOk result (λ text. IsWhyText verified.now.code (machine_view machine.now) p
+        (spec.thread_at (machine_view machine.now) p arm) text.items) }
+{
+    let code = &verified.code().processes[p];
+    match asked(code, machine.proc(p).thread(arm)) {
+        Some(bundle) => {
+            let why = reason(alloc, machine.banker(), p, bundle)?;
+            why_text(alloc, &why)
+        }
+        None => why_text(alloc, &Why::NotAsking),
+    }
+}
+
+/// Adds why each arm of a process does not go on, or may.
+pub(crate) fn add_whys(
+    alloc: Global,
+    entries: &mut Vec<Vec<u8>>,
+    verified: &Verified,
+    machine: &Machine,
+    p: usize,
+) -> Result<(), NoMemory>
+    requires machine { IsMachineOf verified.now machine.now }
+    requires process { p < length (machine_view machine.now).processes }
+    ensures { OnOk result ((part : List (List ℕ))
+        × (texts entries.new.items ≡ texts entries.old.items ++ part)
+        × AreWhysOf verified.now.code (machine_view machine.now) p
+        (spec.process_at (machine_view machine.now) p) part) }
+{
+    for arm in 0..machine.proc(p).arms() {
+        let text = why_of(alloc, verified, machine, p, arm)?;
+        add(entries, text)?;
+    }
+    Ok(())
+}

@@ -1,0 +1,193 @@
+//! The document of a run.
+
+ghost use Rattle.std.specs.Prelude.{◌≡◌, ◌<◌, ◌≤◌, ◌-◌, ◌+◌, ◌++◌, ℕ, List, length, IfOk, OnOk};
+ghost use Rattle.pb_debug_positions.specs.Walks.{Walks};
+ghost use Rattle.pb_history.specs.Entries.{picks_of};
+ghost use Rattle.pb_history.specs.Positions.{AreEnabled, state_after};
+ghost use Rattle.pb_json.specs.Strings.{string_text};
+ghost use Rattle.pb_json.specs.Values.{comma};
+ghost use Rattle.pb_page.specs.Runs as spec;
+ghost use Rattle.pb_page.specs.Runs.{AreRows, IsEnd, IsRunDocument};
+ghost use Rattle.pb_page.specs.States.{IsState};
+ghost use Rattle.pb_page.specs.Texts.{texts};
+
+use crate::row::put_next_row;
+use crate::state::state_of;
+use pb_base::NoMemory;
+use pb_base::limits::MAX_PICKS;
+use pb_base::writing::{put, put_number};
+use pb_debug_positions::Walker;
+use pb_history::Trace;
+use pb_json::{put_comma, put_string};
+use pb_machine::Machine;
+use pb_verifier::Verified;
+use std::alloc::Global;
+
+/// Which part of a run a document shows.
+#[derive(Clone, Copy)]
+pub struct Shown {
+    /// The position with which it begins; the last one if there are not so many picks.
+    pub from: u32,
+    /// The most rows.
+    pub rows: u32,
+}
+
+// Appends an entry of a state, with the comma before it.
+fn put_entry(out: &mut Vec<u8>, k: usize, entry: &[u8]) -> Result<(), NoMemory>
+    ensures { OnOk result (out.new.items ≡ out.old.items ++ (comma k ++ entry.now)) }
+{
+    put_comma(out, k)?;
+    put(out, entry)
+}
+
+// Appends the entries of a state as a list.
+fn put_state(out: &mut Vec<u8>, entries: &[Vec<u8>]) -> Result<(), NoMemory>
+    ensures { OnOk result (out.new.items ≡ out.old.items ++ spec.state_text (texts entries.now)) }
+{
+    put(out, b"[")?;
+    for k in 0..entries.len() {
+        put_entry(out, k, &entries[k])?;
+    }
+    put(out, b"]")
+}
+
+// Appends a text behind words.
+fn put_text(out: &mut Vec<u8>, words: &[u8], text: &[u8]) -> Result<(), NoMemory>
+    ensures { OnOk result (out.new.items ≡ out.old.items ++ (words.now ++ string_text text.now)) }
+{
+    put(out, words)?;
+    put_string(out, text)
+}
+
+// Appends what a document begins with.
+fn put_head(
+    out: &mut Vec<u8>,
+    source: &[u8],
+    object: &[u8],
+    picks: u32,
+    from: u32,
+) -> Result<(), NoMemory>
+    ensures { OnOk result (out.new.items ≡ out.old.items ++ spec.head_text source.now object.now picks from) }
+{
+    put_text(out, b"{\"parbegin\":1,\"kind\":\"run\",\"text\":", source)?;
+    put_text(out, b",\"object\":", object)?;
+    put_number(out, b",\"picks\":", picks)?;
+    put_number(out, b",\"from\":", from)
+}
+
+// Appends the state with which a document begins, up to the first row.
+fn put_start(out: &mut Vec<u8>, state: &[Vec<u8>]) -> Result<(), NoMemory>
+    ensures { OnOk result (out.new.items ≡ out.old.items ++ spec.start_text (texts state.now)) }
+{
+    put(out, b",\"start\":")?;
+    put_state(out, state)?;
+    put(out, b",\"rows\":[")
+}
+
+// Appends what is behind the last row.
+fn put_end(out: &mut Vec<u8>, end: &[u8]) -> Result<(), NoMemory>
+    ensures { OnOk result (out.new.items ≡ out.old.items ++ spec.end_text end.now) }
+{
+    put(out, b"],\"end\":\"")?;
+    put(out, end)?;
+    put(out, b"\"}\n")
+}
+
+// Returns a machine at a position of a run.
+fn walker_at(
+    alloc: Global,
+    verified: &Verified,
+    trace: &Trace,
+    position: u32,
+) -> Result<Walker, NoMemory>
+    requires enabled { AreEnabled verified.now.code (picks_of trace.now.entries) }
+    requires within { position ≤ length (picks_of trace.now.entries) }
+    ensures walks { IfOk result (Walks verified.now (picks_of trace.now.entries)) }
+    ensures at { IfOk result (λ walker. walker.at ≡ position) }
+{
+    let machine = Machine::new(alloc, verified)?;
+    let mut walker = Walker { machine, at: 0 };
+    walker.walk_to(verified, trace, position);
+    Ok(walker)
+}
+
+// Appends the rows of the next picks, with commas between them.
+fn put_rows(
+    out: &mut Vec<u8>,
+    alloc: Global,
+    verified: &Verified,
+    trace: &Trace,
+    walker: &mut Walker,
+    state: &mut Vec<Vec<u8>>,
+    rows: u32,
+) -> Result<(), NoMemory>
+    requires enabled { AreEnabled verified.now.code (picks_of trace.now.entries) }
+    requires few { length (picks_of trace.now.entries) ≤ MAX_PICKS }
+    requires walks { Walks verified.now (picks_of trace.now.entries) walker.old }
+    requires within { walker.old.at + rows ≤ length (picks_of trace.now.entries) }
+    requires state { IsState verified.now.code
+        (state_after verified.now.code (picks_of trace.now.entries) walker.old.at) (texts state.old.items) }
+    ensures walks { OnOk result (Walks verified.now (picks_of trace.now.entries) walker.new) }
+    ensures at { OnOk result (walker.new.at ≡ walker.old.at + rows) }
+    ensures rows { OnOk result ((written : List ℕ) × (out.new.items ≡ out.old.items ++ written)
+        × AreRows verified.now.code (picks_of trace.now.entries) walker.old.at rows written) }
+{
+    for k in 0..rows {
+        put_comma(out, k as usize)?;
+        put_next_row(out, alloc, verified, trace, walker, state)?;
+    }
+    Ok(())
+}
+
+// Returns what is behind the last row.
+fn end_word(verified: &Verified, trace: &Trace, walker: &Walker) -> &'static [u8]
+    requires walks { Walks verified.now (picks_of trace.now.entries) walker.now }
+    requires within { walker.now.at ≤ length (picks_of trace.now.entries) }
+    ensures { IsEnd verified.now.code (picks_of trace.now.entries) walker.now.at result.now }
+{
+    let _ = verified;
+    if walker.at < trace.len() {
+        b"more"
+    } else if walker.machine.finished() {
+        b"done"
+    } else {
+        b"open"
+    }
+}
+
+/// Returns the document of the run with this trace, which is of a replay of the code, with its text and its
+/// object: the state at the first position that is shown, and a row for each pick from there on, up to a
+/// limit, which the document tells.
+pub fn run_document(
+    alloc: Global,
+    verified: &Verified,
+    trace: &Trace,
+    source: &[u8],
+    object: &[u8],
+    shown: Shown,
+) -> Result<Vec<u8>, NoMemory>
+    requires enabled { AreEnabled verified.now.code (picks_of trace.now.entries) }
+    requires few { length (picks_of trace.now.entries) ≤ MAX_PICKS }
+    ensures { IfOk result (λ document. IsRunDocument verified.now.code (picks_of trace.now.entries)
+        source.now object.now shown.from shown.rows document.items) }
+{
+    let picks = trace.len();
+    let from = shown.from.min(picks);
+    let rows = shown.rows.min(picks - from);
+    let mut walker = walker_at(alloc, verified, trace, from)?;
+    let mut state = state_of(alloc, verified, &walker.machine)?;
+    let mut out = Vec::new(alloc);
+    put_head(&mut out, source, object, picks, from)?;
+    put_start(&mut out, &state)?;
+    put_rows(
+        &mut out,
+        alloc,
+        verified,
+        trace,
+        &mut walker,
+        &mut state,
+        rows,
+    )?;
+    put_end(&mut out, end_word(verified, trace, &walker))?;
+    Ok(out)
+}

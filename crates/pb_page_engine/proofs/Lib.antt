@@ -1,0 +1,2 @@
+pub mod StatesLemmas
+pub mod ReplayStatus

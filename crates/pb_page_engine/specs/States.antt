@@ -1,0 +1,43 @@
+-- What `states` says of an input, and with which status.
+use Rattle.std.specs.Prelude.{ℕ, List}
+use Rattle.pb_base.specs.Lines.{line}
+use Rattle.pb_base.specs.Steppers.{State}
+use Rattle.pb_code.specs.Code.{CodeProcess}
+use Rattle.pb_code.specs.Whole.{Code, ProcessLabels}
+use Rattle.pb_codegen.specs.Compiled.{IsCompiled}
+use Rattle.pb_object.specs.Answers.{SpellsCode}
+use Rattle.pb_object.specs.declared.format.Format.TheVariants.{Two}
+use Rattle.pb_page.specs.Runs.{IsRunDocument}
+use Rattle.pb_page.specs.declared.run.Shown.{Shown}
+use Rattle.pb_command_io.specs.Answers.{memory_line}
+use Rattle.pb_command_io.specs.Parts.{AreTwoParts}
+use Rattle.pb_accept.specs.Refusals.{RefusesWith}
+use Rattle.pb_accept.specs.ReplayLines.{AreReplayed, IsStatusAt, SaysOfNoPicks}
+use Rattle.pb_command_io.specs.declared.status.Status.{Status}
+use Rattle.pb_command_io.specs.declared.status.Status.TheVariants.{Memory, Refused}
+use Rattle.pb_history.specs.Entries.{Entry, picks_of}
+
+-- a document of the run of these entries, with the text and the object of its program
+pub record IsDocument (shown : Shown) (source : List ℕ) (code : Code) (labels : List ProcessLabels) (entries : List Entry) (document : List ℕ) : Type 0 where
+  pub object : List ℕ
+  pub spelled : SpellsCode Two code labels object
+  pub written : IsRunDocument code (picks_of entries) source object shown.from shown.rows document
+
+-- what is said of the lines behind an accepted text, by its code: their picks are refused; or all are made,
+-- and the document of their run is written, with the status of `replay`
+pub data SaysOfStatesLines (shown : Shown) (source : List ℕ) (code : Code) (labels : List ProcessLabels) (lines : List ℕ) : List ℕ → Status → Type 0 where
+  not_made : (said : List ℕ) (status : Status) → SaysOfNoPicks code lines said status
+      → SaysOfStatesLines shown source code labels lines said status
+  no_memory : SaysOfStatesLines shown source code labels lines memory_line Memory
+  told : (entries : List Entry) (end : State CodeProcess) → AreReplayed code lines entries end
+      → (said : List ℕ) → IsDocument shown source code labels entries said
+      → (status : Status) → IsStatusAt end status → SaysOfStatesLines shown source code labels lines said status
+
+-- what is said of an input, which is a text and pick lines behind it: its text is refused; or it is accepted
+pub data SaysOfStates (shown : Shown) (bytes : List ℕ) : List ℕ → Status → Type 0 where
+  no_text : (text lines : List ℕ) → AreTwoParts bytes text lines
+      → (refusal : List ℕ) → RefusesWith text refusal → SaysOfStates shown bytes (line refusal) Refused
+  with_code : (text lines : List ℕ) → AreTwoParts bytes text lines
+      → (code : Code) (labels : List ProcessLabels) → IsCompiled text code labels
+      → (said : List ℕ) (status : Status) → SaysOfStatesLines shown text code labels lines said status
+      → SaysOfStates shown bytes said status

@@ -1,0 +1,123 @@
+#!/usr/bin/env python3
+"""Makes the page of a program: one HTML file that needs nothing else.
+
+    make_page.py PROGRAM[,WORD ..] [--seed N] [--from I] [--rows N] FILE > page.html
+
+PROGRAM is the program parbegin, with words that come before each command, if any. FILE has a text, or a text with the
+picks of a run behind a line `%%`, as `record` writes it. The program writes the data, each document as a line of JSON
+in which there is no `<` (docs/FORMATS.md, "Documents for a page"); here it is put into the template beside this file.
+Nothing of a text is looked at here, and no number is changed.
+
+If the program refuses the text or the words, what it writes stands in the place of the page, with its status.
+"""
+from __future__ import annotations
+
+import html
+import json
+import os
+import subprocess
+import sys
+from collections.abc import Iterator
+from dataclasses import dataclass
+
+TEMPLATE = os.path.dirname(os.path.realpath(__file__))
+# The program's statuses of a run in which no process faulted, and of one in which a process did.
+DONE, FAULT = 0, 4
+
+OPTIONS = {"--seed": "seed", "--from": "first", "--rows": "rows"}
+
+
+@dataclass
+class Options:
+    """What a call asks for; `None` leaves it to the program."""
+
+    seed: str | None = None
+    first: str | None = None
+    rows: str | None = None
+
+
+class Refusal(Exception):
+    """What the program writes in the place of data, and its status."""
+
+    def __init__(self, said: bytes, status: int) -> None:
+        super().__init__(said, status)
+        self.said, self.status = said, status
+
+
+def answer(program: list[str], words: list[str], given: bytes) -> bytes:
+    """Returns what the program writes. A run in which a process faults is a run."""
+    ended = subprocess.run([*program, *words], input=given, stdout=subprocess.PIPE, check=False)
+    if ended.returncode not in (DONE, FAULT):
+        raise Refusal(ended.stdout, ended.returncode)
+    return ended.stdout
+
+
+def option(name: str, value: str | None) -> list[str]:
+    """Returns the words of an option that was given."""
+    return [] if value is None else [name, value]
+
+
+def documents(program: list[str], given: bytes, options: Options) -> Iterator[tuple[str, str]]:
+    """Yields the name and the JSON of each document of a page."""
+    has_picks = b"\n%%\n" in given
+    recorded = given if has_picks else answer(program, ["record", *option("--seed", options.seed)], given)
+    words = ["states", *option("--from", options.first), *option("--rows", options.rows)]
+    yield "run", answer(program, words, recorded).decode().strip()
+
+
+def fill_template(title: str, data: str) -> str:
+    """Returns the page, with its style, its script and its data in it."""
+
+    def read(name: str) -> str:
+        with open(f"{TEMPLATE}/{name}", encoding="utf-8") as file:
+            return file.read()
+
+    parts = {
+        "<title>parbegin</title>": f"<title>{html.escape(title)} - parbegin</title>",
+        '<link rel="stylesheet" href="page.css">': f"<style>\n{read('page.css')}</style>",
+        '<script type="application/json" id="data">{}': f'<script type="application/json" id="data">{data}',
+        '<script src="page.js"></script>': f"<script>\n{read('page.js')}</script>",
+    }
+    page = read("page.html")
+    for mark, part in parts.items():
+        before, found, after = page.partition(mark)
+        if not found:
+            raise ValueError(f"page.html has no {mark}")
+        page = before + part + after
+    return page
+
+
+def make_page(program: list[str], title: str, given: bytes, options: Options = Options()) -> str:
+    """Returns the page of a text, or of a text with the picks of a run. Raises `Refusal` if the program refuses."""
+    data = {"title": json.dumps(title).replace("<", "\\u003c"), **dict(documents(program, given, options))}
+    return fill_template(title, "{" + ",\n".join(f'"{name}":{said}' for name, said in data.items()) + "}")
+
+
+def read_words(words: list[str]) -> tuple[list[str], Options, str]:
+    """Returns the program, the options and the file of a call, or ends with the use of this command."""
+    if len(words) < 2 or len(words) % 2:
+        sys.exit(__doc__)
+    options = Options()
+    for name, value in zip(words[1:-1:2], words[2:-1:2]):
+        if name not in OPTIONS:
+            sys.exit(__doc__)
+        setattr(options, OPTIONS[name], value)
+    return words[0].split(","), options, words[-1]
+
+
+def main(words: list[str]) -> int:
+    """Writes the page that a call asks for, or the refusal, and returns the status."""
+    program, options, name = read_words(words)
+    with open(name, "rb") as file:
+        given = file.read()
+    try:
+        page = make_page(program, os.path.basename(name), given, options)
+    except Refusal as refusal:
+        sys.stdout.buffer.write(refusal.said)
+        return refusal.status
+    sys.stdout.write(page)
+    return 0
+
+
+if __name__ == "__main__":
+    sys.exit(main(sys.argv[1:]))
