@@ -1,24 +1,28 @@
 #!/usr/bin/env python3
-"""Compares what a refusal says on standard error with the files of checks/messages/, one for each code.
+"""Compares what a refusal says on standard error with the files of checks/messages/.
 
     checks/messages.py [PROGRAM]             PROGRAM is the one that ./parbegin has built if none is given
-    checks/messages.py --write [PROGRAM]     writes the files anew, after a change of crates/pb_messages
+    checks/messages.py --write [PROGRAM]     writes the files of the examples anew, after a change of crates/pb_messages
 
-The inputs are the examples of `explain`. `--quiet` before the command must leave the message out and change neither
+CODE.txt is what the example of `explain CODE` says. NAME.txt beside a program NAME.pb is what `check` says of it, and beside
+picks NAME.run what `replay` says; their first word is the code of the refusal. Those were written down before the program was
+asked, and --write leaves them as they are. `--quiet` before the command must leave the message out and change neither
 standard output nor the status; nor may a standard error that is closed or full. Its status is 0 if all is as wanted, and 1
 if not.
 """
 import os
 import pathlib
 import re
+import shlex
 import subprocess
 import sys
 import tempfile
 
-from calls import DONE, TOP, Tally, call, program
+from calls import DONE, REFUSED, TOP, Tally, call, program
 
 FOLDER = TOP / "checks/messages"
 EXAMPLE = re.compile(r"\nFor example, a shell that is told\n\n((?:[^\n]+\n)+)\nshows\n")
+COMMANDS = {".pb": "check", ".run": "replay"}
 
 
 def examples():
@@ -32,6 +36,13 @@ def examples():
             yield code, found[1]
 
 
+def inputs():
+    """Returns the call of each input of the folder, as a line for a shell."""
+    for file in sorted(FOLDER.iterdir()):
+        if file.suffix in COMMANDS:
+            yield file.stem, f"parbegin {COMMANDS[file.suffix]} < {shlex.quote(str(file))}"
+
+
 def shell(line, folder, error=subprocess.PIPE):
     """Makes the call, and returns its status and what it wrote on standard output and on standard error."""
     where = {**os.environ, "PATH": f"{folder}:{os.environ['PATH']}"}
@@ -39,23 +50,31 @@ def shell(line, folder, error=subprocess.PIPE):
     return ran.returncode, ran.stdout, (ran.stderr or b"").decode(errors="replace")
 
 
+def compare(tally, name, line, folder, full):
+    """Compares what a call says with its file, and tries it without a standard error."""
+    status, told, message = shell(line, folder)
+    file = FOLDER / f"{name}.txt"
+    tally.expect(file.is_file() and file.read_text() == message, name, "says", message)
+    refused = status == REFUSED and told.decode().split()[:2] == ["refused", name.split("-")[0]]
+    tally.expect(refused or "-" not in name, name, "is told as", told)
+    quiet = re.sub(r"\bparbegin ", "parbegin --quiet ", line)
+    tally.expect(shell(quiet, folder) == (status, told, ""), name, "is not quiet")
+    tally.expect(shell(line, folder, full)[:2] == (status, told), name, "depends on standard error")
+    tally.expect(shell(f"exec 2>&-\n{line}", folder)[:2] == (status, told), name, "needs a standard error")
+
+
 def main():
     writes = "--write" in sys.argv
     sys.argv = [word for word in sys.argv if word != "--write"]
     tally = Tally()
-    FOLDER.mkdir(exist_ok=True)
     with tempfile.TemporaryDirectory() as folder, open("/dev/full", "wb") as full:
         (pathlib.Path(folder) / "parbegin").symlink_to(program())
         for code, line in examples():
-            status, told, message = shell(line, folder)
-            file = FOLDER / f"{code}.txt"
             if writes:
-                file.write_text(message)
-            tally.expect(file.is_file() and file.read_text() == message, code, "says", message)
-            quiet = re.sub(r"\bparbegin ", "parbegin --quiet ", line)
-            tally.expect(shell(quiet, folder) == (status, told, ""), code, "is not quiet")
-            tally.expect(shell(line, folder, full)[:2] == (status, told), code, "depends on standard error")
-            tally.expect(shell(f"exec 2>&-\n{line}", folder)[:2] == (status, told), code, "needs a standard error")
+                (FOLDER / f"{code}.txt").write_text(shell(line, folder)[2])
+            compare(tally, code, line, folder, full)
+        for name, line in inputs():
+            compare(tally, name, line, folder, full)
     tally.end("messages")
 
 

@@ -1,6 +1,7 @@
 //! What is said of refused inputs, by how they are read.
 
-use pb_messages::{Reading, live_message, message_of};
+use pb_base::device::{FaultyInput, Input};
+use pb_messages::{KeptInput, Reading, live_message, message_of};
 use std::alloc::Global;
 
 /// Returns whether this is said of an input.
@@ -76,6 +77,39 @@ error N3: integer y is not declared in process q
     assert!(rt; says(rt.alloc(), Reading::Texts, texts, said) == Some(true));
 }
 
+/// Returns whether the message of a text has this line first, behind the code `P1`, and this hint.
+fn explains(alloc: Global, text: &[u8], summary: &str, hint: &str) -> Option<bool> {
+    let said = message_of(alloc, Reading::Text, text).ok()?;
+    let said = String::from_utf8(said).ok()?;
+    let first = format!(in alloc; "error P1: {summary}\n").ok()?;
+    let last = format!(in alloc; "  = hint: {hint}\n").ok()?;
+    Some(said.starts_with(first.as_str()) && said.ends_with(last.as_str()))
+}
+
+#[test]
+fn words_of_other_languages(rt: HostRuntime) {
+    let text = b"process p begin int x; x := 1 end";
+    let summary = "`int` is not a word of the language";
+    let hint = "the integers of a process are declared behind its first begin: integer x, y;";
+    assert!(rt; explains(rt.alloc(), text, summary, hint) == Some(true));
+    let text = b"process p BEGIN print 1 END";
+    let summary = "`BEGIN` is not a reserved word";
+    let hint = "reserved words are in small letters: begin";
+    assert!(rt; explains(rt.alloc(), text, summary, hint) == Some(true));
+}
+
+#[test]
+fn statements_that_are_not_closed(rt: HostRuntime) {
+    let text = b"process p begin integer x; while x < 3 do x := x + 1 end";
+    let summary = "`od` is missing: the `while` of line 1 is not closed";
+    let hint = "write od behind the last of its statements";
+    assert!(rt; explains(rt.alloc(), text, summary, hint) == Some(true));
+    let text = b"process p begin print 1 end end";
+    let summary = "this `end` is one too many: process p has ended just before it";
+    let hint = "leave it out, or look for a begin that is missing above";
+    assert!(rt; explains(rt.alloc(), text, summary, hint) == Some(true));
+}
+
 #[test]
 fn an_object(rt: HostRuntime) {
     let said = b"error O1: an object cannot have this line here
@@ -92,21 +126,22 @@ fn an_object(rt: HostRuntime) {
 #[test]
 fn a_pick_line_and_a_pick(rt: HostRuntime) {
     let lines = b"process p begin print 1 end\n%%\np.1 1\n";
-    let said = b"error K1: this is not a pick line of the processes and arms before the line %%
+    let said = b"error K1: process p has no arm `1`
   --> pick line 1, column 1
   |
 1 | p.1 1
   | ^
+  = its only arm is 0, its body
   = line 3 of the input
-  = hint: a pick line is P.a COUNT, such as p.0 12: a process, one of its arms, and a number from 1 to 10000000
 ";
     assert!(rt; says(rt.alloc(), Reading::Replayed, lines, said) == Some(true));
     let picks = b"process p begin print 1 end\n%%\np.0 2\np.0 2\n";
-    let said = b"error H1: p.0 cannot make pick 3
+    let said = b"error H1: p.0 cannot make a pick after 3 picks
   --> pick line 2, column 1
   |
 2 | p.0 2
   | ^
+  = 1 of the 2 picks of this line was made
 ";
     let message = message_of(rt.alloc(), Reading::Debugged, picks);
     assert!(rt; message.is_ok_and(|message| message.as_slice().starts_with(said)));
@@ -151,4 +186,24 @@ fn each_live_part_has_a_length_of_its_own(rt: HostRuntime) {
             b"error input: the text or the pick lines"
         ) == Some(true)
     );
+}
+
+/// Returns whether an input that keeps what is read gives and keeps the first bytes that another one gives, by
+/// calls for two bytes each.
+fn keeps(alloc: Global, bytes: &[u8], count: usize) -> Option<bool> {
+    let mut input = KeptInput::new(alloc, FaultyInput::new(bytes, 1_000, 2));
+    let mut given = Vec::new(alloc);
+    for _ in 0..count {
+        let mut buffer = [0u8; 2];
+        let read = input.read(&mut buffer).ok()?;
+        given.extend_from_slice(&buffer[..read]).ok()?;
+    }
+    Some(input.kept()? == given.as_slice() && bytes.starts_with(&given))
+}
+
+#[test]
+fn what_is_read_is_kept(rt: HostRuntime) {
+    assert!(rt; keeps(rt.alloc(), b"abcdefg", 0) == Some(true));
+    assert!(rt; keeps(rt.alloc(), b"abcdefg", 3) == Some(true));
+    assert!(rt; keeps(rt.alloc(), b"abcdefg", 5) == Some(true));
 }

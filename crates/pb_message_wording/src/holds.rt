@@ -1,7 +1,6 @@
 //! The wording of a claim over its capital: the holds that add up to it.
 
-use crate::names::{closes, opens};
-use crate::tokens::{is_at, text_at};
+use crate::tokens::{closes, is_at, opens, text_at};
 use crate::wording::{Shown, Wording};
 use pb_base::NoMemory;
 use pb_codegen::ClaimsFault;
@@ -11,11 +10,13 @@ use std::alloc::{AllocError, Global};
 // The most holds that are shown.
 const MAX_SHOWN: usize = 6;
 
-// The greatest amount of a resource that is held at once, and the tokens of the holds of which it is the sum.
+// The greatest amount of a resource that is held at once, the tokens of the holds of which it is the sum, and
+// whether two arms hold parts of it side by side.
 #[derive(Drop)]
 struct Peak {
     amount: u64,
     holds: Vec<usize>,
+    is_shared: bool,
 }
 
 // A statement that is open: what it adds itself, the greatest peak of its parts, and of a parbegin the peaks
@@ -33,12 +34,14 @@ impl Peak {
         Peak {
             amount: 0,
             holds: Vec::new(alloc),
+            is_shared: false,
         }
     }
 
     // Adds another peak, which is held at the same time.
     fn add(&mut self, other: &Peak) -> Result<(), NoMemory> {
         self.amount = self.amount.saturating_add(other.amount);
+        self.is_shared |= other.is_shared;
         self.holds.extend_from_slice(&other.holds)?;
         Ok(())
     }
@@ -56,7 +59,9 @@ impl Frame {
 
     // Ends an arm of a parbegin.
     fn end_arm(&mut self, alloc: Global) -> Result<(), NoMemory> {
+        let is_shared = self.together.amount > 0 && self.greatest.amount > 0;
         self.together.add(&self.greatest)?;
+        self.together.is_shared |= is_shared;
         self.greatest = Peak::none(alloc);
         Ok(())
     }
@@ -69,13 +74,16 @@ impl Frame {
             together,
             is_parbegin: _,
         } = self;
+        let is_shared = together.amount > 0 && greatest.amount > 0;
         peak.add(&together)?;
         peak.add(&greatest)?;
+        peak.is_shared |= is_shared;
         Ok(peak)
     }
 }
 
-/// Returns the wording of a claim over its capital, with the holds that add up to the claim.
+/// Returns the wording of a claim over its capital, with the holds that add up to the claim, and the other
+/// claims that are over theirs.
 pub fn claims_wording(
     alloc: Global,
     tokens: &[Token],
@@ -85,6 +93,13 @@ pub fn claims_wording(
     let mut wording = Wording::new(alloc, claim_in_words(alloc, fault));
     tell_holds(alloc, &mut wording, tokens, &peak.holds, &fault.resource);
     wording.note(claim_hint(alloc, fault));
+    if peak.is_shared {
+        wording.hint(
+            alloc,
+            "two arms hold it side by side: with a greater capital both have it at once; where only one may, make each arm a process of its own",
+        );
+    }
+    note_others(alloc, &mut wording, tokens, fault)?;
     Ok(wording)
 }
 
@@ -96,6 +111,102 @@ fn claim_in_words(alloc: Global, fault: &ClaimsFault) -> Result<String, AllocErr
         Shown(&fault.resource),
         fault.capital
     )
+}
+
+// Notes the first claims beside this one that are over their capital, and how many there are more.
+fn note_others(
+    alloc: Global,
+    wording: &mut Wording,
+    tokens: &[Token],
+    fault: &ClaimsFault,
+) -> Result<(), NoMemory> {
+    let mut count = 0usize;
+    for process in 0..tokens.len() {
+        if is_at(tokens, process, Mark::Process) {
+            count = note_claims(alloc, wording, tokens, fault, process, count)?;
+        }
+    }
+    if count > MAX_SHOWN {
+        let more = count - MAX_SHOWN;
+        wording.note(format!(in alloc; "and {more} more claims are over their capital"));
+    }
+    Ok(())
+}
+
+// Notes the claims of a process, whose word `process` is here, that are over their capital, beside this one;
+// from how many there were before to how many there are.
+fn note_claims(
+    alloc: Global,
+    wording: &mut Wording,
+    tokens: &[Token],
+    fault: &ClaimsFault,
+    process: usize,
+    before: usize,
+) -> Result<usize, NoMemory> {
+    let mut count = before;
+    for resource in 0..process.min(tokens.len()) {
+        if is_at(tokens, resource, Mark::Resource) {
+            if let Some(claim) = claim_over(alloc, tokens, process, resource)? {
+                if !claim.is_of(fault) {
+                    count = count.saturating_add(1);
+                    note_claim(alloc, wording, &claim, count);
+                }
+            }
+        }
+    }
+    Ok(count)
+}
+
+// A claim over its capital.
+#[derive(Clone, Copy)]
+struct Claim<'t> {
+    process: &'t [u8],
+    resource: &'t [u8],
+    amount: u64,
+    capital: u64,
+}
+
+impl Claim<'_> {
+    // Returns whether a fault is of this claim.
+    fn is_of(&self, fault: &ClaimsFault) -> bool {
+        self.process == fault.process.as_slice() && self.resource == fault.resource.as_slice()
+    }
+}
+
+// Returns the claim of a process on a resource, whose words `process` and `resource` are here, if it is over
+// its capital.
+fn claim_over<'t>(
+    alloc: Global,
+    tokens: &[Token<'t>],
+    process: usize,
+    resource: usize,
+) -> Result<Option<Claim<'t>>, NoMemory> {
+    let capital = number_at(tokens, resource.saturating_add(3));
+    let process = text_at(tokens, process.saturating_add(1));
+    let resource = text_at(tokens, resource.saturating_add(1));
+    let amount = process_peak(alloc, tokens, process, resource)?.amount;
+    if amount <= capital {
+        return Ok(None);
+    }
+    Ok(Some(Claim {
+        process,
+        resource,
+        amount,
+        capital,
+    }))
+}
+
+// Notes a claim over its capital, if it is among the first ones.
+fn note_claim(alloc: Global, wording: &mut Wording, claim: &Claim<'_>, number: usize) {
+    if number <= MAX_SHOWN {
+        wording.note(format!(in alloc;
+            "also: process {} may hold {} of {} at once, and the capital is {}",
+            Shown(claim.process),
+            claim.amount,
+            Shown(claim.resource),
+            claim.capital
+        ));
+    }
 }
 
 // Adds the first holds of these, and how many there are more.

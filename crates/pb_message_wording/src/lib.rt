@@ -2,12 +2,16 @@
 //! what is usually meant.
 #![tactic(auto)]
 
+mod characters;
+mod closing;
 mod first_format;
+mod foreign;
 mod holds;
-pub mod lines;
+mod mistakes;
 mod names;
 mod objects;
-pub mod stops;
+mod open;
+mod parts;
 mod syntax;
 mod texts;
 mod tokens;

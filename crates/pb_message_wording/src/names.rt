@@ -1,6 +1,6 @@
 //! The wording of a fault of names.
 
-use crate::tokens::{is_at, process_before, process_name, text_at, token_at};
+use crate::tokens::{closes, is_at, opens, process_before, process_name, text_at, token_at};
 use crate::wording::{Shown, Wording};
 use pb_base::NoMemory;
 use pb_base::limits::{MAX_FORK, MAX_INTEGERS, MAX_PROCESSES, MAX_RESOURCES};
@@ -189,23 +189,6 @@ fn next_arm(open: &mut Vec<Option<usize>>) -> usize {
     }
 }
 
-/// Returns whether the token opens a statement that another token closes.
-pub fn opens(tokens: &[Token], number: usize) -> bool {
-    is_at(tokens, number, Mark::Begin)
-        || is_at(tokens, number, Mark::If)
-        || is_at(tokens, number, Mark::While)
-        || is_at(tokens, number, Mark::Hold)
-        || is_at(tokens, number, Mark::Parbegin)
-}
-
-/// Returns whether the token closes such a statement.
-pub fn closes(tokens: &[Token], number: usize) -> bool {
-    is_at(tokens, number, Mark::End)
-        || is_at(tokens, number, Mark::Fi)
-        || is_at(tokens, number, Mark::Od)
-        || is_at(tokens, number, Mark::Parend)
-}
-
 fn twice(alloc: Global, tokens: &[Token], number: usize) -> Wording {
     let named = declared_kind(tokens, number);
     let mut wording = Wording::new(alloc, twice_in_words(alloc, tokens, number, named));
@@ -280,11 +263,26 @@ fn unknown_integer(alloc: Global, tokens: &[Token], number: usize) -> Wording {
         alloc,
         undeclared_in_words(alloc, Shown(name), Shown(process)),
     );
+    if let Some(hint) = truth_hint(name) {
+        wording.hint(alloc, hint);
+        return wording;
+    }
     wording.note(integer_hint(alloc, tokens, number));
     if let Some(other) = other_owner(tokens, name) {
         wording.note(owner_hint(alloc, Shown(name), Shown(other)));
     }
     wording
+}
+
+// Returns what is written in the place of a truth value of other languages.
+fn truth_hint(name: &[u8]) -> Option<&'static str> {
+    if name.eq_ignore_ascii_case(b"true") {
+        Some("there is no truth value: write 1, as in while 1 do")
+    } else if name.eq_ignore_ascii_case(b"false") {
+        Some("there is no truth value: write 0")
+    } else {
+        None
+    }
 }
 
 fn undeclared_in_words(
@@ -348,7 +346,11 @@ fn amount(alloc: Global, tokens: &[Token], number: usize) -> Wording {
             Shown(text_at(tokens, number.saturating_add(2))),
         )
     };
-    Wording::new(alloc, summary)
+    let mut wording = Wording::new(alloc, summary);
+    if text_at(tokens, number).iter().all(|byte| *byte == b'0') {
+        wording.hint(alloc, "leave the hold out, or hold at least 1");
+    }
+    wording
 }
 
 fn capital_in_words(

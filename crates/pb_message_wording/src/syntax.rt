@@ -1,9 +1,11 @@
-//! The wording of a fault of the grammar: what may come where the text goes wrong.
+//! The wording of a fault of the grammar: the mistake that was probably made, or else what may come where
+//! the text goes wrong.
 
-use crate::tokens::{is_at, process_before, text_at, token_at};
+use crate::mistakes::likely_mistake;
+use crate::tokens::{text_at, token_at};
 use crate::wording::{Shown, Wording};
 use pb_base::NoMemory;
-use pb_lexer::{Kind, LexFault, Mark, Token, lex};
+use pb_lexer::{LexFault, Token, lex};
 use pb_parser::{ParseFault, parse};
 use std::alloc::{AllocError, Global};
 
@@ -163,39 +165,29 @@ fn too_deep(alloc: Global) -> Wording {
 }
 
 fn syntax_wording(alloc: Global, text: &[u8], at: usize) -> Result<Wording, NoMemory> {
-    let expected = expected(alloc, &text[..at.min(text.len())])?;
-    match lex(alloc, text) {
-        Ok(tokens) => Ok(unexpected(alloc, &tokens, token_at(&tokens, at), expected)),
-        Err(_) => Err(NoMemory),
+    let Ok(tokens) = lex(alloc, text) else {
+        return Err(NoMemory);
+    };
+    let number = token_at(&tokens, at).unwrap_or(tokens.len());
+    if let Some(wording) = likely_mistake(alloc, &tokens, number)? {
+        return Ok(wording);
     }
-}
-
-// Returns the wording of the token with a number, or of the end, which cannot come where it is, with the line
-// that says what may.
-fn unexpected(
-    alloc: Global,
-    tokens: &[Token],
-    found: Option<usize>,
-    expected: Option<String>,
-) -> Wording {
-    let mut wording = Wording::new(alloc, unexpected_in_words(alloc, tokens, found));
-    if let Some(expected) = expected {
+    let mut wording = Wording::new(alloc, unexpected_in_words(alloc, &tokens, number));
+    if let Some(expected) = expected(alloc, &text[..at.min(text.len())])? {
         wording.note(Ok(expected));
     }
-    if let Some(hint) = usual_mistake(tokens, found) {
-        wording.hint(alloc, hint);
-    }
-    wording
+    Ok(wording)
 }
 
 fn unexpected_in_words(
     alloc: Global,
     tokens: &[Token],
-    found: Option<usize>,
+    number: usize,
 ) -> Result<String, AllocError> {
-    match found {
-        Some(number) => format!(in alloc; "unexpected `{}`", Shown(text_at(tokens, number))),
-        None => String::from_str(alloc, "unexpected end of the text"),
+    if number < tokens.len() {
+        format!(in alloc; "unexpected `{}`", Shown(text_at(tokens, number)))
+    } else {
+        String::from_str(alloc, "unexpected end of the text")
     }
 }
 
@@ -294,75 +286,5 @@ fn begins_program(alloc: Global, text: &[u8]) -> Result<bool, NoMemory> {
         Err(ParseFault::Syntax(at)) => Ok(at == text.len()),
         Err(ParseFault::NoMemory) => Err(NoMemory),
         Err(_) => Ok(false),
-    }
-}
-
-// Returns what is usually meant if the token with a number cannot come where it is.
-fn usual_mistake(tokens: &[Token], found: Option<usize>) -> Option<&'static str> {
-    let number = found?;
-    let before = number.checked_sub(1)?;
-    if is_at(tokens, before, Mark::Semicolon) && closes(tokens, number) {
-        return Some("a semicolon separates statements; the last one has none");
-    }
-    if is_at(tokens, before, Mark::Semicolon) && is_at(tokens, number, Mark::Integer) {
-        return Some(
-            "a process declares all its integers at once, after its first begin: integer x, y;",
-        );
-    }
-    if is_at(tokens, before, Mark::End) && is_at(tokens, number, Mark::Semicolon) {
-        return Some("a process ends with end, and no semicolon is behind it");
-    }
-    if is_at(tokens, number, Mark::Resource) && process_before(tokens, number).is_some() {
-        return Some("resources are declared before the first process");
-    }
-    if is_at(tokens, number, Mark::Assign) {
-        return Some("a comparison is written x = 1; `:=` is an assignment");
-    }
-    if is_at(tokens, number, Mark::Equal) && is_name(tokens, before) {
-        return Some("an assignment is written x := 1; `=` alone is a comparison");
-    }
-    if begins_statement(tokens, number) && ends_statement(tokens, before) {
-        return Some("a semicolon is missing between this statement and the one before");
-    }
-    None
-}
-
-fn is_name(tokens: &[Token], number: usize) -> bool {
-    match tokens.get(number) {
-        Some(token) => token.kind() == Kind::Name,
-        None => false,
-    }
-}
-
-fn closes(tokens: &[Token], number: usize) -> bool {
-    is_at(tokens, number, Mark::End)
-        || is_at(tokens, number, Mark::Od)
-        || is_at(tokens, number, Mark::Fi)
-        || is_at(tokens, number, Mark::Else)
-        || is_at(tokens, number, Mark::Parend)
-}
-
-fn begins_statement(tokens: &[Token], number: usize) -> bool {
-    is_name(tokens, number)
-        || is_at(tokens, number, Mark::Print)
-        || is_at(tokens, number, Mark::Skip)
-        || is_at(tokens, number, Mark::If)
-        || is_at(tokens, number, Mark::While)
-        || is_at(tokens, number, Mark::Hold)
-        || is_at(tokens, number, Mark::Parbegin)
-}
-
-// Returns whether a statement may end with this token.
-fn ends_statement(tokens: &[Token], number: usize) -> bool {
-    match tokens.get(number) {
-        Some(token) => match token.kind() {
-            Kind::Name | Kind::Number(_) => true,
-            Kind::Mark(_) => {
-                is_at(tokens, number, Mark::Close)
-                    || is_at(tokens, number, Mark::Skip)
-                    || (closes(tokens, number) && !is_at(tokens, number, Mark::Else))
-            }
-        },
-        None => false,
     }
 }

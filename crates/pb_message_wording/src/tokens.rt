@@ -15,6 +15,38 @@ pub fn is_at(tokens: &[Token], number: usize, mark: Mark) -> bool {
     }
 }
 
+/// Returns the symbol or reserved word that the token with this number is.
+pub fn mark_at(tokens: &[Token], number: usize) -> Option<Mark> {
+    match tokens.get(number)?.kind() {
+        Kind::Mark(mark) => Some(mark),
+        Kind::Name | Kind::Number(_) => None,
+    }
+}
+
+/// Returns whether the token with this number is a name.
+pub fn is_name(tokens: &[Token], number: usize) -> bool {
+    match tokens.get(number) {
+        Some(token) => token.kind() == Kind::Name,
+        None => false,
+    }
+}
+
+/// Returns whether the token with this number is a number.
+pub fn is_number(tokens: &[Token], number: usize) -> bool {
+    match tokens.get(number) {
+        Some(token) => matches!(token.kind(), Kind::Number(_)),
+        None => false,
+    }
+}
+
+/// Returns whether the token with this number is a reserved word.
+pub fn is_reserved(tokens: &[Token], number: usize) -> bool {
+    mark_at(tokens, number).is_some()
+        && text_at(tokens, number)
+            .iter()
+            .all(|byte| byte.is_ascii_lowercase())
+}
+
 /// Returns the number of the token that begins at an offset.
 pub fn token_at(tokens: &[Token], at: usize) -> Option<usize> {
     for (i, token) in tokens.iter().enumerate() {
@@ -30,6 +62,14 @@ pub fn text_at<'t>(tokens: &[Token<'t>], number: usize) -> &'t [u8] {
     match tokens.get(number) {
         Some(token) => token.text(),
         None => b"",
+    }
+}
+
+/// Returns the line of the token with this number; 0 past the end.
+pub fn line_at(tokens: &[Token], number: usize) -> u32 {
+    match tokens.get(number) {
+        Some(token) => token.line(),
+        None => 0,
     }
 }
 
@@ -50,4 +90,71 @@ pub fn process_name<'t>(tokens: &[Token<'t>], number: usize) -> &'t [u8] {
         Some(i) => text_at(tokens, i.saturating_add(1)),
         None => b"",
     }
+}
+
+/// Returns whether the token opens a statement that another token closes.
+pub fn opens(tokens: &[Token], number: usize) -> bool {
+    matches!(
+        mark_at(tokens, number),
+        Some(Mark::Begin | Mark::If | Mark::While | Mark::Hold | Mark::Parbegin)
+    )
+}
+
+/// Returns whether the token closes such a statement.
+pub fn closes(tokens: &[Token], number: usize) -> bool {
+    matches!(
+        mark_at(tokens, number),
+        Some(Mark::End | Mark::Fi | Mark::Od | Mark::Parend)
+    )
+}
+
+/// Returns whether a list of statements ends before this token.
+pub fn ends_list(tokens: &[Token], number: usize) -> bool {
+    closes(tokens, number) || is_at(tokens, number, Mark::Else)
+}
+
+/// Returns whether a list of statements begins behind this token.
+pub fn begins_list(tokens: &[Token], number: usize) -> bool {
+    matches!(
+        mark_at(tokens, number),
+        Some(Mark::Begin | Mark::Then | Mark::Else | Mark::Do | Mark::Parbegin)
+    )
+}
+
+/// Returns whether a statement may begin with this token.
+pub fn begins_statement(tokens: &[Token], number: usize) -> bool {
+    is_name(tokens, number)
+        || opens(tokens, number)
+        || matches!(mark_at(tokens, number), Some(Mark::Print | Mark::Skip))
+}
+
+/// Returns whether an expression may end with this token.
+pub fn ends_expression(tokens: &[Token], number: usize) -> bool {
+    is_name(tokens, number) || is_number(tokens, number) || is_at(tokens, number, Mark::Close)
+}
+
+/// Returns whether a statement may end with this token.
+pub fn ends_statement(tokens: &[Token], number: usize) -> bool {
+    ends_expression(tokens, number) || is_at(tokens, number, Mark::Skip) || closes(tokens, number)
+}
+
+/// Returns whether a statement, or a part of a program, begins at this token if any does.
+pub fn is_statement_start(tokens: &[Token], number: usize) -> bool {
+    match number.checked_sub(1) {
+        Some(before) => { begins_list(tokens, before) || is_at(tokens, before, Mark::Semicolon) }
+        None => true,
+    }
+}
+
+/// Returns whether this token is behind the word `integer` of a declaration that has not ended.
+pub fn is_declaration(tokens: &[Token], number: usize) -> bool {
+    let mut is_in = false;
+    for i in 0..number.min(tokens.len()) {
+        if is_at(tokens, i, Mark::Integer) {
+            is_in = true;
+        } else if !is_name(tokens, i) && !is_at(tokens, i, Mark::Comma) {
+            is_in = false;
+        }
+    }
+    is_in
 }

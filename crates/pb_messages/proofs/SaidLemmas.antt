@@ -12,7 +12,7 @@ use Rattle.pb_history.specs.declared.counted.CountedPick.{CountedPick}
 use Rattle.pb_history.specs.declared.fault.ReplayFault.TheVariants.{NotEnabled}
 use Rattle.pb_picks.specs.PickLines.{IsFaulty, SpellsPicks}
 use Rattle.pb_picks.specs.declared.fault.PickFault.{PickFault}
-use Rattle.pb_message_wording.specs.Stops.{HoldsPick}
+use Rattle.pb_message_stops.specs.Stops.{HoldsPick}
 use Rattle.pb_messages.specs.Causes.{IsCauseOf}
 use Rattle.pb_messages.specs.Messages.{IsMessage, IsMessageAt}
 use Rattle.pb_messages.specs.Said.{AreSaid, HasNoMark, SaysMore, SaysByReading, SaysOfFirstFormat, SaysWhetherFirst}

@@ -25,7 +25,7 @@ use Rattle.pb_names.specs.Program.{Program}
 use Rattle.pb_object.specs.Formats.{FitsFirst}
 use Rattle.pb_picks.specs.PickLines.{IsFaulty, SpellsPicks}
 use Rattle.pb_picks.specs.declared.fault.PickFault.{PickFault}
-use Rattle.pb_message_wording.specs.Stops.{HoldsPick}
+use Rattle.pb_message_stops.specs.Stops.{HoldsPick}
 
 -- of an input that is too long
 abbrev pub long_input : List ℕ

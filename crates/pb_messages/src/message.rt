@@ -15,7 +15,7 @@ use pb_base::NoMemory;
 use pb_base::limits::MAX_INPUT;
 use pb_command_io::parts::{first_part, two_parts};
 use pb_message_excerpts::place_of;
-use pb_message_wording::lines::Lines;
+use pb_message_stops::lines::Lines;
 use std::alloc::{AllocError, Global};
 
 // What is said of an input that is too long.

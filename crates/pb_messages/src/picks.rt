@@ -13,8 +13,8 @@ use pb_base::NoMemory;
 use pb_code::Code;
 use pb_history::replay::replay_counted;
 use pb_history::{CountedPick, ReplayFault};
-use pb_message_wording::lines::{Lines, bad_line, note_line, too_many};
-use pb_message_wording::stops::{stop_of, stop_wording};
+use pb_message_stops::lines::{Lines, bad_line, note_line, too_many};
+use pb_message_stops::stops::{stop_of, stop_wording};
 use pb_picks::{PickFault, read_picks};
 use pb_verifier::Verified;
 use std::alloc::Global;
@@ -56,7 +56,7 @@ fn unread_message(
         return Err(NoMemory);
     };
     let wording = match fault {
-        PickFault::NotPicks(at) => bad_line(alloc, lines, at),
+        PickFault::NotPicks(at) => bad_line(alloc, code, lines, at),
         PickFault::TooMany | PickFault::NoMemory => too_many(alloc, code, lines)?,
     };
     worded(alloc, LABEL, lines.text, &cause, &wording)

@@ -1,0 +1,5 @@
+// un café
+process p
+begin
+  print 1
+end

@@ -1,0 +1,5 @@
+process p
+begin
+  integer café;
+  print 1
+end

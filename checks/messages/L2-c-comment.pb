@@ -1,0 +1,5 @@
+/* one process */
+process p
+begin
+  print 1
+end

@@ -1,0 +1,4 @@
+process p
+begin
+  print “hello”
+end

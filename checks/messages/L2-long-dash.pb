@@ -1,0 +1,4 @@
+process p
+begin
+  print 3 – 1
+end

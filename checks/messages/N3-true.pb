@@ -1,0 +1,6 @@
+process p
+begin
+  while true do
+    print 1
+  od
+end

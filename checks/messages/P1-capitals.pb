@@ -1,0 +1,4 @@
+process p
+BEGIN
+  print 1
+END

@@ -1,0 +1,4 @@
+process p
+begin
+  integer x;
+end

@@ -1,0 +1,5 @@
+process p
+begin
+  int x;
+  x := 1
+end

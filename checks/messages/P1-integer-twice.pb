@@ -1,0 +1,6 @@
+process p
+begin
+  integer x;
+  integer y;
+  print x
+end

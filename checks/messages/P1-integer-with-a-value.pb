@@ -1,0 +1,5 @@
+process p
+begin
+  integer x := 1;
+  print x
+end

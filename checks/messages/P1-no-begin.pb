@@ -1,0 +1,3 @@
+process p
+  print 1
+end

@@ -1,0 +1,7 @@
+process p
+begin
+  integer x;
+  while x < 3
+    x := x + 1
+  od
+end

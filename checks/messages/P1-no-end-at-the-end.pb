@@ -1,0 +1,3 @@
+process p
+begin
+  print 1

@@ -1,0 +1,6 @@
+process p
+begin
+  integer x;
+  if x = 0 then
+    print 1
+end

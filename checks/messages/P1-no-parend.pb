@@ -1,0 +1,6 @@
+process p
+begin
+  parbegin
+    print 1;
+    print 2
+end

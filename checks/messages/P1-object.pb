@@ -1,0 +1,2 @@
+PBO 2
+processes 1

@@ -1,0 +1,6 @@
+process p
+begin
+  integer x;
+  read x;
+  print x
+end

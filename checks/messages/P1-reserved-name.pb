@@ -1,0 +1,5 @@
+process p
+begin
+  integer end;
+  print 1
+end

@@ -1,0 +1,5 @@
+semaphore s = 1;
+process p
+begin
+  print 1
+end

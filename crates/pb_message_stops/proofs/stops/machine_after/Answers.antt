@@ -1,0 +1,7 @@
+use Rattle.std.proofs.Common.{subst, sym}
+use Rattle.pb_code.specs.Limits.{KeepsLimits}
+use Rattle.pb_verifier.specs.declared.fault.VerifyFault.TheVariants.{OutOfLimits}
+use Rattle.pb_message_stops.proofs.stops.machine_after.Goals as goal
+
+pub read_picks-requires : goal.read_picks-requires
+read_picks-requires c = subst KeepsLimits (sym c.code.ensures.code) (c.code.ensures.verified.annotated OutOfLimits)
