@@ -57,8 +57,8 @@ pub fn answer<I: Input, O: Output, R: Threads + Wait + Sync>(
     }
 }
 
-// Returns what the options of `states` say of the part of a run that is shown.
-fn shown(numbers: StatesOptions) -> Shown
+/// Returns what the options of `states` say of the part of a run that is shown.
+pub fn shown(numbers: StatesOptions) -> Shown
     ensures { (result.from ≡ numbers.from) × (result.rows ≡ numbers.rows) }
 {
     Shown {
@@ -67,8 +67,8 @@ fn shown(numbers: StatesOptions) -> Shown
     }
 }
 
-// Debugs by the engine that reads the commands as they come, or by the one that reads its input whole.
-fn debug<I: Input, O: Output>(
+/// Debugs by the engine that reads the commands as they come, or by the one that reads its input whole.
+pub fn debug<I: Input, O: Output>(
     alloc: Global,
     flags: DebugOptions,
     input: &mut I,
@@ -91,8 +91,8 @@ fn debug<I: Input, O: Output>(
     }
 }
 
-// Writes the text of a fault, and returns its status.
-fn refuse<O: Output>(alloc: Global, output: &mut O, fault: &WordsFault) -> Status
+/// Writes the text of a fault, and returns its status.
+pub fn refuse<O: Output>(alloc: Global, output: &mut O, fault: &WordsFault) -> Status
     ensures text { Says (O.written output.old) (O.written output.new) (words_fault_text fault.now) (fault_status fault.now) result }
     ensures faults { TellsWriteFaults (O.failures output.old) (O.failures output.new) result }
 {

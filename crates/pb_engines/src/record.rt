@@ -108,8 +108,8 @@ fn recording<R: Threads + Wait + Sync>(
     })
 }
 
-// Returns the reply that a run is too long.
-fn too_long(alloc: Global) -> Result<Reply, NoMemory>
+/// Returns the reply that a run is too long.
+pub fn too_long(alloc: Global) -> Result<Reply, NoMemory>
     ensures { IfOk result (λ r.
         (r.text.items ≡ line (codes "refused output")) × (r.status ≡ Refused)) }
 {
@@ -117,8 +117,8 @@ fn too_long(alloc: Global) -> Result<Reply, NoMemory>
     refused(line)
 }
 
-// Returns the text, with a line feed behind it if it ends in none.
-fn ended(alloc: Global, text: &[u8]) -> Result<Vec<u8>, NoMemory>
+/// Returns the text, with a line feed behind it if it ends in none.
+pub fn ended(alloc: Global, text: &[u8]) -> Result<Vec<u8>, NoMemory>
     ensures { IfOk result (λ whole. IsEnded text.now whole.items) }
 {
     let mut whole = Vec::from_slice(alloc, text)?;

@@ -1,0 +1,72 @@
+//! The commands that start no threads, over any words, input and output.
+
+ghost use Rattle.std.specs.Prelude.{◌≡◌, ◌⊎◌, IfSome, None};
+ghost use Rattle.pb_command_io.specs.Answers.{Tells};
+ghost use Rattle.pb_command_io.specs.Inputs.{SaysOfInput};
+ghost use Rattle.pb_engines.specs.Records.{SaysOfRecord};
+ghost use Rattle.pb_answer.specs.Calls.{CallWrites};
+ghost use Rattle.pb_c_call.specs.Replies.{RefusesThreads};
+
+use crate::drawn::record_drawn_engine;
+use pb_accept::{check_engine, claims_engine, emit_engine, migrate_engine, replay_engine};
+use pb_answer::answer::{debug, refuse};
+use pb_base::device::{Input, Output};
+use pb_command_io::Status;
+use pb_draw_engine::draw_engine;
+use pb_explain::explain_engine;
+use pb_options::RecordOptions;
+use pb_search_engine::outcomes_engine;
+use pb_words::{Options, options};
+use std::alloc::Global;
+
+/// Reads the words of a call, of which the first is the program's own name, and does what they say, as
+/// `pb_answer::answer` does; but for a command that starts threads nothing is written, and the status is
+/// `Threads`.
+pub fn answer_alone<I: Input, O: Output>(
+    alloc: Global,
+    words: &[&str],
+    input: &mut I,
+    output: &mut O,
+) -> Status
+    ensures { CallWrites words.now (I.rest input.old) (O.written output.old) (O.written output.new) result
+        ⊎ RefusesThreads words.now (O.written output.old) (O.written output.new) result }
+{
+    match options(alloc, words) {
+        Ok(Options::Check(numbers)) => check_engine(alloc, numbers, input, output),
+        Ok(Options::Claims) => claims_engine(alloc, input, output),
+        Ok(Options::Debug(flags)) => debug(alloc, flags, input, output),
+        Ok(Options::Draw) => draw_engine(alloc, input, output),
+        Ok(Options::Emit(numbers)) => emit_engine(alloc, numbers, input, output),
+        Ok(Options::Explain(code)) => explain_engine(alloc, code, output),
+        Ok(Options::Migrate) => migrate_engine(alloc, input, output),
+        Ok(Options::Outcomes(numbers)) => outcomes_engine(alloc, numbers, input, output),
+        Ok(Options::Replay) => replay_engine(alloc, input, output),
+        Ok(Options::Exec(numbers)) => {
+            let _ = numbers;
+            Status::Threads
+        }
+        Ok(Options::Record(numbers)) => record(alloc, numbers, input, output),
+        Ok(Options::Run(numbers)) => {
+            let _ = numbers;
+            Status::Threads
+        }
+        Err(fault) => refuse(alloc, output, &fault),
+    }
+}
+
+/// Records a run that is drawn, if there is a seed.
+fn record<I: Input, O: Output>(
+    alloc: Global,
+    numbers: RecordOptions,
+    input: &mut I,
+    output: &mut O,
+) -> Status
+    ensures { IfSome (I.rest input.old) (λ bytes. Tells (SaysOfInput (SaysOfRecord numbers.run.steps numbers.seed) bytes)
+        (O.written output.old) (O.written output.new) result)
+        ⊎ ((numbers.seed ≡ None) × (O.written output.new ≡ O.written output.old) × (result ≡ Status.Threads)) }
+{
+    match numbers.seed {
+        Some(seed) => record_drawn_engine(alloc, numbers.run.steps, seed, input, output),
+        None => Status::Threads,
+    }
+}

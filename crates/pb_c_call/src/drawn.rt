@@ -1,0 +1,90 @@
+//! A run whose picks are drawn with a seed, recorded: `record` without threads.
+
+ghost use Rattle.std.specs.Prelude.{◌≤◌, IfOk, IfSome, Some, length};
+ghost use Rattle.pb_command_io.specs.Answers.{Tells};
+ghost use Rattle.pb_command_io.specs.Inputs.{SaysOfInput};
+ghost use Rattle.pb_engines.specs.Records.{SaysOfRecord, SaysOfRecording};
+ghost use Rattle.pb_verifier.specs.Verified.{IsVerified};
+
+use pb_accept::accept::{compile_text, refuse};
+use pb_base::NoMemory;
+use pb_base::device::{Input, Output};
+use pb_base::limits::{MAX_INPUT, MAX_PICKS};
+use pb_command_io::Status;
+use pb_command_io::input::read_input;
+use pb_command_io::reply::{Reply, tell};
+use pb_engines::record::{ended, too_long};
+use pb_picks::write_picks;
+use pb_record::draw_picks;
+use pb_verifier::Verified;
+use std::alloc::Global;
+
+/// Records a run of the text that the input holds, as `pb_engines::record_engine` does with a seed.
+pub fn record_drawn_engine<I: Input, O: Output>(
+    alloc: Global,
+    steps: u32,
+    seed: u64,
+    input: &mut I,
+    output: &mut O,
+) -> Status
+    requires { steps ≤ MAX_PICKS }
+    ensures { IfSome (I.rest input.old) (λ bytes.
+        Tells (SaysOfInput (SaysOfRecord steps (Some seed)) bytes) (O.written output.old) (O.written output.new) result) }
+{
+    match read_input(alloc, input, output) {
+        Ok(bytes) => record_text(alloc, steps, seed, bytes.as_slice(), output),
+        Err(status) => status,
+    }
+}
+
+/// Records a run of a text.
+fn record_text<O: Output>(
+    alloc: Global,
+    steps: u32,
+    seed: u64,
+    text: &[u8],
+    output: &mut O,
+) -> Status
+    requires text { length text.now ≤ MAX_INPUT }
+    requires steps { steps ≤ MAX_PICKS }
+    ensures { Tells (SaysOfInput (SaysOfRecord steps (Some seed)) text.now)
+        (O.written output.old) (O.written output.new) result }
+{
+    match compile_text(alloc, text) {
+        Ok(compiled) => {
+            let reply = recording(alloc, steps, seed, text, compiled.verified());
+            drop(compiled);
+            tell(alloc, reply, output)
+        }
+        Err(refusal) => refuse(alloc, refusal, output),
+    }
+}
+
+/// Returns the text and the picks of a run of its code, or the line that they are too long.
+fn recording(
+    alloc: Global,
+    steps: u32,
+    seed: u64,
+    text: &[u8],
+    verified: &Verified,
+) -> Result<Reply, NoMemory>
+    requires { steps ≤ MAX_PICKS }
+    ensures { IfOk result (λ r.
+        SaysOfRecording verified.now.code steps (Some seed) text.now r.text.items r.status) }
+{
+    let code = verified.code();
+    let mut whole = ended(alloc, text)?;
+    let picks = draw_picks(alloc, steps, seed, verified)?;
+    let Some(picks) = picks else {
+        return too_long(alloc);
+    };
+    whole.extend_from_slice(b"%%\n")?;
+    write_picks(&mut whole, &code.names, &picks)?;
+    if whole.len() > MAX_INPUT {
+        return too_long(alloc);
+    }
+    Ok(Reply {
+        text: whole,
+        status: Status::Done,
+    })
+}

@@ -1,0 +1,75 @@
+//! The C functions. What C owes for each of them: pointers to memory of the types that are named, which nothing
+//! else uses during the call.
+
+ghost use Rattle.std.specs.Prelude.{◌⊎◌, map};
+ghost use Rattle.pb_accept.specs.Checks.{SaysOfChecks};
+ghost use Rattle.pb_accept.specs.ClaimLines.{SaysOfClaims};
+ghost use Rattle.pb_c_call.specs.Replies.{IsGiven, IsNotRead, Replies, Tellings};
+
+use crate::alone::answer_alone;
+use crate::reply::{Kept, put_front};
+use crate::word::{NoWords, Word, texts_of};
+use pb_accept::{check_engine, claims_engine};
+use pb_base::device::MemoryInput;
+use pb_command_io::Status;
+use pb_options::CheckOptions;
+use std::alloc::Global;
+
+/// Does what the words of a call say with the bytes of an input, and gives the reply. Its length is written to
+/// `needed`, and as much of it as there is room for to `output`. Returns the exit status that the program has.
+#[unsafe(no_mangle)]
+pub extern "C" fn pb_call(
+    alloc: Global,
+    words: &[Word<'_>],
+    input: &[u8],
+    output: &mut [u8],
+    needed: &mut usize,
+) -> u8
+    ensures { IsGiven (Replies (map (λ word. word.text.now) words.now) input.now) output.new result needed.new
+        ⊎ IsNotRead words.now result needed.new }
+{
+    *needed = 0;
+    let texts = match texts_of(alloc, words) {
+        Ok(texts) => texts,
+        Err(NoWords::NotUtf8) => return Status::Words.number(),
+        Err(NoWords::NoMemory) => return Status::Memory.number(),
+    };
+    let mut source = MemoryInput::new(input);
+    let mut reply = Kept::new(alloc);
+    let status = answer_alone(alloc, texts.as_slice(), &mut source, &mut reply);
+    let bytes = reply.as_slice();
+    put_front(output, bytes);
+    *needed = bytes.len();
+    status.number()
+}
+
+/// Checks the texts that the input holds, which lines `%%` part, as the command `check` does, and gives the
+/// reply as `pb_call` does.
+#[unsafe(no_mangle)]
+pub extern "C" fn pb_check(alloc: Global, text: &[u8], output: &mut [u8], needed: &mut usize) -> u8
+    ensures { IsGiven (Tellings SaysOfChecks text.now) output.new result needed.new }
+{
+    let mut source = MemoryInput::new(text);
+    let mut reply = Kept::new(alloc);
+    let options = CheckOptions { heap: None };
+    let status = check_engine(alloc, options, &mut source, &mut reply);
+    let bytes = reply.as_slice();
+    put_front(output, bytes);
+    *needed = bytes.len();
+    status.number()
+}
+
+/// Says what each process of a text claims of each resource, as the command `claims` does, and gives the reply
+/// as `pb_call` does.
+#[unsafe(no_mangle)]
+pub extern "C" fn pb_claims(alloc: Global, text: &[u8], output: &mut [u8], needed: &mut usize) -> u8
+    ensures { IsGiven (Tellings SaysOfClaims text.now) output.new result needed.new }
+{
+    let mut source = MemoryInput::new(text);
+    let mut reply = Kept::new(alloc);
+    let status = claims_engine(alloc, &mut source, &mut reply);
+    let bytes = reply.as_slice();
+    put_front(output, bytes);
+    *needed = bytes.len();
+    status.number()
+}

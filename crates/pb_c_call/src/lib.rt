@@ -1,0 +1,11 @@
+//! The commands for callers that are not Rattle: C functions over words and bytes in memory. A static library
+//! starts no threads, so `run`, `exec`, and `record` without a seed are not here.
+#![tactic(auto)]
+
+pub mod alone;
+mod drawn;
+mod exports;
+pub mod reply;
+pub mod word;
+
+pub use word::Word;
