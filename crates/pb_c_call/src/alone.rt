@@ -9,12 +9,14 @@ ghost use Rattle.pb_c_call.specs.Replies.{RefusesThreads};
 
 use crate::drawn::record_drawn_engine;
 use pb_accept::{check_engine, claims_engine, emit_engine, migrate_engine, replay_engine};
-use pb_answer::answer::{debug, refuse};
+use pb_answer::answer::{debug, refuse, shown};
+use pb_bank_engine::bank_engine;
 use pb_base::device::{Input, Output};
 use pb_command_io::Status;
 use pb_draw_engine::draw_engine;
 use pb_explain::explain_engine;
 use pb_options::RecordOptions;
+use pb_page_engine::states_engine;
 use pb_search_engine::outcomes_engine;
 use pb_words::{Options, options};
 use std::alloc::Global;
@@ -32,6 +34,7 @@ pub fn answer_alone<I: Input, O: Output>(
         ⊎ RefusesThreads words.now (O.written output.old) (O.written output.new) result }
 {
     match options(alloc, words) {
+        Ok(Options::Bank) => bank_engine(alloc, input, output),
         Ok(Options::Check(numbers)) => check_engine(alloc, numbers, input, output),
         Ok(Options::Claims) => claims_engine(alloc, input, output),
         Ok(Options::Debug(flags)) => debug(alloc, flags, input, output),
@@ -50,6 +53,7 @@ pub fn answer_alone<I: Input, O: Output>(
             let _ = numbers;
             Status::Threads
         }
+        Ok(Options::States(numbers)) => states_engine(alloc, shown(numbers), input, output),
         Err(fault) => refuse(alloc, output, &fault),
     }
 }

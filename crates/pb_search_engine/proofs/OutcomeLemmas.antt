@@ -22,7 +22,7 @@ use Rattle.pb_search.specs.Outcomes.{AreSomeOutcomes, Found}
 use Rattle.pb_search.specs.Told.{AreSome, Tells}
 use Rattle.pb_search.specs.declared.found.Outcomes.{Outcomes}
 use Rattle.pb_search.specs.declared.found.Until.{Until}
-use Rattle.pb_search.specs.declared.found.Until.TheVariants.{AllIsFound}
+use Rattle.pb_search.specs.declared.found.Until.{Until}
 use Rattle.pb_search.proofs.ToldLists.{some_of}
 use Rattle.pb_base.specs.declared.limits.TheConstants.{MAX_PICKS}
 use Rattle.pb_search_stages.specs.Reaching.{outcome_of}
@@ -129,13 +129,13 @@ module _ (lending : Lending) (v seen : VerifiedCode) (same : seen ≡ v) (code :
       subst (λ (n : NameTable). All (λ d. HaveProcesses n d.picks.items) deadlocks) (ap (λ (c : Code). c.names) (sym of))
       (deadlocks_shown lending seen.code verified.annotated deadlocks are)
 
-  pub says_told : (result : Outcomes) (states : ℕ) (lines more text : List ℕ) (status : Status)
-      → Tells lending seen.code AllIsFound states result
+  pub says_told : (until : Until) (result : Outcomes) (states : ℕ) (lines more text : List ℕ) (status : Status)
+      → Tells lending seen.code until states result
       → AreOutcomeLines code.names shown (map found_view result.found.items) lines
       → AreDeadlockLines code.names shown (map deadlock_view result.deadlocks.items) more
       → text ≡ (lines ++ more) ++ last_line states (length result.found.items) (length result.deadlocks.items) result.extent
-      → status ≡ status_of result.extent → SaysOfSearch lending v.code labels states text status
-  says_told result states lines more text status tells are stuck_are is same_status =
+      → status ≡ status_of result.extent → SaysOfSearch lending until v.code labels states text status
+  says_told until result states lines more text status tells are stuck_are is same_status =
       let count : length (map found_view result.found.items) ≡ length result.found.items = length-map result.found.items found_view in
       let many : length (map deadlock_view result.deadlocks.items) ≡ length result.deadlocks.items =
       length-map result.deadlocks.items deadlock_view in
@@ -145,10 +145,10 @@ module _ (lending : Lending) (v seen : VerifiedCode) (same : seen ≡ v) (code :
       let stuck : AreDeadlockLines v.code.names labels (map deadlock_view result.deadlocks.items) more =
       subst (λ (n : NameTable). AreDeadlockLines n labels (map deadlock_view result.deadlocks.items) more) same_names
       (subst (λ (l : List ProcessLabels). AreDeadlockLines code.names l (map deadlock_view result.deadlocks.items) more) same_labels stuck_are) in
-      subst (λ (s : Status). SaysOfSearch lending v.code labels states text s) (sym same_status)
-      (subst (λ (t : List ℕ). SaysOfSearch lending v.code labels states t (status_of result.extent))
+      subst (λ (s : Status). SaysOfSearch lending until v.code labels states text s) (sym same_status)
+      (subst (λ (t : List ℕ). SaysOfSearch lending until v.code labels states t (status_of result.extent))
       (ap (λ n. (lines ++ more) ++ last_line states n (length (map deadlock_view result.deadlocks.items)) result.extent) count
       ∙ (ap (λ n. (lines ++ more) ++ last_line states (length result.found.items) n result.extent) many ∙ sym is))
       (told (map found_view result.found.items) (map deadlock_view result.deadlocks.items) result.extent
-      (subst (λ (x : VerifiedCode). Tells lending x.code AllIsFound states result) same tells)
+      (subst (λ (x : VerifiedCode). Tells lending x.code until states result) same tells)
       lines outcomes more stuck))

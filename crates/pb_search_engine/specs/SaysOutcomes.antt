@@ -1,5 +1,5 @@
 -- What `outcomes` says of an input, and with which status.
-use Rattle.std.specs.Prelude.{ℕ, List, ◌++◌, length}
+use Rattle.std.specs.Prelude.{ℕ, Bool, true, false, List, ◌++◌, length}
 use Rattle.pb_code.specs.Whole.{Code, ProcessLabels}
 use Rattle.pb_codegen.specs.Compiled.{IsCompiled}
 use Rattle.pb_accept.specs.Refusals.{SaysOfRefusedText}
@@ -10,7 +10,8 @@ use Rattle.pb_search.specs.Outcomes.{Found}
 use Rattle.pb_search.specs.Told.{IsTold}
 use Rattle.pb_search.specs.declared.found.Extent.{Extent}
 use Rattle.pb_search.specs.declared.found.Extent.TheVariants as extent
-use Rattle.pb_search.specs.declared.found.Until.TheVariants.{AllIsFound}
+use Rattle.pb_search.specs.declared.found.Until.{Until}
+use Rattle.pb_search.specs.declared.found.Until.TheVariants.{AllIsFound, FirstDeadlock}
 use Rattle.pb_search_stages.specs.declared.lending.Lending.{Lending}
 use Rattle.pb_search_stages.specs.declared.lending.Lending.TheVariants.{ByBanker, ByCash}
 use Rattle.pb_options.specs.declared.options.Lend.{Lend}
@@ -23,6 +24,11 @@ abbrev pub lending_for : Lend → Lending
 lending_for Banker = ByBanker
 lending_for Cash = ByCash
 
+-- where the search ends, by the option
+abbrev pub until_for : (first_deadlock : Bool) → Until
+until_for true = FirstDeadlock
+until_for false = AllIsFound
+
 -- the status, by how much was found
 abbrev pub status_of : Extent → Status
 status_of (extent.All cycles) = Done
@@ -32,20 +38,20 @@ status_of extent.AtDeadlock = Done
 
 -- what is said of code under this lending: outcomes, then deadlocks, each one of the code and no two the same,
 -- and whether these are all, which at most this number of configurations tell, or why there may be others
-pub data SaysOfSearch (lending : Lending) (code : Code) (labels : List ProcessLabels) (states : ℕ)
+pub data SaysOfSearch (lending : Lending) (until : Until) (code : Code) (labels : List ProcessLabels) (states : ℕ)
     : List ℕ → Status → Type 0 where
   told : (found : List Found) (deadlocks : List FoundDeadlock) (extent : Extent)
-      → IsTold lending code AllIsFound states found deadlocks extent
+      → IsTold lending code until states found deadlocks extent
       → (lines : List ℕ) → AreOutcomeLines code.names labels found lines
       → (stuck : List ℕ) → AreDeadlockLines code.names labels deadlocks stuck
-      → SaysOfSearch lending code labels states
+      → SaysOfSearch lending until code labels states
       ((lines ++ stuck) ++ last_line states (length found) (length deadlocks) extent) (status_of extent)
 
 -- what is said of a text: it is refused; or it is accepted, and the outcomes and deadlocks of its code are
 -- told
-pub data SaysOfOutcomes (lend : Lend) (states : ℕ) (bytes : List ℕ) : List ℕ → Status → Type 0 where
+pub data SaysOfOutcomes (lend : Lend) (first_deadlock : Bool) (states : ℕ) (bytes : List ℕ) : List ℕ → Status → Type 0 where
   refused : (text : List ℕ) (status : Status) → SaysOfRefusedText bytes text status
-      → SaysOfOutcomes lend states bytes text status
+      → SaysOfOutcomes lend first_deadlock states bytes text status
   accepted : (code : Code) (labels : List ProcessLabels) → IsCompiled bytes code labels
-      → (text : List ℕ) (status : Status) → SaysOfSearch (lending_for lend) code labels states text status
-      → SaysOfOutcomes lend states bytes text status
+      → (text : List ℕ) (status : Status) → SaysOfSearch (lending_for lend) (until_for first_deadlock) code labels states text status
+      → SaysOfOutcomes lend first_deadlock states bytes text status

@@ -5,7 +5,7 @@ ghost use Rattle.pb_code.specs.Limits.{AreLabels};
 ghost use Rattle.pb_command_io.specs.Answers.{Tells};
 ghost use Rattle.pb_command_io.specs.Faults.{TellsFaults, TellsWriteFaults};
 ghost use Rattle.pb_command_io.specs.Inputs.{SaysOfInput};
-ghost use Rattle.pb_search_engine.specs.SaysOutcomes.{SaysOfSearch, SaysOfOutcomes, lending_for, status_of};
+ghost use Rattle.pb_search_engine.specs.SaysOutcomes.{SaysOfSearch, SaysOfOutcomes, lending_for, status_of, until_for};
 
 use crate::lines::outcomes_text;
 use pb_accept::accept::{compile_text, refuse};
@@ -27,7 +27,8 @@ use std::alloc::Global;
 /// is, its integers, what it holds and asks for, and picks that lead there; and at the end how many outcomes
 /// and deadlocks there are, and whether some run never ends. If more than `options.states` configurations are
 /// reached, or if more than 10,000,000 picks lead to an outcome, what was found by then is written, and the
-/// last line says that there may be others; the status is `Limit`. Of a text that is refused its refusal line
+/// last line says that there may be others; the status is `Limit`. With `options.first_deadlock` the search ends at
+/// the first deadlock, which the last line says. Of a text that is refused its refusal line
 /// is written.
 ///
 /// After a read that failed nothing is written; after a write that failed, a first part of what was being
@@ -39,7 +40,7 @@ pub fn outcomes_engine<I: Input, O: Output>(
     output: &mut O,
 ) -> Status
     ensures text { IfSome (I.rest input.old) (λ bytes.
-        Tells (SaysOfInput (SaysOfOutcomes options.lend options.states) bytes) (O.written output.old) (O.written output.new) result) }
+        Tells (SaysOfInput (SaysOfOutcomes options.lend options.first_deadlock options.states) bytes) (O.written output.old) (O.written output.new) result) }
     ensures faults { TellsFaults
         (record { reads = I.failures input.old; writes = O.failures output.old; written = O.written output.old })
         (record { reads = I.failures input.new; writes = O.failures output.new; written = O.written output.new })
@@ -59,28 +60,28 @@ fn tell_outcomes<O: Output>(
     output: &mut O,
 ) -> Status
     requires { length text.now ≤ MAX_INPUT }
-    ensures text { Tells (SaysOfInput (SaysOfOutcomes options.lend options.states) text.now) (O.written output.old) (O.written output.new) result }
+    ensures text { Tells (SaysOfInput (SaysOfOutcomes options.lend options.first_deadlock options.states) text.now) (O.written output.old) (O.written output.new) result }
     ensures faults { TellsWriteFaults (O.failures output.old) (O.failures output.new) result }
 {
     match compile_text(alloc, text) {
-        Ok(compiled) => tell(
-            alloc,
-            reply(alloc, options.lend, options.states, &compiled),
-            output,
-        ),
+        Ok(compiled) => tell(alloc, reply(alloc, options, &compiled), output),
         Err(refusal) => refuse(alloc, refusal, output),
     }
 }
 
 // Returns the lines of the outcomes and deadlocks of a compiled text.
-fn reply(alloc: Global, lend: Lend, states: u32, compiled: &Compiled) -> Result<Reply, NoMemory>
+fn reply(alloc: Global, options: OutcomesOptions, compiled: &Compiled) -> Result<Reply, NoMemory>
     requires { AreLabels compiled.now.verified.code compiled.now.labels }
     ensures { IfOk result (λ r.
-        SaysOfSearch (lending_for lend) compiled.now.verified.code compiled.now.labels states r.text.items r.status) }
+        SaysOfSearch (lending_for options.lend) (until_for options.first_deadlock) compiled.now.verified.code
+        compiled.now.labels options.states r.text.items r.status) }
 {
     let verified = compiled.verified();
     let code = verified.code();
-    let told = explore_by(alloc, verified, lending(lend), Until::AllIsFound, states)?;
+    let lending = lending(options.lend);
+    let until = until(options.first_deadlock);
+    let states = options.states;
+    let told = explore_by(alloc, verified, lending, until, states)?;
     let text = outcomes_text(alloc, &code.names, compiled.labels(), &told, states)?;
     Ok(Reply {
         text,
@@ -97,6 +98,17 @@ fn status(extent: Extent) -> Status
         Extent::TooMany => Status::Limit,
         Extent::TooLong => Status::Limit,
         Extent::AtDeadlock => Status::Done,
+    }
+}
+
+// Returns where the search ends.
+fn until(first_deadlock: bool) -> Until
+    ensures { result ≡ until_for first_deadlock }
+{
+    if first_deadlock {
+        Until::FirstDeadlock
+    } else {
+        Until::AllIsFound
     }
 }
 
