@@ -18,11 +18,13 @@ struct Case {
 const MANY: OutcomesOptions = OutcomesOptions {
     states: 1_000_000,
     lend: Lend::Banker,
+    first_deadlock: false,
 };
 
 const CASH: OutcomesOptions = OutcomesOptions {
     states: 1_000_000,
     lend: Lend::Cash,
+    first_deadlock: false,
 };
 
 /// Two additions, of which one may be lost: 7 configurations are kept.
@@ -93,6 +95,7 @@ const CASES: [Case; 13] = [
         options: OutcomesOptions {
             states: 7,
             lend: Lend::Banker,
+            first_deadlock: false,
         },
         said: b"outcome 1\np ended\np.x 2\nreached by\np.0 1\np.1 5\np.2 5\np.0 4\noutcome 2\np ended\np.x 1\nreached by\np.0 1\np.1 3\np.2 3\np.1 2\np.2 2\np.0 4\n2 outcomes\n",
         status: Status::Done,
@@ -102,6 +105,7 @@ const CASES: [Case; 13] = [
         options: OutcomesOptions {
             states: 6,
             lend: Lend::Banker,
+            first_deadlock: false,
         },
         said: b"outcome 1\np ended\np.x 2\nreached by\np.0 1\np.1 5\np.2 5\np.0 4\nmore than 6 configurations, there may be others\n",
         status: Status::Limit,

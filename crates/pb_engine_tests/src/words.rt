@@ -2,7 +2,8 @@
 
 use pb_object::Format;
 use pb_options::{
-    CheckOptions, Code, DebugOptions, EmitOptions, Lend, OutcomesOptions, RecordOptions, RunOptions,
+    CheckOptions, Code, DebugOptions, EmitOptions, Lend, OutcomesOptions, RecordOptions,
+    RunOptions, StatesOptions,
 };
 use pb_words::{Options, WordsFault, options};
 use std::alloc::Global;
@@ -29,6 +30,7 @@ const RUN: RunOptions = RunOptions {
 #[test]
 fn commands_have_their_defaults(rt: HostRuntime) {
     for (command, wanted) in [
+        ("bank", Options::Bank),
         ("check", Options::Check(CheckOptions { heap: None })),
         ("claims", Options::Claims),
         ("debug", Options::Debug(DebugOptions { live: false })),
@@ -47,6 +49,7 @@ fn commands_have_their_defaults(rt: HostRuntime) {
             Options::Outcomes(OutcomesOptions {
                 states: 1_000_000,
                 lend: Lend::Banker,
+                first_deadlock: false,
             }),
         ),
         (
@@ -58,6 +61,13 @@ fn commands_have_their_defaults(rt: HostRuntime) {
         ),
         ("replay", Options::Replay),
         ("run", Options::Run(RUN)),
+        (
+            "states",
+            Options::States(StatesOptions {
+                rows: 20_000,
+                from: 0,
+            }),
+        ),
     ] {
         assert!(rt;
             are_read(rt.alloc(), &["parbegin", command], wanted),
@@ -100,6 +110,7 @@ fn options_with_one_word_are_read(rt: HostRuntime) {
             Options::Outcomes(OutcomesOptions {
                 states: 4_000_000,
                 lend: Lend::Banker,
+                first_deadlock: false,
             }),
         ),
         (
@@ -108,6 +119,32 @@ fn options_with_one_word_are_read(rt: HostRuntime) {
             Options::Outcomes(OutcomesOptions {
                 states: 1_000_000,
                 lend: Lend::Cash,
+                first_deadlock: false,
+            }),
+        ),
+        (
+            "outcomes",
+            "--first-deadlock",
+            Options::Outcomes(OutcomesOptions {
+                states: 1_000_000,
+                lend: Lend::Banker,
+                first_deadlock: true,
+            }),
+        ),
+        (
+            "states",
+            "--rows=1000000",
+            Options::States(StatesOptions {
+                rows: 1_000_000,
+                from: 0,
+            }),
+        ),
+        (
+            "states",
+            "--from=10000000",
+            Options::States(StatesOptions {
+                rows: 20_000,
+                from: 10_000_000,
             }),
         ),
         (
@@ -116,6 +153,7 @@ fn options_with_one_word_are_read(rt: HostRuntime) {
             Options::Outcomes(OutcomesOptions {
                 states: 1_000_000,
                 lend: Lend::Banker,
+                first_deadlock: false,
             }),
         ),
     ] {
@@ -168,6 +206,7 @@ fn numbers_are_read_up_to_their_limits(rt: HostRuntime) {
 #[test]
 fn other_words_are_refused(rt: HostRuntime) {
     for (command, word) in [
+        ("bank", "text"),
         ("check", "--heap=1023"),
         ("check", "--heap=16777217"),
         ("claims", "--steps=3"),
@@ -185,6 +224,7 @@ fn other_words_are_refused(rt: HostRuntime) {
         ("fly", "text"),
         ("help", "text"),
         ("migrate", "text"),
+        ("outcomes", "--first-deadlock=true"),
         ("outcomes", "--lend=Cash"),
         ("outcomes", "--lend=till"),
         ("outcomes", "--lend="),
@@ -195,6 +235,9 @@ fn other_words_are_refused(rt: HostRuntime) {
         ("record", "--seed=18446744073709551616"),
         ("record", "--seed=seven"),
         ("replay", "--steps=3"),
+        ("states", "--from=10000001"),
+        ("states", "--rows=0"),
+        ("states", "--rows=1000001"),
         ("run", "--steps=10000001"),
         ("run", "--steps=three"),
         ("run", "--workers=0"),

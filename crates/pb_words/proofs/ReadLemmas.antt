@@ -12,7 +12,7 @@ use Rattle.pb_command_line.specs.CommandLine.{command_line, with_text_commands, 
 use Rattle.pb_command_line.specs.CommandLine.{with_other_commands, with_pick_commands, check_command, claims_command}
 use Rattle.pb_command_line.specs.CommandLine.{debug_command, draw_command, emit_command, exec_command, explain_command}
 use Rattle.pb_command_line.specs.CommandLine.{migrate_command, outcomes_command, record_command, replay_command, run_command}
-use Rattle.pb_command_line.specs.CommandLine.{with_run_rules,, with_bank_commands, states_command, bank_command}
+use Rattle.pb_command_line.specs.CommandLine.{bank_command, states_command, with_bank_commands, with_run_rules}
 use Rattle.clap.specs.declared.parser.matches.Found.{Found}
 use Rattle.clap.proofs.WalkLemmas.{one_text-rows}
 use Rattle.pb_words.specs.Read.{BlamesWords, HasCheckNumbers, HasCode, HasEmitNumber, HasFlag, HasNumber, HasNumberIn}
