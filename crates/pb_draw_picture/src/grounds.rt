@@ -14,10 +14,10 @@ use std::alloc::Global;
 
 /// What is said below a picture.
 pub(crate) const NOTE: &[u8] =
-    b"pick after pick, from left to right; a pick with an event has its number above it";
+    b"time goes from left to right, pick by pick, with the numbers of picks above. line: an arm; hatched: it asks";
 
 pub(crate) const OTHER_NOTE: &[u8] =
-    b"hatched: the arm is at a request; grey ground: more than 15 silent picks, shortened";
+    b"bar: what it holds. triangle: taken or given back, circle: print, cross: fault, square: end. grey: shortened";
 
 /// Returns the grounds of the stretches that are shortened.
 pub(crate) fn gaps_of(alloc: Global, knots: &[Knot], bottom: u64) -> Result<Vec<Rect>, NoMemory>

@@ -85,7 +85,7 @@ pub const NOTE_DOWN: u64 = 24;
 pub const OTHER_NOTE_DOWN: u64 = 38;
 
 /// The least width of a picture, with the room to the right of its time, and the room below its rows.
-pub const MIN_WIDTH: u64 = 560;
+pub const MIN_WIDTH: u64 = 680;
 
 pub const RIGHT: u64 = 20;
 
