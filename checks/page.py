@@ -154,7 +154,7 @@ def look_at_keys(tally: Tally, it: Browser, path: Path) -> None:
     stands("the slider", 3)
     it.open(path, "step=4")
     stands("the address", 4)
-    tally.expect(it.js("document.querySelectorAll('.changed').length") > 0, path.name, "nothing is marked as changed")
+    tally.expect(it.js("document.querySelectorAll('main .changed').length") > 0, path.name, "nothing is marked as changed")
     it.open(path, "step=99999999")
     stands("a wild address", rows)
     tally.expect(it.faults() == [], path.name, f"{it.faults()}")
