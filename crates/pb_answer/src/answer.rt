@@ -2,7 +2,7 @@
 ghost use Rattle.std.specs.Prelude.{◌≡◌, IfSome};
 ghost use Rattle.pb_command_io.specs.Answers.{Says, Tells};
 ghost use Rattle.pb_answer.specs.Calls.{fault_status, words_fault_text, CallTellsFaults, CallWrites, SaysOfCommands, TellsDebugFaults};
-ghost use Rattle.pb_answer.specs.Calls.{AnswersBeforeRead};
+ghost use Rattle.pb_answer.specs.Calls.{AnswersBeforeRead, shown_by};
 ghost use Rattle.pb_command_io.specs.Faults.{TellsWriteFaults};
 
 use pb_bank_engine::bank_engine;
@@ -59,7 +59,7 @@ pub fn answer<I: Input, O: Output, R: Threads + Wait + Sync>(
 
 /// Returns what the options of `states` say of the part of a run that is shown.
 pub fn shown(numbers: StatesOptions) -> Shown
-    ensures { (result.from ≡ numbers.from) × (result.rows ≡ numbers.rows) }
+    ensures { result ≡ shown_by numbers }
 {
     Shown {
         from: numbers.from,

@@ -1,6 +1,10 @@
-use Rattle.std.proofs.Common.{inl, inr, subst, rules}
+use Rattle.std.proofs.Common.{IfSome, inl, inr, subst, rules}
 use Rattle.pb_words.specs.declared.words.Options.TheVariants.{Bank, Check, Debug, Emit, Exec, Explain, Outcomes, Record}
 use Rattle.pb_words.specs.declared.words.Options.TheVariants.{Run, States}
+use Rattle.pb_command_io.specs.Answers.{Tells}
+use Rattle.pb_command_io.specs.Inputs.{SaysOfInput}
+use Rattle.pb_page.specs.declared.run.Shown.{Shown}
+use Rattle.pb_page_engine.specs.States.{SaysOfStates}
 use Rattle.pb_words.specs.Read.{WordsSay}
 use Rattle.pb_answer.proofs.AnswerLemmas.{CallTellsFaults-debug, CallWrites-refused}
 use Rattle.pb_answer.proofs.answer.answer.Goals as goal
@@ -70,9 +74,12 @@ returns-in-Ok-Bank-clause-text g c =
 pub returns-in-Ok-Bank-clause-faults : goal.returns-in-Ok-Bank-clause-faults
 returns-in-Ok-Bank-clause-faults g c =
     let read = subst (WordsSay c.args.words.now) c.in-Ok-Bank.field-0-is c.in-Ok-Bank.ensures.read in
-    inr (inr (read, c.bank_engine.ensures.faults, c.bank_engine.ensures.answered))
+    inr (inr (read, (c.bank_engine.ensures.faults, c.bank_engine.ensures.answered)))
 
 pub returns-in-Ok-States-clause-text : goal.returns-in-Ok-States-clause-text
 returns-in-Ok-States-clause-text g c =
     let read = subst (WordsSay c.args.words.now) c.in-Ok-States.field-0-is c.in-Ok-States.ensures.read in
-    inl (States c.in-Ok-States.numbers, read, c.states_engine.ensures.text)
+    let text = subst (λ (shown : Shown). IfSome (g.I.Input.rest c.args.input.now) (λ bytes.
+    Tells (SaysOfInput (SaysOfStates shown) bytes) (g.O.Output.written c.args.output.now)
+    (g.O.Output.written c.states_engine.new.output) c.states_engine.result)) c.shown.ensures c.states_engine.ensures.text in
+    inl (States c.in-Ok-States.numbers, read, text)
