@@ -45,7 +45,7 @@ fn reading_of(options: &Options) -> Option<Reading> {
         Options::Record(_) => Some(Reading::Recorded),
         Options::Exec(_) | Options::Migrate => Some(Reading::Object),
         Options::Debug(_) => Some(Reading::Debugged),
-        Options::Draw | Options::Replay => Some(Reading::Replayed),
-        Options::Explain(_) => None,
+        Options::Draw | Options::Replay | Options::States(_) => Some(Reading::Replayed),
+        Options::Bank | Options::Explain(_) => None,
     }
 }
