@@ -1,5 +1,6 @@
 pub mod DeskLemmas
 pub mod EachNumber
+pub mod OrderLemmas
 pub mod PairLemmas
 pub mod PlaceLemmas
 pub mod Results

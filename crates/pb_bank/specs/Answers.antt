@@ -1,18 +1,21 @@
 -- What a desk answers to a command.
 use Rattle.std.specs.Prelude.{◌≡◌, ◌⊎◌, ℕ, ◌<◌, ◌≤◌, Bool, true, false, cond, nat_lt}
-use Rattle.std.specs.Prelude.{List, [], ◌∷◌, ◌++◌, length, take, All, codes, slice_index_or, slice_set}
+use Rattle.std.specs.Prelude.{List, [], ◌∷◌, ◌++◌, length, take, All, codes, slice_index, slice_index_or, slice_set}
 use Rattle.std.specs.Prelude.{Option, Some, None, Result, Ok, Err, replicate, ⊤}
 use Rattle.std.specs.Fmt.{decimal}
 use Rattle.pb_base.specs.declared.limits.TheConstants.{MAX_PROCESSES, MAX_RESOURCES}
 use Rattle.pb_base.specs.declared.pair.Pair.{Pair}
 use Rattle.pb_base.specs.Banker.{BankerState, processes, resources, capital, claim, loan, cash, remaining_claim}
-use Rattle.pb_base.specs.Banker.{without_loan}
+use Rattle.pb_base.specs.Banker.{IsLeastFirst, without_loan}
 use Rattle.pb_base.specs.Lines.{NameTable, line, each_below, name_of}
+use Rattle.pb_banker.specs.declared.order.OrderSaid.{OrderSaid}
+use Rattle.pb_banker.specs.declared.order.OrderSaid.TheVariants as order
 use Rattle.pb_banker.specs.declared.reason.Joined.{Joined}
 use Rattle.pb_banker.specs.declared.reason.Joined.TheVariants as joining
 use Rattle.pb_banker.specs.declared.reason.Reason.{Reason}
 use Rattle.pb_banker.specs.declared.reason.Reason.TheVariants.{Allowed, OverClaim, OverCash, Rest}
 use Rattle.pb_banker.specs.Jobs.{BankValue, SaysWhy, SaysOfJoining, state_held, left}
+use Rattle.pb_banker.specs.Orders.{SaysOfOrder}
 use Rattle.pb_banker.specs.Value.{start_state}
 use Rattle.pb_bank.specs.declared.kind.Kind.{Kind}
 use Rattle.pb_bank.specs.declared.kind.Kind.TheVariants as kind
@@ -200,6 +203,68 @@ abbrev pub AnswersJob : DeskValue → List (List ℕ) → List ℕ → DeskValue
 AnswersJob d [] said next = Refuses refused.Command d said next
 AnswersJob d (name ∷ words) said next = AddsJob d name (job_for d name (pairs_of d.names.resources words)) said next
 
+-- ---- orders
+
+-- the job of a slot behind a space, if a job has it
+abbrev pub slot_text : NameTable → List Bool → ℕ → List ℕ
+slot_text names used p = cond (slice_index_or used p false) (codes " " ++ name_of names.processes p) []
+
+-- the jobs of an order of slots
+abbrev pub order_text : NameTable → List Bool → (order : List ℕ) → List ℕ
+order_text names used order = each_below (λ k. slot_text names used (slice_index order k)) (length order)
+
+-- the order in which each next job is the first that fits
+abbrev pub TellsOrder : DeskValue → List ℕ → DeskValue → Type 0
+TellsOrder d said next =
+    (order : List ℕ) × IsLeastFirst d.bank.state order
+    × (said ≡ line (codes "order" ++ order_text d.names d.bank.used order)) × (next ≡ d)
+
+-- with the slot of a job, if there is one
+abbrev pub on_slot : Option ℕ → (ℕ → Option (List ℕ)) → Option (List ℕ)
+on_slot None next = None
+on_slot (Some p) next = next p
+
+-- the slots of the jobs of these names, behind others
+abbrev pub slots_after : DeskValue → (slots : List ℕ) → List (List ℕ) → Option (List ℕ)
+slots_after d slots [] = Some slots
+slots_after d slots (word ∷ words) = on_slot (job_of d word) (λ p. slots_after d (slots ++ p ∷ []) words)
+
+-- the slots of the jobs of these names
+abbrev pub slots_of : DeskValue → List (List ℕ) → Option (List ℕ)
+slots_of d words = slots_after d [] words
+
+-- the line of what is said of an order: all finish in it; or the job that comes twice; or the first that lacks a
+-- resource when its turn comes, and which; or one that is not in it
+abbrev pub order_line : NameTable → (slots : List ℕ) → OrderSaid → List ℕ
+order_line names slots order.Finishing = line (codes "finishes")
+order_line names slots (order.NoJob k) = refusal_text refused.NoJob
+order_line names slots (order.Twice k) = line (codes "twice " ++ name_of names.processes (slice_index slots k))
+order_line names slots (order.Lacks k r) =
+    line (codes "lacks " ++ name_of names.processes (slice_index slots k) ++ codes " " ++ name_of names.resources r)
+order_line names slots (order.Missing p) = line (codes "missing " ++ name_of names.processes p)
+
+-- the places and the resource that are named are there
+abbrev pub IsAmong : (count resources : ℕ) → OrderSaid → Type 0
+IsAmong count resources order.Finishing = ⊤
+IsAmong count resources (order.NoJob k) = k < count
+IsAmong count resources (order.Twice k) = k < count
+IsAmong count resources (order.Lacks k r) = (k < count) × (r < resources)
+IsAmong count resources (order.Missing p) = ⊤
+
+-- whether all jobs finish in an order of slots, and why not
+abbrev pub SaysWhether : DeskValue → (slots : List ℕ) → List ℕ → DeskValue → Type 0
+SaysWhether d slots said next =
+    (of : OrderSaid) × SaysOfOrder d.bank.state d.bank.used slots of × (said ≡ order_line d.names slots of) × (next ≡ d)
+
+abbrev pub ChecksOrder : DeskValue → Option (List ℕ) → List ℕ → DeskValue → Type 0
+ChecksOrder d None said next = Refuses refused.NoJob d said next
+ChecksOrder d (Some slots) said next = SaysWhether d slots said next
+
+-- of no words an order in which all finish; else what is said of the order that they name
+abbrev pub AnswersOrder : DeskValue → List (List ℕ) → List ℕ → DeskValue → Type 0
+AnswersOrder d [] said next = TellsOrder d said next
+AnswersOrder d (word ∷ words) said next = ChecksOrder d (slots_of d (word ∷ words)) said next
+
 -- ---- the state
 
 -- `resource R capital K cash K`
@@ -230,6 +295,7 @@ help_text =
     line (codes "resource R K") ++ line (codes "job J K R, ..") ++ line (codes "ask J K R, ..")
     ++ line (codes "give J K R, ..") ++ line (codes "leave J")
     ++ line (codes "why J K R, ..") ++ line (codes "hold J K R, ..")
+    ++ line (codes "order") ++ line (codes "order J ..")
     ++ line (codes "state") ++ line (codes "help")
 
 -- a command of one word
@@ -250,7 +316,7 @@ AnswersKind kind.Give d words said next = AnswersGive d words said next
 AnswersKind kind.Leave d words said next = AnswersLeave d words said next
 AnswersKind kind.Hold d words said next = AnswersHold d words said next
 AnswersKind kind.Why d words said next = AnswersWhy d words said next
-AnswersKind kind.Order d words said next = Refuses refused.Command d said next
+AnswersKind kind.Order d words said next = AnswersOrder d words said next
 AnswersKind kind.State d words said next = AnswersAlone (state_text d.names d.bank) d words said next
 AnswersKind kind.Help d words said next = AnswersAlone help_text d words said next
 AnswersKind kind.Other d words said next = Refuses refused.Command d said next

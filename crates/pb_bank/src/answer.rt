@@ -56,11 +56,10 @@ impl Desk {
             Kind::Leave => self.say_leave(out, text),
             Kind::Job => self.say_job(out, text),
             Kind::Resource => self.say_resource(out, text),
+            Kind::Order => self.say_order(out, text),
             Kind::State => self.say_state(out, text),
             Kind::Help => self.say_help(out, text),
-            Kind::Skip | Kind::Want | Kind::Order | Kind::Other => {
-                put_refusal(out, Refusal::Command)
-            }
+            Kind::Skip | Kind::Want | Kind::Other => put_refusal(out, Refusal::Command),
         }
     }
 

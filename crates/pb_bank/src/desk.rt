@@ -66,6 +66,7 @@ impl Desk {
     pub(crate) fn job_of(&self, word: &[u8]) -> Option<usize>
         ensures job { result ≡ job_of self.now word.now }
         ensures row { IfSome result (λ p. p < processes self.now.bank.state) }
+        ensures slot { IfSome result (λ p. p < MAX_PROCESSES) }
     {
         let p = place_of(&self.names.processes, word)?;
         if self.bank.has_job(p) { Some(p) } else { None }

@@ -6,6 +6,7 @@ mod ask;
 mod come;
 pub mod desk;
 pub mod kind;
+mod order;
 pub mod refusal;
 pub mod request;
 mod texts;

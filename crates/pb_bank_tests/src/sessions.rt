@@ -11,11 +11,16 @@ struct Case {
     said: &'static [u8],
 }
 
-const CASES: [Case; 4] = [
+const CASES: [Case; 5] = [
     // The textbook's table, and its three requests.
     Case {
         commands: b"# five processes\nresource A 10\nresource B 5\nresource C 7\njob P0 7 A, 5 B, 3 C\njob P1 3 A,2 B , 2 C\njob P2 9 A, 0 B, 2 C\njob P3 2 A, 2 B, 2 C\njob P4 4 A, 3 B, 3 C\nhold P0 1 B\nhold P1 2 A\nhold P2 3 A, 2 C\nhold P3 2 A, 1 B, 1 C\nhold P4 2 C\n\nask P1 1 A, 0 B, 2 C\nask P4 3 A, 3 B, 0 C\nask P0 0 A, 2 B, 0 C\nwhy P0 2 B",
         said: b"ready\nready\nready\nready\nready\nready\nready\nready\nheld\nready\nheld\nready\nheld\nready\nheld\nready\nheld\nready\ngranted\nready\nwait cash A 2\nready\nwait rest P0 P1 P2 P3 P4\nready\nwait rest P0 P1 P2 P3 P4\nready\n",
+    },
+    // Orders of the same jobs: those of textbooks, and others.
+    Case {
+        commands: b"resource A 10\nresource B 5\nresource C 7\norder\njob P0 7 A, 5 B, 3 C\njob P1 3 A, 2 B, 2 C\njob P2 9 A, 2 C\njob P3 2 A, 2 B, 2 C\njob P4 4 A, 3 B, 3 C\nhold P0 1 B\nhold P1 2 A\nhold P2 3 A, 2 C\nhold P3 2 A, 1 B, 1 C\nhold P4 2 C\norder\norder P1 P3 P4 P2 P0\norder P1 P3 P4 P0 P2\norder P1 P4 P2 P3 P0\norder P0 P1 P2 P3 P4\norder P1 P3 P1 P4 P2 P0\norder P1 P3 P4\norder P1 P5\nleave P1\norder\norder P3 P4 P2 P0\norder P1 P3 P4 P2 P0\n",
+        said: b"ready\nready\nready\norder\nready\nready\nready\nready\nready\nready\nheld\nready\nheld\nready\nheld\nready\nheld\nready\nheld\nready\norder P1 P3 P0 P2 P4\nready\nfinishes\nready\nfinishes\nready\nlacks P2 A\nready\nlacks P0 A\nready\ntwice P1\nready\nmissing P0\nready\nrefused B5 no such job\nready\nready\norder P3 P0 P2 P4\nready\nfinishes\nready\nrefused B5 no such job\nready\n",
     },
     // What comes back can be lent again, and a name that is free can be taken again.
     Case {
@@ -29,7 +34,7 @@ const CASES: [Case; 4] = [
     },
     Case {
         commands: b"help\n",
-        said: b"resource R K\njob J K R, ..\nask J K R, ..\ngive J K R, ..\nleave J\nwhy J K R, ..\nhold J K R, ..\nstate\nhelp\nready\n",
+        said: b"resource R K\njob J K R, ..\nask J K R, ..\ngive J K R, ..\nleave J\nwhy J K R, ..\nhold J K R, ..\norder\norder J ..\nstate\nhelp\nready\n",
     },
 ];
 
