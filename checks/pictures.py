@@ -1,5 +1,5 @@
 #!/usr/bin/env python3
-"""Compares the pictures of docs/pictures/ with what the program's `draw` writes of the runs that they show.
+"""Compares the SVG pictures of docs/pictures/ with what the program's `draw` writes of the runs that they show.
 
     checks/pictures.py [PROGRAM]             PROGRAM is the one that ./parbegin has built if none is given
     checks/pictures.py --write [PROGRAM]     writes the pictures anew, after a change of crates/pb_draw
@@ -55,7 +55,7 @@ def main():
             FOLDER.mkdir(exist_ok=True)
             (FOLDER / name).write_bytes(picture)
         look_at(tally, name, run, picture)
-    kept = {file.name for file in FOLDER.glob("*")}
+    kept = {file.name for file in FOLDER.glob("*.svg")}
     tally.expect(kept <= set(found), "no run is known for", kept - set(found))
     tally.end("pictures")
 
