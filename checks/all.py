@@ -2,6 +2,7 @@
 """Runs the checks of the built program, one after the other, and counts those that passed.
 
     checks/all.py quick     those that take seconds, as the gate does; together they take less than two minutes
+    checks/all.py slow      those that take minutes, each by itself; together they take some hours
 
 `./parbegin` builds the program first, if what the gate has kept does not have it. It writes a line for each check, with
 its seconds, and behind that of one that failed what the check says. The last line is `N passed, M failed`; the status is
@@ -36,15 +37,28 @@ QUICK = (
     "checks/schedules.py",
     "checks/rooms.py",
 )
-SETS = {"quick": QUICK}
-# A check of these that takes longer hangs; the first may have to build the program.
-WATCHDOG = 600
+# What these need beside the program, checks/README.md says.
+SLOW = (
+    "./parbegin check examples/hello.pb",
+    f"checks/drawn_programs.py {PROGRAM}",
+    f"checks/devices.py {PROGRAM}",
+    f"checks/forged_objects.py {PROGRAM}",
+    f"checks/sizes.py {PROGRAM}",
+    f"checks/refused_memory.py {PROGRAM}",
+    f"checks/long_runs.py {PROGRAM}",
+    f"checks/memory_use.py {PROGRAM}",
+    f"checks/page.py {PROGRAM}",
+    "checks/package.py",
+)
+SETS = {"quick": QUICK, "slow": SLOW}
+# A check of a set that takes longer hangs; the first of each may have to build the program.
+WATCHDOGS = {"quick": 600, "slow": 7200}
 BUILDING = 7200
 
 
-def run(check: str) -> tuple[bool, str]:
-    """Runs a check, and returns whether it passed, with what it wrote."""
-    limit = BUILDING if check.startswith("./parbegin") else WATCHDOG
+def run(check: str, watchdog: int) -> tuple[bool, str]:
+    """Runs a check for at most `watchdog` seconds, and returns whether it passed, with what it wrote."""
+    limit = BUILDING if check.startswith("./parbegin") else watchdog
     how = {"stdin": subprocess.DEVNULL, "stdout": subprocess.PIPE, "stderr": subprocess.STDOUT}
     # (so that a checkout stays as it was)
     where = {**os.environ, "PYTHONDONTWRITEBYTECODE": "1"}
@@ -63,7 +77,7 @@ def main(words: list[str]) -> int:
     passed = failed = 0
     for check in SETS[words[0]]:
         began = time.monotonic()
-        is_well, said = run(check)
+        is_well, said = run(check, WATCHDOGS[words[0]])
         name = check.removesuffix(f" {PROGRAM}")
         print(f"{'passed' if is_well else 'FAILED'} {time.monotonic() - began:6.1f} s  {name}", flush=True)
         if not is_well:

@@ -125,6 +125,7 @@ def inputs():
         yield f"record --seed 7 {name}", ["record", "--seed", "7"], text
         yield f"replay {name}", ["replay"], recorded(text)
         yield f"draw {name}", ["draw"], recorded(text)
+        yield f"states {name}", ["states"], recorded(text)
         yield f"debug {name}", ["debug"], debugged(text)
         yield f"debug --live {name}", ["debug", "--live"], debugged(text)
         yield f"outcomes {name}", ["outcomes"], text

@@ -15,7 +15,7 @@ NO_FILES = ("explain", "help")
 # Commands that read one text, an object, and a text with picks.
 OF_TEXTS = ("run", "claims", "emit", "record", "outcomes")
 OF_OBJECTS = ("exec", "migrate")
-OF_PICKS = ("replay", "draw")
+OF_PICKS = ("replay", "draw", "states")
 PICK = re.compile(rb"[A-Za-z]\w*\.\d+ \d+$")
 # A file of which the kind is looked for is read up to here: the longest input of the program.
 MOST_READ = 4_194_304

@@ -13,7 +13,8 @@ from script.program import program, record_of_gate
 AWAITED = {
     "check": "texts, with lines %% between them", "exec": "an object", "migrate": "an object",
     "replay": "a text, a line %% and pick lines", "draw": "a text, a line %% and pick lines",
-    "debug": "a text, a line %%, pick lines, a line %% and commands",
+    "debug": "a text, a line %%, pick lines, a line %% and commands", "states": "a text, a line %% and pick lines",
+    "bank": "commands, of which help lists all",
 }
 
 
@@ -84,7 +85,10 @@ def run_words(start: list[str], words: list[str]) -> int:
 
 
 # Commands that need not be looked for in the program's help.
-COMMANDS = ("check", "claims", "debug", "draw", "emit", "exec", "explain", "migrate", "outcomes", "record", "replay", "run")
+COMMANDS = (
+    "bank", "check", "claims", "debug", "draw", "emit", "exec", "explain", "migrate", "outcomes", "record", "replay", "run",
+    "states",
+)
 
 
 def run_unproved(words: list[str]) -> int:
@@ -111,6 +115,14 @@ def main(words: list[str]) -> int:
             from script.package import package
 
             return package([program()])
+        if words[:1] == ["page"]:
+            from script.pages import page
+
+            return page([program()], words[1:])
+        if words[:1] == ["library"]:
+            from script.library import library
+
+            return library(words[1:])
         return run_words([program()], words)
     except KeyboardInterrupt:
         return 128 + signal.SIGINT

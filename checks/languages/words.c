@@ -14,7 +14,7 @@ static void expect(const char *what, unsigned long said, unsigned long wanted) {
 }
 
 int main(void) {
-    uint8_t reply[64];
+    uint8_t reply[64] = {0};
     size_t needed;
     const pb_word bad = {(const uint8_t *)"\xff", 1}, check = {(const uint8_t *)"check", 5}, run = {(const uint8_t *)"run", 3};
     const uint8_t *text = (const uint8_t *)"process p begin print q end";

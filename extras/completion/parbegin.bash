@@ -5,7 +5,7 @@ _parbegin() {
         at=$((at + 1))
     done
     if ((COMP_CWORD <= at)); then
-        local commands="check claims debug draw emit exec explain migrate outcomes record replay run help --help --version"
+        local commands="bank check claims debug draw emit exec explain migrate outcomes record replay run states help --help --version"
         if [[ ${COMP_WORDS[at - 1]} != --quiet ]]; then
             commands+=" --quiet"
         fi
@@ -29,11 +29,12 @@ _parbegin() {
         mapfile -t COMPREPLY < <(compgen -W "text gcc json sarif" -- "$word")
         return
         ;;
-    --jobs | --heap | --workers | --quantum | --steps | --seed | --states)
+    --jobs | --heap | --workers | --quantum | --steps | --seed | --states | --rows | --from)
         return
         ;;
     esac
     case ${COMP_WORDS[at]} in
+    bank) options="" ;;
     check) options="--heap --format --jobs" ;;
     claims) options="" ;;
     debug) options="--live" ;;
@@ -48,13 +49,14 @@ _parbegin() {
         return
         ;;
     migrate) options="" ;;
-    outcomes) options="--states --lend" ;;
+    outcomes) options="--states --lend --first-deadlock" ;;
     record) options="--workers --quantum --steps --seed" ;;
     replay) options="" ;;
     run) options="--workers --quantum --steps" ;;
+    states) options="--rows --from" ;;
     help)
         # its word is a command
-        local named="check claims debug draw emit exec explain migrate outcomes record replay run"
+        local named="bank check claims debug draw emit exec explain migrate outcomes record replay run states"
         mapfile -t COMPREPLY < <(compgen -W "$named" -- "$word")
         return
         ;;

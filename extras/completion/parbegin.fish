@@ -1,5 +1,5 @@
 # Completion of parbegin for fish. To use it: copy this file to ~/.config/fish/completions, or let install.sh do it.
-set -l commands check claims debug draw emit exec explain migrate outcomes record replay run help
+set -l commands bank check claims debug draw emit exec explain migrate outcomes record replay run states help
 
 complete -c parbegin -n "not __fish_seen_subcommand_from $commands" -f
 complete -c parbegin -n "not __fish_seen_subcommand_from $commands" -l unproved -d "Run the sources with no proof"
@@ -7,6 +7,7 @@ complete -c parbegin -n "not __fish_seen_subcommand_from $commands" -l version -
 complete -c parbegin -n "not __fish_seen_subcommand_from $commands" -l quiet -d "Write no message if the input is refused"
 complete -c parbegin -l help -d "Print help"
 
+complete -c parbegin -n "not __fish_seen_subcommand_from $commands" -a bank -d "Be the banker of jobs that come and go"
 complete -c parbegin -n "not __fish_seen_subcommand_from $commands" -a check -d "Check whether texts are programs"
 complete -c parbegin -n "not __fish_seen_subcommand_from $commands" -a claims -d "Print the inferred claims"
 complete -c parbegin -n "not __fish_seen_subcommand_from $commands" -a debug -d "Debug a recorded run by commands"
@@ -20,6 +21,7 @@ complete -c parbegin -n "not __fish_seen_subcommand_from $commands" -a outcomes 
 complete -c parbegin -n "not __fish_seen_subcommand_from $commands" -a record -d "Run a program and print its picks"
 complete -c parbegin -n "not __fish_seen_subcommand_from $commands" -a replay -d "Replay recorded picks"
 complete -c parbegin -n "not __fish_seen_subcommand_from $commands" -a run -d "Run a program"
+complete -c parbegin -n "not __fish_seen_subcommand_from $commands" -a states -d "Print the states along recorded picks"
 complete -c parbegin -n "not __fish_seen_subcommand_from $commands" -a help -d "Print help of a command"
 
 complete -c parbegin -n "__fish_seen_subcommand_from check" -l heap -x -d "Bytes of the heap of each text"
@@ -35,4 +37,7 @@ complete -c parbegin -n "__fish_seen_subcommand_from help" -f -a "$commands"
 complete -c parbegin -n "__fish_seen_subcommand_from $commands; and not __fish_seen_subcommand_from explain help" -F
 complete -c parbegin -n "__fish_seen_subcommand_from outcomes" -l states -x -d "Most configurations, 1 to 4000000"
 complete -c parbegin -n "__fish_seen_subcommand_from outcomes" -l lend -x -a "banker cash" -d "Who decides on a request"
+complete -c parbegin -n "__fish_seen_subcommand_from outcomes" -l first-deadlock -d "End at the first deadlock"
+complete -c parbegin -n "__fish_seen_subcommand_from states" -l rows -x -d "Most rows, 1 to 1000000"
+complete -c parbegin -n "__fish_seen_subcommand_from states" -l from -x -d "Begin at this position"
 complete -c parbegin -n "__fish_seen_subcommand_from record" -l seed -x -d "Draw the run by this seed"

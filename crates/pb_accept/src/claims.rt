@@ -20,7 +20,7 @@ use pb_command_io::reply::{Reply, refused, tell};
 use pb_names::{Resolved, Resource};
 use std::alloc::{Allocator, Global};
 
-// Puts the line of a claim behind a text.
+// Appends the line of a claim to a text.
 fn put_claim(
     text: &mut Vec<u8>,
     process: &[u8],
@@ -37,7 +37,7 @@ fn put_claim(
     Ok(())
 }
 
-// Puts the lines of process p, which has this name, behind a text.
+// Appends the lines of process p, which has this name, to a text.
 fn put_claims<A: Allocator>(
     text: &mut Vec<u8>,
     name: &[u8],

@@ -44,7 +44,7 @@ pub enum LinesFault {
 /// line alone.
 ///
 /// The status is `Fault` if a process faulted. After a read that failed nothing is written; after a write
-/// that failed, a first part of what was being said.
+/// that failed, a prefix of the output.
 pub fn replay_engine<I: Input, O: Output>(alloc: Global, input: &mut I, output: &mut O) -> Status
     ensures text { IfSome (I.rest input.old) (λ bytes.
         Tells (SaysOfInput SaysOfReplay bytes) (O.written output.old) (O.written output.new) result) }

@@ -45,7 +45,7 @@ impl<'c> Debugger<'c> {
         find_name(&self.verified.names().processes, word)
     }
 
-    // Puts the line of a position behind a text, and goes there. The text is made first, so that the position
+    // Appends the line of a position to a text, and goes there. The text is made first, so that the position
     // stays if out of memory.
     fn go(&mut self, text: &mut Vec<u8>, position: u32) -> Result<(), NoMemory>
         requires { position ≤ length self.old.picks }
@@ -60,7 +60,7 @@ impl<'c> Debugger<'c> {
         }
     }
 
-    // Puts the line of the event of a pick behind a text and goes to just after it, or puts the line that
+    // Appends the line of the event of a pick to a text and goes to just after it, or puts the line that
     // there is none.
     fn go_to_event(&mut self, text: &mut Vec<u8>, found: Option<u32>) -> Result<(), NoMemory>
         requires within { IfSome found (λ k. k < length self.old.picks) }
@@ -113,7 +113,7 @@ impl<'c> Debugger<'c> {
         put_vars(text, &self.labels.processes[p].integers, vars)
     }
 
-    // Puts the line of the pick with a number behind a text, with the line of its arm before it.
+    // Appends the line of the pick with a number to a text, with the line of its arm before it.
     fn say_write(&self, text: &mut Vec<u8>, k: u32) -> Result<(), NoMemory>
         requires { k < length self.now.picks }
         ensures { OnOk result ((said : List ℕ) × SaysWrite self.now (Some k) said
@@ -236,7 +236,7 @@ impl<'c> Debugger<'c> {
         self.say_reason(text, p, word.arm as usize)
     }
 
-    /// Puts the line that says why an arm of a process does not go on behind a text.
+    /// Appends the line that says why an arm of a process does not go on to a text.
     pub(crate) fn say_reason(
         &self,
         text: &mut Vec<u8>,
@@ -302,7 +302,7 @@ impl<'c> Debugger<'c> {
         }
     }
 
-    /// Puts the answer to a line, which is given without its line feed, behind a text. Out of memory: the
+    /// Appends the answer to a line, which is given without its line feed, to a text. Out of memory: the
     /// position is as before.
     pub(crate) fn answer(&mut self, text: &mut Vec<u8>, line: &[u8]) -> Result<(), NoMemory>
         ensures answer { OnOk result ((said : List ℕ) × AnswersLine self.old line.now said self.new

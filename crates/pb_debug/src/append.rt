@@ -130,7 +130,7 @@ impl<'c> Debugger<'c> {
         Ok(step)
     }
 
-    // Puts the line of what a pick of an arm at the position came to behind a text.
+    // Appends the line of what a pick of an arm at the position came to to a text.
     fn say_step(&self, text: &mut Vec<u8>, p: usize, arm: usize, step: Step) -> Result<(), NoMemory>
         requires process { p < length (state_of self.now).processes }
         requires names { (event : AnyEvent) → step ≡ Did event → HasNames (shown_names self.now) event }
@@ -145,7 +145,7 @@ impl<'c> Debugger<'c> {
         }
     }
 
-    /// Puts the line of what a pick of an arm after the last comes to behind a text, and appends the pick if
+    /// Appends the line of what a pick of an arm after the last comes to to a text, and appends the pick if
     /// it is enabled.
     pub(crate) fn say_tried(
         &mut self,

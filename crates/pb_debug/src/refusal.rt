@@ -7,7 +7,7 @@ use crate::fault::DebugFault;
 use pb_base::NoMemory;
 use pb_base::writing::put;
 
-/// Puts the line of a refusal of a command behind a text.
+/// Appends the line of a refusal of a command to a text.
 pub(crate) fn put_refusal(text: &mut Vec<u8>, fault: DebugFault) -> Result<(), NoMemory>
     requires { IsCommandRefusal fault }
     ensures { OnOk result (text.new.items ≡ text.old.items ++ refusal_text fault) }

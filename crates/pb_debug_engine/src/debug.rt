@@ -19,7 +19,7 @@ use std::alloc::Global;
 /// it begins with `PBO `. If it, the pick lines or their picks are refused, only the refusal line is written.
 ///
 /// The status is `Done` at the end of the commands, whatever they were. After a read that failed nothing is
-/// written; after a write that failed, a first part of what was being said.
+/// written; after a write that failed, a prefix of the output.
 pub fn debug_engine<I: Input, O: Output>(alloc: Global, input: &mut I, output: &mut O) -> Status
     ensures text { IfSome (I.rest input.old) (λ bytes.
         Tells (SaysOfInput SaysOfDebug bytes) (O.written output.old) (O.written output.new) result) }

@@ -8,14 +8,14 @@ use pb_base::NoMemory;
 use pb_base::writing::{put, put_number};
 use pb_debug_commands::line_numbered;
 
-// Puts the line that says that there is no text behind a text.
+// Appends the line that says that there is no text to a text.
 fn put_no_text(text: &mut Vec<u8>) -> Result<(), NoMemory>
     ensures { OnOk result (text.new.items ≡ text.old.items ++ said.no_text) }
 {
     put(text, b"no text\n")
 }
 
-/// Puts a line of a source behind a text, with its number before it.
+/// Appends a line of a source to a text, with its number before it.
 pub fn put_source(
     text: &mut Vec<u8>,
     source: Option<&[u8]>,

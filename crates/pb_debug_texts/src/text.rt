@@ -15,7 +15,7 @@ use pb_base::{Event, Names, NoMemory, Pick, event_line};
 use pb_machine::{Proc, Thread, ThreadState};
 use std::alloc::Global;
 
-// Puts words and a number behind a text, and ends its line.
+// Appends words and a number to a text, and ends its line.
 fn end_number<I: Integer>(text: &mut Vec<u8>, words: &[u8], number: I) -> Result<(), NoMemory>
     ensures { OnOk result (text.new.items ≡ text.old.items ++ said.line (words.now ++ I.text number)) }
 {
@@ -23,7 +23,7 @@ fn end_number<I: Integer>(text: &mut Vec<u8>, words: &[u8], number: I) -> Result
     put(text, b"\n")
 }
 
-/// Puts words and a name behind a text, and ends its line.
+/// Appends words and a name to a text, and ends its line.
 pub(crate) fn end_name(text: &mut Vec<u8>, words: &[u8], name: &[u8]) -> Result<(), NoMemory>
     ensures { OnOk result (text.new.items ≡ text.old.items ++ said.line (words.now ++ name.now)) }
 {
@@ -31,14 +31,14 @@ pub(crate) fn end_name(text: &mut Vec<u8>, words: &[u8], name: &[u8]) -> Result<
     put(text, b"\n")
 }
 
-/// Puts the line of a position behind a text.
+/// Appends the line of a position to a text.
 pub fn put_at(text: &mut Vec<u8>, position: u32) -> Result<(), NoMemory>
     ensures { OnOk result (text.new.items ≡ text.old.items ++ said.at_text position) }
 {
     end_number(text, b"at ", position)
 }
 
-/// Puts the line of a position and of the event that led to it behind a text.
+/// Appends the line of a position and of the event that led to it to a text.
 pub fn put_event(
     text: &mut Vec<u8>,
     alloc: Global,
@@ -55,14 +55,14 @@ pub fn put_event(
     end_name(text, b" ", &said)
 }
 
-/// Puts the line that says that there is no event behind a text.
+/// Appends the line that says that there is no event to a text.
 pub fn put_no_event(text: &mut Vec<u8>) -> Result<(), NoMemory>
     ensures { OnOk result (text.new.items ≡ text.old.items ++ said.no_event_text) }
 {
     put(text, b"no event\n")
 }
 
-/// Puts the line of a pick, the position just after it, and the line of its arm before it behind a text.
+/// Appends the line of a pick, the position just after it, and the line of its arm before it to a text.
 pub fn put_wrote(
     text: &mut Vec<u8>,
     names: &Names,
@@ -83,21 +83,21 @@ pub fn put_wrote(
     }
 }
 
-/// Puts the line that says that nothing was written behind a text.
+/// Appends the line that says that nothing was written to a text.
 pub fn put_never(text: &mut Vec<u8>) -> Result<(), NoMemory>
     ensures { OnOk result (text.new.items ≡ text.old.items ++ said.never_text) }
 {
     put(text, b"never\n")
 }
 
-/// Puts the line that says that a line is not reached behind a text.
+/// Appends the line that says that a line is not reached to a text.
 pub fn put_not_reached(text: &mut Vec<u8>) -> Result<(), NoMemory>
     ensures { OnOk result (text.new.items ≡ text.old.items ++ said.not_reached_text) }
 {
     put(text, b"not reached\n")
 }
 
-/// Puts the lines of all commands behind a text.
+/// Appends the lines of all commands to a text.
 pub fn put_help(text: &mut Vec<u8>) -> Result<(), NoMemory>
     ensures { OnOk result (text.new.items ≡ text.old.items ++ said.help_text) }
 {
@@ -107,7 +107,7 @@ pub fn put_help(text: &mut Vec<u8>) -> Result<(), NoMemory>
     )
 }
 
-// Puts the line of one integer behind a text.
+// Appends the line of one integer to a text.
 fn put_var(text: &mut Vec<u8>, name: &[u8], value: i64) -> Result<(), NoMemory>
     ensures { OnOk result (text.new.items ≡ text.old.items ++ said.var_text name.now value) }
 {
@@ -115,7 +115,7 @@ fn put_var(text: &mut Vec<u8>, name: &[u8], value: i64) -> Result<(), NoMemory>
     end_number(text, b" ", value)
 }
 
-/// Puts the lines of integers with these names behind a text.
+/// Appends the lines of integers with these names to a text.
 pub fn put_vars(text: &mut Vec<u8>, names: &[Vec<u8>], vars: &[i64]) -> Result<(), NoMemory>
     requires { length names.now ≡ length vars.now }
     ensures { OnOk result (text.new.items
@@ -127,7 +127,7 @@ pub fn put_vars(text: &mut Vec<u8>, names: &[Vec<u8>], vars: &[i64]) -> Result<(
     Ok(())
 }
 
-// Puts the line of an arm behind a text.
+// Appends the line of an arm to a text.
 fn put_thread(text: &mut Vec<u8>, arm: usize, thread: &Thread) -> Result<(), NoMemory>
     ensures { OnOk result (text.new.items ≡ text.old.items ++ said.thread_text arm (thread_view thread.now)) }
 {
@@ -141,7 +141,7 @@ fn put_thread(text: &mut Vec<u8>, arm: usize, thread: &Thread) -> Result<(), NoM
     }
 }
 
-/// Puts the lines of the arms of a process behind a text.
+/// Appends the lines of the arms of a process to a text.
 pub fn put_threads(text: &mut Vec<u8>, process: &Proc) -> Result<(), NoMemory>
     ensures { OnOk result (text.new.items ≡ text.old.items ++ said.threads_text (proc_view process.now)) }
 {
@@ -154,7 +154,7 @@ pub fn put_threads(text: &mut Vec<u8>, process: &Proc) -> Result<(), NoMemory>
     Ok(())
 }
 
-/// Puts the line of a loan behind a text.
+/// Appends the line of a loan to a text.
 pub(crate) fn put_loan(
     text: &mut Vec<u8>,
     names: &Names,
@@ -174,7 +174,7 @@ pub(crate) fn put_loan(
     end_number(text, b" claim ", banker.claim(p, r))
 }
 
-// Puts the lines of the loans of a process behind a text.
+// Appends the lines of the loans of a process to a text.
 fn put_loans_of(
     text: &mut Vec<u8>,
     names: &Names,
@@ -192,7 +192,7 @@ fn put_loans_of(
     Ok(())
 }
 
-/// Puts the line of an amount of cash behind a text.
+/// Appends the line of an amount of cash to a text.
 pub(crate) fn put_cash(
     text: &mut Vec<u8>,
     names: &Names,
@@ -206,7 +206,7 @@ pub(crate) fn put_cash(
     end_name(text, b" ", &names.resources[r])
 }
 
-// Puts the lines of all cash behind a text.
+// Appends the lines of all cash to a text.
 fn put_all_cash(text: &mut Vec<u8>, names: &Names, banker: &Banker) -> Result<(), NoMemory>
     requires { length (names_view names.now).resources ≡ resources banker.now.state }
     ensures { OnOk result (text.new.items ≡ text.old.items
@@ -218,7 +218,7 @@ fn put_all_cash(text: &mut Vec<u8>, names: &Names, banker: &Banker) -> Result<()
     Ok(())
 }
 
-/// Puts the lines of all loans and of the cash behind a text.
+/// Appends the lines of all loans and of the cash to a text.
 pub fn put_loans(text: &mut Vec<u8>, names: &Names, banker: &Banker) -> Result<(), NoMemory>
     requires process_names { length (names_view names.now).processes ≡ processes banker.now.state }
     requires resource_names { length (names_view names.now).resources ≡ resources banker.now.state }
@@ -240,7 +240,7 @@ pub fn put_source_line(text: &mut Vec<u8>, line: Option<u32>) -> Result<(), NoMe
     }
 }
 
-// Puts a word and the names of processes behind a text.
+// Appends a word and the names of processes to a text.
 fn put_names(
     text: &mut Vec<u8>,
     words: &[u8],
@@ -258,7 +258,7 @@ fn put_names(
     put(text, b"\n")
 }
 
-/// Puts the line of a reason behind a text.
+/// Appends the line of a reason to a text.
 pub fn put_why(text: &mut Vec<u8>, names: &Names, why: &Why) -> Result<(), NoMemory>
     requires { HasNamesOf (names_view names.now) why.now }
     ensures { OnOk result (text.new.items ≡ text.old.items ++ said.why_text (names_view names.now) why.now) }

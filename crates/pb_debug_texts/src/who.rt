@@ -51,7 +51,7 @@ fn amount_asked(code: &ProcessCode, thread: &Thread, r: usize) -> u64
     }
 }
 
-// Puts the line of an arm behind a text, if it asks for some of a resource.
+// Appends the line of an arm to a text, if it asks for some of a resource.
 fn put_asker(
     text: &mut Vec<u8>,
     names: &Names,
@@ -74,7 +74,7 @@ fn put_asker(
     end_name(text, b" ", &names.resources[r])
 }
 
-// Puts the lines of the arms of a process that ask for a resource behind a text.
+// Appends the lines of the arms of a process that ask for a resource to a text.
 fn put_askers_in(
     text: &mut Vec<u8>,
     names: &Names,
@@ -96,7 +96,7 @@ fn put_askers_in(
     Ok(())
 }
 
-// Puts the lines of all arms that ask for a resource behind a text.
+// Appends the lines of all arms that ask for a resource to a text.
 fn put_askers(text: &mut Vec<u8>, code: &Code, machine: &Machine, r: usize) -> Result<(), NoMemory>
     requires bundles { (p : ℕ) (process : GivenProcess)
         → slice_get (code_view code.now).processes p ≡ Some (process_view process) → NamesBundles process }
@@ -113,7 +113,7 @@ fn put_askers(text: &mut Vec<u8>, code: &Code, machine: &Machine, r: usize) -> R
     Ok(())
 }
 
-// Puts the line of the loan of a process behind a text, if it holds some of a resource.
+// Appends the line of the loan of a process to a text, if it holds some of a resource.
 fn put_holder(
     text: &mut Vec<u8>,
     names: &Names,
@@ -134,7 +134,7 @@ fn put_holder(
     put_loan(text, names, banker, p, r)
 }
 
-// Puts the lines of all processes that hold a resource behind a text.
+// Appends the lines of all processes that hold a resource to a text.
 fn put_holders(text: &mut Vec<u8>, names: &Names, banker: &Banker, r: usize) -> Result<(), NoMemory>
     requires resource { r < resources banker.now.state }
     requires process_names { length (names_view names.now).processes ≡ processes banker.now.state }
@@ -148,7 +148,7 @@ fn put_holders(text: &mut Vec<u8>, names: &Names, banker: &Banker, r: usize) -> 
     Ok(())
 }
 
-/// Puts the lines of a resource behind a text: of those who hold it, of those who ask for it, and of the cash
+/// Appends the lines of a resource to a text: of those who hold it, of those who ask for it, and of the cash
 /// of it.
 pub fn put_who(text: &mut Vec<u8>, code: &Code, machine: &Machine, r: usize) -> Result<(), NoMemory>
     requires bundles { (p : ℕ) (process : GivenProcess)

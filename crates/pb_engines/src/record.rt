@@ -32,7 +32,7 @@ use std::thread::Threads;
 ///
 /// Without a seed the picks are those that workers make, as in `run`; with one each is drawn from those that
 /// are enabled, and no thread is started. If one could not be started it writes the line `threads`. After
-/// a read that failed nothing is written; after a write that failed, a first part of what was being said.
+/// a read that failed nothing is written; after a write that failed, a prefix of the output.
 pub fn record_engine<I: Input, O: Output, R: Threads + Wait + Sync>(
     rt: &R,
     alloc: Global,

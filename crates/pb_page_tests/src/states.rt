@@ -28,10 +28,7 @@ const WHOLE: Case = Case {
 /// A part of the same run: two rows from position 6 on.
 const PART: Case = Case {
     input: b"resource tape = 1;\nresource disk = 1;\nprocess a begin hold 1 of tape do hold 1 of disk do print 1 od od end\nprocess b begin hold 1 of disk do hold 1 of tape do print 2 od od end\n%%\na.0 6\nb.0 1\na.0 1\nb.0 6\n",
-    shown: Shown {
-        from: 6,
-        rows: 2,
-    },
+    shown: Shown { from: 6, rows: 2 },
     said: b"{\"parbegin\":1,\"kind\":\"run\",\"text\":\"resource tape = 1;\\nresource disk = 1;\\nprocess a begin hold 1 of tape do hold 1 of disk do print 1 od od end\\nprocess b begin hold 1 of disk do hold 1 of tape do print 2 od od end\\n\",\"object\":\"PBO 2\\nresources 2\\nresource tape 1\\nresource disk 1\\nprocesses 2\\nprocess a\\nvars 0\\narms 1\\nclaims 1 1\\narm 0\\ncode 7\\n3 take 0 1\\n3 take 1 1\\n3 push 1\\n3 print\\n3 give 1 1\\n3 give 0 1\\n0 end\\nprocess b\\nvars 0\\narms 1\\nclaims 1 1\\narm 0\\ncode 7\\n4 take 1 1\\n4 take 0 1\\n4 push 2\\n4 print\\n4 give 0 1\\n4 give 1 1\\n0 end\\n\",\"picks\":14,\"from\":6,\"start\":[6,0,[],[],0,1,0,0,0,0,[0,1]],\"rows\":[[1,0,1,1,9,1,10,[1,0],\"b.0 grant 1 disk\"],[0,0,0,-2,\"a end\"]],\"end\":\"more\"}\n",
     status: Status::Done,
 };
@@ -39,10 +36,7 @@ const PART: Case = Case {
 /// A run that stops early, from behind its end.
 const OPEN: Case = Case {
     input: b"resource tape = 1;\nresource disk = 1;\nprocess a begin hold 1 of tape do hold 1 of disk do print 1 od od end\nprocess b begin hold 1 of disk do hold 1 of tape do print 2 od od end\n%%\na.0 6\n",
-    shown: Shown {
-        from: 9,
-        rows: 5,
-    },
+    shown: Shown { from: 9, rows: 5 },
     said: b"{\"parbegin\":1,\"kind\":\"run\",\"text\":\"resource tape = 1;\\nresource disk = 1;\\nprocess a begin hold 1 of tape do hold 1 of disk do print 1 od od end\\nprocess b begin hold 1 of disk do hold 1 of tape do print 2 od od end\\n\",\"object\":\"PBO 2\\nresources 2\\nresource tape 1\\nresource disk 1\\nprocesses 2\\nprocess a\\nvars 0\\narms 1\\nclaims 1 1\\narm 0\\ncode 7\\n3 take 0 1\\n3 take 1 1\\n3 push 1\\n3 print\\n3 give 1 1\\n3 give 0 1\\n0 end\\nprocess b\\nvars 0\\narms 1\\nclaims 1 1\\narm 0\\ncode 7\\n4 take 1 1\\n4 take 0 1\\n4 push 2\\n4 print\\n4 give 0 1\\n4 give 1 1\\n0 end\\n\",\"picks\":6,\"from\":6,\"start\":[6,0,[],[],0,1,0,0,0,0,[0,1]],\"rows\":[],\"end\":\"open\"}\n",
     status: Status::Done,
 };

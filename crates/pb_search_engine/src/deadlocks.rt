@@ -42,7 +42,7 @@ pub fn deadlocks_text(
     Ok(text)
 }
 
-// Puts the lines of a deadlock with this number behind a text, reached by these picks.
+// Appends the lines of a deadlock with this number to a text, reached by these picks.
 fn put_deadlock(
     text: &mut Vec<u8>,
     names: &Names,
@@ -62,7 +62,7 @@ fn put_deadlock(
     Ok(())
 }
 
-// Puts where each process is in a deadlock behind a text.
+// Appends where each process is in a deadlock to a text.
 fn put_stuck(
     text: &mut Vec<u8>,
     names: &Names,
@@ -79,7 +79,7 @@ fn put_stuck(
     Ok(())
 }
 
-// Puts where a process is in a deadlock behind a text, its integers, what it holds and what its arms ask for.
+// Appends where a process is in a deadlock to a text, its integers, what it holds and what its arms ask for.
 fn put_process(
     text: &mut Vec<u8>,
     names: &Names,
@@ -96,7 +96,7 @@ fn put_process(
     put_asks(text, names, name, &process.asks)
 }
 
-// Puts the line that says where a process is behind a text.
+// Appends the line that says where a process is to a text.
 fn put_state(text: &mut Vec<u8>, name: &[u8], state: StuckState) -> Result<(), NoMemory>
     ensures { OnOk result (text.new.items ≡ text.old.items ++ line (name.now ++ state_text state)) }
 {
@@ -109,7 +109,7 @@ fn put_state(text: &mut Vec<u8>, name: &[u8], state: StuckState) -> Result<(), N
     Ok(())
 }
 
-// Puts the lines of what a process holds behind a text.
+// Appends the lines of what a process holds to a text.
 fn put_holds(
     text: &mut Vec<u8>,
     names: &Names,
@@ -124,7 +124,7 @@ fn put_holds(
     Ok(())
 }
 
-// Puts the line of what a process holds of a resource behind a text, if it holds some.
+// Appends the line of what a process holds of a resource to a text, if it holds some.
 fn put_hold(
     text: &mut Vec<u8>,
     names: &Names,
@@ -143,7 +143,7 @@ fn put_hold(
     Ok(())
 }
 
-// Puts the lines of what the arms of a process ask for behind a text.
+// Appends the lines of what the arms of a process ask for to a text.
 fn put_asks(text: &mut Vec<u8>, names: &Names, process: &[u8], asks: &[Ask]) -> Result<(), NoMemory>
     ensures { OnOk result (text.new.items
         ≡ text.old.items ++ flat_map (ask_line (names_view names.now) process.now) asks.now) }
@@ -154,7 +154,7 @@ fn put_asks(text: &mut Vec<u8>, names: &Names, process: &[u8], asks: &[Ask]) -> 
     Ok(())
 }
 
-// Puts the line of what an arm asks for behind a text.
+// Appends the line of what an arm asks for to a text.
 fn put_ask(text: &mut Vec<u8>, names: &Names, process: &[u8], ask: &Ask) -> Result<(), NoMemory>
     ensures { OnOk result (text.new.items ≡ text.old.items ++ ask_line (names_view names.now) process.now ask.now) }
 {
@@ -166,7 +166,7 @@ fn put_ask(text: &mut Vec<u8>, names: &Names, process: &[u8], ask: &Ask) -> Resu
     Ok(())
 }
 
-// Puts the pairs of a bundle behind a text.
+// Appends the pairs of a bundle to a text.
 fn put_pairs(text: &mut Vec<u8>, names: &Names, bundle: &Bundle) -> Result<(), NoMemory>
     ensures { OnOk result (text.new.items ≡ text.old.items ++ pairs_text (names_view names.now) bundle.now) }
 {
@@ -177,7 +177,7 @@ fn put_pairs(text: &mut Vec<u8>, names: &Names, bundle: &Bundle) -> Result<(), N
     Ok(())
 }
 
-// Puts an amount and the name of its resource behind a text.
+// Appends an amount and the name of its resource to a text.
 fn put_pair(text: &mut Vec<u8>, names: &Names, resource: usize, amount: u32) -> Result<(), NoMemory>
     ensures { OnOk result (text.new.items
         ≡ text.old.items ++ pair_text (names_view names.now) (record { resource = resource; amount = amount })) }

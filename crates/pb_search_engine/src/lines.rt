@@ -78,7 +78,7 @@ fn found_text(
     Ok(text)
 }
 
-// Puts the lines of an outcome with this number behind a text, reached by these picks.
+// Appends the lines of an outcome with this number to a text, reached by these picks.
 fn put_outcome(
     text: &mut Vec<u8>,
     names: &Names,
@@ -98,7 +98,7 @@ fn put_outcome(
     Ok(())
 }
 
-/// Puts the first line of an outcome or of a deadlock behind a text: a word and a number.
+/// Appends the first line of an outcome or of a deadlock to a text: a word and a number.
 pub fn put_head(text: &mut Vec<u8>, word: &[u8], number: usize) -> Result<(), NoMemory>
     ensures { OnOk result (text.new.items ≡ text.old.items ++ line (word.now ++ decimal number)) }
 {
@@ -165,7 +165,7 @@ fn put_plural(text: &mut Vec<u8>, number: usize) -> Result<(), NoMemory>
     Ok(())
 }
 
-// Puts whether some run never ends behind a text.
+// Appends whether some run never ends to a text.
 fn put_runs(text: &mut Vec<u8>, cycles: bool) -> Result<(), NoMemory>
     ensures { OnOk result (text.new.items ≡ text.old.items ++ runs_text cycles) }
 {
@@ -175,7 +175,7 @@ fn put_runs(text: &mut Vec<u8>, cycles: bool) -> Result<(), NoMemory>
     Ok(())
 }
 
-// Puts how many deadlocks there are behind a text, if there are some.
+// Appends how many deadlocks there are to a text, if there are some.
 fn put_deadlock_count(text: &mut Vec<u8>, deadlocks: usize) -> Result<(), NoMemory>
     ensures { OnOk result (text.new.items ≡ text.old.items ++ deadlocks_text deadlocks) }
 {
@@ -187,7 +187,7 @@ fn put_deadlock_count(text: &mut Vec<u8>, deadlocks: usize) -> Result<(), NoMemo
     Ok(())
 }
 
-// Puts how each process ended behind a text.
+// Appends how each process ended to a text.
 fn put_processes(
     text: &mut Vec<u8>,
     names: &[Vec<u8>],
@@ -203,7 +203,7 @@ fn put_processes(
     Ok(())
 }
 
-// Puts how a process ended behind a text, and its integers.
+// Appends how a process ended to a text, and its integers.
 fn put_process(
     text: &mut Vec<u8>,
     name: &[u8],
@@ -222,7 +222,7 @@ fn put_process(
     put_integers(text, name, integers, &outcome.integers)
 }
 
-/// Puts the lines of the integers of a process behind a text.
+/// Appends the lines of the integers of a process to a text.
 pub fn put_integers(
     text: &mut Vec<u8>,
     process: &[u8],
@@ -238,7 +238,7 @@ pub fn put_integers(
     Ok(())
 }
 
-// Puts the line of an integer of a process behind a text.
+// Appends the line of an integer of a process to a text.
 fn put_integer(text: &mut Vec<u8>, process: &[u8], name: &[u8], value: i64) -> Result<(), NoMemory>
     ensures { OnOk result (text.new.items ≡ text.old.items ++ integer_line process.now name.now value) }
 {
