@@ -1,12 +1,9 @@
 //! The program `parbegin`.
 #![tactic(auto)]
 
-mod explain_refusal;
-
-use crate::explain_refusal::explain_refusal;
-use pb_answer::answer::answer;
 use pb_base::device::{StandardInput, StandardOutput};
 use pb_command_io::{Page, Status};
+use pb_explained::answer_and_explain;
 use pb_messages::{KeptInput, StandardError};
 use std::alloc::{AllocError, Global};
 use std::env;
@@ -25,7 +22,7 @@ fn start<R: env::Env + AllocGlobal + Threads + Wait + Sync>(
     let alloc = rt.alloc();
     let words = match env::args(rt) {
         Ok(words) => words.collect::<Vec<String>>(alloc),
-        Err(error) if error.kind() == ErrorKind::OutOfMemory => Err(AllocError),
+        Err(fault) if fault.kind() == ErrorKind::OutOfMemory => Err(AllocError),
         Err(_) => {
             let text = b"error: the words of the call are not UTF-8";
             return Page::new(alloc).finish_with(output, text, Status::Words);
@@ -39,26 +36,6 @@ fn start<R: env::Env + AllocGlobal + Threads + Wait + Sync>(
         Ok(texts) => answer_and_explain(rt, alloc, texts.as_slice(), input, output, error),
         Err(_) => Page::new(alloc).finish_with(output, b"memory", Status::Memory),
     }
-}
-
-// Does what the words say, and explains a refusal on standard error, unless the first word is `--quiet`. (It
-// is then in the place of the program's name, which is not looked at.)
-fn answer_and_explain<R: AllocGlobal + Threads + Wait + Sync>(
-    rt: &R,
-    alloc: Global,
-    words: &[&str],
-    input: &mut KeptInput<StandardInput>,
-    output: &mut StandardOutput,
-    error: &mut StandardError,
-) -> Status {
-    if words.len() > 1 && words[1] == "--quiet" {
-        return answer(rt, alloc, &words[1..], input, output);
-    }
-    let status = answer(rt, alloc, words, input, output);
-    if let (Status::Refused, Some(bytes)) = (status, input.kept()) {
-        explain_refusal(alloc, words, bytes, error);
-    }
-    status
 }
 
 fn main(rt: HostRuntime) -> ExitCode {

@@ -14,6 +14,8 @@ mod draw;
 #[cfg(test)]
 mod examples;
 #[cfg(test)]
+mod explained;
+#[cfg(test)]
 mod explore;
 #[cfg(test)]
 mod graph;

@@ -1,0 +1,89 @@
+-- What a call writes on its output and on standard error: its answer, and what a person is told of a refusal.
+use Rattle.std.specs.Prelude.{◌≡◌, ◌⊎◌, ℕ, Bool, true, false, List, [], ◌∷◌, Option, Some, codes}
+use Rattle.std.specs.Borrow.{Bor}
+use Rattle.clap.specs.Words.{Text}
+use Rattle.pb_base.specs.Device.{appended, one_more_failure, AddsPrefix}
+use Rattle.pb_answer.specs.Calls.{CallTellsFaults, CallWrites}
+use Rattle.pb_command_io.specs.Faults.{Devices}
+use Rattle.pb_command_io.specs.declared.status.Status.{Status}
+use Rattle.pb_command_io.specs.declared.status.Status.TheVariants.{Refused}
+use Rattle.pb_messages.specs.LiveInputs.{SaysOfLiveInput}
+use Rattle.pb_messages.specs.Said.{SaysToPerson}
+use Rattle.pb_messages.specs.declared.message.Reading.{Reading}
+use Rattle.pb_messages.specs.declared.message.Reading.TheVariants as reading
+use Rattle.pb_object.specs.declared.format.Format.{Format}
+use Rattle.pb_object.specs.declared.format.Format.TheVariants.{One, Two}
+use Rattle.pb_words.specs.Read.{WordsSay}
+use Rattle.pb_words.specs.declared.words.Options.{Options}
+use Rattle.pb_words.specs.declared.words.Options.TheVariants as option
+
+-- the call is to be quiet: `--quiet` is the first word behind the program's name
+abbrev pub IsQuiet : List (Bor Text) → Type 0
+IsQuiet [] = ⊥
+IsQuiet (name ∷ []) = ⊥
+IsQuiet (name ∷ word ∷ words) = word.now ≡ codes "--quiet"
+
+-- the words that are read: all of them; or, if the call is to be quiet, those from `--quiet` on, which is then
+-- in the place of the program's name
+pub data IsHeard : (words heard : List (Bor Text)) → Type 0 where
+  loud : (words : List (Bor Text)) → (IsQuiet words → ⊥) → IsHeard words words
+  quiet : (name : Bor Text) (words : List (Bor Text)) → IsQuiet (name ∷ words) → IsHeard (name ∷ words) words
+
+-- how `emit` reads its input
+abbrev pub format_reading : Format → Reading
+format_reading One = reading.FirstFormat
+format_reading Two = reading.Text
+
+-- what a person is told of bytes that `debug` refused, if it reads the commands as they come, or all before it
+-- writes
+abbrev pub TellsDebugged : (live : Bool) → (bytes told : List ℕ) → Type 0
+TellsDebugged true = SaysOfLiveInput
+TellsDebugged false = SaysToPerson reading.Debugged
+
+-- what a person is told of bytes that a command refused: nothing of `bank` and `explain`, which refuse no input
+abbrev pub TellsRefused : Options → (bytes told : List ℕ) → Type 0
+TellsRefused option.Bank = λ bytes told. ⊥
+TellsRefused (option.Check numbers) = SaysToPerson reading.Texts
+TellsRefused option.Claims = SaysToPerson reading.Claims
+TellsRefused (option.Debug flags) = TellsDebugged flags.live
+TellsRefused option.Draw = SaysToPerson reading.Replayed
+TellsRefused (option.Emit numbers) = SaysToPerson (format_reading numbers.object)
+TellsRefused (option.Exec numbers) = SaysToPerson reading.Object
+TellsRefused (option.Explain code) = λ bytes told. ⊥
+TellsRefused option.Migrate = SaysToPerson reading.Object
+TellsRefused (option.Outcomes numbers) = SaysToPerson reading.Text
+TellsRefused (option.Record numbers) = SaysToPerson reading.Recorded
+TellsRefused option.Replay = SaysToPerson reading.Replayed
+TellsRefused (option.Run numbers) = SaysToPerson reading.Text
+TellsRefused (option.States numbers) = SaysToPerson reading.Replayed
+
+-- nothing was written to an output
+abbrev pub Untouched : Devices → Devices → Type 0
+Untouched old new = (new.writes ≡ old.writes) × (new.written ≡ old.written)
+
+-- a text was written to an output; or a write failed, and some first part of it was written
+abbrev pub Wrote : Devices → Devices → (text : List ℕ) → Type 0
+Wrote old new text =
+    ((new.writes ≡ old.writes) × (new.written ≡ appended old.written text))
+    ⊎ ((new.writes ≡ one_more_failure old.writes) × AddsPrefix old.written new.written text)
+
+-- these words say a command, and what a person is told of bytes that it refused was written
+abbrev pub Explains : (words : List (Bor Text)) → (bytes : List ℕ) → Devices → Devices → Type 0
+Explains words bytes old new =
+    (o : Options) × WordsSay words o × ((told : List ℕ) × TellsRefused o bytes told × Wrote old new told)
+
+-- what a person is told of a call, if it is not to be quiet and ends with the status of a refusal: nothing, or
+-- what its command says of the bytes that were kept; of any other call nothing
+abbrev pub TellsPerson : (words heard : List (Bor Text)) → Status → (kept : Option (List ℕ)) → Devices → Devices → Type 0
+TellsPerson words heard status kept old new =
+    Untouched old new
+    ⊎ ((IsQuiet words → ⊥) × (status ≡ Refused)
+    × ((bytes : List ℕ) × (kept ≡ Some bytes) × Explains heard bytes old new))
+
+-- the answer of a call is on its output, and what a person is told of it on standard error; the words are read
+-- without `--quiet`
+abbrev pub AnswersAndExplains : (words : List (Bor Text)) → (rest left kept : Option (List ℕ))
+    → (old new error_old error_new : Devices) → Status → Type 0
+AnswersAndExplains words rest left kept old new error_old error_new status =
+    (heard : List (Bor Text)) × IsHeard words heard × CallWrites heard rest old.written new.written status
+    × CallTellsFaults heard rest left old new status × TellsPerson words heard status kept error_old error_new

@@ -1,0 +1,60 @@
+//! What is said to a person when an input was refused.
+
+ghost use Rattle.std.specs.Prelude.{◌≡◌, ◌⊎◌, IfOk, IfSome};
+ghost use Rattle.pb_explained.specs.Explained.{Explains, TellsRefused, Untouched, format_reading};
+
+use pb_base::NoMemory;
+use pb_base::device::{Output, write_all};
+use pb_messages::{Reading, live_message, message_of};
+use pb_object::Format;
+use pb_words::{Options, options};
+use std::alloc::Global;
+
+/// Writes what is wrong with the bytes that the command of these words refused, and where, if there is
+/// anything to be said of them and memory for it.
+pub fn explain_refusal<E: Output>(alloc: Global, words: &[&str], bytes: &[u8], error: &mut E)
+    ensures { Untouched
+        (record { reads = 0; writes = E.failures error.old; written = E.written error.old })
+        (record { reads = 0; writes = E.failures error.new; written = E.written error.new })
+        ⊎ Explains words.now bytes.now
+        (record { reads = 0; writes = E.failures error.old; written = E.written error.old })
+        (record { reads = 0; writes = E.failures error.new; written = E.written error.new }) }
+{
+    let Ok(options) = options(alloc, words) else {
+        return;
+    };
+    let Some(Ok(message)) = message_for(alloc, &options, bytes) else {
+        return;
+    };
+    let _ = write_all(error, &message);
+}
+
+// Returns the message of what a command refused, or nothing if it refuses no input.
+fn message_for(alloc: Global, options: &Options, bytes: &[u8]) -> Option<Result<Vec<u8>, NoMemory>>
+    ensures { IfSome result (λ made. IfOk made (λ message. TellsRefused options.now bytes.now message.items)) }
+{
+    match options {
+        Options::Check(_) => Some(message_of(alloc, Reading::Texts, bytes)),
+        Options::Claims => Some(message_of(alloc, Reading::Claims, bytes)),
+        Options::Debug(flags) if flags.live => Some(live_message(alloc, bytes)),
+        Options::Debug(_) => Some(message_of(alloc, Reading::Debugged, bytes)),
+        Options::Emit(numbers) => Some(message_of(alloc, reading_of(numbers.object), bytes)),
+        Options::Outcomes(_) | Options::Run(_) => Some(message_of(alloc, Reading::Text, bytes)),
+        Options::Record(_) => Some(message_of(alloc, Reading::Recorded, bytes)),
+        Options::Exec(_) | Options::Migrate => Some(message_of(alloc, Reading::Object, bytes)),
+        Options::Draw | Options::Replay | Options::States(_) => {
+            Some(message_of(alloc, Reading::Replayed, bytes))
+        }
+        Options::Bank | Options::Explain(_) => None,
+    }
+}
+
+// Returns how `emit` reads its input.
+fn reading_of(format: Format) -> Reading
+    ensures { result ≡ format_reading format }
+{
+    match format {
+        Format::One => Reading::FirstFormat,
+        Format::Two => Reading::Text,
+    }
+}
