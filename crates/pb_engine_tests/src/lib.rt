@@ -14,8 +14,6 @@ mod draw;
 #[cfg(test)]
 mod examples;
 #[cfg(test)]
-mod explained;
-#[cfg(test)]
 mod explore;
 #[cfg(test)]
 mod graph;

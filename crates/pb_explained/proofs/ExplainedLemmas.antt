@@ -1,5 +1,5 @@
 -- The words that are read of a call.
-use Rattle.std.proofs.Common.{◌≡◌, ◌-◌, ◌<◌, List, [], ◌∷◌, length, take, drop, sym, subst, arith}
+use Rattle.std.proofs.Common.{◌-◌, ◌<◌, List, [], ◌∷◌, length, take, drop, sym, subst, arith}
 use Rattle.std.specs.Borrow.{Bor}
 use Rattle.std.proofs.lemmas.List.{take_all}
 use Rattle.clap.specs.Words.{Text}
