@@ -1,7 +1,9 @@
 #!/bin/sh
 # Puts the program and its script under a prefix, so that `parbegin` is on the path.
 #
-#     ./install.sh [PREFIX]     PREFIX is /usr/local if none is given
+#     ./install.sh [PREFIX]             PREFIX is /usr/local if none is given
+#     ./install.sh PREFIX library       the library for C too, built first: libparbegin.a and libparbegin.so, parbegin.h,
+#                                       parbegin.pc, and the Python module
 #
 # The program is built first if it has to be. PREFIX/bin/parbegin is the script, PREFIX/libexec/parbegin/pb_cli the
 # program, PREFIX/libexec/parbegin/script what the script does, PREFIX/share/parbegin/page the template of `page`; the
@@ -9,6 +11,10 @@
 set -eu
 top=$(CDPATH= cd -- "$(dirname -- "$0")" && pwd)
 prefix=${1:-/usr/local}
+case ${2-} in
+    "" | library) ;;
+    *) echo "usage: ./install.sh [PREFIX [library]]" >&2; exit 2 ;;
+esac
 
 "$top/parbegin" run "$top/examples/hello.pb" >/dev/null
 
@@ -30,3 +36,15 @@ done
 put 644 "$top/docs/parbegin.1" "$prefix/share/man/man1" parbegin.1
 put 644 "$top/extras/completion/parbegin.bash" "$prefix/share/bash-completion/completions" parbegin
 put 644 "$top/extras/completion/parbegin.fish" "$prefix/share/fish/vendor_completions.d" parbegin.fish
+
+[ "${2-}" = library ] || exit 0
+built=$(mktemp -d)
+trap 'rm -rf "$built"' EXIT
+"$top/parbegin" library "$built" "$prefix" >/dev/null
+put 644 "$built/libparbegin.a" "$prefix/lib" libparbegin.a
+put 755 "$built/libparbegin.so" "$prefix/lib" libparbegin.so.0
+ln -sf libparbegin.so.0 "$prefix/lib/libparbegin.so"
+echo "$prefix/lib/libparbegin.so"
+put 644 "$built/parbegin.pc" "$prefix/lib/pkgconfig" parbegin.pc
+put 644 "$built/parbegin.h" "$prefix/include" parbegin.h
+put 644 "$top/extras/python/parbegin.py" "$prefix/share/parbegin/python" parbegin.py

@@ -5,7 +5,8 @@
 
 FOLDER holds the library, as `./parbegin library FOLDER` writes it. With the built program, if it has the command `bank`,
 Python asks through pipes too. Wants `gcc` and `cargo`. Says nanoseconds a turn, the least of many short rounds, so that
-what else the machine does is mostly left out.
+what else the machine does is mostly left out. benches/banker.py times the proved call by itself (*kept* is this request), and
+benches/bank_pipe.py many commands at once.
 """
 from __future__ import annotations
 

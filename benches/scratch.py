@@ -15,8 +15,8 @@ TOP = pathlib.Path(__file__).resolve().parent.parent
 
 def needed(names):
     """These crates of the repository, and those that they depend on."""
-    lines = [line.split(":") for line in (TOP / "crates.txt").read_text().splitlines() if ":" in line]
-    below = {name.split()[0]: words.split() for name, words in lines}
+    lines = [line.partition("#")[0].partition(":") for line in (TOP / "crates.txt").read_text().splitlines()]
+    below = {name.split()[0]: words.split() for name, colon, words in lines if colon}
     found, waiting = [], list(names)
     while waiting:
         name = waiting.pop()
@@ -46,7 +46,7 @@ def build_proved(folder, needs, files):
     for name in crates:
         copy_crate(name, folder)
     lines = [line for line in (TOP / "crates.txt").read_text().splitlines()
-             if ":" in line and line.split(":")[0].split()[0] in crates]
+             if ":" in line.partition("#")[0] and line.split(":")[0].split()[0] in crates]
     (folder / "crates.txt").write_text("\n".join(lines + [f"bench: {' '.join(needs)}"]) + "\n")
     shutil.copy(TOP / "HANDLES", folder)
     crate = folder / "crates" / "bench"

@@ -41,6 +41,7 @@ QUICK = (
 SLOW = (
     "./parbegin check examples/hello.pb",
     f"checks/drawn_programs.py {PROGRAM}",
+    f"checks/printed_outcomes.py {PROGRAM}",
     f"checks/devices.py {PROGRAM}",
     f"checks/forged_objects.py {PROGRAM}",
     f"checks/sizes.py {PROGRAM}",

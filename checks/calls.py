@@ -9,8 +9,9 @@ import tempfile
 
 TOP = pathlib.Path(__file__).resolve().parent.parent
 EXAMPLES = sorted((TOP / "examples").glob("*.pb"))
+BANKS = sorted((TOP / "examples").rglob("*.bank"))
 # The endings of the files of examples/ that a command reads, with how the names of their constants end.
-KINDS = {".pb": "", ".pbo": "_OBJECT", ".run": "_RUN"}
+KINDS = {".pb": "", ".pbo": "_OBJECT", ".run": "_RUN", ".bank": "_COMMANDS"}
 DONE, REFUSED, WORDS, LIMIT, FAULT, MEMORY, DEVICE, THREADS = range(8)
 # The longest input that a command reads, and the longest text.
 MOST_INPUT, MOST_TEXT = 4_194_304, 65_536
@@ -117,9 +118,11 @@ def debugged(text):
 
 def inputs():
     """Returns for each command some words and inputs that it accepts, each with a name."""
+    for file in BANKS:
+        yield f"bank {file.name}", ["bank"], file.read_bytes()
     texts = [(file.name, file.read_bytes()) for file in EXAMPLES] + [("2,000 prints", many_prints(2000))]
     for name, text in texts:
-        for command in ("run", "claims", "check", "emit", "record"):
+        for command in ("run", "claims", "plan", "check", "emit", "record"):
             yield f"{command} {name}", [command], text
         yield f"emit --object 1 {name}", ["emit", "--object", "1"], text
         yield f"record --seed 7 {name}", ["record", "--seed", "7"], text
@@ -130,5 +133,6 @@ def inputs():
         yield f"debug --live {name}", ["debug", "--live"], debugged(text)
         yield f"outcomes {name}", ["outcomes"], text
         yield f"outcomes --lend cash {name}", ["outcomes", "--lend", "cash"], text
+        yield f"outcomes --prints {name}", ["outcomes", "--prints", "--states", "2000"], text
         yield f"exec {name}", ["exec"], object_of(text)
         yield f"migrate {name}", ["migrate"], first_object_of(text)

@@ -9,7 +9,7 @@ reading of the documents, makes of the same call, where it knows the command. Ev
 with a comment at its head. Its status is 0 if all is as wanted, and 1 if not.
 """
 import reference
-from calls import DONE, TOP, Tally, call
+from calls import DONE, KINDS, TOP, Tally, call
 
 FOLDER = TOP / "examples"
 EXPECTED = FOLDER / "expected"
@@ -48,7 +48,7 @@ def main():
         made.add(row[0])
         try_program(tally, *row)
         compared += try_reference(tally, *row)
-    for file in [*FOLDER.rglob("*.pb"), *FOLDER.rglob("*.run"), *FOLDER.rglob("*.pbo")]:
+    for file in [file for kind in KINDS for file in FOLDER.rglob(f"*{kind}")]:
         tally.expect(file in used, "no call names", file)
     for file in FOLDER.rglob("*.pb"):
         tally.expect(file.name == "hello.pb" or file.read_text().startswith("// "), "no comment at the head of", file)

@@ -36,8 +36,8 @@ def main():
     tally = Tally()
     for file in EXAMPLES:
         text = file.read_bytes()
-        for words in (["check"], ["check", "--heap", "1048576"], ["claims"], ["run"], ["emit"], ["emit", "--object", "1"],
-                      ["record"], ["record", "--seed", "7"], ["run", "--workers", "4", "--quantum", "1"], ["outcomes"]):
+        for words in (["check"], ["check", "--heap", "1048576"], ["claims"], ["plan"], ["run"], ["emit"],
+                      ["emit", "--object", "1"], ["record"], ["record", "--seed", "7"], ["run", "--workers", "4", "--quantum", "1"], ["outcomes"]):
             look(tally, "memcheck", words, text, file.name)
         look(tally, "memcheck", ["exec"], object_of(text), file.name)
         look(tally, "memcheck", ["migrate"], first_object_of(text), file.name)

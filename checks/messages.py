@@ -21,7 +21,7 @@ import tempfile
 from calls import DONE, REFUSED, TOP, Tally, call, program
 
 FOLDER = TOP / "checks/messages"
-EXAMPLE = re.compile(r"\nFor example, a shell that is told\n\n((?:[^\n]+\n)+)\nshows\n")
+EXAMPLE = re.compile(r"\nFor example:\n\n((?:[^\n]+\n)+)\nshows\n")
 COMMANDS = {".pb": "check", ".run": "replay"}
 
 

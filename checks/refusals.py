@@ -24,7 +24,7 @@ COMPLETIONS = TOP / "extras/completion/parbegin.bash", TOP / "extras/completion/
 # The page of a code: its first line, the meaning, an example with its refusal line, and what to do.
 PAGE = re.compile(
     r"(?P<first>[^\n]*)\n\n(?P<meaning>(?:[^\n]+\n)+)"
-    r"(?:\nFor example, a shell that is told\n\n(?P<call>(?:[^\n]+\n)+)\nshows\n\n(?P<line>[^\n]*)\n)?"
+    r"(?:\nFor example:\n\n(?P<call>(?:[^\n]+\n)+)\nshows\n\n(?P<line>[^\n]*)\n)?"
     r"\n(?P<mend>(?:[^\n]+\n)+)"
 )
 HEAD = """# Refusals
@@ -48,7 +48,7 @@ def section(page):
     it = PAGE.fullmatch(page)
     parts = [f"## {it['first']}", it["meaning"].strip()]
     if it["call"]:
-        parts += ["For example, a shell that is told", f"```\n{it['call']}```", "shows", f"```\n{it['line']}\n```"]
+        parts += ["For example:", f"```\n{it['call']}```", "shows", f"```\n{it['line']}\n```"]
     return "\n\n".join([*parts, it["mend"]])
 
 

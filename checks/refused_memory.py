@@ -16,8 +16,8 @@ import concurrent.futures
 import os
 import tempfile
 
-from calls import (DONE, EXAMPLES, MEMORY, THREADS, Tally, call, debugged, first_object_of, first_process, object_of, preload,
-                   program, recorded)
+from calls import (BANKS, DONE, EXAMPLES, MEMORY, THREADS, Tally, call, debugged, first_object_of, first_process, object_of,
+                   preload, program, recorded)
 from texts import LIMITS, many
 
 # A request is refused if its number, counted over all threads, is REFUSED; the file REFUSAL is made then.
@@ -67,7 +67,7 @@ DEVICES = next(file for file in EXAMPLES if file.name == "devices.pb").read_byte
 LARGEST = max((file.read_bytes() for file in EXAMPLES), key=len)
 TEXTS = {"nested holds": NESTED, "a loop of two arms that print": PRINTING, "tape and disk": DEVICES,
          "the largest example": LARGEST}
-ON_TEXTS = [["check"], ["check", "--heap", "1048576"], ["claims"], ["emit"], ["emit", "--object", "1"],
+ON_TEXTS = [["check"], ["check", "--heap", "1048576"], ["claims"], ["plan"], ["emit"], ["emit", "--object", "1"],
             ["run", "--workers", "1"], ["run", "--workers", "1", "--quantum", "1"], ["run", "--workers", "4"],
             ["record"], ["record", "--seed", "7"], ["record", "--workers", "4", "--quantum", "1"]]
 # With the name of a process in place of P.
@@ -149,12 +149,15 @@ def cases():
         yield name, ["migrate"], first_object_of(text)
         yield name, ["outcomes"], text
         yield name, ["outcomes", "--lend", "cash"], text
+        yield name, ["outcomes", "--prints", "--states", "2000"], text
         yield name, ["replay"], recorded(text)
         yield name, ["draw"], recorded(text)
         started = text + (b"%%\nP.0 1\n%%\n" + PICKING).replace(b"P", first_process(text))
         for given in (debugged(text), started):
             yield name, ["debug"], given
             yield name, ["debug", "--live"], given
+    for file in BANKS:
+        yield file.name, ["bank"], file.read_bytes()
     for kind, most in LIMITS.items():
         for words in (["check"], ["claims"], ["emit"], ["run"], ["outcomes", "--states", "100"]):
             yield f"{most} {kind}", words, many(kind, most)

@@ -59,13 +59,13 @@ FULL_TEXTS = ["(", ")", "-", "not ", "begin ", "parbegin ", "1+", "x:=1;", "whil
               "print 1;", "// ", "\n", " ", "process p ", "9", "a", "\0", "\xff", "%%\n"]
 # (more configurations take more than a second)
 OUTCOMES = ["outcomes", "--states", "1000"]
-COMMANDS = [["check"], ["check", "--heap", "16777216"], ["claims"], ["run"], ["emit"], ["emit", "--object", "1"], ["record"],
-            ["record", "--seed", "1"], ["replay"], ["exec"], ["migrate"], ["draw"], ["debug"], OUTCOMES]
+COMMANDS = [["check"], ["check", "--heap", "16777216"], ["claims"], ["plan"], ["run"], ["emit"], ["emit", "--object", "1"],
+            ["record"], ["record", "--seed", "1"], ["replay"], ["exec"], ["migrate"], ["draw"], ["debug"], OUTCOMES]
 
 
 def at_the_limits(trial):
     for kind, most in LIMITS.items():
-        for command in ("check", "run", "emit", "claims", "record"):
+        for command in ("check", "run", "emit", "claims", "plan", "record"):
             trial.expect(f"{most} {kind}", [command], many(kind, most), DONE)
             trial.expect(f"{most + 1} {kind}", [command], many(kind, most + 1), REFUSED)
         trial.answer(f"{most} {kind}", OUTCOMES, many(kind, most))

@@ -35,7 +35,7 @@ def cases():
     yield from calls_of_examples()
     for kind, most in texts.LIMITS.items():
         for count in (most, most + 1):
-            for command in ("check", "claims", "emit", "run", "record"):
+            for command in ("check", "claims", "plan", "emit", "run", "record"):
                 yield f"{count} {kind}", [command, *(STEPS if command in ("run", "record") else [])], texts.many(kind, count)
     for given in objects():
         for forgery in forgeries(given):

@@ -17,7 +17,7 @@ MINUTES = {
     "pb_debug_engine": 0.8, "pb_debug_texts": 1.5, "pb_draw": 1.5, "pb_draw_engine": 0.5, "pb_engines": 0.7,
     "pb_message_excerpts": 0.8, "pb_explain": 0.6, "pb_search": 2.3, "pb_generator": 2, "pb_grammar": 4.1,
     "pb_search_graph": 0.8, "pb_groups": 0.5, "pb_history": 1.4, "pb_draw_picture": 1.2, "pb_lexer": 1, "pb_machine": 3.3, "pb_messages": 1.8,
-    "pb_names": 1.9, "pb_object": 4.4, "pb_options": 0.4, "pb_search_engine": 1.3, "pb_parser": 1.7, "pb_picks": 0.7,
+    "pb_names": 1.9, "pb_object": 4.4, "pb_options": 0.4, "pb_search_engine": 1.3, "pb_parser": 1.7, "pb_plan": 1.6, "pb_plan_engine": 1.2, "pb_picks": 0.7,
     "pb_debug_positions": 0.9, "pb_resolver": 2, "pb_record": 0.6, "pb_shared": 3.1, "pb_search_stages": 2,
     "pb_accept": 2.2, "pb_tree": 1.9, "pb_verifier": 2.8, "pb_message_wording": 3.8, "pb_words": 1, "pb_workers": 0.9,
 }

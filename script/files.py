@@ -13,7 +13,7 @@ from script.places import DEVICE, say
 # Commands whose words are never files.
 NO_FILES = ("explain", "help")
 # Commands that read one text, an object, and a text with picks.
-OF_TEXTS = ("run", "claims", "emit", "record", "outcomes")
+OF_TEXTS = ("run", "claims", "plan", "emit", "record", "outcomes")
 OF_OBJECTS = ("exec", "migrate")
 OF_PICKS = ("replay", "draw", "states")
 PICK = re.compile(rb"[A-Za-z]\w*\.\d+ \d+$")

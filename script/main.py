@@ -2,6 +2,7 @@
 from __future__ import annotations
 
 import os
+import re
 import signal
 import sys
 
@@ -32,8 +33,15 @@ def tell_what_it_awaits(command: str) -> None:
         say(f"waiting for {AWAITED.get(command, 'a text')} from the terminal; Ctrl-D at the start of a line ends it")
 
 
+def as_codes(words: list[str]) -> list[str]:
+    """Returns words with codes of refusals as the program spells them: `n3` is `N3`."""
+    return [word.upper() if re.fullmatch(r"[a-z][0-9]", word) else word for word in words]
+
+
 def run_command(start: list[str], command: str, words: list[str]) -> int:
     """Runs a command of which some words may name files, and returns its status if it did not become the program."""
+    if command == "explain":
+        words = as_codes(words)
     if command in files.NO_FILES:
         if helping.are_refused(start, [command, *words]):
             return WORDS
@@ -86,8 +94,8 @@ def run_words(start: list[str], words: list[str]) -> int:
 
 # Commands that need not be looked for in the program's help.
 COMMANDS = (
-    "bank", "check", "claims", "debug", "draw", "emit", "exec", "explain", "migrate", "outcomes", "record", "replay", "run",
-    "states",
+    "bank", "check", "claims", "debug", "draw", "emit", "exec", "explain", "migrate", "outcomes", "plan", "record", "replay",
+    "run", "states",
 )
 
 

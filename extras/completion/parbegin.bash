@@ -5,7 +5,7 @@ _parbegin() {
         at=$((at + 1))
     done
     if ((COMP_CWORD <= at)); then
-        local commands="bank check claims debug draw emit exec explain migrate outcomes record replay run states help --help --version"
+        local commands="bank check claims debug draw emit exec explain migrate outcomes plan record replay run states help --help --version"
         if [[ ${COMP_WORDS[at - 1]} != --quiet ]]; then
             commands+=" --quiet"
         fi
@@ -49,14 +49,15 @@ _parbegin() {
         return
         ;;
     migrate) options="" ;;
-    outcomes) options="--states --lend --first-deadlock" ;;
+    outcomes) options="--states --lend --first-deadlock --prints" ;;
+    plan) options="" ;;
     record) options="--workers --quantum --steps --seed" ;;
     replay) options="" ;;
     run) options="--workers --quantum --steps" ;;
     states) options="--rows --from" ;;
     help)
         # its word is a command
-        local named="bank check claims debug draw emit exec explain migrate outcomes record replay run states"
+        local named="bank check claims debug draw emit exec explain migrate outcomes plan record replay run states"
         mapfile -t COMPREPLY < <(compgen -W "$named" -- "$word")
         return
         ;;

@@ -1,5 +1,5 @@
 # Completion of parbegin for fish. To use it: copy this file to ~/.config/fish/completions, or let install.sh do it.
-set -l commands bank check claims debug draw emit exec explain migrate outcomes record replay run states help
+set -l commands bank check claims debug draw emit exec explain migrate outcomes plan record replay run states help
 
 complete -c parbegin -n "not __fish_seen_subcommand_from $commands" -f
 complete -c parbegin -n "not __fish_seen_subcommand_from $commands" -l unproved -d "Run the sources with no proof"
@@ -18,6 +18,7 @@ set -l codes L1 L2 L3 L4 P1 P2 P3 N1 N2 N3 N4 N6 C1 E1 O1 O2 V1 V2 V3 V4 V5 V6 V
 complete -c parbegin -n "not __fish_seen_subcommand_from $commands" -a explain -d "Print what a refusal means"
 complete -c parbegin -n "not __fish_seen_subcommand_from $commands" -a migrate -d "Print an object in format 2"
 complete -c parbegin -n "not __fish_seen_subcommand_from $commands" -a outcomes -d "Print every way in which a program can end"
+complete -c parbegin -n "not __fish_seen_subcommand_from $commands" -a plan -d "Print what a program needs of each resource, and why"
 complete -c parbegin -n "not __fish_seen_subcommand_from $commands" -a record -d "Run a program and print its picks"
 complete -c parbegin -n "not __fish_seen_subcommand_from $commands" -a replay -d "Replay recorded picks"
 complete -c parbegin -n "not __fish_seen_subcommand_from $commands" -a run -d "Run a program"
@@ -38,6 +39,7 @@ complete -c parbegin -n "__fish_seen_subcommand_from $commands; and not __fish_s
 complete -c parbegin -n "__fish_seen_subcommand_from outcomes" -l states -x -d "Most configurations, 1 to 4000000"
 complete -c parbegin -n "__fish_seen_subcommand_from outcomes" -l lend -x -a "banker cash" -d "Who decides on a request"
 complete -c parbegin -n "__fish_seen_subcommand_from outcomes" -l first-deadlock -d "End at the first deadlock"
+complete -c parbegin -n "__fish_seen_subcommand_from outcomes" -l prints -d "Tell prints apart, and show them"
 complete -c parbegin -n "__fish_seen_subcommand_from states" -l rows -x -d "Most rows, 1 to 1000000"
 complete -c parbegin -n "__fish_seen_subcommand_from states" -l from -x -d "Begin at this position"
 complete -c parbegin -n "__fish_seen_subcommand_from record" -l seed -x -d "Draw the run by this seed"

@@ -78,6 +78,8 @@ NO_BANK = "the numbers make no bank"
 OVER_CAPITAL = "a claim is over the capital"
 FULL = "there are 64 jobs already"
 NOT_SAFE = "not all jobs could finish"
+HAS_WISH = "the job has a wish in the queue"
+NO_WISH = "the job has no wish in the queue"
 # what the library says, as numbers
 FAULTS = {3: NO_REQUEST, 4: NOT_HELD, 6: NO_BANK, 7: OVER_CAPITAL, 8: FULL, 10: NOT_SAFE}
 ANSWERS = {0: Answer.GRANTED, 1: Answer.NOT_NOW, 2: Answer.OVER_CLAIM}
@@ -325,33 +327,73 @@ class Bank:
 
     A job is named by its slot, a number from 0 to 63 that `join` returns. After each call all jobs can finish in some
     order: a request is granted exactly if claim and cash allow it and that stays so. A call that raises Fault changes
-    nothing.
+    nothing. The queue of `want` is kept here, over the bank's `ask`, by the rule of the command `bank`.
     """
 
     def __init__(self, capital: Sequence[int], program: str | None = None) -> None:
         """Opens a bank with this capital and no jobs. `program` is a program to ask in place of the library."""
         library = None if program else _LIBRARY
         self._bank: _Backend = _InLibrary(library, capital) if library else _ByPipe(program or _program(), capital)
+        # the queue: the wish of each job that waits, in the order in which they came
+        self._wishes: dict[int, list[int]] = {}
 
     def join(self, claims: Sequence[int]) -> int:
         """A job joins with a claim on each resource, the most that it will hold at once. Returns its slot."""
         return self._bank.join(claims)
 
-    def leave(self, job: int) -> None:
-        """A job leaves: all that it holds comes back, and its slot is free."""
+    def leave(self, job: int) -> list[int]:
+        """A job leaves: all that it holds comes back, its slot is free, and its wish is gone.
+
+        Returns the jobs whose wishes are granted now, in the order in which they came.
+        """
         self._bank.leave(job)
+        self._wishes.pop(job, None)
+        return self._serve()
 
     def ask(self, job: int, amounts: Sequence[int]) -> Answer:
-        """Asks for an amount of each resource, all or none of them."""
+        """Asks for an amount of each resource, all or none of them. A job that has a wish may not ask."""
+        if job in self._wishes:
+            raise Fault(HAS_WISH)
         return self._bank.ask(job, amounts)
 
-    def give(self, job: int, amounts: Sequence[int]) -> None:
-        """Gives back an amount of each resource, all or none of them."""
-        self._bank.give(job, amounts)
+    def want(self, job: int, amounts: Sequence[int]) -> Answer:
+        """Asks, and waits: a request that is not granted now, but is within the claim, joins the queue.
 
-    def drop_all(self, job: int) -> None:
-        """Gives back all that a job holds; it stays, with its claim."""
-        self._bank.give(job, self.loans(job))
+        `give`, `drop_all` and `leave` say when it is granted. A wish never holds back those behind it.
+        """
+        answer = self.ask(job, amounts)
+        if answer is Answer.NOT_NOW:
+            self._wishes[job] = list(amounts)
+        return answer
+
+    def drop(self, job: int) -> None:
+        """Takes the wish of a job out of the queue."""
+        if job not in self._wishes:
+            raise Fault(NO_WISH if self._bank.has_job(job) else NO_REQUEST)
+        del self._wishes[job]
+
+    def wishes(self) -> list[tuple[int, list[int]]]:
+        """Returns the queue: each job that waits, with the amounts that it wants."""
+        return [(job, list(amounts)) for job, amounts in self._wishes.items()]
+
+    def _serve(self) -> list[int]:
+        """Grants each wish that is allowed, in the order of the queue, and returns their jobs."""
+        granted = [job for job, amounts in self._wishes.items() if self._bank.ask(job, amounts) is Answer.GRANTED]
+        for job in granted:
+            del self._wishes[job]
+        return granted
+
+    def give(self, job: int, amounts: Sequence[int]) -> list[int]:
+        """Gives back an amount of each resource, all or none of them.
+
+        Returns the jobs whose wishes are granted now, in the order in which they came.
+        """
+        self._bank.give(job, amounts)
+        return self._serve()
+
+    def drop_all(self, job: int) -> list[int]:
+        """Gives back all that a job holds; it stays, with its claim and its wish. Returns what `give` returns."""
+        return self.give(job, self.loans(job))
 
     def order(self) -> list[int]:
         """Returns an order in which all jobs can finish, each next one the first that fits."""

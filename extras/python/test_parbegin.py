@@ -55,6 +55,26 @@ class Banks(unittest.TestCase):
         self.assertEqual(bank.ask(0, [2**40, 0]), Answer.OVER_CLAIM)
         self.assertEqual(bank.cash(), [3, 3])
 
+    def test_serves_the_queue_in_its_order(self) -> None:
+        bank = self.open(4)
+        for claim in (4, 4, 2, 1):
+            bank.join([claim])
+        bank.ask(0, [3])
+        self.assertEqual(bank.want(1, [3]), Answer.NOT_NOW)
+        self.assertEqual(bank.want(2, [2]), Answer.NOT_NOW)
+        self.assertEqual(bank.want(3, [2]), Answer.OVER_CLAIM)
+        self.assertRaises(Fault, bank.ask, 1, [1])
+        self.assertRaises(Fault, bank.want, 2, [1])
+        self.assertRaises(Fault, bank.drop, 3)
+        self.assertEqual(bank.wishes(), [(1, [3]), (2, [2])])
+        # a wish that is too large does not hold back the one behind it
+        self.assertEqual(bank.give(0, [1]), [2])
+        self.assertEqual(bank.drop_all(2), [])
+        self.assertEqual((bank.leave(0), bank.wishes(), bank.loans(1)), ([1], [], [3]))
+        self.assertEqual(bank.want(2, [2]), Answer.NOT_NOW)
+        bank.drop(2)
+        self.assertEqual(bank.leave(1), [])
+
     def test_jobs_come_and_go(self) -> None:
         bank = self.open(2)
         self.assertEqual([bank.join([2]) for _ in range(64)], list(range(64)))

@@ -31,6 +31,7 @@ use Rattle.pb_command_io.specs.declared.reply.Reply.{Reply}
 use Rattle.pb_command_io.specs.declared.status.Status.{Status}
 use Rattle.pb_command_io.specs.declared.status.Status.TheVariants.{Device, Memory}
 use Rattle.pb_command_io.proofs.PageLemmas.{AddsPrefix-longer, Says-more}
+use Rattle.pb_base.specs.declared.lending.Lending.TheVariants.{ByBanker}
 
 -- ---- the parts of an input
 
@@ -76,7 +77,7 @@ text_is_replayed bytes text lines code given labels old new answered short cut c
     of_lines _ _ no_memory = not_read input.no_memory
     of_lines _ _ (replayed entries end are said status says) =
         read short (made_again text lines cut code labels compiled entries end are said status says
-        (compiled.same.no_more (events_of entries) (length entries) (can_make_again code lines entries end are)))
+        ((compiled.same ByBanker).no_more (events_of entries) (length entries) (can_make_again code lines entries end are)))
 
     go : Tells (SaysOfLines code lines) old new answered → Tells (SaysOfInput SaysOfReplay bytes) old new answered
     go (said, status, says, written) = (said, status, of_lines said status says, written)

@@ -18,6 +18,7 @@ use pb_explain::explain_engine;
 use pb_options::{DebugOptions, StatesOptions};
 use pb_page::Shown;
 use pb_page_engine::states_engine;
+use pb_plan_engine::plan_engine;
 use pb_search_engine::outcomes_engine;
 use pb_words::{Options, WordsFault, options};
 use std::alloc::Global;
@@ -49,6 +50,7 @@ pub fn answer<I: Input, O: Output, R: Threads + Wait + Sync>(
         Ok(Options::Explain(code)) => explain_engine(alloc, code, output),
         Ok(Options::Migrate) => migrate_engine(alloc, input, output),
         Ok(Options::Outcomes(numbers)) => outcomes_engine(alloc, numbers, input, output),
+        Ok(Options::Plan) => plan_engine(alloc, input, output),
         Ok(Options::Record(numbers)) => record_engine(rt, alloc, numbers, input, output),
         Ok(Options::Replay) => replay_engine(alloc, input, output),
         Ok(Options::Run(numbers)) => run_engine(rt, alloc, numbers, input, output),

@@ -1,7 +1,10 @@
 pub mod DeskLemmas
 pub mod EachNumber
+pub mod MoreLoans
 pub mod OrderLemmas
 pub mod PairLemmas
 pub mod PlaceLemmas
+pub mod QueueTexts
 pub mod Results
+pub mod Waiting
 pub mod WordLemmas

@@ -6,7 +6,7 @@ use Rattle.std.specs.Fmt.{decimal}
 use Rattle.pb_base.specs.declared.limits.TheConstants.{MAX_PROCESSES, MAX_RESOURCES}
 use Rattle.pb_base.specs.declared.pair.Pair.{Pair}
 use Rattle.pb_base.specs.Banker.{BankerState, processes, resources, capital, claim, loan, cash, remaining_claim}
-use Rattle.pb_base.specs.Banker.{IsLeastFirst, without_loan}
+use Rattle.pb_base.specs.Banker.{IsLeastFirst, with_loan, without_loan}
 use Rattle.pb_base.specs.Lines.{NameTable, line, each_below, name_of}
 use Rattle.pb_banker.specs.declared.order.OrderSaid.{OrderSaid}
 use Rattle.pb_banker.specs.declared.order.OrderSaid.TheVariants as order
@@ -22,7 +22,8 @@ use Rattle.pb_bank.specs.declared.kind.Kind.TheVariants as kind
 use Rattle.pb_bank.specs.declared.refusal.Refusal.{Refusal}
 use Rattle.pb_bank.specs.declared.refusal.Refusal.TheVariants as refused
 use Rattle.pb_bank.specs.declared.request.Request.{Request}
-use Rattle.pb_bank.specs.Desks.{DeskValue, place_of, job_of}
+use Rattle.pb_bank.specs.Desks.{DeskValue, NoneIsAllowed, place_of, job_of}
+use Rattle.pb_bank.specs.Queues.{has_wish, without_wish, wishes_text, ServesQueue}
 use Rattle.pb_bank.specs.Requests.{pairs_of, request_of}
 use Rattle.pb_bank.specs.Words.{words_of, kind_of, amount_of, is_name}
 
@@ -41,6 +42,8 @@ refusal_text refused.Late = line (codes "refused B8 a job was there before the r
 refusal_text refused.Full = line (codes "refused B9 there are as many as there can be")
 refusal_text refused.OverCapital = line (codes "refused B10 a claim is over the capital")
 refusal_text refused.NotHeld = line (codes "refused B11 the job does not hold as much")
+refusal_text refused.HasWish = line (codes "refused B12 the job has a wish in the queue")
+refusal_text refused.NoWish = line (codes "refused B13 the job has no wish in the queue")
 
 -- what is said of a refused command, which changes nothing
 abbrev pub Refuses : Refusal → DeskValue → List ℕ → DeskValue → Type 0
@@ -86,11 +89,51 @@ abbrev pub OfRequest : (Request → List ℕ → DeskValue → Type 0) → Resul
 OfRequest Says (Err refusal) d said next = Refuses refusal d said next
 OfRequest Says (Ok w) d said next = Says w said next
 
+-- a request for more; a job that has a wish in the queue asks for nothing else
+abbrev pub if_free : DeskValue → Result Request Refusal → Result Request Refusal
+if_free d (Err refusal) = Err refusal
+if_free d (Ok w) = cond (has_wish d.wishes w.job) (Err refused.HasWish) (Ok w)
+
+-- what words ask for
+abbrev pub asked_of : DeskValue → List (List ℕ) → Result Request Refusal
+asked_of d words = if_free d (request_of d words)
+
 abbrev pub AnswersAsk : DeskValue → List (List ℕ) → List ℕ → DeskValue → Type 0
-AnswersAsk d words said next = OfRequest (Grants (codes "granted") d) (request_of d words) d said next
+AnswersAsk d words said next = OfRequest (Grants (codes "granted") d) (asked_of d words) d said next
 
 abbrev pub AnswersHold : DeskValue → List (List ℕ) → List ℕ → DeskValue → Type 0
-AnswersHold d words said next = OfRequest (Grants (codes "held") d) (request_of d words) d said next
+AnswersHold d words said next = OfRequest (Grants (codes "held") d) (asked_of d words) d said next
+
+-- the desk whose queue has one wish more
+abbrev pub with_wish : DeskValue → Request → DeskValue
+with_wish d w = record d { wishes = d.wishes ++ w ∷ [] }
+
+-- a wish is granted if it is allowed; one over the claim is told so; any other joins the queue
+abbrev pub WantsFor : Reason → DeskValue → Request → List ℕ → DeskValue → Type 0
+WantsFor Allowed d w said next = (said ≡ line (codes "granted")) × (next ≡ with_state d (with_loan d.bank.state w.job w.bundle))
+WantsFor (OverClaim r) d w said next = (said ≡ line (codes "over claim " ++ name_of d.names.resources r)) × (next ≡ d)
+WantsFor (OverCash r) d w said next = (said ≡ line (codes "queued")) × (next ≡ with_wish d w)
+WantsFor (Rest slots) d w said next = (said ≡ line (codes "queued")) × (next ≡ with_wish d w)
+
+abbrev pub Wants : DeskValue → Request → List ℕ → DeskValue → Type 0
+Wants d w said next = (reason : Reason) × SaysWhy d.bank.state w.job w.bundle reason × WantsFor reason d w said next
+
+abbrev pub AnswersWant : DeskValue → List (List ℕ) → List ℕ → DeskValue → Type 0
+AnswersWant d words said next = OfRequest (Wants d) (asked_of d words) d said next
+
+-- a wish is taken back, if the job has one
+abbrev pub DropsWish : Bool → DeskValue → ℕ → List ℕ → DeskValue → Type 0
+DropsWish false d p said next = Refuses refused.NoWish d said next
+DropsWish true d p said next = (said ≡ []) × (next ≡ record d { wishes = without_wish d.wishes p })
+
+abbrev pub AnswersDropping : DeskValue → Option ℕ → List ℕ → DeskValue → Type 0
+AnswersDropping d None said next = Refuses refused.NoJob d said next
+AnswersDropping d (Some p) said next = DropsWish (has_wish d.wishes p) d p said next
+
+abbrev pub AnswersDrop : DeskValue → List (List ℕ) → List ℕ → DeskValue → Type 0
+AnswersDrop d [] said next = Refuses refused.Command d said next
+AnswersDrop d (job ∷ []) said next = AnswersDropping d (job_of d job) said next
+AnswersDrop d (job ∷ other ∷ words) said next = Refuses refused.Command d said next
 
 -- why a request would be granted or not; nothing changes
 abbrev pub Explains : DeskValue → Request → List ℕ → DeskValue → Type 0
@@ -107,25 +150,26 @@ AnswersWhy d words said next = OfRequest (Explains d) (request_of d words) d sai
 abbrev pub IsHeld : BankerState → Request → Type 0
 IsHeld s w = All (λ pair. pair.amount ≤ loan s w.job pair.resource) w.bundle
 
--- what a job holds comes back; a job that does not hold as much is refused
+-- what a job holds comes back, and the queue is served; a job that does not hold as much is refused
 abbrev pub Gives : DeskValue → Request → List ℕ → DeskValue → Type 0
 Gives d w said next =
-    (IsHeld d.bank.state w × (said ≡ []) × (next ≡ with_state d (without_loan d.bank.state w.job w.bundle)))
+    (IsHeld d.bank.state w × ServesQueue (with_state d (without_loan d.bank.state w.job w.bundle)) said next)
     ⊎ ((¬ IsHeld d.bank.state w) × Refuses refused.NotHeld d said next)
 
 abbrev pub AnswersGive : DeskValue → List (List ℕ) → List ℕ → DeskValue → Type 0
 AnswersGive d words said next = OfRequest (Gives d) (request_of d words) d said next
 
--- the desk that a job has left: all comes back, and its name is gone
+-- the desk that a job has left: all comes back, and its name is gone, and its wish
 abbrev pub desk_left : DeskValue → ℕ → DeskValue
 desk_left d p = record {
   bank = record { state = left d.bank.state p; used = slice_set d.bank.used p false };
   names = record d.names { processes = slice_set d.names.processes p [] };
+  wishes = without_wish d.wishes p;
 }
 
 abbrev pub AnswersLeaving : DeskValue → Option ℕ → List ℕ → DeskValue → Type 0
 AnswersLeaving d None said next = Refuses refused.NoJob d said next
-AnswersLeaving d (Some p) said next = (said ≡ []) × (next ≡ desk_left d p)
+AnswersLeaving d (Some p) said next = ServesQueue (desk_left d p) said next
 
 abbrev pub AnswersLeave : DeskValue → List (List ℕ) → List ℕ → DeskValue → Type 0
 AnswersLeave d [] said next = Refuses refused.Command d said next
@@ -149,11 +193,12 @@ resource_refusal d name (Some amount) =
     cond (nat_lt (resources d.bank.state) MAX_RESOURCES) None (Some refused.Full))))
     (Some refused.Name)
 
--- the desk with one resource more, and no jobs
+-- the desk with one resource more, no jobs and no wishes
 abbrev pub with_resource : DeskValue → (name : List ℕ) → (amount : ℕ) → DeskValue
 with_resource d name amount = record {
   bank = record { state = start_state (d.bank.state.capital ++ amount ∷ []) []; used = replicate MAX_PROCESSES false };
   names = record d.names { resources = d.names.resources ++ name ∷ [] };
+  wishes = [];
 }
 
 abbrev pub AddsResource : DeskValue → (name : List ℕ) → Option ℕ → Option Refusal → List ℕ → DeskValue → Type 0
@@ -177,10 +222,13 @@ with_amounts row (pair ∷ pairs) = with_amounts (slice_set row pair.resource pa
 abbrev pub claims_of : DeskValue → List Pair → List ℕ
 claims_of d pairs = take (resources d.bank.state) (with_amounts (replicate MAX_RESOURCES 0) pairs)
 
--- a job of this name joins the bank, or is refused
+-- the desk with another bank, in which a job of this name has the slot p
+abbrev pub desk_joined : DeskValue → BankValue → ℕ → (name : List ℕ) → DeskValue
+desk_joined d bank p name = record d { bank = bank; names = record d.names { processes = slice_set d.names.processes p name } }
+
+-- a job of this name joins the bank, and the queue is served; or it is refused
 abbrev pub Joins : DeskValue → (name : List ℕ) → Joined → BankValue → List ℕ → DeskValue → Type 0
-Joins d name (joining.In p) bank said next =
-    (said ≡ []) × (next ≡ record d { bank = bank; names = record d.names { processes = slice_set d.names.processes p name } })
+Joins d name (joining.In p) bank said next = ServesQueue (desk_joined d bank p name) said next
 Joins d name (joining.OverCapital r) bank said next = Refuses refused.OverCapital d said next
 Joins d name joining.Full bank said next = Refuses refused.Full d said next
 
@@ -293,6 +341,7 @@ state_text names b =
 abbrev pub help_text : List ℕ
 help_text =
     line (codes "resource R K") ++ line (codes "job J K R, ..") ++ line (codes "ask J K R, ..")
+    ++ line (codes "want J K R, ..") ++ line (codes "drop J")
     ++ line (codes "give J K R, ..") ++ line (codes "leave J")
     ++ line (codes "why J K R, ..") ++ line (codes "hold J K R, ..")
     ++ line (codes "order") ++ line (codes "order J ..")
@@ -311,13 +360,14 @@ AnswersKind kind.Skip d words said next = Refuses refused.Command d said next
 AnswersKind kind.Resource d words said next = AnswersResource d words said next
 AnswersKind kind.Job d words said next = AnswersJob d words said next
 AnswersKind kind.Ask d words said next = AnswersAsk d words said next
-AnswersKind kind.Want d words said next = Refuses refused.Command d said next
+AnswersKind kind.Want d words said next = AnswersWant d words said next
+AnswersKind kind.Drop d words said next = AnswersDrop d words said next
 AnswersKind kind.Give d words said next = AnswersGive d words said next
 AnswersKind kind.Leave d words said next = AnswersLeave d words said next
 AnswersKind kind.Hold d words said next = AnswersHold d words said next
 AnswersKind kind.Why d words said next = AnswersWhy d words said next
 AnswersKind kind.Order d words said next = AnswersOrder d words said next
-AnswersKind kind.State d words said next = AnswersAlone (state_text d.names d.bank) d words said next
+AnswersKind kind.State d words said next = AnswersAlone (state_text d.names d.bank ++ wishes_text d.names d.wishes) d words said next
 AnswersKind kind.Help d words said next = AnswersAlone help_text d words said next
 AnswersKind kind.Other d words said next = Refuses refused.Command d said next
 
@@ -349,5 +399,7 @@ AnswersText true d line' said next = (said ≡ refusal_text refused.Command ++ r
 AnswersText false d line' said next =
     AnswersWords (kind_of (first_of (words_of line'))) d (rest_of (words_of line')) said next
 
+-- a line is answered, and after it no wish of the queue is allowed
 unfoldable pub AnswersLine : DeskValue → List ℕ → List ℕ → DeskValue → Type 0
-AnswersLine d line' said next = AnswersText (nat_lt most (length line')) d line' said next
+AnswersLine d line' said next =
+    AnswersText (nat_lt most (length line')) d line' said next × NoneIsAllowed next.bank.state next.wishes

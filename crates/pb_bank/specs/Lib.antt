@@ -1,4 +1,5 @@
 pub mod Answers
 pub mod Desks
+pub mod Queues
 pub mod Requests
 pub mod Words

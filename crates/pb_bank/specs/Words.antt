@@ -7,8 +7,8 @@ use Rattle.std.specs.Str.{bytes_eq}
 use Rattle.std.specs.Str.Parse.{digits_value}
 use Rattle.pb_code.specs.Numerals.{is_numeral}
 use Rattle.pb_bank.specs.declared.kind.Kind.{Kind}
-use Rattle.pb_bank.specs.declared.kind.Kind.TheVariants.{Skip, Resource, Job, Ask, Want, Give, Leave, Hold, Why, Order, State}
-use Rattle.pb_bank.specs.declared.kind.Kind.TheVariants.{Help, Other}
+use Rattle.pb_bank.specs.declared.kind.Kind.TheVariants.{Skip, Resource, Job, Ask, Want, Drop, Give, Leave}
+use Rattle.pb_bank.specs.declared.kind.Kind.TheVariants.{Hold, Why, Order, State, Help, Other}
 
 -- a space, a tab or a carriage return
 abbrev pub is_blank : ℕ → Bool
@@ -64,6 +64,7 @@ kind_of word =
     cond (bytes_eq word (codes "ask")) Ask (
     cond (bytes_eq word (codes "give")) Give (
     cond (bytes_eq word (codes "want")) Want (
+    cond (bytes_eq word (codes "drop")) Drop (
     cond (bytes_eq word (codes "why")) Why (
     cond (bytes_eq word (codes "hold")) Hold (
     cond (bytes_eq word (codes "leave")) Leave (
@@ -71,4 +72,4 @@ kind_of word =
     cond (bytes_eq word (codes "resource")) Resource (
     cond (bytes_eq word (codes "order")) Order (
     cond (bytes_eq word (codes "state")) State (
-    cond (bytes_eq word (codes "help")) Help Other)))))))))))
+    cond (bytes_eq word (codes "help")) Help Other))))))))))))

@@ -3,10 +3,12 @@
 ghost use Rattle.std.specs.Prelude.{◌≡◌, ◌++◌, ℕ, List, OnOk};
 ghost use Rattle.pb_bank.specs.Answers as answers;
 ghost use Rattle.pb_bank.specs.Answers.{AnswersLine};
+ghost use Rattle.pb_bank.specs.Queues.{wishes_text};
 ghost use Rattle.pb_bank.specs.Words.{words_of};
 
 use crate::desk::Desk;
 use crate::kind::{Kind, kind_of};
+use crate::queue::put_wishes;
 use crate::refusal::{Refusal, put_refusal};
 use crate::texts::{put_help, put_state};
 use crate::words::first_word;
@@ -20,11 +22,14 @@ impl Desk {
     /// Appends the state to `out`, if no words are behind the command.
     fn say_state(&self, out: &mut Vec<u8>, text: &[u8]) -> Result<(), NoMemory>
         ensures { OnOk result ((said : List ℕ)
-            × answers.AnswersAlone (answers.state_text self.now.names self.now.bank) self.now (words_of text.now) said self.now
+            × answers.AnswersAlone (answers.state_text self.now.names self.now.bank ++ wishes_text self.now.names self.now.wishes)
+            self.now (words_of text.now) said self.now
             × (out.new.items ≡ out.old.items ++ said)) }
     {
         if first_word(text).word.is_empty() {
-            put_state(out, &self.names, &self.bank)
+            let _ = self.bank.slots();
+            put_state(out, &self.names, &self.bank)?;
+            put_wishes(out, &self.names, &self.wishes)
         } else {
             put_refusal(out, Refusal::Command)
         }
@@ -50,6 +55,8 @@ impl Desk {
     {
         match kind {
             Kind::Ask => self.say_ask(out, b"granted", text),
+            Kind::Want => self.say_want(out, text),
+            Kind::Drop => self.say_drop(out, text),
             Kind::Give => self.say_give(out, text),
             Kind::Hold => self.say_ask(out, b"held", text),
             Kind::Why => self.say_why(out, text),
@@ -59,18 +66,20 @@ impl Desk {
             Kind::Order => self.say_order(out, text),
             Kind::State => self.say_state(out, text),
             Kind::Help => self.say_help(out, text),
-            Kind::Skip | Kind::Want | Kind::Other => put_refusal(out, Refusal::Command),
+            Kind::Skip | Kind::Other => put_refusal(out, Refusal::Command),
         }
     }
 
     /// Carries out the command of a line, which is given without its line feed, and appends the answer to
     /// `out`. Nothing is said of an empty line, and of one that begins with `#`. Any other answer ends with the
-    /// line `ready`. A command that is refused changes nothing.
+    /// line `ready`. A command that is refused changes nothing. After each command no wish of the queue is allowed.
+    /// If out of memory, a prefix of the answer may have been appended, and the queue may be empty.
     #[tactic(auto, using(crate::proofs::WordLemmas::before_some, crate::proofs::WordLemmas::before_none), unfolding(crate::specs::Answers::AnswersLine))]
     pub fn answer(&mut self, out: &mut Vec<u8>, line: &[u8]) -> Result<(), NoMemory>
         ensures { OnOk result ((said : List ℕ) × AnswersLine self.old line.now said self.new
             × (out.new.items ≡ out.old.items ++ said)) }
     {
+        let _ = self.waiting();
         if MAX_COMMAND < line.len() {
             put_refusal(out, Refusal::Command)?;
             return put(out, b"ready\n");
@@ -81,6 +90,7 @@ impl Desk {
             return Ok(());
         }
         self.say_kind(out, kind, first.rest)?;
+        let _ = self.waiting();
         put(out, b"ready\n")
     }
 }

@@ -6,16 +6,18 @@ ghost use Rattle.pb_base.specs.Banker.{processes, resources, loan};
 ghost use Rattle.pb_banker.specs.Jobs.{SaysWhy, state_held};
 ghost use Rattle.pb_bank.specs.Answers as answers;
 ghost use Rattle.pb_bank.specs.Desks.{IsRequestOf, job_of};
-ghost use Rattle.pb_bank.specs.Requests.{request_of};
+ghost use Rattle.pb_bank.specs.Queues.{ServesQueue};
 ghost use Rattle.pb_bank.specs.Words.{words_of};
 
 use crate::desk::Desk;
+use crate::queue::without;
 use crate::refusal::{Refusal, put_refusal};
 use crate::request::Request;
 use crate::texts::put_reason;
 use crate::words::first_word;
 use pb_banker::{Answer, Bank, Reason};
 use pb_base::NoMemory;
+use std::mem;
 
 /// Returns why a request would be granted or not.
 fn reason_of(bank: &Bank, request: &Request) -> Reason
@@ -27,8 +29,8 @@ fn reason_of(bank: &Bank, request: &Request) -> Reason
     bank.why(request.job, &request.bundle)
 }
 
-/// Grants a request if it is allowed, and returns why it is granted or not.
-fn grant(bank: &mut Bank, request: &Request) -> Reason
+/// Makes a loan if it is allowed, and returns why it is made or not.
+fn lend(bank: &mut Bank, request: &Request) -> Reason
     requires { IsRequestOf bank.old request.now }
     ensures why { SaysWhy bank.old.state request.now.job request.now.bundle result }
     ensures state { bank.new.state ≡ state_held bank.old.state request.now.job request.now.bundle result }
@@ -58,6 +60,18 @@ fn holds(bank: &Bank, request: &Request) -> bool
 }
 
 impl Desk {
+    /// Grants a request if it is allowed, and returns why it is granted or not.
+    pub(crate) fn grant(&mut self, request: &Request) -> Reason
+        requires { IsRequestOf self.old.bank request.now }
+        ensures why { SaysWhy self.old.bank.state request.now.job request.now.bundle result }
+        ensures state { self.new ≡ answers.with_state self.old
+            (state_held self.old.bank.state request.now.job request.now.bundle result) }
+        ensures among { answers.IsReasonOf self.old.bank.state result }
+    {
+        let _ = self.bank.slots();
+        lend(&mut self.bank, request)
+    }
+
     /// Grants a request if it is allowed, and appends the answer to `out`.
     pub(crate) fn say_ask(
         &mut self,
@@ -66,12 +80,13 @@ impl Desk {
         text: &[u8],
     ) -> Result<(), NoMemory>
         ensures { OnOk result ((said : List ℕ)
-            × answers.OfRequest (answers.Grants granted.now self.old) (request_of self.old (words_of text.now)) self.old said self.new
+            × answers.OfRequest (answers.Grants granted.now self.old) (answers.asked_of self.old (words_of text.now))
+            self.old said self.new
             × (out.new.items ≡ out.old.items ++ said)) }
     {
-        match self.request_of(text) {
+        match self.asked_of(text) {
             Ok(request) => {
-                let reason = grant(&mut self.bank, &request);
+                let reason = self.grant(&request);
                 put_reason(out, granted, &self.names, &self.bank, &reason)
             }
             Err(refusal) => put_refusal(out, refusal),
@@ -92,21 +107,22 @@ impl Desk {
         }
     }
 
-    /// Takes back what a job gives, if it holds as much.
+    /// Takes back what a job gives, if it holds as much, and serves the queue.
     fn give(&mut self, out: &mut Vec<u8>, request: &Request) -> Result<(), NoMemory>
         requires { IsRequestOf self.old.bank request.now }
         ensures { OnOk result ((said : List ℕ) × answers.Gives self.old request.now said self.new
             × (out.new.items ≡ out.old.items ++ said)) }
     {
         if holds(&self.bank, request) {
+            let wishes = mem::replace(&mut self.wishes, Vec::new(self.alloc));
             self.bank.give(request.job, &request.bundle);
-            Ok(())
+            self.serve(out, wishes)
         } else {
             put_refusal(out, Refusal::NotHeld)
         }
     }
 
-    /// Takes back what a job gives.
+    /// Takes back what a job gives, and serves the queue.
     pub(crate) fn say_give(&mut self, out: &mut Vec<u8>, text: &[u8]) -> Result<(), NoMemory>
         ensures { OnOk result ((said : List ℕ) × answers.AnswersGive self.old (words_of text.now) said self.new
             × (out.new.items ≡ out.old.items ++ said)) }
@@ -117,7 +133,7 @@ impl Desk {
         }
     }
 
-    /// Takes back all that a job holds, and frees its slot and its name.
+    /// Takes back all that a job holds, frees its slot and its name, and serves the queue.
     pub(crate) fn say_leave(&mut self, out: &mut Vec<u8>, text: &[u8]) -> Result<(), NoMemory>
         ensures { OnOk result ((said : List ℕ) × answers.AnswersLeave self.old (words_of text.now) said self.new
             × (out.new.items ≡ out.old.items ++ said)) }
@@ -126,20 +142,23 @@ impl Desk {
         if name.word.is_empty() || !first_word(name.rest).word.is_empty() {
             return put_refusal(out, Refusal::Command);
         }
-        let Some(p) = self.job_of(name.word) else {
-            return put_refusal(out, Refusal::NoJob);
-        };
-        self.leave(p);
-        Ok(())
+        match self.job_of(name.word) {
+            Some(p) => self.leave(out, p),
+            None => put_refusal(out, Refusal::NoJob),
+        }
     }
 
-    /// Takes back all that a slot holds, and frees it and its name.
-    fn leave(&mut self, p: usize)
+    /// Takes back all that a slot holds, frees it and its name, and serves the queue.
+    fn leave(&mut self, out: &mut Vec<u8>, p: usize) -> Result<(), NoMemory>
         requires { p < processes self.old.bank.state }
-        ensures { self.new ≡ answers.desk_left self.old p }
+        ensures { OnOk result ((said : List ℕ) × ServesQueue (answers.desk_left self.old p) said self.new
+            × (out.new.items ≡ out.old.items ++ said)) }
     {
         let _ = self.bank.slots();
+        let wishes = without(self.alloc, &self.wishes, p)?;
+        self.wishes = Vec::new(self.alloc);
         self.bank.leave(p);
         self.names.processes[p] = Vec::new(self.alloc);
+        self.serve(out, wishes)
     }
 }

@@ -15,6 +15,7 @@ use pb_banker::{Bank, Joined};
 use pb_base::limits::{MAX_AMOUNT, MAX_RESOURCES};
 use pb_base::{Bundle, Capital, NoMemory};
 use std::alloc::Global;
+use std::mem;
 
 /// A row of claims.
 type Row = [u32; MAX_RESOURCES];
@@ -91,6 +92,7 @@ impl Desk {
         let name = name.to_vec(self.alloc)?;
         self.names.resources.push(name)?;
         self.bank = Bank::new(&capital);
+        self.wishes.clear();
         Ok(())
     }
 
@@ -130,7 +132,7 @@ impl Desk {
         bundle_of(&self.names.resources, text)
     }
 
-    /// Has a job of this name join, or refuses it.
+    /// Has a job of this name join, and serves the queue; or refuses it.
     fn join(&mut self, out: &mut Vec<u8>, name: &[u8], bundle: &Bundle) -> Result<(), NoMemory>
         requires { All (λ pair. pair.resource < resources self.old.bank.state) bundle.now }
         ensures { OnOk result ((said : List ℕ) × answers.JoinsWith self.old name.now bundle.now said self.new
@@ -141,8 +143,9 @@ impl Desk {
         let name = owned(self.alloc, name)?;
         match self.bank.join(&row[..resources]) {
             Joined::In(p) => {
+                let wishes = mem::replace(&mut self.wishes, Vec::new(self.alloc));
                 self.names.processes[p] = name;
-                Ok(())
+                self.serve(out, wishes)
             }
             Joined::OverCapital(_) => put_refusal(out, Refusal::OverCapital),
             Joined::Full => put_refusal(out, Refusal::Full),

@@ -15,12 +15,14 @@ use pb_base::{Capital, Names, NoMemory};
 use std::alloc::Global;
 use std::marker::Model;
 
-/// A bank whose jobs and resources have names. After each command the state is safe.
+/// A bank whose jobs and resources have names, with a queue of wishes. After each command the state is safe, and
+/// no wish of the queue is allowed.
 #[derive(Drop)]
 pub struct Desk {
     pub(crate) alloc: Global,
     pub(crate) bank: Bank,
     pub(crate) names: Names,
+    pub(crate) wishes: Vec<Request>,
 }
 
 impl Model for Desk {
@@ -29,9 +31,9 @@ impl Model for Desk {
 
     ghost Value = { DeskValue };
 
-    ghost view = { λ d. record { bank = d.bank; names = names_view d.names } };
+    ghost view = { λ d. record { bank = d.bank; names = names_view d.names; wishes = d.wishes.items } };
 
-    ghost invariant = { λ d. IsDesk (record { bank = d.bank; names = names_view d.names }) };
+    ghost invariant = { λ d. IsDesk (record { bank = d.bank; names = names_view d.names; wishes = d.wishes.items }) };
 }
 
 /// Returns this many empty names.
@@ -46,9 +48,9 @@ fn no_names(alloc: Global, count: usize) -> Result<Vec<Vec<u8>>, NoMemory>
 }
 
 impl Desk {
-    ghost use Rattle.pb_bank.specs.Desks.{job_of, IsFirstDesk, IsRequestOf};
+    ghost use Rattle.pb_bank.specs.Desks.{job_of, IsFirstDesk, IsRequestOf, NoneIsAllowed};
 
-    /// Returns a desk with no resources and no jobs.
+    /// Returns a desk with no resources, no jobs and no wishes.
     pub fn new(alloc: Global) -> Result<Desk, NoMemory>
         ensures { IfOk result IsFirstDesk }
     {
@@ -59,7 +61,20 @@ impl Desk {
             processes,
             resources: Vec::new(alloc),
         };
-        Ok(Desk { alloc, bank, names })
+        Ok(Desk {
+            alloc,
+            bank,
+            names,
+            wishes: Vec::new(alloc),
+        })
+    }
+
+    /// Returns the number of wishes in the queue, of which none is allowed.
+    pub fn waiting(&self) -> usize
+        ensures number { result ≡ length self.now.wishes }
+        ensures waits { NoneIsAllowed self.now.bank.state self.now.wishes }
+    {
+        self.wishes.len()
     }
 
     /// Returns the slot of the job of this name.

@@ -17,6 +17,8 @@ pub enum Kind {
     Ask,
     /// `want J K R, ..`
     Want,
+    /// `drop J`
+    Drop,
     /// `give J K R, ..`
     Give,
     /// `leave J`
@@ -72,6 +74,7 @@ fn kind_of_word(word: &[u8]) -> Kind
         cond (bytes_eq word.now (codes "ask")) Kind.Ask (
         cond (bytes_eq word.now (codes "give")) Kind.Give (
         cond (bytes_eq word.now (codes "want")) Kind.Want (
+        cond (bytes_eq word.now (codes "drop")) Kind.Drop (
         cond (bytes_eq word.now (codes "why")) Kind.Why (
         cond (bytes_eq word.now (codes "hold")) Kind.Hold (
         cond (bytes_eq word.now (codes "leave")) Kind.Leave (
@@ -79,7 +82,7 @@ fn kind_of_word(word: &[u8]) -> Kind
         cond (bytes_eq word.now (codes "resource")) Kind.Resource (
         cond (bytes_eq word.now (codes "order")) Kind.Order (
         cond (bytes_eq word.now (codes "state")) Kind.State (
-        cond (bytes_eq word.now (codes "help")) Kind.Help Kind.Other)))))))))) }
+        cond (bytes_eq word.now (codes "help")) Kind.Help Kind.Other))))))))))) }
 {
     if is(word, "ask") {
         Kind::Ask
@@ -87,6 +90,8 @@ fn kind_of_word(word: &[u8]) -> Kind
         Kind::Give
     } else if is(word, "want") {
         Kind::Want
+    } else if is(word, "drop") {
+        Kind::Drop
     } else if is(word, "why") {
         Kind::Why
     } else if is(word, "hold") {

@@ -7,9 +7,12 @@ mod come;
 pub mod desk;
 pub mod kind;
 mod order;
+mod queue;
 pub mod refusal;
 pub mod request;
+mod serve;
 mod texts;
+mod want;
 mod words;
 
 pub use answer::MAX_COMMAND;

@@ -31,6 +31,10 @@ pub enum Refusal {
     OverCapital,
     /// The job does not hold as much.
     NotHeld,
+    /// The job has a wish in the queue.
+    HasWish,
+    /// The job has no wish in the queue.
+    NoWish,
 }
 
 /// Appends the line of a refusal to `out`.
@@ -49,5 +53,7 @@ pub(crate) fn put_refusal(out: &mut Vec<u8>, refusal: Refusal) -> Result<(), NoM
         Refusal::Full => put(out, b"refused B9 there are as many as there can be\n"),
         Refusal::OverCapital => put(out, b"refused B10 a claim is over the capital\n"),
         Refusal::NotHeld => put(out, b"refused B11 the job does not hold as much\n"),
+        Refusal::HasWish => put(out, b"refused B12 the job has a wish in the queue\n"),
+        Refusal::NoWish => put(out, b"refused B13 the job has no wish in the queue\n"),
     }
 }

@@ -39,13 +39,16 @@ kept_nothing (b ∷ bs) e = absurd (omega arith)
 -- what is kept has the same answer: a line of which not all is kept is too long
 pub kept_answers : (d : DeskValue) (line said : List ℕ) (next : DeskValue) → AnswersLine d (kept line) said next → AnswersLine d line said next
 unfolding AnswersLine
-kept_answers d line said next h = elim (cases_lt (length line) 4097) [
-  | inl lt ↦ subst (λ (l : List ℕ). AnswersText (ltb 4096 (length l)) d l said next) (take_all 4097 line (omega (arith, lt))) h
-  | inr le ↦
-      let size : length (kept line) ≡ 4097 = length-take-le 4097 line le in
-      let short : ltb 4096 (length (kept line)) ≡ true = lt-ltb 4096 (length (kept line)) (omega (arith, size)) in
-      let long : ltb 4096 (length line) ≡ true = lt-ltb 4096 (length line) (omega (arith, le)) in
-      let refused : AnswersText true d (kept line) said next = subst (λ (b : Bool). AnswersText b d (kept line) said next) short h in
-      let same : AnswersText true d line said next = refused in
-      subst (λ (b : Bool). AnswersText b d line said next) (sym long) same
-]
+kept_answers d line said next (h, none) = (
+  elim (cases_lt (length line) 4097) [
+    | inl lt ↦ subst (λ (l : List ℕ). AnswersText (ltb 4096 (length l)) d l said next) (take_all 4097 line (omega (arith, lt))) h
+    | inr le ↦
+        let size : length (kept line) ≡ 4097 = length-take-le 4097 line le in
+        let short : ltb 4096 (length (kept line)) ≡ true = lt-ltb 4096 (length (kept line)) (omega (arith, size)) in
+        let long : ltb 4096 (length line) ≡ true = lt-ltb 4096 (length line) (omega (arith, le)) in
+        let refused : AnswersText true d (kept line) said next = subst (λ (b : Bool). AnswersText b d (kept line) said next) short h in
+        let same : AnswersText true d line said next = refused in
+        subst (λ (b : Bool). AnswersText b d line said next) (sym long) same
+  ],
+  none,
+)

@@ -1,23 +1,23 @@
 -- Lines that come in parts.
-use Rattle.std.proofs.Common.{◌≡◌, inl, inr, ℕ, suc, ◌+◌, ◌-◌, ◌<◌, ◌≤◌, ◌++◌, eqb, Bool, true, false, cond, List, []}
+use Rattle.std.proofs.Common.{◌≡◌, inl, inr, ℕ, suc, ◌+◌, ◌-◌, ◌<◌, ◌≤◌, ◌++◌, eqb, false, List, []}
 use Rattle.std.proofs.Common.{◌∷◌, length, take, drop, get_or, Option, Some, None, refl, sym, ap, ◌∙◌, subst, arith}
-use Rattle.std.proofs.Common.{append_assoc, append-nil, length-append, ◌≢◌}
+use Rattle.std.proofs.Common.{append_assoc, append-nil}
 use Rattle.std.proofs.Common.{Result, Ok, Err}
 use Rattle.std.specs.Prelude.{IfSome, IfErr, OnOk, OnErr}
-use Rattle.std.proofs.lemmas.Bool.{cases_lt, lt-ltb}
-use Rattle.std.proofs.lemmas.List.{take_all, take-append-le, length-take-le, take-append-drop, length-drop}
+use Rattle.std.proofs.lemmas.Bool.{cases_lt}
+use Rattle.std.proofs.lemmas.List.{take_all, take-append-le, take-append-drop, length-drop}
 use Rattle.std.proofs.Math.Seq.{drop-cons, take-add}
-use Rattle.pb_base.specs.Device.{appended, dropped, AddsPrefix, GivesNext}
+use Rattle.pb_base.specs.Device.{appended, AddsPrefix, GivesNext}
 use Rattle.pb_bank.specs.Answers.{AnswersLine}
 use Rattle.pb_bank.specs.Desks.{DeskValue}
-use Rattle.pb_debug_commands.specs.Lines.{SplitLines, one_line_more, cut, last_line, lines_of}
+use Rattle.pb_debug_commands.specs.Lines.{SplitLines, cut, last_line, lines_of}
 use Rattle.pb_bank_engine.specs.Sessions.{Session, nothing, one_more, session_bytes, SaysAll, SaysSome, IsTold, kept}
-use Rattle.pb_bank_engine.specs.Sessions.{StopsAt, WritesBefore, Fed, FedSome, IsToldInPart}
+use Rattle.pb_bank_engine.specs.Sessions.{StopsAt, WritesBefore, Fed, FedSome}
 use Rattle.pb_bank_engine.specs.declared.session.Stop.{Stop}
 use Rattle.pb_bank_engine.specs.declared.session.Stop.TheVariants.{Memory, Device}
 use Rattle.pb_debug_commands.proofs.Cutting.{cut-append, first_lines, cut_end, cut_byte}
 use Rattle.pb_bank_engine.proofs.Kept.{kept_again, kept_answers, kept_nothing}
-use Rattle.pb_base.proofs.DeviceLemmas.{appended-appended, next-bytes}
+use Rattle.pb_base.proofs.DeviceLemmas.{appended-appended}
 
 -- ---- outputs
 

@@ -1,9 +1,8 @@
 -- From what a session says to what is said of its commands.
-use Rattle.std.proofs.Common.{◌≡◌, ◌≢◌, ◌++◌, ℕ, List, [], Option, Some, None, refl, inl, inr, subst}
+use Rattle.std.proofs.Common.{◌≡◌, ◌++◌, ℕ, List, [], Option, Some, None, refl, inl, inr}
 use Rattle.std.specs.Prelude.{IfSome}
 use Rattle.pb_bank.specs.Desks.{DeskValue, IsFirstDesk}
 use Rattle.pb_bank_engine.specs.Sessions.{SaysAll, SaysSome, SaysOfBank, answered, out_of_memory, broken_off, CountsBoth, TellsAnyFault, SaysBefore}
-use Rattle.pb_bank_engine.specs.declared.session.Stop.{Stop}
 use Rattle.pb_bank_engine.specs.declared.session.Stop.TheVariants as stop
 use Rattle.pb_command_io.specs.Answers.{Says, Tells, memory_line}
 use Rattle.pb_command_io.specs.Faults.{Devices}

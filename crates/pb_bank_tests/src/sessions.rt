@@ -1,6 +1,8 @@
 //! Sessions of the command `bank`, and what is said in them.
 
+use pb_bank::Desk;
 use pb_bank_engine::bank_engine;
+use pb_base::NoMemory;
 use pb_base::device::{MemoryInput, MemoryOutput};
 use pb_command_io::Status;
 use std::alloc::Global;
@@ -11,7 +13,7 @@ struct Case {
     said: &'static [u8],
 }
 
-const CASES: [Case; 5] = [
+const CASES: [Case; 7] = [
     // The textbook's table, and its three requests.
     Case {
         commands: b"# five processes\nresource A 10\nresource B 5\nresource C 7\njob P0 7 A, 5 B, 3 C\njob P1 3 A,2 B , 2 C\njob P2 9 A, 0 B, 2 C\njob P3 2 A, 2 B, 2 C\njob P4 4 A, 3 B, 3 C\nhold P0 1 B\nhold P1 2 A\nhold P2 3 A, 2 C\nhold P3 2 A, 1 B, 1 C\nhold P4 2 C\n\nask P1 1 A, 0 B, 2 C\nask P4 3 A, 3 B, 0 C\nask P0 0 A, 2 B, 0 C\nwhy P0 2 B",
@@ -27,6 +29,15 @@ const CASES: [Case; 5] = [
         commands: b"resource tape 3\njob a 3 tape\njob b 2 tape\nask a 2 tape\nask b 2 tape\ngive a 1 tape\nask b 2 tape\ngive a 2 tape\nask a 4 tape\nleave a\nask b 2 tape\njob a 1 tape\nstate\n",
         said: b"ready\nready\nready\ngranted\nready\nwait cash tape 1\nready\nready\ngranted\nready\nrefused B11 the job does not hold as much\nready\nover claim tape\nready\nready\nover claim tape\nready\nready\nresource tape capital 3 cash 1\njob a tape claim 1 holds 0 needs 1\njob b tape claim 2 holds 2 needs 0\nready\n",
     },
+    // The queue: a large wish does not hold back those behind it, and each is served when its turn comes.
+    Case {
+        commands: b"resource tape 4\njob a 4 tape\njob b 4 tape\njob c 2 tape\njob d 1 tape\nwant a 3 tape\nwant b 3 tape\nwant c 2 tape\nwant d 2 tape\nask b 1 tape\nwant b 1 tape\nhold c 1 tape\ndrop d\ndrop e\ndrop\ndrop b c\nstate\ngive a 1 tape\njob e 4 tape\ngive c 2 tape\nleave a\nwant c 2 tape\nwant d 1 tape\nleave c\nleave b\njob c 2 tape\nask c 2 tape\nwant e 4 tape\ndrop e\ndrop e\n",
+        said: b"ready\nready\nready\nready\nready\ngranted\nready\nqueued\nready\nqueued\nready\nover claim tape\nready\nrefused B12 the job has a wish in the queue\nready\nrefused B12 the job has a wish in the queue\nready\nrefused B12 the job has a wish in the queue\nready\nrefused B13 the job has no wish in the queue\nready\nrefused B5 no such job\nready\nrefused B1 not a command\nready\nrefused B1 not a command\nready\nresource tape capital 4 cash 1\njob a tape claim 4 holds 3 needs 1\njob b tape claim 4 holds 0 needs 4\njob c tape claim 2 holds 0 needs 2\njob d tape claim 1 holds 0 needs 1\nwish b 3 tape\nwish c 2 tape\nready\ngranted c 2 tape\nready\nready\nready\ngranted b 3 tape\nready\nqueued\nready\ngranted\nready\nready\nready\nready\ngranted\nready\nqueued\nready\nready\nrefused B13 the job has no wish in the queue\nready\n",
+    },
+    Case {
+        commands: b"resource tape 2\nresource disk 2\njob a 2 tape, 2 disk\njob b 1 tape, 1 disk\njob c 1 tape\njob d 2 tape\nask a 2 tape, 2 disk\nwant b 1 disk, 1 tape\nwant d 2 tape\nwant c 1 tape\nleave a\nleave b\nleave c\nleave d\n",
+        said: b"ready\nready\nready\nready\nready\nready\ngranted\nready\nqueued\nready\nqueued\nready\nqueued\nready\ngranted b 1 disk, 1 tape\ngranted c 1 tape\nready\nready\ngranted d 2 tape\nready\nready\n",
+    },
     // Refusals.
     Case {
         commands: b"lend\nresource r 1000001\nresource r/s 1\nresource r 2\nresource r 2\njob p 3 r\njob p 1 r, 1 r\njob p 1 s\njob p 2 r\njob p 2 r\nresource s 1\nask q 1 r\nask p one r\nask p 1\nask p 1 r 1 r\nleave p p\nstate now\nleave q\n",
@@ -34,7 +45,7 @@ const CASES: [Case; 5] = [
     },
     Case {
         commands: b"help\n",
-        said: b"resource R K\njob J K R, ..\nask J K R, ..\ngive J K R, ..\nleave J\nwhy J K R, ..\nhold J K R, ..\norder\norder J ..\nstate\nhelp\nready\n",
+        said: b"resource R K\njob J K R, ..\nask J K R, ..\nwant J K R, ..\ndrop J\ngive J K R, ..\nleave J\nwhy J K R, ..\nhold J K R, ..\norder\norder J ..\nstate\nhelp\nready\n",
     },
 ];
 
@@ -65,4 +76,23 @@ fn a_failed_write_leaves_a_first_part(rt: HostRuntime) {
         assert!(rt; status == Status::Device || case.said.len() <= 10);
         assert!(rt; case.said.starts_with(output.as_slice()));
     }
+}
+
+#[test]
+fn wishes_are_counted(rt: HostRuntime) -> Result<(), NoMemory> {
+    let mut desk = Desk::new(rt.alloc())?;
+    let mut said = Vec::new(rt.alloc());
+    for command in &[
+        "resource r 1",
+        "job p 1 r",
+        "job q 1 r",
+        "ask p 1 r",
+        "want q 1 r",
+    ] {
+        desk.answer(&mut said, command.as_bytes())?;
+    }
+    assert!(rt; desk.waiting() == 1);
+    desk.answer(&mut said, b"leave p")?;
+    assert!(rt; desk.waiting() == 0);
+    Ok(())
 }

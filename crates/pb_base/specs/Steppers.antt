@@ -1,11 +1,13 @@
--- Processes that take one step at a time, a pick a step, under the banker. The source of a program is such a
+-- Processes that take one step at a time, a pick a step, under a lender. The source of a program is such a
 -- thing, and so is its code; what both share is here once.
 use Rattle.std.specs.Prelude.{◌≡◌, ℕ, zero, suc, ◌≤◌, ℤ, List, [], ◌∷◌, ◌++◌, length, map, replicate, slice_get}
 use Rattle.std.specs.Prelude.{slice_set, Option, Some, None, option_map, option_and_then, option_to_list, ⊤}
 use Rattle.pb_base.specs.declared.operators.FaultKind.{FaultKind}
 use Rattle.pb_base.specs.declared.pair.Pair.{Pair}
 use Rattle.pb_base.specs.Bundle.{lend, give_back}
-use Rattle.pb_base.specs.Banker.{BankerState, IsAllowed, row_of}
+use Rattle.pb_base.specs.Banker.{BankerState, IsAllowed, IsWithinCash, row_of}
+use Rattle.pb_base.specs.declared.lending.Lending.{Lending}
+use Rattle.pb_base.specs.declared.lending.Lending.TheVariants.{ByBanker, ByCash}
 use Rattle.pb_base.specs.declared.pick.Pick.{Pick}
 use Rattle.pb_base.specs.declared.event.Event.{Event}
 use Rattle.pb_base.specs.declared.event.Event.TheVariants.{Granted, Returned, Printed, Faulted, Finished}
@@ -49,19 +51,26 @@ loans_after loans p (Returns bundle) = slice_set loans p (give_back (row_of loan
 loans_after loans p (Faults kind) = slice_set loans p (map (λ _. 0) (row_of loans p))
 loans_after loans p Finishes = loans
 
--- what the banker knows beside the loans
+-- what the lender knows beside the loans, and who it is
 pub record Bank : Type 0 where
   pub capital : List ℕ
   pub claims : Table
+  pub lends : Lending
 
 abbrev pub banker_state : Bank → Table → BankerState
 banker_state bank loans = record { capital = bank.capital; claims = bank.claims; loans = loans }
 
--- a step that takes is made only if the banker allows it
+-- the lender grants the request: the banker if it is allowed, the till if the cash suffices (that no request
+-- passes its claim holds of both)
+abbrev pub IsLent : Lending → BankerState → ℕ → Bundle → Type 0
+IsLent ByBanker s p bundle = IsAllowed s p bundle
+IsLent ByCash s p bundle = IsWithinCash s bundle
+
+-- a step that takes is made only if the lender grants it
 abbrev pub IsGranted : Bank → Table → ℕ → Effect → Type 0
 IsGranted bank loans p Silent = ⊤
 IsGranted bank loans p (Prints v) = ⊤
-IsGranted bank loans p (Takes bundle) = IsAllowed (banker_state bank loans) p bundle
+IsGranted bank loans p (Takes bundle) = IsLent bank.lends (banker_state bank loans) p bundle
 IsGranted bank loans p (Returns bundle) = ⊤
 IsGranted bank loans p (Faults kind) = ⊤
 IsGranted bank loans p Finishes = ⊤
@@ -89,7 +98,7 @@ moved s pick step = record {
   effect = step.1;
 }
 
--- what a pick does, all but the banker's leave
+-- what a pick does, all but the lender's leave
 abbrev pub move_of : {P : Type 0} → Stepper P → State P → Pick → Option (Move P)
 move_of step s pick =
     option_and_then (λ process. option_map (moved s pick) (step pick.process process pick.arm))

@@ -9,6 +9,7 @@ pub mod claims;
 pub mod device;
 pub mod event;
 pub mod laws;
+pub mod lending;
 pub mod limits;
 pub mod lines;
 pub mod memory;
@@ -28,6 +29,7 @@ pub use device::{
     StandardInput, StandardOutput, read_whole, write_all,
 };
 pub use event::Event;
+pub use lending::Lending;
 pub use lines::event_line;
 pub use memory::NoMemory;
 pub use names::Names;

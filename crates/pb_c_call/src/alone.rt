@@ -17,6 +17,7 @@ use pb_draw_engine::draw_engine;
 use pb_explain::explain_engine;
 use pb_options::RecordOptions;
 use pb_page_engine::states_engine;
+use pb_plan_engine::plan_engine;
 use pb_search_engine::outcomes_engine;
 use pb_words::{Options, options};
 use std::alloc::Global;
@@ -43,6 +44,7 @@ pub fn answer_alone<I: Input, O: Output>(
         Ok(Options::Explain(code)) => explain_engine(alloc, code, output),
         Ok(Options::Migrate) => migrate_engine(alloc, input, output),
         Ok(Options::Outcomes(numbers)) => outcomes_engine(alloc, numbers, input, output),
+        Ok(Options::Plan) => plan_engine(alloc, input, output),
         Ok(Options::Replay) => replay_engine(alloc, input, output),
         Ok(Options::Exec(numbers)) => {
             let _ = numbers;

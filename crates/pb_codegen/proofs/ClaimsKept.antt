@@ -1,7 +1,7 @@
 -- The source of a resolved program asks within its claims, and if the capital is enough for them its states
 -- stay well formed and safe.
 use Rattle.std.proofs.Common.{◌≡◌, ℕ, ◌<◌, ◌≤◌, List, [], ◌∷◌, length, get_or, map, Some, sym, ap, ◌∙◌, subst}
-use Rattle.std.proofs.Common.{arith}
+use Rattle.std.proofs.Common.{arith, refl}
 use Rattle.std.specs.Prelude.{slice_get}
 use Rattle.std.proofs.lemmas.List.{length-map}
 use Rattle.std.proofs.lemmas.List.Elements.{All-map}
@@ -104,7 +104,7 @@ module _ (tree : ProgramSyntax) (program : Program) (claims : Table) (h : Resolv
         ∙ ap (λ (x : Move SourceProcess). x.next.loans) o.is
         in
         let next =
-        sound_after bank ss.loans pick.process sound (omega (arith, inside, all)) m.0.effect m.2 tidy.1
+        sound_after bank ss.loans pick.process sound (omega (arith, inside, all)) refl m.0.effect m.2 tidy.1
         in
         let ch =
         chain_at program.processes ss pick m.0 m.1 cs

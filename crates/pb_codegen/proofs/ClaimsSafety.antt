@@ -10,7 +10,8 @@ use Rattle.pb_base.specs.Banker.{BankerState, claim, loan, everyone, held_by, ca
 use Rattle.pb_base.specs.Banker.{IsAllowed, IsWellFormed}
 use Rattle.pb_base.specs.Bundle.{amount_in, lend, give_back}
 use Rattle.pb_base.specs.Steppers.{Bank, Bundle, Table, Effect, Silent, Prints, Takes, Returns, Faults}
-use Rattle.pb_base.specs.Steppers.{IsGranted, banker_state, loans_after}
+use Rattle.pb_base.specs.Steppers.{IsGranted, IsLent, banker_state, loans_after}
+use Rattle.pb_base.specs.declared.lending.Lending.TheVariants.{ByBanker}
 use Rattle.pb_base.specs.Steppers as steppers
 use Rattle.pb_base.proofs.BankerLaws.{fewer_loans_stay_safe}
 use Rattle.pb_base.proofs.Groups.{range_below, sum_by-zero_on}
@@ -73,22 +74,23 @@ module _ (bank : Bank) (loans : Table) (p : ℕ) (sound : IsSound bank loans) (t
         safe = allowed.safe;
       }
 
-  -- after any effect of the process
-  pub sound_after : (effect : Effect) → IsGranted bank loans p effect
+  -- after any effect of the process, if the banker lends
+  pub sound_after : bank.lends ≡ ByBanker → (effect : Effect) → IsGranted bank loans p effect
       → IsTidyEffect (length bank.capital) effect
       → IsSound bank (loans_after loans p effect)
-  sound_after Silent granted tidy = sound
-  sound_after (Prints v) granted tidy = sound
-  sound_after (Takes bundle) granted tidy = more bundle granted tidy
-  sound_after (Returns bundle) granted tidy =
+  sound_after by Silent granted tidy = sound
+  sound_after by (Prints v) granted tidy = sound
+  sound_after by (Takes bundle) granted tidy =
+      more bundle (subst (λ lends. IsLent lends s p bundle) by granted) tidy
+  sound_after by (Returns bundle) granted tidy =
       fewer (give_back (row_of loans p) bundle)
       (length-give_back (row_of loans p) bundle ∙ sound.formed.loan_width p there)
       (λ r. let h = give_back_le bundle (row_of loans p) r in omega (arith, h))
-  sound_after (Faults kind) granted tidy =
+  sound_after by (Faults kind) granted tidy =
       let none : ℕ → ℕ = λ _. 0 in
       fewer (map none (row_of loans p)) (length-map (row_of loans p) none ∙ sound.formed.loan_width p there)
       (λ r. let e : get_or (map none (row_of loans p)) r 0 ≡ 0 = get_or-map none (row_of loans p) r 0 in omega (arith, e))
-  sound_after steppers.Finishes granted tidy = sound
+  sound_after by steppers.Finishes granted tidy = sound
 
 -- ---- nothing is lent
 

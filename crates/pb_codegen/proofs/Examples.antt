@@ -17,6 +17,7 @@ use Rattle.pb_code.specs.Code.{Join, End, code_step, code_process}
 use Rattle.pb_generator.specs.Generate.{process_code}
 use Rattle.pb_generator.specs.Lines.{process_lines}
 use Rattle.pb_names.proofs.Examples.{by_arm}
+use Rattle.pb_base.specs.declared.lending.Lending.TheVariants.{ByBanker}
 
 -- an amount of one resource
 abbrev amounts : ℕ → ℕ → Bundle
@@ -34,13 +35,13 @@ of_arms [] = []
 of_arms (span ∷ spans) = replicate span.1 (record { process = 0; arm = span.0 }) ++ of_arms spans
 
 abbrev in_source : Process → List (ℕ × ℕ) → Option (List Event)
-in_source p spans = play source_step (of_arms spans) (opening (record { capital = 9 ∷ []; claims = [] }) (source_process p ∷ []))
+in_source p spans = play source_step (of_arms spans) (opening (record { capital = 9 ∷ []; claims = []; lends = ByBanker }) (source_process p ∷ []))
 
 abbrev in_code : Process → List (ℕ × ℕ) → Option (List Event)
 in_code p spans = play (code_step (process_code p ∷ [])) (of_arms spans) (opening (record {
   capital = 9 ∷ [];
-  claims =
-      [];
+  claims = [];
+  lends = ByBanker;
 }) (code_process (process_code p) ∷ []))
 
 -- x := x + 1 in two arms, and print x

@@ -4,9 +4,9 @@ use Rattle.std.proofs.Common.{subst, arith}
 use Rattle.pb_base.specs.Banker.{row_of, cell}
 use Rattle.pb_base.specs.Steppers.{Table}
 use Rattle.pb_base.proofs.Lists.{get_some}
-use Rattle.pb_names.specs.Program.{Program, AllWellNumbered, capital_of}
+use Rattle.pb_names.specs.Program.{Program, AllWellNumbered}
 use Rattle.pb_names.specs.Source.{SourceCanUnder}
-use Rattle.pb_names.specs.Meaning.{AreClaims}
+use Rattle.pb_names.specs.Meaning.{AreClaims, source_bank_by}
 use Rattle.pb_claims.proofs.Bounds.{claim-unique}
 use Rattle.pb_generator.specs.Generate.{program_code}
 use Rattle.pb_codegen.specs.Correct.{MeansTheSame}
@@ -39,12 +39,12 @@ one_table program a b h k =
 pub means_the_same : (program : Program) (claims : Table) → AllWellNumbered program.processes
     → AreClaims program claims
     → MeansTheSame program (program_code program claims)
-means_the_same program claims numbered are =
+means_the_same program claims numbered are lending =
     let both =
-    implements (record { capital = capital_of program; claims = claims }) program.processes numbered in
+    implements (source_bank_by lending program claims) program.processes numbered in
     record {
       no_more = λ events n can. (claims, are, both.no_more events n can);
       no_less = λ events n can.
-          both.no_less events n (subst (λ c. SourceCanUnder (record { capital = capital_of program; claims = c }) program.processes events n)
+          both.no_less events n (subst (λ c. SourceCanUnder (source_bank_by lending program c) program.processes events n)
           (one_table program can.0 claims can.1 are) can.2);
     }

@@ -2,15 +2,16 @@
 use Rattle.std.specs.Prelude.{◌≡◌, ℕ, ◌+◌, ◌*◌, ℤ, List, map, Some, None, get_or, slice_get, ◌↔◌}
 use Rattle.pb_base.specs.declared.pick.Pick.{Pick}
 use Rattle.pb_base.specs.declared.event.Event.{Event}
+use Rattle.pb_base.specs.declared.lending.Lending.{Lending}
 use Rattle.pb_base.specs.Steppers.{Bank, State, Makes, IsFinished, opening}
 use Rattle.pb_names.specs.Program.{Process, Program}
-use Rattle.pb_names.specs.Meaning.{SourceCan}
+use Rattle.pb_names.specs.Meaning.{SourceCanBy}
 use Rattle.pb_names.specs.HeadLines.{head_line}
 use Rattle.pb_names.specs.Source.{Arm, find, SourceProcess}
 use Rattle.pb_names.specs.Source.{source_step, source_process, source_over, SourceCanUnder}
 use Rattle.pb_code.specs.Code.{ProcessCode, Live, CodeProcess, thread, code_step, code_process, code_over}
 use Rattle.pb_code.specs.Code.{CodeCanUnder, longest, shadow}
-use Rattle.pb_code.specs.Whole.{Code, CodeCan}
+use Rattle.pb_code.specs.Whole.{Code, CodeCanBy}
 use Rattle.pb_generator.specs.Generate.{process_code}
 use Rattle.pb_generator.specs.Lines.{process_lines}
 
@@ -29,9 +30,10 @@ abbrev pub ImplementsUnder : Bank → List Process → List ProcessCode → Type
 ImplementsUnder bank program codes =
     Implements (SourceCanUnder bank program) (CodeCanUnder bank codes) (longest codes + 1)
 
--- the program under its own capital and claims, the code under those that it names
+-- and so it is for the program and its code, whoever lends
 abbrev pub MeansTheSame : Program → Code → Type 0
-MeansTheSame program code = Implements (SourceCan program) (CodeCan code) (longest code.processes + 1)
+MeansTheSame program code =
+    (lending : Lending) → Implements (SourceCanBy lending program) (CodeCanBy lending code) (longest code.processes + 1)
 
 -- ---- lines
 

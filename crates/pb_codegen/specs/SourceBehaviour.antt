@@ -5,12 +5,14 @@ use Rattle.pb_base.specs.declared.pick.Pick.{Pick}
 use Rattle.pb_base.specs.Banker.{IsSafe, IsWellFormed, IsWithinClaim}
 use Rattle.pb_base.specs.Steppers.{Bank, Bundle, Table, Takes, State, Move, Makes, banker_state, move_of}
 use Rattle.pb_base.specs.Steppers.{opening}
-use Rattle.pb_names.specs.Program.{Program, capital_of}
+use Rattle.pb_base.specs.declared.lending.Lending.TheVariants.{ByBanker}
+use Rattle.pb_names.specs.Meaning.{source_bank_by}
+use Rattle.pb_names.specs.Program.{Program}
 use Rattle.pb_names.specs.Source.{SourceProcess, source_process, source_step}
 
 -- what the banker of a program with these claims knows
 abbrev pub bank_with : Program → Table → Bank
-bank_with program claims = record { capital = capital_of program; claims = claims }
+bank_with program claims = source_bank_by ByBanker program claims
 
 -- some picks, each enabled in turn, lead from the opening to this state
 abbrev pub SourceReaches : Program → Table → State SourceProcess → Type 0

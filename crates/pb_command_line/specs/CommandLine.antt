@@ -62,9 +62,14 @@ unfoldable pub outcomes_command : App
 outcomes_command =
     with_rule
     (with_rule
+    (with_rule
     (with_rule (new_app (codes "outcomes")) (number_rule_or (codes "states") 1 4000000 (codes "1000000")))
     (word_rule_or (codes "lend") (codes "banker")))
-    (flag_rule (codes "first-deadlock"))
+    (flag_rule (codes "first-deadlock")))
+    (flag_rule (codes "prints"))
+
+unfoldable pub plan_command : App
+plan_command = new_app (codes "plan")
 
 unfoldable pub record_command : App
 record_command =
@@ -94,7 +99,7 @@ that_wants_command a = record a { top = record a.top { subcommand_required = tru
 
 -- the commands that look at texts
 unfoldable pub with_text_commands : App → App
-with_text_commands a = with_command (with_command a check_command) claims_command
+with_text_commands a = with_command (with_command (with_command a check_command) claims_command) plan_command
 
 -- the commands that make code of a text
 unfoldable pub with_code_commands : App → App

@@ -14,7 +14,7 @@ use clap::{Arg, ArgAction, Command};
 use std::alloc::{AllocError, Global};
 
 // The version, and the line of `rt version` of the kit that it was proved with.
-const VERSION: &str = "0.1\nproved with rattle-kit-13b logic dac8208d650f15bf";
+const VERSION: &str = "0.1\nproved with rattle-kit-13f logic dac8208d650f15bf";
 
 // What is above the help. `--quiet` is taken off before these words are read.
 const ABOUT: &str =
@@ -212,7 +212,9 @@ fn outcomes_of_text<'a>(alloc: Global) -> Result<Command<'a>, AllocError>
     let outcomes = with_number(alloc, outcomes, "states", 1, 4_000_000, "1000000", states);
     let outcomes = with_lend(alloc, outcomes);
     let first = "End at the first deadlock that is found";
-    with_flag(alloc, outcomes, "first-deadlock", first)
+    let outcomes = with_flag(alloc, outcomes, "first-deadlock", first);
+    let prints = "Tell outcomes with different prints apart, and show what was printed";
+    with_flag(alloc, outcomes, "prints", prints)
 }
 
 fn states_of_run<'a>(alloc: Global) -> Result<Command<'a>, AllocError>
@@ -285,7 +287,10 @@ fn with_texts<'a>(
         "claims",
         "Print the claims of the program read from standard input",
     );
-    with_made(command, claims)
+    let command = with_made(command, claims);
+    let about =
+        "Print where the claims of the program read from standard input come from, and how much of each resource they need";
+    with_made(command, plain(alloc, "plan", about))
 }
 
 fn with_codes<'a>(

@@ -7,3 +7,4 @@ pub mod Positions
 pub mod Requests
 pub mod ResourceTexts
 pub mod SourceLines
+pub mod StopSearches

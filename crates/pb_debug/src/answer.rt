@@ -237,12 +237,7 @@ impl<'c> Debugger<'c> {
     }
 
     /// Appends the line that says why an arm of a process does not go on to a text.
-    pub(crate) fn say_reason(
-        &self,
-        text: &mut Vec<u8>,
-        p: usize,
-        arm: usize,
-    ) -> Result<(), NoMemory>
+    pub fn say_reason(&self, text: &mut Vec<u8>, p: usize, arm: usize) -> Result<(), NoMemory>
         requires { p < length (state_of self.now).processes }
         ensures { OnOk result ((said : List ℕ) × SaysWhy self.now arm said p
             × (text.new.items ≡ text.old.items ++ said)) }

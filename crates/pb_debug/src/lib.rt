@@ -10,6 +10,7 @@ mod refusal;
 mod search;
 mod session;
 mod shown;
+mod stops;
 mod why;
 
 pub use debugger::Debugger;

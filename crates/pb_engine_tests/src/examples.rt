@@ -10,6 +10,8 @@ mod lesson_4;
 mod lesson_5;
 mod lesson_6;
 mod lesson_7;
+mod lesson_8;
+mod lesson_9;
 mod limits;
 mod replayed_solutions;
 mod solutions;

@@ -1,11 +1,12 @@
 //! The search for every outcome and deadlock of small texts.
 
+use pb_base::Lending;
 use pb_codegen::compile;
 use pb_search::explore::{explore, explore_by};
 use pb_search::{
     Deadlock, Extent, Found, Outcomes, ProcessOutcome, StuckProcess, StuckState, Until,
 };
-use pb_search_stages::Lending;
+use pb_search_stages::Mode;
 use std::alloc::Global;
 
 /// A text of one process, all its outcomes, each by the only integer of the process and whether it faulted,
@@ -65,6 +66,14 @@ process b begin integer y; hold 1 of disk do hold 1 of tape do y := 4 od od end"
 /// A process that makes three picks: it pushes a number, prints it, and ends.
 const PRINT: &[u8] = b"process p begin print 1 end";
 
+/// Returns what a search goes through under this lending, without prints.
+fn quiet(lending: Lending) -> Mode {
+    Mode {
+        lending,
+        prints: false,
+    }
+}
+
 /// Returns whether a process with one integer ended so.
 fn has_ended(process: &ProcessOutcome, integer: i64, faulted: bool) -> bool {
     process.faulted == faulted && process.integers.as_slice() == [integer].as_slice()
@@ -86,7 +95,7 @@ fn are_outcomes(alloc: Global, case: &Case, lending: Lending) -> Option<bool> {
     let told = explore_by(
         alloc,
         compiled.verified(),
-        lending,
+        quiet(lending),
         Until::AllIsFound,
         100_000,
     )
@@ -119,7 +128,7 @@ fn both_end(alloc: Global, lending: Lending) -> Option<bool> {
     let told = explore_by(
         alloc,
         compiled.verified(),
-        lending,
+        quiet(lending),
         Until::AllIsFound,
         100_000,
     )
@@ -173,7 +182,7 @@ fn deadlocks_of_devices(alloc: Global) -> Option<(usize, usize)> {
     let by_cash = explore_by(
         alloc,
         compiled.verified(),
-        Lending::ByCash,
+        quiet(Lending::ByCash),
         Until::AllIsFound,
         100_000,
     )
@@ -203,7 +212,7 @@ fn deadlocks_of_philosophers(alloc: Global) -> Option<(usize, bool)> {
     let told = explore_by(
         alloc,
         compiled.verified(),
-        Lending::ByCash,
+        quiet(Lending::ByCash),
         Until::AllIsFound,
         100_000,
     )
@@ -267,7 +276,14 @@ fn two_configurations(rt: HostRuntime) {
 /// this many configurations.
 fn devices(alloc: Global, until: Until, states: u32) -> Option<Outcomes> {
     let compiled = compile(alloc, alloc, DEVICES).ok()?;
-    explore_by(alloc, compiled.verified(), Lending::ByCash, until, states).ok()
+    explore_by(
+        alloc,
+        compiled.verified(),
+        quiet(Lending::ByCash),
+        until,
+        states,
+    )
+    .ok()
 }
 
 /// Returns how many outcomes and deadlocks are found so, and whether they are all.
@@ -296,4 +312,56 @@ fn the_first_deadlock(rt: HostRuntime) {
     let alloc = rt.alloc();
     let first = found(alloc, Until::FirstDeadlock, 1_000);
     assert!(rt; first.is_some_and(|told| told.1 == 1 && told.2 == Extent::AtDeadlock));
+}
+
+/// A print beside a store of what it prints, and one behind both.
+const RACE: &[u8] =
+    b"process p begin integer x; parbegin x := 1; print x parend; print 7 end process q begin skip end";
+
+/// Returns the values that each outcome of the race printed, under this lending.
+fn prints_of_race(alloc: Global, lending: Lending) -> Option<Vec<Vec<i64>>> {
+    let compiled = compile(alloc, alloc, RACE).ok()?;
+    let mode = Mode {
+        lending,
+        prints: true,
+    };
+    let told = explore_by(alloc, compiled.verified(), mode, Until::AllIsFound, 100_000).ok()?;
+    let mut all = Vec::new(alloc);
+    for one in &told.found {
+        all.push(values_of(alloc, one)?).ok()?;
+    }
+    Some(all)
+}
+
+/// Returns the values that an outcome printed, in their order.
+fn values_of(alloc: Global, found: &Found) -> Option<Vec<i64>> {
+    let mut values = Vec::new(alloc);
+    for print in &found.prints {
+        values.push(print.value).ok()?;
+    }
+    Some(values)
+}
+
+/// Returns whether these are the two orders of values that the race can print.
+fn are_both(printed: &[Vec<i64>]) -> bool {
+    if printed.len() != 2 {
+        return false;
+    }
+    let first = printed[0].as_slice();
+    let second = printed[1].as_slice();
+    (first == [0, 7].as_slice() && second == [1, 7].as_slice())
+        || (first == [1, 7].as_slice() && second == [0, 7].as_slice())
+}
+
+/// Returns whether the race prints these, and nothing else, under this lending.
+fn race_prints_both(alloc: Global, lending: Lending) -> Option<bool> {
+    let all = prints_of_race(alloc, lending)?;
+    Some(are_both(all.as_slice()))
+}
+
+#[test]
+fn prints_tell_outcomes_apart(rt: HostRuntime) {
+    let alloc = rt.alloc();
+    assert!(rt; race_prints_both(alloc, Lending::ByBanker) == Some(true));
+    assert!(rt; race_prints_both(alloc, Lending::ByCash) == Some(true));
 }

@@ -26,4 +26,6 @@ mod outcomes;
 #[cfg(test)]
 mod places;
 #[cfg(test)]
+mod plan;
+#[cfg(test)]
 mod words;

@@ -19,12 +19,21 @@ const MANY: OutcomesOptions = OutcomesOptions {
     states: 1_000_000,
     lend: Lend::Banker,
     first_deadlock: false,
+    prints: false,
 };
 
 const CASH: OutcomesOptions = OutcomesOptions {
     states: 1_000_000,
     lend: Lend::Cash,
     first_deadlock: false,
+    prints: false,
+};
+
+const PRINTS: OutcomesOptions = OutcomesOptions {
+    states: 1_000_000,
+    lend: Lend::Banker,
+    first_deadlock: false,
+    prints: true,
 };
 
 /// Two additions, of which one may be lost: 7 configurations are kept.
@@ -35,7 +44,7 @@ const LOST: &[u8] =
 const DEVICES: &[u8] =
     b"resource tape = 1; resource disk = 1;\nprocess a begin hold 1 of tape do hold 1 of disk do print 1 od od end\nprocess b begin hold 1 of disk do hold 1 of tape do print 2 od od end\n";
 
-const CASES: [Case; 13] = [
+const CASES: [Case; 16] = [
     Case {
         text: LOST,
         options: MANY,
@@ -96,6 +105,7 @@ const CASES: [Case; 13] = [
             states: 7,
             lend: Lend::Banker,
             first_deadlock: false,
+            prints: false,
         },
         said: b"outcome 1\np ended\np.x 2\nreached by\np.0 1\np.1 5\np.2 5\np.0 4\noutcome 2\np ended\np.x 1\nreached by\np.0 1\np.1 3\np.2 3\np.1 2\np.2 2\np.0 4\n2 outcomes\n",
         status: Status::Done,
@@ -106,9 +116,28 @@ const CASES: [Case; 13] = [
             states: 6,
             lend: Lend::Banker,
             first_deadlock: false,
+            prints: false,
         },
         said: b"outcome 1\np ended\np.x 2\nreached by\np.0 1\np.1 5\np.2 5\np.0 4\nmore than 6 configurations, there may be others\n",
         status: Status::Limit,
+    },
+    Case {
+        text: b"process p begin integer x; parbegin x := 1; print x parend end\n",
+        options: PRINTS,
+        said: b"outcome 1\np ended\np.x 1\nprinted\np.2 print 1\nreached by\np.0 1\np.1 3\np.2 3\np.0 2\noutcome 2\np ended\np.x 1\nprinted\np.2 print 0\nreached by\np.0 1\np.1 1\np.2 1\np.1 2\np.2 2\np.0 2\n2 outcomes\n",
+        status: Status::Done,
+    },
+    Case {
+        text: b"process p begin print 1 end process q begin print 2 end",
+        options: PRINTS,
+        said: b"outcome 1\np ended\nq ended\nprinted\np.0 print 1\nq.0 print 2\nreached by\np.0 3\nq.0 3\noutcome 2\np ended\nq ended\nprinted\nq.0 print 2\np.0 print 1\nreached by\np.0 1\nq.0 2\np.0 2\nq.0 1\n2 outcomes\n",
+        status: Status::Done,
+    },
+    Case {
+        text: b"process p begin skip end",
+        options: PRINTS,
+        said: b"outcome 1\np ended\nreached by\np.0 1\n1 outcome\n",
+        status: Status::Done,
     },
     Case {
         text: b"process p begin print 1 end process",

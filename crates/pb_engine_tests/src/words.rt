@@ -50,6 +50,7 @@ fn commands_have_their_defaults(rt: HostRuntime) {
                 states: 1_000_000,
                 lend: Lend::Banker,
                 first_deadlock: false,
+                prints: false,
             }),
         ),
         (
@@ -59,6 +60,7 @@ fn commands_have_their_defaults(rt: HostRuntime) {
                 seed: None,
             }),
         ),
+        ("plan", Options::Plan),
         ("replay", Options::Replay),
         ("run", Options::Run(RUN)),
         (
@@ -111,6 +113,7 @@ fn options_with_one_word_are_read(rt: HostRuntime) {
                 states: 4_000_000,
                 lend: Lend::Banker,
                 first_deadlock: false,
+                prints: false,
             }),
         ),
         (
@@ -120,6 +123,7 @@ fn options_with_one_word_are_read(rt: HostRuntime) {
                 states: 1_000_000,
                 lend: Lend::Cash,
                 first_deadlock: false,
+                prints: false,
             }),
         ),
         (
@@ -129,6 +133,17 @@ fn options_with_one_word_are_read(rt: HostRuntime) {
                 states: 1_000_000,
                 lend: Lend::Banker,
                 first_deadlock: true,
+                prints: false,
+            }),
+        ),
+        (
+            "outcomes",
+            "--prints",
+            Options::Outcomes(OutcomesOptions {
+                states: 1_000_000,
+                lend: Lend::Banker,
+                first_deadlock: false,
+                prints: true,
             }),
         ),
         (
@@ -154,6 +169,7 @@ fn options_with_one_word_are_read(rt: HostRuntime) {
                 states: 1_000_000,
                 lend: Lend::Banker,
                 first_deadlock: false,
+                prints: false,
             }),
         ),
     ] {
@@ -225,6 +241,7 @@ fn other_words_are_refused(rt: HostRuntime) {
         ("help", "text"),
         ("migrate", "text"),
         ("outcomes", "--first-deadlock=true"),
+        ("outcomes", "--prints=true"),
         ("outcomes", "--lend=Cash"),
         ("outcomes", "--lend=till"),
         ("outcomes", "--lend="),
@@ -234,6 +251,7 @@ fn other_words_are_refused(rt: HostRuntime) {
         ("record", "--seed=-1"),
         ("record", "--seed=18446744073709551616"),
         ("record", "--seed=seven"),
+        ("plan", "text"),
         ("replay", "--steps=3"),
         ("states", "--from=10000001"),
         ("states", "--rows=0"),

@@ -30,6 +30,7 @@ use Rattle.pb_command_io.specs.declared.status.Status.TheVariants.{Done, Fault, 
 use Rattle.pb_engines.proofs.FaultLemmas.{faults_are_shown, shown_faults_are}
 use Rattle.pb_command_io.proofs.PageLemmas.{Says-first, Says-more}
 use Rattle.pb_accept.proofs.ReplayLemmas.{all_have_names}
+use Rattle.pb_base.specs.declared.lending.Lending.TheVariants.{ByBanker}
 
 -- ---- the run that is reported
 
@@ -48,7 +49,7 @@ few_picks entries steps few = let many = length-map entries (λ (e : Entry). e.p
 pub reports_follow_the_source : ReportsFollowTheSource
 reports_follow_the_source text code labels compiled limit report is =
     let entries = report.trace.entries in
-    compiled.same.no_more (events_of entries) (length entries)
+    (compiled.same ByBanker).no_more (events_of entries) (length entries)
     (picks_of entries, is.end, few_picks entries (length entries) (omega arith), traces_make code (code_opening code) is.end entries is.leads)
 
 -- all that the events of a report speak of has a name

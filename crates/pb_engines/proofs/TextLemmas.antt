@@ -9,6 +9,7 @@ use Rattle.pb_engines.specs.Runs.{SaysOfRun, done, faulted, at_limit, out_of_mem
 use Rattle.pb_engines.specs.Runs.{SaysOfCodeRun, SaysOfTextRun, refused, accepted}
 use Rattle.pb_command_io.specs.Inputs.{SaysOfInput, read}
 use Rattle.pb_command_io.specs.declared.status.Status.{Status}
+use Rattle.pb_base.specs.declared.lending.Lending.TheVariants.{ByBanker}
 
 -- the code can make the events of a run that is told
 can_make : (code : Code) (steps : ℕ) (events : List Event) (n : ℕ) (text : List ℕ) (status : Status)
@@ -32,7 +33,7 @@ text_is_run steps bytes code given labels old new answered short compiled same t
       told.0,
       told.1,
       read short (accepted code labels compiled told.2.0 told.2.1 told.0 told.1 told.2.2
-          (compiled.same.no_more told.2.0 told.2.1 (can_make code steps told.2.0 told.2.1 told.0 told.1 told.2.2))),
+          ((compiled.same ByBanker).no_more told.2.0 told.2.1 (can_make code steps told.2.0 told.2.1 told.0 told.1 told.2.2))),
       told.3,
     )
 

@@ -3,6 +3,7 @@
 #![tactic(auto)]
 
 pub mod arms;
+pub mod bank;
 pub mod banker;
 pub mod claims;
 pub mod deadlock;
@@ -10,5 +11,6 @@ pub mod first;
 pub mod limits;
 pub mod objects;
 pub mod outcomes;
+pub mod plan;
 pub mod solutions;
 pub mod updates;

@@ -30,7 +30,7 @@ shell_text command (Repeated repeated times) =
 -- a call that is refused, and its refusal line
 abbrev pub example_text : PlainExample → List ℕ
 example_text example =
-    codes "\nFor example, a shell that is told\n\n" ++ shell_text example.command example.input
+    codes "\nFor example:\n\n" ++ shell_text example.command example.input
     ++ codes "\nshows\n\n" ++ line example.line
 
 -- the same, if there is an example

@@ -90,7 +90,7 @@ g1-input =
 
 abbrev pub g1-entry : Explanation
 g1-entry = record {
-  summary = codes "a position that there is not";
+  summary = codes "no such position";
   meaning =
       codes "The command of `debug` would go before position 0, or behind the last pick; or it is\n"
       ++ codes "`pick`, at another position than the last, or behind 10,000,000 picks.";

@@ -52,6 +52,7 @@ TellsRefused (option.Exec numbers) = SaysToPerson reading.Object
 TellsRefused (option.Explain code) = λ bytes told. ⊥
 TellsRefused option.Migrate = SaysToPerson reading.Object
 TellsRefused (option.Outcomes numbers) = SaysToPerson reading.Text
+TellsRefused option.Plan = SaysToPerson reading.Text
 TellsRefused (option.Record numbers) = SaysToPerson reading.Recorded
 TellsRefused option.Replay = SaysToPerson reading.Replayed
 TellsRefused (option.Run numbers) = SaysToPerson reading.Text

@@ -39,7 +39,11 @@ fn message_for(alloc: Global, options: &Options, bytes: &[u8]) -> Option<Result<
         Options::Debug(flags) if flags.live => Some(live_message(alloc, bytes)),
         Options::Debug(_) => Some(message_of(alloc, Reading::Debugged, bytes)),
         Options::Emit(numbers) => Some(message_of(alloc, reading_of(numbers.object), bytes)),
-        Options::Outcomes(_) | Options::Run(_) => Some(message_of(alloc, Reading::Text, bytes)),
+        Options::Outcomes(_) | Options::Plan | Options::Run(_) => Some(message_of(
+            alloc,
+            Reading::Text,
+            bytes,
+        )),
         Options::Record(_) => Some(message_of(alloc, Reading::Recorded, bytes)),
         Options::Exec(_) | Options::Migrate => Some(message_of(alloc, Reading::Object, bytes)),
         Options::Draw | Options::Replay | Options::States(_) => {

@@ -1,10 +1,11 @@
 -- What is said of an input, from the message that was made.
 use Rattle.std.proofs.Common.{◌≡◌, ◌≢◌, ◌⊎◌, take, ℕ, List, [], codes, Option, Some, Result, Ok, Err, IfOk}
-use Rattle.std.proofs.Common.{subst, sym, inl, inr}
+use Rattle.std.proofs.Common.{◌+◌, ◌-◌, ◌<◌, Bool, true, false, not, IsTrue, arith, length, drop, refl, subst, sym, inl, inr}
+use Rattle.std.proofs.lemmas.List.{length-drop}
 use Rattle.pb_code.specs.Whole.{Code, ProcessLabels}
 use Rattle.pb_codegen.specs.Compiled.{IsCompiled}
 use Rattle.pb_accept.specs.Loading.{IsLoadFault, load_line}
-use Rattle.pb_command_io.specs.Parts.{AreTwoParts}
+use Rattle.pb_command_io.specs.Parts.{AreTwoParts, IsCutAt, IsMark}
 use Rattle.pb_accept.specs.ReplayLines.{picks_line}
 use Rattle.pb_accept.specs.declared.load.LoadFault.{LoadFault}
 use Rattle.pb_history.specs.Replays.{IsStopped, spread}
@@ -15,7 +16,7 @@ use Rattle.pb_picks.specs.declared.fault.PickFault.{PickFault}
 use Rattle.pb_message_stops.specs.Stops.{HoldsPick}
 use Rattle.pb_messages.specs.Causes.{IsCauseOf}
 use Rattle.pb_messages.specs.Messages.{IsMessage, IsMessageAt}
-use Rattle.pb_messages.specs.Said.{AreSaid, HasNoMark, SaysMore, SaysByReading, SaysOfFirstFormat, SaysWhetherFirst}
+use Rattle.pb_messages.specs.Said.{AreSaid, HasNoMark, IsLastLabel, SaysMore, SaysByReading, SaysOfFirstFormat, SaysWhetherFirst}
 use Rattle.pb_messages.specs.Said.{SaysOfPickLines, SaysOfPickedObject, SaysOfPickedText, SaysOfTexts, TellsObject}
 use Rattle.pb_messages.specs.Said.{all, stopped, unread}
 use Rattle.pb_messages.specs.declared.cause.Cause.{Cause}
@@ -69,7 +70,29 @@ module _ {W E : Type 0} (seen : W → List ℕ) where
   text_debugged bytes source rest lines commands (Err e) parts more text says = says
 
 -- what is said of all texts
-pub said_all : (bytes rest part before told : List ℕ) → AreSaid bytes rest before → part ≡ rest → HasNoMark rest
-    → SaysMore part before told → SaysOfTexts bytes told
-said_all bytes rest part before told are same no_mark says =
-    all rest before told are no_mark (subst (λ (text : List ℕ). SaysMore text before told) same says)
+pub said_all : (bytes : List ℕ) (number : ℕ) (label rest part before told : List ℕ) → AreSaid bytes number rest before
+    → part ≡ rest → HasNoMark rest → IsLastLabel number label → SaysMore label part before told → SaysOfTexts bytes told
+said_all bytes number label rest part before told are same no_mark labels says =
+    all number label rest before told are no_mark labels (subst (λ (text : List ℕ). SaysMore label text before told) same says)
+
+-- there is something where a line `%%` is
+pub mark_not_empty : (text : List ℕ) → IsMark text → 0 < length text
+mark_not_empty text (inl two) = subst (λ (t : List ℕ). 0 < length t) (sym two) (omega arith)
+mark_not_empty text (inr (after, more)) = subst (λ (t : List ℕ). 0 < length t) (sym more) (omega arith)
+
+-- what follows a line `%%` is shorter than what the line is in
+pub cut_shorter : (rest part left : List ℕ) → IsCutAt rest part left → length left < length rest
+cut_shorter rest part left (at, mark, earlier, is_part, is_left) =
+    let some = mark_not_empty (drop at rest) mark.marks in
+    let from = length-drop at rest in
+    let behind = length-drop (at + 3) rest in
+    subst (λ (l : List ℕ). length l < length rest) (sym is_left) (omega (arith, some, from, behind))
+
+-- whether there is nothing, as it is said by whether there is something
+pub none_told : (b : Bool) → false ≡ not b → IsTrue b
+none_told true same = grind arith
+none_told false same = absurd cc
+
+pub some_told : (b : Bool) → true ≡ not b → b ≡ false
+some_told true same = absurd cc
+some_told false same = refl

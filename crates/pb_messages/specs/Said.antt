@@ -1,5 +1,6 @@
 -- What is said to a person of an input that was refused.
-use Rattle.std.specs.Prelude.{◌≡◌, ◌≢◌, ◌<◌, ◌≤◌, ◌⊎◌, ◌++◌, ◌∷◌, ℕ, List, [], None, Some, codes, length, take}
+use Rattle.std.specs.Prelude.{◌≡◌, ◌≢◌, ◌<◌, ◌≤◌, ◌⊎◌, ◌+◌, ◌++◌, ◌∷◌, ℕ, List, [], None, Some, codes, length, take}
+use Rattle.std.specs.Fmt.{decimal}
 use Rattle.pb_base.specs.declared.limits.TheConstants.{MAX_INPUT}
 use Rattle.pb_base.specs.Steppers.{State, Table}
 use Rattle.pb_code.specs.Code.{CodeProcess}
@@ -67,24 +68,35 @@ abbrev pub behind : (others more : List ℕ) → List ℕ
 behind [] more = more
 behind (b ∷ bs) more = b ∷ bs ++ 10 ∷ more
 
--- what is said when one more text was looked at, and what was said before: the same if it is accepted
-abbrev pub SaysMore : (text before told : List ℕ) → Type 0
-SaysMore text before told =
-    (IsAcceptedText text × (told ≡ before))
-    ⊎ ((label : List ℕ) × (more : List ℕ) × TellsRefusal label text more × (told ≡ behind before more))
+-- what is named before the line of a place in a text of several
+abbrev pub text_label : (number : ℕ) → List ℕ
+text_label number = codes "text " ++ decimal number ++ codes ", "
 
--- what is left of an input behind its first texts, and what is said of these in turn
-pub data AreSaid (bytes : List ℕ) : (rest told : List ℕ) → Type 0 where
-  none : AreSaid bytes bytes []
-  more : (rest before text left told : List ℕ)
-      → AreSaid bytes rest before → IsCutAt rest text left → SaysMore text before told → AreSaid bytes left told
+-- the same of the last text, which is the only one if it is the first
+abbrev pub IsLastLabel : (number : ℕ) → (label : List ℕ) → Type 0
+IsLastLabel number label = ((number ≡ 1) × (label ≡ [])) ⊎ ((number ≢ 1) × (label ≡ text_label number))
+
+-- what is said when one more text was looked at, and what was said before: the same if it is accepted
+abbrev pub SaysMore : (label text before told : List ℕ) → Type 0
+SaysMore label text before told =
+    (IsAcceptedText text × (told ≡ before))
+    ⊎ ((more : List ℕ) × TellsRefusal label text more × (told ≡ behind before more))
+
+-- the number of the next text of an input, what is left of the input from there, and what is said of the texts
+-- before it in turn
+pub data AreSaid (bytes : List ℕ) : (number : ℕ) → (rest told : List ℕ) → Type 0 where
+  none : AreSaid bytes 1 bytes []
+  more : (number : ℕ) (rest before text left told : List ℕ)
+      → AreSaid bytes number rest before → IsCutAt rest text left → SaysMore (text_label number) text before told
+      → AreSaid bytes (number + 1) left told
 
 -- of texts: what is said of all of them, behind the last of which is no line `%%`; or of the first ones, if
 -- that has over 4,096 bytes
 pub data SaysOfTexts (bytes : List ℕ) : List ℕ → Type 0 where
-  all : (text before told : List ℕ)
-      → AreSaid bytes text before → HasNoMark text → SaysMore text before told → SaysOfTexts bytes told
-  first : (rest told : List ℕ) → AreSaid bytes rest told → 4096 < length told → SaysOfTexts bytes told
+  all : (number : ℕ) (label text before told : List ℕ)
+      → AreSaid bytes number text before → HasNoMark text → IsLastLabel number label → SaysMore label text before told
+      → SaysOfTexts bytes told
+  first : (number : ℕ) (rest told : List ℕ) → AreSaid bytes number rest told → 4096 < length told → SaysOfTexts bytes told
 
 -- the message of an object that is not read, or is not safe
 abbrev pub TellsObject : (bytes told : List ℕ) → Type 0

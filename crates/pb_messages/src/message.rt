@@ -1,10 +1,10 @@
 //! The message of a refused input.
 
-ghost use Rattle.std.specs.Prelude.{◌≡◌, ◌↔◌, [], IfNone, IfOk, IfSome, IsTrue, OnOk, codes, take};
+ghost use Rattle.std.specs.Prelude.{◌≡◌, ◌↔◌, ◌≤◌, [], IfNone, IfOk, IfSome, IsTrue, false, OnOk, codes, length, string_bytes, take};
 ghost use Rattle.pb_accept.specs.Refusals.{IsAcceptedText};
 ghost use Rattle.pb_messages.specs.Messages.{TellsRefusal};
 ghost use Rattle.pb_messages.specs.Said.{SaysByReading, SaysOfObjectText, SaysOfPickedObject, SaysOfPickedText, SaysOfProgram, SaysOfText, SaysOfTexts};
-ghost use Rattle.pb_messages.specs.Said.{SaysMore, SaysToPerson, behind, long_output};
+ghost use Rattle.pb_messages.specs.Said.{IsLastLabel, SaysMore, SaysToPerson, behind, long_output, text_label};
 ghost use Rattle.pb_messages.specs.declared.message.Reading.TheVariants.{Debugged, Replayed};
 
 use crate::first_format::first_format_message;
@@ -62,6 +62,7 @@ pub fn message_of(alloc: Global, reading: Reading, bytes: &[u8]) -> Result<Vec<u
 
 // Returns the messages of an input that is not too long.
 fn whole_message(alloc: Global, reading: Reading, bytes: &[u8]) -> Result<Vec<u8>, NoMemory>
+    requires { length bytes.now ≤ MAX_INPUT }
     ensures { IfOk result (λ message. SaysByReading reading bytes.now message.items) }
 {
     match reading {
@@ -129,6 +130,7 @@ fn recorded_message(alloc: Global, text: &[u8]) -> Result<Vec<u8>, NoMemory>
 
 // Returns the messages of the first texts of an input that are refused.
 fn texts_messages(alloc: Global, bytes: &[u8]) -> Result<Vec<u8>, NoMemory>
+    requires { length bytes.now ≤ MAX_INPUT }
     ensures { IfOk result (λ messages. SaysOfTexts bytes.now messages.items) }
 {
     let mut out = Vec::new(alloc);
@@ -149,9 +151,9 @@ fn texts_messages(alloc: Global, bytes: &[u8]) -> Result<Vec<u8>, NoMemory>
     }
 }
 
-// Puts the message of a text behind others, if the text is refused.
+/// Appends the message of a text to `out`, if the text is refused.
 fn tell_text(alloc: Global, out: &mut Vec<u8>, label: &str, text: &[u8]) -> Result<(), NoMemory>
-    ensures { OnOk result (SaysMore text.now out.old.items out.new.items) }
+    ensures { OnOk result (SaysMore label.now text.now out.old.items out.new.items) }
 {
     match refusal_message(alloc, label, text)? {
         Some(message) => put_message(out, &message),
@@ -159,7 +161,7 @@ fn tell_text(alloc: Global, out: &mut Vec<u8>, label: &str, text: &[u8]) -> Resu
     }
 }
 
-// Puts a message behind others, with an empty line between.
+/// Appends a message to `out`, after an empty line if there are others.
 fn put_message(out: &mut Vec<u8>, message: &[u8]) -> Result<(), NoMemory>
     ensures { OnOk result (out.new.items ≡ behind out.old.items message.now) }
 {
@@ -170,8 +172,11 @@ fn put_message(out: &mut Vec<u8>, message: &[u8]) -> Result<(), NoMemory>
     Ok(())
 }
 
-// Returns what is said before the line of a text: its number, unless it is the only one.
-fn part_label(alloc: Global, number: u64, is_last: bool) -> Result<String, AllocError> {
+/// Returns what is said before the line of a text: its number, unless it is the only one.
+fn part_label(alloc: Global, number: u64, is_last: bool) -> Result<String, AllocError>
+    ensures last { IsTrue is_last → IfOk result (λ label. IsLastLabel number (string_bytes label)) }
+    ensures earlier { is_last ≡ false → IfOk result (λ label. string_bytes label ≡ text_label number) }
+{
     if number == 1 && is_last {
         return Ok(String::new(alloc));
     }

@@ -12,6 +12,7 @@ use Rattle.pb_base.specs.declared.pick.Pick.{Pick}
 use Rattle.pb_names.specs.Program.{Number, Variable, Binary, Stmt, Assign, Print, While, Hold, Parbegin, Skip}
 use Rattle.pb_names.specs.Program.{Then, NoArm, AndArm, Process, IsWellNumbered}
 use Rattle.pb_names.specs.Source.{SourceProcess, source_step, source_process}
+use Rattle.pb_base.specs.declared.lending.Lending.TheVariants.{ByBanker}
 
 -- ---- runs by explicit picks
 
@@ -35,7 +36,7 @@ of_arms (span ∷ spans) = replicate span.1 (by_arm span.0) ++ of_arms spans
 abbrev run_of : Process → List (ℕ × ℕ) → Option (List Event)
 run_of process spans =
     play (of_arms spans)
-    (opening (record { capital = 9 ∷ []; claims = [] }) (source_process process ∷ []))
+    (opening (record { capital = 9 ∷ []; claims = []; lends = ByBanker }) (source_process process ∷ []))
 
 -- an amount of the one resource
 abbrev of_tape : ℕ → Bundle

@@ -65,7 +65,7 @@ pub enum Code {
     K2,
     /// A pick that is not enabled.
     H1,
-    /// A position that there is not.
+    /// A position before the first or past the last.
     G1,
     /// No process of this name.
     G2,

@@ -99,6 +99,8 @@ pub struct OutcomesOptions {
     pub lend: Lend,
     /// Whether the search ends at the first deadlock.
     pub first_deadlock: bool,
+    /// Whether outcomes with different prints are different ones, and are shown with them.
+    pub prints: bool,
     pub ghost some_state: { 1 ≤ states },
     pub ghost states_fit: { states ≤ MAX_STATES },
 }

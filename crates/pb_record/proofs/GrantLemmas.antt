@@ -10,12 +10,14 @@ use Rattle.pb_base.specs.Banker.{BankerState, FitsAfter, IsAllowed, IsSafe, IsWi
 use Rattle.pb_base.specs.Banker.{held_by, loan, processes, remaining_claim, resources, with_loan}
 use Rattle.pb_base.specs.declared.pair.Pair.{Pair}
 use Rattle.pb_base.specs.declared.pick.Pick.{Pick}
-use Rattle.pb_base.specs.Steppers.{Bank, Bundle, Effect, Faults, Finishes, IsGranted, Move, Prints, Returns, Silent}
+use Rattle.pb_base.specs.Steppers.{Bank, Bundle, Effect, Faults, Finishes, IsGranted, IsLent, Move, Prints, Returns, Silent}
 use Rattle.pb_base.specs.Steppers.{State, Table, Takes, banker_state, move_of}
 use Rattle.pb_base.proofs.Cases.{bool_cases}
 use Rattle.pb_code.specs.Code.{CodeProcess, code_step}
 use Rattle.pb_code.specs.Reached.{CodeStays}
 use Rattle.pb_code.specs.Whole.{Code, bank_of}
+use Rattle.pb_base.specs.declared.lending.Lending.{Lending}
+use Rattle.pb_base.specs.declared.lending.Lending.TheVariants.{ByBanker, ByCash}
 
 -- ---- numbers, and elements of lists
 
@@ -129,12 +131,17 @@ allowed_or_not s p bundle = elim (within_claim_or_not s p bundle) [
   ]
 ]
 
+lent_or_not : (lending : Lending) (s : BankerState) (p : ℕ) (bundle : Bundle)
+    → IsLent lending s p bundle ⊎ ¬ IsLent lending s p bundle
+lent_or_not ByBanker s p bundle = allowed_or_not s p bundle
+lent_or_not ByCash s p bundle = within_cash_or_not s bundle
+
 -- ---- picks
 
 granted_or_not : (bank : Bank) (loans : Table) (p : ℕ) (effect : Effect) → IsGranted bank loans p effect ⊎ ¬ IsGranted bank loans p effect
 granted_or_not bank loans p Silent = inl tt
 granted_or_not bank loans p (Prints v) = inl tt
-granted_or_not bank loans p (Takes bundle) = allowed_or_not (banker_state bank loans) p bundle
+granted_or_not bank loans p (Takes bundle) = lent_or_not bank.lends (banker_state bank loans) p bundle
 granted_or_not bank loans p (Returns bundle) = inl tt
 granted_or_not bank loans p (Faults kind) = inl tt
 granted_or_not bank loans p Finishes = inl tt

@@ -22,6 +22,8 @@ use Rattle.pb_rewrite.specs.declared.process.SourceProcess.{SourceProcess as Giv
 use Rattle.pb_rewrite.proofs.ArmNumbers.{owns_block}
 use Rattle.pb_rewrite.proofs.Processes.{process_of}
 use Rattle.pb_rewrite.proofs.Sources.{state_with}
+use Rattle.pb_base.specs.declared.lending.Lending.TheVariants.{ByBanker}
+use Rattle.pb_names.specs.Meaning.{source_bank_by}
 
 -- ---- one more
 
@@ -156,7 +158,7 @@ none_past items i P x here holds before p q less at =
 
 pub opens : (program : Program) (claims : Table) → FitsClaims program claims
     → state_with (map source_process program.processes) (start_state (capital_of program) claims).loans
-    ≡ opening (record { capital = capital_of program; claims = claims }) (map source_process program.processes)
+    ≡ opening (source_bank_by ByBanker program claims) (map source_process program.processes)
 opens program claims fits = ap (state_with (map source_process program.processes)) (loans_open program claims fits)
 
 -- ---- the capital that the banker is given

@@ -3,6 +3,7 @@
 use Rattle.std.specs.Prelude.{List, [], ◌∷◌, map, option_map, reverse}
 use Rattle.pb_base.specs.Banker.{BankerState}
 use Rattle.pb_base.specs.Steppers.{Bank}
+use Rattle.pb_base.specs.declared.lending.Lending.TheVariants.{ByBanker}
 use Rattle.pb_names.specs.Source as plain
 use Rattle.pb_names.specs.Source.{Running, Nothing, Beside, item_of, items_of}
 use Rattle.pb_names.specs.View.{expr_view, stmt_view, block_view}
@@ -46,4 +47,4 @@ process_view p = record { vars = p.vars.items; run = option_map arm_view p.run }
 
 -- the capital and the claims that the banker knows
 abbrev pub bank_view : BankerState → Bank
-bank_view s = record { capital = s.capital; claims = s.claims }
+bank_view s = record { capital = s.capital; claims = s.claims; lends = ByBanker }

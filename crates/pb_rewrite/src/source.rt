@@ -3,7 +3,8 @@
 ghost use Rattle.std.specs.Prelude.{◌≡◌, ◌↔◌, ◌<◌, ◌≤◌, length, map, All, IfOk, IsTrue, OnErr, slice_get, Some, slice_index, option_and_then};
 ghost use Rattle.pb_base.specs.Steppers.{IsFinished, opening};
 ghost use Rattle.pb_base.specs.Steps.{IsStepOf};
-ghost use Rattle.pb_names.specs.Program.{capital_of};
+ghost use Rattle.pb_base.specs.declared.lending.Lending.TheVariants.{ByBanker};
+ghost use Rattle.pb_names.specs.Meaning.{source_bank_by};
 ghost use Rattle.pb_names.specs.Source.{SourceProcess as SourceState, source_over, source_process, source_step};
 ghost use Rattle.pb_names.specs.View.{resource_view, resolved_view};
 ghost use Rattle.pb_names.specs.View.{process_view as program_process};
@@ -90,10 +91,10 @@ impl<A: Allocator + Clone> Source<A> {
     ) -> Result<Source<A>, NoMemory>
         requires { FitsClaims (resolved_view program.now) claims.now }
         ensures opening { IfOk result (λ s. source_view s
-            ≡ opening (record { capital = capital_of (resolved_view program.now); claims = claims.now })
+            ≡ opening (source_bank_by ByBanker (resolved_view program.now) claims.now)
             (map source_process (resolved_view program.now).processes)) }
         ensures bank { IfOk result (λ s. source_bank s
-            ≡ record { capital = capital_of (resolved_view program.now); claims = claims.now }) }
+            ≡ source_bank_by ByBanker (resolved_view program.now) claims.now) }
         ensures source { IfOk result IsSource }
     {
         let capital = capital_for(alloc, &program.resources)?;

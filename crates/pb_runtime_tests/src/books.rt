@@ -3,7 +3,7 @@
 ghost use Rattle.std.specs.Prelude.{◌≡◌, ◌≤◌};
 
 use crate::codes::{DEVICES, PRINT, verified};
-use pb_shared::{Answer, Book, CodeBrand, CommitFault, Outcome, Taken};
+use pb_shared::{Answer, Book, CodeBrand, CommitFault, HomeFault, Outcome, Taken};
 use pb_verifier::Verified;
 use std::alloc::Global;
 use std::marker::Brand;
@@ -136,6 +136,41 @@ fn put_back(rt: HostRuntime) {
     };
     let back = put_back_once::<Brand>(rt.alloc(), &code);
     assert!(rt; back == Some((3, 0, (3, 1, Came::Did))));
+}
+
+/// Returns what came of a stretch that is run and brought home, and how many picks the book then has.
+fn bring_home_once<C: CodeBrand>(alloc: Global, code: &Verified) -> Option<(Came, u32)>
+    requires { code.now ≡ C.code }
+{
+    let mut book: Book<'_, C> = match Book::new(alloc, code, 3) {
+        Ok(book) => book,
+        Err(_) => return None,
+    };
+    let mut stretch = match book.take(alloc, 64) {
+        Ok(Taken::Work(stretch)) => stretch,
+        Ok(Taken::Idle) => return None,
+        Ok(Taken::Over(_)) => return None,
+        Err(_) => return None,
+    };
+    let _ = stretch.run(64);
+    let came = match book.bring_home(stretch) {
+        Ok(answer) => came_of(answer),
+        Err(HomeFault::NoMemory) => Came::NoMemory,
+        Err(HomeFault::Stranger(stretch)) => {
+            stretch.forfeit();
+            Came::Stranger
+        }
+    };
+    Some((came, book.trace().len()))
+}
+
+#[test]
+fn bring_home(rt: HostRuntime) {
+    let Some(code) = verified(rt.alloc(), PRINT) else {
+        panic!(rt; "no code")
+    };
+    let home = bring_home_once::<Brand>(rt.alloc(), &code);
+    assert!(rt; home == Some((Came::Did, 2)));
 }
 
 /// Returns what came of the turns of a book up to its end, of which there are at most 13, and how many events

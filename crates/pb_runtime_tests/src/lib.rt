@@ -28,6 +28,8 @@ mod replays;
 #[cfg(test)]
 mod sessions;
 #[cfg(test)]
+mod stops;
+#[cfg(test)]
 mod strangers;
 #[cfg(test)]
 mod workers;

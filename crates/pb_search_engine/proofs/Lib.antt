@@ -1,4 +1,6 @@
 pub mod CountLemmas
 pub mod LineLemmas
 pub mod OutcomeLemmas
+pub mod PrintedOutcomes
+pub mod SourceLaw
 pub mod SourceOutcomeLemmas

@@ -83,7 +83,7 @@ no_deadlocks names labels found text empty = subst (λ (t : List ℕ). AreDeadlo
 pub deadlock_more : (names : NameTable) (labels : List ProcessLabels) (found : List GivenDeadlock) (i : ℕ) (d : GivenDeadlock)
     (picks : List CountedPick) (so_far new : List ℕ) → i < length found → d ≡ get_or found i d
     → AreDeadlockLines names labels (take i (map deadlock_view found)) so_far → AreCounted (deadlock_view d).picks picks
-    → new ≡ so_far ++ deadlock_lines names labels (i + 1) (deadlock_view d).processes picks
+    → new ≡ so_far ++ deadlock_lines names labels (i + 1) (deadlock_view d) picks
     → AreDeadlockLines names labels (take (i + 1) (map deadlock_view found)) new
 deadlock_more names labels found i d picks so_far new within at before counted added =
     let views = map deadlock_view found in
@@ -92,8 +92,8 @@ deadlock_more names labels found i d picks so_far new within at before counted a
     let many : length (take i views) ≡ i = length-take-le i views (omega (arith, inside)) in
     let list : take i views ++ deadlock_view d ∷ [] ≡ take (i + 1) views =
     ap (λ g. take i views ++ g ∷ []) (sym (view_at deadlock_view found i d within at)) ∙ sym (take_more views i (deadlock_view d) inside) in
-    let text : so_far ++ deadlock_lines names labels (length (take i views) + 1) (deadlock_view d).processes picks ≡ new =
-    ap (λ n. so_far ++ deadlock_lines names labels (n + 1) (deadlock_view d).processes picks) many ∙ sym added in
+    let text : so_far ++ deadlock_lines names labels (length (take i views) + 1) (deadlock_view d) picks ≡ new =
+    ap (λ n. so_far ++ deadlock_lines names labels (n + 1) (deadlock_view d) picks) many ∙ sym added in
     subst (λ (l : List FoundDeadlock). AreDeadlockLines names labels l new) list
     (subst (λ (t : List ℕ). AreDeadlockLines names labels (take i views ++ deadlock_view d ∷ []) t) text
     (one_more_stuck (take i views) so_far (deadlock_view d) picks before counted))

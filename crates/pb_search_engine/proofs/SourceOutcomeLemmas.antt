@@ -1,11 +1,17 @@
 -- The outcomes of code are those of its program.
 use Rattle.std.proofs.Common.{◌≡◌, ◌↔◌, ◌⊎◌, inl, inr, ℤ, Bool, true, false, List, [], ◌∷◌, map, Option, Some}
-use Rattle.std.proofs.Common.{None, refl, sym, ap, ◌∙◌, subst}
+use Rattle.std.proofs.Common.{None, option_map, refl, sym, ap, ◌∙◌, subst}
+use Rattle.std.proofs.lemmas.Option.{get_or_from_slice_get, slice_get-map, slice_get_within}
+use Rattle.std.specs.Prelude.{slice_get}
+use Rattle.pb_base.proofs.Lists.{get_mapped}
+use Rattle.pb_search.proofs.OutcomeLists.{index_of}
+use Rattle.pb_search_stages.proofs.Traces.{plain_comes, quiet_comes}
+use Rattle.pb_search_stages.specs.Traces.{Outcome, Trace, trace_opening, trace_outcome}
+use Rattle.pb_search_engine.specs.SourceOutcomes.{without_prints}
 use Rattle.std.specs.Prelude.{Contains, is_none, slice_index_or}
 use Rattle.std.proofs.lemmas.List.Elements.{All-contains, All-map}
 use Rattle.pb_base.specs.Steppers.{Bank, State, Table, IsFinished, opening}
 use Rattle.pb_names.specs.Program.{AllWellNumbered, Process, Program}
-use Rattle.pb_names.specs.Resolves.{resource_names}
 use Rattle.pb_names.specs.Source.{Arm, Doing, Ended, SourceProcess, Waiting, source_over, source_process, source_step}
 use Rattle.pb_code.specs.Code.{Thread, CodeProcess, Live, code_over, code_process, code_step, thread}
 use Rattle.pb_code.specs.Whole.{Code}
@@ -17,12 +23,11 @@ use Rattle.pb_codegen.proofs.SimulationPlaces.{listing_of}
 use Rattle.pb_codegen.proofs.SimulationProcesses.{Alike, RunAlike}
 use Rattle.pb_codegen.proofs.SimulationRuns.{AllAlike, AtProcess, StatesAlike, absent, at_process, opening_alike}
 use Rattle.pb_codegen.proofs.SimulationRuns.{present, shadowed}
-use Rattle.pb_codegen.proofs.VerifiedProcesses.{well_numbered}
 use Rattle.pb_codegen.proofs.SimulationListings.{Listing}
 use Rattle.pb_search_stages.specs.Reaching.{ProcessOutcome, process_outcome}
 use Rattle.pb_search.specs.Outcomes.{AreOutcomes, Found}
-use Rattle.pb_search_stages.specs.declared.lending.Lending.TheVariants.{ByBanker}
-use Rattle.pb_search_engine.specs.SourceOutcomes.{IsOutcomeOfCode, IsOutcomeOfProgram, OutcomesAreThoseOfTheProgram}
+use Rattle.pb_base.specs.declared.lending.Lending.TheVariants.{ByBanker}
+use Rattle.pb_search_engine.specs.SourceOutcomes.{IsOutcomeOfCode, IsOutcomeOfProgram}
 use Rattle.pb_search_engine.specs.SourceOutcomes.{source_outcome}
 use Rattle.pb_search_stages.proofs.ReachedByBanker.{come, make}
 
@@ -59,7 +64,7 @@ module _ (listing : Listing) (cp : CodeProcess) (sp : SourceProcess) where
   )
   over_as (Some Ended) h = (λ o. inr refl, λ o. inr h.2.0)
 
-same_outcomes : (program : List Process) (cps : List CodeProcess) (sps : List SourceProcess)
+pub same_outcomes : (program : List Process) (cps : List CodeProcess) (sps : List SourceProcess)
     → AllAlike program cps sps → map process_outcome cps ≡ map source_outcome sps
 same_outcomes [] [] [] h = refl
 same_outcomes (process ∷ program) (cp ∷ cps) (sp ∷ sps) h =
@@ -73,7 +78,7 @@ same_outcomes (process ∷ program) [] (sp ∷ sps) h = elim h [ ]
 same_outcomes (process ∷ program) (cp ∷ cps) [] h = elim h [ ]
 
 module _ (program : List Process) (cs : State CodeProcess) (ss : State SourceProcess) (h : StatesAlike program cs ss) where
-  source_finished : IsFinished code_over cs → IsFinished source_over ss
+  pub source_finished : IsFinished code_over cs → IsFinished source_over ss
   source_finished f p sp in_source = go (at_process program cs.processes ss.processes h.processes p)
     where
       go : AtProcess program cs.processes ss.processes p → source_over sp
@@ -83,7 +88,7 @@ module _ (program : List Process) (cs : State CodeProcess) (ss : State SourcePro
           let e' : sp' ≡ sp = cc in
           subst source_over e' ((over_as (listing_of process) cp sp' sp'.run alike.run).0 (f p cp c))
 
-  code_finished : IsFinished source_over ss → IsFinished code_over cs
+  pub code_finished : IsFinished source_over ss → IsFinished code_over cs
   code_finished f p cp in_code = go (at_process program cs.processes ss.processes h.processes p)
     where
       go : AtProcess program cs.processes ss.processes p → code_over cp
@@ -132,33 +137,40 @@ module _ (program : Program) (claims : Table) (numbered : AllWellNumbered progra
         is.3 ∙ sym (same_outcomes program.processes f.last.processes end.processes f.alike.processes),
       )
 
-  same_outcome : IsOutcomeOfCode (program_code program claims) outcome ↔ IsOutcomeOfProgram program claims outcome
+  pub same_outcome : IsOutcomeOfCode (program_code program claims) outcome ↔ IsOutcomeOfProgram program claims outcome
   same_outcome = (to_program, to_code)
 
 -- ---- a list of outcomes
 
-listed_is : (code : Code) (found : List Found) → AreOutcomes ByBanker code found → (outcome : List ProcessOutcome)
-    → Contains (map (λ f. f.outcome) found) outcome ↔ IsOutcomeOfCode code outcome
-listed_is code found are outcome = (
-  All-contains (IsOutcomeOfCode code) (map (λ f. f.outcome) found) outcome
-      (All-map (IsOutcomeOfCode code) (λ (f : Found). f.outcome) found
-      (λ k d within. let e = are.some.each k d within in ((slice_index_or found k d).picks, e.0, e.1, e.2))),
-  λ is. subst (Contains (map (λ f. f.outcome) found)) (sym is.3) (are.none_missing is.0 is.1 is.2),
-)
-
-pub outcomes_are_those_of_the_program : OutcomesAreThoseOfTheProgram
-outcomes_are_those_of_the_program text code labels is =
-    let program = is.program in
-    let arms = well_numbered (resource_names program) is.numbered.tree.processes program.processes is.numbered.numbered.processes in
-    let same : (outcome : List ProcessOutcome) → IsOutcomeOfCode code outcome ↔ IsOutcomeOfProgram program code.claims outcome =
-    λ outcome. subst (λ c. IsOutcomeOfCode c outcome ↔ IsOutcomeOfProgram program code.claims outcome) (sym is.generated)
-    (same_outcome program code.claims arms outcome) in (
-      program,
-      is.numbered,
-      record {
-        same = same;
-        listed = λ found are outcome.
-            let l = listed_is code found are outcome in
-            (λ has. (same outcome).0 (l.0 has), λ is. l.1 ((same outcome).1 is));
-      },
+-- what a list has is seen of it
+contains_mapped : {A B C : Type 0} (f : A → B) (g : B → C) (xs : List A) (y : B) → Contains (map f xs) y
+    → Contains (map (λ x. g (f x)) xs) (g y)
+contains_mapped f g xs y c =
+    let at = index_of (map f xs) y c in
+    let found = get_mapped f xs at.0 y at.1 in
+    let there : slice_get (map (λ x. g (f x)) xs) at.0 ≡ Some (g y) =
+    slice_get-map (λ x. g (f x)) xs at.0 ∙ (ap (option_map (λ x. g (f x))) found.1 ∙ ap (λ z. Some (g z)) found.2) in (
+      at.0,
+      slice_get_within (map (λ x. g (f x)) xs) at.0 (g y) there,
+      get_or_from_slice_get (map (λ x. g (f x)) xs) at.0 (g y) (g y) there,
     )
+
+pub listed_is : (code : Code) (found : List Found) → AreOutcomes without_prints code found → (outcome : List ProcessOutcome)
+    → Contains (map (λ f. f.outcome.processes) found) outcome ↔ IsOutcomeOfCode code outcome
+listed_is code found are outcome = (
+  All-contains (IsOutcomeOfCode code) (map (λ f. f.outcome.processes) found) outcome
+      (All-map (IsOutcomeOfCode code) (λ (f : Found). f.outcome.processes) found
+      (λ k d within.
+      let e = are.some.each k d within in (
+        (slice_index_or found k d).picks,
+        e.0.state,
+        (plain_comes without_prints code (trace_opening code) e.0 (slice_index_or found k d).picks e.1.0, e.1.1),
+        ap (λ (o : Outcome). o.processes) e.2,
+      ))),
+  λ is.
+      let end : Trace = record { state = is.1; prints = [] } in
+      let comes = quiet_comes without_prints code refl (trace_opening code) is.1 is.0 is.2.0 in
+      let there : Contains (map (λ f. f.outcome) found) (trace_outcome end) = are.none_missing is.0 end (comes, is.2.1) in
+      subst (Contains (map (λ f. f.outcome.processes) found)) (sym is.3)
+      (contains_mapped (λ (f : Found). f.outcome) (λ (o : Outcome). o.processes) found (trace_outcome end) there),
+)

@@ -10,7 +10,7 @@ use Rattle.pb_search.specs.declared.found.StuckState.TheVariants.{Ended, Faulted
 use Rattle.pb_search.specs.Deadlocks.{FoundDeadlock, StuckProcess}
 use Rattle.pb_history.specs.declared.counted.CountedPick.{CountedPick}
 use Rattle.pb_picks.specs.PickLines.{pick_lines}
-use Rattle.pb_search_engine.specs.OutcomeLines.{AreCounted, integer_lines, integer_names}
+use Rattle.pb_search_engine.specs.OutcomeLines.{AreCounted, integer_lines, integer_names, printed_lines}
 
 -- where a process is in a deadlock
 abbrev pub state_text : StuckState → List ℕ
@@ -50,11 +50,11 @@ all_stuck_lines names labels processes =
     each_below (λ p. stuck_lines names (name_of names.processes p) (integer_names labels p) (stuck_at processes p))
     (length processes)
 
--- a deadlock with its number, and picks that lead to it
-abbrev pub deadlock_lines : NameTable → List ProcessLabels → ℕ → List StuckProcess → List CountedPick → List ℕ
-deadlock_lines names labels number processes picks =
-    line (codes "deadlock " ++ decimal number) ++ all_stuck_lines names labels processes
-    ++ line (codes "reached by") ++ pick_lines names.processes picks
+-- a deadlock with its number, what was printed before it, and picks that lead to it
+abbrev pub deadlock_lines : NameTable → List ProcessLabels → ℕ → FoundDeadlock → List CountedPick → List ℕ
+deadlock_lines names labels number d picks =
+    line (codes "deadlock " ++ decimal number) ++ all_stuck_lines names labels d.processes
+    ++ printed_lines names d.prints ++ line (codes "reached by") ++ pick_lines names.processes picks
 
 -- the lines of deadlocks, numbered from 1, each with the picks by which it was found
 pub data AreDeadlockLines (names : NameTable) (labels : List ProcessLabels) : List FoundDeadlock → List ℕ → Type 0 where
@@ -62,4 +62,4 @@ pub data AreDeadlockLines (names : NameTable) (labels : List ProcessLabels) : Li
   one_more : (found : List FoundDeadlock) (lines : List ℕ) (d : FoundDeadlock) (picks : List CountedPick)
       → AreDeadlockLines names labels found lines → AreCounted d.picks picks
       → AreDeadlockLines names labels (found ++ d ∷ [])
-      (lines ++ deadlock_lines names labels (length found + 1) d.processes picks)
+      (lines ++ deadlock_lines names labels (length found + 1) d picks)

@@ -2,10 +2,13 @@
 use Rattle.std.specs.Prelude.{◌≡◌, ℕ, zero, suc, ◌+◌, ℤ, pos, Bool, true, false, List, [], ◌∷◌, ◌++◌, length, codes}
 use Rattle.std.specs.Prelude.{slice_index_or}
 use Rattle.std.specs.Fmt.{decimal, signed_decimal}
+use Rattle.std.specs.List.{flat_map}
 use Rattle.pb_base.specs.declared.pick.Pick.{Pick}
 use Rattle.pb_base.specs.Lines.{NameTable, name_of, each_below, line}
 use Rattle.pb_code.specs.Whole.{ProcessLabels}
 use Rattle.pb_search_stages.specs.Reaching.{ProcessOutcome}
+use Rattle.pb_search_stages.specs.Traces.{Outcome}
+use Rattle.pb_search_stages.specs.declared.print.Print.{Print}
 use Rattle.pb_base.specs.declared.limits.TheConstants.{MAX_PICKS}
 use Rattle.pb_search.specs.Outcomes.{Found}
 use Rattle.pb_search.specs.declared.found.Extent.{Extent}
@@ -46,11 +49,26 @@ abbrev pub end_lines : List (List ℕ) → List ProcessLabels → List ProcessOu
 end_lines names labels outcome =
     each_below (λ p. outcome_lines_of (name_of names p) (integer_names labels p) (outcome_at outcome p)) (length outcome)
 
--- an outcome with its number, and picks that lead to it
-abbrev pub outcome_lines : NameTable → List ProcessLabels → ℕ → List ProcessOutcome → List CountedPick → List ℕ
+-- `P.a print V`: a print of an arm
+abbrev pub print_line : NameTable → Print → List ℕ
+print_line names p =
+    line (name_of names.processes p.pick.process ++ codes "." ++ decimal p.pick.arm ++ codes " print "
+    ++ signed_decimal p.value)
+
+-- the heading of n prints, which is empty if there are none
+abbrev pub printed_head : ℕ → List ℕ
+printed_head zero = []
+printed_head (suc n) = line (codes "printed")
+
+-- what was printed, if something was
+abbrev pub printed_lines : NameTable → List Print → List ℕ
+printed_lines names prints = printed_head (length prints) ++ flat_map (print_line names) prints
+
+-- an outcome with its number, what was printed before it, and picks that lead to it
+abbrev pub outcome_lines : NameTable → List ProcessLabels → ℕ → Outcome → List CountedPick → List ℕ
 outcome_lines names labels number outcome picks =
-    line (codes "outcome " ++ decimal number) ++ end_lines names.processes labels outcome
-    ++ line (codes "reached by") ++ pick_lines names.processes picks
+    line (codes "outcome " ++ decimal number) ++ end_lines names.processes labels outcome.processes
+    ++ printed_lines names outcome.prints ++ line (codes "reached by") ++ pick_lines names.processes picks
 
 -- counted picks that say these picks, each count as great as can be
 pub record AreCounted (picks : List Pick) (counted : List CountedPick) : Type 0 where

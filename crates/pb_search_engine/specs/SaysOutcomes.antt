@@ -12,8 +12,9 @@ use Rattle.pb_search.specs.declared.found.Extent.{Extent}
 use Rattle.pb_search.specs.declared.found.Extent.TheVariants as extent
 use Rattle.pb_search.specs.declared.found.Until.{Until}
 use Rattle.pb_search.specs.declared.found.Until.TheVariants.{AllIsFound, FirstDeadlock}
-use Rattle.pb_search_stages.specs.declared.lending.Lending.{Lending}
-use Rattle.pb_search_stages.specs.declared.lending.Lending.TheVariants.{ByBanker, ByCash}
+use Rattle.pb_search_stages.specs.declared.print.Mode.{Mode}
+use Rattle.pb_base.specs.declared.lending.Lending.{Lending}
+use Rattle.pb_base.specs.declared.lending.Lending.TheVariants.{ByBanker, ByCash}
 use Rattle.pb_options.specs.declared.options.Lend.{Lend}
 use Rattle.pb_options.specs.declared.options.Lend.TheVariants.{Banker, Cash}
 use Rattle.pb_search_engine.specs.DeadlockLines.{AreDeadlockLines}
@@ -23,6 +24,10 @@ use Rattle.pb_search_engine.specs.OutcomeLines.{AreOutcomeLines, last_line}
 abbrev pub lending_for : Lend → Lending
 lending_for Banker = ByBanker
 lending_for Cash = ByCash
+
+-- what the search goes through, by the options
+abbrev pub mode_for : Lend → (prints : Bool) → Mode
+mode_for lend prints = record { lending = lending_for lend; prints = prints }
 
 -- where the search ends, by the option
 abbrev pub until_for : (first_deadlock : Bool) → Until
@@ -36,22 +41,22 @@ status_of extent.TooMany = Limit
 status_of extent.TooLong = Limit
 status_of extent.AtDeadlock = Done
 
--- what is said of code under this lending: outcomes, then deadlocks, each one of the code and no two the same,
+-- what is said of code in this mode: outcomes, then deadlocks, each one of the code and no two the same,
 -- and whether these are all, which at most this number of configurations tell, or why there may be others
-pub data SaysOfSearch (lending : Lending) (until : Until) (code : Code) (labels : List ProcessLabels) (states : ℕ)
+pub data SaysOfSearch (mode : Mode) (until : Until) (code : Code) (labels : List ProcessLabels) (states : ℕ)
     : List ℕ → Status → Type 0 where
   told : (found : List Found) (deadlocks : List FoundDeadlock) (extent : Extent)
-      → IsTold lending code until states found deadlocks extent
+      → IsTold mode code until states found deadlocks extent
       → (lines : List ℕ) → AreOutcomeLines code.names labels found lines
       → (stuck : List ℕ) → AreDeadlockLines code.names labels deadlocks stuck
-      → SaysOfSearch lending until code labels states
+      → SaysOfSearch mode until code labels states
       ((lines ++ stuck) ++ last_line states (length found) (length deadlocks) extent) (status_of extent)
 
 -- what is said of a text: it is refused; or it is accepted, and the outcomes and deadlocks of its code are
 -- told
-pub data SaysOfOutcomes (lend : Lend) (first_deadlock : Bool) (states : ℕ) (bytes : List ℕ) : List ℕ → Status → Type 0 where
+pub data SaysOfOutcomes (lend : Lend) (first_deadlock prints : Bool) (states : ℕ) (bytes : List ℕ) : List ℕ → Status → Type 0 where
   refused : (text : List ℕ) (status : Status) → SaysOfRefusedText bytes text status
-      → SaysOfOutcomes lend first_deadlock states bytes text status
+      → SaysOfOutcomes lend first_deadlock prints states bytes text status
   accepted : (code : Code) (labels : List ProcessLabels) → IsCompiled bytes code labels
-      → (text : List ℕ) (status : Status) → SaysOfSearch (lending_for lend) (until_for first_deadlock) code labels states text status
-      → SaysOfOutcomes lend first_deadlock states bytes text status
+      → (text : List ℕ) (status : Status) → SaysOfSearch (mode_for lend prints) (until_for first_deadlock) code labels states text status
+      → SaysOfOutcomes lend first_deadlock prints states bytes text status

@@ -1,7 +1,9 @@
 -- How a program can end, by what its source does; and that its code ends in the same ways.
-use Rattle.std.specs.Prelude.{◌≡◌, ◌↔◌, ℕ, List, map, Contains, is_none}
+use Rattle.std.specs.Prelude.{◌≡◌, ◌↔◌, ℕ, true, false, List, [], ◌∷◌, map, Contains, is_none}
 use Rattle.pb_base.specs.declared.pick.Pick.{Pick}
-use Rattle.pb_base.specs.Steppers.{Table, IsGranted, IsFinished, State, opening}
+use Rattle.pb_base.specs.declared.event.Event.{Event}
+use Rattle.pb_base.specs.declared.event.Event.TheVariants as event
+use Rattle.pb_base.specs.Steppers.{Table, IsGranted, IsFinished, Makes, State, opening}
 use Rattle.pb_code.specs.Whole.{Code, ProcessLabels}
 use Rattle.pb_codegen.specs.Compiled.{IsCompiled}
 use Rattle.pb_codegen.specs.Numbered.{IsReadAs}
@@ -10,7 +12,10 @@ use Rattle.pb_search_stages.specs.Configurations.{Comes}
 use Rattle.pb_search_stages.specs.Reaching.{Configuration, Ends, ProcessOutcome, outcome_of}
 use Rattle.pb_search.specs.Outcomes.{AreOutcomes, Found}
 use Rattle.pb_search_stages.specs.Reduction.{LeadsTo}
-use Rattle.pb_search_stages.specs.declared.lending.Lending.TheVariants.{ByBanker}
+use Rattle.pb_base.specs.declared.lending.Lending.TheVariants.{ByBanker}
+use Rattle.pb_search_stages.specs.declared.print.Mode.{Mode}
+use Rattle.pb_search_stages.specs.declared.print.Print.{Print}
+use Rattle.pb_search_stages.specs.Traces.{Outcome, Trace, TraceEnds, trace_outcome}
 use Rattle.pb_names.specs.Program.{Program}
 use Rattle.pb_names.specs.Source.{SourceProcess, source_over, source_process, source_step}
 
@@ -43,12 +48,46 @@ abbrev pub IsOutcomeOfCode : Code → List ProcessOutcome → Type 0
 IsOutcomeOfCode code outcome =
     (picks : List Pick) × (end : Configuration) × Ends ByBanker code picks end × (outcome ≡ outcome_of end)
 
--- the code has the outcomes of the program, and no others; and a list of the outcomes of the code is one of
--- those of the program: each that is listed is one, and none is missing
+-- what events print, in their order
+abbrev pub prints_in : List Event → List Print
+prints_in [] = []
+prints_in (event.Granted pick bundle ∷ events) = prints_in events
+prints_in (event.Returned pick bundle ∷ events) = prints_in events
+prints_in (event.Printed pick value ∷ events) = record { pick = pick; value = value } ∷ prints_in events
+prints_in (event.Faulted pick kind ∷ events) = prints_in events
+prints_in (event.Finished process ∷ events) = prints_in events
+
+-- the source can end so under the banker, and its events print this on the way
+abbrev pub IsPrintedByProgram : Program → Table → Outcome → Type 0
+IsPrintedByProgram program claims outcome =
+    (picks : List Pick) × (events : List Event) × (end : State SourceProcess)
+    × Makes (bank_with program claims) source_step
+    (opening (bank_with program claims) (map source_process program.processes)) picks events end
+    × IsFinished source_over end
+    × (outcome ≡ record { processes = source_outcome_of end; prints = prints_in events })
+
+-- under the banker, with prints
+abbrev pub with_prints : Mode
+with_prints = record { lending = ByBanker; prints = true }
+
+-- the code can end with this outcome and these prints under the banker
+abbrev pub IsPrintedByCode : Code → Outcome → Type 0
+IsPrintedByCode code outcome =
+    (picks : List Pick) × (end : Trace) × TraceEnds with_prints code picks end × (outcome ≡ trace_outcome end)
+
+-- under the banker, with no prints
+abbrev pub without_prints : Mode
+without_prints = record { lending = ByBanker; prints = false }
+
+-- the code has the outcomes of the program, and no others; and a list of the outcomes of the code, without their
+-- prints, is one of those of the program: each that is listed is one, and none is missing. So it is with prints
 pub record HasOutcomesOf (program : Program) (code : Code) : Type 0 where
   pub same : (outcome : List ProcessOutcome) → IsOutcomeOfCode code outcome ↔ IsOutcomeOfProgram program code.claims outcome
-  pub listed : (found : List Found) → AreOutcomes ByBanker code found → (outcome : List ProcessOutcome)
-      → Contains (map (λ f. f.outcome) found) outcome ↔ IsOutcomeOfProgram program code.claims outcome
+  pub listed : (found : List Found) → AreOutcomes without_prints code found → (outcome : List ProcessOutcome)
+      → Contains (map (λ f. f.outcome.processes) found) outcome ↔ IsOutcomeOfProgram program code.claims outcome
+  pub same_printed : (outcome : Outcome) → IsPrintedByCode code outcome ↔ IsPrintedByProgram program code.claims outcome
+  pub listed_printed : (found : List Found) → AreOutcomes with_prints code found → (outcome : Outcome)
+      → Contains (map (λ f. f.outcome) found) outcome ↔ IsPrintedByProgram program code.claims outcome
 
 -- so it is of the code of a text, with the program that the text spells, under its claims
 abbrev pub OutcomesAreThoseOfTheProgram : Type 0

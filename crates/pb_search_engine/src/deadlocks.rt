@@ -13,6 +13,7 @@ ghost use Rattle.pb_search.specs.Deadlocks.{deadlock_view, stuck_view};
 use crate::counts::count_picks;
 use crate::lines::{put_head, put_integers};
 use crate::names::{integers_at, name_at};
+use crate::prints::put_printed;
 use pb_base::writing::put_number;
 use pb_base::{Bundle, Names, NoMemory, Pair};
 use pb_code::{Labels, ProcessLabels};
@@ -53,10 +54,11 @@ fn put_deadlock(
 ) -> Result<(), NoMemory>
     requires { All (λ c. HasProcess (names_view names.now) c.pick.process) picks.now }
     ensures { OnOk result (text.new.items ≡ text.old.items
-        ++ deadlock_lines (names_view names.now) (labels_view labels.now) number (deadlock_view deadlock.now).processes picks.now) }
+        ++ deadlock_lines (names_view names.now) (labels_view labels.now) number (deadlock_view deadlock.now) picks.now) }
 {
     put_head(text, b"deadlock ", number)?;
     put_stuck(text, names, &labels.processes, &deadlock.processes)?;
+    put_printed(text, names, &deadlock.prints)?;
     text.extend_from_slice(b"reached by\n")?;
     write_picks(text, names, picks)?;
     Ok(())

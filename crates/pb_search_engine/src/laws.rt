@@ -3,7 +3,8 @@
 ghost use Rattle.pb_search_engine.specs.SourceOutcomes.{OutcomesAreThoseOfTheProgram};
 
 /// The outcomes of the code of a text, with the integers and the faults of its processes, are those of the
-/// program of the text: a list of all that the code has is a list of all that the program has.
+/// program of the text: a list of all that the code has is a list of all that the program has. So it is with
+/// what was printed on the way, by all processes, in its order.
 pub fn outcomes_are_those_of_the_program()
     ensures { OutcomesAreThoseOfTheProgram }
 {}

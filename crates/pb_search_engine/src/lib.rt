@@ -7,5 +7,6 @@ pub mod laws;
 mod lines;
 mod names;
 pub mod outcomes;
+mod prints;
 
 pub use outcomes::outcomes_engine;

@@ -16,6 +16,7 @@ ghost use Rattle.pb_search.specs.Deadlocks.{deadlock_view};
 use crate::counts::count_picks;
 use crate::deadlocks::deadlocks_text;
 use crate::names::{integers_at, name_at};
+use crate::prints::put_printed;
 use pb_base::limits::MAX_PICKS;
 use pb_base::writing::put_number;
 use pb_base::{Names, NoMemory};
@@ -93,6 +94,7 @@ fn put_outcome(
 {
     put_head(text, b"outcome ", number)?;
     put_processes(text, &names.processes, &labels.processes, &found.outcome)?;
+    put_printed(text, names, &found.prints)?;
     text.extend_from_slice(b"reached by\n")?;
     write_picks(text, names, picks)?;
     Ok(())

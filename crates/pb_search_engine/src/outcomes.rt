@@ -5,13 +5,13 @@ ghost use Rattle.pb_code.specs.Limits.{AreLabels};
 ghost use Rattle.pb_command_io.specs.Answers.{Tells};
 ghost use Rattle.pb_command_io.specs.Faults.{TellsFaults, TellsWriteFaults};
 ghost use Rattle.pb_command_io.specs.Inputs.{SaysOfInput};
-ghost use Rattle.pb_search_engine.specs.SaysOutcomes.{SaysOfSearch, SaysOfOutcomes, lending_for, status_of, until_for};
+ghost use Rattle.pb_search_engine.specs.SaysOutcomes.{SaysOfSearch, SaysOfOutcomes, lending_for, mode_for, status_of, until_for};
 
 use crate::lines::outcomes_text;
 use pb_accept::accept::{compile_text, refuse};
-use pb_base::NoMemory;
 use pb_base::device::{Input, Output};
 use pb_base::limits::MAX_INPUT;
+use pb_base::{Lending, NoMemory};
 use pb_codegen::Compiled;
 use pb_command_io::Status;
 use pb_command_io::input::read_input;
@@ -19,7 +19,7 @@ use pb_command_io::reply::{Reply, tell};
 use pb_options::{Lend, OutcomesOptions};
 use pb_search::explore::explore_by;
 use pb_search::{Extent, Until};
-use pb_search_stages::Lending;
+use pb_search_stages::Mode;
 use std::alloc::Global;
 
 /// Writes every outcome of the text that the input holds, under the banker or with loans by the cash alone:
@@ -28,7 +28,8 @@ use std::alloc::Global;
 /// and deadlocks there are, and whether some run never ends. If more than `options.states` configurations are
 /// reached, or if more than 10,000,000 picks lead to an outcome, what was found by then is written, and the
 /// last line says that there may be others; the status is `Limit`. With `options.first_deadlock` the search ends at
-/// the first deadlock, which the last line says. Of a text that is refused its refusal line
+/// the first deadlock, which the last line says. With `options.prints` what was
+/// printed is shown too, behind a line `printed`, and outcomes and deadlocks with different prints are different ones. Of a text that is refused its refusal line
 /// is written.
 ///
 /// After a read that failed nothing is written; after a write that failed, a first part of what was being
@@ -40,7 +41,7 @@ pub fn outcomes_engine<I: Input, O: Output>(
     output: &mut O,
 ) -> Status
     ensures text { IfSome (I.rest input.old) (λ bytes.
-        Tells (SaysOfInput (SaysOfOutcomes options.lend options.first_deadlock options.states) bytes) (O.written output.old) (O.written output.new) result) }
+        Tells (SaysOfInput (SaysOfOutcomes options.lend options.first_deadlock options.prints options.states) bytes) (O.written output.old) (O.written output.new) result) }
     ensures faults { TellsFaults
         (record { reads = I.failures input.old; writes = O.failures output.old; written = O.written output.old })
         (record { reads = I.failures input.new; writes = O.failures output.new; written = O.written output.new })
@@ -60,7 +61,7 @@ fn tell_outcomes<O: Output>(
     output: &mut O,
 ) -> Status
     requires { length text.now ≤ MAX_INPUT }
-    ensures text { Tells (SaysOfInput (SaysOfOutcomes options.lend options.first_deadlock options.states) text.now) (O.written output.old) (O.written output.new) result }
+    ensures text { Tells (SaysOfInput (SaysOfOutcomes options.lend options.first_deadlock options.prints options.states) text.now) (O.written output.old) (O.written output.new) result }
     ensures faults { TellsWriteFaults (O.failures output.old) (O.failures output.new) result }
 {
     match compile_text(alloc, text) {
@@ -73,15 +74,15 @@ fn tell_outcomes<O: Output>(
 fn reply(alloc: Global, options: OutcomesOptions, compiled: &Compiled) -> Result<Reply, NoMemory>
     requires { AreLabels compiled.now.verified.code compiled.now.labels }
     ensures { IfOk result (λ r.
-        SaysOfSearch (lending_for options.lend) (until_for options.first_deadlock) compiled.now.verified.code
+        SaysOfSearch (mode_for options.lend options.prints) (until_for options.first_deadlock) compiled.now.verified.code
         compiled.now.labels options.states r.text.items r.status) }
 {
     let verified = compiled.verified();
     let code = verified.code();
-    let lending = lending(options.lend);
+    let mode = mode(options.lend, options.prints);
     let until = until(options.first_deadlock);
     let states = options.states;
-    let told = explore_by(alloc, verified, lending, until, states)?;
+    let told = explore_by(alloc, verified, mode, until, states)?;
     let text = outcomes_text(alloc, &code.names, compiled.labels(), &told, states)?;
     Ok(Reply {
         text,
@@ -109,6 +110,16 @@ fn until(first_deadlock: bool) -> Until
         Until::FirstDeadlock
     } else {
         Until::AllIsFound
+    }
+}
+
+// Returns what the search goes through.
+fn mode(lend: Lend, prints: bool) -> Mode
+    ensures { result ≡ mode_for lend prints }
+{
+    Mode {
+        lending: lending(lend),
+        prints,
     }
 }
 

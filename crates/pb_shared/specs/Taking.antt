@@ -5,9 +5,11 @@ use Rattle.pb_base.specs.declared.pick.Pick.{Pick}
 use Rattle.pb_code.specs.Whole.{Code}
 use Rattle.pb_verifier.specs.Verified.{VerifiedCode}
 use Rattle.pb_base.specs.declared.memory.NoMemory.{NoMemory}
-use Rattle.pb_shared.specs.Ledgers.{Ledger, Commits, IsReady, HasOutcome, all_home}
+use Rattle.pb_shared.specs.Ledgers.{Ledger, Commits, IsReady, HasOutcome, IsLentBy, all_home, given_back}
 use Rattle.pb_shared.specs.Lending.{Lent}
 use Rattle.pb_shared.specs.declared.answer.Answer.{Answer}
+use Rattle.pb_shared.specs.declared.fault.HomeFault.{HomeFault}
+use Rattle.pb_shared.specs.declared.fault.HomeFault.TheVariants as away
 use Rattle.pb_shared.specs.declared.taken.Taken.{Taken}
 use Rattle.pb_shared.specs.declared.taken.Taken.TheVariants.{Work, Idle, Over}
 
@@ -60,3 +62,14 @@ IsHandedOut quantum (Work lent) =
     (lent.made ≡ 0) × (lent.state ≡ lent.base) × (0 < lent.allowance) × (lent.allowance ≤ quantum)
 IsHandedOut quantum Idle = ⊥
 IsHandedOut quantum (Over outcome) = ⊤
+
+-- a stretch did not come home with its picks: the book did not lend it, and is as it was; or out of memory, and
+-- its process came back as it was lent
+abbrev pub IsNotBrought : {C : Type 0} → Ledger → Lent → HomeFault C → Ledger → Type 0
+IsNotBrought s lent (away.Stranger stretch) after = (IsLentBy s lent → ⊥) × (stretch ≡ lent) × (after ≡ s)
+IsNotBrought s lent away.NoMemory after = IsLentBy s lent × (after ≡ given_back s lent)
+
+-- a stretch that is handed back is the one that was brought
+abbrev pub IsHandedBack : {C : Type 0} → Lent → HomeFault C → Type 0
+IsHandedBack lent (away.Stranger stretch) = stretch ≡ lent
+IsHandedBack lent away.NoMemory = ⊤

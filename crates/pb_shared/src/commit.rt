@@ -2,13 +2,13 @@
 
 ghost use Rattle.std.specs.Prelude.{◌≡◌, ◌↔◌, ◌<◌, IfOk, IfErr, IsTrue, None, slice_index_or};
 ghost use Rattle.pb_shared.specs.Ledgers.{IsLentBy, Commits, given_back};
-ghost use Rattle.pb_shared.specs.Taking.{CommitsAndTakes};
+ghost use Rattle.pb_shared.specs.Taking.{CommitsAndTakes, IsNotBrought};
 ghost use Rattle.pb_shared.specs.declared.fault.CommitFault.TheVariants.{Stranger};
 
 use crate::answer::Answer;
 use crate::book::Book;
 use crate::brand::CodeBrand;
-use crate::fault::CommitFault;
+use crate::fault::{CommitFault, HomeFault};
 use crate::slip::Slip;
 use crate::spare::Spare;
 use crate::stretch::Stretch;
@@ -81,6 +81,24 @@ impl<'v, C: CodeBrand> Book<'v, C> {
         match self.commit(stretch) {
             Ok(answer) => Ok((answer, self.take(alloc, quantum))),
             Err(back) => Err(back),
+        }
+    }
+
+    /// Takes a stretch home as `commit` does, and as `put_back` does if out of memory. A stretch that this book
+    /// did not lend is handed back.
+    #[inline(always)]
+    pub fn bring_home(&mut self, stretch: Stretch<'v, C>) -> Result<Answer, HomeFault<'v, C>>
+        ensures ok { IfOk result (λ answer. IsLentBy self.old stretch.entry
+            × Commits C.code.code self.old stretch.entry answer self.new) }
+        ensures err { IfErr result (λ fault. IsNotBrought self.old stretch.entry fault self.new) }
+    {
+        match self.commit(stretch) {
+            Ok(answer) => Ok(answer),
+            Err((stretch, CommitFault::Stranger)) => Err(HomeFault::Stranger(stretch)),
+            Err((stretch, CommitFault::NoMemory)) => match self.put_back(stretch) {
+                Ok(()) => Err(HomeFault::NoMemory),
+                Err(stretch) => Err(HomeFault::Stranger(stretch)),
+            },
         }
     }
 

@@ -23,7 +23,7 @@ mod visible;
 pub use answer::Answer;
 pub use book::Book;
 pub use brand::CodeBrand;
-pub use fault::CommitFault;
+pub use fault::{CommitFault, HomeFault};
 pub use outcome::Outcome;
 pub use shared::Shared;
 pub use stretch::Stretch;

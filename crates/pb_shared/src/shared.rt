@@ -9,13 +9,13 @@
 //! then takes what is there and gives the lock back. At an outcome all are woken.
 
 ghost use Rattle.std.specs.Prelude.{◌≡◌, ◌<◌, IfOk, IfErr};
-ghost use Rattle.pb_shared.specs.Taking.{IsHandedOut};
+ghost use Rattle.pb_shared.specs.Taking.{IsHandedBack, IsHandedOut};
 
 use crate::answer::Answer;
 use crate::book::Book;
 use crate::brand::CodeBrand;
 use crate::desk::Desk;
-use crate::fault::CommitFault;
+use crate::fault::{CommitFault, HomeFault};
 use crate::stretch::Stretch;
 use crate::taken::Taken;
 use pb_base::NoMemory;
@@ -198,8 +198,9 @@ impl<'v, C: CodeBrand> Shared<'v, C> {
         answer
     }
 
-    /// Takes a stretch home and lends the next, as the book's own calls do, with one lock for both. It waits
-    /// while the book is idle.
+    /// Takes a stretch home as the book's `bring_home` does, and lends the next, with one lock for both. It
+    /// waits while the book is idle. Whoever calls it has no stretch in hand if out of memory: it was put back,
+    /// or, if the next one takes the memory, it came home.
     #[inline(always)]
     pub fn commit_and_take<R: Wait>(
         &self,
@@ -207,18 +208,21 @@ impl<'v, C: CodeBrand> Shared<'v, C> {
         stretch: Stretch<'v, C>,
         alloc: Global,
         quantum: u32,
-    ) -> Result<Result<Taken<'v, C>, NoMemory>, (Stretch<'v, C>, CommitFault)>
+    ) -> Result<Taken<'v, C>, HomeFault<'v, C>>
         requires { 0 < quantum }
-        ensures ok { IfOk result (λ taken. IfOk taken (λ taken. IsHandedOut quantum taken)) }
-        ensures err { IfErr result (λ e. e.0 ≡ stretch.entry) }
+        ensures ok { IfOk result (λ taken. IsHandedOut quantum taken) }
+        ensures err { IfErr result (λ fault. IsHandedBack stretch.entry fault) }
     {
         let mut desk = self.lock(rt);
         desk.note(stretch.made());
-        match desk.book.commit(stretch) {
-            Ok(_) => Ok(self.next(rt, desk, alloc, quantum)),
-            Err(back) => {
+        match desk.book.bring_home(stretch) {
+            Ok(_) => match self.next(rt, desk, alloc, quantum) {
+                Ok(taken) => Ok(taken),
+                Err(NoMemory) => Err(HomeFault::NoMemory),
+            },
+            Err(fault) => {
                 self.give_back(desk);
-                Err(back)
+                Err(fault)
             }
         }
     }

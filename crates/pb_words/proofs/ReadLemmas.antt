@@ -11,7 +11,7 @@ use Rattle.clap.proofs.OnLiterals.{clap_on_literals}
 use Rattle.pb_command_line.specs.CommandLine.{command_line, with_text_commands, with_code_commands, with_object_commands}
 use Rattle.pb_command_line.specs.CommandLine.{with_other_commands, with_pick_commands, check_command, claims_command}
 use Rattle.pb_command_line.specs.CommandLine.{debug_command, draw_command, emit_command, exec_command, explain_command}
-use Rattle.pb_command_line.specs.CommandLine.{migrate_command, outcomes_command, record_command, replay_command, run_command}
+use Rattle.pb_command_line.specs.CommandLine.{migrate_command, outcomes_command, plan_command, record_command, replay_command, run_command}
 use Rattle.pb_command_line.specs.CommandLine.{bank_command, states_command, with_bank_commands, with_run_rules}
 use Rattle.clap.specs.declared.parser.matches.Found.{Found}
 use Rattle.clap.proofs.WalkLemmas.{one_text-rows}
@@ -21,7 +21,7 @@ use Rattle.pb_words.specs.Read.{HasRecordNumbers, HasRunNumbers}
 use Rattle.pb_words.specs.Read.{IsReadFrom, IsReadFromMatches}
 use Rattle.pb_words.specs.declared.words.Options.{Options}
 use Rattle.pb_words.specs.declared.words.Options.TheVariants.{Bank, Check, Claims, Debug, Draw, Emit, Exec, Explain}
-use Rattle.pb_words.specs.declared.words.Options.TheVariants.{Migrate, Outcomes, Record, Replay, Run, States}
+use Rattle.pb_words.specs.declared.words.Options.TheVariants.{Migrate, Outcomes, Plan, Record, Replay, Run, States}
 use Rattle.pb_options.specs.declared.options.CheckOptions.{CheckOptions}
 use Rattle.pb_options.specs.declared.options.EmitOptions.{EmitOptions}
 use Rattle.pb_options.specs.Lends.{IsLendOf, lend_word}
@@ -121,6 +121,8 @@ no_check rows none Migrate says =
     let m : 99 ≡ 109 = ap (λ (l : Text). get_or l 0 0) says in omega (arith, m)
 no_check rows none (Outcomes o) says =
     let m : 99 ≡ 111 = ap (λ (l : Text). get_or l 0 0) says.0 in omega (arith, m)
+no_check rows none Plan says =
+    let m : 99 ≡ 112 = ap (λ (l : Text). get_or l 0 0) says in omega (arith, m)
 no_check rows none (Record o) says =
     let m : 99 ≡ 114 = ap (λ (l : Text). get_or l 0 0) says.0 in omega (arith, m)
 no_check rows none Replay says =
@@ -152,6 +154,8 @@ no_emit rows none Migrate says =
     let m : 101 ≡ 109 = ap (λ (l : Text). get_or l 0 0) says in omega (arith, m)
 no_emit rows none (Outcomes o) says =
     let m : 101 ≡ 111 = ap (λ (l : Text). get_or l 0 0) says.0 in omega (arith, m)
+no_emit rows none Plan says =
+    let m : 101 ≡ 112 = ap (λ (l : Text). get_or l 0 0) says in omega (arith, m)
 no_emit rows none (Record o) says =
     let m : 101 ≡ 114 = ap (λ (l : Text). get_or l 0 0) says.0 in omega (arith, m)
 no_emit rows none Replay says =
@@ -184,6 +188,8 @@ no_run rows none Migrate says =
     let m : 114 ≡ 109 = ap (λ (l : Text). get_or l 0 0) says in omega (arith, m)
 no_run rows none (Outcomes o) says =
     let m : 114 ≡ 111 = ap (λ (l : Text). get_or l 0 0) says.0 in omega (arith, m)
+no_run rows none Plan says =
+    let m : 114 ≡ 112 = ap (λ (l : Text). get_or l 0 0) says in omega (arith, m)
 no_run rows none (Record o) says =
     let m : 117 ≡ 101 = ap (λ (l : Text). get_or l 1 0) says.0 in omega (arith, m)
 no_run rows none Replay says =
@@ -215,6 +221,8 @@ no_record rows none Migrate says =
     let m : 114 ≡ 109 = ap (λ (l : Text). get_or l 0 0) says in omega (arith, m)
 no_record rows none (Outcomes o) says =
     let m : 114 ≡ 111 = ap (λ (l : Text). get_or l 0 0) says.0 in omega (arith, m)
+no_record rows none Plan says =
+    let m : 114 ≡ 112 = ap (λ (l : Text). get_or l 0 0) says in omega (arith, m)
 no_record rows none (Record o) says = none o says.1
 no_record rows none Replay says =
     let m : 99 ≡ 112 = ap (λ (l : Text). get_or l 2 0) says in omega (arith, m)
@@ -245,6 +253,8 @@ no_exec rows none Migrate says =
     let m : 101 ≡ 109 = ap (λ (l : Text). get_or l 0 0) says in omega (arith, m)
 no_exec rows none (Outcomes o) says =
     let m : 101 ≡ 111 = ap (λ (l : Text). get_or l 0 0) says.0 in omega (arith, m)
+no_exec rows none Plan says =
+    let m : 101 ≡ 112 = ap (λ (l : Text). get_or l 0 0) says in omega (arith, m)
 no_exec rows none (Record o) says =
     let m : 101 ≡ 114 = ap (λ (l : Text). get_or l 0 0) says.0 in omega (arith, m)
 no_exec rows none Replay says =
@@ -276,6 +286,8 @@ no_explain rows none Migrate says =
     let m : 101 ≡ 109 = ap (λ (l : Text). get_or l 0 0) says in omega (arith, m)
 no_explain rows none (Outcomes o) says =
     let m : 101 ≡ 111 = ap (λ (l : Text). get_or l 0 0) says.0 in omega (arith, m)
+no_explain rows none Plan says =
+    let m : 101 ≡ 112 = ap (λ (l : Text). get_or l 0 0) says in omega (arith, m)
 no_explain rows none (Record o) says =
     let m : 101 ≡ 114 = ap (λ (l : Text). get_or l 0 0) says.0 in omega (arith, m)
 no_explain rows none Replay says =
@@ -307,6 +319,8 @@ no_outcomes rows none (Explain o) says =
 no_outcomes rows none Migrate says =
     let m : 111 ≡ 109 = ap (λ (l : Text). get_or l 0 0) says in omega (arith, m)
 no_outcomes rows none (Outcomes o) says = none o says.1
+no_outcomes rows none Plan says =
+    let m : 111 ≡ 112 = ap (λ (l : Text). get_or l 0 0) says in omega (arith, m)
 no_outcomes rows none (Record o) says =
     let m : 111 ≡ 114 = ap (λ (l : Text). get_or l 0 0) says.0 in omega (arith, m)
 no_outcomes rows none Replay says =
@@ -339,6 +353,8 @@ no_states rows none Migrate says =
     let m : 115 ≡ 109 = ap (λ (l : Text). get_or l 0 0) says in omega (arith, m)
 no_states rows none (Outcomes o) says =
     let m : 115 ≡ 111 = ap (λ (l : Text). get_or l 0 0) says.0 in omega (arith, m)
+no_states rows none Plan says =
+    let m : 115 ≡ 112 = ap (λ (l : Text). get_or l 0 0) says in omega (arith, m)
 no_states rows none (Record o) says =
     let m : 115 ≡ 114 = ap (λ (l : Text). get_or l 0 0) says.0 in omega (arith, m)
 no_states rows none Replay says =
@@ -439,14 +455,14 @@ clap_refused kinds e Memory is memory blames none = blames
 pub is_simple_command_line : is_simple command_line ≡ true
 unfolding command_line with_text_commands with_code_commands with_object_commands with_pick_commands check_command
     claims_command debug_command draw_command emit_command exec_command migrate_command outcomes_command
-    record_command replay_command run_command with_other_commands explain_command with_run_rules
+    plan_command record_command replay_command run_command with_other_commands explain_command with_run_rules
     with_bank_commands states_command bank_command clap_on_literals
 is_simple_command_line = refl
 
 pub is_free_command_line : is_simple_and_free command_line ≡ true
 unfolding command_line with_text_commands with_code_commands with_object_commands with_pick_commands check_command
     claims_command debug_command draw_command emit_command exec_command migrate_command outcomes_command
-    record_command replay_command run_command with_other_commands explain_command with_run_rules
+    plan_command record_command replay_command run_command with_other_commands explain_command with_run_rules
     with_bank_commands states_command bank_command clap_on_literals
 is_free_command_line = refl
 

@@ -71,7 +71,7 @@ HasLend rows lend = one_of (codes "lend") rows ≡ Some (lend_word lend)
 
 abbrev pub HasSearchOptions : List Row → OutcomesOptions → Type 0
 HasSearchOptions rows o = HasNumber rows (codes "states") o.states × HasLend rows o.lend
-    × HasFlag rows (codes "first-deadlock") o.first_deadlock
+    × HasFlag rows (codes "first-deadlock") o.first_deadlock × HasFlag rows (codes "prints") o.prints
 
 abbrev pub HasStatesNumbers : List Row → StatesOptions → Type 0
 HasStatesNumbers rows o = HasNumber rows (codes "rows") o.rows × HasNumber rows (codes "from") o.from
@@ -88,6 +88,7 @@ IsReadFrom name rows (option.Exec o) = (name ≡ codes "exec") × HasRunNumbers 
 IsReadFrom name rows (option.Explain code) = (name ≡ codes "explain") × HasCode rows code
 IsReadFrom name rows option.Migrate = name ≡ codes "migrate"
 IsReadFrom name rows (option.Outcomes o) = (name ≡ codes "outcomes") × HasSearchOptions rows o
+IsReadFrom name rows option.Plan = name ≡ codes "plan"
 IsReadFrom name rows (option.Record o) = (name ≡ codes "record") × HasRecordNumbers rows o
 IsReadFrom name rows option.Replay = name ≡ codes "replay"
 IsReadFrom name rows (option.Run o) = (name ≡ codes "run") × HasRunNumbers rows o

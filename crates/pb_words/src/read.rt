@@ -17,8 +17,10 @@ ghost use Rattle.pb_options.specs.declared.options.StatesOptions.{StatesOptions 
 use crate::words::{Options, WordsFault};
 use clap::error::ErrorKind;
 use clap::{ArgMatches, Error};
+use pb_base::limits::{MAX_PICKS, MAX_QUANTUM, MAX_STATES, MAX_WORKERS};
 use pb_command_line::command_line::command_line;
 use pb_object::Format;
+use pb_options::options::{MAX_HEAP, MAX_ROWS, MIN_HEAP};
 use pb_options::{
     CheckOptions, Code, DebugOptions, EmitOptions, Lend, OutcomesOptions, RecordOptions,
     RunOptions, StatesOptions,
@@ -59,7 +61,7 @@ fn check_options(matches: &ArgMatches<'_>) -> Option<CheckOptions>
     if is_absent(matches, "heap") {
         return Some(CheckOptions { heap: None });
     }
-    let size = number(matches, "heap", 1_024, 16_777_216)?;
+    let size = number(matches, "heap", MIN_HEAP, MAX_HEAP)?;
     Some(CheckOptions { heap: Some(size) })
 }
 
@@ -118,12 +120,13 @@ fn outcomes_options(matches: &ArgMatches<'_>) -> Option<OutcomesOptions>
     ensures some { IfSome result (HasSearchOptions (rows_of (found_of matches.now))) }
     ensures none { IfNone result ((o : AnyOutcomesOptions) → HasSearchOptions (rows_of (found_of matches.now)) o → ⊥) }
 {
-    let states = number(matches, "states", 1, 4_000_000)?;
+    let states = number(matches, "states", 1, MAX_STATES as u64)?;
     let lend = lend(matches)?;
     Some(OutcomesOptions {
         states: states as u32,
         lend,
         first_deadlock: flag(matches, "first-deadlock"),
+        prints: flag(matches, "prints"),
     })
 }
 
@@ -131,8 +134,8 @@ fn states_options(matches: &ArgMatches<'_>) -> Option<StatesOptions>
     ensures some { IfSome result (HasStatesNumbers (rows_of (found_of matches.now))) }
     ensures none { IfNone result ((o : AnyStatesOptions) → HasStatesNumbers (rows_of (found_of matches.now)) o → ⊥) }
 {
-    let rows = number(matches, "rows", 1, 1_000_000)?;
-    let from = number(matches, "from", 0, 10_000_000)?;
+    let rows = number(matches, "rows", 1, MAX_ROWS as u64)?;
+    let from = number(matches, "from", 0, MAX_PICKS as u64)?;
     Some(StatesOptions {
         rows: rows as u32,
         from: from as u32,
@@ -147,7 +150,7 @@ fn record_options(matches: &ArgMatches<'_>) -> Option<RecordOptions>
     if is_absent(matches, "seed") {
         return Some(RecordOptions { run, seed: None });
     }
-    let seed = number(matches, "seed", 0, 18_446_744_073_709_551_615)?;
+    let seed = number(matches, "seed", 0, u64::MAX)?;
     Some(RecordOptions {
         run,
         seed: Some(seed),
@@ -158,9 +161,9 @@ fn run_options(matches: &ArgMatches<'_>) -> Option<RunOptions>
     ensures some { IfSome result (HasRunNumbers (rows_of (found_of matches.now))) }
     ensures none { IfNone result ((o : AnyRunOptions) → HasRunNumbers (rows_of (found_of matches.now)) o → ⊥) }
 {
-    let workers = number(matches, "workers", 1, 16)?;
-    let quantum = number(matches, "quantum", 1, 4_096)?;
-    let steps = number(matches, "steps", 0, 10_000_000)?;
+    let workers = number(matches, "workers", 1, MAX_WORKERS as u64)?;
+    let quantum = number(matches, "quantum", 1, MAX_QUANTUM as u64)?;
+    let steps = number(matches, "steps", 0, MAX_PICKS as u64)?;
     Some(RunOptions {
         workers: workers as usize,
         quantum: quantum as u32,
@@ -185,6 +188,7 @@ fn read_matches(matches: &ArgMatches<'_>) -> Option<Options>
         "explain" => Some(Options::Explain(code_given(inner)?)),
         "migrate" => Some(Options::Migrate),
         "outcomes" => Some(Options::Outcomes(outcomes_options(inner)?)),
+        "plan" => Some(Options::Plan),
         "record" => Some(Options::Record(record_options(inner)?)),
         "replay" => Some(Options::Replay),
         "run" => Some(Options::Run(run_options(inner)?)),

@@ -19,6 +19,7 @@ pub enum Options {
     Explain(Option<Code>),
     Migrate,
     Outcomes(OutcomesOptions),
+    Plan,
     Record(RecordOptions),
     Replay,
     Run(RunOptions),

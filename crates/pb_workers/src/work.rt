@@ -5,7 +5,7 @@ ghost use Rattle.std.specs.Prelude.{◌<◌};
 use crate::gate::Gate;
 use crate::met::{Met, NO_MEMORY, NOTHING, STRANGER};
 use pb_base::NoMemory;
-use pb_shared::{CodeBrand, CommitFault, Shared, Stretch, Taken};
+use pb_shared::{CodeBrand, HomeFault, Shared, Stretch, Taken};
 use std::alloc::Global;
 use std::sync::Wait;
 
@@ -29,15 +29,19 @@ pub fn work<'v, C: CodeBrand, G: Gate, R: Wait>(
         let _made = stretch.run(quantum);
         gate.between(worker, turn);
         let taken = if gate.give_back(worker, turn) {
-            let ended = give_back(rt, shared, stretch, NOTHING);
-            if ended.stranger {
-                return ended;
+            if let Err(stretch) = shared.put_back(rt, stretch) {
+                stretch.forfeit();
+                return STRANGER;
             }
             shared.take(rt, alloc, quantum)
         } else {
             match shared.commit_and_take(rt, stretch, alloc, quantum) {
-                Ok(next) => next,
-                Err((stretch, fault)) => return hand_back(rt, shared, stretch, fault),
+                Ok(next) => Ok(next),
+                Err(HomeFault::NoMemory) => Err(NoMemory),
+                Err(HomeFault::Stranger(stretch)) => {
+                    stretch.forfeit();
+                    return STRANGER;
+                }
             }
         };
         stretch = match work_of(taken) {
@@ -57,38 +61,5 @@ fn work_of<'v, C: CodeBrand>(taken: Result<Taken<'v, C>, NoMemory>) -> Result<St
         Ok(Taken::Over(_)) => Err(NOTHING),
         Ok(Taken::Idle) => Err(NOTHING),
         Err(NoMemory) => Err(NO_MEMORY),
-    }
-}
-
-/// Deals with a stretch that was not committed: it is given back if out of memory, and given up if it is a
-/// stranger.
-fn hand_back<'v, C: CodeBrand, R: Wait>(
-    rt: &R,
-    shared: &Shared<'v, C>,
-    stretch: Stretch<'v, C>,
-    fault: CommitFault,
-) -> Met {
-    match fault {
-        CommitFault::NoMemory => give_back(rt, shared, stretch, NO_MEMORY),
-        CommitFault::Stranger => {
-            stretch.forfeit();
-            STRANGER
-        }
-    }
-}
-
-/// Gives a stretch back. One that is a stranger is given up.
-fn give_back<'v, C: CodeBrand, R: Wait>(
-    rt: &R,
-    shared: &Shared<'v, C>,
-    stretch: Stretch<'v, C>,
-    met: Met,
-) -> Met {
-    match shared.put_back(rt, stretch) {
-        Ok(()) => met,
-        Err(stretch) => {
-            stretch.forfeit();
-            STRANGER
-        }
     }
 }

@@ -1,5 +1,6 @@
 //! Calls of the program's commands on an example.
 
+use pb_bank_engine::bank_engine;
 use pb_base::device::{MemoryInput, MemoryOutput};
 use pb_command_io::Status;
 use pb_engines::{
@@ -7,6 +8,7 @@ use pb_engines::{
     exec_engine, migrate_engine, record_engine, replay_engine, run_engine,
 };
 use pb_object::Format;
+use pb_plan_engine::plan_engine;
 use std::sync::Wait;
 use std::thread::Threads;
 
@@ -15,11 +17,13 @@ const MAX_OUTPUT: usize = 4_096;
 
 /// A command with what it is told.
 pub enum Command {
+    Bank,
     Check,
     Claims,
     Emit,
     Exec { quantum: u32, steps: u32 },
     Migrate,
+    Plan,
     Record { seed: u64 },
     Replay,
     Run { quantum: u32, steps: u32 },
@@ -66,6 +70,7 @@ fn status_of(
     let alloc = rt.alloc();
     let mut input = MemoryInput::new(call.input);
     Some(match call.command {
+        Command::Bank => bank_engine(alloc, &mut input, output),
         Command::Check => check_engine(alloc, CheckOptions { heap: None }, &mut input, output),
         Command::Claims => claims_engine(alloc, &mut input, output),
         Command::Emit => {
@@ -78,6 +83,7 @@ fn status_of(
             exec_engine(rt, alloc, run_options(quantum, steps)?, &mut input, output)
         }
         Command::Migrate => migrate_engine(alloc, &mut input, output),
+        Command::Plan => plan_engine(alloc, &mut input, output),
         Command::Record { seed } => {
             let options = RecordOptions {
                 run: run_options(64, 1_000_000)?,

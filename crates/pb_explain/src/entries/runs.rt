@@ -71,7 +71,7 @@ one, `why` says why an arm does not go on.",
 };
 
 pub static G1: Entry = Entry {
-    summary: "a position that there is not",
+    summary: "no such position",
     meaning: "The command of `debug` would go before position 0, or behind the last pick; or it is
 `pick`, at another position than the last, or behind 10,000,000 picks.",
     example: Some(Example {

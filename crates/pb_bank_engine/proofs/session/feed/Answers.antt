@@ -1,4 +1,4 @@
-use Rattle.std.proofs.Common.{◌≡◌, ℕ, List, [], Option, subst, ap, ◌∙◌}
+use Rattle.std.proofs.Common.{◌≡◌, ℕ, List, subst, ap, ◌∙◌}
 use Rattle.pb_base.specs.Device.{appended, AddsPrefix}
 use Rattle.pb_bank_engine.proofs.LineParts.{either, page_broken, page_fed, page_from, page_some, page_some_broken, page_some_from}
 use Rattle.pb_bank_engine.proofs.session.feed.Goals as goal

@@ -1,4 +1,4 @@
-use Rattle.std.proofs.Common.{ℕ, ◌+◌, ◌++◌, List, [], ◌∷◌, take, drop, get_or, sym, ap, ◌∙◌, subst, arith, refl, Some}
+use Rattle.std.proofs.Common.{ℕ, ◌++◌, List, [], ◌∷◌, take, drop, get_or, sym, ap, ◌∙◌, subst, arith, refl, Some}
 use Rattle.std.proofs.lemmas.List.{take_more, take_all, take-append-drop}
 use Rattle.std.proofs.lemmas.Bool.{ne_eqb}
 use Rattle.pb_bank_engine.specs.declared.session.Stop.TheVariants.{Memory}

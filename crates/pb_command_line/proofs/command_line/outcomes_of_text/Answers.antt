@@ -4,4 +4,5 @@ use Rattle.pb_command_line.proofs.command_line.outcomes_of_text.Goals as goal
 pub returns : goal.returns
 unfolding outcomes_command
 returns c =
-    c.with_flag.ensures _ (c.with_lend-outcomes.ensures _ (c.with_number-outcomes.ensures _ c.plain-outcomes.ensures))
+    c.with_flag.ensures _
+    (c.with_flag-outcomes.ensures _ (c.with_lend-outcomes.ensures _ (c.with_number-outcomes.ensures _ c.plain-outcomes.ensures)))

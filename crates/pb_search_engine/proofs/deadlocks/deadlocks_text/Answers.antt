@@ -41,8 +41,8 @@ loop-i-preserved c =
     deadlock_more names labels c.args.deadlocks.now c.loop-i.i f c.in_ok-picks.picks.items c.loop-i.text.items _
     c.loop-i-test.true c.index-deadlocks-i.is c.loop-i.invariant counted
     (c.in_ok-put_deadlock.ensures
-    ∙ ap (λ (cs : List CountedPick). c.loop-i.text.items ++ deadlock_lines names labels (c.loop-i.i + 1) (deadlock_view
-    f).processes cs) c.deref-in-loop-i.ensures.value)
+    ∙ ap (λ (cs : List CountedPick). c.loop-i.text.items ++ deadlock_lines names labels (c.loop-i.i + 1) (deadlock_view f)
+    cs) c.deref-in-loop-i.ensures.value)
 
 pub returns : goal.returns
 returns c =

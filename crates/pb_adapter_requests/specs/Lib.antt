@@ -1,0 +1,4 @@
+pub mod Breakpoints
+pub mod Kinds
+pub mod Requests
+pub mod Responses

@@ -1,0 +1,112 @@
+//! The lines at which a client wants the run to stop.
+
+ghost use Rattle.std.specs.Prelude.{◌≡◌, ◌++◌, IfOk, OnOk, codes, map};
+ghost use Rattle.std.specs.List.{list_any};
+ghost use Rattle.serde_json.specs.View.{view};
+ghost use Rattle.pb_code.specs.View.{labels_view};
+ghost use Rattle.pb_adapter_requests.specs.Breakpoints as spec;
+ghost use Rattle.pb_adapter_requests.specs.Requests.{request_view};
+ghost use Rattle.pb_adapter_requests.specs.Responses.{listed};
+
+use crate::request::{Request, list_of, number_at};
+use pb_base::NoMemory;
+use pb_code::{Labels, ProcessLabels};
+use serde_json::{Value, json};
+use std::alloc::{AllocError, Global};
+
+// Returns the line that a breakpoint asks for; 0 if it asks for none.
+fn line_in(value: &Value) -> u32
+    ensures { result ≡ spec.line_in (view value.now) }
+{
+    match number_at(value, "line") {
+        Some(line) => { if line < 65_537 { line as u32 } else { 0 } }
+        None => 0,
+    }
+}
+
+// Returns the lines that a list of breakpoints asks for.
+fn lines_in(alloc: Global, list: &[Value]) -> Result<Vec<u32>, NoMemory>
+    ensures { IfOk result (λ lines. lines.items ≡ spec.lines_in (map view list.now)) }
+{
+    let mut lines = Vec::new(alloc);
+    for i in 0..list.len() {
+        lines.push(line_in(&list[i]))?;
+    }
+    Ok(lines)
+}
+
+/// Returns the lines that a request asks for.
+#[tactic(auto, using(crate::proofs::BreakpointLemmas::datas_of))]
+pub fn asked_lines(alloc: Global, request: Request<'_>) -> Result<Vec<u32>, NoMemory>
+    ensures { IfOk result (λ lines. lines.items ≡ spec.asked_lines (request_view request.entry)) }
+{
+    match list_of(request, "breakpoints") {
+        Some(list) => lines_in(alloc, list),
+        None => Ok(Vec::new(alloc)),
+    }
+}
+
+// Returns whether this is the line.
+fn is_line(n: u32, line: Option<u32>) -> bool
+    ensures { result ≡ spec.is_line n line }
+{
+    match line {
+        Some(line) => line == n,
+        None => false,
+    }
+}
+
+// Returns whether one of these is the line.
+fn is_among(n: u32, lines: &[Option<u32>]) -> bool
+    ensures { result ≡ list_any (spec.is_line n) lines.now }
+{
+    lines.iter().any(|line| is_line(n, *line))
+}
+
+// Returns whether a place of a process has this line.
+fn has_line_in(process: &ProcessLabels, n: u32) -> bool
+    ensures { result ≡ list_any (spec.is_line n) process.now.lines.items }
+{
+    is_among(n, &process.lines)
+}
+
+// Returns whether a place of one of these processes has this line.
+fn is_line_of(processes: &[ProcessLabels], n: u32) -> bool
+    ensures { result ≡ list_any (λ process. list_any (spec.is_line n) process.lines.items) processes.now }
+{
+    processes.iter().any(|process| has_line_in(process, n))
+}
+
+// Returns whether a place of the code has this line.
+#[tactic(auto, using(crate::proofs::BreakpointLemmas::any_labels))]
+fn has_line(labels: &Labels, n: u32) -> bool
+    ensures { result ≡ spec.has_line (labels_view labels.now) n }
+{
+    is_line_of(&labels.processes, n)
+}
+
+// Returns a line, and whether the run can stop there.
+fn breakpoint(alloc: Global, verified: bool, line: u32) -> Result<Value, AllocError>
+    ensures { IfOk result (λ v. view v ≡ spec.breakpoint_data verified line) }
+{
+    json!(in alloc; {"verified": verified, "line": line})
+}
+
+// Returns a list of breakpoints.
+fn listed_all(alloc: Global, list: Vec<Value>) -> Result<Value, AllocError>
+    ensures { IfOk result (λ v. view v ≡ listed (codes "breakpoints") (map view list.items)) }
+{
+    json!(in alloc; {"breakpoints": list})
+}
+
+/// Returns each of these lines, and whether the run can stop there.
+pub fn breakpoints(alloc: Global, labels: &Labels, lines: &[u32]) -> Result<Value, NoMemory>
+    ensures { IfOk result (λ v. view v ≡ spec.breakpoints_data (labels_view labels.now) lines.now) }
+{
+    let mut list = Vec::new(alloc);
+    for i in 0..lines.len() {
+        let item = breakpoint(alloc, has_line(labels, lines[i]), lines[i])?;
+        list.push(item)?;
+    }
+    Ok(listed_all(alloc, list)?)
+}

@@ -1,0 +1,7 @@
+//! Where a person stops along the picks of a run: behind a pick that moves an arm to another line, or that brings
+//! one to a line with a breakpoint.
+#![tactic(auto)]
+
+pub mod stops;
+
+pub use stops::{first_arrival, first_move, last_arrival, last_move};

@@ -1,0 +1,76 @@
+//! Lesson 9, by the calls of `examples/expected/calls.txt`. Written by checks/example_tests.py.
+
+use crate::examples::calls::{Call, Command, first_wrong};
+use pb_command_io::Status;
+use pb_example_texts::claims::{ARMS_ADD, BRANCHES, TOO_MUCH};
+use pb_example_texts::plan::{ROOMY, WEEK};
+use std::test::Fail;
+
+#[rattlefmt::skip]
+const CALLS_1: [Call; 5] = [
+    Call {
+        name: "week_plan",
+        command: Command::Plan,
+        input: WEEK,
+        status: Status::Done,
+        output: b"backup claim 2 tape lines 6
+backup claim 1 disk lines 7
+sort claim 3 tape lines 14 15
+sort claim 1 disk lines 16
+tape capital 4 least 3 free 5
+disk capital 2 least 1 free 2
+bottleneck tape
+",
+    },
+    Call {
+        name: "roomy_plan",
+        command: Command::Plan,
+        input: ROOMY,
+        status: Status::Done,
+        output: b"backup claim 2 tape lines 6
+backup claim 1 disk lines 7
+sort claim 3 tape lines 14 15
+sort claim 1 disk lines 16
+tape capital 5 least 3 free 5
+disk capital 2 least 1 free 2
+no request waits
+",
+    },
+    Call {
+        name: "branches_plan",
+        command: Command::Plan,
+        input: BRANCHES,
+        status: Status::Done,
+        output: b"p claim 4 tape lines 7
+tape capital 5 least 4 free 4
+no request waits
+",
+    },
+    Call {
+        name: "arms_add_plan",
+        command: Command::Plan,
+        input: ARMS_ADD,
+        status: Status::Done,
+        output: b"p claim 6 tape lines 5 7 8
+tape capital 6 least 6 free 6
+no request waits
+",
+    },
+    Call {
+        name: "too_much_plan",
+        command: Command::Plan,
+        input: TOO_MUCH,
+        status: Status::Refused,
+        output: b"copy claim 2 tape lines 4
+sort claim 5 tape lines 5 5
+tape capital 4 least 5 free 7
+bottleneck tape
+",
+    },
+];
+
+#[test]
+fn are_as_expected_1(rt: HostRuntime) -> Result<(), Fail> {
+    assert_eq!(rt; first_wrong(&rt, CALLS_1.as_slice()), None);
+    Ok(())
+}

@@ -1,0 +1,80 @@
+//! The lines of a header.
+
+ghost use Rattle.std.specs.Prelude.{◌≡◌, ◌<◌, length, true};
+ghost use Rattle.std.specs.Char.{is_ascii_digit};
+ghost use Rattle.std.specs.List.{list_all};
+ghost use Rattle.std.specs.Str.Parse.{digits_value};
+ghost use Rattle.pb_frames.specs.Heads as spec;
+
+use pb_code::is_numeral;
+
+// What the line that says the size begins with.
+const LENGTH: &[u8] = b"Content-Length: ";
+
+/// What a line of a header comes to, with those before it.
+#[derive(Clone, Copy)]
+pub enum LineEnd {
+    /// More lines follow. The lines so far say this size, or none.
+    Further(Option<usize>),
+    /// It is the empty line behind the others, which say this size.
+    Complete(usize),
+    /// The line is not a header field.
+    Wrong,
+}
+
+// Returns the number that up to eight digits write.
+fn value(digits: &[u8]) -> usize
+    requires digits { list_all is_ascii_digit digits.now ≡ true }
+    requires few { length digits.now < 9 }
+    ensures { result ≡ digits_value 10 digits.now }
+{
+    let mut number: usize = 0;
+    for digit in digits {
+        number = number * 10 + (*digit - b'0') as usize;
+    }
+    number
+}
+
+// Returns the size that a word of one to eight digits writes.
+fn size_in(word: &[u8]) -> Option<usize>
+    ensures { result ≡ spec.size_of word.now }
+{
+    if is_numeral(word) && word.len() < 9 {
+        Some(value(word))
+    } else {
+        None
+    }
+}
+
+// Returns what a line, given without its end, comes to.
+fn line_says(line: &[u8], said: Option<usize>) -> LineEnd
+    ensures { result ≡ spec.of_line line.now said }
+{
+    if line.is_empty() {
+        return match said {
+            Some(size) => LineEnd::Complete(size),
+            None => LineEnd::Wrong,
+        };
+    }
+    if !line.starts_with(LENGTH) {
+        return LineEnd::Further(said);
+    }
+    match size_in(&line[16..]) {
+        Some(size) => LineEnd::Further(Some(size)),
+        None => LineEnd::Wrong,
+    }
+}
+
+/// Returns what a line, given without its line feed, comes to, with a size that those before it say.
+pub fn end_line(line: &[u8], said: Option<usize>) -> LineEnd
+    ensures { result ≡ spec.of_ended line.now said }
+{
+    if line.is_empty() {
+        return LineEnd::Wrong;
+    }
+    let last = line.len() - 1;
+    if line[last] != b'\r' {
+        return LineEnd::Wrong;
+    }
+    line_says(&line[..last], said)
+}

@@ -1,0 +1,5 @@
+pub mod Columns
+pub mod Free
+pub mod Granted
+pub mod Walks
+pub mod Weights

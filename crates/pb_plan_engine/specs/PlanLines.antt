@@ -1,0 +1,89 @@
+-- What `plan` says of an input, and with which status.
+use Rattle.std.specs.Prelude.{◌≡◌, ℕ, List, [], ◌++◌, ◌==◌, codes, cond, length, slice_index, slice_index_or, map, MatchOption}
+use Rattle.std.specs.Prelude.{Option, Some, None}
+use Rattle.std.specs.Fmt.{decimal}
+use Rattle.std.specs.List.{flat_map}
+use Rattle.pb_base.specs.Banker.{row_of}
+use Rattle.pb_base.specs.Lines.{each_below, line}
+use Rattle.pb_base.specs.Steppers.{Table}
+use Rattle.pb_claims.specs.Fits.{FitCapital, IsFirstOver}
+use Rattle.pb_claims.specs.declared.over_capital.OverCapital.{OverCapital}
+use Rattle.pb_names.specs.Program.{Block, Skip, Name, Program, capital_of}
+use Rattle.pb_names.specs.Resolves.{process_names, resource_names}
+use Rattle.pb_plan.specs.Needs.{AllFree, IsBottleneck, free_capital, least_capital}
+use Rattle.pb_plan.specs.Parts.{parts}
+use Rattle.pb_plan.specs.declared.part.Part.{Part}
+use Rattle.pb_codegen.specs.Numbered.{IsReadAs}
+use Rattle.pb_accept.specs.Refusals.{RefusesEarly}
+use Rattle.pb_command_io.specs.declared.status.Status.{Status}
+use Rattle.pb_command_io.specs.declared.status.Status.TheVariants.{Done, Refused}
+
+abbrev pub resource_name : List Name → ℕ → Name
+resource_name names r = slice_index_or names r []
+
+-- the source line of each part, behind a blank
+abbrev pub numbers_text : List Part → List ℕ
+numbers_text parts = flat_map (λ part. codes " " ++ decimal part.line) parts
+
+-- the word `lines` and the line of each part; nothing if there is no part
+abbrev pub lines_text : List Part → List ℕ
+lines_text parts = cond (length parts == 0) [] (codes " lines" ++ numbers_text parts)
+
+-- the line of one claim: the process, the word `claim`, the amount, the resource, and the lines that it comes from
+abbrev pub claim_line : Name → ℕ → Name → List Part → List ℕ
+claim_line process amount resource parts =
+    line (process ++ codes " claim " ++ decimal amount ++ codes " " ++ resource ++ lines_text parts)
+
+-- the lines of a process with its body and its row of claims: one for each resource, in their order
+abbrev pub plan_lines_of : List Name → Name → Block → List ℕ → List ℕ
+plan_lines_of resources process body row =
+    each_below (λ r. claim_line process (slice_index row r) (resource_name resources r) (parts r body)) (length resources)
+
+abbrev pub bodies_of : Program → List Block
+bodies_of program = map (λ process. process.body) program.processes
+
+-- the lines of all processes, in their order
+abbrev pub claims_lines : Program → Table → List ℕ
+claims_lines program claims =
+    each_below (λ p. plan_lines_of (resource_names program) (slice_index_or (process_names program) p [])
+    (slice_index_or (bodies_of program) p Skip) (row_of claims p)) (length program.processes)
+
+-- the line of a resource: its capital, the greatest claim, and the sum of the claims
+abbrev pub resource_line : Name → (capital least free : ℕ) → List ℕ
+resource_line resource capital least free =
+    line (resource ++ codes " capital " ++ decimal capital ++ codes " least " ++ decimal least ++ codes " free "
+    ++ decimal free)
+
+-- the lines of the resources, in their order
+abbrev pub resources_lines : List Name → List ℕ → Table → List ℕ
+resources_lines resources capital claims =
+    each_below (λ r. resource_line (resource_name resources r) (slice_index capital r) (least_capital claims r)
+    (free_capital claims r)) (length resources)
+
+-- the last line: the bottleneck, if there is one
+abbrev pub last_line : List Name → Option ℕ → List ℕ
+last_line resources None = line (codes "no request waits")
+last_line resources (Some r) = line (codes "bottleneck " ++ resource_name resources r)
+
+-- the whole text
+abbrev pub plan_text : Program → Table → Option ℕ → List ℕ
+plan_text program claims found =
+    claims_lines program claims ++ (resources_lines (resource_names program) (capital_of program) claims
+    ++ last_line (resource_names program) found)
+
+-- the status tells whether the capital is enough for every claim
+pub data HasStatus (program : Program) (claims : Table) : Status → Type 0 where
+  enough : FitCapital claims (capital_of program) → HasStatus program claims Done
+  too_little : (over : OverCapital) → IsFirstOver claims (capital_of program) over → HasStatus program claims Refused
+
+-- this text is the plan of the program with these claims
+pub record IsPlan (program : Program) (claims : Table) (said : List ℕ) : Type 0 where
+  pub found : Option ℕ
+  pub bottleneck : MatchOption found (AllFree claims (capital_of program)) (IsBottleneck claims (capital_of program))
+  pub text : said ≡ plan_text program claims found
+
+-- what is said of a text: it spells no program; or it spells one, and that is planned, whatever its capital
+pub data SaysOfPlan (text : List ℕ) : List ℕ → Status → Type 0 where
+  refused : (refusal : List ℕ) → RefusesEarly text refusal → SaysOfPlan text (line refusal) Refused
+  planned : (program : Program) (claims : Table) (said : List ℕ) (status : Status) → IsReadAs text program claims
+      → IsPlan program claims said → HasStatus program claims status → SaysOfPlan text said status

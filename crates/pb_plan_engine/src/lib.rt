@@ -1,0 +1,8 @@
+//! The engine behind the command `plan`: where the claims of a text come from, and how much of each resource they
+//! need.
+#![tactic(auto)]
+
+mod lines;
+pub mod plan;
+
+pub use plan::plan_engine;

@@ -1,0 +1,138 @@
+//! The lines of a plan.
+
+ghost use Rattle.std.specs.Prelude.{◌≡◌, ◌<◌, ◌≤◌, ◌++◌, ℕ, OnOk, IfSome, length, map};
+ghost use Rattle.pb_base.specs.Banker.{row_of};
+ghost use Rattle.pb_base.specs.Tables.{width_of};
+ghost use Rattle.pb_names.specs.View.{block_view};
+ghost use Rattle.pb_plan_engine.specs.PlanLines.{claim_line, last_line, lines_text, numbers_text, plan_lines_of, resource_line};
+ghost use Rattle.pb_plan_engine.specs.PlanLines.{resource_name, resources_lines};
+
+use pb_base::writing::{put, put_name, put_number};
+use pb_base::{Capital, Claims, NoMemory};
+use pb_names::{Process, Resource};
+use pb_plan::{Part, claim_parts, free_capital, least_capital};
+use std::alloc::{Allocator, Global};
+
+/// Returns the name of a resource.
+fn name_of<A: Allocator>(resources: &[Resource<A>], r: usize) -> &[u8]
+    requires { r < length resources.now }
+    ensures { result.now ≡ resource_name (map (λ r. r.name.items) resources.now) r }
+{
+    &resources[r].name
+}
+
+/// Appends the source line of each part to a text, behind a blank.
+fn put_numbers(text: &mut Vec<u8>, parts: &[Part]) -> Result<(), NoMemory>
+    ensures { OnOk result (text.new.items ≡ text.old.items ++ numbers_text parts.now) }
+{
+    for part in parts {
+        put_number(text, b" ", part.line)?;
+    }
+    Ok(())
+}
+
+/// Appends the word `lines` and the line of each part to a text; nothing if there is no part.
+fn put_lines(text: &mut Vec<u8>, parts: &[Part]) -> Result<(), NoMemory>
+    ensures { OnOk result (text.new.items ≡ text.old.items ++ lines_text parts.now) }
+{
+    if parts.len() == 0 {
+        return Ok(());
+    }
+    put(text, b" lines")?;
+    put_numbers(text, parts)
+}
+
+/// Appends the line of a claim to a text.
+fn put_claim(
+    text: &mut Vec<u8>,
+    process: &[u8],
+    amount: u64,
+    resource: &[u8],
+    parts: &[Part],
+) -> Result<(), NoMemory>
+    ensures { OnOk result (text.new.items
+        ≡ text.old.items ++ claim_line process.now amount resource.now parts.now) }
+{
+    put(text, process)?;
+    put_number(text, b" claim ", amount)?;
+    put_name(text, b" ", resource)?;
+    put_lines(text, parts)?;
+    put(text, b"\n")
+}
+
+/// Appends the lines of process p to a text.
+pub(crate) fn put_process<A: Allocator>(
+    alloc: Global,
+    text: &mut Vec<u8>,
+    process: &Process<A>,
+    claims: &Claims,
+    p: usize,
+    resources: &[Resource<A>],
+) -> Result<(), NoMemory>
+    requires process { p < length claims.now }
+    requires width { (q : ℕ) → q < length claims.now → length (row_of claims.now q) ≡ length resources.now }
+    ensures { OnOk result (text.new.items ≡ text.old.items
+        ++ plan_lines_of (map (λ r. r.name.items) resources.now) process.now.name.items
+        (block_view process.now.body.items) (row_of claims.now p)) }
+{
+    for r in 0..resources.len() {
+        let parts = claim_parts(alloc, process, r)?;
+        let amount = claims.get(p, r);
+        put_claim(text, &process.name, amount, name_of(resources, r), &parts)?;
+    }
+    Ok(())
+}
+
+/// Appends the line of a resource to a text.
+fn put_resource(
+    text: &mut Vec<u8>,
+    resource: &[u8],
+    capital: u32,
+    least: u64,
+    free: u128,
+) -> Result<(), NoMemory>
+    ensures { OnOk result (text.new.items ≡ text.old.items ++ resource_line resource.now capital least free) }
+{
+    put(text, resource)?;
+    put_number(text, b" capital ", capital)?;
+    put_number(text, b" least ", least)?;
+    put_number(text, b" free ", free)?;
+    put(text, b"\n")
+}
+
+/// Appends the lines of the resources to a text.
+pub(crate) fn put_resources<A: Allocator>(
+    text: &mut Vec<u8>,
+    resources: &[Resource<A>],
+    capital: &Capital,
+    claims: &Claims,
+) -> Result<(), NoMemory>
+    requires capital { length capital.now ≡ length resources.now }
+    requires width { width_of claims.now ≡ length resources.now }
+    ensures { OnOk result (text.new.items ≡ text.old.items
+        ++ resources_lines (map (λ r. r.name.items) resources.now) capital.now claims.now) }
+{
+    for r in 0..resources.len() {
+        let least = least_capital(claims, r);
+        let free = free_capital(claims, r);
+        put_resource(text, name_of(resources, r), capital.get(r), least, free)?;
+    }
+    Ok(())
+}
+
+/// Appends the last line to a text.
+pub(crate) fn put_last<A: Allocator>(
+    text: &mut Vec<u8>,
+    resources: &[Resource<A>],
+    found: Option<usize>,
+) -> Result<(), NoMemory>
+    requires { IfSome found (λ r. r < length resources.now) }
+    ensures { OnOk result (text.new.items ≡ text.old.items
+        ++ last_line (map (λ r. r.name.items) resources.now) found) }
+{
+    let Some(r) = found else {
+        return put(text, b"no request waits\n");
+    };
+    put_name(text, b"bottleneck ", name_of(resources, r))?;
+    put(text, b"\n")
+}
