@@ -35,6 +35,8 @@ LOST = TOP / "examples/lost.run"
 DEVICES = TOP / "examples/devices.pb"
 # A run with more picks is followed so far.
 MOST_PICKS = 300
+# An interrupt that has no effect is sent so often, every five seconds.
+MOST_INTERRUPTS = 8
 # How the words of a pick begin that shows an event, with the word of the event line.
 EVENTS = {"prints ": "print", "is granted ": "grant", "gives back ": "return"}
 # What fifteen keys show of examples/lost.run.
@@ -120,10 +122,13 @@ class Player:
 
     def interrupt(self) -> str:
         """Types Ctrl-C, and returns what is shown up to the next prompt."""
-        self.it.sendintr()
         # (Python may miss an interrupt that comes while it takes in a key)
-        while self.it.expect([PROMPT, pexpect.TIMEOUT], timeout=5):
+        for _ in range(MOST_INTERRUPTS):
             self.it.sendintr()
+            if self.it.expect([PROMPT, pexpect.TIMEOUT], timeout=5) == 0:
+                break
+        else:
+            sys.exit("terminal: an interrupt brings no prompt")
         return self.it.before
 
     def end(self) -> int:

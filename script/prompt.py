@@ -4,6 +4,7 @@ from __future__ import annotations
 import cmd
 import os
 import readline
+import signal
 from collections.abc import Iterable
 
 from script import shown
@@ -31,6 +32,8 @@ class Prompt(Completion, cmd.Cmd):
     def run(self, commands: list[str]) -> int:
         """Carries out the commands of a file, and then those that are typed, and returns the status."""
         readline.set_completer_delims(" \t\n")
+        # (a script or a service may have started us with interrupts ignored)
+        signal.signal(signal.SIGINT, signal.default_int_handler)
         self.say(self.introduction())
         is_over = False
         for command in commands:

@@ -2,13 +2,25 @@
 from __future__ import annotations
 
 import re
+import signal
 import subprocess
-from contextlib import suppress
+from collections.abc import Iterator
+from contextlib import contextmanager, suppress
 
 from script.code import Code
 from script.picks import Picks
 
 REFUSAL = re.compile(r"refused G\d$")
+
+
+@contextmanager
+def interrupts_ignored() -> Iterator[None]:
+    """Ignores Ctrl-C for a while."""
+    before = signal.signal(signal.SIGINT, signal.SIG_IGN)
+    try:
+        yield
+    finally:
+        signal.signal(signal.SIGINT, before)
 
 
 class Refused(Exception):
@@ -65,9 +77,11 @@ class Session:
 
     def again(self) -> None:
         """Ends a command that takes long: the program is started anew, at the position where the session is."""
-        self.process.kill()
-        self.process.communicate()
-        self.open()
+        # (one interrupt is enough: another one would end the start halfway)
+        with interrupts_ignored():
+            self.process.kill()
+            self.process.communicate()
+            self.open()
 
     def ask(self, command: str) -> str:
         """Returns the first line of the answer to a command."""
