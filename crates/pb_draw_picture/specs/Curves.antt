@@ -26,20 +26,20 @@ next_of [] = None
 next_of (s ∷ steps) = Some s.at
 
 -- an amount from one place to another: the area below the curve, and the curve itself
-abbrev pub area_in : (capital foot cash x to : ℕ) → Rect
-area_in capital foot cash x to =
-    rect_to Cash x to (foot - height_of capital cash) (height_of capital cash)
+abbrev pub area_in : (r capital foot cash x to : ℕ) → Rect
+area_in r capital foot cash x to =
+    rect_to (Cash r) x to (foot - height_of capital cash) (height_of capital cash)
 
 abbrev pub level_in : (capital foot cash x to : ℕ) → Rect
 level_in capital foot cash x to = rect_to Level x to (foot - height_of capital cash - LEVEL_UP) LEVEL
 
--- a curve, each amount up to the next
-abbrev pub curve_in : Places → (capital foot : ℕ) → List CashStep → List Rect
-curve_in places capital foot [] = []
-curve_in places capital foot (s ∷ steps) =
-    area_in capital foot s.cash (places.x s.at) (end_of places (next_of steps))
+-- the curve of resource r, each amount up to the next
+abbrev pub curve_in : Places → (r capital foot : ℕ) → List CashStep → List Rect
+curve_in places r capital foot [] = []
+curve_in places r capital foot (s ∷ steps) =
+    area_in r capital foot s.cash (places.x s.at) (end_of places (next_of steps))
     ∷ (level_in capital foot s.cash (places.x s.at) (end_of places (next_of steps))
-    ∷ curve_in places capital foot steps)
+    ∷ curve_in places r capital foot steps)
 
 -- the amount at a step
 abbrev pub amount_at : Places → (capital foot : ℕ) → CashStep → Text
@@ -59,7 +59,7 @@ name_at names places r capital =
 abbrev pub curves_from : Places → (capital : List ℕ) → (r : ℕ) → List CashCurve → List Rect
 curves_from places capital r [] = []
 curves_from places capital r (curve ∷ curves) =
-    curve_in places (slice_index capital r) (foot_of places r) curve.steps.items ++ curves_from places capital (r + 1) curves
+    curve_in places r (slice_index capital r) (foot_of places r) curve.steps.items ++ curves_from places capital (r + 1) curves
 
 -- and their texts
 abbrev pub curve_texts_from : NameTable → Places → (capital : List ℕ) → (r : ℕ) → List CashCurve → List Text

@@ -1,6 +1,7 @@
 -- The bars of the holds: of each hold one, with its bundle.
 use Rattle.std.specs.Prelude.{ℕ, ◌+◌, List, [], ◌∷◌, Option, Some, None}
 use Rattle.pb_base.specs.Lines.{NameTable}
+use Rattle.pb_base.specs.declared.pair.Pair.{Pair}
 use Rattle.pb_draw.specs.declared.drawing.Bar.{Bar}
 use Rattle.pb_draw_picture.specs.declared.picture.LabelKind.TheVariants.{Bundle}
 use Rattle.pb_draw_picture.specs.declared.picture.Rect.{Rect}
@@ -15,10 +16,15 @@ abbrev pub behind : Option ℕ → Option ℕ
 behind None = None
 behind (Some at) = Some (at + 1)
 
+-- the resource whose colour it has: the first of the bundle
+abbrev pub colour_of : List Pair → ℕ
+colour_of [] = 0
+colour_of (pair ∷ bundle) = pair.resource
+
 -- the bar of a hold: from the position behind the pick that takes it to that behind the pick that gives it back
 abbrev pub hold_at : Places → (k : ℕ) → Bar → Rect
 hold_at places k bar =
-    rect_to Hold (places.x (bar.taken + 1)) (end_of places (behind bar.returned)) (hold_y places bar.pick k) BAR
+    rect_to (Hold (colour_of bar.bundle)) (places.x (bar.taken + 1)) (end_of places (behind bar.returned)) (hold_y places bar.pick k) BAR
 
 -- its bundle is written in it
 abbrev pub bundle_at : NameTable → Places → (k : ℕ) → Bar → Text

@@ -1,8 +1,8 @@
 -- A picture as SVG.
-use Rattle.std.specs.Prelude.{ℕ, List, ◌++◌, codes}
+use Rattle.std.specs.Prelude.{ℕ, ◌%◌, List, [], ◌++◌, codes}
 use Rattle.std.specs.Fmt.{decimal}
 use Rattle.std.specs.List.{flat_map}
-use Rattle.pb_draw_picture.specs.declared.svg.TheConstants.{STYLE}
+use Rattle.pb_draw_picture.specs.declared.svg.TheConstants.{COLOURS, STYLE}
 use Rattle.pb_draw_picture.specs.declared.picture.LabelKind.{LabelKind}
 use Rattle.pb_draw_picture.specs.declared.picture.LabelKind.TheVariants.{Name, Number, Silent, Bundle, Amount, Note}
 use Rattle.pb_draw_picture.specs.declared.picture.RectKind.{RectKind}
@@ -19,9 +19,15 @@ abbrev pub rect_word : RectKind → List ℕ
 rect_word Gap = codes "gap"
 rect_word Going = codes "going"
 rect_word Waiting = codes "waiting"
-rect_word Hold = codes "hold"
-rect_word Cash = codes "cash"
+rect_word (Hold resource) = codes "hold"
+rect_word (Cash resource) = codes "cash"
 rect_word Level = codes "level"
+
+-- the word for its colour, if it has one: that of its resource, of which there are eight
+abbrev pub colour_text : RectKind → List ℕ
+colour_text (Hold resource) = codes " r" ++ decimal (resource % COLOURS)
+colour_text (Cash resource) = codes " r" ++ decimal (resource % COLOURS)
+colour_text kind = []
 
 -- the word for what a text stands for
 abbrev pub label_word : LabelKind → List ℕ
@@ -51,7 +57,7 @@ outline End = codes "m-4-4h8v8h-8z"
 -- a rectangle
 unfoldable pub rect_text : Rect → List ℕ
 rect_text r =
-    codes "<rect class=\"" ++ rect_word r.kind ++ codes "\" x=\"" ++ decimal r.x ++ codes "\" y=\"" ++ decimal r.y
+    codes "<rect class=\"" ++ rect_word r.kind ++ colour_text r.kind ++ codes "\" x=\"" ++ decimal r.x ++ codes "\" y=\"" ++ decimal r.y
     ++ codes "\" width=\"" ++ decimal r.width ++ codes "\" height=\"" ++ decimal r.height ++ codes "\"/>\n"
 
 -- a text

@@ -42,16 +42,17 @@ fn next_of(steps: &[CashStep]) -> Option<u64>
     }
 }
 
-// Adds a curve.
+// Adds the curve of resource r.
 fn add_curve(
     rects: &mut Vec<Rect>,
     grid: &Grid,
+    r: usize,
     capital: u32,
     foot: u64,
     steps: &[CashStep],
 ) -> Result<(), NoMemory>
     requires { IsChain grid.now.knots.items }
-    ensures { OnOk result (rects.new.items ≡ rects.old.items ++ spec.curve_in (places_of grid.now) capital foot steps.now) }
+    ensures { OnOk result (rects.new.items ≡ rects.old.items ++ spec.curve_in (places_of grid.now) r capital foot steps.now) }
 {
     for i in 0..steps.len() {
         let step = steps[i];
@@ -59,7 +60,7 @@ fn add_curve(
         let to = grid.x_or_end(next_of(&steps[i + 1..]));
         let height = height_of(capital, step.cash);
         let top = foot.saturating_sub(height);
-        rects.push(rect_to(RectKind::Cash, x, to, top, height))?;
+        rects.push(rect_to(RectKind::Cash(r), x, to, top, height))?;
         rects.push(rect_to(RectKind::Level, x, to, top.saturating_sub(LEVEL_UP), LEVEL))?;
     }
     Ok(())
@@ -80,7 +81,7 @@ pub(crate) fn add_curves(
     let _few = capital.resources();
     for r in 0..curves.len() {
         let curve = &curves[r];
-        add_curve(rects, grid, capital.get(r), foot_of(grid, r), &curve.steps)?;
+        add_curve(rects, grid, r, capital.get(r), foot_of(grid, r), &curve.steps)?;
     }
     Ok(())
 }

@@ -12,7 +12,7 @@ use crate::grid::Grid;
 use crate::picture::{Label, LabelKind, Rect, RectKind};
 use crate::shapes::rect_to;
 use crate::sizes::{BAR, BUNDLE_DOWN, BUNDLE_RIGHT};
-use pb_base::{Names, NoMemory};
+use pb_base::{Bundle, Names, NoMemory};
 use pb_draw::drawing::Bar;
 use std::alloc::Global;
 
@@ -26,6 +26,16 @@ fn behind(at: Option<u32>) -> Option<u64>
     }
 }
 
+// Returns the resource whose colour the bar of a hold has: the first of its bundle.
+fn colour_of(bundle: &Bundle) -> usize
+    ensures { result ≡ spec.colour_of bundle.now }
+{
+    if bundle.len() == 0 {
+        return 0;
+    }
+    usize::from(bundle.get(0).resource)
+}
+
 // Returns the bar of a hold.
 fn hold_at(grid: &Grid, k: usize, bar: &Bar) -> Rect
     requires { IsChain grid.now.knots.items }
@@ -33,7 +43,7 @@ fn hold_at(grid: &Grid, k: usize, bar: &Bar) -> Rect
 {
     let x = grid.x(u64::from(bar.taken) + 1);
     let to = grid.x_or_end(behind(bar.returned));
-    rect_to(RectKind::Hold, x, to, grid.hold_y(bar.pick, k), BAR)
+    rect_to(RectKind::Hold(colour_of(&bar.bundle)), x, to, grid.hold_y(bar.pick, k), BAR)
 }
 
 /// Adds the bars of holds.

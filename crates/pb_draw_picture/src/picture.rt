@@ -9,10 +9,10 @@ pub enum RectKind {
     Going,
     /// An arm that waits for a request.
     Waiting,
-    /// A hold.
-    Hold,
-    /// The cash of a resource: the area below its step curve.
-    Cash,
+    /// A hold, in the colour of this resource: the first of its bundle.
+    Hold(usize),
+    /// The cash of the resource with this number: the area below its step curve.
+    Cash(usize),
     /// The curve itself.
     Level,
 }
@@ -27,7 +27,7 @@ pub struct Rect {
     pub height: u64,
 }
 
-/// What a text stands for.
+/// What a label stands for.
 #[derive(Clone, Copy, Debug, PartialEq, Eq)]
 pub enum LabelKind {
     /// The name of an arm or a resource.
@@ -44,7 +44,7 @@ pub enum LabelKind {
     Note,
 }
 
-/// A text that begins at a place.
+/// A label, with the place where it begins.
 #[derive(Drop)]
 pub struct Label {
     pub kind: LabelKind,

@@ -17,8 +17,8 @@ fn rect_word(kind: RectKind) -> &'static [u8]
         RectKind::Gap => b"gap",
         RectKind::Going => b"going",
         RectKind::Waiting => b"waiting",
-        RectKind::Hold => b"hold",
-        RectKind::Cash => b"cash",
+        RectKind::Hold(_) => b"hold",
+        RectKind::Cash(_) => b"cash",
         RectKind::Level => b"level",
     }
 }
@@ -63,13 +63,28 @@ fn outline(kind: TickKind) -> &'static [u8]
     }
 }
 
-// Puts a rectangle behind a text.
+// Appends the word for the colour of a rectangle to `text`, if it has one.
+fn put_colour(text: &mut Vec<u8>, kind: RectKind) -> Result<(), NoMemory>
+    ensures { OnOk result (text.new.items ≡ text.old.items ++ spec.colour_text kind) }
+{
+    match kind {
+        RectKind::Hold(resource) => put_number(text, b" r", resource % COLOURS),
+        RectKind::Cash(resource) => put_number(text, b" r", resource % COLOURS),
+        RectKind::Gap => Ok(()),
+        RectKind::Going => Ok(()),
+        RectKind::Waiting => Ok(()),
+        RectKind::Level => Ok(()),
+    }
+}
+
+// Appends a rectangle to `text`.
 fn put_rect(text: &mut Vec<u8>, rect: &Rect) -> Result<(), NoMemory>
     ensures { OnOk result (text.new.items ≡ text.old.items ++ spec.rect_text rect.now) }
 {
     let word = rect_word(rect.kind);
     put(text, b"<rect class=\"")?;
     put(text, word)?;
+    put_colour(text, rect.kind)?;
     put_number(text, b"\" x=\"", rect.x)?;
     put_number(text, b"\" y=\"", rect.y)?;
     put_number(text, b"\" width=\"", rect.width)?;
@@ -78,7 +93,7 @@ fn put_rect(text: &mut Vec<u8>, rect: &Rect) -> Result<(), NoMemory>
     Ok(())
 }
 
-// Puts a label behind a text.
+// Appends a label to `text`.
 fn put_label(text: &mut Vec<u8>, label: &Label) -> Result<(), NoMemory>
     ensures { OnOk result (text.new.items ≡ text.old.items ++ spec.label_text label.now) }
 {
@@ -94,7 +109,7 @@ fn put_label(text: &mut Vec<u8>, label: &Label) -> Result<(), NoMemory>
     Ok(())
 }
 
-// Puts the mark of an event behind a text.
+// Appends the mark of an event to `text`.
 fn put_tick(text: &mut Vec<u8>, tick: &Tick) -> Result<(), NoMemory>
     ensures { OnOk result (text.new.items ≡ text.old.items ++ spec.tick_text tick.now) }
 {
@@ -124,7 +139,7 @@ fn style() -> &'static [u8]
     STYLE
 }
 
-// Puts what a picture begins with behind a text.
+// Appends what a picture begins with to `text`.
 fn put_head(text: &mut Vec<u8>, picture: &Picture) -> Result<(), NoMemory>
     ensures { OnOk result (text.new.items ≡ text.old.items ++ spec.head_text picture.now) }
 {
@@ -141,11 +156,15 @@ fn put_head(text: &mut Vec<u8>, picture: &Picture) -> Result<(), NoMemory>
     Ok(())
 }
 
+// How many colours there are: the first eight resources differ, and the ninth has the colour of the first. They are
+// those of Okabe and Ito (Color Universal Design, 2008), lighter or darker, which differ to colour-blind eyes too.
+const COLOURS: usize = 8;
+
 // What each kind of shape looks like.
 const STYLE: &[u8] =
-    b"\">\n<title>A run, pick by pick</title>\n<style>\ntext{font:11px monospace;fill:#000}\npath{fill:#000}\n.name{font-weight:bold}\n.number,.silent,.note{fill:#555;font-size:10px}\n.amount{font-size:10px}\n.paper{fill:#fff}\n.gap{fill:#eee}\n.going{fill:#999}\n.waiting{fill:url(#hatch);stroke:#000;stroke-width:.5}\n.hatch{stroke:#000}\n.hold{fill:#cde;stroke:#000;stroke-width:.5}\n.cash{fill:#ded}\n.level{fill:#262}\n.print path{fill:#fff;stroke:#000;stroke-width:1.5}\n.fault path{stroke:#c00;stroke-width:2.5}\n@media (prefers-color-scheme:dark){\ntext{fill:#eee}\npath{fill:#eee}\n.number,.silent,.note{fill:#aaa}\n.paper{fill:#1b1b1b}\n.gap{fill:#333}\n.going{fill:#888}\n.waiting{stroke:#eee}\n.hatch{stroke:#eee}\n.hold{fill:#246;stroke:#eee}\n.cash{fill:#243}\n.level{fill:#7c7}\n.print path{fill:#1b1b1b;stroke:#eee}\n.fault path{stroke:#f66}\n}\n</style>\n<defs><pattern id=\"hatch\" width=\"5\" height=\"5\" patternUnits=\"userSpaceOnUse\"><path class=\"hatch\" d=\"M0 5L5 0\"/></pattern></defs>\n<rect class=\"paper\" width=\"100%\" height=\"100%\"/>\n";
+    b"\">\n<title>A run, pick by pick</title>\n<style>\ntext{font:11px monospace;fill:#000}\npath{fill:#000}\n.name{font-weight:bold}\n.number,.silent,.note{fill:#555;font-size:10px}\n.amount{font-size:10px}\n.paper{fill:#fff}\n.gap{fill:#eee}\n.going{fill:#999}\n.waiting{fill:url(#hatch);stroke:#000;stroke-width:.5}\n.hatch{stroke:#000}\n.hold{stroke:#000;stroke-width:.5}\n.level{fill:#333}\n.r0{fill:#bfe1f6}\n.r1{fill:#f7dca3}\n.r2{fill:#a3dccb}\n.r3{fill:#edcbdd}\n.r4{fill:#f9f5b9}\n.r5{fill:#8fb8dc}\n.r6{fill:#f1c4a6}\n.r7{fill:#d9d9d9}\n.print path{fill:#fff;stroke:#000;stroke-width:1.5}\n.fault path{stroke:#c00;stroke-width:2.5}\n@media (prefers-color-scheme:dark){\ntext{fill:#eee}\npath{fill:#eee}\n.number,.silent,.note{fill:#aaa}\n.paper{fill:#1b1b1b}\n.gap{fill:#333}\n.going{fill:#888}\n.waiting{stroke:#eee}\n.hatch{stroke:#eee}\n.hold{stroke:#eee}\n.level{fill:#ddd}\n.r0{fill:#1f5f86}\n.r1{fill:#7a5600}\n.r2{fill:#00604a}\n.r3{fill:#74405d}\n.r4{fill:#6b6600}\n.r5{fill:#00436a}\n.r6{fill:#7d3800}\n.r7{fill:#555}\n.print path{fill:#1b1b1b;stroke:#eee}\n.fault path{stroke:#f66}\n}\n</style>\n<defs><pattern id=\"hatch\" width=\"5\" height=\"5\" patternUnits=\"userSpaceOnUse\"><path class=\"hatch\" d=\"M0 5L5 0\"/></pattern></defs>\n<rect class=\"paper\" width=\"100%\" height=\"100%\"/>\n";
 
-// Puts rectangles behind a text.
+// Appends rectangles to `text`.
 fn put_rects(text: &mut Vec<u8>, rects: &[Rect]) -> Result<(), NoMemory>
     ensures { OnOk result (text.new.items ≡ text.old.items ++ flat_map spec.rect_text rects.now) }
 {
@@ -155,7 +174,7 @@ fn put_rects(text: &mut Vec<u8>, rects: &[Rect]) -> Result<(), NoMemory>
     Ok(())
 }
 
-// Puts labels behind a text.
+// Appends labels to `text`.
 fn put_labels(text: &mut Vec<u8>, labels: &[Label]) -> Result<(), NoMemory>
     ensures { OnOk result (text.new.items ≡ text.old.items ++ flat_map spec.label_text labels.now) }
 {
@@ -165,7 +184,7 @@ fn put_labels(text: &mut Vec<u8>, labels: &[Label]) -> Result<(), NoMemory>
     Ok(())
 }
 
-// Puts the marks of events behind a text.
+// Appends the marks of events to `text`.
 fn put_ticks(text: &mut Vec<u8>, ticks: &[Tick]) -> Result<(), NoMemory>
     ensures { OnOk result (text.new.items ≡ text.old.items ++ flat_map spec.tick_text ticks.now) }
 {
@@ -175,7 +194,7 @@ fn put_ticks(text: &mut Vec<u8>, ticks: &[Tick]) -> Result<(), NoMemory>
     Ok(())
 }
 
-/// Returns a picture as SVG: a line for each shape, the rectangles first, then the texts, and then the marks
+/// Returns a picture as SVG: a line for each shape, the rectangles first, then the labels, and then the marks
 /// of events.
 pub fn write_svg(alloc: Global, picture: &Picture) -> Result<Vec<u8>, NoMemory>
     ensures { IfOk result (λ text. text.items ≡ spec.svg picture.now) }

@@ -11,6 +11,7 @@ returns c =
       c.in_ok-put_number-3.ensures,
       c.in_ok-put_number-2.ensures,
       c.in_ok-put_number.ensures,
+      c.in_ok-put_colour.ensures,
       c.in_ok-put-2.ensures,
       c.rect_word-word.ensures,
       c.in_ok-put.ensures,
