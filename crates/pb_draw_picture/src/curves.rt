@@ -81,7 +81,14 @@ pub(crate) fn add_curves(
     let _few = capital.resources();
     for r in 0..curves.len() {
         let curve = &curves[r];
-        add_curve(rects, grid, r, capital.get(r), foot_of(grid, r), &curve.steps)?;
+        add_curve(
+            rects,
+            grid,
+            r,
+            capital.get(r),
+            foot_of(grid, r),
+            &curve.steps,
+        )?;
     }
     Ok(())
 }

@@ -43,7 +43,13 @@ fn hold_at(grid: &Grid, k: usize, bar: &Bar) -> Rect
 {
     let x = grid.x(u64::from(bar.taken) + 1);
     let to = grid.x_or_end(behind(bar.returned));
-    rect_to(RectKind::Hold(colour_of(&bar.bundle)), x, to, grid.hold_y(bar.pick, k), BAR)
+    rect_to(
+        RectKind::Hold(colour_of(&bar.bundle)),
+        x,
+        to,
+        grid.hold_y(bar.pick, k),
+        BAR,
+    )
 }
 
 /// Adds the bars of holds.
