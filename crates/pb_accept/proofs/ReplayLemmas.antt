@@ -63,7 +63,7 @@ can_make_again : (code : Code) (lines : List ℕ) (entries : List Entry) (end : 
     → CodeCan code (events_of entries) (length entries)
 can_make_again code lines entries end are =
     let many = length-map entries (λ (e : Entry). e.pick) in
-    (picks_of entries, end, omega (arith, many), traces_make code (code_opening code) end entries are.replay.leads)
+    (picks_of entries, end, omega (arith, many), traces_make ByBanker code (code_opening code) end entries are.replay.leads)
 
 -- an accepted text, and what is said of the lines behind it
 pub text_is_replayed : (bytes text lines : List ℕ) (code given : Code) (labels : List ProcessLabels) (old new : Option (List ℕ))
@@ -116,9 +116,9 @@ pub all_have_names : (v : VerifiedCode) → IsVerified v → (s end : State Code
 all_have_names v verified s end [] reached h = λ k d within. absurd (omega (arith, within))
 all_have_names v verified s end (e ∷ entries) reached (next, moves, rest) =
     with_first v.code.names e.event (events_of entries)
-    (λ shown is. events_have_names v verified s reached e.pick shown next
+    (λ shown is. events_have_names ByBanker v verified s reached e.pick shown next
     (subst (λ (o : Option Event). CodeMoves v.code s e.pick o next) is moves))
-    (all_have_names v verified next end entries (reaches_on v.code s next e.pick e.event reached moves) rest)
+    (all_have_names v verified next end entries (reaches_on ByBanker v.code s next e.pick e.event reached moves) rest)
 
 -- all that the events of a replay speak of has a name
 pub events_are_named : (v : VerifiedCode) (names : NameTable) (lines : List ℕ) (entries : List Entry) (end : State CodeProcess)

@@ -2,6 +2,7 @@
 use Rattle.std.proofs.Common.{◌≡◌, ℕ, zero, suc, ◌+◌, ◌++◌, [], List, Option, Some, None, refl, sym, ap, ◌∙◌, arith}
 use Rattle.std.specs.Prelude.{option_and_then, slice_get, All}
 use Rattle.std.proofs.lemmas.List.Elements.{All-nil, All-cons, All-append}
+use Rattle.pb_base.specs.declared.lending.Lending.TheVariants.{ByBanker}
 use Rattle.pb_base.specs.Lines.{HasNames}
 use Rattle.pb_base.specs.Steppers.{Move, event_of}
 use Rattle.pb_base.specs.declared.event.Event.{Event}
@@ -38,7 +39,7 @@ module _ (v : VerifiedCode) (picks : List Pick) (verified : IsVerified v) (all :
       let here : event_at v.code picks i ≡ event_of pick e.move.effect =
       ap (λ (o : Option Pick). option_and_then (shown_in stepper s) o) there
       ∙ ap (λ (o : Option (Move CodeProcess)). option_and_then (λ move. event_of pick move.effect) o) e.moves in
-      events_have_names v verified s (position_reached v.code picks i all) pick event e.move.next
+      events_have_names ByBanker v verified s (position_reached v.code picks i all) pick event e.move.next
       (e.move.effect, e.moves, e.granted, sym here ∙ shows)
 
   named_list : (event : Option Event) (pick : Option Pick) (i : ℕ) → event_at v.code picks i ≡ event → slice_get picks i ≡ pick

@@ -25,7 +25,7 @@ fn cash_of(verified: &Verified, machine: &Machine, r: usize) -> u32
     ensures { result ≡ cash (banker_state (bank_of verified.now.code) (machine_view machine.now).loans) r }
 {
     let _ = verified;
-    machine.banker().cash(r)
+    machine.lender().cash(r)
 }
 
 // Returns a curve that begins with this cash.

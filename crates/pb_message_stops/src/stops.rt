@@ -5,7 +5,7 @@ ghost use Rattle.pb_code.specs.Whole.{Code as AnyCode};
 ghost use Rattle.pb_picks.specs.PickLines.{IsFirstLine, SpellsPicks};
 ghost use Rattle.pb_message_stops.specs.Stops.{HoldsPick};
 
-use pb_banker::Banker;
+use pb_banker::Lender;
 use pb_base::{Bundle, Names, NoMemory, Pair, Pick};
 use pb_code::{Code, Instr};
 use pb_history::CountedPick;
@@ -173,7 +173,7 @@ fn note_why(alloc: Global, wording: &mut Wording, code: &Code, machine: &Machine
     let thread = standing.thread(arm);
     match asked(code, process, thread) {
         Some(bundle) if !standing.faulted() => {
-            wording.note(request_note(alloc, &code.names, machine.banker(), bundle));
+            wording.note(request_note(alloc, &code.names, machine.lender(), bundle));
         }
         _ => wording.note_text(alloc, stands(standing.faulted(), thread.state())),
     }
@@ -204,12 +204,12 @@ fn asked<'c>(code: &'c Code, process: usize, thread: &Thread) -> Option<&'c Bund
 fn request_note(
     alloc: Global,
     names: &Names,
-    banker: &Banker,
+    bank: &Lender,
     bundle: &Bundle,
 ) -> Result<String, AllocError> {
     for i in 0..bundle.len() {
         let pair = bundle.get(i);
-        if let Some(cash) = short_cash(banker, pair) {
+        if let Some(cash) = short_cash(bank, pair) {
             return cash_note(alloc, names, pair, cash);
         }
     }
@@ -220,12 +220,12 @@ fn request_note(
 }
 
 // Returns the cash of a resource, if it is less than what is asked for.
-fn short_cash(banker: &Banker, asked: Pair) -> Option<u32> {
+fn short_cash(bank: &Lender, asked: Pair) -> Option<u32> {
     let resource = usize::from(asked.resource);
-    if banker.resources() <= resource {
+    if bank.resources() <= resource {
         return None;
     }
-    let cash = banker.cash(resource);
+    let cash = bank.cash(resource);
     if cash < asked.amount {
         Some(cash)
     } else {

@@ -83,11 +83,11 @@ fn shows(
 
 /// Returns what a process holds of a resource, if both are there.
 fn loan(machine: &Machine, p: usize, r: usize) -> Option<u32> {
-    let banker = machine.banker();
-    if p >= banker.processes() || r >= banker.resources() {
+    let bank = machine.lender();
+    if p >= bank.processes() || r >= bank.resources() {
         return None;
     }
-    Some(banker.loan(p, r))
+    Some(bank.loan(p, r))
 }
 
 /// Returns the state of an arm and its place, if there is such an arm.

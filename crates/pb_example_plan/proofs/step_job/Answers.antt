@@ -1,4 +1,5 @@
 use Rattle.std.proofs.Common.{◌∙◌, arith, refl, subst}
+use Rattle.pb_base.specs.declared.lending.Lending.TheVariants.{ByBanker}
 use Rattle.pb_code.specs.Reached.{CodeStays}
 use Rattle.pb_machine.specs.Views.{machine_view}
 use Rattle.pb_example_plan.proofs.TriedPicks.{one_more_arm}
@@ -13,12 +14,12 @@ overflow_cast-pick c =
 pub loop-arm-preserved : goal.loop-arm-preserved
 loop-arm-preserved c =
     let before = c.loop-arm.invariant in
-    let stays = c.in-NotEnabled.ensures.step in (
+    let stays = c.in-NotEnabled.ensures.step ByBanker before.2 in (
       one_more_arm c.args.verified.now.code (machine_view c.args.machine.now) c.args.job c.loop-arm.arm (record {
         process = c.args.job;
         arm = c.loop-arm.arm;
       }) before.0 refl refl
           (subst (λ s. CodeStays c.args.verified.now.code s (record { process = c.args.job; arm = c.loop-arm.arm })) before.1 stays.0),
       stays.1 ∙ before.1,
-      c.in-NotEnabled.ensures.machine,
+      c.step.ensures.machine ByBanker before.2,
     )

@@ -94,7 +94,7 @@ invariant_of-self-then-made-allowance g c =
     let processes = c.exchange.ensures.processes
     ∙ ap (λ (x : Spare). set (machine_view c.self.inside.machine).processes c.from-process.result (proc_view x.state)) was in
     let view = set_view c.self.inside.machine c.exchange.new.machine c.from-process.result lent.pick.process lent.state
-    c.from-process.ensures processes c.exchange.ensures.banker in
+    c.from-process.ensures processes c.exchange.ensures.bank in
     let entries = c.push_silent.ensures.entries ∙ ap (λ (es : List Entry). es ++ silent_picks lent.pick lent.made) c.reserve.ensures.same in
     let of : IsSpareOf code lent.pick.process c.deref-lent.result.now = rw (← c.deref-lent.ensures) at c.stretch.invariant.spare in
     let there = subst (λ (p : ℕ). IsSpareOf code p c.deref-lent.result.now) (sym c.from-process.ensures) of in
@@ -138,7 +138,7 @@ invariant_of-self-2 g c =
     let processes = c.exchange.ensures.processes
     ∙ ap (λ (x : Spare). set (machine_view c.self.inside.machine).processes c.from-process.result (proc_view x.state)) was in
     let view = set_view c.self.inside.machine c.exchange.new.machine c.from-process.result lent.pick.process lent.state
-    c.from-process.ensures processes c.exchange.ensures.banker in
+    c.from-process.ensures processes c.exchange.ensures.bank in
     let entries = c.push_silent.ensures.entries ∙ ap (λ (es : List Entry). es ++ silent_picks lent.pick lent.made) c.reserve.ensures.same in
     let of : IsSpareOf code lent.pick.process c.deref-lent.result.now = rw (← c.deref-lent.ensures) at c.stretch.invariant.spare in
     let there = subst (λ (p : ℕ). IsSpareOf code p c.deref-lent.result.now) (sym c.from-process.ensures) of in
