@@ -4,3 +4,4 @@ pub mod OutcomeLemmas
 pub mod PrintedOutcomes
 pub mod SourceLaw
 pub mod SourceOutcomeLemmas
+pub mod WantedLemmas

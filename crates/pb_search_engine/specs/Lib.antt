@@ -1,5 +1,9 @@
 pub mod DeadlockLines
+pub mod Expected
 pub mod OutcomeLines
+pub mod PrintLines
+pub mod SaysExpected
+pub mod SaysOfAll
 pub mod SaysOutcomes
 pub mod Showing
 pub mod SourceOutcomes

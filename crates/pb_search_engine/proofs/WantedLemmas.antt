@@ -1,0 +1,86 @@
+-- Prints that are compared with those that are wanted.
+use Rattle.std.proofs.Common.{◌≡◌, ◌≢◌, ℕ, zero, suc, ◌+◌, ◌<◌, ◌≤◌, Bool, true, false, ◌&&◌, cond, List, [], ◌∷◌, ◌++◌}
+use Rattle.std.proofs.Common.{length, length-append, append-nil, take, refl, sym, ap, subst, ◌∙◌, arith, Some}
+use Rattle.std.specs.Prelude.{ℤ, slice_get, ◌==◌}
+use Rattle.std.specs.Bool.{Decides}
+use Rattle.std.specs.List.{sum_by}
+use Rattle.std.specs.List.Sorted.{IsPermutation}
+use Rattle.std.specs.Ordering.{int_eq}
+use Rattle.std.proofs.lemmas.Bool.Decides.{Decides-and, Decides-eqb, Decides-int_eq, Decides-like}
+use Rattle.std.proofs.lemmas.List.{take_all}
+use Rattle.std.proofs.lemmas.List.Sorted.{length_permutation, sum_by-IsPermutation}
+use Rattle.std.proofs.lemmas.List.Sums.{sum_by-append, sum_by-cons}
+use Rattle.pb_base.specs.declared.pick.Pick.{Pick}
+use Rattle.pb_search_stages.specs.declared.print.Print.{Print}
+
+-- what `==` computes of two prints
+abbrev pub same_print : Print → Print → Bool
+same_print a b = ((a.pick.process == b.pick.process) && (a.pick.arm == b.pick.arm)) && int_eq a.value b.value
+
+print_of : ℕ → ℕ → ℤ → Print
+print_of process arm value = record { pick = record { process = process; arm = arm }; value = value }
+
+pub same_decides : (a b : Print) → Decides (same_print a b) (a ≡ b)
+unfolding print_of
+same_decides a b =
+    Decides-like (same_print a b)
+    (λ h. ap (λ n. print_of n a.pick.arm a.value) h.0.0 ∙ (ap (λ n. print_of b.pick.process n a.value) h.0.1
+    ∙ ap (λ v. print_of b.pick.process b.pick.arm v) h.1))
+    (λ e. ((ap (λ (p : Print). p.pick.process) e, ap (λ (p : Print). p.pick.arm) e), ap (λ (p : Print). p.value) e))
+    (Decides-and ((a.pick.process == b.pick.process) && (a.pick.arm == b.pick.arm)) (int_eq a.value b.value)
+    (Decides-and (a.pick.process == b.pick.process) (a.pick.arm == b.pick.arm) (Decides-eqb a.pick.process b.pick.process)
+    (Decides-eqb a.pick.arm b.pick.arm))
+    (Decides-int_eq a.value b.value))
+
+-- 1 for this print, and 0 for others
+times : Print → Print → ℕ
+times p q = cond (same_print p q) 1 0
+
+one_time : (p : Print) → times p p ≡ 1
+unfolding times
+one_time p = ap (λ b. cond b 1 0) ((same_decides p p).1 refl)
+
+no_time_at : (p q : Print) (b : Bool) → same_print p q ≡ b → (p ≡ q → ⊥) → times p q ≡ 0
+unfolding times
+no_time_at p q true is other = absurd (other ((same_decides p q).0 is))
+no_time_at p q false is other = ap (λ b. cond b 1 0) is
+
+no_time : (p q : Print) → (p ≡ q → ⊥) → times p q ≡ 0
+no_time p q other = no_time_at p q (same_print p q) refl other
+
+-- a print that is not in a list is there no time
+not_there : (p : Print) (xs : List Print) → ((at : ℕ) → slice_get xs at ≢ Some p) → sum_by (times p) xs ≡ 0
+not_there p [] none = refl
+not_there p (x ∷ xs) none =
+    let first = no_time p x (λ e. none 0 (ap Some (sym e))) in
+    let more = not_there p xs (λ at. none (suc at)) in
+    let all = sum_by-cons (times p) x xs in
+    omega (arith, first, more, all)
+
+-- if one that is next is not among those that are left, the prints are not the wanted ones
+pub not_permuted : (wanted done left rest : List Print) (p : Print) → IsPermutation wanted (done ++ left)
+    → ((at : ℕ) → slice_get left at ≢ Some p) → IsPermutation wanted (done ++ p ∷ rest) → ⊥
+not_permuted wanted done left rest p h none g =
+    let a = sum_by-IsPermutation (times p) wanted (done ++ left) h in
+    let b = sum_by-IsPermutation (times p) wanted (done ++ p ∷ rest) g in
+    let c = sum_by-append (times p) done left in
+    let d = sum_by-append (times p) done (p ∷ rest) in
+    let e = not_there p left none in
+    let f = one_time p in
+    let s = sum_by-cons (times p) p rest in
+    omega (arith, a, b, c, d, e, f, s)
+
+empty_is : (xs : List Print) → length xs ≡ 0 → xs ≡ []
+empty_is [] e = refl
+empty_is (x ∷ xs) e = absurd (omega (arith, e))
+
+-- when all prints were found, none is left
+pub nothing_left : (wanted prints left : List Print) (i : ℕ) → length wanted ≡ length prints → length prints ≤ i
+    → IsPermutation wanted (take i prints ++ left) → IsPermutation wanted prints
+nothing_left wanted prints left i same end h =
+    let all : take i prints ≡ prints = take_all i prints (omega arith) in
+    let whole : IsPermutation wanted (prints ++ left) = subst (λ (l : List Print). IsPermutation wanted (l ++ left)) all h in
+    let long = length_permutation wanted (prints ++ left) whole in
+    let sum = length-append prints left in
+    let none : length left ≡ 0 = omega (arith, same, long, sum) in
+    subst (IsPermutation wanted) (ap (λ (l : List Print). prints ++ l) (empty_is left none) ∙ append-nil prints) whole
