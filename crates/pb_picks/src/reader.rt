@@ -41,7 +41,7 @@ pub fn read_picks(alloc: Global, code: &Code, text: &[u8]) -> Result<Vec<Counted
 }
 
 /// Splits a text into its first line, without the line feed, and the rest.
-pub fn first_line(text: &[u8]) -> (&[u8], &[u8])
+fn first_line(text: &[u8]) -> (&[u8], &[u8])
     ensures { IsFirstLine text.now result.0.now result.1.now }
 {
     match split_first(text, b'\n') {

@@ -1,14 +1,15 @@
 -- Prints that are compared with those that are wanted.
 use Rattle.std.proofs.Common.{◌≡◌, ◌≢◌, ℕ, zero, suc, ◌+◌, ◌<◌, ◌≤◌, Bool, true, false, ◌&&◌, cond, List, [], ◌∷◌, ◌++◌}
-use Rattle.std.proofs.Common.{length, length-append, append-nil, take, refl, sym, ap, subst, ◌∙◌, arith, Some}
-use Rattle.std.specs.Prelude.{ℤ, slice_get, ◌==◌}
+use Rattle.std.proofs.Common.{length, length-append, append-nil, get_or, drop, take, refl, sym, ap, subst, ◌∙◌, arith, Some}
+use Rattle.std.specs.Prelude.{ℤ, IsTrue, slice_get, ◌==◌}
 use Rattle.std.specs.Bool.{Decides}
-use Rattle.std.specs.List.{sum_by}
+use Rattle.std.specs.List.{remove, sum_by}
 use Rattle.std.specs.List.Sorted.{IsPermutation}
 use Rattle.std.specs.Ordering.{int_eq}
 use Rattle.std.proofs.lemmas.Bool.Decides.{Decides-and, Decides-eqb, Decides-int_eq, Decides-like}
-use Rattle.std.proofs.lemmas.List.{take_all}
-use Rattle.std.proofs.lemmas.List.Sorted.{length_permutation, sum_by-IsPermutation}
+use Rattle.std.proofs.lemmas.List.{drop_more, take-append-drop, take_all, take_more}
+use Rattle.std.proofs.lemmas.Option.{get_or_from_slice_get, slice_get_within}
+use Rattle.std.proofs.lemmas.List.Sorted.{IsPermutation-more, length_permutation, sum_by-IsPermutation}
 use Rattle.std.proofs.lemmas.List.Sums.{sum_by-append, sum_by-cons}
 use Rattle.pb_base.specs.declared.pick.Pick.{Pick}
 use Rattle.pb_search_stages.specs.declared.print.Print.{Print}
@@ -84,3 +85,28 @@ nothing_left wanted prints left i same end h =
     let sum = length-append prints left in
     let none : length left ≡ 0 = omega (arith, same, long, sum) in
     subst (IsPermutation wanted) (ap (λ (l : List Print). prints ++ l) (empty_is left none) ∙ append-nil prints) whole
+
+-- one print more was found, and is no longer left
+pub more_found : (wanted prints left after : List Print) (i at : ℕ) (d : Print) → i < length prints
+    → slice_get left at ≡ Some (get_or prints i d) → after ≡ remove left at → IsPermutation wanted (take i prints ++ left)
+    → IsPermutation wanted (take (i + 1) prints ++ after)
+more_found wanted prints left after i at d within there removed h =
+    let x = get_or prints i d in
+    let lt = slice_get_within left at x there in
+    let same = get_or_from_slice_get left at x x there in
+    let whole = IsPermutation-more wanted (take i prints) left at x lt (sym same) h in
+    subst (λ (l : List Print). IsPermutation wanted (l ++ after)) (sym (take_more prints i d within))
+    (subst (λ (l : List Print). IsPermutation wanted ((take i prints ++ x ∷ []) ++ l)) (sym removed) whole)
+
+-- one print more is not among those that are left
+pub not_found : (wanted prints left : List Print) (i : ℕ) (d : Print) → i < length prints
+    → ((at : ℕ) → slice_get left at ≢ Some (get_or prints i d)) → IsPermutation wanted (take i prints ++ left)
+    → IsPermutation wanted prints → ⊥
+not_found wanted prints left i d within none h all =
+    let x = get_or prints i d in
+    let parts : prints ≡ take i prints ++ x ∷ drop (i + 1) prints =
+    sym (take-append-drop i prints) ∙ ap (λ (l : List Print). take i prints ++ l) (drop_more prints i d within) in
+    not_permuted wanted (take i prints) left (drop (i + 1) prints) x h none (subst (IsPermutation wanted) parts all)
+
+pub not_so : IsTrue false → ⊥
+not_so is = cc

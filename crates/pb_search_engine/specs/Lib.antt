@@ -1,5 +1,6 @@
 pub mod DeadlockLines
 pub mod Expected
+pub mod ExpectedLaws
 pub mod OutcomeLines
 pub mod PrintLines
 pub mod SaysExpected

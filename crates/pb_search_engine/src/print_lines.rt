@@ -13,7 +13,6 @@ ghost use Rattle.pb_search_stages.specs.declared.print.Print.{Print as AnyPrint}
 use itoa::Buffer;
 use pb_base::Pick;
 use pb_code::Code;
-use pb_picks::reader::first_line;
 use pb_search_stages::Print;
 use std::alloc::{AllocFailed, Global};
 
@@ -55,6 +54,18 @@ pub fn read_prints(alloc: Global, code: &Code, text: &[u8]) -> Result<Vec<Print>
         rest = after;
     }
     Ok(prints)
+}
+
+// Splits a text into its first line, without the line feed, and the rest.
+fn first_line(text: &[u8]) -> (&[u8], &[u8])
+    ensures { IsFirstLine text.now result.0.now result.1.now }
+{
+    for end in 0..text.len() {
+        if text[end] == b'\n' {
+            return (&text[..end], &text[end + 1..]);
+        }
+    }
+    (text, &text[text.len()..])
 }
 
 // Returns the print that a line says, if it says one.
