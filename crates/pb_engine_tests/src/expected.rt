@@ -140,7 +140,7 @@ const CASES: [Case; 14] = [
         lend: Lend::Banker,
         any_order: false,
         states: 1_000,
-        said: b"refused P1 at 36\n",
+        said: b"refused P1 at 35\n",
         status: Status::Refused,
     },
 ];

@@ -1,18 +1,24 @@
 -- Prints that are compared with those that are wanted.
-use Rattle.std.proofs.Common.{◌≡◌, ◌≢◌, ℕ, zero, suc, ◌+◌, ◌<◌, ◌≤◌, Bool, true, false, ◌&&◌, cond, List, [], ◌∷◌, ◌++◌}
+use Rattle.std.proofs.Common.{◌≡◌, ◌≢◌, ℕ, zero, suc, ◌+◌, ◌<◌, ◌≤◌, Bool, true, false, ◌&&◌, cond, map, List, [], ◌∷◌, ◌++◌}
 use Rattle.std.proofs.Common.{length, length-append, append-nil, get_or, drop, take, refl, sym, ap, subst, ◌∙◌, arith, Some}
-use Rattle.std.specs.Prelude.{ℤ, IsTrue, slice_get, ◌==◌}
+use Rattle.std.specs.Prelude.{ℤ, All, IsTrue, slice_get, ◌==◌}
 use Rattle.std.specs.Bool.{Decides}
 use Rattle.std.specs.List.{remove, sum_by}
 use Rattle.std.specs.List.Sorted.{IsPermutation}
 use Rattle.std.specs.Ordering.{int_eq}
 use Rattle.std.proofs.lemmas.Bool.Decides.{Decides-and, Decides-eqb, Decides-int_eq, Decides-like}
-use Rattle.std.proofs.lemmas.List.{drop_more, take-append-drop, take_all, take_more}
+use Rattle.std.proofs.lemmas.List.{drop_more, get_or-map, length-map, take-append-drop, take_all, take_more}
+use Rattle.std.proofs.lemmas.List.Elements.{All-push}
 use Rattle.std.proofs.lemmas.Option.{get_or_from_slice_get, slice_get_within}
 use Rattle.std.proofs.lemmas.List.Sorted.{IsPermutation-more, length_permutation, sum_by-IsPermutation}
 use Rattle.std.proofs.lemmas.List.Sums.{sum_by-append, sum_by-cons}
 use Rattle.pb_base.specs.declared.pick.Pick.{Pick}
 use Rattle.pb_search_stages.specs.declared.print.Print.{Print}
+use Rattle.pb_search.specs.Outcomes.{Found, found_view, process_outcome_view}
+use Rattle.pb_search.specs.declared.found.Found.{Found as GivenFound}
+use Rattle.pb_search.specs.declared.found.ProcessOutcome.{ProcessOutcome as GivenOutcome}
+use Rattle.pb_search_engine.specs.Expected.{ArePrints, HasNoFault, IsFirstOther, IsWanted}
+use Rattle.pb_search_stages.specs.Reaching.{ProcessOutcome}
 
 -- what `==` computes of two prints
 abbrev pub same_print : Print → Print → Bool
@@ -110,3 +116,57 @@ not_found wanted prints left i d within none h all =
 
 pub not_so : IsTrue false → ⊥
 not_so is = cc
+
+-- what holds of one more holds of all up to it
+pub all_more : {A B : Type 0} (view : A → B) (Q : B → Type 0) (xs : List A) (i : ℕ) (x : A) → i < length xs → x ≡ get_or xs i x
+    → All Q (take i (map view xs)) → Q (view x) → All Q (take (i + 1) (map view xs))
+all_more view Q xs i x within at before one =
+    let views = map view xs in
+    let size = length-map xs view in
+    let there = get_or-map view xs i x (view x) within ∙ ap view (sym at) in
+    subst (All Q) (ap (λ g. take i views ++ g ∷ []) (sym there) ∙ sym (take_more views i (view x) (omega (arith, within, size))))
+    (All-push Q (take i views) (view x) before one)
+
+-- and what holds of all up to the end holds of all
+pub all_there : {A B : Type 0} (view : A → B) (Q : B → Type 0) (xs : List A) (i : ℕ) → length xs ≤ i → All Q (take i (map view xs)) → All Q (map view xs)
+all_there view Q xs i end before =
+    let size = length-map xs view in
+    subst (All Q) (take_all i (map view xs) (omega (arith, end, size))) before
+
+-- where a process has faulted it is not so that none has
+pub has_faulted : (outcome : List GivenOutcome) (p : ℕ) (x : GivenOutcome) → p < length outcome → x ≡ get_or outcome p x → x.faulted ≡ true
+    → HasNoFault (map process_outcome_view outcome) → ⊥
+has_faulted outcome p x within at faulted none =
+    let size = length-map outcome process_outcome_view in
+    let here = none p (process_outcome_view x) (omega (arith, within, size)) in
+    let same : (get_or (map process_outcome_view outcome) p (process_outcome_view x)).faulted ≡ x.faulted =
+    ap (λ o. o.faulted) (get_or-map process_outcome_view outcome p x (process_outcome_view x) within ∙ ap process_outcome_view (sym at)) in
+    let both : true ≡ false = sym faulted ∙ (sym same ∙ here) in
+    cc
+
+-- the first that is not wanted
+pub first_is : (any_order : Bool) (wanted : List Print) (found : List GivenFound) (i : ℕ) (x : GivenFound) → i < length found
+    → x ≡ get_or found i x → (IsWanted any_order wanted (found_view x).outcome → ⊥)
+    → All (λ f. IsWanted any_order wanted f.outcome) (take i (map found_view found))
+    → IsFirstOther any_order wanted (map found_view found) i
+first_is any_order wanted found i x within at other before =
+    let size = length-map found found_view in
+    let inside : i < length (map found_view found) = omega (arith, within, size) in
+    let there = get_or-map found_view found i x (found_view x) within ∙ ap found_view (sym at) in
+    record {
+      there = inside;
+      other = λ f is h.
+          let same : f ≡ found_view x = sym (get_or_from_slice_get (map found_view found) i f (found_view x) is) ∙ there in
+          other (subst (λ (g : Found). IsWanted any_order wanted g.outcome) same h);
+      before = before;
+    }
+
+-- prints that are compared one by one
+pub listed : (any_order : Bool) (wanted prints shown : List Print) (processes : List ProcessOutcome) (r : Bool) → any_order ≡ false
+    → HasNoFault processes → shown ≡ prints → Decides r (shown ≡ wanted)
+    → (IsTrue r → HasNoFault processes × ArePrints any_order wanted prints)
+    × (IsWanted any_order wanted (record { processes = processes; prints = prints }) → IsTrue r)
+listed any_order wanted prints shown processes r in_order none same decides = (
+  λ is. (none, subst (λ (b : Bool). ArePrints b wanted prints) (sym in_order) (sym same ∙ decides.0 is)),
+  λ is. decides.1 (same ∙ subst (λ (b : Bool). ArePrints b wanted prints) in_order is.1),
+)

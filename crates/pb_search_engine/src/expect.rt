@@ -86,7 +86,7 @@ fn compared(
     wanted: Wanted<'_>,
 ) -> Result<Reply, NoMemory>
     requires { AreLabels compiled.now.verified.code compiled.now.labels }
-    ensures { IfOk result (λ r. SaysOfRuns (lending_for options.lend) wanted.any_order wanted.entry.prints.now
+    ensures { IfOk result (λ r. SaysOfRuns (lending_for options.lend) wanted.entry.any_order wanted.entry.prints.now
         compiled.now.verified.code compiled.now.labels options.states r.text.items r.status) }
 {
     let verified = compiled.verified();

@@ -25,8 +25,8 @@ pub fn first_other(
     wanted: Wanted<'_>,
     found: &[Found],
 ) -> Result<Option<usize>, NoMemory>
-    ensures some { IfOk result (λ at. IfSome at (IsFirstOther wanted.any_order wanted.entry.prints.now (map found_view found.now))) }
-    ensures none { IfOk result (λ at. IfNone at (All (λ f. IsWanted wanted.any_order wanted.entry.prints.now f.outcome) (map found_view found.now))) }
+    ensures some { IfOk result (λ at. IfSome at (IsFirstOther wanted.entry.any_order wanted.entry.prints.now (map found_view found.now))) }
+    ensures none { IfOk result (λ at. IfNone at (All (λ f. IsWanted wanted.entry.any_order wanted.entry.prints.now f.outcome) (map found_view found.now))) }
 {
     for i in 0..found.len() {
         if !is_wanted(alloc, wanted, &found[i])? {
@@ -38,7 +38,7 @@ pub fn first_other(
 
 // Returns whether an outcome is wanted.
 fn is_wanted(alloc: Global, wanted: Wanted<'_>, found: &Found) -> Result<bool, NoMemory>
-    ensures { IfOk result (λ is. IsTrue is ↔ IsWanted wanted.any_order wanted.entry.prints.now (found_view found.now).outcome) }
+    ensures { IfOk result (λ is. IsTrue is ↔ IsWanted wanted.entry.any_order wanted.entry.prints.now (found_view found.now).outcome) }
 {
     if has_fault(&found.outcome) {
         return Ok(false);
@@ -53,8 +53,8 @@ fn is_wanted(alloc: Global, wanted: Wanted<'_>, found: &Found) -> Result<bool, N
 pub fn has_fault(outcome: &[ProcessOutcome]) -> bool
     ensures { result ≡ false ↔ HasNoFault (map process_outcome_view outcome.now) }
 {
-    for process in outcome {
-        if process.faulted {
+    for p in 0..outcome.len() {
+        if outcome[p].faulted {
             return true;
         }
     }
