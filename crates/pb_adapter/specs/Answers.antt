@@ -14,11 +14,6 @@ use Rattle.pb_adapter_requests.specs.declared.kind.Kind.TheVariants as kind
 use Rattle.pb_adapter.specs.Moves.{StopPlace, StopsAt, stopped_data}
 use Rattle.pb_adapter.specs.Values.{capabilities_data, scopes_data, stack_data, threads_data, variables_data}
 
--- what a session has answered in memory, and how many writes of it have failed
-pub record SaidBytes : Type 0 where
-  pub bytes : List ℕ
-  pub failures : ℕ
-
 -- what a client has set and what is shown to it: the lines to stop at, and the path of the text
 pub record Client : Type 0 where
   pub lines : List ℕ

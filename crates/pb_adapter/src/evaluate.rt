@@ -6,9 +6,9 @@ ghost use Rattle.pb_debug_commands.specs.Lines.{lines_of};
 ghost use Rattle.pb_debug.specs.Sessions.{Session, session_bytes};
 ghost use Rattle.pb_adapter.specs.Answers.{result_data};
 
-use crate::said::Said;
 use pb_base::NoMemory;
 use pb_base::device::MemoryInput;
+use pb_conversations::Said;
 use pb_debug::Debugger;
 use serde_json::{Value, json};
 use std::alloc::Global;

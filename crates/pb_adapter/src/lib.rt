@@ -9,7 +9,8 @@ pub mod arms;
 pub mod evaluate;
 pub mod moves;
 pub mod names;
-pub mod said;
+pub mod session;
 pub mod variables;
 
-pub use answer::answer_request;
+pub use answer::{Client, answer_request, capabilities};
+pub use session::Session;

@@ -14,7 +14,7 @@ pub struct Said {
 }
 
 impl Model for Said {
-    ghost use Rattle.pb_adapter.specs.Answers.{SaidBytes};
+    ghost use Rattle.pb_conversations.specs.Conversations.{SaidBytes};
 
     ghost Value = { SaidBytes };
 

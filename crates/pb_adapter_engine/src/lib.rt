@@ -1,0 +1,7 @@
+//! The engine behind the command `dap`: the Debug Adapter Protocol over any input and output.
+#![tactic(auto)]
+
+pub mod adapter;
+pub mod waiting;
+
+pub use adapter::adapter_engine;

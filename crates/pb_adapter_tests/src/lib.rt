@@ -1,0 +1,4 @@
+//! Tests of the debug adapter, by the bytes of conversations.
+#![tactic(auto)]
+
+mod conversations;
