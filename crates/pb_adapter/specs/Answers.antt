@@ -1,7 +1,6 @@
 -- What is answered to a request, at the position of a debugger, and where the debugger then is.
-use Rattle.std.specs.Prelude.{◌≡◌, ◌⊎◌, ◌×◌, ℕ, ◌+◌, List, [], ◌∷◌, Option, Some, None, codes, cond, nat_eq, ⊥}
-use Rattle.std.specs.Str.Lossy.{utf8_lossy}
-use Rattle.serde_json.specs.Data.{Data, null, number, string, object, unsigned, no_members, member}
+use Rattle.std.specs.Prelude.{◌≡◌, ◌⊎◌, ◌×◌, ℕ, ◌+◌, List, [], ◌∷◌, Option, Some, None, codes, cond, nat_eq}
+use Rattle.serde_json.specs.Data.{Data, null}
 use Rattle.pb_debug_commands.specs.Lines.{lines_of}
 use Rattle.pb_debug.specs.Sessions.{Session, session_bytes}
 use Rattle.pb_debug.specs.Value.{Debugging, moved_to}
@@ -12,7 +11,8 @@ use Rattle.pb_adapter_requests.specs.Responses.{done_data, event_data, refused_d
 use Rattle.pb_adapter_requests.specs.declared.kind.Kind.{Kind}
 use Rattle.pb_adapter_requests.specs.declared.kind.Kind.TheVariants as kind
 use Rattle.pb_adapter.specs.Moves.{StopPlace, StopsAt, stopped_data}
-use Rattle.pb_adapter.specs.Values.{capabilities_data, scopes_data, stack_data, threads_data, variables_data}
+use Rattle.pb_adapter.specs.Values.{stack_data, threads_data, variables_data}
+use Rattle.pb_adapter_values.specs.Values.{capabilities_data, result_data, scopes_data}
 
 -- what a client has set and what is shown to it: the lines to stop at, and the path of the text
 pub record Client : Type 0 where
@@ -38,11 +38,6 @@ GoesOn d c seq r kind told next c' =
 abbrev pub event_if_moved : (seq : ℕ) → (d next : Debugging) → List Data
 event_if_moved seq d next = cond (nat_eq d.position next.position) [] (stopped_data seq next (codes "goto") ∷ [])
 
--- the text that a session answers
-abbrev pub result_data : List ℕ → Data
-result_data text = object (member (codes "result") (string (utf8_lossy text))
-    (member (codes "variablesReference") (number (unsigned 0)) no_members))
-
 -- the command lines of a session are answered
 abbrev pub Evaluates : Debugging → Client → ℕ → Asked → Option (List ℕ) → List Data → Debugging → Client → Type 0
 Evaluates d c seq r None told next c' = Refuses d c seq r (codes "there is no expression") told next c'
@@ -65,7 +60,7 @@ AnswersKind kind.Threads d c seq r told next c' = Shows d c seq r (threads_data 
 AnswersKind kind.StackTrace d c seq r told next c' =
     Shows d c seq r (stack_data d c.path (place_of (number_of (codes "threadId") r))) told next c'
 AnswersKind kind.Scopes d c seq r told next c' =
-    Shows d c seq r (scopes_data (place_of (number_of (codes "frameId") r))) told next c'
+    Shows d c seq r (scopes_data (place_of (number_of (codes "frameId") r)).process) told next c'
 AnswersKind kind.Variables d c seq r told next c' =
     Shows d c seq r (variables_data d (number_of (codes "variablesReference") r)) told next c'
 AnswersKind kind.Evaluate d c seq r told next c' = Evaluates d c seq r (text_of (codes "expression") r) told next c'

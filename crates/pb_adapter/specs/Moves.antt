@@ -1,7 +1,6 @@
 -- Where a request moves the run, and what is told of that.
-use Rattle.std.specs.Prelude.{◌≡◌, ℕ, zero, suc, ◌+◌, ◌-◌, ◌++◌, List, [], ◌∷◌, length, Option, Some, None, codes, true, cond, nat_eq, slice_get, ⊥}
-use Rattle.std.specs.Fmt.{decimal}
-use Rattle.serde_json.specs.Data.{Data, boolean, number, string, object, unsigned, no_members, member}
+use Rattle.std.specs.Prelude.{◌≡◌, ℕ, zero, suc, ◌+◌, ◌-◌, List, [], ◌∷◌, length, Option, Some, None, codes, slice_get}
+use Rattle.serde_json.specs.Data.{Data}
 use Rattle.pb_base.specs.declared.pick.Pick.{Pick}
 use Rattle.pb_debug.specs.Value.{Debugging}
 use Rattle.pb_debug_positions.specs.Searches.{IsFirst, IsLast}
@@ -10,7 +9,7 @@ use Rattle.pb_adapter_requests.specs.Requests.{Place}
 use Rattle.pb_adapter_requests.specs.Responses.{event_data}
 use Rattle.pb_adapter_requests.specs.declared.kind.Kind.{Kind}
 use Rattle.pb_adapter_requests.specs.declared.kind.Kind.TheVariants as kind
-use Rattle.pb_adapter.specs.Values.{thread_number}
+use Rattle.pb_adapter_values.specs.Values.{body_at, thread_number}
 use Rattle.pb_adapter.specs.declared.moves.Stop.{Stop}
 
 -- a position, and why the run stops there
@@ -81,12 +80,6 @@ pick_before picks zero = None
 pick_before picks (suc k) = slice_get picks k
 
 -- what the event says: where the run stands, and why
-abbrev pub body_at : (position : ℕ) → (reason : List ℕ) → (thread : ℕ) → Data
-body_at position reason thread = object (member (codes "allThreadsStopped") (boolean true)
-    (member (codes "description") (string (codes "position " ++ decimal position))
-    (member (codes "reason") (string reason)
-    (member (codes "threadId") (number (unsigned thread)) no_members))))
-
 abbrev pub stopped_body : Debugging → List ℕ → Data
 stopped_body d reason = body_at d.position reason (thread_of (pick_before d.picks d.position))
 

@@ -9,23 +9,24 @@ ghost use Rattle.pb_debug.specs.Value.{moved_to};
 ghost use Rattle.pb_adapter_requests.specs.Breakpoints.{asked_lines as asked_by, breakpoints_data};
 ghost use Rattle.pb_adapter_requests.specs.Requests.{request_view, text_of as text_asked};
 ghost use Rattle.pb_adapter_requests.specs.Responses.{done_data, event_data, refused_data, told_by};
-ghost use Rattle.pb_adapter.specs.Answers.{Answers, AnswersKind, Client as AnyClient, Evaluates, event_if_moved, result_data};
+ghost use Rattle.pb_adapter.specs.Answers.{Answers, AnswersKind, Client as AnyClient, Evaluates, event_if_moved};
 ghost use Rattle.pb_adapter.specs.Moves.{stop_at, stopped_data, stop_view};
-ghost use Rattle.pb_adapter.specs.Values.{capabilities_data};
+ghost use Rattle.pb_adapter_values.specs.Values.{result_data};
 
 use crate::arms::{stack, threads};
 use crate::evaluate::evaluate;
 use crate::moves::{START, Stop, last_breakpoint, last_line, next_breakpoint, next_line, stopped};
-use crate::variables::{scopes, variables};
+use crate::variables::variables;
 use pb_adapter_requests::breakpoints::{asked_lines, breakpoints};
 use pb_adapter_requests::kind::kind_of;
 use pb_adapter_requests::request::{number_of, place_of, text_of};
 use pb_adapter_requests::response::{answered, done, event, refused, with_event};
 use pb_adapter_requests::{Kind, Reply, Request};
+use pb_adapter_values::{capabilities, scopes};
 use pb_base::NoMemory;
 use pb_debug::Debugger;
-use serde_json::{Value, json};
-use std::alloc::{AllocError, Global};
+use serde_json::Value;
+use std::alloc::Global;
 use std::marker::Model;
 
 /// What a client has set, and the path under which the text is shown to it.
@@ -42,18 +43,6 @@ impl Model for Client {
     ghost Value = { Client };
 
     ghost view = { λ c. record { lines = c.lines.items; path = c.path.bytes.items } };
-}
-
-/// Returns what the adapter can do.
-pub fn capabilities(alloc: Global) -> Result<Value, AllocError>
-    ensures { IfOk result (λ v. view v ≡ capabilities_data) }
-{
-    json!(in alloc; {
-        "supportsConfigurationDoneRequest": true,
-        "supportsRestartRequest": true,
-        "supportsStepBack": true,
-        "supportsTerminateRequest": true
-    })
 }
 
 // Returns the reply that a request is carried out, with what it asks for.

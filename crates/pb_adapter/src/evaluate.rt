@@ -4,22 +4,15 @@ ghost use Rattle.std.specs.Prelude.{◌≡◌, ℕ, List, IfOk};
 ghost use Rattle.serde_json.specs.View.{view};
 ghost use Rattle.pb_debug_commands.specs.Lines.{lines_of};
 ghost use Rattle.pb_debug.specs.Sessions.{Session, session_bytes};
-ghost use Rattle.pb_adapter.specs.Answers.{result_data};
+ghost use Rattle.pb_adapter_values.specs.Values.{result_data};
 
+use pb_adapter_values::result_body;
 use pb_base::NoMemory;
 use pb_base::device::MemoryInput;
 use pb_conversations::Said;
 use pb_debug::Debugger;
-use serde_json::{Value, json};
+use serde_json::Value;
 use std::alloc::Global;
-
-// Returns the text that a session answered.
-fn result_body(alloc: Global, text: &[u8]) -> Result<Value, NoMemory>
-    ensures { IfOk result (λ v. view v ≡ result_data text.now) }
-{
-    let shown = String::from_utf8_lossy(alloc, text)?;
-    Ok(json!(in alloc; {"result": shown, "variablesReference": 0u64})?)
-}
 
 /// Carries out the command lines of an expression, and returns what a session answers to them.
 pub fn evaluate(alloc: Global, debugger: &mut Debugger<'_>, words: &str) -> Result<Value, NoMemory>

@@ -8,9 +8,8 @@ pub mod answer;
 pub mod arms;
 pub mod evaluate;
 pub mod moves;
-pub mod names;
 pub mod session;
 pub mod variables;
 
-pub use answer::{Client, answer_request, capabilities};
+pub use answer::{Client, answer_request};
 pub use session::Session;

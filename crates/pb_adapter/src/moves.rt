@@ -7,12 +7,12 @@ ghost use Rattle.pb_adapter_requests.specs.Requests.{Place as AnyPlace};
 ghost use Rattle.pb_adapter.specs.Moves as spec;
 ghost use Rattle.pb_adapter.specs.Moves.{StopsAt, stop_view};
 
-use crate::names::thread_number;
 use pb_adapter_requests::Place;
 use pb_adapter_requests::response::event;
+use pb_adapter_values::{stopped_body, thread_number};
 use pb_base::NoMemory;
 use pb_debug::Debugger;
-use serde_json::{Value, json};
+use serde_json::Value;
 use std::alloc::Global;
 
 /// A position, and why the run stops there.
@@ -98,16 +98,6 @@ fn last_thread(debugger: &Debugger<'_>) -> u64
         Some(pick) => thread_number(usize::from(pick.process), usize::from(pick.arm)),
         None => 1,
     }
-}
-
-// Returns what the event that the run stands at a position says.
-fn stopped_body(alloc: Global, position: u32, reason: &str, thread: u64) -> Result<Value, NoMemory>
-    ensures { IfOk result (λ v. view v ≡ spec.body_at position reason.now thread) }
-{
-    let shown = format!(in alloc; "position {position}")?;
-    Ok(
-        json!(in alloc; {"reason": reason, "description": shown, "threadId": thread, "allThreadsStopped": true})?,
-    )
 }
 
 /// Returns the event that the run stands at the position.

@@ -1,50 +1,16 @@
-//! Integers, loans and cash as variables.
+//! The integers, loans and cash at the position.
 
-ghost use Rattle.std.specs.Prelude.{◌≡◌, ◌<◌, ◌^◌, ◌∷◌, [], IfOk, codes, map, slice_get};
-ghost use Rattle.std.specs.Fmt.{decimal, signed_decimal};
+ghost use Rattle.std.specs.Prelude.{◌≡◌, IfOk, map, slice_get};
 ghost use Rattle.serde_json.specs.View.{view};
-ghost use Rattle.pb_base.specs.Banker.{claim, loan, processes, resources};
-ghost use Rattle.pb_base.specs.Lines.{name_of};
 ghost use Rattle.pb_code.specs.View.{labels_view};
-ghost use Rattle.pb_adapter_requests.specs.Requests.{Place as AnyPlace};
-ghost use Rattle.pb_adapter_requests.specs.Responses.{list_below, listed};
 ghost use Rattle.pb_adapter.specs.Values as spec;
 
-use crate::names::name_at;
-use pb_banker::Banker;
+use pb_adapter_values::{all_cash, integers, loans_at, variables_body};
 use pb_base::NoMemory;
 use pb_code::Labels;
 use pb_debug::Debugger;
-use serde_json::{Value, json};
-use std::alloc::{AllocError, Global};
-
-// Returns a value with a name.
-fn variable(alloc: Global, name: &[u8], shown: &str) -> Result<Value, NoMemory>
-    ensures { IfOk result (λ v. view v ≡ spec.variable_data name.now shown.now) }
-{
-    let name = String::from_utf8_lossy(alloc, name)?;
-    Ok(json!(in alloc; {"name": name, "value": shown, "variablesReference": 0u64})?)
-}
-
-// Returns an integer with its name.
-fn integer(alloc: Global, name: &[u8], value: i64) -> Result<Value, NoMemory>
-    ensures { IfOk result (λ v. view v ≡ spec.variable_data name.now (signed_decimal value)) }
-{
-    let shown = format!(in alloc; "{value}")?;
-    variable(alloc, name, shown.as_str())
-}
-
-// Returns integers with these names.
-fn integers(alloc: Global, names: &[Vec<u8>], vars: &[i64]) -> Result<Vec<Value>, NoMemory>
-    ensures { IfOk result (λ list. map view list.items ≡ spec.integers_list (map (λ name. name.items) names.now) vars.now) }
-{
-    let mut list = Vec::new(alloc);
-    for i in 0..vars.len() {
-        let item = integer(alloc, name_at(names, i), vars[i])?;
-        list.push(item)?;
-    }
-    Ok(list)
-}
+use serde_json::Value;
+use std::alloc::Global;
 
 // Returns the names of the integers of a process.
 fn names_of(labels: &Labels, p: usize) -> &[Vec<u8>]
@@ -67,75 +33,6 @@ fn integers_at(alloc: Global, debugger: &Debugger<'_>, p: usize) -> Result<Vec<V
     }
 }
 
-// Returns a loan with the claim.
-fn loan(alloc: Global, name: &[u8], held: u32, claimed: u32) -> Result<Value, NoMemory>
-    ensures { IfOk result (λ v. view v ≡ spec.variable_data name.now (spec.loan_words held claimed)) }
-{
-    let shown = format!(in alloc; "{held} of claim {claimed}")?;
-    variable(alloc, name, shown.as_str())
-}
-
-// Returns the loans of a process.
-fn loans(
-    alloc: Global,
-    names: &[Vec<u8>],
-    banker: &Banker,
-    p: usize,
-) -> Result<Vec<Value>, NoMemory>
-    requires { p < processes banker.now.state }
-    ensures { IfOk result (λ list. map view list.items
-        ≡ list_below (λ r. spec.variable_data (name_of (map (λ name. name.items) names.now) r)
-        (spec.loan_words (loan banker.now.state p r) (claim banker.now.state p r))) (resources banker.now.state)) }
-{
-    let mut list = Vec::new(alloc);
-    for r in 0..banker.resources() {
-        let item = loan(
-            alloc,
-            name_at(names, r),
-            banker.loan(p, r),
-            banker.claim(p, r),
-        )?;
-        list.push(item)?;
-    }
-    Ok(list)
-}
-
-// Returns the loans of a process at the position.
-fn loans_at(
-    alloc: Global,
-    names: &[Vec<u8>],
-    banker: &Banker,
-    p: usize,
-) -> Result<Vec<Value>, NoMemory>
-    ensures { IfOk result (λ list. map view list.items ≡ spec.loans_list (map (λ name. name.items) names.now) banker.now.state p) }
-{
-    if p < banker.processes() {
-        loans(alloc, names, banker, p)
-    } else {
-        Ok(Vec::new(alloc))
-    }
-}
-
-// Returns an amount of cash.
-fn amount(alloc: Global, name: &[u8], cash: u32) -> Result<Value, NoMemory>
-    ensures { IfOk result (λ v. view v ≡ spec.variable_data name.now (decimal cash)) }
-{
-    let shown = format!(in alloc; "{cash}")?;
-    variable(alloc, name, shown.as_str())
-}
-
-// Returns the cash of each resource.
-fn all_cash(alloc: Global, names: &[Vec<u8>], banker: &Banker) -> Result<Vec<Value>, NoMemory>
-    ensures { IfOk result (λ list. map view list.items ≡ spec.cash_list (map (λ name. name.items) names.now) banker.now.state) }
-{
-    let mut list = Vec::new(alloc);
-    for r in 0..banker.resources() {
-        let item = amount(alloc, name_at(names, r), banker.cash(r))?;
-        list.push(item)?;
-    }
-    Ok(list)
-}
-
 // Returns what a reference names at the position.
 fn variables_of(
     alloc: Global,
@@ -154,13 +51,6 @@ fn variables_of(
     }
 }
 
-// Returns the list of variables.
-fn variables_body(alloc: Global, list: Vec<Value>) -> Result<Value, AllocError>
-    ensures { IfOk result (λ v. view v ≡ listed (codes "variables") (map view list.items)) }
-{
-    json!(in alloc; {"variables": list})
-}
-
 /// Returns the integers, the loans or the cash at the position that a reference names.
 pub fn variables(
     alloc: Global,
@@ -171,35 +61,4 @@ pub fn variables(
 {
     let list = variables_of(alloc, debugger, reference.unwrap_or(0))?;
     Ok(variables_body(alloc, list)?)
-}
-
-// Returns what can be shown under a name.
-fn scope(alloc: Global, name: &str, reference: u64) -> Result<Value, AllocError>
-    ensures { IfOk result (λ v. view v ≡ spec.scope_data name.now reference) }
-{
-    json!(in alloc; {"name": name, "variablesReference": reference, "expensive": false})
-}
-
-// Returns the list of scopes.
-fn scopes_body(
-    alloc: Global,
-    first: Value,
-    second: Value,
-    third: Value,
-) -> Result<Value, AllocError>
-    ensures { IfOk result (λ v. view v ≡ listed (codes "scopes") (view first ∷ view second ∷ view third ∷ [])) }
-{
-    json!(in alloc; {"scopes": [first, second, third]})
-}
-
-/// Returns what can be shown of a process: its integers, its loans and the cash.
-pub fn scopes(alloc: Global, p: usize) -> Result<Value, NoMemory>
-    requires { p < 2 ^ 63 }
-    ensures { IfOk result (λ v. (at : AnyPlace) → at.process ≡ p → view v ≡ spec.scopes_data at) }
-{
-    let number = p as u64;
-    let integers = scope(alloc, "Integers", number + 1)?;
-    let loans = scope(alloc, "Loans", number + 65)?;
-    let cash = scope(alloc, "Cash", 129)?;
-    Ok(scopes_body(alloc, integers, loans, cash)?)
 }

@@ -15,7 +15,7 @@ use Rattle.pb_command_io.specs.Parts.{AreTwoParts}
 use Rattle.pb_accept.specs.Refusals.{RefusesWith}
 use Rattle.pb_accept.specs.ReplayLines.{SaysOfNoPicks}
 use Rattle.pb_command_io.specs.declared.status.Status.{Status}
-use Rattle.pb_adapter.specs.Values.{capabilities_data}
+use Rattle.pb_adapter_values.specs.Values.{capabilities_data}
 use Rattle.pb_adapter_requests.specs.Kinds.{kind_of}
 use Rattle.pb_adapter_requests.specs.Requests.{Asked, text_of}
 use Rattle.pb_adapter_requests.specs.Responses.{done_data, event_data, refused_data}

@@ -15,11 +15,11 @@ ghost use Rattle.pb_code.specs.Code.{CodeProcess};
 
 use pb_accept::accept::{Refusal, compile_text};
 use pb_accept::replay::{LinesFault, lines_refusal};
-use pb_adapter::capabilities;
 use pb_adapter_requests::kind::kind_of;
 use pb_adapter_requests::request::text_of;
 use pb_adapter_requests::response::{answered, done, event, refused, with_event};
 use pb_adapter_requests::{Kind, Reply, Request};
+use pb_adapter_values::capabilities;
 use pb_base::NoMemory;
 use pb_codegen::Compiled;
 use pb_command_io::parts::two_parts;

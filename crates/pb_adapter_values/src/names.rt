@@ -2,7 +2,7 @@
 
 ghost use Rattle.std.specs.Prelude.{◌≡◌, ◌<◌, ◌≤◌, ◌^◌, IfOk, map};
 ghost use Rattle.pb_base.specs.Lines.{name_of};
-ghost use Rattle.pb_adapter.specs.Values as spec;
+ghost use Rattle.pb_adapter_values.specs.Values as spec;
 
 use pb_base::NoMemory;
 use std::alloc::Global;
