@@ -6,6 +6,8 @@ use Rattle.pb_words.specs.declared.words.Options.{Options}
 use Rattle.pb_words.specs.declared.words.Options.TheVariants as option
 use Rattle.pb_words.specs.declared.words.WordsFault.{WordsFault}
 use Rattle.pb_words.specs.declared.words.WordsFault.TheVariants as fault
+use Rattle.pb_adapter_engine.specs.Adapters as adapter
+use Rattle.pb_adapter_engine.specs.Adapters.{SaysOfAdapter}
 use Rattle.pb_bank_engine.specs.Sessions as bank
 use Rattle.pb_bank_engine.specs.Sessions.{SaysOfBank}
 use Rattle.pb_debug_engine.specs.Debugs.{SaysOfDebug}
@@ -48,6 +50,7 @@ abbrev pub CommandSays : Options → List ℕ → List ℕ → Status → Type 0
 CommandSays option.Bank = SaysOfBank
 CommandSays (option.Check numbers) = SaysOfInput SaysOfChecks
 CommandSays option.Claims = SaysOfInput SaysOfClaims
+CommandSays option.Dap = SaysOfAdapter
 CommandSays (option.Debug flags) = SaysOfCommands flags.live
 CommandSays option.Draw = SaysOfInput SaysOfDraw
 CommandSays (option.Emit numbers) = SaysOfInput (SaysOfEmission numbers.object)
@@ -109,10 +112,11 @@ TellsBankFaults rest left old new status =
     bank.TellsAnyFault old new status
     × (new.reads ≢ old.reads → IfSome rest (λ bytes. bank.SaysBefore bank.AnswersLines bytes left old.written new.written))
 
--- a device that fails is reported, and nothing is written if a read fails; `debug --live` and `bank` alone have
--- carried out the commands before that read then, and written their answers
+-- a device that fails is reported, and nothing is written if a read fails; `debug --live`, `bank` and `dap` alone
+-- have carried out the commands before that read then, and written their answers
 abbrev pub CallTellsFaults : List (Bor Text) → (rest left : Option (List ℕ)) → Devices → Devices → Status → Type 0
 CallTellsFaults words rest left old new status =
     TellsFaults old new status
     ⊎ ((WordsSay words (option.Debug (record { live = true })) × TellsAnyFault old new status × AnswersBeforeRead true rest left old new)
-    ⊎ (WordsSay words option.Bank × TellsBankFaults rest left old new status))
+    ⊎ ((WordsSay words option.Bank × TellsBankFaults rest left old new status)
+    ⊎ (WordsSay words option.Dap × adapter.TellsAnyFault old new status)))

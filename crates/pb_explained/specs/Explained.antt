@@ -40,11 +40,12 @@ abbrev pub TellsDebugged : (live : Bool) → (bytes told : List ℕ) → Type 0
 TellsDebugged true = SaysOfLiveInput
 TellsDebugged false = SaysToPerson reading.Debugged
 
--- what a person is told of bytes that a command refused: nothing of `bank` and `explain`, which refuse no input
+-- what a person is told of bytes that a command refused: nothing of `bank`, `dap` and `explain`
 abbrev pub TellsRefused : Options → (bytes told : List ℕ) → Type 0
 TellsRefused option.Bank = λ bytes told. ⊥
 TellsRefused (option.Check numbers) = SaysToPerson reading.Texts
 TellsRefused option.Claims = SaysToPerson reading.Claims
+TellsRefused option.Dap = λ bytes told. ⊥
 TellsRefused (option.Debug flags) = TellsDebugged flags.live
 TellsRefused option.Draw = SaysToPerson reading.Replayed
 TellsRefused (option.Emit numbers) = SaysToPerson (format_reading numbers.object)

@@ -49,7 +49,7 @@ fn message_for(alloc: Global, options: &Options, bytes: &[u8]) -> Option<Result<
         Options::Draw | Options::Replay | Options::States(_) => {
             Some(message_of(alloc, Reading::Replayed, bytes))
         }
-        Options::Bank | Options::Explain(_) => None,
+        Options::Bank | Options::Dap | Options::Explain(_) => None,
     }
 }
 
