@@ -2,3 +2,5 @@
 #![tactic(auto)]
 
 mod conversations;
+mod frames;
+mod requests;

@@ -42,11 +42,18 @@ pub fn integers(alloc: Global, names: &[Vec<u8>], vars: &[i64]) -> Result<Vec<Va
     Ok(list)
 }
 
+// Returns `K of claim C`.
+fn loan_words(alloc: Global, held: u32, claimed: u32) -> Result<String, NoMemory>
+    ensures { IfOk result (λ s. s.bytes.items ≡ spec.loan_words held claimed) }
+{
+    Ok(format!(in alloc; "{held} of claim {claimed}")?)
+}
+
 // Returns a loan with the claim.
 fn loan(alloc: Global, name: &[u8], held: u32, claimed: u32) -> Result<Value, NoMemory>
     ensures { IfOk result (λ v. view v ≡ spec.variable_data name.now (spec.loan_words held claimed)) }
 {
-    let shown = format!(in alloc; "{held} of claim {claimed}")?;
+    let shown = loan_words(alloc, held, claimed)?;
     variable(alloc, name, shown.as_str())
 }
 
