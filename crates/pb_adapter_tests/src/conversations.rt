@@ -40,7 +40,7 @@ const CASES: [Case; 3] = [
     // What is shown at a position: a frame, integers, loans and cash.
     Case {
         asked: &[
-            "{\"seq\":1,\"command\":\"launch\",\"arguments\":{\"program\":\"a.pb\",\"text\":\"resource tape = 3\\nprocess p begin\\ninteger x;\\nrequest 2 tape;\\nx := -5;\\nrelease 2 tape\\nend\\n%%\\np.0 3\\n\"}}",
+            "{\"seq\":1,\"command\":\"launch\",\"arguments\":{\"program\":\"a.pb\",\"text\":\"resource tape = 3;\nprocess p begin\ninteger x;\nhold 2 of tape do\nx := 5\nod\nend\n%%\\np.0 3\\n\"}}",
             "{\"seq\":2,\"command\":\"continue\"}",
             "{\"seq\":3,\"command\":\"stackTrace\",\"arguments\":{\"threadId\":1}}",
             "{\"seq\":4,\"command\":\"variables\",\"arguments\":{\"variablesReference\":1}}",
@@ -52,9 +52,9 @@ const CASES: [Case; 3] = [
             "{\"body\":null,\"command\":\"launch\",\"request_seq\":1,\"seq\":1,\"success\":true,\"type\":\"response\"}",
             "{\"body\":null,\"event\":\"initialized\",\"seq\":2,\"type\":\"event\"}",
             "{\"body\":null,\"command\":\"continue\",\"request_seq\":2,\"seq\":3,\"success\":true,\"type\":\"response\"}",
-            "{\"body\":{\"allThreadsStopped\":true,\"description\":\"position 3\",\"reason\":\"end\",\"threadId\":1},\"event\":\"stopped\",\"seq\":4,\"type\":\"event\"}",
-            "{\"body\":{\"stackFrames\":[{\"column\":1,\"id\":1,\"line\":6,\"name\":\"p.0\",\"source\":{\"path\":\"a.pb\"}}]},\"command\":\"stackTrace\",\"request_seq\":3,\"seq\":5,\"success\":true,\"type\":\"response\"}",
-            "{\"body\":{\"variables\":[{\"name\":\"x\",\"value\":\"-5\",\"variablesReference\":0}]},\"command\":\"variables\",\"request_seq\":4,\"seq\":6,\"success\":true,\"type\":\"response\"}",
+            "{\"body\":{\"allThreadsStopped\":true,\"description\":\"position 1\",\"reason\":\"end\",\"threadId\":1},\"event\":\"stopped\",\"seq\":4,\"type\":\"event\"}",
+            "{\"body\":{\"stackFrames\":[{\"column\":1,\"id\":1,\"line\":5,\"name\":\"p.0\",\"source\":{\"path\":\"a.pb\"}}]},\"command\":\"stackTrace\",\"request_seq\":3,\"seq\":5,\"success\":true,\"type\":\"response\"}",
+            "{\"body\":{\"variables\":[{\"name\":\"x\",\"value\":\"0\",\"variablesReference\":0}]},\"command\":\"variables\",\"request_seq\":4,\"seq\":6,\"success\":true,\"type\":\"response\"}",
             "{\"body\":{\"variables\":[{\"name\":\"tape\",\"value\":\"2 of claim 2\",\"variablesReference\":0}]},\"command\":\"variables\",\"request_seq\":5,\"seq\":7,\"success\":true,\"type\":\"response\"}",
             "{\"body\":{\"variables\":[{\"name\":\"tape\",\"value\":\"1\",\"variablesReference\":0}]},\"command\":\"variables\",\"request_seq\":6,\"seq\":8,\"success\":true,\"type\":\"response\"}",
             "{\"body\":{\"variables\":[]},\"command\":\"variables\",\"request_seq\":7,\"seq\":9,\"success\":true,\"type\":\"response\"}",
