@@ -134,5 +134,8 @@ def inputs():
         yield f"outcomes {name}", ["outcomes"], text
         yield f"outcomes --lend cash {name}", ["outcomes", "--lend", "cash"], text
         yield f"outcomes --prints {name}", ["outcomes", "--prints", "--states", "2000"], text
+        wanted = text + b"\n%%\n" + first_process(text) + b".0 print 1\n"
+        yield f"outcomes --expect {name}", ["outcomes", "--expect", "--states", "2000"], wanted
+        yield f"outcomes --expect --any-order {name}", ["outcomes", "--expect", "--any-order", "--states", "2000"], wanted
         yield f"exec {name}", ["exec"], object_of(text)
         yield f"migrate {name}", ["migrate"], first_object_of(text)

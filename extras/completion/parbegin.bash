@@ -49,7 +49,7 @@ _parbegin() {
         return
         ;;
     migrate) options="" ;;
-    outcomes) options="--states --lend --first-deadlock --prints" ;;
+    outcomes) options="--states --lend --first-deadlock --prints --expect --any-order" ;;
     plan) options="" ;;
     record) options="--workers --quantum --steps --seed" ;;
     replay) options="" ;;

@@ -214,7 +214,12 @@ fn outcomes_of_text<'a>(alloc: Global) -> Result<Command<'a>, AllocError>
     let first = "End at the first deadlock that is found";
     let outcomes = with_flag(alloc, outcomes, "first-deadlock", first);
     let prints = "Tell outcomes with different prints apart, and show what was printed";
-    with_flag(alloc, outcomes, "prints", prints)
+    let outcomes = with_flag(alloc, outcomes, "prints", prints);
+    let expect =
+        "Compare the prints of every run with the lines after the program and a line %%; --prints and --first-deadlock then change nothing";
+    let outcomes = with_flag(alloc, outcomes, "expect", expect);
+    let any_order = "With --expect: those lines may be printed in any order";
+    with_flag(alloc, outcomes, "any-order", any_order)
 }
 
 fn states_of_run<'a>(alloc: Global) -> Result<Command<'a>, AllocError>

@@ -20,6 +20,8 @@ const MANY: OutcomesOptions = OutcomesOptions {
     lend: Lend::Banker,
     first_deadlock: false,
     prints: false,
+    expect: false,
+    any_order: false,
 };
 
 const CASH: OutcomesOptions = OutcomesOptions {
@@ -27,6 +29,8 @@ const CASH: OutcomesOptions = OutcomesOptions {
     lend: Lend::Cash,
     first_deadlock: false,
     prints: false,
+    expect: false,
+    any_order: false,
 };
 
 const PRINTS: OutcomesOptions = OutcomesOptions {
@@ -34,6 +38,8 @@ const PRINTS: OutcomesOptions = OutcomesOptions {
     lend: Lend::Banker,
     first_deadlock: false,
     prints: true,
+    expect: false,
+    any_order: false,
 };
 
 /// Two additions, of which one may be lost: 7 configurations are kept.
@@ -67,7 +73,7 @@ const CASES: [Case; 16] = [
         text: DEVICES,
         options: CASH,
         said: b"outcome 1\na ended\nb ended\nreached by\na.0 7\nb.0 7\ndeadlock 1\na waits\na holds 1 tape\na.0 asks 1 disk\nb waits\nb holds 1 disk\nb.0 asks 1 tape\nreached by\na.0 1\nb.0 1\n1 outcome, 1 deadlock\n",
-        status: Status::Done,
+        status: Status::Deadlock,
     },
     Case {
         text: LOST,
@@ -106,6 +112,8 @@ const CASES: [Case; 16] = [
             lend: Lend::Banker,
             first_deadlock: false,
             prints: false,
+            expect: false,
+            any_order: false,
         },
         said: b"outcome 1\np ended\np.x 2\nreached by\np.0 1\np.1 5\np.2 5\np.0 4\noutcome 2\np ended\np.x 1\nreached by\np.0 1\np.1 3\np.2 3\np.1 2\np.2 2\np.0 4\n2 outcomes\n",
         status: Status::Done,
@@ -117,6 +125,8 @@ const CASES: [Case; 16] = [
             lend: Lend::Banker,
             first_deadlock: false,
             prints: false,
+            expect: false,
+            any_order: false,
         },
         said: b"outcome 1\np ended\np.x 2\nreached by\np.0 1\np.1 5\np.2 5\np.0 4\nmore than 6 configurations, there may be others\n",
         status: Status::Limit,

@@ -51,6 +51,8 @@ fn commands_have_their_defaults(rt: HostRuntime) {
                 lend: Lend::Banker,
                 first_deadlock: false,
                 prints: false,
+                expect: false,
+                any_order: false,
             }),
         ),
         (
@@ -114,6 +116,8 @@ fn options_with_one_word_are_read(rt: HostRuntime) {
                 lend: Lend::Banker,
                 first_deadlock: false,
                 prints: false,
+                expect: false,
+                any_order: false,
             }),
         ),
         (
@@ -124,6 +128,8 @@ fn options_with_one_word_are_read(rt: HostRuntime) {
                 lend: Lend::Cash,
                 first_deadlock: false,
                 prints: false,
+                expect: false,
+                any_order: false,
             }),
         ),
         (
@@ -134,6 +140,8 @@ fn options_with_one_word_are_read(rt: HostRuntime) {
                 lend: Lend::Banker,
                 first_deadlock: true,
                 prints: false,
+                expect: false,
+                any_order: false,
             }),
         ),
         (
@@ -144,6 +152,8 @@ fn options_with_one_word_are_read(rt: HostRuntime) {
                 lend: Lend::Banker,
                 first_deadlock: false,
                 prints: true,
+                expect: false,
+                any_order: false,
             }),
         ),
         (
@@ -170,6 +180,8 @@ fn options_with_one_word_are_read(rt: HostRuntime) {
                 lend: Lend::Banker,
                 first_deadlock: false,
                 prints: false,
+                expect: false,
+                any_order: false,
             }),
         ),
     ] {

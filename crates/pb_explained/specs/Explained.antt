@@ -34,6 +34,11 @@ abbrev pub format_reading : Format → Reading
 format_reading One = reading.FirstFormat
 format_reading Two = reading.Text
 
+-- how `outcomes` reads its input, by whether it is to compare prints
+abbrev pub outcomes_reading : (expect : Bool) → Reading
+outcomes_reading true = reading.Expected
+outcomes_reading false = reading.Text
+
 -- what a person is told of bytes that `debug` refused, if it reads the commands as they come, or all before it
 -- writes
 abbrev pub TellsDebugged : (live : Bool) → (bytes told : List ℕ) → Type 0
@@ -51,7 +56,7 @@ TellsRefused (option.Emit numbers) = SaysToPerson (format_reading numbers.object
 TellsRefused (option.Exec numbers) = SaysToPerson reading.Object
 TellsRefused (option.Explain code) = λ bytes told. ⊥
 TellsRefused option.Migrate = SaysToPerson reading.Object
-TellsRefused (option.Outcomes numbers) = SaysToPerson reading.Text
+TellsRefused (option.Outcomes numbers) = SaysToPerson (outcomes_reading numbers.expect)
 TellsRefused option.Plan = SaysToPerson reading.Text
 TellsRefused (option.Record numbers) = SaysToPerson reading.Recorded
 TellsRefused option.Replay = SaysToPerson reading.Replayed

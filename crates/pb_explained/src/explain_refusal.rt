@@ -39,6 +39,9 @@ fn message_for(alloc: Global, options: &Options, bytes: &[u8]) -> Option<Result<
         Options::Debug(flags) if flags.live => Some(live_message(alloc, bytes)),
         Options::Debug(_) => Some(message_of(alloc, Reading::Debugged, bytes)),
         Options::Emit(numbers) => Some(message_of(alloc, reading_of(numbers.object), bytes)),
+        Options::Outcomes(numbers) if numbers.expect => {
+            Some(message_of(alloc, Reading::Expected, bytes))
+        }
         Options::Outcomes(_) | Options::Plan | Options::Run(_) => Some(message_of(
             alloc,
             Reading::Text,

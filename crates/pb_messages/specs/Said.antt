@@ -21,12 +21,15 @@ use Rattle.pb_messages.specs.Messages.{IsMessage, IsMessageAt, TellsRefusal}
 use Rattle.pb_messages.specs.declared.cause.Cause.{Cause}
 use Rattle.pb_messages.specs.declared.message.Reading.{Reading}
 use Rattle.pb_messages.specs.declared.message.Reading.TheVariants.{Text, Claims, Recorded, FirstFormat, Texts, Object}
-use Rattle.pb_messages.specs.declared.message.Reading.TheVariants.{Replayed, Debugged}
+use Rattle.pb_messages.specs.declared.message.Reading.TheVariants.{Replayed, Expected, Debugged}
 use Rattle.pb_names.specs.Program.{Program}
 use Rattle.pb_object.specs.Formats.{FitsFirst}
 use Rattle.pb_picks.specs.PickLines.{IsFaulty, SpellsPicks}
 use Rattle.pb_picks.specs.declared.fault.PickFault.{PickFault}
 use Rattle.pb_message_stops.specs.Stops.{HoldsPick}
+use Rattle.pb_search_engine.specs.PrintLines.{IsBadPrint, SpellsPrints}
+use Rattle.pb_search_engine.specs.declared.print_lines.PrintFault.TheVariants.{NotPrint}
+use Rattle.pb_search_stages.specs.declared.print.Print.{Print}
 
 -- of an input that is too long
 abbrev pub long_input : List ℕ
@@ -122,6 +125,18 @@ pub data SaysOfPickLines (code : Code) (lines : List ℕ) : List ℕ → Type 0 
       → (at : ℕ) → HoldsPick code lines picks number at
       → IsMessageAt (codes "pick ") lines (codes "H1") (Some at) told → SaysOfPickLines code lines told
 
+-- of print lines over some code: nothing if all say prints; else which line says none
+pub data SaysOfPrintLines (code : Code) (lines : List ℕ) : List ℕ → Type 0 where
+  said : (prints : List Print) → SpellsPrints code lines prints → SaysOfPrintLines code lines []
+  unsaid : (at : ℕ) (told : List ℕ) → IsBadPrint code lines (NotPrint at)
+      → IsMessageAt (codes "print ") lines (codes "K1") (Some at) told → SaysOfPrintLines code lines told
+
+-- of a text and print lines
+abbrev pub SaysOfExpectedText : (text lines told : List ℕ) → Type 0
+SaysOfExpectedText text lines told =
+    ((code : Code) × (labels : List ProcessLabels) × IsCompiled text code labels × SaysOfPrintLines code lines told)
+    ⊎ TellsRefusal [] text told
+
 -- of a text and pick lines
 abbrev pub SaysOfPickedText : (text lines told : List ℕ) → Type 0
 SaysOfPickedText text lines told =
@@ -144,6 +159,8 @@ SaysByReading Texts bytes told = SaysOfTexts bytes told
 SaysByReading Object bytes told = SaysOfObjectText bytes told
 SaysByReading Replayed bytes told =
     (text : List ℕ) × (lines : List ℕ) × AreTwoParts bytes text lines × SaysOfPickedText text lines told
+SaysByReading Expected bytes told =
+    (text : List ℕ) × (lines : List ℕ) × AreTwoParts bytes text lines × SaysOfExpectedText text lines told
 SaysByReading Debugged bytes told =
     (source : List ℕ) × (rest : List ℕ) × (lines : List ℕ) × (commands : List ℕ)
     × AreTwoParts bytes source rest × AreTwoParts rest lines commands

@@ -3,13 +3,14 @@
 ghost use Rattle.std.specs.Prelude.{◌≡◌, ◌↔◌, ◌≤◌, [], IfNone, IfOk, IfSome, IsTrue, false, OnOk, codes, length, string_bytes, take};
 ghost use Rattle.pb_accept.specs.Refusals.{IsAcceptedText};
 ghost use Rattle.pb_messages.specs.Messages.{TellsRefusal};
-ghost use Rattle.pb_messages.specs.Said.{SaysByReading, SaysOfObjectText, SaysOfPickedObject, SaysOfPickedText, SaysOfProgram, SaysOfText, SaysOfTexts};
+ghost use Rattle.pb_messages.specs.Said.{SaysByReading, SaysOfExpectedText, SaysOfObjectText, SaysOfPickedObject, SaysOfPickedText, SaysOfProgram, SaysOfText, SaysOfTexts};
 ghost use Rattle.pb_messages.specs.Said.{IsLastLabel, SaysMore, SaysToPerson, behind, long_output, text_label};
-ghost use Rattle.pb_messages.specs.declared.message.Reading.TheVariants.{Debugged, Replayed};
+ghost use Rattle.pb_messages.specs.declared.message.Reading.TheVariants.{Debugged, Expected, Replayed};
 
 use crate::first_format::first_format_message;
 use crate::objects::object_message;
 use crate::picks::lines_message;
+use crate::prints::prints_message;
 use crate::texts::{early_message, text_message};
 use pb_base::NoMemory;
 use pb_base::limits::MAX_INPUT;
@@ -45,6 +46,8 @@ pub enum Reading {
     Object,
     /// A text, and pick lines behind the first line `%%`.
     Replayed,
+    /// A text, and print lines behind the first line `%%`.
+    Expected,
     /// A text or an object, and pick lines between the first two lines `%%`. What follows is not looked at.
     Debugged,
 }
@@ -73,6 +76,7 @@ fn whole_message(alloc: Global, reading: Reading, bytes: &[u8]) -> Result<Vec<u8
         Reading::Texts => texts_messages(alloc, bytes),
         Reading::Object => whole_object_message(alloc, bytes),
         Reading::Replayed => replayed_message(alloc, bytes),
+        Reading::Expected => expected_message(alloc, bytes),
         Reading::Debugged => debugged_message(alloc, bytes),
     }
 }
@@ -199,6 +203,22 @@ fn replayed_message(alloc: Global, bytes: &[u8]) -> Result<Vec<u8>, NoMemory>
     )
 }
 
+// Returns the message of a text and the print lines behind it.
+fn expected_message(alloc: Global, bytes: &[u8]) -> Result<Vec<u8>, NoMemory>
+    ensures { IfOk result (λ message. SaysByReading Expected bytes.now message.items) }
+{
+    let (text, lines) = two_parts(bytes);
+    let before = line_of(bytes, text.len());
+    expected_text_message(
+        alloc,
+        text,
+        Lines {
+            text: lines,
+            before,
+        },
+    )
+}
+
 // Returns the message of a text or an object and the pick lines behind it.
 pub(crate) fn debugged_message(alloc: Global, bytes: &[u8]) -> Result<Vec<u8>, NoMemory>
     ensures { IfOk result (λ message. SaysByReading Debugged bytes.now message.items) }
@@ -232,6 +252,20 @@ fn picked_text_message(alloc: Global, text: &[u8], lines: Lines<'_>) -> Result<V
 {
     match text_message(alloc, "", text)? {
         Ok(compiled) => lines_message(alloc, compiled.verified(), lines),
+        Err(message) => Ok(message),
+    }
+}
+
+// Returns the message of a text, or of print lines over its code.
+fn expected_text_message(
+    alloc: Global,
+    text: &[u8],
+    lines: Lines<'_>,
+) -> Result<Vec<u8>, NoMemory>
+    ensures { IfOk result (λ message. SaysOfExpectedText text.now lines.entry.text.now message.items) }
+{
+    match text_message(alloc, "", text)? {
+        Ok(compiled) => prints_message(alloc, compiled.verified(), lines),
         Err(message) => Ok(message),
     }
 }

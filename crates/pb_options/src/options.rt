@@ -101,6 +101,10 @@ pub struct OutcomesOptions {
     pub first_deadlock: bool,
     /// Whether outcomes with different prints are different ones, and are shown with them.
     pub prints: bool,
+    /// Whether the prints of every run are compared with lines that follow the text.
+    pub expect: bool,
+    /// Whether those lines may be printed in any order.
+    pub any_order: bool,
     pub ghost some_state: { 1 ≤ states },
     pub ghost states_fit: { states ≤ MAX_STATES },
 }

@@ -1,6 +1,9 @@
 pub mod CountLemmas
+pub mod ExpectedLaw
 pub mod LineLemmas
 pub mod OutcomeLemmas
 pub mod PrintedOutcomes
+pub mod PrintLemmas
 pub mod SourceLaw
 pub mod SourceOutcomeLemmas
+pub mod WantedLemmas

@@ -37,7 +37,7 @@ use Rattle.pb_search.specs.declared.found.Deadlock.{Deadlock as GivenDeadlock}
 
 module _ (mode : Mode) (code : Code) where
   -- each deadlock that is listed is one
-  each_at : (found : List FoundDeadlock) (stuck : List Trace) → AreFoundAt mode code found stuck → (k : ℕ) (d : FoundDeadlock)
+  pub each_at : (found : List FoundDeadlock) (stuck : List Trace) → AreFoundAt mode code found stuck → (k : ℕ) (d : FoundDeadlock)
       → k < length found → (s : Trace) × IsFoundAt mode code (get_or found k d) s
   each_at [] [] are k d lt = absurd (omega (arith, lt))
   each_at (f ∷ found) (s ∷ stuck) are zero d lt = (s, are.0)

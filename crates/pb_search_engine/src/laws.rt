@@ -1,5 +1,6 @@
-//! The law of what outcomes say of a program, as the contract of a function that does nothing.
+//! Laws of what is said of a program, each the contract of a function that does nothing.
 
+ghost use Rattle.pb_search_engine.specs.ExpectedLaws.{AnswersAreRight};
 ghost use Rattle.pb_search_engine.specs.SourceOutcomes.{OutcomesAreThoseOfTheProgram};
 
 /// The outcomes of the code of a text, with the integers and the faults of its processes, are those of the
@@ -7,4 +8,10 @@ ghost use Rattle.pb_search_engine.specs.SourceOutcomes.{OutcomesAreThoseOfThePro
 /// what was printed on the way, by all processes, in its order.
 pub fn outcomes_are_those_of_the_program()
     ensures { OutcomesAreThoseOfTheProgram }
+{}
+
+/// What `outcomes --expect` says of the runs of code is right: if its status is 0 all of them are as expected, and if it
+/// is 10 not all of them are.
+pub fn answers_are_right()
+    ensures { AnswersAreRight }
 {}

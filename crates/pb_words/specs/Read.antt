@@ -72,6 +72,7 @@ HasLend rows lend = one_of (codes "lend") rows ≡ Some (lend_word lend)
 abbrev pub HasSearchOptions : List Row → OutcomesOptions → Type 0
 HasSearchOptions rows o = HasNumber rows (codes "states") o.states × HasLend rows o.lend
     × HasFlag rows (codes "first-deadlock") o.first_deadlock × HasFlag rows (codes "prints") o.prints
+    × HasFlag rows (codes "expect") o.expect × HasFlag rows (codes "any-order") o.any_order
 
 abbrev pub HasStatesNumbers : List Row → StatesOptions → Type 0
 HasStatesNumbers rows o = HasNumber rows (codes "rows") o.rows × HasNumber rows (codes "from") o.from

@@ -127,6 +127,8 @@ fn outcomes_options(matches: &ArgMatches<'_>) -> Option<OutcomesOptions>
         lend,
         first_deadlock: flag(matches, "first-deadlock"),
         prints: flag(matches, "prints"),
+        expect: flag(matches, "expect"),
+        any_order: flag(matches, "any-order"),
     })
 }
 
