@@ -257,11 +257,7 @@ fn picked_text_message(alloc: Global, text: &[u8], lines: Lines<'_>) -> Result<V
 }
 
 // Returns the message of a text, or of print lines over its code.
-fn expected_text_message(
-    alloc: Global,
-    text: &[u8],
-    lines: Lines<'_>,
-) -> Result<Vec<u8>, NoMemory>
+fn expected_text_message(alloc: Global, text: &[u8], lines: Lines<'_>) -> Result<Vec<u8>, NoMemory>
     ensures { IfOk result (λ message. SaysOfExpectedText text.now lines.entry.text.now message.items) }
 {
     match text_message(alloc, "", text)? {

@@ -1,4 +1,5 @@
 pub mod CountLemmas
+pub mod ExpectLemmas
 pub mod ExpectedLaw
 pub mod LineLemmas
 pub mod OutcomeLemmas

@@ -1,6 +1,6 @@
 //! The command `outcomes --expect`: whether all runs of a program are as expected.
 
-ghost use Rattle.std.specs.Prelude.{◌≡◌, ◌≤◌, ◌<◌, IfOk, length, map};
+ghost use Rattle.std.specs.Prelude.{◌≡◌, ◌≤◌, ◌<◌, ◌⊎◌, IfOk, length, map};
 ghost use Rattle.pb_base.specs.declared.limits.TheConstants.{MAX_INPUT};
 ghost use Rattle.pb_code.specs.Limits.{AreLabels};
 ghost use Rattle.pb_command_io.specs.Answers.{Tells};
@@ -14,7 +14,7 @@ ghost use Rattle.pb_search_engine.specs.Expected.{printing};
 ghost use Rattle.pb_search_engine.specs.SaysExpected.{IsPlain, SaysOfExpected, SaysOfLines, SaysOfRuns, TellsDeadlock, TellsOutcome};
 ghost use Rattle.pb_search_engine.specs.SaysOutcomes.{lending_for};
 
-use crate::outcomes::lending;
+use crate::outcomes::mode;
 use crate::print_lines::{PrintFault, read_prints};
 use crate::replies::{bad_print, deadlock_text, outcome_text, plain_text};
 use crate::wanted::{Wanted, first_other};
@@ -29,7 +29,6 @@ use pb_command_io::reply::{Reply, tell};
 use pb_options::OutcomesOptions;
 use pb_search::explore::explore_by;
 use pb_search::{Outcomes, Until};
-use pb_search_stages::Mode;
 use std::alloc::Global;
 
 /// Writes whether all runs of a text are as the print lines say that follow it, behind a line `%%`; and else the
@@ -90,10 +89,7 @@ fn compared(
         compiled.now.verified.code compiled.now.labels options.states r.text.items r.status) }
 {
     let verified = compiled.verified();
-    let mode = Mode {
-        lending: lending(options.lend),
-        prints: true,
-    };
+    let mode = mode(options.lend, true);
     let told = explore_by(alloc, verified, mode, Until::FirstDeadlock, options.states)?;
     match first_other(alloc, wanted, &told.found)? {
         Some(at) => other_outcome(alloc, compiled, &told, at),
@@ -111,9 +107,8 @@ fn other_outcome(
     requires there { at < length told.now.found.items }
     requires some { (lending : AnyLending) × AreSome (printing lending) compiled.now.verified.code
         (map found_view told.now.found.items) (map deadlock_view told.now.deadlocks.items) }
-    ensures text { IfOk result (λ r. TellsOutcome compiled.now.verified.code.names compiled.now.labels
-        (map found_view told.now.found.items) at r.text.items) }
-    ensures status { IfOk result (λ r. r.status ≡ Status.Unexpected) }
+    ensures { IfOk result (λ r. TellsOutcome compiled.now.verified.code.names compiled.now.labels
+        (map found_view told.now.found.items) at r.text.items × (r.status ≡ Status.Unexpected)) }
 {
     let code = compiled.verified().code();
     let text = outcome_text(alloc, &code.names, compiled.labels(), &told.found, at)?;
@@ -132,11 +127,10 @@ fn no_other(
 ) -> Result<Reply, NoMemory>
     requires some { (lending : AnyLending) × AreSome (printing lending) compiled.now.verified.code
         (map found_view told.now.found.items) (map deadlock_view told.now.deadlocks.items) }
-    ensures none { IfOk result (λ r. length told.now.deadlocks.items ≡ 0
-        → IsPlain states told.now.extent r.text.items r.status) }
-    ensures deadlock { IfOk result (λ r. 0 < length told.now.deadlocks.items
-        → TellsDeadlock compiled.now.verified.code.names compiled.now.labels
-        (map deadlock_view told.now.deadlocks.items) r.text.items × (r.status ≡ Status.Unexpected)) }
+    ensures { IfOk result (λ r.
+        ((length told.now.deadlocks.items ≡ 0) × IsPlain states told.now.extent r.text.items r.status)
+        ⊎ (TellsDeadlock compiled.now.verified.code.names compiled.now.labels
+        (map deadlock_view told.now.deadlocks.items) r.text.items × (r.status ≡ Status.Unexpected))) }
 {
     if told.deadlocks.is_empty() {
         return plain_text(alloc, told.extent, states);

@@ -135,8 +135,8 @@ fn until(first_deadlock: bool) -> Until
     }
 }
 
-// Returns what the search goes through.
-fn mode(lend: Lend, prints: bool) -> Mode
+/// Returns what the search goes through.
+pub(crate) fn mode(lend: Lend, prints: bool) -> Mode
     ensures { result ≡ mode_for lend prints }
 {
     Mode {
@@ -145,8 +145,8 @@ fn mode(lend: Lend, prints: bool) -> Mode
     }
 }
 
-/// Returns who decides on a request, as the search takes it.
-pub(crate) fn lending(lend: Lend) -> Lending
+// Returns who decides on a request, as the search takes it.
+fn lending(lend: Lend) -> Lending
     ensures { result ≡ lending_for lend }
 {
     match lend {

@@ -21,10 +21,12 @@ remove-requires c =
     omega (arith, w, l)
 
 pub returns-in-None : goal.returns-in-None
-returns-in-None c =
-    (λ is. absurd (not_so is), λ h. absurd (not_found c.args.wanted.now c.args.prints.now c.loop-i.left.items c.loop-i.i _ c.loop-i-test.true
-    (subst (λ (l : List Print). (at : ℕ) → slice_get l at ≢ Some (get_or c.args.prints.now c.loop-i.i none)) c.deref.ensures.value c.in-None.ensures.none)
-    c.loop-i.invariant h))
+returns-in-None c = (
+  λ is. absurd (not_so is),
+  λ h. absurd (not_found c.args.wanted.now c.args.prints.now c.loop-i.left.items c.loop-i.i _ c.loop-i-test.true
+      (subst (λ (l : List Print). (at : ℕ) → slice_get l at ≢ Some (get_or c.args.prints.now c.loop-i.i none)) c.deref.ensures.value c.in-None.ensures.none)
+      c.loop-i.invariant h),
+)
 
 pub loop-i-preserved : goal.loop-i-preserved
 loop-i-preserved c =
@@ -33,6 +35,7 @@ loop-i-preserved c =
     c.remove.ensures.items c.loop-i.invariant
 
 pub returns : goal.returns
-returns c =
-    (λ is. nothing_left c.args.wanted.now c.args.prints.now c.loop-i.left.items c.loop-i.i c.if-wanted-prints.false c.loop-i-test.false c.loop-i.invariant,
-    λ h. refl)
+returns c = (
+  λ is. nothing_left c.args.wanted.now c.args.prints.now c.loop-i.left.items c.loop-i.i c.if-wanted-prints.false c.loop-i-test.false c.loop-i.invariant,
+  λ h. refl,
+)

@@ -5,10 +5,12 @@ use Rattle.pb_search_engine.proofs.WantedLemmas.{all_more, all_there, has_faulte
 use Rattle.pb_search_engine.proofs.wanted.has_fault.Goals as goal
 
 pub returns-then-outcome-p : goal.returns-then-outcome-p
-returns-then-outcome-p c =
-    (λ e. absurd (let t : true ≡ false = e in cc), λ none.
-    absurd (has_faulted c.args.outcome.now c.loop-p.p c.index-outcome-p.result c.loop-p-test.true c.index-outcome-p.is
-    (ap (λ (o : ProcessOutcome). o.faulted) c.index-outcome-p.is ∙ c.if-outcome-p.true) none))
+returns-then-outcome-p c = (
+  λ e. absurd (let t : true ≡ false = e in cc),
+  λ none.
+      absurd (has_faulted c.args.outcome.now c.loop-p.p c.index-outcome-p.result c.loop-p-test.true c.index-outcome-p.is
+      (ap (λ (o : ProcessOutcome). o.faulted) c.index-outcome-p.is ∙ c.if-outcome-p.true) none),
+)
 
 pub loop-p-preserved : goal.loop-p-preserved
 loop-p-preserved c =
