@@ -128,11 +128,16 @@ def inputs():
         yield f"record --seed 7 {name}", ["record", "--seed", "7"], text
         yield f"replay {name}", ["replay"], recorded(text)
         yield f"draw {name}", ["draw"], recorded(text)
+        yield f"replay --lend cash {name}", ["replay", "--lend", "cash"], recorded(text)
+        yield f"draw --lend cash {name}", ["draw", "--lend", "cash"], recorded(text)
         yield f"states {name}", ["states"], recorded(text)
         yield f"debug {name}", ["debug"], debugged(text)
         yield f"debug --live {name}", ["debug", "--live"], debugged(text)
         yield f"outcomes {name}", ["outcomes"], text
         yield f"outcomes --lend cash {name}", ["outcomes", "--lend", "cash"], text
         yield f"outcomes --prints {name}", ["outcomes", "--prints", "--states", "2000"], text
+        wanted = text + b"\n%%\n" + first_process(text) + b".0 print 1\n"
+        yield f"outcomes --expect {name}", ["outcomes", "--expect", "--states", "2000"], wanted
+        yield f"outcomes --expect --any-order {name}", ["outcomes", "--expect", "--any-order", "--states", "2000"], wanted
         yield f"exec {name}", ["exec"], object_of(text)
         yield f"migrate {name}", ["migrate"], first_object_of(text)

@@ -4,7 +4,8 @@
     checks/drawn_programs.py [PROGRAM]     PROGRAM is the one that ./parbegin has built if none is given
 
 Each drawn program is run with a drawn quantum and number of steps, its claims are shown, and a run of it is recorded by
-a seed and replayed; output and status must be the same on both sides. A program that faults, is refused by its claims or
+a seed and replayed; picks that the cash alone lets go on are replayed under both lenders. Output and status must be the
+same on both sides. A program that faults, is refused by its claims or
 never ends is as good as any other. The draws are the same in each call. It is run by hand; its status is 0 if all is as
 wanted, and 1 if not.
 """
@@ -72,6 +73,20 @@ def drawn_program(draw):
     return resources + "".join(processes)
 
 
+def wandered(draw, text):
+    """Returns the text with picks that are drawn from those that the cash alone lets go on, up to 60 of them."""
+    try:
+        machine = reference.Till(text)
+        machine.refuse_claims()
+    except reference.Refused:
+        return text
+    arms = [(number, arm) for number, it in enumerate(machine.processes) for arm in it.arms]
+    for _ in range(60):
+        if not any(machine.step(*it) for it in draw.sample(arms, len(arms))):
+            break
+    return "".join(f"{line}\n" for line in [text.rstrip("\n"), "%%", *machine.pick_lines()])
+
+
 def main():
     tally, draw, ended = Tally(), random.Random(5), collections.Counter()
     for _ in range(PROGRAMS):
@@ -79,10 +94,13 @@ def main():
         run = ["run", "--quantum", str(draw.choice([1, 2, 5, 64])), "--steps", str(draw.randint(0, STEPS))]
         record = ["record", "--steps", str(draw.randint(0, STEPS)), "--seed", str(draw.randrange(2**64))]
         recorded = call(record, text.encode())[1].decode()
-        for words, given in ((run, text), (["claims"], text), (record, text), (["replay"], recorded)):
+        moved = wandered(draw, text)
+        by_cash = ["replay", "--lend", "cash"]
+        calls = [(run, text), (["claims"], text), (record, text), (["replay"], recorded), (by_cash, recorded)]
+        for words, given in [*calls, (by_cash, moved), (["replay"], moved)]:
             status, said = call(words, given.encode())
             tally.expect((status, said.decode()) == reference.says(words, given), *words, "of", given)
-            ended[words[0], status] += 1
+            ended[words[0] + " by cash" * (words == by_cash), status] += 1
     print(", ".join(f"{command} {status}: {count}" for (command, status), count in sorted(ended.items())))
     tally.end("drawn programs")
 

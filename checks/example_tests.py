@@ -19,7 +19,7 @@ FOLDER = TOP / "examples"
 EXPECTED = FOLDER / "expected"
 TESTS = TOP / "crates/pb_engine_tests/src/examples"
 TEXTS = TOP / "crates/pb_example_texts/src"
-STATUSES = ("Done", "Refused", "Words", "Limit", "Fault", "Memory", "Device", "Threads")
+STATUSES = {0: "Done", 1: "Refused", 2: "Words", 3: "Limit", 4: "Fault", 5: "Memory", 6: "Device", 7: "Threads", 9: "Deadlock", 10: "Unexpected"}
 # A longer input is left to checks/examples.py: pb_tests makes texts of that length itself.
 LONGEST = 6_000
 # A constant has at most 10,000 parts, of which each byte of a text is one.
@@ -80,6 +80,8 @@ def command(words):
         return f"Command::{word.title()} {{ quantum: {quantum}, steps: {steps} }}"
     if word == "record":
         return f"Command::Record {{ seed: {number(options['--seed'])} }}"
+    if word == "replay" and options.get("--lend") == "cash":
+        return "Command::ReplayByCash"
     return f"Command::{word.title()}"
 
 

@@ -45,6 +45,8 @@ echo "process p begin" | {
 } || failed=1
 expect 2 /dev/null fly </dev/null
 expect 2 /dev/null --version </dev/null
+expect 9 /dev/null replay --lend cash <"$top/examples/5-deadlock/circle.run"
+expect 9 /dev/null outcomes --lend cash <"$top/examples/devices.pb"
 expect 3 /dev/null run --steps 1 <"$top/examples/hello.pb"
 expect 4 /dev/null run <"$top/examples/edges.pb"
 long_program | {
@@ -59,4 +61,15 @@ expect 6 /dev/full run <"$top/examples/hello.pb"
     exit "$failed"
 ) || failed=1
 expect 6 /dev/null run <"$top"
+expect 0 /dev/null outcomes <"$top/examples/devices.pb"
+expect 9 /dev/null outcomes --lend cash <"$top/examples/devices.pb"
+expect 9 /dev/null outcomes --lend cash --first-deadlock <"$top/examples/devices.pb"
+printf 'process p begin print 1 end\n%%%%\np.0 print 1\n' | {
+    expect 0 /dev/null outcomes --expect
+    exit "$failed"
+} || failed=1
+printf 'process p begin print 1 end\n%%%%\np.0 print 2\n' | {
+    expect 10 /dev/null outcomes --expect
+    exit "$failed"
+} || failed=1
 exit "$failed"

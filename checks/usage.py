@@ -40,6 +40,8 @@ CALLS = [
     (["--version"], DONE, "parbegin ", None),
     (["outcomes", "--lend", "cash", "hello.pb"], DONE, "1 outcome\n", None),
     (["outcomes", "--lend", "banker", "hello.pb"], DONE, "1 outcome\n", None),
+    (["replay", "--lend", "cash", "lost.run"], DONE, "done\n", None),
+    (["draw", "--lend=cash", "lost.run"], DONE, "<svg", None),
     (["run", "cash"], DONE, "p end\n", None),
     (["run", "sum.pbo"], REFUSED, "refused ", "parbegin: sum.pbo is an object: exec runs it"),
     (["check", "sum.pbo"], REFUSED, "sum.pbo: refused ", "parbegin: sum.pbo is an object: exec runs it"),

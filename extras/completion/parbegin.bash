@@ -38,7 +38,7 @@ _parbegin() {
     check) options="--heap --format --jobs" ;;
     claims) options="" ;;
     debug) options="--live" ;;
-    draw) options="" ;;
+    draw) options="--lend" ;;
     emit) options="--object" ;;
     exec) options="--workers --quantum --steps" ;;
     explain)
@@ -49,10 +49,10 @@ _parbegin() {
         return
         ;;
     migrate) options="" ;;
-    outcomes) options="--states --lend --first-deadlock --prints" ;;
+    outcomes) options="--states --lend --first-deadlock --prints --expect --any-order" ;;
     plan) options="" ;;
     record) options="--workers --quantum --steps --seed" ;;
-    replay) options="" ;;
+    replay) options="--lend" ;;
     run) options="--workers --quantum --steps" ;;
     states) options="--rows --from" ;;
     help)

@@ -5,3 +5,4 @@ pub mod EmissionLemmas
 pub mod EventLemmas
 pub mod LoadLemmas
 pub mod ReplayLemmas
+pub mod StillLemmas

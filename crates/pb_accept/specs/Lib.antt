@@ -6,4 +6,5 @@ pub mod Loading
 pub mod Migrations
 pub mod Refusals
 pub mod ReplayLines
+pub mod Stillness
 pub mod ToldEvents

@@ -6,6 +6,7 @@ pub mod accept;
 pub mod check;
 pub mod claims;
 pub mod emit;
+pub mod ending;
 pub mod events;
 mod faults;
 pub mod load;

@@ -27,11 +27,12 @@ use Rattle.pb_engines.specs.Records.{SaysOfRecord}
 use Rattle.pb_accept.specs.ReplayLines.{SaysOfReplay}
 use Rattle.pb_engines.specs.Runs.{SaysOfTextRun}
 use Rattle.pb_explain.specs.Pages.{SaysOfExplain}
+use Rattle.pb_options.specs.Lends.{lending_for}
 use Rattle.pb_options.specs.declared.options.StatesOptions.{StatesOptions}
 use Rattle.pb_page.specs.declared.run.Shown.{Shown}
 use Rattle.pb_page_engine.specs.States.{SaysOfStates}
 use Rattle.pb_plan_engine.specs.PlanLines.{SaysOfPlan}
-use Rattle.pb_search_engine.specs.SaysOutcomes.{SaysOfOutcomes}
+use Rattle.pb_search_engine.specs.SaysOfAll.{SaysOfSearches}
 use Rattle.pb_words.specs.Read.{WordsSay}
 
 -- what `debug` may say of an input, of which it reads the commands as they come, or all before it writes
@@ -49,15 +50,15 @@ CommandSays option.Bank = SaysOfBank
 CommandSays (option.Check numbers) = SaysOfInput SaysOfChecks
 CommandSays option.Claims = SaysOfInput SaysOfClaims
 CommandSays (option.Debug flags) = SaysOfCommands flags.live
-CommandSays option.Draw = SaysOfInput SaysOfDraw
+CommandSays (option.Draw options) = SaysOfInput (SaysOfDraw (lending_for options.lend))
 CommandSays (option.Emit numbers) = SaysOfInput (SaysOfEmission numbers.object)
 CommandSays (option.Exec numbers) = SaysOfInput (SaysOfExecution numbers.steps)
 CommandSays (option.Explain code) = λ bytes. SaysOfExplain code
 CommandSays option.Migrate = SaysOfInput SaysOfMigration
-CommandSays (option.Outcomes numbers) = SaysOfInput (SaysOfOutcomes numbers.lend numbers.first_deadlock numbers.prints numbers.states)
+CommandSays (option.Outcomes numbers) = SaysOfInput (SaysOfSearches numbers)
 CommandSays option.Plan = SaysOfInput SaysOfPlan
 CommandSays (option.Record numbers) = SaysOfInput (SaysOfRecord numbers.run.steps numbers.seed)
-CommandSays option.Replay = SaysOfInput SaysOfReplay
+CommandSays (option.Replay options) = SaysOfInput (SaysOfReplay (lending_for options.lend))
 CommandSays (option.Run numbers) = SaysOfInput (SaysOfTextRun numbers.steps)
 CommandSays (option.States numbers) = SaysOfInput (SaysOfStates (shown_by numbers))
 

@@ -39,13 +39,13 @@ pub fn answer_alone<I: Input, O: Output>(
         Ok(Options::Check(numbers)) => check_engine(alloc, numbers, input, output),
         Ok(Options::Claims) => claims_engine(alloc, input, output),
         Ok(Options::Debug(flags)) => debug(alloc, flags, input, output),
-        Ok(Options::Draw) => draw_engine(alloc, input, output),
+        Ok(Options::Draw(options)) => draw_engine(alloc, options, input, output),
         Ok(Options::Emit(numbers)) => emit_engine(alloc, numbers, input, output),
         Ok(Options::Explain(code)) => explain_engine(alloc, code, output),
         Ok(Options::Migrate) => migrate_engine(alloc, input, output),
         Ok(Options::Outcomes(numbers)) => outcomes_engine(alloc, numbers, input, output),
         Ok(Options::Plan) => plan_engine(alloc, input, output),
-        Ok(Options::Replay) => replay_engine(alloc, input, output),
+        Ok(Options::Replay(options)) => replay_engine(alloc, options, input, output),
         Ok(Options::Exec(numbers)) => {
             let _ = numbers;
             Status::Threads

@@ -23,10 +23,14 @@ pub enum Status {
     Device,
     /// A worker's thread could not be started.
     Threads,
+    /// A deadlock was found.
+    Deadlock,
+    /// A run is not as it was expected.
+    Unexpected,
 }
 
 impl Status {
-    /// Returns the exit status of the program, from 0 to 7.
+    /// Returns the exit status of the program, from 0 to 10.
     pub fn number(self) -> u8
         ensures { result ≡ status_number self }
     {
@@ -39,6 +43,8 @@ impl Status {
             Status::Memory => 5,
             Status::Device => 6,
             Status::Threads => 7,
+            Status::Deadlock => 9,
+            Status::Unexpected => 10,
         }
     }
 }

@@ -43,7 +43,7 @@ unfoldable pub debug_command : App
 debug_command = with_rule (new_app (codes "debug")) (flag_rule (codes "live"))
 
 unfoldable pub draw_command : App
-draw_command = new_app (codes "draw")
+draw_command = with_rule (new_app (codes "draw")) (word_rule_or (codes "lend") (codes "banker"))
 
 unfoldable pub emit_command : App
 emit_command = with_rule (new_app (codes "emit")) (number_rule_or (codes "object") 1 2 (codes "2"))
@@ -63,10 +63,14 @@ outcomes_command =
     with_rule
     (with_rule
     (with_rule
+    (with_rule
+    (with_rule
     (with_rule (new_app (codes "outcomes")) (number_rule_or (codes "states") 1 4000000 (codes "1000000")))
     (word_rule_or (codes "lend") (codes "banker")))
     (flag_rule (codes "first-deadlock")))
-    (flag_rule (codes "prints"))
+    (flag_rule (codes "prints")))
+    (flag_rule (codes "expect")))
+    (flag_rule (codes "any-order"))
 
 unfoldable pub plan_command : App
 plan_command = new_app (codes "plan")
@@ -76,7 +80,7 @@ record_command =
     with_rule (with_run_rules (new_app (codes "record"))) (number_rule (codes "seed") 0 18446744073709551615)
 
 unfoldable pub replay_command : App
-replay_command = new_app (codes "replay")
+replay_command = with_rule (new_app (codes "replay")) (word_rule_or (codes "lend") (codes "banker"))
 
 unfoldable pub run_command : App
 run_command = with_run_rules (new_app (codes "run"))

@@ -2,10 +2,10 @@
 ghost use Rattle.std.specs.Prelude.{◌≡◌, IfOk, codes, false};
 ghost use Rattle.clap.specs.Words.{App, app_of, new_app, rule_of, with_rule};
 ghost use Rattle.clap.specs.declared.builder.command.Command.TheViews.{out-Command};
-ghost use Rattle.pb_command_line.specs.CommandLine.{IsCommand, check_command, debug_command, emit_command, exec_command};
-ghost use Rattle.pb_command_line.specs.CommandLine.{explain_command, flag_rule, number_rule, number_rule_or};
-ghost use Rattle.pb_command_line.specs.CommandLine.{outcomes_command, record_command, run_command, states_command, that_wants_command};
-ghost use Rattle.pb_command_line.specs.CommandLine.{word_rule_or, command_line as whole, with_bank_commands, with_code_commands, with_command};
+ghost use Rattle.pb_command_line.specs.CommandLine.{IsCommand, check_command, debug_command, draw_command, emit_command};
+ghost use Rattle.pb_command_line.specs.CommandLine.{exec_command, explain_command, flag_rule, number_rule, number_rule_or};
+ghost use Rattle.pb_command_line.specs.CommandLine.{outcomes_command, record_command, replay_command, run_command, states_command};
+ghost use Rattle.pb_command_line.specs.CommandLine.{that_wants_command, word_rule_or, command_line as whole, with_bank_commands, with_code_commands, with_command};
 ghost use Rattle.pb_command_line.specs.CommandLine.{with_object_commands, with_other_commands, with_pick_commands};
 ghost use Rattle.pb_command_line.specs.CommandLine.{with_run_rules, with_text_commands};
 
@@ -171,6 +171,13 @@ fn debug_picks<'a>(alloc: Global) -> Result<Command<'a>, AllocError>
     with_option(debug, live)
 }
 
+fn draw_picks<'a>(alloc: Global) -> Result<Command<'a>, AllocError>
+    ensures { IfOk result (IsCommand draw_command) }
+{
+    let about = "Draw the picks that follow a program and a line %% on standard input";
+    with_lend(alloc, plain(alloc, "draw", about))
+}
+
 #[tactic(auto, unfolding(crate::specs::CommandLine::emit_command))]
 fn emit_object<'a>(alloc: Global) -> Result<Command<'a>, AllocError>
     ensures { IfOk result (IsCommand emit_command) }
@@ -214,7 +221,12 @@ fn outcomes_of_text<'a>(alloc: Global) -> Result<Command<'a>, AllocError>
     let first = "End at the first deadlock that is found";
     let outcomes = with_flag(alloc, outcomes, "first-deadlock", first);
     let prints = "Tell outcomes with different prints apart, and show what was printed";
-    with_flag(alloc, outcomes, "prints", prints)
+    let outcomes = with_flag(alloc, outcomes, "prints", prints);
+    let expect =
+        "Compare the prints of every run with the lines after the program and a line %%; --prints and --first-deadlock then change nothing";
+    let outcomes = with_flag(alloc, outcomes, "expect", expect);
+    let any_order = "With --expect: those lines may be printed in any order";
+    with_flag(alloc, outcomes, "any-order", any_order)
 }
 
 fn states_of_run<'a>(alloc: Global) -> Result<Command<'a>, AllocError>
@@ -237,6 +249,13 @@ fn record_text<'a>(alloc: Global) -> Result<Command<'a>, AllocError>
     let seed = number_option(alloc, "seed", 0, 18_446_744_073_709_551_615);
     let seed = seed.help("Draw each step by a generator with this seed, without worker threads");
     with_option(record, seed)
+}
+
+fn replay_picks<'a>(alloc: Global) -> Result<Command<'a>, AllocError>
+    ensures { IfOk result (IsCommand replay_command) }
+{
+    let about = "Replay the picks that follow a program and a line %% on standard input";
+    with_lend(alloc, plain(alloc, "replay", about))
 }
 
 fn run_texts<'a>(alloc: Global) -> Result<Command<'a>, AllocError>
@@ -321,8 +340,7 @@ fn with_picks<'a>(
     ensures { (app : App) → IfOk command.entry (λ c. app_of c ≡ app) → IfOk result (λ c. app_of c ≡ with_pick_commands app) }
 {
     let command = with_made(command, record_text(alloc));
-    let about = "Replay the picks that follow a program and a line %% on standard input";
-    let command = with_made(command, plain(alloc, "replay", about));
+    let command = with_made(command, replay_picks(alloc));
     with_made(command, debug_picks(alloc))
 }
 
@@ -332,8 +350,7 @@ fn with_others<'a>(
 ) -> Result<Command<'a>, AllocError>
     ensures { (app : App) → IfOk command.entry (λ c. app_of c ≡ app) → IfOk result (λ c. app_of c ≡ with_other_commands app) }
 {
-    let about = "Draw the picks that follow a program and a line %% on standard input";
-    let command = with_made(command, plain(alloc, "draw", about));
+    let command = with_made(command, draw_picks(alloc));
     let command = with_made(command, outcomes_of_text(alloc));
     with_made(command, explain_code(alloc))
 }

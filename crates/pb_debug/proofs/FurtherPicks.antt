@@ -4,6 +4,7 @@ use Rattle.std.proofs.Common.{option_to_list, sym, ap, ◌∙◌, subst, length-
 use Rattle.std.specs.Prelude.{slice_get}
 use Rattle.std.proofs.lemmas.List.{map-append, take_all, take-append-le}
 use Rattle.std.proofs.lemmas.Nat.{mod_below}
+use Rattle.pb_base.specs.declared.lending.Lending.TheVariants.{ByBanker}
 use Rattle.pb_base.specs.declared.event.Event.{Event}
 use Rattle.pb_base.specs.declared.pick.Pick.{Pick}
 use Rattle.pb_base.specs.Steppers.{Makes, State, event_of}
@@ -51,7 +52,7 @@ module _ (v : VerifiedCode) (picks : List Pick) (pick : Pick) (event : Option Ev
   pub stands_behind : IsMachineOf v m → IsAfter v longer (length picks + 1) m
   stands_behind of = record {
     machine = of;
-    state = moved_more v.code longer (length picks) pick event (machine_view m) there
+    state = moved_more v.code longer ByBanker (length picks) pick event (machine_view m) there
         (subst (λ (s : State CodeProcess). CodeMoves v.code s pick event (machine_view m)) (sym before) moves);
   }
 

@@ -1,6 +1,7 @@
 -- What the picks speak of has names.
 use Rattle.std.proofs.Common.{◌≡◌, ℕ, ◌+◌, ◌<◌, List, Some, length, slice_get, arith}
 use Rattle.std.proofs.lemmas.Option.{slice_get_within}
+use Rattle.pb_base.specs.declared.lending.Lending.TheVariants.{ByBanker}
 use Rattle.pb_base.specs.declared.event.Event.{Event}
 use Rattle.pb_base.specs.declared.pick.Pick.{Pick}
 use Rattle.pb_base.specs.Lines.{HasNames}
@@ -18,7 +19,7 @@ use Rattle.pb_verifier.specs.declared.fault.VerifyFault.TheVariants.{OutOfLimits
 pub shown_named : (v : VerifiedCode) (picks : List Pick) (k : ℕ) (event : Event) → IsVerified v → AreEnabled v.code picks
     → Shows v.code picks k event → HasNames v.code.names event
 shown_named v picks k event verified all s =
-    events_have_names v verified (state_after v.code picks k) (position_reached v.code picks k all) s.pick event (state_after v.code picks (k + 1)) s.moves
+    events_have_names ByBanker v verified (state_after v.code picks k) (position_reached v.code picks k all) s.pick event (state_after v.code picks (k + 1)) s.moves
 
 -- the process of each of the picks has a name
 pub pick_named : (v : VerifiedCode) (picks : List Pick) (k : ℕ) (pick : Pick) → IsVerified v → AreEnabled v.code picks → slice_get picks k ≡ Some pick

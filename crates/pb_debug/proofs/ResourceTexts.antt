@@ -1,5 +1,6 @@
 -- What is held of a position is the state there, and what is said of a resource.
 use Rattle.std.proofs.Common.{◌≡◌, ℕ, ap, ◌∙◌, subst}
+use Rattle.pb_banker.specs.Lenders.{lender_state}
 use Rattle.pb_base.specs.Banker.{BankerState}
 use Rattle.pb_base.specs.Steppers.{State, banker_state}
 use Rattle.pb_code.specs.Code.{CodeProcess}
@@ -29,15 +30,15 @@ module _ (i : Inside) (h : IsSound i) (d : Debugging) (same : view_of i ≡ d) w
   pub state_here : machine_view i.walker.machine ≡ state_of d
   state_here = h.walks.state ∙ ap state_of same
 
-  pub bank_here : i.walker.machine.banker.state ≡ bank_state d
+  pub bank_here : lender_state i.walker.machine.bank ≡ bank_state d
   bank_here =
-      h.walks.machine.banker
+      h.walks.machine.bank
       ∙ (ap (λ (s : State CodeProcess). banker_state (bank_of i.verified.now.code) s.loans) h.walks.state ∙ ap bank_state same)
 
   -- the lines of a resource are those at the position
   pub who_here : (code : Code) (r : ℕ) → code ≡ d.verified.code
-      → who_text code (machine_view i.walker.machine) i.walker.machine.banker.state r ≡ who_text d.verified.code (state_of d) (bank_state d) r
+      → who_text code (machine_view i.walker.machine) (lender_state i.walker.machine.bank) r ≡ who_text d.verified.code (state_of d) (bank_state d) r
   who_here code r e =
-      ap (λ (c : Code). who_text c (machine_view i.walker.machine) i.walker.machine.banker.state r) e
-      ∙ (ap (λ (s : State CodeProcess). who_text d.verified.code s i.walker.machine.banker.state r) state_here
+      ap (λ (c : Code). who_text c (machine_view i.walker.machine) (lender_state i.walker.machine.bank) r) e
+      ∙ (ap (λ (s : State CodeProcess). who_text d.verified.code s (lender_state i.walker.machine.bank) r) state_here
       ∙ ap (λ (b : BankerState). who_text d.verified.code (state_of d) b r) bank_here)

@@ -1,6 +1,7 @@
 //! The state at a position.
 
 ghost use Rattle.std.specs.Prelude.{◌≡◌, ◌≤◌, length, IfOk, IfErr, Some, slice_get};
+ghost use Rattle.pb_banker.specs.Lenders.{lender_state};
 ghost use Rattle.pb_debug.specs.Refusals.{HasArm, HasNoProcess, IsMissing};
 ghost use Rattle.pb_debug.specs.Shown.{IsShown, IsArmLine};
 ghost use Rattle.pb_debug.specs.Value.{IsPosition, bank_state, state_of};
@@ -9,7 +10,7 @@ ghost use Rattle.pb_machine.specs.Views.{proc_view};
 
 use crate::debugger::Debugger;
 use crate::fault::DebugFault;
-use pb_banker::Banker;
+use pb_banker::{Banker, Lender};
 use pb_debug_positions::search::line_of_arm;
 use pb_machine::Proc;
 
@@ -36,8 +37,16 @@ impl<'c> Debugger<'c> {
         Ok(process.vars())
     }
 
-    /// Returns the banker at the position, with all loans.
-    pub fn loans(&self) -> &Banker
+    /// Returns the lender at the position, with all loans.
+    pub fn loans(&self) -> &Lender
+        ensures shown { lender_state result.now ≡ bank_state self.now }
+        ensures placed { IsPosition self.now }
+    {
+        self.walker.machine.lender()
+    }
+
+    /// Returns the banker at the position.
+    pub(crate) fn banker(&self) -> &Banker
         ensures shown { result.now.state ≡ bank_state self.now }
         ensures placed { IsPosition self.now }
     {

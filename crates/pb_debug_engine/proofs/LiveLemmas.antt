@@ -15,7 +15,7 @@ use Rattle.pb_command_io.specs.Answers.{Says, Tells}
 use Rattle.pb_command_io.specs.Faults.{Devices}
 use Rattle.pb_command_io.specs.declared.status.Status.{Status}
 use Rattle.pb_command_io.specs.declared.status.Status.TheVariants.{Done, Refused, Words, Limit, Fault, Memory, Device}
-use Rattle.pb_command_io.specs.declared.status.Status.TheVariants.{Threads}
+use Rattle.pb_command_io.specs.declared.status.Status.TheVariants.{Threads, Deadlock, Unexpected}
 
 -- the first two parts are read, and the third is answered
 pub live_told : (o mid old new : Option (List ℕ)) (source lines seen shown : List ℕ) (given : Status)
@@ -52,6 +52,8 @@ device_told old new Limit (none, one) grew = absurd (grew (none (λ same. let w 
 device_told old new Fault (none, one) grew = absurd (grew (none (λ same. let w : Fault ≡ Device = same in cc)).0)
 device_told old new Memory (none, one) grew = absurd (grew (none (λ same. let w : Memory ≡ Device = same in cc)).0)
 device_told old new Threads (none, one) grew = absurd (grew (none (λ same. let w : Threads ≡ Device = same in cc)).0)
+device_told old new Deadlock (none, one) grew = absurd (grew (none (λ same. let w : Deadlock ≡ Device = same in cc)).0)
+device_told old new Unexpected (none, one) grew = absurd (grew (none (λ same. let w : Unexpected ≡ Device = same in cc)).0)
 
 -- the first two parts are read, and the commands of the third that were read are answered
 pub live_answered : (o mid left old new : Option (List ℕ)) (source lines seen shown : List ℕ)

@@ -4,6 +4,7 @@ use Rattle.std.proofs.Common.{take, drop, length, replicate, sym, ap, ◌∙◌,
 use Rattle.std.specs.Prelude.{slice_get}
 use Rattle.std.proofs.lemmas.List.{length-map, length-replicate, take-append-le}
 use Rattle.std.proofs.lemmas.Option.{slice_get_within}
+use Rattle.pb_base.specs.declared.lending.Lending.TheVariants.{ByBanker}
 use Rattle.pb_base.specs.declared.pick.Pick.{Pick}
 use Rattle.pb_base.specs.declared.step.Step.{Step}
 use Rattle.pb_base.specs.Steppers.{State}
@@ -36,7 +37,7 @@ silent_from code picks i pick most zero s t same le at h =
 silent_from code picks i pick most (suc made) s t same le at h =
     let mid = silent_from code picks i pick most made s h.0 same (omega (arith, le)) at h.1 in
     let moves = subst (λ (x : State CodeProcess). CodeMoves code x pick None t) mid h.2 in
-    moved_more code picks (i + made) pick None t (same made (omega (arith, le))) moves
+    moved_more code picks ByBanker (i + made) pick None t (same made (omega (arith, le))) moves
     ∙ ap (state_after code picks) (let e : i + made + 1 ≡ i + suc made = omega arith in e)
 
 module _ (v : VerifiedCode) (picks : List Pick) (i : ℕ) (pick : Pick) (most : ℕ) (same : Repeat picks i pick most) where
@@ -87,7 +88,7 @@ checkpoint_here v entries i m of leads at =
     record {
       stands = record {
         machine = of;
-        state = leads_to v.code entries (machine_view m) leads ∙ ap (state_after v.code (picks_of entries)) here;
+        state = leads_to ByBanker v.code entries (machine_view m) leads ∙ ap (state_after v.code (picks_of entries)) here;
       };
       within = omega (arith, here);
     }

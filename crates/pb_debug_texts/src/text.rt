@@ -1,6 +1,7 @@
 //! The lines that a session answers.
 
 ghost use Rattle.std.specs.Prelude.{◌≡◌, ◌<◌, ◌≤◌, ◌++◌, ℕ, length, map, codes, OnOk, All};
+ghost use Rattle.pb_banker.specs.Lenders.{lender_state};
 ghost use Rattle.pb_base.specs.Banker.{processes, resources, claim, loan, cash};
 ghost use Rattle.pb_base.specs.Lines.{HasNames, each_below, names_view, name_of};
 ghost use Rattle.pb_debug_texts.specs.Texts as said;
@@ -9,7 +10,7 @@ ghost use Rattle.pb_machine.specs.Views.{proc_view, thread_view};
 
 use crate::why::Why;
 use itoa::Integer;
-use pb_banker::Banker;
+use pb_banker::Lender;
 use pb_base::writing::{put, put_line, put_name, put_number, put_pick};
 use pb_base::{Event, Names, NoMemory, Pick, event_line};
 use pb_machine::{Proc, Thread, ThreadState};
@@ -158,36 +159,31 @@ pub fn put_threads(text: &mut Vec<u8>, process: &Proc) -> Result<(), NoMemory>
 pub(crate) fn put_loan(
     text: &mut Vec<u8>,
     names: &Names,
-    banker: &Banker,
+    bank: &Lender,
     p: usize,
     r: usize,
 ) -> Result<(), NoMemory>
-    requires process { p < processes banker.now.state }
-    requires resource { r < resources banker.now.state }
+    requires process { p < processes (lender_state bank.now) }
+    requires resource { r < resources (lender_state bank.now) }
     requires process_name { p < length (names_view names.now).processes }
     requires resource_name { r < length (names_view names.now).resources }
-    ensures { OnOk result (text.new.items ≡ text.old.items ++ said.loan_text (names_view names.now) banker.now.state p r) }
+    ensures { OnOk result (text.new.items ≡ text.old.items ++ said.loan_text (names_view names.now) (lender_state bank.now) p r) }
 {
     put(text, &names.processes[p])?;
-    put_number(text, b" holds ", banker.loan(p, r))?;
+    put_number(text, b" holds ", bank.loan(p, r))?;
     put_name(text, b" ", &names.resources[r])?;
-    end_number(text, b" claim ", banker.claim(p, r))
+    end_number(text, b" claim ", bank.claim(p, r))
 }
 
 // Appends the lines of the loans of a process to a text.
-fn put_loans_of(
-    text: &mut Vec<u8>,
-    names: &Names,
-    banker: &Banker,
-    p: usize,
-) -> Result<(), NoMemory>
-    requires process { p < processes banker.now.state }
-    requires process_names { length (names_view names.now).processes ≡ processes banker.now.state }
-    requires resource_names { length (names_view names.now).resources ≡ resources banker.now.state }
-    ensures { OnOk result (text.new.items ≡ text.old.items ++ said.loans_of (names_view names.now) banker.now.state p) }
+fn put_loans_of(text: &mut Vec<u8>, names: &Names, bank: &Lender, p: usize) -> Result<(), NoMemory>
+    requires process { p < processes (lender_state bank.now) }
+    requires process_names { length (names_view names.now).processes ≡ processes (lender_state bank.now) }
+    requires resource_names { length (names_view names.now).resources ≡ resources (lender_state bank.now) }
+    ensures { OnOk result (text.new.items ≡ text.old.items ++ said.loans_of (names_view names.now) (lender_state bank.now) p) }
 {
-    for r in 0..banker.resources() {
-        put_loan(text, names, banker, p, r)?;
+    for r in 0..bank.resources() {
+        put_loan(text, names, bank, p, r)?;
     }
     Ok(())
 }
@@ -207,27 +203,27 @@ pub(crate) fn put_cash(
 }
 
 // Appends the lines of all cash to a text.
-fn put_all_cash(text: &mut Vec<u8>, names: &Names, banker: &Banker) -> Result<(), NoMemory>
-    requires { length (names_view names.now).resources ≡ resources banker.now.state }
+fn put_all_cash(text: &mut Vec<u8>, names: &Names, bank: &Lender) -> Result<(), NoMemory>
+    requires { length (names_view names.now).resources ≡ resources (lender_state bank.now) }
     ensures { OnOk result (text.new.items ≡ text.old.items
-        ++ each_below (λ r. said.cash_text (names_view names.now) (cash banker.now.state r) r) (resources banker.now.state)) }
+        ++ each_below (λ r. said.cash_text (names_view names.now) (cash (lender_state bank.now) r) r) (resources (lender_state bank.now))) }
 {
-    for r in 0..banker.resources() {
-        put_cash(text, names, banker.cash(r), r)?;
+    for r in 0..bank.resources() {
+        put_cash(text, names, bank.cash(r), r)?;
     }
     Ok(())
 }
 
 /// Appends the lines of all loans and of the cash to a text.
-pub fn put_loans(text: &mut Vec<u8>, names: &Names, banker: &Banker) -> Result<(), NoMemory>
-    requires process_names { length (names_view names.now).processes ≡ processes banker.now.state }
-    requires resource_names { length (names_view names.now).resources ≡ resources banker.now.state }
-    ensures { OnOk result (text.new.items ≡ text.old.items ++ said.loans_text (names_view names.now) banker.now.state) }
+pub fn put_loans(text: &mut Vec<u8>, names: &Names, bank: &Lender) -> Result<(), NoMemory>
+    requires process_names { length (names_view names.now).processes ≡ processes (lender_state bank.now) }
+    requires resource_names { length (names_view names.now).resources ≡ resources (lender_state bank.now) }
+    ensures { OnOk result (text.new.items ≡ text.old.items ++ said.loans_text (names_view names.now) (lender_state bank.now)) }
 {
-    for p in 0..banker.processes() {
-        put_loans_of(text, names, banker, p)?;
+    for p in 0..bank.processes() {
+        put_loans_of(text, names, bank, p)?;
     }
-    put_all_cash(text, names, banker)
+    put_all_cash(text, names, bank)
 }
 
 /// Appends the line that tells a source line.

@@ -1,6 +1,7 @@
 //! Who holds a resource, and who asks for it.
 
 ghost use Rattle.std.specs.Prelude.{◌≡◌, ◌==◌, ◌<◌, ◌++◌, ℕ, cond, length, slice_get, Some, OnOk};
+ghost use Rattle.pb_banker.specs.Lenders.{lender_state};
 ghost use Rattle.pb_base.specs.Banker.{processes, resources};
 ghost use Rattle.pb_base.specs.Bundle as bundles;
 ghost use Rattle.pb_base.specs.Lines.{names_view, each_below};
@@ -12,7 +13,7 @@ ghost use Rattle.pb_machine.specs.Views.{machine_view, proc_view, thread_view};
 
 use crate::text::{end_name, put_cash, put_loan};
 use crate::why::asked;
-use pb_banker::Banker;
+use pb_banker::Lender;
 use pb_base::writing::{put, put_number};
 use pb_base::{Bundle, Names, NoMemory, Pair};
 use pb_code::{Code, ProcessCode};
@@ -117,33 +118,33 @@ fn put_askers(text: &mut Vec<u8>, code: &Code, machine: &Machine, r: usize) -> R
 fn put_holder(
     text: &mut Vec<u8>,
     names: &Names,
-    banker: &Banker,
+    bank: &Lender,
     r: usize,
     p: usize,
 ) -> Result<(), NoMemory>
-    requires process { p < processes banker.now.state }
-    requires resource { r < resources banker.now.state }
+    requires process { p < processes (lender_state bank.now) }
+    requires resource { r < resources (lender_state bank.now) }
     requires process_name { p < length (names_view names.now).processes }
     requires resource_name { r < length (names_view names.now).resources }
     ensures { OnOk result (text.new.items
-        ≡ text.old.items ++ said.holder_text (names_view names.now) banker.now.state r p) }
+        ≡ text.old.items ++ said.holder_text (names_view names.now) (lender_state bank.now) r p) }
 {
-    if banker.loan(p, r) == 0 {
+    if bank.loan(p, r) == 0 {
         return Ok(());
     }
-    put_loan(text, names, banker, p, r)
+    put_loan(text, names, bank, p, r)
 }
 
 // Appends the lines of all processes that hold a resource to a text.
-fn put_holders(text: &mut Vec<u8>, names: &Names, banker: &Banker, r: usize) -> Result<(), NoMemory>
-    requires resource { r < resources banker.now.state }
-    requires process_names { length (names_view names.now).processes ≡ processes banker.now.state }
+fn put_holders(text: &mut Vec<u8>, names: &Names, bank: &Lender, r: usize) -> Result<(), NoMemory>
+    requires resource { r < resources (lender_state bank.now) }
+    requires process_names { length (names_view names.now).processes ≡ processes (lender_state bank.now) }
     requires resource_name { r < length (names_view names.now).resources }
     ensures { OnOk result (text.new.items ≡ text.old.items
-        ++ each_below (said.holder_text (names_view names.now) banker.now.state r) (processes banker.now.state)) }
+        ++ each_below (said.holder_text (names_view names.now) (lender_state bank.now) r) (processes (lender_state bank.now))) }
 {
-    for p in 0..banker.processes() {
-        put_holder(text, names, banker, r, p)?;
+    for p in 0..bank.processes() {
+        put_holder(text, names, bank, r, p)?;
     }
     Ok(())
 }
@@ -155,14 +156,14 @@ pub fn put_who(text: &mut Vec<u8>, code: &Code, machine: &Machine, r: usize) -> 
         → slice_get (code_view code.now).processes p ≡ Some (process_view process) → NamesBundles process }
     requires processes { length (machine_view machine.now).processes ≡ length (code_view code.now).processes }
     requires process_names { length (code_view code.now).names.processes ≡ length (code_view code.now).processes }
-    requires rows { processes machine.now.banker.state ≡ length (code_view code.now).processes }
-    requires resource { r < resources machine.now.banker.state }
+    requires rows { processes (lender_state machine.now.bank) ≡ length (code_view code.now).processes }
+    requires resource { r < resources (lender_state machine.now.bank) }
     requires resource_name { r < length (code_view code.now).names.resources }
     ensures { OnOk result (text.new.items ≡ text.old.items
-        ++ said.who_text (code_view code.now) (machine_view machine.now) machine.now.banker.state r) }
+        ++ said.who_text (code_view code.now) (machine_view machine.now) (lender_state machine.now.bank) r) }
 {
-    let banker = machine.banker();
-    put_holders(text, &code.names, banker, r)?;
+    let bank = machine.lender();
+    put_holders(text, &code.names, bank, r)?;
     put_askers(text, code, machine, r)?;
-    put_cash(text, &code.names, banker.cash(r), r)
+    put_cash(text, &code.names, bank.cash(r), r)
 }

@@ -2,17 +2,18 @@
 use Rattle.std.proofs.Common.{◌≡◌, ℕ, zero, suc, ◌+◌, ◌++◌, [], List, Option, Some, None, refl, sym, ap, ◌∙◌, arith}
 use Rattle.std.specs.Prelude.{option_and_then, slice_get, All}
 use Rattle.std.proofs.lemmas.List.Elements.{All-nil, All-cons, All-append}
+use Rattle.pb_base.specs.declared.lending.Lending.{Lending}
 use Rattle.pb_base.specs.Lines.{HasNames}
 use Rattle.pb_base.specs.Steppers.{Move, event_of}
 use Rattle.pb_base.specs.declared.event.Event.{Event}
 use Rattle.pb_base.specs.declared.pick.Pick.{Pick}
 use Rattle.pb_code.specs.Code.{CodeProcess, code_step}
-use Rattle.pb_code.specs.Whole.{Code, bank_of, code_opening}
+use Rattle.pb_code.specs.Whole.{Code, bank_by, code_opening}
 use Rattle.pb_draw.specs.Marks.{mark_list, marks_at, marks_before}
 use Rattle.pb_draw.specs.Walks.{event_at, shown_in}
 use Rattle.pb_draw.specs.declared.drawing.Mark.{Mark}
 use Rattle.pb_history.proofs.Positions.{enabled_at, position_reached}
-use Rattle.pb_history.specs.Positions.{AreEnabled, state_after}
+use Rattle.pb_history.specs.Positions.{AreEnabledBy, state_after}
 use Rattle.pb_machine.proofs.NeverStuck.{events_have_names}
 use Rattle.pb_verifier.specs.Verified.{VerifiedCode, IsVerified}
 
@@ -28,17 +29,18 @@ marks_more code picks i pick event old new before there same is =
 
 -- ---- all that a mark speaks of has a name
 
-module _ (v : VerifiedCode) (picks : List Pick) (verified : IsVerified v) (all : AreEnabled v.code picks) where
+module _ (lending : Lending) (v : VerifiedCode) (picks : List Pick) (verified : IsVerified v)
+    (all : AreEnabledBy lending v.code picks) where
   shown_named : (i : ℕ) (pick : Pick) (event : Event) → slice_get picks i ≡ Some pick → event_at v.code picks i ≡ Some event
       → HasNames v.code.names event
   shown_named i pick event there shows =
       let stepper = code_step v.code.processes in
       let s = state_after v.code picks i in
-      let e = enabled_at (bank_of v.code) stepper (code_opening v.code) all.end picks all.events i pick all.makes there in
+      let e = enabled_at (bank_by lending v.code) stepper (code_opening v.code) all.end picks all.events i pick all.makes there in
       let here : event_at v.code picks i ≡ event_of pick e.move.effect =
       ap (λ (o : Option Pick). option_and_then (shown_in stepper s) o) there
       ∙ ap (λ (o : Option (Move CodeProcess)). option_and_then (λ move. event_of pick move.effect) o) e.moves in
-      events_have_names v verified s (position_reached v.code picks i all) pick event e.move.next
+      events_have_names lending v verified s (position_reached v.code picks i all) pick event e.move.next
       (e.move.effect, e.moves, e.granted, sym here ∙ shows)
 
   named_list : (event : Option Event) (pick : Option Pick) (i : ℕ) → event_at v.code picks i ≡ event → slice_get picks i ≡ pick

@@ -7,12 +7,12 @@ ghost use Rattle.pb_code.specs.Whole.{bank_of};
 ghost use Rattle.pb_draw.specs.Cash.{IsCashCurve, ShowsCash};
 ghost use Rattle.pb_draw.specs.Drawings.{AreCashCurves};
 ghost use Rattle.pb_history.specs.Entries.{picks_of};
-ghost use Rattle.pb_history.specs.Positions.{AreEnabled};
-ghost use Rattle.pb_machine.specs.Views.{IsMachineOf, machine_view};
+ghost use Rattle.pb_history.specs.Positions.{AreEnabledBy};
+ghost use Rattle.pb_machine.specs.Views.{IsMachine, machine_view};
 
 use crate::drawing::{CashCurve, CashStep};
 use crate::walk::advance;
-use pb_base::NoMemory;
+use pb_base::{Lending, NoMemory};
 use pb_history::Trace;
 use pb_machine::Machine;
 use pb_verifier::Verified;
@@ -20,12 +20,12 @@ use std::alloc::Global;
 
 // Returns the cash of a resource.
 fn cash_of(verified: &Verified, machine: &Machine, r: usize) -> u32
-    requires machine { IsMachineOf verified.now machine.now }
+    requires machine { IsMachine verified.now machine.now }
     requires resource { r < length verified.now.code.capital }
     ensures { result ≡ cash (banker_state (bank_of verified.now.code) (machine_view machine.now).loans) r }
 {
     let _ = verified;
-    machine.banker().cash(r)
+    machine.lender().cash(r)
 }
 
 // Returns a curve that begins with this cash.
@@ -53,14 +53,15 @@ fn add_step(steps: &mut Vec<CashStep>, last: u32, at: u32, cash: u32) -> Result<
 fn cash_curve(
     alloc: Global,
     verified: &Verified,
+    lending: Lending,
     trace: &Trace,
     r: usize,
 ) -> Result<CashCurve, NoMemory>
-    requires enabled { AreEnabled verified.now.code (picks_of trace.now.entries) }
+    requires enabled { AreEnabledBy lending verified.now.code (picks_of trace.now.entries) }
     requires resource { r < length verified.now.code.capital }
     ensures { IfOk result (IsCashCurve verified.now.code (picks_of trace.now.entries) r) }
 {
-    let mut machine = Machine::new(alloc, verified)?;
+    let mut machine = Machine::new_by(alloc, verified, lending)?;
     let mut last = cash_of(verified, &machine, r);
     let mut steps = first_step(alloc, last)?;
     for i in 0..trace.len() {
@@ -76,15 +77,16 @@ fn cash_curve(
 pub(crate) fn cash_curves(
     alloc: Global,
     verified: &Verified,
+    lending: Lending,
     trace: &Trace,
 ) -> Result<Vec<CashCurve>, NoMemory>
-    requires { AreEnabled verified.now.code (picks_of trace.now.entries) }
+    requires { AreEnabledBy lending verified.now.code (picks_of trace.now.entries) }
     ensures { IfOk result (λ curves. AreCashCurves verified.now.code (picks_of trace.now.entries) curves.items) }
 {
     let mut curves = Vec::new(alloc);
     let resources = verified.code().capital.resources();
     for r in 0..resources {
-        curves.push(cash_curve(alloc, verified, trace, r)?)?;
+        curves.push(cash_curve(alloc, verified, lending, trace, r)?)?;
     }
     Ok(curves)
 }

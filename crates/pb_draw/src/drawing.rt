@@ -7,14 +7,14 @@ ghost use Rattle.pb_draw.specs.Arms.{AreDifferent};
 ghost use Rattle.pb_draw.specs.Drawings.{IsDrawing};
 ghost use Rattle.pb_draw.specs.Marks.{AreInOrder};
 ghost use Rattle.pb_history.specs.Entries.{picks_of};
-ghost use Rattle.pb_history.specs.Positions.{AreEnabled};
+ghost use Rattle.pb_history.specs.Positions.{AreEnabledBy};
 
 use crate::bars::bars_of;
 use crate::cash::cash_curves;
 use crate::lanes::lanes_of;
 use crate::marks::marks_of;
 use pb_base::limits::MAX_PICKS;
-use pb_base::{Bundle, Event, NoMemory, Pick};
+use pb_base::{Bundle, Event, Lending, NoMemory, Pick};
 use pb_history::Trace;
 use pb_verifier::Verified;
 use std::alloc::Global;
@@ -90,9 +90,15 @@ pub struct Drawing {
     pub curves: Vec<CashCurve>,
 }
 
-/// Returns what the run with this trace shows over its picks. The trace is of a replay of the code.
-pub fn draw(alloc: Global, verified: &Verified, trace: &Trace) -> Result<Drawing, NoMemory>
-    requires enabled { AreEnabled verified.now.code (picks_of trace.now.entries) }
+/// Returns what the run with this trace shows over its picks. The trace is of a replay of the code under this
+/// lending.
+pub fn draw(
+    alloc: Global,
+    verified: &Verified,
+    lending: Lending,
+    trace: &Trace,
+) -> Result<Drawing, NoMemory>
+    requires enabled { AreEnabledBy lending verified.now.code (picks_of trace.now.entries) }
     requires few { length trace.now.entries ≤ MAX_PICKS }
     ensures drawing { IfOk result (IsDrawing verified.now.code (picks_of trace.now.entries)) }
     ensures named { IfOk result (λ d. All (λ m. HasNames verified.now.code.names m.event) d.marks.items) }
@@ -103,10 +109,10 @@ pub fn draw(alloc: Global, verified: &Verified, trace: &Trace) -> Result<Drawing
 {
     let _ = verified.code();
     let picks = trace.len();
-    let marks = marks_of(alloc, verified, trace)?;
+    let marks = marks_of(alloc, verified, lending, trace)?;
     let bars = bars_of(alloc, marks.as_slice())?;
-    let lanes = lanes_of(alloc, verified, trace)?;
-    let curves = cash_curves(alloc, verified, trace)?;
+    let lanes = lanes_of(alloc, verified, lending, trace)?;
+    let curves = cash_curves(alloc, verified, lending, trace)?;
     Ok(Drawing {
         picks,
         marks,

@@ -8,12 +8,12 @@ ghost use Rattle.pb_draw.specs.Drawings.{AreLanes};
 ghost use Rattle.pb_draw.specs.Lanes.{IsLane, ShowsStandings, is_request, standing_in};
 ghost use Rattle.pb_base.specs.declared.pair.Pair.{Pair};
 ghost use Rattle.pb_history.specs.Entries.{picks_of};
-ghost use Rattle.pb_history.specs.Positions.{AreEnabled};
+ghost use Rattle.pb_history.specs.Positions.{AreEnabledBy};
 ghost use Rattle.pb_machine.specs.Views.{machine_view};
 
 use crate::drawing::{Lane, LaneStep, Standing};
 use crate::walk::advance;
-use pb_base::{NoMemory, Pick};
+use pb_base::{Lending, NoMemory, Pick};
 use pb_code::Instr;
 use pb_history::Trace;
 use pb_machine::Machine;
@@ -113,14 +113,20 @@ fn add_step(
 }
 
 // Returns the state of an arm at each position.
-fn lane_of(alloc: Global, verified: &Verified, trace: &Trace, pick: Pick) -> Result<Lane, NoMemory>
-    requires { AreEnabled verified.now.code (picks_of trace.now.entries) }
+fn lane_of(
+    alloc: Global,
+    verified: &Verified,
+    lending: Lending,
+    trace: &Trace,
+    pick: Pick,
+) -> Result<Lane, NoMemory>
+    requires { AreEnabledBy lending verified.now.code (picks_of trace.now.entries) }
     ensures lane { IfOk result (IsLane verified.now.code (picks_of trace.now.entries) pick.process pick.arm) }
     ensures arm { IfOk result (λ lane. lane.pick ≡ pick) }
 {
     let p = usize::from(pick.process);
     let arm = usize::from(pick.arm);
-    let mut machine = Machine::new(alloc, verified)?;
+    let mut machine = Machine::new_by(alloc, verified, lending)?;
     let mut last = standing_of(verified, &machine, p, arm);
     let mut steps = first_step(alloc, last)?;
     for i in 0..trace.len() {
@@ -136,11 +142,12 @@ fn lane_of(alloc: Global, verified: &Verified, trace: &Trace, pick: Pick) -> Res
 fn add_lanes(
     alloc: Global,
     verified: &Verified,
+    lending: Lending,
     trace: &Trace,
     process: u8,
     lanes: &mut Vec<Lane>,
 ) -> Result<(), NoMemory>
-    requires enabled { AreEnabled verified.now.code (picks_of trace.now.entries) }
+    requires enabled { AreEnabledBy lending verified.now.code (picks_of trace.now.entries) }
     requires lanes { AreLanes verified.now.code (picks_of trace.now.entries) lanes.old.items }
     requires process { process < length verified.now.code.processes }
     ensures lanes { OnOk result (AreLanes verified.now.code (picks_of trace.now.entries) lanes.new.items) }
@@ -153,7 +160,7 @@ fn add_lanes(
         .len();
     for arm in 0..arms.min(MAX_LANES) as u8 {
         let pick = Pick { process, arm };
-        let lane = lane_of(alloc, verified, trace, pick)?;
+        let lane = lane_of(alloc, verified, lending, trace, pick)?;
         lanes.push(lane)?;
     }
     Ok(())
@@ -163,16 +170,17 @@ fn add_lanes(
 pub(crate) fn lanes_of(
     alloc: Global,
     verified: &Verified,
+    lending: Lending,
     trace: &Trace,
 ) -> Result<Vec<Lane>, NoMemory>
-    requires { AreEnabled verified.now.code (picks_of trace.now.entries) }
+    requires { AreEnabledBy lending verified.now.code (picks_of trace.now.entries) }
     ensures lanes { IfOk result (λ lanes. AreLanes verified.now.code (picks_of trace.now.entries) lanes.items) }
     ensures arms { IfOk result (λ lanes. map (λ lane. lane.pick) lanes.items ≡ arms_from 0 verified.now.code.processes) }
 {
     let mut lanes = Vec::new(alloc);
     let processes = verified.code().processes.len();
     for process in 0..processes.min(MAX_LANES) as u8 {
-        add_lanes(alloc, verified, trace, process, &mut lanes)?;
+        add_lanes(alloc, verified, lending, trace, process, &mut lanes)?;
     }
     Ok(lanes)
 }

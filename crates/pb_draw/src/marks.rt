@@ -3,11 +3,11 @@
 ghost use Rattle.std.specs.Prelude.{◌≡◌, ◌++◌, IfOk, OnOk, Some, length};
 ghost use Rattle.pb_draw.specs.Marks.{mark_list, marks_before};
 ghost use Rattle.pb_history.specs.Entries.{picks_of};
-ghost use Rattle.pb_history.specs.Positions.{AreEnabled};
+ghost use Rattle.pb_history.specs.Positions.{AreEnabledBy};
 
 use crate::drawing::Mark;
 use crate::walk::advance;
-use pb_base::{Event, NoMemory, Pick};
+use pb_base::{Event, Lending, NoMemory, Pick};
 use pb_history::Trace;
 use pb_machine::Machine;
 use pb_verifier::Verified;
@@ -32,13 +32,14 @@ fn add_mark(
 pub(crate) fn marks_of(
     alloc: Global,
     verified: &Verified,
+    lending: Lending,
     trace: &Trace,
 ) -> Result<Vec<Mark>, NoMemory>
-    requires { AreEnabled verified.now.code (picks_of trace.now.entries) }
+    requires { AreEnabledBy lending verified.now.code (picks_of trace.now.entries) }
     ensures { IfOk result (λ marks.
         marks.items ≡ marks_before verified.now.code (picks_of trace.now.entries) (length trace.now.entries)) }
 {
-    let mut machine = Machine::new(alloc, verified)?;
+    let mut machine = Machine::new_by(alloc, verified, lending)?;
     let mut marks = Vec::new(alloc);
     for at in 0..trace.len() {
         let pick = trace.pick(at);

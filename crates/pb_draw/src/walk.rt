@@ -1,7 +1,8 @@
 //! A machine that makes the picks of a trace.
 
 ghost use Rattle.std.specs.Prelude.{◌≡◌, ◌+◌, ◌<◌, length};
-ghost use Rattle.pb_history.specs.Positions.{IsAfter, AreEnabled};
+ghost use Rattle.pb_history.specs.Positions.{IsAfterBy, AreEnabledBy};
+ghost use Rattle.pb_base.specs.declared.lending.Lending.{Lending as LendingValue};
 ghost use Rattle.pb_draw.specs.Walks.{event_at, step_event};
 ghost use Rattle.pb_history.specs.Entries.{picks_of};
 
@@ -18,10 +19,12 @@ pub(crate) fn advance(
     machine: &mut Machine,
     i: u32,
 ) -> Option<Event>
-    requires enabled { AreEnabled verified.now.code (picks_of trace.now.entries) }
-    requires stands { IsAfter verified.now (picks_of trace.now.entries) i machine.old }
+    requires stands { (lending : LendingValue) × AreEnabledBy lending verified.now.code (picks_of trace.now.entries)
+        × IsAfterBy lending verified.now (picks_of trace.now.entries) i machine.old }
     requires within { i < length trace.now.entries }
-    ensures stands { IsAfter verified.now (picks_of trace.now.entries) (i + 1) machine.new }
+    ensures stands { (lending : LendingValue) → AreEnabledBy lending verified.now.code (picks_of trace.now.entries)
+        → IsAfterBy lending verified.now (picks_of trace.now.entries) i machine.old
+        → IsAfterBy lending verified.now (picks_of trace.now.entries) (i + 1) machine.new }
     ensures event { result ≡ event_at verified.now.code (picks_of trace.now.entries) i }
 {
     let pick = trace.pick(i);

@@ -1,5 +1,6 @@
 -- What `draw` says of an input, and with which status.
 use Rattle.std.specs.Prelude.{◌≡◌, ℕ, List, map}
+use Rattle.pb_base.specs.declared.lending.Lending.{Lending}
 use Rattle.pb_base.specs.Steppers.{State}
 use Rattle.pb_code.specs.Code.{CodeProcess}
 use Rattle.pb_code.specs.Whole.{Code, ProcessLabels}
@@ -17,7 +18,7 @@ use Rattle.pb_base.specs.Lines.{line}
 use Rattle.pb_command_io.specs.Answers.{memory_line}
 use Rattle.pb_command_io.specs.Parts.{AreTwoParts}
 use Rattle.pb_accept.specs.Refusals.{RefusesWith}
-use Rattle.pb_accept.specs.ReplayLines.{AreReplayed, IsStatusAt, SaysOfNoPicks}
+use Rattle.pb_accept.specs.ReplayLines.{AreReplayedBy, IsStatusAt, SaysOfNoPicksBy}
 use Rattle.pb_command_io.specs.declared.status.Status.{Status}
 use Rattle.pb_command_io.specs.declared.status.Status.TheVariants.{Memory, Refused}
 use Rattle.pb_history.specs.Entries.{Entry, picks_of}
@@ -33,20 +34,21 @@ pub record IsPictured (code : Code) (entries : List Entry) (text : List ℕ) : T
   pub rising : AreFromLeft (map sign_of picture.ticks.items)
   pub written : text ≡ svg picture
 
--- what is said of the lines behind an accepted text, by its code: their picks are refused; or all are made,
--- and the picture of them is written, with the status of `replay`
-pub data SaysOfDrawnLines (code : Code) (lines : List ℕ) : List ℕ → Status → Type 0 where
-  not_made : (said : List ℕ) (status : Status) → SaysOfNoPicks code lines said status
-      → SaysOfDrawnLines code lines said status
-  no_memory : SaysOfDrawnLines code lines memory_line Memory
-  drawn : (entries : List Entry) (end : State CodeProcess) → AreReplayed code lines entries end
+-- what is said of the lines behind an accepted text, by its code: their picks are refused under this lending; or
+-- all are made, and the picture of them is written
+pub data SaysOfDrawnLines (lending : Lending) (code : Code) (lines : List ℕ) : List ℕ → Status → Type 0 where
+  not_made : (said : List ℕ) (status : Status) → SaysOfNoPicksBy lending code lines said status
+      → SaysOfDrawnLines lending code lines said status
+  no_memory : SaysOfDrawnLines lending code lines memory_line Memory
+  drawn : (entries : List Entry) (end : State CodeProcess) → AreReplayedBy lending code lines entries end
       → (said : List ℕ) → IsPictured code entries said → (status : Status) → IsStatusAt end status
-      → SaysOfDrawnLines code lines said status
+      → SaysOfDrawnLines lending code lines said status
 
 -- what is said of an input, which is a text and pick lines behind it: its text is refused; or it is accepted
-pub data SaysOfDraw (bytes : List ℕ) : List ℕ → Status → Type 0 where
+pub data SaysOfDraw (lending : Lending) (bytes : List ℕ) : List ℕ → Status → Type 0 where
   no_text : (text lines : List ℕ) → AreTwoParts bytes text lines
-      → (refusal : List ℕ) → RefusesWith text refusal → SaysOfDraw bytes (line refusal) Refused
+      → (refusal : List ℕ) → RefusesWith text refusal → SaysOfDraw lending bytes (line refusal) Refused
   with_code : (text lines : List ℕ) → AreTwoParts bytes text lines
       → (code : Code) (labels : List ProcessLabels) → IsCompiled text code labels
-      → (said : List ℕ) (status : Status) → SaysOfDrawnLines code lines said status → SaysOfDraw bytes said status
+      → (said : List ℕ) (status : Status) → SaysOfDrawnLines lending code lines said status
+      → SaysOfDraw lending bytes said status

@@ -7,14 +7,15 @@ ghost use Rattle.pb_command_io.specs.Faults.{TellsFaults, TellsWriteFaults};
 ghost use Rattle.pb_command_io.specs.Inputs.{SaysOfInput};
 ghost use Rattle.pb_accept.specs.ReplayLines.{IsStatusAt};
 ghost use Rattle.pb_history.specs.Entries.{picks_of};
-ghost use Rattle.pb_history.specs.Positions.{AreEnabled};
+ghost use Rattle.pb_history.specs.Positions.{AreEnabledBy};
 ghost use Rattle.pb_machine.specs.Views.{machine_view};
+ghost use Rattle.pb_options.specs.Lends.{lending_for};
 
 use pb_accept::accept::{compile_text, refuse};
-use pb_accept::replay::{lines_refusal, make_lines, status_at};
-use pb_base::NoMemory;
+use pb_accept::replay::{lines_refusal, make_lines_by, status_at};
 use pb_base::device::{Input, Output};
 use pb_base::limits::{MAX_INPUT, MAX_PICKS};
+use pb_base::{Lending, NoMemory};
 use pb_command_io::Status;
 use pb_command_io::input::read_input;
 use pb_command_io::parts::two_parts;
@@ -23,50 +24,62 @@ use pb_draw::draw;
 use pb_draw_picture::{lay_out, write_svg};
 use pb_history::Trace;
 use pb_machine::Machine;
+use pb_options::DrawOptions;
 use pb_verifier::Verified;
 use std::alloc::Global;
 
-/// Makes the picks that the pick lines behind the text of the input say, from the start of the text, and
-/// writes a picture of that run as SVG. A line `%%` separates the text from the pick lines. If the text, a
+/// Makes the picks that the pick lines behind the text of the input say, from the start of the text, under
+/// whoever decides on requests, and writes a picture of that run as SVG. A line `%%` separates the text from the pick lines. If the text, a
 /// line or a pick is refused, only the refusal line is written, as by `replay`.
 ///
 /// The status is `Fault` if a process faulted. After a read that failed nothing is written; after a write
 /// that failed, a prefix of the output.
-pub fn draw_engine<I: Input, O: Output>(alloc: Global, input: &mut I, output: &mut O) -> Status
+pub fn draw_engine<I: Input, O: Output>(
+    alloc: Global,
+    options: DrawOptions,
+    input: &mut I,
+    output: &mut O,
+) -> Status
     ensures text { IfSome (I.rest input.old) (λ bytes.
-        Tells (SaysOfInput SaysOfDraw bytes) (O.written output.old) (O.written output.new) result) }
+        Tells (SaysOfInput (SaysOfDraw (lending_for options.lend)) bytes) (O.written output.old) (O.written output.new) result) }
     ensures faults { TellsFaults
         (record { reads = I.failures input.old; writes = O.failures output.old; written = O.written output.old })
         (record { reads = I.failures input.new; writes = O.failures output.new; written = O.written output.new })
         result }
 {
     match read_input(alloc, input, output) {
-        Ok(bytes) => draw_bytes(alloc, bytes.as_slice(), output),
+        Ok(bytes) => draw_bytes(alloc, options.lend.lending(), bytes.as_slice(), output),
         Err(status) => status,
     }
 }
 
 // Draws the run of a whole input.
-fn draw_bytes<O: Output>(alloc: Global, bytes: &[u8], output: &mut O) -> Status
+fn draw_bytes<O: Output>(alloc: Global, lending: Lending, bytes: &[u8], output: &mut O) -> Status
     requires { length bytes.now ≤ MAX_INPUT }
-    ensures text { Tells (SaysOfInput SaysOfDraw bytes.now) (O.written output.old) (O.written output.new) result }
+    ensures text { Tells (SaysOfInput (SaysOfDraw lending) bytes.now) (O.written output.old) (O.written output.new) result }
     ensures faults { TellsWriteFaults (O.failures output.old) (O.failures output.new) result }
 {
     let (text, lines) = two_parts(bytes);
     match compile_text(alloc, text) {
-        Ok(compiled) => draw_lines(alloc, compiled.verified(), lines, output),
+        Ok(compiled) => draw_lines(alloc, lending, compiled.verified(), lines, output),
         Err(refusal) => refuse(alloc, refusal, output),
     }
 }
 
 // Draws the run that lines say, or writes why their picks are not made.
-fn draw_lines<O: Output>(alloc: Global, verified: &Verified, lines: &[u8], output: &mut O) -> Status
-    ensures text { Tells (SaysOfDrawnLines verified.now.code lines.now) (O.written output.old) (O.written output.new) result }
+fn draw_lines<O: Output>(
+    alloc: Global,
+    lending: Lending,
+    verified: &Verified,
+    lines: &[u8],
+    output: &mut O,
+) -> Status
+    ensures text { Tells (SaysOfDrawnLines lending verified.now.code lines.now) (O.written output.old) (O.written output.new) result }
     ensures faults { TellsWriteFaults (O.failures output.old) (O.failures output.new) result }
 {
-    match make_lines(alloc, verified, lines) {
+    match make_lines_by(alloc, lending, verified, lines) {
         Ok((machine, trace)) => {
-            let reply = drawn(alloc, verified, &trace, &machine);
+            let reply = drawn(alloc, verified, lending, &trace, &machine);
             tell(alloc, reply, output)
         }
         Err(fault) => tell(alloc, lines_refusal(alloc, fault), output),
@@ -77,16 +90,17 @@ fn draw_lines<O: Output>(alloc: Global, verified: &Verified, lines: &[u8], outpu
 fn drawn(
     alloc: Global,
     verified: &Verified,
+    lending: Lending,
     trace: &Trace,
     machine: &Machine,
 ) -> Result<Reply, NoMemory>
-    requires enabled { AreEnabled verified.now.code (picks_of trace.now.entries) }
+    requires enabled { AreEnabledBy lending verified.now.code (picks_of trace.now.entries) }
     requires few { length trace.now.entries ≤ MAX_PICKS }
     ensures text { IfOk result (λ r. IsPictured verified.now.code trace.now.entries r.text.items) }
     ensures status { IfOk result (λ r. IsStatusAt (machine_view machine.now) r.status) }
 {
     let code = verified.code();
-    let drawing = draw(alloc, verified, trace)?;
+    let drawing = draw(alloc, verified, lending, trace)?;
     let picture = lay_out(alloc, &code.names, &code.capital, &drawing)?;
     let text = write_svg(alloc, &picture)?;
     let status = status_at(machine);

@@ -4,6 +4,7 @@ use pb_base::device::{FaultyInput, MemoryInput, MemoryOutput};
 use pb_command_io::Status;
 use pb_draw_engine::draw_engine;
 use pb_engines::replay_engine;
+use pb_options::{DrawOptions, Lend, ReplayOptions};
 use std::alloc::Global;
 
 /// An input, the size that its picture begins with, the shapes behind [`LOOKS`], and the status.
@@ -68,13 +69,20 @@ const REFUSALS: [Refusal; 4] = [
     },
 ];
 
+const BY_BANKER: DrawOptions = DrawOptions { lend: Lend::Banker };
+
 /// Returns whether exactly the picture of a case is written, with its status.
 fn draws(alloc: Global, case: &Case) -> Option<bool> {
     let mut picture = Vec::from_slice(alloc, case.head).ok()?;
     picture.extend_from_slice(LOOKS).ok()?;
     picture.extend_from_slice(case.shapes).ok()?;
     let mut output = MemoryOutput::new(alloc, 16_384).ok()?;
-    let status = draw_engine(alloc, &mut MemoryInput::new(case.input), &mut output);
+    let status = draw_engine(
+        alloc,
+        BY_BANKER,
+        &mut MemoryInput::new(case.input),
+        &mut output,
+    );
     Some(status == case.status && output.as_slice() == picture.as_slice())
 }
 
@@ -82,8 +90,11 @@ fn draws(alloc: Global, case: &Case) -> Option<bool> {
 fn refuses(alloc: Global, refusal: &Refusal) -> Option<bool> {
     let mut drawn = MemoryOutput::new(alloc, 4_096).ok()?;
     let mut replayed = MemoryOutput::new(alloc, 4_096).ok()?;
-    let draw_status = draw_engine(alloc, &mut MemoryInput::new(refusal.input), &mut drawn);
-    let replay_status = replay_engine(alloc, &mut MemoryInput::new(refusal.input), &mut replayed);
+    let mut input = MemoryInput::new(refusal.input);
+    let draw_status = draw_engine(alloc, BY_BANKER, &mut input, &mut drawn);
+    let options = ReplayOptions { lend: Lend::Banker };
+    let mut input = MemoryInput::new(refusal.input);
+    let replay_status = replay_engine(alloc, options, &mut input, &mut replayed);
     let by_draw = draw_status == Status::Refused && drawn.as_slice() == refusal.said;
     let by_replay = replay_status == Status::Refused && replayed.as_slice() == refusal.said;
     Some(by_draw && by_replay)
@@ -112,7 +123,7 @@ fn refusals_are_those_of_replay(rt: HostRuntime) {
 fn says_nothing(alloc: Global) -> Option<bool> {
     let mut input = FaultyInput::new(b"process p begin print 1 end\n%%\np.0 3\n", 2, 8);
     let mut output = MemoryOutput::new(alloc, 64).ok()?;
-    let status = draw_engine(alloc, &mut input, &mut output);
+    let status = draw_engine(alloc, BY_BANKER, &mut input, &mut output);
     Some(status == Status::Device && output.as_slice().is_empty())
 }
 

@@ -14,6 +14,8 @@ mod draw;
 #[cfg(test)]
 mod examples;
 #[cfg(test)]
+mod expected;
+#[cfg(test)]
 mod explore;
 #[cfg(test)]
 mod graph;

@@ -1,5 +1,6 @@
 //! What is said of refused inputs, by how they are read.
 
+use pb_base::Lending;
 use pb_base::device::{FaultyInput, Input};
 use pb_messages::{KeptInput, Reading, live_message, message_of};
 use std::alloc::Global;
@@ -25,7 +26,7 @@ fn a_name_that_is_not_declared(rt: HostRuntime) {
         Reading::Recorded,
         Reading::FirstFormat,
         Reading::Texts,
-        Reading::Replayed,
+        Reading::Replayed(Lending::ByBanker),
         Reading::Debugged,
     ] {
         assert!(rt; says(rt.alloc(), reading, text, said) == Some(true));
@@ -40,7 +41,7 @@ fn nothing_of_what_is_accepted(rt: HostRuntime) {
         Reading::Claims,
         Reading::FirstFormat,
         Reading::Texts,
-        Reading::Replayed,
+        Reading::Replayed(Lending::ByBanker),
         Reading::Debugged,
     ] {
         assert!(rt; says(rt.alloc(), reading, text, b"") == Some(true));
@@ -134,7 +135,19 @@ fn a_pick_line_and_a_pick(rt: HostRuntime) {
   = its only arm is 0, its body
   = line 3 of the input
 ";
-    assert!(rt; says(rt.alloc(), Reading::Replayed, lines, said) == Some(true));
+    assert!(rt;
+        says(
+            rt.alloc(),
+            Reading::Replayed(Lending::ByBanker),
+            lines,
+            said
+        ) == Some(true)
+    );
+    let both =
+        b"resource r = 1; process p begin hold 1 of r do skip od end process q begin hold 1 of r do skip od end\n%%\np.0 1\nq.0 1\n";
+    let message = message_of(rt.alloc(), Reading::Replayed(Lending::ByCash), both);
+    let said = b"error H1: q.0 cannot make a pick after 1 pick";
+    assert!(rt; message.is_ok_and(|message| message.as_slice().starts_with(said)));
     let picks = b"process p begin print 1 end\n%%\np.0 2\np.0 2\n";
     let said = b"error H1: p.0 cannot make a pick after 3 picks
   --> pick line 2, column 1

@@ -2,7 +2,7 @@
 
 use pb_base::device::{FaultyInput, MemoryInput, MemoryOutput};
 use pb_command_io::Status;
-use pb_engines::replay_engine;
+use pb_engines::{ReplayOptions, replay_engine};
 use pb_options::{Lend, OutcomesOptions};
 use pb_search_engine::outcomes_engine;
 use std::alloc::Global;
@@ -20,6 +20,8 @@ const MANY: OutcomesOptions = OutcomesOptions {
     lend: Lend::Banker,
     first_deadlock: false,
     prints: false,
+    expect: false,
+    any_order: false,
 };
 
 const CASH: OutcomesOptions = OutcomesOptions {
@@ -27,6 +29,8 @@ const CASH: OutcomesOptions = OutcomesOptions {
     lend: Lend::Cash,
     first_deadlock: false,
     prints: false,
+    expect: false,
+    any_order: false,
 };
 
 const PRINTS: OutcomesOptions = OutcomesOptions {
@@ -34,6 +38,8 @@ const PRINTS: OutcomesOptions = OutcomesOptions {
     lend: Lend::Banker,
     first_deadlock: false,
     prints: true,
+    expect: false,
+    any_order: false,
 };
 
 /// Two additions, of which one may be lost: 7 configurations are kept.
@@ -67,7 +73,7 @@ const CASES: [Case; 16] = [
         text: DEVICES,
         options: CASH,
         said: b"outcome 1\na ended\nb ended\nreached by\na.0 7\nb.0 7\ndeadlock 1\na waits\na holds 1 tape\na.0 asks 1 disk\nb waits\nb holds 1 disk\nb.0 asks 1 tape\nreached by\na.0 1\nb.0 1\n1 outcome, 1 deadlock\n",
-        status: Status::Done,
+        status: Status::Deadlock,
     },
     Case {
         text: LOST,
@@ -106,6 +112,8 @@ const CASES: [Case; 16] = [
             lend: Lend::Banker,
             first_deadlock: false,
             prints: false,
+            expect: false,
+            any_order: false,
         },
         said: b"outcome 1\np ended\np.x 2\nreached by\np.0 1\np.1 5\np.2 5\np.0 4\noutcome 2\np ended\np.x 1\nreached by\np.0 1\np.1 3\np.2 3\np.1 2\np.2 2\np.0 4\n2 outcomes\n",
         status: Status::Done,
@@ -117,6 +125,8 @@ const CASES: [Case; 16] = [
             lend: Lend::Banker,
             first_deadlock: false,
             prints: false,
+            expect: false,
+            any_order: false,
         },
         said: b"outcome 1\np ended\np.x 2\nreached by\np.0 1\np.1 5\np.2 5\np.0 4\nmore than 6 configurations, there may be others\n",
         status: Status::Limit,
@@ -193,17 +203,30 @@ const REPLAYS: [(&[u8], &[u8]); 2] = [
     ),
 ];
 
-/// Returns whether `replay` says this of an input.
-fn replays(alloc: Global, input: &[u8], said: &[u8]) -> Option<bool> {
+/// Returns whether `replay` under a lending says this of an input, with this status.
+fn replays(alloc: Global, lend: Lend, input: &[u8], said: &[u8], wanted: Status) -> Option<bool> {
     let mut input = MemoryInput::new(input);
     let mut output = MemoryOutput::new(alloc, 4_096).ok()?;
-    let status = replay_engine(alloc, &mut input, &mut output);
-    Some(status == Status::Done && output.as_slice() == said)
+    let status = replay_engine(alloc, ReplayOptions { lend }, &mut input, &mut output);
+    Some(status == wanted && output.as_slice() == said)
 }
 
 #[test]
 fn pick_lines_are_replayed(rt: HostRuntime) {
     for (input, said) in &REPLAYS {
-        assert!(rt; replays(rt.alloc(), input, said) == Some(true));
+        assert!(rt; replays(rt.alloc(), Lend::Banker, input, said, Status::Done) == Some(true));
     }
+}
+
+/// Two jobs that each hold one of two devices and want the other, and the picks that lead there by cash alone.
+const CIRCLE: &[u8] =
+    b"resource r = 1; resource s = 1; process p begin hold 1 of r do hold 1 of s do skip od od end process q begin hold 1 of s do hold 1 of r do skip od od end\n%%\np.0 1\nq.0 1\n";
+
+#[test]
+fn a_deadlock_is_replayed(rt: HostRuntime) {
+    let alloc = rt.alloc();
+    let said = b"p.0 grant 1 r\nq.0 grant 1 s\ndeadlock\n";
+    assert!(rt; replays(alloc, Lend::Cash, CIRCLE, said, Status::Deadlock) == Some(true));
+    let said = b"refused H1 at 1\n";
+    assert!(rt; replays(alloc, Lend::Banker, CIRCLE, said, Status::Refused) == Some(true));
 }

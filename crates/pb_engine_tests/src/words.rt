@@ -2,8 +2,8 @@
 
 use pb_object::Format;
 use pb_options::{
-    CheckOptions, Code, DebugOptions, EmitOptions, Lend, OutcomesOptions, RecordOptions,
-    RunOptions, StatesOptions,
+    CheckOptions, Code, DebugOptions, DrawOptions, EmitOptions, Lend, OutcomesOptions,
+    RecordOptions, ReplayOptions, RunOptions, StatesOptions,
 };
 use pb_words::{Options, WordsFault, options};
 use std::alloc::Global;
@@ -34,7 +34,7 @@ fn commands_have_their_defaults(rt: HostRuntime) {
         ("check", Options::Check(CheckOptions { heap: None })),
         ("claims", Options::Claims),
         ("debug", Options::Debug(DebugOptions { live: false })),
-        ("draw", Options::Draw),
+        ("draw", Options::Draw(DrawOptions { lend: Lend::Banker })),
         (
             "emit",
             Options::Emit(EmitOptions {
@@ -51,6 +51,8 @@ fn commands_have_their_defaults(rt: HostRuntime) {
                 lend: Lend::Banker,
                 first_deadlock: false,
                 prints: false,
+                expect: false,
+                any_order: false,
             }),
         ),
         (
@@ -61,7 +63,10 @@ fn commands_have_their_defaults(rt: HostRuntime) {
             }),
         ),
         ("plan", Options::Plan),
-        ("replay", Options::Replay),
+        (
+            "replay",
+            Options::Replay(ReplayOptions { lend: Lend::Banker }),
+        ),
         ("run", Options::Run(RUN)),
         (
             "states",
@@ -114,6 +119,8 @@ fn options_with_one_word_are_read(rt: HostRuntime) {
                 lend: Lend::Banker,
                 first_deadlock: false,
                 prints: false,
+                expect: false,
+                any_order: false,
             }),
         ),
         (
@@ -124,7 +131,19 @@ fn options_with_one_word_are_read(rt: HostRuntime) {
                 lend: Lend::Cash,
                 first_deadlock: false,
                 prints: false,
+                expect: false,
+                any_order: false,
             }),
+        ),
+        (
+            "draw",
+            "--lend=cash",
+            Options::Draw(DrawOptions { lend: Lend::Cash }),
+        ),
+        (
+            "replay",
+            "--lend=cash",
+            Options::Replay(ReplayOptions { lend: Lend::Cash }),
         ),
         (
             "outcomes",
@@ -134,6 +153,8 @@ fn options_with_one_word_are_read(rt: HostRuntime) {
                 lend: Lend::Banker,
                 first_deadlock: true,
                 prints: false,
+                expect: false,
+                any_order: false,
             }),
         ),
         (
@@ -144,6 +165,8 @@ fn options_with_one_word_are_read(rt: HostRuntime) {
                 lend: Lend::Banker,
                 first_deadlock: false,
                 prints: true,
+                expect: false,
+                any_order: false,
             }),
         ),
         (
@@ -170,6 +193,8 @@ fn options_with_one_word_are_read(rt: HostRuntime) {
                 lend: Lend::Banker,
                 first_deadlock: false,
                 prints: false,
+                expect: false,
+                any_order: false,
             }),
         ),
     ] {

@@ -2,6 +2,7 @@
 use Rattle.std.proofs.Common.{◌≡◌, ◌⊎◌, ℕ, zero, suc, List, [], ◌∷◌, ◌++◌, Option, Some, None, true, false, map}
 use Rattle.std.proofs.Common.{option_to_list, refl, sym, ap, ◌∙◌, subst, inl, inr}
 use Rattle.std.specs.Prelude.{slice_get, slice_set}
+use Rattle.pb_base.specs.declared.lending.Lending.TheVariants.{ByBanker}
 use Rattle.pb_base.specs.declared.event.Event.{Event}
 use Rattle.pb_base.specs.declared.event.Event.TheVariants.{Faulted}
 use Rattle.pb_base.specs.declared.operators.FaultKind.{FaultKind}
@@ -140,7 +141,7 @@ module _ (v : VerifiedCode) (verified : IsVerified v) where
       → HasFault end → HasFault s ⊎ ShowsFault (events_of entries)
   fault_was_shown s end [] reached leads fault = inl (subst HasFault leads fault)
   fault_was_shown s end (e ∷ entries) reached (next, moves, rest) fault =
-      elim (fault_was_shown next end entries (reaches_on v.code s next e.pick e.event reached moves) rest fault) [
+      elim (fault_was_shown next end entries (reaches_on ByBanker v.code s next e.pick e.event reached moves) rest fault) [
         | inr shown ↦ inr (shown_later e.event (events_of entries) shown)
         | inl before ↦ elim (now_faulted s next e.pick e.event reached moves before) [
           | inl earlier ↦ inl earlier
@@ -151,17 +152,17 @@ module _ (v : VerifiedCode) (verified : IsVerified v) where
   stays_faulted : (s end : State CodeProcess) (entries : List Entry) → CodeReaches v.code s → Leads v.code s entries end → HasFault s → HasFault end
   stays_faulted s end [] reached leads fault = subst HasFault (sym leads) fault
   stays_faulted s end (e ∷ entries) reached (next, moves, rest) fault =
-      stays_faulted next end entries (reaches_on v.code s next e.pick e.event reached moves) rest (still_faulted s next e.pick e.event reached moves fault)
+      stays_faulted next end entries (reaches_on ByBanker v.code s next e.pick e.event reached moves) rest (still_faulted s next e.pick e.event reached moves fault)
 
   -- a fault that was shown is there
   pub shown_fault_is_there : (s end : State CodeProcess) (entries : List Entry) → CodeReaches v.code s → Leads v.code s entries end
       → ShowsFault (events_of entries) → HasFault end
   shown_fault_is_there s end [] reached leads (i, pick, kind, there) = absurd cc
   shown_fault_is_there s end (e ∷ entries) reached (next, moves, rest) shown =
-      go e.event moves (shown_fault_is_there next end entries (reaches_on v.code s next e.pick e.event reached moves) rest) shown
+      go e.event moves (shown_fault_is_there next end entries (reaches_on ByBanker v.code s next e.pick e.event reached moves) rest) shown
     where
       on : CodeReaches v.code next
-      on = reaches_on v.code s next e.pick e.event reached moves
+      on = reaches_on ByBanker v.code s next e.pick e.event reached moves
 
       go : (event : Option Event) → CodeMoves v.code s e.pick event next → (ShowsFault (events_of entries) → HasFault end)
           → ShowsFault (option_to_list event ++ events_of entries) → HasFault end

@@ -4,7 +4,7 @@ use Rattle.std.proofs.Common.{Option, Some, None, refl, sym, ap, subst, ◌∙�
 use Rattle.std.specs.Prelude.{slice_get}
 use Rattle.pb_base.specs.declared.event.Event.{Event}
 use Rattle.pb_base.specs.declared.pick.Pick.{Pick}
-use Rattle.pb_base.specs.Lines.{NameTable}
+use Rattle.pb_base.specs.declared.lending.Lending.TheVariants.{ByBanker}
 use Rattle.pb_base.specs.Steppers.{Makes, Move, State, move_of}
 use Rattle.pb_claims.specs.Fits.{FitCapital}
 use Rattle.pb_code.specs.Code.{CodeProcess, code_step}
@@ -31,13 +31,15 @@ use Rattle.pb_engines.specs.Records.{EndsLine, IsEnded, SaysOfRecord, SaysOfReco
 use Rattle.pb_record.specs.Recorded.{IsRecorded}
 use Rattle.pb_engines.specs.Records.{no_threads, refused, too_long, with_picks, written}
 use Rattle.pb_accept.specs.Refusals.{RefusesWith, refused as by_line}
-use Rattle.pb_accept.specs.ReplayLines.{IsLinesFault, SaysOfEvents, SaysOfReplay, all_told, lines_line, made_again}
-use Rattle.pb_accept.specs.ReplayLines.{no_fault, no_picks, no_text, out_of_memory, picks_line, refused as not_made}
-use Rattle.pb_accept.specs.ReplayLines.{some_fault, stop_line}
+use Rattle.pb_accept.specs.ReplayLines.{IsEndStatus, IsLinesFault, IsStatusAt, SaysOfEvents, SaysOfReplay, all_told}
+use Rattle.pb_accept.specs.ReplayLines.{lines_line, made_again, no_fault, no_picks, no_text, out_of_memory, picks_line}
+use Rattle.pb_accept.specs.ReplayLines.{refused as not_made, some_fault, stop_line}
+use Rattle.pb_accept.specs.declared.ending.Ending.{Ending}
+use Rattle.pb_accept.specs.declared.ending.Ending.TheVariants.{Over, Stuck, Open}
 use Rattle.pb_accept.specs.declared.replay.LinesFault.{LinesFault}
 use Rattle.pb_accept.specs.declared.replay.LinesFault.TheVariants.{NotMade, NotRead}
 use Rattle.pb_command_io.specs.declared.status.Status.{Status}
-use Rattle.pb_command_io.specs.declared.status.Status.TheVariants.{Done, Refused}
+use Rattle.pb_command_io.specs.declared.status.Status.TheVariants.{Deadlock, Done, Refused}
 use Rattle.pb_accept.proofs.AcceptLemmas.{compiled_is_accepted}
 use Rattle.pb_engines.proofs.AcceptedTexts.{accepted_is_not_refused}
 use Rattle.pb_engines.proofs.CutRecords.{cut_as_written}
@@ -110,11 +112,19 @@ ended_is_short text ended (inr (not_ended, same)) short (inl less) =
     omega (arith, l, long, less)
 
 -- what is said of picks that were made is not a refusal
-no_refusal_told : (names : NameTable) (events : List Event) (end : State CodeProcess) (said : List ℕ) (status : Status)
-    → SaysOfEvents names events end said status → status ≢ Refused
-no_refusal_told names events end _ _ (all_told last its_last _ (some_fault fault)) same = absurd cc
-no_refusal_told names events end _ _ (all_told last its_last _ (no_fault none)) same = absurd cc
-no_refusal_told names events end _ _ (out_of_memory n) same = absurd cc
+no_refusal_at : (end : State CodeProcess) (status : Status) → IsStatusAt end status → status ≢ Refused
+no_refusal_at end _ (some_fault fault) same = absurd cc
+no_refusal_at end _ (no_fault none) same = absurd cc
+
+no_refusal_ends : (end : State CodeProcess) (ending : Ending) (status : Status) → IsEndStatus end ending status → status ≢ Refused
+no_refusal_ends end Over status is same = no_refusal_at end status is same
+no_refusal_ends end Open status is same = no_refusal_at end status is same
+no_refusal_ends end Stuck status is same = let both : Deadlock ≡ Refused = sym is ∙ same in absurd cc
+
+no_refusal_told : (code : Code) (events : List Event) (end : State CodeProcess) (said : List ℕ) (status : Status)
+    → SaysOfEvents ByBanker code events end said status → status ≢ Refused
+no_refusal_told code events end _ _ (all_told ending is status its_status) same = no_refusal_ends end ending status its_status same
+no_refusal_told code events end _ _ (out_of_memory n) same = absurd cc
 
 -- compiled code has no fault
 pub is_annotated : (text : List ℕ) (code : Code) (labels : List ProcessLabels) → IsCompiled text code labels → IsAnnotated code
@@ -166,7 +176,7 @@ module _ (steps : ℕ) (seed : Option ℕ) (bytes : List ℕ) (most : steps ≤ 
 
     -- what `replay` says of it is not a refusal
     never_refused : (length bytes < 65536) ⊎ EndsLine bytes → (whole said : List ℕ) (status : Status) → whole ≡ with_picks ended code.names picks
-        → SaysOfReplay whole said status → status ≢ Refused
+        → SaysOfReplay ByBanker whole said status → status ≢ Refused
     never_refused room whole _ _ e (no_text text lines cut refusal is_refused) refuses =
         let same = cut_of text lines (subst (λ (w : List ℕ). AreTwoParts w text lines) e cut) in
         let here = ended_is_compiled bytes ended code labels is (ended_is_short bytes ended is compiled.numbered.spelled.cut.short room) compiled in
@@ -183,7 +193,7 @@ module _ (steps : ℕ) (seed : Option ℕ) (bytes : List ℕ) (most : steps ≤ 
         let both : Some refusal ≡ None = sym its_line ∙ none in
         absurd cc
     never_refused room whole _ _ e (made_again text lines cut other others is_other entries end are said status says can) refuses =
-        no_refusal_told other.names (events_of entries) end said status says refuses
+        no_refusal_told other (events_of entries) end said status says refuses
 
 pub records_can_be_replayed : RecordsCanBeReplayed
 records_can_be_replayed steps seed bytes whole most says =

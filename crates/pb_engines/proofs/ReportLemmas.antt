@@ -39,7 +39,7 @@ abbrev run_of_entries : (code : Code) (end : State CodeProcess) (entries : List 
     code) entries end → Run code (events_of entries) end
 run_of_entries code end entries leads = record {
   picks = picks_of entries;
-  makes = traces_make code (code_opening code) end entries leads;
+  makes = traces_make ByBanker code (code_opening code) end entries leads;
 }
 
 -- its picks are as many as the entries
@@ -50,14 +50,14 @@ pub reports_follow_the_source : ReportsFollowTheSource
 reports_follow_the_source text code labels compiled limit report is =
     let entries = report.trace.entries in
     (compiled.same ByBanker).no_more (events_of entries) (length entries)
-    (picks_of entries, is.end, few_picks entries (length entries) (omega arith), traces_make code (code_opening code) is.end entries is.leads)
+    (picks_of entries, is.end, few_picks entries (length entries) (omega arith), traces_make ByBanker code (code_opening code) is.end entries is.leads)
 
 -- all that the events of a report speak of has a name
 pub report_is_named : (v : VerifiedCode) (names : NameTable) (limit : ℕ) (report : Report) → IsVerified v → names ≡ v.code.names
     → IsReport v.code limit report → All (HasNames names) (events_of report.trace.entries)
 report_is_named v names limit report verified same is =
     subst (λ (n : NameTable). All (HasNames n) (events_of report.trace.entries)) (sym same)
-    (all_have_names v verified (code_opening v.code) is.end report.trace.entries ([], [], (refl, refl)) is.leads)
+    (all_have_names ByBanker v verified (code_opening v.code) is.end report.trace.entries ([], [], (refl, refl)) is.leads)
 
 -- ---- its first picks
 

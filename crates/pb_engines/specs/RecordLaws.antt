@@ -1,5 +1,6 @@
 -- What `record` wrote can be replayed, and a seed decides it.
 use Rattle.std.specs.Prelude.{◌≡◌, ◌≢◌, ◌⊎◌, ℕ, ◌<◌, ◌≤◌, List, Option, Some, length}
+use Rattle.pb_base.specs.declared.lending.Lending.TheVariants.{ByBanker}
 use Rattle.pb_base.specs.declared.limits.TheConstants.{MAX_PICKS, MAX_TEXT}
 use Rattle.pb_code.specs.Whole.{Code, ProcessLabels}
 use Rattle.pb_codegen.specs.Compiled.{IsCompiled}
@@ -28,7 +29,7 @@ pub record HoldsRun (steps : ℕ) (seed : Option ℕ) (bytes text lines : List �
 pub record CanBeReplayed (steps : ℕ) (seed : Option ℕ) (bytes whole : List ℕ) : Type 0 where
   pub cut : (text lines : List ℕ) → AreTwoParts whole text lines → HoldsRun steps seed bytes text lines
   pub replayed : (length bytes < MAX_TEXT) ⊎ EndsLine bytes
-      → (said : List ℕ) (status : Status) → SaysOfReplay whole said status → status ≢ Refused
+      → (said : List ℕ) (status : Status) → SaysOfReplay ByBanker whole said status → status ≢ Refused
 
 -- what `record` wrote can be replayed
 abbrev pub RecordsCanBeReplayed : Type 0

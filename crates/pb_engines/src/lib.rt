@@ -11,6 +11,6 @@ pub mod run_laws;
 
 pub use exec::exec_engine;
 pub use pb_accept::{check_engine, claims_engine, emit_engine, migrate_engine, replay_engine};
-pub use pb_options::{CheckOptions, EmitOptions, RecordOptions, RunOptions};
+pub use pb_options::{CheckOptions, EmitOptions, Lend, RecordOptions, ReplayOptions, RunOptions};
 pub use record::record_engine;
 pub use run::run_engine;

@@ -18,6 +18,24 @@ end
 process b begin hold 1 of disk do hold 1 of tape do print 4 od od end
 ";
 
+/// The file 5-deadlock/circle.run.
+#[rattlefmt::skip]
+pub const CIRCLE_RUN: &[u8] = b"// The deadlock that the banker prevents: by cash alone `a` gets the tape and `b` the disk, and each waits for the other.
+resource tape = 1;
+resource disk = 1;
+process a
+begin
+  hold 1 of tape do hold 1 of disk do print 1 od od
+end
+process b
+begin
+  hold 1 of disk do hold 1 of tape do print 2 od od
+end
+%%
+a.0 1
+b.0 1
+";
+
 /// The file 5-deadlock/in_turn.pb.
 #[rattlefmt::skip]
 pub const IN_TURN: &[u8] = b"// The same two transfers, each of which gives back the first account before it takes the second. Nobody holds one and

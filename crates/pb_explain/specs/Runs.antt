@@ -15,7 +15,8 @@ k1-entry = record {
       codes "A pick line is `P.a COUNT`: the name of a process, a point, the number of one of its\n"
       ++ codes "arms, a space, and how often the pick is made, from 1 to 10,000,000. This one is not\n"
       ++ codes "of this form, or names a process or an arm that is not there. The offset is that of\n"
-      ++ codes "the line, counted from behind the line `%%`.";
+      ++ codes "the line, counted from behind the line `%%`. `outcomes --expect` reads print lines\n"
+      ++ codes "there, `P.a print V`, and refuses them so.";
   example = Some (record {
     command = codes "replay";
     input = Text k1-input;

@@ -2,6 +2,7 @@
 use Rattle.std.specs.Prelude.{◌≡◌, ◌⊎◌, ℕ, Bool, true, false, List, [], ◌∷◌, Option, Some, codes}
 use Rattle.std.specs.Borrow.{Bor}
 use Rattle.clap.specs.Words.{Text}
+use Rattle.pb_base.specs.declared.lending.Lending.TheVariants.{ByBanker}
 use Rattle.pb_base.specs.Device.{appended, one_more_failure, AddsPrefix}
 use Rattle.pb_answer.specs.Calls.{CallTellsFaults, CallWrites}
 use Rattle.pb_command_io.specs.Faults.{Devices}
@@ -13,6 +14,7 @@ use Rattle.pb_messages.specs.declared.message.Reading.{Reading}
 use Rattle.pb_messages.specs.declared.message.Reading.TheVariants as reading
 use Rattle.pb_object.specs.declared.format.Format.{Format}
 use Rattle.pb_object.specs.declared.format.Format.TheVariants.{One, Two}
+use Rattle.pb_options.specs.Lends.{lending_for}
 use Rattle.pb_words.specs.Read.{WordsSay}
 use Rattle.pb_words.specs.declared.words.Options.{Options}
 use Rattle.pb_words.specs.declared.words.Options.TheVariants as option
@@ -34,6 +36,11 @@ abbrev pub format_reading : Format → Reading
 format_reading One = reading.FirstFormat
 format_reading Two = reading.Text
 
+-- how `outcomes` reads its input, by whether it is to compare prints
+abbrev pub outcomes_reading : (expect : Bool) → Reading
+outcomes_reading true = reading.Expected
+outcomes_reading false = reading.Text
+
 -- what a person is told of bytes that `debug` refused, if it reads the commands as they come, or all before it
 -- writes
 abbrev pub TellsDebugged : (live : Bool) → (bytes told : List ℕ) → Type 0
@@ -46,17 +53,17 @@ TellsRefused option.Bank = λ bytes told. ⊥
 TellsRefused (option.Check numbers) = SaysToPerson reading.Texts
 TellsRefused option.Claims = SaysToPerson reading.Claims
 TellsRefused (option.Debug flags) = TellsDebugged flags.live
-TellsRefused option.Draw = SaysToPerson reading.Replayed
+TellsRefused (option.Draw options) = SaysToPerson (reading.Replayed (lending_for options.lend))
 TellsRefused (option.Emit numbers) = SaysToPerson (format_reading numbers.object)
 TellsRefused (option.Exec numbers) = SaysToPerson reading.Object
 TellsRefused (option.Explain code) = λ bytes told. ⊥
 TellsRefused option.Migrate = SaysToPerson reading.Object
-TellsRefused (option.Outcomes numbers) = SaysToPerson reading.Text
+TellsRefused (option.Outcomes numbers) = SaysToPerson (outcomes_reading numbers.expect)
 TellsRefused option.Plan = SaysToPerson reading.Text
 TellsRefused (option.Record numbers) = SaysToPerson reading.Recorded
-TellsRefused option.Replay = SaysToPerson reading.Replayed
+TellsRefused (option.Replay options) = SaysToPerson (reading.Replayed (lending_for options.lend))
 TellsRefused (option.Run numbers) = SaysToPerson reading.Text
-TellsRefused (option.States numbers) = SaysToPerson reading.Replayed
+TellsRefused (option.States numbers) = SaysToPerson (reading.Replayed ByBanker)
 
 -- nothing was written to an output
 abbrev pub Untouched : Devices → Devices → Type 0

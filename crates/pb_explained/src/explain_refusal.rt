@@ -1,10 +1,10 @@
 //! What is said to a person when an input was refused.
 
 ghost use Rattle.std.specs.Prelude.{◌≡◌, ◌⊎◌, IfOk, IfSome};
-ghost use Rattle.pb_explained.specs.Explained.{Explains, TellsRefused, Untouched, format_reading};
+ghost use Rattle.pb_explained.specs.Explained.{Explains, TellsRefused, Untouched, format_reading, outcomes_reading};
 
-use pb_base::NoMemory;
 use pb_base::device::{Output, write_all};
+use pb_base::{Lending, NoMemory};
 use pb_messages::{Reading, live_message, message_of};
 use pb_object::Format;
 use pb_words::{Options, options};
@@ -39,16 +39,21 @@ fn message_for(alloc: Global, options: &Options, bytes: &[u8]) -> Option<Result<
         Options::Debug(flags) if flags.live => Some(live_message(alloc, bytes)),
         Options::Debug(_) => Some(message_of(alloc, Reading::Debugged, bytes)),
         Options::Emit(numbers) => Some(message_of(alloc, reading_of(numbers.object), bytes)),
-        Options::Outcomes(_) | Options::Plan | Options::Run(_) => Some(message_of(
-            alloc,
-            Reading::Text,
-            bytes,
-        )),
+        Options::Outcomes(numbers) => Some(message_of(alloc, reading_for(numbers.expect), bytes)),
+        Options::Plan | Options::Run(_) => Some(message_of(alloc, Reading::Text, bytes)),
         Options::Record(_) => Some(message_of(alloc, Reading::Recorded, bytes)),
         Options::Exec(_) | Options::Migrate => Some(message_of(alloc, Reading::Object, bytes)),
-        Options::Draw | Options::Replay | Options::States(_) => {
-            Some(message_of(alloc, Reading::Replayed, bytes))
-        }
+        Options::Draw(options) => Some(message_of(
+            alloc,
+            Reading::Replayed(options.lend.lending()),
+            bytes,
+        )),
+        Options::Replay(options) => Some(message_of(
+            alloc,
+            Reading::Replayed(options.lend.lending()),
+            bytes,
+        )),
+        Options::States(_) => Some(message_of(alloc, Reading::Replayed(Lending::ByBanker), bytes)),
         Options::Bank | Options::Explain(_) => None,
     }
 }
@@ -60,5 +65,16 @@ fn reading_of(format: Format) -> Reading
     match format {
         Format::One => Reading::FirstFormat,
         Format::Two => Reading::Text,
+    }
+}
+
+// Returns how `outcomes` reads its input, by whether it is to compare prints.
+fn reading_for(expect: bool) -> Reading
+    ensures { result ≡ outcomes_reading expect }
+{
+    if expect {
+        Reading::Expected
+    } else {
+        Reading::Text
     }
 }

@@ -6,18 +6,19 @@ use Rattle.std.specs.Prelude.{Option, None, slice_get, option_to_list}
 use Rattle.std.proofs.lemmas.List.{length-map, length-replicate, map-append, take-append-le}
 use Rattle.std.proofs.lemmas.Option.{slice_get_within}
 use Rattle.pb_base.specs.declared.event.Event.{Event}
+use Rattle.pb_base.specs.declared.lending.Lending.{Lending}
 use Rattle.pb_base.specs.declared.pick.Pick.{Pick}
 use Rattle.pb_base.specs.declared.step.Step.{Step}
 use Rattle.pb_base.specs.declared.step.Step.TheVariants as answer
 use Rattle.pb_base.specs.Steppers.{State}
 use Rattle.pb_base.proofs.Lists.{take_next}
 use Rattle.pb_code.specs.Code.{CodeProcess}
-use Rattle.pb_code.specs.Reached.{CodeMoves, CodeStays}
+use Rattle.pb_code.specs.Reached.{CodeMovesBy, CodeStaysBy}
 use Rattle.pb_code.specs.Whole.{Code, code_opening}
-use Rattle.pb_machine.specs.Steps.{IsStep}
+use Rattle.pb_machine.specs.Steps.{IsStepBy}
 use Rattle.pb_history.specs.Entries.{Entry, picks_of, run_of, shown, silent_picks}
-use Rattle.pb_history.specs.Leads.{Leads}
-use Rattle.pb_history.specs.Replays.{EndsRun, IsReplay, IsRun, IsStopped, StopsAt, spread}
+use Rattle.pb_history.specs.Leads.{LeadsBy}
+use Rattle.pb_history.specs.Replays.{EndsRun, IsReplayBy, IsRun, IsStoppedBy, StopsAt, spread}
 use Rattle.pb_history.specs.declared.counted.CountedPick.{CountedPick}
 use Rattle.pb_history.specs.declared.fault.ReplayFault.{ReplayFault}
 use Rattle.pb_history.specs.declared.fault.ReplayFault.TheVariants.{NotEnabled, NoMemory}
@@ -27,14 +28,14 @@ use Rattle.pb_history.proofs.TraceSteps.{leads_append, leads_more, replicate_mor
 -- ---- picks that stop
 
 -- picks that stop do so whatever follows
-stops_more : (code : Code) (xs ys : List Pick) (i : ℕ) → StopsAt code xs i → StopsAt code (xs ++ ys) i
-stops_more code xs ys i h =
+stops_more : {lending : Lending} (code : Code) (xs ys : List Pick) (i : ℕ) → StopsAt lending code xs i → StopsAt lending code (xs ++ ys) i
+stops_more {lending = lending} code xs ys i h =
     let within : i < length xs = slice_get_within xs i h.pick h.there in
     record {
       entries = h.entries;
       end = h.end;
       pick = h.pick;
-      replay = subst (λ (ps : List Pick). IsReplay code ps h.entries h.end) (sym (take-append-le i xs ys (omega (arith, within)))) h.replay;
+      replay = subst (λ (ps : List Pick). IsReplayBy lending code ps h.entries h.end) (sym (take-append-le i xs ys (omega (arith, within)))) h.replay;
       there = early xs ys i within ∙ h.there;
       stays = h.stays;
     }
@@ -44,9 +45,9 @@ stops_more code xs ys i h =
     early (x ∷ xs) ys zero lt = refl
     early (x ∷ xs) ys (suc i) lt = early xs ys i (omega arith)
 
-pub stopped_more : (code : Code) (xs ys : List Pick) (fault : ReplayFault) → IsStopped code xs fault → IsStopped code (xs ++ ys) fault
-stopped_more code xs ys (NotEnabled i) h = stops_more code xs ys i h
-stopped_more code xs ys NoMemory h = h
+pub stopped_more : (lending : Lending) (code : Code) (xs ys : List Pick) (fault : ReplayFault) → IsStoppedBy lending code xs fault → IsStoppedBy lending code (xs ++ ys) fault
+stopped_more lending code xs ys (NotEnabled i) h = stops_more code xs ys i h
+stopped_more lending code xs ys NoMemory h = h
 
 -- ---- picks of one arm
 
@@ -107,11 +108,11 @@ length_run entries pick n =
     omega (arith, a, b, c)
 
 -- the pick after those made and `n` silent ones is not enabled
-pub stops_here : (code : Code) (before entries : List Entry) (pick : Pick) (count done n : ℕ) (here end : State CodeProcess)
-    → picks_of entries ≡ picks_of before ++ replicate done pick → Leads code (code_opening code) entries here → Leads code here (silent_picks pick n) end
-    → done + n < count → CodeStays code end pick
-    → StopsAt code (picks_of before ++ replicate count pick) (length entries + n)
-stops_here code before entries pick count done n here end picks to_here on lt stays =
+pub stops_here : {lending : Lending} (code : Code) (before entries : List Entry) (pick : Pick) (count done n : ℕ) (here end : State CodeProcess)
+    → picks_of entries ≡ picks_of before ++ replicate done pick → LeadsBy lending code (code_opening code) entries here → LeadsBy lending code here (silent_picks pick n) end
+    → done + n < count → CodeStaysBy lending code end pick
+    → StopsAt lending code (picks_of before ++ replicate count pick) (length entries + n)
+stops_here {lending = lending} code before entries pick count done n here end picks to_here on lt stays =
     let all = entries ++ silent_picks pick n in
     let len = length_on before entries pick done picks in
     let same = length-map before (λ (e : Entry). e.pick) in
@@ -130,60 +131,60 @@ stops_here code before entries pick count done n here end picks to_here on lt st
       entries = all;
       end = end;
       pick = pick;
-      replay = record { made = made ∙ sym taken; leads = leads_append code (code_opening code) here end entries (silent_picks pick n) to_here on };
+      replay = record { made = made ∙ sym taken; leads = leads_append lending code (code_opening code) here end entries (silent_picks pick n) to_here on };
       there = ap (slice_get (picks_of before ++ replicate count pick)) (sym place) ∙ get_past (picks_of before) count (done + n) pick lt;
       stays = stays;
     }
 
 -- ---- one silent pick more, and what ends a run
 
-pub silent_more : (code : Code) (a b c : State CodeProcess) (pick : Pick) (n : ℕ) → Leads code a (silent_picks pick n) b → CodeMoves code b pick None c
-    → Leads code a (silent_picks pick (n + 1)) c
-silent_more code a b c pick n h m =
-    subst (λ (es : List Entry). Leads code a es c) (sym (more n)) (leads_more code a b c (silent_picks pick n) pick None h m)
+pub silent_more : (lending : Lending) (code : Code) (a b c : State CodeProcess) (pick : Pick) (n : ℕ) → LeadsBy lending code a (silent_picks pick n) b → CodeMovesBy lending code b pick None c
+    → LeadsBy lending code a (silent_picks pick (n + 1)) c
+silent_more lending code a b c pick n h m =
+    subst (λ (es : List Entry). LeadsBy lending code a es c) (sym (more n)) (leads_more lending code a b c (silent_picks pick n) pick None h m)
   where
     more : (k : ℕ) → silent_picks pick (k + 1) ≡ silent_picks pick k ++ record { pick = pick; event = None } ∷ []
     more k = ap (silent_picks pick) (let e : k + 1 ≡ suc k = omega arith in e) ∙ replicate_more k (record { pick = pick; event = None })
 
-pub ends_run : (code : Code) (between after : State CodeProcess) (pick : Pick) (max made : ℕ) (step : Step) → (step ≡ answer.Silent → ⊥) → made < max
-    → IsStep code between pick step after → EndsRun code between pick max made step after
-ends_run code between after pick max made answer.Silent other lt h = absurd (other refl)
-ends_run code between after pick max made (answer.Did event) other lt h = (lt, h)
-ends_run code between after pick max made answer.NotEnabled other lt h = (lt, h.0, h.1)
+pub ends_run : (lending : Lending) (code : Code) (between after : State CodeProcess) (pick : Pick) (max made : ℕ) (step : Step) → (step ≡ answer.Silent → ⊥) → made < max
+    → IsStepBy lending code between pick step after → EndsRun lending code between pick max made step after
+ends_run lending code between after pick max made answer.Silent other lt h = absurd (other refl)
+ends_run lending code between after pick max made (answer.Did event) other lt h = (lt, h)
+ends_run lending code between after pick max made answer.NotEnabled other lt h = (lt, h.0, h.1)
 
 -- what leads on after a run of silent picks
-module _ (code : Code) (here after : State CodeProcess) (entries : List Entry) (pick : Pick) (max made : ℕ) (step : Step)
-    (to_here : Leads code (code_opening code) entries here) (run : IsRun code here pick max made step after) where
-  pub silent_run : step ≡ answer.Silent → Leads code (code_opening code) (entries ++ run_of pick made None) after × (made ≡ max)
+module _ {lending : Lending} (code : Code) (here after : State CodeProcess) (entries : List Entry) (pick : Pick) (max made : ℕ) (step : Step)
+    (to_here : LeadsBy lending code (code_opening code) entries here) (run : IsRun lending code here pick max made step after) where
+  pub silent_run : step ≡ answer.Silent → LeadsBy lending code (code_opening code) (entries ++ run_of pick made None) after × (made ≡ max)
   silent_run is =
-      let ends : EndsRun code run.between pick max made answer.Silent after =
-      subst (λ (x : Step). EndsRun code run.between pick max made x after) is run.ends in
-      let on : Leads code here (silent_picks pick made ++ []) run.between =
-      subst (λ (es : List Entry). Leads code here es run.between) (sym (append-nil (silent_picks pick made))) run.leads in (
-        leads_append code (code_opening code) here after entries (run_of pick made None) to_here
-            (subst (Leads code here (run_of pick made None)) (sym ends.1) on),
+      let ends : EndsRun lending code run.between pick max made answer.Silent after =
+      subst (λ (x : Step). EndsRun lending code run.between pick max made x after) is run.ends in
+      let on : LeadsBy lending code here (silent_picks pick made ++ []) run.between =
+      subst (λ (es : List Entry). LeadsBy lending code here es run.between) (sym (append-nil (silent_picks pick made))) run.leads in (
+        leads_append lending code (code_opening code) here after entries (run_of pick made None) to_here
+            (subst (LeadsBy lending code here (run_of pick made None)) (sym ends.1) on),
         ends.0,
       )
 
-  pub shown_run : (event : Event) → step ≡ answer.Did event → Leads code (code_opening code) (entries ++ run_of pick made (Some event)) after × (made < max)
+  pub shown_run : (event : Event) → step ≡ answer.Did event → LeadsBy lending code (code_opening code) (entries ++ run_of pick made (Some event)) after × (made < max)
   shown_run event is =
-      let ends : EndsRun code run.between pick max made (answer.Did event) after =
-      subst (λ (x : Step). EndsRun code run.between pick max made x after) is run.ends in (
-        leads_append code (code_opening code) here after entries (run_of pick made (Some event)) to_here
-            (leads_more code here run.between after (silent_picks pick made) pick (Some event) run.leads ends.1),
+      let ends : EndsRun lending code run.between pick max made (answer.Did event) after =
+      subst (λ (x : Step). EndsRun lending code run.between pick max made x after) is run.ends in (
+        leads_append lending code (code_opening code) here after entries (run_of pick made (Some event)) to_here
+            (leads_more lending code here run.between after (silent_picks pick made) pick (Some event) run.leads ends.1),
         ends.0,
       )
 
-  pub stopped_run : step ≡ answer.NotEnabled → (made < max) × CodeStays code run.between pick × (after ≡ run.between)
-  stopped_run is = subst (λ (x : Step). EndsRun code run.between pick max made x after) is run.ends
+  pub stopped_run : step ≡ answer.NotEnabled → (made < max) × CodeStaysBy lending code run.between pick × (after ≡ run.between)
+  stopped_run is = subst (λ (x : Step). EndsRun lending code run.between pick max made x after) is run.ends
 
   -- the silent picks lead to a state at which the next one is not enabled
-  pub halted_run : step ≡ answer.NotEnabled → Leads code (code_opening code) (entries ++ run_of pick made None) after
+  pub halted_run : step ≡ answer.NotEnabled → LeadsBy lending code (code_opening code) (entries ++ run_of pick made None) after
   halted_run is =
-      let on : Leads code here (silent_picks pick made ++ []) run.between =
-      subst (λ (es : List Entry). Leads code here es run.between) (sym (append-nil (silent_picks pick made))) run.leads in
-      leads_append code (code_opening code) here after entries (run_of pick made None) to_here
-      (subst (Leads code here (run_of pick made None)) (sym (stopped_run is).2) on)
+      let on : LeadsBy lending code here (silent_picks pick made ++ []) run.between =
+      subst (λ (es : List Entry). LeadsBy lending code here es run.between) (sym (append-nil (silent_picks pick made))) run.leads in
+      leads_append lending code (code_opening code) here after entries (run_of pick made None) to_here
+      (subst (LeadsBy lending code here (run_of pick made None)) (sym (stopped_run is).2) on)
 
 -- ---- counted picks
 

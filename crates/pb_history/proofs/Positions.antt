@@ -4,20 +4,21 @@ use Rattle.std.proofs.Common.{option_to_list, refl, sym, ap, ◌∙◌, subst, a
 use Rattle.std.specs.Prelude.{slice_get}
 use Rattle.std.proofs.lemmas.List.{take_all}
 use Rattle.pb_base.specs.declared.event.Event.{Event}
+use Rattle.pb_base.specs.declared.lending.Lending.{Lending}
 use Rattle.pb_base.specs.declared.pick.Pick.{Pick}
 use Rattle.pb_base.specs.declared.step.Step.{Step}
 use Rattle.pb_base.specs.declared.step.Step.TheVariants as answer
 use Rattle.pb_base.specs.Steppers.{Bank, State, Stepper, Move, IsGranted, Makes, event_of, move_of}
 use Rattle.pb_base.proofs.Lists.{take_next}
 use Rattle.pb_code.specs.Code.{CodeProcess, code_step}
-use Rattle.pb_code.specs.Reached.{CodeReaches, CodeMoves, CodeStays}
-use Rattle.pb_code.specs.Whole.{Code, bank_of, code_opening}
-use Rattle.pb_machine.specs.Steps.{IsStep}
+use Rattle.pb_code.specs.Reached.{CodeReachesBy, CodeMovesBy, CodeStaysBy}
+use Rattle.pb_code.specs.Whole.{Code, bank_by, code_opening}
+use Rattle.pb_machine.specs.Steps.{IsStepBy}
 use Rattle.pb_history.specs.Entries.{Entry, events_of, picks_of}
-use Rattle.pb_history.specs.Leads.{Leads}
+use Rattle.pb_history.specs.Leads.{LeadsBy}
 use Rattle.pb_history.proofs.TraceSteps.{traces_make}
-use Rattle.pb_history.specs.Positions.{next_state, after, state_after, AreEnabled, ReplaysReachPositions, IsAfter}
-use Rattle.pb_machine.specs.Views.{machine_view, IsMachineOf}
+use Rattle.pb_history.specs.Positions.{next_state, after, state_after, AreEnabledBy, ReplaysReachPositions, IsAfterBy}
+use Rattle.pb_machine.specs.Views.{machine_view, IsMachineBy}
 use Rattle.pb_machine.specs.declared.machine.Machine.{Machine}
 use Rattle.pb_verifier.specs.Verified.{VerifiedCode}
 
@@ -63,33 +64,33 @@ module _ (code : Code) (picks : List Pick) where
       ∙ after-append step (code_opening code) (take i picks) (pick ∷ [])
 
   -- a pick that was made leads to the next position
-  pub moved_more : (i : ℕ) (pick : Pick) (event : Option Event) (next : State CodeProcess)
-      → slice_get picks i ≡ Some pick → CodeMoves code (state_after code picks i) pick event next
+  pub moved_more : (lending : Lending) (i : ℕ) (pick : Pick) (event : Option Event) (next : State CodeProcess)
+      → slice_get picks i ≡ Some pick → CodeMovesBy lending code (state_after code picks i) pick event next
       → next ≡ state_after code picks (i + 1)
-  moved_more i pick event next at m =
+  moved_more lending i pick event next at m =
       sym (state_more i pick at ∙ ap (next_state (state_after code picks i)) m.1)
 
   -- so the next position was reached, unless the pick is not enabled
-  pub stepped_more : (i : ℕ) (pick : Pick) (result : Step) (next : State CodeProcess)
-      → slice_get picks i ≡ Some pick → IsStep code (state_after code picks i) pick result next
+  pub stepped_more : (lending : Lending) (i : ℕ) (pick : Pick) (result : Step) (next : State CodeProcess)
+      → slice_get picks i ≡ Some pick → IsStepBy lending code (state_after code picks i) pick result next
       → (result ≡ answer.NotEnabled → ⊥) → next ≡ state_after code picks (i + 1)
-  stepped_more i pick answer.Silent next at h not = moved_more i pick None next at h
-  stepped_more i pick (answer.Did event) next at h not = moved_more i pick (Some event) next at h
-  stepped_more i pick answer.NotEnabled next at h not = absurd (not refl)
+  stepped_more lending i pick answer.Silent next at h not = moved_more lending i pick None next at h
+  stepped_more lending i pick (answer.Did event) next at h not = moved_more lending i pick (Some event) next at h
+  stepped_more lending i pick answer.NotEnabled next at h not = absurd (not refl)
 
-  pub never_stays : AreEnabled code picks → (i : ℕ) (pick : Pick) → slice_get picks i ≡ Some pick
-      → CodeStays code (state_after code picks i) pick → ⊥
-  never_stays all i pick at stays =
-      let e = enabled_at (bank_of code) step (code_opening code) all.end picks all.events i pick all.makes at in
+  pub never_stays : {lending : Lending} → AreEnabledBy lending code picks → (i : ℕ) (pick : Pick) → slice_get picks i ≡ Some pick
+      → CodeStaysBy lending code (state_after code picks i) pick → ⊥
+  never_stays {lending = lending} all i pick at stays =
+      let e = enabled_at (bank_by lending code) step (code_opening code) all.end picks all.events i pick all.makes at in
       stays e.move e.moves e.granted
 
   -- if all are enabled, no pick is refused
-  pub not_refused : AreEnabled code picks → (i : ℕ) (pick : Pick) (result : Step) (next : State CodeProcess)
-      → slice_get picks i ≡ Some pick → IsStep code (state_after code picks i) pick result next
+  pub not_refused : {lending : Lending} → AreEnabledBy lending code picks → (i : ℕ) (pick : Pick) (result : Step) (next : State CodeProcess)
+      → slice_get picks i ≡ Some pick → IsStepBy lending code (state_after code picks i) pick result next
       → result ≡ answer.NotEnabled → ⊥
-  not_refused all i pick answer.Silent next at h e = cc
-  not_refused all i pick (answer.Did event) next at h e = cc
-  not_refused all i pick answer.NotEnabled next at h e = never_stays all i pick at h.0
+  not_refused {lending = lending} all i pick answer.Silent next at h e = cc
+  not_refused {lending = lending} all i pick (answer.Did event) next at h e = cc
+  not_refused {lending = lending} all i pick answer.NotEnabled next at h e = never_stays all i pick at h.0
 
 abbrev no_picks : List Pick
 no_picks = []
@@ -122,40 +123,40 @@ makes_prefix {P = P} bank steps s end (pick ∷ picks) events (suc i) h =
     )
 
 -- so the code reaches each position
-pub position_reached : (code : Code) (picks : List Pick) (i : ℕ) → AreEnabled code picks → CodeReaches code (state_after code picks i)
-position_reached code picks i all =
-    let p = makes_prefix (bank_of code) (code_step code.processes) (code_opening code) all.end picks all.events i all.makes in
+pub position_reached : {lending : Lending} (code : Code) (picks : List Pick) (i : ℕ) → AreEnabledBy lending code picks → CodeReachesBy lending code (state_after code picks i)
+position_reached {lending = lending} code picks i all =
+    let p = makes_prefix (bank_by lending code) (code_step code.processes) (code_opening code) all.end picks all.events i all.makes in
     (take i picks, p.0, p.1)
 
 -- ---- entries that lead somewhere
 
-pub leads_enabled : (code : Code) (entries : List Entry) (end : State CodeProcess) → Leads code (code_opening code) entries end
-    → AreEnabled code (picks_of entries)
-leads_enabled code entries end h = record {
+pub leads_enabled : {lending : Lending} (code : Code) (entries : List Entry) (end : State CodeProcess) → LeadsBy lending code (code_opening code) entries end
+    → AreEnabledBy lending code (picks_of entries)
+leads_enabled {lending = lending} code entries end h = record {
   events = events_of entries;
   end = end;
-  makes = traces_make code (code_opening code) end entries h;
+  makes = traces_make lending code (code_opening code) end entries h;
 }
 
 -- they lead to the position after the last of their picks
-pub leads_to : (code : Code) (entries : List Entry) (end : State CodeProcess) → Leads code (code_opening code) entries end
+pub leads_to : (lending : Lending) (code : Code) (entries : List Entry) (end : State CodeProcess) → LeadsBy lending code (code_opening code) entries end
     → end ≡ state_after code (picks_of entries) (length (picks_of entries))
-leads_to code entries end h =
+leads_to lending code entries end h =
     let step = code_step code.processes in
-    let makes = traces_make code (code_opening code) end entries h in
+    let makes = traces_make lending code (code_opening code) end entries h in
     let all = take_all (length (picks_of entries)) (picks_of entries) (omega arith) in
-    sym (ap (after step (code_opening code)) all ∙ makes_after (bank_of code) step (code_opening code) end (picks_of entries) (events_of entries) makes)
+    sym (ap (after step (code_opening code)) all ∙ makes_after (bank_by lending code) step (code_opening code) end (picks_of entries) (events_of entries) makes)
 
 pub replays_reach : ReplaysReachPositions
-replays_reach code picks entries end h =
-    subst (λ (ps : List Pick). AreEnabled code ps × (end ≡ state_after code ps (length ps))) h.made
-    (leads_enabled code entries end h.leads, leads_to code entries end h.leads)
+replays_reach lending code picks entries end h =
+    subst (λ (ps : List Pick). AreEnabledBy lending code ps × (end ≡ state_after code ps (length ps))) h.made
+    (leads_enabled code entries end h.leads, leads_to lending code entries end h.leads)
 
 -- an enabled pick leads to the next position
-pub stands_next : (v : VerifiedCode) (picks : List Pick) (i : ℕ) (pick : Pick) (m m' : Machine) (result : Step) → AreEnabled v.code picks
-    → slice_get picks i ≡ Some pick → IsAfter v picks i m → IsStep v.code (machine_view m) pick result (machine_view m') → IsMachineOf v m'
-    → IsAfter v picks (i + 1) m'
-stands_next v picks i pick m m' result all there at h of =
-    let here = subst (λ (s : State CodeProcess). IsStep v.code s pick result (machine_view m')) at.state h in
+pub stands_next : {lending : Lending} (v : VerifiedCode) (picks : List Pick) (i : ℕ) (pick : Pick) (m m' : Machine) (result : Step) → AreEnabledBy lending v.code picks
+    → slice_get picks i ≡ Some pick → IsAfterBy lending v picks i m → IsStepBy lending v.code (machine_view m) pick result (machine_view m') → IsMachineBy lending v m'
+    → IsAfterBy lending v picks (i + 1) m'
+stands_next {lending = lending} v picks i pick m m' result all there at h of =
+    let here = subst (λ (s : State CodeProcess). IsStepBy lending v.code s pick result (machine_view m')) at.state h in
     let not = not_refused v.code picks all i pick result (machine_view m') there here in
-    record { machine = of; state = stepped_more v.code picks i pick result (machine_view m') there here not }
+    record { machine = of; state = stepped_more v.code picks lending i pick result (machine_view m') there here not }

@@ -1,23 +1,22 @@
 //! Picks made once more, from the start.
 
 ghost use Rattle.std.specs.Prelude.{◌≡◌, ◌+◌, ◌≤◌, ◌++◌, length, replicate, IfOk, IfErr, OnErr, OnOk};
-ghost use Rattle.pb_code.specs.Whole.{code_opening};
+ghost use Rattle.pb_base.specs.declared.lending.Lending.{Lending as LendingValue};
 ghost use Rattle.pb_history.specs.Entries.{picks_of};
-ghost use Rattle.pb_history.specs.Leads.{Leads};
-ghost use Rattle.pb_history.specs.Replays.{IsReplay, IsRun, IsStopped, MakesSome, spread};
-ghost use Rattle.pb_machine.specs.Views.{machine_view, IsMachineOf};
+ghost use Rattle.pb_history.specs.Replays.{HaveLed, IsReplay, IsReplayBy, IsRun, IsStopped, IsStoppedBy, MakesSome, spread};
+ghost use Rattle.pb_machine.specs.Views.{machine_view, IsMachine, IsMachineBy, IsMachineOf};
 
 use crate::counted::CountedPick;
 use crate::fault::ReplayFault;
 use crate::trace::Trace;
 use pb_base::limits::MAX_PICKS;
-use pb_base::{Pick, Step};
+use pb_base::{Lending, Pick, Step};
 use pb_machine::Machine;
 use pb_verifier::Verified;
 use std::alloc::Global;
 
-/// Makes these picks in turn, from the start of the code: returns the machine after the last, and the trace
-/// of all. The fault is the first pick that is not enabled, or out of memory.
+/// Makes these picks in turn under the banker, from the start of the code: returns the machine after the last,
+/// and the trace of all. The fault is the first pick that is not enabled, or out of memory.
 pub fn replay(
     alloc: Global,
     verified: &Verified,
@@ -29,7 +28,24 @@ pub fn replay(
     ensures machine { IfOk result (λ made. IsMachineOf verified.now made.0) }
     ensures stopped { IfErr result (λ fault. IsStopped verified.now.code picks.now fault) }
 {
-    let mut machine = Machine::new(alloc, verified)?;
+    replay_by(alloc, verified, Lending::ByBanker, picks)
+}
+
+/// Makes these picks in turn under a lending, from the start of the code: returns the machine after the last,
+/// and the trace of all. The fault is the first pick that is not enabled, or out of memory.
+pub fn replay_by(
+    alloc: Global,
+    verified: &Verified,
+    lending: Lending,
+    picks: &[Pick],
+) -> Result<(Machine, Trace), ReplayFault>
+    requires { length picks.now ≤ MAX_PICKS }
+    ensures replay { IfOk result (λ made.
+        IsReplayBy lending verified.now.code picks.now made.1.entries (machine_view made.0)) }
+    ensures machine { IfOk result (λ made. IsMachineBy lending verified.now made.0) }
+    ensures stopped { IfErr result (λ fault. IsStoppedBy lending verified.now.code picks.now fault) }
+{
+    let mut machine = Machine::new_by(alloc, verified, lending)?;
     let mut trace = Trace::new(alloc);
     for i in 0..picks.len() {
         let event = match machine.step(verified, picks[i]) {
@@ -42,8 +58,8 @@ pub fn replay(
     Ok((machine, trace))
 }
 
-/// Makes each of these picks as often as its count says: the same as `replay` of all the picks one by one,
-/// which are never spread out in memory.
+/// Makes each of these picks as often as its count says, under the banker: the same as `replay` of all the
+/// picks one by one, which are never spread out in memory.
 pub fn replay_counted(
     alloc: Global,
     verified: &Verified,
@@ -55,7 +71,24 @@ pub fn replay_counted(
     ensures machine { IfOk result (λ made. IsMachineOf verified.now made.0) }
     ensures stopped { IfErr result (λ fault. IsStopped verified.now.code (spread picks.now) fault) }
 {
-    let mut machine = Machine::new(alloc, verified)?;
+    replay_counted_by(alloc, verified, Lending::ByBanker, picks)
+}
+
+/// Makes each of these picks as often as its count says, under a lending: the same as `replay_by` of all the
+/// picks one by one, which are never spread out in memory.
+pub fn replay_counted_by(
+    alloc: Global,
+    verified: &Verified,
+    lending: Lending,
+    picks: &[CountedPick],
+) -> Result<(Machine, Trace), ReplayFault>
+    requires { length (spread picks.now) ≤ MAX_PICKS }
+    ensures replay { IfOk result (λ made.
+        IsReplayBy lending verified.now.code (spread picks.now) made.1.entries (machine_view made.0)) }
+    ensures machine { IfOk result (λ made. IsMachineBy lending verified.now made.0) }
+    ensures stopped { IfErr result (λ fault. IsStoppedBy lending verified.now.code (spread picks.now) fault) }
+{
+    let mut machine = Machine::new_by(alloc, verified, lending)?;
     let mut trace = Trace::new(alloc);
     for i in 0..picks.len() {
         repeat(verified, &mut machine, &mut trace, picks[i])?;
@@ -72,20 +105,21 @@ pub fn repeat(
     trace: &mut Trace,
     counted: CountedPick,
 ) -> Result<(), ReplayFault>
-    requires machine { IsMachineOf verified.now machine.old }
-    requires leads { Leads verified.now.code (code_opening verified.now.code) trace.old.entries
-        (machine_view machine.old) }
+    requires led { (lending : LendingValue) × HaveLed lending verified.now trace.old.entries machine.old }
     requires fits { length trace.old.entries + counted.count ≤ MAX_PICKS }
     ensures picks { OnOk result (picks_of trace.new.entries
         ≡ picks_of trace.old.entries ++ replicate counted.count counted.pick) }
-    ensures leads { OnOk result (Leads verified.now.code (code_opening verified.now.code) trace.new.entries
+    ensures led { OnOk result ((lending : LendingValue) → HaveLed lending verified.now trace.old.entries machine.old
+        → HaveLed lending verified.now trace.new.entries machine.new) }
+    ensures stopped { IfErr result (λ fault. (lending : LendingValue)
+        → HaveLed lending verified.now trace.old.entries machine.old
+        → IsStoppedBy lending verified.now.code
+        (picks_of trace.old.entries ++ replicate counted.count counted.pick) fault) }
+    ensures some { OnErr result ((lending : LendingValue) → HaveLed lending verified.now trace.old.entries machine.old
+        → MakesSome lending verified.now.code trace.old.entries trace.new.entries counted
         (machine_view machine.new)) }
-    ensures machine { OnOk result (IsMachineOf verified.now machine.new) }
-    ensures stopped { IfErr result (IsStopped verified.now.code
-        (picks_of trace.old.entries ++ replicate counted.count counted.pick)) }
-    ensures some { OnErr result (MakesSome verified.now.code trace.old.entries trace.new.entries counted
-        (machine_view machine.new)) }
-    ensures still { OnErr result (IsMachineOf verified.now machine.new) }
+    ensures still { OnErr result ((lending : LendingValue)
+        → HaveLed lending verified.now trace.old.entries machine.old → IsMachineBy lending verified.now machine.new) }
 {
     let pick = counted.pick;
     let mut left = counted.count;
@@ -113,10 +147,12 @@ pub fn repeat(
 /// Makes picks of one arm, at most `max`, up to the first that is not silent: returns how many were silent
 /// before it, and what it came to. The machine makes all silent ones in one call.
 fn run(verified: &Verified, machine: &mut Machine, pick: Pick, max: u32) -> (u32, Step)
-    requires { IsMachineOf verified.now machine.old }
-    ensures run { IsRun verified.now.code (machine_view machine.old) pick max result.0 result.1
+    requires { IsMachine verified.now machine.old }
+    ensures run { (lending : LendingValue) → IsMachineBy lending verified.now machine.old
+        → IsRun lending verified.now.code (machine_view machine.old) pick max result.0 result.1
         (machine_view machine.new) }
-    ensures machine { IsMachineOf verified.now machine.new }
+    ensures machine { (lending : LendingValue) → IsMachineBy lending verified.now machine.old
+        → IsMachineBy lending verified.now machine.new }
 {
     let made = machine.run_silent(verified, pick, max);
     if made == max {

@@ -2,6 +2,7 @@ pub mod Advances
 pub mod BuiltLists
 pub mod CountingGroups
 pub mod Counts
+pub mod EitherLending
 pub mod GivenCode
 pub mod InstructionSteps
 pub mod LiveArms

@@ -16,6 +16,10 @@ use std::str;
 const FORM: &str =
     "a pick line is P.a COUNT, such as p.0 12: a process, one of its arms, and how many picks it makes";
 
+// What a print line looks like.
+const PRINT_FORM: &str =
+    "a print line is P.a print V, as run writes it, such as p.0 print 2: a process, one of its arms, and what it prints";
+
 // The most processes that are named.
 const MAX_NAMED: usize = 8;
 
@@ -37,6 +41,19 @@ pub fn bad_line(alloc: Global, code: &Code, lines: Lines<'_>, at: usize) -> Word
         Kind::NoArm { process, arm } => no_arm(alloc, code, process, arm),
         Kind::NoCount { count } => no_count(alloc, count),
         Kind::Other { summary, hint } => other(alloc, summary, hint),
+    };
+    note_line(alloc, &mut wording, lines, at);
+    wording
+}
+
+/// Returns the wording of a line that is not a print line of this code.
+pub fn bad_print_line(alloc: Global, code: &Code, lines: Lines<'_>, at: usize) -> Wording {
+    let at = at.min(lines.text.len());
+    let line = &lines.text[at..line_end(lines.text, at)];
+    let mut wording = match kind_of(code, line) {
+        Kind::NoProcess { name } => no_process(alloc, code, name),
+        Kind::NoArm { process, arm } => no_arm(alloc, code, process, arm),
+        _ => other(alloc, "this is not a print line", PRINT_FORM),
     };
     note_line(alloc, &mut wording, lines, at);
     wording

@@ -5,11 +5,11 @@ ghost use Rattle.pb_code.specs.Whole.{Code as AnyCode};
 ghost use Rattle.pb_picks.specs.PickLines.{IsFirstLine, SpellsPicks};
 ghost use Rattle.pb_message_stops.specs.Stops.{HoldsPick};
 
-use pb_banker::Banker;
-use pb_base::{Bundle, Names, NoMemory, Pair, Pick};
+use pb_banker::Lender;
+use pb_base::{Bundle, Lending, Names, NoMemory, Pair, Pick};
 use pb_code::{Code, Instr};
 use pb_history::CountedPick;
-use pb_history::replay::replay_counted;
+use pb_history::replay::replay_counted_by;
 use pb_machine::{Machine, Thread, ThreadState};
 use pb_message_wording::{Shown, Wording};
 use pb_picks::read_picks;
@@ -68,20 +68,22 @@ fn first_line(text: &[u8]) -> (&[u8], &[u8])
     (text, &text[text.len()..])
 }
 
-/// Returns the wording of a pick that is not enabled, over code with these labels, after those before it.
+/// Returns the wording of a pick that is not enabled under a lending, after those before it.
 pub fn stop_wording(
     alloc: Global,
+    lending: Lending,
     verified: &Verified,
     lines: &[u8],
     stop: &Stop,
 ) -> Result<Wording, NoMemory> {
     let arm = arm_name(alloc, verified.names(), stop.pick)?;
-    arm_wording(alloc, verified, lines, stop, &arm)
+    arm_wording(alloc, lending, verified, lines, stop, &arm)
 }
 
 // Returns the same, from the name of the arm.
 fn arm_wording(
     alloc: Global,
+    lending: Lending,
     verified: &Verified,
     lines: &[u8],
     stop: &Stop,
@@ -92,7 +94,7 @@ fn arm_wording(
     if stop.count > 1 {
         wording.note(made_note(alloc, stop));
     }
-    if let Some(machine) = machine_after(alloc, verified, &before) {
+    if let Some(machine) = machine_after(alloc, lending, verified, &before) {
         note_why(alloc, &mut wording, verified.code(), &machine, stop.pick);
     }
     Ok(wording)
@@ -120,11 +122,16 @@ fn made_note(alloc: Global, stop: &Stop) -> Result<String, AllocError> {
 }
 
 // Returns the machine behind the picks of pick lines; none if out of memory.
-fn machine_after(alloc: Global, verified: &Verified, lines: &[u8]) -> Option<Machine> {
+fn machine_after(
+    alloc: Global,
+    lending: Lending,
+    verified: &Verified,
+    lines: &[u8],
+) -> Option<Machine> {
     let Ok(picks) = read_picks(alloc, verified.code(), lines) else {
         return None;
     };
-    match replay_counted(alloc, verified, &picks) {
+    match replay_counted_by(alloc, verified, lending, &picks) {
         Ok((machine, _)) => Some(machine),
         Err(_) => None,
     }
@@ -173,7 +180,7 @@ fn note_why(alloc: Global, wording: &mut Wording, code: &Code, machine: &Machine
     let thread = standing.thread(arm);
     match asked(code, process, thread) {
         Some(bundle) if !standing.faulted() => {
-            wording.note(request_note(alloc, &code.names, machine.banker(), bundle));
+            wording.note(request_note(alloc, &code.names, machine.lender(), bundle));
         }
         _ => wording.note_text(alloc, stands(standing.faulted(), thread.state())),
     }
@@ -204,12 +211,12 @@ fn asked<'c>(code: &'c Code, process: usize, thread: &Thread) -> Option<&'c Bund
 fn request_note(
     alloc: Global,
     names: &Names,
-    banker: &Banker,
+    bank: &Lender,
     bundle: &Bundle,
 ) -> Result<String, AllocError> {
     for i in 0..bundle.len() {
         let pair = bundle.get(i);
-        if let Some(cash) = short_cash(banker, pair) {
+        if let Some(cash) = short_cash(bank, pair) {
             return cash_note(alloc, names, pair, cash);
         }
     }
@@ -220,12 +227,12 @@ fn request_note(
 }
 
 // Returns the cash of a resource, if it is less than what is asked for.
-fn short_cash(banker: &Banker, asked: Pair) -> Option<u32> {
+fn short_cash(bank: &Lender, asked: Pair) -> Option<u32> {
     let resource = usize::from(asked.resource);
-    if banker.resources() <= resource {
+    if bank.resources() <= resource {
         return None;
     }
-    let cash = banker.cash(resource);
+    let cash = bank.cash(resource);
     if cash < asked.amount {
         Some(cash)
     } else {

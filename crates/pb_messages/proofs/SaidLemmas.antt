@@ -2,13 +2,15 @@
 use Rattle.std.proofs.Common.{◌≡◌, ◌≢◌, ◌⊎◌, take, ℕ, List, [], codes, Option, Some, Result, Ok, Err, IfOk}
 use Rattle.std.proofs.Common.{◌+◌, ◌-◌, ◌<◌, Bool, true, false, not, IsTrue, arith, length, drop, refl, subst, sym, inl, inr}
 use Rattle.std.proofs.lemmas.List.{length-drop}
+use Rattle.pb_base.specs.declared.lending.Lending.{Lending}
+use Rattle.pb_base.specs.declared.lending.Lending.TheVariants.{ByBanker}
 use Rattle.pb_code.specs.Whole.{Code, ProcessLabels}
 use Rattle.pb_codegen.specs.Compiled.{IsCompiled}
 use Rattle.pb_accept.specs.Loading.{IsLoadFault, load_line}
 use Rattle.pb_command_io.specs.Parts.{AreTwoParts, IsCutAt, IsMark}
 use Rattle.pb_accept.specs.ReplayLines.{picks_line}
 use Rattle.pb_accept.specs.declared.load.LoadFault.{LoadFault}
-use Rattle.pb_history.specs.Replays.{IsStopped, spread}
+use Rattle.pb_history.specs.Replays.{IsStoppedBy, spread}
 use Rattle.pb_history.specs.declared.counted.CountedPick.{CountedPick}
 use Rattle.pb_history.specs.declared.fault.ReplayFault.TheVariants.{NotEnabled}
 use Rattle.pb_picks.specs.PickLines.{IsFaulty, SpellsPicks}
@@ -18,7 +20,9 @@ use Rattle.pb_messages.specs.Causes.{IsCauseOf}
 use Rattle.pb_messages.specs.Messages.{IsMessage, IsMessageAt}
 use Rattle.pb_messages.specs.Said.{AreSaid, HasNoMark, IsLastLabel, SaysMore, SaysByReading, SaysOfFirstFormat, SaysWhetherFirst}
 use Rattle.pb_messages.specs.Said.{SaysOfPickLines, SaysOfPickedObject, SaysOfPickedText, SaysOfTexts, TellsObject}
-use Rattle.pb_messages.specs.Said.{all, stopped, unread}
+use Rattle.pb_messages.specs.Said.{SaysOfPrintLines, all, stopped, unread, unsaid}
+use Rattle.pb_search_engine.specs.PrintLines.{IsBadPrint}
+use Rattle.pb_search_engine.specs.declared.print_lines.PrintFault.TheVariants.{NotPrint}
 use Rattle.pb_messages.specs.declared.cause.Cause.{Cause}
 use Rattle.pb_messages.specs.declared.message.Reading.TheVariants.{Debugged}
 
@@ -32,18 +36,24 @@ module _ {W E : Type 0} (seen : W → List ℕ) where
   object_told bytes fault line cause (Err e) is same caused message = message
 
   -- the message of lines that say no picks
-  pub lines_told : (code : Code) (lines : List ℕ) (fault : PickFault) (cause : Cause) (made : Result W E) → IsFaulty code lines fault
+  pub lines_told : (lending : Lending) (code : Code) (lines : List ℕ) (fault : PickFault) (cause : Cause) (made : Result W E) → IsFaulty code lines fault
       → IsCauseOf (picks_line fault) (Some cause) → IfOk made (λ told. IsMessage (codes "pick ") lines cause (seen told))
-      → IfOk made (λ told. SaysOfPickLines code lines (seen told))
-  lines_told code lines fault cause (Ok told) is caused message = unread fault cause (seen told) is caused message
-  lines_told code lines fault cause (Err e) is caused message = message
+      → IfOk made (λ told. SaysOfPickLines lending code lines (seen told))
+  lines_told lending code lines fault cause (Ok told) is caused message = unread fault cause (seen told) is caused message
+  lines_told lending code lines fault cause (Err e) is caused message = message
 
   -- the message of a pick that is not enabled
-  pub stop_told : (code : Code) (lines : List ℕ) (picks : List CountedPick) (number at : ℕ) (made : Result W E)
-      → SpellsPicks code lines picks → IsStopped code (spread picks) (NotEnabled number) → HoldsPick code lines picks number at
-      → IfOk made (λ told. IsMessageAt (codes "pick ") lines (codes "H1") (Some at) (seen told)) → IfOk made (λ told. SaysOfPickLines code lines (seen told))
-  stop_told code lines picks number at (Ok told) spelled is holds message = stopped picks number (seen told) spelled is at holds message
-  stop_told code lines picks number at (Err e) spelled is holds message = message
+  pub stop_told : (lending : Lending) (code : Code) (lines : List ℕ) (picks : List CountedPick) (number at : ℕ) (made : Result W E)
+      → SpellsPicks code lines picks → IsStoppedBy lending code (spread picks) (NotEnabled number) → HoldsPick code lines picks number at
+      → IfOk made (λ told. IsMessageAt (codes "pick ") lines (codes "H1") (Some at) (seen told)) → IfOk made (λ told. SaysOfPickLines lending code lines (seen told))
+  stop_told lending code lines picks number at (Ok told) spelled is holds message = stopped picks number (seen told) spelled is at holds message
+  stop_told lending code lines picks number at (Err e) spelled is holds message = message
+
+  -- the message of a line that says no print
+  pub print_told : (code : Code) (lines : List ℕ) (at : ℕ) (made : Result W E) → IsBadPrint code lines (NotPrint at)
+      → IfOk made (λ told. IsMessageAt (codes "print ") lines (codes "K1") (Some at) (seen told)) → IfOk made (λ told. SaysOfPrintLines code lines (seen told))
+  print_told code lines at (Ok told) bad message = unsaid at (seen told) bad message
+  print_told code lines at (Err e) bad message = message
 
   -- what is said of an accepted text, of which the first format can say the code or not
   pub format_told : (text : List ℕ) (code : Code) (labels : List ProcessLabels) (shown : Code) (made : Result W E)
@@ -55,7 +65,7 @@ module _ {W E : Type 0} (seen : W → List ℕ) where
 
   -- what is said of an object, pick lines and commands
   pub object_debugged : (bytes source rest lines commands : List ℕ) (made : Result W E) → AreTwoParts bytes source rest
-      → AreTwoParts rest lines commands → take 4 source ≡ codes "PBO " → IfOk made (λ told. SaysOfPickedObject source lines (seen told))
+      → AreTwoParts rest lines commands → take 4 source ≡ codes "PBO " → IfOk made (λ told. SaysOfPickedObject ByBanker source lines (seen told))
       → IfOk made (λ told. SaysByReading Debugged bytes (seen told))
   object_debugged bytes source rest lines commands (Ok told) parts more object says =
       (source, rest, lines, commands, parts, more, inl (object, says))
@@ -63,7 +73,7 @@ module _ {W E : Type 0} (seen : W → List ℕ) where
 
   -- what is said of a text, pick lines and commands
   pub text_debugged : (bytes source rest lines commands : List ℕ) (made : Result W E) → AreTwoParts bytes source rest
-      → AreTwoParts rest lines commands → take 4 source ≢ codes "PBO " → IfOk made (λ told. SaysOfPickedText source lines (seen told))
+      → AreTwoParts rest lines commands → take 4 source ≢ codes "PBO " → IfOk made (λ told. SaysOfPickedText ByBanker source lines (seen told))
       → IfOk made (λ told. SaysByReading Debugged bytes (seen told))
   text_debugged bytes source rest lines commands (Ok told) parts more text says =
       (source, rest, lines, commands, parts, more, inr (text, says))

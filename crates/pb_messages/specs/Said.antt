@@ -1,6 +1,8 @@
 -- What is said to a person of an input that was refused.
 use Rattle.std.specs.Prelude.{◌≡◌, ◌≢◌, ◌<◌, ◌≤◌, ◌⊎◌, ◌+◌, ◌++◌, ◌∷◌, ℕ, List, [], None, Some, codes, length, take}
 use Rattle.std.specs.Fmt.{decimal}
+use Rattle.pb_base.specs.declared.lending.Lending.{Lending}
+use Rattle.pb_base.specs.declared.lending.Lending.TheVariants.{ByBanker}
 use Rattle.pb_base.specs.declared.limits.TheConstants.{MAX_INPUT}
 use Rattle.pb_base.specs.Steppers.{State, Table}
 use Rattle.pb_code.specs.Code.{CodeProcess}
@@ -13,7 +15,7 @@ use Rattle.pb_accept.specs.Refusals.{IsAcceptedText}
 use Rattle.pb_accept.specs.ReplayLines.{picks_line}
 use Rattle.pb_accept.specs.declared.load.LoadFault.{LoadFault}
 use Rattle.pb_history.specs.Entries.{Entry}
-use Rattle.pb_history.specs.Replays.{IsReplay, IsStopped, spread}
+use Rattle.pb_history.specs.Replays.{IsReplayBy, IsStoppedBy, spread}
 use Rattle.pb_history.specs.declared.counted.CountedPick.{CountedPick}
 use Rattle.pb_history.specs.declared.fault.ReplayFault.TheVariants.{NotEnabled}
 use Rattle.pb_messages.specs.Causes.{IsCauseOf}
@@ -21,12 +23,15 @@ use Rattle.pb_messages.specs.Messages.{IsMessage, IsMessageAt, TellsRefusal}
 use Rattle.pb_messages.specs.declared.cause.Cause.{Cause}
 use Rattle.pb_messages.specs.declared.message.Reading.{Reading}
 use Rattle.pb_messages.specs.declared.message.Reading.TheVariants.{Text, Claims, Recorded, FirstFormat, Texts, Object}
-use Rattle.pb_messages.specs.declared.message.Reading.TheVariants.{Replayed, Debugged}
+use Rattle.pb_messages.specs.declared.message.Reading.TheVariants.{Replayed, Expected, Debugged}
 use Rattle.pb_names.specs.Program.{Program}
 use Rattle.pb_object.specs.Formats.{FitsFirst}
 use Rattle.pb_picks.specs.PickLines.{IsFaulty, SpellsPicks}
 use Rattle.pb_picks.specs.declared.fault.PickFault.{PickFault}
 use Rattle.pb_message_stops.specs.Stops.{HoldsPick}
+use Rattle.pb_search_engine.specs.PrintLines.{IsBadPrint, SpellsPrints}
+use Rattle.pb_search_engine.specs.declared.print_lines.PrintFault.TheVariants.{NotPrint}
+use Rattle.pb_search_stages.specs.declared.print.Print.{Print}
 
 -- of an input that is too long
 abbrev pub long_input : List ℕ
@@ -109,29 +114,41 @@ abbrev pub SaysOfObjectText : (bytes told : List ℕ) → Type 0
 SaysOfObjectText bytes told =
     ((code : Code) × (labels : List ProcessLabels) × IsLoaded bytes code labels × (told ≡ [])) ⊎ TellsObject bytes told
 
--- of pick lines over some code: nothing if all picks are made; else which line says no picks, or that a pick
--- is not enabled, at the line that holds it
-pub data SaysOfPickLines (code : Code) (lines : List ℕ) : List ℕ → Type 0 where
+-- of pick lines over some code: nothing if all picks are made under this lending; else which line says no picks,
+-- or that a pick is not enabled, at the line that holds it
+pub data SaysOfPickLines (lending : Lending) (code : Code) (lines : List ℕ) : List ℕ → Type 0 where
   made : (picks : List CountedPick) (entries : List Entry) (end : State CodeProcess)
-      → SpellsPicks code lines picks → IsReplay code (spread picks) entries end → SaysOfPickLines code lines []
+      → SpellsPicks code lines picks → IsReplayBy lending code (spread picks) entries end → SaysOfPickLines lending code lines []
   unread : (fault : PickFault) (cause : Cause) (told : List ℕ)
       → IsFaulty code lines fault → IsCauseOf (picks_line fault) (Some cause)
-      → IsMessage (codes "pick ") lines cause told → SaysOfPickLines code lines told
+      → IsMessage (codes "pick ") lines cause told → SaysOfPickLines lending code lines told
   stopped : (picks : List CountedPick) (number : ℕ) (told : List ℕ)
-      → SpellsPicks code lines picks → IsStopped code (spread picks) (NotEnabled number)
+      → SpellsPicks code lines picks → IsStoppedBy lending code (spread picks) (NotEnabled number)
       → (at : ℕ) → HoldsPick code lines picks number at
-      → IsMessageAt (codes "pick ") lines (codes "H1") (Some at) told → SaysOfPickLines code lines told
+      → IsMessageAt (codes "pick ") lines (codes "H1") (Some at) told → SaysOfPickLines lending code lines told
 
--- of a text and pick lines
-abbrev pub SaysOfPickedText : (text lines told : List ℕ) → Type 0
-SaysOfPickedText text lines told =
-    ((code : Code) × (labels : List ProcessLabels) × IsCompiled text code labels × SaysOfPickLines code lines told)
+-- of print lines over some code: nothing if all say prints; else which line says none
+pub data SaysOfPrintLines (code : Code) (lines : List ℕ) : List ℕ → Type 0 where
+  said : (prints : List Print) → SpellsPrints code lines prints → SaysOfPrintLines code lines []
+  unsaid : (at : ℕ) (told : List ℕ) → IsBadPrint code lines (NotPrint at)
+      → IsMessageAt (codes "print ") lines (codes "K1") (Some at) told → SaysOfPrintLines code lines told
+
+-- of a text and print lines
+abbrev pub SaysOfExpectedText : (text lines told : List ℕ) → Type 0
+SaysOfExpectedText text lines told =
+    ((code : Code) × (labels : List ProcessLabels) × IsCompiled text code labels × SaysOfPrintLines code lines told)
     ⊎ TellsRefusal [] text told
 
--- of an object and pick lines
-abbrev pub SaysOfPickedObject : (bytes lines told : List ℕ) → Type 0
-SaysOfPickedObject bytes lines told =
-    ((code : Code) × (labels : List ProcessLabels) × IsLoaded bytes code labels × SaysOfPickLines code lines told)
+-- of a text and pick lines, made under this lending
+abbrev pub SaysOfPickedText : Lending → (text lines told : List ℕ) → Type 0
+SaysOfPickedText lending text lines told =
+    ((code : Code) × (labels : List ProcessLabels) × IsCompiled text code labels × SaysOfPickLines lending code lines told)
+    ⊎ TellsRefusal [] text told
+
+-- of an object and pick lines, made under this lending
+abbrev pub SaysOfPickedObject : Lending → (bytes lines told : List ℕ) → Type 0
+SaysOfPickedObject lending bytes lines told =
+    ((code : Code) × (labels : List ProcessLabels) × IsLoaded bytes code labels × SaysOfPickLines lending code lines told)
     ⊎ TellsObject bytes told
 
 -- of an input that is not too long, by how the command reads it
@@ -142,13 +159,15 @@ SaysByReading Recorded bytes told = SaysOfText bytes long_output told
 SaysByReading FirstFormat bytes told = SaysOfFirstFormat bytes told
 SaysByReading Texts bytes told = SaysOfTexts bytes told
 SaysByReading Object bytes told = SaysOfObjectText bytes told
-SaysByReading Replayed bytes told =
-    (text : List ℕ) × (lines : List ℕ) × AreTwoParts bytes text lines × SaysOfPickedText text lines told
+SaysByReading (Replayed lending) bytes told =
+    (text : List ℕ) × (lines : List ℕ) × AreTwoParts bytes text lines × SaysOfPickedText lending text lines told
+SaysByReading Expected bytes told =
+    (text : List ℕ) × (lines : List ℕ) × AreTwoParts bytes text lines × SaysOfExpectedText text lines told
 SaysByReading Debugged bytes told =
     (source : List ℕ) × (rest : List ℕ) × (lines : List ℕ) × (commands : List ℕ)
     × AreTwoParts bytes source rest × AreTwoParts rest lines commands
-    × (((take 4 source ≡ codes "PBO ") × SaysOfPickedObject source lines told)
-    ⊎ ((take 4 source ≢ codes "PBO ") × SaysOfPickedText source lines told))
+    × (((take 4 source ≡ codes "PBO ") × SaysOfPickedObject ByBanker source lines told)
+    ⊎ ((take 4 source ≢ codes "PBO ") × SaysOfPickedText ByBanker source lines told))
 
 -- of any input
 abbrev pub SaysToPerson : Reading → (bytes told : List ℕ) → Type 0

@@ -8,6 +8,7 @@ pub mod live;
 pub mod message;
 mod objects;
 mod picks;
+mod prints;
 pub mod standard_error;
 pub mod texts;
 mod worded;

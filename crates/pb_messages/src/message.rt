@@ -3,16 +3,17 @@
 ghost use Rattle.std.specs.Prelude.{◌≡◌, ◌↔◌, ◌≤◌, [], IfNone, IfOk, IfSome, IsTrue, false, OnOk, codes, length, string_bytes, take};
 ghost use Rattle.pb_accept.specs.Refusals.{IsAcceptedText};
 ghost use Rattle.pb_messages.specs.Messages.{TellsRefusal};
-ghost use Rattle.pb_messages.specs.Said.{SaysByReading, SaysOfObjectText, SaysOfPickedObject, SaysOfPickedText, SaysOfProgram, SaysOfText, SaysOfTexts};
+ghost use Rattle.pb_messages.specs.Said.{SaysByReading, SaysOfExpectedText, SaysOfObjectText, SaysOfPickedObject, SaysOfPickedText, SaysOfProgram, SaysOfText, SaysOfTexts};
 ghost use Rattle.pb_messages.specs.Said.{IsLastLabel, SaysMore, SaysToPerson, behind, long_output, text_label};
-ghost use Rattle.pb_messages.specs.declared.message.Reading.TheVariants.{Debugged, Replayed};
+ghost use Rattle.pb_messages.specs.declared.message.Reading.TheVariants.{Debugged, Expected, Replayed};
 
 use crate::first_format::first_format_message;
 use crate::objects::object_message;
 use crate::picks::lines_message;
+use crate::prints::prints_message;
 use crate::texts::{early_message, text_message};
-use pb_base::NoMemory;
 use pb_base::limits::MAX_INPUT;
+use pb_base::{Lending, NoMemory};
 use pb_command_io::parts::{first_part, two_parts};
 use pb_message_excerpts::place_of;
 use pb_message_stops::lines::Lines;
@@ -43,8 +44,10 @@ pub enum Reading {
     Texts,
     /// An object.
     Object,
-    /// A text, and pick lines behind the first line `%%`.
-    Replayed,
+    /// A text, and pick lines behind the first line `%%`, made under this lending.
+    Replayed(Lending),
+    /// A text, and print lines behind the first line `%%`.
+    Expected,
     /// A text or an object, and pick lines between the first two lines `%%`. What follows is not looked at.
     Debugged,
 }
@@ -72,7 +75,8 @@ fn whole_message(alloc: Global, reading: Reading, bytes: &[u8]) -> Result<Vec<u8
         Reading::FirstFormat => first_format_message(alloc, bytes),
         Reading::Texts => texts_messages(alloc, bytes),
         Reading::Object => whole_object_message(alloc, bytes),
-        Reading::Replayed => replayed_message(alloc, bytes),
+        Reading::Replayed(lending) => replayed_message(alloc, lending, bytes),
+        Reading::Expected => expected_message(alloc, bytes),
         Reading::Debugged => debugged_message(alloc, bytes),
     }
 }
@@ -184,12 +188,29 @@ fn part_label(alloc: Global, number: u64, is_last: bool) -> Result<String, Alloc
 }
 
 // Returns the message of a text and the pick lines behind it.
-fn replayed_message(alloc: Global, bytes: &[u8]) -> Result<Vec<u8>, NoMemory>
-    ensures { IfOk result (λ message. SaysByReading Replayed bytes.now message.items) }
+fn replayed_message(alloc: Global, lending: Lending, bytes: &[u8]) -> Result<Vec<u8>, NoMemory>
+    ensures { IfOk result (λ message. SaysByReading (Replayed lending) bytes.now message.items) }
 {
     let (text, lines) = two_parts(bytes);
     let before = line_of(bytes, text.len());
     picked_text_message(
+        alloc,
+        lending,
+        text,
+        Lines {
+            text: lines,
+            before,
+        },
+    )
+}
+
+// Returns the message of a text and the print lines behind it.
+fn expected_message(alloc: Global, bytes: &[u8]) -> Result<Vec<u8>, NoMemory>
+    ensures { IfOk result (λ message. SaysByReading Expected bytes.now message.items) }
+{
+    let (text, lines) = two_parts(bytes);
+    let before = line_of(bytes, text.len());
+    expected_text_message(
         alloc,
         text,
         Lines {
@@ -208,9 +229,9 @@ pub(crate) fn debugged_message(alloc: Global, bytes: &[u8]) -> Result<Vec<u8>, N
     let before = line_of(bytes, source.len());
     let lines = Lines { text, before };
     if is_object(source) {
-        picked_object_message(alloc, source, lines)
+        picked_object_message(alloc, Lending::ByBanker, source, lines)
     } else {
-        picked_text_message(alloc, source, lines)
+        picked_text_message(alloc, Lending::ByBanker, source, lines)
     }
 }
 
@@ -227,11 +248,26 @@ fn is_object(source: &[u8]) -> bool
 }
 
 // Returns the message of a text, or of pick lines over its code.
-fn picked_text_message(alloc: Global, text: &[u8], lines: Lines<'_>) -> Result<Vec<u8>, NoMemory>
-    ensures { IfOk result (λ message. SaysOfPickedText text.now lines.entry.text.now message.items) }
+fn picked_text_message(
+    alloc: Global,
+    lending: Lending,
+    text: &[u8],
+    lines: Lines<'_>,
+) -> Result<Vec<u8>, NoMemory>
+    ensures { IfOk result (λ message. SaysOfPickedText lending text.now lines.entry.text.now message.items) }
 {
     match text_message(alloc, "", text)? {
-        Ok(compiled) => lines_message(alloc, compiled.verified(), lines),
+        Ok(compiled) => lines_message(alloc, lending, compiled.verified(), lines),
+        Err(message) => Ok(message),
+    }
+}
+
+// Returns the message of a text, or of print lines over its code.
+fn expected_text_message(alloc: Global, text: &[u8], lines: Lines<'_>) -> Result<Vec<u8>, NoMemory>
+    ensures { IfOk result (λ message. SaysOfExpectedText text.now lines.entry.text.now message.items) }
+{
+    match text_message(alloc, "", text)? {
+        Ok(compiled) => prints_message(alloc, compiled.verified(), lines),
         Err(message) => Ok(message),
     }
 }
@@ -239,13 +275,14 @@ fn picked_text_message(alloc: Global, text: &[u8], lines: Lines<'_>) -> Result<V
 // Returns the message of an object, or of pick lines over its code.
 fn picked_object_message(
     alloc: Global,
+    lending: Lending,
     object: &[u8],
     lines: Lines<'_>,
 ) -> Result<Vec<u8>, NoMemory>
-    ensures { IfOk result (λ message. SaysOfPickedObject object.now lines.entry.text.now message.items) }
+    ensures { IfOk result (λ message. SaysOfPickedObject lending object.now lines.entry.text.now message.items) }
 {
     match object_message(alloc, object)? {
-        Ok((verified, _)) => lines_message(alloc, &verified, lines),
+        Ok((verified, _)) => lines_message(alloc, lending, &verified, lines),
         Err(message) => Ok(message),
     }
 }

@@ -8,6 +8,6 @@ pub mod options;
 
 pub use code::{Code, UnknownCode};
 pub use options::{
-    CheckOptions, DebugOptions, EmitOptions, Lend, OutcomesOptions, RecordOptions, RunOptions,
-    StatesOptions, UnknownLend,
+    CheckOptions, DebugOptions, DrawOptions, EmitOptions, Lend, OutcomesOptions, RecordOptions,
+    ReplayOptions, RunOptions, StatesOptions, UnknownLend,
 };

@@ -2,8 +2,9 @@
 ghost use Rattle.std.specs.Prelude.{◌≡◌, ◌≤◌, ℕ, Some};
 ghost use Rattle.pb_base.specs.declared.limits.TheConstants.{MAX_PICKS, MAX_QUANTUM, MAX_STATES, MAX_WORKERS};
 ghost use Rattle.pb_options.specs.declared.options.TheConstants.{MAX_HEAP, MAX_ROWS, MIN_HEAP};
-ghost use Rattle.pb_options.specs.Lends.{IsLendOf};
+ghost use Rattle.pb_options.specs.Lends.{IsLendOf, lending_for};
 
+use pb_base::Lending;
 use pb_object::Format;
 use std::str::FromStr;
 
@@ -55,6 +56,20 @@ pub struct RecordOptions {
     pub seed: Option<u64>,
 }
 
+/// The options of `draw_engine`.
+#[derive(Clone, Copy, Debug, PartialEq, Eq)]
+pub struct DrawOptions {
+    /// Who decides on a request.
+    pub lend: Lend,
+}
+
+/// The options of `replay_engine`.
+#[derive(Clone, Copy, Debug, PartialEq, Eq)]
+pub struct ReplayOptions {
+    /// Who decides on a request.
+    pub lend: Lend,
+}
+
 /// The options of the engines behind `debug`.
 #[derive(Clone, Copy, Debug, PartialEq, Eq)]
 pub struct DebugOptions {
@@ -69,6 +84,18 @@ pub enum Lend {
     Banker,
     /// The cash alone: what it suffices for is granted.
     Cash,
+}
+
+impl Lend {
+    /// Returns how who is named by the word decides.
+    pub fn lending(self) -> Lending
+        ensures { result ≡ lending_for self }
+    {
+        match self {
+            Lend::Banker => Lending::ByBanker,
+            Lend::Cash => Lending::ByCash,
+        }
+    }
 }
 
 /// The word names nobody who decides on a request.
@@ -101,6 +128,10 @@ pub struct OutcomesOptions {
     pub first_deadlock: bool,
     /// Whether outcomes with different prints are different ones, and are shown with them.
     pub prints: bool,
+    /// Whether the prints of every run are compared with lines that follow the text.
+    pub expect: bool,
+    /// Whether those lines may be printed in any order.
+    pub any_order: bool,
     pub ghost some_state: { 1 ≤ states },
     pub ghost states_fit: { states ≤ MAX_STATES },
 }

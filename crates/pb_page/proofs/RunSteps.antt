@@ -1,5 +1,6 @@
 -- What is known of each step of a run, and of its last position.
 use Rattle.std.proofs.Common.{◌≡◌, ℕ, ◌+◌, List, length, codes, sym, subst}
+use Rattle.pb_base.specs.declared.lending.Lending.TheVariants.{ByBanker}
 use Rattle.pb_base.specs.Steppers.{State, IsFinished}
 use Rattle.pb_base.specs.declared.pick.Pick.{Pick}
 use Rattle.pb_base.specs.declared.step.Step.{Step}
@@ -20,7 +21,7 @@ pub steps_named : (v : VerifiedCode) → IsVerified v → (picks : List Pick) �
     → StepsAt v.code picks k step → HasNamesOf v.code.names step
 steps_named v verified picks all k Silent steps = tt
 steps_named v verified picks all k (Did event) steps =
-    events_have_names v verified (state_after v.code picks k) (position_reached v.code picks k all) steps.pick event
+    events_have_names ByBanker v verified (state_after v.code picks k) (position_reached v.code picks k all) steps.pick event
     (state_after v.code picks (k + 1)) steps.steps
 steps_named v verified picks all k NotEnabled steps = tt
 

@@ -2,6 +2,7 @@
 
 ghost use Rattle.std.specs.Prelude.{◌≡◌, ◌<◌, ◌++◌, ◌∷◌, [], ℕ, List, length, map, slice_index, IfOk, OnOk};
 ghost use Rattle.std.specs.Fmt.{decimal};
+ghost use Rattle.pb_banker.specs.Lenders.{lender_state};
 ghost use Rattle.pb_base.specs.Banker.{IsLeastFirst, processes, resources};
 ghost use Rattle.pb_json.specs.Values.{comma, integer_text};
 ghost use Rattle.pb_machine.specs.Views.{IsMachineOf, machine_view, proc_view};
@@ -11,7 +12,7 @@ ghost use Rattle.pb_page.specs.States.{AreWhysOf, IsState};
 ghost use Rattle.pb_page.specs.Texts.{texts};
 
 use crate::arms::{add, add_operands, add_places, add_whys};
-use pb_banker::Banker;
+use pb_banker::{Banker, Lender};
 use pb_base::NoMemory;
 use pb_base::writing::{put, put_digits};
 use pb_json::{put_comma, put_integer};
@@ -122,27 +123,27 @@ fn amount_of(alloc: Global, amount: u32) -> Result<Vec<u8>, NoMemory>
 fn add_loans(
     alloc: Global,
     entries: &mut Vec<Vec<u8>>,
-    banker: &Banker,
+    bank: &Lender,
     p: usize,
 ) -> Result<(), NoMemory>
-    requires { p < processes banker.now.state }
+    requires { p < processes (lender_state bank.now) }
     ensures { OnOk result (texts entries.new.items
-        ≡ texts entries.old.items ++ spec.loans_of banker.now.state p) }
+        ≡ texts entries.old.items ++ spec.loans_of (lender_state bank.now) p) }
 {
-    for r in 0..banker.resources() {
-        let text = amount_of(alloc, banker.loan(p, r))?;
+    for r in 0..bank.resources() {
+        let text = amount_of(alloc, bank.loan(p, r))?;
         add(entries, text)?;
     }
     Ok(())
 }
 
 // Adds what each process holds of each resource.
-fn add_all_loans(alloc: Global, entries: &mut Vec<Vec<u8>>, banker: &Banker) -> Result<(), NoMemory>
+fn add_all_loans(alloc: Global, entries: &mut Vec<Vec<u8>>, bank: &Lender) -> Result<(), NoMemory>
     ensures { OnOk result (texts entries.new.items ≡ texts entries.old.items
-        ++ parts_below (spec.loans_of banker.now.state) (processes banker.now.state)) }
+        ++ parts_below (spec.loans_of (lender_state bank.now)) (processes (lender_state bank.now))) }
 {
-    for p in 0..banker.processes() {
-        add_loans(alloc, entries, banker, p)?;
+    for p in 0..bank.processes() {
+        add_loans(alloc, entries, bank, p)?;
     }
     Ok(())
 }
@@ -193,7 +194,7 @@ pub(crate) fn state_of(
     add_all_operands(alloc, &mut entries, machine)?;
     add_all_whys(alloc, &mut entries, verified, machine)?;
     add_all_integers(alloc, &mut entries, machine)?;
-    add_all_loans(alloc, &mut entries, machine.banker())?;
+    add_all_loans(alloc, &mut entries, machine.lender())?;
     add_order(alloc, &mut entries, machine.banker())?;
     Ok(entries)
 }

@@ -8,6 +8,7 @@ use Rattle.std.proofs.lemmas.Fmt.{decimal_nonempty}
 use Rattle.std.proofs.lemmas.List.{length-map, replicate_more}
 use Rattle.std.proofs.lemmas.List.Elements.{All-head, All-tail}
 use Rattle.std.specs.Fmt.{decimal}
+use Rattle.pb_base.specs.declared.lending.Lending.TheVariants.{ByBanker}
 use Rattle.pb_base.specs.declared.pick.Pick.{Pick}
 use Rattle.pb_base.specs.Lines.{name_of}
 use Rattle.pb_base.specs.Steppers.{State, event_of}
@@ -225,7 +226,7 @@ report_is_recorded code steps report picks is same apart =
       events = events_of entries;
       end = is.end;
       makes = subst (λ (ps : List Pick). CodeMakes code ps (events_of entries) is.end) (sym same)
-          (traces_make code (code_opening code) is.end entries is.leads);
+          (traces_make ByBanker code (code_opening code) is.end entries is.leads);
       few = omega (arith, many, few);
       all = λ not_done. many ∙ all_made report.outcome is.ends not_done;
       drawn = tt;

@@ -6,6 +6,7 @@ use Rattle.std.specs.Prelude.{slice_get}
 use Rattle.std.proofs.lemmas.Bool.{cases_lt}
 use Rattle.std.proofs.lemmas.List.{length-replicate}
 use Rattle.std.proofs.lemmas.List.Elements.{All-cons, All-nil}
+use Rattle.pb_base.specs.declared.lending.Lending.TheVariants.{ByBanker}
 use Rattle.pb_base.specs.declared.event.Event.{Event}
 use Rattle.pb_base.specs.declared.pick.Pick.{Pick}
 use Rattle.pb_base.specs.Steppers.{Makes, State, event_of}
@@ -162,7 +163,7 @@ module _ (code : Code) (annotated : IsAnnotated code) where
   one_on s end pick picks events reached (move, is, granted, later, same, rest) =
       let moves : CodeMoves code s pick (event_of pick move.effect) move.next = (move.effect, is, granted, refl) in (
         enabled_is_there s move.next pick (event_of pick move.effect) reached moves,
-        (move.next, later, reaches_on code s move.next pick (event_of pick move.effect) reached moves, rest),
+        (move.next, later, reaches_on ByBanker code s move.next pick (event_of pick move.effect) reached moves, rest),
       )
 
   behind : (n : ℕ) (s end : State CodeProcess) (pick : Pick) (picks : List Pick) (events : List Event) → CodeReaches code s

@@ -5,8 +5,8 @@ ghost use Rattle.pb_history.specs.Replays.{spread};
 
 use crate::codes::{DEVICES, INCREMENTS, PRINT, verified};
 use pb_base::limits::MAX_PICKS;
-use pb_base::{Bundle, Event, NoMemory, Pick};
-use pb_history::replay::{repeat, replay, replay_counted};
+use pb_base::{Bundle, Event, Lending, NoMemory, Pick};
+use pb_history::replay::{repeat, replay, replay_by, replay_counted, replay_counted_by};
 use pb_history::{CountedPick, ReplayFault, Span, Trace};
 use pb_machine::Machine;
 use pb_verifier::Verified;
@@ -87,6 +87,8 @@ fn granted(trace: &Trace, i: usize) -> Option<u32> {
 }
 
 const PARENT: Pick = Pick { process: 0, arm: 0 };
+
+const OTHER: Pick = Pick { process: 1, arm: 0 };
 
 const FIRST: Pick = Pick { process: 0, arm: 1 };
 
@@ -324,4 +326,91 @@ fn a_pick_that_is_not_enabled(rt: HostRuntime) {
         Err(fault) => Some(fault),
     };
     assert!(rt; refused == Some(ReplayFault::NotEnabled(1)));
+}
+
+/// Returns how many of these picks are made under a lending, if all are, and the machine lends so.
+fn made_by(
+    alloc: Global,
+    code: &Verified,
+    lending: Lending,
+    picks: &[Pick],
+) -> Result<u32, ReplayFault>
+    requires { length picks.now ≤ 10000000 }
+{
+    match replay_by(alloc, code, lending, picks) {
+        Ok((machine, trace)) => Ok(if machine.lending() == lending {
+            trace.len()
+        } else {
+            0
+        }),
+        Err(fault) => Err(fault),
+    }
+}
+
+/// Returns the same of counted picks.
+fn counted_by(
+    alloc: Global,
+    code: &Verified,
+    lending: Lending,
+    picks: &[CountedPick],
+) -> Result<u32, ReplayFault>
+    requires { length (spread picks.now) ≤ 10000000 }
+{
+    match replay_counted_by(alloc, code, lending, picks) {
+        Ok((machine, trace)) => Ok(if machine.lending() == lending {
+            trace.len()
+        } else {
+            0
+        }),
+        Err(fault) => Err(fault),
+    }
+}
+
+#[test]
+fn a_deadlock_under_a_till(rt: HostRuntime) {
+    let Some(code) = verified(rt.alloc(), DEVICES) else {
+        panic!(rt; "no code")
+    };
+    // each process takes a device, which the banker prevents, and then neither gets the device of the other
+    let made = [PARENT, OTHER];
+    assert!(rt; made_by(rt.alloc(), &code, Lending::ByCash, &made).ok() == Some(2));
+    let prevented = made_by(rt.alloc(), &code, Lending::ByBanker, &made).err();
+    assert!(rt; prevented == Some(ReplayFault::NotEnabled(1)));
+    let first = made_by(rt.alloc(), &code, Lending::ByCash, &[PARENT, OTHER, PARENT]).err();
+    assert!(rt; first == Some(ReplayFault::NotEnabled(2)));
+    let second = made_by(rt.alloc(), &code, Lending::ByCash, &[PARENT, OTHER, OTHER]).err();
+    assert!(rt; second == Some(ReplayFault::NotEnabled(2)));
+}
+
+#[test]
+fn a_deadlock_under_a_till_by_counted_picks(rt: HostRuntime) {
+    let Some(code) = verified(rt.alloc(), DEVICES) else {
+        panic!(rt; "no code")
+    };
+    let both = [
+        CountedPick {
+            pick: PARENT,
+            count: 1,
+        },
+        CountedPick {
+            pick: OTHER,
+            count: 1,
+        },
+    ];
+    let made = counted_by(rt.alloc(), &code, Lending::ByCash, &both);
+    assert!(rt; made.ok() == Some(2));
+    let made = counted_by(rt.alloc(), &code, Lending::ByBanker, &both);
+    assert!(rt; made.err() == Some(ReplayFault::NotEnabled(1)));
+    let more = [
+        CountedPick {
+            pick: PARENT,
+            count: 1,
+        },
+        CountedPick {
+            pick: OTHER,
+            count: 2,
+        },
+    ];
+    let made = counted_by(rt.alloc(), &code, Lending::ByCash, &more);
+    assert!(rt; made.err() == Some(ReplayFault::NotEnabled(2)));
 }

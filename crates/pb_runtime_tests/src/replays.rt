@@ -5,7 +5,7 @@ ghost use Rattle.std.specs.Prelude.{◌≤◌, length};
 use crate::recorded::{
     EXAMPLES_1, EXAMPLES_2, EXAMPLES_3, EXAMPLES_4, EXAMPLES_5, EXAMPLES_6, Example,
 };
-use pb_banker::Banker;
+use pb_banker::Lender;
 use pb_base::Pick;
 use pb_codegen::{Compiled, compile};
 use pb_debug::Debugger;
@@ -28,8 +28,8 @@ fn picks_of(alloc: Global, example: &Example) -> Option<Vec<Pick>> {
     Some(picks)
 }
 
-/// Returns whether two bankers have lent the same.
-fn have_lent_alike(a: &Banker, b: &Banker) -> bool {
+/// Returns whether two lenders have lent the same.
+fn have_lent_alike(a: &Lender, b: &Lender) -> bool {
     if a.processes() != b.processes() || a.resources() != b.resources() {
         return false;
     }
@@ -51,7 +51,7 @@ fn shows(debugger: &Debugger, machine: &Machine) -> bool {
             _ => return false,
         }
     }
-    have_lent_alike(debugger.loans(), machine.banker())
+    have_lent_alike(debugger.loans(), machine.lender())
 }
 
 /// Returns whether the debugger shows what a replay of these picks ends in.

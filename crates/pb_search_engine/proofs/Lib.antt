@@ -1,6 +1,11 @@
 pub mod CountLemmas
+pub mod ExpectLemmas
+pub mod ExpectedLaw
+pub mod ExpectedSource
 pub mod LineLemmas
 pub mod OutcomeLemmas
 pub mod PrintedOutcomes
+pub mod PrintLemmas
 pub mod SourceLaw
 pub mod SourceOutcomeLemmas
+pub mod WantedLemmas

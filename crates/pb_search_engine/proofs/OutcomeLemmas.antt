@@ -37,7 +37,7 @@ use Rattle.pb_search.specs.declared.found.Deadlock.{Deadlock as GivenDeadlock}
 
 module _ (mode : Mode) (code : Code) where
   -- each deadlock that is listed is one
-  each_at : (found : List FoundDeadlock) (stuck : List Trace) → AreFoundAt mode code found stuck → (k : ℕ) (d : FoundDeadlock)
+  pub each_at : (found : List FoundDeadlock) (stuck : List Trace) → AreFoundAt mode code found stuck → (k : ℕ) (d : FoundDeadlock)
       → k < length found → (s : Trace) × IsFoundAt mode code (get_or found k d) s
   each_at [] [] are k d lt = absurd (omega (arith, lt))
   each_at (f ∷ found) (s ∷ stuck) are zero d lt = (s, are.0)
@@ -134,7 +134,7 @@ module _ (mode : Mode) (v seen : VerifiedCode) (same : seen ≡ v) (code : Code)
       → AreOutcomeLines code.names shown (map found_view result.found.items) lines
       → AreDeadlockLines code.names shown (map deadlock_view result.deadlocks.items) more
       → text ≡ (lines ++ more) ++ last_line states (length result.found.items) (length result.deadlocks.items) result.extent
-      → status ≡ status_of result.extent → SaysOfSearch mode until v.code labels states text status
+      → status ≡ status_of result.extent (length result.deadlocks.items) → SaysOfSearch mode until v.code labels states text status
   says_told until result states lines more text status tells are stuck_are is same_status =
       let count : length (map found_view result.found.items) ≡ length result.found.items = length-map result.found.items found_view in
       let many : length (map deadlock_view result.deadlocks.items) ≡ length result.deadlocks.items =
@@ -145,8 +145,10 @@ module _ (mode : Mode) (v seen : VerifiedCode) (same : seen ≡ v) (code : Code)
       let stuck : AreDeadlockLines v.code.names labels (map deadlock_view result.deadlocks.items) more =
       subst (λ (n : NameTable). AreDeadlockLines n labels (map deadlock_view result.deadlocks.items) more) same_names
       (subst (λ (l : List ProcessLabels). AreDeadlockLines code.names l (map deadlock_view result.deadlocks.items) more) same_labels stuck_are) in
-      subst (λ (s : Status). SaysOfSearch mode until v.code labels states text s) (sym same_status)
-      (subst (λ (t : List ℕ). SaysOfSearch mode until v.code labels states t (status_of result.extent))
+      subst (λ (s : Status). SaysOfSearch mode until v.code labels states text s)
+      (ap (status_of result.extent) many ∙ sym same_status)
+      (subst (λ (t : List ℕ). SaysOfSearch mode until v.code labels states t
+      (status_of result.extent (length (map deadlock_view result.deadlocks.items))))
       (ap (λ n. (lines ++ more) ++ last_line states n (length (map deadlock_view result.deadlocks.items)) result.extent) count
       ∙ (ap (λ n. (lines ++ more) ++ last_line states (length result.found.items) n result.extent) many ∙ sym is))
       (told (map found_view result.found.items) (map deadlock_view result.deadlocks.items) result.extent

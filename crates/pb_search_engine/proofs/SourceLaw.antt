@@ -1,5 +1,6 @@
 -- The law of the outcomes of a text.
 use Rattle.std.proofs.Common.{◌↔◌, List, sym, subst}
+use Rattle.pb_base.specs.declared.lending.Lending.TheVariants.{ByBanker}
 use Rattle.pb_codegen.proofs.VerifiedProcesses.{well_numbered}
 use Rattle.pb_names.specs.Resolves.{resource_names}
 use Rattle.pb_search_stages.specs.Reaching.{ProcessOutcome}
@@ -24,11 +25,11 @@ outcomes_are_those_of_the_program text code labels is =
             (λ has. (same outcome).0 (l.0 has), λ is. l.1 ((same outcome).1 is));
         same_printed = λ outcome.
             subst (λ c. IsPrintedByCode c outcome ↔ IsPrintedByProgram program code.claims outcome) (sym is.generated)
-            (same_printed program code.claims arms outcome);
+            (same_printed ByBanker program code.claims arms outcome);
         listed_printed = λ found are outcome.
             let l = listed_printed code found are outcome in
             let same = subst (λ c. IsPrintedByCode c outcome ↔ IsPrintedByProgram program code.claims outcome) (sym is.generated)
-            (same_printed program code.claims arms outcome) in
+            (same_printed ByBanker program code.claims arms outcome) in
             (λ has. same.0 (l.0 has), λ is. l.1 (same.1 is));
       },
     )

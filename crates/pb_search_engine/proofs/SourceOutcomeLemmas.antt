@@ -26,7 +26,6 @@ use Rattle.pb_codegen.proofs.SimulationRuns.{present, shadowed}
 use Rattle.pb_codegen.proofs.SimulationListings.{Listing}
 use Rattle.pb_search_stages.specs.Reaching.{ProcessOutcome, process_outcome}
 use Rattle.pb_search.specs.Outcomes.{AreOutcomes, Found}
-use Rattle.pb_base.specs.declared.lending.Lending.TheVariants.{ByBanker}
 use Rattle.pb_search_engine.specs.SourceOutcomes.{IsOutcomeOfCode, IsOutcomeOfProgram}
 use Rattle.pb_search_engine.specs.SourceOutcomes.{source_outcome}
 use Rattle.pb_search_stages.proofs.ReachedByBanker.{come, make}

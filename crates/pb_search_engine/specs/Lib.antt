@@ -1,5 +1,10 @@
 pub mod DeadlockLines
+pub mod Expected
+pub mod ExpectedLaws
 pub mod OutcomeLines
+pub mod PrintLines
+pub mod SaysExpected
+pub mod SaysOfAll
 pub mod SaysOutcomes
 pub mod Showing
 pub mod SourceOutcomes

@@ -49,11 +49,21 @@ abbrev pub end_lines : List (List ℕ) → List ProcessLabels → List ProcessOu
 end_lines names labels outcome =
     each_below (λ p. outcome_lines_of (name_of names p) (integer_names labels p) (outcome_at outcome p)) (length outcome)
 
--- `P.a print V`: a print of an arm
+-- `.a print V`: the print of an arm, behind the name of its process
+abbrev pub arm_print_text : (arm : ℕ) → (value : ℤ) → List ℕ
+arm_print_text arm value = codes "." ++ decimal arm ++ codes " print " ++ signed_decimal value
+
+-- `P.a print V`: a print of an arm of the process with this name
+abbrev pub process_print_text : List ℕ → (arm : ℕ) → (value : ℤ) → List ℕ
+process_print_text name arm value = name ++ arm_print_text arm value
+
+-- the same, by the names
+abbrev pub print_text : NameTable → Print → List ℕ
+print_text names p = process_print_text (name_of names.processes p.pick.process) p.pick.arm p.value
+
+-- the same as a line
 abbrev pub print_line : NameTable → Print → List ℕ
-print_line names p =
-    line (name_of names.processes p.pick.process ++ codes "." ++ decimal p.pick.arm ++ codes " print "
-    ++ signed_decimal p.value)
+print_line names p = line (print_text names p)
 
 -- the heading of n prints, which is empty if there are none
 abbrev pub printed_head : ℕ → List ℕ

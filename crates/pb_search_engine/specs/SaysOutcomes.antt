@@ -1,10 +1,10 @@
 -- What `outcomes` says of an input, and with which status.
-use Rattle.std.specs.Prelude.{ℕ, Bool, true, false, List, ◌++◌, length}
+use Rattle.std.specs.Prelude.{ℕ, zero, suc, Bool, true, false, List, ◌++◌, length}
 use Rattle.pb_code.specs.Whole.{Code, ProcessLabels}
 use Rattle.pb_codegen.specs.Compiled.{IsCompiled}
 use Rattle.pb_accept.specs.Refusals.{SaysOfRefusedText}
 use Rattle.pb_command_io.specs.declared.status.Status.{Status}
-use Rattle.pb_command_io.specs.declared.status.Status.TheVariants.{Done, Limit}
+use Rattle.pb_command_io.specs.declared.status.Status.TheVariants.{Deadlock, Done, Limit}
 use Rattle.pb_search.specs.Deadlocks.{FoundDeadlock}
 use Rattle.pb_search.specs.Outcomes.{Found}
 use Rattle.pb_search.specs.Told.{IsTold}
@@ -34,12 +34,13 @@ abbrev pub until_for : (first_deadlock : Bool) → Until
 until_for true = FirstDeadlock
 until_for false = AllIsFound
 
--- the status, by how much was found
-abbrev pub status_of : Extent → Status
-status_of (extent.All cycles) = Done
-status_of extent.TooMany = Limit
-status_of extent.TooLong = Limit
-status_of extent.AtDeadlock = Done
+-- the status, by how much was found and how many deadlocks there are
+abbrev pub status_of : Extent → (deadlocks : ℕ) → Status
+status_of (extent.All cycles) zero = Done
+status_of (extent.All cycles) (suc n) = Deadlock
+status_of extent.TooMany deadlocks = Limit
+status_of extent.TooLong deadlocks = Limit
+status_of extent.AtDeadlock deadlocks = Deadlock
 
 -- what is said of code in this mode: outcomes, then deadlocks, each one of the code and no two the same,
 -- and whether these are all, which at most this number of configurations tell, or why there may be others
@@ -50,7 +51,7 @@ pub data SaysOfSearch (mode : Mode) (until : Until) (code : Code) (labels : List
       → (lines : List ℕ) → AreOutcomeLines code.names labels found lines
       → (stuck : List ℕ) → AreDeadlockLines code.names labels deadlocks stuck
       → SaysOfSearch mode until code labels states
-      ((lines ++ stuck) ++ last_line states (length found) (length deadlocks) extent) (status_of extent)
+      ((lines ++ stuck) ++ last_line states (length found) (length deadlocks) extent) (status_of extent (length deadlocks))
 
 -- what is said of a text: it is refused; or it is accepted, and the outcomes and deadlocks of its code are
 -- told

@@ -1,5 +1,5 @@
 -- How a program can end, by what its source does; and that its code ends in the same ways.
-use Rattle.std.specs.Prelude.{◌≡◌, ◌↔◌, ℕ, true, false, List, [], ◌∷◌, map, Contains, is_none}
+use Rattle.std.specs.Prelude.{◌≡◌, ◌↔◌, ℕ, false, List, [], ◌∷◌, map, Contains, is_none}
 use Rattle.pb_base.specs.declared.pick.Pick.{Pick}
 use Rattle.pb_base.specs.declared.event.Event.{Event}
 use Rattle.pb_base.specs.declared.event.Event.TheVariants as event
@@ -12,12 +12,15 @@ use Rattle.pb_search_stages.specs.Configurations.{Comes}
 use Rattle.pb_search_stages.specs.Reaching.{Configuration, Ends, ProcessOutcome, outcome_of}
 use Rattle.pb_search.specs.Outcomes.{AreOutcomes, Found}
 use Rattle.pb_search_stages.specs.Reduction.{LeadsTo}
+use Rattle.pb_base.specs.declared.lending.Lending.{Lending}
 use Rattle.pb_base.specs.declared.lending.Lending.TheVariants.{ByBanker}
 use Rattle.pb_search_stages.specs.declared.print.Mode.{Mode}
 use Rattle.pb_search_stages.specs.declared.print.Print.{Print}
 use Rattle.pb_search_stages.specs.Traces.{Outcome, Trace, TraceEnds, trace_outcome}
+use Rattle.pb_names.specs.Meaning.{source_bank_by}
 use Rattle.pb_names.specs.Program.{Program}
 use Rattle.pb_names.specs.Source.{SourceProcess, source_over, source_process, source_step}
+use Rattle.pb_search_engine.specs.Expected.{printing}
 
 -- the picks, each enabled in turn, lead the source here from its start, under the banker, who knows the
 -- capital and these claims
@@ -57,23 +60,27 @@ prints_in (event.Printed pick value ∷ events) = record { pick = pick; value = 
 prints_in (event.Faulted pick kind ∷ events) = prints_in events
 prints_in (event.Finished process ∷ events) = prints_in events
 
--- the source can end so under the banker, and its events print this on the way
-abbrev pub IsPrintedByProgram : Program → Table → Outcome → Type 0
-IsPrintedByProgram program claims outcome =
+-- the source can end so under this lending, and its events print this on the way
+abbrev pub IsPrintedBySource : Lending → Program → Table → Outcome → Type 0
+IsPrintedBySource lending program claims outcome =
     (picks : List Pick) × (events : List Event) × (end : State SourceProcess)
-    × Makes (bank_with program claims) source_step
-    (opening (bank_with program claims) (map source_process program.processes)) picks events end
+    × Makes (source_bank_by lending program claims) source_step
+    (opening (source_bank_by lending program claims) (map source_process program.processes)) picks events end
     × IsFinished source_over end
     × (outcome ≡ record { processes = source_outcome_of end; prints = prints_in events })
 
--- under the banker, with prints
-abbrev pub with_prints : Mode
-with_prints = record { lending = ByBanker; prints = true }
+-- so it is under the banker
+abbrev pub IsPrintedByProgram : Program → Table → Outcome → Type 0
+IsPrintedByProgram program claims outcome = IsPrintedBySource ByBanker program claims outcome
 
--- the code can end with this outcome and these prints under the banker
+-- the code can end with this outcome and these prints under this lending
+abbrev pub IsPrintedByCodeBy : Lending → Code → Outcome → Type 0
+IsPrintedByCodeBy lending code outcome =
+    (picks : List Pick) × (end : Trace) × TraceEnds (printing lending) code picks end × (outcome ≡ trace_outcome end)
+
+-- so it is under the banker
 abbrev pub IsPrintedByCode : Code → Outcome → Type 0
-IsPrintedByCode code outcome =
-    (picks : List Pick) × (end : Trace) × TraceEnds with_prints code picks end × (outcome ≡ trace_outcome end)
+IsPrintedByCode code outcome = IsPrintedByCodeBy ByBanker code outcome
 
 -- under the banker, with no prints
 abbrev pub without_prints : Mode
@@ -86,7 +93,7 @@ pub record HasOutcomesOf (program : Program) (code : Code) : Type 0 where
   pub listed : (found : List Found) → AreOutcomes without_prints code found → (outcome : List ProcessOutcome)
       → Contains (map (λ f. f.outcome.processes) found) outcome ↔ IsOutcomeOfProgram program code.claims outcome
   pub same_printed : (outcome : Outcome) → IsPrintedByCode code outcome ↔ IsPrintedByProgram program code.claims outcome
-  pub listed_printed : (found : List Found) → AreOutcomes with_prints code found → (outcome : Outcome)
+  pub listed_printed : (found : List Found) → AreOutcomes (printing ByBanker) code found → (outcome : Outcome)
       → Contains (map (λ f. f.outcome) found) outcome ↔ IsPrintedByProgram program code.claims outcome
 
 -- so it is of the code of a text, with the program that the text spells, under its claims

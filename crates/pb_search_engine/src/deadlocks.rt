@@ -43,8 +43,8 @@ pub fn deadlocks_text(
     Ok(text)
 }
 
-// Appends the lines of a deadlock with this number to a text, reached by these picks.
-fn put_deadlock(
+/// Appends the lines of a deadlock with this number to a text, reached by these picks.
+pub fn put_deadlock(
     text: &mut Vec<u8>,
     names: &Names,
     labels: &Labels,

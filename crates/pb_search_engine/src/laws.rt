@@ -1,5 +1,6 @@
-//! The law of what outcomes say of a program, as the contract of a function that does nothing.
+//! Laws of what is said of a program, each the contract of a function that does nothing.
 
+ghost use Rattle.pb_search_engine.specs.ExpectedLaws.{AnswersAreRight, AnswersAreRightOfPrograms};
 ghost use Rattle.pb_search_engine.specs.SourceOutcomes.{OutcomesAreThoseOfTheProgram};
 
 /// The outcomes of the code of a text, with the integers and the faults of its processes, are those of the
@@ -7,4 +8,18 @@ ghost use Rattle.pb_search_engine.specs.SourceOutcomes.{OutcomesAreThoseOfThePro
 /// what was printed on the way, by all processes, in its order.
 pub fn outcomes_are_those_of_the_program()
     ensures { OutcomesAreThoseOfTheProgram }
+{}
+
+/// What `outcomes --expect` says of the runs of code is right: if its status is 0 all of them are as expected, and if it
+/// is 10 not all of them are.
+pub fn answers_are_right()
+    ensures { AnswersAreRight }
+{}
+
+/// What `outcomes --expect` says of the runs of the code of a text is right of the program of the text, whoever lends: if
+/// its status is 0, all that the program can end with is as expected, without a fault and with the prints on the way;
+/// and if it is 10, the program can end with something else, or its code can come to a deadlock, or some run of it never
+/// ends.
+pub fn answers_are_right_of_programs()
+    ensures { AnswersAreRightOfPrograms }
 {}

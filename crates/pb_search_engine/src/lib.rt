@@ -3,10 +3,15 @@
 
 mod counts;
 mod deadlocks;
+mod expect;
 pub mod laws;
 mod lines;
 mod names;
 pub mod outcomes;
+pub mod print_lines;
 mod prints;
+mod replies;
+mod wanted;
 
 pub use outcomes::outcomes_engine;
+pub use print_lines::{PrintFault, read_prints};

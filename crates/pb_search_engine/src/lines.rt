@@ -79,8 +79,8 @@ fn found_text(
     Ok(text)
 }
 
-// Appends the lines of an outcome with this number to a text, reached by these picks.
-fn put_outcome(
+/// Appends the lines of an outcome with this number to a text, reached by these picks.
+pub fn put_outcome(
     text: &mut Vec<u8>,
     names: &Names,
     labels: &Labels,

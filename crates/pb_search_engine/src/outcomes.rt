@@ -5,8 +5,10 @@ ghost use Rattle.pb_code.specs.Limits.{AreLabels};
 ghost use Rattle.pb_command_io.specs.Answers.{Tells};
 ghost use Rattle.pb_command_io.specs.Faults.{TellsFaults, TellsWriteFaults};
 ghost use Rattle.pb_command_io.specs.Inputs.{SaysOfInput};
+ghost use Rattle.pb_search_engine.specs.SaysOfAll.{SaysOfSearches};
 ghost use Rattle.pb_search_engine.specs.SaysOutcomes.{SaysOfSearch, SaysOfOutcomes, lending_for, mode_for, status_of, until_for};
 
+use crate::expect::tell_expected;
 use crate::lines::outcomes_text;
 use pb_accept::accept::{compile_text, refuse};
 use pb_base::device::{Input, Output};
@@ -27,10 +29,11 @@ use std::alloc::Global;
 /// is, its integers, what it holds and asks for, and picks that lead there; and at the end how many outcomes
 /// and deadlocks there are, and whether some run never ends. If more than `options.states` configurations are
 /// reached, or if more than 10,000,000 picks lead to an outcome, what was found by then is written, and the
-/// last line says that there may be others; the status is `Limit`. With `options.first_deadlock` the search ends at
+/// last line says that there may be others; the status is `Limit`, and else `Deadlock` if a deadlock was found. With `options.first_deadlock` the search ends at
 /// the first deadlock, which the last line says. With `options.prints` what was
 /// printed is shown too, behind a line `printed`, and outcomes and deadlocks with different prints are different ones. Of a text that is refused its refusal line
-/// is written.
+/// is written. With `options.expect` the input is a text and print lines behind it, and it is written whether all
+/// runs of the text are as these lines say, as `tell_expected` does.
 ///
 /// After a read that failed nothing is written; after a write that failed, a first part of what was being
 /// said.
@@ -41,15 +44,33 @@ pub fn outcomes_engine<I: Input, O: Output>(
     output: &mut O,
 ) -> Status
     ensures text { IfSome (I.rest input.old) (λ bytes.
-        Tells (SaysOfInput (SaysOfOutcomes options.lend options.first_deadlock options.prints options.states) bytes) (O.written output.old) (O.written output.new) result) }
+        Tells (SaysOfInput (SaysOfSearches options) bytes) (O.written output.old) (O.written output.new) result) }
     ensures faults { TellsFaults
         (record { reads = I.failures input.old; writes = O.failures output.old; written = O.written output.old })
         (record { reads = I.failures input.new; writes = O.failures output.new; written = O.written output.new })
         result }
 {
     match read_input(alloc, input, output) {
-        Ok(bytes) => tell_outcomes(alloc, options, bytes.as_slice(), output),
+        Ok(bytes) => tell_text(alloc, options, bytes.as_slice(), output),
         Err(status) => status,
+    }
+}
+
+// Writes the outcomes of a text, or whether all runs of it are as expected.
+fn tell_text<O: Output>(
+    alloc: Global,
+    options: OutcomesOptions,
+    bytes: &[u8],
+    output: &mut O,
+) -> Status
+    requires { length bytes.now ≤ MAX_INPUT }
+    ensures text { Tells (SaysOfInput (SaysOfSearches options) bytes.now) (O.written output.old) (O.written output.new) result }
+    ensures faults { TellsWriteFaults (O.failures output.old) (O.failures output.new) result }
+{
+    if options.expect {
+        tell_expected(alloc, options, bytes, output)
+    } else {
+        tell_outcomes(alloc, options, bytes, output)
     }
 }
 
@@ -86,19 +107,20 @@ fn reply(alloc: Global, options: OutcomesOptions, compiled: &Compiled) -> Result
     let text = outcomes_text(alloc, &code.names, compiled.labels(), &told, states)?;
     Ok(Reply {
         text,
-        status: status(told.extent),
+        status: status(told.extent, told.deadlocks.len()),
     })
 }
 
-// Returns the status, by how much was found.
-fn status(extent: Extent) -> Status
-    ensures { result ≡ status_of extent }
+// Returns the status, by how much was found and how many deadlocks there are.
+fn status(extent: Extent, deadlocks: usize) -> Status
+    ensures { result ≡ status_of extent deadlocks }
 {
     match extent {
-        Extent::All { .. } => Status::Done,
+        Extent::All { .. } if deadlocks == 0 => Status::Done,
+        Extent::All { .. } => Status::Deadlock,
         Extent::TooMany => Status::Limit,
         Extent::TooLong => Status::Limit,
-        Extent::AtDeadlock => Status::Done,
+        Extent::AtDeadlock => Status::Deadlock,
     }
 }
 
@@ -113,8 +135,8 @@ fn until(first_deadlock: bool) -> Until
     }
 }
 
-// Returns what the search goes through.
-fn mode(lend: Lend, prints: bool) -> Mode
+/// Returns what the search goes through.
+pub(crate) fn mode(lend: Lend, prints: bool) -> Mode
     ensures { result ≡ mode_for lend prints }
 {
     Mode {

@@ -7,10 +7,10 @@ use Rattle.std.proofs.lemmas.List.{get_or_past}
 use Rattle.std.proofs.lemmas.Option.{slice_get_within}
 use Rattle.pb_base.specs.declared.pick.Pick.{Pick}
 use Rattle.pb_base.specs.Steppers.{State, Move, Effect, Silent, Prints, Takes, Returns, Faults, Finishes, IsGranted}
-use Rattle.pb_base.specs.Steppers.{move_of, moved}
+use Rattle.pb_base.specs.Steppers.{event_of, move_of, moved}
 use Rattle.pb_base.proofs.Lists.{get_some}
 use Rattle.pb_code.specs.Code.{ProcessCode, CodeProcess, Thread, Idle, code_step, step_process, step_thread}
-use Rattle.pb_code.specs.Reached.{CodeReaches, CodeStays}
+use Rattle.pb_code.specs.Reached.{CodeReaches, CodeMoves, CodeStays}
 use Rattle.pb_code.specs.Whole.{Code, bank_of}
 use Rattle.pb_machine.specs.Looks.{look_at, look_of, look_of_effect}
 use Rattle.pb_machine.specs.declared.look.Look.TheVariants as look
@@ -28,6 +28,15 @@ effect_steps (Returns bundle) h = cc
 effect_steps (Faults kind) h = cc
 effect_steps Finishes h = cc
 
+-- what shows nothing is not visible
+effect_shows : (pick : Pick) (e : Effect) → event_of pick e ≡ None → look_of_effect e ≡ look.Visible → ⊥
+effect_shows pick Silent none seen = cc
+effect_shows pick (Prints v) none seen = cc
+effect_shows pick (Takes bundle) none seen = cc
+effect_shows pick (Returns bundle) none seen = cc
+effect_shows pick (Faults kind) none seen = cc
+effect_shows pick Finishes none seen = cc
+
 module _ (code : Code) (s : State CodeProcess) (pick : Pick) where
   look_is : (move : Move CodeProcess) (m : CodeMove code.processes s pick move) → look_at code s pick ≡ look_of_effect m.effect
   look_is move m =
@@ -37,6 +46,14 @@ module _ (code : Code) (s : State CodeProcess) (pick : Pick) where
   -- an arm that can be picked can step
   pub moves_look : (move : Move CodeProcess) → move_of (code_step code.processes) s pick ≡ Some move → look_at code s pick ≢ look.Stays
   moves_look move h stays = let m = code_move code.processes s pick move h in effect_steps m.effect (sym (look_is move m) ∙ stays)
+
+  -- a visible pick shows something
+  pub visible_shows : (next : State CodeProcess) → CodeMoves code s pick None next → look_at code s pick ≡ look.Visible → ⊥
+  visible_shows next h visible =
+      let move : Move CodeProcess = record { next = next; effect = h.0 } in
+      let m = code_move code.processes s pick move h.1 in
+      let same : m.effect ≡ h.0 = ap (λ (x : Move CodeProcess). x.effect) m.is in
+      effect_shows pick m.effect (ap (event_of pick) same ∙ h.3) (sym (look_is move m) ∙ visible)
 
   -- a visible pick that is not enabled is a request that is not allowed
   pub blocked_refused : CodeStays code s pick → look_at code s pick ≡ look.Visible → IsDenied code s pick

@@ -8,6 +8,8 @@ use Rattle.std.proofs.lemmas.Bool.{cases_eq}
 use Rattle.std.proofs.lemmas.List.{get_or-set_other, length-map, length-replicate}
 use Rattle.std.proofs.lemmas.List.Sums.{sum_by-set}
 use Rattle.std.proofs.lemmas.Option.{slice_get_within, get_or_from_slice_get}
+use Rattle.pb_banker.specs.Lenders.{lender_state}
+use Rattle.pb_base.specs.declared.lending.Lending.TheVariants.{ByBanker}
 use Rattle.pb_base.specs.declared.event.Event.{Event}
 use Rattle.pb_base.specs.declared.pick.Pick.{Pick}
 use Rattle.pb_base.specs.Steppers.{State, Move, IsFinished}
@@ -43,7 +45,7 @@ use Rattle.pb_shared.proofs.ArmLooks.{moves_arm, moves_look}
 
 -- the machine of a legal book is reached
 pub legal_reached : (code : VerifiedCode) (s : Ledger) → IsLegal code s → CodeReaches code.code s.machine
-legal_reached code s legal = leads_reaches code.code s.machine s.entries legal.leads
+legal_reached code s legal = leads_reaches ByBanker code.code s.machine s.entries legal.leads
 
 pub annotated_of : (code : VerifiedCode) (s : Ledger) → IsLegal code s → IsAnnotated code.code
 annotated_of code s legal = legal.verified.annotated
@@ -64,7 +66,7 @@ refused_lasts : (code : Code) → IsAnnotated code → (a b : State CodeProcess)
     → All (λ e. frees e.event ≡ false) es → IsDenied code a mark → IsDenied code b mark
 refused_lasts code annotated a b [] mark reached h f r = subst (λ (s : State CodeProcess). IsDenied code s mark) (sym h) r
 refused_lasts code annotated a b (e ∷ es) mark reached h f r =
-    refused_lasts code annotated h.0 b es mark (reaches_on code a h.0 e.pick e.event reached h.1) h.2 (λ k d lt. f (suc k) d (omega arith))
+    refused_lasts code annotated h.0 b es mark (reaches_on ByBanker code a h.0 e.pick e.event reached h.1) h.2 (λ k d lt. f (suc k) d (omega arith))
     (refused_stays code annotated a h.0 e.pick mark e.event reached h.1 (f 0 e (omega arith)) r)
 
 silent_frees : (n : ℕ) (pick : Pick) → All (λ e. frees e.event ≡ false) (silent_picks pick n)
@@ -103,11 +105,11 @@ module _ (code : VerifiedCode) (s : Ledger) (lent : Lent) (legal : IsLegal code 
     after = with_process s.machine lent.pick.process lent.state
 
     home_leads : Leads code.code s.machine (silent_picks lent.pick lent.made) after
-    home_leads = silent_lead code.code s.machine lent.pick lent.made lent.base lent.state by.base run.runs
+    home_leads = silent_lead ByBanker code.code s.machine lent.pick lent.made lent.base lent.state by.base run.runs
 
     pub home_legal : IsLegal code (home s lent)
     home_legal = record {
-      leads = leads_append code.code (code_opening code.code) s.machine after s.entries (silent_picks lent.pick lent.made) legal.leads home_leads;
+      leads = leads_append ByBanker code.code (code_opening code.code) s.machine after s.entries (silent_picks lent.pick lent.made) legal.leads home_leads;
       counted =
           let made : length (s.entries ++ silent_picks lent.pick lent.made) ≡ length s.entries + lent.made =
           length-append s.entries (silent_picks lent.pick lent.made) ∙ ap (λ (n : ℕ). length s.entries + n) (length-replicate lent.made _) in
@@ -158,7 +160,7 @@ leads_length code a b pick event moves =
 pub after_pick_legal : (code : VerifiedCode) (s : Ledger) (next : State CodeProcess) (pick : Pick) (event : Event) → IsLegal code s → 0 < s.left
     → CodeMoves code.code s.machine pick (Some event) next → IsLegal code (after_pick s next pick event)
 after_pick_legal code s next pick event legal some moves = record {
-  leads = leads_more code.code (code_opening code.code) s.machine next s.entries pick (Some event) legal.leads moves;
+  leads = leads_more ByBanker code.code (code_opening code.code) s.machine next s.entries pick (Some event) legal.leads moves;
   counted =
       let one : Entry = record { pick = pick; event = Some event } in
       let made = length-append s.entries (one ∷ []) in
@@ -240,7 +242,7 @@ leads_silently : (code : Code) (before later : State CodeProcess) (pick : Pick) 
 leads_silently code before later pick zero same = same
 leads_silently code before later pick (suc made) (between, moves, last) =
     subst (λ (es : List Entry). Leads code before es later) (sym (replicate_more made (record { pick = pick; event = None })))
-    (leads_more code before between later (silent_picks pick made) pick None (leads_silently code before between pick made moves) last)
+    (leads_more ByBanker code before between later (silent_picks pick made) pick None (leads_silently code before between pick made moves) last)
 
 -- silent picks of an arm keep a book legal
 pub went_on_legal : (code : VerifiedCode) (s : Ledger) (pick : Pick) (made : ℕ) (next : State CodeProcess) → IsLegal code s → made ≤ s.left
@@ -248,7 +250,7 @@ pub went_on_legal : (code : VerifiedCode) (s : Ledger) (pick : Pick) (made : ℕ
 went_on_legal code s pick made next legal within moves =
     let leads = leads_silently code.code s.machine next pick made moves in
     record {
-      leads = leads_append code.code (code_opening code.code) s.machine next s.entries (silent_picks pick made) legal.leads leads;
+      leads = leads_append ByBanker code.code (code_opening code.code) s.machine next s.entries (silent_picks pick made) legal.leads leads;
       counted =
           let many : length (s.entries ++ silent_picks pick made) ≡ length s.entries + made =
           length-append s.entries (silent_picks pick made) ∙ ap (λ (n : ℕ). length s.entries + n) (length-replicate made _) in
@@ -348,10 +350,10 @@ same_slip a b p q = λ i. record { arm = p i; allowance = q i }
 -- ---- the machine with a process put in
 
 pub set_view : (m after : Machine) (p q : ℕ) (process : CodeProcess) → p ≡ q → (machine_view after).processes ≡ set
-    (machine_view m).processes p process → after.banker ≡ m.banker
+    (machine_view m).processes p process → after.bank ≡ m.bank
     → machine_view after ≡ with_process (machine_view m) q process
 set_view m after p q process e list bank =
     let state : List CodeProcess → List (List ℕ) → State CodeProcess = λ ps ls. record { processes = ps; loans = ls } in
-    ap (λ ps. state ps after.banker.state.loans) list
-    ∙ (ap (λ b. state (set (machine_view m).processes p process) b.state.loans) bank
-    ∙ ap (λ (k : ℕ). state (set (machine_view m).processes k process) m.banker.state.loans) e)
+    ap (λ ps. state ps (lender_state after.bank).loans) list
+    ∙ (ap (λ b. state (set (machine_view m).processes p process) (lender_state b).loans) bank
+    ∙ ap (λ (k : ℕ). state (set (machine_view m).processes k process) (lender_state m.bank).loans) e)

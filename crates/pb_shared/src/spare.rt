@@ -96,7 +96,7 @@ impl Spare {
         ensures base { self.new.base ≡ self.old.base }
         ensures processes { (machine_view machine.new).processes
             ≡ set (machine_view machine.old).processes p (proc_view self.old.state) }
-        ensures banker { machine.new.banker ≡ machine.old.banker }
+        ensures bank { machine.new.bank ≡ machine.old.bank }
         ensures machine { (v : VerifiedCode) → IsMachineOf v machine.old → ComesFrom v machine.old p self.old.state
             → IsMachineOf v machine.new }
         ensures process { (v : VerifiedCode) → IsMachineOf v machine.old → IsProcessOf v p self.new.state }

@@ -3,8 +3,9 @@
 use pb_base::device::{Input, MemoryInput, MemoryOutput, Output};
 use pb_command_io::Status;
 use pb_engines::{
-    CheckOptions, EmitOptions, RecordOptions, RunOptions, check_engine, claims_engine, emit_engine,
-    exec_engine, migrate_engine, record_engine, replay_engine, run_engine,
+    CheckOptions, EmitOptions, Lend, RecordOptions, ReplayOptions, RunOptions, check_engine,
+    claims_engine, emit_engine, exec_engine, migrate_engine, record_engine, replay_engine,
+    run_engine,
 };
 use pb_object::Format;
 use std::alloc::Global;
@@ -72,7 +73,10 @@ pub fn make<I: Input, O: Output>(
         Call::Record(run, seed) => {
             record_engine(rt, alloc, RecordOptions { run, seed }, input, output)
         }
-        Call::Replay => replay_engine(alloc, input, output),
+        Call::Replay => {
+            let options = ReplayOptions { lend: Lend::Banker };
+            replay_engine(alloc, options, input, output)
+        }
         Call::Run(options) => run_engine(rt, alloc, options, input, output),
     }
 }

@@ -19,6 +19,8 @@ mod codegen;
 #[cfg(test)]
 mod engines;
 #[cfg(test)]
+mod lenders;
+#[cfg(test)]
 mod lexer;
 #[cfg(test)]
 mod machine;

@@ -32,7 +32,7 @@ fn shown(event: Event) -> Seen {
 }
 
 /// Returns the verified code of an object.
-fn code_of(alloc: Global, object: &[u8]) -> Option<Verified> {
+pub(crate) fn code_of(alloc: Global, object: &[u8]) -> Option<Verified> {
     let code = read_object(alloc, object).ok()?;
     verify(alloc, code).ok()
 }
@@ -83,11 +83,11 @@ fn shows(
 
 /// Returns what a process holds of a resource, if both are there.
 fn loan(machine: &Machine, p: usize, r: usize) -> Option<u32> {
-    let banker = machine.banker();
-    if p >= banker.processes() || r >= banker.resources() {
+    let bank = machine.lender();
+    if p >= bank.processes() || r >= bank.resources() {
         return None;
     }
-    Some(banker.loan(p, r))
+    Some(bank.loan(p, r))
 }
 
 /// Returns the state of an arm and its place, if there is such an arm.
@@ -316,7 +316,7 @@ const FAULT_PLAYED: [Act; 7] = [
 
 /// Two processes that take the two resources in turn, one the first and then the second, the other the other
 /// way round.
-const CROSSED: &[u8] = b"PBO 1
+pub(crate) const CROSSED: &[u8] = b"PBO 1
 resources 2
 resource r 1
 resource s 1

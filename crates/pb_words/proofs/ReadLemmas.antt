@@ -16,18 +16,20 @@ use Rattle.pb_command_line.specs.CommandLine.{bank_command, states_command, with
 use Rattle.clap.specs.declared.parser.matches.Found.{Found}
 use Rattle.clap.proofs.WalkLemmas.{one_text-rows}
 use Rattle.pb_words.specs.Read.{BlamesWords, HasCheckNumbers, HasCode, HasEmitNumber, HasFlag, HasNumber, HasNumberIn}
-use Rattle.pb_words.specs.Read.{HasLend, HasOptionalNumber, HasSearchOptions, HasStatesNumbers}
+use Rattle.pb_words.specs.Read.{HasDrawLend, HasLend, HasOptionalNumber, HasReplayLend, HasSearchOptions, HasStatesNumbers}
 use Rattle.pb_words.specs.Read.{HasRecordNumbers, HasRunNumbers}
 use Rattle.pb_words.specs.Read.{IsReadFrom, IsReadFromMatches}
 use Rattle.pb_words.specs.declared.words.Options.{Options}
 use Rattle.pb_words.specs.declared.words.Options.TheVariants.{Bank, Check, Claims, Debug, Draw, Emit, Exec, Explain}
 use Rattle.pb_words.specs.declared.words.Options.TheVariants.{Migrate, Outcomes, Plan, Record, Replay, Run, States}
 use Rattle.pb_options.specs.declared.options.CheckOptions.{CheckOptions}
+use Rattle.pb_options.specs.declared.options.DrawOptions.{DrawOptions}
 use Rattle.pb_options.specs.declared.options.EmitOptions.{EmitOptions}
 use Rattle.pb_options.specs.Lends.{IsLendOf, lend_word}
 use Rattle.pb_options.specs.declared.options.Lend.{Lend}
 use Rattle.pb_options.specs.declared.options.OutcomesOptions.{OutcomesOptions}
 use Rattle.pb_options.specs.declared.options.RecordOptions.{RecordOptions}
+use Rattle.pb_options.specs.declared.options.ReplayOptions.{ReplayOptions}
 use Rattle.pb_options.specs.declared.options.RunOptions.{RunOptions}
 use Rattle.pb_options.specs.declared.options.StatesOptions.{StatesOptions}
 use Rattle.pb_options.specs.Codes.{IsCodeOf, code_name}
@@ -109,8 +111,8 @@ no_check rows none Claims says =
     let m : 104 ≡ 108 = ap (λ (l : Text). get_or l 1 0) says in omega (arith, m)
 no_check rows none (Debug o) says =
     let m : 99 ≡ 100 = ap (λ (l : Text). get_or l 0 0) says.0 in omega (arith, m)
-no_check rows none Draw says =
-    let m : 99 ≡ 100 = ap (λ (l : Text). get_or l 0 0) says in omega (arith, m)
+no_check rows none (Draw o) says =
+    let m : 99 ≡ 100 = ap (λ (l : Text). get_or l 0 0) says.0 in omega (arith, m)
 no_check rows none (Emit o) says =
     let m : 99 ≡ 101 = ap (λ (l : Text). get_or l 0 0) says.0 in omega (arith, m)
 no_check rows none (Exec o) says =
@@ -125,8 +127,8 @@ no_check rows none Plan says =
     let m : 99 ≡ 112 = ap (λ (l : Text). get_or l 0 0) says in omega (arith, m)
 no_check rows none (Record o) says =
     let m : 99 ≡ 114 = ap (λ (l : Text). get_or l 0 0) says.0 in omega (arith, m)
-no_check rows none Replay says =
-    let m : 99 ≡ 114 = ap (λ (l : Text). get_or l 0 0) says in omega (arith, m)
+no_check rows none (Replay o) says =
+    let m : 99 ≡ 114 = ap (λ (l : Text). get_or l 0 0) says.0 in omega (arith, m)
 no_check rows none (Run o) says =
     let m : 99 ≡ 114 = ap (λ (l : Text). get_or l 0 0) says.0 in omega (arith, m)
 no_check rows none (States o) says =
@@ -143,8 +145,8 @@ no_emit rows none Claims says =
     let m : 101 ≡ 99 = ap (λ (l : Text). get_or l 0 0) says in omega (arith, m)
 no_emit rows none (Debug o) says =
     let m : 101 ≡ 100 = ap (λ (l : Text). get_or l 0 0) says.0 in omega (arith, m)
-no_emit rows none Draw says =
-    let m : 101 ≡ 100 = ap (λ (l : Text). get_or l 0 0) says in omega (arith, m)
+no_emit rows none (Draw o) says =
+    let m : 101 ≡ 100 = ap (λ (l : Text). get_or l 0 0) says.0 in omega (arith, m)
 no_emit rows none (Emit o) says = none o says.1
 no_emit rows none (Exec o) says =
     let m : 109 ≡ 120 = ap (λ (l : Text). get_or l 1 0) says.0 in omega (arith, m)
@@ -158,8 +160,8 @@ no_emit rows none Plan says =
     let m : 101 ≡ 112 = ap (λ (l : Text). get_or l 0 0) says in omega (arith, m)
 no_emit rows none (Record o) says =
     let m : 101 ≡ 114 = ap (λ (l : Text). get_or l 0 0) says.0 in omega (arith, m)
-no_emit rows none Replay says =
-    let m : 101 ≡ 114 = ap (λ (l : Text). get_or l 0 0) says in omega (arith, m)
+no_emit rows none (Replay o) says =
+    let m : 101 ≡ 114 = ap (λ (l : Text). get_or l 0 0) says.0 in omega (arith, m)
 no_emit rows none (Run o) says =
     let m : 101 ≡ 114 = ap (λ (l : Text). get_or l 0 0) says.0 in omega (arith, m)
 no_emit rows none (States o) says =
@@ -176,8 +178,8 @@ no_run rows none Claims says =
     let m : 114 ≡ 99 = ap (λ (l : Text). get_or l 0 0) says in omega (arith, m)
 no_run rows none (Debug o) says =
     let m : 114 ≡ 100 = ap (λ (l : Text). get_or l 0 0) says.0 in omega (arith, m)
-no_run rows none Draw says =
-    let m : 114 ≡ 100 = ap (λ (l : Text). get_or l 0 0) says in omega (arith, m)
+no_run rows none (Draw o) says =
+    let m : 114 ≡ 100 = ap (λ (l : Text). get_or l 0 0) says.0 in omega (arith, m)
 no_run rows none (Emit o) says =
     let m : 114 ≡ 101 = ap (λ (l : Text). get_or l 0 0) says.0 in omega (arith, m)
 no_run rows none (Exec o) says =
@@ -192,8 +194,8 @@ no_run rows none Plan says =
     let m : 114 ≡ 112 = ap (λ (l : Text). get_or l 0 0) says in omega (arith, m)
 no_run rows none (Record o) says =
     let m : 117 ≡ 101 = ap (λ (l : Text). get_or l 1 0) says.0 in omega (arith, m)
-no_run rows none Replay says =
-    let m : 117 ≡ 101 = ap (λ (l : Text). get_or l 1 0) says in omega (arith, m)
+no_run rows none (Replay o) says =
+    let m : 117 ≡ 101 = ap (λ (l : Text). get_or l 1 0) says.0 in omega (arith, m)
 no_run rows none (Run o) says = none o says.1
 no_run rows none (States o) says =
     let m : 114 ≡ 115 = ap (λ (l : Text). get_or l 0 0) says.0 in omega (arith, m)
@@ -209,8 +211,8 @@ no_record rows none Claims says =
     let m : 114 ≡ 99 = ap (λ (l : Text). get_or l 0 0) says in omega (arith, m)
 no_record rows none (Debug o) says =
     let m : 114 ≡ 100 = ap (λ (l : Text). get_or l 0 0) says.0 in omega (arith, m)
-no_record rows none Draw says =
-    let m : 114 ≡ 100 = ap (λ (l : Text). get_or l 0 0) says in omega (arith, m)
+no_record rows none (Draw o) says =
+    let m : 114 ≡ 100 = ap (λ (l : Text). get_or l 0 0) says.0 in omega (arith, m)
 no_record rows none (Emit o) says =
     let m : 114 ≡ 101 = ap (λ (l : Text). get_or l 0 0) says.0 in omega (arith, m)
 no_record rows none (Exec o) says =
@@ -224,8 +226,8 @@ no_record rows none (Outcomes o) says =
 no_record rows none Plan says =
     let m : 114 ≡ 112 = ap (λ (l : Text). get_or l 0 0) says in omega (arith, m)
 no_record rows none (Record o) says = none o says.1
-no_record rows none Replay says =
-    let m : 99 ≡ 112 = ap (λ (l : Text). get_or l 2 0) says in omega (arith, m)
+no_record rows none (Replay o) says =
+    let m : 99 ≡ 112 = ap (λ (l : Text). get_or l 2 0) says.0 in omega (arith, m)
 no_record rows none (Run o) says =
     let m : 101 ≡ 117 = ap (λ (l : Text). get_or l 1 0) says.0 in omega (arith, m)
 no_record rows none (States o) says =
@@ -242,8 +244,8 @@ no_exec rows none Claims says =
     let m : 101 ≡ 99 = ap (λ (l : Text). get_or l 0 0) says in omega (arith, m)
 no_exec rows none (Debug o) says =
     let m : 101 ≡ 100 = ap (λ (l : Text). get_or l 0 0) says.0 in omega (arith, m)
-no_exec rows none Draw says =
-    let m : 101 ≡ 100 = ap (λ (l : Text). get_or l 0 0) says in omega (arith, m)
+no_exec rows none (Draw o) says =
+    let m : 101 ≡ 100 = ap (λ (l : Text). get_or l 0 0) says.0 in omega (arith, m)
 no_exec rows none (Emit o) says =
     let m : 120 ≡ 109 = ap (λ (l : Text). get_or l 1 0) says.0 in omega (arith, m)
 no_exec rows none (Exec o) says = none o says.1
@@ -257,8 +259,8 @@ no_exec rows none Plan says =
     let m : 101 ≡ 112 = ap (λ (l : Text). get_or l 0 0) says in omega (arith, m)
 no_exec rows none (Record o) says =
     let m : 101 ≡ 114 = ap (λ (l : Text). get_or l 0 0) says.0 in omega (arith, m)
-no_exec rows none Replay says =
-    let m : 101 ≡ 114 = ap (λ (l : Text). get_or l 0 0) says in omega (arith, m)
+no_exec rows none (Replay o) says =
+    let m : 101 ≡ 114 = ap (λ (l : Text). get_or l 0 0) says.0 in omega (arith, m)
 no_exec rows none (Run o) says =
     let m : 101 ≡ 114 = ap (λ (l : Text). get_or l 0 0) says.0 in omega (arith, m)
 no_exec rows none (States o) says =
@@ -275,8 +277,8 @@ no_explain rows none Claims says =
     let m : 101 ≡ 99 = ap (λ (l : Text). get_or l 0 0) says in omega (arith, m)
 no_explain rows none (Debug o) says =
     let m : 101 ≡ 100 = ap (λ (l : Text). get_or l 0 0) says.0 in omega (arith, m)
-no_explain rows none Draw says =
-    let m : 101 ≡ 100 = ap (λ (l : Text). get_or l 0 0) says in omega (arith, m)
+no_explain rows none (Draw o) says =
+    let m : 101 ≡ 100 = ap (λ (l : Text). get_or l 0 0) says.0 in omega (arith, m)
 no_explain rows none (Emit o) says =
     let m : 120 ≡ 109 = ap (λ (l : Text). get_or l 1 0) says.0 in omega (arith, m)
 no_explain rows none (Exec o) says =
@@ -290,8 +292,8 @@ no_explain rows none Plan says =
     let m : 101 ≡ 112 = ap (λ (l : Text). get_or l 0 0) says in omega (arith, m)
 no_explain rows none (Record o) says =
     let m : 101 ≡ 114 = ap (λ (l : Text). get_or l 0 0) says.0 in omega (arith, m)
-no_explain rows none Replay says =
-    let m : 101 ≡ 114 = ap (λ (l : Text). get_or l 0 0) says in omega (arith, m)
+no_explain rows none (Replay o) says =
+    let m : 101 ≡ 114 = ap (λ (l : Text). get_or l 0 0) says.0 in omega (arith, m)
 no_explain rows none (Run o) says =
     let m : 101 ≡ 114 = ap (λ (l : Text). get_or l 0 0) says.0 in omega (arith, m)
 no_explain rows none (States o) says =
@@ -308,8 +310,8 @@ no_outcomes rows none Claims says =
     let m : 111 ≡ 99 = ap (λ (l : Text). get_or l 0 0) says in omega (arith, m)
 no_outcomes rows none (Debug o) says =
     let m : 111 ≡ 100 = ap (λ (l : Text). get_or l 0 0) says.0 in omega (arith, m)
-no_outcomes rows none Draw says =
-    let m : 111 ≡ 100 = ap (λ (l : Text). get_or l 0 0) says in omega (arith, m)
+no_outcomes rows none (Draw o) says =
+    let m : 111 ≡ 100 = ap (λ (l : Text). get_or l 0 0) says.0 in omega (arith, m)
 no_outcomes rows none (Emit o) says =
     let m : 111 ≡ 101 = ap (λ (l : Text). get_or l 0 0) says.0 in omega (arith, m)
 no_outcomes rows none (Exec o) says =
@@ -323,8 +325,8 @@ no_outcomes rows none Plan says =
     let m : 111 ≡ 112 = ap (λ (l : Text). get_or l 0 0) says in omega (arith, m)
 no_outcomes rows none (Record o) says =
     let m : 111 ≡ 114 = ap (λ (l : Text). get_or l 0 0) says.0 in omega (arith, m)
-no_outcomes rows none Replay says =
-    let m : 111 ≡ 114 = ap (λ (l : Text). get_or l 0 0) says in omega (arith, m)
+no_outcomes rows none (Replay o) says =
+    let m : 111 ≡ 114 = ap (λ (l : Text). get_or l 0 0) says.0 in omega (arith, m)
 no_outcomes rows none (Run o) says =
     let m : 111 ≡ 114 = ap (λ (l : Text). get_or l 0 0) says.0 in omega (arith, m)
 no_outcomes rows none (States o) says =
@@ -341,8 +343,8 @@ no_states rows none Claims says =
     let m : 115 ≡ 99 = ap (λ (l : Text). get_or l 0 0) says in omega (arith, m)
 no_states rows none (Debug o) says =
     let m : 115 ≡ 100 = ap (λ (l : Text). get_or l 0 0) says.0 in omega (arith, m)
-no_states rows none Draw says =
-    let m : 115 ≡ 100 = ap (λ (l : Text). get_or l 0 0) says in omega (arith, m)
+no_states rows none (Draw o) says =
+    let m : 115 ≡ 100 = ap (λ (l : Text). get_or l 0 0) says.0 in omega (arith, m)
 no_states rows none (Emit o) says =
     let m : 115 ≡ 101 = ap (λ (l : Text). get_or l 0 0) says.0 in omega (arith, m)
 no_states rows none (Exec o) says =
@@ -357,11 +359,77 @@ no_states rows none Plan says =
     let m : 115 ≡ 112 = ap (λ (l : Text). get_or l 0 0) says in omega (arith, m)
 no_states rows none (Record o) says =
     let m : 115 ≡ 114 = ap (λ (l : Text). get_or l 0 0) says.0 in omega (arith, m)
-no_states rows none Replay says =
-    let m : 115 ≡ 114 = ap (λ (l : Text). get_or l 0 0) says in omega (arith, m)
+no_states rows none (Replay o) says =
+    let m : 115 ≡ 114 = ap (λ (l : Text). get_or l 0 0) says.0 in omega (arith, m)
 no_states rows none (Run o) says =
     let m : 115 ≡ 114 = ap (λ (l : Text). get_or l 0 0) says.0 in omega (arith, m)
 no_states rows none (States o) says = none o says.1
+
+-- if its options cannot be read, the rows of `replay` say nothing
+pub no_replay : (rows : List Row) → ((o : ReplayOptions) → HasReplayLend rows o → ⊥) → (o : Options)
+    → IsReadFrom (codes "replay") rows o → ⊥
+no_replay rows none Bank says =
+    let m : 114 ≡ 98 = ap (λ (l : Text). get_or l 0 0) says in omega (arith, m)
+no_replay rows none (Check o) says =
+    let m : 114 ≡ 99 = ap (λ (l : Text). get_or l 0 0) says.0 in omega (arith, m)
+no_replay rows none Claims says =
+    let m : 114 ≡ 99 = ap (λ (l : Text). get_or l 0 0) says in omega (arith, m)
+no_replay rows none (Debug o) says =
+    let m : 114 ≡ 100 = ap (λ (l : Text). get_or l 0 0) says.0 in omega (arith, m)
+no_replay rows none (Draw o) says =
+    let m : 114 ≡ 100 = ap (λ (l : Text). get_or l 0 0) says.0 in omega (arith, m)
+no_replay rows none (Emit o) says =
+    let m : 114 ≡ 101 = ap (λ (l : Text). get_or l 0 0) says.0 in omega (arith, m)
+no_replay rows none (Exec o) says =
+    let m : 114 ≡ 101 = ap (λ (l : Text). get_or l 0 0) says.0 in omega (arith, m)
+no_replay rows none (Explain o) says =
+    let m : 114 ≡ 101 = ap (λ (l : Text). get_or l 0 0) says.0 in omega (arith, m)
+no_replay rows none Migrate says =
+    let m : 114 ≡ 109 = ap (λ (l : Text). get_or l 0 0) says in omega (arith, m)
+no_replay rows none (Outcomes o) says =
+    let m : 114 ≡ 111 = ap (λ (l : Text). get_or l 0 0) says.0 in omega (arith, m)
+no_replay rows none Plan says =
+    let m : 114 ≡ 112 = ap (λ (l : Text). get_or l 0 0) says in omega (arith, m)
+no_replay rows none (Record o) says =
+    let m : 112 ≡ 99 = ap (λ (l : Text). get_or l 2 0) says.0 in omega (arith, m)
+no_replay rows none (Replay o) says = none o says.1
+no_replay rows none (Run o) says =
+    let m : 101 ≡ 117 = ap (λ (l : Text). get_or l 1 0) says.0 in omega (arith, m)
+no_replay rows none (States o) says =
+    let m : 114 ≡ 115 = ap (λ (l : Text). get_or l 0 0) says.0 in omega (arith, m)
+
+-- if its options cannot be read, the rows of `draw` say nothing
+pub no_draw : (rows : List Row) → ((o : DrawOptions) → HasDrawLend rows o → ⊥) → (o : Options)
+    → IsReadFrom (codes "draw") rows o → ⊥
+no_draw rows none Bank says =
+    let m : 100 ≡ 98 = ap (λ (l : Text). get_or l 0 0) says in omega (arith, m)
+no_draw rows none (Check o) says =
+    let m : 100 ≡ 99 = ap (λ (l : Text). get_or l 0 0) says.0 in omega (arith, m)
+no_draw rows none Claims says =
+    let m : 100 ≡ 99 = ap (λ (l : Text). get_or l 0 0) says in omega (arith, m)
+no_draw rows none (Debug o) says =
+    let m : 114 ≡ 101 = ap (λ (l : Text). get_or l 1 0) says.0 in omega (arith, m)
+no_draw rows none (Draw o) says = none o says.1
+no_draw rows none (Emit o) says =
+    let m : 100 ≡ 101 = ap (λ (l : Text). get_or l 0 0) says.0 in omega (arith, m)
+no_draw rows none (Exec o) says =
+    let m : 100 ≡ 101 = ap (λ (l : Text). get_or l 0 0) says.0 in omega (arith, m)
+no_draw rows none (Explain o) says =
+    let m : 100 ≡ 101 = ap (λ (l : Text). get_or l 0 0) says.0 in omega (arith, m)
+no_draw rows none Migrate says =
+    let m : 100 ≡ 109 = ap (λ (l : Text). get_or l 0 0) says in omega (arith, m)
+no_draw rows none (Outcomes o) says =
+    let m : 100 ≡ 111 = ap (λ (l : Text). get_or l 0 0) says.0 in omega (arith, m)
+no_draw rows none Plan says =
+    let m : 100 ≡ 112 = ap (λ (l : Text). get_or l 0 0) says in omega (arith, m)
+no_draw rows none (Record o) says =
+    let m : 100 ≡ 114 = ap (λ (l : Text). get_or l 0 0) says.0 in omega (arith, m)
+no_draw rows none (Replay o) says =
+    let m : 100 ≡ 114 = ap (λ (l : Text). get_or l 0 0) says.0 in omega (arith, m)
+no_draw rows none (Run o) says =
+    let m : 100 ≡ 114 = ap (λ (l : Text). get_or l 0 0) says.0 in omega (arith, m)
+no_draw rows none (States o) says =
+    let m : 100 ≡ 115 = ap (λ (l : Text). get_or l 0 0) says.0 in omega (arith, m)
 
 -- the rows have the name of the code that is read, or nothing if none is
 pub code_read : {E : Type 0} (f : Found) (id : Text) (code : Option Code)

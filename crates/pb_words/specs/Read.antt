@@ -11,11 +11,13 @@ use Rattle.pb_words.specs.declared.words.Options.{Options}
 use Rattle.pb_words.specs.declared.words.Options.TheVariants as option
 use Rattle.pb_options.specs.declared.options.DebugOptions.{DebugOptions}
 use Rattle.pb_options.specs.declared.options.CheckOptions.{CheckOptions}
+use Rattle.pb_options.specs.declared.options.DrawOptions.{DrawOptions}
 use Rattle.pb_options.specs.declared.options.EmitOptions.{EmitOptions}
 use Rattle.pb_options.specs.Lends.{lend_word}
 use Rattle.pb_options.specs.declared.options.Lend.{Lend}
 use Rattle.pb_options.specs.declared.options.OutcomesOptions.{OutcomesOptions}
 use Rattle.pb_options.specs.declared.options.RecordOptions.{RecordOptions}
+use Rattle.pb_options.specs.declared.options.ReplayOptions.{ReplayOptions}
 use Rattle.pb_options.specs.declared.options.RunOptions.{RunOptions}
 use Rattle.pb_options.specs.declared.options.StatesOptions.{StatesOptions}
 use Rattle.pb_options.specs.Codes.{code_name}
@@ -72,6 +74,13 @@ HasLend rows lend = one_of (codes "lend") rows ≡ Some (lend_word lend)
 abbrev pub HasSearchOptions : List Row → OutcomesOptions → Type 0
 HasSearchOptions rows o = HasNumber rows (codes "states") o.states × HasLend rows o.lend
     × HasFlag rows (codes "first-deadlock") o.first_deadlock × HasFlag rows (codes "prints") o.prints
+    × HasFlag rows (codes "expect") o.expect × HasFlag rows (codes "any-order") o.any_order
+
+abbrev pub HasDrawLend : List Row → DrawOptions → Type 0
+HasDrawLend rows o = HasLend rows o.lend
+
+abbrev pub HasReplayLend : List Row → ReplayOptions → Type 0
+HasReplayLend rows o = HasLend rows o.lend
 
 abbrev pub HasStatesNumbers : List Row → StatesOptions → Type 0
 HasStatesNumbers rows o = HasNumber rows (codes "rows") o.rows × HasNumber rows (codes "from") o.from
@@ -82,7 +91,7 @@ IsReadFrom name rows option.Bank = name ≡ codes "bank"
 IsReadFrom name rows (option.Check o) = (name ≡ codes "check") × HasCheckNumbers rows o
 IsReadFrom name rows option.Claims = name ≡ codes "claims"
 IsReadFrom name rows (option.Debug o) = (name ≡ codes "debug") × HasDebugFlag rows o
-IsReadFrom name rows option.Draw = name ≡ codes "draw"
+IsReadFrom name rows (option.Draw o) = (name ≡ codes "draw") × HasDrawLend rows o
 IsReadFrom name rows (option.Emit o) = (name ≡ codes "emit") × HasEmitNumber rows o
 IsReadFrom name rows (option.Exec o) = (name ≡ codes "exec") × HasRunNumbers rows o
 IsReadFrom name rows (option.Explain code) = (name ≡ codes "explain") × HasCode rows code
@@ -90,7 +99,7 @@ IsReadFrom name rows option.Migrate = name ≡ codes "migrate"
 IsReadFrom name rows (option.Outcomes o) = (name ≡ codes "outcomes") × HasSearchOptions rows o
 IsReadFrom name rows option.Plan = name ≡ codes "plan"
 IsReadFrom name rows (option.Record o) = (name ≡ codes "record") × HasRecordNumbers rows o
-IsReadFrom name rows option.Replay = name ≡ codes "replay"
+IsReadFrom name rows (option.Replay o) = (name ≡ codes "replay") × HasReplayLend rows o
 IsReadFrom name rows (option.Run o) = (name ≡ codes "run") × HasRunNumbers rows o
 IsReadFrom name rows (option.States o) = (name ≡ codes "states") × HasStatesNumbers rows o
 

@@ -1,16 +1,18 @@
 //! Reads the words of a call.
 ghost use Rattle.std.specs.Prelude.{◌≡◌, ◌↔◌, IfErr, IfNone, IfOk, IfSome, IsTrue, None, Option, ℕ};
 ghost use Rattle.clap.specs.Words.{found_of, kind_of, one_of, rows_of, subcommand_rows_of};
-ghost use Rattle.pb_words.specs.Read.{BlamesWords, HasCheckNumbers, HasCode, HasDebugFlag, HasEmitNumber, HasFlag};
-ghost use Rattle.pb_words.specs.Read.{HasNumberIn, HasRecordNumbers, HasRunNumbers, HasLend, HasSearchOptions, HasStatesNumbers};
-ghost use Rattle.pb_words.specs.Read.{IsReadFromMatches, WordsSay};
+ghost use Rattle.pb_words.specs.Read.{BlamesWords, HasCheckNumbers, HasCode, HasDebugFlag, HasDrawLend, HasEmitNumber};
+ghost use Rattle.pb_words.specs.Read.{HasFlag, HasNumberIn, HasRecordNumbers, HasRunNumbers, HasLend, HasReplayLend, HasSearchOptions};
+ghost use Rattle.pb_words.specs.Read.{HasStatesNumbers, IsReadFromMatches, WordsSay};
 ghost use Rattle.pb_words.specs.declared.words.Options.{Options as AnyOptions};
 ghost use Rattle.pb_options.specs.declared.options.CheckOptions.{CheckOptions as AnyCheckOptions};
+ghost use Rattle.pb_options.specs.declared.options.DrawOptions.{DrawOptions as AnyDrawOptions};
 ghost use Rattle.pb_options.specs.declared.options.EmitOptions.{EmitOptions as AnyEmitOptions};
 ghost use Rattle.pb_options.specs.declared.code.Code.{Code as AnyCode};
 ghost use Rattle.pb_options.specs.declared.options.Lend.{Lend as AnyLend};
 ghost use Rattle.pb_options.specs.declared.options.OutcomesOptions.{OutcomesOptions as AnyOutcomesOptions};
 ghost use Rattle.pb_options.specs.declared.options.RecordOptions.{RecordOptions as AnyRecordOptions};
+ghost use Rattle.pb_options.specs.declared.options.ReplayOptions.{ReplayOptions as AnyReplayOptions};
 ghost use Rattle.pb_options.specs.declared.options.RunOptions.{RunOptions as AnyRunOptions};
 ghost use Rattle.pb_options.specs.declared.options.StatesOptions.{StatesOptions as AnyStatesOptions};
 
@@ -22,8 +24,8 @@ use pb_command_line::command_line::command_line;
 use pb_object::Format;
 use pb_options::options::{MAX_HEAP, MAX_ROWS, MIN_HEAP};
 use pb_options::{
-    CheckOptions, Code, DebugOptions, EmitOptions, Lend, OutcomesOptions, RecordOptions,
-    RunOptions, StatesOptions,
+    CheckOptions, Code, DebugOptions, DrawOptions, EmitOptions, Lend, OutcomesOptions,
+    RecordOptions, ReplayOptions, RunOptions, StatesOptions,
 };
 use std::alloc::{AllocError, Global};
 
@@ -83,6 +85,14 @@ fn debug_options(matches: &ArgMatches<'_>) -> DebugOptions
     }
 }
 
+fn draw_options(matches: &ArgMatches<'_>) -> Option<DrawOptions>
+    ensures some { IfSome result (HasDrawLend (rows_of (found_of matches.now))) }
+    ensures none { IfNone result ((o : AnyDrawOptions) → HasDrawLend (rows_of (found_of matches.now)) o → ⊥) }
+{
+    let lend = lend(matches)?;
+    Some(DrawOptions { lend })
+}
+
 fn emit_options(matches: &ArgMatches<'_>) -> Option<EmitOptions>
     ensures some { IfSome result (HasEmitNumber (rows_of (found_of matches.now))) }
     ensures none { IfNone result ((o : AnyEmitOptions) → HasEmitNumber (rows_of (found_of matches.now)) o → ⊥) }
@@ -127,7 +137,17 @@ fn outcomes_options(matches: &ArgMatches<'_>) -> Option<OutcomesOptions>
         lend,
         first_deadlock: flag(matches, "first-deadlock"),
         prints: flag(matches, "prints"),
+        expect: flag(matches, "expect"),
+        any_order: flag(matches, "any-order"),
     })
+}
+
+fn replay_options(matches: &ArgMatches<'_>) -> Option<ReplayOptions>
+    ensures some { IfSome result (HasReplayLend (rows_of (found_of matches.now))) }
+    ensures none { IfNone result ((o : AnyReplayOptions) → HasReplayLend (rows_of (found_of matches.now)) o → ⊥) }
+{
+    let lend = lend(matches)?;
+    Some(ReplayOptions { lend })
 }
 
 fn states_options(matches: &ArgMatches<'_>) -> Option<StatesOptions>
@@ -182,7 +202,7 @@ fn read_matches(matches: &ArgMatches<'_>) -> Option<Options>
         "check" => Some(Options::Check(check_options(inner)?)),
         "claims" => Some(Options::Claims),
         "debug" => Some(Options::Debug(debug_options(inner))),
-        "draw" => Some(Options::Draw),
+        "draw" => Some(Options::Draw(draw_options(inner)?)),
         "emit" => Some(Options::Emit(emit_options(inner)?)),
         "exec" => Some(Options::Exec(run_options(inner)?)),
         "explain" => Some(Options::Explain(code_given(inner)?)),
@@ -190,7 +210,7 @@ fn read_matches(matches: &ArgMatches<'_>) -> Option<Options>
         "outcomes" => Some(Options::Outcomes(outcomes_options(inner)?)),
         "plan" => Some(Options::Plan),
         "record" => Some(Options::Record(record_options(inner)?)),
-        "replay" => Some(Options::Replay),
+        "replay" => Some(Options::Replay(replay_options(inner)?)),
         "run" => Some(Options::Run(run_options(inner)?)),
         "states" => Some(Options::States(states_options(inner)?)),
         _ => None,
@@ -225,7 +245,7 @@ pub fn options(alloc: Global, words: &[&str]) -> Result<Options, WordsFault>
 // Returns what is wrong with words that clap takes and that name no options.
 fn unread_text(alloc: Global, matches: &ArgMatches<'_>) -> Result<String, AllocError> {
     match matches.subcommand() {
-        Some(("outcomes", _)) => String::from_str(alloc, NO_LEND),
+        Some(("draw" | "outcomes" | "replay", _)) => String::from_str(alloc, NO_LEND),
         _ => codes_text(alloc),
     }
 }

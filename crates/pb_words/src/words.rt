@@ -1,8 +1,8 @@
 //! The words of a call, read.
 
 use pb_options::{
-    CheckOptions, Code, DebugOptions, EmitOptions, OutcomesOptions, RecordOptions, RunOptions,
-    StatesOptions,
+    CheckOptions, Code, DebugOptions, DrawOptions, EmitOptions, OutcomesOptions, RecordOptions,
+    ReplayOptions, RunOptions, StatesOptions,
 };
 
 /// A command with its options.
@@ -13,7 +13,7 @@ pub enum Options {
     Check(CheckOptions),
     Claims,
     Debug(DebugOptions),
-    Draw,
+    Draw(DrawOptions),
     Emit(EmitOptions),
     Exec(RunOptions),
     Explain(Option<Code>),
@@ -21,7 +21,7 @@ pub enum Options {
     Outcomes(OutcomesOptions),
     Plan,
     Record(RecordOptions),
-    Replay,
+    Replay(ReplayOptions),
     Run(RunOptions),
     States(StatesOptions),
 }

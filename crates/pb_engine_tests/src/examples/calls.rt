@@ -4,8 +4,9 @@ use pb_bank_engine::bank_engine;
 use pb_base::device::{MemoryInput, MemoryOutput};
 use pb_command_io::Status;
 use pb_engines::{
-    CheckOptions, EmitOptions, RecordOptions, RunOptions, check_engine, claims_engine, emit_engine,
-    exec_engine, migrate_engine, record_engine, replay_engine, run_engine,
+    CheckOptions, EmitOptions, Lend, RecordOptions, ReplayOptions, RunOptions, check_engine,
+    claims_engine, emit_engine, exec_engine, migrate_engine, record_engine, replay_engine,
+    run_engine,
 };
 use pb_object::Format;
 use pb_plan_engine::plan_engine;
@@ -14,6 +15,10 @@ use std::thread::Threads;
 
 /// The longest output that is expected, in bytes.
 const MAX_OUTPUT: usize = 4_096;
+
+const BY_BANKER: ReplayOptions = ReplayOptions { lend: Lend::Banker };
+
+const BY_CASH: ReplayOptions = ReplayOptions { lend: Lend::Cash };
 
 /// A command with what it is told.
 pub enum Command {
@@ -26,6 +31,7 @@ pub enum Command {
     Plan,
     Record { seed: u64 },
     Replay,
+    ReplayByCash,
     Run { quantum: u32, steps: u32 },
 }
 
@@ -91,7 +97,8 @@ fn status_of(
             };
             record_engine(rt, alloc, options, &mut input, output)
         }
-        Command::Replay => replay_engine(alloc, &mut input, output),
+        Command::Replay => replay_engine(alloc, BY_BANKER, &mut input, output),
+        Command::ReplayByCash => replay_engine(alloc, BY_CASH, &mut input, output),
         Command::Run { quantum, steps } => {
             run_engine(rt, alloc, run_options(quantum, steps)?, &mut input, output)
         }

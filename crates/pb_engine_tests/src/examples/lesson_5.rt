@@ -2,11 +2,11 @@
 
 use crate::examples::calls::{Call, Command, first_wrong};
 use pb_command_io::Status;
-use pb_example_texts::deadlock::{CAUTIOUS, IN_TURN, ORDERED, STEPS, TWO_PHASE};
+use pb_example_texts::deadlock::{CAUTIOUS, CIRCLE_RUN, IN_TURN, ORDERED, STEPS, TWO_PHASE};
 use std::test::Fail;
 
 #[rattlefmt::skip]
-const CALLS_1: [Call; 7] = [
+const CALLS_1: [Call; 9] = [
     Call {
         name: "cautious",
         command: Command::Run { quantum: 64, steps: 1_000_000 },
@@ -124,6 +124,24 @@ p.0 print 2
 p.0 print 3
 p.0 print 4
 limit 40
+",
+    },
+    Call {
+        name: "circle",
+        command: Command::ReplayByCash,
+        input: CIRCLE_RUN,
+        status: Status::Deadlock,
+        output: b"a.0 grant 1 tape
+b.0 grant 1 disk
+deadlock
+",
+    },
+    Call {
+        name: "circle_refused",
+        command: Command::Replay,
+        input: CIRCLE_RUN,
+        status: Status::Refused,
+        output: b"refused H1 at 1
 ",
     },
 ];

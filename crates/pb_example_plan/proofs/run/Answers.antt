@@ -1,4 +1,5 @@
 use Rattle.std.proofs.Common.{subst, sym}
+use Rattle.pb_base.specs.declared.lending.Lending.TheVariants.{ByBanker}
 use Rattle.pb_base.specs.Lines.{HasNames}
 use Rattle.pb_base.specs.Steppers.{IsFinished}
 use Rattle.pb_code.specs.Code.{code_over}
@@ -10,7 +11,7 @@ pub event_line-requires : goal.event_line-requires
 event_line-requires g c =
     let made = c.in-Did.ensures.step in
     subst (λ names. HasNames names c.in-Did.event) (sym c.names.ensures)
-    (events_have_names c.args.verified.now c.requires.verified (machine_view c.loop-made.machine) c.loop-made.invariant.reached
+    (events_have_names ByBanker c.args.verified.now c.requires.verified (machine_view c.loop-made.machine) c.loop-made.invariant.reached
     made.0 c.in-Did.event _ made.1)
 
 pub returns-in-NotEnabled-clause-over : goal.returns-in-NotEnabled-clause-over

@@ -7,7 +7,8 @@ pub static K1: Entry = Entry {
     meaning: "A pick line is `P.a COUNT`: the name of a process, a point, the number of one of its
 arms, a space, and how often the pick is made, from 1 to 10,000,000. This one is not
 of this form, or names a process or an arm that is not there. The offset is that of
-the line, counted from behind the line `%%`.",
+the line, counted from behind the line `%%`. `outcomes --expect` reads print lines
+there, `P.a print V`, and refuses them so.",
     example: Some(Example {
         command: "replay",
         input: ExampleInput::Text(

@@ -80,7 +80,7 @@ fn replays_in(alloc: Global, program: &Program, turns: &[Turn], wanted: &[Seen])
     if !takes_turns(alloc, compiled, &mut machine, &mut source, turns, wanted) {
         return Some(false);
     }
-    Some(source.finished() && same_loans(source.banker(), opening.banker()))
+    Some(source.finished() && same_loans(opening.lender(), source.banker()))
 }
 
 /// Returns the same of the program of a text.

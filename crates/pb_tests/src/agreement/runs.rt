@@ -6,6 +6,7 @@ ghost use Rattle.pb_rewrite.specs.Sources.{IsSource};
 use crate::agreement::sides::{Seen, shown, step_both};
 use crate::agreement::states::{Difference, first_difference, same_loans};
 use crate::agreement::tally::Tally;
+use pb_banker::Lender;
 use pb_base::{NoMemory, Pick};
 use pb_codegen::Compiled;
 use pb_machine::Machine;
@@ -29,7 +30,10 @@ fn same_machines(one: &Machine, other: &Machine) -> bool {
             return false;
         }
     }
-    same_loans(one.banker(), other.banker())
+    match other.lender() {
+        Lender::Banker(banker) => same_loans(one.lender(), banker),
+        Lender::Till(_) => false,
+    }
 }
 
 /// Returns whether a pick showed nothing, and was made.

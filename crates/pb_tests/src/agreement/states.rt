@@ -1,9 +1,10 @@
 //! Whether the machine and the source are in the same state.
 
 ghost use Rattle.std.specs.Prelude.{◌<◌, length};
+ghost use Rattle.pb_banker.specs.Lenders.{lender_state};
 ghost use Rattle.pb_base.specs.Banker.{processes};
 
-use pb_banker::Banker;
+use pb_banker::{Banker, Lender};
 use pb_code::Labels;
 use pb_machine::{Machine, Proc};
 use pb_rewrite::Source;
@@ -63,8 +64,8 @@ fn same_lines(labels: &Labels, machine: &Machine, source: &Source<Global>) -> bo
     true
 }
 
-fn same_loans_of(one: &Banker, other: &Banker, p: usize) -> bool
-    requires one { p < processes one.now.state }
+fn same_loans_of(one: &Lender, other: &Banker, p: usize) -> bool
+    requires one { p < processes (lender_state one.now) }
     requires other { p < processes other.now.state }
 {
     if one.resources() != other.resources() {
@@ -78,8 +79,8 @@ fn same_loans_of(one: &Banker, other: &Banker, p: usize) -> bool
     true
 }
 
-/// Returns whether both bankers have lent the same.
-pub(super) fn same_loans(one: &Banker, other: &Banker) -> bool {
+/// Returns whether a lender and a banker have lent the same.
+pub(super) fn same_loans(one: &Lender, other: &Banker) -> bool {
     if one.processes() != other.processes() {
         return false;
     }
@@ -103,7 +104,7 @@ pub(super) fn first_difference(
     if !same_integers(machine, source) {
         return Some(Difference::Integers);
     }
-    if !same_loans(machine.banker(), source.banker()) {
+    if !same_loans(machine.lender(), source.banker()) {
         return Some(Difference::Loans);
     }
     if !same_lines(labels, machine, source) {

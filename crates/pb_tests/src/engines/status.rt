@@ -2,7 +2,7 @@
 
 use pb_command_io::Status;
 
-const NUMBERS: [(Status, u8); 8] = [
+const NUMBERS: [(Status, u8); 10] = [
     (Status::Done, 0),
     (Status::Refused, 1),
     (Status::Words, 2),
@@ -11,6 +11,8 @@ const NUMBERS: [(Status, u8); 8] = [
     (Status::Memory, 5),
     (Status::Device, 6),
     (Status::Threads, 7),
+    (Status::Deadlock, 9),
+    (Status::Unexpected, 10),
 ];
 
 #[test]

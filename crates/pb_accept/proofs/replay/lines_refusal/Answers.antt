@@ -1,8 +1,8 @@
-use Rattle.pb_accept.specs.ReplayLines.{SaysOfNoPicks, refused}
+use Rattle.pb_accept.specs.ReplayLines.{SaysOfNoPicksBy, refused}
 use Rattle.pb_accept.proofs.LoadLemmas.{of_refusal}
 use Rattle.pb_accept.proofs.replay.lines_refusal.Goals as goal
 
 pub returns : goal.returns
-returns c code lines is =
-    of_refusal c.refused.result c.in_ok-text.text.items (SaysOfNoPicks code lines)
+returns c lending code lines is =
+    of_refusal c.refused.result c.in_ok-text.text.items (SaysOfNoPicksBy lending code lines)
     (refused c.args.fault is c.in_ok-text.text.items c.in_ok-text.ensures) c.refused.ensures

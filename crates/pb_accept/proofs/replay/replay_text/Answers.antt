@@ -4,11 +4,11 @@ use Rattle.pb_accept.proofs.replay.replay_text.Goals as goal
 
 pub returns-in-Ok-clause-text : goal.returns-in-Ok-clause-text
 returns-in-Ok-clause-text g c =
-    text_is_replayed c.args.bytes.now c.two_parts.result.0.now c.two_parts.result.1.now _ _ _ _ _ c.replay_lines-status.result
+    text_is_replayed c.args.lending c.args.bytes.now c.two_parts.result.0.now c.two_parts.result.1.now _ _ _ _ _ c.replay_lines-status.result
     c.requires c.two_parts.ensures c.in-Ok.ensures.compiled (ap (λ v. v.code) c.verified.ensures) c.replay_lines-status.ensures.text
 
 pub returns-in-Err-clause-text : goal.returns-in-Err-clause-text
 returns-in-Err-clause-text g c =
     let short = text_is_short c.args.bytes.now c.two_parts.result.0.now c.two_parts.result.1.now c.two_parts.ensures c.requires in
-    text_is_refused c.args.bytes.now c.two_parts.result.0.now c.two_parts.result.1.now _ _ c.refuse.result c.requires short
+    text_is_refused c.args.lending c.args.bytes.now c.two_parts.result.0.now c.two_parts.result.1.now _ _ c.refuse.result c.requires short
     c.two_parts.ensures (c.refuse.ensures.text c.two_parts.result.0.now short c.in-Err.ensures.refused)

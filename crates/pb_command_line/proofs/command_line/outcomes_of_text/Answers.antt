@@ -5,4 +5,6 @@ pub returns : goal.returns
 unfolding outcomes_command
 returns c =
     c.with_flag.ensures _
-    (c.with_flag-outcomes.ensures _ (c.with_lend-outcomes.ensures _ (c.with_number-outcomes.ensures _ c.plain-outcomes.ensures)))
+    (c.with_flag-outcomes-3.ensures _
+    (c.with_flag-outcomes-2.ensures _
+    (c.with_flag-outcomes.ensures _ (c.with_lend-outcomes.ensures _ (c.with_number-outcomes.ensures _ c.plain-outcomes.ensures)))))

@@ -1,5 +1,6 @@
 use Rattle.std.proofs.Common.{List, option_map, subst, sym, ap, ◌∙◌}
 use Rattle.std.proofs.lemmas.Option.{IfSome_then}
+use Rattle.pb_base.specs.declared.lending.Lending.TheVariants.{ByBanker}
 use Rattle.pb_code.specs.Limits.{KeepsLimits}
 use Rattle.pb_code.specs.View.{labels_view}
 use Rattle.pb_code.specs.Whole.{Code}
@@ -24,7 +25,7 @@ returns-in-Err-clause-text g c =
     let shown = option_map (λ text. text.now) c.args.shown in
     IfSome-of (g.I.Input.rest c.args.commands.now) _
     (λ bytes. no_picks_told c.args.verified.now (labels_view c.args.labels.now) shown c.args.lines.now bytes c.lines_refusal.result _ _ c.tell.result
-    (c.lines_refusal.ensures c.args.verified.now.code c.args.lines.now faulty) c.tell.ensures.said c.tell.ensures.memory)
+    (c.lines_refusal.ensures ByBanker c.args.verified.now.code c.args.lines.now faulty) c.tell.ensures.said c.tell.ensures.memory)
 
 pub returns-in-Ok-from_object_counted : goal.returns-in-Ok-from_object_counted
 returns-in-Ok-from_object_counted g c =
@@ -64,5 +65,5 @@ returns-clause-text g c =
     IfSome-of (g.I.Input.rest c.args.commands.now) _
     (λ bytes. no_picks_told c.args.verified.now (labels_view c.args.labels.now) shown c.args.lines.now bytes
     c.lines_refusal-in-Err-from_object_counted.result _ _ c.tell-in-Err-from_object_counted.result
-    (c.lines_refusal-in-Err-from_object_counted.ensures code c.args.lines.now (picks, spelled, stopped))
+    (c.lines_refusal-in-Err-from_object_counted.ensures ByBanker code c.args.lines.now (picks, spelled, stopped))
     c.tell-in-Err-from_object_counted.ensures.said c.tell-in-Err-from_object_counted.ensures.memory)

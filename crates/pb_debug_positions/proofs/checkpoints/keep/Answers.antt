@@ -1,4 +1,5 @@
 use Rattle.std.proofs.Common.{◌≡◌, ℕ, ◌*◌, ◌++◌, ◌∷◌, [], length, refl, sym, ap, ◌∙◌, subst, arith}
+use Rattle.pb_base.specs.declared.lending.Lending.TheVariants.{ByBanker}
 use Rattle.pb_debug_positions.specs.Walks.{AreCheckpoints, IsCheckpoint}
 use Rattle.pb_debug_positions.proofs.Walks.{one_checkpoint_more}
 use Rattle.pb_debug_positions.proofs.checkpoints.keep.Goals as goal
@@ -17,7 +18,7 @@ returns-clause-checkpoints c = λ v picks h here.
     let at : c.args.at ≡ length ms * c.args.interval = omega (arith, times, not, le) in
     let copied : IsCheckpoint v picks c.args.at m = record {
       stands = record {
-        machine = c.in_ok-copy.ensures.machine v here.stands.machine;
+        machine = c.in_ok-copy.ensures.machine ByBanker v here.stands.machine;
         state = c.in_ok-copy.ensures.state ∙ here.stands.state;
       };
       within = here.within;

@@ -1,4 +1,5 @@
 use Rattle.std.proofs.Common.{◌≡◌, ℕ, ◌++◌, ap, ◌∙◌, arith}
+use Rattle.pb_banker.specs.Lenders.{lender_state}
 use Rattle.pb_base.specs.Banker.{resources, cash}
 use Rattle.pb_base.specs.Lines.{names_view, each_below}
 use Rattle.pb_debug_texts.specs.Texts.{cash_text}
@@ -7,7 +8,7 @@ use Rattle.pb_debug_texts.proofs.text.put_all_cash.Goals as goal
 
 pub returns : goal.returns
 returns c =
-    let s = c.args.banker.now.state in
+    let s = lender_state c.args.bank.now in
     let names = names_view c.args.names.now in
     let every : c.loop-r.r ≡ resources s = omega (arith, c.resources-r-end.ensures.number) in
     c.loop-r.invariant
@@ -15,7 +16,7 @@ returns c =
 
 pub loop-r-preserved : goal.loop-r-preserved
 loop-r-preserved c =
-    let s = c.args.banker.now.state in
+    let s = lender_state c.args.bank.now in
     let names = names_view c.args.names.now in
     let here = c.loop-r.text.items in
     each_next (λ r. cash_text names (cash s r) r) c.loop-r.r c.args.text.now.items here c.put_cash.new.text.items

@@ -1,4 +1,5 @@
 use Rattle.std.proofs.Common.{◌≡◌, ℕ, List, ◌++◌, ap, ◌∙◌, append_assoc, arith}
+use Rattle.pb_banker.specs.Lenders.{lender_state}
 use Rattle.pb_base.specs.Banker.{processes, resources, cash}
 use Rattle.pb_base.specs.Lines.{names_view, each_below}
 use Rattle.pb_debug_texts.specs.Texts.{loans_of, cash_text}
@@ -8,7 +9,7 @@ use Rattle.pb_debug_texts.proofs.text.put_loans.Goals as goal
 
 pub returns : goal.returns
 returns c =
-    let s = c.args.banker.now.state in
+    let s = lender_state c.args.bank.now in
     let names = names_view c.args.names.now in
     let old = c.args.text.now.items in
     let loans : ℕ → List ℕ = each_below (loans_of names s) in
@@ -20,5 +21,5 @@ returns c =
 
 pub loop-p-preserved : goal.loop-p-preserved
 loop-p-preserved c =
-    each_next (loans_of (names_view c.args.names.now) c.args.banker.now.state) c.loop-p.p c.args.text.now.items
+    each_next (loans_of (names_view c.args.names.now) (lender_state c.args.bank.now)) c.loop-p.p c.args.text.now.items
     c.loop-p.text.items c.put_loans_of.new.text.items c.loop-p.invariant c.in_ok-put_loans_of.ensures

@@ -34,7 +34,7 @@ returns-clause-named c =
     let v = c.args.verified.now in
     let entries = c.args.trace.now.entries in
     subst (λ (ms : List Mark). All (λ (m : Mark). HasNames v.code.names m.event) ms) (sym c.in_ok-marks.ensures)
-    (marks_named v (picks_of entries) c.code.ensures.verified c.requires.enabled (length entries))
+    (marks_named c.args.lending v (picks_of entries) c.code.ensures.verified c.requires.enabled (length entries))
 
 pub returns-clause-ordered : goal.returns-clause-ordered
 returns-clause-ordered c =

@@ -2,7 +2,7 @@ use Rattle.std.proofs.Common.{◌≡◌, ◌+◌, ◌-◌, ℕ, length, ap, ◌�
 use Rattle.std.proofs.lemmas.List.{length-map}
 use Rattle.pb_history.specs.Entries.{Entry, picks_of}
 use Rattle.pb_draw.specs.Lanes.{ShowsStandings, standing_after}
-use Rattle.pb_history.specs.Positions.{IsAfter}
+use Rattle.pb_history.specs.Positions.{IsAfterBy}
 use Rattle.pb_draw.proofs.Walks.{standing_here}
 use Rattle.pb_draw.proofs.lanes.lane_of.Goals as goal
 
@@ -12,10 +12,10 @@ loop-i-init c =
     let picks = picks_of c.args.trace.now.entries in
     let p = c.from-p.result in
     let arm = c.from-arm.result in
-    let stands : IsAfter v picks 0 c.in_ok-machine.machine =
+    let stands : IsAfterBy c.args.lending v picks 0 c.in_ok-machine.machine =
     record { machine = c.in_ok-machine.ensures.machine; state = c.in_ok-machine.ensures.opening } in
     let last : c.standing_of-last.result ≡ standing_after v.code picks p arm 0 =
-    c.standing_of-last.ensures ∙ standing_here v picks 0 p arm c.in_ok-machine.machine stands in
+    c.standing_of-last.ensures ∙ standing_here c.args.lending v picks 0 p arm c.in_ok-machine.machine stands in
     record { stands = stands; last = last; lane = c.in_ok-steps.ensures (standing_after v.code picks p arm) last }
 
 pub loop-i-preserved : goal.loop-i-preserved
@@ -27,10 +27,10 @@ loop-i-preserved c =
     let i = c.loop-i.i in
     let f = standing_after v.code picks p arm in
     let here : c.standing_of-standing.result ≡ standing_after v.code picks p arm (i + 1) =
-    c.standing_of-standing.ensures ∙ standing_here v picks (i + 1) p arm c.advance.new.machine c.advance.ensures.stands in
+    c.standing_of-standing.ensures ∙ standing_here c.args.lending v picks (i + 1) p arm c.advance.new.machine (c.advance.ensures.stands c.args.lending c.requires c.loop-i.invariant.stands) in
     let e : i ≡ i + 1 - 1 = omega arith in
     record {
-      stands = c.advance.ensures.stands;
+      stands = (c.advance.ensures.stands c.args.lending c.requires c.loop-i.invariant.stands);
       last = here;
       lane = c.in_ok-add_step.ensures f (c.loop-i.invariant.last ∙ ap f e) here
           (subst (λ (k : ℕ). ShowsStandings f k c.loop-i.steps.items) e c.loop-i.invariant.lane);
@@ -51,3 +51,6 @@ returns-clause-lane c =
     (subst (λ (a : ℕ). ShowsStandings (standing_after v.code picks c.from-p.result a) (length picks) c.loop-i.steps.items) arm
     (subst (λ (n : ℕ). ShowsStandings (standing_after v.code picks c.from-p.result c.from-arm.result) n c.loop-i.steps.items) e
     c.loop-i.invariant.lane))
+
+pub advance-requires-clause-stands : goal.advance-requires-clause-stands
+advance-requires-clause-stands c = (c.args.lending, c.requires, c.loop-i.invariant.stands)

@@ -1,13 +1,13 @@
 use Rattle.std.proofs.Common.{◌≡◌}
 use Rattle.pb_history.specs.Entries.{picks_of}
 use Rattle.pb_draw.specs.Lanes.{ShowsStandings, standing_after}
-use Rattle.pb_history.specs.Positions.{IsAfter}
+use Rattle.pb_history.specs.Positions.{IsAfterBy}
 use Rattle.pb_draw.proofs.lanes.lane_of.Given as goal
 
 -- what the arm is doing, up to this position
 abbrev pub invariant-loop-i : goal.invariant-loop-i
 invariant-loop-i l = record {
-  stands : IsAfter l.verified (picks_of l.trace.entries) l.i l.machine;
+  stands : IsAfterBy l.fn.lending l.verified (picks_of l.trace.entries) l.i l.machine;
   last : l.last ≡ standing_after l.verified.code (picks_of l.trace.entries) l.p l.arm l.i;
   lane : ShowsStandings (standing_after l.verified.code (picks_of l.trace.entries) l.p l.arm) l.i l.steps.items;
 }

@@ -10,7 +10,10 @@ loop-at-init c = record {
 
 pub loop-at-preserved : goal.loop-at-preserved
 loop-at-preserved c = record {
-  stands = c.advance-event.ensures.stands;
+  stands = (c.advance-event.ensures.stands c.args.lending c.requires c.loop-at.invariant.stands);
   marks = marks_more c.args.verified.now.code (picks_of c.args.trace.now.entries) c.loop-at.at c.pick-pick.result c.advance-event.result
       _ _ c.loop-at.invariant.marks c.pick-pick.ensures c.advance-event.ensures.event c.in_ok-add_mark.ensures;
 }
+
+pub advance-event-requires-clause-stands : goal.advance-event-requires-clause-stands
+advance-event-requires-clause-stands c = (c.args.lending, c.requires, c.loop-at.invariant.stands)

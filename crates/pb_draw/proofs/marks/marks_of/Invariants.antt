@@ -1,12 +1,12 @@
 use Rattle.std.proofs.Common.{◌≡◌}
 use Rattle.pb_history.specs.Entries.{picks_of}
 use Rattle.pb_draw.specs.Marks.{marks_before}
-use Rattle.pb_history.specs.Positions.{IsAfter}
+use Rattle.pb_history.specs.Positions.{IsAfterBy}
 use Rattle.pb_draw.proofs.marks.marks_of.Given as goal
 
 -- the marks of the picks so far
 abbrev pub invariant-loop-at : goal.invariant-loop-at
 invariant-loop-at l = record {
-  stands : IsAfter l.verified (picks_of l.trace.entries) l.at l.machine;
+  stands : IsAfterBy l.fn.lending l.verified (picks_of l.trace.entries) l.at l.machine;
   marks : l.marks.items ≡ marks_before l.verified.code (picks_of l.trace.entries) l.at;
 }

@@ -21,10 +21,10 @@ drawn-reply-requires-clause-few g c =
 
 pub returns-in-Ok-clause-text : goal.returns-in-Ok-clause-text
 returns-in-Ok-clause-text g c =
-    picture_told c.args.verified.now.code c.args.lines.now c.in-Ok.trace.entries (machine_view c.in-Ok.machine) c.drawn-reply.result _ _
+    picture_told c.args.lending c.args.verified.now.code c.args.lines.now c.in-Ok.trace.entries (machine_view c.in-Ok.machine) c.drawn-reply.result _ _
     c.tell.result c.in-Ok.ensures.made c.drawn-reply.ensures.text c.drawn-reply.ensures.status c.tell.ensures.said c.tell.ensures.memory
 
 pub returns-in-Err-clause-text : goal.returns-in-Err-clause-text
 returns-in-Err-clause-text g c =
-    no_picks_told c.args.verified.now.code c.args.lines.now c.lines_refusal.result _ _ c.tell-in-Err.result
-    (c.lines_refusal.ensures c.args.verified.now.code c.args.lines.now c.in-Err.ensures.fault) c.tell-in-Err.ensures.said c.tell-in-Err.ensures.memory
+    no_picks_told c.args.lending c.args.verified.now.code c.args.lines.now c.lines_refusal.result _ _ c.tell-in-Err.result
+    (c.lines_refusal.ensures c.args.lending c.args.verified.now.code c.args.lines.now c.in-Err.ensures.fault) c.tell-in-Err.ensures.said c.tell-in-Err.ensures.memory

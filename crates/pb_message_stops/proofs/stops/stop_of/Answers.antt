@@ -1,4 +1,4 @@
-use Rattle.std.proofs.Common.{◌≡◌, ◌+◌, ◌++◌, ◌∷◌, List, get_or, take, drop, sym, ap, ◌∙◌, length, replicate, arith, length-append}
+use Rattle.std.proofs.Common.{◌+◌, ◌++◌, List, get_or, take, drop, sym, ap, ◌∙◌, length, replicate, arith, length-append}
 use Rattle.std.proofs.lemmas.List.{drop_more, length-replicate}
 use Rattle.pb_base.specs.declared.pick.Pick.{Pick}
 use Rattle.pb_history.specs.declared.counted.CountedPick.{CountedPick}

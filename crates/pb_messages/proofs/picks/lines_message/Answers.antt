@@ -19,11 +19,11 @@ unread_message-requires-clause-fault c =
     subst (λ (code : Code). IsFaulty code c.args.lines.text.now c.in-Err.fault) (c.code.ensures.code ∙ sym c.code-in-Err.ensures.code)
     c.in-Err.ensures.refused
 
-pub returns-in-Ok-replay_counted : goal.returns-in-Ok-replay_counted
-returns-in-Ok-replay_counted c =
-    let replayed = c.in-Ok-replay_counted.field-0 in
+pub returns-in-Ok-replay_counted_by : goal.returns-in-Ok-replay_counted_by
+returns-in-Ok-replay_counted_by c =
+    let replayed = c.in-Ok-replay_counted_by.field-0 in
     let spelled = subst (λ (code : Code). SpellsPicks code c.args.lines.text.now c.in-Ok.picks.items) c.code.ensures.code c.in-Ok.ensures.read in
     let read = subst (λ (picks : List CountedPick). SpellsPicks c.args.verified.now.code c.args.lines.text.now picks)
     (sym c.deref.ensures.value) spelled in
-    subst (λ (told : List ℕ). SaysOfPickLines c.args.verified.now.code c.args.lines.text.now told) (sym c.new.ensures.items)
-    (made c.deref.result.now replayed.1.entries (machine_view replayed.0) read c.in-Ok-replay_counted.ensures.replay)
+    subst (λ (told : List ℕ). SaysOfPickLines c.args.lending c.args.verified.now.code c.args.lines.text.now told) (sym c.new.ensures.items)
+    (made c.deref.result.now replayed.1.entries (machine_view replayed.0) read c.in-Ok-replay_counted_by.ensures.replay)

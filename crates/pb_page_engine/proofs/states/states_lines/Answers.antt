@@ -1,5 +1,6 @@
 use Rattle.std.proofs.Common.{◌≡◌, List, length, ap, arith, subst}
 use Rattle.std.proofs.lemmas.List.{length-map}
+use Rattle.pb_base.specs.declared.lending.Lending.TheVariants.{ByBanker}
 use Rattle.pb_accept.specs.ReplayLines.{AreReplayed, IsLinesFault}
 use Rattle.pb_base.specs.declared.pick.Pick.{Pick}
 use Rattle.pb_code.specs.Whole.{Code}
@@ -37,4 +38,4 @@ returns-in-Err-clause-text g c =
     let fault = subst (λ (x : Code). IsLinesFault x c.args.lines.now c.in-Err.fault) same c.in-Err.ensures.fault in
     no_picks_told c.args.shown c.args.text.now c.args.compiled.now.verified.code c.args.compiled.now.labels c.args.lines.now
     c.lines_refusal.result _ _ c.tell-in-Err.result
-    (c.lines_refusal.ensures c.args.compiled.now.verified.code c.args.lines.now fault) c.tell-in-Err.ensures.said c.tell-in-Err.ensures.memory
+    (c.lines_refusal.ensures ByBanker c.args.compiled.now.verified.code c.args.lines.now fault) c.tell-in-Err.ensures.said c.tell-in-Err.ensures.memory

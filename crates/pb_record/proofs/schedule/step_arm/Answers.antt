@@ -1,4 +1,5 @@
 use Rattle.std.proofs.Common.{refl, sym}
+use Rattle.pb_base.specs.declared.lending.Lending.TheVariants.{ByBanker}
 use Rattle.pb_machine.specs.Views.{machine_view}
 use Rattle.pb_record.proofs.ScheduleLemmas.{looks_staying, some_made}
 use Rattle.pb_record.proofs.schedule.step_arm.Goals as goal
@@ -11,6 +12,6 @@ pub returns-in-Silent-clause-step : goal.returns-in-Silent-clause-step
 returns-in-Silent-clause-step c = (
   refl,
   some_made c.args.verified.now.code (machine_view c.args.machine.now) _ c.args.pick c.run_silent.result c.args.max
-      (sym c.in-Silent.ensures) c.requires.max c.run_silent.ensures.made c.run_silent.ensures.stops,
-  c.run_silent.ensures.made,
+      (sym c.in-Silent.ensures) c.requires.max (c.run_silent.ensures.made ByBanker) c.run_silent.ensures.stops,
+  (c.run_silent.ensures.made ByBanker),
 )

@@ -1,8 +1,8 @@
-use Rattle.std.proofs.Common.{subst}
+use Rattle.std.proofs.Common.{◌∙◌, ap, subst}
 use Rattle.pb_code.specs.View.{code_view, labels_view}
 use Rattle.pb_search.specs.declared.found.Until.{Until}
 use Rattle.pb_search_stages.specs.declared.print.Mode.{Mode}
-use Rattle.pb_search_engine.specs.SaysOutcomes.{SaysOfSearch, mode_for}
+use Rattle.pb_search_engine.specs.SaysOutcomes.{SaysOfSearch, mode_for, status_of}
 use Rattle.pb_search_engine.proofs.OutcomeLemmas.{deadlocks_few, deadlocks_here, found_few, found_here, says_told, some_told}
 use Rattle.pb_search_engine.proofs.outcomes.reply.Goals as goal
 
@@ -42,4 +42,5 @@ returns c =
     c.in_ok-text.text.items c.status.result) c.mode-mode.ensures
     (says_told c.mode-mode.result c.args.compiled.now.verified c.verified-verified.result.now c.verified-verified.ensures (code_view c.code-code.result.now)
     c.code-code.ensures.code c.args.compiled.now.labels (labels_view c.labels.result.now) c.labels.ensures.labels
-    c.until-until.result told c.args.options.states lines stuck _ c.status.result c.in_ok-told.ensures are stuck_are is c.status.ensures))
+    c.until-until.result told c.args.options.states lines stuck _ c.status.result c.in_ok-told.ensures are stuck_are is
+    (c.status.ensures ∙ ap (status_of told.extent) (c.len.ensures ∙ told.deadlocks.ok.0))))

@@ -1,10 +1,11 @@
+use Rattle.pb_base.specs.declared.lending.Lending.TheVariants.{ByBanker}
 use Rattle.pb_machine.proofs.ReadyArms.{live_arms_step}
 use Rattle.pb_shared.proofs.LegalCalls.{legal_reached}
 use Rattle.pb_shared.proofs.laws.ready_arms.Goals as goal
 
 pub returns : goal.returns
 returns c code s pick legal =
-    let words = live_arms_step code legal.verified s.machine (legal_reached code s legal) pick in (
+    let words = live_arms_step ByBanker code legal.verified s.machine (legal_reached code s legal) pick in (
       λ ready. record {
         at_home = ready.at_home;
         live = (words.0 ready.steps).0;

@@ -1,7 +1,7 @@
 use Rattle.std.proofs.Common.{rules}
 use Rattle.clap.specs.Words.{found_of, rows_of, subcommand_rows_of}
-use Rattle.pb_words.proofs.ReadLemmas.{IfNone-of, no_check, no_emit, no_exec, no_explain, no_outcomes, no_record}
-use Rattle.pb_words.proofs.ReadLemmas.{no_run, no_states, nothing_read}
+use Rattle.pb_words.proofs.ReadLemmas.{IfNone-of, no_check, no_draw, no_emit, no_exec, no_explain, no_outcomes, no_record}
+use Rattle.pb_words.proofs.ReadLemmas.{no_replay, no_run, no_states, nothing_read}
 use Rattle.pb_words.proofs.read.read_matches.Goals as goal
 
 pub returns-in_err-check_options-in-check-clause-none : goal.returns-in_err-check_options-in-check-clause-none
@@ -54,3 +54,15 @@ returns-in_err-states_options-in-states-clause-none c =
     IfNone-of c.from_residual-in_err-states_options-in-states.result
     (nothing_read (subcommand_rows_of c.args.matches.now) _ (rows_of (found_of c.in_ok-name.inner.now)) (search rules) c.in_ok-name.ensures.rows
     (no_states (rows_of (found_of c.in_ok-name.inner.now)) c.in_err-states_options-in-states.ensures.none))
+
+pub returns-in_err-replay_options-in-replay-clause-none : goal.returns-in_err-replay_options-in-replay-clause-none
+returns-in_err-replay_options-in-replay-clause-none c =
+    IfNone-of c.from_residual-in_err-replay_options-in-replay.result
+    (nothing_read (subcommand_rows_of c.args.matches.now) _ (rows_of (found_of c.in_ok-name.inner.now)) (search rules) c.in_ok-name.ensures.rows
+    (no_replay (rows_of (found_of c.in_ok-name.inner.now)) c.in_err-replay_options-in-replay.ensures.none))
+
+pub returns-in_err-draw_options-in-draw-clause-none : goal.returns-in_err-draw_options-in-draw-clause-none
+returns-in_err-draw_options-in-draw-clause-none c =
+    IfNone-of c.from_residual-in_err-draw_options-in-draw.result
+    (nothing_read (subcommand_rows_of c.args.matches.now) _ (rows_of (found_of c.in_ok-name.inner.now)) (search rules) c.in_ok-name.ensures.rows
+    (no_draw (rows_of (found_of c.in_ok-name.inner.now)) c.in_err-draw_options-in-draw.ensures.none))

@@ -1,4 +1,4 @@
-use Rattle.std.proofs.Common.{Some, sym, ◌∙◌, subst}
+use Rattle.std.proofs.Common.{Some, inl, sym, ◌∙◌, subst}
 use Rattle.std.specs.Prelude.{Option}
 use Rattle.pb_shared.specs.Ledgers.{HasOutcome}
 use Rattle.pb_shared.specs.declared.outcome.Outcome.{Outcome}
@@ -14,3 +14,7 @@ returns-in-Some-clause-report g c =
     c.into_trace.ensures.entries
     is
     (λ e. c.outcome-outcome.ensures.limit (c.in-Some.is ∙ e))
+
+pub returns-in-None-clause-fault : goal.returns-in-None-clause-fault
+returns-in-None-clause-fault g c =
+    inl (subst (λ (o : Option Outcome). HasOutcome c.args.book o) c.in-None.is c.outcome-outcome.ensures.outcome)

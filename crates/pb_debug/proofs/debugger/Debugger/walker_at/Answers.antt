@@ -1,6 +1,7 @@
 use Rattle.std.proofs.Common.{◌*◌, ◌/◌, ◌<◌, ◌≤◌, length, arith, refl, ◌∙◌}
 use Rattle.std.proofs.lemmas.Option.{slice_get_read}
 use Rattle.std.proofs.Math.Nat.{div-lt_iff_lt-mul}
+use Rattle.pb_base.specs.declared.lending.Lending.TheVariants.{ByBanker}
 use Rattle.pb_history.specs.Entries.{picks_of}
 use Rattle.pb_debug_positions.proofs.Walks.{interval_some}
 use Rattle.pb_debug.proofs.debugger.Debugger.walker_at.Goals as goal
@@ -16,7 +17,7 @@ walk_to-requires-clause-walks c =
     let within : k < length i.checkpoints.items = (div-lt_iff_lt-mul some).1 before in
     let there = slice_get_read i.checkpoints.items (length i.checkpoints.items) k c.index.result.now refl within c.index.ensures in
     let at = (c.self.invariant.checkpoints k c.index.result.now there).stands in
-    record { machine = c.in_ok-machine.ensures.machine i.verified.now at.machine; state = c.in_ok-machine.ensures.state ∙ at.state }
+    record { machine = c.in_ok-machine.ensures.machine ByBanker i.verified.now at.machine; state = c.in_ok-machine.ensures.state ∙ at.state }
 
 pub returns-clause-at : goal.returns-clause-at
 returns-clause-at c = search depth 0

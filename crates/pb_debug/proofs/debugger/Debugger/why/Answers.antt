@@ -35,7 +35,7 @@ reason-requires-clause-process c =
     let lt = in_code d c.in_ok-process.ensures.placed c.args.p _ c.in_ok-process.ensures.shown in
     let rows = (c.in_ok-process.ensures.placed.verified.annotated OutOfLimits).rows in
     let within : c.args.p < processes (bank_state d) = omega (arith, lt, rows) in
-    subst (λ (s : BankerState). c.args.p < processes s) (sym c.loans.ensures.shown) within
+    subst (λ (s : BankerState). c.args.p < processes s) (sym c.banker.ensures.shown) within
 
 pub reason-requires-clause-below : goal.reason-requires-clause-below
 reason-requires-clause-below c =
@@ -49,7 +49,7 @@ reason-requires-clause-below c =
     let code = code_at given d.verified.code same c.args.p c.index.result.now within c.index.ensures in
     let stands = asks d c.args.p c.args.arm (process_view c.index.result.now) _ (thread_view c.thread.result.now) code
     there c.thread.ensures c.in-Some.bundle.now c.in-Some.ensures.some in
-    subst (λ (s : BankerState). All (λ pair. pair.resource < resources s) c.in-Some.bundle.now) (sym c.loans.ensures.shown)
+    subst (λ (s : BankerState). All (λ pair. pair.resource < resources s) c.in-Some.bundle.now) (sym c.banker.ensures.shown)
     (below d.verified replay.verified (state_of d) (reached d replay) c.args.p c.args.arm _ _ code there c.in-Some.bundle.now stands)
 
 pub reason-requires-clause-within_claim : goal.reason-requires-clause-within_claim
@@ -64,7 +64,7 @@ reason-requires-clause-within_claim c =
     let code = code_at given d.verified.code same c.args.p c.index.result.now within c.index.ensures in
     let stands = asks d c.args.p c.args.arm (process_view c.index.result.now) _ (thread_view c.thread.result.now) code
     there c.thread.ensures c.in-Some.bundle.now c.in-Some.ensures.some in
-    subst (λ (s : BankerState). IsWithinClaim s c.args.p c.in-Some.bundle.now) (sym c.loans.ensures.shown)
+    subst (λ (s : BankerState). IsWithinClaim s c.args.p c.in-Some.bundle.now) (sym c.banker.ensures.shown)
     (within_claim d.verified replay.verified (state_of d) (reached d replay) c.args.p c.args.arm _ _ code there c.in-Some.bundle.now stands)
 
 pub returns-in_ok-reason-in-Some-clause-why : goal.returns-in_ok-reason-in-Some-clause-why
@@ -80,7 +80,7 @@ returns-in_ok-reason-in-Some-clause-why c =
     code there c.thread.ensures c.in-Some.bundle.now c.in-Some.ensures.some in
     let why = c.in_ok-reason-in-Some.field-0 in
     why_is d c.args.p c.args.arm c.in-Some.bundle.now why asking
-    (subst (λ (s : BankerState). IsReason s c.args.p c.in-Some.bundle.now why) c.loans.ensures.shown c.in_ok-reason-in-Some.ensures)
+    (subst (λ (s : BankerState). IsReason s c.args.p c.in-Some.bundle.now why) c.banker.ensures.shown c.in_ok-reason-in-Some.ensures)
 
 pub returns-in-None-clause-why : goal.returns-in-None-clause-why
 returns-in-None-clause-why c = λ bundle asking.

@@ -1,4 +1,5 @@
 use Rattle.std.proofs.Common.{rules, ◌-◌, ◌++◌, List, replicate, ◌∙◌, subst, arith}
+use Rattle.pb_base.specs.declared.lending.Lending.TheVariants.{ByBanker}
 use Rattle.pb_base.specs.declared.pick.Pick.{Pick}
 use Rattle.pb_history.specs.Entries.{picks_of}
 use Rattle.pb_history.specs.Replays.{IsStopped}
@@ -20,7 +21,8 @@ returns-in_err-repeat-clause-stopped c =
     let whole = all_made old here pick count left n inv.picks (omega (arith, least)) inv.left in
     let stopped : IsStopped code (picks_of old ++ replicate count pick) c.in_err-repeat.field-0.0 =
     subst (λ (ps : List Pick). IsStopped code ps c.in_err-repeat.field-0.0) whole
-    (stopped_more code (picks_of here ++ replicate n pick) (replicate (left - n) pick) c.in_err-repeat.field-0.0 c.in_err-repeat.ensures.stopped) in
+    (stopped_more ByBanker code (picks_of here ++ replicate n pick) (replicate (left - n) pick) c.in_err-repeat.field-0.0
+    (c.in_err-repeat.ensures.stopped ByBanker (record { machine = inv.replays.machine; leads = inv.replays.leads }))) in
     search rules
 
 pub up_to_next-count-requires-clause-few : goal.up_to_next-count-requires-clause-few
@@ -82,13 +84,14 @@ loop-left-preserved c =
     let fewest = c.in_ok-keep.ensures.fewest in
     let before = checkpoints_before v (picks_of r.trace.entries) (replicate n pick) (picks_of entries)
     r.interval r.checkpoints.items made inv.replays.checkpoints in
-    let here = checkpoint_here v entries c.len.result c.repeat.new.machine c.in_ok-repeat.ensures.machine c.in_ok-repeat.ensures.leads
+    let led = c.in_ok-repeat.ensures.led ByBanker (record { machine = inv.replays.machine; leads = inv.replays.leads }) in
+    let here = checkpoint_here v entries c.len.result c.repeat.new.machine led.machine led.leads
     c.len.ensures in
     record {
       left = omega (arith, fewer);
       replays = record {
-        machine = c.in_ok-repeat.ensures.machine;
-        leads = c.in_ok-repeat.ensures.leads;
+        machine = led.machine;
+        leads = led.leads;
         checkpoints = c.in_ok-keep.ensures.checkpoints v (picks_of entries) before here;
         before = omega (arith, len, enough);
         after = omega (arith, len, fewest);
@@ -96,3 +99,8 @@ loop-left-preserved c =
       picks = made ∙ more_made old r.trace.entries pick count left n inv.picks (omega (arith, least)) fewer;
       interval = inv.interval;
     }
+
+pub repeat-requires-clause-led : goal.repeat-requires-clause-led
+repeat-requires-clause-led c =
+    let inv = c.loop-left.invariant in
+    (ByBanker, record { machine = inv.replays.machine; leads = inv.replays.leads })

@@ -1,6 +1,7 @@
 use Rattle.std.proofs.Common.{rules, ◌≡◌, ◌+◌, ◌++◌, List, length, get_or, take, drop, replicate, sym, ap, ◌∙◌, subst}
 use Rattle.std.proofs.Common.{arith}
 use Rattle.std.proofs.lemmas.List.{length-map}
+use Rattle.pb_base.specs.declared.lending.Lending.TheVariants.{ByBanker}
 use Rattle.pb_base.specs.declared.pick.Pick.{Pick}
 use Rattle.pb_history.specs.Entries.{Entry, picks_of}
 use Rattle.pb_history.specs.Replays.{IsStopped, spread}
@@ -49,7 +50,7 @@ returns-in_err-make-clause-stopped c =
     ap (λ (ps : List Pick). ps ++ replicate x.count x.pick) c.loop-i.invariant.picks ∙ sym (spread_take picks i x there) in
     let stopped : IsStopped code (spread picks) c.in_err-make.field-0.0 =
     subst (λ (ps : List Pick). IsStopped code ps c.in_err-make.field-0.0) (sym (spread_whole picks (i + 1)))
-    (stopped_more code (spread (take (i + 1) picks)) (spread (drop (i + 1) picks)) c.in_err-make.field-0.0
+    (stopped_more ByBanker code (spread (take (i + 1) picks)) (spread (drop (i + 1) picks)) c.in_err-make.field-0.0
     (subst (λ (ps : List Pick). IsStopped code ps c.in_err-make.field-0.0) before c.in_err-make.ensures.stopped)) in
     search rules
 

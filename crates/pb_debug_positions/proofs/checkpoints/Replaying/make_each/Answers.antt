@@ -1,6 +1,7 @@
 use Rattle.std.proofs.Common.{rules, ◌≡◌, ◌+◌, ◌++◌, List, length, get_or, take, drop, replicate, sym, ap, ◌∙◌, subst}
 use Rattle.std.proofs.Common.{arith}
 use Rattle.std.proofs.lemmas.List.{length-map, length-take-le}
+use Rattle.pb_base.specs.declared.lending.Lending.TheVariants.{ByBanker}
 use Rattle.pb_base.specs.declared.pick.Pick.{Pick}
 use Rattle.pb_base.proofs.Lists.{take_next}
 use Rattle.pb_history.specs.Entries.{Entry, picks_of}
@@ -46,7 +47,7 @@ returns-in_err-make-clause-stopped c =
     ap (λ (ps : List Pick). ps ++ replicate 1 pick) c.loop-i.invariant.picks ∙ sym (take_next picks i pick there) in
     let stopped : IsStopped code picks c.in_err-make.field-0.0 =
     subst (λ (ps : List Pick). IsStopped code ps c.in_err-make.field-0.0) (take_drop (i + 1) picks)
-    (stopped_more code (take (i + 1) picks) (drop (i + 1) picks) c.in_err-make.field-0.0
+    (stopped_more ByBanker code (take (i + 1) picks) (drop (i + 1) picks) c.in_err-make.field-0.0
     (subst (λ (ps : List Pick). IsStopped code ps c.in_err-make.field-0.0) before c.in_err-make.ensures.stopped)) in
     search rules
 

@@ -1,9 +1,10 @@
-use Rattle.std.proofs.Common.{set, Some, refl, sym, ap, ◌∙◌, subst}
-use Rattle.std.proofs.lemmas.List.{map-set}
-use Rattle.pb_machine.specs.Views.{proc_view, rooms_of, machine_view, machine_rooms, HaveRoom, IsProcessOf, row}
+use Rattle.std.proofs.Common.{set, Some, refl, sym, ap, ◌∙◌, subst, arith}
+use Rattle.std.proofs.lemmas.List.{length-map, map-set}
+use Rattle.pb_machine.specs.Views.{proc_view, rooms_of, machine_view, machine_rooms, IsProcessOf}
 use Rattle.pb_machine.specs.Steps.{ComesFrom}
 use Rattle.pb_machine.specs.declared.process.Proc.{Proc}
-use Rattle.pb_machine.proofs.Machines.{proc_there, row_of_machine}
+use Rattle.pb_machine.proofs.Machines.{proc_there}
+use Rattle.pb_machine.proofs.SetMachines.{process_of}
 use Rattle.pb_machine.proofs.SilentPicks.{set_machine}
 use Rattle.pb_machine.proofs.machine.Machine.exchange.Goals as goal
 
@@ -18,7 +19,7 @@ returns-clause-rooms c =
     ∙ ap (λ (x : Proc). set (machine_rooms c.args.self.now) c.args.p (rooms_of x)) c.swap.ensures.x_after
 
 pub returns-clause-machine : goal.returns-clause-machine
-returns-clause-machine c v of comes =
+returns-clause-machine c lending v of comes =
     set_machine v c.args.self.now _ c.args.p c.swap.new.x refl refl of (subst (ComesFrom v c.args.self.now c.args.p) (sym c.swap.ensures.x_after) comes)
 
 pub returns-clause-exchanged : goal.returns-clause-exchanged
@@ -27,11 +28,7 @@ returns-clause-exchanged c =
     ∙ ap (λ (x : Proc). Some (proc_view x)) (sym c.swap.ensures.y_after)
 
 pub returns-clause-process : goal.returns-clause-process
-returns-clause-process c v of =
-    subst (IsProcessOf v c.args.p) (sym c.swap.ensures.y_after) (record {
-      all = _;
-      reached = of.reached;
-      there = proc_there c.args.self.now c.args.p c.index_mut.result.now c.requires c.index_mut.ensures.value;
-      rooms = subst (HaveRoom (row v.depths c.args.p)) (row_of_machine c.args.self.now c.args.p c.index_mut.result.now
-          c.requires c.index_mut.ensures.value) (of.rooms c.args.p);
-    })
+returns-clause-process c lending v of =
+    subst (IsProcessOf v c.args.p) (sym c.swap.ensures.y_after)
+    (process_of v c.args.self.now of c.args.p c.index_mut.result.now
+    (let lt = c.requires in omega (arith, lt, length-map c.args.self.now.processes.items proc_view)) c.index_mut.ensures.value)

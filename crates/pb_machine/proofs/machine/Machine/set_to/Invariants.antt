@@ -6,5 +6,6 @@ abbrev pub invariant-loop-p : goal.invariant-loop-p
 invariant-loop-p l = record {
   states : map proc_view (take l.p l.self.processes.items) ≡ map proc_view (take l.p l.other.processes.items);
   rooms : machine_rooms l.self ≡ machine_rooms l.fn.self;
+  bank : l.self.bank ≡ l.fn.self.bank;
   rest : drop l.p l.self.processes.items ≡ drop l.p l.fn.self.processes.items;
 }

@@ -1,15 +1,15 @@
-use Rattle.std.proofs.Common.{◌≡◌, ◌<◌, ◌+◌, ◌-◌, ◌++◌, ℕ, List, None, length, set, slice_set, refl, sym, ap, ◌∙◌, rules}
+use Rattle.std.proofs.Common.{◌≡◌, ◌<◌, ◌+◌, ◌-◌, ◌++◌, ℕ, List, None, length, set, slice_set, inl, refl, sym, ap, ◌∙◌}
 use Rattle.std.proofs.Common.{subst, arith}
 use Rattle.std.proofs.lemmas.Grind.{common_steps}
 use Rattle.pb_history.specs.Entries.{Entry, silent_picks}
 use Rattle.pb_machine.specs.Steps.{ComesFrom}
 use Rattle.pb_machine.specs.Views.{machine_view, proc_view}
 use Rattle.pb_shared.specs.Books.{ledger_of}
-use Rattle.pb_shared.specs.Ledgers.{Ledger, IsLegal, IsLentBy, home}
+use Rattle.pb_shared.specs.Ledgers.{Ledger, IsLegal, IsLentBy, Tries, home}
 use Rattle.pb_shared.specs.Lending.{IsSilentRun}
 use Rattle.pb_shared.specs.Spares.{lent_as, IsSpareOf}
 use Rattle.pb_shared.specs.declared.spare.Spare.{Spare}
-use Rattle.pb_shared.proofs.LegalCalls.{back_fits, comes_home, home_legal, legal_as, process_within, set_view}
+use Rattle.pb_shared.proofs.LegalCalls.{back_fits, comes_home, home_legal, legal_as, process_within, same_ledger, set_view}
 use Rattle.pb_shared.proofs.LegalCalls.{slip_within, machine_there, tries_legal, tries_there}
 use Rattle.pb_shared.proofs.SpareStretches.{spare_after, spare_at, spares_stay, spares_with}
 use Rattle.pb_shared.proofs.book.Book.commit.Goals as goal
@@ -94,7 +94,7 @@ invariant_of-self-then-made-allowance g c =
     let processes = c.exchange.ensures.processes
     ∙ ap (λ (x : Spare). set (machine_view c.self.inside.machine).processes c.from-process.result (proc_view x.state)) was in
     let view = set_view c.self.inside.machine c.exchange.new.machine c.from-process.result lent.pick.process lent.state
-    c.from-process.ensures processes c.exchange.ensures.banker in
+    c.from-process.ensures processes c.exchange.ensures.bank in
     let entries = c.push_silent.ensures.entries ∙ ap (λ (es : List Entry). es ++ silent_picks lent.pick lent.made) c.reserve.ensures.same in
     let of : IsSpareOf code lent.pick.process c.deref-lent.result.now = rw (← c.deref-lent.ensures) at c.stretch.invariant.spare in
     let there = subst (λ (p : ℕ). IsSpareOf code p c.deref-lent.result.now) (sym c.from-process.ensures) of in
@@ -138,7 +138,7 @@ invariant_of-self-2 g c =
     let processes = c.exchange.ensures.processes
     ∙ ap (λ (x : Spare). set (machine_view c.self.inside.machine).processes c.from-process.result (proc_view x.state)) was in
     let view = set_view c.self.inside.machine c.exchange.new.machine c.from-process.result lent.pick.process lent.state
-    c.from-process.ensures processes c.exchange.ensures.banker in
+    c.from-process.ensures processes c.exchange.ensures.bank in
     let entries = c.push_silent.ensures.entries ∙ ap (λ (es : List Entry). es ++ silent_picks lent.pick lent.made) c.reserve.ensures.same in
     let of : IsSpareOf code lent.pick.process c.deref-lent.result.now = rw (← c.deref-lent.ensures) at c.stretch.invariant.spare in
     let there = subst (λ (p : ℕ). IsSpareOf code p c.deref-lent.result.now) (sym c.from-process.ensures) of in
@@ -171,4 +171,38 @@ pub returns-then-made-allowance-clause-ok : goal.returns-then-made-allowance-cla
 returns-then-made-allowance-clause-ok g c = grind (arith, common_steps)
 
 pub returns-clause-ok : goal.returns-clause-ok
-returns-clause-ok g c = search rules
+returns-clause-ok g c =
+    let code = g.C.CodeBrand.code in
+    let s = ledger_of c.self.inside in
+    let lent = lent_as c.deref-lent.result.now in
+    let run : IsSilentRun g.C.CodeBrand.code.code lent = rw (← c.deref-lent.ensures) at c.stretch.invariant.run in
+    let by : IsLentBy s lent = rw (← c.self.view_is, ← c.stretch.view_is, ← c.deref-lent.ensures) at (c.lent.ensures.0 c.if-not-lent.false) in
+    let was = c.deref_mut.ensures.value ∙ sym c.deref-lent.ensures in
+    let processes = c.exchange.ensures.processes
+    ∙ ap (λ (x : Spare). set (machine_view c.self.inside.machine).processes c.from-process.result (proc_view x.state)) was in
+    let view = set_view c.self.inside.machine c.exchange.new.machine c.from-process.result lent.pick.process lent.state
+    c.from-process.ensures processes c.exchange.ensures.bank in
+    let entries = c.push_silent.ensures.entries ∙ ap (λ (es : List Entry). es ++ silent_picks lent.pick lent.made) c.reserve.ensures.same in
+    let came : Ledger = record {
+      machine = machine_view c.exchange.new.machine;
+      entries = c.push_silent.new.self.entries;
+      limit = s.limit;
+      left = s.left + (lent.allowance - lent.made);
+      slips = slice_set s.slips c.from-process.result None;
+      refused = s.refused;
+    } in
+    let after : Ledger = record {
+      machine = machine_view c.try_visible.new.machine;
+      entries = c.try_visible.new.trace.entries;
+      limit = s.limit;
+      left = c.try_visible.new.left;
+      slips = slice_set s.slips c.from-process.result None;
+      refused = c.try_visible.new.refused.items;
+    } in
+    let same : home s lent ≡ came = same_ledger (home s lent) came (sym view) (sym entries) refl refl
+    (ap (λ (p : ℕ). slice_set s.slips p None) (sym c.from-process.ensures)) refl in
+    let tries : Tries code.code (home s lent) lent.pick c.try_visible.result after =
+    subst (λ (x : Ledger). Tries code.code x lent.pick c.try_visible.result after) (sym same)
+    (tries_there c.self.inside.code.now code came after lent.pick c.try_visible.result c.self.invariant.refers c.try_visible.ensures.tries refl refl) in
+    let less : lent.made < lent.allowance = (let most = run.within in let other = c.if-made-allowance.false in omega (arith, most, other)) in
+    rw (← c.self.view_is, ← c.stretch.view_is, ← c.deref-lent.ensures) (by, inl (less, tries))

@@ -1,4 +1,5 @@
 use Rattle.std.proofs.Common.{◌≡◌, ℕ, Some, ap, refl, sym, subst, slice_get, ◌∙◌, arith}
+use Rattle.pb_base.specs.declared.lending.Lending.TheVariants.{ByBanker}
 use Rattle.pb_machine.specs.Views.{proc_view, IsProcessOf}
 use Rattle.pb_shared.specs.Books.{ledger_of}
 use Rattle.pb_shared.specs.Ledgers.{Ledger}
@@ -14,14 +15,14 @@ begin-requires g c = (
   c.self.invariant.legal.verified,
   subst (IsSpareOf g.C.CodeBrand.code c.args.pick.process) (sym c.deref_mut.ensures.value) c.in_ok-spare.ensures.spare,
   subst (λ (p : ℕ). IsProcessOf g.C.CodeBrand.code p c.proc.result.now) c.from-number.ensures
-      (c.proc.ensures.process g.C.CodeBrand.code c.self.invariant.machine),
+      (c.proc.ensures.process ByBanker g.C.CodeBrand.code c.self.invariant.machine),
 )
 
 pub invariant_of-result : goal.invariant_of-result
 invariant_of-result g c =
     let code = g.C.CodeBrand.code in
     let spare = subst (IsSpareOf code c.args.pick.process) (sym c.deref_mut.ensures.value) c.in_ok-spare.ensures.spare in
-    let process = subst (λ (p : ℕ). IsProcessOf code p c.proc.result.now) c.from-number.ensures (c.proc.ensures.process code c.self.invariant.machine) in
+    let process = subst (λ (p : ℕ). IsProcessOf code p c.proc.result.now) c.from-number.ensures (c.proc.ensures.process ByBanker code c.self.invariant.machine) in
     record {
       refers = c.self.invariant.refers;
       run = subst (IsSilentRun code.code) (sym c.begin.ensures.lent) (record { within = omega arith; runs = refl });

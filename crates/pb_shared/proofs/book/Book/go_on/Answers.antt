@@ -1,4 +1,5 @@
 use Rattle.std.proofs.Common.{◌≡◌, ◌<◌, ◌≤◌, ◌-◌, ◌++◌, List, refl, sym, ap, ◌∙◌, subst, arith}
+use Rattle.pb_base.specs.declared.lending.Lending.TheVariants.{ByBanker}
 use Rattle.pb_history.specs.Entries.{Entry, silent_picks}
 use Rattle.pb_machine.specs.Views.{machine_view}
 use Rattle.pb_shared.specs.Books.{ledger_of}
@@ -17,13 +18,13 @@ invariant_of-self-then-made-most g c =
     let most : c.args.most ≤ s.left = rw (← c.self.view_is) at c.requires in
     let within : made ≤ s.left = omega (arith, most, c.run_silent-made.ensures.within) in
     let moves = moves_there c.self.inside.code.now code c.self.invariant.refers s.machine next c.args.pick made
-    c.args.most c.run_silent-made.ensures.made in
+    c.args.most (c.run_silent-made.ensures.made ByBanker) in
     let entries = c.push_silent.ensures.entries ∙ ap (λ (es : List Entry). es ++ silent_picks c.args.pick made) c.reserve.ensures.same in
     record {
       refers = c.self.invariant.refers;
       legal = legal_as code (went_on s c.args.pick made next) _
           (went_on_legal code s c.args.pick made next c.self.invariant.legal within moves) refl (sym entries) refl refl refl refl;
-      machine = machine_there c.self.inside.code.now code _ c.self.invariant.refers c.run_silent-made.ensures.machine;
+      machine = machine_there c.self.inside.code.now code _ c.self.invariant.refers (c.run_silent-made.ensures.machine ByBanker (machine_there code c.self.inside.code.now c.self.inside.machine (sym c.self.invariant.refers) c.self.invariant.machine));
       spares = c.self.invariant.spares;
     }
 
@@ -34,7 +35,7 @@ returns-then-made-most-clause-ok g c =
     let made = c.run_silent-made.result in
     let next = machine_view c.run_silent-made.new.self in
     let moves = moves_there c.self.inside.code.now code c.self.invariant.refers s.machine next c.args.pick made
-    c.args.most c.run_silent-made.ensures.made in
+    c.args.most (c.run_silent-made.ensures.made ByBanker) in
     let stops = stops_there c.self.inside.code.now code c.self.invariant.refers s.machine next c.args.pick made
     c.args.most c.run_silent-made.ensures.stops in
     let entries = c.push_silent.ensures.entries ∙ ap (λ (es : List Entry). es ++ silent_picks c.args.pick made) c.reserve.ensures.same in
@@ -61,7 +62,7 @@ invariant_of-self-2 g c =
     let most : c.args.most ≤ s.left = rw (← c.self.view_is) at c.requires in
     let within : made ≤ s.left = omega (arith, most, c.run_silent-made.ensures.within) in
     let moves = moves_there c.self.inside.code.now code c.self.invariant.refers s.machine next c.args.pick made
-    c.args.most c.run_silent-made.ensures.made in
+    c.args.most (c.run_silent-made.ensures.made ByBanker) in
     let entries = c.push_silent.ensures.entries ∙ ap (λ (es : List Entry). es ++ silent_picks c.args.pick made) c.reserve.ensures.same in
     let went : Ledger = record {
       machine = next;
@@ -89,7 +90,7 @@ returns-clause-ok g c =
     let made = c.run_silent-made.result in
     let next = machine_view c.run_silent-made.new.self in
     let moves = moves_there c.self.inside.code.now code c.self.invariant.refers s.machine next c.args.pick made
-    c.args.most c.run_silent-made.ensures.made in
+    c.args.most (c.run_silent-made.ensures.made ByBanker) in
     let stops = stops_there c.self.inside.code.now code c.self.invariant.refers s.machine next c.args.pick made
     c.args.most c.run_silent-made.ensures.stops in
     let entries = c.push_silent.ensures.entries ∙ ap (λ (es : List Entry). es ++ silent_picks c.args.pick made) c.reserve.ensures.same in

@@ -1,0 +1,16 @@
+use Rattle.std.proofs.Common.{subst, sym, rules}
+use Rattle.pb_code.specs.Limits.{KeepsLimits}
+use Rattle.pb_code.specs.Whole.{Code}
+use Rattle.pb_picks.specs.PickLines.{IsFaulty}
+use Rattle.pb_verifier.specs.declared.fault.VerifyFault.TheVariants.{OutOfLimits}
+use Rattle.pb_accept.proofs.replay.make_lines_by.Goals as goal
+
+pub read_picks-requires : goal.read_picks-requires
+read_picks-requires c = subst KeepsLimits (sym c.code.ensures.code) (c.code.ensures.verified.annotated OutOfLimits)
+
+pub returns-in-Err-clause-fault : goal.returns-in-Err-clause-fault
+returns-in-Err-clause-fault c =
+    subst (λ (code : Code). IsFaulty code c.args.lines.now c.in-Err.fault) c.code.ensures.code c.in-Err.ensures.refused
+
+pub returns-in-Ok-replay_counted_by-clause-made : goal.returns-in-Ok-replay_counted_by-clause-made
+returns-in-Ok-replay_counted_by-clause-made c = search rules fits 100

@@ -1,0 +1,199 @@
+-- What is said of the runs of code, from what a search tells.
+use Rattle.std.proofs.Common.{◌≡◌, ◌≤◌, ◌⊎◌, inl, inr, ℕ, Option, None, Bool, true, false, List, [], ◌∷◌, length, map, refl, sym, ap, subst, ◌∙◌, arith}
+use Rattle.std.specs.Prelude.{All, Contains, IfNone, codes}
+use Rattle.std.proofs.lemmas.List.{length-map}
+use Rattle.std.proofs.lemmas.List.Elements.{All-contains, All-map}
+use Rattle.pb_base.specs.Lines.{NameTable, line}
+use Rattle.pb_base.specs.declared.lending.Lending.{Lending}
+use Rattle.pb_base.specs.declared.limits.TheConstants.{MAX_PICKS}
+use Rattle.pb_code.specs.Whole.{Code, ProcessLabels}
+use Rattle.pb_accept.specs.Refusals.{SaysOfRefusedText, at_place}
+use Rattle.pb_command_io.specs.Answers.{Tells}
+use Rattle.pb_command_io.specs.Inputs as input
+use Rattle.pb_command_io.specs.Inputs.{SaysOfInput, not_read, nothing, read, too_long}
+use Rattle.pb_command_io.specs.Parts.{AreTwoParts}
+use Rattle.pb_command_io.specs.declared.status.Status.{Status}
+use Rattle.pb_command_io.specs.declared.status.Status.TheVariants.{Done, Limit, Refused, Unexpected}
+use Rattle.pb_options.specs.declared.options.Lend.{Lend}
+use Rattle.pb_options.specs.declared.options.OutcomesOptions.{OutcomesOptions}
+use Rattle.pb_search.specs.Deadlocks.{AreFoundAt, AreSomeDeadlocks, FoundDeadlock, deadlock_view}
+use Rattle.pb_search.specs.Outcomes.{AreSomeOutcomes, Found, found_view}
+use Rattle.pb_search.specs.Told.{IsTold, Tells as SearchTells}
+use Rattle.pb_search.specs.declared.found.Deadlock.{Deadlock as GivenDeadlock}
+use Rattle.pb_search.specs.declared.found.Extent.{Extent}
+use Rattle.pb_search.specs.declared.found.Extent.TheVariants as extent
+use Rattle.pb_search.specs.declared.found.Found.{Found as GivenFound}
+use Rattle.pb_search.specs.declared.found.Outcomes.{Outcomes}
+use Rattle.pb_search.specs.declared.found.Until.TheVariants.{FirstDeadlock}
+use Rattle.pb_search_stages.specs.Traces.{Trace, trace_outcome}
+use Rattle.pb_search_stages.specs.declared.print.Mode.{Mode}
+use Rattle.pb_search_stages.specs.declared.print.Print.{Print}
+use Rattle.pb_search_engine.specs.Expected.{IsFirstOther, IsWanted, printing}
+use Rattle.pb_search_engine.specs.PrintLines.{IsBadPrint, SpellsPrints}
+use Rattle.pb_search_engine.specs.SaysExpected.{IsPlain, SaysOfExpected, SaysOfLines, SaysOfRuns, TellsDeadlock, TellsOutcome, compared, no_prints, no_text}
+use Rattle.pb_search_engine.specs.SaysExpected.{as_expected, deadlock, endless, long, many, outcome}
+use Rattle.pb_search_engine.specs.SaysOfAll.{SaysOfSearches, SaysWhether}
+use Rattle.pb_search_engine.specs.Showing.{HaveProcesses}
+use Rattle.pb_search_engine.specs.declared.print_lines.PrintFault.TheVariants.{NotPrint}
+use Rattle.pb_search_engine.proofs.OutcomeLemmas.{deadlocks_few, deadlocks_here, found_few, found_here, some_told}
+use Rattle.pb_verifier.specs.Verified.{IsVerified, VerifiedCode}
+
+module _ (lending : Lending) (any_order : Bool) (wanted : List Print) (code : Code) (labels : List ProcessLabels) (states : ℕ) where
+  abbrev Says : List ℕ → Status → Type 0
+  Says = SaysOfRuns lending any_order wanted code labels states
+
+  abbrev AllWanted : List Found → Type 0
+  AllWanted found = All (λ f. IsWanted any_order wanted f.outcome) found
+
+  -- with no deadlock in the list there is none
+  none_there : (found : List FoundDeadlock) (stuck : List Trace) → AreFoundAt (printing lending) code found stuck → length found ≡ 0 → (s : Trace)
+      → Contains stuck s → ⊥
+  none_there [] [] are none s there = let less = there.1 in absurd (omega (arith, less))
+  none_there [] (t ∷ stuck) are none s there = elim are [ ]
+  none_there (d ∷ found) stuck are none s there = absurd (omega (arith, none))
+
+  -- by how much was found
+  plain_by : (found : List Found) (deadlocks : List FoundDeadlock) (e : Extent)
+      → IsTold (printing lending) code FirstDeadlock states found deadlocks e → AllWanted found → length deadlocks ≡ 0
+      → (text : List ℕ) (status : Status) → IsPlain states e text status → Says text status
+  plain_by found deadlocks (extent.All true) h all none text status is =
+      subst (λ (s : Status). Says text s) (sym is.1) (subst (λ (t : List ℕ). Says t Unexpected) (sym is.0) (endless (h.endless.0 refl)))
+  plain_by found deadlocks (extent.All false) h all none text status is =
+      subst (λ (s : Status). Says text s) (sym is.1) (subst (λ (t : List ℕ). Says t Done) (sym is.0) (as_expected (record {
+        ends = λ picks end ends.
+            All-contains (IsWanted any_order wanted) (map (λ f. f.outcome) found) (trace_outcome end)
+            (All-map (IsWanted any_order wanted) (λ (f : Found). f.outcome) found all)
+            (h.outcomes.none_missing picks end ends);
+        no_deadlock = λ picks s dead.
+            none_there deadlocks h.deadlocks.some.stuck h.deadlocks.some.each none s (h.deadlocks.none_missing picks s dead);
+        all_end = h.bounded refl;
+      })))
+  plain_by found deadlocks extent.TooMany h all none text status is =
+      subst (λ (s : Status). Says text s) (sym is.1) (subst (λ (t : List ℕ). Says t Limit) (sym is.0) (many found h.1.0 all h.0))
+  plain_by found deadlocks extent.TooLong h all none text status is =
+      subst (λ (s : Status). Says text s) (sym is.1) (subst (λ (t : List ℕ). Says t Limit) (sym is.0) (long found h.1.0 all h.0))
+  plain_by found deadlocks extent.AtDeadlock h all none text status is = let some = h.1 in absurd (omega (arith, some, none))
+
+  module _ (told : Outcomes) (tells : SearchTells (printing lending) code FirstDeadlock states told) where
+    -- an outcome is not wanted
+    pub other_said : (at : ℕ) → IsFirstOther any_order wanted (map found_view told.found.items) at → (text : List ℕ) (status : Status)
+        → TellsOutcome code.names labels (map found_view told.found.items) at text → status ≡ Unexpected → Says text status
+    other_said at first text status said unexpected =
+        subst (λ (s : Status). Says text s) (sym unexpected) (subst (λ (t : List ℕ). Says t Unexpected) (sym said.2.2.2)
+        (outcome (map found_view told.found.items) (some_told (printing lending) code FirstDeadlock states told tells).0 at first said.0 said.1
+        said.2.0 said.2.1 said.2.2.0 said.2.2.1))
+
+    -- there is a deadlock
+    pub stuck_said : (text : List ℕ) (status : Status) → TellsDeadlock code.names labels (map deadlock_view told.deadlocks.items) text
+        → status ≡ Unexpected → Says text status
+    stuck_said text status said unexpected =
+        subst (λ (s : Status). Says text s) (sym unexpected) (subst (λ (t : List ℕ). Says t Unexpected) (sym said.2.2)
+        (deadlock (map deadlock_view told.deadlocks.items) (some_told (printing lending) code FirstDeadlock states told tells).1 said.0 said.1
+        said.2.0 said.2.1))
+
+    -- all that was found is wanted, and there is no deadlock
+    pub plain_said : AllWanted (map found_view told.found.items) → length told.deadlocks.items ≡ 0 → (text : List ℕ) (status : Status)
+        → IsPlain states told.extent text status → Says text status
+    plain_said all none text status is =
+        let many = length-map told.deadlocks.items deadlock_view in
+        plain_by (map found_view told.found.items) (map deadlock_view told.deadlocks.items) told.extent tells all (omega (arith, many, none)) text status is
+
+    -- no outcome is another
+    pub no_other_said : AllWanted (map found_view told.found.items) → (text : List ℕ) (status : Status)
+        → ((length told.deadlocks.items ≡ 0) × IsPlain states told.extent text status)
+        ⊎ (TellsDeadlock code.names labels (map deadlock_view told.deadlocks.items) text × (status ≡ Unexpected)) → Says text status
+    no_other_said all text status (inl plain) = plain_said all plain.0 text status plain.1
+    no_other_said all text status (inr stuck) = stuck_said text status stuck.0 stuck.1
+
+-- what a search tells of the code as the calls return it
+pub tells_here : (v seen : VerifiedCode) → seen ≡ v → (mode : Mode) (lending : Lending) → mode ≡ printing lending → (states : ℕ) (told : Outcomes)
+    → SearchTells mode seen.code FirstDeadlock states told → SearchTells (printing lending) v.code FirstDeadlock states told
+tells_here v seen same mode lending is states told tells =
+    subst (λ (m : Mode). SearchTells m v.code FirstDeadlock states told) is
+    (subst (λ (x : VerifiedCode). SearchTells mode x.code FirstDeadlock states told) same tells)
+
+pub if_none : {X : Type 0} (P : Type 0) (o : Option X) → o ≡ None → IfNone o P → P
+if_none {X = X} P o is h = subst (λ (o : Option X). IfNone o P) is h
+
+-- what is shown of code, by its names and labels as the calls return them
+module _ (v seen : VerifiedCode) (same : seen ≡ v) (code : Code) (of : code ≡ seen.code) (labels shown : List ProcessLabels)
+    (same_labels : shown ≡ labels) where
+  names_are : code.names ≡ v.code.names
+  names_are = ap (λ (c : Code). c.names) of ∙ ap (λ (x : VerifiedCode). x.code.names) same
+
+  module _ (lending : Lending) (verified : IsVerified seen) where
+    pub outcomes_shown : (found given : List GivenFound) → given ≡ found → AreSomeOutcomes (printing lending) v.code (map found_view found)
+        → All (λ f. HaveProcesses code.names f.picks.items) given
+    outcomes_shown found given is are =
+        subst (λ (fs : List GivenFound). All (λ f. HaveProcesses code.names f.picks.items) fs) (sym is)
+        (found_here (printing lending) v seen same code of labels shown same_labels found
+        (subst (λ (x : VerifiedCode). AreSomeOutcomes (printing lending) x.code (map found_view found)) (sym same) are) verified)
+
+    pub stuck_shown : (found given : List GivenDeadlock) → given ≡ found → AreSomeDeadlocks (printing lending) v.code (map deadlock_view found)
+        → All (λ d. HaveProcesses code.names d.picks.items) given
+    stuck_shown found given is are =
+        subst (λ (ds : List GivenDeadlock). All (λ d. HaveProcesses code.names d.picks.items) ds) (sym is)
+        (deadlocks_here (printing lending) v seen same code of labels shown same_labels found
+        (subst (λ (x : VerifiedCode). AreSomeDeadlocks (printing lending) x.code (map deadlock_view found)) (sym same) are) verified)
+
+  pub outcome_told : (found given : List GivenFound) → given ≡ found → (at : ℕ) (text : List ℕ)
+      → TellsOutcome code.names shown (map found_view given) at text → TellsOutcome v.code.names labels (map found_view found) at text
+  outcome_told found given is at text tells =
+      subst (λ (n : NameTable). TellsOutcome n labels (map found_view found) at text) names_are
+      (subst (λ (l : List ProcessLabels). TellsOutcome code.names l (map found_view found) at text) same_labels
+      (subst (λ (fs : List GivenFound). TellsOutcome code.names shown (map found_view fs) at text) is tells))
+
+  pub deadlock_told : (found given : List GivenDeadlock) → given ≡ found → (text : List ℕ)
+      → TellsDeadlock code.names shown (map deadlock_view given) text → TellsDeadlock v.code.names labels (map deadlock_view found) text
+  deadlock_told found given is text tells =
+      subst (λ (n : NameTable). TellsDeadlock n labels (map deadlock_view found) text) names_are
+      (subst (λ (l : List ProcessLabels). TellsDeadlock code.names l (map deadlock_view found) text) same_labels
+      (subst (λ (ds : List GivenDeadlock). TellsDeadlock code.names shown (map deadlock_view ds) text) is tells))
+
+module _ (lending : Lending) (code : Code) where
+  pub outcomes_few : (found given : List GivenFound) → given ≡ found → AreSomeOutcomes (printing lending) code (map found_view found)
+      → All (λ f. length f.picks.items ≤ MAX_PICKS) given
+  outcomes_few found given is are =
+      subst (λ (fs : List GivenFound). All (λ f. length f.picks.items ≤ MAX_PICKS) fs) (sym is) (found_few (printing lending) code found are)
+
+  pub stuck_few : (found given : List GivenDeadlock) → given ≡ found → AreSomeDeadlocks (printing lending) code (map deadlock_view found)
+      → All (λ d. length d.picks.items ≤ MAX_PICKS) given
+  stuck_few found given is are =
+      subst (λ (ds : List GivenDeadlock). All (λ d. length d.picks.items ≤ MAX_PICKS) ds) (sym is) (deadlocks_few (printing lending) code found are)
+
+-- print lines of which one says no print
+pub bad_said : (lending : Lending) (any_order : Bool) (code seen : Code) (labels : List ProcessLabels) (states : ℕ) (lines : List ℕ) (at : ℕ)
+    → seen ≡ code → IsBadPrint seen lines (NotPrint at) → (text : List ℕ) (status : Status) → text ≡ line (at_place (codes "refused K1") at)
+    → status ≡ Refused → SaysOfLines lending any_order code labels states lines text status
+bad_said lending any_order code seen labels states lines at same bad text status is refused =
+    subst (λ (s : Status). SaysOfLines lending any_order code labels states lines text s) (sym refused)
+    (subst (λ (t : List ℕ). SaysOfLines lending any_order code labels states lines t Refused) (sym is)
+    (no_prints at (subst (λ (c : Code). IsBadPrint c lines (NotPrint at)) same bad)))
+
+-- print lines that were read, and what is said of the runs
+pub compared_said : (lending : Lending) (any_order : Bool) (code seen : Code) (labels : List ProcessLabels) (states : ℕ) (lines : List ℕ)
+    (prints given : List Print) → seen ≡ code → given ≡ prints → SpellsPrints seen lines prints → (text : List ℕ) (status : Status)
+    → SaysOfRuns lending any_order given code labels states text status → SaysOfLines lending any_order code labels states lines text status
+compared_said lending any_order code seen labels states lines prints given same is spells text status says =
+    compared prints (subst (λ (c : Code). SpellsPrints c lines prints) same spells) text status
+    (subst (λ (ps : List Print). SaysOfRuns lending any_order ps code labels states text status) is says)
+
+-- a refused text, behind which there are lines
+pub text_refused : (lend : Lend) (any_order : Bool) (states : ℕ) (bytes text lines : List ℕ) (old new : Option (List ℕ)) (given : Status)
+    → length bytes ≤ 4194304 → length text ≤ 4194304 → AreTwoParts bytes text lines → Tells (SaysOfInput SaysOfRefusedText text) old new given
+    → Tells (SaysOfInput (SaysOfExpected lend any_order states) bytes) old new given
+text_refused lend any_order states bytes text lines old new given short few cut (said, status, is, written) =
+    (said, status, go said status is, written)
+  where
+    go : (said : List ℕ) (status : Status) → SaysOfInput SaysOfRefusedText text said status
+        → SaysOfInput (SaysOfExpected lend any_order states) bytes said status
+    go _ _ (not_read (too_long more)) = absurd (omega (arith, more, few))
+    go _ _ (not_read input.no_memory) = not_read input.no_memory
+    go _ _ (not_read nothing) = not_read nothing
+    go said status (read within is) = read short (no_text text lines cut said status is)
+
+-- what is said by whether it is asked what is expected
+pub tells_whether : (options : OutcomesOptions) (b : Bool) → options.expect ≡ b → (bytes : List ℕ) (old new : Option (List ℕ)) (given : Status)
+    → Tells (SaysOfInput (SaysWhether b options) bytes) old new given → Tells (SaysOfInput (SaysOfSearches options) bytes) old new given
+tells_whether options b is bytes old new given said =
+    subst (λ (b : Bool). Tells (SaysOfInput (SaysWhether b options) bytes) old new given) (sym is) said

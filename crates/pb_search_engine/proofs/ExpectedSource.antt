@@ -1,0 +1,73 @@
+-- What is said of the runs of the code of a text is right of its program.
+use Rattle.std.proofs.Common.{◌≡◌, ◌↔◌, ◌⊎◌, inl, inr, ℕ, Bool, List, Some, sym, subst}
+use Rattle.std.specs.Prelude.{slice_get}
+use Rattle.std.proofs.lemmas.Option.{get_or_from_slice_get, slice_get_within}
+use Rattle.pb_base.specs.declared.lending.Lending.{Lending}
+use Rattle.pb_code.specs.Whole.{Code, ProcessLabels}
+use Rattle.pb_codegen.proofs.VerifiedProcesses.{well_numbered}
+use Rattle.pb_command_io.specs.declared.status.Status.{Status}
+use Rattle.pb_command_io.specs.declared.status.Status.TheVariants.{Done, Limit, Unexpected}
+use Rattle.pb_names.specs.Program.{Program}
+use Rattle.pb_names.specs.Resolves.{resource_names}
+use Rattle.pb_search.specs.Deadlocks.{AreSomeDeadlocks, FoundDeadlock, IsFoundAt}
+use Rattle.pb_search.specs.Outcomes.{AreSomeOutcomes, Found, HasEndlessRun}
+use Rattle.pb_search_stages.specs.Traces.{Outcome, Trace, TraceEnds, trace_outcome}
+use Rattle.pb_search_stages.specs.declared.print.Print.{Print}
+use Rattle.pb_search_engine.specs.Expected.{IsWanted, printing}
+use Rattle.pb_search_engine.specs.ExpectedLaws.{AnswersAreRightOfPrograms, EndsOtherwise, HasDeadlock}
+use Rattle.pb_search_engine.specs.SaysExpected.{SaysOfRuns, as_expected, deadlock, endless, long, many, outcome}
+use Rattle.pb_search_engine.specs.SourceOutcomes.{IsPrintedByCodeBy, IsPrintedBySource}
+use Rattle.pb_search_engine.proofs.ExpectedLaw.{answers_are_right}
+use Rattle.pb_search_engine.proofs.OutcomeLemmas.{each_at}
+use Rattle.pb_search_engine.proofs.PrintedOutcomes.{same_printed}
+
+-- an outcome that is found is one of the code
+found_by_code : (lending : Lending) (code : Code) (found : List Found) → AreSomeOutcomes (printing lending) code found → (at : ℕ) (f : Found)
+    → slice_get found at ≡ Some f → IsPrintedByCodeBy lending code f.outcome
+found_by_code lending code found some at f there =
+    let one = subst (λ (g : Found). (end : Trace) × TraceEnds (printing lending) code g.picks end × (g.outcome ≡ trace_outcome end))
+    (get_or_from_slice_get found at f f there) (some.each at f (slice_get_within found at f there)) in
+    (f.picks, one.0, one.1, one.2)
+
+-- a deadlock that is found is one of the code
+found_stuck : (lending : Lending) (code : Code) (deadlocks : List FoundDeadlock) → AreSomeDeadlocks (printing lending) code deadlocks
+    → (d : FoundDeadlock) → slice_get deadlocks 0 ≡ Some d → HasDeadlock lending code
+found_stuck lending code deadlocks some d there =
+    let one = subst (λ (g : FoundDeadlock). (s : Trace) × IsFoundAt (printing lending) code g s) (get_or_from_slice_get deadlocks 0 d d there)
+    (each_at (printing lending) code deadlocks some.stuck some.each 0 d (slice_get_within deadlocks 0 d there)) in
+    (d.picks, one.0, one.1.0)
+
+module _ (lending : Lending) (any_order : Bool) (wanted : List Print) (program : Program) (code : Code) (labels : List ProcessLabels) (states : ℕ)
+    (same : (outcome : Outcome) → IsPrintedByCodeBy lending code outcome ↔ IsPrintedBySource lending program code.claims outcome) where
+  all_wanted : (text : List ℕ) (status : Status) → SaysOfRuns lending any_order wanted code labels states text status → status ≡ Done
+      → (outcome : Outcome) → IsPrintedBySource lending program code.claims outcome → IsWanted any_order wanted outcome
+  all_wanted text status says done o printed =
+      let right = (answers_are_right lending any_order wanted code labels states text status says).0 done in
+      let by = (same o).1 printed in
+      subst (λ (x : Outcome). IsWanted any_order wanted x) (sym by.3) (right.ends by.0 by.1 by.2)
+
+  not_all : (text : List ℕ) (status : Status) → SaysOfRuns lending any_order wanted code labels states text status → status ≡ Unexpected
+      → EndsOtherwise lending any_order wanted program code ⊎ HasDeadlock lending code ⊎ HasEndlessRun (printing lending) code
+  not_all _ _ (as_expected all) is = absurd (let e : Done ≡ Unexpected = is in cc)
+  not_all _ _ (outcome found some at first f there picks counted what told) is =
+      inl (f.outcome, (same f.outcome).0 (found_by_code lending code found some at f there), first.other f there)
+  not_all _ _ (deadlock deadlocks some d there picks counted) is = inr (inl (found_stuck lending code deadlocks some d there))
+  not_all _ _ (endless run) is = inr (inr run)
+  not_all _ _ (many found some each excess) is = absurd (let e : Limit ≡ Unexpected = is in cc)
+  not_all _ _ (long found some each run) is = absurd (let e : Limit ≡ Unexpected = is in cc)
+
+pub right_of_programs : AnswersAreRightOfPrograms
+right_of_programs text code labels is =
+    let program = is.program in
+    let arms = well_numbered (resource_names program) is.numbered.tree.processes program.processes is.numbered.numbered.processes in (
+      program,
+      is.numbered,
+      λ lending any_order wanted states said status says.
+          let same : (o : Outcome) → IsPrintedByCodeBy lending code o ↔ IsPrintedBySource lending program code.claims o =
+          λ o. subst (λ c. IsPrintedByCodeBy lending c o ↔ IsPrintedBySource lending program code.claims o) (sym is.generated)
+          (same_printed lending program code.claims arms o) in
+          record {
+            done = all_wanted lending any_order wanted program code labels states same said status says;
+            unexpected = not_all lending any_order wanted program code labels states same said status says;
+          },
+    )

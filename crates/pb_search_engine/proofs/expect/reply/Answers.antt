@@ -1,0 +1,31 @@
+use Rattle.std.proofs.Common.{ℕ, ap, codes, sym, subst, ◌∙◌}
+use Rattle.std.proofs.lemmas.Result.{MatchResult-weaker}
+use Rattle.pb_accept.specs.Refusals.{at_place}
+use Rattle.pb_base.specs.Lines.{line}
+use Rattle.pb_code.specs.Limits.{KeepsLimits}
+use Rattle.pb_code.specs.View.{code_view}
+use Rattle.pb_verifier.specs.Verified.{VerifiedCode}
+use Rattle.pb_verifier.specs.declared.fault.VerifyFault.TheVariants.{OutOfLimits}
+use Rattle.pb_search_engine.specs.SaysOutcomes.{lending_for}
+use Rattle.pb_search_engine.proofs.ExpectLemmas.{bad_said, compared_said}
+use Rattle.pb_search_engine.proofs.expect.reply.Goals as goal
+
+pub read_prints-requires : goal.read_prints-requires
+read_prints-requires c = subst KeepsLimits (sym c.code.ensures.code) (c.code.ensures.verified.annotated OutOfLimits)
+
+pub returns-in-Ok : goal.returns-in-Ok
+returns-in-Ok c =
+    MatchResult-weaker c.compared.result c.compared.ensures
+    (λ r says. compared_said (lending_for c.args.options.lend) c.args.options.any_order c.args.compiled.now.verified.code (code_view c.code.result.now)
+    c.args.compiled.now.labels c.args.options.states c.args.lines.now c.in-Ok.prints.items c.deref.result.now
+    (c.code.ensures.code ∙ ap (λ (v : VerifiedCode). v.code) c.verified.ensures) c.deref.ensures.value c.in-Ok.ensures.read r.text.items r.status says)
+    (λ e h. h)
+
+pub returns-in-Err-NotPrint : goal.returns-in-Err-NotPrint
+returns-in-Err-NotPrint c =
+    MatchResult-weaker c.bad_print.result c.bad_print.ensures
+    (λ r h. bad_said (lending_for c.args.options.lend) c.args.options.any_order c.args.compiled.now.verified.code (code_view c.code.result.now)
+    c.args.compiled.now.labels c.args.options.states c.args.lines.now c.in-Err-NotPrint.at
+    (c.code.ensures.code ∙ ap (λ (v : VerifiedCode). v.code) c.verified.ensures) (rw c.in-Err-NotPrint.field-0-is at c.in-Err-NotPrint.ensures.refused)
+    r.text.items r.status (h.0 ∙ ap (λ (n : ℕ). line (at_place (codes "refused K1") n)) c.in-Err-NotPrint.at-is) h.1)
+    (λ e h. h)

@@ -1,0 +1,108 @@
+-- What `outcomes --expect` says of an input, and with which status.
+use Rattle.std.specs.Prelude.{◌≡◌, ◌+◌, ℕ, Bool, true, false, List, ◌++◌, All, Some, codes, slice_get, ⊤}
+use Rattle.std.specs.Fmt.{decimal}
+use Rattle.pb_base.specs.Lines.{NameTable, line}
+use Rattle.pb_base.specs.declared.lending.Lending.{Lending}
+use Rattle.pb_base.specs.declared.limits.TheConstants.{MAX_PICKS}
+use Rattle.pb_accept.specs.Refusals.{SaysOfRefusedText, at_place}
+use Rattle.pb_code.specs.Whole.{Code, ProcessLabels}
+use Rattle.pb_codegen.specs.Compiled.{IsCompiled}
+use Rattle.pb_command_io.specs.Parts.{AreTwoParts}
+use Rattle.pb_command_io.specs.declared.status.Status.{Status}
+use Rattle.pb_command_io.specs.declared.status.Status.TheVariants.{Done, Limit, Refused, Unexpected}
+use Rattle.pb_history.specs.declared.counted.CountedPick.{CountedPick}
+use Rattle.pb_options.specs.declared.options.Lend.{Lend}
+use Rattle.pb_search.specs.Deadlocks.{AreSomeDeadlocks, FoundDeadlock}
+use Rattle.pb_search.specs.Outcomes.{AreSomeOutcomes, Found, HasEndlessRun, HasLongRun, IsExcess}
+use Rattle.pb_search.specs.declared.found.Extent.{Extent}
+use Rattle.pb_search.specs.declared.found.Extent.TheVariants as extent
+use Rattle.pb_search_stages.specs.Reaching.{ProcessOutcome}
+use Rattle.pb_search_stages.specs.declared.print.Print.{Print}
+use Rattle.pb_search_engine.specs.DeadlockLines.{deadlock_lines}
+use Rattle.pb_search_engine.specs.Expected.{HasNoFault, IsAsExpected, IsFirstOther, IsWanted, printing}
+use Rattle.pb_search_engine.specs.OutcomeLines.{AreCounted, outcome_lines}
+use Rattle.pb_search_engine.specs.PrintLines.{IsBadPrint, SpellsPrints}
+use Rattle.pb_search_engine.specs.SaysOutcomes.{lending_for}
+use Rattle.pb_search_engine.specs.declared.print_lines.PrintFault.TheVariants.{NotPrint}
+
+-- the last line, if not all runs are as expected: what is not
+abbrev pub other_line : List ℕ → List ℕ
+other_line what = line (codes "not as expected: " ++ what)
+
+-- what is not as expected of an outcome: a fault, or else its prints
+pub data IsOtherText (processes : List ProcessOutcome) : List ℕ → Type 0 where
+  fault : ¬ HasNoFault processes → IsOtherText processes (codes "a fault")
+  prints : HasNoFault processes → IsOtherText processes (codes "other prints")
+
+-- what is said of code, under this lending: all its runs are as expected; or one is not, which is an outcome, a
+-- deadlock, or one that does not end; or there may be others than were found, which all are as expected, since more
+-- than this number of configurations are reached, or since picks lead somewhere that are more than a run may have
+pub data SaysOfRuns (lending : Lending) (any_order : Bool) (wanted : List Print) (code : Code) (labels : List ProcessLabels)
+    (states : ℕ) : List ℕ → Status → Type 0 where
+  as_expected : IsAsExpected lending any_order wanted code
+      → SaysOfRuns lending any_order wanted code labels states (line (codes "as expected")) Done
+  outcome : (found : List Found) → AreSomeOutcomes (printing lending) code found
+      → (at : ℕ) → IsFirstOther any_order wanted found at → (f : Found) → slice_get found at ≡ Some f
+      → (picks : List CountedPick) → AreCounted f.picks picks → (what : List ℕ) → IsOtherText f.outcome.processes what
+      → SaysOfRuns lending any_order wanted code labels states
+      (outcome_lines code.names labels (at + 1) f.outcome picks ++ other_line what) Unexpected
+  deadlock : (deadlocks : List FoundDeadlock) → AreSomeDeadlocks (printing lending) code deadlocks
+      → (d : FoundDeadlock) → slice_get deadlocks 0 ≡ Some d → (picks : List CountedPick) → AreCounted d.picks picks
+      → SaysOfRuns lending any_order wanted code labels states
+      (deadlock_lines code.names labels 1 d picks ++ other_line (codes "a deadlock")) Unexpected
+  endless : HasEndlessRun (printing lending) code
+      → SaysOfRuns lending any_order wanted code labels states (other_line (codes "some run does not end")) Unexpected
+  many : (found : List Found) → AreSomeOutcomes (printing lending) code found
+      → All (λ f. IsWanted any_order wanted f.outcome) found → IsExcess (printing lending) code states
+      → SaysOfRuns lending any_order wanted code labels states
+      (line (codes "more than " ++ decimal states ++ codes " configurations")) Limit
+  long : (found : List Found) → AreSomeOutcomes (printing lending) code found
+      → All (λ f. IsWanted any_order wanted f.outcome) found → HasLongRun (printing lending) code
+      → SaysOfRuns lending any_order wanted code labels states
+      (line (codes "more than " ++ decimal MAX_PICKS ++ codes " picks")) Limit
+
+-- what is said of the lines behind an accepted text, by its code: one says no print; or all say prints, which the
+-- runs of the code are compared with
+pub data SaysOfLines (lending : Lending) (any_order : Bool) (code : Code) (labels : List ProcessLabels) (states : ℕ)
+    (lines : List ℕ) : List ℕ → Status → Type 0 where
+  no_prints : (at : ℕ) → IsBadPrint code lines (NotPrint at)
+      → SaysOfLines lending any_order code labels states lines (line (at_place (codes "refused K1") at)) Refused
+  compared : (wanted : List Print) → SpellsPrints code lines wanted
+      → (said : List ℕ) (status : Status) → SaysOfRuns lending any_order wanted code labels states said status
+      → SaysOfLines lending any_order code labels states lines said status
+
+-- what is said of an input, which is a text and print lines behind it: its text is refused; or it is accepted, and
+-- it is said what is said of its lines
+pub data SaysOfExpected (lend : Lend) (any_order : Bool) (states : ℕ) (bytes : List ℕ) : List ℕ → Status → Type 0 where
+  no_text : (text lines : List ℕ) → AreTwoParts bytes text lines
+      → (said : List ℕ) (status : Status) → SaysOfRefusedText text said status
+      → SaysOfExpected lend any_order states bytes said status
+  accepted : (text lines : List ℕ) → AreTwoParts bytes text lines
+      → (code : Code) (labels : List ProcessLabels) → IsCompiled text code labels
+      → (said : List ℕ) (status : Status) → SaysOfLines (lending_for lend) any_order code labels states lines said status
+      → SaysOfExpected lend any_order states bytes said status
+
+-- ---- what serves the proof
+
+-- the lines of the outcome at this place, by its picks, and the last line
+abbrev pub TellsOutcome : NameTable → List ProcessLabels → List Found → (at : ℕ) → List ℕ → Type 0
+TellsOutcome names labels found at text =
+    (f : Found) × (slice_get found at ≡ Some f) × ((picks : List CountedPick) × AreCounted f.picks picks
+    × ((what : List ℕ) × IsOtherText f.outcome.processes what
+    × (text ≡ outcome_lines names labels (at + 1) f.outcome picks ++ other_line what)))
+
+-- the lines of the first deadlock, by its picks, and the last line
+abbrev pub TellsDeadlock : NameTable → List ProcessLabels → List FoundDeadlock → List ℕ → Type 0
+TellsDeadlock names labels deadlocks text =
+    (d : FoundDeadlock) × (slice_get deadlocks 0 ≡ Some d) × ((picks : List CountedPick) × AreCounted d.picks picks
+    × (text ≡ deadlock_lines names labels 1 d picks ++ other_line (codes "a deadlock")))
+
+-- what is said if all that was found is as expected, by how much that is; the search has not ended at a deadlock then
+abbrev pub IsPlain : (states : ℕ) → Extent → List ℕ → Status → Type 0
+IsPlain states (extent.All true) text status = (text ≡ other_line (codes "some run does not end")) × (status ≡ Unexpected)
+IsPlain states (extent.All false) text status = (text ≡ line (codes "as expected")) × (status ≡ Done)
+IsPlain states extent.TooMany text status =
+    (text ≡ line (codes "more than " ++ decimal states ++ codes " configurations")) × (status ≡ Limit)
+IsPlain states extent.TooLong text status =
+    (text ≡ line (codes "more than " ++ decimal MAX_PICKS ++ codes " picks")) × (status ≡ Limit)
+IsPlain states extent.AtDeadlock text status = ⊤

@@ -1,0 +1,136 @@
+//! The answers of `outcomes --expect`.
+
+ghost use Rattle.std.specs.Prelude.{◌≡◌, ◌≢◌, ◌≤◌, ◌<◌, ◌+◌, ◌++◌, ℕ, List, All, Bool, IfOk, OnOk, Some, codes, length, map, slice_get};
+ghost use Rattle.std.specs.Fmt.{decimal};
+ghost use Rattle.pb_base.specs.declared.limits.TheConstants.{MAX_PICKS as MOST_PICKS};
+ghost use Rattle.pb_base.specs.Lines.{line, names_view};
+ghost use Rattle.pb_accept.specs.Refusals.{at_place};
+ghost use Rattle.pb_code.specs.View.{labels_view};
+ghost use Rattle.pb_search.specs.Deadlocks.{deadlock_view};
+ghost use Rattle.pb_search.specs.Outcomes.{process_outcome_view, found_view};
+ghost use Rattle.pb_search.specs.declared.found.Extent.TheVariants.{AtDeadlock as EndsAtDeadlock};
+ghost use Rattle.pb_search_engine.specs.SaysExpected.{IsOtherText, IsPlain, TellsDeadlock, TellsOutcome, other_line};
+ghost use Rattle.pb_search_engine.specs.Showing.{HaveProcesses};
+
+use crate::counts::count_picks;
+use crate::deadlocks::put_deadlock;
+use crate::lines::put_outcome;
+use crate::wanted::has_fault;
+use pb_base::limits::MAX_PICKS;
+use pb_base::writing::put_number;
+use pb_base::{Names, NoMemory};
+use pb_code::Labels;
+use pb_command_io::Status;
+use pb_command_io::reply::{Reply, refused};
+use pb_search::{Deadlock, Extent, Found, ProcessOutcome};
+use std::alloc::Global;
+
+/// Returns the lines of the outcome at a place, which is not as expected, and the last line, which says so.
+pub fn outcome_text(
+    alloc: Global,
+    names: &Names,
+    labels: &Labels,
+    found: &[Found],
+    at: usize,
+) -> Result<Vec<u8>, NoMemory>
+    requires there { at < length found.now }
+    requires named { All (λ f. HaveProcesses (names_view names.now) f.picks.items) found.now }
+    requires few { All (λ f. length f.picks.items ≤ MOST_PICKS) found.now }
+    ensures { IfOk result (λ text. TellsOutcome (names_view names.now) (labels_view labels.now) (map found_view found.now) at text.items) }
+{
+    let one = &found[at];
+    let picks = count_picks(alloc, &one.picks)?;
+    let mut text = Vec::new(alloc);
+    put_outcome(&mut text, names, labels, at + 1, one, &picks)?;
+    put_other(&mut text, other_of(&one.outcome))?;
+    Ok(text)
+}
+
+/// Returns the lines of the first deadlock, and the last line, which says that this is not as expected.
+pub fn deadlock_text(
+    alloc: Global,
+    names: &Names,
+    labels: &Labels,
+    deadlocks: &[Deadlock],
+) -> Result<Vec<u8>, NoMemory>
+    requires there { 0 < length deadlocks.now }
+    requires named { All (λ d. HaveProcesses (names_view names.now) d.picks.items) deadlocks.now }
+    requires few { All (λ d. length d.picks.items ≤ MOST_PICKS) deadlocks.now }
+    ensures { IfOk result (λ text. TellsDeadlock (names_view names.now) (labels_view labels.now) (map deadlock_view deadlocks.now) text.items) }
+{
+    let one = &deadlocks[0];
+    let picks = count_picks(alloc, &one.picks)?;
+    let mut text = Vec::new(alloc);
+    put_deadlock(&mut text, names, labels, 1, one, &picks)?;
+    put_other(&mut text, b"a deadlock")?;
+    Ok(text)
+}
+
+// Returns what is not as expected of an outcome that is not.
+fn other_of(outcome: &[ProcessOutcome]) -> &'static [u8]
+    ensures { IsOtherText (map process_outcome_view outcome.now) result.now }
+{
+    if has_fault(outcome) {
+        b"a fault"
+    } else {
+        b"other prints"
+    }
+}
+
+// Appends the last line, which says what is not as expected.
+fn put_other(text: &mut Vec<u8>, what: &[u8]) -> Result<(), NoMemory>
+    ensures { OnOk result (text.new.items ≡ text.old.items ++ other_line what.now) }
+{
+    text.extend_from_slice(b"not as expected: ")?;
+    text.extend_from_slice(what)?;
+    text.push(b'\n')?;
+    Ok(())
+}
+
+/// Returns the answer if every outcome that was found is as expected and there is no deadlock, by how much was
+/// found.
+pub fn plain_text(alloc: Global, extent: Extent, states: u32) -> Result<Reply, NoMemory>
+    ensures { IfOk result (λ r. IsPlain states extent r.text.items r.status) }
+{
+    let mut text = Vec::new(alloc);
+    match extent {
+        Extent::All { cycles: true } => {
+            put_other(&mut text, b"some run does not end")?;
+            Ok(Reply {
+                text,
+                status: Status::Unexpected,
+            })
+        }
+        Extent::All { cycles: false } | Extent::AtDeadlock => {
+            text.extend_from_slice(b"as expected\n")?;
+            Ok(Reply {
+                text,
+                status: Status::Done,
+            })
+        }
+        Extent::TooMany => limit(alloc, states, b" configurations\n"),
+        Extent::TooLong => limit(alloc, MAX_PICKS, b" picks\n"),
+    }
+}
+
+// Returns the answer that there is more than this number of something.
+fn limit(alloc: Global, number: u32, what: &[u8]) -> Result<Reply, NoMemory>
+    ensures { IfOk result (λ r. (r.text.items ≡ codes "more than " ++ decimal number ++ what.now) × (r.status ≡ Status.Limit)) }
+{
+    let mut text = Vec::new(alloc);
+    put_number(&mut text, b"more than ", number)?;
+    text.extend_from_slice(what)?;
+    Ok(Reply {
+        text,
+        status: Status::Limit,
+    })
+}
+
+/// Returns the answer to print lines of which the one at this place says no print.
+pub fn bad_print(alloc: Global, at: usize) -> Result<Reply, NoMemory>
+    ensures { IfOk result (λ r. (r.text.items ≡ line (at_place (codes "refused K1") at)) × (r.status ≡ Status.Refused)) }
+{
+    let mut text = Vec::new(alloc);
+    put_number(&mut text, b"refused K1 at ", at)?;
+    refused(text)
+}
