@@ -17,8 +17,8 @@ use Rattle.pb_base.proofs.Cases.{both_true}
 use Rattle.pb_code.proofs.NumeralLemmas.{own, numeral_is, is_numeral_decimal}
 use Rattle.pb_code.specs.Names.{is_name_byte}
 use Rattle.pb_code.specs.Numerals.{is_numeral}
-use Rattle.pb_debug_commands.specs.Commands.{Command, To, Step, Back, Vars, Threads, Wrote, Until, Loans, Next, Prev, Help}
-use Rattle.pb_debug_commands.specs.Commands.{Line, Text, Why, Pick, Who, arm_at, arm_of, both_of, integer_at, integer_of}
+use Rattle.pb_debug_commands.specs.Commands.{Command, To, Step, Back, Vars, Threads, Wrote, Until, Loans, Next, Prev}
+use Rattle.pb_debug_commands.specs.Commands.{Help, Circle, Line, Text, Why, Pick, Who, arm_at, arm_of, both_of, integer_at, integer_of}
 use Rattle.pb_debug_commands.specs.Commands.{stop_at, stop_from, stop_of, command_of, looks_like_name, keyed, number_of}
 use Rattle.pb_debug_commands.specs.Commands.{parted, word_of}
 use Rattle.pb_debug_commands.specs.Spellings.{CommandsBySpelling, IsProper, command_spelling}
@@ -416,9 +416,12 @@ says_what line c h =
           | inl l ↦ alone line (codes "prev") Prev c l.0 l.1 refl tt short
           | inr p ↦ elim (chosen (bytes_eq line (codes "help")) _ _ c p) [
             | inl l ↦ alone line (codes "help") Help c l.0 l.1 refl tt short
-            | inr p ↦ (
-                let r = parted_is line (first_at 32 line) c refl (subst (λ (o : Option ℕ). parted line o ≡ Some c) (position_is 32 line) p) in
-                (r.0, r.1, short))
+            | inr p ↦ elim (chosen (bytes_eq line (codes "circle")) _ _ c p) [
+              | inl l ↦ alone line (codes "circle") Circle c l.0 l.1 refl tt short
+              | inr p ↦ (
+                  let r = parted_is line (first_at 32 line) c refl (subst (λ (o : Option ℕ). parted line o ≡ Some c) (position_is 32 line) p) in
+                  (r.0, r.1, short))
+            ]
           ]
         ]
       ]
@@ -428,43 +431,44 @@ says_what line c h =
 
 said_short : (line : List ℕ) (c : Command) → length line ≤ 256 → bytes_eq line (codes "loans") ≡ false
     → bytes_eq line (codes "next") ≡ false → bytes_eq line (codes "prev") ≡ false → bytes_eq line (codes "help") ≡
-    false → parted line (first_at 32 line) ≡ Some c
+    false → bytes_eq line (codes "circle") ≡ false → parted line (first_at 32 line) ≡ Some c
     → command_of line ≡ Some c
 unfolding command_of
-said_short line c short loans next prev help h =
+said_short line c short loans next prev help circle h =
     let s : ltb 256 (length line) ≡ false = le-ltb 256 (length line) short in
     let p : parted line (position (λ b. eqb b 32) line) ≡ Some c = ap (parted line) (position_is 32 line) ∙ h in
-    rw (s, loans, next, prev, help, p) refl
+    rw (s, loans, next, prev, help, circle, p) refl
 
 said_again : (c : Command) → IsProper c → length (command_spelling c) ≤ 256 → command_of (command_spelling c) ≡ Some c
 unfolding command_of keyed
-said_again (To n) lt short = said_short (command_spelling (To n)) (To n) short refl refl refl refl (ap (option_map To) (number_again n lt))
-said_again (Step n) lt short = said_short (command_spelling (Step n)) (Step n) short refl refl refl refl (ap (option_map Step) (number_again n lt))
-said_again (Back n) lt short = said_short (command_spelling (Back n)) (Back n) short refl refl refl refl (ap (option_map Back) (number_again n lt))
-said_again (Vars p) word short = said_short (command_spelling (Vars p)) (Vars p) short refl refl refl refl (ap (option_map Vars) (word_again p word))
+said_again (To n) lt short = said_short (command_spelling (To n)) (To n) short refl refl refl refl refl (ap (option_map To) (number_again n lt))
+said_again (Step n) lt short = said_short (command_spelling (Step n)) (Step n) short refl refl refl refl refl (ap (option_map Step) (number_again n lt))
+said_again (Back n) lt short = said_short (command_spelling (Back n)) (Back n) short refl refl refl refl refl (ap (option_map Back) (number_again n lt))
+said_again (Vars p) word short = said_short (command_spelling (Vars p)) (Vars p) short refl refl refl refl refl (ap (option_map Vars) (word_again p word))
 said_again (Threads p) word short =
-    said_short (command_spelling (Threads p)) (Threads p) short refl refl refl refl (ap (option_map Threads) (word_again p word))
+    said_short (command_spelling (Threads p)) (Threads p) short refl refl refl refl refl (ap (option_map Threads) (word_again p word))
 said_again (Wrote p x) proper short =
-    said_short (command_spelling (Wrote p x)) (Wrote p x) short refl refl refl refl
+    said_short (command_spelling (Wrote p x)) (Wrote p x) short refl refl refl refl refl
     (ap (option_map (λ (y : IntegerWord). Wrote y.0 y.1)) (integer_again p x proper.0 proper.1))
 said_again (Until p a n) proper short =
-    said_short (command_spelling (Until p a n)) (Until p a n) short refl refl refl refl (stop_again p a n proper.0 proper.1 proper.2)
+    said_short (command_spelling (Until p a n)) (Until p a n) short refl refl refl refl refl (stop_again p a n proper.0 proper.1 proper.2)
 said_again Loans proper short = refl
+said_again Circle proper short = refl
 said_again Next proper short = refl
 said_again Prev proper short = refl
 said_again Help proper short = refl
-said_again (Who r) word short = said_short (command_spelling (Who r)) (Who r) short refl refl refl refl (ap (option_map Who) (word_again r word))
+said_again (Who r) word short = said_short (command_spelling (Who r)) (Who r) short refl refl refl refl refl (ap (option_map Who) (word_again r word))
 said_again (Line p a) proper short =
-    said_short (command_spelling (Line p a)) (Line p a) short refl refl refl refl
+    said_short (command_spelling (Line p a)) (Line p a) short refl refl refl refl refl
     (ap (option_map (λ (x : ArmWord). Line x.0 x.1)) (arm_again p a proper.0 proper.1))
 said_again (Text p a) proper short =
-    said_short (command_spelling (Text p a)) (Text p a) short refl refl refl refl
+    said_short (command_spelling (Text p a)) (Text p a) short refl refl refl refl refl
     (ap (option_map (λ (x : ArmWord). Text x.0 x.1)) (arm_again p a proper.0 proper.1))
 said_again (Why p a) proper short =
-    said_short (command_spelling (Why p a)) (Why p a) short refl refl refl refl
+    said_short (command_spelling (Why p a)) (Why p a) short refl refl refl refl refl
     (ap (option_map (λ (x : ArmWord). Why x.0 x.1)) (arm_again p a proper.0 proper.1))
 said_again (Pick p a) proper short =
-    said_short (command_spelling (Pick p a)) (Pick p a) short refl refl refl refl
+    said_short (command_spelling (Pick p a)) (Pick p a) short refl refl refl refl refl
     (ap (option_map (λ (x : ArmWord). Pick x.0 x.1)) (arm_again p a proper.0 proper.1))
 
 pub commands_by_spelling : CommandsBySpelling

@@ -13,7 +13,7 @@ pub data Command : Type 0 where
   Vars Threads : (process : List ℕ) → Command
   Wrote : (process integer : List ℕ) → Command
   Until : (process : List ℕ) (arm line : ℕ) → Command
-  Loans Next Prev Help : Command
+  Loans Circle Next Prev Help : Command
   Who : (resource : List ℕ) → Command
   Line Text Why Pick : (process : List ℕ) (arm : ℕ) → Command
 
@@ -91,4 +91,5 @@ command_of line =
     cond (bytes_eq line (codes "loans")) (Some Loans) (
     cond (bytes_eq line (codes "next")) (Some Next) (
     cond (bytes_eq line (codes "prev")) (Some Prev) (
-    cond (bytes_eq line (codes "help")) (Some Help) (parted line (position (λ b. b == 32) line))))))
+    cond (bytes_eq line (codes "help")) (Some Help) (
+    cond (bytes_eq line (codes "circle")) (Some Circle) (parted line (position (λ b. b == 32) line)))))))

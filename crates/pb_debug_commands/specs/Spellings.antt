@@ -1,8 +1,8 @@
 -- How each command is spelled.
 use Rattle.std.specs.Prelude.{◌≡◌, ◌↔◌, ℕ, ◌<◌, ◌≤◌, true, List, ◌∷◌, ◌++◌, length, codes, Some, ⊤}
 use Rattle.std.specs.Fmt.{decimal}
-use Rattle.pb_debug_commands.specs.Commands.{Command, To, Step, Back, Vars, Threads, Wrote, Until, Loans, Next, Prev, Help}
-use Rattle.pb_debug_commands.specs.Commands.{Line, Text, Why, Pick, Who, command_of, looks_like_name}
+use Rattle.pb_debug_commands.specs.Commands.{Command, To, Step, Back, Vars, Threads, Wrote, Until, Loans, Next, Prev}
+use Rattle.pb_debug_commands.specs.Commands.{Help, Circle, Line, Text, Why, Pick, Who, command_of, looks_like_name}
 
 -- the bytes of a command: a word, and behind a space a number, a name, or a process and an arm with a point
 -- between
@@ -15,6 +15,7 @@ command_spelling (Threads process) = codes "threads " ++ process
 command_spelling (Wrote process integer) = codes "wrote " ++ (process ++ 32 ∷ integer)
 command_spelling (Until process arm n) = codes "until " ++ ((process ++ 46 ∷ decimal arm) ++ 32 ∷ decimal n)
 command_spelling Loans = codes "loans"
+command_spelling Circle = codes "circle"
 command_spelling Next = codes "next"
 command_spelling Prev = codes "prev"
 command_spelling Help = codes "help"
@@ -34,6 +35,7 @@ IsProper (Threads process) = looks_like_name process ≡ true
 IsProper (Wrote process integer) = (looks_like_name process ≡ true) × (looks_like_name integer ≡ true)
 IsProper (Until process arm n) = (looks_like_name process ≡ true) × (arm < 100000000) × (n < 100000000)
 IsProper Loans = ⊤
+IsProper Circle = ⊤
 IsProper Next = ⊤
 IsProper Prev = ⊤
 IsProper Help = ⊤

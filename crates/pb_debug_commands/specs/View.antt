@@ -4,8 +4,8 @@ use Rattle.pb_debug_commands.specs.declared.command.Command.{Command as Given}
 use Rattle.pb_debug_commands.specs.declared.command.Command.TheVariants as given
 use Rattle.pb_debug_commands.specs.declared.words.ArmWord.{ArmWord}
 use Rattle.pb_debug_commands.specs.declared.words.IntegerWord.{IntegerWord}
-use Rattle.pb_debug_commands.specs.Commands.{Command, To, Step, Back, Vars, Threads, Wrote, Until, Loans, Next, Prev, Help}
-use Rattle.pb_debug_commands.specs.Commands.{Line, Text, Why, Pick, Who}
+use Rattle.pb_debug_commands.specs.Commands.{Command, To, Step, Back, Vars, Threads, Wrote, Until, Loans, Next, Prev}
+use Rattle.pb_debug_commands.specs.Commands.{Help, Circle, Line, Text, Why, Pick, Who}
 
 abbrev pub arm_view : ArmWord → List ℕ × ℕ
 arm_view word = (word.process.now, word.arm)
@@ -22,6 +22,7 @@ command_view (given.Threads word) = Threads word.now
 command_view (given.Wrote word) = Wrote word.process.now word.integer.now
 command_view (given.Until word) = Until word.process.now word.arm word.line
 command_view given.Loans = Loans
+command_view given.Circle = Circle
 command_view given.Next = Next
 command_view given.Prev = Prev
 command_view given.Help = Help

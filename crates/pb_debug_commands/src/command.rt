@@ -29,6 +29,8 @@ pub enum Command<'t> {
     Until(StopWord<'t>),
     /// `loans`
     Loans,
+    /// `circle`
+    Circle,
     /// `next`
     Next,
     /// `prev`
@@ -151,6 +153,9 @@ pub fn read_command(line: &[u8]) -> Option<Command>
     }
     if is(line, "help") {
         return Some(Command::Help);
+    }
+    if is(line, "circle") {
+        return Some(Command::Circle);
     }
     let space = find(line, b' ')?;
     keyed(&line[..space], &line[space + 1..])
