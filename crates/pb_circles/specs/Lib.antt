@@ -1,0 +1,4 @@
+pub mod Asking
+pub mod Circles
+pub mod Deadlocks
+pub mod Links
