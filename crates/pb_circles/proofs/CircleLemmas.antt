@@ -1,5 +1,5 @@
 -- No process of a circle is taken out as long as one is taken out that waits for none of those left.
-use Rattle.std.proofs.Common.{◌≡◌, inl, inr, ⊎_elim, ℕ, ◌+◌, ◌-◌, ◌<◌, ◌≤◌, List, [], ◌∷◌, length, Some, None, refl, sym, ap, ◌∙◌, subst, arith}
+use Rattle.std.proofs.Common.{◌≡◌, ⊎_elim, ℕ, ◌+◌, ◌-◌, ◌<◌, List, length, Some, sym, subst, arith}
 use Rattle.std.specs.Prelude.{slice_get, remove}
 use Rattle.std.proofs.lemmas.Bool.{cases_lt}
 use Rattle.std.proofs.lemmas.Option.{slice_get_within}
@@ -8,7 +8,7 @@ use Rattle.pb_base.specs.Steppers.{State}
 use Rattle.pb_code.specs.Code.{CodeProcess}
 use Rattle.pb_code.specs.Whole.{Code}
 use Rattle.pb_circles.specs.Circles.{IsCircle, IsFreeAt}
-use Rattle.pb_circles.specs.Links.{IsAmong, IsLink, LinksTo}
+use Rattle.pb_circles.specs.Links.{IsAmong, IsLink}
 use Rattle.pb_circles.specs.declared.link.Link.{Link}
 use Rattle.pb_circles.proofs.Lists.{among_removed, all_at}
 
@@ -38,12 +38,12 @@ module _ (code : Code) (s : State CodeProcess) where
       (λ same.
       free.free link (record { links = all_at (IsLink code s) circle k link is.each at; process_is = same; member = waited left has circle is k link at }))
 
-  pub none_left : HasCircles [] → (circle : List Link) → IsCircle code s circle → ⊥
-  none_left has circle is =
+  pub none_left : (left : List ℕ) → length left ≡ 0 → HasCircles left → (circle : List Link) → IsCircle code s circle → ⊥
+  none_left left empty has circle is =
       let first = get_some circle 0 is.some in
       let m = has circle is 0 first.0 first.1 in
-      let e : None ≡ Some first.0.process = m.1 in
-      cc
+      let w = slice_get_within left m.0 first.0.process m.1 in
+      omega (arith, w, empty)
 
   -- whoever is in a circle is a process
   pub circles_below : (n : ℕ) → n ≡ length s.processes → (left : List ℕ) → ((p : ℕ) → p < n → IsAmong left p) → HasCircles left

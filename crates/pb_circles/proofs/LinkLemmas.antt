@@ -1,15 +1,14 @@
 -- Links of one arm, by what it asks for.
-use Rattle.std.proofs.Common.{◌≡◌, ◌≢◌, ℕ, ◌<◌, List, length, Option, Some, None, refl, sym, ap, ◌∙◌, subst, arith}
-use Rattle.std.specs.Prelude.{slice_get, IfSome, IfNone}
-use Rattle.std.proofs.lemmas.Bool.{cases_lt}
-use Rattle.pb_base.specs.Banker.{BankerState, cash, loan}
+use Rattle.std.proofs.Common.{◌≡◌, ℕ, ◌<◌, List, Option, Some, None, sym, ap, ◌∙◌, subst}
+use Rattle.std.specs.Prelude.{IfSome, IfNone}
+use Rattle.pb_base.specs.Banker.{BankerState, cash}
 use Rattle.pb_base.specs.Bundle.{amount_in}
 use Rattle.pb_base.specs.Steppers.{Bundle, State}
 use Rattle.pb_base.specs.declared.pick.Pick.{Pick}
 use Rattle.pb_code.specs.Code.{Take, CodeProcess}
 use Rattle.pb_code.specs.Whole.{Code}
 use Rattle.pb_machine.specs.Turns.{StandsIn}
-use Rattle.pb_circles.specs.Links.{IsAmong, IsHolder, IsLink, IsLinkOf, LinksTo, bank_at}
+use Rattle.pb_circles.specs.Links.{IsHolder, IsLinkOf, LinksTo, bank_at}
 use Rattle.pb_circles.specs.declared.link.Link.{Link}
 use Rattle.pb_circles.proofs.Requests.{asks_once}
 

@@ -1,13 +1,13 @@
 -- A path of links, and the circle at its end.
-use Rattle.std.proofs.Common.{◌≡◌, ◌⊎◌, inl, inr, ⊎_elim, ℕ, zero, suc, ◌+◌, ◌-◌, ◌<◌, ◌≤◌, List, [], ◌∷◌, ◌++◌, length}
+use Rattle.std.proofs.Common.{◌≡◌, ◌⊎◌, inl, inr, ⊎_elim, ℕ, zero, suc, ◌+◌, ◌-◌, ◌≤◌, List, [], ◌∷◌, ◌++◌, length}
 use Rattle.std.proofs.Common.{drop, Some, None, refl, sym, ap, ◌∙◌, subst, arith}
-use Rattle.std.specs.Prelude.{slice_get, remove, All}
+use Rattle.std.specs.Prelude.{slice_get, remove}
 use Rattle.std.proofs.lemmas.Bool.{cases_eq}
 use Rattle.std.proofs.lemmas.List.{length-drop, length-append}
 use Rattle.std.proofs.lemmas.List.Edits.{length-remove}
 use Rattle.std.proofs.lemmas.List.Elements.{All-nil, All-push, All-drop}
 use Rattle.std.proofs.lemmas.Option.{slice_get_within}
-use Rattle.pb_base.proofs.Lists.{get_left, get_some}
+use Rattle.pb_base.proofs.Lists.{get_left}
 use Rattle.pb_base.specs.Steppers.{State}
 use Rattle.pb_code.specs.Code.{CodeProcess}
 use Rattle.pb_code.specs.Whole.{Code}

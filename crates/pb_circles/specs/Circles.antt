@@ -6,7 +6,8 @@ use Rattle.pb_code.specs.Whole.{Code}
 use Rattle.pb_circles.specs.Links.{IsAmong, IsLink, LinksTo}
 use Rattle.pb_circles.specs.declared.link.Link.{Link}
 
--- each waits for the process of the next link, and the last for that of the first; no process is in it twice
+-- each waits for the process of the next link, and the last for that of the first; no process is in it twice. Nobody
+-- waits for himself, so there are two or more
 pub record IsCircle (code : Code) (s : State CodeProcess) (circle : List Link) : Type 0 where
   pub some : 0 < length circle
   pub each : All (IsLink code s) circle

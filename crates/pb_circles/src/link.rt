@@ -42,13 +42,7 @@ fn holder_of(bank: &Lender, among: &[usize], p: usize, r: usize) -> Option<usize
 }
 
 // Returns a link of an arm that asks for a bundle to one of these processes, if there is one.
-fn link_of(
-    bank: &Lender,
-    among: &[usize],
-    p: usize,
-    arm: usize,
-    bundle: &Bundle,
-) -> Option<Link>
+fn link_of(bank: &Lender, among: &[usize], p: usize, arm: usize, bundle: &Bundle) -> Option<Link>
     requires among { All (λ q. q < processes (lender_state bank.now)) among.now }
     ensures some { IfSome result (IsLinkOf (lender_state bank.now) bundle.now among.now p arm) }
     ensures none { IfNone result ((r holder : ℕ) → cash (lender_state bank.now) r < bundles.amount_in bundle.now r

@@ -1,4 +1,4 @@
-use Rattle.std.proofs.Common.{◌≡◌, ◌⊎◌, ◌<◌, ℕ, length}
+use Rattle.std.proofs.Common.{◌⊎◌, ℕ, length}
 use Rattle.pb_circles.specs.Circles.{IsPath, IsOnPath}
 use Rattle.pb_circles.specs.Links.{IsAmong, IsLink}
 use Rattle.pb_machine.specs.Views.{machine_view}

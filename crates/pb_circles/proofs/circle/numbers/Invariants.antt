@@ -1,4 +1,4 @@
-use Rattle.std.proofs.Common.{◌≡◌, ◌<◌, ℕ, length}
+use Rattle.std.proofs.Common.{◌<◌, ℕ}
 use Rattle.std.specs.Prelude.{All}
 use Rattle.pb_circles.specs.Links.{IsAmong}
 use Rattle.pb_circles.proofs.circle.numbers.Given as goal

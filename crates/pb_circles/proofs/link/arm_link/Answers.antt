@@ -1,12 +1,11 @@
-use Rattle.std.proofs.Common.{◌≡◌, ◌<◌, ℕ, length, Some, sym, ap, ◌∙◌, subst, arith}
-use Rattle.std.specs.Prelude.{slice_get, IfSome}
+use Rattle.std.proofs.Common.{◌<◌, length, ap, subst, arith}
+use Rattle.std.specs.Prelude.{IfSome}
 use Rattle.pb_banker.specs.Lenders.{lender_state}
-use Rattle.pb_base.specs.Banker.{BankerState, processes, cash}
-use Rattle.pb_base.specs.Bundle.{amount_in}
+use Rattle.pb_base.specs.Banker.{BankerState, processes}
 use Rattle.pb_code.specs.View.{process_view}
 use Rattle.pb_machine.specs.Views.{machine_view, proc_view, thread_view}
 use Rattle.pb_machine.proofs.GivenCode.{codes_number, code_at}
-use Rattle.pb_circles.specs.Links.{IsHolder, IsLinkOf}
+use Rattle.pb_circles.specs.Links.{IsLinkOf}
 use Rattle.pb_circles.proofs.LinkLemmas.{links_made, none_in, not_asking}
 use Rattle.pb_circles.proofs.Requests.{names_bundles, asks_in, asked_so, machine_count, rows_count, lender_is}
 use Rattle.pb_circles.proofs.link.arm_link.Goals as goal

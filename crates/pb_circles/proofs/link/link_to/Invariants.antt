@@ -1,4 +1,4 @@
-use Rattle.std.proofs.Common.{◌<◌, ℕ}
+use Rattle.std.proofs.Common.{◌<◌}
 use Rattle.pb_circles.specs.Links.{LinksTo}
 use Rattle.pb_circles.specs.declared.link.Link.{Link}
 use Rattle.pb_machine.specs.Views.{machine_view}
