@@ -1,4 +1,5 @@
 pub mod Asking
+pub mod Circles
 pub mod Reasons
 pub mod Resources
 pub mod Texts

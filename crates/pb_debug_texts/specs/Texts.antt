@@ -10,7 +10,7 @@ pub use Rattle.pb_base.specs.Lines.{line, each_below}
 use Rattle.pb_code.specs.Code.{CodeProcess, Thread, Idle, Live, Ended, thread}
 use Rattle.pb_debug_commands.specs.Lines.{line_numbered}
 use Rattle.pb_debug_texts.specs.declared.why.Why.{Why}
-use Rattle.pb_debug_texts.specs.declared.why.Why.TheVariants.{NotAsking, Cash, Order, Rest}
+use Rattle.pb_debug_texts.specs.declared.why.Why.TheVariants.{NotAsking, Cash, Order, Rest, Granted}
 
 -- `at I`
 abbrev pub at_text : ℕ → List ℕ
@@ -44,7 +44,7 @@ abbrev pub help_text : List ℕ
 help_text =
     line (codes "to I") ++ line (codes "step N") ++ line (codes "back N") ++ line (codes "next") ++ line (codes "prev")
     ++ line (codes "vars P") ++ line (codes "wrote P X") ++ line (codes "until P.a N") ++ line (codes "threads P") ++
-    line (codes "loans") ++ line (codes "who R")
+    line (codes "loans") ++ line (codes "who R") ++ line (codes "circle")
     ++ line (codes "line P.a") ++ line (codes "text P.a") ++ line (codes "why P.a") ++ line (codes "pick P.a")
     ++ line (codes "help")
 
@@ -115,6 +115,7 @@ why_text names NotAsking = line (codes "not asking")
 why_text names (Cash resource amount) = cash_text names amount resource
 why_text names (Order order) = line (codes "order" ++ names_text names order.items)
 why_text names (Rest rest) = line (codes "rest" ++ names_text names rest.items)
+why_text names Granted = line (codes "granted")
 
 -- all that a reason speaks of has a name
 abbrev pub HasNamesOf : NameTable → Why → Type 0
@@ -122,3 +123,4 @@ HasNamesOf names NotAsking = ⊤
 HasNamesOf names (Cash resource amount) = resource < length names.resources
 HasNamesOf names (Order order) = All (λ p. p < length names.processes) order.items
 HasNamesOf names (Rest rest) = All (λ p. p < length names.processes) rest.items
+HasNamesOf names Granted = ⊤

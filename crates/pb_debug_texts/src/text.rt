@@ -104,7 +104,7 @@ pub fn put_help(text: &mut Vec<u8>) -> Result<(), NoMemory>
 {
     put(
         text,
-        b"to I\nstep N\nback N\nnext\nprev\nvars P\nwrote P X\nuntil P.a N\nthreads P\nloans\nwho R\nline P.a\ntext P.a\nwhy P.a\npick P.a\nhelp\n",
+        b"to I\nstep N\nback N\nnext\nprev\nvars P\nwrote P X\nuntil P.a N\nthreads P\nloans\nwho R\ncircle\nline P.a\ntext P.a\nwhy P.a\npick P.a\nhelp\n",
     )
 }
 
@@ -264,5 +264,6 @@ pub fn put_why(text: &mut Vec<u8>, names: &Names, why: &Why) -> Result<(), NoMem
         Why::Cash { resource, cash } => put_cash(text, names, *cash, usize::from(*resource)),
         Why::Order(order) => put_names(text, b"order", names, order),
         Why::Rest(rest) => put_names(text, b"rest", names, rest),
+        Why::Granted => put(text, b"granted\n"),
     }
 }

@@ -1,9 +1,8 @@
 //! Who holds a resource, and who asks for it.
 
-ghost use Rattle.std.specs.Prelude.{◌≡◌, ◌==◌, ◌<◌, ◌++◌, ℕ, cond, length, slice_get, Some, OnOk};
+ghost use Rattle.std.specs.Prelude.{◌≡◌, ◌<◌, ◌++◌, ℕ, length, slice_get, Some, OnOk};
 ghost use Rattle.pb_banker.specs.Lenders.{lender_state};
 ghost use Rattle.pb_base.specs.Banker.{processes, resources};
-ghost use Rattle.pb_base.specs.Bundle as bundles;
 ghost use Rattle.pb_base.specs.Lines.{names_view, each_below};
 ghost use Rattle.pb_code.specs.View.{code_view, process_view};
 ghost use Rattle.pb_code.specs.declared.code.ProcessCode.{ProcessCode as GivenProcess};
@@ -12,34 +11,12 @@ ghost use Rattle.pb_debug_texts.specs.Resources as said;
 ghost use Rattle.pb_machine.specs.Views.{machine_view, proc_view, thread_view};
 
 use crate::text::{end_name, put_cash, put_loan};
-use crate::why::asked;
 use pb_banker::Lender;
 use pb_base::writing::{put, put_number};
-use pb_base::{Bundle, Names, NoMemory, Pair};
+use pb_base::{Names, NoMemory};
+use pb_circles::{amount_in, asked};
 use pb_code::{Code, ProcessCode};
 use pb_machine::{Machine, Proc, Thread};
-
-// Returns the amount of a pair, if it is of this resource, else 0.
-fn share(pair: Pair, r: usize) -> u32
-    ensures { result ≡ cond (pair.resource == r) pair.amount 0 }
-{
-    if usize::from(pair.resource) == r {
-        pair.amount
-    } else {
-        0
-    }
-}
-
-// Returns the amount of a resource in a bundle.
-fn amount_in(bundle: &Bundle, r: usize) -> u64
-    ensures { result ≡ bundles.amount_in bundle.now r }
-{
-    let mut amount = 0;
-    for i in 0..bundle.len() {
-        amount += u64::from(share(bundle.get(i), r));
-    }
-    amount
-}
 
 // Returns the amount of a resource for which an arm asks: 0 if it is not at a request.
 fn amount_asked(code: &ProcessCode, thread: &Thread, r: usize) -> u64

@@ -1,18 +1,13 @@
 //! The reasons for which an arm does not go on, and how one is found.
 
 ghost use Rattle.std.specs.Prelude.{◌≡◌, ◌<◌, All, IfOk, IfSome, IfNone};
+ghost use Rattle.pb_banker.specs.Lenders.{lender_state, lending_by};
 ghost use Rattle.pb_base.specs.Banker.{processes, resources, IsWithinCash, IsWithinClaim};
-ghost use Rattle.pb_base.specs.Steppers.{Bundle};
-ghost use Rattle.pb_code.specs.View.{process_view};
-ghost use Rattle.pb_debug_texts.specs.Asking.{NamesBundles};
-ghost use Rattle.pb_debug_texts.specs.Reasons.{IsFirstOverCash, IsReason};
-ghost use Rattle.pb_machine.specs.Views.{thread_view};
-ghost use Rattle.pb_machine.specs.Turns.{IsAtTake};
+ghost use Rattle.pb_debug_texts.specs.Reasons.{IsFirstOverCash, IsReason, IsReasonBy};
 
-use pb_banker::{Answer, Banker};
+use pb_banker::{Answer, Banker, Lender};
 use pb_base::{Bundle, NoMemory};
-use pb_code::{Instr, ProcessCode};
-use pb_machine::Thread;
+pub use pb_circles::asked;
 use std::alloc::Global;
 
 /// Why an arm does not go on, or may.
@@ -27,6 +22,8 @@ pub enum Why {
     Order(Vec<u8>),
     /// The cash is enough, but with the new loan none of these processes could finish.
     Rest(Vec<u8>),
+    /// The cash alone decides, and is enough.
+    Granted,
 }
 
 // A resource and its cash.
@@ -37,14 +34,14 @@ struct Shortage {
 }
 
 // Returns the first resource of a bundle of which the cash is too little.
-fn first_shortage(banker: &Banker, bundle: &Bundle) -> Option<Shortage>
-    requires below { All (λ pair. pair.resource < resources banker.now.state) bundle.now }
-    ensures some { IfSome result (λ s. IsFirstOverCash banker.now.state bundle.now s.resource s.cash) }
-    ensures none { IfNone result (IsWithinCash banker.now.state bundle.now) }
+fn first_shortage(bank: &Lender, bundle: &Bundle) -> Option<Shortage>
+    requires below { All (λ pair. pair.resource < resources (lender_state bank.now)) bundle.now }
+    ensures some { IfSome result (λ s. IsFirstOverCash (lender_state bank.now) bundle.now s.resource s.cash) }
+    ensures none { IfNone result (IsWithinCash (lender_state bank.now) bundle.now) }
 {
     for i in 0..bundle.len() {
         let pair = bundle.get(i);
-        let cash = banker.cash(usize::from(pair.resource));
+        let cash = bank.cash(usize::from(pair.resource));
         if cash < pair.amount {
             return Some(Shortage {
                 resource: pair.resource,
@@ -55,19 +52,14 @@ fn first_shortage(banker: &Banker, bundle: &Bundle) -> Option<Shortage>
     None
 }
 
-/// Returns what becomes of a request of process p that is within its claim.
-pub fn reason(alloc: Global, banker: &Banker, p: usize, bundle: &Bundle) -> Result<Why, NoMemory>
+// Returns what the banker says of a request of process p that is within its claim and the cash.
+fn answer_of(alloc: Global, banker: &Banker, p: usize, bundle: &Bundle) -> Result<Why, NoMemory>
     requires process { p < processes banker.now.state }
     requires below { All (λ pair. pair.resource < resources banker.now.state) bundle.now }
     requires within_claim { IsWithinClaim banker.now.state p bundle.now }
+    requires within_cash { IsWithinCash banker.now.state bundle.now }
     ensures { IfOk result (IsReason banker.now.state p bundle.now) }
 {
-    if let Some(shortage) = first_shortage(banker, bundle) {
-        return Ok(Why::Cash {
-            resource: shortage.resource,
-            cash: shortage.cash,
-        });
-    }
     let mut next = banker.copy();
     match next.ask(p, bundle) {
         Answer::Granted => Ok(Why::Order(next.order(alloc)?)),
@@ -75,15 +67,22 @@ pub fn reason(alloc: Global, banker: &Banker, p: usize, bundle: &Bundle) -> Resu
     }
 }
 
-/// Returns the bundle for which an arm asks, if it is at a request.
-pub fn asked<'c>(code: &'c ProcessCode, thread: &Thread) -> Option<&'c Bundle>
-    requires { NamesBundles code.now }
-    ensures some { IfSome result (λ bundle. IsAtTake (process_view code.entry.now) (thread_view thread.now) bundle.now) }
-    ensures none { IfNone result ((bundle : Bundle) → IsAtTake (process_view code.entry.now) (thread_view thread.now) bundle → ⊥) }
+/// Returns what becomes of a request of process p that is within its claim. The error comes only if out of
+/// memory.
+pub fn reason(alloc: Global, bank: &Lender, p: usize, bundle: &Bundle) -> Result<Why, NoMemory>
+    requires process { p < processes (lender_state bank.now) }
+    requires below { All (λ pair. pair.resource < resources (lender_state bank.now)) bundle.now }
+    requires within_claim { IsWithinClaim (lender_state bank.now) p bundle.now }
+    ensures { IfOk result (IsReasonBy (lending_by bank.now) (lender_state bank.now) p bundle.now) }
 {
-    let place = usize::from(thread.place()?);
-    match code.instrs.get(place) {
-        Some(Instr::Take(k)) => Some(&code.bundles[usize::from(*k)]),
-        _ => None,
+    if let Some(shortage) = first_shortage(bank, bundle) {
+        return Ok(Why::Cash {
+            resource: shortage.resource,
+            cash: shortage.cash,
+        });
+    }
+    match bank {
+        Lender::Banker(banker) => answer_of(alloc, banker, p, bundle),
+        Lender::Till(_) => Ok(Why::Granted),
     }
 }
