@@ -69,7 +69,8 @@ ASKED = [
     ("n", "14/15 p.0 line 10: prints 1"), ("prev", "no event before this position"),
     ("until p.0 6", "it does not come there"),
     ("help", "until P.a N"), ("help u", "for example: until p.1 8"), ("wh", "wh may be who or why"),
-    ("line p.0", "p.0: ends the process"), ("loans", "there are no resources"), ("save", "names the file"),
+    ("line p.0", "p.0: ends the process"), ("loans", "there are no resources"),
+    ("circle", "no processes wait for one another"), ("save", "names the file"),
 ]
 
 
@@ -163,7 +164,7 @@ def try_devices(tally: Tally, script: str, folder: str) -> None:
     for command, wanted in [
         ("pick a", "1/1 a.0 line 7: is granted 1 tape"), ("pick b.0", "b.0 can't be picked: it asks for 1 disk, and waits"),
         ("arms", "a.0 line 7: asks for 1 disk"), ("who disk", "b.0 asks for 1 disk"), ("loans", "cash: 0 of 1 tape"),
-        ("why b", "could be sure to finish: a b"), ("pick a", "2/2 a.0 line 7: is granted 1 disk"),
+        ("why b", "could be sure to finish: a b"), ("circle", "no processes wait for one another"), ("pick a", "2/2 a.0 line 7: is granted 1 disk"),
         ("", "3/3 a.0 line 7: takes the number 1"),
         ("why a", "it is not asking for anything"), ("save mine.run", "mine.run has the run with its 3 picks"),
         ("save mine.run", "there is a file mine.run"),

@@ -12,7 +12,7 @@ SOURCES = ("src", "specs", "proofs")
 # which come last, by four. The crates with the longest chain of minutes behind them start first. One that is not listed
 # counts as one minute.
 MINUTES = {
-    "pb_answer": 0.4, "pb_banker": 1.4, "pb_base": 1, "pb_claims": 0.9, "pb_cli": 1.6, "pb_code": 0.9,
+    "pb_answer": 0.4, "pb_banker": 1.4, "pb_base": 1, "pb_circles": 1.1, "pb_claims": 0.9, "pb_cli": 1.6, "pb_code": 0.9,
     "pb_codegen": 1.4, "pb_command_io": 0.6, "pb_command_line": 2, "pb_debug_commands": 0.9, "pb_debug": 3.3,
     "pb_debug_engine": 0.8, "pb_debug_texts": 1.5, "pb_draw": 1.5, "pb_draw_engine": 0.5, "pb_engines": 0.7,
     "pb_message_excerpts": 0.8, "pb_explain": 0.6, "pb_search": 2.3, "pb_generator": 2, "pb_grammar": 4.1,

@@ -30,6 +30,7 @@ COMMANDS = {
     "text": Command("text P.a", "shows the source line of what an arm does next", "text p.1"),
     "loans": Command("loans", "shows who holds what, and what is left", "loans"),
     "who": Command("who R", "shows who holds some of a resource, and who asks for it", "who tape"),
+    "circle": Command("circle", "shows processes that wait for one another in a circle", "circle"),
     "why": Command("why P.a", "says why an arm waits, or why its request can be granted", "why b.0"),
     "save": Command("save FILE", "writes the text with all picks, those that were tried too, for replay", "save my.run"),
     "help": Command("help [COMMAND]", "lists the commands, or says more of one", "help until"),

@@ -203,6 +203,10 @@ class Prompt(Completion, cmd.Cmd):
             if it and it.kind == "take" and resource in self.teller.bundle(it).split():
                 self.say(f"  {arm} asks for {self.teller.bundle(it)}")
 
+    def do_circle(self, _: str) -> None:
+        """Carries out `circle`."""
+        self.say(list(shown.circle(self.session)) or "  no processes wait for one another in a circle")
+
     def do_why(self, words: str) -> None:
         """Carries out `why P.a`."""
         arm = self.arm(words)

@@ -130,6 +130,15 @@ class Session:
         states = [line.split(" ", 1)[1] for line in [first, *(self.read() for _ in arms[1:])]]
         return {arm: int(it[3:]) if it.startswith("at ") else it for arm, it in zip(arms, states)}
 
+    def circle(self) -> list[tuple[str, str, str]]:
+        """Returns arm, resource and holder of each link of a circular wait: the last holder is the first process."""
+        links = [self.ask("circle").split()]
+        if links == [["no", "circle"]]:
+            return []
+        while links[-1][-1] != links[0][0].split(".")[0]:
+            links.append(self.read().split())
+        return [(arm, resource, holder) for arm, _, resource, _, holder in links]
+
     def loans(self) -> tuple[list[tuple[str, str, int, int]], dict[str, int]]:
         """Returns process, resource, amount and claim of each loan, and the cash of each resource."""
         resources, count = self.code.resources, len(self.code.resources)

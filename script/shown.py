@@ -50,7 +50,7 @@ def is_waiting(session: Session, teller: Teller, arm: str, place: int) -> str | 
         return f"waits for {' and '.join(left)}" if left else None
     if it.kind == "take":
         answer = session.ask(f"why {arm}")
-        return None if answer.startswith("order") else f"asks for {teller.bundle(it)}, and waits: {reason(answer)}"
+        return None if answer.startswith(("order", "granted")) else f"asks for {teller.bundle(it)}, and waits: {reason(answer)}"
     return None
 
 
@@ -64,6 +64,8 @@ def reason(answer: str) -> str:
         return f"it is there, but if it were granted none of these could be sure to finish: {rest}"
     if word == "order":
         return f"it can be granted: all could finish, in the order {rest}"
+    if word == "granted":
+        return "it can be granted: all that it asks for is there"
     return "it is not asking for anything" if answer == "not asking" else answer
 
 
@@ -99,6 +101,12 @@ def threads(session: Session, process: str) -> Iterator[str]:
     for arm, place in session.places(process).items():
         line = code[place].line if isinstance(place, int) else 0
         yield f"  {arm}: {place if isinstance(place, str) else f'line {line}' if line else 'at its end'}"
+
+
+def circle(session: Session) -> Iterator[str]:
+    """Yields who waits for whom in a circle, if some do."""
+    for arm, resource, holder in session.circle():
+        yield f"  {arm} waits for {resource}, some of which {holder} holds"
 
 
 def loans(session: Session, only: str | None = None) -> Iterator[str]:

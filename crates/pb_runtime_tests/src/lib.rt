@@ -6,6 +6,8 @@
 #[cfg(test)]
 mod books;
 #[cfg(test)]
+mod circles;
+#[cfg(test)]
 mod codes;
 #[cfg(test)]
 mod examples;

@@ -64,8 +64,8 @@ const CASES: [Case; 10] = [
     Case {
         text: DEVICES,
         picks: &[A],
-        commands: b"to 1\nwhy b.0\nwhy a.0\nline b.0\nback 2\nloans",
-        said: b"at 1\nrest a b\norder a b\nline 3\nrefused G1\na holds 1 tape claim 1\na holds 0 disk claim 1\nb holds 0 tape claim 1\nb holds 0 disk claim 1\ncash 0 tape\ncash 1 disk\n",
+        commands: b"to 1\nwhy b.0\nwhy a.0\nline b.0\ncircle\ncircle a\nback 2\nloans",
+        said: b"at 1\nrest a b\norder a b\nline 3\nno circle\nrefused G4\nrefused G1\na holds 1 tape claim 1\na holds 0 disk claim 1\nb holds 0 tape claim 1\nb holds 0 disk claim 1\ncash 0 tape\ncash 1 disk\n",
     },
     Case {
         text: LOANS,
@@ -113,7 +113,7 @@ const CASES: [Case; 10] = [
         text: TWICE,
         picks: &[A, A, A, A, A],
         commands: b"until p.0 2\nuntil p.0 2\nback 2\nprev\nnext\nnext\nnext\nnext\nprev\nprev\nprev\nhelp\n",
-        said: b"at 2\nnot reached\nat 0\nno event\nat 2 p.0 print 1\nat 4 p.0 print 2\nat 5 p end\nno event\nat 4 p.0 print 2\nat 2 p.0 print 1\nno event\nto I\nstep N\nback N\nnext\nprev\nvars P\nwrote P X\nuntil P.a N\nthreads P\nloans\nwho R\nline P.a\ntext P.a\nwhy P.a\npick P.a\nhelp\n",
+        said: b"at 2\nnot reached\nat 0\nno event\nat 2 p.0 print 1\nat 4 p.0 print 2\nat 5 p end\nno event\nat 4 p.0 print 2\nat 2 p.0 print 1\nno event\nto I\nstep N\nback N\nnext\nprev\nvars P\nwrote P X\nuntil P.a N\nthreads P\nloans\nwho R\ncircle\nline P.a\ntext P.a\nwhy P.a\npick P.a\nhelp\n",
     },
     Case {
         text: PRINT,
