@@ -1,5 +1,6 @@
 //! Circular waits by the cash alone, and what becomes of requests under either lender.
 
+ghost use Rattle.std.specs.Prelude.{IfSome};
 ghost use Rattle.pb_machine.specs.Views.{IsMachine};
 
 use pb_banker::Lender;
@@ -111,11 +112,24 @@ fn steps(verified: &Verified, machine: &mut Machine, picks: &[Pick])
     }
 }
 
+/// Returns the machine after these picks by the cash alone.
+fn machine_after(alloc: Global, verified: &Verified, picks: &[Pick]) -> Option<Machine>
+    ensures { IfSome result (IsMachine verified.now) }
+{
+    match Machine::new_by(alloc, verified, Lending::ByCash) {
+        Ok(machine) => {
+            let mut machine = machine;
+            steps(verified, &mut machine, picks);
+            Some(machine)
+        }
+        Err(_) => None,
+    }
+}
+
 /// Returns whether these lines are said of the circular wait after these picks.
 fn says(alloc: Global, text: &[u8], picks: &[Pick], said: &[u8]) -> Option<bool> {
     let (verified, _labels) = compile(alloc, alloc, text).ok()?.into_parts();
-    let mut machine = Machine::new_by(alloc, &verified, Lending::ByCash).ok()?;
-    steps(&verified, &mut machine, picks);
+    let machine = machine_after(alloc, &verified, picks)?;
     let mut lines = Vec::new(alloc);
     put_circle(&mut lines, alloc, &verified, &machine).ok()?;
     Some(lines.as_slice() == said)
@@ -131,8 +145,7 @@ fn circles_are_told(rt: HostRuntime) {
 /// Returns whether the links of the two processes that want each other's device are found.
 fn finds_links(alloc: Global) -> Option<bool> {
     let (verified, _labels) = compile(alloc, alloc, DEVICES).ok()?.into_parts();
-    let mut machine = Machine::new_by(alloc, &verified, Lending::ByCash).ok()?;
-    steps(&verified, &mut machine, &[A, B]);
+    let machine = machine_after(alloc, &verified, &[A, B])?;
     let circle = find_circle(alloc, &verified, &machine).ok()??;
     let links = [
         Link {
