@@ -3,25 +3,33 @@ use Rattle.std.specs.Prelude.{◌≡◌, ℕ, ℤ, ◌+◌, ◌<◌, ◌≤◌, 
 use Rattle.pb_base.specs.declared.event.Event.{Event}
 use Rattle.pb_base.specs.declared.pick.Pick.{Pick}
 use Rattle.pb_base.specs.declared.step.Step.{Step}
-use Rattle.pb_code.specs.Code.{Thread, Idle, Live, Ended, CodeProcess, thread}
-use Rattle.pb_code.specs.Reached.{CodeMoves}
+use Rattle.pb_base.specs.declared.step.Step.TheVariants.{Silent, Did, NotEnabled}
+use Rattle.pb_base.specs.Steppers.{Effect, event_of, move_of}
+use Rattle.pb_code.specs.Code.{Thread, Idle, Live, Ended, CodeProcess, code_step, thread}
 use Rattle.pb_code.specs.Whole.{Code, ProcessLabels}
 use Rattle.pb_history.specs.Positions.{state_after}
-use Rattle.pb_machine.specs.Steps.{IsStep}
 use Rattle.pb_debug_positions.specs.declared.search.Watch.{Watch}
 use Rattle.pb_debug_positions.specs.declared.search.Watch.TheVariants as watch
 
--- what pick k comes to
-pub record StepsAt (code : Code) (picks : List Pick) (k : ℕ) (result : Step) : Type 0 where
+-- pick k leads to the next position, and shows this event, or nothing if there is none: who lends decides only
+-- whether it is enabled
+pub record LeadsOn (code : Code) (picks : List Pick) (k : ℕ) (shown : Option Event) : Type 0 where
   pub pick : Pick
   pub there : slice_get picks k ≡ Some pick
-  pub steps : IsStep code (state_after code picks k) pick result (state_after code picks (k + 1))
+  pub effect : Effect
+  pub steps : move_of (code_step code.processes) (state_after code picks k) pick
+      ≡ Some (record { next = state_after code picks (k + 1); effect = effect })
+  pub shows : event_of pick effect ≡ shown
+
+-- what pick k, which is enabled, comes to
+abbrev pub StepsAt : Code → List Pick → ℕ → Step → Type 0
+StepsAt code picks k Silent = LeadsOn code picks k None
+StepsAt code picks k (Did event) = LeadsOn code picks k (Some event)
+StepsAt code picks k NotEnabled = ⊥
 
 -- pick k shows this event
-pub record Shows (code : Code) (picks : List Pick) (k : ℕ) (event : Event) : Type 0 where
-  pub pick : Pick
-  pub there : slice_get picks k ≡ Some pick
-  pub moves : CodeMoves code (state_after code picks k) pick (Some event) (state_after code picks (k + 1))
+abbrev pub Shows : Code → List Pick → ℕ → Event → Type 0
+Shows code picks k event = LeadsOn code picks k (Some event)
 
 -- an integer of a process, if both are there
 abbrev pub value_in : Option CodeProcess → ℕ → Option ℤ

@@ -1,15 +1,16 @@
 //! A replay that keeps copies of its machine on the way.
 
 ghost use Rattle.std.specs.Prelude.{◌≡◌, ◌+◌, ◌*◌, ◌<◌, ◌≤◌, ◌++◌, [], List, length, replicate, IfErr, IfOk, OnErr, OnOk};
+ghost use Rattle.pb_base.specs.declared.lending.Lending.{Lending as LendingValue};
 ghost use Rattle.pb_base.specs.declared.pick.Pick.{Pick as AnyPick};
 ghost use Rattle.pb_debug_positions.specs.Intervals.{interval_of};
-ghost use Rattle.pb_debug_positions.specs.Walks.{AreCheckpoints, IsCheckpoint, Replays};
+ghost use Rattle.pb_debug_positions.specs.Walks.{AreCheckpoints, IsCheckpoint, Replays, ReplaysBy};
 ghost use Rattle.pb_history.specs.Entries.{picks_of};
-ghost use Rattle.pb_history.specs.Replays.{IsStopped, spread};
+ghost use Rattle.pb_history.specs.Replays.{IsStoppedBy, spread};
 ghost use Rattle.pb_verifier.specs.Verified.{VerifiedCode};
 
 use pb_base::limits::MAX_PICKS;
-use pb_base::{NoMemory, Pick};
+use pb_base::{Lending, NoMemory, Pick};
 use pb_history::replay::repeat;
 use pb_history::{CountedPick, ReplayFault, Trace};
 use pb_machine::Machine;
@@ -44,9 +45,9 @@ pub fn keep(
     requires few { at ≤ MAX_PICKS }
     requires before { at ≤ length checkpoints.old.items * interval }
     requires after { length checkpoints.old.items * interval ≤ at + interval }
-    ensures checkpoints { OnOk result ((v : VerifiedCode) (picks : List AnyPick)
-        → AreCheckpoints v picks interval checkpoints.old.items → IsCheckpoint v picks at machine.now
-        → AreCheckpoints v picks interval checkpoints.new.items) }
+    ensures checkpoints { OnOk result ((lending : LendingValue) (v : VerifiedCode) (picks : List AnyPick)
+        → AreCheckpoints lending v picks interval checkpoints.old.items → IsCheckpoint lending v picks at machine.now
+        → AreCheckpoints lending v picks interval checkpoints.new.items) }
     ensures enough { OnOk result (at < length checkpoints.new.items * interval) }
     ensures fewest { OnOk result (length checkpoints.new.items * interval ≤ at + interval) }
     ensures unchanged { OnErr result (checkpoints.new.items ≡ checkpoints.old.items) }
@@ -71,15 +72,20 @@ pub struct Replaying {
 }
 
 impl Replaying {
-    /// Returns a replay of no picks, with the checkpoint before the first.
-    pub fn new(alloc: Global, verified: &Verified, interval: u32) -> Result<Replaying, NoMemory>
+    /// Returns a replay of no picks under a lending, with the checkpoint before the first.
+    pub fn new(
+        alloc: Global,
+        verified: &Verified,
+        lending: Lending,
+        interval: u32,
+    ) -> Result<Replaying, NoMemory>
         requires some { 0 < interval }
         requires small { interval ≤ MAX_PICKS }
-        ensures replays { IfOk result (Replays verified.now) }
+        ensures replays { IfOk result (ReplaysBy lending verified.now) }
         ensures none { IfOk result (λ r. r.trace.entries ≡ []) }
         ensures interval { IfOk result (λ r. r.interval ≡ interval) }
     {
-        let machine = Machine::new(alloc, verified)?;
+        let machine = Machine::new_by(alloc, verified, lending)?;
         let mut checkpoints = Vec::new(alloc);
         keep(alloc, &mut checkpoints, interval, &machine, 0)?;
         Ok(Replaying {
@@ -118,12 +124,14 @@ impl Replaying {
         requires fits { length self.old.trace.entries + counted.count ≤ MAX_PICKS }
         requires some { 0 < self.old.interval }
         requires small { self.old.interval ≤ MAX_PICKS }
-        ensures replays { OnOk result (Replays verified.now self.new) }
+        ensures replays { OnOk result ((lending : LendingValue) → ReplaysBy lending verified.now self.old
+            → ReplaysBy lending verified.now self.new) }
         ensures picks { OnOk result (picks_of self.new.trace.entries
             ≡ picks_of self.old.trace.entries ++ replicate counted.count counted.pick) }
         ensures interval { OnOk result (self.new.interval ≡ self.old.interval) }
-        ensures stopped { IfErr result (IsStopped verified.now.code
-            (picks_of self.old.trace.entries ++ replicate counted.count counted.pick)) }
+        ensures stopped { IfErr result (λ fault. (lending : LendingValue) → ReplaysBy lending verified.now self.old
+            → IsStoppedBy lending verified.now.code
+            (picks_of self.old.trace.entries ++ replicate counted.count counted.pick) fault) }
     {
         let pick = counted.pick;
         let mut left = counted.count;
@@ -159,10 +167,12 @@ impl Replaying {
         requires few { length picks.now ≤ MAX_PICKS }
         requires some { 0 < self.old.interval }
         requires small { self.old.interval ≤ MAX_PICKS }
-        ensures replays { OnOk result (Replays verified.now self.new) }
+        ensures replays { OnOk result ((lending : LendingValue) → ReplaysBy lending verified.now self.old
+            → ReplaysBy lending verified.now self.new) }
         ensures picks { OnOk result (picks_of self.new.trace.entries ≡ picks.now) }
         ensures interval { OnOk result (self.new.interval ≡ self.old.interval) }
-        ensures stopped { IfErr result (IsStopped verified.now.code picks.now) }
+        ensures stopped { IfErr result (λ fault. (lending : LendingValue) → ReplaysBy lending verified.now self.old
+            → IsStoppedBy lending verified.now.code picks.now fault) }
     {
         for i in 0..picks.len() {
             let counted = CountedPick {
@@ -186,10 +196,12 @@ impl Replaying {
         requires few { length (spread picks.now) ≤ MAX_PICKS }
         requires some { 0 < self.old.interval }
         requires small { self.old.interval ≤ MAX_PICKS }
-        ensures replays { OnOk result (Replays verified.now self.new) }
+        ensures replays { OnOk result ((lending : LendingValue) → ReplaysBy lending verified.now self.old
+            → ReplaysBy lending verified.now self.new) }
         ensures picks { OnOk result (picks_of self.new.trace.entries ≡ spread picks.now) }
         ensures interval { OnOk result (self.new.interval ≡ self.old.interval) }
-        ensures stopped { IfErr result (IsStopped verified.now.code (spread picks.now)) }
+        ensures stopped { IfErr result (λ fault. (lending : LendingValue) → ReplaysBy lending verified.now self.old
+            → IsStoppedBy lending verified.now.code (spread picks.now) fault) }
     {
         for i in 0..picks.len() {
             self.make(alloc, verified, picks[i])?;
@@ -198,20 +210,21 @@ impl Replaying {
     }
 }
 
-/// Makes these picks in turn, as `replay` does, and keeps checkpoints on the way.
+/// Makes these picks in turn under a lending, as `replay_by` does, and keeps checkpoints on the way.
 pub fn replay_picks(
     alloc: Global,
     verified: &Verified,
+    lending: Lending,
     picks: &[Pick],
 ) -> Result<Replaying, ReplayFault>
     requires { length picks.now ≤ MAX_PICKS }
-    ensures replays { IfOk result (Replays verified.now) }
+    ensures replays { IfOk result (ReplaysBy lending verified.now) }
     ensures picks { IfOk result (λ r. picks_of r.trace.entries ≡ picks.now) }
     ensures interval { IfOk result (λ r. r.interval ≡ interval_of (length picks.now)) }
-    ensures stopped { IfErr result (IsStopped verified.now.code picks.now) }
+    ensures stopped { IfErr result (IsStoppedBy lending verified.now.code picks.now) }
 {
     let interval = interval_for(picks.len() as u32);
-    let mut replaying = Replaying::new(alloc, verified, interval)?;
+    let mut replaying = Replaying::new(alloc, verified, lending, interval)?;
     replaying.make_each(alloc, verified, picks)?;
     Ok(replaying)
 }
@@ -229,21 +242,22 @@ fn count_all(picks: &[CountedPick]) -> u32
     count
 }
 
-/// Makes each of these picks as often as its count says, as `replay_counted` does, and keeps checkpoints on
-/// the way.
+/// Makes each of these picks as often as its count says under a lending, as `replay_counted_by` does, and keeps
+/// checkpoints on the way.
 pub fn replay_counted_picks(
     alloc: Global,
     verified: &Verified,
+    lending: Lending,
     picks: &[CountedPick],
 ) -> Result<Replaying, ReplayFault>
     requires { length (spread picks.now) ≤ MAX_PICKS }
-    ensures replays { IfOk result (Replays verified.now) }
+    ensures replays { IfOk result (ReplaysBy lending verified.now) }
     ensures picks { IfOk result (λ r. picks_of r.trace.entries ≡ spread picks.now) }
     ensures interval { IfOk result (λ r. r.interval ≡ interval_of (length (spread picks.now))) }
-    ensures stopped { IfErr result (IsStopped verified.now.code (spread picks.now)) }
+    ensures stopped { IfErr result (IsStoppedBy lending verified.now.code (spread picks.now)) }
 {
     let interval = interval_for(count_all(picks));
-    let mut replaying = Replaying::new(alloc, verified, interval)?;
+    let mut replaying = Replaying::new(alloc, verified, lending, interval)?;
     replaying.make_all(alloc, verified, picks)?;
     Ok(replaying)
 }

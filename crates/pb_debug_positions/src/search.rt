@@ -5,7 +5,6 @@ ghost use Rattle.pb_code.specs.View.{labels_view};
 ghost use Rattle.pb_debug_positions.specs.Searches.{Does, IsFirst, IsLast, line_in, value_at, value_in};
 ghost use Rattle.pb_debug_positions.specs.Walks.{Walks};
 ghost use Rattle.pb_history.specs.Entries.{picks_of};
-ghost use Rattle.pb_history.specs.Positions.{AreEnabled};
 ghost use Rattle.pb_machine.specs.Views.{machine_view};
 
 use crate::walker::Walker;
@@ -86,7 +85,6 @@ fn differ(a: Option<i64>, b: Option<i64>) -> bool
 
 // Makes the next pick of a trace. Returns whether it changes an integer of a process.
 fn changes(walker: &mut Walker, verified: &Verified, trace: &Trace, p: usize, x: usize) -> bool
-    requires enabled { AreEnabled verified.now.code (picks_of trace.now.entries) }
     requires few { length (picks_of trace.now.entries) ≤ MAX_PICKS }
     requires walks { Walks verified.now (picks_of trace.now.entries) walker.old }
     requires within { walker.old.at < length (picks_of trace.now.entries) }
@@ -129,7 +127,6 @@ fn comes_to(
     arm: usize,
     line: u32,
 ) -> bool
-    requires enabled { AreEnabled verified.now.code (picks_of trace.now.entries) }
     requires few { length (picks_of trace.now.entries) ≤ MAX_PICKS }
     requires walks { Walks verified.now (picks_of trace.now.entries) walker.old }
     requires within { walker.old.at < length (picks_of trace.now.entries) }
@@ -152,7 +149,6 @@ fn does(
     trace: &Trace,
     watch: Watch,
 ) -> bool
-    requires enabled { AreEnabled verified.now.code (picks_of trace.now.entries) }
     requires few { length (picks_of trace.now.entries) ≤ MAX_PICKS }
     requires walks { Walks verified.now (picks_of trace.now.entries) walker.old }
     requires within { walker.old.at < length (picks_of trace.now.entries) }
@@ -181,7 +177,6 @@ pub fn first_in(
     trace: &Trace,
     watch: Watch,
 ) -> Option<u32>
-    requires enabled { AreEnabled verified.now.code (picks_of trace.now.entries) }
     requires few { length (picks_of trace.now.entries) ≤ MAX_PICKS }
     requires walks { Walks verified.now (picks_of trace.now.entries) walker.old }
     ensures { IsFirst (Does verified.now.code (labels_view labels.now) (picks_of trace.now.entries) watch) walker.old.at
@@ -205,7 +200,6 @@ pub fn last_in(
     past: u32,
     watch: Watch,
 ) -> Option<u32>
-    requires enabled { AreEnabled verified.now.code (picks_of trace.now.entries) }
     requires few { length (picks_of trace.now.entries) ≤ MAX_PICKS }
     requires walks { Walks verified.now (picks_of trace.now.entries) walker.old }
     requires before { walker.old.at ≤ past }

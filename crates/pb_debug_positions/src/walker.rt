@@ -1,12 +1,13 @@
 //! A machine that walks along a trace.
 
-ghost use Rattle.std.specs.Prelude.{◌≡◌, ◌+◌, ◌<◌, ◌≤◌, ℕ, List, length, IfOk};
+ghost use Rattle.std.specs.Prelude.{◌≡◌, ◌+◌, ◌<◌, ◌≤◌, ℕ, List, length};
+ghost use Rattle.pb_base.specs.declared.lending.Lending.{Lending as LendingValue};
 ghost use Rattle.pb_base.specs.declared.pick.Pick.{Pick as AnyPick};
 ghost use Rattle.pb_debug_positions.specs.Searches.{StepsAt};
-ghost use Rattle.pb_history.specs.Positions.{IsAfter, AreEnabled};
-ghost use Rattle.pb_debug_positions.specs.Walks.{Repeat, Walks};
+ghost use Rattle.pb_history.specs.Positions.{AreEnabledBy, IsAfterBy};
+ghost use Rattle.pb_debug_positions.specs.Walks.{Repeat, Walks, WalksBy};
 ghost use Rattle.pb_history.specs.Entries.{picks_of};
-ghost use Rattle.pb_machine.specs.Views.{IsMachineOf};
+ghost use Rattle.pb_machine.specs.Views.{IsMachine};
 
 use pb_base::limits::MAX_PICKS;
 use pb_base::{Pick, Step};
@@ -24,11 +25,11 @@ pub struct Walker {
 impl Walker {
     /// Makes the next pick, and returns what it came to. All picks of the trace are enabled.
     pub fn advance(&mut self, verified: &Verified, trace: &Trace) -> Step
-        requires enabled { AreEnabled verified.now.code (picks_of trace.now.entries) }
         requires walks { Walks verified.now (picks_of trace.now.entries) self.old }
         requires within { self.old.at < length (picks_of trace.now.entries) }
         requires few { length (picks_of trace.now.entries) ≤ MAX_PICKS }
-        ensures walks { Walks verified.now (picks_of trace.now.entries) self.new }
+        ensures walks { (lending : LendingValue) → WalksBy lending verified.now (picks_of trace.now.entries) self.old
+            → WalksBy lending verified.now (picks_of trace.now.entries) self.new }
         ensures at { self.new.at ≡ self.old.at + 1 }
         ensures steps { StepsAt verified.now.code (picks_of trace.now.entries) self.old.at result }
     {
@@ -40,11 +41,11 @@ impl Walker {
 
     /// Makes the picks up to a later position. All picks of the trace are enabled.
     pub fn walk_to(&mut self, verified: &Verified, trace: &Trace, to: u32)
-        requires enabled { AreEnabled verified.now.code (picks_of trace.now.entries) }
         requires walks { Walks verified.now (picks_of trace.now.entries) self.old }
         requires later { self.old.at ≤ to }
         requires within { to ≤ length (picks_of trace.now.entries) }
-        ensures walks { Walks verified.now (picks_of trace.now.entries) self.new }
+        ensures walks { (lending : LendingValue) → WalksBy lending verified.now (picks_of trace.now.entries) self.old
+            → WalksBy lending verified.now (picks_of trace.now.entries) self.new }
         ensures at { self.new.at ≡ to }
     {
         while self.at < to {
@@ -59,12 +60,14 @@ impl Walker {
 /// Makes a pick as long as it is silent, and once more, at most `most` times. Returns how often it was made.
 /// The pick is that of the next `most` places of an enabled list.
 fn repeat(verified: &Verified, machine: &mut Machine, pick: Pick, most: u32) -> u32
-    requires machine { IsMachineOf verified.now machine.old }
+    requires machine { IsMachine verified.now machine.old }
     requires some { 0 < most }
     ensures some { 0 < result }
     ensures within { result ≤ most }
-    ensures stands { (picks : List AnyPick) (i : ℕ) → AreEnabled verified.now.code picks → Repeat picks i pick most
-        → IsAfter verified.now picks i machine.old → IsAfter verified.now picks (i + result) machine.new }
+    ensures stands { (lending : LendingValue) (picks : List AnyPick) (i : ℕ)
+        → AreEnabledBy lending verified.now.code picks → Repeat picks i pick most
+        → IsAfterBy lending verified.now picks i machine.old
+        → IsAfterBy lending verified.now picks (i + result) machine.new }
 {
     let silent = machine.run_silent(verified, pick, most);
     if silent == most {

@@ -2,7 +2,7 @@ use Rattle.std.proofs.Common.{◌+◌, ◌∙◌, subst}
 use Rattle.pb_code.specs.View.{labels_view}
 use Rattle.pb_history.specs.Entries.{picks_of}
 use Rattle.pb_debug_positions.specs.Searches.{arm_line_at}
-use Rattle.pb_history.specs.Positions.{IsAfter}
+use Rattle.pb_history.specs.Positions.{IsAfterBy}
 use Rattle.pb_debug_positions.proofs.Searches.{begins_here, line_here}
 use Rattle.pb_debug_positions.proofs.search.comes_to.Goals as goal
 
@@ -15,9 +15,15 @@ returns-clause-comes c =
     let p = c.args.p in
     let a = c.args.arm in
     let next = c.advance.new.self in
-    let there : IsAfter v picks (at + 1) next.machine = subst (λ n. IsAfter v picks n next.machine) c.advance.ensures.at c.advance.ensures.walks in
+    let lending = c.requires.walks.0 in
+    let here = c.requires.walks.1 in
+    let there : IsAfterBy lending v picks (at + 1) next.machine =
+    subst (λ n. IsAfterBy lending v picks n next.machine) c.advance.ensures.at (c.advance.ensures.walks lending here).stands in
     begins_here c.begins.result c.is_line.result c.is_line-2.result c.line_of_arm-before.result c.line_of_arm-after.result
     (arm_line_at v.code labels picks at p a) (arm_line_at v.code labels picks (at + 1) p a) c.args.line
-    (c.line_of_arm-before.ensures ∙ line_here v labels picks at p a c.args.walker.now.machine c.requires.walks)
+    (c.line_of_arm-before.ensures ∙ line_here v labels picks at p a c.args.walker.now.machine here.stands)
     (c.line_of_arm-after.ensures ∙ line_here v labels picks (at + 1) p a next.machine there)
     c.is_line.ensures c.is_line-2.ensures c.begins.ensures
+
+pub returns-clause-walks : goal.returns-clause-walks
+returns-clause-walks c = (c.requires.walks.0, c.advance.ensures.walks c.requires.walks.0 c.requires.walks.1)

@@ -1,9 +1,10 @@
 use Rattle.std.proofs.Common.{rules, ◌-◌, ◌++◌, List, replicate, ◌∙◌, subst, arith}
-use Rattle.pb_base.specs.declared.lending.Lending.TheVariants.{ByBanker}
+use Rattle.pb_base.specs.declared.lending.Lending.{Lending}
 use Rattle.pb_base.specs.declared.pick.Pick.{Pick}
 use Rattle.pb_history.specs.Entries.{picks_of}
-use Rattle.pb_history.specs.Replays.{IsStopped}
+use Rattle.pb_history.specs.Replays.{IsStoppedBy}
 use Rattle.pb_history.proofs.CountedPicks.{length_on, stopped_more}
+use Rattle.pb_debug_positions.specs.Walks.{ReplaysBy}
 use Rattle.pb_debug_positions.proofs.Walks.{all_made, checkpoint_here, checkpoints_before, more_made}
 use Rattle.pb_debug_positions.proofs.checkpoints.Replaying.make.Goals as goal
 
@@ -19,10 +20,12 @@ returns-in_err-repeat-clause-stopped c =
     let here = c.loop-left.self.trace.entries in
     let least = c.up_to_next-count.ensures.most in
     let whole = all_made old here pick count left n inv.picks (omega (arith, least)) inv.left in
-    let stopped : IsStopped code (picks_of old ++ replicate count pick) c.in_err-repeat.field-0.0 =
-    subst (λ (ps : List Pick). IsStopped code ps c.in_err-repeat.field-0.0) whole
-    (stopped_more ByBanker code (picks_of here ++ replicate n pick) (replicate (left - n) pick) c.in_err-repeat.field-0.0
-    (c.in_err-repeat.ensures.stopped ByBanker (record { machine = inv.replays.machine; leads = inv.replays.leads }))) in
+    let stopped : (lending : Lending) → ReplaysBy lending c.args.verified.now c.args.self.now
+    → IsStoppedBy lending code (picks_of old ++ replicate count pick) c.in_err-repeat.field-0.0 = λ lending of.
+    let led = inv.replays lending of in
+    subst (λ (ps : List Pick). IsStoppedBy lending code ps c.in_err-repeat.field-0.0) whole
+    (stopped_more lending code (picks_of here ++ replicate n pick) (replicate (left - n) pick) c.in_err-repeat.field-0.0
+    (c.in_err-repeat.ensures.stopped lending (record { machine = led.machine; leads = led.leads }))) in
     search rules
 
 pub up_to_next-count-requires-clause-few : goal.up_to_next-count-requires-clause-few
@@ -62,7 +65,7 @@ keep-requires-clause-after c =
     let here = c.loop-left.self.trace.entries in
     let now = length_on here c.repeat.new.trace.entries c.args.counted.pick c.up_to_next-count.result c.in_ok-repeat.ensures.picks in
     let len = c.len.ensures in
-    let after = c.loop-left.invariant.replays.after in
+    let after = (c.loop-left.invariant.replays c.requires.replays.0 c.requires.replays.1).after in
     omega (arith, len, now, after)
 
 pub loop-left-preserved : goal.loop-left-preserved
@@ -82,25 +85,32 @@ loop-left-preserved c =
     let len = c.len.ensures in
     let enough = c.in_ok-keep.ensures.enough in
     let fewest = c.in_ok-keep.ensures.fewest in
-    let before = checkpoints_before v (picks_of r.trace.entries) (replicate n pick) (picks_of entries)
-    r.interval r.checkpoints.items made inv.replays.checkpoints in
-    let led = c.in_ok-repeat.ensures.led ByBanker (record { machine = inv.replays.machine; leads = inv.replays.leads }) in
-    let here = checkpoint_here v entries c.len.result c.repeat.new.machine led.machine led.leads
-    c.len.ensures in
     record {
       left = omega (arith, fewer);
-      replays = record {
-        machine = led.machine;
-        leads = led.leads;
-        checkpoints = c.in_ok-keep.ensures.checkpoints v (picks_of entries) before here;
-        before = omega (arith, len, enough);
-        after = omega (arith, len, fewest);
-      };
+      replays = λ lending of.
+          let here = inv.replays lending of in
+          let led = c.in_ok-repeat.ensures.led lending (record { machine = here.machine; leads = here.leads }) in
+          let before = checkpoints_before v (picks_of r.trace.entries) (replicate n pick) (picks_of entries)
+          r.interval r.checkpoints.items made here.checkpoints in
+          let now = checkpoint_here v entries c.len.result c.repeat.new.machine led.machine led.leads c.len.ensures in
+          record {
+            machine = led.machine;
+            leads = led.leads;
+            checkpoints = c.in_ok-keep.ensures.checkpoints lending v (picks_of entries) before now;
+            before = omega (arith, len, enough);
+            after = omega (arith, len, fewest);
+          };
       picks = made ∙ more_made old r.trace.entries pick count left n inv.picks (omega (arith, least)) fewer;
       interval = inv.interval;
     }
 
 pub repeat-requires-clause-led : goal.repeat-requires-clause-led
 repeat-requires-clause-led c =
-    let inv = c.loop-left.invariant in
-    (ByBanker, record { machine = inv.replays.machine; leads = inv.replays.leads })
+    let here = c.loop-left.invariant.replays c.requires.replays.0 c.requires.replays.1 in
+    (c.requires.replays.0, record { machine = here.machine; leads = here.leads })
+
+pub up_to_next-count-requires-clause-before : goal.up_to_next-count-requires-clause-before
+up_to_next-count-requires-clause-before c = (c.loop-left.invariant.replays c.requires.replays.0 c.requires.replays.1).before
+
+pub up_to_next-count-requires-clause-after : goal.up_to_next-count-requires-clause-after
+up_to_next-count-requires-clause-after c = (c.loop-left.invariant.replays c.requires.replays.0 c.requires.replays.1).after

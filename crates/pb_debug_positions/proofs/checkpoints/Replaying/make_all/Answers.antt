@@ -1,14 +1,15 @@
 use Rattle.std.proofs.Common.{rules, ◌≡◌, ◌+◌, ◌++◌, List, length, get_or, take, drop, replicate, sym, ap, ◌∙◌, subst}
 use Rattle.std.proofs.Common.{arith}
 use Rattle.std.proofs.lemmas.List.{length-map}
-use Rattle.pb_base.specs.declared.lending.Lending.TheVariants.{ByBanker}
+use Rattle.pb_base.specs.declared.lending.Lending.{Lending}
 use Rattle.pb_base.specs.declared.pick.Pick.{Pick}
 use Rattle.pb_history.specs.Entries.{Entry, picks_of}
-use Rattle.pb_history.specs.Replays.{IsStopped, spread}
+use Rattle.pb_history.specs.Replays.{IsStoppedBy, spread}
 use Rattle.pb_history.specs.declared.counted.CountedPick.{CountedPick}
 use Rattle.pb_history.proofs.CountedPicks.{spread_take, spread_whole, stopped_more}
 use Rattle.pb_history.proofs.SpanEnds.{item_there}
 use Rattle.pb_debug_positions.proofs.Walks.{count_more, count_within}
+use Rattle.pb_debug_positions.specs.Walks.{ReplaysBy}
 use Rattle.pb_debug_positions.proofs.checkpoints.Replaying.make_all.Goals as goal
 
 pub make-requires-clause-fits : goal.make-requires-clause-fits
@@ -48,10 +49,11 @@ returns-in_err-make-clause-stopped c =
     let there = item_there picks i (record { pick = record { process = 0; arm = 0 }; count = 0 }) (omega (arith, test)) in
     let before : picks_of c.loop-i.self.trace.entries ++ replicate x.count x.pick ≡ spread (take (i + 1) picks) =
     ap (λ (ps : List Pick). ps ++ replicate x.count x.pick) c.loop-i.invariant.picks ∙ sym (spread_take picks i x there) in
-    let stopped : IsStopped code (spread picks) c.in_err-make.field-0.0 =
-    subst (λ (ps : List Pick). IsStopped code ps c.in_err-make.field-0.0) (sym (spread_whole picks (i + 1)))
-    (stopped_more ByBanker code (spread (take (i + 1) picks)) (spread (drop (i + 1) picks)) c.in_err-make.field-0.0
-    (subst (λ (ps : List Pick). IsStopped code ps c.in_err-make.field-0.0) before c.in_err-make.ensures.stopped)) in
+    let stopped : (lending : Lending) → ReplaysBy lending c.args.verified.now c.args.self.now
+    → IsStoppedBy lending code (spread picks) c.in_err-make.field-0.0 = λ lending of.
+    subst (λ (ps : List Pick). IsStoppedBy lending code ps c.in_err-make.field-0.0) (sym (spread_whole picks (i + 1)))
+    (stopped_more lending code (spread (take (i + 1) picks)) (spread (drop (i + 1) picks)) c.in_err-make.field-0.0
+    (subst (λ (ps : List Pick). IsStoppedBy lending code ps c.in_err-make.field-0.0) before (c.in_err-make.ensures.stopped lending (c.loop-i.invariant.replays lending of)))) in
     search rules
 
 pub loop-i-preserved : goal.loop-i-preserved
@@ -62,8 +64,11 @@ loop-i-preserved c =
     let x : CountedPick = get_or picks i (record { pick = record { process = 0; arm = 0 }; count = 0 }) in
     let there = item_there picks i (record { pick = record { process = 0; arm = 0 }; count = 0 }) (omega (arith, test)) in
     record {
-      replays = c.in_ok-make.ensures.replays;
+      replays = λ lending of. c.in_ok-make.ensures.replays lending (c.loop-i.invariant.replays lending of);
       picks = c.in_ok-make.ensures.picks
           ∙ (ap (λ (ps : List Pick). ps ++ replicate x.count x.pick) c.loop-i.invariant.picks ∙ sym (spread_take picks i x there));
       interval = c.in_ok-make.ensures.interval ∙ c.loop-i.invariant.interval;
     }
+
+pub make-requires-clause-replays : goal.make-requires-clause-replays
+make-requires-clause-replays c = (c.requires.replays.0, c.loop-i.invariant.replays c.requires.replays.0 c.requires.replays.1)

@@ -1,14 +1,15 @@
 use Rattle.std.proofs.Common.{rules, ◌≡◌, ◌+◌, ◌++◌, List, length, get_or, take, drop, replicate, sym, ap, ◌∙◌, subst}
 use Rattle.std.proofs.Common.{arith}
 use Rattle.std.proofs.lemmas.List.{length-map, length-take-le}
-use Rattle.pb_base.specs.declared.lending.Lending.TheVariants.{ByBanker}
+use Rattle.pb_base.specs.declared.lending.Lending.{Lending}
 use Rattle.pb_base.specs.declared.pick.Pick.{Pick}
 use Rattle.pb_base.proofs.Lists.{take_next}
 use Rattle.pb_history.specs.Entries.{Entry, picks_of}
-use Rattle.pb_history.specs.Replays.{IsStopped}
+use Rattle.pb_history.specs.Replays.{IsStoppedBy}
 use Rattle.pb_history.proofs.SpanEvents.{take_drop}
 use Rattle.pb_history.proofs.CountedPicks.{stopped_more}
 use Rattle.pb_history.proofs.SpanEnds.{item_there}
+use Rattle.pb_debug_positions.specs.Walks.{ReplaysBy}
 use Rattle.pb_debug_positions.proofs.checkpoints.Replaying.make_each.Goals as goal
 
 pub make-requires-clause-fits : goal.make-requires-clause-fits
@@ -45,10 +46,11 @@ returns-in_err-make-clause-stopped c =
     let there = item_there picks i (record { process = 0; arm = 0 }) (omega (arith, test)) in
     let before : picks_of c.loop-i.self.trace.entries ++ replicate 1 pick ≡ take (i + 1) picks =
     ap (λ (ps : List Pick). ps ++ replicate 1 pick) c.loop-i.invariant.picks ∙ sym (take_next picks i pick there) in
-    let stopped : IsStopped code picks c.in_err-make.field-0.0 =
-    subst (λ (ps : List Pick). IsStopped code ps c.in_err-make.field-0.0) (take_drop (i + 1) picks)
-    (stopped_more ByBanker code (take (i + 1) picks) (drop (i + 1) picks) c.in_err-make.field-0.0
-    (subst (λ (ps : List Pick). IsStopped code ps c.in_err-make.field-0.0) before c.in_err-make.ensures.stopped)) in
+    let stopped : (lending : Lending) → ReplaysBy lending c.args.verified.now c.args.self.now
+    → IsStoppedBy lending code picks c.in_err-make.field-0.0 = λ lending of.
+    subst (λ (ps : List Pick). IsStoppedBy lending code ps c.in_err-make.field-0.0) (take_drop (i + 1) picks)
+    (stopped_more lending code (take (i + 1) picks) (drop (i + 1) picks) c.in_err-make.field-0.0
+    (subst (λ (ps : List Pick). IsStoppedBy lending code ps c.in_err-make.field-0.0) before (c.in_err-make.ensures.stopped lending (c.loop-i.invariant.replays lending of)))) in
     search rules
 
 pub loop-i-preserved : goal.loop-i-preserved
@@ -59,8 +61,11 @@ loop-i-preserved c =
     let pick : Pick = get_or picks i (record { process = 0; arm = 0 }) in
     let there = item_there picks i (record { process = 0; arm = 0 }) (omega (arith, test)) in
     record {
-      replays = c.in_ok-make.ensures.replays;
+      replays = λ lending of. c.in_ok-make.ensures.replays lending (c.loop-i.invariant.replays lending of);
       picks = c.in_ok-make.ensures.picks
           ∙ (ap (λ (ps : List Pick). ps ++ replicate 1 pick) c.loop-i.invariant.picks ∙ sym (take_next picks i pick there));
       interval = c.in_ok-make.ensures.interval ∙ c.loop-i.invariant.interval;
     }
+
+pub make-requires-clause-replays : goal.make-requires-clause-replays
+make-requires-clause-replays c = (c.requires.replays.0, c.loop-i.invariant.replays c.requires.replays.0 c.requires.replays.1)

@@ -1,11 +1,6 @@
-use Rattle.std.proofs.Common.{subst, arith}
-use Rattle.pb_base.specs.declared.lending.Lending.TheVariants.{ByBanker}
-use Rattle.pb_base.specs.Steppers.{State}
-use Rattle.pb_code.specs.Code.{CodeProcess}
+use Rattle.std.proofs.Common.{arith}
 use Rattle.pb_history.specs.Entries.{picks_of}
-use Rattle.pb_history.specs.Positions.{state_after}
-use Rattle.pb_machine.specs.Steps.{IsStep}
-use Rattle.pb_machine.specs.Views.{machine_view}
+use Rattle.pb_debug_positions.proofs.Walks.{steps_at}
 use Rattle.pb_debug_positions.proofs.walker.Walker.advance.Goals as goal
 use Rattle.pb_history.proofs.Positions.{stands_next}
 
@@ -16,9 +11,12 @@ overflow_add-self c =
     omega (arith, within, few)
 
 pub returns-clause-walks : goal.returns-clause-walks
-returns-clause-walks c =
-    stands_next c.args.verified.now (picks_of c.args.trace.now.entries) c.args.self.now.at c.pick-pick.result c.args.self.now.machine
-    c.step-step.new.self c.step-step.result c.requires.enabled c.pick-pick.ensures c.requires.walks (c.step-step.ensures.step ByBanker c.requires.walks.machine) (c.step-step.ensures.machine ByBanker c.requires.walks.machine)
+returns-clause-walks c lending of = record {
+  enabled = of.enabled;
+  stands = stands_next c.args.verified.now (picks_of c.args.trace.now.entries) c.args.self.now.at c.pick-pick.result c.args.self.now.machine
+      c.step-step.new.self c.step-step.result of.enabled c.pick-pick.ensures of.stands (c.step-step.ensures.step lending of.stands.machine)
+      (c.step-step.ensures.machine lending of.stands.machine);
+}
 
 pub returns-clause-steps : goal.returns-clause-steps
 returns-clause-steps c =
@@ -26,13 +24,14 @@ returns-clause-steps c =
     let picks = picks_of c.args.trace.now.entries in
     let at = c.args.self.now.at in
     let pick = c.pick-pick.result in
+    let m = c.args.self.now.machine in
     let result = c.step-step.result in
-    let after = machine_view c.step-step.new.self in
-    let next = stands_next v picks at pick c.args.self.now.machine c.step-step.new.self result c.requires.enabled c.pick-pick.ensures
-    c.requires.walks (c.step-step.ensures.step ByBanker c.requires.walks.machine) (c.step-step.ensures.machine ByBanker c.requires.walks.machine) in
-    record {
-      pick = pick;
-      there = c.pick-pick.ensures;
-      steps = subst (λ (s : State CodeProcess). IsStep v.code (state_after v.code picks at) pick result s) next.state
-          (subst (λ (s : State CodeProcess). IsStep v.code s pick result after) c.requires.walks.state (c.step-step.ensures.step ByBanker c.requires.walks.machine));
-    }
+    let lending = c.requires.walks.0 in
+    let of = c.requires.walks.1 in
+    let step = c.step-step.ensures.step lending of.stands.machine in
+    let next = stands_next v picks at pick m c.step-step.new.self result of.enabled c.pick-pick.ensures of.stands step
+    (c.step-step.ensures.machine lending of.stands.machine) in
+    steps_at v picks at pick result m c.step-step.new.self of.enabled c.pick-pick.ensures of.stands next.state step
+
+pub step-step-requires : goal.step-step-requires
+step-step-requires c = (c.requires.walks.0, c.requires.walks.1.stands.machine)

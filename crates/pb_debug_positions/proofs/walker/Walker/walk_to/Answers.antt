@@ -15,7 +15,6 @@ pub loop-self-preserved : goal.loop-self-preserved
 loop-self-preserved c =
     let picks = picks_of c.args.trace.now.entries in
     let w = c.loop-self.self in
-    let h = c.loop-self.invariant.walks in
     let rest = c.rest_of_span-rest.result in
     let most = c.min-most.result in
     let made = c.repeat-made.result in
@@ -23,6 +22,12 @@ loop-self-preserved c =
     let le = c.repeat-made.ensures.within in
     let same : Repeat picks w.at rest.pick most = λ k lt. c.rest_of_span-rest.ensures.picks k (omega (arith, lt, least)) in
     record {
-      walks = c.repeat-made.ensures.stands picks w.at c.requires.enabled same h;
+      walks = λ lending of.
+          let h = c.loop-self.invariant.walks lending of in
+          record { enabled = h.enabled; stands = c.repeat-made.ensures.stands lending picks w.at h.enabled same h.stands };
       before = omega (arith, least, le);
     }
+
+pub repeat-made-requires-clause-machine : goal.repeat-made-requires-clause-machine
+repeat-made-requires-clause-machine c =
+    (c.requires.walks.0, (c.loop-self.invariant.walks c.requires.walks.0 c.requires.walks.1).stands.machine)
