@@ -3,7 +3,6 @@
 ghost use Rattle.std.specs.Prelude.{◌≡◌, ◌↔◌, ◌+◌, ◌<◌, ◌≤◌, ℕ, length, slice_get, IsTrue};
 ghost use Rattle.pb_code.specs.View.{labels_view};
 ghost use Rattle.pb_history.specs.Entries.{picks_of};
-ghost use Rattle.pb_history.specs.Positions.{AreEnabled};
 ghost use Rattle.pb_machine.specs.Views.{machine_view};
 ghost use Rattle.pb_debug_positions.specs.Searches.{IsFirst, IsLast, line_in};
 ghost use Rattle.pb_debug_positions.specs.Walks.{Walks};
@@ -42,7 +41,6 @@ pub fn moves(
     p: usize,
     arm: usize,
 ) -> bool
-    requires enabled { AreEnabled verified.now.code (picks_of trace.now.entries) }
     requires few { length (picks_of trace.now.entries) ≤ MAX_PICKS }
     requires walks { Walks verified.now (picks_of trace.now.entries) walker.old }
     requires within { walker.old.at < length (picks_of trace.now.entries) }
@@ -95,7 +93,6 @@ fn arrives_next(
     trace: &Trace,
     lines: &[u32],
 ) -> bool
-    requires enabled { AreEnabled verified.now.code (picks_of trace.now.entries) }
     requires few { length (picks_of trace.now.entries) ≤ MAX_PICKS }
     requires walks { Walks verified.now (picks_of trace.now.entries) walker.old }
     requires behind { Walks verified.now (picks_of trace.now.entries) behind.old }
@@ -126,7 +123,6 @@ pub fn first_arrival(
     trace: &Trace,
     lines: &[u32],
 ) -> Option<u32>
-    requires enabled { AreEnabled verified.now.code (picks_of trace.now.entries) }
     requires few { length (picks_of trace.now.entries) ≤ MAX_PICKS }
     requires walks { Walks verified.now (picks_of trace.now.entries) walker.old }
     requires behind { Walks verified.now (picks_of trace.now.entries) behind.old }
@@ -154,7 +150,6 @@ pub fn last_arrival(
     past: u32,
     lines: &[u32],
 ) -> Option<u32>
-    requires enabled { AreEnabled verified.now.code (picks_of trace.now.entries) }
     requires few { length (picks_of trace.now.entries) ≤ MAX_PICKS }
     requires walks { Walks verified.now (picks_of trace.now.entries) walker.old }
     requires behind { Walks verified.now (picks_of trace.now.entries) behind.old }
@@ -183,7 +178,6 @@ pub fn first_move(
     p: usize,
     arm: usize,
 ) -> Option<u32>
-    requires enabled { AreEnabled verified.now.code (picks_of trace.now.entries) }
     requires few { length (picks_of trace.now.entries) ≤ MAX_PICKS }
     requires walks { Walks verified.now (picks_of trace.now.entries) walker.old }
     ensures { IsFirst (Moves verified.now.code (labels_view labels.now) (picks_of trace.now.entries) p arm) walker.old.at
@@ -209,7 +203,6 @@ pub fn last_move(
     p: usize,
     arm: usize,
 ) -> Option<u32>
-    requires enabled { AreEnabled verified.now.code (picks_of trace.now.entries) }
     requires few { length (picks_of trace.now.entries) ≤ MAX_PICKS }
     requires walks { Walks verified.now (picks_of trace.now.entries) walker.old }
     requires before { walker.old.at ≤ past }

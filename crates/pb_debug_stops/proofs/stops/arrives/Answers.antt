@@ -1,4 +1,4 @@
-use Rattle.std.proofs.Common.{◌≡◌, ℕ, ◌<◌, ◌≤◌, length, Option, Some, false, true, inl, inr, sym, subst, arith}
+use Rattle.std.proofs.Common.{◌≡◌, ℕ, Option, false, true, inl, inr, sym, subst, arith}
 use Rattle.std.proofs.lemmas.Bool.{cases_lt}
 use Rattle.std.specs.Prelude.{slice_get}
 use Rattle.pb_code.specs.View.{labels_view}

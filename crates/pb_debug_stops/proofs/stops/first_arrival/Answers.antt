@@ -1,4 +1,4 @@
-use Rattle.std.proofs.Common.{◌≡◌, inl, inr, ℕ, ◌≤◌, length, subst, arith}
+use Rattle.std.proofs.Common.{◌≡◌, inl, inr, ℕ, subst, arith}
 use Rattle.std.proofs.lemmas.Bool.{cases_lt}
 use Rattle.std.proofs.lemmas.List.{length-map}
 use Rattle.pb_code.specs.View.{labels_view}
