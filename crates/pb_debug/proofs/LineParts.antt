@@ -1,16 +1,16 @@
 -- Lines that come in parts.
-use Rattle.std.proofs.Common.{◌≡◌, inl, inr, ℕ, suc, ◌+◌, ◌-◌, ◌<◌, ◌≤◌, ◌++◌, eqb, Bool, true, false, cond, List, []}
+use Rattle.std.proofs.Common.{◌≡◌, inl, inr, ℕ, suc, ◌+◌, ◌-◌, ◌<◌, ◌≤◌, ◌++◌, eqb, false, List, []}
 use Rattle.std.proofs.Common.{◌∷◌, length, take, drop, get_or, Option, Some, None, refl, sym, ap, ◌∙◌, subst, arith}
 use Rattle.std.proofs.Common.{append_assoc, append-nil, length-append, ◌≢◌, Result, Ok, Err}
 use Rattle.std.specs.Prelude.{IfErr, IfSome, OnOk, ⊤}
-use Rattle.std.proofs.lemmas.Bool.{cases_lt, lt-ltb}
+use Rattle.std.proofs.lemmas.Bool.{cases_lt}
 use Rattle.std.proofs.lemmas.List.{take_all, take-append-le, length-take-le, take-append-drop, length-drop}
 use Rattle.std.proofs.Math.Seq.{drop-cons, take-add}
 use Rattle.pb_base.specs.Device.{appended, dropped, AddsPrefix, GivesNext, LeavesRest}
 use Rattle.pb_debug.specs.Answers.{AnswersLine, AnswersRead}
 use Rattle.pb_debug_commands.specs.Buffers.{kept}
 use Rattle.pb_debug_commands.specs.Commands.{Command}
-use Rattle.pb_debug_commands.specs.Lines.{SplitLines, one_line_more, cut, last_line, lines_of}
+use Rattle.pb_debug_commands.specs.Lines.{SplitLines, cut, last_line, lines_of}
 use Rattle.pb_debug.specs.Sessions.{Session, nothing, one_more, session_bytes, SaysAll, SaysSome, IsTold}
 use Rattle.pb_debug.specs.Sessions.{SessionStopsAt, WritesBeforeFault, Fed, FedSome, BreaksOff, IsToldInPart, CountsWrites}
 use Rattle.pb_debug.specs.Value.{Debugging}

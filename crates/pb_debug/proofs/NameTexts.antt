@@ -17,8 +17,8 @@ use Rattle.pb_debug.specs.declared.fault.DebugFault.TheVariants.{Device}
 use Rattle.pb_debug_texts.specs.Texts.{HasNamesOf}
 use Rattle.pb_debug.specs.Whys.{IsWhy}
 use Rattle.pb_debug_texts.specs.declared.why.Why.{Why}
-use Rattle.pb_debug_texts.specs.declared.why.Why.TheVariants.{NotAsking, Cash, Order, Rest}
-use Rattle.pb_debug.proofs.Requests.{below}
+use Rattle.pb_debug_texts.specs.declared.why.Why.TheVariants.{NotAsking, Cash, Order, Rest, Granted}
+use Rattle.pb_debug.proofs.Requests.{below, order_of, over_cash, rest_of}
 use Rattle.pb_debug.proofs.Positions.{as_many, reached}
 
 pub missing_arm : (d : Debugging) (p a : ℕ) (fault : DebugFault) → p < length (state_of d).processes → IsMissing d p a fault → HasNoArm d p a
@@ -47,17 +47,21 @@ module _ (d : Debugging) (h : IsPosition d) where
   -- all that a reason speaks of has a name
   pub why_named : (p a : ℕ) (why : Why) → IsWhy d p a why → HasNamesOf d.verified.code.names why
   why_named p a NotAsking why = tt
-  why_named p a (Cash resource amount) (bundle, asking, first) =
+  why_named p a (Cash resource amount) (bundle, asking, reason) =
+      let first = over_cash d.lending (bank_state d) p bundle resource amount reason in
       let limits = h.verified.annotated OutOfLimits in
-      let all = below d.verified h.verified (state_of d) (reached d h) p a asking.of asking.process asking.code_there asking.there bundle asking.stands in
+      let all = below d.lending d.verified h.verified (state_of d) (reached d h) p a asking.of asking.process asking.code_there asking.there bundle asking.stands in
       let lt = slice_get_within bundle first.place first.pair first.there in
       let one = all first.place first.pair lt in
       let is = ap (λ (pair : Pair). pair.resource) (get_or_from_slice_get bundle first.place first.pair first.pair first.there) in
       omega (arith, one, is, first.resource_is, limits.resource_names.all)
-  why_named p a (Order order) (bundle, asking, (allowed, least)) =
+  why_named p a (Order order) (bundle, asking, reason) =
+      let least = order_of d.lending (bank_state d) p bundle order reason in
       let s = with_loan (bank_state d) p bundle in
       All-permutation (λ p. p < length d.verified.code.names.processes) (everyone s) order.items least.finishes.everyone (everyone_named s refl)
-  why_named p a (Rest rest) (bundle, asking, (cash, not, stuck)) =
+  why_named p a (Rest rest) (bundle, asking, reason) =
+      let stuck = rest_of d.lending (bank_state d) p bundle rest reason in
       let s = with_loan (bank_state d) p bundle in
       subst (λ (ps : List ℕ). All (λ p. p < length d.verified.code.names.processes) ps) (sym stuck.members)
       (All-filter stuck.set (λ p. p < length d.verified.code.names.processes) (everyone s) (everyone_named s refl))
+  why_named p a Granted why = tt

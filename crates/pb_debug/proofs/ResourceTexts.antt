@@ -28,12 +28,12 @@ module _ (i : Inside) (h : IsSound i) (d : Debugging) (same : view_of i ≡ d) w
   placed = subst IsPosition same (sound_position i h)
 
   pub state_here : machine_view i.walker.machine ≡ state_of d
-  state_here = h.walks.state ∙ ap state_of same
+  state_here = h.walks.stands.state ∙ ap state_of same
 
   pub bank_here : lender_state i.walker.machine.bank ≡ bank_state d
   bank_here =
-      h.walks.machine.bank
-      ∙ (ap (λ (s : State CodeProcess). banker_state (bank_of i.verified.now.code) s.loans) h.walks.state ∙ ap bank_state same)
+      h.walks.stands.machine.bank
+      ∙ (ap (λ (s : State CodeProcess). banker_state (bank_of i.verified.now.code) s.loans) h.walks.stands.state ∙ ap bank_state same)
 
   -- the lines of a resource are those at the position
   pub who_here : (code : Code) (r : ℕ) → code ≡ d.verified.code

@@ -29,7 +29,7 @@ pub record FollowsSource (program : Program) (code : Code) (labels : List Proces
       × (sp.run ≡ Some run) × (find a 0 run ≡ Some arm)
       × (thread_line l.lines (thread cp.threads a) ≡ head_line arm)
 
--- so it is at each position of picks that are all enabled
+-- so it is at each position of picks that are all enabled under the banker
 abbrev pub CodeFollowsSource : Type 0
 CodeFollowsSource =
     (text : List ℕ) (code : Code) (labels : List ProcessLabels) (c : IsCompiled text code labels)

@@ -2,18 +2,20 @@
 use Rattle.std.specs.Prelude.{ℕ, ◌%◌, ◌<◌, ◌≤◌, List, length, Option, None}
 use Rattle.pb_base.specs.declared.limits.TheConstants.{MAX_PICKS}
 use Rattle.pb_base.specs.Banker.{BankerState}
+use Rattle.pb_base.specs.declared.lending.Lending.{Lending}
 use Rattle.pb_base.specs.declared.pick.Pick.{Pick}
 use Rattle.pb_base.specs.Steppers.{State, banker_state}
 use Rattle.pb_code.specs.Code.{CodeProcess}
 use Rattle.pb_code.specs.Limits.{AreLabels}
 use Rattle.pb_code.specs.Whole.{ProcessLabels, bank_of}
 use Rattle.pb_verifier.specs.Verified.{VerifiedCode, IsVerified}
-use Rattle.pb_history.specs.Positions.{AreEnabled, state_after}
+use Rattle.pb_history.specs.Positions.{AreEnabledBy, state_after}
 use Rattle.pb_debug_positions.specs.Intervals.{IsInterval, interval_of}
 
--- the code, its labels, the text whose lines are shown, if there is one, and the distance of checkpoints
--- stay; picks are only added behind the last; the position moves, and with it the cost of the last move
+-- who lends, the code, its labels, the text whose lines are shown, if there is one, and the distance of
+-- checkpoints stay; picks are only added behind the last; the position moves, and with it the cost of the last move
 pub record Debugging : Type 0 where
+  pub lending : Lending
   pub verified : VerifiedCode
   pub labels : List ProcessLabels
   pub picks : List Pick
@@ -26,16 +28,16 @@ pub record Debugging : Type 0 where
 abbrev pub state_of : Debugging → State CodeProcess
 state_of d = state_after d.verified.code d.picks d.position
 
--- what the banker knows there
+-- what the lender knows there
 abbrev pub bank_state : Debugging → BankerState
 bank_state d = banker_state (bank_of d.verified.code) (state_of d).loans
 
--- the code is verified and all picks are enabled, at most 10,000,000 of them; the position is one of theirs;
+-- the code is verified and all picks are enabled under the lending, at most 10,000,000 of them; the position is one of theirs;
 -- the last move cost less than the distance of checkpoints, which is that for the picks that were there at
 -- first; the labels fit the code
 pub record IsPosition (d : Debugging) : Type 0 where
   pub verified : IsVerified d.verified
-  pub enabled : AreEnabled d.verified.code d.picks
+  pub enabled : AreEnabledBy d.lending d.verified.code d.picks
   pub few : length d.picks ≤ MAX_PICKS
   pub within : d.position ≤ length d.picks
   pub cheap : d.last_cost < d.interval
@@ -43,8 +45,9 @@ pub record IsPosition (d : Debugging) : Type 0 where
   pub fit : AreLabels d.verified.code d.labels
 
 -- before any move, with no text
-abbrev pub at_start : VerifiedCode → List ProcessLabels → List Pick → Debugging
-at_start v labels picks = record {
+abbrev pub at_start : Lending → VerifiedCode → List ProcessLabels → List Pick → Debugging
+at_start lending v labels picks = record {
+  lending = lending;
   verified = v;
   labels = labels;
   picks = picks;

@@ -4,6 +4,7 @@ ghost use Rattle.std.specs.Prelude.{◌≡◌, ◌++◌, ◌<◌, ◌≤◌, ℕ
 ghost use Rattle.pb_debug.specs.Answers.{shown_names, HasNoName, OfProcess, SaysVars, SaysThreads, SaysLine, SaysText, SaysWho, SaysWhy};
 ghost use Rattle.pb_debug.specs.Answers.{AnswersLine, AnswersCommand, AnswersNext, AnswersPick, AnswersPrev};
 ghost use Rattle.pb_debug.specs.Answers.{AnswersUntil, SaysEvent, SaysWrite, SaysWrote, ShowsAny};
+ghost use Rattle.pb_debug_texts.specs.Circles.{SaysCircle};
 ghost use Rattle.pb_debug_texts.specs.Texts.{at_text, loans_text};
 ghost use Rattle.pb_debug.specs.Value.{IsPosition, bank_state, moved_to, state_of};
 ghost use Rattle.pb_debug_commands.specs.View.{command_view};
@@ -18,7 +19,7 @@ use pb_debug_texts::text::{
     put_at, put_event, put_help, put_loans, put_never, put_no_event, put_not_reached,
     put_source_line, put_threads, put_vars, put_why, put_wrote,
 };
-use pb_debug_texts::{put_source, put_who};
+use pb_debug_texts::{put_circle, put_source, put_who};
 
 // Returns the number of a name among others.
 fn find_name(names: &[Vec<u8>], word: &[u8]) -> Option<usize>
@@ -187,6 +188,13 @@ impl<'c> Debugger<'c> {
         put_loans(text, self.verified.names(), self.loans())
     }
 
+    fn say_circle(&self, text: &mut Vec<u8>) -> Result<(), NoMemory>
+        ensures { OnOk result ((said : List ℕ) × SaysCircle self.now.verified.code (state_of self.now) said
+            × (text.new.items ≡ text.old.items ++ said)) }
+    {
+        put_circle(text, self.alloc, self.verified, &self.walker.machine)
+    }
+
     fn say_who(&self, text: &mut Vec<u8>, word: &[u8]) -> Result<(), NoMemory>
         ensures { OnOk result ((said : List ℕ) × SaysWho self.now word.now said × (text.new.items ≡ text.old.items ++ said)) }
     {
@@ -286,6 +294,7 @@ impl<'c> Debugger<'c> {
             Command::Until(word) => self.say_until(text, word),
             Command::Threads(word) => self.say_threads(text, word),
             Command::Loans => self.say_loans(text),
+            Command::Circle => self.say_circle(text),
             Command::Who(word) => self.say_who(text, word),
             Command::Next => self.say_next(text),
             Command::Prev => self.say_prev(text),

@@ -4,12 +4,12 @@ ghost use Rattle.std.specs.Prelude.{◌≡◌, ◌↔◌, ◌<◌, ◌++◌, ◌
 ghost use Rattle.pb_base.specs.declared.event.Event.{Event as AnyEvent};
 ghost use Rattle.pb_base.specs.declared.step.Step.TheVariants.{Did};
 ghost use Rattle.pb_base.specs.Lines.{HasNames};
-ghost use Rattle.pb_code.specs.Reached.{CodeMoves};
+ghost use Rattle.pb_code.specs.Reached.{CodeMovesBy};
 ghost use Rattle.pb_debug.specs.Answers.{SaysStep, SaysTried, shown_names};
 ghost use Rattle.pb_debug.specs.Appends.{CanAppend, IsTried, TriesPick, with_pick};
 ghost use Rattle.pb_debug.specs.Refusals.{HasArm, IsMoveFault};
 ghost use Rattle.pb_debug.specs.Value.{IsPosition, state_of};
-ghost use Rattle.pb_machine.specs.Views.{IsMachineOf, machine_view};
+ghost use Rattle.pb_machine.specs.Views.{IsMachineBy, machine_view};
 
 use crate::debugger::Debugger;
 use crate::fault::DebugFault;
@@ -69,8 +69,9 @@ impl<'c> Debugger<'c> {
     // made before anything changes.
     fn add(&mut self, machine: Machine, pick: Pick, event: Option<Event>) -> Result<(), NoMemory>
         requires end { CanAppend self.old }
-        requires machine { IsMachineOf self.old.verified machine }
-        requires moves { CodeMoves self.old.verified.code (state_of self.old) pick event (machine_view machine) }
+        requires machine { IsMachineBy self.old.lending self.old.verified machine }
+        requires moves { CodeMovesBy self.old.lending self.old.verified.code (state_of self.old) pick event
+            (machine_view machine) }
         ensures appended { OnOk result (self.new ≡ with_pick self.old pick) }
         ensures state { OnOk result (state_of self.new ≡ machine_view machine) }
         ensures unchanged { OnErr result (self.new ≡ self.old) }
@@ -109,8 +110,8 @@ impl<'c> Debugger<'c> {
         }
     }
 
-    /// Tries a pick after the last, and returns what it came to: if it is enabled it is appended, and the
-    /// position is that just after it; else, or if there is no such process or arm, nothing has changed.
+    /// Tries a pick after the last, and returns what it came to: if it is enabled under the lending it is
+    /// appended, and the position is that just after it; else, or if there is no such process or arm, nothing has changed.
     /// `PastEnd` if the position is not that after the last pick, or there are 10,000,000 picks; after an
     /// error nothing has changed.
     pub fn append(&mut self, pick: Pick) -> Result<Step, DebugFault>

@@ -3,15 +3,14 @@
 ghost use Rattle.std.specs.Prelude.{◌≡◌, ◌<◌, ◌≤◌, ◌+◌, ◌-◌, length, IfOk, IfErr, OnOk, OnErr, option_map};
 ghost use Rattle.pb_code.specs.Limits.{AreLabels};
 ghost use Rattle.pb_code.specs.View.{labels_view};
-ghost use Rattle.pb_history.specs.Positions.{AreEnabled};
 ghost use Rattle.pb_history.specs.Entries.{picks_of};
-ghost use Rattle.pb_history.specs.Replays.{IsStopped, spread};
+ghost use Rattle.pb_history.specs.Replays.{IsStopped, IsStoppedBy, spread};
 ghost use Rattle.pb_debug_positions.specs.Intervals.{interval_of};
-ghost use Rattle.pb_debug_positions.specs.Walks.{Replays, Walks};
+ghost use Rattle.pb_debug_positions.specs.Walks.{ReplaysBy, WalksBy};
 
 use crate::fault::DebugFault;
 use pb_base::limits::MAX_PICKS;
-use pb_base::{NoMemory, Pick};
+use pb_base::{Lending, NoMemory, Pick};
 use pb_code::Labels;
 use pb_codegen::Compiled;
 use pb_debug_positions::{Replaying, Walker, replay_counted_picks, replay_picks};
@@ -21,13 +20,14 @@ use pb_verifier::Verified;
 use std::alloc::Global;
 use std::marker::Model;
 
-/// The replay of a list of picks of some code, seen at a position: from 0, before the first pick, up to the
-/// number of picks. Copies of the machine are kept at the multiples of a distance, and a move goes on from
-/// the last of them that is not past its end. Picks may be appended; the distance stays what it was for the
-/// picks at first.
+/// The replay of a list of picks of some code under a lending, seen at a position: from 0, before the first
+/// pick, up to the number of picks. Copies of the machine are kept at the multiples of a distance, and a move
+/// goes on from the last of them that is not past its end. Picks may be appended; the distance stays what it
+/// was for the picks at first.
 #[derive(Drop)]
 pub struct Debugger<'c> {
     pub(crate) alloc: Global,
+    pub(crate) lending: Lending,
     pub(crate) verified: &'c Verified,
     pub(crate) labels: &'c Labels,
     pub(crate) trace: Trace,
@@ -54,19 +54,27 @@ impl<'c> Debugger<'c> {
     ghost use Rattle.pb_debug.specs.Refusals.{IsMoveFault};
     ghost use Rattle.pb_debug.specs.Value.{IsPosition, at_start, moved_to, showing};
 
-    /// Returns the debugger of a compiled text and these picks, at position 0. It refuses as `replay` does:
-    /// the first pick that is not enabled, or out of memory.
+    /// Returns the debugger of a compiled text and these picks under the banker, at position 0. It refuses as
+    /// `replay` does: the first pick that is not enabled, or out of memory. Under another lending the debugger of
+    /// a compiled text is that of its code and its labels, by `from_object`.
     pub fn new(
         alloc: Global,
         compiled: &'c Compiled,
         picks: &[Pick],
     ) -> Result<Debugger<'c>, ReplayFault>
         requires few { length picks.now ≤ MAX_PICKS }
-        ensures opened { IfOk result (λ d. d ≡ at_start compiled.entry.now.verified compiled.entry.now.labels picks.now) }
+        ensures opened { IfOk result (λ d.
+            d ≡ at_start Lending.ByBanker compiled.entry.now.verified compiled.entry.now.labels picks.now) }
         ensures placed { IfOk result IsPosition }
         ensures stopped { IfErr result (λ fault. IsStopped compiled.entry.now.verified.code picks.now fault) }
     {
-        Debugger::from_object(alloc, compiled.verified(), compiled.labels(), picks)
+        Debugger::from_object(
+            alloc,
+            compiled.verified(),
+            compiled.labels(),
+            Lending::ByBanker,
+            picks,
+        )
     }
 
     /// Returns the same as `new` of all the picks one by one, which are never spread out in memory.
@@ -77,29 +85,37 @@ impl<'c> Debugger<'c> {
     ) -> Result<Debugger<'c>, ReplayFault>
         requires few { length (spread picks.now) ≤ MAX_PICKS }
         ensures opened { IfOk result (λ d.
-            d ≡ at_start compiled.entry.now.verified compiled.entry.now.labels (spread picks.now)) }
+            d ≡ at_start Lending.ByBanker compiled.entry.now.verified compiled.entry.now.labels (spread picks.now)) }
         ensures placed { IfOk result IsPosition }
         ensures stopped { IfErr result (λ fault. IsStopped compiled.entry.now.verified.code (spread picks.now) fault) }
     {
-        Debugger::from_object_counted(alloc, compiled.verified(), compiled.labels(), picks)
+        Debugger::from_object_counted(
+            alloc,
+            compiled.verified(),
+            compiled.labels(),
+            Lending::ByBanker,
+            picks,
+        )
     }
 
-    /// Returns the debugger of code from anywhere, with labels that fit it, and these picks, at position 0.
-    /// It refuses as `replay` does: the first pick that is not enabled, or out of memory.
+    /// Returns the debugger of code from anywhere, with labels that fit it, and these picks under a lending, at
+    /// position 0. It refuses as `replay_by` does: the first pick that is not enabled, or out of memory.
     pub fn from_object(
         alloc: Global,
         verified: &'c Verified,
         labels: &'c Labels,
+        lending: Lending,
         picks: &[Pick],
     ) -> Result<Debugger<'c>, ReplayFault>
         requires fit { AreLabels verified.now.code (labels_view labels.now) }
         requires few { length picks.now ≤ MAX_PICKS }
-        ensures opened { IfOk result (λ d. d ≡ at_start verified.entry.now (labels_view labels.entry.now) picks.now) }
+        ensures opened { IfOk result (λ d.
+            d ≡ at_start lending verified.entry.now (labels_view labels.entry.now) picks.now) }
         ensures placed { IfOk result IsPosition }
-        ensures stopped { IfErr result (λ fault. IsStopped verified.entry.now.code picks.now fault) }
+        ensures stopped { IfErr result (λ fault. IsStoppedBy lending verified.entry.now.code picks.now fault) }
     {
-        let replaying = replay_picks(alloc, verified, picks)?;
-        Ok(Debugger::of_replaying(alloc, verified, labels, replaying)?)
+        let replaying = replay_picks(alloc, verified, lending, picks)?;
+        Ok(Debugger::of_replaying(alloc, verified, labels, lending, replaying)?)
     }
 
     /// Returns the same as `from_object` of all the picks one by one, which are never spread out in memory.
@@ -107,17 +123,18 @@ impl<'c> Debugger<'c> {
         alloc: Global,
         verified: &'c Verified,
         labels: &'c Labels,
+        lending: Lending,
         picks: &[CountedPick],
     ) -> Result<Debugger<'c>, ReplayFault>
         requires fit { AreLabels verified.now.code (labels_view labels.now) }
         requires few { length (spread picks.now) ≤ MAX_PICKS }
         ensures opened { IfOk result (λ d.
-            d ≡ at_start verified.entry.now (labels_view labels.entry.now) (spread picks.now)) }
+            d ≡ at_start lending verified.entry.now (labels_view labels.entry.now) (spread picks.now)) }
         ensures placed { IfOk result IsPosition }
-        ensures stopped { IfErr result (λ fault. IsStopped verified.entry.now.code (spread picks.now) fault) }
+        ensures stopped { IfErr result (λ fault. IsStoppedBy lending verified.entry.now.code (spread picks.now) fault) }
     {
-        let replaying = replay_counted_picks(alloc, verified, picks)?;
-        Ok(Debugger::of_replaying(alloc, verified, labels, replaying)?)
+        let replaying = replay_counted_picks(alloc, verified, lending, picks)?;
+        Ok(Debugger::of_replaying(alloc, verified, labels, lending, replaying)?)
     }
 
     // Returns the debugger of a replay that has made all its picks, at position 0.
@@ -125,18 +142,19 @@ impl<'c> Debugger<'c> {
         alloc: Global,
         verified: &'c Verified,
         labels: &'c Labels,
+        lending: Lending,
         replaying: Replaying,
     ) -> Result<Debugger<'c>, NoMemory>
         requires fit { AreLabels verified.now.code (labels_view labels.now) }
         requires few { length (picks_of replaying.trace.entries) ≤ MAX_PICKS }
-        requires replays { Replays verified.now replaying }
+        requires replays { ReplaysBy lending verified.now replaying }
         requires interval { replaying.interval ≡ interval_of (length (picks_of replaying.trace.entries)) }
         ensures opened { IfOk result (λ d.
-            d ≡ at_start verified.entry.now (labels_view labels.entry.now) (picks_of replaying.trace.entries)) }
+            d ≡ at_start lending verified.entry.now (labels_view labels.entry.now) (picks_of replaying.trace.entries)) }
         ensures placed { IfOk result IsPosition }
     {
         let _ = verified.code();
-        let machine = Machine::new(alloc, verified)?;
+        let machine = Machine::new_by(alloc, verified, lending)?;
         let Replaying {
             trace,
             interval,
@@ -145,6 +163,7 @@ impl<'c> Debugger<'c> {
         } = replaying;
         Ok(Debugger {
             alloc,
+            lending,
             verified,
             labels,
             trace,
@@ -164,6 +183,14 @@ impl<'c> Debugger<'c> {
         let mut debugger = self;
         debugger.source = source;
         debugger
+    }
+
+    /// Returns how the lender decides.
+    pub fn lending(&self) -> Lending
+        ensures lending { result ≡ self.now.lending }
+        ensures placed { IsPosition self.now }
+    {
+        self.lending
     }
 
     /// Returns how many picks there are: the last position, at most 10,000,000.
@@ -193,7 +220,7 @@ impl<'c> Debugger<'c> {
 
     // Returns one more machine at the position.
     pub(crate) fn walker_here(&self) -> Result<Walker, NoMemory>
-        ensures walks { IfOk result (Walks self.now.verified self.now.picks) }
+        ensures walks { IfOk result (WalksBy self.now.lending self.now.verified self.now.picks) }
         ensures at { IfOk result (λ w. w.at ≡ self.now.position) }
     {
         let machine = self.walker.machine.copy(self.alloc)?;
@@ -206,7 +233,7 @@ impl<'c> Debugger<'c> {
     // Returns a machine at a position, from the last checkpoint that is not past it.
     pub(crate) fn walker_at(&self, position: u32) -> Result<Walker, NoMemory>
         requires { position ≤ length self.now.picks }
-        ensures walks { IfOk result (Walks self.now.verified self.now.picks) }
+        ensures walks { IfOk result (WalksBy self.now.lending self.now.verified self.now.picks) }
         ensures at { IfOk result (λ w. w.at ≡ position) }
     {
         let nearest = position / self.interval;

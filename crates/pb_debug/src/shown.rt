@@ -1,7 +1,7 @@
 //! The state at a position.
 
 ghost use Rattle.std.specs.Prelude.{◌≡◌, ◌≤◌, length, IfOk, IfErr, Some, slice_get};
-ghost use Rattle.pb_banker.specs.Lenders.{lender_state};
+ghost use Rattle.pb_banker.specs.Lenders.{lender_state, lending_by};
 ghost use Rattle.pb_debug.specs.Refusals.{HasArm, HasNoProcess, IsMissing};
 ghost use Rattle.pb_debug.specs.Shown.{IsShown, IsArmLine};
 ghost use Rattle.pb_debug.specs.Value.{IsPosition, bank_state, state_of};
@@ -10,7 +10,7 @@ ghost use Rattle.pb_machine.specs.Views.{proc_view};
 
 use crate::debugger::Debugger;
 use crate::fault::DebugFault;
-use pb_banker::{Banker, Lender};
+use pb_banker::Lender;
 use pb_debug_positions::search::line_of_arm;
 use pb_machine::Proc;
 
@@ -40,17 +40,10 @@ impl<'c> Debugger<'c> {
     /// Returns the lender at the position, with all loans.
     pub fn loans(&self) -> &Lender
         ensures shown { lender_state result.now ≡ bank_state self.now }
+        ensures lending { lending_by result.now ≡ self.now.lending }
         ensures placed { IsPosition self.now }
     {
         self.walker.machine.lender()
-    }
-
-    /// Returns the banker at the position.
-    pub(crate) fn banker(&self) -> &Banker
-        ensures shown { result.now.state ≡ bank_state self.now }
-        ensures placed { IsPosition self.now }
-    {
-        self.walker.machine.banker()
     }
 
     /// Returns the source line at which an arm of a process is at the position: that of its place if it is

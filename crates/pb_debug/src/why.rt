@@ -25,7 +25,7 @@ impl<'c> Debugger<'c> {
         }
         let code = self.verified.code();
         match asked(&code.processes[p], process.thread(arm)) {
-            Some(bundle) => Ok(reason(self.alloc, self.banker(), p, bundle)?),
+            Some(bundle) => Ok(reason(self.alloc, self.loans(), p, bundle)?),
             None => Ok(Why::NotAsking),
         }
     }

@@ -1,8 +1,8 @@
 use Rattle.std.proofs.Common.{◌≡◌, ◌+◌, ◌++◌, ◌∷◌, [], List, length, refl, sym, ap, ◌∙◌, subst, arith}
 use Rattle.std.proofs.lemmas.List.{length-map}
-use Rattle.pb_code.specs.Reached.{CodeMoves}
+use Rattle.pb_code.specs.Reached.{CodeMovesBy}
 use Rattle.pb_history.specs.Entries.{Entry, picks_of}
-use Rattle.pb_machine.specs.Views.{IsMachineOf, machine_view}
+use Rattle.pb_machine.specs.Views.{IsMachineBy, machine_view}
 use Rattle.pb_debug.specs.Appends.{CanAppend, with_pick}
 use Rattle.pb_debug.specs.Checkpoints.{view_of}
 use Rattle.pb_debug.specs.Value.{Debugging, state_of}
@@ -34,9 +34,9 @@ invariant_of-self-2 c =
     let pick = c.args.pick in
     let end = c.len-end.result + 1 in
     let can : CanAppend (view_of i) = subst CanAppend (sym c.self.view_is) c.requires.end in
-    let of : IsMachineOf i.verified.now m = subst (λ (d : Debugging). IsMachineOf d.verified m) (sym c.self.view_is) c.requires.machine in
-    let moves : CodeMoves i.verified.now.code (state_of (view_of i)) pick c.args.event (machine_view m) =
-    subst (λ (d : Debugging). CodeMoves d.verified.code (state_of d) pick c.args.event (machine_view m)) (sym c.self.view_is) c.requires.moves in
+    let of : IsMachineBy i.lending i.verified.now m = subst (λ (d : Debugging). IsMachineBy d.lending d.verified m) (sym c.self.view_is) c.requires.machine in
+    let moves : CodeMovesBy i.lending i.verified.now.code (state_of (view_of i)) pick c.args.event (machine_view m) =
+    subst (λ (d : Debugging). CodeMovesBy d.lending d.verified.code (state_of d) pick c.args.event (machine_view m)) (sym c.self.view_is) c.requires.moves in
     let len = c.len-end.ensures in
     let many = length-map i.trace.entries (λ (e : Entry). e.pick) in
     let at : end ≡ length (picks_of i.trace.entries) + 1 = omega (arith, len, many) in
@@ -52,9 +52,9 @@ returns-clause-state c =
     let pick = c.args.pick in
     let end = c.len-end.result + 1 in
     let can : CanAppend (view_of i) = subst CanAppend (sym c.self.view_is) c.requires.end in
-    let of : IsMachineOf i.verified.now m = subst (λ (d : Debugging). IsMachineOf d.verified m) (sym c.self.view_is) c.requires.machine in
-    let moves : CodeMoves i.verified.now.code (state_of (view_of i)) pick c.args.event (machine_view m) =
-    subst (λ (d : Debugging). CodeMoves d.verified.code (state_of d) pick c.args.event (machine_view m)) (sym c.self.view_is) c.requires.moves in
+    let of : IsMachineBy i.lending i.verified.now m = subst (λ (d : Debugging). IsMachineBy d.lending d.verified m) (sym c.self.view_is) c.requires.machine in
+    let moves : CodeMovesBy i.lending i.verified.now.code (state_of (view_of i)) pick c.args.event (machine_view m) =
+    subst (λ (d : Debugging). CodeMovesBy d.lending d.verified.code (state_of d) pick c.args.event (machine_view m)) (sym c.self.view_is) c.requires.moves in
     let len = c.len-end.ensures in
     let many = length-map i.trace.entries (λ (e : Entry). e.pick) in
     let at : end ≡ length (picks_of i.trace.entries) + 1 = omega (arith, len, many) in
@@ -69,9 +69,9 @@ returns-clause-appended c =
     let pick = c.args.pick in
     let end = c.len-end.result + 1 in
     let can : CanAppend (view_of i) = subst CanAppend (sym c.self.view_is) c.requires.end in
-    let of : IsMachineOf i.verified.now m = subst (λ (d : Debugging). IsMachineOf d.verified m) (sym c.self.view_is) c.requires.machine in
-    let moves : CodeMoves i.verified.now.code (state_of (view_of i)) pick c.args.event (machine_view m) =
-    subst (λ (d : Debugging). CodeMoves d.verified.code (state_of d) pick c.args.event (machine_view m)) (sym c.self.view_is) c.requires.moves in
+    let of : IsMachineBy i.lending i.verified.now m = subst (λ (d : Debugging). IsMachineBy d.lending d.verified m) (sym c.self.view_is) c.requires.machine in
+    let moves : CodeMovesBy i.lending i.verified.now.code (state_of (view_of i)) pick c.args.event (machine_view m) =
+    subst (λ (d : Debugging). CodeMovesBy d.lending d.verified.code (state_of d) pick c.args.event (machine_view m)) (sym c.self.view_is) c.requires.moves in
     let len = c.len-end.ensures in
     let many = length-map i.trace.entries (λ (e : Entry). e.pick) in
     let at : end ≡ length (picks_of i.trace.entries) + 1 = omega (arith, len, many) in

@@ -47,6 +47,12 @@ returns-in-Who-clause-answer c =
     on_ok c.say_who.result _ _ c.say_who.ensures
     (λ s. (s.0, subst (λ (k : Command). AnswersCommand d k s.0 d) (sym (ap command_view c.in-Who.is)) (s.1, refl), s.2))
 
+pub returns-in-Circle-clause-answer : goal.returns-in-Circle-clause-answer
+returns-in-Circle-clause-answer c =
+    let d = c.args.self.now in
+    on_ok c.say_circle.result _ _ c.say_circle.ensures
+    (λ s. (s.0, subst (λ (k : Command). AnswersCommand d k s.0 d) (sym (ap command_view c.in-Circle.is)) (s.1, refl), s.2))
+
 pub returns-in-Until-clause-answer : goal.returns-in-Until-clause-answer
 returns-in-Until-clause-answer c =
     let d = c.args.self.now in

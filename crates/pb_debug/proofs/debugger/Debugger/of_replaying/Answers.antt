@@ -21,7 +21,10 @@ invariant_of-result c =
       cheap = interval_some (length (picks_of entries)) r.interval (length (picks_of entries), omega arith, c.requires.interval);
       fit = c.requires.fit;
       spaced = (length (picks_of entries), omega arith, c.requires.interval);
-      walks = record { machine = c.in_ok-machine.ensures.machine; state = c.in_ok-machine.ensures.opening };
+      walks = record {
+        enabled = leads_enabled c.args.verified.now.code entries _ h.leads;
+        stands = record { machine = c.in_ok-machine.ensures.machine; state = c.in_ok-machine.ensures.opening };
+      };
       checkpoints = h.checkpoints;
       enough = omega (arith, many, before);
       fewest = omega (arith, many, after);

@@ -1,10 +1,9 @@
 use Rattle.std.proofs.Common.{inr, refl, Some, subst, arith}
 use Rattle.std.proofs.lemmas.Option.{slice_get_within}
-use Rattle.pb_base.specs.declared.lending.Lending.TheVariants.{ByBanker}
 use Rattle.pb_base.specs.declared.pick.Pick.{Pick}
 use Rattle.pb_base.specs.declared.step.Step.{Step}
-use Rattle.pb_code.specs.Reached.{CodeMoves}
-use Rattle.pb_machine.specs.Steps.{IsStep}
+use Rattle.pb_code.specs.Reached.{CodeMovesBy}
+use Rattle.pb_machine.specs.Steps.{IsStepBy}
 use Rattle.pb_machine.specs.Views.{machine_view}
 use Rattle.pb_machine.proofs.NeverStuck.{events_have_names}
 use Rattle.pb_verifier.specs.declared.fault.VerifyFault.TheVariants.{OutOfLimits}
@@ -37,9 +36,9 @@ say_step-requires-clause-names c = λ event is.
     let d = c.args.self.now in
     let h = c.can_append.ensures.placed in
     let t = c.in_ok-tried.tried in
-    let moves : CodeMoves d.verified.code (state_of d) t.pick (Some event) (machine_view t.machine) =
-    subst (λ (s : Step). IsStep d.verified.code (state_of d) t.pick s (machine_view t.machine)) is c.in_ok-tried.ensures.tried.steps in
-    events_have_names ByBanker d.verified h.verified (state_of d) (reached d h) t.pick event (machine_view t.machine) moves
+    let moves : CodeMovesBy d.lending d.verified.code (state_of d) t.pick (Some event) (machine_view t.machine) =
+    subst (λ (s : Step). IsStepBy d.lending d.verified.code (state_of d) t.pick s (machine_view t.machine)) is c.in_ok-tried.ensures.tried.steps in
+    events_have_names d.lending d.verified h.verified (state_of d) (reached d h) t.pick event (machine_view t.machine) moves
 
 pub returns-clause-said : goal.returns-clause-said
 returns-clause-said c =

@@ -3,7 +3,7 @@ use Rattle.std.proofs.lemmas.Nat.{mod_below}
 use Rattle.std.proofs.lemmas.List.{length-map}
 use Rattle.pb_history.specs.Entries.{Entry, picks_of}
 use Rattle.pb_debug.specs.Value.{Debugging}
-use Rattle.pb_debug_positions.specs.Walks.{Walks}
+use Rattle.pb_debug_positions.specs.Walks.{WalksBy}
 use Rattle.pb_debug_positions.proofs.Walks.{interval_some}
 use Rattle.pb_debug.proofs.debugger.Debugger.to.Goals as goal
 
@@ -24,7 +24,7 @@ invariant_of-self c =
       cheap = mod_below c.args.position i.interval (interval_some (length (picks_of i.trace.entries)) i.interval h.spaced);
       fit = h.fit;
       spaced = h.spaced;
-      walks = subst (λ (d : Debugging). Walks d.verified d.picks w) (sym c.self.view_is) c.in_ok-self-inside.ensures.walks;
+      walks = subst (λ (d : Debugging). WalksBy d.lending d.verified d.picks w) (sym c.self.view_is) c.in_ok-self-inside.ensures.walks;
       checkpoints = h.checkpoints;
       enough = h.enough;
       fewest = h.fewest;
