@@ -10,7 +10,7 @@ use Rattle.pb_code.specs.Code.{CodeProcess, ProcessCode, Thread, Idle, Live, End
 use Rattle.pb_code.specs.Whole.{Code, bank_of}
 use Rattle.pb_debug_texts.specs.Reasons.{IsReason}
 use Rattle.pb_debug_texts.specs.declared.why.Why.{Why}
-use Rattle.pb_debug_texts.specs.declared.why.Why.TheVariants.{NotAsking, Cash, Order, Rest}
+use Rattle.pb_debug_texts.specs.declared.why.Why.TheVariants.{NotAsking, Cash, Order, Rest, Granted}
 use Rattle.pb_json.specs.Values.{integer_text, integers_text, list_text}
 use Rattle.pb_machine.specs.Turns.{IsAtTake}
 use Rattle.pb_machine.specs.Views.{operands_of_thread}
@@ -58,6 +58,7 @@ cash_text resource = codes "[\"cash\"," ++ (decimal resource ++ codes "]")
 abbrev pub why_text : Why → List ℕ
 why_text NotAsking = codes "0"
 why_text (Order order) = codes "1"
+why_text Granted = codes "1"
 why_text (Cash resource amount) = cash_text resource
 why_text (Rest rest) = codes "[\"rest\"" ++ (numbers_text rest.items ++ codes "]")
 

@@ -123,7 +123,7 @@ fn put_why(out: &mut Vec<u8>, why: &Why) -> Result<(), NoMemory>
 {
     match why {
         Why::NotAsking => put(out, b"0"),
-        Why::Order(_) => put(out, b"1"),
+        Why::Order(_) | Why::Granted => put(out, b"1"),
         Why::Cash { resource, .. } => put_cash(out, *resource),
         Why::Rest(rest) => put_rest(out, rest),
     }
@@ -155,7 +155,7 @@ fn why_of(
     let code = &verified.code().processes[p];
     match asked(code, machine.proc(p).thread(arm)) {
         Some(bundle) => {
-            let why = reason(alloc, machine.banker(), p, bundle)?;
+            let why = reason(alloc, machine.lender(), p, bundle)?;
             why_text(alloc, &why)
         }
         None => why_text(alloc, &Why::NotAsking),

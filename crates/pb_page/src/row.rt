@@ -2,9 +2,10 @@
 
 ghost use Rattle.std.specs.Prelude.{◌≡◌, ◌<◌, ◌≤◌, ◌+◌, ◌++◌, ℕ, List, length, slice_get, Some, IfOk, IfSome, OnOk};
 ghost use Rattle.pb_base.specs.Lines.{HasNames, names_view};
-ghost use Rattle.pb_debug_positions.specs.Walks.{Walks};
+ghost use Rattle.pb_base.specs.declared.lending.Lending.TheVariants.{ByBanker};
+ghost use Rattle.pb_debug_positions.specs.Walks.{WalksBy};
 ghost use Rattle.pb_history.specs.Entries.{picks_of};
-ghost use Rattle.pb_history.specs.Positions.{AreEnabled, state_after};
+ghost use Rattle.pb_history.specs.Positions.{state_after};
 ghost use Rattle.pb_page.specs.Rows as spec;
 ghost use Rattle.pb_page.specs.Rows.{HasNamesOf, IsRow};
 ghost use Rattle.pb_page.specs.States.{IsState};
@@ -99,13 +100,12 @@ pub(crate) fn put_next_row(
     walker: &mut Walker,
     state: &mut Vec<Vec<u8>>,
 ) -> Result<(), NoMemory>
-    requires enabled { AreEnabled verified.now.code (picks_of trace.now.entries) }
     requires few { length (picks_of trace.now.entries) ≤ MAX_PICKS }
-    requires walks { Walks verified.now (picks_of trace.now.entries) walker.old }
+    requires walks { WalksBy ByBanker verified.now (picks_of trace.now.entries) walker.old }
     requires within { walker.old.at < length (picks_of trace.now.entries) }
     requires state { IsState verified.now.code
         (state_after verified.now.code (picks_of trace.now.entries) walker.old.at) (texts state.old.items) }
-    ensures walks { OnOk result (Walks verified.now (picks_of trace.now.entries) walker.new) }
+    ensures walks { OnOk result (WalksBy ByBanker verified.now (picks_of trace.now.entries) walker.new) }
     ensures at { OnOk result (walker.new.at ≡ walker.old.at + 1) }
     ensures state { OnOk result (IsState verified.now.code
         (state_after verified.now.code (picks_of trace.now.entries) walker.new.at) (texts state.new.items)) }

@@ -1,7 +1,8 @@
 //! The document of a run.
 
 ghost use Rattle.std.specs.Prelude.{◌≡◌, ◌<◌, ◌≤◌, ◌-◌, ◌+◌, ◌++◌, ℕ, List, length, IfOk, OnOk};
-ghost use Rattle.pb_debug_positions.specs.Walks.{Walks};
+ghost use Rattle.pb_base.specs.declared.lending.Lending.TheVariants.{ByBanker};
+ghost use Rattle.pb_debug_positions.specs.Walks.{WalksBy};
 ghost use Rattle.pb_history.specs.Entries.{picks_of};
 ghost use Rattle.pb_history.specs.Positions.{AreEnabled, state_after};
 ghost use Rattle.pb_json.specs.Strings.{string_text};
@@ -102,7 +103,7 @@ fn walker_at(
 ) -> Result<Walker, NoMemory>
     requires enabled { AreEnabled verified.now.code (picks_of trace.now.entries) }
     requires within { position ≤ length (picks_of trace.now.entries) }
-    ensures walks { IfOk result (Walks verified.now (picks_of trace.now.entries)) }
+    ensures walks { IfOk result (WalksBy ByBanker verified.now (picks_of trace.now.entries)) }
     ensures at { IfOk result (λ walker. walker.at ≡ position) }
 {
     let machine = Machine::new(alloc, verified)?;
@@ -121,13 +122,12 @@ fn put_rows(
     state: &mut Vec<Vec<u8>>,
     rows: u32,
 ) -> Result<(), NoMemory>
-    requires enabled { AreEnabled verified.now.code (picks_of trace.now.entries) }
     requires few { length (picks_of trace.now.entries) ≤ MAX_PICKS }
-    requires walks { Walks verified.now (picks_of trace.now.entries) walker.old }
+    requires walks { WalksBy ByBanker verified.now (picks_of trace.now.entries) walker.old }
     requires within { walker.old.at + rows ≤ length (picks_of trace.now.entries) }
     requires state { IsState verified.now.code
         (state_after verified.now.code (picks_of trace.now.entries) walker.old.at) (texts state.old.items) }
-    ensures walks { OnOk result (Walks verified.now (picks_of trace.now.entries) walker.new) }
+    ensures walks { OnOk result (WalksBy ByBanker verified.now (picks_of trace.now.entries) walker.new) }
     ensures at { OnOk result (walker.new.at ≡ walker.old.at + rows) }
     ensures rows { OnOk result ((written : List ℕ) × (out.new.items ≡ out.old.items ++ written)
         × AreRows verified.now.code (picks_of trace.now.entries) walker.old.at rows written) }
@@ -141,7 +141,7 @@ fn put_rows(
 
 // Returns what is behind the last row.
 fn end_word(verified: &Verified, trace: &Trace, walker: &Walker) -> &'static [u8]
-    requires walks { Walks verified.now (picks_of trace.now.entries) walker.now }
+    requires walks { WalksBy ByBanker verified.now (picks_of trace.now.entries) walker.now }
     requires within { walker.now.at ≤ length (picks_of trace.now.entries) }
     ensures { IsEnd verified.now.code (picks_of trace.now.entries) walker.now.at result.now }
 {

@@ -1,11 +1,14 @@
 use Rattle.std.proofs.Common.{◌≡◌, ◌<◌, length, sym, ap, ◌∙◌, subst, arith}
 use Rattle.std.specs.Prelude.{All}
+use Rattle.pb_banker.specs.Lenders.{lender_state, lending_by}
+use Rattle.pb_base.specs.declared.lending.Lending.{Lending}
+use Rattle.pb_base.specs.declared.lending.Lending.TheVariants.{ByBanker}
 use Rattle.pb_base.specs.Banker.{BankerState, processes, resources, IsWithinClaim}
 use Rattle.pb_base.specs.Steppers.{banker_state}
 use Rattle.pb_code.specs.Code.{CodeProcess, ProcessCode, Thread, thread}
 use Rattle.pb_code.specs.View.{process_view}
 use Rattle.pb_code.specs.Whole.{bank_of}
-use Rattle.pb_debug_texts.specs.Reasons.{IsReason}
+use Rattle.pb_debug_texts.specs.Reasons.{IsReason, IsReasonBy}
 use Rattle.pb_machine.proofs.GivenCode.{codes_number, code_at, code_is}
 use Rattle.pb_machine.specs.Turns.{IsAtTake}
 use Rattle.pb_machine.specs.Views.{machine_view, thread_view}
@@ -44,7 +47,8 @@ pub reason-requires-clause-process : goal.reason-requires-clause-process
 reason-requires-clause-process c =
     let v = c.args.verified.now in
     let s = machine_view c.args.machine.now in
-    let e : c.banker.result.now.state ≡ banker_state (bank_of v.code) s.loans = c.banker.ensures.state ∙ c.requires.machine.bank in
+    let e : lender_state c.lender.result.now ≡ banker_state (bank_of v.code) s.loans =
+    ap lender_state c.lender.ensures.bank ∙ c.requires.machine.bank in
     let count = (kept_reached v.code c.code.ensures.verified.annotated s c.requires.machine.reached).good.count in
     let rows = (c.code.ensures.verified.annotated OutOfLimits).rows in
     let inside = c.requires.process in
@@ -57,7 +61,8 @@ reason-requires-clause-below c =
     let s = machine_view c.args.machine.now in
     let given = c.code.result.now in
     let same = c.code.ensures.code in
-    let e : c.banker.result.now.state ≡ banker_state (bank_of v.code) s.loans = c.banker.ensures.state ∙ c.requires.machine.bank in
+    let e : lender_state c.lender.result.now ≡ banker_state (bank_of v.code) s.loans =
+    ap lender_state c.lender.ensures.bank ∙ c.requires.machine.bank in
     let count = (kept_reached v.code c.code.ensures.verified.annotated s c.requires.machine.reached).good.count in
     let inside = c.requires.process in
     let within : c.args.p < length given.processes.items = omega (arith, inside, count, codes_number given v.code same) in
@@ -74,7 +79,8 @@ reason-requires-clause-within_claim c =
     let s = machine_view c.args.machine.now in
     let given = c.code.result.now in
     let same = c.code.ensures.code in
-    let e : c.banker.result.now.state ≡ banker_state (bank_of v.code) s.loans = c.banker.ensures.state ∙ c.requires.machine.bank in
+    let e : lender_state c.lender.result.now ≡ banker_state (bank_of v.code) s.loans =
+    ap lender_state c.lender.ensures.bank ∙ c.requires.machine.bank in
     let count = (kept_reached v.code c.code.ensures.verified.annotated s c.requires.machine.reached).good.count in
     let inside = c.requires.process in
     let within : c.args.p < length given.processes.items = omega (arith, inside, count, codes_number given v.code same) in
@@ -91,7 +97,8 @@ returns-in_ok-why-in-Some c =
     let s = machine_view c.args.machine.now in
     let given = c.code.result.now in
     let same = c.code.ensures.code in
-    let e : c.banker.result.now.state ≡ banker_state (bank_of v.code) s.loans = c.banker.ensures.state ∙ c.requires.machine.bank in
+    let e : lender_state c.lender.result.now ≡ banker_state (bank_of v.code) s.loans =
+    ap lender_state c.lender.ensures.bank ∙ c.requires.machine.bank in
     let count = (kept_reached v.code c.code.ensures.verified.annotated s c.requires.machine.reached).good.count in
     let inside = c.requires.process in
     let within : c.args.p < length given.processes.items = omega (arith, inside, count, codes_number given v.code same) in
@@ -100,7 +107,10 @@ returns-in_ok-why-in-Some c =
     c.thread.ensures ∙ ap (λ (q : CodeProcess). thread q.threads c.args.arm) (sym (process_is s c.args.p _ c.proc.ensures.state)) in
     let at = subst (λ (t : Thread). IsAtTake (process_view c.index-code.result.now) t c.in-Some.bundle.now) there c.in-Some.ensures.some in
     let why = c.in_ok-why-in-Some.why in
-    let is = subst (λ (b : BankerState). IsReason b c.args.p c.in-Some.bundle.now why) e c.in_ok-why-in-Some.ensures in
+    let lends : lending_by c.lender.result.now ≡ ByBanker = ap lending_by c.lender.ensures.bank ∙ c.requires.machine.lends in
+    let is = subst (λ (b : BankerState). IsReason b c.args.p c.in-Some.bundle.now why) e
+    (subst (λ (l : Lending). IsReasonBy l (lender_state c.lender.result.now) c.args.p c.in-Some.bundle.now why) lends
+    c.in_ok-why-in-Some.ensures) in
     if_ok c.why_text.result _ _ c.why_text.ensures
     (λ text said. asking (process_view c.index-code.result.now) c.in-Some.bundle.now why code at is said)
 

@@ -1,4 +1,5 @@
 use Rattle.std.proofs.Common.{Vec, Global, refl, ℕ, List, ◌++◌, sym, ap, ◌∙◌, subst}
+use Rattle.pb_base.specs.declared.lending.Lending.TheVariants.{ByBanker}
 use Rattle.pb_base.specs.Lines.{NameTable, names_view}
 use Rattle.pb_base.specs.Steppers.{State}
 use Rattle.pb_code.specs.Code.{CodeProcess}
@@ -15,7 +16,7 @@ pub put_row-requires : goal.put_row-requires
 put_row-requires c =
     let v = c.args.verified.now in
     subst (λ (n : NameTable). HasNamesOf n c.advance-step.result) (sym (ap (λ (x : Code). x.names) c.code-code.ensures.code))
-    (steps_named v c.code-code.ensures.verified (picks_of c.args.trace.now.entries) c.requires.enabled c.args.walker.now.at
+    (steps_named v c.code-code.ensures.verified (picks_of c.args.trace.now.entries) c.requires.walks.enabled c.args.walker.now.at
     c.advance-step.result c.advance-step.ensures.steps)
 
 pub returns-clause-row : goal.returns-clause-row
@@ -29,7 +30,7 @@ returns-clause-row c =
     let pick = c.pick-pick.result in
     let old = c.args.out.now.items in
     let named = names_view c.code-code.result.now.names in
-    let reached = c.advance-step.ensures.walks.state ∙ ap (state_after v.code picks) c.advance-step.ensures.at in (
+    let reached = (c.advance-step.ensures.walks ByBanker c.requires.walks).stands.state ∙ ap (state_after v.code picks) c.advance-step.ensures.at in (
       row_text v.code.names c.pick-pick.result before after step,
       c.in_ok-put_row.ensures
           ∙ (ap (λ (es : List (Vec ℕ Global)). old ++ row_text named pick (texts es) (texts c.deref-2.result.now) step) c.deref.ensures.value
@@ -47,3 +48,17 @@ returns-clause-row c =
         written = refl;
       },
     )
+
+pub advance-step-requires-clause-walks : goal.advance-step-requires-clause-walks
+advance-step-requires-clause-walks c = (ByBanker, c.requires.walks)
+
+pub state_of-requires : goal.state_of-requires
+state_of-requires c = (c.advance-step.ensures.walks ByBanker c.requires.walks).stands.machine
+
+pub returns-clause-walks : goal.returns-clause-walks
+returns-clause-walks c = c.advance-step.ensures.walks ByBanker c.requires.walks
+
+pub returns-clause-state : goal.returns-clause-state
+returns-clause-state c =
+    subst (λ (s : State CodeProcess). IsState c.args.verified.now.code s (texts c.in_ok-after.after.items))
+    (c.advance-step.ensures.walks ByBanker c.requires.walks).stands.state c.in_ok-after.ensures

@@ -30,7 +30,7 @@ returns c =
     record {
       start = start;
       is_start = subst (λ (s : State CodeProcess). IsState code s start)
-          (c.in_ok-walker.ensures.walks.state ∙ ap (state_after code picks) at) c.in_ok-state.ensures;
+          (c.in_ok-walker.ensures.walks.stands.state ∙ ap (state_after code picks) at) c.in_ok-state.ensures;
       rows = made.rows.0;
       are_rows = subst (λ (i : ℕ). AreRows code picks i (rows_of picks shown.from shown.rows) made.rows.0) at
           (subst (λ (n : ℕ). AreRows code picks c.in_ok-walker.walker.at n made.rows.0) rows made.rows.2);
