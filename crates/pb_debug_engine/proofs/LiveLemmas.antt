@@ -4,6 +4,7 @@ use Rattle.std.proofs.lemmas.Option.{IfSome_then}
 use Rattle.pb_base.specs.Device.{appended}
 use Rattle.pb_base.specs.declared.device.ReadFault.{ReadFault}
 use Rattle.pb_base.specs.declared.device.ReadFault.TheVariants as fault
+use Rattle.pb_base.specs.declared.lending.Lending.{Lending}
 use Rattle.pb_debug.specs.Sessions.{IsReadTo, SaysBefore}
 use Rattle.pb_debug_engine.specs.Debugs.{AreThreeParts, SaysOfParts}
 use Rattle.pb_debug_engine.specs.Faults.{TellsAnyFault}
@@ -18,26 +19,26 @@ use Rattle.pb_command_io.specs.declared.status.Status.TheVariants.{Done, Refused
 use Rattle.pb_command_io.specs.declared.status.Status.TheVariants.{Threads, Deadlock, Unexpected}
 
 -- the first two parts are read, and the third is answered
-pub live_told : (o mid old new : Option (List ℕ)) (source lines seen shown : List ℕ) (given : Status)
+pub live_told : (lending : Lending) (o mid old new : Option (List ℕ)) (source lines seen shown : List ℕ) (given : Status)
     → IfSome o (λ bytes. (commands : List ℕ) × (mid ≡ Some commands) × AreThreeParts bytes source lines commands)
-    → seen ≡ source → shown ≡ lines → IfSome mid (λ commands. Tells (SaysOfParts seen shown commands) old new given)
-    → IfSome o (λ bytes. Tells (SaysOfLive bytes) old new given)
-live_told None mid old new source lines seen shown given parts same same_lines says = tt
-live_told (Some bytes) mid old new source lines seen shown given (commands, is, three) same same_lines says =
-    let told : Tells (SaysOfParts source lines commands) old new given =
-    subst (λ (s : List ℕ). Tells (SaysOfParts s lines commands) old new given) same
-    (subst (λ (l : List ℕ). Tells (SaysOfParts seen l commands) old new given) same_lines
-    (subst (λ (m : Option (List ℕ)). IfSome m (λ commands. Tells (SaysOfParts seen shown commands) old new given)) is says)) in
+    → seen ≡ source → shown ≡ lines → IfSome mid (λ commands. Tells (SaysOfParts lending seen shown commands) old new given)
+    → IfSome o (λ bytes. Tells (SaysOfLive lending bytes) old new given)
+live_told lending None mid old new source lines seen shown given parts same same_lines says = tt
+live_told lending (Some bytes) mid old new source lines seen shown given (commands, is, three) same same_lines says =
+    let told : Tells (SaysOfParts lending source lines commands) old new given =
+    subst (λ (s : List ℕ). Tells (SaysOfParts lending s lines commands) old new given) same
+    (subst (λ (l : List ℕ). Tells (SaysOfParts lending seen l commands) old new given) same_lines
+    (subst (λ (m : Option (List ℕ)). IfSome m (λ commands. Tells (SaysOfParts lending seen shown commands) old new given)) is says)) in
     (told.0, told.1, read told.0 told.1 (source, lines, commands, three, told.2), told.3)
 
 -- they are not read
-pub unread_told : (e : ReadFault) (o old new : Option (List ℕ)) (given : Status) → (e ≡ fault.TooLong → IfSome o HasLongPart)
-    → Says old new (unread_text e) (unread_status e) given → IfSome o (λ bytes. Tells (SaysOfLive bytes) old new given)
-unread_told fault.Device o old new given long says =
+pub unread_told : (lending : Lending) (e : ReadFault) (o old new : Option (List ℕ)) (given : Status) → (e ≡ fault.TooLong → IfSome o HasLongPart)
+    → Says old new (unread_text e) (unread_status e) given → IfSome o (λ bytes. Tells (SaysOfLive lending bytes) old new given)
+unread_told lending fault.Device o old new given long says =
     IfSome-of o _ (λ bytes. (unread_text fault.Device, unread_status fault.Device, nothing, says))
-unread_told fault.TooLong o old new given long says =
+unread_told lending fault.TooLong o old new given long says =
     IfSome_then o {P = HasLongPart} (long refl) (λ bytes is. (unread_text fault.TooLong, unread_status fault.TooLong, too_long is, says))
-unread_told fault.Memory o old new given long says =
+unread_told lending fault.Memory o old new given long says =
     IfSome-of o _ (λ bytes. (unread_text fault.Memory, unread_status fault.Memory, no_memory, says))
 
 -- ---- if a read fails
@@ -56,17 +57,17 @@ device_told old new Deadlock (none, one) grew = absurd (grew (none (λ same. let
 device_told old new Unexpected (none, one) grew = absurd (grew (none (λ same. let w : Unexpected ≡ Device = same in cc)).0)
 
 -- the first two parts are read, and the commands of the third that were read are answered
-pub live_answered : (o mid left old new : Option (List ℕ)) (source lines seen shown : List ℕ)
+pub live_answered : (lending : Lending) (o mid left old new : Option (List ℕ)) (source lines seen shown : List ℕ)
     → IfSome o (λ bytes. (commands : List ℕ) × (mid ≡ Some commands) × AreThreeParts bytes source lines commands)
-    → seen ≡ source → shown ≡ lines → IfSome mid (λ commands. SaysBefore (AnswersOfParts seen shown) commands left old new)
-    → IfSome o (λ bytes. SaysBefore SaysOfRead bytes left old new)
-live_answered None mid left old new source lines seen shown parts same same_lines says = tt
-live_answered (Some bytes) mid left old new source lines seen shown (commands, is, three) same same_lines says =
-    let before : SaysBefore (AnswersOfParts source lines) commands left old new =
-    subst (λ (s : List ℕ). SaysBefore (AnswersOfParts s lines) commands left old new) same
-    (subst (λ (l : List ℕ). SaysBefore (AnswersOfParts seen l) commands left old new) same_lines
-    (subst (λ (m : Option (List ℕ)). IfSome m (λ commands. SaysBefore (AnswersOfParts seen shown) commands left old new)) is says)) in
-    first_of_three bytes source lines commands left old new (AnswersOfParts source lines) SaysOfRead three before
+    → seen ≡ source → shown ≡ lines → IfSome mid (λ commands. SaysBefore (AnswersOfParts lending seen shown) commands left old new)
+    → IfSome o (λ bytes. SaysBefore (SaysOfRead lending) bytes left old new)
+live_answered lending None mid left old new source lines seen shown parts same same_lines says = tt
+live_answered lending (Some bytes) mid left old new source lines seen shown (commands, is, three) same same_lines says =
+    let before : SaysBefore (AnswersOfParts lending source lines) commands left old new =
+    subst (λ (s : List ℕ). SaysBefore (AnswersOfParts lending s lines) commands left old new) same
+    (subst (λ (l : List ℕ). SaysBefore (AnswersOfParts lending seen l) commands left old new) same_lines
+    (subst (λ (m : Option (List ℕ)). IfSome m (λ commands. SaysBefore (AnswersOfParts lending seen shown) commands left old new)) is says)) in
+    first_of_three bytes source lines commands left old new (AnswersOfParts lending source lines) (SaysOfRead lending) three before
     (λ all taken text parts answers. late source lines taken text parts answers)
 
 -- nothing is said of parts that were not read since a read failed
@@ -82,10 +83,10 @@ module _ (old new : Option (List ℕ)) (before after : ℕ) (given : Status) (gr
   unread_device fault.TooLong same says = absurd (grew (same (λ e. let w : fault.TooLong ≡ fault.Device = e in cc)))
   unread_device fault.Memory same says = absurd (grew (same (λ e. let w : fault.Memory ≡ fault.Device = e in cc)))
 
-  pub unread_answered : (e : ReadFault) (o left : Option (List ℕ)) → (e ≢ fault.Device → after ≡ before)
+  pub unread_answered : (lending : Lending) (e : ReadFault) (o left : Option (List ℕ)) → (e ≢ fault.Device → after ≡ before)
       → (e ≡ fault.Device → IfSome o (λ bytes. (taken : List ℕ) × IsReadTo bytes taken left × IsEarly taken))
-      → Says old new (unread_text e) (unread_status e) given → IfSome o (λ bytes. SaysBefore SaysOfRead bytes left old new)
-  unread_answered fault.Device o left same parts says =
+      → Says old new (unread_text e) (unread_status e) given → IfSome o (λ bytes. SaysBefore (SaysOfRead lending) bytes left old new)
+  unread_answered lending fault.Device o left same parts says =
       IfSome_then o (parts refl) (λ bytes is. (is.0, [], is.1, early is.2, (nothing_said old new given says).0))
-  unread_answered fault.TooLong o left same parts says = absurd (grew (same (λ e. let w : fault.TooLong ≡ fault.Device = e in cc)))
-  unread_answered fault.Memory o left same parts says = absurd (grew (same (λ e. let w : fault.Memory ≡ fault.Device = e in cc)))
+  unread_answered lending fault.TooLong o left same parts says = absurd (grew (same (λ e. let w : fault.TooLong ≡ fault.Device = e in cc)))
+  unread_answered lending fault.Memory o left same parts says = absurd (grew (same (λ e. let w : fault.Memory ≡ fault.Device = e in cc)))

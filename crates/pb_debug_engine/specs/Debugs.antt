@@ -1,5 +1,6 @@
 -- What `debug` says of an input, and with which status.
 use Rattle.std.specs.Prelude.{◌≡◌, ◌++◌, ◌⊎◌, ℕ, List, codes, take, Option, Some, None}
+use Rattle.pb_base.specs.declared.lending.Lending.{Lending}
 use Rattle.pb_code.specs.Whole.{Code, ProcessLabels}
 use Rattle.pb_codegen.specs.Compiled.{IsCompiled}
 use Rattle.pb_debug_commands.specs.Lines.{lines_of}
@@ -9,7 +10,7 @@ use Rattle.pb_command_io.specs.Answers.{memory_line}
 use Rattle.pb_accept.specs.Loading.{IsLoaded, SaysOfNoCode}
 use Rattle.pb_command_io.specs.Parts.{AreTwoParts}
 use Rattle.pb_accept.specs.Refusals.{SaysOfRefusedText}
-use Rattle.pb_accept.specs.ReplayLines.{SaysOfNoPicks}
+use Rattle.pb_accept.specs.ReplayLines.{SaysOfNoPicksBy}
 use Rattle.pb_command_io.specs.declared.status.Status.{Status}
 use Rattle.pb_command_io.specs.declared.status.Status.TheVariants.{Done, Memory, Device}
 use Rattle.pb_history.specs.Replays.{spread}
@@ -41,13 +42,13 @@ abbrev pub SaysOfNoSource : (source : List ℕ) → List ℕ → Status → Type
 SaysOfNoSource source text status =
     (IsObjectPart source × SaysOfNoCode source text status) ⊎ ((¬ IsObjectPart source) × SaysOfRefusedText source text status)
 
--- the debugger of the code and of the picks that the lines say, each enabled in turn, before the first of
--- them; with the text whose lines are shown
-pub record IsOpened (verified : VerifiedCode) (labels : List ProcessLabels) (shown : Option (List ℕ)) (lines : List ℕ) (d : Debugging)
-    : Type 0 where
+-- the debugger of the code and of the picks that the lines say, each enabled in turn under this lending, before
+-- the first of them; with the text whose lines are shown
+pub record IsOpened (lending : Lending) (verified : VerifiedCode) (labels : List ProcessLabels) (shown : Option (List ℕ))
+    (lines : List ℕ) (d : Debugging) : Type 0 where
   pub counted : List CountedPick
   pub spelled : SpellsPicks verified.code lines counted
-  pub opened : d ≡ showing shown (at_start verified labels (spread counted))
+  pub opened : d ≡ showing shown (at_start lending verified labels (spread counted))
   pub placed : IsPosition d
 
 -- ---- what is said
@@ -63,28 +64,28 @@ pub data SaysOfSession (d : Debugging) (commands : List ℕ) : List ℕ → Stat
   broken_off : (lines later : List (List ℕ)) → lines_of (session_bytes commands) ≡ lines ++ later
       → (text : List ℕ) (end : Debugging) → Session d lines text end → SaysOfSession d commands text Device
 
--- of the code of the first part: the lines say no picks, or one of these is not enabled; or the answers to
--- the commands are written
-pub data SaysOfDebugging (verified : VerifiedCode) (labels : List ProcessLabels) (shown : Option (List ℕ)) (lines commands : List ℕ)
-    : List ℕ → Status → Type 0 where
-  no_picks : (text : List ℕ) (status : Status) → SaysOfNoPicks verified.code lines text status
-      → SaysOfDebugging verified labels shown lines commands text status
-  no_memory : SaysOfDebugging verified labels shown lines commands memory_line Memory
-  debugged : (d : Debugging) → IsOpened verified labels shown lines d
+-- of the code of the first part: the lines say no picks, or one of these is not enabled under this lending; or
+-- the answers to the commands are written
+pub data SaysOfDebugging (lending : Lending) (verified : VerifiedCode) (labels : List ProcessLabels) (shown : Option (List ℕ))
+    (lines commands : List ℕ) : List ℕ → Status → Type 0 where
+  no_picks : (text : List ℕ) (status : Status) → SaysOfNoPicksBy lending verified.code lines text status
+      → SaysOfDebugging lending verified labels shown lines commands text status
+  no_memory : SaysOfDebugging lending verified labels shown lines commands memory_line Memory
+  debugged : (d : Debugging) → IsOpened lending verified labels shown lines d
       → (text : List ℕ) (status : Status) → SaysOfSession d commands text status
-      → SaysOfDebugging verified labels shown lines commands text status
+      → SaysOfDebugging lending verified labels shown lines commands text status
 
 -- of the three parts: the first gives no code; or it gives some
-pub data SaysOfParts (source lines commands : List ℕ) : List ℕ → Status → Type 0 where
+pub data SaysOfParts (lending : Lending) (source lines commands : List ℕ) : List ℕ → Status → Type 0 where
   no_source : (text : List ℕ) (status : Status) → SaysOfNoSource source text status
-      → SaysOfParts source lines commands text status
-  no_room : SaysOfParts source lines commands memory_line Memory
+      → SaysOfParts lending source lines commands text status
+  no_room : SaysOfParts lending source lines commands memory_line Memory
   with_code : (verified : VerifiedCode) (labels : List ProcessLabels) (shown : Option (List ℕ)) → GivesCode source verified.code labels shown
-      → (text : List ℕ) (status : Status) → SaysOfDebugging verified labels shown lines commands text status
-      → SaysOfParts source lines commands text status
+      → (text : List ℕ) (status : Status) → SaysOfDebugging lending verified labels shown lines commands text status
+      → SaysOfParts lending source lines commands text status
 
 -- of an input
-abbrev pub SaysOfDebug : (bytes : List ℕ) → List ℕ → Status → Type 0
-SaysOfDebug bytes text status =
+abbrev pub SaysOfDebug : (lending : Lending) → (bytes : List ℕ) → List ℕ → Status → Type 0
+SaysOfDebug lending bytes text status =
     (source : List ℕ) × (lines : List ℕ) × (commands : List ℕ)
-    × AreThreeParts bytes source lines commands × SaysOfParts source lines commands text status
+    × AreThreeParts bytes source lines commands × SaysOfParts lending source lines commands text status

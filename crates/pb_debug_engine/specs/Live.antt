@@ -3,6 +3,7 @@ use Rattle.std.specs.Prelude.{◌+◌, ◌-◌, ◌<◌, ◌≤◌, ◌⊎◌, �
 use Rattle.pb_base.specs.declared.limits.TheConstants.{MAX_INPUT}
 use Rattle.pb_base.specs.declared.device.ReadFault.TheVariants as fault
 use Rattle.pb_base.specs.declared.device.ReadFault.{ReadFault}
+use Rattle.pb_base.specs.declared.lending.Lending.{Lending}
 use Rattle.pb_code.specs.Whole.{ProcessLabels}
 use Rattle.pb_debug_commands.specs.Lines.{cut}
 use Rattle.pb_debug.specs.Sessions.{Session}
@@ -41,11 +42,11 @@ unread_status fault.Memory = Memory
 
 -- one of the first two parts is too long or is not read; or both are, and it is said of the whole input what
 -- `debug` says
-pub data SaysOfLive (bytes : List ℕ) : List ℕ → Status → Type 0 where
-  too_long : HasLongPart bytes → SaysOfLive bytes (unread_text fault.TooLong) (unread_status fault.TooLong)
-  no_memory : SaysOfLive bytes memory_line Memory
-  nothing : SaysOfLive bytes [] Device
-  read : (text : List ℕ) (status : Status) → SaysOfDebug bytes text status → SaysOfLive bytes text status
+pub data SaysOfLive (lending : Lending) (bytes : List ℕ) : List ℕ → Status → Type 0 where
+  too_long : HasLongPart bytes → SaysOfLive lending bytes (unread_text fault.TooLong) (unread_status fault.TooLong)
+  no_memory : SaysOfLive lending bytes memory_line Memory
+  nothing : SaysOfLive lending bytes [] Device
+  read : (text : List ℕ) (status : Status) → SaysOfDebug lending bytes text status → SaysOfLive lending bytes text status
 
 -- ---- a read fails
 
@@ -61,20 +62,20 @@ IsEarly taken = IsUnmarked taken ⊎ ((source : List ℕ) × (rest : List ℕ) �
 abbrev pub AnswersLines : Debugging → (commands text : List ℕ) → Type 0
 AnswersLines d commands text = (end : Debugging) × Session d (cut [] commands).lines text end
 
--- by the debugger of this code and of the picks of these lines
-abbrev pub AnswersOfCode : VerifiedCode → List ProcessLabels → (shown : Option (List ℕ)) → (lines commands text : List ℕ) → Type 0
-AnswersOfCode verified labels shown lines commands text =
-    (d : Debugging) × IsOpened verified labels shown lines d × AnswersLines d commands text
+-- by the debugger of this code and of the picks of these lines under this lending
+abbrev pub AnswersOfCode : Lending → VerifiedCode → List ProcessLabels → (shown : Option (List ℕ)) → (lines commands text : List ℕ) → Type 0
+AnswersOfCode lending verified labels shown lines commands text =
+    (d : Debugging) × IsOpened lending verified labels shown lines d × AnswersLines d commands text
 
 -- by the debugger of the first two parts
-abbrev pub AnswersOfParts : (source lines commands text : List ℕ) → Type 0
-AnswersOfParts source lines commands text =
+abbrev pub AnswersOfParts : Lending → (source lines commands text : List ℕ) → Type 0
+AnswersOfParts lending source lines commands text =
     (verified : VerifiedCode) × (labels : List ProcessLabels) × (shown : Option (List ℕ)) × GivesCode source verified.code labels shown
-    × AnswersOfCode verified labels shown lines commands text
+    × AnswersOfCode lending verified labels shown lines commands text
 
 -- what is written if a read fails after these bytes: nothing within the first two parts; else the answers to
 -- the complete commands among them
-pub data SaysOfRead (taken : List ℕ) : List ℕ → Type 0 where
-  early : IsEarly taken → SaysOfRead taken []
-  late : (source lines commands text : List ℕ) → AreThreeParts taken source lines commands → AnswersOfParts source lines commands text
-      → SaysOfRead taken text
+pub data SaysOfRead (lending : Lending) (taken : List ℕ) : List ℕ → Type 0 where
+  early : IsEarly taken → SaysOfRead lending taken []
+  late : (source lines commands text : List ℕ) → AreThreeParts taken source lines commands → AnswersOfParts lending source lines commands text
+      → SaysOfRead lending taken text

@@ -7,6 +7,7 @@ ghost use Rattle.pb_command_io.specs.Faults.{TellsFaults, TellsWriteFaults};
 ghost use Rattle.pb_command_io.specs.Inputs.{SaysOfInput};
 
 use crate::parts::debug_parts;
+use pb_base::Lending;
 use pb_base::device::{Input, MemoryInput, Output};
 use pb_base::limits::MAX_INPUT;
 use pb_command_io::Status;
@@ -14,36 +15,42 @@ use pb_command_io::input::read_input;
 use pb_command_io::parts::two_parts;
 use std::alloc::Global;
 
-/// Debugs the text or the object that the input begins with: makes the picks of the pick lines behind the
-/// first line `%%`, and writes the answers to the commands behind the second. The first part is an object if
+/// Debugs the text or the object that the input begins with under a lending: makes the picks of the pick lines
+/// behind the first line `%%`, and writes the answers to the commands behind the second. The first part is an object if
 /// it begins with `PBO `. If it, the pick lines or their picks are refused, only the refusal line is written.
 ///
 /// The status is `Done` at the end of the commands, whatever they were. After a read that failed nothing is
 /// written; after a write that failed, a prefix of the output.
-pub fn debug_engine<I: Input, O: Output>(alloc: Global, input: &mut I, output: &mut O) -> Status
+pub fn debug_engine<I: Input, O: Output>(
+    alloc: Global,
+    lending: Lending,
+    input: &mut I,
+    output: &mut O,
+) -> Status
     ensures text { IfSome (I.rest input.old) (λ bytes.
-        Tells (SaysOfInput SaysOfDebug bytes) (O.written output.old) (O.written output.new) result) }
+        Tells (SaysOfInput (SaysOfDebug lending) bytes) (O.written output.old) (O.written output.new) result) }
     ensures faults { TellsFaults
         (record { reads = I.failures input.old; writes = O.failures output.old; written = O.written output.old })
         (record { reads = I.failures input.new; writes = O.failures output.new; written = O.written output.new })
         result }
 {
     match read_input(alloc, input, output) {
-        Ok(bytes) => debug_bytes(alloc, bytes.as_slice(), output),
+        Ok(bytes) => debug_bytes(alloc, lending, bytes.as_slice(), output),
         Err(status) => status,
     }
 }
 
 // Debugs a whole input.
-fn debug_bytes<O: Output>(alloc: Global, bytes: &[u8], output: &mut O) -> Status
+fn debug_bytes<O: Output>(alloc: Global, lending: Lending, bytes: &[u8], output: &mut O) -> Status
     requires { length bytes.now ≤ MAX_INPUT }
-    ensures text { Tells (SaysOfInput SaysOfDebug bytes.now) (O.written output.old) (O.written output.new) result }
+    ensures text { Tells (SaysOfInput (SaysOfDebug lending) bytes.now) (O.written output.old) (O.written output.new) result }
     ensures faults { TellsWriteFaults (O.failures output.old) (O.failures output.new) result }
 {
     let (source, rest) = two_parts(bytes);
     let (lines, commands) = two_parts(rest);
     debug_parts(
         alloc,
+        lending,
         source,
         lines,
         &mut MemoryInput::new(commands),

@@ -10,6 +10,7 @@ ghost use Rattle.pb_command_io.specs.Faults.{TellsWriteFaults};
 
 use crate::part::read_first_parts;
 use crate::parts::debug_parts;
+use pb_base::Lending;
 use pb_base::device::{Input, Output, ReadFault};
 use pb_base::limits::MAX_INPUT;
 use pb_command_io::{Page, Status};
@@ -24,14 +25,15 @@ use std::alloc::Global;
 /// bytes are taken from the input.
 pub fn debug_live_engine<I: Input, O: Output>(
     alloc: Global,
+    lending: Lending,
     input: &mut I,
     output: &mut O,
 ) -> Status
     ensures text { IfSome (I.rest input.old) (λ bytes.
-        Tells (SaysOfLive bytes) (O.written output.old) (O.written output.new) result) }
+        Tells (SaysOfLive lending bytes) (O.written output.old) (O.written output.new) result) }
     ensures device { I.failures input.new ≢ I.failures input.old → result ≡ Status.Device }
     ensures answered { I.failures input.new ≢ I.failures input.old → IfSome (I.rest input.old) (λ bytes.
-        SaysBefore SaysOfRead bytes (I.rest input.new) (O.written output.old) (O.written output.new)) }
+        SaysBefore (SaysOfRead lending) bytes (I.rest input.new) (O.written output.old) (O.written output.new)) }
     ensures faults { TellsAnyFault
         (record { reads = I.failures input.old; writes = O.failures output.old; written = O.written output.old })
         (record { reads = I.failures input.new; writes = O.failures output.new; written = O.written output.new })
@@ -42,6 +44,7 @@ pub fn debug_live_engine<I: Input, O: Output>(
         Ok(parts) => {
             debug_parts(
                 alloc,
+                lending,
                 parts.source.as_slice(),
                 parts.lines.as_slice(),
                 input,

@@ -14,6 +14,7 @@ use crate::session::tell_session;
 use pb_accept::accept::{compile_text, refuse};
 use pb_accept::load::{load, load_refusal};
 use pb_accept::replay::{LinesFault, lines_refusal};
+use pb_base::Lending;
 use pb_base::device::{Input, Output};
 use pb_base::limits::MAX_INPUT;
 use pb_code::Labels;
@@ -31,10 +32,11 @@ fn is_object(source: &[u8]) -> bool
     source.starts_with(b"PBO ")
 }
 
-// Debugs the code that a first part gave, with the text whose lines are shown.
+// Debugs the code that a first part gave under a lending, with the text whose lines are shown.
 #[tactic(auto, using(crate::proofs::PartLemmas::takes_none))]
 fn debug_code<I: Input, O: Output>(
     alloc: Global,
+    lending: Lending,
     verified: &Verified,
     labels: &Labels,
     shown: Option<&[u8]>,
@@ -44,10 +46,10 @@ fn debug_code<I: Input, O: Output>(
 ) -> Status
     requires { AreLabels verified.now.code (labels_view labels.now) }
     ensures text { IfSome (I.rest commands.old) (λ bytes.
-        Tells (SaysOfDebugging verified.now (labels_view labels.now) (option_map (λ text. text.now) shown.entry) lines.now bytes)
+        Tells (SaysOfDebugging lending verified.now (labels_view labels.now) (option_map (λ text. text.now) shown.entry) lines.now bytes)
         (O.written output.old) (O.written output.new) result) }
     ensures answered { I.failures commands.new ≢ I.failures commands.old → IfSome (I.rest commands.old) (λ bytes.
-        SaysBefore (AnswersOfCode verified.now (labels_view labels.now) (option_map (λ text. text.now) shown.entry) lines.now)
+        SaysBefore (AnswersOfCode lending verified.now (labels_view labels.now) (option_map (λ text. text.now) shown.entry) lines.now)
         bytes (I.rest commands.new) (O.written output.old) (O.written output.new)) }
     ensures faults { TellsAnyFault
         (record { reads = I.failures commands.old; writes = O.failures output.old; written = O.written output.old })
@@ -65,7 +67,7 @@ fn debug_code<I: Input, O: Output>(
             );
         }
     };
-    match Debugger::from_object_counted(alloc, verified, labels, picks.as_slice()) {
+    match Debugger::from_object_counted(alloc, verified, labels, lending, picks.as_slice()) {
         Ok(debugger) => {
             let mut debugger = debugger.with_source(shown);
             tell_session(alloc, &mut debugger, commands, output)
@@ -78,11 +80,12 @@ fn debug_code<I: Input, O: Output>(
     }
 }
 
-/// Debugs a text or an object after the picks of the pick lines: writes the answers to the commands, or the
+/// Debugs a text or an object under a lending after the picks of the pick lines: writes the answers to the commands, or the
 /// line of the first refusal. The text or object is judged first, then the pick lines, then the picks.
 #[tactic(auto, using(crate::proofs::PartLemmas::takes_none))]
 pub fn debug_parts<I: Input, O: Output>(
     alloc: Global,
+    lending: Lending,
     source: &[u8],
     lines: &[u8],
     commands: &mut I,
@@ -90,9 +93,9 @@ pub fn debug_parts<I: Input, O: Output>(
 ) -> Status
     requires { length source.now ≤ MAX_INPUT }
     ensures text { IfSome (I.rest commands.old) (λ bytes.
-        Tells (SaysOfParts source.now lines.now bytes) (O.written output.old) (O.written output.new) result) }
+        Tells (SaysOfParts lending source.now lines.now bytes) (O.written output.old) (O.written output.new) result) }
     ensures answered { I.failures commands.new ≢ I.failures commands.old → IfSome (I.rest commands.old) (λ bytes.
-        SaysBefore (AnswersOfParts source.now lines.now) bytes (I.rest commands.new) (O.written output.old) (O.written output.new)) }
+        SaysBefore (AnswersOfParts lending source.now lines.now) bytes (I.rest commands.new) (O.written output.old) (O.written output.new)) }
     ensures faults { TellsAnyFault
         (record { reads = I.failures commands.old; writes = O.failures output.old; written = O.written output.old })
         (record { reads = I.failures commands.new; writes = O.failures output.new; written = O.written output.new })
@@ -102,7 +105,9 @@ pub fn debug_parts<I: Input, O: Output>(
     if is_object(source) {
         return match load(alloc, source) {
             Ok((verified, labels)) => {
-                debug_code(alloc, &verified, &labels, None, lines, commands, output)
+                debug_code(
+                    alloc, lending, &verified, &labels, None, lines, commands, output,
+                )
             }
             Err(fault) => tell(alloc, load_refusal(alloc, fault), output),
         };
@@ -111,6 +116,7 @@ pub fn debug_parts<I: Input, O: Output>(
         Ok(compiled) => {
             debug_code(
                 alloc,
+                lending,
                 compiled.verified(),
                 compiled.labels(),
                 Some(source),

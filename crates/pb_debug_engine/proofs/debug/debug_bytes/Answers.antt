@@ -17,7 +17,7 @@ returns-clause-text g c =
     let new = g.O.Output.written c.debug_parts.new.output in
     bytes_told c.args.bytes.now source c.two_parts.result.1.now lines c.two_parts-2.result.1.now old new
     c.debug_parts.result c.requires c.two_parts.ensures c.two_parts-2.ensures
-    (subst (λ (commands : List ℕ). Tells (SaysOfParts source lines commands) old new c.debug_parts.result) c.new.ensures
+    (subst (λ (commands : List ℕ). Tells (SaysOfParts c.args.lending source lines commands) old new c.debug_parts.result) c.new.ensures
     c.debug_parts.ensures.text)
 
 pub returns-clause-faults : goal.returns-clause-faults

@@ -6,13 +6,13 @@ use Rattle.pb_debug_engine.proofs.live.debug_live_engine.Goals as goal
 
 pub returns-in-Ok-clause-text : goal.returns-in-Ok-clause-text
 returns-in-Ok-clause-text g c =
-    live_told (g.I.Input.rest c.args.input.now) (g.I.Input.rest c.read_first_parts.new.input) _ _ c.in-Ok.parts.source.items
+    live_told c.args.lending (g.I.Input.rest c.args.input.now) (g.I.Input.rest c.read_first_parts.new.input) _ _ c.in-Ok.parts.source.items
     c.in-Ok.parts.lines.items c.as_slice.result.now c.as_slice-in-Ok.result.now c.debug_parts.result c.in-Ok.ensures.parts
     c.as_slice.ensures.value c.as_slice-in-Ok.ensures.value c.debug_parts.ensures.text
 
 pub returns-in-Err-clause-text : goal.returns-in-Err-clause-text
 returns-in-Err-clause-text g c =
-    unread_told c.in-Err.fault (g.I.Input.rest c.args.input.now) _ _ c.tell_unread.result c.in-Err.ensures.long c.tell_unread.ensures.text
+    unread_told c.args.lending c.in-Err.fault (g.I.Input.rest c.args.input.now) _ _ c.tell_unread.result c.in-Err.ensures.long c.tell_unread.ensures.text
 
 pub returns-in-Ok-clause-device : goal.returns-in-Ok-clause-device
 returns-in-Ok-clause-device g c grew =
@@ -31,7 +31,7 @@ returns-in-Ok-clause-device g c grew =
 
 pub returns-in-Ok-clause-answered : goal.returns-in-Ok-clause-answered
 returns-in-Ok-clause-answered g c grew =
-    live_answered (g.I.Input.rest c.args.input.now) (g.I.Input.rest c.read_first_parts.new.input) _ _ _ c.in-Ok.parts.source.items
+    live_answered c.args.lending (g.I.Input.rest c.args.input.now) (g.I.Input.rest c.read_first_parts.new.input) _ _ _ c.in-Ok.parts.source.items
     c.in-Ok.parts.lines.items c.as_slice.result.now c.as_slice-in-Ok.result.now c.in-Ok.ensures.parts c.as_slice.ensures.value
     c.as_slice-in-Ok.ensures.value (c.debug_parts.ensures.answered (λ same. grew (same ∙ c.in-Ok.ensures.counted)))
 
@@ -41,7 +41,7 @@ returns-in-Err-clause-device g c grew =
 
 pub returns-in-Err-clause-answered : goal.returns-in-Err-clause-answered
 returns-in-Err-clause-answered g c grew =
-    unread_answered _ _ _ _ c.tell_unread.result grew c.in-Err.fault (g.I.Input.rest c.args.input.now) _ c.in-Err.ensures.no_fault
+    unread_answered _ _ _ _ c.tell_unread.result grew c.args.lending c.in-Err.fault (g.I.Input.rest c.args.input.now) _ c.in-Err.ensures.no_fault
     c.in-Err.ensures.early c.tell_unread.ensures.text
 
 pub returns-in-Ok-clause-taken : goal.returns-in-Ok-clause-taken

@@ -21,8 +21,8 @@ returns-in-Ok-clause-text g c =
 pub returns-in-Ok-clause-answered : goal.returns-in-Ok-clause-answered
 returns-in-Ok-clause-answered g c grew =
     let object = c.if-is_object.ensures.0 refl in
-    says_weaker (AnswersOfCode c.in-Ok.verified (labels_view c.in-Ok.labels) None c.args.lines.now)
-    (AnswersOfParts c.args.source.now c.args.lines.now)
+    says_weaker (AnswersOfCode c.args.lending c.in-Ok.verified (labels_view c.in-Ok.labels) None c.args.lines.now)
+    (AnswersOfParts c.args.lending c.args.source.now c.args.lines.now)
     (λ read text answers. (c.in-Ok.verified, labels_view c.in-Ok.labels, None, inl (object, c.in-Ok.ensures.loaded, refl), answers))
     (g.I.Input.rest c.args.commands.now) _ _ _ (c.debug_code.ensures.answered grew)
 
@@ -46,8 +46,8 @@ pub returns-in-Ok-compile_text-clause-answered : goal.returns-in-Ok-compile_text
 returns-in-Ok-compile_text-clause-answered g c grew =
     let seen = c.verified-in-Ok-compile_text.result.now in
     let seen_labels = labels_view c.labels.result.now in
-    says_weaker (AnswersOfCode seen seen_labels (Some c.args.source.now) c.args.lines.now)
-    (AnswersOfParts c.args.source.now c.args.lines.now)
+    says_weaker (AnswersOfCode c.args.lending seen seen_labels (Some c.args.source.now) c.args.lines.now)
+    (AnswersOfParts c.args.lending c.args.source.now c.args.lines.now)
     (text_answers c.args.source.now c.args.lines.now seen c.in-Ok-compile_text.compiled.verified seen_labels
     c.in-Ok-compile_text.compiled.labels (λ object. let w : false ≡ true = c.if-is_object.ensures.1 object in cc)
     c.in-Ok-compile_text.ensures.compiled c.verified-in-Ok-compile_text.ensures c.labels.ensures.labels)
