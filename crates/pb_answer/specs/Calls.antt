@@ -6,6 +6,7 @@ use Rattle.pb_words.specs.declared.words.Options.{Options}
 use Rattle.pb_words.specs.declared.words.Options.TheVariants as option
 use Rattle.pb_words.specs.declared.words.WordsFault.{WordsFault}
 use Rattle.pb_words.specs.declared.words.WordsFault.TheVariants as fault
+use Rattle.pb_base.specs.declared.lending.Lending.TheVariants.{ByBanker}
 use Rattle.pb_bank_engine.specs.Sessions as bank
 use Rattle.pb_bank_engine.specs.Sessions.{SaysOfBank}
 use Rattle.pb_debug_engine.specs.Debugs.{SaysOfDebug}
@@ -37,8 +38,8 @@ use Rattle.pb_words.specs.Read.{WordsSay}
 
 -- what `debug` may say of an input, of which it reads the commands as they come, or all before it writes
 abbrev pub SaysOfCommands : (live : Bool) → List ℕ → List ℕ → Status → Type 0
-SaysOfCommands true = SaysOfLive
-SaysOfCommands false = SaysOfInput SaysOfDebug
+SaysOfCommands true = SaysOfLive ByBanker
+SaysOfCommands false = SaysOfInput (SaysOfDebug ByBanker)
 
 -- the part of a run that the options of `states` name
 abbrev pub shown_by : StatesOptions → Shown
@@ -101,7 +102,7 @@ TellsDebugFaults false = TellsFaults
 -- what `debug --live` writes if a read fails: the answers to the commands before it, all of them and no more
 abbrev pub AnswersBeforeRead : (live : Bool) → (rest left : Option (List ℕ)) → Devices → Devices → Type 0
 AnswersBeforeRead true rest left old new =
-    new.reads ≢ old.reads → IfSome rest (λ bytes. SaysBefore SaysOfRead bytes left old.written new.written)
+    new.reads ≢ old.reads → IfSome rest (λ bytes. SaysBefore (SaysOfRead ByBanker) bytes left old.written new.written)
 AnswersBeforeRead false rest left old new = ⊤
 
 -- what `bank` tells of its devices: the answers to the commands before a read that fails, all of them and no more

@@ -6,6 +6,7 @@ ghost use Rattle.pb_answer.specs.Calls.{AnswersBeforeRead, shown_by};
 ghost use Rattle.pb_command_io.specs.Faults.{TellsWriteFaults};
 
 use pb_bank_engine::bank_engine;
+use pb_base::Lending;
 use pb_base::device::{Input, Output};
 use pb_command_io::{Page, Status};
 use pb_debug_engine::{debug_engine, debug_live_engine};
@@ -87,9 +88,9 @@ pub fn debug<I: Input, O: Output>(
         (record { reads = I.failures input.new; writes = O.failures output.new; written = O.written output.new }) }
 {
     if flags.live {
-        debug_live_engine(alloc, input, output)
+        debug_live_engine(alloc, Lending::ByBanker, input, output)
     } else {
-        debug_engine(alloc, input, output)
+        debug_engine(alloc, Lending::ByBanker, input, output)
     }
 }
 
