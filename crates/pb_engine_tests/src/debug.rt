@@ -1,8 +1,10 @@
 //! Whole inputs, and what is said of them.
 
+use pb_base::Lending;
 use pb_base::device::{MemoryInput, MemoryOutput};
 use pb_command_io::Status;
 use pb_debug_engine::{debug_engine, debug_live_engine};
+use pb_example_texts::deadlock::CIRCLE_RUN;
 use std::alloc::Global;
 
 /// An input, what is said of it, and the status.
@@ -74,7 +76,7 @@ const CASES: [Case; 11] = [
 fn says(alloc: Global, case: &Case) -> Option<bool> {
     let mut input = MemoryInput::new(case.input);
     let mut output = MemoryOutput::new(alloc, 4_096).ok()?;
-    let status = debug_engine(alloc, &mut input, &mut output);
+    let status = debug_engine(alloc, Lending::ByBanker, &mut input, &mut output);
     Some(status == case.status && output.as_slice() == case.said)
 }
 
@@ -82,8 +84,45 @@ fn says(alloc: Global, case: &Case) -> Option<bool> {
 fn says_live(alloc: Global, case: &Case) -> Option<bool> {
     let mut input = MemoryInput::new(case.input);
     let mut output = MemoryOutput::new(alloc, 4_096).ok()?;
-    let status = debug_live_engine(alloc, &mut input, &mut output);
+    let status = debug_live_engine(alloc, Lending::ByBanker, &mut input, &mut output);
     Some(status == case.status && output.as_slice() == case.said)
+}
+
+/// Goes to the deadlock of the example, asks there, tries a pick past the cash, and goes back and on.
+const WALK: &[u8] =
+    b"%%\nto 2\nwho tape\nwho disk\nwhy a.0\nwhy b.0\nthreads a\npick a.0\npick b.0\nback 1\nwhy b.0\nnext\n";
+
+/// What is said then by cash alone.
+const WALKED: &[u8] =
+    b"at 2\na holds 1 tape claim 1\nb.0 asks 1 tape\ncash 0 tape\nb holds 1 disk claim 1\na.0 asks 1 disk\ncash 0 disk\ncash 0 disk\ncash 0 tape\n0 at 1\ncash 0 disk\ncash 0 tape\nat 1\ngranted\nat 2 b.0 grant 1 disk\n";
+
+/// Returns whether this is said of a walk through the deadlock of the example, under a lending, by each engine.
+fn says_of_deadlock(
+    alloc: Global,
+    lending: Lending,
+    said: &[u8],
+    status: Status,
+) -> Option<(bool, bool)> {
+    let mut bytes = Vec::from_slice(alloc, CIRCLE_RUN).ok()?;
+    bytes.extend_from_slice(WALK).ok()?;
+    let mut whole = MemoryOutput::new(alloc, 4_096).ok()?;
+    let told = debug_engine(alloc, lending, &mut MemoryInput::new(&bytes), &mut whole);
+    let mut live = MemoryOutput::new(alloc, 4_096).ok()?;
+    let told_live = debug_live_engine(alloc, lending, &mut MemoryInput::new(&bytes), &mut live);
+    Some((
+        told == status && whole.as_slice() == said,
+        told_live == status && live.as_slice() == said,
+    ))
+}
+
+#[test]
+fn deadlock_by_cash(rt: HostRuntime) {
+    let by_cash = says_of_deadlock(rt.alloc(), Lending::ByCash, WALKED, Status::Done);
+    assert!(rt; by_cash == Some((true, true)));
+    // the banker refuses the second pick, so that there is no session
+    let refused = b"refused H1 at 1\n";
+    let by_banker = says_of_deadlock(rt.alloc(), Lending::ByBanker, refused, Status::Refused);
+    assert!(rt; by_banker == Some((true, true)));
 }
 
 #[test]

@@ -1,5 +1,6 @@
 //! Live sessions of which a read or a write fails, and inputs that are too long.
 
+use pb_base::Lending;
 use pb_base::device::{FaultyInput, FaultyOutput, MemoryInput, MemoryOutput};
 use pb_command_io::Status;
 use pb_debug_engine::{debug_engine, debug_live_engine};
@@ -12,7 +13,7 @@ const SESSION: &[u8] = b"process p begin print 1 end\n%%\np.0 1\n%%\nto 1\nto 0\
 fn answers_before(alloc: Global, passing: u64, said: &[u8]) -> Option<bool> {
     let mut input = FaultyInput::new(SESSION, passing, 5);
     let mut output = MemoryOutput::new(alloc, 100).ok()?;
-    let status = debug_live_engine(alloc, &mut input, &mut output);
+    let status = debug_live_engine(alloc, Lending::ByBanker, &mut input, &mut output);
     Some(status == Status::Device && output.as_slice() == said)
 }
 
@@ -30,7 +31,7 @@ fn commands_are_answered_before_more_is_read(rt: HostRuntime) {
 fn ends_at_a_failed_write(alloc: Global) -> Option<bool> {
     let mut input = MemoryInput::new(SESSION);
     let mut output = FaultyOutput::new(alloc, 100, 1, 100).ok()?;
-    let status = debug_live_engine(alloc, &mut input, &mut output);
+    let status = debug_live_engine(alloc, Lending::ByBanker, &mut input, &mut output);
     Some(status == Status::Device && output.as_slice() == b"at 1\n".as_slice())
 }
 
@@ -38,7 +39,7 @@ fn ends_at_a_failed_write(alloc: Global) -> Option<bool> {
 fn says_nothing(alloc: Global) -> Option<bool> {
     let mut input = FaultyInput::new(SESSION, 9, 5);
     let mut output = MemoryOutput::new(alloc, 100).ok()?;
-    let status = debug_engine(alloc, &mut input, &mut output);
+    let status = debug_engine(alloc, Lending::ByBanker, &mut input, &mut output);
     Some(status == Status::Device && output.as_slice().is_empty())
 }
 
@@ -55,9 +56,19 @@ fn says_of_length(alloc: Global, length: usize, said: &[u8], said_live: &[u8]) -
     bytes.resize(length, b'\n').ok()?;
     bytes.extend_from_slice(b"%%\np.0 1\n%%\nto 1\n").ok()?;
     let mut output = MemoryOutput::new(alloc, 100).ok()?;
-    debug_engine(alloc, &mut MemoryInput::new(&bytes), &mut output);
+    debug_engine(
+        alloc,
+        Lending::ByBanker,
+        &mut MemoryInput::new(&bytes),
+        &mut output,
+    );
     let mut live = MemoryOutput::new(alloc, 100).ok()?;
-    debug_live_engine(alloc, &mut MemoryInput::new(&bytes), &mut live);
+    debug_live_engine(
+        alloc,
+        Lending::ByBanker,
+        &mut MemoryInput::new(&bytes),
+        &mut live,
+    );
     Some(output.as_slice() == said && live.as_slice() == said_live)
 }
 

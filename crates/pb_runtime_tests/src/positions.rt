@@ -3,7 +3,7 @@
 ghost use Rattle.std.specs.Prelude.{◌≤◌, length};
 ghost use Rattle.pb_history.specs.Replays.{spread};
 
-use pb_base::{Pick, Step};
+use pb_base::{Lending, Pick, Step};
 use pb_codegen::compile;
 use pb_debug::{DebugFault, Debugger};
 use pb_debug_texts::Why;
@@ -121,14 +121,20 @@ fn refused_moves_leave_the_position(rt: HostRuntime) {
     }
 }
 
-/// Returns why these picks of the two processes make no debugger.
-fn refused(alloc: Global, picks: &[Pick]) -> Option<ReplayFault>
+/// Returns why these picks of the two processes make no debugger under a lending.
+fn refused(alloc: Global, lending: Lending, picks: &[Pick]) -> Option<ReplayFault>
     requires { length picks.now ≤ 10000000 }
 {
     let Ok(compiled) = compile(alloc, alloc, DEVICES) else {
         return None;
     };
-    match Debugger::from_object(alloc, compiled.verified(), compiled.labels(), picks) {
+    match Debugger::from_object(
+        alloc,
+        compiled.verified(),
+        compiled.labels(),
+        lending,
+        picks,
+    ) {
         Ok(_) => None,
         Err(fault) => Some(fault),
     }
@@ -136,7 +142,12 @@ fn refused(alloc: Global, picks: &[Pick]) -> Option<ReplayFault>
 
 #[test]
 fn a_pick_that_is_not_enabled(rt: HostRuntime) {
-    assert!(rt; refused(rt.alloc(), &[A, B]) == Some(ReplayFault::NotEnabled(1)));
+    let by_banker = refused(rt.alloc(), Lending::ByBanker, &[A, B]);
+    assert!(rt; by_banker == Some(ReplayFault::NotEnabled(1)));
+    // the cash lends each of them its first device, and then has none for `a`
+    assert!(rt; refused(rt.alloc(), Lending::ByCash, &[A, B]) == None);
+    let by_cash = refused(rt.alloc(), Lending::ByCash, &[A, B, A]);
+    assert!(rt; by_cash == Some(ReplayFault::NotEnabled(2)));
 }
 
 /// Returns whether the reason is that these processes could never finish.
@@ -213,8 +224,10 @@ fn arms_are_right(alloc: Global) -> Option<bool> {
         alloc,
         compiled.verified(),
         compiled.labels(),
+        Lending::ByBanker,
         &picks,
-    ).ok()?;
+    )
+    .ok()?;
     tells_arms(&mut debugger)
 }
 

@@ -1,7 +1,7 @@
 //! Sessions: commands and their answers.
 
-use pb_base::Pick;
 use pb_base::device::{FaultyInput, FaultyOutput, Input, MemoryInput, MemoryOutput, Output};
+use pb_base::{Lending, Pick};
 use pb_codegen::compile;
 use pb_debug::{DebugFault, Debugger};
 use std::alloc::{AllocError, Global};
@@ -154,6 +154,41 @@ fn commands_are_answered(rt: HostRuntime) {
     for case in &CASES {
         assert!(rt; says(rt.alloc(), case.text, case.picks, case.commands, case.said));
     }
+}
+
+/// Returns whether a session over the two devices and a pick answers the commands as expected, and how it lends.
+fn says_by(
+    alloc: Global,
+    lending: Lending,
+    commands: &[u8],
+    said: &[u8],
+) -> Option<(bool, Lending)> {
+    let compiled = compile(alloc, alloc, DEVICES).ok()?;
+    let debugger = Debugger::from_object(
+        alloc,
+        compiled.verified(),
+        compiled.labels(),
+        lending,
+        &[A],
+    ).ok()?;
+    let lends = debugger.lending();
+    Some((answers(alloc, debugger, commands, said), lends))
+}
+
+/// Appends a pick that only the cash grants, after which neither process goes on, and goes back and forward over it.
+const DEADLOCK: &[u8] =
+    b"to 1\nwhy b.0\npick b.0\nwho disk\nwhy a.0\nthreads a\npick a.0\nback 1\nwho disk\nnext\nloans\ncircle\n";
+
+#[test]
+fn sessions_by_cash(rt: HostRuntime) {
+    let by_cash =
+        b"at 1\ngranted\nat 2 b.0 grant 1 disk\nb holds 1 disk claim 1\na.0 asks 1 disk\ncash 0 disk\ncash 0 disk\n0 at 1\ncash 0 disk\nat 1\na.0 asks 1 disk\nb.0 asks 1 disk\ncash 1 disk\nat 2 b.0 grant 1 disk\na holds 1 tape claim 1\na holds 0 disk claim 1\nb holds 0 tape claim 1\nb holds 1 disk claim 1\ncash 0 tape\ncash 0 disk\na.0 waits disk holder b\nb.0 waits tape holder a\n";
+    let cash = says_by(rt.alloc(), Lending::ByCash, DEADLOCK, by_cash);
+    assert!(rt; cash == Some((true, Lending::ByCash)));
+    let by_banker =
+        b"at 1\nrest a b\nrest a b\na.0 asks 1 disk\nb.0 asks 1 disk\ncash 1 disk\norder a b\n0 at 1\nat 2 a.0 grant 1 disk\nat 1\na.0 asks 1 disk\nb.0 asks 1 disk\ncash 1 disk\nat 2 a.0 grant 1 disk\na holds 1 tape claim 1\na holds 1 disk claim 1\nb holds 0 tape claim 1\nb holds 0 disk claim 1\ncash 0 tape\ncash 0 disk\nno circle\n";
+    let banker = says_by(rt.alloc(), Lending::ByBanker, DEADLOCK, by_banker);
+    assert!(rt; banker == Some((true, Lending::ByBanker)));
 }
 
 /// Asks for lines of the text at three positions, and for lines that are not there.
