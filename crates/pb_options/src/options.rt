@@ -1,6 +1,7 @@
 //! The options of the engines.
-ghost use Rattle.std.specs.Prelude.{◌≡◌, ◌≤◌, ℕ, Some};
+ghost use Rattle.std.specs.Prelude.{◌≡◌, ◌≤◌, ℕ, None, Some};
 ghost use Rattle.pb_base.specs.declared.limits.TheConstants.{MAX_PICKS, MAX_QUANTUM, MAX_STATES, MAX_WORKERS};
+ghost use Rattle.pb_options.specs.declared.options.Lend.TheVariants.{Banker};
 ghost use Rattle.pb_options.specs.declared.options.TheConstants.{MAX_HEAP, MAX_ROWS, MIN_HEAP};
 ghost use Rattle.pb_options.specs.Lends.{IsLendOf, lending_for};
 
@@ -54,6 +55,9 @@ pub struct RecordOptions {
     pub run: RunOptions,
     /// The seed of the generator that draws the picks, if they are to be drawn.
     pub seed: Option<u64>,
+    /// Who decides on a request: the banker, if the picks are not drawn.
+    pub lend: Lend,
+    pub ghost workers_ask_the_banker: { seed ≡ None → lend ≡ Banker },
 }
 
 /// The options of `draw_engine`.

@@ -8,22 +8,20 @@ use Rattle.std.proofs.lemmas.List.Edits.{length-remove}
 use Rattle.std.proofs.lemmas.List.Elements.{All-head, All-nil, All-push, All-tail, All-weaker}
 use Rattle.std.proofs.lemmas.Option.{get_or_from_slice_get, slice_get-get_or, slice_get_past, slice_get_within}
 use Rattle.std.proofs.lemmas.Nat.{mod_below}
+use Rattle.pb_base.specs.declared.lending.Lending.{Lending}
 use Rattle.pb_base.specs.declared.pick.Pick.{Pick}
-use Rattle.pb_base.specs.Steppers.{State}
+use Rattle.pb_base.specs.Steppers.{State, CanGoOn}
 use Rattle.pb_base.proofs.Lists.{get_some}
 use Rattle.pb_code.specs.Code.{CodeProcess, code_step}
-use Rattle.pb_code.specs.Reached.{CodeReaches, CodeStays}
-use Rattle.pb_code.specs.Whole.{Code}
-use Rattle.pb_machine.proofs.NeverStuck.{goes_on}
+use Rattle.pb_code.specs.Reached.{CodeStaysBy}
+use Rattle.pb_code.specs.Whole.{Code, bank_by}
 use Rattle.pb_machine.specs.Looks.{look_at, look_of, CanStep}
 use Rattle.pb_machine.specs.declared.look.Look.{Look}
 use Rattle.pb_machine.specs.declared.look.Look.TheVariants.{Stays, Silent, Visible}
-use Rattle.pb_verifier.specs.Verified.{VerifiedCode, IsVerified}
 use Rattle.rand_pcg.specs.Lcg.{Lcg}
 use Rattle.rand_pcg.specs.Pcg.{pcg32}
 use Rattle.pb_record.specs.Choices.{AreInOrder, AreCandidatesBefore, AreCandidates, IsBefore}
 use Rattle.pb_record.specs.Draws.{Draws, DrawsPick, drawn_number, hit, struck}
-use Rattle.pb_record.specs.CodeRuns.{IsDone}
 use Rattle.pb_record.proofs.GrantLemmas.{IsEnabled, enabled_or_not}
 use Rattle.pb_record.proofs.ScheduleLemmas.{looks_staying, no_step_beyond}
 use Rattle.pb_verifier.proofs.Requests.{same_pick}
@@ -202,14 +200,14 @@ stays_in (p ∷ picks) (suc i) (suc k) pick there other =
     let (j, at) = stays_in picks i k pick there (λ e. other (ap suc e)) in (suc j, at)
 
 -- the candidates without those that were drawn first, none of which is enabled
-pub record AreLeft (code : Code) (s : State CodeProcess) (first : Lcg) (left : List Pick) (now : Lcg) : Type 0 where
+pub record AreLeft (lending : Lending) (code : Code) (s : State CodeProcess) (first : Lcg) (left : List Pick) (now : Lcg) : Type 0 where
   pub start : List Pick
   pub candidates : AreCandidates code s start
-  pub on : (pick : Pick) (after : Lcg) → Draws code s now left pick after → Draws code s first start pick after
-  pub others : (pick : Pick) → Contains start pick → (Contains left pick) ⊎ CodeStays code s pick
+  pub on : (pick : Pick) (after : Lcg) → Draws lending code s now left pick after → Draws lending code s first start pick after
+  pub others : (pick : Pick) → Contains start pick → (Contains left pick) ⊎ CodeStaysBy lending code s pick
 
-module _ (code : Code) (s : State CodeProcess) (first : Lcg) where
-  pub all_left : (picks : List Pick) → AreCandidates code s picks → AreLeft code s first picks first
+module _ (lending : Lending) (code : Code) (s : State CodeProcess) (first : Lcg) where
+  pub all_left : (picks : List Pick) → AreCandidates code s picks → AreLeft lending code s first picks first
   all_left picks are = record {
     start = picks;
     candidates = are;
@@ -218,11 +216,11 @@ module _ (code : Code) (s : State CodeProcess) (first : Lcg) where
   }
 
   -- one that is not enabled is struck out
-  pub one_struck : (left fewer : List Pick) (now next : Lcg) (i : ℕ) (pick : Pick) → AreLeft code s first left now → i ≡ drawn_number now left
-      → slice_get left i ≡ Some pick → fewer ≡ remove left i → next ≡ (pcg32 now).1 → CodeStays code s pick → AreLeft code s first fewer next
+  pub one_struck : (left fewer : List Pick) (now next : Lcg) (i : ℕ) (pick : Pick) → AreLeft lending code s first left now → i ≡ drawn_number now left
+      → slice_get left i ≡ Some pick → fewer ≡ remove left i → next ≡ (pcg32 now).1 → CodeStaysBy lending code s pick → AreLeft lending code s first fewer next
   one_struck left fewer now next i pick are number there rest is stays =
-      subst (λ (g : Lcg). AreLeft code s first fewer g) (sym is)
-      (subst (λ (ps : List Pick). AreLeft code s first ps (pcg32 now).1) (sym (rest ∙ ap (remove left) number)) (record {
+      subst (λ (g : Lcg). AreLeft lending code s first fewer g) (sym is)
+      (subst (λ (ps : List Pick). AreLeft lending code s first ps (pcg32 now).1) (sym (rest ∙ ap (remove left) number)) (record {
         start = are.start;
         candidates = are.candidates;
         on = λ other after draws. are.on other after (struck now after left other pick at stays draws);
@@ -235,7 +233,7 @@ module _ (code : Code) (s : State CodeProcess) (first : Lcg) where
       at : slice_get left (drawn_number now left) ≡ Some pick
       at = ap (slice_get left) (sym number) ∙ there
 
-      left_or_struck : (other : Pick) → Contains left other → (Contains (remove left (drawn_number now left)) other) ⊎ CodeStays code s other
+      left_or_struck : (other : Pick) → Contains left other → (Contains (remove left (drawn_number now left)) other) ⊎ CodeStaysBy lending code s other
       left_or_struck other (k, less, is_it) =
           let found : slice_get left k ≡ Some other = slice_get-get_or left k other less ∙ ap Some is_it in
           elim (cases_lt k (drawn_number now left)) [
@@ -246,76 +244,72 @@ module _ (code : Code) (s : State CodeProcess) (first : Lcg) where
                   let one : k ≡ drawn_number now left = omega (arith, past, same) in
                   let both : Some other ≡ Some pick = sym found ∙ (ap (slice_get left) one ∙ at) in
                   let is_pick : pick ≡ other = cc in
-                  inr (subst (CodeStays code s) is_pick stays)
+                  inr (subst (CodeStaysBy lending code s) is_pick stays)
             ]
           ]
         where
           moved : (other : Pick) (k : ℕ) → slice_get left k ≡ Some other → k ≢ drawn_number now left
-              → (Contains (remove left (drawn_number now left)) other) ⊎ CodeStays code s other
+              → (Contains (remove left (drawn_number now left)) other) ⊎ CodeStaysBy lending code s other
           moved other k found differs =
               let (j, at_j) = stays_in left (drawn_number now left) k other found differs in
               let fewer = remove left (drawn_number now left) in
               inl (j, slice_get_within fewer j other at_j, get_or_from_slice_get fewer j other other at_j)
 
   -- the one that is made is drawn
-  pub one_drawn : (left : List Pick) (now next : Lcg) (i : ℕ) (pick : Pick) → AreLeft code s first left now → i ≡ drawn_number now left
-      → slice_get left i ≡ Some pick → next ≡ (pcg32 now).1 → DrawsPick code s first pick next
+  pub one_drawn : (left : List Pick) (now next : Lcg) (i : ℕ) (pick : Pick) → AreLeft lending code s first left now → i ≡ drawn_number now left
+      → slice_get left i ≡ Some pick → next ≡ (pcg32 now).1 → DrawsPick lending code s first pick next
   one_drawn left now next i pick are number there is =
-      subst (DrawsPick code s first pick) (sym is)
+      subst (DrawsPick lending code s first pick) (sym is)
       (are.start, are.candidates, are.on pick (pcg32 now).1 (hit now left pick (ap (slice_get left) (sym number) ∙ there)))
 
   -- if none is left, none is enabled
-  none_enabled : (left : List Pick) (now : Lcg) → AreLeft code s first left now → length left ≡ 0 → (pick : Pick) → CodeStays code s pick
+  none_enabled : (left : List Pick) (now : Lcg) → AreLeft lending code s first left now → length left ≡ 0 → (pick : Pick) → CodeStaysBy lending code s pick
   none_enabled left now are none pick = go (look_at code s pick) refl
     where
-      candidate : look_at code s pick ≢ Stays → CodeStays code s pick
+      candidate : look_at code s pick ≢ Stays → CodeStaysBy lending code s pick
       candidate is = elim (are.others pick (are.candidates.all pick is)) [
         | inr stays ↦ stays
         | inl (k, less, is_it) ↦ absurd (omega (arith, less, none))
       ]
 
-      go : (look : Look) → look_at code s pick ≡ look → CodeStays code s pick
-      go Stays is = looks_staying code s pick is
+      go : (look : Look) → look_at code s pick ≡ look → CodeStaysBy lending code s pick
+      go Stays is = looks_staying lending code s pick is
       go Silent is = candidate (λ stays. let both : Silent ≡ Stays = sym is ∙ stays in cc)
       go Visible is = candidate (λ stays. let both : Visible ≡ Stays = sym is ∙ stays in cc)
 
 -- from what is left one is drawn that is enabled, or none of all is
-drawn_or_none : (code : Code) (s : State CodeProcess) (first : Lcg) (n : ℕ) (left : List Pick) (now : Lcg) → length left ≡ n
-    → AreLeft code s first left now
-    → ((pick : Pick) × (after : Lcg) × IsEnabled code s pick × DrawsPick code s first pick after) ⊎ ((pick : Pick) → CodeStays code s pick)
-drawn_or_none code s first zero left now none are = inr (none_enabled code s first left now are none)
-drawn_or_none code s first (suc n) left now some are =
+drawn_or_none : (lending : Lending) (code : Code) (s : State CodeProcess) (first : Lcg) (n : ℕ) (left : List Pick) (now : Lcg) → length left ≡ n
+    → AreLeft lending code s first left now
+    → ((pick : Pick) × (after : Lcg) × IsEnabled lending code s pick × DrawsPick lending code s first pick after) ⊎ ((pick : Pick) → CodeStaysBy lending code s pick)
+drawn_or_none lending code s first zero left now none are = inr (none_enabled lending code s first left now are none)
+drawn_or_none lending code s first (suc n) left now some are =
     let i = drawn_number now left in
     let less : i < length left = mod_below (pcg32 now).0 (length left) (omega (arith, some)) in
     let (pick, there) = get_some left i less in
-    elim (enabled_or_not code s pick) [
-      | inl enabled ↦ inl (pick, (pcg32 now).1, enabled, one_drawn code s first left now (pcg32 now).1 i pick are refl there refl)
+    elim (enabled_or_not lending code s pick) [
+      | inl enabled ↦ inl (pick, (pcg32 now).1, enabled, one_drawn lending code s first left now (pcg32 now).1 i pick are refl there refl)
       | inr stays ↦
           let fewer = length-remove left i less in
-          drawn_or_none code s first n (remove left i) (pcg32 now).1 (omega (arith, fewer, some))
-          (one_struck code s first left (remove left i) now (pcg32 now).1 i pick are refl there refl refl stays)
+          drawn_or_none lending code s first n (remove left i) (pcg32 now).1 (omega (arith, fewer, some))
+          (one_struck lending code s first left (remove left i) now (pcg32 now).1 i pick are refl there refl refl stays)
     ]
 
--- if not all is done, the generator draws a pick that is enabled
-pub draws_on : (v : VerifiedCode) → IsVerified v → (s : State CodeProcess) (now : Lcg) → CodeReaches v.code s
-    → IsDone s ⊎ ((pick : Pick) × (after : Lcg) × IsEnabled v.code s pick × DrawsPick v.code s now pick after)
-draws_on v verified s now reached = elim (goes_on v verified s reached) [
-  | inl done ↦ inl done
-  | inr (pick, move, is, granted) ↦
-      let (picks, are) = candidates v.code s in
-      elim (drawn_or_none v.code s now (length picks) picks now refl (all_left v.code s now picks are)) [
-        | inl drawn ↦ inr drawn
-        | inr none ↦ absurd (none pick move is granted)
-      ]
-]
+-- the generator draws a pick that is enabled under this lending, or none is
+pub draws_on : (lending : Lending) (code : Code) (s : State CodeProcess) (now : Lcg)
+    → (¬ CanGoOn (bank_by lending code) (code_step code.processes) s)
+    ⊎ ((pick : Pick) × (after : Lcg) × IsEnabled lending code s pick × DrawsPick lending code s now pick after)
+draws_on lending code s now =
+    let (picks, are) = candidates code s in
+    elim (drawn_or_none lending code s now (length picks) picks now refl (all_left lending code s now picks are)) [
+      | inl drawn ↦ inr drawn
+      | inr none ↦ inl (λ on. none on.0 on.1 on.2 on.3)
+    ]
 
--- if none is enabled, all is done
-pub all_struck : (v : VerifiedCode) → IsVerified v → (s now_state : State CodeProcess) (first : Lcg) (left : List Pick) (now : Lcg) → CodeReaches v.code s
-    → AreLeft v.code s first left now → length left ≡ 0 → now_state ≡ s → IsDone s × (now_state ≡ s)
-all_struck v verified s now_state first left now reached are none same = (
-  elim (goes_on v verified s reached) [
-    | inl done ↦ done
-    | inr (pick, move, is, granted) ↦ absurd (none_enabled v.code s first left now are none pick move is granted)
-  ],
+-- if none is left, none is enabled
+pub all_struck : (lending : Lending) (code : Code) (s now_state : State CodeProcess) (first : Lcg) (left : List Pick) (now : Lcg)
+    → AreLeft lending code s first left now → length left ≡ 0 → now_state ≡ s
+    → (¬ CanGoOn (bank_by lending code) (code_step code.processes) s) × (now_state ≡ s)
+all_struck lending code s now_state first left now are none same = (
+  λ on. none_enabled lending code s first left now are none on.0 on.1 on.2 on.3,
   same,
 )

@@ -14,8 +14,8 @@ use Rattle.pb_base.specs.Steppers.{Bank, Bundle, Effect, Faults, Finishes, IsGra
 use Rattle.pb_base.specs.Steppers.{State, Table, Takes, banker_state, move_of}
 use Rattle.pb_base.proofs.Cases.{bool_cases}
 use Rattle.pb_code.specs.Code.{CodeProcess, code_step}
-use Rattle.pb_code.specs.Reached.{CodeStays}
-use Rattle.pb_code.specs.Whole.{Code, bank_of}
+use Rattle.pb_code.specs.Reached.{CodeStaysBy}
+use Rattle.pb_code.specs.Whole.{Code, bank_by}
 use Rattle.pb_base.specs.declared.lending.Lending.{Lending}
 use Rattle.pb_base.specs.declared.lending.Lending.TheVariants.{ByBanker, ByCash}
 
@@ -146,20 +146,22 @@ granted_or_not bank loans p (Returns bundle) = inl tt
 granted_or_not bank loans p (Faults kind) = inl tt
 granted_or_not bank loans p Finishes = inl tt
 
--- the pick is enabled
-abbrev pub IsEnabled : Code → State CodeProcess → Pick → Type 0
-IsEnabled code s pick =
+-- the pick is enabled under this lending
+abbrev pub IsEnabled : Lending → Code → State CodeProcess → Pick → Type 0
+IsEnabled lending code s pick =
     (move : Move CodeProcess) × (move_of (code_step code.processes) s pick ≡ Some move)
-    × IsGranted (bank_of code) s.loans pick.process move.effect
+    × IsGranted (bank_by lending code) s.loans pick.process move.effect
 
-pub enabled_or_not : (code : Code) (s : State CodeProcess) (pick : Pick) → IsEnabled code s pick ⊎ CodeStays code s pick
-enabled_or_not code s pick = go (move_of (code_step code.processes) s pick) refl
+pub enabled_or_not : (lending : Lending) (code : Code) (s : State CodeProcess) (pick : Pick)
+    → IsEnabled lending code s pick ⊎ CodeStaysBy lending code s pick
+enabled_or_not lending code s pick = go (move_of (code_step code.processes) s pick) refl
   where
-    go : (made : Option (Move CodeProcess)) → move_of (code_step code.processes) s pick ≡ made → IsEnabled code s pick ⊎ CodeStays code s pick
+    go : (made : Option (Move CodeProcess)) → move_of (code_step code.processes) s pick ≡ made
+        → IsEnabled lending code s pick ⊎ CodeStaysBy lending code s pick
     go None none = inr (λ move there granted. let both : Some move ≡ None = sym there ∙ none in cc)
-    go (Some move) is = elim (granted_or_not (bank_of code) s.loans pick.process move.effect) [
+    go (Some move) is = elim (granted_or_not (bank_by lending code) s.loans pick.process move.effect) [
       | inl granted ↦ inl (move, is, granted)
       | inr refused ↦ inr (λ other there granted. let both : Some other ≡ Some move = sym there ∙ is in
           let same : other ≡ move = cc in
-          refused (subst (λ (m : Move CodeProcess). IsGranted (bank_of code) s.loans pick.process m.effect) same granted))
+          refused (subst (λ (m : Move CodeProcess). IsGranted (bank_by lending code) s.loans pick.process m.effect) same granted))
     ]

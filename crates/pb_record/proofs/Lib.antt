@@ -1,5 +1,6 @@
 pub mod ChoiceLemmas
 pub mod DrawLemmas
+pub mod EndedRuns
 pub mod GrantLemmas
 pub mod LongRecords
 pub mod RecordedPicks

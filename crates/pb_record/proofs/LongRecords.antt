@@ -8,14 +8,15 @@ use Rattle.std.proofs.lemmas.Fmt.{decimal_nonempty}
 use Rattle.std.proofs.lemmas.List.{length-map, replicate_more}
 use Rattle.std.proofs.lemmas.List.Elements.{All-head, All-tail}
 use Rattle.std.specs.Fmt.{decimal}
+use Rattle.pb_base.specs.declared.lending.Lending.{Lending}
 use Rattle.pb_base.specs.declared.lending.Lending.TheVariants.{ByBanker}
 use Rattle.pb_base.specs.declared.pick.Pick.{Pick}
 use Rattle.pb_base.specs.Lines.{name_of}
-use Rattle.pb_base.specs.Steppers.{State, event_of}
-use Rattle.pb_code.specs.Code.{CodeProcess}
-use Rattle.pb_code.specs.Reached.{CodeMoves}
+use Rattle.pb_base.specs.Steppers.{CanGoOn, State, event_of}
+use Rattle.pb_code.specs.Code.{CodeProcess, code_step}
+use Rattle.pb_code.specs.Reached.{CodeMovesBy}
 use Rattle.pb_code.specs.Limits.{KeepsLimits}
-use Rattle.pb_code.specs.Whole.{Code, code_opening}
+use Rattle.pb_code.specs.Whole.{Code, bank_of, code_opening}
 use Rattle.pb_history.specs.Entries.{Entry, all_picks, events_of, picks_of, spans_of}
 use Rattle.pb_history.specs.Replays.{spread}
 use Rattle.pb_history.specs.declared.counted.CountedPick.{CountedPick}
@@ -24,7 +25,7 @@ use Rattle.pb_history.proofs.TraceSteps.{traces_make}
 use Rattle.pb_picks.specs.Counted.{AreApart}
 use Rattle.pb_picks.specs.Laws.{CanBeSaid}
 use Rattle.pb_picks.specs.PickLines.{SpellsPick, pick_line, pick_lines}
-use Rattle.pb_verifier.specs.Verified.{VerifiedCode, IsVerified}
+use Rattle.pb_verifier.specs.Verified.{VerifiedCode, IsAnnotated, IsVerified}
 use Rattle.pb_verifier.specs.declared.fault.VerifyFault.TheVariants.{OutOfLimits}
 use Rattle.pb_record.specs.declared.picks.TheConstants.{MAX_LINES}
 use Rattle.pb_shared.specs.declared.outcome.Outcome.{Outcome}
@@ -33,9 +34,10 @@ use Rattle.pb_workers.specs.Reports.{EndsAs, IsReport}
 use Rattle.pb_workers.specs.declared.report.Report.{Report}
 use Rattle.pb_record.specs.Draws.{DrawsRun, generator_of, one_more as draws_one_more}
 use Rattle.pb_record.specs.Recorded.{AreCounts, AreTooMany, IsRecorded, IsTooLong}
-use Rattle.pb_record.specs.CodeRuns.{IsDone, Run}
+use Rattle.pb_record.specs.CodeRuns.{IsDone}
 use Rattle.pb_record.proofs.ChoiceLemmas.{draws_on}
 use Rattle.pb_record.proofs.RecordedPicks.{LeadTo, is_recorded, recorded_can_be_said}
+use Rattle.pb_record.proofs.EndedRuns.{done_stays}
 use Rattle.pb_record.proofs.RunLemmas.{CodeMakes, makes_last}
 use Rattle.pb_record.proofs.SpanLemmas.{AreCounted, picks_of_spans}
 use Rattle.rand_pcg.specs.Lcg.{Lcg}
@@ -114,38 +116,43 @@ one_more (c ∷ picks) pick apart =
 
 -- ---- a drawn run goes on to its end
 
-draws_to_its_end : (v : VerifiedCode) → IsVerified v → (seed left steps : ℕ) (picks : List CountedPick) (state : State CodeProcess) (now : Lcg)
-    → LeadTo v.code picks state → AreApart picks → length (spread picks) + left ≡ steps
-    → DrawsRun v.code (generator_of seed) (spread picks) state now
-    → (more : List CountedPick) × IsRecorded v.code steps (Some seed) more × (length picks ≤ length more)
-draws_to_its_end v verified seed zero steps picks state now lead apart many drawn =
-    (picks, is_recorded v.code steps zero (Some seed) picks state lead many apart (λ not_done. refl) (state, now, drawn), omega arith)
-draws_to_its_end v verified seed (suc left) steps picks state now lead apart many drawn =
-    elim (draws_on v verified state now (spread picks, lead.events, lead.makes)) [
-      | inl done ↦ (
+-- a recorded run with at least as many counted picks as these
+abbrev GoesOnTo : Lending → Code → (steps seed : ℕ) → List CountedPick → Type 0
+GoesOnTo lending code steps seed picks =
+    (more : List CountedPick) × (end : State CodeProcess) × IsRecorded lending code steps (Some seed) more end
+    × (length picks ≤ length more)
+
+draws_to_its_end : (lending : Lending) (code : Code) (seed left steps : ℕ) (picks : List CountedPick) (state : State CodeProcess) (now : Lcg)
+    → LeadTo lending code picks state → AreApart picks → length (spread picks) + left ≡ steps
+    → DrawsRun lending code (generator_of seed) (spread picks) state now → GoesOnTo lending code steps seed picks
+draws_to_its_end lending code seed zero steps picks state now lead apart many drawn =
+    (picks, state, is_recorded lending code steps zero (Some seed) picks state lead many apart (λ on. refl) (state, now, drawn), omega arith)
+draws_to_its_end lending code seed (suc left) steps picks state now lead apart many drawn =
+    elim (draws_on lending code state now) [
+      | inl none ↦ (
         picks,
-        is_recorded v.code steps (suc left) (Some seed) picks state lead many apart (λ not_done. absurd (not_done done)) (state, now, drawn),
+        state,
+        is_recorded lending code steps (suc left) (Some seed) picks state lead many apart (λ on. absurd (none on)) (state, now, drawn),
         omega arith,
       )
       | inr (pick, after, (move, is, granted), draws) ↦
           let event = event_of pick move.effect in
-          let moves : CodeMoves v.code state pick event move.next = (move.effect, is, granted, refl) in
-          let run : Run v.code lead.events state = record { picks = spread picks; makes = lead.makes } in
-          let makes = makes_last v.code lead.events state move.next pick event run moves in
+          let moves : CodeMovesBy lending code state pick event move.next = (move.effect, is, granted, refl) in
+          let makes = makes_last lending code (spread picks) lead.events state move.next pick event lead.makes moves in
           let (more, one) = one_more picks pick apart in
           let longer = one.longer in
           let count = ap (λ (ps : List Pick). length ps) one.spread in
           let all = length-append (spread picks) (pick ∷ []) in
-          let next : LeadTo v.code more move.next = record {
+          let next : LeadTo lending code more move.next = record {
             events = lead.events ++ option_to_list event;
-            makes = subst (λ (ps : List Pick). CodeMakes v.code ps (lead.events ++ option_to_list event) move.next) (sym one.spread) makes;
+            makes = subst (λ (ps : List Pick). CodeMakes lending code ps (lead.events ++ option_to_list event) move.next) (sym one.spread) makes;
           } in
-          let draws_more : DrawsRun v.code (generator_of seed) (spread more) move.next after =
-          subst (λ (ps : List Pick). DrawsRun v.code (generator_of seed) ps move.next after) (sym one.spread)
+          let draws_more : DrawsRun lending code (generator_of seed) (spread more) move.next after =
+          subst (λ (ps : List Pick). DrawsRun lending code (generator_of seed) ps move.next after) (sym one.spread)
           (draws_one_more (spread picks) state move.next now after pick event drawn draws moves) in
-          let (rest, recorded, longest) =
-          draws_to_its_end v verified seed left steps more move.next after next one.apart (omega (arith, many, count, all)) draws_more in
-          (rest, recorded, omega (arith, longer, longest))
+          let (rest, end, recorded, longest) =
+          draws_to_its_end lending code seed left steps more move.next after next one.apart (omega (arith, many, count, all)) draws_more in
+          (rest, end, recorded, omega (arith, longer, longest))
     ]
 
 -- ---- the lines of counted picks
@@ -168,14 +175,16 @@ lines_are_long code limits (c ∷ picks) said =
     let second = length-append (decimal c.pick.arm) (32 ∷ decimal c.count) in
     omega (arith, rest, all, first, second, arm, count)
 
-pub too_many_picks : (v : VerifiedCode) → IsVerified v → (seed left steps : ℕ) (picks : List CountedPick) (state : State CodeProcess) (now : Lcg)
-    → steps ≤ 10000000 → LeadTo v.code picks state → AreApart picks → length (spread picks) + left ≡ steps
-    → DrawsRun v.code (generator_of seed) (spread picks) state now → MAX_LINES < length picks → IsTooLong v.code steps (Some seed)
-too_many_picks v verified seed left steps picks state now most lead apart count drawn many =
-    let (more, recorded, longer) = draws_to_its_end v verified seed left steps picks state now lead apart count drawn in
+pub too_many_picks : (lending : Lending) (v : VerifiedCode) → IsVerified v → (seed left steps : ℕ) (picks : List CountedPick)
+    (state : State CodeProcess) (now : Lcg) → steps ≤ 10000000 → LeadTo lending v.code picks state → AreApart picks
+    → length (spread picks) + left ≡ steps → DrawsRun lending v.code (generator_of seed) (spread picks) state now
+    → MAX_LINES < length picks → IsTooLong lending v.code steps (Some seed)
+too_many_picks lending v verified seed left steps picks state now most lead apart count drawn many =
+    let (more, end, recorded, longer) = draws_to_its_end lending v.code seed left steps picks state now lead apart count drawn in
     let limits = verified.annotated OutOfLimits in
-    let long = lines_are_long v.code limits more (recorded_can_be_said v.code verified.annotated steps (Some seed) more most recorded) in
-    (more, recorded, omega (arith, many, longer, long))
+    let said = recorded_can_be_said lending v.code verified.annotated steps (Some seed) more end most recorded in
+    let long = lines_are_long v.code limits more said in
+    (more, end, recorded, omega (arith, many, longer, long))
 
 -- ---- the picks of a trace
 
@@ -217,18 +226,22 @@ counts_too_many entries n picks counted apart many =
 
 -- ---- the picks of a report
 
-pub report_is_recorded : (code : Code) (steps : ℕ) (report : Report) (picks : List CountedPick) → IsReport code steps report
-    → spread picks ≡ picks_of report.trace.entries → AreApart picks → IsRecorded code steps None picks
-report_is_recorded code steps report picks is same apart =
+pub report_is_recorded : (code : Code) → IsAnnotated code → (steps : ℕ) (report : Report) (picks : List CountedPick)
+    → (is : IsReport code steps report) → spread picks ≡ picks_of report.trace.entries → AreApart picks
+    → IsRecorded ByBanker code steps None picks is.end
+report_is_recorded code annotated steps report picks is same apart =
     let entries = report.trace.entries in
     let many : length (spread picks) ≡ length entries = ap (λ (ps : List Pick). length ps) same ∙ length-map entries (λ (e : Entry). e.pick) in
-    let few = is.few in record {
+    let few = is.few in
+    let makes : CodeMakes ByBanker code (spread picks) (events_of entries) is.end =
+    subst (λ (ps : List Pick). CodeMakes ByBanker code ps (events_of entries) is.end) (sym same)
+    (traces_make ByBanker code (code_opening code) is.end entries is.leads) in
+    let not_done : CanGoOn (bank_of code) (code_step code.processes) is.end → ¬ IsDone is.end =
+    λ on done. done_stays ByBanker code annotated is.end (spread picks, events_of entries, makes) done on in record {
       events = events_of entries;
-      end = is.end;
-      makes = subst (λ (ps : List Pick). CodeMakes code ps (events_of entries) is.end) (sym same)
-          (traces_make ByBanker code (code_opening code) is.end entries is.leads);
+      makes = makes;
       few = omega (arith, many, few);
-      all = λ not_done. many ∙ all_made report.outcome is.ends not_done;
+      all = λ on. many ∙ all_made report.outcome is.ends (not_done on);
       drawn = tt;
       apart = apart;
     }
@@ -241,11 +254,13 @@ report_is_recorded code steps report picks is same apart =
 pub report_is_counted : {V : Type 0} (v : VerifiedCode) → IsVerified v → (steps : ℕ) (report : Report) (items : V → List CountedPick) (picks : Option V)
     → steps ≤ 10000000 → IsReport v.code steps report
     → MatchOption picks (AreTooMany report.trace.entries) (λ x. AreCounts report.trace.entries (items x))
-    → MatchOption picks (IsTooLong v.code steps None) (λ x. IsRecorded v.code steps None (items x))
+    → MatchOption picks (IsTooLong ByBanker v.code steps None)
+    (λ x. (end : State CodeProcess) × IsRecorded ByBanker v.code steps None (items x) end)
 report_is_counted v verified steps report items (Some x) most is counts =
-    report_is_recorded v.code steps report (items x) is counts.same counts.apart
+    (is.end, report_is_recorded v.code verified.annotated steps report (items x) is counts.same counts.apart)
 report_is_counted v verified steps report items None most is (picks, counts, many) =
-    let recorded = report_is_recorded v.code steps report picks is counts.same counts.apart in
+    let recorded = report_is_recorded v.code verified.annotated steps report picks is counts.same counts.apart in
     let limits = verified.annotated OutOfLimits in
-    let long = lines_are_long v.code limits picks (recorded_can_be_said v.code verified.annotated steps None picks most recorded) in
-    (picks, recorded, omega (arith, many, long))
+    let said = recorded_can_be_said ByBanker v.code verified.annotated steps None picks is.end most recorded in
+    let long = lines_are_long v.code limits picks said in
+    (picks, is.end, recorded, omega (arith, many, long))

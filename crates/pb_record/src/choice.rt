@@ -3,7 +3,8 @@ ghost use Rattle.std.specs.Prelude.{◌≡◌, ◌+◌, ◌%◌, ◌<◌, IfOk, 
 ghost use Rattle.pb_record.specs.Choices.{AreCandidatesBefore, AreCandidates};
 ghost use Rattle.pb_record.specs.Draws.{IsDrawn, generator_of};
 ghost use Rattle.pb_record.specs.Schedule.{MakesAtMost, StepsSome};
-ghost use Rattle.pb_machine.specs.Views.{machine_view, IsMachineOf};
+ghost use Rattle.pb_base.specs.declared.lending.Lending.{Lending as LendingValue};
+ghost use Rattle.pb_machine.specs.Views.{machine_view, IsMachine, IsMachineBy};
 ghost use Rattle.pb_verifier.specs.Verified.{IsVerified};
 ghost use Rattle.rand_pcg.specs.Pcg.{pcg32};
 
@@ -40,19 +41,20 @@ impl Chooser {
     /// Makes the next pick, drawn from those that are enabled.
     pub fn step(&mut self, machine: &mut Machine, verified: &Verified) -> Result<Next, NoMemory>
         requires verified { IsVerified verified.now }
-        requires machine { IsMachineOf verified.now machine.old }
-        ensures machine { IsMachineOf verified.now machine.new }
-        ensures step { IfOk result (λ next.
-            StepsSome verified.now.code (machine_view machine.old) next (machine_view machine.new)) }
-        ensures drawn { IfOk result (λ next.
-            IsDrawn verified.now.code (machine_view machine.old) self.old.generator next self.new.generator) }
+        requires machine { IsMachine verified.now machine.old }
+        ensures machine { (lending : LendingValue) → IsMachineBy lending verified.now machine.old
+            → IsMachineBy lending verified.now machine.new }
+        ensures step { IfOk result (λ next. (lending : LendingValue) → IsMachineBy lending verified.now machine.old
+            → StepsSome lending verified.now.code (machine_view machine.old) next (machine_view machine.new)) }
+        ensures drawn { IfOk result (λ next. (lending : LendingValue) → IsMachineBy lending verified.now machine.old
+            → IsDrawn lending verified.now.code (machine_view machine.old) self.old.generator next self.new.generator) }
         ensures within { IfOk result (MakesAtMost 1) }
     {
         step_drawn(machine, verified, &mut self.generator, &mut self.candidates)
     }
 }
 
-// Makes a pick that is drawn from the candidates. If the banker refuses it, another is drawn from the rest.
+// Makes a pick that is drawn from the candidates. If the lender refuses it, another is drawn from the rest.
 // The list is for the candidates; what it holds before makes no difference.
 fn step_drawn(
     machine: &mut Machine,
@@ -61,12 +63,13 @@ fn step_drawn(
     candidates: &mut Vec<Pick>,
 ) -> Result<Next, NoMemory>
     requires verified { IsVerified verified.now }
-    requires machine { IsMachineOf verified.now machine.old }
-    ensures machine { IsMachineOf verified.now machine.new }
-    ensures step { IfOk result (λ next.
-        StepsSome verified.now.code (machine_view machine.old) next (machine_view machine.new)) }
-    ensures drawn { IfOk result (λ next.
-        IsDrawn verified.now.code (machine_view machine.old) generator.old next generator.new) }
+    requires machine { IsMachine verified.now machine.old }
+    ensures machine { (lending : LendingValue) → IsMachineBy lending verified.now machine.old
+        → IsMachineBy lending verified.now machine.new }
+    ensures step { IfOk result (λ next. (lending : LendingValue) → IsMachineBy lending verified.now machine.old
+        → StepsSome lending verified.now.code (machine_view machine.old) next (machine_view machine.new)) }
+    ensures drawn { IfOk result (λ next. (lending : LendingValue) → IsMachineBy lending verified.now machine.old
+        → IsDrawn lending verified.now.code (machine_view machine.old) generator.old next generator.new) }
     ensures within { IfOk result (MakesAtMost 1) }
 {
     find_candidates(machine, verified, candidates)?;
@@ -99,7 +102,7 @@ fn find_candidates(
     picks: &mut Vec<Pick>,
 ) -> Result<(), NoMemory>
     requires verified { IsVerified verified.now }
-    requires machine { IsMachineOf verified.now machine.now }
+    requires machine { IsMachine verified.now machine.now }
     ensures { OnOk result (AreCandidates verified.now.code (machine_view machine.now) picks.new.items) }
 {
     picks.clear();
@@ -117,7 +120,7 @@ fn push_candidates(
     picks: &mut Vec<Pick>,
 ) -> Result<(), NoMemory>
     requires verified { IsVerified verified.now }
-    requires machine { IsMachineOf verified.now machine.now }
+    requires machine { IsMachine verified.now machine.now }
     requires process { process < length (machine_view machine.now).processes }
     requires before { AreCandidatesBefore verified.now.code (machine_view machine.now) process 0 picks.old.items }
     ensures { OnOk result (AreCandidatesBefore verified.now.code (machine_view machine.now) (process + 1) 0 picks.new.items) }

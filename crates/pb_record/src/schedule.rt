@@ -1,7 +1,8 @@
 //! Picks of one arm, made if the arm can go on.
 ghost use Rattle.std.specs.Prelude.{◌≤◌};
 ghost use Rattle.pb_record.specs.Schedule.{MakesAtMost, StepsArm};
-ghost use Rattle.pb_machine.specs.Views.{machine_view, IsMachineOf};
+ghost use Rattle.pb_base.specs.declared.lending.Lending.{Lending as LendingValue};
+ghost use Rattle.pb_machine.specs.Views.{machine_view, IsMachine, IsMachineBy};
 
 use pb_base::{Event, Pick, Step};
 use pb_machine::{Look, Machine};
@@ -21,10 +22,12 @@ pub enum Next {
 /// Makes a pick, and if that shows nothing, those behind it of the same arm that show nothing either, at most
 /// `max` in all.
 pub fn step_arm(machine: &mut Machine, verified: &Verified, pick: Pick, max: u32) -> Next
-    requires machine { IsMachineOf verified.now machine.old }
+    requires machine { IsMachine verified.now machine.old }
     requires max { 1 ≤ max }
-    ensures machine { IsMachineOf verified.now machine.new }
-    ensures step { StepsArm verified.now.code (machine_view machine.old) pick result (machine_view machine.new) }
+    ensures machine { (lending : LendingValue) → IsMachineBy lending verified.now machine.old
+        → IsMachineBy lending verified.now machine.new }
+    ensures step { (lending : LendingValue) → IsMachineBy lending verified.now machine.old
+        → StepsArm lending verified.now.code (machine_view machine.old) pick result (machine_view machine.new) }
     ensures within { MakesAtMost max result }
 {
     match machine.look(verified, pick) {

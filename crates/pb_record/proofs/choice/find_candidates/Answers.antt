@@ -6,7 +6,7 @@ use Rattle.pb_record.proofs.choice.find_candidates.Goals as goal
 
 pub overflow_cast-process : goal.overflow_cast-process
 overflow_cast-process c =
-    let few = few_processes c.args.verified.now c.requires.verified c.args.machine.now c.requires.machine in
+    let few = few_processes c.args.verified.now c.requires.verified c.args.machine.now c.requires.machine.1 in
     omega (arith, few)
 
 pub returns : goal.returns

@@ -10,7 +10,7 @@ use Rattle.pb_machine.proofs.Counts.{few_arms}
 
 pub overflow_cast-pick : goal.overflow_cast-pick
 overflow_cast-pick c =
-    let few = few_arms c.args.verified.now c.requires.verified c.args.machine.now c.requires.machine c.from.result _ c.proc.ensures.state in
+    let few = few_arms c.args.verified.now c.requires.verified c.args.machine.now c.requires.machine.1 c.from.result _ c.proc.ensures.state in
     omega (arith, few)
 
 pub loop-arm-preserved : goal.loop-arm-preserved
