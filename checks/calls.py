@@ -126,6 +126,7 @@ def inputs():
             yield f"{command} {name}", [command], text
         yield f"emit --object 1 {name}", ["emit", "--object", "1"], text
         yield f"record --seed 7 {name}", ["record", "--seed", "7"], text
+        yield f"record --seed 7 --lend cash {name}", ["record", "--seed", "7", "--lend", "cash"], text
         yield f"replay {name}", ["replay"], recorded(text)
         yield f"draw {name}", ["draw"], recorded(text)
         yield f"replay --lend cash {name}", ["replay", "--lend", "cash"], recorded(text)

@@ -4,8 +4,8 @@
     checks/drawn_programs.py [PROGRAM]     PROGRAM is the one that ./parbegin has built if none is given
 
 Each drawn program is run with a drawn quantum and number of steps, its claims are shown, and a run of it is recorded by
-a seed and replayed; picks that the cash alone lets go on are replayed under both lenders. Output and status must be the
-same on both sides. A program that faults, is refused by its claims or
+a seed under each lender and replayed under it; picks that the cash alone lets go on are replayed under both. Output and
+status must be the same on both sides, and a record ends in a deadlock exactly if its replay does. A program that faults, is refused by its claims or
 never ends is as good as any other. The draws are the same in each call. It is run by hand; its status is 0 if all is as
 wanted, and 1 if not.
 """
@@ -94,13 +94,18 @@ def main():
         run = ["run", "--quantum", str(draw.choice([1, 2, 5, 64])), "--steps", str(draw.randint(0, STEPS))]
         record = ["record", "--steps", str(draw.randint(0, STEPS)), "--seed", str(draw.randrange(2**64))]
         recorded = call(record, text.encode())[1].decode()
+        lent = [*record, "--lend", "cash"]
+        ending, lent_picks = call(lent, text.encode())
         moved = wandered(draw, text)
         by_cash = ["replay", "--lend", "cash"]
         calls = [(run, text), (["claims"], text), (record, text), (["replay"], recorded), (by_cash, recorded)]
+        calls += [(lent, text), (by_cash, lent_picks.decode())]
         for words, given in [*calls, (by_cash, moved), (["replay"], moved)]:
             status, said = call(words, given.encode())
             tally.expect((status, said.decode()) == reference.says(words, given), *words, "of", given)
-            ended[words[0] + " by cash" * (words == by_cash), status] += 1
+            ended[words[0] + " by cash" * ("cash" in words), status] += 1
+        replayed = call(by_cash, lent_picks)[0]
+        tally.expect((ending == 9) == (replayed == 9), "a record and its replay end otherwise:", *lent, "of", text)
     print(", ".join(f"{command} {status}: {count}" for (command, status), count in sorted(ended.items())))
     tally.end("drawn programs")
 

@@ -79,7 +79,8 @@ def command(words):
     if word in ("run", "exec"):
         return f"Command::{word.title()} {{ quantum: {quantum}, steps: {steps} }}"
     if word == "record":
-        return f"Command::Record {{ seed: {number(options['--seed'])} }}"
+        lender = "ByCash" if options.get("--lend") == "cash" else ""
+        return f"Command::Record{lender} {{ seed: {number(options['--seed'])} }}"
     if word == "replay" and options.get("--lend") == "cash":
         return "Command::ReplayByCash"
     return f"Command::{word.title()}"

@@ -69,7 +69,8 @@ TEXTS = {"nested holds": NESTED, "a loop of two arms that print": PRINTING, "tap
          "the largest example": LARGEST}
 ON_TEXTS = [["check"], ["check", "--heap", "1048576"], ["claims"], ["plan"], ["emit"], ["emit", "--object", "1"],
             ["run", "--workers", "1"], ["run", "--workers", "1", "--quantum", "1"], ["run", "--workers", "4"],
-            ["record"], ["record", "--seed", "7"], ["record", "--workers", "4", "--quantum", "1"]]
+            ["record"], ["record", "--seed", "7"], ["record", "--seed", "7", "--lend", "cash"],
+            ["record", "--workers", "4", "--quantum", "1"]]
 # With the name of a process in place of P.
 PICKING = b"to 1\npick P.0\nback 1\nstep 1\n"
 

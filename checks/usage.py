@@ -41,6 +41,8 @@ CALLS = [
     (["outcomes", "--lend", "cash", "hello.pb"], DONE, "1 outcome\n", None),
     (["outcomes", "--lend", "banker", "hello.pb"], DONE, "1 outcome\n", None),
     (["replay", "--lend", "cash", "lost.run"], DONE, "done\n", None),
+    (["record", "--seed", "3", "--lend", "cash", "hello.pb"], DONE, "p.0 3\n", None),
+    (["record", "--lend", "cash", "hello.pb"], WORDS, None, "'--lend cash' of 'record' needs '--seed N'"),
     (["draw", "--lend=cash", "lost.run"], DONE, "<svg", None),
     (["run", "cash"], DONE, "p end\n", None),
     (["run", "sum.pbo"], REFUSED, "refused ", "parbegin: sum.pbo is an object: exec runs it"),

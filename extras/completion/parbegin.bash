@@ -51,7 +51,7 @@ _parbegin() {
     migrate) options="" ;;
     outcomes) options="--states --lend --first-deadlock --prints --expect --any-order" ;;
     plan) options="" ;;
-    record) options="--workers --quantum --steps --seed" ;;
+    record) options="--workers --quantum --steps --seed --lend" ;;
     replay) options="--lend" ;;
     run) options="--workers --quantum --steps" ;;
     states) options="--rows --from" ;;

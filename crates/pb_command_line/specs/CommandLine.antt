@@ -77,7 +77,9 @@ plan_command = new_app (codes "plan")
 
 unfoldable pub record_command : App
 record_command =
-    with_rule (with_run_rules (new_app (codes "record"))) (number_rule (codes "seed") 0 18446744073709551615)
+    with_rule
+    (with_rule (with_run_rules (new_app (codes "record"))) (number_rule (codes "seed") 0 18446744073709551615))
+    (word_rule_or (codes "lend") (codes "banker"))
 
 unfoldable pub replay_command : App
 replay_command = with_rule (new_app (codes "replay")) (word_rule_or (codes "lend") (codes "banker"))

@@ -20,6 +20,12 @@ const VERSION: &str = "0.1\nproved with rattle-kit-13f logic dac8208d650f15bf";
 const ABOUT: &str =
     "Programs with parbegin: checked, run, recorded, debugged and drawn.\nWith --quiet before the command no message explains a refused input";
 
+// The help of the option that says who decides on a request.
+const LEND: &str = "Who decides on a request: banker or cash";
+
+// The same of `record`, whose workers ask the banker.
+const LEND_OF_SEED: &str = "Who decides on a request: banker, or with --seed also cash";
+
 fn number_option<'a>(alloc: Global, name: &'a str, least: u64, most: u64) -> Arg<'a>
     ensures rule { rule_of result ≡ number_rule name.entry.now least most }
     ensures own { result.global ≡ false }
@@ -117,20 +123,34 @@ fn with_flag<'a>(
     with_option(command, option.help(help))
 }
 
+// Adds the option with the seed of a run that is drawn, if the command was made.
+fn with_seed<'a>(
+    alloc: Global,
+    command: Result<Command<'a>, AllocError>,
+) -> Result<Command<'a>, AllocError>
+    ensures { (app : App) → IfOk command.entry (IsCommand app) → IfOk result
+        (IsCommand (with_rule app (number_rule (codes "seed") 0 18446744073709551615))) }
+{
+    let command = command?;
+    let seed = number_option(alloc, "seed", 0, 18_446_744_073_709_551_615);
+    with_option(
+        command,
+        seed.help("Draw each step by a generator with this seed, without worker threads"),
+    )
+}
+
 // Adds the option that says who decides on a request, if the command was made.
 fn with_lend<'a>(
     alloc: Global,
     command: Result<Command<'a>, AllocError>,
+    help: &'a str,
 ) -> Result<Command<'a>, AllocError>
     ensures { (app : App) → IfOk command.entry (IsCommand app) → IfOk result
         (IsCommand (with_rule app (word_rule_or (codes "lend") (codes "banker")))) }
 {
     let command = command?;
     let lend = word_option_or(alloc, "lend", "banker");
-    with_option(
-        command,
-        lend.help("Who decides on a request: banker or cash"),
-    )
+    with_option(command, lend.help(help))
 }
 
 // Adds the options of a run by workers, if the command was made.
@@ -175,7 +195,7 @@ fn draw_picks<'a>(alloc: Global) -> Result<Command<'a>, AllocError>
     ensures { IfOk result (IsCommand draw_command) }
 {
     let about = "Draw the picks that follow a program and a line %% on standard input";
-    with_lend(alloc, plain(alloc, "draw", about))
+    with_lend(alloc, plain(alloc, "draw", about), LEND)
 }
 
 #[tactic(auto, unfolding(crate::specs::CommandLine::emit_command))]
@@ -217,7 +237,7 @@ fn outcomes_of_text<'a>(alloc: Global) -> Result<Command<'a>, AllocError>
     let outcomes = plain(alloc, "outcomes", about);
     let states = "Give up after this many configurations, 1 to 4000000";
     let outcomes = with_number(alloc, outcomes, "states", 1, 4_000_000, "1000000", states);
-    let outcomes = with_lend(alloc, outcomes);
+    let outcomes = with_lend(alloc, outcomes, LEND);
     let first = "End at the first deadlock that is found";
     let outcomes = with_flag(alloc, outcomes, "first-deadlock", first);
     let prints = "Tell outcomes with different prints apart, and show what was printed";
@@ -240,22 +260,20 @@ fn states_of_run<'a>(alloc: Global) -> Result<Command<'a>, AllocError>
     with_number(alloc, states, "from", 0, 10_000_000, "0", from)
 }
 
-#[tactic(auto, unfolding(crate::specs::CommandLine::record_command))]
 fn record_text<'a>(alloc: Global) -> Result<Command<'a>, AllocError>
     ensures { IfOk result (IsCommand record_command) }
 {
     let about = "Run the program read from standard input and print it with the picks of the run";
-    let record = with_run_options(alloc, plain(alloc, "record", about))?;
-    let seed = number_option(alloc, "seed", 0, 18_446_744_073_709_551_615);
-    let seed = seed.help("Draw each step by a generator with this seed, without worker threads");
-    with_option(record, seed)
+    let record = with_run_options(alloc, plain(alloc, "record", about));
+    let record = with_seed(alloc, record);
+    with_lend(alloc, record, LEND_OF_SEED)
 }
 
 fn replay_picks<'a>(alloc: Global) -> Result<Command<'a>, AllocError>
     ensures { IfOk result (IsCommand replay_command) }
 {
     let about = "Replay the picks that follow a program and a line %% on standard input";
-    with_lend(alloc, plain(alloc, "replay", about))
+    with_lend(alloc, plain(alloc, "replay", about), LEND)
 }
 
 fn run_texts<'a>(alloc: Global) -> Result<Command<'a>, AllocError>

@@ -60,6 +60,7 @@ fn commands_have_their_defaults(rt: HostRuntime) {
             Options::Record(RecordOptions {
                 run: RUN,
                 seed: None,
+                lend: Lend::Banker,
             }),
         ),
         ("plan", Options::Plan),
@@ -144,6 +145,15 @@ fn options_with_one_word_are_read(rt: HostRuntime) {
             "replay",
             "--lend=cash",
             Options::Replay(ReplayOptions { lend: Lend::Cash }),
+        ),
+        (
+            "record",
+            "--lend=banker",
+            Options::Record(RecordOptions {
+                run: RUN,
+                seed: None,
+                lend: Lend::Banker,
+            }),
         ),
         (
             "outcomes",
@@ -231,6 +241,7 @@ fn numbers_are_read_up_to_their_limits(rt: HostRuntime) {
     let drawn = RecordOptions {
         run: least,
         seed: Some(seed),
+        lend: Lend::Banker,
     };
     let words = [
         "parbegin",
@@ -241,6 +252,17 @@ fn numbers_are_read_up_to_their_limits(rt: HostRuntime) {
         "--seed",
         "18446744073709551615",
     ];
+    assert!(rt; are_read(rt.alloc(), &words, Options::Record(drawn)));
+}
+
+#[test]
+fn a_drawn_run_may_lend_by_cash(rt: HostRuntime) {
+    let drawn = RecordOptions {
+        run: RUN,
+        seed: Some(3),
+        lend: Lend::Cash,
+    };
+    let words = ["parbegin", "record", "--seed", "3", "--lend", "cash"];
     assert!(rt; are_read(rt.alloc(), &words, Options::Record(drawn)));
 }
 
@@ -273,6 +295,8 @@ fn other_words_are_refused(rt: HostRuntime) {
         ("outcomes", "--states=0"),
         ("outcomes", "--states=4000001"),
         ("outcomes", "text"),
+        ("record", "--lend=cash"),
+        ("record", "--lend=till"),
         ("record", "--seed=-1"),
         ("record", "--seed=18446744073709551616"),
         ("record", "--seed=seven"),
@@ -313,12 +337,19 @@ fn refusals_tell_what_there_is(rt: HostRuntime) {
     let unknown = ["parbegin", "explain", "N5"];
     assert!(rt; is_told(rt.alloc(), &unknown, "error: no refusal has this code"));
     assert!(rt; is_told(rt.alloc(), &unknown, " N1 N2 N3 N4 N6 C1 "));
-    let nobody = ["parbegin", "outcomes", "--lend", "till"];
+    let nobody = "error: the value of '--lend' is banker or cash";
+    for command in ["draw", "outcomes", "record", "replay"] {
+        assert!(rt;
+            is_told(rt.alloc(), &["parbegin", command, "--lend", "till"], nobody),
+            "{command}"
+        );
+    }
+    let workers = ["parbegin", "record", "--lend", "cash"];
     assert!(rt;
         is_told(
             rt.alloc(),
-            &nobody,
-            "error: the value of '--lend' is banker or cash"
+            &workers,
+            "error: '--lend cash' of 'record' needs '--seed N'"
         )
     );
     assert!(rt;

@@ -22,7 +22,10 @@ pub enum Call {
     Migrate,
     /// With a seed, if the picks are drawn.
     Record(RunOptions, Option<u64>),
+    /// With this seed, by the cash alone.
+    RecordByCash(RunOptions, u64),
     Replay,
+    ReplayByCash,
     Run(RunOptions),
 }
 
@@ -71,10 +74,23 @@ pub fn make<I: Input, O: Output>(
         Call::Exec(options) => exec_engine(rt, alloc, options, input, output),
         Call::Migrate => migrate_engine(alloc, input, output),
         Call::Record(run, seed) => {
-            record_engine(rt, alloc, RecordOptions { run, seed }, input, output)
+            let lend = Lend::Banker;
+            record_engine(rt, alloc, RecordOptions { run, seed, lend }, input, output)
+        }
+        Call::RecordByCash(run, seed) => {
+            let options = RecordOptions {
+                run,
+                seed: Some(seed),
+                lend: Lend::Cash,
+            };
+            record_engine(rt, alloc, options, input, output)
         }
         Call::Replay => {
             let options = ReplayOptions { lend: Lend::Banker };
+            replay_engine(alloc, options, input, output)
+        }
+        Call::ReplayByCash => {
+            let options = ReplayOptions { lend: Lend::Cash };
             replay_engine(alloc, options, input, output)
         }
         Call::Run(options) => run_engine(rt, alloc, options, input, output),

@@ -30,6 +30,7 @@ pub enum Command {
     Migrate,
     Plan,
     Record { seed: u64 },
+    RecordByCash { seed: u64 },
     Replay,
     ReplayByCash,
     Run { quantum: u32, steps: u32 },
@@ -94,6 +95,15 @@ fn status_of(
             let options = RecordOptions {
                 run: run_options(64, 1_000_000)?,
                 seed: Some(seed),
+                lend: Lend::Banker,
+            };
+            record_engine(rt, alloc, options, &mut input, output)
+        }
+        Command::RecordByCash { seed } => {
+            let options = RecordOptions {
+                run: run_options(64, 1_000_000)?,
+                seed: Some(seed),
+                lend: Lend::Cash,
             };
             record_engine(rt, alloc, options, &mut input, output)
         }

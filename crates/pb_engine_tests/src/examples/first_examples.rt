@@ -8,7 +8,7 @@ use pb_example_texts::first::{
 use std::test::Fail;
 
 #[rattlefmt::skip]
-const CALLS_1: [Call; 13] = [
+const CALLS_1: [Call; 14] = [
     Call {
         name: "clock",
         command: Command::Run { quantum: 64, steps: 1_000_000 },
@@ -64,6 +64,28 @@ b.0 return 1 tape
 b.0 return 1 disk
 b end
 done
+",
+    },
+    Call {
+        name: "devices_by_cash",
+        command: Command::RecordByCash { seed: 3 },
+        input: DEVICES,
+        status: Status::Deadlock,
+        output: b"// Two jobs want the same tape and the same disk, in opposite order. Taken one by one, each could end up with one
+// device in its hands, waiting for the other: the banker never lets it come to that.
+resource tape = 1;
+resource disk = 1;
+process a
+begin
+  hold 1 of tape do hold 1 of disk do print 1 od od
+end
+process b
+begin
+  hold 1 of disk do hold 1 of tape do print 2 od od
+end
+%%
+b.0 1
+a.0 1
 ",
     },
     Call {

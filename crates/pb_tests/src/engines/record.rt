@@ -181,6 +181,96 @@ fn seeds_lose_or_keep_an_update(rt: HostRuntime) {
     assert!(rt; first_wrong(&rt, &REPLAYED) == None);
 }
 
+const ONE: RunOptions = RunOptions {
+    workers: 1,
+    quantum: 64,
+    steps: 1,
+};
+
+const TAPE_AND_DISK: &[u8] = b"resource tape = 1; resource disk = 1;
+process a begin hold 1 of tape do hold 1 of disk do print 1 od od end
+process b begin hold 1 of disk do hold 1 of tape do print 2 od od end
+";
+
+/// The two devices, and the picks that seed 3 draws by cash.
+#[rattlefmt::skip]
+const IN_A_DEADLOCK: &[u8] = b"resource tape = 1; resource disk = 1;
+process a begin hold 1 of tape do hold 1 of disk do print 1 od od end
+process b begin hold 1 of disk do hold 1 of tape do print 2 od od end
+%%\nb.0 1\na.0 1\n";
+
+/// The first of these picks.
+#[rattlefmt::skip]
+const BEFORE_IT: &[u8] = b"resource tape = 1; resource disk = 1;
+process a begin hold 1 of tape do hold 1 of disk do print 1 od od end
+process b begin hold 1 of disk do hold 1 of tape do print 2 od od end
+%%\nb.0 1\n";
+
+/// The two devices, and the picks that seed 4 draws by cash.
+#[rattlefmt::skip]
+const TO_THE_END: &[u8] = b"resource tape = 1; resource disk = 1;
+process a begin hold 1 of tape do hold 1 of disk do print 1 od od end
+process b begin hold 1 of disk do hold 1 of tape do print 2 od od end
+%%\nb.0 5\na.0 1\nb.0 2\na.0 6\n";
+
+/// The two devices, and the picks that seed 3 draws under the banker.
+#[rattlefmt::skip]
+const UNDER_THE_BANKER: &[u8] = b"resource tape = 1; resource disk = 1;
+process a begin hold 1 of tape do hold 1 of disk do print 1 od od end
+process b begin hold 1 of disk do hold 1 of tape do print 2 od od end
+%%\nb.0 6\na.0 1\nb.0 1\na.0 6\n";
+
+const BY_CASH: [Case; 7] = [
+    (
+        Call::RecordByCash(THOUSAND, 3),
+        Given::Text(TAPE_AND_DISK),
+        Status::Deadlock,
+        IN_A_DEADLOCK,
+    ),
+    // The second of two steps comes to the deadlock, the first not yet.
+    (
+        Call::RecordByCash(TWO, 3),
+        Given::Text(TAPE_AND_DISK),
+        Status::Deadlock,
+        IN_A_DEADLOCK,
+    ),
+    (
+        Call::RecordByCash(ONE, 3),
+        Given::Text(TAPE_AND_DISK),
+        Status::Done,
+        BEFORE_IT,
+    ),
+    (
+        Call::RecordByCash(THOUSAND, 4),
+        Given::Text(TAPE_AND_DISK),
+        Status::Done,
+        TO_THE_END,
+    ),
+    (
+        Call::Record(THOUSAND, Some(3)),
+        Given::Text(TAPE_AND_DISK),
+        Status::Done,
+        UNDER_THE_BANKER,
+    ),
+    (
+        Call::ReplayByCash,
+        Given::Text(IN_A_DEADLOCK),
+        Status::Deadlock,
+        b"b.0 grant 1 disk\na.0 grant 1 tape\ndeadlock\n",
+    ),
+    (
+        Call::ReplayByCash,
+        Given::Text(BEFORE_IT),
+        Status::Done,
+        b"b.0 grant 1 disk\nopen\n",
+    ),
+];
+
+#[test]
+fn draws_a_deadlock_by_cash(rt: HostRuntime) {
+    assert!(rt; first_wrong(&rt, &BY_CASH) == None);
+}
+
 /// Makes a call with a text, and returns its status. What it writes is added to an output.
 fn made(
     rt: &(impl AllocGlobal + Threads + Wait + Sync),
