@@ -52,9 +52,14 @@ HasFlag rows id set = IsTrue set ↔ (one_of id rows ≡ Some (codes "true"))
 abbrev pub HasDebugFlag : List Row → DebugOptions → Type 0
 HasDebugFlag rows o = HasFlag rows (codes "live") o.live
 
+-- the word was matched for who decides on a request
+abbrev pub HasLend : List Row → Lend → Type 0
+HasLend rows lend = one_of (codes "lend") rows ≡ Some (lend_word lend)
+
+-- the numbers of a run, the seed if there is one, and who decides: without a seed no options say the cash
 abbrev pub HasRecordNumbers : List Row → RecordOptions → Type 0
 HasRecordNumbers rows o = HasRunNumbers rows o.run × HasOptionalNumber rows (codes "seed") o.seed
-    × IfSome o.seed (λ n. n ≤ 18446744073709551615)
+    × IfSome o.seed (λ n. n ≤ 18446744073709551615) × HasLend rows o.lend
 
 abbrev pub format_number : Format → ℕ
 format_number One = 1
@@ -66,10 +71,6 @@ HasEmitNumber rows o = HasNumber rows (codes "object") (format_number o.object)
 -- the name of the code was matched, or nothing if there is no code
 abbrev pub HasCode : List Row → Option Code → Type 0
 HasCode rows code = one_of (codes "CODE") rows ≡ option_map code_name code
-
--- the word was matched for who decides on a request
-abbrev pub HasLend : List Row → Lend → Type 0
-HasLend rows lend = one_of (codes "lend") rows ≡ Some (lend_word lend)
 
 abbrev pub HasSearchOptions : List Row → OutcomesOptions → Type 0
 HasSearchOptions rows o = HasNumber rows (codes "states") o.states × HasLend rows o.lend

@@ -33,6 +33,10 @@ use std::alloc::{AllocError, Global};
 const NO_LEND: &str =
     "error: the value of '--lend' is banker or cash\n\nFor more information, try '--help'.\n";
 
+// The text of `record --lend cash` without a seed.
+const NO_SEED: &str =
+    "error: '--lend cash' of 'record' needs '--seed N': workers ask the banker\n\nFor more information, try '--help'.\n";
+
 // Returns the number of an option, if it was matched with one from `least` to `most`.
 fn number(matches: &ArgMatches<'_>, id: &str, least: u64, most: u64) -> Option<u64>
     ensures some { IfSome result (HasNumberIn (rows_of (found_of matches.now)) id.now least most) }
@@ -167,14 +171,31 @@ fn record_options(matches: &ArgMatches<'_>) -> Option<RecordOptions>
     ensures none { IfNone result ((o : AnyRecordOptions) → HasRecordNumbers (rows_of (found_of matches.now)) o → ⊥) }
 {
     let run = run_options(matches)?;
+    let who = lend(matches)?;
     if is_absent(matches, "seed") {
-        return Some(RecordOptions { run, seed: None });
+        return by_workers(run, who);
     }
     let seed = number(matches, "seed", 0, u64::MAX)?;
     Some(RecordOptions {
         run,
         seed: Some(seed),
+        lend: who,
     })
+}
+
+// Returns the options of a run by workers that is recorded, if they may ask who decides: the banker alone.
+fn by_workers(run: RunOptions, lend: Lend) -> Option<RecordOptions>
+    ensures some { IfSome result (λ o. (o.run ≡ run) × (o.seed ≡ None) × (o.lend ≡ lend)) }
+    ensures none { IfNone result (lend ≡ Lend.Cash) }
+{
+    match lend {
+        Lend::Banker => Some(RecordOptions {
+            run,
+            seed: None,
+            lend: Lend::Banker,
+        }),
+        Lend::Cash => None,
+    }
 }
 
 fn run_options(matches: &ArgMatches<'_>) -> Option<RunOptions>
@@ -234,7 +255,7 @@ pub fn options(alloc: Global, words: &[&str]) -> Result<Options, WordsFault>
     };
     match read_matches(&matches) {
         Some(options) => Ok(options),
-        // clap has looked at the numbers: only a code is left that is not there, or a word for who lends.
+        // clap has looked at the numbers: only a code is left that is not there, or who lends.
         None => match unread_text(alloc, &matches) {
             Ok(text) => Err(WordsFault::Words(text)),
             Err(_) => Err(WordsFault::Memory),
@@ -245,8 +266,17 @@ pub fn options(alloc: Global, words: &[&str]) -> Result<Options, WordsFault>
 // Returns what is wrong with words that clap takes and that name no options.
 fn unread_text(alloc: Global, matches: &ArgMatches<'_>) -> Result<String, AllocError> {
     match matches.subcommand() {
-        Some(("draw" | "outcomes" | "replay", _)) => String::from_str(alloc, NO_LEND),
+        Some(("record", inner)) if is_cash(inner) => String::from_str(alloc, NO_SEED),
+        Some(("draw" | "outcomes" | "record" | "replay", _)) => String::from_str(alloc, NO_LEND),
         _ => codes_text(alloc),
+    }
+}
+
+// Returns whether the option names the cash.
+fn is_cash(matches: &ArgMatches<'_>) -> bool {
+    match lend(matches) {
+        Some(Lend::Cash) => true,
+        Some(Lend::Banker) | None => false,
     }
 }
 
