@@ -5,32 +5,29 @@ use Rattle.std.specs.Prelude.{Contains, remove, slice_get}
 use Rattle.std.proofs.lemmas.Bool.{cases_order}
 use Rattle.std.proofs.lemmas.List.Elements.{All-contains}
 use Rattle.pb_base.specs.declared.event.Event.{Event}
+use Rattle.pb_base.specs.declared.lending.Lending.{Lending}
 use Rattle.pb_base.specs.declared.pick.Pick.{Pick}
-use Rattle.pb_base.specs.Steppers.{Makes, Move, State}
-use Rattle.pb_code.specs.Code.{CodeProcess, Thread, Idle, Live, Ended, code_step, step_thread, thread}
-use Rattle.pb_code.specs.Reached.{CodeMoves, CodeReaches, CodeStays}
-use Rattle.pb_code.specs.Whole.{Code, bank_of, code_opening}
+use Rattle.pb_base.specs.Steppers.{CanGoOn, Makes, Move, State}
+use Rattle.pb_code.specs.Code.{CodeProcess, code_step}
+use Rattle.pb_code.specs.Reached.{CodeMovesBy, CodeStaysBy}
+use Rattle.pb_code.specs.Whole.{Code, bank_by, code_opening}
 use Rattle.pb_codegen.proofs.TextOneCode.{one_code}
 use Rattle.pb_history.specs.Replays.{spread}
 use Rattle.pb_history.specs.declared.counted.CountedPick.{CountedPick}
-use Rattle.pb_verifier.proofs.LoansWithinClaims.{kept_reached}
-use Rattle.pb_verifier.proofs.LiveSteps.{none_live}
-use Rattle.pb_verifier.proofs.States.{CodeMove, checked, code_move}
-use Rattle.pb_verifier.specs.Verified.{IsAnnotated}
 use Rattle.rand_pcg.specs.Lcg.{Lcg}
 use Rattle.rand_pcg.specs.Pcg.{pcg32}
 use Rattle.pb_machine.specs.Looks.{CanStep}
 use Rattle.pb_record.specs.Choices.{AreCandidates, AreInOrder, IsBefore}
 use Rattle.pb_record.specs.Draws.{Draws, DrawsPick, DrawsRun, drawn_number, generator_of, hit, one_more, opening}
 use Rattle.pb_record.specs.Draws.{struck}
+use Rattle.pb_accept.specs.ReplayLines.{IsEnding}
+use Rattle.pb_command_io.specs.declared.status.Status.{Status}
 use Rattle.pb_engines.specs.RecordLaws.{SeedsWriteOneRecord}
-use Rattle.pb_engines.specs.Records.{IsEnded, with_picks}
+use Rattle.pb_engines.specs.Records.{IsEnded, IsRecordedWith, recorded_status, with_picks}
 use Rattle.pb_record.specs.Recorded.{IsRecorded}
-use Rattle.pb_record.specs.CodeRuns.{IsDone, Run}
-use Rattle.pb_command_io.specs.declared.status.Status.TheVariants.{Done}
 use Rattle.pb_picks.proofs.CountedOnce.{counted_once}
 use Rattle.pb_record.proofs.GrantLemmas.{IsEnabled}
-use Rattle.pb_engines.proofs.ReplayedRecords.{is_annotated, wrote}
+use Rattle.pb_engines.proofs.ReplayedRecords.{endings_once, makes_once, wrote}
 use Rattle.pb_record.proofs.RunLemmas.{CodeMakes, makes_last}
 
 -- ---- the candidates of a state are one list
@@ -100,40 +97,44 @@ same_candidates code s ps qs are others =
 
 -- ---- a generator draws one pick that is enabled
 
-draws_once : (code : Code) (s : State CodeProcess) (g : Lcg) (picks : List Pick) (p : Pick) (a : Lcg) → Draws code s g picks p a → IsEnabled code s p
-    → (h : Lcg) (others : List Pick) (q : Pick) (b : Lcg) → Draws code s h others q b → IsEnabled code s q → h ≡ g → others ≡ picks → (p ≡ q) × (a ≡ b)
-draws_once code s _ _ _ _ (hit g picks p at) can _ _ _ _ (hit h others q there) could same list =
+draws_once : (lending : Lending) (code : Code) (s : State CodeProcess) (g : Lcg) (picks : List Pick) (p : Pick) (a : Lcg) → Draws lending code s g picks p a → IsEnabled lending code s p
+    → (h : Lcg) (others : List Pick) (q : Pick) (b : Lcg) → Draws lending code s h others q b → IsEnabled lending code s q → h ≡ g → others ≡ picks → (p ≡ q) × (a ≡ b)
+draws_once lending code s _ _ _ _ (hit g picks p at) can _ _ _ _ (hit h others q there) could same list =
     let both : slice_get picks (drawn_number g picks) ≡ Some q =
     sym (λ i. slice_get (list i) (drawn_number (same i) (list i))) ∙ there in
     let one : Some p ≡ Some q = sym at ∙ both in
     (cc, ap (λ (l : Lcg). (pcg32 l).1) (sym same))
-draws_once code s _ _ _ _ (hit g picks p at) can _ _ _ _ (struck h after others q refused there stays draws) could same list =
+draws_once lending code s _ _ _ _ (hit g picks p at) can _ _ _ _ (struck h after others q refused there stays draws) could same list =
     let both : slice_get picks (drawn_number g picks) ≡ Some refused =
     sym (λ i. slice_get (list i) (drawn_number (same i) (list i))) ∙ there in
     let one : p ≡ refused = let some : Some p ≡ Some refused = sym at ∙ both in cc in
-    absurd (subst (λ (r : Pick). CodeStays code s r) (sym one) stays can.0 can.1 can.2)
-draws_once code s _ _ _ _ (struck g after picks p refused at stays draws) can _ _ _ _ (hit h others q there) could same list =
+    absurd (subst (λ (r : Pick). CodeStaysBy lending code s r) (sym one) stays can.0 can.1 can.2)
+draws_once lending code s _ _ _ _ (struck g after picks p refused at stays draws) can _ _ _ _ (hit h others q there) could same list =
     let both : slice_get picks (drawn_number g picks) ≡ Some q =
     sym (λ i. slice_get (list i) (drawn_number (same i) (list i))) ∙ there in
     let one : q ≡ refused = let some : Some q ≡ Some refused = sym both ∙ at in cc in
-    absurd (subst (λ (r : Pick). CodeStays code s r) (sym one) stays could.0 could.1 could.2)
-draws_once code s _ _ _ _ (struck g after picks p refused at stays draws) can _ _ _ _ (struck h last others q other there stay drawn) could same list =
-    draws_once code s (pcg32 g).1 (remove picks (drawn_number g picks)) p after draws can (pcg32 h).1
+    absurd (subst (λ (r : Pick). CodeStaysBy lending code s r) (sym one) stays could.0 could.1 could.2)
+draws_once lending code s _ _ _ _ (struck g after picks p refused at stays draws) can _ _ _ _ (struck h last others q other there stay drawn) could same list =
+    draws_once lending code s (pcg32 g).1 (remove picks (drawn_number g picks)) p after draws can (pcg32 h).1
     (remove others (drawn_number h others)) q last drawn could (ap (λ (l : Lcg). (pcg32 l).1) same)
     (λ i. remove (list i) (drawn_number (same i) (list i)))
 
-enabled : (code : Code) (s : State CodeProcess) (pick : Pick) (event : Option Event) (after : State CodeProcess) → CodeMoves code s pick event after
-    → IsEnabled code s pick
-enabled code s pick event after moves = (record { next = after; effect = moves.0 }, moves.1, moves.2)
+enabled : (lending : Lending) (code : Code) (s : State CodeProcess) (pick : Pick) (event : Option Event) (after : State CodeProcess) → CodeMovesBy lending code s pick event after
+    → IsEnabled lending code s pick
+enabled lending code s pick event after moves = (record { next = after; effect = moves.0 }, moves.1, moves.2)
 
-picks_once : (code : Code) (s : State CodeProcess) (g : Lcg) (p q : Pick) (a b : Lcg) → DrawsPick code s g p a → DrawsPick code s g q b
-    → IsEnabled code s p → IsEnabled code s q → (p ≡ q) × (a ≡ b)
-picks_once code s g p q a b (picks, are, draws) (others, others_are, drawn) can could =
-    draws_once code s g picks p a draws can g others q b drawn could refl (same_candidates code s others picks others_are are)
+enabled_goes_on : (lending : Lending) (code : Code) (s : State CodeProcess) (pick : Pick) (event : Option Event) (after : State CodeProcess)
+    → CodeMovesBy lending code s pick event after → CanGoOn (bank_by lending code) (code_step code.processes) s
+enabled_goes_on lending code s pick event after moves = (pick, record { next = after; effect = moves.0 }, moves.1, moves.2)
 
-moves_once : (code : Code) (s : State CodeProcess) (pick : Pick) (e f : Option Event) (a b : State CodeProcess) → CodeMoves code s pick e a
-    → CodeMoves code s pick f b → a ≡ b
-moves_once code s pick e f a b moves others =
+picks_once : (lending : Lending) (code : Code) (s : State CodeProcess) (g : Lcg) (p q : Pick) (a b : Lcg) → DrawsPick lending code s g p a → DrawsPick lending code s g q b
+    → IsEnabled lending code s p → IsEnabled lending code s q → (p ≡ q) × (a ≡ b)
+picks_once lending code s g p q a b (picks, are, draws) (others, others_are, drawn) can could =
+    draws_once lending code s g picks p a draws can g others q b drawn could refl (same_candidates code s others picks others_are are)
+
+moves_once : (lending : Lending) (code : Code) (s : State CodeProcess) (pick : Pick) (e f : Option Event) (a b : State CodeProcess) → CodeMovesBy lending code s pick e a
+    → CodeMovesBy lending code s pick f b → a ≡ b
+moves_once lending code s pick e f a b moves others =
     let one : Move CodeProcess = record { next = a; effect = moves.0 } in
     let other : Move CodeProcess = record { next = b; effect = others.0 } in
     let both : Some one ≡ Some other = sym moves.1 ∙ others.1 in
@@ -149,9 +150,9 @@ length_last picks pick = let l = length-append picks (pick ∷ []) in omega (ari
 abbrev IsSameRun : List Pick → State CodeProcess → Lcg → List Pick → State CodeProcess → Lcg → Type 0
 IsSameRun ps s g qs t h = (ps ≡ qs) × (s ≡ t) × (g ≡ h)
 
-module _ (code : Code) (first : Lcg) where
-  runs_once : (ps : List Pick) (s : State CodeProcess) (g : Lcg) → DrawsRun code first ps s g
-      → (qs : List Pick) (t : State CodeProcess) (h : Lcg) → DrawsRun code first qs t h → length ps ≡ length qs → IsSameRun ps s g qs t h
+module _ (lending : Lending) (code : Code) (first : Lcg) where
+  runs_once : (ps : List Pick) (s : State CodeProcess) (g : Lcg) → DrawsRun lending code first ps s g
+      → (qs : List Pick) (t : State CodeProcess) (h : Lcg) → DrawsRun lending code first qs t h → length ps ≡ length qs → IsSameRun ps s g qs t h
   runs_once _ _ _ opening _ _ _ opening long = (refl, refl, refl)
   runs_once _ _ _ opening _ _ _ (one_more qs between t now h q event run drawn moves) long =
       let l = length_last qs q in absurd (omega (arith, l, long))
@@ -161,27 +162,27 @@ module _ (code : Code) (first : Lcg) where
       let l = length_last ps p in
       let k = length_last qs q in
       let (list, state, here) = runs_once ps before at ran qs between now run (omega (arith, l, k, long)) in
-      let drawn_here : DrawsPick code before at q h =
-      subst (λ (x : Lcg). DrawsPick code before x q h) (sym here) (subst (λ (x : State CodeProcess). DrawsPick code x now q h) (sym state) drawn) in
-      let moves_here : CodeMoves code before q event t = subst (λ (x : State CodeProcess). CodeMoves code x q event t) (sym state) moves in
+      let drawn_here : DrawsPick lending code before at q h =
+      subst (λ (x : Lcg). DrawsPick lending code before x q h) (sym here) (subst (λ (x : State CodeProcess). DrawsPick lending code x now q h) (sym state) drawn) in
+      let moves_here : CodeMovesBy lending code before q event t = subst (λ (x : State CodeProcess). CodeMovesBy lending code x q event t) (sym state) moves in
       let (pick, after) =
-      picks_once code before at p q g h draws drawn_here (enabled code before p shown s moved) (enabled code before q event t moves_here) in
-      let moved_here : CodeMoves code before q shown s = subst (λ (x : Pick). CodeMoves code before x shown s) pick moved in
-      ((λ i. list i ++ pick i ∷ []), moves_once code before q shown event s t moved_here moves_here, after)
+      picks_once lending code before at p q g h draws drawn_here (enabled lending code before p shown s moved) (enabled lending code before q event t moves_here) in
+      let moved_here : CodeMovesBy lending code before q shown s = subst (λ (x : Pick). CodeMovesBy lending code before x shown s) pick moved in
+      ((λ i. list i ++ pick i ∷ []), moves_once lending code before q shown event s t moved_here moves_here, after)
 
   -- the first picks of a run, and that one more is enabled behind them
   record Start (n : ℕ) : Type 0 where
     picks : List Pick
     state : State CodeProcess
     now : Lcg
-    run : DrawsRun code first picks state now
+    run : DrawsRun lending code first picks state now
     long : length picks ≡ n
     next : Pick
     event : Option Event
     after : State CodeProcess
-    moves : CodeMoves code state next event after
+    moves : CodeMovesBy lending code state next event after
 
-  start_of : (qs : List Pick) (t : State CodeProcess) (h : Lcg) → DrawsRun code first qs t h → (n : ℕ) → n < length qs → Start n
+  start_of : (qs : List Pick) (t : State CodeProcess) (h : Lcg) → DrawsRun lending code first qs t h → (n : ℕ) → n < length qs → Start n
   start_of _ _ _ opening n less = absurd (omega (arith, less))
   start_of _ _ _ (one_more qs between t now h q event run drawn moves) n less =
       let l = length_last qs q in elim (cases_order n (length qs)) [
@@ -201,74 +202,56 @@ module _ (code : Code) (first : Lcg) where
         | inr (inr above) ↦ absurd (omega (arith, above, less, l))
       ]
 
-  makes_of : (ps : List Pick) (s : State CodeProcess) (g : Lcg) → DrawsRun code first ps s g → (events : List Event) × CodeMakes code ps events s
+  makes_of : (ps : List Pick) (s : State CodeProcess) (g : Lcg) → DrawsRun lending code first ps s g → (events : List Event) × CodeMakes lending code ps events s
   makes_of _ _ _ opening = ([], (refl, refl))
   makes_of _ _ _ (one_more ps before s at g p event run drawn moves) =
       let (events, makes) = makes_of ps before at run in
-      let here : Run code events before = record { picks = ps; makes = makes } in
-      (_, makes_last code events before s p event here moves)
-
-makes_once : (code : Code) (s : State CodeProcess) (picks : List Pick) (e f : List Event) (a b : State CodeProcess)
-    → Makes (bank_of code) (code_step code.processes) s picks e a → Makes (bank_of code) (code_step code.processes) s picks f b → a ≡ b
-makes_once code s [] e f a b makes others = makes.1 ∙ sym others.1
-makes_once code s (pick ∷ picks) e f a b makes others =
-    let both : Some makes.0 ≡ Some others.0 = sym makes.1 ∙ others.1 in
-    let same : makes.0 ≡ others.0 = cc in
-    let next : others.0.next ≡ makes.0.next = ap (λ (m : Move CodeProcess). m.next) (sym same) in
-    makes_once code makes.0.next picks makes.3 others.3 a b makes.5
-    (subst (λ (t : State CodeProcess). Makes (bank_of code) (code_step code.processes) t picks others.3 b) next others.5)
-
--- ---- if all is done, nothing is enabled
-
-done_stays : (code : Code) → IsAnnotated code → (s : State CodeProcess) → CodeReaches code s → IsDone s
-    → (pick : Pick) (event : Option Event) (after : State CodeProcess) → CodeMoves code s pick event after → ⊥
-done_stays code annotated s reached done pick event after moves =
-    go (code_move code.processes s pick (record { next = after; effect = moves.0 }) moves.1)
-  where
-    go : CodeMove code.processes s pick (record { next = after; effect = moves.0 }) → ⊥
-    go m = stands (thread m.before.threads pick.arm) refl m.steps
-      where
-        stands : (t : Thread) → thread m.before.threads pick.arm ≡ t → step_thread m.code m.before pick.arm t ≡ Some (m.after, m.effect) → ⊥
-        stands Idle at steps = cc
-        stands Ended at steps = cc
-        stands (Live place stack) at steps =
-            let ok = checked code annotated pick.process m.code m.at in
-            let fit = (kept_reached code annotated s reached).good.fit pick.process m.code m.before m.at m.here in
-            none_live m.code ok m.before fit (done pick.process m.before m.here) pick.arm place stack at
+      (_, makes_last lending code ps events before s p event makes moves)
 
 -- ---- what is recorded
 
-module _ (code : Code) (annotated : IsAnnotated code) (steps seed : ℕ) where
-  not_shorter : (a b : List CountedPick) → IsRecorded code steps (Some seed) a → IsRecorded code steps (Some seed) b
-      → length (spread a) < length (spread b) → ⊥
-  not_shorter a b recorded other less =
+module _ (lending : Lending) (code : Code) (steps seed : ℕ) where
+  not_shorter : (a b : List CountedPick) (s t : State CodeProcess) → IsRecorded lending code steps (Some seed) a s
+      → IsRecorded lending code steps (Some seed) b t → length (spread a) < length (spread b) → ⊥
+  not_shorter a b s t recorded other less =
       let (state, now, run) = recorded.drawn in
       let (last, then, ran) = other.drawn in
-      let start = start_of code (generator_of seed) (spread b) last then ran (length (spread a)) less in
+      let start = start_of lending code (generator_of seed) (spread b) last then ran (length (spread a)) less in
       let (list, same, here) =
-      runs_once code (generator_of seed) start.picks start.state start.now start.run (spread a) state now run start.long in
-      let (events, makes) = makes_of code (generator_of seed) (spread a) state now run in
-      let end : state ≡ recorded.end = makes_once code (code_opening code) (spread a) events recorded.events state recorded.end makes recorded.makes in
-      let moves : CodeMoves code recorded.end start.next start.event start.after =
-      subst (λ (s : State CodeProcess). CodeMoves code s start.next start.event start.after) (same ∙ end) start.moves in
-      let used = recorded.all (λ done. done_stays code annotated recorded.end (
-        spread a,
-        recorded.events,
-        recorded.makes,
-      ) done start.next start.event start.after moves) in
+      runs_once lending code (generator_of seed) start.picks start.state start.now start.run (spread a) state now run start.long in
+      let (events, makes) = makes_of lending code (generator_of seed) (spread a) state now run in
+      let end : state ≡ s = makes_once lending code (code_opening code) (spread a) events recorded.events state s makes recorded.makes in
+      let moves : CodeMovesBy lending code s start.next start.event start.after =
+      subst (λ (x : State CodeProcess). CodeMovesBy lending code x start.next start.event start.after) (same ∙ end) start.moves in
+      let on : CanGoOn (bank_by lending code) (code_step code.processes) s = enabled_goes_on lending code s start.next start.event start.after moves in
+      let used = recorded.all on in
       let few = other.few in
       omega (arith, used, few, less)
 
-  recorded_once : (a b : List CountedPick) → IsRecorded code steps (Some seed) a → IsRecorded code steps (Some seed) b → a ≡ b
-  recorded_once a b recorded other = elim (cases_order (length (spread a)) (length (spread b))) [
+  recorded_once : (a b : List CountedPick) (s t : State CodeProcess) → IsRecorded lending code steps (Some seed) a s
+      → IsRecorded lending code steps (Some seed) b t → a ≡ b
+  recorded_once a b s t recorded other = elim (cases_order (length (spread a)) (length (spread b))) [
     | inl long ↦
         let (state, now, run) = recorded.drawn in
         let (last, then, ran) = other.drawn in
-        let same = runs_once code (generator_of seed) (spread a) state now run (spread b) last then ran long in
+        let same = runs_once lending code (generator_of seed) (spread a) state now run (spread b) last then ran long in
         counted_once a b recorded.apart other.apart same.0
-    | inr (inl less) ↦ absurd (not_shorter a b recorded other less)
-    | inr (inr more) ↦ absurd (not_shorter b a other recorded more)
+    | inr (inl less) ↦ absurd (not_shorter a b s t recorded other less)
+    | inr (inr more) ↦ absurd (not_shorter b a t s other recorded more)
   ]
+
+  -- with one status
+  told_once : (a b : List CountedPick) (one other : Status) → a ≡ b → (is : IsRecordedWith lending code steps (Some seed) a one)
+      → (also : IsRecordedWith lending code steps (Some seed) b other) → one ≡ other
+  told_once a b one other same is also =
+      let makes : Makes (bank_by lending code) (code_step code.processes) (code_opening code) (spread b) is.recorded.events is.end =
+      subst (λ (ps : List CountedPick). Makes (bank_by lending code) (code_step code.processes) (code_opening code) (spread ps) is.recorded.events is.end)
+      same is.recorded.makes in
+      let end : is.end ≡ also.end =
+      makes_once lending code (code_opening code) (spread b) is.recorded.events also.recorded.events is.end also.end makes also.recorded.makes in
+      let ends : IsEnding lending code also.end is.ending = subst (λ (s : State CodeProcess). IsEnding lending code s is.ending) end is.ends in
+      let ending = endings_once lending code also.end is.ending also.ending ends also.ends in
+      is.told ∙ (ap recorded_status ending ∙ sym also.told)
 
 ended_once : (text one other : List ℕ) → IsEnded text one → IsEnded text other → one ≡ other
 ended_once text one other (inl (ends, same)) (inl (also, equal)) = same ∙ sym equal
@@ -277,11 +260,14 @@ ended_once text one other (inr (not, same)) (inl (ends, equal)) = absurd (not en
 ended_once text one other (inr (not, same)) (inr (also, equal)) = same ∙ sym equal
 
 pub seeds_write_one_record : SeedsWriteOneRecord
-seeds_write_one_record steps seed bytes one other says said =
-    let (code, labels, compiled, ended, picks, is, recorded, same) = wrote steps (Some seed) bytes one Done says refl in
-    let (twin, others, also, finished, counted, ends, record_of, equal) = wrote steps (Some seed) bytes other Done said refl in
+seeds_write_one_record lending steps seed bytes one other its_status status says of said also_of =
+    let (code, labels, compiled, ended, picks, is, recorded, same) = wrote lending steps (Some seed) bytes one its_status says of in
+    let (twin, others, also, finished, counted, ends, record_of, equal) = wrote lending steps (Some seed) bytes other status said also_of in
     let codes = one_code bytes code twin labels others compiled also in
-    let here : IsRecorded code steps (Some seed) counted = subst (λ (c : Code). IsRecorded c steps (Some seed) counted) (sym codes.0) record_of in
+    let here : IsRecordedWith lending code steps (Some seed) counted status =
+    subst (λ (c : Code). IsRecordedWith lending c steps (Some seed) counted status) (sym codes.0) record_of in
     let text = ended_once bytes ended finished is ends in
-    let list = recorded_once code (is_annotated bytes code labels compiled) steps seed picks counted recorded here in
-    same ∙ (λ i. with_picks (text i) (codes.0 i).names (list i)) ∙ sym equal
+    let list = recorded_once lending code steps seed picks counted recorded.end here.end recorded.recorded here.recorded in (
+      same ∙ (λ i. with_picks (text i) (codes.0 i).names (list i)) ∙ sym equal,
+      told_once lending code steps seed picks counted its_status status list recorded here,
+    )

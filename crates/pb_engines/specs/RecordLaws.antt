@@ -1,7 +1,9 @@
 -- What `record` wrote can be replayed, and a seed decides it.
-use Rattle.std.specs.Prelude.{◌≡◌, ◌≢◌, ◌⊎◌, ℕ, ◌<◌, ◌≤◌, List, Option, Some, length}
-use Rattle.pb_base.specs.declared.lending.Lending.TheVariants.{ByBanker}
+use Rattle.std.specs.Prelude.{◌≡◌, ◌≢◌, ◌↔◌, ◌⊎◌, ℕ, ◌<◌, ◌≤◌, List, Option, Some, length}
+use Rattle.pb_base.specs.declared.lending.Lending.{Lending}
 use Rattle.pb_base.specs.declared.limits.TheConstants.{MAX_PICKS, MAX_TEXT}
+use Rattle.pb_base.specs.Steppers.{State}
+use Rattle.pb_code.specs.Code.{CodeProcess}
 use Rattle.pb_code.specs.Whole.{Code, ProcessLabels}
 use Rattle.pb_codegen.specs.Compiled.{IsCompiled}
 use Rattle.pb_history.specs.declared.counted.CountedPick.{CountedPick}
@@ -11,34 +13,46 @@ use Rattle.pb_engines.specs.Records.{EndsLine, IsEnded, SaysOfRecord}
 use Rattle.pb_record.specs.Recorded.{IsRecorded}
 use Rattle.pb_accept.specs.ReplayLines.{SaysOfReplay}
 use Rattle.pb_command_io.specs.declared.status.Status.{Status}
-use Rattle.pb_command_io.specs.declared.status.Status.TheVariants.{Done, Refused}
+use Rattle.pb_command_io.specs.declared.status.Status.TheVariants.{Deadlock, Done, Memory, Refused}
 
--- the text is the recorded one, ended by a line feed; the lines say the picks of a run of its code, the drawn
--- one if there is a seed
-pub record HoldsRun (steps : ℕ) (seed : Option ℕ) (bytes text lines : List ℕ) : Type 0 where
+-- the text is the recorded one, ended by a line feed; the lines say the picks of a run of its code under this
+-- lending, the drawn one if there is a seed
+pub record HoldsRun (lending : Lending) (steps : ℕ) (seed : Option ℕ) (bytes text lines : List ℕ) : Type 0 where
   pub ended : IsEnded bytes text
   pub code : Code
   pub labels : List ProcessLabels
   pub compiled : IsCompiled bytes code labels
   pub picks : List CountedPick
-  pub recorded : IsRecorded code steps seed picks
+  pub end : State CodeProcess
+  pub recorded : IsRecorded lending code steps seed picks end
   pub said : SpellsPicks code lines picks
 
--- an input is cut by `replay` into the recorded text and the picks of its run, and no line or pick of them is
--- refused; nor is the text, unless the line feed behind it made it longer than a text may be
-pub record CanBeReplayed (steps : ℕ) (seed : Option ℕ) (bytes whole : List ℕ) : Type 0 where
-  pub cut : (text lines : List ℕ) → AreTwoParts whole text lines → HoldsRun steps seed bytes text lines
-  pub replayed : (length bytes < MAX_TEXT) ⊎ EndsLine bytes
-      → (said : List ℕ) (status : Status) → SaysOfReplay ByBanker whole said status → status ≢ Refused
+-- a run was written with this status
+abbrev pub IsOfRun : Status → Type 0
+IsOfRun status = (status ≡ Done) ⊎ (status ≡ Deadlock)
 
--- what `record` wrote can be replayed
+-- an input is cut by `replay` into the recorded text and the picks of its run, and under the same lending no line
+-- or pick of them is refused; nor is the text, unless the line feed behind it made it longer than a text may be.
+-- The replay ends in a deadlock exactly if the run was written as one, if there is memory for it
+pub record CanBeReplayed (lending : Lending) (steps : ℕ) (seed : Option ℕ) (bytes whole : List ℕ) (status : Status) : Type 0 where
+  pub cut : (text lines : List ℕ) → AreTwoParts whole text lines → HoldsRun lending steps seed bytes text lines
+  pub replayed : (length bytes < MAX_TEXT) ⊎ EndsLine bytes
+      → (said : List ℕ) (answered : Status) → SaysOfReplay lending whole said answered → answered ≢ Refused
+  pub deadlock : (length bytes < MAX_TEXT) ⊎ EndsLine bytes
+      → (said : List ℕ) (answered : Status) → SaysOfReplay lending whole said answered → answered ≢ Memory
+      → ((answered ≡ Deadlock) ↔ (status ≡ Deadlock))
+
+-- what `record` wrote can be replayed under the same lending
 abbrev pub RecordsCanBeReplayed : Type 0
 RecordsCanBeReplayed =
-    (steps : ℕ) (seed : Option ℕ) (bytes whole : List ℕ) → steps ≤ MAX_PICKS → SaysOfRecord steps seed bytes whole Done
-    → CanBeReplayed steps seed bytes whole
+    (lending : Lending) (steps : ℕ) (seed : Option ℕ) (bytes whole : List ℕ) (status : Status) → steps ≤ MAX_PICKS
+    → SaysOfRecord lending steps seed bytes whole status → IsOfRun status
+    → CanBeReplayed lending steps seed bytes whole status
 
--- two records of one text with one seed are the same bytes
+-- two records of one text with one seed under one lending are the same bytes, and have the same status
 abbrev pub SeedsWriteOneRecord : Type 0
 SeedsWriteOneRecord =
-    (steps seed : ℕ) (bytes one other : List ℕ) → SaysOfRecord steps (Some seed) bytes one Done
-    → SaysOfRecord steps (Some seed) bytes other Done → one ≡ other
+    (lending : Lending) (steps seed : ℕ) (bytes one other : List ℕ) (its_status status : Status)
+    → SaysOfRecord lending steps (Some seed) bytes one its_status → IsOfRun its_status
+    → SaysOfRecord lending steps (Some seed) bytes other status → IsOfRun status
+    → (one ≡ other) × (its_status ≡ status)

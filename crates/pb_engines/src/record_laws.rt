@@ -3,14 +3,14 @@
 ghost use Rattle.pb_engines.specs.RecordLaws.{RecordsCanBeReplayed, SeedsWriteOneRecord};
 
 /// `replay` cuts what `record` wrote into the recorded text, ended by a line feed, and lines that say the
-/// picks of its run. It refuses no line, no pick and not the text, unless that had 65,536 bytes and no line
-/// feed behind it.
+/// picks of its run. Under the same lending it refuses no line, no pick and not the text, unless that had 65,536
+/// bytes and no line feed behind it; and it ends in a deadlock exactly if `record` ended so, if there is memory.
 pub fn records_can_be_replayed()
     ensures { RecordsCanBeReplayed }
 {}
 
-/// With a seed, `record` writes the same bytes for a text each time: on any machine, and whatever memory it
-/// has, if it writes a record at all.
+/// With a seed, `record` writes the same bytes for a text each time, with the same status: on any machine, and
+/// whatever memory it has, if it writes a record at all.
 pub fn seeds_write_one_record()
     ensures { SeedsWriteOneRecord }
 {}

@@ -1,11 +1,12 @@
 use Rattle.std.proofs.Common.{ap}
 use Rattle.pb_engines.specs.Records.{SaysOfRecord}
+use Rattle.pb_options.specs.Lends.{lending_for}
 use Rattle.pb_command_io.proofs.InputLemmas.{read_faults, says_read, says_unread}
 use Rattle.pb_engines.proofs.record.record_engine.Goals as goal
 
 pub returns-in-Ok-clause-text : goal.returns-in-Ok-clause-text
 returns-in-Ok-clause-text g c =
-    says_read (SaysOfRecord c.args.options.run.steps c.args.options.seed) (g.I.Input.rest c.args.input.now) _ _ _ _ _ c.record_text.result c.in-Ok.ensures.read
+    says_read (SaysOfRecord (lending_for c.args.options.lend) c.args.options.run.steps c.args.options.seed) (g.I.Input.rest c.args.input.now) _ _ _ _ _ c.record_text.result c.in-Ok.ensures.read
     c.as_slice.ensures.value (ap g.O.Output.written c.in-Ok.ensures.untouched) c.record_text.ensures.text
 
 pub returns-in-Ok-clause-faults : goal.returns-in-Ok-clause-faults
@@ -13,7 +14,7 @@ returns-in-Ok-clause-faults g c =
     read_faults _ _ _ _ _ _ _ c.record_text.result c.in-Ok.ensures.counted (ap g.O.Output.failures c.in-Ok.ensures.untouched) c.record_text.ensures.faults
 
 pub returns-in-Err-clause-text : goal.returns-in-Err-clause-text
-returns-in-Err-clause-text g c = says_unread (SaysOfRecord c.args.options.run.steps c.args.options.seed)
+returns-in-Err-clause-text g c = says_unread (SaysOfRecord (lending_for c.args.options.lend) c.args.options.run.steps c.args.options.seed)
     (g.I.Input.rest c.args.input.now) _ _ c.in-Err.status c.in-Err.ensures.told
 
 pub returns-in-Err-clause-faults : goal.returns-in-Err-clause-faults
