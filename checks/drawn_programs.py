@@ -4,13 +4,15 @@
     checks/drawn_programs.py [PROGRAM]     PROGRAM is the one that ./parbegin has built if none is given
 
 Each drawn program is run with a drawn quantum and number of steps, its claims are shown, and a run of it is recorded by
-a seed under each lender and replayed under it; picks that the cash alone lets go on are replayed under both. Output and
-status must be the same on both sides, and a record ends in a deadlock exactly if its replay does. A program that faults, is refused by its claims or
+a seed under each lender and replayed under it, by cash with as little of each resource as the claims allow; picks that
+the cash alone lets go on are replayed under both. Output and status must be the same on both sides, and a record ends in
+a deadlock exactly if its replay does. A program that faults, is refused by its claims or
 never ends is as good as any other. The draws are the same in each call. It is run by hand; its status is 0 if all is as
 wanted, and 1 if not.
 """
 import collections
 import random
+import re
 
 import reference
 from calls import Tally, call
@@ -73,6 +75,15 @@ def drawn_program(draw):
     return resources + "".join(processes)
 
 
+def scarce(text):
+    """Returns the text with as little of each resource as its claims allow, so that loans by cash may end in a deadlock."""
+    machine = reference.Machine(text)
+    for it in machine.capital:
+        most = max(claim.get(it, 0) for claim in machine.claims)
+        text = re.sub(rf"resource {it} = \d+;", f"resource {it} = {most};", text)
+    return text
+
+
 def wandered(draw, text):
     """Returns the text with picks that are drawn from those that the cash alone lets go on, up to 60 of them."""
     try:
@@ -95,17 +106,18 @@ def main():
         record = ["record", "--steps", str(draw.randint(0, STEPS)), "--seed", str(draw.randrange(2**64))]
         recorded = call(record, text.encode())[1].decode()
         lent = [*record, "--lend", "cash"]
-        ending, lent_picks = call(lent, text.encode())
+        poor = scarce(text)
+        ending, lent_picks = call(lent, poor.encode())
         moved = wandered(draw, text)
         by_cash = ["replay", "--lend", "cash"]
         calls = [(run, text), (["claims"], text), (record, text), (["replay"], recorded), (by_cash, recorded)]
-        calls += [(lent, text), (by_cash, lent_picks.decode())]
+        calls += [(lent, poor), (by_cash, lent_picks.decode())]
         for words, given in [*calls, (by_cash, moved), (["replay"], moved)]:
             status, said = call(words, given.encode())
             tally.expect((status, said.decode()) == reference.says(words, given), *words, "of", given)
             ended[words[0] + " by cash" * ("cash" in words), status] += 1
         replayed = call(by_cash, lent_picks)[0]
-        tally.expect((ending == 9) == (replayed == 9), "a record and its replay end otherwise:", *lent, "of", text)
+        tally.expect((ending == 9) == (replayed == 9), "a record and its replay end otherwise:", *lent, "of", poor)
     print(", ".join(f"{command} {status}: {count}" for (command, status), count in sorted(ended.items())))
     tally.end("drawn programs")
 

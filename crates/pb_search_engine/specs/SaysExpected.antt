@@ -11,6 +11,7 @@ use Rattle.pb_command_io.specs.Parts.{AreTwoParts}
 use Rattle.pb_command_io.specs.declared.status.Status.{Status}
 use Rattle.pb_command_io.specs.declared.status.Status.TheVariants.{Done, Limit, Refused, Unexpected}
 use Rattle.pb_history.specs.declared.counted.CountedPick.{CountedPick}
+use Rattle.pb_options.specs.Lends.{lending_for}
 use Rattle.pb_options.specs.declared.options.Lend.{Lend}
 use Rattle.pb_search.specs.Deadlocks.{AreSomeDeadlocks, FoundDeadlock}
 use Rattle.pb_search.specs.Outcomes.{AreSomeOutcomes, Found, HasEndlessRun, HasLongRun, IsExcess}
@@ -22,7 +23,6 @@ use Rattle.pb_search_engine.specs.DeadlockLines.{deadlock_lines}
 use Rattle.pb_search_engine.specs.Expected.{HasNoFault, IsAsExpected, IsFirstOther, IsWanted, printing}
 use Rattle.pb_search_engine.specs.OutcomeLines.{AreCounted, outcome_lines}
 use Rattle.pb_search_engine.specs.PrintLines.{IsBadPrint, SpellsPrints}
-use Rattle.pb_search_engine.specs.SaysOutcomes.{lending_for}
 use Rattle.pb_search_engine.specs.declared.print_lines.PrintFault.TheVariants.{NotPrint}
 
 -- the last line, if not all runs are as expected: what is not

@@ -13,17 +13,10 @@ use Rattle.pb_search.specs.declared.found.Extent.TheVariants as extent
 use Rattle.pb_search.specs.declared.found.Until.{Until}
 use Rattle.pb_search.specs.declared.found.Until.TheVariants.{AllIsFound, FirstDeadlock}
 use Rattle.pb_search_stages.specs.declared.print.Mode.{Mode}
-use Rattle.pb_base.specs.declared.lending.Lending.{Lending}
-use Rattle.pb_base.specs.declared.lending.Lending.TheVariants.{ByBanker, ByCash}
+use Rattle.pb_options.specs.Lends.{lending_for}
 use Rattle.pb_options.specs.declared.options.Lend.{Lend}
-use Rattle.pb_options.specs.declared.options.Lend.TheVariants.{Banker, Cash}
 use Rattle.pb_search_engine.specs.DeadlockLines.{AreDeadlockLines}
 use Rattle.pb_search_engine.specs.OutcomeLines.{AreOutcomeLines, last_line}
-
--- who decides on a request, by the option
-abbrev pub lending_for : Lend → Lending
-lending_for Banker = ByBanker
-lending_for Cash = ByCash
 
 -- what the search goes through, by the options
 abbrev pub mode_for : Lend → (prints : Bool) → Mode

@@ -12,7 +12,7 @@ ghost use Rattle.pb_search.specs.Outcomes.{found_view};
 ghost use Rattle.pb_search.specs.Told.{AreSome};
 ghost use Rattle.pb_search_engine.specs.Expected.{printing};
 ghost use Rattle.pb_search_engine.specs.SaysExpected.{IsPlain, SaysOfExpected, SaysOfLines, SaysOfRuns, TellsDeadlock, TellsOutcome};
-ghost use Rattle.pb_search_engine.specs.SaysOutcomes.{lending_for};
+ghost use Rattle.pb_options.specs.Lends.{lending_for};
 
 use crate::outcomes::mode;
 use crate::print_lines::{PrintFault, read_prints};

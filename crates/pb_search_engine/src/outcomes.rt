@@ -6,14 +6,14 @@ ghost use Rattle.pb_command_io.specs.Answers.{Tells};
 ghost use Rattle.pb_command_io.specs.Faults.{TellsFaults, TellsWriteFaults};
 ghost use Rattle.pb_command_io.specs.Inputs.{SaysOfInput};
 ghost use Rattle.pb_search_engine.specs.SaysOfAll.{SaysOfSearches};
-ghost use Rattle.pb_search_engine.specs.SaysOutcomes.{SaysOfSearch, SaysOfOutcomes, lending_for, mode_for, status_of, until_for};
+ghost use Rattle.pb_search_engine.specs.SaysOutcomes.{SaysOfSearch, SaysOfOutcomes, mode_for, status_of, until_for};
 
 use crate::expect::tell_expected;
 use crate::lines::outcomes_text;
 use pb_accept::accept::{compile_text, refuse};
 use pb_base::device::{Input, Output};
 use pb_base::limits::MAX_INPUT;
-use pb_base::{Lending, NoMemory};
+use pb_base::NoMemory;
 use pb_codegen::Compiled;
 use pb_command_io::Status;
 use pb_command_io::input::read_input;
@@ -140,17 +140,7 @@ pub(crate) fn mode(lend: Lend, prints: bool) -> Mode
     ensures { result ≡ mode_for lend prints }
 {
     Mode {
-        lending: lending(lend),
+        lending: lend.lending(),
         prints,
-    }
-}
-
-// Returns who decides on a request, as the search takes it.
-fn lending(lend: Lend) -> Lending
-    ensures { result ≡ lending_for lend }
-{
-    match lend {
-        Lend::Banker => Lending::ByBanker,
-        Lend::Cash => Lending::ByCash,
     }
 }

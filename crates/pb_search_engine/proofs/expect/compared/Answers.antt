@@ -7,7 +7,7 @@ use Rattle.pb_search.specs.Outcomes.{found_view}
 use Rattle.pb_search.specs.declared.found.Found.{Found}
 use Rattle.pb_search.specs.declared.found.Until.TheVariants.{FirstDeadlock}
 use Rattle.pb_search_engine.specs.Expected.{IsFirstOther, IsWanted, printing}
-use Rattle.pb_search_engine.specs.SaysOutcomes.{lending_for}
+use Rattle.pb_options.specs.Lends.{lending_for}
 use Rattle.pb_search_engine.proofs.ExpectLemmas.{if_none, no_other_said, other_said, tells_here}
 use Rattle.pb_search_engine.proofs.OutcomeLemmas.{some_told}
 use Rattle.pb_search_engine.proofs.expect.compared.Goals as goal

@@ -6,7 +6,7 @@ use Rattle.pb_code.specs.Limits.{KeepsLimits}
 use Rattle.pb_code.specs.View.{code_view}
 use Rattle.pb_verifier.specs.Verified.{VerifiedCode}
 use Rattle.pb_verifier.specs.declared.fault.VerifyFault.TheVariants.{OutOfLimits}
-use Rattle.pb_search_engine.specs.SaysOutcomes.{lending_for}
+use Rattle.pb_options.specs.Lends.{lending_for}
 use Rattle.pb_search_engine.proofs.ExpectLemmas.{bad_said, compared_said}
 use Rattle.pb_search_engine.proofs.expect.reply.Goals as goal
 

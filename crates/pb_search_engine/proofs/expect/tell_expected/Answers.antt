@@ -1,7 +1,7 @@
 use Rattle.pb_accept.proofs.ReplayLemmas.{text_is_short}
 use Rattle.pb_command_io.proofs.InputLemmas.{replied_too, told_reply}
 use Rattle.pb_search_engine.specs.SaysExpected.{SaysOfExpected, SaysOfLines, accepted}
-use Rattle.pb_search_engine.specs.SaysOutcomes.{lending_for}
+use Rattle.pb_options.specs.Lends.{lending_for}
 use Rattle.pb_search_engine.proofs.ExpectLemmas.{text_refused}
 use Rattle.pb_search_engine.proofs.expect.tell_expected.Goals as goal
 
