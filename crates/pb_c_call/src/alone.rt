@@ -5,6 +5,7 @@ ghost use Rattle.pb_command_io.specs.Answers.{Tells};
 ghost use Rattle.pb_command_io.specs.Inputs.{SaysOfInput};
 ghost use Rattle.pb_engines.specs.Records.{SaysOfRecord};
 ghost use Rattle.pb_answer.specs.Calls.{CallWrites};
+ghost use Rattle.pb_options.specs.Lends.{lending_for};
 ghost use Rattle.pb_c_call.specs.Replies.{RefusesThreads};
 
 use crate::drawn::record_drawn_engine;
@@ -67,12 +68,15 @@ fn record<I: Input, O: Output>(
     input: &mut I,
     output: &mut O,
 ) -> Status
-    ensures { IfSome (I.rest input.old) (λ bytes. Tells (SaysOfInput (SaysOfRecord numbers.run.steps numbers.seed) bytes)
+    ensures { IfSome (I.rest input.old) (λ bytes. Tells (SaysOfInput (SaysOfRecord (lending_for numbers.lend) numbers.run.steps numbers.seed) bytes)
         (O.written output.old) (O.written output.new) result)
         ⊎ ((numbers.seed ≡ None) × (O.written output.new ≡ O.written output.old) × (result ≡ Status.Threads)) }
 {
     match numbers.seed {
-        Some(seed) => record_drawn_engine(alloc, numbers.run.steps, seed, input, output),
+        Some(seed) => {
+            let lending = numbers.lend.lending();
+            record_drawn_engine(alloc, lending, numbers.run.steps, seed, input, output)
+        }
         None => Status::Threads,
     }
 }

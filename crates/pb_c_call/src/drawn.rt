@@ -7,21 +7,21 @@ ghost use Rattle.pb_engines.specs.Records.{SaysOfRecord, SaysOfRecording};
 ghost use Rattle.pb_verifier.specs.Verified.{IsVerified};
 
 use pb_accept::accept::{compile_text, refuse};
-use pb_base::NoMemory;
 use pb_base::device::{Input, Output};
 use pb_base::limits::{MAX_INPUT, MAX_PICKS};
+use pb_base::{Lending, NoMemory};
 use pb_command_io::Status;
 use pb_command_io::input::read_input;
 use pb_command_io::reply::{Reply, tell};
-use pb_engines::record::{ended, too_long};
+use pb_engines::record::{drawn_run, ended, too_long};
 use pb_picks::write_picks;
-use pb_record::draw_picks;
 use pb_verifier::Verified;
 use std::alloc::Global;
 
 /// Records a run of the text that the input holds, as `pb_engines::record_engine` does with a seed.
 pub fn record_drawn_engine<I: Input, O: Output>(
     alloc: Global,
+    lending: Lending,
     steps: u32,
     seed: u64,
     input: &mut I,
@@ -29,10 +29,10 @@ pub fn record_drawn_engine<I: Input, O: Output>(
 ) -> Status
     requires { steps ≤ MAX_PICKS }
     ensures { IfSome (I.rest input.old) (λ bytes.
-        Tells (SaysOfInput (SaysOfRecord steps (Some seed)) bytes) (O.written output.old) (O.written output.new) result) }
+        Tells (SaysOfInput (SaysOfRecord lending steps (Some seed)) bytes) (O.written output.old) (O.written output.new) result) }
 {
     match read_input(alloc, input, output) {
-        Ok(bytes) => record_text(alloc, steps, seed, bytes.as_slice(), output),
+        Ok(bytes) => record_text(alloc, lending, steps, seed, bytes.as_slice(), output),
         Err(status) => status,
     }
 }
@@ -40,6 +40,7 @@ pub fn record_drawn_engine<I: Input, O: Output>(
 /// Records a run of a text.
 fn record_text<O: Output>(
     alloc: Global,
+    lending: Lending,
     steps: u32,
     seed: u64,
     text: &[u8],
@@ -47,12 +48,12 @@ fn record_text<O: Output>(
 ) -> Status
     requires text { length text.now ≤ MAX_INPUT }
     requires steps { steps ≤ MAX_PICKS }
-    ensures { Tells (SaysOfInput (SaysOfRecord steps (Some seed)) text.now)
+    ensures { Tells (SaysOfInput (SaysOfRecord lending steps (Some seed)) text.now)
         (O.written output.old) (O.written output.new) result }
 {
     match compile_text(alloc, text) {
         Ok(compiled) => {
-            let reply = recording(alloc, steps, seed, text, compiled.verified());
+            let reply = recording(alloc, lending, steps, seed, text, compiled.verified());
             drop(compiled);
             tell(alloc, reply, output)
         }
@@ -63,6 +64,7 @@ fn record_text<O: Output>(
 /// Returns the text and the picks of a run of its code, or the line that they are too long.
 fn recording(
     alloc: Global,
+    lending: Lending,
     steps: u32,
     seed: u64,
     text: &[u8],
@@ -70,21 +72,21 @@ fn recording(
 ) -> Result<Reply, NoMemory>
     requires { steps ≤ MAX_PICKS }
     ensures { IfOk result (λ r.
-        SaysOfRecording verified.now.code steps (Some seed) text.now r.text.items r.status) }
+        SaysOfRecording lending verified.now.code steps (Some seed) text.now r.text.items r.status) }
 {
     let code = verified.code();
     let mut whole = ended(alloc, text)?;
-    let picks = draw_picks(alloc, steps, seed, verified)?;
-    let Some(picks) = picks else {
+    let recorded = drawn_run(alloc, lending, steps, seed, verified)?;
+    let Some(recorded) = recorded else {
         return too_long(alloc);
     };
     whole.extend_from_slice(b"%%\n")?;
-    write_picks(&mut whole, &code.names, &picks)?;
+    write_picks(&mut whole, &code.names, &recorded.picks)?;
     if whole.len() > MAX_INPUT {
         return too_long(alloc);
     }
     Ok(Reply {
         text: whole,
-        status: Status::Done,
+        status: recorded.status,
     })
 }

@@ -11,9 +11,9 @@ ghost use Rattle.pb_search_engine.specs.SaysOutcomes.{SaysOfSearch, SaysOfOutcom
 use crate::expect::tell_expected;
 use crate::lines::outcomes_text;
 use pb_accept::accept::{compile_text, refuse};
+use pb_base::NoMemory;
 use pb_base::device::{Input, Output};
 use pb_base::limits::MAX_INPUT;
-use pb_base::NoMemory;
 use pb_codegen::Compiled;
 use pb_command_io::Status;
 use pb_command_io::input::read_input;
