@@ -16,7 +16,7 @@ import subprocess
 import sys
 import tempfile
 
-from calls import DONE, EXAMPLES, REFUSED, TOP, Tally, call, installed, program, recorded
+from calls import DONE, EXAMPLES, REFUSED, TOP, WATCHDOG, Tally, call, installed, program, recorded
 
 sys.path.insert(0, str(TOP))
 sys.dont_write_bytecode = True
@@ -35,7 +35,7 @@ LOST = TOP / "examples/lost.run"
 DEVICES = TOP / "examples/devices.pb"
 # A run with more picks is followed so far.
 MOST_PICKS = 300
-# An interrupt that has no effect is sent so often, every five seconds.
+# An interrupt that has no effect is sent so often.
 MOST_INTERRUPTS = 8
 # How the words of a pick begin that shows an event, with the word of the event line.
 EVENTS = {"prints ": "print", "is granted ": "grant", "gives back ": "return"}
@@ -107,7 +107,7 @@ class Player:
 
     def __init__(self, script: str, *words: str, folder: str | None = None) -> None:
         where = {**os.environ, "TERM": "dumb", "PYTHONDONTWRITEBYTECODE": "1"}
-        how = {"encoding": "utf-8", "timeout": 20, "dimensions": (50, 240), "env": where, "cwd": folder}
+        how = {"encoding": "utf-8", "timeout": WATCHDOG, "dimensions": (50, 240), "env": where, "cwd": folder}
         self.it = pexpect.spawn(script, list(words), **how)
 
     def shown(self) -> str:
@@ -121,13 +121,20 @@ class Player:
         self.it.sendline(line)
         return self.shown().partition("\n")[2]
 
+    def keys(self, typed: str) -> None:
+        """Types keys, and waits until they are taken in."""
+        self.it.send(typed)
+        self.it.expect_exact(typed.replace("\n", "\r\n"))
+
     def interrupt(self) -> str:
         """Types Ctrl-C, and returns what is shown up to the next prompt."""
-        # (Python may miss an interrupt that comes while it takes in a key)
         for _ in range(MOST_INTERRUPTS):
             self.it.sendintr()
             if self.it.expect([PROMPT, pexpect.TIMEOUT], timeout=5) == 0:
                 break
+            # (an interrupt drops the keys that are not yet read, and readline waits on if it was to read one of them)
+            self.it.send(" ")
+            self.it.expect_exact([" ", pexpect.TIMEOUT], timeout=5)
         else:
             sys.exit("terminal: an interrupt brings no prompt")
         return self.it.before
@@ -151,7 +158,7 @@ def try_lost(tally: Tally, script: str, folder: str) -> None:
         tally.expect(wanted in answer, repr(command), "shows", answer)
     tally.expect("p: x = 1" in it.type("va\t"), "va is not completed")
     tally.expect("x" in it.type("wrote \t \t"), "what follows wrote is not completed")
-    it.it.send("step 1")
+    it.keys("step 1")
     it.interrupt()
     tally.expect("p: x = 1" in it.type("vars p"), "an interrupt at the prompt ends the session")
     tally.expect(it.end() == DONE, "the status of a session")
@@ -184,7 +191,7 @@ def try_long(tally: Tally, script: str, folder: str) -> None:
     it = Player(script, "debug", "long.run", folder=folder)
     it.shown()
     it.type("step 3")
-    it.it.sendline("until p.0 2")
+    it.keys("until p.0 2\n")
     shown = it.interrupt() + it.type("vars") + it.type("step")
     tally.expect("p: x = " in shown and "/9000000 p.0 line 1: " in shown, "an interrupt ends the session", shown)
     tally.expect(it.end() == DONE, "the status after an interrupt")
