@@ -49,7 +49,7 @@ _parbegin() {
         return
         ;;
     migrate) options="" ;;
-    outcomes) options="--states --lend --first-deadlock --prints --expect --any-order" ;;
+    outcomes) options="--states --lend --first-deadlock --prints --expect --any-order --run --deadlock" ;;
     plan) options="" ;;
     record) options="--workers --quantum --steps --seed --lend" ;;
     replay) options="--lend" ;;

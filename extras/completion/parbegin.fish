@@ -42,6 +42,8 @@ complete -c parbegin -n "__fish_seen_subcommand_from outcomes" -l first-deadlock
 complete -c parbegin -n "__fish_seen_subcommand_from outcomes" -l prints -d "Tell prints apart, and show them"
 complete -c parbegin -n "__fish_seen_subcommand_from outcomes" -l expect -d "Compare all prints with the lines after %%"
 complete -c parbegin -n "__fish_seen_subcommand_from outcomes" -l any-order -d "In any order, with --expect"
+complete -c parbegin -n "__fish_seen_subcommand_from outcomes" -l run -x -d "The program with the picks to this outcome"
+complete -c parbegin -n "__fish_seen_subcommand_from outcomes" -l deadlock -x -d "The program with the picks to this deadlock"
 complete -c parbegin -n "__fish_seen_subcommand_from states" -l rows -x -d "Most rows, 1 to 1000000"
 complete -c parbegin -n "__fish_seen_subcommand_from states" -l from -x -d "Begin at this position"
 complete -c parbegin -n "__fish_seen_subcommand_from record" -l seed -x -d "Draw the run by this seed"

@@ -6,5 +6,6 @@ pub mod Loading
 pub mod Migrations
 pub mod Refusals
 pub mod ReplayLines
+pub mod RunTexts
 pub mod Stillness
 pub mod ToldEvents

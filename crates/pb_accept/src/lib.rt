@@ -13,6 +13,7 @@ pub mod load;
 pub mod migrate;
 mod refusal;
 pub mod replay;
+pub mod run_text;
 
 pub use check::check_engine;
 pub use claims::claims_engine;

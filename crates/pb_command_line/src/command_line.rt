@@ -108,6 +108,23 @@ fn with_number<'a>(
     with_option(command, option.help(help))
 }
 
+// Adds an option with a number and no default, if the command was made.
+fn with_given_number<'a>(
+    alloc: Global,
+    command: Result<Command<'a>, AllocError>,
+    name: &'a str,
+    least: u64,
+    most: u64,
+    help: &'a str,
+) -> Result<Command<'a>, AllocError>
+    ensures { (app : App) → IfOk command.entry (IsCommand app) → IfOk result
+        (IsCommand (with_rule app (number_rule name.entry.now least most))) }
+{
+    let command = command?;
+    let option = number_option(alloc, name, least, most);
+    with_option(command, option.help(help))
+}
+
 // Adds a flag, if the command was made.
 fn with_flag<'a>(
     alloc: Global,
@@ -246,7 +263,12 @@ fn outcomes_of_text<'a>(alloc: Global) -> Result<Command<'a>, AllocError>
         "Compare the prints of every run with the lines after the program and a line %%; --prints and --first-deadlock then change nothing";
     let outcomes = with_flag(alloc, outcomes, "expect", expect);
     let any_order = "With --expect: those lines may be printed in any order";
-    with_flag(alloc, outcomes, "any-order", any_order)
+    let outcomes = with_flag(alloc, outcomes, "any-order", any_order);
+    let run =
+        "Print the program with the picks that lead to the outcome with this number, for replay";
+    let outcomes = with_given_number(alloc, outcomes, "run", 1, 4_000_000, run);
+    let deadlock = "The same of the deadlock with this number; with --run it changes nothing";
+    with_given_number(alloc, outcomes, "deadlock", 1, 4_000_000, deadlock)
 }
 
 fn states_of_run<'a>(alloc: Global) -> Result<Command<'a>, AllocError>

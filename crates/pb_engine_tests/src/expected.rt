@@ -157,6 +157,8 @@ fn options(case: &Case) -> Option<OutcomesOptions> {
         prints: false,
         expect: true,
         any_order: case.any_order,
+        run: None,
+        deadlock: None,
     })
 }
 

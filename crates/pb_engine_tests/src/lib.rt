@@ -24,6 +24,8 @@ mod live;
 #[cfg(test)]
 mod messages;
 #[cfg(test)]
+mod one_run;
+#[cfg(test)]
 mod outcomes;
 #[cfg(test)]
 mod places;

@@ -22,6 +22,8 @@ const MANY: OutcomesOptions = OutcomesOptions {
     prints: false,
     expect: false,
     any_order: false,
+    run: None,
+    deadlock: None,
 };
 
 const CASH: OutcomesOptions = OutcomesOptions {
@@ -31,6 +33,8 @@ const CASH: OutcomesOptions = OutcomesOptions {
     prints: false,
     expect: false,
     any_order: false,
+    run: None,
+    deadlock: None,
 };
 
 const PRINTS: OutcomesOptions = OutcomesOptions {
@@ -40,6 +44,8 @@ const PRINTS: OutcomesOptions = OutcomesOptions {
     prints: true,
     expect: false,
     any_order: false,
+    run: None,
+    deadlock: None,
 };
 
 /// Two additions, of which one may be lost: 7 configurations are kept.
@@ -114,6 +120,8 @@ const CASES: [Case; 16] = [
             prints: false,
             expect: false,
             any_order: false,
+            run: None,
+            deadlock: None,
         },
         said: b"outcome 1\np ended\np.x 2\nreached by\np.0 1\np.1 5\np.2 5\np.0 4\noutcome 2\np ended\np.x 1\nreached by\np.0 1\np.1 3\np.2 3\np.1 2\np.2 2\np.0 4\n2 outcomes\n",
         status: Status::Done,
@@ -127,6 +135,8 @@ const CASES: [Case; 16] = [
             prints: false,
             expect: false,
             any_order: false,
+            run: None,
+            deadlock: None,
         },
         said: b"outcome 1\np ended\np.x 2\nreached by\np.0 1\np.1 5\np.2 5\np.0 4\nmore than 6 configurations, there may be others\n",
         status: Status::Limit,

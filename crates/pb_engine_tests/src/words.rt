@@ -53,6 +53,8 @@ fn commands_have_their_defaults(rt: HostRuntime) {
                 prints: false,
                 expect: false,
                 any_order: false,
+                run: None,
+                deadlock: None,
             }),
         ),
         (
@@ -114,6 +116,34 @@ fn options_with_one_word_are_read(rt: HostRuntime) {
         ("explain", "N3", Options::Explain(Some(Code::N3))),
         (
             "outcomes",
+            "--run=2",
+            Options::Outcomes(OutcomesOptions {
+                states: 1_000_000,
+                lend: Lend::Banker,
+                first_deadlock: false,
+                prints: false,
+                expect: false,
+                any_order: false,
+                run: Some(2),
+                deadlock: None,
+            }),
+        ),
+        (
+            "outcomes",
+            "--deadlock=4000000",
+            Options::Outcomes(OutcomesOptions {
+                states: 1_000_000,
+                lend: Lend::Banker,
+                first_deadlock: false,
+                prints: false,
+                expect: false,
+                any_order: false,
+                run: None,
+                deadlock: Some(4_000_000),
+            }),
+        ),
+        (
+            "outcomes",
             "--states=4000000",
             Options::Outcomes(OutcomesOptions {
                 states: 4_000_000,
@@ -122,6 +152,8 @@ fn options_with_one_word_are_read(rt: HostRuntime) {
                 prints: false,
                 expect: false,
                 any_order: false,
+                run: None,
+                deadlock: None,
             }),
         ),
         (
@@ -134,6 +166,8 @@ fn options_with_one_word_are_read(rt: HostRuntime) {
                 prints: false,
                 expect: false,
                 any_order: false,
+                run: None,
+                deadlock: None,
             }),
         ),
         (
@@ -165,6 +199,8 @@ fn options_with_one_word_are_read(rt: HostRuntime) {
                 prints: false,
                 expect: false,
                 any_order: false,
+                run: None,
+                deadlock: None,
             }),
         ),
         (
@@ -177,6 +213,8 @@ fn options_with_one_word_are_read(rt: HostRuntime) {
                 prints: true,
                 expect: false,
                 any_order: false,
+                run: None,
+                deadlock: None,
             }),
         ),
         (
@@ -205,6 +243,8 @@ fn options_with_one_word_are_read(rt: HostRuntime) {
                 prints: false,
                 expect: false,
                 any_order: false,
+                run: None,
+                deadlock: None,
             }),
         ),
     ] {
@@ -294,6 +334,8 @@ fn other_words_are_refused(rt: HostRuntime) {
         ("outcomes", "--lend="),
         ("outcomes", "--states=0"),
         ("outcomes", "--states=4000001"),
+        ("outcomes", "--run=0"),
+        ("outcomes", "--deadlock=4000001"),
         ("outcomes", "text"),
         ("record", "--lend=cash"),
         ("record", "--lend=till"),

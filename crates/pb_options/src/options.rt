@@ -136,6 +136,10 @@ pub struct OutcomesOptions {
     pub expect: bool,
     /// Whether those lines may be printed in any order.
     pub any_order: bool,
+    /// The number of an outcome, from 1 to 4,000,000, if the text is to be written with the picks that lead to it.
+    pub run: Option<u32>,
+    /// The number of a deadlock, from 1 to 4,000,000, if that is asked of a deadlock, and of no outcome.
+    pub deadlock: Option<u32>,
     pub ghost some_state: { 1 ≤ states },
     pub ghost states_fit: { states ≤ MAX_STATES },
 }

@@ -5,6 +5,7 @@ pub mod OutcomeLines
 pub mod PrintLines
 pub mod SaysExpected
 pub mod SaysOfAll
+pub mod SaysOfOne
 pub mod SaysOutcomes
 pub mod Showing
 pub mod SourceOutcomes

@@ -1,14 +1,29 @@
 -- What `outcomes` says of an input by its options.
-use Rattle.std.specs.Prelude.{ℕ, Bool, true, false, List}
+use Rattle.std.specs.Prelude.{ℕ, Bool, true, false, List, Option, None, Some}
 use Rattle.pb_command_io.specs.declared.status.Status.{Status}
 use Rattle.pb_options.specs.declared.options.OutcomesOptions.{OutcomesOptions}
 use Rattle.pb_search_engine.specs.SaysExpected.{SaysOfExpected}
+use Rattle.pb_search_engine.specs.SaysOfOne.{SaysOfOne}
 use Rattle.pb_search_engine.specs.SaysOutcomes.{SaysOfOutcomes}
+use Rattle.pb_search_engine.specs.declared.one_run.Target.{Target}
+use Rattle.pb_search_engine.specs.declared.one_run.Target.TheVariants.{Deadlock, Outcome}
 
--- whether all runs are as expected, if that is asked; else all outcomes and deadlocks
+-- which outcome or deadlock a run is asked for, if one is, by the numbers that are given
+abbrev pub target_of : (run deadlock : Option ℕ) → Option Target
+target_of (Some n) deadlock = Some (Outcome n)
+target_of None (Some n) = Some (Deadlock n)
+target_of None None = None
+
+-- a run to that one, or else all outcomes and deadlocks
+abbrev pub SaysWhich : Option Target → OutcomesOptions → List ℕ → List ℕ → Status → Type 0
+SaysWhich (Some target) options =
+    SaysOfOne target options.lend options.first_deadlock options.prints options.states
+SaysWhich None options = SaysOfOutcomes options.lend options.first_deadlock options.prints options.states
+
+-- whether all runs are as expected, if that is asked; else a run or all outcomes
 abbrev pub SaysWhether : (expect : Bool) → OutcomesOptions → List ℕ → List ℕ → Status → Type 0
 SaysWhether true options = SaysOfExpected options.lend options.any_order options.states
-SaysWhether false options = SaysOfOutcomes options.lend options.first_deadlock options.prints options.states
+SaysWhether false options = SaysWhich (target_of options.run options.deadlock) options
 
 abbrev pub SaysOfSearches : OutcomesOptions → List ℕ → List ℕ → Status → Type 0
 SaysOfSearches options = SaysWhether options.expect options

@@ -7,6 +7,7 @@ mod expect;
 pub mod laws;
 mod lines;
 mod names;
+mod one_run;
 pub mod outcomes;
 pub mod print_lines;
 mod prints;

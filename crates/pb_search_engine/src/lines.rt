@@ -109,8 +109,8 @@ pub fn put_head(text: &mut Vec<u8>, word: &[u8], number: usize) -> Result<(), No
     Ok(())
 }
 
-// Appends the last line.
-fn put_last(
+/// Appends the last line, which says whether these are all.
+pub fn put_last(
     text: &mut Vec<u8>,
     outcomes: usize,
     deadlocks: usize,

@@ -5,11 +5,12 @@ ghost use Rattle.pb_code.specs.Limits.{AreLabels};
 ghost use Rattle.pb_command_io.specs.Answers.{Tells};
 ghost use Rattle.pb_command_io.specs.Faults.{TellsFaults, TellsWriteFaults};
 ghost use Rattle.pb_command_io.specs.Inputs.{SaysOfInput};
-ghost use Rattle.pb_search_engine.specs.SaysOfAll.{SaysOfSearches};
+ghost use Rattle.pb_search_engine.specs.SaysOfAll.{SaysOfSearches, target_of};
 ghost use Rattle.pb_search_engine.specs.SaysOutcomes.{SaysOfSearch, SaysOfOutcomes, mode_for, status_of, until_for};
 
 use crate::expect::tell_expected;
 use crate::lines::outcomes_text;
+use crate::one_run::{Target, tell_one_run};
 use pb_accept::accept::{compile_text, refuse};
 use pb_base::NoMemory;
 use pb_base::device::{Input, Output};
@@ -32,7 +33,8 @@ use std::alloc::Global;
 /// last line says that there may be others; the status is `Limit`, and else `Deadlock` if a deadlock was found. With `options.first_deadlock` the search ends at
 /// the first deadlock, which the last line says. With `options.prints` what was
 /// printed is shown too, behind a line `printed`, and outcomes and deadlocks with different prints are different ones. Of a text that is refused its refusal line
-/// is written. With `options.expect` the input is a text and print lines behind it, and it is written whether all
+/// is written. With `options.run` or `options.deadlock` the text is written with the picks that lead to the one with
+/// this number, as `replay` reads it, or that there is none. With `options.expect` the input is a text and print lines behind it, and it is written whether all
 /// runs of the text are as these lines say, as `tell_expected` does.
 ///
 /// After a read that failed nothing is written; after a write that failed, a first part of what was being
@@ -56,7 +58,7 @@ pub fn outcomes_engine<I: Input, O: Output>(
     }
 }
 
-// Writes the outcomes of a text, or whether all runs of it are as expected.
+// Writes the outcomes of a text, or a run to one of them, or whether all runs of it are as expected.
 fn tell_text<O: Output>(
     alloc: Global,
     options: OutcomesOptions,
@@ -68,9 +70,22 @@ fn tell_text<O: Output>(
     ensures faults { TellsWriteFaults (O.failures output.old) (O.failures output.new) result }
 {
     if options.expect {
-        tell_expected(alloc, options, bytes, output)
-    } else {
-        tell_outcomes(alloc, options, bytes, output)
+        return tell_expected(alloc, options, bytes, output);
+    }
+    match target(options.run, options.deadlock) {
+        Some(target) => tell_one_run(alloc, options, target, bytes, output),
+        None => tell_outcomes(alloc, options, bytes, output),
+    }
+}
+
+// Returns which outcome or deadlock a run is asked for, if one is.
+fn target(run: Option<u32>, deadlock: Option<u32>) -> Option<Target>
+    ensures { result ≡ target_of run deadlock }
+{
+    match (run, deadlock) {
+        (Some(number), _) => Some(Target::Outcome(number)),
+        (None, Some(number)) => Some(Target::Deadlock(number)),
+        (None, None) => None,
     }
 }
 
@@ -124,8 +139,8 @@ fn status(extent: Extent, deadlocks: usize) -> Status
     }
 }
 
-// Returns where the search ends.
-fn until(first_deadlock: bool) -> Until
+/// Returns where the search ends.
+pub(crate) fn until(first_deadlock: bool) -> Until
     ensures { result ≡ until_for first_deadlock }
 {
     if first_deadlock {

@@ -4,6 +4,7 @@ use Rattle.std.specs.Prelude.{option_map}
 use Rattle.std.specs.Str.Parse.{IsNumeral, digits_value, without_leading_plus}
 use Rattle.clap.specs.Words.{Row, Text, fault_of, one_of, subcommand_of}
 use Rattle.std.specs.Borrow.{Bor}
+use Rattle.pb_base.specs.declared.limits.TheConstants.{MAX_STATES}
 use Rattle.pb_object.specs.declared.format.Format.{Format}
 use Rattle.pb_object.specs.declared.format.Format.TheVariants.{One, Two}
 use Rattle.pb_command_line.specs.CommandLine.{command_line}
@@ -42,6 +43,11 @@ abbrev pub HasOptionalNumber : List Row → Text → Option ℕ → Type 0
 HasOptionalNumber rows id (Some n) = HasNumber rows id n
 HasOptionalNumber rows id None = one_of id rows ≡ None
 
+-- the same, in a range
+abbrev pub HasOptionalNumberIn : List Row → Text → (least most : ℕ) → Option ℕ → Type 0
+HasOptionalNumberIn rows id least most (Some n) = HasNumberIn rows id least most n
+HasOptionalNumberIn rows id least most None = one_of id rows ≡ None
+
 abbrev pub HasCheckNumbers : List Row → CheckOptions → Type 0
 HasCheckNumbers rows o = HasOptionalNumber rows (codes "heap") o.heap
 
@@ -76,6 +82,7 @@ abbrev pub HasSearchOptions : List Row → OutcomesOptions → Type 0
 HasSearchOptions rows o = HasNumber rows (codes "states") o.states × HasLend rows o.lend
     × HasFlag rows (codes "first-deadlock") o.first_deadlock × HasFlag rows (codes "prints") o.prints
     × HasFlag rows (codes "expect") o.expect × HasFlag rows (codes "any-order") o.any_order
+    × HasOptionalNumberIn rows (codes "run") 1 MAX_STATES o.run × HasOptionalNumberIn rows (codes "deadlock") 1 MAX_STATES o.deadlock
 
 abbrev pub HasDrawLend : List Row → DrawOptions → Type 0
 HasDrawLend rows o = HasLend rows o.lend

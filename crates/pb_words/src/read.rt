@@ -2,7 +2,7 @@
 ghost use Rattle.std.specs.Prelude.{◌≡◌, ◌↔◌, IfErr, IfNone, IfOk, IfSome, IsTrue, None, Option, ℕ};
 ghost use Rattle.clap.specs.Words.{found_of, kind_of, one_of, rows_of, subcommand_rows_of};
 ghost use Rattle.pb_words.specs.Read.{BlamesWords, HasCheckNumbers, HasCode, HasDebugFlag, HasDrawLend, HasEmitNumber};
-ghost use Rattle.pb_words.specs.Read.{HasFlag, HasNumberIn, HasRecordNumbers, HasRunNumbers, HasLend, HasReplayLend, HasSearchOptions};
+ghost use Rattle.pb_words.specs.Read.{HasFlag, HasNumberIn, HasOptionalNumberIn, HasRecordNumbers, HasRunNumbers, HasLend, HasReplayLend, HasSearchOptions};
 ghost use Rattle.pb_words.specs.Read.{HasStatesNumbers, IsReadFromMatches, WordsSay};
 ghost use Rattle.pb_words.specs.declared.words.Options.{Options as AnyOptions};
 ghost use Rattle.pb_options.specs.declared.options.CheckOptions.{CheckOptions as AnyCheckOptions};
@@ -58,6 +58,19 @@ fn is_absent(matches: &ArgMatches<'_>, id: &str) -> bool
         Ok(Some(_)) => false,
         Err(_) => false,
     }
+}
+
+// Returns the number of an option that need not be given; nothing is returned if what is given is no number from
+// `least` to `most`.
+fn number_if_given(matches: &ArgMatches<'_>, id: &str, least: u32, most: u32) -> Option<Option<u32>>
+    ensures some { IfSome result (HasOptionalNumberIn (rows_of (found_of matches.now)) id.now least most) }
+    ensures none { IfNone result ((n : Option ℕ) → HasOptionalNumberIn (rows_of (found_of matches.now)) id.now least most n → ⊥) }
+{
+    if is_absent(matches, id) {
+        return Some(None);
+    }
+    let number = number(matches, id, u64::from(least), u64::from(most))?;
+    Some(Some(number as u32))
 }
 
 fn check_options(matches: &ArgMatches<'_>) -> Option<CheckOptions>
@@ -136,6 +149,8 @@ fn outcomes_options(matches: &ArgMatches<'_>) -> Option<OutcomesOptions>
 {
     let states = number(matches, "states", 1, MAX_STATES as u64)?;
     let lend = lend(matches)?;
+    let run = number_if_given(matches, "run", 1, MAX_STATES)?;
+    let deadlock = number_if_given(matches, "deadlock", 1, MAX_STATES)?;
     Some(OutcomesOptions {
         states: states as u32,
         lend,
@@ -143,6 +158,8 @@ fn outcomes_options(matches: &ArgMatches<'_>) -> Option<OutcomesOptions>
         prints: flag(matches, "prints"),
         expect: flag(matches, "expect"),
         any_order: flag(matches, "any-order"),
+        run,
+        deadlock,
     })
 }
 

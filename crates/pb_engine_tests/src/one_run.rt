@@ -1,0 +1,150 @@
+//! A run to one outcome or to one deadlock, and what is said if there is none.
+
+use pb_base::device::{MemoryInput, MemoryOutput};
+use pb_command_io::Status;
+use pb_options::{Lend, OutcomesOptions};
+use pb_search_engine::outcomes_engine;
+use std::alloc::Global;
+
+/// A text, which run is asked for, what is said, and the status.
+struct Case {
+    text: &'static [u8],
+    lend: Lend,
+    states: u32,
+    first_deadlock: bool,
+    run: Option<u32>,
+    deadlock: Option<u32>,
+    said: &'static [u8],
+    status: Status,
+}
+
+/// Two additions, of which one may be lost.
+const LOST: &[u8] =
+    b"process p begin integer x; parbegin x := x + 1; x := x + 1 parend; print x end\n";
+
+/// Two jobs that each hold one of two devices and want the other.
+const CIRCLE: &[u8] =
+    b"resource r = 1; resource s = 1; process p begin hold 1 of r do hold 1 of s do skip od od end process q begin hold 1 of s do hold 1 of r do skip od od end";
+
+const CASES: [Case; 9] = [
+    Case {
+        text: LOST,
+        lend: Lend::Banker,
+        states: 1_000,
+        first_deadlock: false,
+        run: Some(1),
+        deadlock: None,
+        said: b"process p begin integer x; parbegin x := x + 1; x := x + 1 parend; print x end\n%%\np.0 1\np.1 5\np.2 5\np.0 4\n",
+        status: Status::Done,
+    },
+    Case {
+        text: LOST,
+        lend: Lend::Banker,
+        states: 1_000,
+        first_deadlock: false,
+        run: Some(2),
+        deadlock: None,
+        said: b"process p begin integer x; parbegin x := x + 1; x := x + 1 parend; print x end\n%%\np.0 1\np.1 3\np.2 3\np.1 2\np.2 2\np.0 4\n",
+        status: Status::Done,
+    },
+    Case {
+        text: LOST,
+        lend: Lend::Banker,
+        states: 1_000,
+        first_deadlock: false,
+        run: Some(3),
+        deadlock: None,
+        said: b"no outcome 3\n2 outcomes\n",
+        status: Status::Refused,
+    },
+    Case {
+        text: LOST,
+        lend: Lend::Banker,
+        states: 1,
+        first_deadlock: false,
+        run: Some(1),
+        deadlock: None,
+        said: b"no outcome 1\nmore than 1 configurations, there may be others\n",
+        status: Status::Limit,
+    },
+    Case {
+        text: LOST,
+        lend: Lend::Banker,
+        states: 1_000,
+        first_deadlock: false,
+        run: None,
+        deadlock: Some(1),
+        said: b"no deadlock 1\n2 outcomes\n",
+        status: Status::Refused,
+    },
+    Case {
+        text: CIRCLE,
+        lend: Lend::Cash,
+        states: 1_000,
+        first_deadlock: true,
+        run: None,
+        deadlock: Some(1),
+        said: b"resource r = 1; resource s = 1; process p begin hold 1 of r do hold 1 of s do skip od od end process q begin hold 1 of s do hold 1 of r do skip od od end\n%%\np.0 1\nq.0 1\n",
+        status: Status::Done,
+    },
+    Case {
+        text: CIRCLE,
+        lend: Lend::Cash,
+        states: 1_000,
+        first_deadlock: true,
+        run: None,
+        deadlock: Some(2),
+        said: b"no deadlock 2\nfirst deadlock, there may be others\n",
+        status: Status::Limit,
+    },
+    Case {
+        text: CIRCLE,
+        lend: Lend::Cash,
+        states: 1_000,
+        first_deadlock: false,
+        run: Some(2),
+        deadlock: Some(1),
+        said: b"no outcome 2\n1 outcome, 1 deadlock\n",
+        status: Status::Refused,
+    },
+    Case {
+        text: b"process p begin print y end\n",
+        lend: Lend::Banker,
+        states: 1_000,
+        first_deadlock: false,
+        run: Some(1),
+        deadlock: None,
+        said: b"refused N3 at 22\n",
+        status: Status::Refused,
+    },
+];
+
+/// Returns whether this is said of a text.
+fn says(alloc: Global, case: &Case) -> Option<bool> {
+    let options = OutcomesOptions {
+        states: case.states,
+        lend: case.lend,
+        first_deadlock: case.first_deadlock,
+        prints: false,
+        expect: false,
+        any_order: false,
+        run: case.run,
+        deadlock: case.deadlock,
+    };
+    let mut input = MemoryInput::new(case.text);
+    let mut output = MemoryOutput::new(alloc, 4_096).ok()?;
+    let status = outcomes_engine(alloc, options, &mut input, &mut output);
+    Some(status == case.status && output.as_slice() == case.said)
+}
+
+#[test]
+fn one_run_is_told(rt: HostRuntime) {
+    for case in &CASES {
+        assert!(rt;
+            says(rt.alloc(), case) == Some(true),
+            "{:?} {:?}",
+            case.run,
+            case.deadlock
+        );
+    }
+}
