@@ -3,7 +3,7 @@ use Rattle.std.proofs.Common.{◌≡◌, ◌⊎◌, ℕ, ◌+◌, ◌-◌, ◌<�
 use Rattle.std.proofs.Common.{sym, ap, ◌∙◌, subst, inl, inr, arith}
 use Rattle.std.specs.Prelude.{nat_le}
 use Rattle.std.proofs.lemmas.Bool.{le-leb, lt-leb, leb-true, leb-false}
-use Rattle.pb_draw.specs.Curves.{IsCurve, NoneBehind, shown_at}
+use Rattle.pb_draw.specs.Curves.{IsCurveOf, NoneBehind, shown_at}
 
 last_or_before : (i n : ℕ) → i ≤ n + 1 → (i ≤ n) ⊎ (i ≡ n + 1)
 last_or_before i n within = go (nat_le i n) refl
@@ -41,49 +41,59 @@ module _ {S V : Type 0} (at : S → ℕ) (value : S → V) where
   none_behind_more [] s n early le = (le, tt)
   none_behind_more (t ∷ steps) s n early le = (early.0, none_behind_more steps s n early.1 le)
 
-  -- a position more at which nothing changes
-  pub curve_stays : (v : V) (f : ℕ → V) (n : ℕ) (steps : List S) → IsCurve at value v f n steps → f (n + 1) ≡ f n
-      → IsCurve at value v f (n + 1) steps
-  curve_stays v f n steps c same = record {
+  -- a position more, for which what is shown is right as well
+  pub curve_stays : (v : V) (IsSo : ℕ → V → Type 0) (n : ℕ) (steps : List S) → IsCurveOf at value v IsSo n steps
+      → IsSo (n + 1) (shown_at at value v steps n) → IsCurveOf at value v IsSo (n + 1) steps
+  curve_stays v IsSo n steps c same = record {
     shows = λ i within. elim (last_or_before i n within) [
       | inl before ↦ c.shows i before
       | inr last ↦
-          ap (shown_at at value v steps) last
-          ∙ (shown_later v steps n (n + 1) c.early (omega arith)
-          ∙ (c.shows n (omega arith) ∙ (sym same ∙ ap f (sym last))))
+          subst (λ (k : ℕ). IsSo k (shown_at at value v steps k)) (sym last)
+          (subst (λ (x : V). IsSo (n + 1) x) (sym (shown_later v steps n (n + 1) c.early (omega arith))) same)
     ];
     early = none_behind_later steps n (n + 1) (omega arith) c.early;
   }
 
+  -- one more step decides what is shown at its position
+  pub shown_last : (v : V) (steps : List S) (s : S) (n : ℕ) → at s ≡ n → shown_at at value v (steps ++ s ∷ []) n ≡ value s
+  shown_last v steps s n here =
+      let le : at s ≤ n = omega (arith, here) in
+      shown_more v steps s n ∙ ap (λ (b : Bool). cond b (value s) (shown_at at value v steps n)) (le-leb (at s) n le)
+
   -- and one at which it changes
-  pub curve_changes : (v : V) (f : ℕ → V) (n : ℕ) (steps : List S) (s : S) → IsCurve at value v f n steps → at s ≡ n + 1
-      → value s ≡ f (n + 1) → IsCurve at value v f (n + 1) (steps ++ s ∷ [])
-  curve_changes v f n steps s c here is = record {
+  pub curve_changes : (v : V) (IsSo : ℕ → V → Type 0) (n : ℕ) (steps : List S) (s : S) → IsCurveOf at value v IsSo n steps
+      → at s ≡ n + 1 → IsSo (n + 1) (value s) → IsCurveOf at value v IsSo (n + 1) (steps ++ s ∷ [])
+  curve_changes v IsSo n steps s c here is = record {
     shows = λ i within. elim (last_or_before i n within) [
       | inl before ↦
           let later : n < at s = omega (arith, here) in
           let not : nat_le (at s) i ≡ false = lt-leb (at s) i (omega (arith, later, before)) in
-          shown_more v steps s i
-          ∙ (ap (λ (b : Bool). cond b (value s) (shown_at at value v steps i)) not ∙ c.shows i before)
+          let same : shown_at at value v (steps ++ s ∷ []) i ≡ shown_at at value v steps i =
+          shown_more v steps s i ∙ ap (λ (b : Bool). cond b (value s) (shown_at at value v steps i)) not in
+          subst (λ (x : V). IsSo i x) (sym same) (c.shows i before)
       | inr last ↦
-          let le : at s ≤ i = omega (arith, here, last) in
-          shown_more v steps s i
-          ∙ (ap (λ (b : Bool). cond b (value s) (shown_at at value v steps i)) (le-leb (at s) i le)
-          ∙ (is ∙ ap f (sym last)))
+          subst (λ (k : ℕ). IsSo k (shown_at at value v (steps ++ s ∷ []) k)) (sym last)
+          (subst (λ (x : V). IsSo (n + 1) x) (sym (shown_last v steps s (n + 1) here)) is)
     ];
     early = none_behind_more steps s (n + 1) (none_behind_later steps n (n + 1) (omega arith) c.early) (omega (arith, here));
   }
 
   -- the same, of a position that is counted from the one behind it
-  pub curve_stays_at : (v : V) (f : ℕ → V) (n : ℕ) (steps : List S) → 0 < n → IsCurve at value v f (n - 1) steps → f n ≡ f (n - 1)
-      → IsCurve at value v f n steps
-  curve_stays_at v f n steps some c same =
+  pub curve_stays_at : (v : V) (IsSo : ℕ → V → Type 0) (n : ℕ) (steps : List S) → 0 < n → IsCurveOf at value v IsSo (n - 1) steps
+      → IsSo n (shown_at at value v steps (n - 1)) → IsCurveOf at value v IsSo n steps
+  curve_stays_at v IsSo n steps some c same =
       let e : n - 1 + 1 ≡ n = omega (arith, some) in
-      subst (λ (k : ℕ). IsCurve at value v f k steps) e (curve_stays v f (n - 1) steps c (ap f e ∙ same))
+      subst (λ (k : ℕ). IsCurveOf at value v IsSo k steps) e
+      (curve_stays v IsSo (n - 1) steps c (subst (λ (k : ℕ). IsSo k (shown_at at value v steps (n - 1))) (sym e) same))
 
-  pub curve_changes_at : (v : V) (f : ℕ → V) (n : ℕ) (steps : List S) (s : S) → 0 < n → IsCurve at value v f (n - 1) steps
-      → at s ≡ n → value s ≡ f n → IsCurve at value v f n (steps ++ s ∷ [])
-  curve_changes_at v f n steps s some c here is =
+  pub curve_changes_at : (v : V) (IsSo : ℕ → V → Type 0) (n : ℕ) (steps : List S) (s : S) → 0 < n
+      → IsCurveOf at value v IsSo (n - 1) steps → at s ≡ n → IsSo n (value s) → IsCurveOf at value v IsSo n (steps ++ s ∷ [])
+  curve_changes_at v IsSo n steps s some c here is =
       let e : n - 1 + 1 ≡ n = omega (arith, some) in
-      subst (λ (k : ℕ). IsCurve at value v f k (steps ++ s ∷ [])) e
-      (curve_changes v f (n - 1) steps s c (here ∙ sym e) (is ∙ ap f (sym e)))
+      subst (λ (k : ℕ). IsCurveOf at value v IsSo k (steps ++ s ∷ [])) e
+      (curve_changes v IsSo (n - 1) steps s c (here ∙ sym e) (subst (λ (k : ℕ). IsSo k (value s)) (sym e) is))
+
+  -- behind the position up to which it is known a curve shows what it shows there
+  pub shown_still : (v : V) (IsSo : ℕ → V → Type 0) (n : ℕ) (steps : List S) → 0 < n → IsCurveOf at value v IsSo (n - 1) steps
+      → shown_at at value v steps n ≡ shown_at at value v steps (n - 1)
+  shown_still v IsSo n steps some c = shown_later v steps (n - 1) n c.early (omega arith)

@@ -4,4 +4,5 @@ pub mod Curves
 pub mod LaneSteps
 pub mod MarkOrder
 pub mod PickMarks
+pub mod Standings
 pub mod Walks

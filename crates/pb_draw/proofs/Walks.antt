@@ -12,12 +12,13 @@ use Rattle.pb_base.specs.declared.lending.Lending.{Lending}
 use Rattle.pb_code.specs.Reached.{CodeMovesBy}
 use Rattle.pb_code.specs.Whole.{Code, bank_of}
 use Rattle.pb_draw.specs.Cash.{cash_after}
-use Rattle.pb_draw.specs.Lanes.{standing_after, standing_in}
+use Rattle.pb_draw.specs.Lanes.{IsStanding, IsStandingAfter}
+use Rattle.pb_draw.specs.declared.drawing.Standing.{Standing}
 use Rattle.pb_history.specs.Positions.{IsAfterBy, AreEnabledBy, state_after}
 use Rattle.pb_draw.specs.Walks.{event_at, shown_in, step_event}
 use Rattle.pb_history.proofs.Positions.{not_refused}
 use Rattle.pb_machine.specs.Steps.{IsStepBy}
-use Rattle.pb_machine.specs.Views.{machine_view}
+use Rattle.pb_machine.specs.Views.{machine_view, IsMachineBy}
 use Rattle.pb_machine.specs.declared.machine.Machine.{Machine}
 use Rattle.pb_verifier.specs.Verified.{VerifiedCode}
 
@@ -46,8 +47,9 @@ pub cash_here : (lending : Lending) (v : VerifiedCode) (picks : List Pick) (i r 
     → cash (banker_state (bank_of v.code) (machine_view m).loans) r ≡ cash_after v.code picks r i
 cash_here lending v picks i r m h = ap (λ (s : State CodeProcess). cash (banker_state (bank_of v.code) s.loans) r) h.state
 
--- so is the state of an arm
-pub standing_here : (lending : Lending) (v : VerifiedCode) (picks : List Pick) (i p arm : ℕ) (m : Machine) → IsAfterBy lending v picks i m
-    → standing_in (slice_get v.code.processes p) (slice_get (machine_view m).processes p) arm ≡ standing_after v.code picks p arm i
-standing_here lending v picks i p arm m h =
-    ap (λ (s : State CodeProcess). standing_in (slice_get v.code.processes p) (slice_get s.processes p) arm) h.state
+-- what an arm is doing in a machine it is doing at its position
+pub standing_here : (lending : Lending) (v : VerifiedCode) (picks : List Pick) (i : ℕ) (arm : Pick) (standing : Standing) (m : Machine)
+    → IsAfterBy lending v picks i m → ((lends : Lending) → IsMachineBy lends v m → IsStanding lends v.code (machine_view m) arm standing)
+    → IsStandingAfter lending v.code picks arm i standing
+standing_here lending v picks i arm standing m h is =
+    subst (λ (s : State CodeProcess). IsStanding lending v.code s arm standing) h.state (is lending h.machine)

@@ -12,7 +12,12 @@ abbrev pub NoneBehind : {S : Type 0} → (at : S → ℕ) → (n : ℕ) → List
 NoneBehind at n [] = Unit {0}
 NoneBehind at n (s ∷ steps) = (at s ≤ n) × NoneBehind at n steps
 
--- up to position n a curve shows what `f` says of each position, and it has no step behind n
-pub record IsCurve {S V : Type 0} (at : S → ℕ) (value : S → V) (v : V) (f : ℕ → V) (n : ℕ) (steps : List S) : Type 0 where
-  pub shows : (i : ℕ) → i ≤ n → shown_at at value v steps i ≡ f i
+-- up to position n what a curve shows at each position is so, and it has no step behind n
+pub record IsCurveOf {S V : Type 0} (at : S → ℕ) (value : S → V) (v : V) (IsSo : ℕ → V → Type 0) (n : ℕ) (steps : List S)
+    : Type 0 where
+  pub shows : (i : ℕ) → i ≤ n → IsSo i (shown_at at value v steps i)
   pub early : NoneBehind at n steps
+
+-- a curve shows what `f` says of each position
+abbrev pub IsCurve : {S V : Type 0} → (at : S → ℕ) → (value : S → V) → (v : V) → (f : ℕ → V) → (n : ℕ) → List S → Type 0
+IsCurve at value v f = IsCurveOf at value v (λ i x. x ≡ f i)

@@ -1,5 +1,6 @@
 -- What a drawing says of a run.
 use Rattle.std.specs.Prelude.{◌≡◌, ℕ, List, length, map, Some, slice_get}
+use Rattle.pb_base.specs.declared.lending.Lending.{Lending}
 use Rattle.pb_base.specs.declared.pick.Pick.{Pick}
 use Rattle.pb_code.specs.Whole.{Code}
 use Rattle.pb_draw.specs.Arms.{arms_from}
@@ -17,17 +18,16 @@ pub record AreCashCurves (code : Code) (picks : List Pick) (curves : List CashCu
   pub each : (r : ℕ) (curve : CashCurve) → slice_get curves r ≡ Some curve → IsCashCurve code picks r curve
 
 -- each lane shows the state of its arm after each first part of the picks
-abbrev pub AreLanes : Code → List Pick → List Lane → Type 0
-AreLanes code picks lanes =
-    (k : ℕ) (lane : Lane) → slice_get lanes k ≡ Some lane → IsLane code picks lane.pick.process lane.pick.arm lane
+abbrev pub AreLanes : Lending → Code → List Pick → List Lane → Type 0
+AreLanes lending code picks lanes = (k : ℕ) (lane : Lane) → slice_get lanes k ≡ Some lane → IsLane lending code picks lane
 
 -- a drawing shows each event of the picks at its pick, and no other; a bar for each grant, up to where it is
 -- given back; a lane for each arm of each process, in their order, and no other, with the state of that arm; and
--- the cash of each resource, after each first part of the picks
-pub record IsDrawing (code : Code) (picks : List Pick) (d : Drawing) : Type 0 where
+-- the cash of each resource, after each first part of the picks, which were made under this lending
+pub record IsDrawing (lending : Lending) (code : Code) (picks : List Pick) (d : Drawing) : Type 0 where
   pub many : d.picks ≡ length picks
   pub marks : d.marks.items ≡ marks_before code picks (length picks)
   pub bars : d.bars.items ≡ bars_of d.marks.items
   pub arms : map (λ lane. lane.pick) d.lanes.items ≡ arms_from 0 code.processes
-  pub lanes : AreLanes code picks d.lanes.items
+  pub lanes : AreLanes lending code picks d.lanes.items
   pub curves : AreCashCurves code picks d.curves.items

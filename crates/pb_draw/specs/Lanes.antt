@@ -1,59 +1,59 @@
 -- The state of an arm over a run: away, going or waiting.
-use Rattle.std.specs.Prelude.{ℕ, Bool, true, false, cond, List, length, Option, Some, None, slice_get}
+use Rattle.std.specs.Prelude.{ℕ, List, length}
+use Rattle.pb_base.specs.Banker.{BankerState, IsWithinCash}
+use Rattle.pb_base.specs.Steppers.{Bundle, IsLent, State}
+use Rattle.pb_base.specs.declared.lending.Lending.{Lending}
 use Rattle.pb_base.specs.declared.pick.Pick.{Pick}
-use Rattle.pb_code.specs.Code.{Instr, Push, Load, Store, Compute1, Compute2, Jump, JumpIfZero, PrintTop, Take, Give}
-use Rattle.pb_code.specs.Code.{Fork, Join, End, ProcessCode, CodeProcess, Thread, Idle, Live, Ended, thread}
+use Rattle.pb_circles.specs.Links.{bank_at}
+use Rattle.pb_code.specs.Code.{CodeProcess, Take}
 use Rattle.pb_code.specs.Whole.{Code}
 use Rattle.pb_history.specs.Positions.{state_after}
-use Rattle.pb_draw.specs.Curves.{IsCurve}
+use Rattle.pb_machine.specs.Looks.{IsLiveArm}
+use Rattle.pb_machine.specs.Turns.{StandsIn}
+use Rattle.pb_draw.specs.Curves.{IsCurveOf, shown_at}
 use Rattle.pb_draw.specs.declared.drawing.Lane.{Lane}
 use Rattle.pb_draw.specs.declared.drawing.LaneStep.{LaneStep}
 use Rattle.pb_draw.specs.declared.drawing.Standing.{Standing}
-use Rattle.pb_draw.specs.declared.drawing.Standing.TheVariants.{Away, Going, Waiting}
+use Rattle.pb_draw.specs.declared.drawing.Standing.TheVariants.{Away, Going, KeptBack, Short}
 
--- an instruction asks for a bundle
-abbrev pub is_request : Instr → Bool
-is_request (Push v) = false
-is_request (Load x) = false
-is_request (Store x) = false
-is_request (Compute1 op) = false
-is_request (Compute2 op) = false
-is_request (Jump target) = false
-is_request (JumpIfZero target) = false
-is_request PrintTop = false
-is_request (Take bundle) = true
-is_request (Give bundle) = false
-is_request (Fork first count) = false
-is_request (Join first count) = false
-is_request End = false
+-- the arm asks for a bundle
+abbrev pub AsksFor : Code → State CodeProcess → Pick → Bundle → Type 0
+AsksFor code s arm bundle = StandsIn code s arm (Take bundle)
 
--- the state of a live arm, by its next instruction
-abbrev pub standing_before : Option Instr → Standing
-standing_before None = Going
-standing_before (Some i) = cond (is_request i) Waiting Going
+-- what an arm is doing in a state under this lending: it is not live; it is, and if it asks for something that is
+-- granted; it asks for more than the cash suffices for; or the cash suffices and it is not granted
+abbrev pub IsStanding : Lending → Code → State CodeProcess → Pick → Standing → Type 0
+IsStanding lending code s arm Away = IsLiveArm s arm → ⊥
+IsStanding lending code s arm Going =
+    IsLiveArm s arm × ((bundle : Bundle) → AsksFor code s arm bundle → IsLent lending (bank_at code s) arm.process bundle)
+IsStanding lending code s arm Short =
+    (bundle : Bundle) × AsksFor code s arm bundle × (IsWithinCash (bank_at code s) bundle → ⊥)
+IsStanding lending code s arm KeptBack =
+    (bundle : Bundle) × AsksFor code s arm bundle × IsWithinCash (bank_at code s) bundle
+    × (IsLent lending (bank_at code s) arm.process bundle → ⊥)
 
--- the state of an arm, beside the instructions of its process
-abbrev pub standing_of : List Instr → Thread → Standing
-standing_of instrs Idle = Away
-standing_of instrs (Live place stack) = standing_before (slice_get instrs place)
-standing_of instrs Ended = Away
+-- what an arm is doing after the first i picks
+abbrev pub IsStandingAfter : Lending → Code → List Pick → (arm : Pick) → (i : ℕ) → Standing → Type 0
+IsStandingAfter lending code picks arm i = IsStanding lending code (state_after code picks i) arm
 
--- the state of an arm of a process, if both are there
-abbrev pub standing_in : Option ProcessCode → Option CodeProcess → (arm : ℕ) → Standing
-standing_in None process arm = Away
-standing_in (Some code) None arm = Away
-standing_in (Some code) (Some process) arm = standing_of code.instrs (thread process.threads arm)
-
--- the state of an arm after the first i picks
-abbrev pub standing_after : Code → List Pick → (p arm i : ℕ) → Standing
-standing_after code picks p arm i =
-    standing_in (slice_get code.processes p) (slice_get (state_after code picks i).processes p) arm
-
--- up to position n a lane shows these standings
-abbrev pub ShowsStandings : (ℕ → Standing) → (n : ℕ) → List LaneStep → Type 0
-ShowsStandings f n steps = IsCurve (λ s. s.at) (λ s. s.standing) Away f n steps
+-- up to position n a lane shows such standings
+abbrev pub ShowsStandings : (ℕ → Standing → Type 0) → (n : ℕ) → List LaneStep → Type 0
+ShowsStandings Stands n steps = IsCurveOf (λ s. s.at) (λ s. s.standing) Away Stands n steps
 
 -- a lane shows the state of its arm after each first part of the picks
-abbrev pub IsLane : Code → List Pick → (p arm : ℕ) → Lane → Type 0
-IsLane code picks p arm lane =
-    ShowsStandings (standing_after code picks p arm) (length picks) lane.steps.items
+abbrev pub IsLane : Lending → Code → List Pick → Lane → Type 0
+IsLane lending code picks lane =
+    ShowsStandings (IsStandingAfter lending code picks lane.pick) (length picks) lane.steps.items
+
+-- ---- what serves the proof
+
+-- the state of an arm that asks for a bundle, by its lender
+abbrev pub IsAsking : Lending → BankerState → (p : ℕ) → Bundle → Standing → Type 0
+IsAsking lending s p bundle Away = ⊥
+IsAsking lending s p bundle Going = IsLent lending s p bundle
+IsAsking lending s p bundle Short = IsWithinCash s bundle → ⊥
+IsAsking lending s p bundle KeptBack = IsWithinCash s bundle × (IsLent lending s p bundle → ⊥)
+
+-- what a lane shows at a position
+abbrev pub last_of : List LaneStep → (n : ℕ) → Standing
+last_of steps n = shown_at (λ s. s.at) (λ s. s.standing) Away steps n

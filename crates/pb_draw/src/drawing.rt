@@ -42,10 +42,12 @@ pub struct Bar {
 pub enum Standing {
     /// It is not live.
     Away,
-    /// It is live, and its next instruction asks for nothing.
+    /// It is live, and does not wait for a request.
     Going,
-    /// It is live, and its next instruction asks for a bundle.
-    Waiting,
+    /// It asks for more of a resource than there is cash of it.
+    Short,
+    /// The cash suffices for what it asks for, and the banker keeps it back.
+    KeptBack,
 }
 
 /// The state of an arm from a position on.
@@ -100,7 +102,7 @@ pub fn draw(
 ) -> Result<Drawing, NoMemory>
     requires enabled { AreEnabledBy lending verified.now.code (picks_of trace.now.entries) }
     requires few { length trace.now.entries ≤ MAX_PICKS }
-    ensures drawing { IfOk result (IsDrawing verified.now.code (picks_of trace.now.entries)) }
+    ensures drawing { IfOk result (IsDrawing lending verified.now.code (picks_of trace.now.entries)) }
     ensures named { IfOk result (λ d. All (λ m. HasNames verified.now.code.names m.event) d.marks.items) }
     ensures ordered { IfOk result (λ d. AreInOrder d.marks.items) }
     ensures different { IfOk result (λ d. AreDifferent (map (λ lane. lane.pick) d.lanes.items)) }

@@ -1,20 +1,23 @@
 //! The state of each arm over a run.
 
-ghost use Rattle.std.specs.Prelude.{◌≡◌, ◌↔◌, ◌++◌, ◌-◌, ◌<◌, ℕ, List, IfOk, IsTrue, OnOk, Some, length, map, slice_get};
+ghost use Rattle.std.specs.Prelude.{◌≡◌, ◌↔◌, ◌++◌, ◌-◌, ◌<◌, ℕ, List, All, IfOk, IsTrue, OnOk, Some, length, map, slice_get};
+ghost use Rattle.pb_banker.specs.Lenders.{lender_state, lending_by};
+ghost use Rattle.pb_base.specs.Banker.{processes, resources, IsWithinCash, IsWithinClaim};
+ghost use Rattle.pb_base.specs.declared.lending.Lending.{Lending as LendingValue};
 ghost use Rattle.pb_code.specs.Code.{ProcessCode};
 ghost use Rattle.pb_draw.specs.Arms.{arms_before, arms_from};
-ghost use Rattle.pb_code.specs.View.{instr_view};
 ghost use Rattle.pb_draw.specs.Drawings.{AreLanes};
-ghost use Rattle.pb_draw.specs.Lanes.{IsLane, ShowsStandings, is_request, standing_in};
-ghost use Rattle.pb_base.specs.declared.pair.Pair.{Pair};
+ghost use Rattle.pb_code.specs.Whole.{Code as AnyCode};
+ghost use Rattle.pb_draw.specs.Lanes.{IsAsking, IsLane, IsStanding, IsStandingAfter, ShowsStandings, last_of};
 ghost use Rattle.pb_history.specs.Entries.{picks_of};
 ghost use Rattle.pb_history.specs.Positions.{AreEnabledBy};
-ghost use Rattle.pb_machine.specs.Views.{machine_view};
+ghost use Rattle.pb_machine.specs.Views.{IsMachine, IsMachineBy, machine_view};
 
 use crate::drawing::{Lane, LaneStep, Standing};
 use crate::walk::advance;
-use pb_base::{Lending, NoMemory, Pick};
-use pb_code::Instr;
+use pb_banker::Lender;
+use pb_base::{Bundle, Lending, NoMemory, Pick};
+use pb_circles::asked;
 use pb_history::Trace;
 use pb_machine::Machine;
 use pb_verifier::Verified;
@@ -23,64 +26,65 @@ use std::alloc::Global;
 // No code has as many processes, and no process as many arms.
 const MAX_LANES: usize = 255;
 
-// Returns whether an instruction asks for a bundle.
-fn asks(instr: Instr) -> bool
-    ensures { (bundles : List (List Pair)) → result ≡ is_request (instr_view bundles instr) }
+// Returns whether the cash suffices for a bundle.
+fn cash_suffices(bank: &Lender, bundle: &Bundle) -> bool
+    requires { All (λ pair. pair.resource < resources (lender_state bank.now)) bundle.now }
+    ensures { IsTrue result ↔ IsWithinCash (lender_state bank.now) bundle.now }
 {
-    match instr {
-        Instr::Push(_) => false,
-        Instr::Load(_) => false,
-        Instr::Store(_) => false,
-        Instr::Neg => false,
-        Instr::Not => false,
-        Instr::Add => false,
-        Instr::Sub => false,
-        Instr::Mul => false,
-        Instr::Div => false,
-        Instr::Mod => false,
-        Instr::Eq => false,
-        Instr::Ne => false,
-        Instr::Lt => false,
-        Instr::Le => false,
-        Instr::Gt => false,
-        Instr::Ge => false,
-        Instr::And => false,
-        Instr::Or => false,
-        Instr::Jump(_) => false,
-        Instr::JumpIfZero(_) => false,
-        Instr::Print => false,
-        Instr::Take(_) => true,
-        Instr::Give(_) => false,
-        Instr::Fork { .. } => false,
-        Instr::Join { .. } => false,
-        Instr::End => false,
+    for i in 0..bundle.len() {
+        let pair = bundle.get(i);
+        if bank.cash(usize::from(pair.resource)) < pair.amount {
+            return false;
+        }
+    }
+    true
+}
+
+// Returns the state of an arm of a process that asks for a bundle within its claim.
+fn asking(bank: &Lender, p: usize, bundle: &Bundle) -> Standing
+    requires process { p < processes (lender_state bank.now) }
+    requires below { All (λ pair. pair.resource < resources (lender_state bank.now)) bundle.now }
+    requires within_claim { IsWithinClaim (lender_state bank.now) p bundle.now }
+    ensures { IsAsking (lending_by bank.now) (lender_state bank.now) p bundle.now result }
+{
+    if !cash_suffices(bank, bundle) {
+        return Standing::Short;
+    }
+    let mut next = bank.copy();
+    if next.lend(p, bundle) {
+        Standing::Going
+    } else {
+        Standing::KeptBack
     }
 }
 
 // Returns the state of an arm.
-fn standing_of(verified: &Verified, machine: &Machine, p: usize, arm: usize) -> Standing
-    ensures { result ≡ standing_in (slice_get verified.now.code.processes p)
-        (slice_get (machine_view machine.now).processes p) arm }
+fn standing_of(verified: &Verified, machine: &Machine, pick: Pick) -> Standing
+    requires { IsMachine verified.now machine.now }
+    ensures { (lending : LendingValue) → IsMachineBy lending verified.now machine.now
+        → IsStanding lending verified.now.code (machine_view machine.now) pick result }
 {
     let code = verified.code();
-    if code.processes.len() <= p || machine.processes() <= p {
+    let p = usize::from(pick.process);
+    let arm = usize::from(pick.arm);
+    if machine.processes() <= p || machine.proc(p).arms() <= arm {
         return Standing::Away;
     }
-    if machine.proc(p).arms() <= arm {
+    let thread = machine.proc(p).thread(arm);
+    if thread.place().is_none() {
         return Standing::Away;
     }
-    let Some(place) = machine.proc(p).thread(arm).place() else {
-        return Standing::Away;
-    };
-    match code.processes[p].instrs.get(usize::from(place)) {
-        Some(instr) if asks(*instr) => Standing::Waiting,
-        _ => Standing::Going,
+    match asked(&code.processes[p], thread) {
+        Some(bundle) => asking(machine.lender(), p, bundle),
+        None => Standing::Going,
     }
 }
 
 // Returns a lane that begins so.
 fn first_step(alloc: Global, standing: Standing) -> Result<Vec<LaneStep>, NoMemory>
-    ensures { IfOk result (λ steps. (f : ℕ → Standing) → standing ≡ f 0 → ShowsStandings f 0 steps.items) }
+    ensures { IfOk result (λ steps. (lending : LendingValue) (code : AnyCode) (picks : List Pick) (arm : Pick)
+        → IsStandingAfter lending code picks arm 0 standing
+        → ShowsStandings (IsStandingAfter lending code picks arm) 0 steps.items × (last_of steps.items 0 ≡ standing)) }
 {
     let mut steps = Vec::new(alloc);
     steps.push(LaneStep { at: 0, standing })?;
@@ -102,8 +106,10 @@ fn add_step(
     standing: Standing,
 ) -> Result<(), NoMemory>
     requires { 0 < at }
-    ensures { OnOk result ((f : ℕ → Standing) → last ≡ f (at - 1) → standing ≡ f at
-        → ShowsStandings f (at - 1) steps.old.items → ShowsStandings f at steps.new.items) }
+    ensures { OnOk result ((lending : LendingValue) (code : AnyCode) (picks : List Pick) (arm : Pick)
+        → last_of steps.old.items (at - 1) ≡ last → IsStandingAfter lending code picks arm at standing
+        → ShowsStandings (IsStandingAfter lending code picks arm) (at - 1) steps.old.items
+        → ShowsStandings (IsStandingAfter lending code picks arm) at steps.new.items × (last_of steps.new.items at ≡ standing)) }
 {
     if is_same(standing, last) {
         return Ok(());
@@ -121,17 +127,15 @@ fn lane_of(
     pick: Pick,
 ) -> Result<Lane, NoMemory>
     requires { AreEnabledBy lending verified.now.code (picks_of trace.now.entries) }
-    ensures lane { IfOk result (IsLane verified.now.code (picks_of trace.now.entries) pick.process pick.arm) }
+    ensures lane { IfOk result (IsLane lending verified.now.code (picks_of trace.now.entries)) }
     ensures arm { IfOk result (λ lane. lane.pick ≡ pick) }
 {
-    let p = usize::from(pick.process);
-    let arm = usize::from(pick.arm);
     let mut machine = Machine::new_by(alloc, verified, lending)?;
-    let mut last = standing_of(verified, &machine, p, arm);
+    let mut last = standing_of(verified, &machine, pick);
     let mut steps = first_step(alloc, last)?;
     for i in 0..trace.len() {
         let _ = advance(verified, trace, &mut machine, i);
-        let standing = standing_of(verified, &machine, p, arm);
+        let standing = standing_of(verified, &machine, pick);
         add_step(&mut steps, last, i + 1, standing)?;
         last = standing;
     }
@@ -148,9 +152,9 @@ fn add_lanes(
     lanes: &mut Vec<Lane>,
 ) -> Result<(), NoMemory>
     requires enabled { AreEnabledBy lending verified.now.code (picks_of trace.now.entries) }
-    requires lanes { AreLanes verified.now.code (picks_of trace.now.entries) lanes.old.items }
+    requires lanes { AreLanes lending verified.now.code (picks_of trace.now.entries) lanes.old.items }
     requires process { process < length verified.now.code.processes }
-    ensures lanes { OnOk result (AreLanes verified.now.code (picks_of trace.now.entries) lanes.new.items) }
+    ensures lanes { OnOk result (AreLanes lending verified.now.code (picks_of trace.now.entries) lanes.new.items) }
     ensures arms { OnOk result ((code : ProcessCode) → slice_get verified.now.code.processes process ≡ Some code
         → map (λ lane. lane.pick) lanes.new.items
         ≡ map (λ lane. lane.pick) lanes.old.items ++ arms_before process (length code.entries)) }
@@ -174,7 +178,7 @@ pub(crate) fn lanes_of(
     trace: &Trace,
 ) -> Result<Vec<Lane>, NoMemory>
     requires { AreEnabledBy lending verified.now.code (picks_of trace.now.entries) }
-    ensures lanes { IfOk result (λ lanes. AreLanes verified.now.code (picks_of trace.now.entries) lanes.items) }
+    ensures lanes { IfOk result (λ lanes. AreLanes lending verified.now.code (picks_of trace.now.entries) lanes.items) }
     ensures arms { IfOk result (λ lanes. map (λ lane. lane.pick) lanes.items ≡ arms_from 0 verified.now.code.processes) }
 {
     let mut lanes = Vec::new(alloc);

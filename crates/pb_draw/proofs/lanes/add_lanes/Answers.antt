@@ -1,10 +1,8 @@
 use Rattle.std.proofs.Common.{◌≡◌, ◌<◌, ◌++◌, ℕ, List, get_or, rules, length, map, ap, sym, ◌∙◌, subst, arith}
 use Rattle.pb_verifier.specs.declared.fault.VerifyFault.TheVariants.{OutOfLimits}
 use Rattle.pb_draw.specs.Arms.{arms_before}
-use Rattle.pb_base.specs.declared.pick.Pick.{Pick}
 use Rattle.pb_history.specs.Entries.{picks_of}
 use Rattle.pb_draw.specs.Drawings.{AreLanes}
-use Rattle.pb_draw.specs.Lanes.{IsLane}
 use Rattle.pb_draw.specs.declared.drawing.Lane.{Lane}
 use Rattle.pb_draw.proofs.ArmSteps.{arms_push, many_arms, many_processes}
 use Rattle.pb_draw.proofs.LaneSteps.{lanes_more}
@@ -16,9 +14,8 @@ loop-arm-preserved c =
     let picks = picks_of c.args.trace.now.entries in
     let lane = c.in_ok-lane.lane in
     record {
-      lanes = subst (λ (lanes : List Lane). AreLanes code picks lanes) (sym c.in_ok-push.ensures.items)
-          (lanes_more code picks c.loop-arm.lanes.items lane c.loop-arm.invariant.lanes
-          (subst (λ (p : Pick). IsLane code picks p.process p.arm lane) (sym c.in_ok-lane.ensures.arm) c.in_ok-lane.ensures.lane));
+      lanes = subst (λ (lanes : List Lane). AreLanes c.args.lending code picks lanes) (sym c.in_ok-push.ensures.items)
+          (lanes_more c.args.lending code picks c.loop-arm.lanes.items lane c.loop-arm.invariant.lanes c.in_ok-lane.ensures.lane);
       arms = ap (map (λ (l : Lane). l.pick)) c.in_ok-push.ensures.items
           ∙ arms_push (map (λ (l : Lane). l.pick) c.args.lanes.now.items) c.loop-arm.lanes.items lane c.args.process c.loop-arm.arm
           c.loop-arm.invariant.arms c.in_ok-lane.ensures.arm;

@@ -1,6 +1,6 @@
 use Rattle.std.proofs.Common.{◌≡◌}
 use Rattle.pb_history.specs.Entries.{picks_of}
-use Rattle.pb_draw.specs.Lanes.{ShowsStandings, standing_after}
+use Rattle.pb_draw.specs.Lanes.{IsStandingAfter, ShowsStandings, last_of}
 use Rattle.pb_history.specs.Positions.{IsAfterBy}
 use Rattle.pb_draw.proofs.lanes.lane_of.Given as goal
 
@@ -8,6 +8,6 @@ use Rattle.pb_draw.proofs.lanes.lane_of.Given as goal
 abbrev pub invariant-loop-i : goal.invariant-loop-i
 invariant-loop-i l = record {
   stands : IsAfterBy l.fn.lending l.verified (picks_of l.trace.entries) l.i l.machine;
-  last : l.last ≡ standing_after l.verified.code (picks_of l.trace.entries) l.p l.arm l.i;
-  lane : ShowsStandings (standing_after l.verified.code (picks_of l.trace.entries) l.p l.arm) l.i l.steps.items;
+  last : last_of l.steps.items l.i ≡ l.last;
+  lane : ShowsStandings (IsStandingAfter l.fn.lending l.verified.code (picks_of l.trace.entries) l.fn.pick) l.i l.steps.items;
 }
