@@ -5,4 +5,5 @@ pub mod EmissionLemmas
 pub mod EventLemmas
 pub mod LoadLemmas
 pub mod ReplayLemmas
+pub mod RunTextLemmas
 pub mod StillLemmas

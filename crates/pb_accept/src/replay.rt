@@ -164,8 +164,8 @@ pub fn lines_refusal(alloc: Global, fault: LinesFault) -> Result<Reply, NoMemory
     refused(text)
 }
 
-// Returns the status of a replay that has ended so.
-fn end_status(ending: Ending, status: Status) -> Status
+/// Returns the status of a replay that has ended so, by that of its faults.
+pub fn end_status(ending: Ending, status: Status) -> Status
     requires { status ≢ Device }
     ensures status { (end : State CodeProcess) → IsStatusAt end status → IsEndStatus end ending result }
     ensures no_device { result ≢ Device }

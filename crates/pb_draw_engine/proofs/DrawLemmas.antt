@@ -6,14 +6,14 @@ use Rattle.pb_base.specs.Steppers.{State}
 use Rattle.pb_code.specs.Code.{CodeProcess}
 use Rattle.pb_code.specs.Whole.{Code, ProcessLabels}
 use Rattle.pb_codegen.specs.Compiled.{IsCompiled}
-use Rattle.pb_draw_engine.specs.Draws.{IsPictured, SaysOfDraw, SaysOfDrawnLines, not_made, no_memory, drawn, no_text}
+use Rattle.pb_draw_engine.specs.Draws.{IsDrawn, SaysOfDraw, SaysOfDrawnLines, not_made, no_memory, drawn, no_text}
 use Rattle.pb_draw_engine.specs.Draws.{with_code}
 use Rattle.pb_command_io.specs.Answers.{Says, Tells, memory_line}
 use Rattle.pb_command_io.specs.Inputs.{SaysOfInput, too_long, nothing, not_read, read}
 use Rattle.pb_command_io.specs.Inputs as input
 use Rattle.pb_command_io.specs.Parts.{AreTwoParts}
 use Rattle.pb_accept.specs.Refusals.{SaysOfRefusedText, refused as by_line}
-use Rattle.pb_accept.specs.ReplayLines.{AreReplayedBy, IsStatusAt, SaysOfNoPicksBy}
+use Rattle.pb_accept.specs.ReplayLines.{AreReplayedBy, SaysOfNoPicksBy}
 use Rattle.pb_command_io.specs.declared.reply.Reply.{Reply}
 use Rattle.pb_command_io.specs.declared.status.Status.{Status}
 use Rattle.pb_command_io.specs.declared.status.Status.TheVariants.{Memory}
@@ -29,12 +29,12 @@ no_picks_told lending code lines (Err e) old new given is says memory = (memory_
 -- a picture, or out of memory for it
 pub picture_told : (lending : Lending) (code : Code) (lines : List ℕ) (entries : List Entry) (end : State CodeProcess) (reply : Result Reply NoMemory)
     (old new : Option (List ℕ)) (given : Status) → AreReplayedBy lending code lines entries end
-    → IfOk reply (λ r. IsPictured code entries r.text.items) → IfOk reply (λ r. IsStatusAt end r.status)
+    → IfOk reply (λ r. IsDrawn lending code entries end r.text.items r.status)
     → IfOk reply (λ r. Says old new r.text.items r.status given) → OnErr reply (Says old new memory_line Memory given)
     → Tells (SaysOfDrawnLines lending code lines) old new given
-picture_told lending code lines entries end (Ok r) old new given are pictured status says memory =
-    (r.text.items, r.status, drawn entries end are r.text.items pictured r.status status, says)
-picture_told lending code lines entries end (Err e) old new given are pictured status says memory = (memory_line, Memory, no_memory, memory)
+picture_told lending code lines entries end (Ok r) old new given are pictured says memory =
+    (r.text.items, r.status, drawn entries end are r.text.items r.status pictured, says)
+picture_told lending code lines entries end (Err e) old new given are pictured says memory = (memory_line, Memory, no_memory, memory)
 
 -- a refused text
 pub refusal_told : (lending : Lending) (bytes text lines : List ℕ) (old new : Option (List ℕ)) (given : Status) → length bytes ≤ 4194304

@@ -1,5 +1,5 @@
 -- What `draw` says of an input, and with which status.
-use Rattle.std.specs.Prelude.{◌≡◌, ℕ, List, map}
+use Rattle.std.specs.Prelude.{◌≡◌, ℕ, Bool, true, false, List, map}
 use Rattle.pb_base.specs.declared.lending.Lending.{Lending}
 use Rattle.pb_base.specs.Steppers.{State}
 use Rattle.pb_code.specs.Code.{CodeProcess}
@@ -18,21 +18,37 @@ use Rattle.pb_base.specs.Lines.{line}
 use Rattle.pb_command_io.specs.Answers.{memory_line}
 use Rattle.pb_command_io.specs.Parts.{AreTwoParts}
 use Rattle.pb_accept.specs.Refusals.{RefusesWith}
-use Rattle.pb_accept.specs.ReplayLines.{AreReplayedBy, IsStatusAt, SaysOfNoPicksBy}
+use Rattle.pb_accept.specs.ReplayLines.{AreReplayedBy, IsEnding, IsEndStatus, SaysOfNoPicksBy}
+use Rattle.pb_accept.specs.declared.ending.Ending.{Ending}
+use Rattle.pb_accept.specs.declared.ending.Ending.TheVariants.{Open, Over, Stuck}
 use Rattle.pb_command_io.specs.declared.status.Status.{Status}
 use Rattle.pb_command_io.specs.declared.status.Status.TheVariants.{Memory, Refused}
 use Rattle.pb_history.specs.Entries.{Entry, picks_of}
 
--- a text is the picture of these entries as SVG: the layout of what their run shows. Its rows are one below the
--- other, and of two marks the earlier is further left
-pub record IsPictured (code : Code) (entries : List Entry) (text : List ℕ) : Type 0 where
+-- a text is the picture of these entries as SVG: the layout of what their run shows under this lending, and whether it
+-- ends in a deadlock. Its rows are one below the other, and of two marks the earlier is further left
+pub record IsPictured (lending : Lending) (code : Code) (entries : List Entry) (deadlock : Bool) (text : List ℕ) : Type 0 where
   pub drawing : Drawing
   pub picture : Picture
-  pub drawn : IsDrawing code (picks_of entries) drawing
-  pub laid_out : IsLayout code.names code.capital drawing picture
+  pub drawn : IsDrawing lending code (picks_of entries) drawing
+  pub laid_out : IsLayout code.names code.capital drawing deadlock picture
   pub stacked : AreStacked laid_out.places TOP drawing.lanes.items laid_out.places.bottom
   pub rising : AreFromLeft (map sign_of picture.ticks.items)
   pub written : text ≡ svg picture
+
+-- whether this is a deadlock
+abbrev pub is_stuck : Ending → Bool
+is_stuck Over = false
+is_stuck Stuck = true
+is_stuck Open = false
+
+-- a text is the picture of a run that made these entries and led to this state, and the status is that of its end
+pub record IsDrawn (lending : Lending) (code : Code) (entries : List Entry) (end : State CodeProcess) (text : List ℕ)
+    (status : Status) : Type 0 where
+  pub ending : Ending
+  pub ends : IsEnding lending code end ending
+  pub picture : IsPictured lending code entries (is_stuck ending) text
+  pub told : IsEndStatus end ending status
 
 -- what is said of the lines behind an accepted text, by its code: their picks are refused under this lending; or
 -- all are made, and the picture of them is written
@@ -41,7 +57,7 @@ pub data SaysOfDrawnLines (lending : Lending) (code : Code) (lines : List ℕ) :
       → SaysOfDrawnLines lending code lines said status
   no_memory : SaysOfDrawnLines lending code lines memory_line Memory
   drawn : (entries : List Entry) (end : State CodeProcess) → AreReplayedBy lending code lines entries end
-      → (said : List ℕ) → IsPictured code entries said → (status : Status) → IsStatusAt end status
+      → (said : List ℕ) (status : Status) → IsDrawn lending code entries end said status
       → SaysOfDrawnLines lending code lines said status
 
 -- what is said of an input, which is a text and pick lines behind it: its text is refused; or it is accepted

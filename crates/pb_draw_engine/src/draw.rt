@@ -1,18 +1,18 @@
 //! The command `draw`, over any input and output.
 
-ghost use Rattle.std.specs.Prelude.{◌≤◌, IfOk, IfSome, length};
-ghost use Rattle.pb_draw_engine.specs.Draws.{IsPictured, SaysOfDraw, SaysOfDrawnLines};
+ghost use Rattle.std.specs.Prelude.{◌≡◌, ◌≤◌, IfOk, IfSome, length};
+ghost use Rattle.pb_draw_engine.specs.Draws.{IsDrawn, SaysOfDraw, SaysOfDrawnLines, is_stuck};
 ghost use Rattle.pb_command_io.specs.Answers.{Tells};
 ghost use Rattle.pb_command_io.specs.Faults.{TellsFaults, TellsWriteFaults};
 ghost use Rattle.pb_command_io.specs.Inputs.{SaysOfInput};
-ghost use Rattle.pb_accept.specs.ReplayLines.{IsStatusAt};
 ghost use Rattle.pb_history.specs.Entries.{picks_of};
 ghost use Rattle.pb_history.specs.Positions.{AreEnabledBy};
-ghost use Rattle.pb_machine.specs.Views.{machine_view};
+ghost use Rattle.pb_machine.specs.Views.{IsMachineBy, machine_view};
 ghost use Rattle.pb_options.specs.Lends.{lending_for};
 
 use pb_accept::accept::{compile_text, refuse};
-use pb_accept::replay::{lines_refusal, make_lines_by, status_at};
+use pb_accept::ending::{Ending, ending_of};
+use pb_accept::replay::{end_status, lines_refusal, make_lines_by, status_at};
 use pb_base::device::{Input, Output};
 use pb_base::limits::{MAX_INPUT, MAX_PICKS};
 use pb_base::{Lending, NoMemory};
@@ -32,7 +32,8 @@ use std::alloc::Global;
 /// whoever decides on requests, and writes a picture of that run as SVG. A line `%%` separates the text from the pick lines. If the text, a
 /// line or a pick is refused, only the refusal line is written, as by `replay`.
 ///
-/// The status is `Fault` if a process faulted. After a read that failed nothing is written; after a write
+/// The status is `Deadlock` if some process has neither ended nor faulted and no pick is enabled, which the picture says
+/// too, and else `Fault` if a process faulted. After a read that failed nothing is written; after a write
 /// that failed, a prefix of the output.
 pub fn draw_engine<I: Input, O: Output>(
     alloc: Global,
@@ -79,30 +80,46 @@ fn draw_lines<O: Output>(
 {
     match make_lines_by(alloc, lending, verified, lines) {
         Ok((machine, trace)) => {
-            let reply = drawn(alloc, verified, lending, &trace, &machine);
+            let mut machine = machine;
+            let reply = drawn(alloc, verified, lending, &trace, &mut machine);
             tell(alloc, reply, output)
         }
         Err(fault) => tell(alloc, lines_refusal(alloc, fault), output),
     }
 }
 
-// Returns the picture of a replay.
+// Returns the picture of a replay. If the machine could go on, a pick is made that is enabled.
 fn drawn(
     alloc: Global,
     verified: &Verified,
     lending: Lending,
     trace: &Trace,
-    machine: &Machine,
+    machine: &mut Machine,
 ) -> Result<Reply, NoMemory>
     requires enabled { AreEnabledBy lending verified.now.code (picks_of trace.now.entries) }
     requires few { length trace.now.entries ≤ MAX_PICKS }
-    ensures text { IfOk result (λ r. IsPictured verified.now.code trace.now.entries r.text.items) }
-    ensures status { IfOk result (λ r. IsStatusAt (machine_view machine.now) r.status) }
+    requires machine { IsMachineBy lending verified.now machine.old }
+    ensures { IfOk result (λ r. IsDrawn lending verified.now.code trace.now.entries (machine_view machine.old)
+        r.text.items r.status) }
 {
     let code = verified.code();
+    let faulted = status_at(machine);
+    let ending = ending_of(machine, verified);
     let drawing = draw(alloc, verified, lending, trace)?;
-    let picture = lay_out(alloc, &code.names, &code.capital, &drawing)?;
+    let picture = lay_out(alloc, &code.names, &code.capital, &drawing, is_stuck(ending))?;
     let text = write_svg(alloc, &picture)?;
-    let status = status_at(machine);
-    Ok(Reply { text, status })
+    Ok(Reply {
+        text,
+        status: end_status(ending, faulted),
+    })
+}
+
+// Returns whether a replay has ended in a deadlock.
+fn is_stuck(ending: Ending) -> bool
+    ensures { result ≡ is_stuck ending }
+{
+    match ending {
+        Ending::Stuck => true,
+        Ending::Over | Ending::Open => false,
+    }
 }

@@ -5,7 +5,7 @@ use Rattle.pb_base.specs.Lines.{NameTable, pick_text}
 use Rattle.pb_draw.specs.declared.drawing.Lane.{Lane}
 use Rattle.pb_draw.specs.declared.drawing.LaneStep.{LaneStep}
 use Rattle.pb_draw.specs.declared.drawing.Standing.{Standing}
-use Rattle.pb_draw.specs.declared.drawing.Standing.TheVariants.{Away, Going, Waiting}
+use Rattle.pb_draw.specs.declared.drawing.Standing.TheVariants.{Away, Going, KeptBack, Short}
 use Rattle.pb_draw_picture.specs.declared.picture.LabelKind.TheVariants.{Name}
 use Rattle.pb_draw_picture.specs.declared.picture.Rect.{Rect}
 use Rattle.pb_draw_picture.specs.declared.picture.RectKind.TheVariants as line
@@ -16,7 +16,8 @@ use Rattle.pb_draw_picture.specs.declared.sizes.TheConstants.{MARGIN, TRACK}
 abbrev pub is_live : Standing → Bool
 is_live Away = false
 is_live Going = true
-is_live Waiting = true
+is_live Short = true
+is_live KeptBack = true
 
 -- an arm is ever live
 abbrev pub is_ever_live : Lane → Bool
@@ -26,7 +27,8 @@ is_ever_live lane = list_any (λ s. is_live s.standing) lane.steps.items
 abbrev pub line_in : Standing → (x to y : ℕ) → List Rect
 line_in Away x to y = []
 line_in Going x to y = if_wide (rect_to line.Going x to y TRACK)
-line_in Waiting x to y = if_wide (rect_to line.Waiting x to y TRACK)
+line_in Short x to y = if_wide (rect_to line.Short x to y TRACK)
+line_in KeptBack x to y = if_wide (rect_to line.KeptBack x to y TRACK)
 
 -- where the first of some steps is, if there is one
 abbrev pub next_of : List LaneStep → Option ℕ

@@ -1,5 +1,5 @@
 -- What a picture shows of a run.
-use Rattle.std.specs.Prelude.{◌≡◌, ◌≤◌, ℕ, ◌+◌, ◌*◌, max, List, ◌++◌, length, map}
+use Rattle.std.specs.Prelude.{◌≡◌, ◌≤◌, ℕ, ◌+◌, ◌*◌, max, Bool, List, ◌++◌, length, map}
 use Rattle.pb_base.specs.Lines.{NameTable}
 use Rattle.pb_draw.specs.Marks.{AreInOrder}
 use Rattle.pb_draw.specs.Arms.{AreDifferent}
@@ -30,18 +30,19 @@ pub record AreRects (capital : List ℕ) (d : Drawing) (places : Places) (rects 
       ((gaps ++ lines places d.lanes.items) ++ holds_from places 0 d.bars.items) ++ curves_from places capital 0 d.curves.items
 
 -- its texts: how many picks a shortened stretch has, and then for each event the number of its pick, for each arm
--- that is ever live its name, for each hold its bundle, for each resource its name and amounts, and two notes
-pub record AreTexts (names : NameTable) (capital : List ℕ) (d : Drawing) (places : Places) (texts : List Text) : Type 0 where
+-- that is ever live its name, for each hold its bundle, for each resource its name and amounts, and notes, of which the last says
+-- whether the run ends in a deadlock
+pub record AreTexts (names : NameTable) (capital : List ℕ) (d : Drawing) (deadlock : Bool) (places : Places) (texts : List Text) : Type 0 where
   pub silents : List Text
   pub are_silents : AreSilents silents
   pub all : texts ≡
       ((((silents ++ numbers places d.marks.items) ++ lane_names names places d.lanes.items)
       ++ bundles_from names places 0 d.bars.items) ++ curve_texts_from names places capital 0 d.curves.items)
-      ++ notes (foot_of_all places d)
+      ++ notes (foot_of_all places d) deadlock
 
 -- a picture shows a drawing at some places, which go from left to right with the picks, in rows that are one below
 -- the other: a mark for each event, and all that stands above; there are no other shapes
-pub record IsLayout (names : NameTable) (capital : List ℕ) (d : Drawing) (p : Picture) : Type 0 where
+pub record IsLayout (names : NameTable) (capital : List ℕ) (d : Drawing) (deadlock : Bool) (p : Picture) : Type 0 where
   pub places : Places
   pub axis : IsAxis d.marks.items places.x
   pub right : places.right ≡ places.x (d.picks + 1)
@@ -50,7 +51,7 @@ pub record IsLayout (names : NameTable) (capital : List ℕ) (d : Drawing) (p : 
   pub within : AreWithin places d.lanes.items d.bars.items
   pub rising : AreInOrder d.marks.items → AreFromLeft (map sign_of p.ticks.items)
   pub rects : AreRects capital d places p.rects.items
-  pub texts : AreTexts names capital d places (map text_of p.labels.items)
+  pub texts : AreTexts names capital d deadlock places (map text_of p.labels.items)
   pub marks : map sign_of p.ticks.items ≡ signs names places d.marks.items
   pub wide : p.width ≡ max (places.right + RIGHT) MIN_WIDTH
   pub high : p.height ≡ foot_of_all places d + BOTTOM

@@ -4,9 +4,9 @@ use Rattle.std.specs.Fmt.{decimal}
 use Rattle.std.specs.List.{flat_map}
 use Rattle.pb_draw_picture.specs.declared.svg.TheConstants.{COLOURS, STYLE}
 use Rattle.pb_draw_picture.specs.declared.picture.LabelKind.{LabelKind}
-use Rattle.pb_draw_picture.specs.declared.picture.LabelKind.TheVariants.{Name, Number, Silent, Bundle, Amount, Note}
+use Rattle.pb_draw_picture.specs.declared.picture.LabelKind.TheVariants.{Name, Number, Silent, Bundle, Amount, Note, Deadlock}
 use Rattle.pb_draw_picture.specs.declared.picture.RectKind.{RectKind}
-use Rattle.pb_draw_picture.specs.declared.picture.RectKind.TheVariants.{Gap, Going, Waiting, Hold, Cash, Level}
+use Rattle.pb_draw_picture.specs.declared.picture.RectKind.TheVariants.{Gap, Going, Short, KeptBack, Hold, Cash, Level}
 use Rattle.pb_draw_picture.specs.declared.picture.TickKind.{TickKind}
 use Rattle.pb_draw_picture.specs.declared.picture.TickKind.TheVariants.{Grant, Return, Print, Fault, End}
 use Rattle.pb_draw_picture.specs.declared.picture.Label.{Label}
@@ -18,7 +18,8 @@ use Rattle.pb_draw_picture.specs.declared.picture.Tick.{Tick}
 abbrev pub rect_word : RectKind → List ℕ
 rect_word Gap = codes "gap"
 rect_word Going = codes "going"
-rect_word Waiting = codes "waiting"
+rect_word Short = codes "short"
+rect_word KeptBack = codes "kept"
 rect_word (Hold resource) = codes "hold"
 rect_word (Cash resource) = codes "cash"
 rect_word Level = codes "level"
@@ -37,6 +38,7 @@ label_word Silent = codes "silent"
 label_word Bundle = codes "bundle"
 label_word Amount = codes "amount"
 label_word Note = codes "note"
+label_word Deadlock = codes "deadlock"
 
 -- the word for what an event is
 abbrev pub tick_word : TickKind → List ℕ

@@ -8,16 +8,24 @@ use crate::captions::number_text;
 use crate::knot::Knot;
 use crate::picture::{Label, LabelKind, Rect, RectKind};
 use crate::shapes::rect_to;
-use crate::sizes::{GAP_TEXT, GAP_TOP, MARGIN, MAX_SILENT, NOTE_DOWN, OTHER_NOTE_DOWN};
+use crate::sizes::{
+    DEADLOCK_DOWN, GAP_TEXT, GAP_TOP, LINE_NOTE_DOWN, MARGIN, MARK_NOTE_DOWN, MAX_SILENT, NOTE_DOWN,
+};
 use pb_base::NoMemory;
 use std::alloc::Global;
 
-/// What is said below a picture.
+/// What is said below a picture: how time goes, what lines are, what bars and marks are, and that the run ends in a
+/// deadlock.
 pub(crate) const NOTE: &[u8] =
-    b"time goes from left to right, pick by pick, with the numbers of picks above. line: an arm; hatched: it asks";
+    b"time goes from left to right, pick by pick, with the numbers of picks above. grey: shortened";
 
-pub(crate) const OTHER_NOTE: &[u8] =
-    b"bar: what it holds. triangle: taken or given back, circle: print, cross: fault, square: end. grey: shortened";
+pub(crate) const LINE_NOTE: &[u8] =
+    b"line: an arm. hatched: it asks for more than is there. dotted: the banker keeps back what is there";
+
+pub(crate) const MARK_NOTE: &[u8] =
+    b"bar: what it holds. triangle: taken or given back, circle: print, cross: fault, square: end";
+
+pub(crate) const DEADLOCK_NOTE: &[u8] = b"deadlock: no arm can go on";
 
 /// Returns the grounds of the stretches that are shortened.
 pub(crate) fn gaps_of(alloc: Global, knots: &[Knot], bottom: u64) -> Result<Vec<Rect>, NoMemory>
@@ -61,25 +69,51 @@ pub(crate) fn silents_of(alloc: Global, knots: &[Knot]) -> Result<Vec<Label>, No
 }
 
 // Returns a text that is known.
-fn note_at(alloc: Global, y: u64, text: &[u8]) -> Result<Label, NoMemory>
-    ensures { IfOk result (λ l. text_of l ≡ record { kind = LabelKind.Note; x = MARGIN; y = y; text = text.now }) }
+fn note_at(alloc: Global, kind: LabelKind, y: u64, text: &[u8]) -> Result<Label, NoMemory>
+    ensures { IfOk result (λ l. text_of l ≡ record { kind = kind; x = MARGIN; y = y; text = text.now }) }
 {
     Ok(Label {
-        kind: LabelKind::Note,
+        kind,
         x: MARGIN,
         y,
         text: Vec::from_slice(alloc, text)?,
     })
 }
 
-/// Adds what is said below a picture whose rows end at a height.
-pub(crate) fn add_notes(alloc: Global, foot: u64, labels: &mut Vec<Label>) -> Result<(), NoMemory>
+// Adds that a run ends in a deadlock, if it does.
+fn add_deadlock(
+    alloc: Global,
+    foot: u64,
+    deadlock: bool,
+    labels: &mut Vec<Label>,
+) -> Result<(), NoMemory>
     requires { foot ≤ 2 ^ 63 }
-    ensures { OnOk result (map text_of labels.new.items ≡ map text_of labels.old.items ++ spec.notes foot) }
+    ensures { OnOk result (map text_of labels.new.items ≡ map text_of labels.old.items ++ spec.deadlock_notes foot deadlock) }
 {
-    let note = note_at(alloc, foot + NOTE_DOWN, NOTE)?;
-    labels.push(note)?;
-    let other = note_at(alloc, foot + OTHER_NOTE_DOWN, OTHER_NOTE)?;
-    labels.push(other)?;
+    if deadlock {
+        let note = note_at(
+            alloc,
+            LabelKind::Deadlock,
+            foot + DEADLOCK_DOWN,
+            DEADLOCK_NOTE,
+        )?;
+        labels.push(note)?;
+    }
     Ok(())
+}
+
+/// Adds what is said below a picture whose rows end at a height.
+pub(crate) fn add_notes(
+    alloc: Global,
+    foot: u64,
+    deadlock: bool,
+    labels: &mut Vec<Label>,
+) -> Result<(), NoMemory>
+    requires { foot ≤ 2 ^ 63 }
+    ensures { OnOk result (map text_of labels.new.items ≡ map text_of labels.old.items ++ spec.notes foot deadlock) }
+{
+    labels.push(note_at(alloc, LabelKind::Note, foot + NOTE_DOWN, NOTE)?)?;
+    labels.push(note_at(alloc, LabelKind::Note, foot + LINE_NOTE_DOWN, LINE_NOTE)?)?;
+    labels.push(note_at(alloc, LabelKind::Note, foot + MARK_NOTE_DOWN, MARK_NOTE)?)?;
+    add_deadlock(alloc, foot, deadlock, labels)
 }

@@ -30,7 +30,8 @@ fn add_line_in(
     match standing {
         Standing::Away => Ok(()),
         Standing::Going => add_if_wide(rects, rect_to(RectKind::Going, x, to, y, TRACK)),
-        Standing::Waiting => add_if_wide(rects, rect_to(RectKind::Waiting, x, to, y, TRACK)),
+        Standing::Short => add_if_wide(rects, rect_to(RectKind::Short, x, to, y, TRACK)),
+        Standing::KeptBack => add_if_wide(rects, rect_to(RectKind::KeptBack, x, to, y, TRACK)),
     }
 }
 

@@ -57,37 +57,45 @@ fn labels_of(
     capital: &Capital,
     grid: &Grid,
     drawing: &Drawing,
+    deadlock: bool,
 ) -> Result<Vec<Label>, NoMemory>
     requires chain { IsChain grid.now.knots.items }
     requires bottom { grid.now.bottom ≤ LOWEST }
     requires curves { length drawing.now.curves.items ≡ length capital.now }
     ensures { IfOk result (λ labels.
-        spec.AreTexts (names_view names.now) capital.now drawing.now (places_of grid.now) (map text_of labels.items)) }
+        spec.AreTexts (names_view names.now) capital.now drawing.now deadlock (places_of grid.now) (map text_of labels.items)) }
 {
     let mut labels = silents_of(alloc, &grid.knots)?;
     add_numbers(alloc, grid, &drawing.marks, &mut labels)?;
     add_names(alloc, names, grid, &drawing.lanes, &mut labels)?;
     add_bundles(alloc, names, grid, &drawing.bars, &mut labels)?;
     add_curve_texts(alloc, names, grid, capital, &drawing.curves, &mut labels)?;
-    add_notes(alloc, foot_of_all(grid, capital, drawing), &mut labels)?;
+    add_notes(
+        alloc,
+        foot_of_all(grid, capital, drawing),
+        deadlock,
+        &mut labels,
+    )?;
     Ok(labels)
 }
 
-/// Returns the picture of a drawing, with the names and the capital of its code.
+/// Returns the picture of a drawing, with the names and the capital of its code, and whether its run ends in a
+/// deadlock.
 pub fn lay_out(
     alloc: Global,
     names: &Names,
     capital: &Capital,
     drawing: &Drawing,
+    deadlock: bool,
 ) -> Result<Picture, NoMemory>
     requires named { All (λ m. HasNames (names_view names.now) m.event) drawing.now.marks.items }
     requires curves { length drawing.now.curves.items ≡ length capital.now }
     requires resources { length (names_view names.now).resources ≡ length capital.now }
-    ensures { IfOk result (spec.IsLayout (names_view names.now) capital.now drawing.now) }
+    ensures { IfOk result (spec.IsLayout (names_view names.now) capital.now drawing.now deadlock) }
 {
     let grid = grid_of(alloc, names, drawing)?;
     let rects = rects_of(alloc, capital, &grid, drawing)?;
-    let labels = labels_of(alloc, names, capital, &grid, drawing)?;
+    let labels = labels_of(alloc, names, capital, &grid, drawing, deadlock)?;
     let ticks = marks_of(alloc, names, &grid, &drawing.marks)?;
     Ok(Picture {
         width: (grid.right() + RIGHT).max(MIN_WIDTH),

@@ -5,10 +5,12 @@
 pub enum RectKind {
     /// A silent stretch that is shortened.
     Gap,
-    /// An arm that is live and asks for nothing.
+    /// An arm that is live and does not wait for a request.
     Going,
-    /// An arm that waits for a request.
-    Waiting,
+    /// An arm that asks for more than there is cash.
+    Short,
+    /// An arm that asks for what the banker keeps back.
+    KeptBack,
     /// A hold, in the colour of this resource: the first of its bundle.
     Hold(usize),
     /// The cash of the resource with this number: the area below its step curve.
@@ -42,6 +44,8 @@ pub enum LabelKind {
     Amount,
     /// What the picture shows.
     Note,
+    /// That the run ends in a deadlock.
+    Deadlock,
 }
 
 /// A label, with the place where it begins.

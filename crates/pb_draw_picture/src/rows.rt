@@ -59,7 +59,8 @@ fn is_live(step: LaneStep) -> bool
     match step.standing {
         Standing::Away => false,
         Standing::Going => true,
-        Standing::Waiting => true,
+        Standing::Short => true,
+        Standing::KeptBack => true,
     }
 }
 

@@ -82,14 +82,18 @@ pub const GAP_TEXT: u64 = 14;
 /// Where what is said below a picture is, from where its rows end.
 pub const NOTE_DOWN: u64 = 24;
 
-pub const OTHER_NOTE_DOWN: u64 = 38;
+pub const LINE_NOTE_DOWN: u64 = 38;
+
+pub const MARK_NOTE_DOWN: u64 = 52;
+
+pub const DEADLOCK_DOWN: u64 = 68;
 
 /// The least width of a picture, with the room to the right of its time, and the room below its rows.
 pub const MIN_WIDTH: u64 = 680;
 
 pub const RIGHT: u64 = 20;
 
-pub const BOTTOM: u64 = 50;
+pub const BOTTOM: u64 = 80;
 
 /// No row is lower.
 pub const LOWEST: u64 = 4_611_686_018_427_387_904;

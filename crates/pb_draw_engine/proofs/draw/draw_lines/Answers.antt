@@ -19,10 +19,13 @@ drawn-reply-requires-clause-few g c =
     let few = are.spelled.few in
     omega (arith, made, many, few)
 
+pub drawn-reply-requires-clause-machine : goal.drawn-reply-requires-clause-machine
+drawn-reply-requires-clause-machine g c = c.in-Ok.ensures.machine
+
 pub returns-in-Ok-clause-text : goal.returns-in-Ok-clause-text
 returns-in-Ok-clause-text g c =
     picture_told c.args.lending c.args.verified.now.code c.args.lines.now c.in-Ok.trace.entries (machine_view c.in-Ok.machine) c.drawn-reply.result _ _
-    c.tell.result c.in-Ok.ensures.made c.drawn-reply.ensures.text c.drawn-reply.ensures.status c.tell.ensures.said c.tell.ensures.memory
+    c.tell.result c.in-Ok.ensures.made c.drawn-reply.ensures c.tell.ensures.said c.tell.ensures.memory
 
 pub returns-in-Err-clause-text : goal.returns-in-Err-clause-text
 returns-in-Err-clause-text g c =

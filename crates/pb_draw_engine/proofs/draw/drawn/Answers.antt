@@ -1,10 +1,12 @@
-use Rattle.std.proofs.Common.{arith, length, sym, ap, ◌∙◌, subst}
+use Rattle.std.proofs.Common.{arith, Bool, length, sym, ap, ◌∙◌, subst}
 use Rattle.std.specs.Prelude.{All}
 use Rattle.pb_base.specs.Lines.{NameTable, HasNames}
 use Rattle.pb_code.specs.Whole.{Code}
 use Rattle.pb_draw_picture.specs.Pictures.{IsLayout}
 use Rattle.pb_draw.specs.declared.drawing.Mark.{Mark}
 use Rattle.pb_verifier.specs.declared.fault.VerifyFault.TheVariants.{OutOfLimits}
+use Rattle.pb_draw_engine.specs.Draws.{is_stuck}
+use Rattle.pb_machine.specs.Views.{machine_view}
 use Rattle.pb_draw_engine.proofs.draw.drawn.Goals as goal
 
 pub lay_out-requires-clause-named : goal.lay_out-requires-clause-named
@@ -22,19 +24,26 @@ lay_out-requires-clause-resources c =
     ap (λ (x : Code). length x.names.resources) c.code-code.ensures.code
     ∙ (limits.resource_names.all ∙ sym (ap (λ (x : Code). length x.capital) c.code-code.ensures.code))
 
-pub returns-clause-text : goal.returns-clause-text
-returns-clause-text c =
+pub returns : goal.returns
+returns c =
     let drawing = c.in_ok-drawing.drawing in
     let picture = c.in_ok-picture.picture in
-    let laid_out : IsLayout c.args.verified.now.code.names c.args.verified.now.code.capital drawing picture =
-    subst (λ (x : Code). IsLayout x.names x.capital drawing picture) c.code-code.ensures.code c.in_ok-picture.ensures in
+    let code = c.args.verified.now.code in
+    let laid_out : IsLayout code.names code.capital drawing (is_stuck c.ending_of-ending.result) picture =
+    subst (λ (b : Bool). IsLayout code.names code.capital drawing b picture) c.is_stuck.ensures
+    (subst (λ (x : Code). IsLayout x.names x.capital drawing c.is_stuck.result picture) c.code-code.ensures.code c.in_ok-picture.ensures) in
     let few = c.in_ok-drawing.ensures.rows in
     record {
-      drawing = drawing;
-      picture = picture;
-      drawn = c.in_ok-drawing.ensures.drawing;
-      laid_out = laid_out;
-      stacked = laid_out.rows c.in_ok-drawing.ensures.different (omega (arith, few));
-      rising = laid_out.rising c.in_ok-drawing.ensures.ordered;
-      written = c.in_ok-text.ensures;
+      ending = c.ending_of-ending.result;
+      ends = c.ending_of-ending.ensures c.args.lending c.requires.machine;
+      picture = record {
+          drawing = drawing;
+          picture = picture;
+          drawn = c.in_ok-drawing.ensures.drawing;
+          laid_out = laid_out;
+          stacked = laid_out.rows c.in_ok-drawing.ensures.different (omega (arith, few));
+          rising = laid_out.rising c.in_ok-drawing.ensures.ordered;
+          written = c.in_ok-text.ensures;
+        };
+      told = c.end_status.ensures.status (machine_view c.args.machine.now) c.status_at-faulted.ensures.status;
     }
