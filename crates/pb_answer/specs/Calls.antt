@@ -6,7 +6,7 @@ use Rattle.pb_words.specs.declared.words.Options.{Options}
 use Rattle.pb_words.specs.declared.words.Options.TheVariants as option
 use Rattle.pb_words.specs.declared.words.WordsFault.{WordsFault}
 use Rattle.pb_words.specs.declared.words.WordsFault.TheVariants as fault
-use Rattle.pb_base.specs.declared.lending.Lending.TheVariants.{ByBanker}
+use Rattle.pb_base.specs.declared.lending.Lending.{Lending}
 use Rattle.pb_bank_engine.specs.Sessions as bank
 use Rattle.pb_bank_engine.specs.Sessions.{SaysOfBank}
 use Rattle.pb_debug_engine.specs.Debugs.{SaysOfDebug}
@@ -29,6 +29,8 @@ use Rattle.pb_accept.specs.ReplayLines.{SaysOfReplay}
 use Rattle.pb_engines.specs.Runs.{SaysOfTextRun}
 use Rattle.pb_explain.specs.Pages.{SaysOfExplain}
 use Rattle.pb_options.specs.Lends.{lending_for}
+use Rattle.pb_options.specs.declared.options.DebugOptions.{DebugOptions}
+use Rattle.pb_options.specs.declared.options.Lend.{Lend}
 use Rattle.pb_options.specs.declared.options.StatesOptions.{StatesOptions}
 use Rattle.pb_page.specs.declared.run.Shown.{Shown}
 use Rattle.pb_page_engine.specs.States.{SaysOfStates}
@@ -37,9 +39,12 @@ use Rattle.pb_search_engine.specs.SaysOfAll.{SaysOfSearches}
 use Rattle.pb_words.specs.Read.{WordsSay}
 
 -- what `debug` may say of an input, of which it reads the commands as they come, or all before it writes
-abbrev pub SaysOfCommands : (live : Bool) → List ℕ → List ℕ → Status → Type 0
-SaysOfCommands true = SaysOfLive ByBanker
-SaysOfCommands false = SaysOfInput (SaysOfDebug ByBanker)
+abbrev pub SaysOfSession : (live : Bool) → Lending → List ℕ → List ℕ → Status → Type 0
+SaysOfSession true lending = SaysOfLive lending
+SaysOfSession false lending = SaysOfInput (SaysOfDebug lending)
+
+abbrev pub SaysOfCommands : DebugOptions → List ℕ → List ℕ → Status → Type 0
+SaysOfCommands flags = SaysOfSession flags.live (lending_for flags.lend)
 
 -- the part of a run that the options of `states` name
 abbrev pub shown_by : StatesOptions → Shown
@@ -50,7 +55,7 @@ abbrev pub CommandSays : Options → List ℕ → List ℕ → Status → Type 0
 CommandSays option.Bank = SaysOfBank
 CommandSays (option.Check numbers) = SaysOfInput SaysOfChecks
 CommandSays option.Claims = SaysOfInput SaysOfClaims
-CommandSays (option.Debug flags) = SaysOfCommands flags.live
+CommandSays (option.Debug flags) = SaysOfCommands flags
 CommandSays (option.Draw options) = SaysOfInput (SaysOfDraw (lending_for options.lend))
 CommandSays (option.Emit numbers) = SaysOfInput (SaysOfEmission numbers.object)
 CommandSays (option.Exec numbers) = SaysOfInput (SaysOfExecution numbers.steps)
@@ -100,10 +105,10 @@ TellsDebugFaults true = TellsAnyFault
 TellsDebugFaults false = TellsFaults
 
 -- what `debug --live` writes if a read fails: the answers to the commands before it, all of them and no more
-abbrev pub AnswersBeforeRead : (live : Bool) → (rest left : Option (List ℕ)) → Devices → Devices → Type 0
-AnswersBeforeRead true rest left old new =
-    new.reads ≢ old.reads → IfSome rest (λ bytes. SaysBefore (SaysOfRead ByBanker) bytes left old.written new.written)
-AnswersBeforeRead false rest left old new = ⊤
+abbrev pub AnswersBeforeRead : (live : Bool) → Lending → (rest left : Option (List ℕ)) → Devices → Devices → Type 0
+AnswersBeforeRead true lending rest left old new =
+    new.reads ≢ old.reads → IfSome rest (λ bytes. SaysBefore (SaysOfRead lending) bytes left old.written new.written)
+AnswersBeforeRead false lending rest left old new = ⊤
 
 -- what `bank` tells of its devices: the answers to the commands before a read that fails, all of them and no more
 abbrev pub TellsBankFaults : (rest left : Option (List ℕ)) → Devices → Devices → Status → Type 0
@@ -116,5 +121,6 @@ TellsBankFaults rest left old new status =
 abbrev pub CallTellsFaults : List (Bor Text) → (rest left : Option (List ℕ)) → Devices → Devices → Status → Type 0
 CallTellsFaults words rest left old new status =
     TellsFaults old new status
-    ⊎ ((WordsSay words (option.Debug (record { live = true })) × TellsAnyFault old new status × AnswersBeforeRead true rest left old new)
+    ⊎ (((lend : Lend) × WordsSay words (option.Debug (record { live = true; lend = lend })) × TellsAnyFault old new status
+    × AnswersBeforeRead true (lending_for lend) rest left old new)
     ⊎ (WordsSay words option.Bank × TellsBankFaults rest left old new status))

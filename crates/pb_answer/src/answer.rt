@@ -3,10 +3,10 @@ ghost use Rattle.std.specs.Prelude.{◌≡◌, IfSome};
 ghost use Rattle.pb_command_io.specs.Answers.{Says, Tells};
 ghost use Rattle.pb_answer.specs.Calls.{fault_status, words_fault_text, CallTellsFaults, CallWrites, SaysOfCommands, TellsDebugFaults};
 ghost use Rattle.pb_answer.specs.Calls.{AnswersBeforeRead, shown_by};
+ghost use Rattle.pb_options.specs.Lends.{lending_for};
 ghost use Rattle.pb_command_io.specs.Faults.{TellsWriteFaults};
 
 use pb_bank_engine::bank_engine;
-use pb_base::Lending;
 use pb_base::device::{Input, Output};
 use pb_command_io::{Page, Status};
 use pb_debug_engine::{debug_engine, debug_live_engine};
@@ -78,19 +78,20 @@ pub fn debug<I: Input, O: Output>(
     output: &mut O,
 ) -> Status
     ensures text { IfSome (I.rest input.old) (λ bytes.
-        Tells (SaysOfCommands flags.live bytes) (O.written output.old) (O.written output.new) result) }
+        Tells (SaysOfCommands flags bytes) (O.written output.old) (O.written output.new) result) }
     ensures faults { TellsDebugFaults flags.live
         (record { reads = I.failures input.old; writes = O.failures output.old; written = O.written output.old })
         (record { reads = I.failures input.new; writes = O.failures output.new; written = O.written output.new })
         result }
-    ensures answered { AnswersBeforeRead flags.live (I.rest input.old) (I.rest input.new)
+    ensures answered { AnswersBeforeRead flags.live (lending_for flags.lend) (I.rest input.old) (I.rest input.new)
         (record { reads = I.failures input.old; writes = O.failures output.old; written = O.written output.old })
         (record { reads = I.failures input.new; writes = O.failures output.new; written = O.written output.new }) }
 {
+    let lending = flags.lend.lending();
     if flags.live {
-        debug_live_engine(alloc, Lending::ByBanker, input, output)
+        debug_live_engine(alloc, lending, input, output)
     } else {
-        debug_engine(alloc, Lending::ByBanker, input, output)
+        debug_engine(alloc, lending, input, output)
     }
 }
 

@@ -40,7 +40,8 @@ unfoldable pub claims_command : App
 claims_command = new_app (codes "claims")
 
 unfoldable pub debug_command : App
-debug_command = with_rule (new_app (codes "debug")) (flag_rule (codes "live"))
+debug_command =
+    with_rule (with_rule (new_app (codes "debug")) (flag_rule (codes "live"))) (word_rule_or (codes "lend") (codes "banker"))
 
 unfoldable pub draw_command : App
 draw_command = with_rule (new_app (codes "draw")) (word_rule_or (codes "lend") (codes "banker"))

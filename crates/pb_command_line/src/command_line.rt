@@ -197,15 +197,14 @@ fn check_texts<'a>(alloc: Global) -> Result<Command<'a>, AllocError>
     with_option(check, heap)
 }
 
-#[tactic(auto, unfolding(crate::specs::CommandLine::debug_command))]
 fn debug_picks<'a>(alloc: Global) -> Result<Command<'a>, AllocError>
     ensures { IfOk result (IsCommand debug_command) }
 {
-    let live = flag(alloc, "live").help("Answer each command as it comes");
-    let debug = Command::new(alloc, "debug").about(
-        "Debug a program on standard input along the picks and by the commands that follow, each after a line %%",
-    );
-    with_option(debug, live)
+    let about =
+        "Debug a program on standard input along the picks and by the commands that follow, each after a line %%";
+    let debug = plain(alloc, "debug", about);
+    let debug = with_flag(alloc, debug, "live", "Answer each command as it comes");
+    with_lend(alloc, debug)
 }
 
 fn draw_picks<'a>(alloc: Global) -> Result<Command<'a>, AllocError>

@@ -106,7 +106,13 @@ fn drawn(
     let faulted = status_at(machine);
     let ending = ending_of(machine, verified);
     let drawing = draw(alloc, verified, lending, trace)?;
-    let picture = lay_out(alloc, &code.names, &code.capital, &drawing, is_stuck(ending))?;
+    let picture = lay_out(
+        alloc,
+        &code.names,
+        &code.capital,
+        &drawing,
+        is_stuck(ending),
+    )?;
     let text = write_svg(alloc, &picture)?;
     Ok(Reply {
         text,

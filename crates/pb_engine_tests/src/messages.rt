@@ -27,7 +27,7 @@ fn a_name_that_is_not_declared(rt: HostRuntime) {
         Reading::FirstFormat,
         Reading::Texts,
         Reading::Replayed(Lending::ByBanker),
-        Reading::Debugged,
+        Reading::Debugged(Lending::ByBanker),
     ] {
         assert!(rt; says(rt.alloc(), reading, text, said) == Some(true));
     }
@@ -42,7 +42,7 @@ fn nothing_of_what_is_accepted(rt: HostRuntime) {
         Reading::FirstFormat,
         Reading::Texts,
         Reading::Replayed(Lending::ByBanker),
-        Reading::Debugged,
+        Reading::Debugged(Lending::ByBanker),
     ] {
         assert!(rt; says(rt.alloc(), reading, text, b"") == Some(true));
     }
@@ -121,7 +121,14 @@ fn an_object(rt: HostRuntime) {
   = hint: emit writes objects; docs/FORMATS.md, \"Object text\", lists their lines
 ";
     assert!(rt; says(rt.alloc(), Reading::Object, b"PBO 3\n", said) == Some(true));
-    assert!(rt; says(rt.alloc(), Reading::Debugged, b"PBO 3\n", said) == Some(true));
+    assert!(rt;
+        says(
+            rt.alloc(),
+            Reading::Debugged(Lending::ByBanker),
+            b"PBO 3\n",
+            said
+        ) == Some(true)
+    );
 }
 
 #[test]
@@ -156,7 +163,7 @@ fn a_pick_line_and_a_pick(rt: HostRuntime) {
   | ^
   = 1 of the 2 picks of this line was made
 ";
-    let message = message_of(rt.alloc(), Reading::Debugged, picks);
+    let message = message_of(rt.alloc(), Reading::Debugged(Lending::ByBanker), picks);
     assert!(rt; message.is_ok_and(|message| message.as_slice().starts_with(said)));
 }
 
@@ -181,7 +188,7 @@ fn says_of_live(alloc: Global, feeds: usize, said: &[u8]) -> Option<bool> {
     bytes.resize(length, b'\n').ok()?;
     bytes.extend_from_slice(b"%%\n").ok()?;
     Some(
-        live_message(alloc, &bytes)
+        live_message(alloc, Lending::ByBanker, &bytes)
             .ok()?
             .as_slice()
             .starts_with(said),

@@ -33,7 +33,13 @@ fn commands_have_their_defaults(rt: HostRuntime) {
         ("bank", Options::Bank),
         ("check", Options::Check(CheckOptions { heap: None })),
         ("claims", Options::Claims),
-        ("debug", Options::Debug(DebugOptions { live: false })),
+        (
+            "debug",
+            Options::Debug(DebugOptions {
+                live: false,
+                lend: Lend::Banker,
+            }),
+        ),
         ("draw", Options::Draw(DrawOptions { lend: Lend::Banker })),
         (
             "emit",
@@ -97,7 +103,18 @@ fn options_with_one_word_are_read(rt: HostRuntime) {
         (
             "debug",
             "--live",
-            Options::Debug(DebugOptions { live: true }),
+            Options::Debug(DebugOptions {
+                live: true,
+                lend: Lend::Banker,
+            }),
+        ),
+        (
+            "debug",
+            "--lend=cash",
+            Options::Debug(DebugOptions {
+                live: false,
+                lend: Lend::Cash,
+            }),
         ),
         (
             "emit",
@@ -314,6 +331,7 @@ fn other_words_are_refused(rt: HostRuntime) {
         ("check", "--heap=16777217"),
         ("claims", "--steps=3"),
         ("debug", "--live=true"),
+        ("debug", "--lend=till"),
         ("debug", "--steps=3"),
         ("debug", "text"),
         ("draw", "--svg"),

@@ -2,6 +2,7 @@
 use Rattle.std.specs.Prelude.{◌≡◌, ◌⊎◌, ℕ, Bool, true, false, List, [], ◌∷◌, Option, Some, codes}
 use Rattle.std.specs.Borrow.{Bor}
 use Rattle.clap.specs.Words.{Text}
+use Rattle.pb_base.specs.declared.lending.Lending.{Lending}
 use Rattle.pb_base.specs.declared.lending.Lending.TheVariants.{ByBanker}
 use Rattle.pb_base.specs.Device.{appended, one_more_failure, AddsPrefix}
 use Rattle.pb_answer.specs.Calls.{CallTellsFaults, CallWrites}
@@ -43,16 +44,16 @@ outcomes_reading false = reading.Text
 
 -- what a person is told of bytes that `debug` refused, if it reads the commands as they come, or all before it
 -- writes
-abbrev pub TellsDebugged : (live : Bool) → (bytes told : List ℕ) → Type 0
-TellsDebugged true = SaysOfLiveInput
-TellsDebugged false = SaysToPerson reading.Debugged
+abbrev pub TellsDebugged : (live : Bool) → Lending → (bytes told : List ℕ) → Type 0
+TellsDebugged true lending = SaysOfLiveInput lending
+TellsDebugged false lending = SaysToPerson (reading.Debugged lending)
 
 -- what a person is told of bytes that a command refused: nothing of `bank` and `explain`, which refuse no input
 abbrev pub TellsRefused : Options → (bytes told : List ℕ) → Type 0
 TellsRefused option.Bank = λ bytes told. ⊥
 TellsRefused (option.Check numbers) = SaysToPerson reading.Texts
 TellsRefused option.Claims = SaysToPerson reading.Claims
-TellsRefused (option.Debug flags) = TellsDebugged flags.live
+TellsRefused (option.Debug flags) = TellsDebugged flags.live (lending_for flags.lend)
 TellsRefused (option.Draw options) = SaysToPerson (reading.Replayed (lending_for options.lend))
 TellsRefused (option.Emit numbers) = SaysToPerson (format_reading numbers.object)
 TellsRefused (option.Exec numbers) = SaysToPerson reading.Object

@@ -36,8 +36,14 @@ fn message_for(alloc: Global, options: &Options, bytes: &[u8]) -> Option<Result<
     match options {
         Options::Check(_) => Some(message_of(alloc, Reading::Texts, bytes)),
         Options::Claims => Some(message_of(alloc, Reading::Claims, bytes)),
-        Options::Debug(flags) if flags.live => Some(live_message(alloc, bytes)),
-        Options::Debug(_) => Some(message_of(alloc, Reading::Debugged, bytes)),
+        Options::Debug(flags) if flags.live => {
+            Some(live_message(alloc, flags.lend.lending(), bytes))
+        }
+        Options::Debug(flags) => Some(message_of(
+            alloc,
+            Reading::Debugged(flags.lend.lending()),
+            bytes,
+        )),
         Options::Emit(numbers) => Some(message_of(alloc, reading_of(numbers.object), bytes)),
         Options::Outcomes(numbers) => Some(message_of(alloc, reading_for(numbers.expect), bytes)),
         Options::Plan | Options::Run(_) => Some(message_of(alloc, Reading::Text, bytes)),

@@ -3,7 +3,6 @@ use Rattle.std.proofs.Common.{◌≡◌, ◌≢◌, ◌⊎◌, take, ℕ, List, 
 use Rattle.std.proofs.Common.{◌+◌, ◌-◌, ◌<◌, Bool, true, false, not, IsTrue, arith, length, drop, refl, subst, sym, inl, inr}
 use Rattle.std.proofs.lemmas.List.{length-drop}
 use Rattle.pb_base.specs.declared.lending.Lending.{Lending}
-use Rattle.pb_base.specs.declared.lending.Lending.TheVariants.{ByBanker}
 use Rattle.pb_code.specs.Whole.{Code, ProcessLabels}
 use Rattle.pb_codegen.specs.Compiled.{IsCompiled}
 use Rattle.pb_accept.specs.Loading.{IsLoadFault, load_line}
@@ -64,20 +63,20 @@ module _ {W E : Type 0} (seen : W → List ℕ) where
   format_told text code labels shown (Err e) compiled same says = says
 
   -- what is said of an object, pick lines and commands
-  pub object_debugged : (bytes source rest lines commands : List ℕ) (made : Result W E) → AreTwoParts bytes source rest
-      → AreTwoParts rest lines commands → take 4 source ≡ codes "PBO " → IfOk made (λ told. SaysOfPickedObject ByBanker source lines (seen told))
-      → IfOk made (λ told. SaysByReading Debugged bytes (seen told))
-  object_debugged bytes source rest lines commands (Ok told) parts more object says =
+  pub object_debugged : (lending : Lending) (bytes source rest lines commands : List ℕ) (made : Result W E) → AreTwoParts bytes source rest
+      → AreTwoParts rest lines commands → take 4 source ≡ codes "PBO " → IfOk made (λ told. SaysOfPickedObject lending source lines (seen told))
+      → IfOk made (λ told. SaysByReading (Debugged lending) bytes (seen told))
+  object_debugged lending bytes source rest lines commands (Ok told) parts more object says =
       (source, rest, lines, commands, parts, more, inl (object, says))
-  object_debugged bytes source rest lines commands (Err e) parts more object says = says
+  object_debugged lending bytes source rest lines commands (Err e) parts more object says = says
 
   -- what is said of a text, pick lines and commands
-  pub text_debugged : (bytes source rest lines commands : List ℕ) (made : Result W E) → AreTwoParts bytes source rest
-      → AreTwoParts rest lines commands → take 4 source ≢ codes "PBO " → IfOk made (λ told. SaysOfPickedText ByBanker source lines (seen told))
-      → IfOk made (λ told. SaysByReading Debugged bytes (seen told))
-  text_debugged bytes source rest lines commands (Ok told) parts more text says =
+  pub text_debugged : (lending : Lending) (bytes source rest lines commands : List ℕ) (made : Result W E) → AreTwoParts bytes source rest
+      → AreTwoParts rest lines commands → take 4 source ≢ codes "PBO " → IfOk made (λ told. SaysOfPickedText lending source lines (seen told))
+      → IfOk made (λ told. SaysByReading (Debugged lending) bytes (seen told))
+  text_debugged lending bytes source rest lines commands (Ok told) parts more text says =
       (source, rest, lines, commands, parts, more, inr (text, says))
-  text_debugged bytes source rest lines commands (Err e) parts more text says = says
+  text_debugged lending bytes source rest lines commands (Err e) parts more text says = says
 
 -- what is said of all texts
 pub said_all : (bytes : List ℕ) (number : ℕ) (label rest part before told : List ℕ) → AreSaid bytes number rest before

@@ -2,7 +2,6 @@
 use Rattle.std.specs.Prelude.{◌≡◌, ◌≢◌, ◌<◌, ◌≤◌, ◌⊎◌, ◌+◌, ◌++◌, ◌∷◌, ℕ, List, [], None, Some, codes, length, take}
 use Rattle.std.specs.Fmt.{decimal}
 use Rattle.pb_base.specs.declared.lending.Lending.{Lending}
-use Rattle.pb_base.specs.declared.lending.Lending.TheVariants.{ByBanker}
 use Rattle.pb_base.specs.declared.limits.TheConstants.{MAX_INPUT}
 use Rattle.pb_base.specs.Steppers.{State, Table}
 use Rattle.pb_code.specs.Code.{CodeProcess}
@@ -163,11 +162,11 @@ SaysByReading (Replayed lending) bytes told =
     (text : List ℕ) × (lines : List ℕ) × AreTwoParts bytes text lines × SaysOfPickedText lending text lines told
 SaysByReading Expected bytes told =
     (text : List ℕ) × (lines : List ℕ) × AreTwoParts bytes text lines × SaysOfExpectedText text lines told
-SaysByReading Debugged bytes told =
+SaysByReading (Debugged lending) bytes told =
     (source : List ℕ) × (rest : List ℕ) × (lines : List ℕ) × (commands : List ℕ)
     × AreTwoParts bytes source rest × AreTwoParts rest lines commands
-    × (((take 4 source ≡ codes "PBO ") × SaysOfPickedObject ByBanker source lines told)
-    ⊎ ((take 4 source ≢ codes "PBO ") × SaysOfPickedText ByBanker source lines told))
+    × (((take 4 source ≡ codes "PBO ") × SaysOfPickedObject lending source lines told)
+    ⊎ ((take 4 source ≢ codes "PBO ") × SaysOfPickedText lending source lines told))
 
 -- of any input
 abbrev pub SaysToPerson : Reading → (bytes told : List ℕ) → Type 0

@@ -4,8 +4,8 @@ ghost use Rattle.std.specs.Prelude.{◌≡◌, ◌↔◌, ◌⊎◌, IfOk, IsTru
 ghost use Rattle.pb_messages.specs.LiveInputs.{IsLongBefore, SaysOfLiveInput, long_part};
 
 use crate::message::debugged_message;
-use pb_base::NoMemory;
 use pb_base::limits::MAX_INPUT;
+use pb_base::{Lending, NoMemory};
 use pb_command_io::parts::two_parts;
 use std::alloc::Global;
 
@@ -14,16 +14,16 @@ const LONG_PART: &[u8] =
     b"error input: the text or the pick lines, with the line %% behind them, are longer than 4194304 bytes\n";
 
 /// Returns the message of a refused input whose commands are read as they come: each of the two parts before
-/// them may have 4,194,304 bytes, with the line `%%` behind it.
-pub fn live_message(alloc: Global, bytes: &[u8]) -> Result<Vec<u8>, NoMemory>
-    ensures { IfOk result (λ message. SaysOfLiveInput bytes.now message.items) }
+/// them may have 4,194,304 bytes, with the line `%%` behind it. Its picks are made under a lending.
+pub fn live_message(alloc: Global, lending: Lending, bytes: &[u8]) -> Result<Vec<u8>, NoMemory>
+    ensures { IfOk result (λ message. SaysOfLiveInput lending bytes.now message.items) }
 {
     let (_, rest) = two_parts(bytes);
     let (_, commands) = two_parts(rest);
     if has_long_part(bytes, rest, commands) {
         return long_message(alloc);
     }
-    debugged_message(alloc, bytes)
+    debugged_message(alloc, lending, bytes)
 }
 
 // Returns whether one of the two parts before the commands is too long.

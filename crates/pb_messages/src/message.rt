@@ -49,7 +49,7 @@ pub enum Reading {
     /// A text, and print lines behind the first line `%%`.
     Expected,
     /// A text or an object, and pick lines between the first two lines `%%`. What follows is not looked at.
-    Debugged,
+    Debugged(Lending),
 }
 
 /// Returns the message of a refused input, or one for each refused text of it; nothing if there is nothing to
@@ -77,7 +77,7 @@ fn whole_message(alloc: Global, reading: Reading, bytes: &[u8]) -> Result<Vec<u8
         Reading::Object => whole_object_message(alloc, bytes),
         Reading::Replayed(lending) => replayed_message(alloc, lending, bytes),
         Reading::Expected => expected_message(alloc, bytes),
-        Reading::Debugged => debugged_message(alloc, bytes),
+        Reading::Debugged(lending) => debugged_message(alloc, lending, bytes),
     }
 }
 
@@ -220,18 +220,22 @@ fn expected_message(alloc: Global, bytes: &[u8]) -> Result<Vec<u8>, NoMemory>
     )
 }
 
-// Returns the message of a text or an object and the pick lines behind it.
-pub(crate) fn debugged_message(alloc: Global, bytes: &[u8]) -> Result<Vec<u8>, NoMemory>
-    ensures { IfOk result (λ message. SaysByReading Debugged bytes.now message.items) }
+// Returns the message of a text or an object and the pick lines behind it, made under a lending.
+pub(crate) fn debugged_message(
+    alloc: Global,
+    lending: Lending,
+    bytes: &[u8],
+) -> Result<Vec<u8>, NoMemory>
+    ensures { IfOk result (λ message. SaysByReading (Debugged lending) bytes.now message.items) }
 {
     let (source, rest) = two_parts(bytes);
     let (text, _) = two_parts(rest);
     let before = line_of(bytes, source.len());
     let lines = Lines { text, before };
     if is_object(source) {
-        picked_object_message(alloc, Lending::ByBanker, source, lines)
+        picked_object_message(alloc, lending, source, lines)
     } else {
-        picked_text_message(alloc, Lending::ByBanker, source, lines)
+        picked_text_message(alloc, lending, source, lines)
     }
 }
 

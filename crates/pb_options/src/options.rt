@@ -79,6 +79,8 @@ pub struct ReplayOptions {
 pub struct DebugOptions {
     /// Whether the commands are read as they come, by `debug_live_engine`.
     pub live: bool,
+    /// Who decides on a request.
+    pub lend: Lend,
 }
 
 /// Who decides on a request.

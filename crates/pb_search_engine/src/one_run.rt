@@ -1,6 +1,8 @@
 //! The commands `outcomes --run` and `outcomes --deadlock`: a run to one outcome or to one deadlock.
 
-ghost use Rattle.std.specs.Prelude.{◌≡◌, ◌≤◌, ◌++◌, IfOk, OnOk, length, map, option_map};
+ghost use Rattle.std.specs.Prelude.{◌≡◌, ◌≤◌, ◌-◌, ◌++◌, List, IfOk, OnOk, length, map, option_map};
+ghost use Rattle.std.specs.Borrow.{Bor};
+ghost use Rattle.pb_base.specs.declared.pick.Pick.{Pick as PickValue};
 ghost use Rattle.pb_base.specs.declared.limits.TheConstants.{MAX_INPUT};
 ghost use Rattle.pb_code.specs.Limits.{AreLabels};
 ghost use Rattle.pb_command_io.specs.Answers.{Tells};

@@ -16,13 +16,14 @@ use Rattle.pb_command_line.specs.CommandLine.{bank_command, states_command, with
 use Rattle.clap.specs.declared.parser.matches.Found.{Found}
 use Rattle.clap.proofs.WalkLemmas.{one_text-rows}
 use Rattle.pb_words.specs.Read.{BlamesWords, HasCheckNumbers, HasCode, HasEmitNumber, HasFlag, HasNumber, HasNumberIn}
-use Rattle.pb_words.specs.Read.{HasDrawLend, HasLend, HasOptionalNumber, HasReplayLend, HasSearchOptions, HasStatesNumbers}
+use Rattle.pb_words.specs.Read.{HasDebugOptions, HasDrawLend, HasLend, HasOptionalNumber, HasReplayLend, HasSearchOptions, HasStatesNumbers}
 use Rattle.pb_words.specs.Read.{HasRecordNumbers, HasRunNumbers}
 use Rattle.pb_words.specs.Read.{IsReadFrom, IsReadFromMatches}
 use Rattle.pb_words.specs.declared.words.Options.{Options}
 use Rattle.pb_words.specs.declared.words.Options.TheVariants.{Bank, Check, Claims, Debug, Draw, Emit, Exec, Explain}
 use Rattle.pb_words.specs.declared.words.Options.TheVariants.{Migrate, Outcomes, Plan, Record, Replay, Run, States}
 use Rattle.pb_options.specs.declared.options.CheckOptions.{CheckOptions}
+use Rattle.pb_options.specs.declared.options.DebugOptions.{DebugOptions}
 use Rattle.pb_options.specs.declared.options.DrawOptions.{DrawOptions}
 use Rattle.pb_options.specs.declared.options.EmitOptions.{EmitOptions}
 use Rattle.pb_options.specs.Lends.{IsLendOf, lend_word}
@@ -133,6 +134,39 @@ no_check rows none (Run o) says =
     let m : 99 ≡ 114 = ap (λ (l : Text). get_or l 0 0) says.0 in omega (arith, m)
 no_check rows none (States o) says =
     let m : 99 ≡ 115 = ap (λ (l : Text). get_or l 0 0) says.0 in omega (arith, m)
+
+-- if its options cannot be read, the rows of `debug` say nothing
+pub no_debug : (rows : List Row) → ((o : DebugOptions) → HasDebugOptions rows o → ⊥) → (o : Options)
+    → IsReadFrom (codes "debug") rows o → ⊥
+no_debug rows none Bank says =
+    let m : 100 ≡ 98 = ap (λ (l : Text). get_or l 0 0) says in omega (arith, m)
+no_debug rows none (Check o) says =
+    let m : 100 ≡ 99 = ap (λ (l : Text). get_or l 0 0) says.0 in omega (arith, m)
+no_debug rows none Claims says =
+    let m : 100 ≡ 99 = ap (λ (l : Text). get_or l 0 0) says in omega (arith, m)
+no_debug rows none (Debug o) says = none o says.1
+no_debug rows none (Draw o) says =
+    let m : 101 ≡ 114 = ap (λ (l : Text). get_or l 1 0) says.0 in omega (arith, m)
+no_debug rows none (Emit o) says =
+    let m : 100 ≡ 101 = ap (λ (l : Text). get_or l 0 0) says.0 in omega (arith, m)
+no_debug rows none (Exec o) says =
+    let m : 100 ≡ 101 = ap (λ (l : Text). get_or l 0 0) says.0 in omega (arith, m)
+no_debug rows none (Explain o) says =
+    let m : 100 ≡ 101 = ap (λ (l : Text). get_or l 0 0) says.0 in omega (arith, m)
+no_debug rows none Migrate says =
+    let m : 100 ≡ 109 = ap (λ (l : Text). get_or l 0 0) says in omega (arith, m)
+no_debug rows none (Outcomes o) says =
+    let m : 100 ≡ 111 = ap (λ (l : Text). get_or l 0 0) says.0 in omega (arith, m)
+no_debug rows none Plan says =
+    let m : 100 ≡ 112 = ap (λ (l : Text). get_or l 0 0) says in omega (arith, m)
+no_debug rows none (Record o) says =
+    let m : 100 ≡ 114 = ap (λ (l : Text). get_or l 0 0) says.0 in omega (arith, m)
+no_debug rows none (Replay o) says =
+    let m : 100 ≡ 114 = ap (λ (l : Text). get_or l 0 0) says.0 in omega (arith, m)
+no_debug rows none (Run o) says =
+    let m : 100 ≡ 114 = ap (λ (l : Text). get_or l 0 0) says.0 in omega (arith, m)
+no_debug rows none (States o) says =
+    let m : 100 ≡ 115 = ap (λ (l : Text). get_or l 0 0) says.0 in omega (arith, m)
 
 -- if its options cannot be read, the rows of `emit` say nothing
 pub no_emit : (rows : List Row) → ((o : EmitOptions) → HasEmitNumber rows o → ⊥) → (o : Options)

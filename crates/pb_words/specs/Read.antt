@@ -55,9 +55,6 @@ HasCheckNumbers rows o = HasOptionalNumber rows (codes "heap") o.heap
 abbrev pub HasFlag : List Row → Text → Bool → Type 0
 HasFlag rows id set = IsTrue set ↔ (one_of id rows ≡ Some (codes "true"))
 
-abbrev pub HasDebugFlag : List Row → DebugOptions → Type 0
-HasDebugFlag rows o = HasFlag rows (codes "live") o.live
-
 -- the word was matched for who decides on a request
 abbrev pub HasLend : List Row → Lend → Type 0
 HasLend rows lend = one_of (codes "lend") rows ≡ Some (lend_word lend)
@@ -84,6 +81,9 @@ HasSearchOptions rows o = HasNumber rows (codes "states") o.states × HasLend ro
     × HasFlag rows (codes "expect") o.expect × HasFlag rows (codes "any-order") o.any_order
     × HasOptionalNumberIn rows (codes "run") 1 MAX_STATES o.run × HasOptionalNumberIn rows (codes "deadlock") 1 MAX_STATES o.deadlock
 
+abbrev pub HasDebugOptions : List Row → DebugOptions → Type 0
+HasDebugOptions rows o = HasFlag rows (codes "live") o.live × HasLend rows o.lend
+
 abbrev pub HasDrawLend : List Row → DrawOptions → Type 0
 HasDrawLend rows o = HasLend rows o.lend
 
@@ -98,7 +98,7 @@ abbrev pub IsReadFrom : Text → List Row → Options → Type 0
 IsReadFrom name rows option.Bank = name ≡ codes "bank"
 IsReadFrom name rows (option.Check o) = (name ≡ codes "check") × HasCheckNumbers rows o
 IsReadFrom name rows option.Claims = name ≡ codes "claims"
-IsReadFrom name rows (option.Debug o) = (name ≡ codes "debug") × HasDebugFlag rows o
+IsReadFrom name rows (option.Debug o) = (name ≡ codes "debug") × HasDebugOptions rows o
 IsReadFrom name rows (option.Draw o) = (name ≡ codes "draw") × HasDrawLend rows o
 IsReadFrom name rows (option.Emit o) = (name ≡ codes "emit") × HasEmitNumber rows o
 IsReadFrom name rows (option.Exec o) = (name ≡ codes "exec") × HasRunNumbers rows o

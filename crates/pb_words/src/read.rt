@@ -1,11 +1,12 @@
 //! Reads the words of a call.
 ghost use Rattle.std.specs.Prelude.{◌≡◌, ◌↔◌, IfErr, IfNone, IfOk, IfSome, IsTrue, None, Option, ℕ};
 ghost use Rattle.clap.specs.Words.{found_of, kind_of, one_of, rows_of, subcommand_rows_of};
-ghost use Rattle.pb_words.specs.Read.{BlamesWords, HasCheckNumbers, HasCode, HasDebugFlag, HasDrawLend, HasEmitNumber};
+ghost use Rattle.pb_words.specs.Read.{BlamesWords, HasCheckNumbers, HasCode, HasDebugOptions, HasDrawLend, HasEmitNumber};
 ghost use Rattle.pb_words.specs.Read.{HasFlag, HasNumberIn, HasOptionalNumberIn, HasRecordNumbers, HasRunNumbers, HasLend, HasReplayLend, HasSearchOptions};
 ghost use Rattle.pb_words.specs.Read.{HasStatesNumbers, IsReadFromMatches, WordsSay};
 ghost use Rattle.pb_words.specs.declared.words.Options.{Options as AnyOptions};
 ghost use Rattle.pb_options.specs.declared.options.CheckOptions.{CheckOptions as AnyCheckOptions};
+ghost use Rattle.pb_options.specs.declared.options.DebugOptions.{DebugOptions as AnyDebugOptions};
 ghost use Rattle.pb_options.specs.declared.options.DrawOptions.{DrawOptions as AnyDrawOptions};
 ghost use Rattle.pb_options.specs.declared.options.EmitOptions.{EmitOptions as AnyEmitOptions};
 ghost use Rattle.pb_options.specs.declared.code.Code.{Code as AnyCode};
@@ -94,12 +95,15 @@ fn flag(matches: &ArgMatches<'_>, id: &str) -> bool
     }
 }
 
-fn debug_options(matches: &ArgMatches<'_>) -> DebugOptions
-    ensures { HasDebugFlag (rows_of (found_of matches.now)) result }
+fn debug_options(matches: &ArgMatches<'_>) -> Option<DebugOptions>
+    ensures some { IfSome result (HasDebugOptions (rows_of (found_of matches.now))) }
+    ensures none { IfNone result ((o : AnyDebugOptions) → HasDebugOptions (rows_of (found_of matches.now)) o → ⊥) }
 {
-    DebugOptions {
+    let lend = lend(matches)?;
+    Some(DebugOptions {
         live: flag(matches, "live"),
-    }
+        lend,
+    })
 }
 
 fn draw_options(matches: &ArgMatches<'_>) -> Option<DrawOptions>
@@ -239,7 +243,7 @@ fn read_matches(matches: &ArgMatches<'_>) -> Option<Options>
         "bank" => Some(Options::Bank),
         "check" => Some(Options::Check(check_options(inner)?)),
         "claims" => Some(Options::Claims),
-        "debug" => Some(Options::Debug(debug_options(inner))),
+        "debug" => Some(Options::Debug(debug_options(inner)?)),
         "draw" => Some(Options::Draw(draw_options(inner)?)),
         "emit" => Some(Options::Emit(emit_options(inner)?)),
         "exec" => Some(Options::Exec(run_options(inner)?)),
@@ -284,7 +288,9 @@ pub fn options(alloc: Global, words: &[&str]) -> Result<Options, WordsFault>
 fn unread_text(alloc: Global, matches: &ArgMatches<'_>) -> Result<String, AllocError> {
     match matches.subcommand() {
         Some(("record", inner)) if is_cash(inner) => String::from_str(alloc, NO_SEED),
-        Some(("draw" | "outcomes" | "record" | "replay", _)) => String::from_str(alloc, NO_LEND),
+        Some(("debug" | "draw" | "outcomes" | "record" | "replay", _)) => String::from_str(
+            alloc, NO_LEND,
+        ),
         _ => codes_text(alloc),
     }
 }

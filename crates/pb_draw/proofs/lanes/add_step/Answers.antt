@@ -11,8 +11,7 @@ returns c = λ lending code picks arm was is shows.
     let Stands = IsStandingAfter lending code picks arm in
     let step : LaneStep = record { at = c.args.at; standing = c.args.standing } in
     subst (λ (steps : List LaneStep). ShowsStandings Stands c.args.at steps × (last_of steps c.args.at ≡ c.args.standing))
-    (sym c.in_ok-push.ensures.items)
-    (
+    (sym c.in_ok-push.ensures.items) (
       curve_changes_at (λ (s : LaneStep). s.at) (λ (s : LaneStep). s.standing) Away Stands c.args.at c.args.steps.now.items
           step c.requires shows refl is,
       shown_last (λ (s : LaneStep). s.at) (λ (s : LaneStep). s.standing) Away c.args.steps.now.items step c.args.at refl,

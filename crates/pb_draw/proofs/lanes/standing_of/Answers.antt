@@ -143,8 +143,7 @@ returns-in-None c = λ lending is.
     let live : IsLiveArm s arm = has_place s arm process c.proc-2.ensures.state
     (ap is_some (ap place_of_thread (sym c.thread-thread.ensures) ∙ sym c.place.ensures) ∙ c.if-is_none.ensures) in
     subst (λ (a : Pick). IsStanding lending v.code s a Going)
-    (pick_is c.args.pick c.from-p.result c.from-arm.result c.from-p.ensures c.from-arm.ensures)
-    (
+    (pick_is c.args.pick c.from-p.result c.from-arm.result c.from-p.ensures c.from-arm.ensures) (
       live,
       λ bundle asks. absurd (c.in-None.ensures.none bundle
           (asked_so v.code s c.from-p.result c.from-arm.result (process_view c.index.result.now) process (thread_view c.thread-thread.result.now)

@@ -37,13 +37,13 @@ returns c =
       ending = c.ending_of-ending.result;
       ends = c.ending_of-ending.ensures c.args.lending c.requires.machine;
       picture = record {
-          drawing = drawing;
-          picture = picture;
-          drawn = c.in_ok-drawing.ensures.drawing;
-          laid_out = laid_out;
-          stacked = laid_out.rows c.in_ok-drawing.ensures.different (omega (arith, few));
-          rising = laid_out.rising c.in_ok-drawing.ensures.ordered;
-          written = c.in_ok-text.ensures;
-        };
+        drawing = drawing;
+        picture = picture;
+        drawn = c.in_ok-drawing.ensures.drawing;
+        laid_out = laid_out;
+        stacked = laid_out.rows c.in_ok-drawing.ensures.different (omega (arith, few));
+        rising = laid_out.rising c.in_ok-drawing.ensures.ordered;
+        written = c.in_ok-text.ensures;
+      };
       told = c.end_status.ensures.status (machine_view c.args.machine.now) c.status_at-faulted.ensures.status;
     }

@@ -1,6 +1,6 @@
 use Rattle.std.proofs.Common.{rules}
 use Rattle.clap.specs.Words.{found_of, rows_of, subcommand_rows_of}
-use Rattle.pb_words.proofs.ReadLemmas.{IfNone-of, no_check, no_draw, no_emit, no_exec, no_explain, no_outcomes, no_record}
+use Rattle.pb_words.proofs.ReadLemmas.{IfNone-of, no_check, no_debug, no_draw, no_emit, no_exec, no_explain, no_outcomes, no_record}
 use Rattle.pb_words.proofs.ReadLemmas.{no_replay, no_run, no_states, nothing_read}
 use Rattle.pb_words.proofs.read.read_matches.Goals as goal
 
@@ -66,3 +66,9 @@ returns-in_err-draw_options-in-draw-clause-none c =
     IfNone-of c.from_residual-in_err-draw_options-in-draw.result
     (nothing_read (subcommand_rows_of c.args.matches.now) _ (rows_of (found_of c.in_ok-name.inner.now)) (search rules) c.in_ok-name.ensures.rows
     (no_draw (rows_of (found_of c.in_ok-name.inner.now)) c.in_err-draw_options-in-draw.ensures.none))
+
+pub returns-in_err-debug_options-in-debug-clause-none : goal.returns-in_err-debug_options-in-debug-clause-none
+returns-in_err-debug_options-in-debug-clause-none c =
+    IfNone-of c.from_residual-in_err-debug_options-in-debug.result
+    (nothing_read (subcommand_rows_of c.args.matches.now) _ (rows_of (found_of c.in_ok-name.inner.now)) (search rules) c.in_ok-name.ensures.rows
+    (no_debug (rows_of (found_of c.in_ok-name.inner.now)) c.in_err-debug_options-in-debug.ensures.none))
