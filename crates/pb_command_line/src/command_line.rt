@@ -204,7 +204,7 @@ fn debug_picks<'a>(alloc: Global) -> Result<Command<'a>, AllocError>
         "Debug a program on standard input along the picks and by the commands that follow, each after a line %%";
     let debug = plain(alloc, "debug", about);
     let debug = with_flag(alloc, debug, "live", "Answer each command as it comes");
-    with_lend(alloc, debug)
+    with_lend(alloc, debug, LEND)
 }
 
 fn draw_picks<'a>(alloc: Global) -> Result<Command<'a>, AllocError>
