@@ -16,7 +16,7 @@ use Rattle.pb_command_line.specs.CommandLine.{bank_command, states_command, with
 use Rattle.clap.specs.declared.parser.matches.Found.{Found}
 use Rattle.clap.proofs.WalkLemmas.{one_text-rows}
 use Rattle.pb_words.specs.Read.{BlamesWords, HasCheckNumbers, HasCode, HasEmitNumber, HasFlag, HasNumber, HasNumberIn}
-use Rattle.pb_words.specs.Read.{HasDebugOptions, HasDrawLend, HasLend, HasOptionalNumber, HasReplayLend, HasSearchOptions, HasStatesNumbers}
+use Rattle.pb_words.specs.Read.{HasDebugOptions, HasDrawLend, HasLend, HasOptionalNumber, HasOptionalNumberIn, HasReplayLend, HasSearchOptions, HasStatesNumbers}
 use Rattle.pb_words.specs.Read.{HasRecordNumbers, HasRunNumbers}
 use Rattle.pb_words.specs.Read.{IsReadFrom, IsReadFromMatches}
 use Rattle.pb_words.specs.declared.words.Options.{Options}
@@ -522,6 +522,12 @@ no_check_numbers rows none given o says = go o.heap refl says
     go : (heap : Option ℕ) → o.heap ≡ heap → HasOptionalNumber rows (codes "heap") heap → ⊥
     go None is h = given h
     go (Some n) is h = none n (h, o.heap_suffices n is, o.heap_fits n is)
+
+-- if a number is given and none is read, nothing is
+pub no_number_given : (rows : List Row) (id : Text) (least most : ℕ) → ((n : ℕ) → HasNumberIn rows id least most n → ⊥)
+    → (one_of id rows ≡ None → ⊥) → (o : Option ℕ) → HasOptionalNumberIn rows id least most o → ⊥
+no_number_given rows id least most none given None says = given says
+no_number_given rows id least most none given (Some n) says = none n says
 
 -- if a seed is given and none is read, nothing is
 pub no_record_seed : (rows : List Row) → ((n : ℕ) → HasNumberIn rows (codes "seed") 0 18446744073709551615 n → ⊥)
